@@ -1,0 +1,28 @@
+-- How the names of roles, labels, slots and marks are spelled.
+use Rattle.std.specs.Prelude.{◌≢◌, ℕ, ◌<◌, ◌≤◌, Bool, ◌==◌, nat_le, ◌&&◌, ◌||◌, List, [], ◌∷◌, length, codes, IsTrue, slice_index}
+use Rattle.std.specs.List.{AllByRecursion}
+
+-- the bytes `a` to `z`
+abbrev pub is_lower : ℕ → Bool
+is_lower c = nat_le 97 c && nat_le c 122
+
+-- the bytes `0` to `9`
+abbrev pub is_digit : ℕ → Bool
+is_digit c = nat_le 48 c && nat_le c 57
+
+-- what a name is made of: small letters, digits and `_`
+abbrev pub is_name_byte : ℕ → Bool
+is_name_byte c = is_lower c || is_digit c || c == 95
+
+-- the words of the grammar, which are no names
+abbrev pub reserved_words : List (List ℕ)
+reserved_words =
+    codes "roles" ∷ codes "rec" ∷ codes "end" ∷ codes "int" ∷ codes "bool" ∷ codes "text" ∷ codes "true" ∷ codes "false" ∷ []
+
+-- 1 to 32 bytes, the first a small letter, and no word of the grammar
+pub record IsName (bytes : List ℕ) : Type 0 where
+  pub some : 0 < length bytes
+  pub short : length bytes ≤ 32
+  pub first : IsTrue (is_lower (slice_index bytes 0))
+  pub each : AllByRecursion (λ c. IsTrue (is_name_byte c)) bytes
+  pub free : AllByRecursion (λ word. bytes ≢ word) reserved_words

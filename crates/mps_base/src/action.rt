@@ -1,0 +1,112 @@
+//! What participants do: messages, acts and numbered steps.
+ghost use Rattle.std.specs.Prelude.{◌≡◌, ◌<◌, ◌^◌, ◌==◌, nat_lt};
+
+use crate::name::Name;
+use crate::value::Value;
+use std::marker::Model;
+
+/// A role of a session, by its place in the list of roles, from 0.
+#[derive(Clone, Copy, Debug, PartialEq, Eq, PartialOrd, Ord, Hash)]
+pub struct Role(u8);
+
+impl Model for Role {
+    ghost use Rattle.std.specs.Prelude.{ℕ};
+
+    ghost Value = { ℕ };
+
+    ghost view = { λ r. r.0 };
+
+    ghost inverse = { λ n. record { 0 = n } };
+}
+
+impl Role {
+    /// The role at this place; a session may have no such role.
+    pub const fn new(index: u8) -> Role
+        ensures { result ≡ index }
+    {
+        Role(index)
+    }
+
+    /// Its place in the list of roles.
+    pub fn index(self) -> usize
+        ensures place { result ≡ self }
+        ensures small { result < 2 ^ 8 }
+    {
+        usize::from(self.0)
+    }
+
+    /// Whether it is that role.
+    pub fn is(self, other: Role) -> bool
+        ensures { result ≡ (self == other) }
+    {
+        self.0 == other.0
+    }
+}
+
+/// The number of a step: 1 for a session's first, and never used again.
+#[derive(Clone, Copy, Debug, PartialEq, Eq, PartialOrd, Ord, Hash)]
+pub struct StepId(u64);
+
+impl Model for StepId {
+    ghost use Rattle.std.specs.Prelude.{ℕ};
+
+    ghost Value = { ℕ };
+
+    ghost view = { λ s. s.0 };
+
+    ghost inverse = { λ n. record { 0 = n } };
+}
+
+impl StepId {
+    /// The step of this number; a session may have no such step.
+    pub const fn new(number: u64) -> StepId
+        ensures { result ≡ number }
+    {
+        StepId(number)
+    }
+
+    /// The number itself.
+    pub fn number(self) -> u64
+        ensures number { result ≡ self }
+        ensures small { result < 2 ^ 64 }
+    {
+        self.0
+    }
+
+    /// Whether it is that step.
+    pub fn is(self, other: StepId) -> bool
+        ensures { result ≡ (self == other) }
+    {
+        self.0 == other.0
+    }
+
+    /// Whether its number is the smaller one, so that it was accepted earlier.
+    pub fn is_before(self, other: StepId) -> bool
+        ensures { result ≡ nat_lt self other }
+    {
+        self.0 < other.0
+    }
+}
+
+/// What a queue holds: a value, or the label of a choice.
+#[derive(Drop)]
+pub enum Message {
+    Value(Value),
+    Label(Name),
+}
+
+/// What a role did. A receipt without a slot is a pick: it took a label.
+#[derive(Drop)]
+pub enum Act {
+    Out { to: Role, message: Message },
+    In { from: Role, slot: Option<Name> },
+    Mark(Name),
+}
+
+/// An accepted act, with its number and the role whose act it is.
+#[derive(Drop)]
+pub struct Step {
+    pub id: StepId,
+    pub role: Role,
+    pub act: Act,
+}
