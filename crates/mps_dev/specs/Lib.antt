@@ -1,0 +1,4 @@
+pub mod Calls
+pub mod Pieces
+pub mod Short
+pub mod Standard

@@ -1,0 +1,147 @@
+ghost use Rattle.std.specs.Prelude.{◌≡◌, ℕ, ◌+◌, ◌^◌, ◌<◌, ◌≤◌};
+
+use super::*;
+use std::alloc::{AllocError, Global};
+use std::io::{self, ErrorKind, Read, Write};
+use std::test::Fail;
+
+// What up to ten reads of at most four bytes give, until the end or a failure, and whether that was a failure.
+fn drained<S: Source>(alloc: Global, source: &mut S) -> Result<(Vec<u8>, bool), AllocError>
+    requires { S.calls source.old < 2 ^ 62 }
+{
+    let mut bytes = Vec::new(alloc);
+    for _turn in 0..10 {
+        let mut buf = [0; 4];
+        match source.read(&mut buf) {
+            Ok(0) => return Ok((bytes, false)),
+            Ok(n) => bytes.extend_from_slice(&buf[..n])?,
+            Err(Failed) => return Ok((bytes, true)),
+        }
+    }
+    Ok((bytes, false))
+}
+
+// How many of the bytes up to ten writes hand over, until a failure.
+fn handed_over<K: Sink>(sink: &mut K, bytes: &[u8]) -> usize
+    requires { K.failed_calls sink.old < 2 ^ 62 }
+{
+    let mut at = 0;
+    for _turn in 0..10 {
+        match sink.write(&bytes[at..]) {
+            Ok(n) => at += n,
+            Err(Failed) => return at,
+        }
+    }
+    at
+}
+
+// A reader that is interrupted once, and then gives two bytes and ends.
+#[derive(Drop)]
+struct Interrupted {
+    reads: u8,
+}
+
+impl Read for Interrupted {
+    fn read(&mut self, buf: &mut [u8]) -> io::Result<usize> {
+        self.reads = self.reads.saturating_add(1);
+        match self.reads {
+            1 => Err(ErrorKind::Interrupted.into()),
+            2 if buf.len() >= 2 => {
+                buf[0] = 8;
+                buf[1] = 9;
+                Ok(2)
+            }
+            _ => Ok(0),
+        }
+    }
+}
+
+// A writer that takes nothing.
+#[derive(Drop)]
+struct Stuck;
+
+impl Write for Stuck {
+    fn write(&mut self, _buf: &[u8]) -> io::Result<usize> {
+        Ok(0)
+    }
+
+    fn flush(&mut self) -> io::Result<()> {
+        Ok(())
+    }
+}
+
+fn three_pieces(alloc: Global) -> Result<Vec<Vec<u8>>, AllocError> {
+    Ok(vec![in alloc; vec![in alloc; 1, 2]?, vec![in alloc]?, vec![in alloc; 3]?]?)
+}
+
+#[test]
+fn pieces_come_one_by_one(rt: HostRuntime) -> Result<(), Fail> {
+    let mut source = Pieces::new(three_pieces(rt.alloc())?, None);
+    let mut buf = [0; 4];
+    assert_eq!(rt; source.read(&mut buf), Ok(2));
+    assert_eq!(rt; source.read(&mut buf), Ok(1), "past the empty piece");
+    assert_eq!(rt; buf, [3, 2, 0, 0]);
+    assert_eq!(rt; source.read(&mut buf), Ok(0));
+    Ok(())
+}
+
+#[test]
+fn a_piece_is_given_in_parts(rt: HostRuntime) -> Result<(), Fail> {
+    let mut source = Pieces::new(three_pieces(rt.alloc())?, None);
+    let mut buf = [0; 1];
+    assert_eq!(rt; source.read(&mut []), Ok(0));
+    for byte in [1, 2, 3] {
+        assert_eq!(rt; source.read(&mut buf), Ok(1));
+        assert_eq!(rt; buf, [byte]);
+    }
+    assert_eq!(rt; source.read(&mut buf), Ok(0));
+    Ok(())
+}
+
+#[test]
+fn pieces_fail_from_a_call_on(rt: HostRuntime) -> Result<(), Fail> {
+    let mut source = Pieces::new(three_pieces(rt.alloc())?, Some(2));
+    let (bytes, failed) = drained(rt.alloc(), &mut source)?;
+    assert_eq!(rt; bytes.as_slice(), [1, 2].as_slice());
+    assert!(rt; failed);
+    Ok(())
+}
+
+#[test]
+fn a_short_sink_fails_when_full(rt: HostRuntime) -> Result<(), Fail> {
+    let mut sink = Short::new(rt.alloc(), 3)?;
+    assert_eq!(rt; sink.write(&[5, 6, 7, 8, 9]), Ok(3));
+    assert_eq!(rt; sink.write(&[8, 9]), Err(Failed));
+    assert_eq!(rt; sink.write(&[]), Ok(0));
+    assert_eq!(rt; sink.bytes(), [5, 6, 7].as_slice());
+    let mut larger = Short::new(rt.alloc(), 9)?;
+    assert_eq!(rt; handed_over(&mut larger, &[5, 6, 7, 8, 9]), 5);
+    Ok(())
+}
+
+#[test]
+fn readers_of_std_are_sources(rt: HostRuntime) -> Result<(), Fail> {
+    let text = [1u8, 2, 3, 4, 5];
+    let mut source = OverRead::new(text.as_slice());
+    let (bytes, failed) = drained(rt.alloc(), &mut source)?;
+    assert_eq!(rt; bytes.as_slice(), text.as_slice());
+    assert!(rt; !failed);
+    assert!(rt; source.into_inner().is_empty());
+
+    let mut interrupted = OverRead::new(Interrupted { reads: 0 });
+    assert_eq!(rt; drained(rt.alloc(), &mut interrupted)?.1, true);
+    assert_eq!(rt; drained(rt.alloc(), &mut interrupted)?.0.as_slice(), [8, 9].as_slice());
+    Ok(())
+}
+
+#[test]
+fn writers_of_std_are_sinks(rt: HostRuntime) -> Result<(), Fail> {
+    let mut sink = OverWrite::new(Vec::new(rt.alloc()));
+    assert_eq!(rt; handed_over(&mut sink, &[5, 6, 7]), 3);
+    assert_eq!(rt; sink.into_inner().as_slice(), [5, 6, 7].as_slice());
+
+    let mut stuck = OverWrite::new(Stuck);
+    assert_eq!(rt; stuck.write(&[1]), Err(Failed));
+    assert_eq!(rt; stuck.write(&[]), Ok(0));
+    Ok(())
+}

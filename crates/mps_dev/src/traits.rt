@@ -1,0 +1,51 @@
+ghost use Rattle.std.specs.Prelude.{◌≡◌, ℕ, ◌+◌, ◌^◌, ◌<◌, ◌≤◌, List, Option};
+ghost use Rattle.std.specs.Io.{ReadsAtMost, WritesAtMost};
+ghost use Rattle.std.specs.Io.KnownBytes.{ReadConsumes, WriteAppends};
+ghost use Rattle.mps_dev.specs.Calls.{failures_after, TakesSome};
+
+use thiserror::Error;
+
+/// A device failed. The call that answers it moved no byte.
+#[derive(Clone, Copy, Debug, PartialEq, Eq, Error)]
+#[error("the device failed")]
+pub struct Failed;
+
+/// What bytes are read from, one call at a time. It takes no memory.
+pub trait Source {
+    // The bytes that reads will give from here on, where they are known.
+    ghost remaining: { Self → Option (List ℕ) };
+
+    // How many times `read` was called.
+    ghost calls: { Self → ℕ };
+
+    // How many of these calls failed.
+    ghost failed_calls: { Self → ℕ };
+
+    /// Reads some bytes into the front of `buf`, and says how many. `Ok(0)` with room in `buf` is the end.
+    fn read(&mut self, buf: &mut [u8]) -> Result<usize, Failed>
+        requires { calls self.old < 2 ^ 63 }
+        ensures within { ReadsAtMost result buf.new }
+        ensures calls { calls self.new ≡ calls self.old + 1 }
+        ensures failures { failed_calls self.new ≡ failures_after result (failed_calls self.old) }
+        ensures bytes { ReadConsumes (remaining self.old) (remaining self.new) result buf.new };
+
+    // No more calls failed than were made.
+    ghost fewer_failed: { (s : Self) → failed_calls s ≤ calls s };
+}
+
+/// What bytes are written to, one call at a time. It takes no memory.
+pub trait Sink {
+    // The bytes taken so far, where they are known.
+    ghost taken: { Self → Option (List ℕ) };
+
+    // How many calls of `write` failed.
+    ghost failed_calls: { Self → ℕ };
+
+    /// Takes some bytes from the front of `bytes`, and says how many. A device that takes none of some bytes failed.
+    fn write(&mut self, bytes: &[u8]) -> Result<usize, Failed>
+        requires { failed_calls self.old < 2 ^ 63 }
+        ensures within { WritesAtMost result bytes.now }
+        ensures progress { TakesSome result bytes.now }
+        ensures failures { failed_calls self.new ≡ failures_after result (failed_calls self.old) }
+        ensures bytes { WriteAppends (taken self.old) (taken self.new) result bytes.now };
+}

@@ -1,0 +1,47 @@
+-- Histories: lists of numbered steps, the oldest first.
+use Rattle.std.specs.Prelude.{◌≡◌, ℕ, ◌+◌, ◌<◌, Bool, false, ◌==◌, nat_lt, ◌&&◌, not, List, [], ◌∷◌, ◌++◌, length, map, Option, Some, None, ⊤}
+use Rattle.std.specs.List.{filter, find, list_any, AllByRecursion}
+use Rattle.mps_base.specs.declared.action.Act.{Act}
+use Rattle.mps_base.specs.declared.action.Act.TheVariants.{Out, In, Mark}
+use Rattle.mps_base.specs.declared.action.Step.{Step}
+
+-- the act gives q a value or a label
+abbrev pub goes_to : ℕ → Act → Bool
+goes_to q (Out to message) = to == q
+goes_to q (In from slot) = false
+goes_to q (Mark name) = false
+
+-- the act takes a value or a label that came from p
+abbrev pub comes_from : ℕ → Act → Bool
+comes_from p (Out to message) = false
+comes_from p (In from slot) = from == p
+comes_from p (Mark name) = false
+
+-- p sends to q, a value or the label of a choice
+abbrev pub sends : ℕ → ℕ → Step → Bool
+sends p q s = s.role == p && goes_to q s.act
+
+-- q receives from p, a value into a slot or a label by a pick
+abbrev pub receives : ℕ → ℕ → Step → Bool
+receives p q s = s.role == q && comes_from p s.act
+
+-- the numbers of the steps, in order
+abbrev pub numbers : List Step → List ℕ
+numbers h = map (λ s. s.id) h
+
+-- each number is above the one before it
+abbrev pub IsRising : List Step → Type 0
+IsRising [] = ⊤
+IsRising (s ∷ h) = AllByRecursion (λ t. s.id < t.id) h × IsRising h
+
+-- the step of that number
+abbrev pub step_of : List Step → ℕ → Option Step
+step_of h n = find (λ s. s.id == n) h
+
+-- the history without the steps whose numbers are in the set, the others in order
+abbrev pub without : List Step → (ℕ → Bool) → List Step
+without h set = filter (λ s. not (set s.id)) h
+
+-- the steps of one role, in order
+abbrev pub steps_of : ℕ → List Step → List Step
+steps_of p h = filter (λ s. s.role == p) h

@@ -1,0 +1,26 @@
+-- Local types as trees, apart from where they lie in memory (Honda, Yoshida, Carbone, POPL 2008).
+use Rattle.std.specs.Prelude.{ℕ, List}
+use Rattle.mps_base.specs.declared.value.Sort.{Sort}
+use Rattle.mps_local.specs.declared.Local.{Local, End as End', Send', Recv'}
+
+mutual
+  -- what one role may do, from here on. Peers are places in the list of roles, names are their bytes
+  pub data LocalType : Type 0 where
+    End : LocalType
+    Var : (name : List ℕ) → LocalType
+    Rec : (name : List ℕ) (body : LocalType) → LocalType
+    Send : (peer : ℕ) (sort : Sort) (next : LocalType) → LocalType
+    Recv : (peer : ℕ) (sort : Sort) (next : LocalType) → LocalType
+    Select : (peer : ℕ) (branches : Branches) → LocalType
+    Branch : (peer : ℕ) (branches : Branches) → LocalType
+
+  -- the branches of a choice, each a label and what follows it
+  pub data Branches : Type 0 where
+    NoMore : Branches
+    More : (label : List ℕ) (next : LocalType) (others : Branches) → Branches
+
+-- a tree of the program as a tree
+abbrev pub plain : Local → LocalType
+plain End' = End
+plain (Send' peer sort p next) = Send peer sort (plain next)
+plain (Recv' peer sort p next) = Recv peer sort (plain next)

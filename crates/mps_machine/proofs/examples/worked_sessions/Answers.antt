@@ -1,0 +1,63 @@
+use Rattle.std.proofs.Common.{refl}
+use Rattle.mps_machine.specs.Unfolding.{unfolded}
+use Rattle.mps_machine.proofs.examples.worked_sessions.Goals as goal
+
+pub returns-clause-an_undo_waits_for_the_receipt : goal.returns-clause-an_undo_waits_for_the_receipt
+unfolding unfolded
+returns-clause-an_undo_waits_for_the_receipt c = refl
+
+pub returns-clause-a_rollback_takes_all_that_depends : goal.returns-clause-a_rollback_takes_all_that_depends
+unfolding unfolded
+returns-clause-a_rollback_takes_all_that_depends c = refl
+
+pub returns-clause-a_rollback_leaves_the_strangers : goal.returns-clause-a_rollback_leaves_the_strangers
+unfolding unfolded
+returns-clause-a_rollback_leaves_the_strangers c = refl
+
+pub returns-clause-a_receipt_undone_takes_the_same_message_again : goal.returns-clause-a_receipt_undone_takes_the_same_message_again
+unfolding unfolded
+returns-clause-a_receipt_undone_takes_the_same_message_again c = refl
+
+pub returns-clause-an_undone_send_is_gone : goal.returns-clause-an_undone_send_is_gone
+unfolding unfolded
+returns-clause-an_undone_send_is_gone c = refl
+
+pub returns-clause-a_receipt_into_a_used_slot_is_undone : goal.returns-clause-a_receipt_into_a_used_slot_is_undone
+unfolding unfolded
+returns-clause-a_receipt_into_a_used_slot_is_undone c = refl
+
+pub returns-clause-the_least_dependent_is_named_a_send : goal.returns-clause-the_least_dependent_is_named_a_send
+unfolding unfolded
+returns-clause-the_least_dependent_is_named_a_send c = refl
+
+pub returns-clause-the_least_dependent_is_named_a_receipt : goal.returns-clause-the_least_dependent_is_named_a_receipt
+unfolding unfolded
+returns-clause-the_least_dependent_is_named_a_receipt c = refl
+
+pub returns-clause-a_return_to_a_mark_leaves_the_mark : goal.returns-clause-a_return_to_a_mark_leaves_the_mark
+unfolding unfolded
+returns-clause-a_return_to_a_mark_leaves_the_mark c = refl
+
+pub returns-clause-numbers_are_never_used_again : goal.returns-clause-numbers_are_never_used_again
+unfolding unfolded
+returns-clause-numbers_are_never_used_again c = refl
+
+pub returns-clause-refusals_are_named : goal.returns-clause-refusals_are_named
+unfolding unfolded
+returns-clause-refusals_are_named c = refl
+
+pub returns-clause-a_choice_is_made_and_picked : goal.returns-clause-a_choice_is_made_and_picked
+unfolding unfolded
+returns-clause-a_choice_is_made_and_picked c = refl
+
+pub returns-clause-a_message_of_another_sort_is_a_mismatch : goal.returns-clause-a_message_of_another_sort_is_a_mismatch
+unfolding unfolded
+returns-clause-a_message_of_another_sort_is_a_mismatch c = refl
+
+pub returns-clause-the_message_waits_again : goal.returns-clause-the_message_waits_again
+unfolding unfolded
+returns-clause-the_message_waits_again c = (refl, refl)
+
+pub returns-clause-the_slot_has_its_old_value : goal.returns-clause-the_slot_has_its_old_value
+unfolding unfolded
+returns-clause-the_slot_has_its_old_value c = (refl, refl)

@@ -1,0 +1,167 @@
+-- Worked sessions: what the machine answers to short lists of requests, as answers were worked out by hand.
+use Rattle.std.specs.Prelude.{◌≡◌, ℕ, true, false, List, [], ◌∷◌, Option, Some, None, Ok, Err, codes, pos, refl}
+use Rattle.mps_base.specs.declared.action.Act.{Act}
+use Rattle.mps_base.specs.declared.action.Act.TheVariants.{Out, In, Mark}
+use Rattle.mps_base.specs.declared.action.Message.{Message}
+use Rattle.mps_base.specs.declared.action.Message.TheVariants.{Value as Plain, Label}
+use Rattle.mps_base.specs.declared.value.Value.TheVariants.{Int, Bool as Truth}
+use Rattle.mps_base.specs.declared.value.Sort.TheVariants.{Int as IntSort, Bool as BoolSort}
+use Rattle.mps_local.specs.Local.{LocalType, Branches, End, Var, Rec, Send, Recv, Select, Branch, NoMore, More}
+use Rattle.mps_history.specs.Steps.{numbers}
+use Rattle.mps_machine.specs.declared.answer.Violation.{Violation}
+use Rattle.mps_machine.specs.declared.answer.Violation.TheVariants.{Ended, WrongAct, WrongPeer, WrongSort, NoLabel, NothingQueued, Mismatch}
+use Rattle.mps_machine.specs.declared.answer.Refusal.{Refusal}
+use Rattle.mps_machine.specs.declared.answer.Refusal.TheVariants.{Violation as Violates, NoStep, NotYours, Needed, NoMark, Full}
+use Rattle.mps_machine.specs.Unfolding.{unfolded}
+use Rattle.mps_machine.specs.View.{View}
+use Rattle.mps_machine.specs.Machine.{State, initial, view_of, Request, Forward, Undo, Rollback, Back, Answer, Stepped, Removed, answers, after}
+
+-- roles, by their places
+abbrev pub a : ℕ
+a = 0
+abbrev pub b : ℕ
+b = 1
+abbrev pub c : ℕ
+c = 2
+abbrev pub d : ℕ
+d = 3
+
+-- requests
+abbrev pub sends_int : ℕ → ℕ → ℕ → Request
+sends_int p q n = Forward p (Out q (Plain (Int (pos n))))
+abbrev pub receives_into : ℕ → ℕ → List ℕ → Request
+receives_into q p slot = Forward q (In p (Some slot))
+abbrev pub chooses : ℕ → ℕ → List ℕ → Request
+chooses p q label = Forward p (Out q (Label label))
+abbrev pub picks : ℕ → ℕ → Request
+picks q p = Forward q (In p None)
+abbrev pub marks : ℕ → List ℕ → Request
+marks p name = Forward p (Mark name)
+
+-- answers
+abbrev pub done : ℕ → Answer
+done n = Stepped (Ok (record { id = n; got = None }))
+abbrev pub done_with : ℕ → ℕ → Answer
+done_with n v = Stepped (Ok (record { id = n; got = Some (Plain (Int (pos v))) }))
+abbrev pub done_label : ℕ → List ℕ → Answer
+done_label n l = Stepped (Ok (record { id = n; got = Some (Label l) }))
+abbrev pub violates : Violation → Answer
+violates v = Stepped (Err (Violates v))
+abbrev pub undone : List ℕ → Answer
+undone ns = Removed (Ok ns)
+abbrev pub refused : Refusal → Answer
+refused r = Removed (Err r)
+
+-- a gives b an int, b gives c an int, and c tells a yes or no
+abbrev pub verdict : List LocalType
+verdict =
+    Send b IntSort (Branch c (More (codes "ok") End (More (codes "no") End NoMore)))
+    ∷ Recv a IntSort (Send c IntSort End)
+    ∷ Recv b IntSort (Select a (More (codes "ok") End (More (codes "no") End NoMore)))
+    ∷ []
+
+-- a gives b an int, and c gives d one
+abbrev pub two_pairs : List LocalType
+two_pairs = Send b IntSort End ∷ Recv a IntSort End ∷ Send d IntSort End ∷ Recv c IntSort End ∷ []
+
+-- a gives b ints, without end
+abbrev pub stream : List LocalType
+stream = Rec (codes "X") (Send b IntSort (Var (codes "X"))) ∷ Rec (codes "X") (Recv a IntSort (Var (codes "X"))) ∷ []
+
+-- the sender expects an int to be taken, the receiver a bool to come
+abbrev pub unfitting : List LocalType
+unfitting = Send b IntSort End ∷ Recv a BoolSort End ∷ []
+
+-- the first four steps of a relay from a over b to c
+abbrev pub relayed : List Request
+relayed = sends_int a b 5 ∷ receives_into b a (codes "x") ∷ sends_int b c 7 ∷ receives_into c b (codes "y") ∷ []
+
+-- an undo waits for the undo of what depends on it
+abbrev pub AnUndoWaitsForTheReceipt : Type 0
+AnUndoWaitsForTheReceipt =
+    answers verdict initial (sends_int a b 5 ∷ receives_into b a (codes "x") ∷ Undo a 1 ∷ Undo b 2 ∷ Undo a 1 ∷ [])
+    ≡ done 1 ∷ done_with 2 5 ∷ refused (Needed 2) ∷ undone (2 ∷ []) ∷ undone (1 ∷ []) ∷ []
+
+-- a rollback of the first step takes all that depends on it, the newest first
+abbrev pub ARollbackTakesAllThatDepends : Type 0
+ARollbackTakesAllThatDepends =
+    answers verdict initial (sends_int a b 5 ∷ receives_into b a (codes "x") ∷ sends_int b c 7 ∷ receives_into c b (codes "y") ∷ Rollback a 1 ∷ [])
+    ≡ done 1 ∷ done_with 2 5 ∷ done 3 ∷ done_with 4 7 ∷ undone (4 ∷ 3 ∷ 2 ∷ 1 ∷ []) ∷ []
+
+-- a rollback leaves what doesn't depend on the step
+abbrev pub ARollbackLeavesTheStrangers : Type 0
+ARollbackLeavesTheStrangers =
+    answers two_pairs initial (sends_int a b 1 ∷ sends_int c d 2 ∷ Rollback a 1 ∷ [])
+    ≡ done 1 ∷ done 2 ∷ undone (1 ∷ []) ∷ []
+
+-- an undone receipt takes the same message again
+abbrev pub AReceiptUndoneTakesTheSameMessageAgain : Type 0
+AReceiptUndoneTakesTheSameMessageAgain =
+    answers stream initial (sends_int a b 1 ∷ sends_int a b 2 ∷ receives_into b a (codes "x") ∷ Undo b 3 ∷ receives_into b a (codes "x") ∷ [])
+    ≡ done 1 ∷ done 2 ∷ done_with 3 1 ∷ undone (3 ∷ []) ∷ done_with 4 1 ∷ []
+
+-- an undone send is gone, and its number with it
+abbrev pub AnUndoneSendIsGone : Type 0
+AnUndoneSendIsGone =
+    answers stream initial (sends_int a b 1 ∷ receives_into b a (codes "x") ∷ Undo b 2 ∷ Undo a 1 ∷ sends_int a b 9 ∷ receives_into b a (codes "x") ∷ [])
+    ≡ done 1 ∷ done_with 2 1 ∷ undone (2 ∷ []) ∷ undone (1 ∷ []) ∷ done 3 ∷ done_with 4 9 ∷ []
+
+-- a second receipt into one slot is undone
+abbrev pub AReceiptIntoAUsedSlotIsUndone : Type 0
+AReceiptIntoAUsedSlotIsUndone =
+    answers stream initial (sends_int a b 1 ∷ sends_int a b 2 ∷ receives_into b a (codes "x") ∷ receives_into b a (codes "x") ∷ Undo b 4 ∷ [])
+    ≡ done 1 ∷ done 2 ∷ done_with 3 1 ∷ done_with 4 2 ∷ undone (4 ∷ []) ∷ []
+
+-- the least dependent is named, here the role's next send
+abbrev pub TheLeastDependentIsNamedASend : Type 0
+TheLeastDependentIsNamedASend =
+    answers stream initial (sends_int a b 1 ∷ sends_int a b 2 ∷ receives_into b a (codes "x") ∷ Undo a 1 ∷ [])
+    ≡ done 1 ∷ done 2 ∷ done_with 3 1 ∷ refused (Needed 2) ∷ []
+
+-- the least dependent is named, here the receipt
+abbrev pub TheLeastDependentIsNamedAReceipt : Type 0
+TheLeastDependentIsNamedAReceipt =
+    answers stream initial (sends_int a b 1 ∷ receives_into b a (codes "x") ∷ sends_int a b 2 ∷ Undo a 1 ∷ [])
+    ≡ done 1 ∷ done_with 2 1 ∷ done 3 ∷ refused (Needed 2) ∷ []
+
+-- a return to a mark takes what came after it, then nothing, and needs the mark
+abbrev pub AReturnToAMarkLeavesTheMark : Type 0
+AReturnToAMarkLeavesTheMark =
+    answers stream initial (marks a (codes "m") ∷ sends_int a b 1 ∷ receives_into b a (codes "x") ∷ Back a (codes "m") ∷ Back a (codes "m") ∷ Undo a 1 ∷ Back a (codes "m") ∷ [])
+    ≡ done 1 ∷ done 2 ∷ done_with 3 1 ∷ undone (3 ∷ 2 ∷ []) ∷ undone [] ∷ undone (1 ∷ []) ∷ refused NoMark ∷ []
+
+-- a number is never used again
+abbrev pub NumbersAreNeverUsedAgain : Type 0
+NumbersAreNeverUsedAgain =
+    answers stream initial (sends_int a b 1 ∷ Undo a 1 ∷ sends_int a b 2 ∷ Undo a 1 ∷ [])
+    ≡ done 1 ∷ undone (1 ∷ []) ∷ done 2 ∷ refused NoStep ∷ []
+
+-- each refusal by its name
+abbrev pub RefusalsAreNamed : Type 0
+RefusalsAreNamed =
+    answers verdict initial (receives_into b a (codes "x") ∷ receives_into a b (codes "x") ∷ sends_int a c 5 ∷ Forward a (Out b (Plain (Truth true))) ∷ Undo b 7 ∷ sends_int a b 5 ∷ Undo b 1 ∷ [])
+    ≡ violates NothingQueued ∷ violates WrongAct ∷ violates WrongPeer ∷ violates WrongSort ∷ refused NoStep ∷ done 1 ∷ refused NotYours ∷ []
+
+-- a choice is made, picked, and ends the part
+abbrev pub AChoiceIsMadeAndPicked : Type 0
+AChoiceIsMadeAndPicked =
+    answers verdict initial (sends_int a b 5 ∷ receives_into b a (codes "x") ∷ sends_int b c 7 ∷ receives_into c b (codes "y") ∷ chooses c a (codes "maybe") ∷ picks a c ∷ chooses c a (codes "ok") ∷ picks a c ∷ marks a (codes "e") ∷ sends_int a b 1 ∷ [])
+    ≡ done 1 ∷ done_with 2 5 ∷ done 3 ∷ done_with 4 7 ∷ violates NoLabel ∷ violates NothingQueued ∷ done 5 ∷ done_label 6 (codes "ok") ∷ done 7 ∷ violates Ended ∷ []
+
+-- a message of another sort than the receiver expects stays
+abbrev pub AMessageOfAnotherSortIsAMismatch : Type 0
+AMessageOfAnotherSortIsAMismatch =
+    answers unfitting initial (sends_int a b 5 ∷ receives_into b a (codes "x") ∷ [])
+    ≡ done 1 ∷ violates Mismatch ∷ []
+
+-- after a rollback of the receipt, its message waits again and the send survives
+abbrev pub TheMessageWaitsAgain : Type 0
+TheMessageWaitsAgain =
+    let h = (after verdict initial (sends_int a b 5 ∷ receives_into b a (codes "x") ∷ sends_int b c 7 ∷ receives_into c b (codes "y") ∷ Rollback b 2 ∷ [])).history in
+    ((view_of verdict h).queue a b ≡ Plain (Int (pos 5)) ∷ []) × (numbers h ≡ 1 ∷ [])
+
+-- after an undo of the second receipt into a slot, the slot has the first value, and the second message waits again
+abbrev pub TheSlotHasItsOldValue : Type 0
+TheSlotHasItsOldValue =
+    let v = view_of stream (after stream initial (sends_int a b 1 ∷ sends_int a b 2 ∷ receives_into b a (codes "x") ∷ receives_into b a (codes "x") ∷ Undo b 4 ∷ [])).history in
+    ((v.participant b).store ≡ (codes "x", Int (pos 1)) ∷ []) × (v.queue a b ≡ Plain (Int (pos 2)) ∷ [])

@@ -1,0 +1,6 @@
+pub mod Unfolding
+pub mod View
+pub mod Rule
+pub mod Violations
+pub mod Machine
+pub mod Examples

@@ -1,0 +1,91 @@
+-- The rule of one step, and replay.
+use Rattle.std.specs.Prelude.{◌≡◌, ℕ, Bool, true, false, ◌==◌, ◌&&◌, if◌then◌else◌, List, [], ◌∷◌, ◌++◌, drop, Option, Some, None, option_and_then}
+use Rattle.std.specs.Option.{option_map}
+use Rattle.std.specs.Str.{bytes_eq}
+use Rattle.mps_base.specs.declared.action.Act.{Act}
+use Rattle.mps_base.specs.declared.action.Act.TheVariants.{Out, In, Mark}
+use Rattle.mps_base.specs.declared.action.Message.{Message}
+use Rattle.mps_base.specs.declared.action.Message.TheVariants.{Value as Plain, Label}
+use Rattle.mps_base.specs.declared.action.Step.{Step}
+use Rattle.mps_base.specs.declared.value.Value.{Value}
+use Rattle.mps_base.specs.declared.value.Sort.{Sort}
+use Rattle.mps_base.specs.declared.value.Sort.TheVariants.{Int as IntSort, Bool as BoolSort, Text as TextSort}
+use Rattle.mps_base.specs.Actions.{sort_of}
+use Rattle.mps_local.specs.Local.{LocalType, Branches, End, Var, Rec, Send, Recv, Select, Branch, NoMore, More}
+use Rattle.mps_history.specs.Steps.{sends, receives}
+use Rattle.mps_machine.specs.Unfolding.{unfolded}
+use Rattle.mps_machine.specs.View.{Deed, Store, Participant, View, bound, opening}
+
+abbrev pub same_sort : Sort → Sort → Bool
+same_sort IntSort IntSort = true
+same_sort BoolSort BoolSort = true
+same_sort TextSort TextSort = true
+same_sort s t = false
+
+-- the value is of the sort
+abbrev pub fits : Value → Sort → Bool
+fits v s = same_sort (sort_of v) s
+
+-- what follows the label
+abbrev pub branch_at : List ℕ → Branches → Option LocalType
+branch_at label NoMore = None
+branch_at label (More l t others) = if bytes_eq l label then Some t else branch_at label others
+
+-- the first message that waits
+abbrev pub first_of : List Message → Option Message
+first_of [] = None
+first_of (m ∷ queue) = Some m
+
+-- the message that the act of role p gives, or the one that it takes, if there is one
+abbrev pub moved : View → ℕ → Act → Option Message
+moved v p (Out to m) = Some m
+moved v p (In from slot) = first_of (v.queue from p)
+moved v p (Mark name) = None
+
+-- what may come after the act, which moves this message, where the unfolded type allows it
+abbrev pub type_after : LocalType → Act → Option Message → Option LocalType
+type_after (Send peer sort next) (Out to (Plain v)) m = if to == peer && fits v sort then Some next else None
+type_after (Select peer branches) (Out to (Label l)) m = if to == peer then branch_at l branches else None
+type_after (Recv peer sort next) (In from (Some slot)) (Some (Plain v)) = if from == peer && fits v sort then Some next else None
+type_after (Branch peer branches) (In from None) (Some (Label l)) = if from == peer then branch_at l branches else None
+type_after t act m = None
+
+-- a receipt binds its slot to the value that it takes
+abbrev pub store_after : Store → Act → Option Message → Store
+store_after store (In from (Some slot)) (Some (Plain v)) = bound slot v store
+store_after store act m = store
+
+-- the act joins the past
+abbrev pub advanced : Participant → Act → Option Message → LocalType → Participant
+advanced c act m t = record { past = c.past ++ record { act = act; moved = m } ∷ []; to_come = t; store = store_after c.store act m }
+
+-- the role after the act, which moves this message, where its type allows it. A mark is allowed always, and the type stays
+abbrev pub participant_after : Participant → Act → Option Message → Option Participant
+participant_after c (Mark name) m = Some (advanced c (Mark name) m c.to_come)
+participant_after c act m = option_map (advanced c act m) (type_after (unfolded c.to_come) act m)
+
+-- the messages that an act gives
+abbrev pub given : Act → List Message
+given (Out to m) = m ∷ []
+given act = []
+
+-- the queue from p to q after the step: what p sends goes last, what q receives is taken from the front
+abbrev pub queue_after : ℕ → ℕ → Step → List Message → List Message
+queue_after p q s queue =
+    if sends p q s then queue ++ given s.act else if receives p q s then drop 1 queue else queue
+
+-- the view after a step of this participant
+abbrev pub view_after : View → Step → Participant → View
+view_after v s c = record {
+  participant = λ p. if p == s.role then c else v.participant p;
+  queue = λ p q. queue_after p q s (v.queue p q);
+}
+
+-- the view after the step, where it is allowed. The step's number isn't looked at
+abbrev pub rule : View → Step → Option View
+rule v s = option_map (view_after v s) (participant_after (v.participant s.role) s.act (moved v s.role s.act))
+
+-- the view after the steps, each by the rule, where each is allowed
+abbrev pub replay : View → List Step → Option View
+replay v [] = Some v
+replay v (s ∷ h) = option_and_then (λ w. replay w h) (rule v s)

@@ -1,0 +1,48 @@
+//! What a session answers to a command.
+use mps_base::{Message, StepId};
+use thiserror::Error;
+
+/// Why a role's type doesn't allow an act now: the first of these that applies.
+#[derive(Clone, Copy, Debug, PartialEq, Eq, Error)]
+pub enum Violation {
+    #[error("the role's part has ended")]
+    Ended,
+    #[error("the type allows another kind of act")]
+    WrongAct,
+    #[error("the type names another peer")]
+    WrongPeer,
+    #[error("the value is of another sort")]
+    WrongSort,
+    #[error("the choice has no such label")]
+    NoLabel,
+    #[error("nothing is queued from the peer")]
+    NothingQueued,
+    #[error("the message that waits is of another sort or label")]
+    Mismatch,
+}
+
+/// Why a command was refused. Nothing has changed then.
+#[derive(Clone, Copy, Debug, PartialEq, Eq, Error)]
+pub enum Refusal {
+    #[error(transparent)]
+    Violation(Violation),
+    #[error("no step of this number survives")]
+    NoStep,
+    #[error("the step is another role's")]
+    NotYours,
+    #[error("step {} depends on it", by.number())]
+    Needed { by: StepId },
+    #[error("no mark of this name survives")]
+    NoMark,
+    #[error("no more numbers are given out")]
+    Full,
+    #[error("out of memory")]
+    Memory,
+}
+
+/// An accepted step: its number, and the message that a receipt or a pick took.
+#[derive(Drop)]
+pub struct Done {
+    pub id: StepId,
+    pub got: Option<Message>,
+}

@@ -1,0 +1,22 @@
+//! Worked sessions, which show that the definitions say what they mean.
+ghost use Rattle.mps_machine.specs.Examples.{AnUndoWaitsForTheReceipt, ARollbackTakesAllThatDepends, ARollbackLeavesTheStrangers, AReceiptUndoneTakesTheSameMessageAgain, AnUndoneSendIsGone, AReceiptIntoAUsedSlotIsUndone, TheLeastDependentIsNamedASend, TheLeastDependentIsNamedAReceipt, AReturnToAMarkLeavesTheMark, NumbersAreNeverUsedAgain, RefusalsAreNamed, AChoiceIsMadeAndPicked, AMessageOfAnotherSortIsAMismatch, TheMessageWaitsAgain, TheSlotHasItsOldValue};
+
+/// What the machine answers in short sessions, as worked out by hand.
+pub fn worked_sessions()
+    ensures an_undo_waits_for_the_receipt { AnUndoWaitsForTheReceipt }
+    ensures a_rollback_takes_all_that_depends { ARollbackTakesAllThatDepends }
+    ensures a_rollback_leaves_the_strangers { ARollbackLeavesTheStrangers }
+    ensures a_receipt_undone_takes_the_same_message_again { AReceiptUndoneTakesTheSameMessageAgain }
+    ensures an_undone_send_is_gone { AnUndoneSendIsGone }
+    ensures a_receipt_into_a_used_slot_is_undone { AReceiptIntoAUsedSlotIsUndone }
+    ensures the_least_dependent_is_named_a_send { TheLeastDependentIsNamedASend }
+    ensures the_least_dependent_is_named_a_receipt { TheLeastDependentIsNamedAReceipt }
+    ensures a_return_to_a_mark_leaves_the_mark { AReturnToAMarkLeavesTheMark }
+    ensures numbers_are_never_used_again { NumbersAreNeverUsedAgain }
+    ensures refusals_are_named { RefusalsAreNamed }
+    ensures a_choice_is_made_and_picked { AChoiceIsMadeAndPicked }
+    ensures a_message_of_another_sort_is_a_mismatch { AMessageOfAnotherSortIsAMismatch }
+    ensures the_message_waits_again { TheMessageWaitsAgain }
+    ensures the_slot_has_its_old_value { TheSlotHasItsOldValue }
+{
+}

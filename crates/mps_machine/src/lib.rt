@@ -1,0 +1,8 @@
+//! The plain machine of a session: a list of steps and the next number, with its answers to each command.
+//! Definitions and their laws, and the types that the answers are made of.
+#![tactic(auto)]
+
+pub mod answer;
+pub mod examples;
+
+pub use answer::{Done, Refusal, Violation};
