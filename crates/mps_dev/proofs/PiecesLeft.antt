@@ -72,6 +72,7 @@ left_from-read next given n pieces found =
   where
     end : length pieces ≤ next → left_from next (given + n) pieces ≡ non_empty (past n (left_from next given pieces))
     end past_all = left_from-end next (given + n) pieces past_all ∙ sym (ap (λ l. non_empty (past n l)) (left_from-end next given pieces past_all))
+
     at : next < length pieces → left_from next (given + n) pieces ≡ non_empty (past n (left_from next given pieces))
     at within =
         let piece = get_or pieces next [] in
@@ -88,7 +89,7 @@ concat-past [] n old new within given =
 concat-past (piece ∷ pieces) n old new within given =
     let front : take n new ≡ take n piece = ap (take n) given ∙ grind (arith, common_steps) in
     ap (λ l. l ++ concat pieces) (sym (take-append-drop n piece)) ∙ append_assoc (take n piece) (drop n piece) (concat pieces)
-        ∙ ap (λ l. l ++ (drop n piece ++ concat pieces)) (sym front) ∙ ap (λ l. take n new ++ l) (sym (concat-non_empty (drop n piece ∷ pieces)))
+    ∙ ap (λ l. l ++ (drop n piece ++ concat pieces)) (sym front) ∙ ap (λ l. take n new ++ l) (sym (concat-non_empty (drop n piece ∷ pieces)))
 
 -- no piece is left where the next one has no bytes
 pub non_empty-end : (pieces : List (List ℕ)) → length (first_piece (non_empty pieces)) ≤ 0 → non_empty pieces ≡ []
@@ -104,8 +105,10 @@ pub concat-left_from-read : (next given n : ℕ) (pieces left : List (List ℕ))
 concat-left_from-read next given n pieces left old new found same count copied =
     let after : left_from next (given + n) pieces ≡ non_empty (past n left) = left_from-read next given n pieces found ∙ ap (λ l. non_empty (past n l)) same in
     let within : n ≤ length (first_piece left) = omega arith in
-    let moved : concat left ≡ take n new ++ concat (left_from next (given + n) pieces) = concat-past left n old new within copied ∙ ap (λ l. take n new ++ concat l) (sym after) in
-    (moved, λ none room.
-        let short : length (first_piece (left_from next given pieces)) ≤ 0 = rw same (omega arith) in
-        let gone : left ≡ [] = sym same ∙ non_empty-end (past given (drop next pieces)) short in
-        ap concat (after ∙ ap (λ l. non_empty (past n l)) gone))
+    let moved : concat left ≡ take n new ++ concat (left_from next (given + n) pieces) = concat-past left n old new within copied ∙ ap (λ l. take n new ++ concat l) (sym after) in (
+      moved,
+      λ none room.
+          let short : length (first_piece (left_from next given pieces)) ≤ 0 = rw same (omega arith) in
+          let gone : left ≡ [] = sym same ∙ non_empty-end (past given (drop next pieces)) short in
+          ap concat (after ∙ ap (λ l. non_empty (past n l)) gone),
+    )

@@ -1,4 +1,4 @@
-ghost use Rattle.std.specs.Prelude.{◌≡◌, ◌≢◌, ℕ, ◌+◌, ◌-◌, ◌^◌, ◌<◌, ◌≤◌, ◌↔◌, min, List, [], ◌++◌, length, take, drop, map, vec_items, vec_len, vec_capacity, IfOk, OnOk, OnErr, IsOk, IsErr, Ok, Err, Some, Option, Result, MatchResult};
+ghost use Rattle.std.specs.Prelude.{◌≡◌, ◌+◌, ◌^◌, ◌<◌, ◌↔◌, min, [], ◌++◌, length, take, drop, map, vec_items, IfOk, OnErr, IsErr, Some};
 ghost use Rattle.std.specs.Io.{ReadsAtMost, WritesAtMost};
 ghost use Rattle.std.specs.Io.KnownBytes.{ReadConsumes, WriteAppends};
 ghost use Rattle.std.specs.List.{concat, flat_map, slice_index_or};
@@ -29,10 +29,10 @@ impl Model for Pieces {
     ghost Value = { Script };
 
     ghost view = { λ s. record {
-        pieces = left_from s.next s.given (map vec_items s.pieces.items);
-        fails_from = s.fails_from;
-        answered = s.answered;
-        failed_calls = s.failed_calls
+      pieces = left_from s.next s.given (map vec_items s.pieces.items);
+      fails_from = s.fails_from;
+      answered = s.answered;
+      failed_calls = s.failed_calls;
     } };
 }
 
@@ -40,10 +40,10 @@ impl Pieces {
     /// A source that gives `pieces`, and fails from the call `fails_from` on, counted from 1. It takes no memory.
     pub fn new(pieces: Vec<Vec<u8>>, fails_from: Option<u64>) -> Self
         ensures script { result ≡ record {
-            pieces = non_empty (map vec_items pieces.items);
-            fails_from = fails_from;
-            answered = 0;
-            failed_calls = 0
+          pieces = non_empty (map vec_items pieces.items);
+          fails_from = fails_from;
+          answered = 0;
+          failed_calls = 0;
         } }
         ensures bytes { concat result.pieces ≡ flat_map vec_items pieces.items }
     {
@@ -78,7 +78,8 @@ impl Source for Pieces {
         // It fails exactly from the given call on, and loses nothing then.
         ensures fails { IsErr result ↔ IsFailingCall self.old.fails_from (calls_of self.old + 1) }
         ensures kept { OnErr result (self.new.pieces ≡ self.old.pieces) }
-        ensures still { self.new.fails_from ≡ self.old.fails_from }
+        ensures untouched { OnErr result (buf.new ≡ buf.old) }
+        ensures schedule { self.new.fails_from ≡ self.old.fails_from }
 
         // Else it gives as much of the next piece as there is room for.
         ensures count { IfOk result (λ n. n ≡ min (length (first_piece self.old.pieces)) (length buf.old)) }

@@ -1,4 +1,5 @@
-ghost use Rattle.std.specs.Prelude.{◌≡◌, ℕ, ◌+◌, ◌^◌, ◌<◌, ◌≤◌};
+ghost use Rattle.std.specs.Prelude.{◌+◌, ◌^◌, ◌<◌, ◌≤◌, take, IfOk};
+ghost use Rattle.std.specs.Io.KnownBytes.{Appends, Consumes};
 
 use super::*;
 use std::alloc::{AllocError, Global};
@@ -8,9 +9,11 @@ use std::test::Fail;
 // What up to ten reads of at most four bytes give, until the end or a failure, and whether that was a failure.
 fn drained<S: Source>(alloc: Global, source: &mut S) -> Result<(Vec<u8>, bool), AllocError>
     requires { S.calls source.old < 2 ^ 62 }
+    ensures calls { S.calls source.new ≤ S.calls source.old + 10 }
+    ensures bytes { IfOk result (λ r. Consumes (S.remaining source.old) (S.remaining source.new) r.0.items) }
 {
     let mut bytes = Vec::new(alloc);
-    for _turn in 0..10 {
+    for _turn in 0..10u8 {
         let mut buf = [0; 4];
         match source.read(&mut buf) {
             Ok(0) => return Ok((bytes, false)),
@@ -24,9 +27,10 @@ fn drained<S: Source>(alloc: Global, source: &mut S) -> Result<(Vec<u8>, bool), 
 // How many of the bytes up to ten writes hand over, until a failure.
 fn handed_over<K: Sink>(sink: &mut K, bytes: &[u8]) -> usize
     requires { K.failed_calls sink.old < 2 ^ 62 }
+    ensures bytes { Appends (K.taken sink.old) (K.taken sink.new) (take result bytes.now) }
 {
     let mut at = 0;
-    for _turn in 0..10 {
+    for _turn in 0..10u8 {
         match sink.write(&bytes[at..]) {
             Ok(n) => at += n,
             Err(Failed) => return at,
@@ -130,7 +134,10 @@ fn readers_of_std_are_sources(rt: HostRuntime) -> Result<(), Fail> {
 
     let mut interrupted = OverRead::new(Interrupted { reads: 0 });
     assert_eq!(rt; drained(rt.alloc(), &mut interrupted)?.1, true);
-    assert_eq!(rt; drained(rt.alloc(), &mut interrupted)?.0.as_slice(), [8, 9].as_slice());
+    assert_eq!(rt;
+        drained(rt.alloc(), &mut interrupted)?.0.as_slice(),
+        [8, 9].as_slice()
+    );
     Ok(())
 }
 

@@ -1,8 +1,8 @@
 -- Which steps depend on which: happened-before (Lamport 1978) over the steps of a history.
-use Rattle.std.specs.Prelude.{◌≡◌, ℕ, ◌<◌, Bool, true, ◌==◌, nat_lt, ◌&&◌, ◌||◌, if◌then◌else◌, List, [], ◌∷◌, length, IsTrue, Contains}
+use Rattle.std.specs.Prelude.{ℕ, Bool, ◌==◌, nat_lt, ◌&&◌, ◌||◌, if◌then◌else◌, List, [], ◌∷◌, length, IsTrue}
 use Rattle.std.specs.List.{filter, list_any}
 use Rattle.mps_base.specs.declared.action.Step.{Step}
-use Rattle.mps_history.specs.Steps.{sends, receives}
+use Rattle.mps_history.specs.Steps.{IsIn, sends, receives}
 
 -- how many of the steps before number n send from p to q
 abbrev pub sent_before : ℕ → ℕ → ℕ → List Step → ℕ
@@ -25,7 +25,11 @@ depends_on h t s = nat_lt s.id t.id && (s.role == t.role || is_matched h s t)
 -- t depends on s, through one or more direct dependences
 pub data DependsOn (h : List Step) : Step → Step → Type 0 where
   Directly : (t s : Step) → IsTrue (depends_on h t s) → DependsOn h t s
-  Through : (t u s : Step) → Contains h u → IsTrue (depends_on h t u) → DependsOn h u s → DependsOn h t s
+  Through : (t u s : Step) → IsIn u h → IsTrue (depends_on h t u) → DependsOn h u s → DependsOn h t s
+
+-- where a member is in the set, each step of the history that depends directly on it is
+abbrev pub IsClosed : List Step → (ℕ → Bool) → Type 0
+IsClosed h set = (t s : Step) → IsIn t h → IsIn s h → IsTrue (set s.id) → IsTrue (depends_on h t s) → IsTrue (set t.id)
 
 -- the set, and the number n
 abbrev pub with : (ℕ → Bool) → ℕ → (ℕ → Bool)

@@ -1,6 +1,6 @@
 -- Histories: lists of numbered steps, the oldest first.
-use Rattle.std.specs.Prelude.{◌≡◌, ℕ, ◌+◌, ◌<◌, Bool, false, ◌==◌, nat_lt, ◌&&◌, not, List, [], ◌∷◌, ◌++◌, length, map, Option, Some, None, ⊤}
-use Rattle.std.specs.List.{filter, find, list_any, AllByRecursion}
+use Rattle.std.specs.Prelude.{◌≡◌, ℕ, ◌<◌, ◌⊎◌, Bool, false, ◌==◌, ◌&&◌, not, List, [], ◌∷◌, map, Option, ⊤}
+use Rattle.std.specs.List.{filter, find, AllByRecursion}
 use Rattle.mps_base.specs.declared.action.Act.{Act}
 use Rattle.mps_base.specs.declared.action.Act.TheVariants.{Out, In, Mark}
 use Rattle.mps_base.specs.declared.action.Step.{Step}
@@ -25,6 +25,11 @@ sends p q s = s.role == p && goes_to q s.act
 abbrev pub receives : ℕ → ℕ → Step → Bool
 receives p q s = s.role == q && comes_from p s.act
 
+-- the step stands in the history
+abbrev pub IsIn : Step → List Step → Type 0
+IsIn s [] = ⊥
+IsIn s (t ∷ h) = (s ≡ t) ⊎ IsIn s h
+
 -- the numbers of the steps, in order
 abbrev pub numbers : List Step → List ℕ
 numbers h = map (λ s. s.id) h
@@ -41,6 +46,10 @@ step_of h n = find (λ s. s.id == n) h
 -- the history without the steps whose numbers are in the set, the others in order
 abbrev pub without : List Step → (ℕ → Bool) → List Step
 without h set = filter (λ s. not (set s.id)) h
+
+-- the steps of the history whose numbers are in the set, in order
+abbrev pub within : List Step → (ℕ → Bool) → List Step
+within h set = filter (λ s. set s.id) h
 
 -- the steps of one role, in order
 abbrev pub steps_of : ℕ → List Step → List Step

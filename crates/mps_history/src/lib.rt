@@ -2,16 +2,34 @@
 //! but for the order of independent steps. Definitions and their laws; there is no code here.
 #![tactic(auto)]
 
-ghost use Rattle.std.specs.Prelude.{◌≡◌, ℕ, ◌<◌, Bool, List, IsTrue, Contains, ◌∷◌, [], true, false};
-ghost use Rattle.mps_base.specs.declared.action.Step.{Step as AStep};
-ghost use Rattle.mps_history.specs.Steps.{IsRising, step_of, without};
-ghost use Rattle.mps_history.specs.Dependence.{depends_on, DependsOn, consequences};
-ghost use Rattle.mps_history.specs.Swaps.{Swaps};
+ghost use Rattle.std.specs.Prelude.{◌≡◌, ◌↔◌, ◌⊎◌, ℕ, ◌<◌, ◌==◌, List, [], ◌∷◌, ◌++◌, Some, IsTrue};
+ghost use Rattle.mps_base.specs.declared.action.Step.{Step};
+ghost use Rattle.mps_history.specs.Steps.{IsIn, IsRising, step_of, within, without};
+ghost use Rattle.mps_history.specs.Dependence.{DependsOn, IsClosed, consequences};
 
-/// The step of a number is the one in the history that has it.
+/// In a history whose numbers rise, a step is found by its number, and only a step that has the number.
 pub fn found_by_number()
-    ensures a { (h : List AStep) (k : List AStep) → Swaps h k → Swaps h k }
-    ensures b { (h : List AStep) → IsRising h → IsRising h }
-    ensures c { (h : List AStep) (t s : AStep) → DependsOn h t s → DependsOn h t s }
-{
-}
+    ensures found { (h : List Step) (s : Step) → IsRising h → IsIn s h → step_of h s.id ≡ Some s }
+    ensures only { (h : List Step) (n : ℕ) (s : Step) → step_of h n ≡ Some s → IsIn s h × (s.id ≡ n) }
+{}
+
+/// A step depends on earlier steps alone.
+pub fn dependence_goes_back()
+    ensures { (h : List Step) (t s : Step) → DependsOn h t s → s.id < t.id }
+{}
+
+/// The pass that finds the consequences of a step finds the step and all that reach it by one or more direct
+/// dependences (Lamport 1978), and no other.
+pub fn consequences_are_reaching()
+    ensures members { (h : List Step) (s t : Step) → IsRising h → IsIn s h → IsIn t h →
+        (IsTrue (consequences h s.id t.id) ↔ ((t ≡ s) ⊎ DependsOn h t s)) }
+    ensures closed { (h : List Step) (n : ℕ) → IsRising h → IsClosed h (consequences h n) }
+{}
+
+/// Nothing depends on a step that has just joined, and taking it out again gives the old history.
+pub fn a_last_step_is_alone()
+    ensures alone { (h : List Step) (s : Step) → IsRising (h ++ s ∷ []) →
+        within (h ++ s ∷ []) (consequences (h ++ s ∷ []) s.id) ≡ s ∷ [] }
+    ensures taken_out { (h : List Step) (s : Step) → IsRising (h ++ s ∷ []) →
+        without (h ++ s ∷ []) (λ m. m == s.id) ≡ h }
+{}

@@ -1,14 +1,14 @@
 -- The plain machine: a list of steps and the next number, and its answers to commands. An undo is allowed only where
 -- nothing that depends on the step survives (Danos, Krivine, CONCUR 2004).
-use Rattle.std.specs.Prelude.{◌≡◌, ℕ, ◌+◌, ◌<◌, Bool, true, false, ◌==◌, nat_lt, ◌&&◌, not, if◌then◌else◌, List, [], ◌∷◌, ◌++◌, map, reverse, Option, Some, None, is_some, unwrap_or, Result, Ok, Err, min, Contains}
-use Rattle.std.specs.List.{filter}
+use Rattle.std.specs.Prelude.{◌≡◌, ℕ, ◌+◌, ◌<◌, Bool, true, false, ◌==◌, nat_lt, ◌&&◌, not, if◌then◌else◌, List, [], ◌∷◌, ◌++◌, map, reverse, Option, Some, None, is_some, unwrap_or, Result, Ok, Err, min}
+use Rattle.std.specs.List.{filter, AllByRecursion}
 use Rattle.std.specs.Str.{bytes_eq}
 use Rattle.mps_base.specs.declared.action.Act.{Act}
 use Rattle.mps_base.specs.declared.action.Act.TheVariants.{Out, In, Mark}
 use Rattle.mps_base.specs.declared.action.Message.{Message}
 use Rattle.mps_base.specs.declared.action.Step.{Step}
 use Rattle.mps_local.specs.Local.{LocalType}
-use Rattle.mps_history.specs.Steps.{numbers, step_of, steps_of, without, IsRising}
+use Rattle.mps_history.specs.Steps.{numbers, step_of, steps_of, within, without, IsRising}
 use Rattle.mps_history.specs.Dependence.{consequences}
 use Rattle.mps_machine.specs.declared.answer.Violation.{Violation}
 use Rattle.mps_machine.specs.declared.answer.Refusal.{Refusal}
@@ -64,10 +64,6 @@ least (n ∷ ns) = Some (min n (unwrap_or (least ns) n))
 abbrev pub owner_fault : ℕ → Option Step → Option Refusal
 owner_fault p None = Some NoStep
 owner_fault p (Some s) = if s.role == p then None else Some NotYours
-
--- the surviving steps in the set
-abbrev pub within : List Step → (ℕ → Bool) → List Step
-within h set = filter (λ s. set s.id) h
 
 -- the numbers of the other steps that depend on step n
 abbrev pub dependents : List Step → ℕ → List ℕ
@@ -153,6 +149,6 @@ after types st (r ∷ rs) = after types (serve types st r).1 rs
 -- what holds of every state that commands lead to
 pub record IsSound (types : List LocalType) (st : State) : Type 0 where
   pub rising : IsRising st.history
-  pub below : (s : Step) → Contains st.history s → s.id < st.next
+  pub below : AllByRecursion (λ s. s.id < st.next) st.history
   pub view : View
   pub replayed : replay (opening types) st.history ≡ Some view

@@ -16,6 +16,6 @@ returns-clause-bytes c =
     let count : n ≡ min (length (first_piece left)) (length c.args.buf.now) = grind (arith, common_steps) in
     let copied : c.match-get.buf ≡ take n (first_piece left) ++ drop n c.args.buf.now = grind (arith, common_steps) in
     let found : c.first_left-next.result.0 < length pieces → c.first_left-next.result.1 < length (get_or pieces c.first_left-next.result.0 []) =
-        grind (arith, common_steps) in
+    grind (arith, common_steps) in
     let read = concat-left_from-read _ _ n pieces left c.args.buf.now c.match-get.buf found same count copied in
     (read.0, λ none room. read.1 none (omega arith))

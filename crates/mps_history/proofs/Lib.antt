@@ -1,0 +1,3 @@
+pub mod Order
+pub mod Reaching
+pub mod Removal
