@@ -3,3 +3,7 @@ pub mod Texts
 pub mod Actions
 pub mod Inline
 pub mod Refilled
+pub mod Numbers
+pub mod Appends
+pub mod Values
+pub mod RoleLists

@@ -1,5 +1,5 @@
 -- How the names of roles, labels, slots and marks are spelled.
-use Rattle.std.specs.Prelude.{◌≢◌, ℕ, ◌<◌, ◌≤◌, Bool, ◌==◌, nat_le, ◌&&◌, ◌||◌, List, [], ◌∷◌, length, codes, IsTrue, slice_index}
+use Rattle.std.specs.Prelude.{◌≢◌, ℕ, ◌<◌, ◌≤◌, Bool, ◌==◌, nat_le, ◌&&◌, ◌||◌, List, [], ◌∷◌, ◌++◌, length, codes, IsTrue, slice_index}
 use Rattle.std.specs.List.{AllByRecursion}
 
 -- the bytes `a` to `z`
@@ -14,15 +14,28 @@ is_digit c = nat_le 48 c && nat_le c 57
 abbrev pub is_name_byte : ℕ → Bool
 is_name_byte c = is_lower c || is_digit c || c == 95
 
--- the words of the grammar, which are no names
-abbrev pub reserved_words : List (List ℕ)
-reserved_words =
-    codes "roles" ∷ codes "rec" ∷ codes "end" ∷ codes "int" ∷ codes "bool" ∷ codes "text" ∷ codes "true" ∷ codes "false" ∷ []
+-- the words of the protocol grammar's structure, of its sorts and of the truth values
+abbrev pub structure_words : List (List ℕ)
+structure_words = codes "roles" ∷ codes "rec" ∷ codes "end" ∷ []
 
--- 1 to 32 bytes, the first a small letter, and no word of the grammar
+abbrev pub sort_words : List (List ℕ)
+sort_words = codes "int" ∷ codes "bool" ∷ codes "text" ∷ []
+
+abbrev pub bool_words : List (List ℕ)
+bool_words = codes "true" ∷ codes "false" ∷ []
+
+-- the words that are no names
+abbrev pub reserved_words : List (List ℕ)
+reserved_words = structure_words ++ sort_words ++ bool_words
+
+-- the bytes are none of these words
+abbrev pub IsNoneOf : List (List ℕ) → List ℕ → Type 0
+IsNoneOf words bytes = AllByRecursion (λ word. bytes ≢ word) words
+
+-- 1 to 32 bytes, the first a small letter, and no reserved word
 pub record IsName (bytes : List ℕ) : Type 0 where
   pub some : 0 < length bytes
   pub short : length bytes ≤ 32
   pub first : IsTrue (is_lower (slice_index bytes 0))
   pub each : AllByRecursion (λ c. IsTrue (is_name_byte c)) bytes
-  pub free : AllByRecursion (λ word. bytes ≢ word) reserved_words
+  pub free : IsNoneOf reserved_words bytes

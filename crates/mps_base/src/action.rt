@@ -1,8 +1,9 @@
 //! What participants do: messages, acts and numbered steps.
-ghost use Rattle.std.specs.Prelude.{◌≡◌, ◌<◌, ◌^◌, ◌==◌, nat_lt};
+ghost use Rattle.std.specs.Prelude.{◌≡◌, ◌<◌, ◌^◌, ◌==◌, nat_lt, IfOk};
 
 use crate::name::Name;
 use crate::value::Value;
+use std::alloc::{AllocError, Global};
 use std::marker::Model;
 
 /// A role of a session, by its place in the list of roles, from 0.
@@ -89,24 +90,68 @@ impl StepId {
 }
 
 /// What a queue holds: a value, or the label of a choice.
-#[derive(Drop)]
+#[derive(Debug, Drop)]
 pub enum Message {
     Value(Value),
     Label(Name),
 }
 
+impl Message {
+    /// The same message once more.
+    pub fn copy(&self, alloc: Global) -> Result<Message, AllocError>
+        ensures { IfOk result (λ message. message ≡ self.now) }
+    {
+        Ok(match self {
+            Message::Value(value) => Message::Value(value.copy(alloc)?),
+            Message::Label(label) => Message::Label(*label),
+        })
+    }
+}
+
 /// What a role did. A receipt without a slot is a pick: it took a label.
-#[derive(Drop)]
+#[derive(Debug, Drop)]
 pub enum Act {
     Out { to: Role, message: Message },
     In { from: Role, slot: Option<Name> },
     Mark(Name),
 }
 
+impl Act {
+    /// The same act once more.
+    pub fn copy(&self, alloc: Global) -> Result<Act, AllocError>
+        ensures { IfOk result (λ act. act ≡ self.now) }
+    {
+        Ok(match self {
+            Act::Out { to, message } => Act::Out {
+                to: *to,
+                message: message.copy(alloc)?,
+            },
+            Act::In { from, slot } => Act::In {
+                from: *from,
+                slot: *slot,
+            },
+            Act::Mark(mark) => Act::Mark(*mark),
+        })
+    }
+}
+
 /// An accepted act, with its number and the role whose act it is.
-#[derive(Drop)]
+#[derive(Debug, Drop)]
 pub struct Step {
     pub id: StepId,
     pub role: Role,
     pub act: Act,
+}
+
+impl Step {
+    /// The same step once more.
+    pub fn copy(&self, alloc: Global) -> Result<Step, AllocError>
+        ensures { IfOk result (λ step. step ≡ self.now) }
+    {
+        Ok(Step {
+            id: self.id,
+            role: self.role,
+            act: self.act.copy(alloc)?,
+        })
+    }
 }

@@ -3,8 +3,17 @@
 
 pub mod action;
 pub mod name;
+pub mod number;
+pub mod roles;
+pub mod spelling;
 pub mod value;
 
 pub use action::{Act, Message, Role, Step, StepId};
 pub use name::Name;
+pub use number::{read_number, write_number};
+pub use roles::{MAX_ROLES, MIN_ROLES, RoleFault, Roles};
+pub use spelling::ValueFault;
 pub use value::{Sort, Text, Value};
+
+#[cfg(test)]
+mod tests;

@@ -1,5 +1,7 @@
 //! Names, kept inline.
-ghost use Rattle.std.specs.Prelude.{◌≡◌, ◌↔◌, IsTrue};
+ghost use Rattle.std.specs.Prelude.{◌≡◌, ◌↔◌, IsTrue, IsSome, IfSome};
+ghost use Rattle.std.specs.List.{AllByRecursion};
+ghost use Rattle.mps_base.specs.Names.{IsName, IsNoneOf, is_name_byte, structure_words, sort_words, bool_words, reserved_words};
 
 use std::marker::Model;
 
@@ -7,7 +9,7 @@ use std::marker::Model;
 pub const MAX_NAME: usize = 32;
 
 /// The name of a role, a label, a slot or a mark: 1 to 32 small letters, digits and `_`, the first
-/// a letter, and no word of the protocol grammar.
+/// a letter, and no reserved word.
 #[derive(Clone, Copy, Debug, PartialEq, Eq)]
 pub struct Name {
     len: u8,
@@ -33,9 +35,26 @@ impl Model for Name {
 }
 
 impl Name {
+    /// The name of these bytes.
+    pub fn read(bytes: &[u8]) -> Option<Name>
+        ensures some { IsSome result ↔ IsName bytes.now }
+        ensures name { IfSome result (λ name. name ≡ bytes.now) }
+    {
+        if !is_name(bytes) {
+            return None;
+        }
+        let mut kept = [0; MAX_NAME];
+        kept[..bytes.len()].copy_from_slice(bytes);
+        Some(Name {
+            len: bytes.len() as u8,
+            bytes: kept,
+        })
+    }
+
     /// Its bytes, from the first to the last.
     pub fn as_bytes(&self) -> &[u8]
-        ensures { result.now ≡ self.now }
+        ensures bytes { result.now ≡ self.now }
+        ensures name { IsName self.now }
     {
         let len = usize::from(self.len);
         &self.bytes[..len]
@@ -47,4 +66,54 @@ impl Name {
     {
         self.as_bytes() == other.as_bytes()
     }
+}
+
+// Whether the bytes are a name.
+fn is_name(bytes: &[u8]) -> bool
+    ensures { IsTrue result ↔ IsName bytes.now }
+{
+    match bytes {
+        [] => false,
+        [first, ..] => {
+            first.is_ascii_lowercase()
+                && bytes.len() <= MAX_NAME
+                && has_name_bytes(bytes)
+                && is_free(bytes)
+        }
+    }
+}
+
+// Whether a name may contain each of the bytes.
+fn has_name_bytes(bytes: &[u8]) -> bool
+    ensures { IsTrue result ↔ AllByRecursion (λ c. IsTrue (is_name_byte c)) bytes.now }
+{
+    bytes.iter().all(|byte| byte.is_ascii_lowercase() || byte.is_ascii_digit() || *byte == b'_')
+}
+
+// Whether the bytes are no reserved word.
+fn is_free(bytes: &[u8]) -> bool
+    ensures { IsTrue result ↔ IsNoneOf reserved_words bytes.now }
+{
+    is_no_structure(bytes) && is_no_sort(bytes) && is_no_bool(bytes)
+}
+
+// Whether the bytes are no word of a protocol's structure.
+fn is_no_structure(bytes: &[u8]) -> bool
+    ensures { IsTrue result ↔ IsNoneOf structure_words bytes.now }
+{
+    bytes != b"roles".as_slice() && bytes != b"rec".as_slice() && bytes != b"end".as_slice()
+}
+
+// Whether the bytes are no sort.
+fn is_no_sort(bytes: &[u8]) -> bool
+    ensures { IsTrue result ↔ IsNoneOf sort_words bytes.now }
+{
+    bytes != b"int".as_slice() && bytes != b"bool".as_slice() && bytes != b"text".as_slice()
+}
+
+// Whether the bytes are no truth value.
+fn is_no_bool(bytes: &[u8]) -> bool
+    ensures { IsTrue result ↔ IsNoneOf bool_words bytes.now }
+{
+    bytes != b"true".as_slice() && bytes != b"false".as_slice()
 }

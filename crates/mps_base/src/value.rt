@@ -1,4 +1,8 @@
 //! Values and their sorts.
+ghost use Rattle.std.specs.Prelude.{◌≡◌, ◌↔◌, IsTrue, IsSome, IfSome, IfOk, All};
+ghost use Rattle.mps_base.specs.Texts.{IsText, IsPlainByte};
+
+use std::alloc::{AllocError, Global};
 use std::marker::Model;
 
 /// The sort of a value.
@@ -9,8 +13,11 @@ pub enum Sort {
     Text,
 }
 
+/// How many bytes a text may have.
+pub const MAX_TEXT: usize = 256;
+
 /// The content of a text value: 0 to 256 bytes from the space to `~`, without `"` and `\`.
-#[derive(Drop)]
+#[derive(Debug, Drop)]
 pub struct Text {
     bytes: Vec<u8>,
 }
@@ -26,10 +33,96 @@ impl Model for Text {
     ghost invariant = { λ t. IsText t.bytes.items };
 }
 
+impl Text {
+    /// The text of these bytes, if they may stand in one.
+    pub fn new(bytes: Vec<u8>) -> Option<Text>
+        ensures some { IsSome result ↔ IsText bytes.items }
+        ensures text { IfSome result (λ text. text ≡ bytes.items) }
+    {
+        if is_text(&bytes) {
+            Some(Text { bytes })
+        } else {
+            None
+        }
+    }
+
+    /// The text of a copy of these bytes.
+    pub(crate) fn from_slice(alloc: Global, bytes: &[u8]) -> Result<Text, AllocError>
+        requires { IsText bytes.now }
+        ensures { IfOk result (λ text. text ≡ bytes.now) }
+    {
+        Ok(Text {
+            bytes: Vec::from_slice(alloc, bytes)?,
+        })
+    }
+
+    /// Its bytes, from the first to the last, without quotes.
+    pub fn as_bytes(&self) -> &[u8]
+        ensures bytes { result.now ≡ self.now }
+        ensures text { IsText self.now }
+    {
+        &self.bytes
+    }
+
+    /// The same text once more.
+    pub fn copy(&self, alloc: Global) -> Result<Text, AllocError>
+        ensures { IfOk result (λ text. text ≡ self.now) }
+    {
+        Text::from_slice(alloc, self.as_bytes())
+    }
+}
+
+// Whether the bytes may stand in a text.
+pub(crate) fn is_text(bytes: &[u8]) -> bool
+    ensures { IsTrue result ↔ IsText bytes.now }
+{
+    bytes.len() <= MAX_TEXT && bytes.iter().all(|&byte| is_plain(byte))
+}
+
+// Whether the byte is shown as itself between quotes.
+fn is_plain(byte: u8) -> bool
+    ensures { IsTrue result ↔ IsPlainByte byte }
+{
+    (b' '..=b'~').contains(&byte) && byte != b'"' && byte != b'\\'
+}
+
 /// A value that one role sends to another.
-#[derive(Drop)]
+#[derive(Debug, Drop)]
 pub enum Value {
     Int(i64),
     Bool(bool),
     Text(Text),
+}
+
+impl Value {
+    ghost use Rattle.mps_base.specs.Actions.{sort_of, IsOfSort};
+
+    /// Its sort.
+    pub fn sort(&self) -> Sort
+        ensures { result ≡ sort_of self.now }
+    {
+        match self {
+            Value::Int(_) => Sort::Int,
+            Value::Bool(_) => Sort::Bool,
+            Value::Text(_) => Sort::Text,
+        }
+    }
+
+    /// Whether it is of that sort.
+    pub fn is_of(&self, sort: Sort) -> bool
+        ensures { IsTrue result ↔ IsOfSort self.now sort }
+    {
+        self.sort() == sort
+    }
+
+    /// The same value once more.
+    pub fn copy(&self, alloc: Global) -> Result<Value, AllocError>
+        ensures { IfOk result (λ value. value ≡ self.now) }
+    {
+        Ok(match self {
+            Value::Int(n) => Value::Int(*n),
+            Value::Bool(b) => Value::Bool(*b),
+            Value::Text(text) => Value::Text(text.copy(alloc)?),
+        })
+    }
 }

@@ -5,7 +5,7 @@ ghost use Rattle.mps_dev.specs.Calls.{failures_after, TakesSome};
 
 use thiserror::Error;
 
-/// A device failed. The call that answers it moved no byte.
+/// A device failed. What is known of the bytes that it has left, or took, is as before the call.
 #[derive(Clone, Copy, Debug, PartialEq, Eq, Error)]
 #[error("the device failed")]
 pub struct Failed;

@@ -1,54 +1,62 @@
 -- Worked sessions: what the machine answers to short lists of requests, as answers were worked out by hand.
-use Rattle.std.specs.Prelude.{◌≡◌, ℕ, true, false, List, [], ◌∷◌, Option, Some, None, Ok, Err, codes, pos, refl}
-use Rattle.mps_base.specs.declared.action.Act.{Act}
+use Rattle.std.specs.Prelude.{◌≡◌, ℕ, true, List, [], ◌∷◌, Some, None, Ok, Err, codes, pos}
 use Rattle.mps_base.specs.declared.action.Act.TheVariants.{Out, In, Mark}
-use Rattle.mps_base.specs.declared.action.Message.{Message}
 use Rattle.mps_base.specs.declared.action.Message.TheVariants.{Value as Plain, Label}
 use Rattle.mps_base.specs.declared.value.Value.TheVariants.{Int, Bool as Truth}
 use Rattle.mps_base.specs.declared.value.Sort.TheVariants.{Int as IntSort, Bool as BoolSort}
-use Rattle.mps_local.specs.Local.{LocalType, Branches, End, Var, Rec, Send, Recv, Select, Branch, NoMore, More}
+use Rattle.mps_local.specs.Local.{LocalType, End, Var, Rec, Send, Recv, Select, Branch, NoMore, More}
 use Rattle.mps_history.specs.Steps.{numbers}
 use Rattle.mps_machine.specs.declared.answer.Violation.{Violation}
 use Rattle.mps_machine.specs.declared.answer.Violation.TheVariants.{Ended, WrongAct, WrongPeer, WrongSort, NoLabel, NothingQueued, Mismatch}
 use Rattle.mps_machine.specs.declared.answer.Refusal.{Refusal}
-use Rattle.mps_machine.specs.declared.answer.Refusal.TheVariants.{Violation as Violates, NoStep, NotYours, Needed, NoMark, Full}
-use Rattle.mps_machine.specs.Unfolding.{unfolded}
-use Rattle.mps_machine.specs.View.{View}
-use Rattle.mps_machine.specs.Machine.{State, initial, view_of, Request, Forward, Undo, Rollback, Back, Answer, Stepped, Removed, answers, after}
+use Rattle.mps_machine.specs.declared.answer.Refusal.TheVariants.{Violation as Violates, NoStep, NotYours, Needed, NoMark}
+use Rattle.mps_machine.specs.Machine.{initial, view_of, Request, Forward, Undo, Rollback, Back, Answer, Stepped, Removed, answers, after}
 
 -- roles, by their places
 abbrev pub a : ℕ
 a = 0
+
 abbrev pub b : ℕ
 b = 1
+
 abbrev pub c : ℕ
 c = 2
+
 abbrev pub d : ℕ
 d = 3
 
 -- requests
 abbrev pub sends_int : ℕ → ℕ → ℕ → Request
 sends_int p q n = Forward p (Out q (Plain (Int (pos n))))
+
 abbrev pub receives_into : ℕ → ℕ → List ℕ → Request
 receives_into q p slot = Forward q (In p (Some slot))
+
 abbrev pub chooses : ℕ → ℕ → List ℕ → Request
 chooses p q label = Forward p (Out q (Label label))
+
 abbrev pub picks : ℕ → ℕ → Request
 picks q p = Forward q (In p None)
+
 abbrev pub marks : ℕ → List ℕ → Request
 marks p name = Forward p (Mark name)
 
 -- answers
 abbrev pub done : ℕ → Answer
 done n = Stepped (Ok (record { id = n; got = None }))
+
 abbrev pub done_with : ℕ → ℕ → Answer
 done_with n v = Stepped (Ok (record { id = n; got = Some (Plain (Int (pos v))) }))
+
 abbrev pub done_label : ℕ → List ℕ → Answer
 done_label n l = Stepped (Ok (record { id = n; got = Some (Label l) }))
+
 abbrev pub violates : Violation → Answer
 violates v = Stepped (Err (Violates v))
+
 abbrev pub undone : List ℕ → Answer
 undone ns = Removed (Ok ns)
+
 abbrev pub refused : Refusal → Answer
 refused r = Removed (Err r)
 

@@ -1,5 +1,5 @@
 -- The rule of one step, and replay.
-use Rattle.std.specs.Prelude.{◌≡◌, ℕ, Bool, true, false, ◌==◌, ◌&&◌, if◌then◌else◌, List, [], ◌∷◌, ◌++◌, drop, Option, Some, None, option_and_then}
+use Rattle.std.specs.Prelude.{ℕ, Bool, true, false, ◌==◌, ◌&&◌, if◌then◌else◌, List, [], ◌∷◌, ◌++◌, drop, Option, Some, None, option_and_then}
 use Rattle.std.specs.Option.{option_map}
 use Rattle.std.specs.Str.{bytes_eq}
 use Rattle.mps_base.specs.declared.action.Act.{Act}
@@ -11,10 +11,10 @@ use Rattle.mps_base.specs.declared.value.Value.{Value}
 use Rattle.mps_base.specs.declared.value.Sort.{Sort}
 use Rattle.mps_base.specs.declared.value.Sort.TheVariants.{Int as IntSort, Bool as BoolSort, Text as TextSort}
 use Rattle.mps_base.specs.Actions.{sort_of}
-use Rattle.mps_local.specs.Local.{LocalType, Branches, End, Var, Rec, Send, Recv, Select, Branch, NoMore, More}
+use Rattle.mps_local.specs.Local.{LocalType, Branches, Send, Recv, Select, Branch, NoMore, More}
 use Rattle.mps_history.specs.Steps.{sends, receives}
 use Rattle.mps_machine.specs.Unfolding.{unfolded}
-use Rattle.mps_machine.specs.View.{Deed, Store, Participant, View, bound, opening}
+use Rattle.mps_machine.specs.View.{Store, Participant, View, bound}
 
 abbrev pub same_sort : Sort → Sort → Bool
 same_sort IntSort IntSort = true

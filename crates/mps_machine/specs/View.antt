@@ -1,5 +1,5 @@
 -- What a session holds: for each role its past, its type to come and its store; for each ordered pair of roles a queue.
-use Rattle.std.specs.Prelude.{◌≡◌, ℕ, suc, zero, Bool, if◌then◌else◌, List, [], ◌∷◌, ◌++◌, Option, Some, None}
+use Rattle.std.specs.Prelude.{ℕ, suc, zero, if◌then◌else◌, List, [], ◌∷◌, Option, Some, None}
 use Rattle.std.specs.Str.{bytes_eq}
 use Rattle.mps_base.specs.declared.action.Act.{Act}
 use Rattle.mps_base.specs.declared.action.Message.{Message}

@@ -18,5 +18,4 @@ pub fn worked_sessions()
     ensures a_message_of_another_sort_is_a_mismatch { AMessageOfAnotherSortIsAMismatch }
     ensures the_message_waits_again { TheMessageWaitsAgain }
     ensures the_slot_has_its_old_value { TheSlotHasItsOldValue }
-{
-}
+{}

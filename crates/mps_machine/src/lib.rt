@@ -4,5 +4,6 @@
 
 pub mod answer;
 pub mod examples;
+pub mod laws;
 
 pub use answer::{Done, Refusal, Violation};

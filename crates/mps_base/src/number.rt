@@ -1,0 +1,65 @@
+//! Whole numbers as text.
+ghost use Rattle.std.specs.Prelude.{◌≡◌, ℕ, ◌<◌, ◌^◌, ℤ, List, IfSome, IfNone, OnOk, OnErr};
+ghost use Rattle.mps_base.specs.Appends.{Appends};
+ghost use Rattle.mps_base.specs.Numbers.{IsNumberText, IsIntText};
+
+use std::alloc::AllocError;
+use std::str;
+
+/// Reads the number of a step: decimal digits, with no `0` in front of others.
+pub fn read_number(bytes: &[u8]) -> Option<u64>
+    ensures read { IfSome result (IsNumberText bytes.now) }
+    ensures none { IfNone result ((n : ℕ) → n < 2 ^ 64 → IsNumberText bytes.now n → ⊥) }
+{
+    match bytes {
+        // `parse` would take these
+        [b'+', ..] | [b'0', _, ..] => None,
+        _ => match str::from_utf8(bytes) {
+            Ok(text) => text.parse().ok(),
+            Err(_) => None,
+        },
+    }
+}
+
+/// Writes the number of a step at the end.
+#[tactic(auto, using(crate::proofs::Numbers::decimal_is_number))]
+pub fn write_number(n: u64, out: &mut Vec<u8>) -> Result<(), AllocError>
+    ensures ok { OnOk result (Appends (λ text. IsNumberText text n) out.old.items out.new.items) }
+    ensures err { OnErr result (out.new.items ≡ out.old.items) }
+{
+    let digits = n.to_string(*out.allocator())?;
+    out.extend_from_slice(digits.as_bytes())
+}
+
+/// Reads an integer: `0`, or digits without a `0` in front, behind a `-` if it is below 0.
+pub fn read_int(bytes: &[u8]) -> Option<i64>
+    ensures read { IfSome result (IsIntText bytes.now) }
+    ensures none { IfNone result ((z : ℤ) → IsIntText bytes.now z → ⊥) }
+{
+    match bytes {
+        [b'-', digits @ ..] => {
+            let size = read_number(digits)?;
+            if size == 0 {
+                return None;
+            }
+            0i64.checked_sub_unsigned(size)
+        }
+        _ => i64::try_from(read_number(bytes)?).ok(),
+    }
+}
+
+/// Writes an integer at the end.
+pub fn write_int(n: i64, out: &mut Vec<u8>) -> Result<(), AllocError>
+    ensures ok { OnOk result (Appends (λ text. IsIntText text n) out.old.items out.new.items) }
+    ensures err { OnErr result (out.new.items ≡ out.old.items) }
+{
+    let text = n.to_string(*out.allocator())?;
+    out.extend_from_slice(text.as_bytes())
+}
+
+/// Each number of a step has one spelling, and a text spells at most one number.
+pub fn one_number_spelling()
+    ensures spelling { (a b : List ℕ) (n : ℕ) → n < 2 ^ 64
+        → IsNumberText a n → IsNumberText b n → a ≡ b }
+    ensures number { (a : List ℕ) (m n : ℕ) → IsNumberText a m → IsNumberText a n → m ≡ n }
+{}

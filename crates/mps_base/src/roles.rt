@@ -1,0 +1,122 @@
+//! The roles of a session.
+ghost use Rattle.std.specs.Prelude.{◌≡◌, ◌≢◌, ℕ, ◌<◌, ◌≤◌, ◌↔◌, Option, Some, List, length, All, IsTrue, IsErrOf, IfOk, IfSome, IfNone, OnOk, slice_get};
+ghost use Rattle.mps_base.specs.RoleLists.{HasRoleCount, AreDistinct, AreRoles};
+
+use crate::action::Role;
+use crate::name::Name;
+use std::alloc::{AllocError, Global};
+use std::marker::Model;
+use thiserror::Error;
+
+/// How many roles a session has at least.
+pub const MIN_ROLES: usize = 2;
+
+/// How many roles a session has at most.
+pub const MAX_ROLES: usize = 8;
+
+/// Why names are not the roles of a session.
+#[derive(Clone, Copy, Debug, PartialEq, Eq, Error)]
+pub enum RoleFault {
+    #[error("a session has 2 to 8 roles")]
+    RoleCount,
+    #[error("two roles have the same name")]
+    DoubleRole,
+    #[error("out of memory")]
+    Memory,
+}
+
+/// The roles of a session: 2 to 8 distinct names, in order.
+#[derive(Debug, Drop)]
+pub struct Roles {
+    names: Vec<Name>,
+}
+
+impl Model for Roles {
+    ghost use Rattle.std.specs.Prelude.{ℕ, List};
+    ghost use Rattle.mps_base.specs.RoleLists.{AreRoles};
+
+    ghost Value = { List (List ℕ) };
+
+    ghost view = { λ r. r.names.items };
+
+    ghost invariant = { λ r. AreRoles r.names.items };
+}
+
+impl Roles {
+    /// The roles of these names.
+    pub fn of(alloc: Global, names: &[Name]) -> Result<Roles, RoleFault>
+        ensures roles { IfOk result (λ roles. roles ≡ names.now) }
+        ensures accepted { OnOk result (AreRoles names.now) }
+
+        // The count is looked at first.
+        ensures count { IsErrOf result RoleFault.RoleCount ↔ ¬ HasRoleCount names.now }
+        ensures double { IsErrOf result RoleFault.DoubleRole
+            ↔ (HasRoleCount names.now × ¬ AreDistinct names.now) }
+        ensures memory { IsErrOf result RoleFault.Memory → AreRoles names.now }
+    {
+        if names.len() < MIN_ROLES || names.len() > MAX_ROLES {
+            return Err(RoleFault::RoleCount);
+        }
+        if !are_distinct(names) {
+            return Err(RoleFault::DoubleRole);
+        }
+        let names = Vec::from_slice(alloc, names).map_err(|_| RoleFault::Memory)?;
+        Ok(Roles { names })
+    }
+
+    /// How many roles there are.
+    pub fn count(&self) -> usize
+        ensures count { result ≡ length self.now }
+        ensures some { 2 ≤ result }
+        ensures few { result ≤ 8 }
+        ensures distinct { AreDistinct self.now }
+    {
+        self.names.len()
+    }
+
+    /// The role of that name.
+    #[tactic(auto, using(crate::proofs::RoleLists::one_place, crate::proofs::RoleLists::no_place))]
+    pub fn find(&self, name: &Name) -> Option<Role>
+        ensures found { IfSome result (λ role. slice_get self.now role ≡ Some name.now) }
+        ensures none { IfNone result (All (λ other. other ≢ name.now) self.now) }
+        ensures only { (role : ℕ) → slice_get self.now role ≡ Some name.now → result ≡ Some role }
+    {
+        let place = place_of(&self.names, name)?;
+        Some(Role::new(place as u8))
+    }
+
+    /// The name of a role.
+    pub fn name(&self, role: Role) -> Name
+        requires { role < length self.now }
+        ensures { slice_get self.now role ≡ Some result }
+    {
+        self.names[role.index()]
+    }
+
+    /// The same roles once more.
+    pub fn copy(&self, alloc: Global) -> Result<Roles, AllocError>
+        ensures { IfOk result (λ roles. roles ≡ self.now) }
+    {
+        Ok(Roles {
+            names: Vec::from_slice(alloc, &self.names)?,
+        })
+    }
+}
+
+// Where the name stands, if it does.
+fn place_of(names: &[Name], name: &Name) -> Option<usize>
+    ensures found { IfSome result (λ place. slice_get names.now place ≡ Some name.now) }
+    ensures none { IfNone result (All (λ other. other ≢ name.now) names.now) }
+{
+    names.iter().position(|other| other.is(name))
+}
+
+// Whether no name stands twice.
+fn are_distinct(names: &[Name]) -> bool
+    ensures { IsTrue result ↔ AreDistinct names.now }
+{
+    match names {
+        [] => true,
+        [first, rest @ ..] => place_of(rest, first).is_none() && are_distinct(rest),
+    }
+}

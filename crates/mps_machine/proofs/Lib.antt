@@ -1,0 +1,6 @@
+pub mod Stepping
+pub mod Commuting
+pub mod Apart
+pub mod Defined
+pub mod Sound
+pub mod Lawful

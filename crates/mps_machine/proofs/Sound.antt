@@ -1,0 +1,110 @@
+-- Every state that requests lead to is sound.
+use Rattle.std.proofs.Common.{◌≡◌, ℕ, ◌+◌, ◌<◌, Bool, true, false, not, List, [], ◌∷◌, ◌++◌, Option, Some, None, refl, sym, ap, ◌∙◌, subst, arith, ⊎_elim}
+use Rattle.std.specs.Prelude.{◌==◌, nat_lt, unwrap_or}
+use Rattle.std.specs.List.{filter, AllByRecursion}
+use Rattle.std.proofs.lemmas.Bool.{cases_Bool, eqb-true, not_from_false}
+use Rattle.mps_base.specs.declared.action.Act.{Act}
+use Rattle.mps_base.specs.declared.action.Step.{Step}
+use Rattle.mps_local.specs.Local.{LocalType}
+use Rattle.mps_history.specs.Steps.{IsIn, IsRising, numbers, step_of, steps_of, without, within}
+use Rattle.mps_history.specs.Dependence.{IsClosed, consequences}
+use Rattle.mps_history.proofs.Order.{at_member, from_members, IsIn-filter, IsRising-filter, IsRising-push, AllByRecursion-filter}
+use Rattle.mps_history.proofs.Reaching.{consequences_closed, consequences_self}
+use Rattle.mps_machine.specs.declared.answer.Violation.{Violation}
+use Rattle.mps_machine.specs.declared.answer.Refusal.{Refusal}
+use Rattle.mps_machine.specs.View.{View, opening}
+use Rattle.mps_machine.specs.Violations.{violation}
+use Rattle.mps_machine.specs.Machine.{State, initial, most_numbers, view_of, accepted, forward_unless, least, owner_fault, dependents, undo_unless, rollback_unless, rolled_back, since_mark, back_to, Request, Forward, Undo, Rollback, Back, serve, after, IsSound}
+use Rattle.mps_machine.proofs.Stepping.{replay-append, replay_from}
+use Rattle.mps_machine.proofs.Apart.{left_out}
+use Rattle.mps_machine.proofs.Defined.{allowed_step}
+
+pub initial_sound : (types : List LocalType) → IsSound types initial
+initial_sound types = record { rising = tt; below = tt; view = opening types; replayed = refl }
+
+-- the view of a sound state is what its replay gives
+pub view_is : (types : List LocalType) (st : State) (ok : IsSound types st) → view_of types st.history ≡ ok.view
+view_is types st ok = ap (λ o. unwrap_or o (opening types)) ok.replayed
+
+all_below_next : (n : ℕ) (h : List Step) → AllByRecursion (λ s. s.id < n) h → AllByRecursion (λ s. s.id < n + 1) h
+all_below_next n h a = from_members (λ s. s.id < n + 1) h (λ s i. let b = at_member (λ t. t.id < n) h s a i in omega arith)
+
+all_push : (P : Step → Type 0) (h : List Step) (s : Step) → AllByRecursion P h → P s → AllByRecursion P (h ++ s ∷ [])
+all_push P [] s a p = (p, tt)
+all_push P (x ∷ h) s a p = (a.0, all_push P h s a.1 p)
+
+pub accepted_sound : (types : List LocalType) (st : State) (p : ℕ) (act : Act) → IsSound types st → violation (view_of types st.history) p act ≡ None → IsSound types (accepted st p act)
+accepted_sound types st p act ok fine =
+    let s : Step = record { id = st.next; role = p; act = act } in
+    let fine' : violation ok.view p act ≡ None = subst (λ (v : View). violation v p act ≡ None) (view_is types st ok) fine in
+    let step = allowed_step ok.view s fine' in
+    record {
+      rising = IsRising-push st.history s ok.rising ok.below;
+      below = all_push (λ t. t.id < st.next + 1) st.history s (all_below_next st.next st.history ok.below) (omega arith);
+      view = step.0;
+      replayed = replay-append (opening types) ok.view st.history (s ∷ []) ok.replayed ∙ replay_from ok.view step.0 s [] step.1;
+    }
+
+-- a state without a closed set of steps
+pub without_sound : (types : List LocalType) (st : State) (set : ℕ → Bool) → IsSound types st → IsClosed st.history set → IsSound types (record st { history = without st.history set })
+without_sound types st set ok closed =
+    let left = left_out set types st.history ok.view ok.rising closed ok.replayed in
+    record {
+      rising = IsRising-filter (λ s. not (set s.id)) st.history ok.rising;
+      below = AllByRecursion-filter (λ s. s.id < st.next) (λ s. not (set s.id)) st.history ok.below;
+      view = left.0;
+      replayed = left.1;
+    }
+
+forward_sound : (types : List LocalType) (st : State) (p : ℕ) (act : Act) (fault : Option Violation) → violation (view_of types st.history) p act ≡ fault → IsSound types st → IsSound types (forward_unless fault types st p act).1
+forward_sound types st p act (Some fault) e ok = ok
+forward_sound types st p act None e ok =
+    ⊎_elim (λ (y : nat_lt most_numbers st.next ≡ true). rw y ok) (λ (n : nat_lt most_numbers st.next ≡ false). rw n (accepted_sound types st p act ok e)) (cases_Bool (nat_lt most_numbers st.next))
+
+pub least_none : (ns : List ℕ) → least ns ≡ None → ns ≡ []
+least_none [] e = refl
+least_none (n ∷ ns) e = absurd cc
+
+no_member : (h : List Step) → numbers h ≡ [] → (s : Step) → IsIn s h → ⊥
+no_member [] e s i = i
+no_member (x ∷ h) e s i = absurd cc
+
+-- where no other step depends on step n, it alone is closed
+pub alone_closed : (h : List Step) (n : ℕ) → IsRising h → dependents h n ≡ [] → IsClosed h (λ m. m == n)
+alone_closed h n r none t s it is e d =
+    ⊎_elim (λ (y : (t.id == n) ≡ true). y)
+    (λ (f : (t.id == n) ≡ false).
+    let set = consequences h n in
+    let s_in : set s.id ≡ true = subst (λ (m : ℕ). set m ≡ true) (sym (eqb-true s.id n e)) (consequences_self h n) in
+    let t_in = consequences_closed h n r t s it is s_in d in
+    absurd (no_member (filter (λ x. not (x.id == n)) (within h set)) none t
+    (IsIn-filter (λ x. not (x.id == n)) t (within h set) (IsIn-filter (λ x. set x.id) t h it t_in) (not_from_false (t.id == n) f))))
+    (cases_Bool (t.id == n))
+
+undo_sound : (types : List LocalType) (st : State) (n : ℕ) (fault : Option Refusal) (by : Option ℕ) → least (dependents st.history n) ≡ by → IsSound types st → IsSound types (undo_unless fault by st n).1
+undo_sound types st n (Some fault) by e ok = ok
+undo_sound types st n None (Some by) e ok = ok
+undo_sound types st n None None e ok =
+    without_sound types st (λ m. m == n) ok (alone_closed st.history n ok.rising (least_none (dependents st.history n) e))
+
+rolled_back_sound : (types : List LocalType) (st : State) (n : ℕ) → IsSound types st → IsSound types (rolled_back st n).1
+rolled_back_sound types st n ok = without_sound types st (consequences st.history n) ok (consequences_closed st.history n ok.rising)
+
+rollback_sound : (types : List LocalType) (st : State) (n : ℕ) (fault : Option Refusal) → IsSound types st → IsSound types (rollback_unless fault st n).1
+rollback_sound types st n (Some fault) ok = ok
+rollback_sound types st n None ok = rolled_back_sound types st n ok
+
+back_sound : (types : List LocalType) (st : State) (found : Option (List Step)) → IsSound types st → IsSound types (back_to found st).1
+back_sound types st None ok = ok
+back_sound types st (Some []) ok = ok
+back_sound types st (Some (s ∷ h)) ok = rolled_back_sound types st s.id ok
+
+pub serve_sound : (types : List LocalType) (st : State) (r : Request) → IsSound types st → IsSound types (serve types st r).1
+serve_sound types st (Forward p act) ok = forward_sound types st p act (violation (view_of types st.history) p act) refl ok
+serve_sound types st (Undo p n) ok = undo_sound types st n (owner_fault p (step_of st.history n)) (least (dependents st.history n)) refl ok
+serve_sound types st (Rollback p n) ok = rollback_sound types st n (owner_fault p (step_of st.history n)) ok
+serve_sound types st (Back p name) ok = back_sound types st (since_mark name (steps_of p st.history)) ok
+
+pub after_sound : (types : List LocalType) (st : State) (rs : List Request) → IsSound types st → IsSound types (after types st rs)
+after_sound types st [] ok = ok
+after_sound types st (r ∷ rs) ok = after_sound types (serve types st r).1 rs (serve_sound types st r ok)

@@ -1,0 +1,5 @@
+use Rattle.mps_machine.proofs.Lawful.{matched_later}
+use Rattle.mps_machine.proofs.laws.a_receipt_follows_its_send.Goals as goal
+
+pub returns : goal.returns
+returns c = matched_later

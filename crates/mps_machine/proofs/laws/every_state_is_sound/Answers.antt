@@ -1,0 +1,6 @@
+use Rattle.mps_machine.specs.Machine.{initial}
+use Rattle.mps_machine.proofs.Sound.{initial_sound, after_sound}
+use Rattle.mps_machine.proofs.laws.every_state_is_sound.Goals as goal
+
+pub returns : goal.returns
+returns c types requests = after_sound types initial requests (initial_sound types)

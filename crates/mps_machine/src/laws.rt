@@ -1,0 +1,58 @@
+//! Laws of the rule, of replay and of the plain machine.
+ghost use Rattle.std.specs.Prelude.{◌≡◌, ◌≢◌, ◌↔◌, ℕ, ◌+◌, ◌<◌, ◌==◌, ◌++◌, List, [], ◌∷◌, Some, None, Ok, IsSome, IsTrue, length, false};
+ghost use Rattle.std.specs.List.{filter};
+ghost use Rattle.mps_base.specs.declared.action.Act.{Act};
+ghost use Rattle.mps_base.specs.declared.action.Step.{Step};
+ghost use Rattle.mps_local.specs.Local.{LocalType};
+ghost use Rattle.mps_history.specs.Steps.{IsIn, IsRising, sends, receives, within, without};
+ghost use Rattle.mps_history.specs.Dependence.{depends_on, is_matched, consequences, IsClosed};
+ghost use Rattle.mps_history.specs.Swaps.{Swaps, is_matched_after};
+ghost use Rattle.mps_machine.specs.View.{View, opening};
+ghost use Rattle.mps_machine.specs.Rule.{rule, replay};
+ghost use Rattle.mps_machine.specs.Violations.{violation};
+ghost use Rattle.mps_machine.specs.Machine.{State, initial, view_of, forward, undo, Request, after, IsSound};
+
+/// The rule allows an act exactly where it has no violation.
+pub fn the_rule_is_defined()
+    ensures { (v : View) (s : Step) → IsSome (rule v s) ↔ (violation v s.role s.act ≡ None) }
+{}
+
+/// What was queued is what was sent and isn't yet received.
+pub fn queues_count()
+    ensures { (types : List LocalType) (h : List Step) (v : View) (p q : ℕ) → replay (opening types) h ≡ Some v →
+        length (v.queue p q) + length (filter (receives p q) h) ≡ length (filter (sends p q) h) }
+{}
+
+/// Neighbours of different roles may be exchanged, unless the second receives what the first sends.
+pub fn neighbours_commute()
+    ensures { (types : List LocalType) (a b : List Step) (s t : Step) (w : View) →
+        replay (opening types) (a ++ s ∷ t ∷ b) ≡ Some w → s.role ≢ t.role → is_matched_after a s t ≡ false →
+        replay (opening types) (a ++ t ∷ s ∷ b) ≡ Some w }
+{}
+
+/// Where no step of a history depends on s, the history without s has a replay too, and the rule allows s after it
+/// and gives the view of the whole (Danos, Krivine, CONCUR 2004).
+pub fn an_unneeded_step_can_be_taken_out()
+    ensures { (types : List LocalType) (h : List Step) (s : Step) (w : View) → IsRising h → IsIn s h →
+        ((t : Step) → IsIn t h → depends_on h t s ≡ false) → replay (opening types) h ≡ Some w →
+        (x : View) × (replay (opening types) (without h (λ m. m == s.id)) ≡ Some x) × (rule x s ≡ Some w) }
+{}
+
+/// The history without a step and all that depends on it has a replay, and these steps lead on from there to the
+/// view of the whole.
+pub fn consequences_can_be_taken_out()
+    ensures { (types : List LocalType) (h : List Step) (n : ℕ) (w : View) → IsRising h → replay (opening types) h ≡ Some w →
+        (x : View) × (replay (opening types) (without h (consequences h n)) ≡ Some x)
+        × (replay x (within h (consequences h n)) ≡ Some w) }
+{}
+
+/// In a history that has a replay, a receipt comes after the send that it is matched with.
+pub fn a_receipt_follows_its_send()
+    ensures { (types : List LocalType) (h : List Step) (s t : Step) (w : View) → IsRising h → IsIn s h → IsIn t h →
+        replay (opening types) h ≡ Some w → IsTrue (is_matched h s t) → s.id < t.id }
+{}
+
+/// After any requests the numbers of the surviving steps rise below the next number, and these steps have a replay.
+pub fn every_state_is_sound()
+    ensures { (types : List LocalType) (requests : List Request) → IsSound types (after types initial requests) }
+{}
