@@ -1,1 +1,2 @@
 pub mod Global
+pub mod Faults

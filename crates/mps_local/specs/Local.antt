@@ -24,3 +24,9 @@ abbrev pub plain : Local → LocalType
 plain End' = End
 plain (Send' peer sort p next) = Send peer sort (plain next)
 plain (Recv' peer sort p next) = Recv peer sort (plain next)
+
+-- what comes after the first act that gives or takes a value
+abbrev pub rest_of : LocalType → LocalType
+rest_of (Send peer sort next) = next
+rest_of (Recv peer sort next) = next
+rest_of t = t

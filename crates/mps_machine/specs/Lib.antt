@@ -4,3 +4,4 @@ pub mod Rule
 pub mod Violations
 pub mod Machine
 pub mod Examples
+pub mod Commands

@@ -1,5 +1,9 @@
 //! What a session answers to a command.
+ghost use Rattle.std.specs.Prelude.{◌≡◌};
+ghost use Rattle.mps_machine.specs.declared.answer.Refusal.TheVariants.{Memory as OutOfMemory};
+
 use mps_base::{Message, StepId};
+use std::alloc::{AllocError, AllocFailed};
 use thiserror::Error;
 
 /// Why a role's type doesn't allow an act now: the first of these that applies.
@@ -38,6 +42,22 @@ pub enum Refusal {
     Full,
     #[error("out of memory")]
     Memory,
+}
+
+impl From<AllocError> for Refusal {
+    ghost from_gives = { λ _ e. e ≡ OutOfMemory };
+
+    fn from(_e: AllocError) -> Refusal {
+        Refusal::Memory
+    }
+}
+
+impl<T: Drop> From<AllocFailed<T>> for Refusal {
+    ghost from_gives = { λ _ e. e ≡ OutOfMemory };
+
+    fn from(_e: AllocFailed<T>) -> Refusal {
+        Refusal::Memory
+    }
 }
 
 /// An accepted step: its number, and the message that a receipt or a pick took.

@@ -3,7 +3,9 @@
 #![tactic(auto)]
 
 pub mod answer;
+pub mod command;
 pub mod examples;
 pub mod laws;
 
 pub use answer::{Done, Refusal, Violation};
+pub use command::Forward;

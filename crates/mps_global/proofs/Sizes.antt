@@ -1,0 +1,14 @@
+-- Each tree has a root.
+use Rattle.std.proofs.Common.{ℕ, ◌<◌, arith}
+use Rattle.mps_global.specs.Global.{GlobalType, End, Message}
+use Rattle.mps_global.specs.Faults.{node_count, depth}
+
+-- a tree has a node
+pub some_node : (tree : GlobalType) → 0 < node_count tree
+some_node End = omega arith
+some_node (Message sender receiver sort next) = omega arith
+
+-- a path from the root has a node
+pub some_depth : (tree : GlobalType) → 0 < depth tree
+some_depth End = omega arith
+some_depth (Message sender receiver sort next) = omega arith
