@@ -1,9 +1,12 @@
 -- Each value has one spelling.
-use Rattle.std.proofs.Common.{◌≡◌, ◌≢◌, ℕ, Bool, List, [], ◌∷◌, ◌++◌, sym, ◌∙◌, ℤ}
+use Rattle.std.proofs.Common.{arith, rules, ◌≡◌, ◌≢◌, ℕ, Bool, List, [], ◌∷◌, ◌++◌, sym, ◌∙◌, ℤ, pos, negsuc, true, false}
+use Rattle.std.specs.List.{AllByRecursion}
+use Rattle.std.specs.Str.Parse.{AllDigits}
 use Rattle.std.proofs.lemmas.List.{same_from_push}
+use Rattle.std.proofs.lemmas.Str.Parse.{digit_from_value}
 use Rattle.mps_base.specs.Numbers.{IsIntText}
-use Rattle.mps_base.specs.Texts.{IsText}
-use Rattle.mps_base.specs.Values.{SpellsValue, bool_word, quoted}
+use Rattle.mps_base.specs.Texts.{IsText, IsPlainByte}
+use Rattle.mps_base.specs.Values.{SpellsValue, IsShown, bool_word, quoted}
 use Rattle.mps_base.specs.declared.value.Value.{Value}
 use Rattle.mps_base.specs.declared.value.Value.TheVariants.{Int, Bool as BoolValue, Text}
 use Rattle.mps_base.proofs.Numbers.{int_is_signed}
@@ -24,3 +27,32 @@ pub same_spelling : (a b : List ℕ) (v : Value) → SpellsValue a v → SpellsV
 same_spelling a b (Int z) p q = int_is_signed a z p ∙ sym (int_is_signed b z q)
 same_spelling a b (BoolValue w) p q = p ∙ sym q
 same_spelling a b (Text t) p q = p.0 ∙ sym q.0
+
+-- ---- the bytes of a spelling
+
+shown_append : (xs ys : List ℕ) → AllByRecursion IsShown xs → AllByRecursion IsShown ys → AllByRecursion IsShown (xs ++ ys)
+shown_append [] ys p q = q
+shown_append (x ∷ xs) ys p q = (p.0, shown_append xs ys p.1 q)
+
+shown_digits : (ds : List ℕ) → AllDigits 10 ds → AllByRecursion IsShown ds
+shown_digits [] h = tt
+shown_digits (d ∷ ds) h =
+    let digit = digit_from_value d h.0 in
+    (record { low = omega (arith, digit.0); high = omega (arith, digit.1) }, shown_digits ds h.1)
+
+shown_text : (t : List ℕ) → AllByRecursion IsPlainByte t → AllByRecursion IsShown t
+shown_text [] h = tt
+shown_text (c ∷ cs) h = (record { low = h.0.low; high = h.0.high }, shown_text cs h.1)
+
+quote : IsShown 34
+quote = record { low = omega arith; high = omega arith }
+
+shown_word : (b : Bool) → AllByRecursion IsShown (bool_word b)
+shown_word true = search rules
+shown_word false = search rules
+
+pub shown : (a : List ℕ) (v : Value) → SpellsValue a v → AllByRecursion IsShown a
+shown a (Int (pos n)) h = shown_digits a h.1.digits
+shown a (Int (negsuc n)) h = rw h.2 (record { low = omega arith; high = omega arith }, shown_digits h.1 h.3.digits)
+shown a (BoolValue b) h = rw h (shown_word b)
+shown a (Text t) h = rw h.0 (quote, shown_append t (34 ∷ []) (shown_text t h.1.each) (quote, tt))

@@ -31,8 +31,8 @@ pub fn write_number(n: u64, out: &mut Vec<u8>) -> Result<(), AllocError>
     out.extend_from_slice(digits.as_bytes())
 }
 
-/// Reads an integer: `0`, or digits without a `0` in front, behind a `-` if it is below 0.
-pub fn read_int(bytes: &[u8]) -> Option<i64>
+// Reads an integer: `0`, or digits without a `0` in front, behind a `-` if it is below 0.
+pub(crate) fn read_int(bytes: &[u8]) -> Option<i64>
     ensures read { IfSome result (IsIntText bytes.now) }
     ensures none { IfNone result ((z : ℤ) → IsIntText bytes.now z → ⊥) }
 {
@@ -48,8 +48,8 @@ pub fn read_int(bytes: &[u8]) -> Option<i64>
     }
 }
 
-/// Writes an integer at the end.
-pub fn write_int(n: i64, out: &mut Vec<u8>) -> Result<(), AllocError>
+// Writes an integer at the end.
+pub(crate) fn write_int(n: i64, out: &mut Vec<u8>) -> Result<(), AllocError>
     ensures ok { OnOk result (Appends (λ text. IsIntText text n) out.old.items out.new.items) }
     ensures err { OnErr result (out.new.items ≡ out.old.items) }
 {

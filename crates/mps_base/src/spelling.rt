@@ -1,9 +1,10 @@
 //! Values as text.
-ghost use Rattle.std.specs.Prelude.{◌≡◌, ◌≢◌, ℕ, Bool, List, IfOk, IfSome, IfNone, OnOk, OnErr, IsErrOf, ◌++◌};
+ghost use Rattle.std.specs.Prelude.{◌≡◌, ◌≢◌, ℕ, ◌<◌, Bool, List, length, IfOk, IfSome, IfNone, OnOk, OnErr, IsErrOf, ◌++◌};
+ghost use Rattle.std.specs.List.{AllByRecursion};
 ghost use Rattle.mps_base.specs.Appends.{Appends};
 ghost use Rattle.mps_base.specs.Names.{IsName};
 ghost use Rattle.mps_base.specs.Texts.{IsText};
-ghost use Rattle.mps_base.specs.Values.{SpellsValue, bool_word, quoted};
+ghost use Rattle.mps_base.specs.Values.{SpellsValue, IsShown, bool_word, quoted};
 ghost use Rattle.mps_base.specs.declared.value.Value.{Value};
 ghost use Rattle.mps_base.specs.declared.value.Value.TheVariants as values;
 
@@ -64,6 +65,13 @@ pub fn one_spelling()
     ensures spelling { (a b : List ℕ) (v : Value) → SpellsValue a v → SpellsValue b v → a ≡ b }
     ensures value { (a : List ℕ) (v w : Value) → SpellsValue a v → SpellsValue a w → v ≡ w }
     ensures no_name { (a : List ℕ) (v : Value) → SpellsValue a v → IsName a → ⊥ }
+{}
+
+/// A spelling stands on one line, and has a byte at least.
+#[tactic(auto, using(crate::proofs::Values::shown))]
+pub fn one_line()
+    ensures some { (a : List ℕ) (v : Value) → SpellsValue a v → 0 < length a }
+    ensures shown { (a : List ℕ) (v : Value) → SpellsValue a v → AllByRecursion IsShown a }
 {}
 
 // The truth value that the bytes are the word for.

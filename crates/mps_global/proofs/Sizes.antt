@@ -1,5 +1,5 @@
 -- Each tree has a root.
-use Rattle.std.proofs.Common.{ℕ, ◌<◌, arith}
+use Rattle.std.proofs.Common.{◌<◌, arith}
 use Rattle.mps_global.specs.Global.{GlobalType, End, Message}
 use Rattle.mps_global.specs.Faults.{node_count, depth}
 

@@ -1,19 +1,14 @@
 //! Which protocols are well-formed.
-ghost use Rattle.std.specs.Prelude.{◌≡◌, ◌↔◌, ◌+◌, ◌<◌, ◌≤◌, IsTrue, IsOk, IfErr, MatchOption};
+ghost use Rattle.std.specs.Prelude.{◌≡◌, ◌↔◌, ◌+◌, ◌<◌, ◌≤◌, ℕ, List, IsTrue, IsOk, IfErr, MatchOption};
 ghost use Rattle.std.specs.List.{list_any};
 ghost use Rattle.std.specs.Str.{bytes_eq};
-ghost use Rattle.mps_global.specs.Global.{plain};
+ghost use Rattle.mps_base.specs.RoleLists.{AreRoles};
+ghost use Rattle.mps_global.specs.Global.{GlobalType, plain};
 ghost use Rattle.mps_global.specs.Faults.{has_double, preorder, node_count, depth, first_fault, fault_of};
 
 use crate::{Global, Protocol};
-use mps_base::Name;
+use mps_base::{MAX_ROLES, MIN_ROLES, Name};
 use thiserror::Error;
-
-/// How many roles a session has at least.
-pub const MIN_ROLES: usize = 2;
-
-/// How many roles a session has at most.
-pub const MAX_ROLES: usize = 8;
 
 /// How many nodes a global type has at most.
 pub const MAX_NODES: usize = 256;
@@ -64,6 +59,15 @@ pub fn check(protocol: &Protocol) -> Result<(), GlobalFault>
         Some(fault) => Err(fault),
     }
 }
+
+/// What holds of a protocol without faults: its roles are those of a session, and its tree is within
+/// the limits.
+pub fn protocol_laws()
+    ensures roles { (roles : List (List ℕ)) (tree : GlobalType)
+        → fault_of roles tree ≡ None → AreRoles roles }
+    ensures limits { (roles : List (List ℕ)) (tree : GlobalType)
+        → fault_of roles tree ≡ None → (node_count tree ≤ 256) × (depth tree ≤ 64) }
+{}
 
 // Whether a name stands twice in the list.
 fn names_twice(names: &[Name]) -> bool

@@ -6,7 +6,7 @@ ghost use Rattle.mps_global.specs.Global.{plain, Message};
 
 pub mod faults;
 
-pub use faults::{GlobalFault, check};
+pub use faults::{GlobalFault, check, protocol_laws};
 use mps_base::{Name, Sort};
 use std::alloc::{self, AllocError};
 

@@ -1,2 +1,2 @@
-pub mod Sound
 pub mod Places
+pub mod Projected

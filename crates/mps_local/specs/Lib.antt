@@ -1,2 +1,3 @@
 pub mod Local
 pub mod Projection
+pub mod Shape

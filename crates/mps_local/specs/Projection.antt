@@ -1,5 +1,5 @@
 -- What one role does in a protocol (Honda, Yoshida, Carbone, POPL 2008).
-use Rattle.std.specs.Prelude.{ℕ, ◌==◌, List, Option, None, Some, option_and_then, position, if◌then◌else◌}
+use Rattle.std.specs.Prelude.{ℕ, ◌==◌, List, Option, Some, option_and_then, position, if◌then◌else◌}
 use Rattle.std.specs.Str.{bytes_eq}
 use Rattle.mps_base.specs.declared.value.Sort.{Sort}
 use Rattle.mps_global.specs.Global.{GlobalType, End as GlobalEnd, Message}

@@ -1,13 +1,13 @@
 //! Local types: what one role of a session may do.
 #![tactic(auto)]
+
 ghost use Rattle.std.specs.Prelude.{◌≡◌, IfOk};
 ghost use Rattle.mps_local.specs.Local.{plain, rest_of, Send, Recv};
 
 pub mod projection;
 
-pub use projection::{ProjectFault, project};
-
 use mps_base::{Role, Sort};
+pub use projection::{ProjectFault, project, projection_laws};
 use std::alloc::{self, AllocError};
 
 /// A local type (Honda, Yoshida, Carbone, POPL 2008), with the peers as places in the list of roles.

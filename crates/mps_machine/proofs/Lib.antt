@@ -4,3 +4,4 @@ pub mod Apart
 pub mod Defined
 pub mod Sound
 pub mod Lawful
+pub mod Swapping

@@ -6,6 +6,7 @@ pub mod answer;
 pub mod command;
 pub mod examples;
 pub mod laws;
+pub mod swaps;
 
 pub use answer::{Done, Refusal, Violation};
 pub use command::Forward;

@@ -1,0 +1,23 @@
+use Rattle.std.proofs.Common.{arith}
+use Rattle.mps_global.proofs.Sound.{sound_protocol}
+use Rattle.mps_local.proofs.Projected.{defined, fitting}
+use Rattle.mps_local.proofs.projection.projection_laws.Goals as goal
+
+pub returns-clause-defined : goal.returns-clause-defined
+returns-clause-defined c = defined
+
+pub returns-clause-peers : goal.returns-clause-peers
+returns-clause-peers c = λ roles role tree t h e. (fitting roles role tree t h e).others
+
+pub returns-clause-no_larger : goal.returns-clause-no_larger
+returns-clause-no_larger c = λ roles role tree t h e. (fitting roles role tree t h e).nodes_fit
+
+pub returns-clause-no_deeper : goal.returns-clause-no_deeper
+returns-clause-no_deeper c = λ roles role tree t h e. (fitting roles role tree t h e).levels_fit
+
+pub returns-clause-limits : goal.returns-clause-limits
+returns-clause-limits c =
+    λ roles role tree t h e.
+    let f = fitting roles role tree t h e in
+    let s = sound_protocol roles tree h in
+    (omega (arith, f.nodes_fit, s.small), omega (arith, f.levels_fit, s.shallow))

@@ -1,0 +1,219 @@
+-- Histories lead to one view just where swaps lead from one to the other.
+use Rattle.std.proofs.Common.{◌≡◌, ◌≢◌, ℕ, ◌<◌, true, false, List, [], ◌∷◌, ◌++◌, length, Option, Some, None, refl, sym, ap, ◌∙◌, subst, arith, ⊎_elim, append_assoc, append-nil}
+use Rattle.std.specs.Prelude.{◌==◌, ◌&&◌, option_and_then}
+use Rattle.std.specs.List.{filter, AllByRecursion}
+use Rattle.std.proofs.lemmas.Bool.{cases_Bool, cond-true, cond-false, and_parts, and_left, ne_eqb, eqb-true, eqb-false, eq-eqb, false_from_ne_true}
+use Rattle.std.proofs.lemmas.List.{append_cancel_left}
+use Rattle.mps_base.specs.declared.action.Act.{Act}
+use Rattle.mps_base.specs.declared.action.Act.TheVariants.{Out, In, Mark}
+use Rattle.mps_base.specs.declared.action.Message.{Message}
+use Rattle.mps_base.specs.declared.action.Step.{Step}
+use Rattle.mps_local.specs.Local.{LocalType}
+use Rattle.mps_history.specs.Steps.{sends, receives}
+use Rattle.mps_history.specs.Swaps.{deeds, is_matched_after, Swaps, Same, Exchange}
+use Rattle.mps_machine.specs.Unfolding.{unfolded}
+use Rattle.mps_machine.specs.View.{Deed, Participant, View, opening}
+use Rattle.mps_machine.specs.Rule.{moved, type_after, advanced, participant_after, view_after, rule, replay}
+use Rattle.mps_machine.proofs.Stepping.{rule_parts, replay_parts, replay_from, replay-append, queue_step, queue_count, a_receipt_waits, one_if, map_some}
+use Rattle.mps_machine.proofs.Lawful.{exchanged}
+
+-- the rule doesn't look at numbers
+rule_at : (v : View) (n m r : ℕ) (act : Act) → rule v (record { id = n; role = r; act = act }) ≡ rule v (record { id = m; role = r; act = act })
+rule_at v n m r act = refl
+
+rule_same : (v : View) (s t : Step) → s.role ≡ t.role → s.act ≡ t.act → rule v s ≡ rule v t
+rule_same v s t r a =
+    subst (λ (k : ℕ). rule v s ≡ rule v (record { id = t.id; role = k; act = t.act })) r
+    (subst (λ (b : Act). rule v s ≡ rule v (record { id = t.id; role = s.role; act = b })) a (rule_at v s.id t.id s.role s.act))
+
+and_then_same : {A B : Type 0} (f g : A → Option B) (o : Option A) → ((x : A) → f x ≡ g x) → option_and_then f o ≡ option_and_then g o
+and_then_same f g None same = refl
+and_then_same f g (Some x) same = same x
+
+-- nor does replay
+replay_same : (v : View) (k h : List Step) → deeds k ≡ deeds h → replay v k ≡ replay v h
+replay_same v [] [] e = refl
+replay_same v [] (t ∷ h) e = absurd cc
+replay_same v (s ∷ k) [] e = absurd cc
+replay_same v (s ∷ k) (t ∷ h) e =
+    let first : ◌≡◌ {A = ℕ × Act} (s.role, s.act) (t.role, t.act) = cc in
+    let rest : deeds k ≡ deeds h = cc in
+    let r : s.role ≡ t.role = ap (λ x. x.0) first in
+    let a : s.act ≡ t.act = ap (λ x. x.1) first in
+    ap (option_and_then (λ w. replay w k)) (rule_same v s t r a)
+    ∙ and_then_same (λ w. replay w k) (λ w. replay w h) (rule v t) (λ w. replay_same w k h rest)
+
+-- swaps keep the view
+pub swaps_keep : (types : List LocalType) {k h : List Step} (v : View) → replay (opening types) k ≡ Some v → Swaps k h → replay (opening types) h ≡ Some v
+swaps_keep types v e (Same k h same) = sym (replay_same (opening types) k h same) ∙ e
+swaps_keep types v e (Exchange k h a b s t split ne off rest) =
+    let e' : replay (opening types) (a ++ s ∷ t ∷ b) ≡ Some v = subst (λ (l : List Step). replay (opening types) l ≡ Some v) split e in
+    swaps_keep types v (exchanged types a b s t v e' ne off) rest
+
+pub swaps_lead_to_one_view : (types : List LocalType) (k h : List Step) (v w : View) → replay (opening types) k ≡ Some v → replay (opening types) h ≡ Some w → Swaps k h → v ≡ w
+swaps_lead_to_one_view types k h v w ek eh swaps = let kept = swaps_keep types v ek swaps in cc
+
+-- a step puts its deed last in the past of its role
+past_grows : (c d : Participant) (act : Act) (m : Option Message) → participant_after c act m ≡ Some d → d.past ≡ c.past ++ record { act = act; moved = m } ∷ []
+past_grows c d (Out to message) m e = let p = map_some (advanced c (Out to message) m) (type_after (unfolded c.to_come) (Out to message) m) d e in sym (ap (λ (x : Participant). x.past) p.2)
+past_grows c d (In from slot) m e = let p = map_some (advanced c (In from slot) m) (type_after (unfolded c.to_come) (In from slot) m) d e in sym (ap (λ (x : Participant). x.past) p.2)
+past_grows c d (Mark name) m e = let same : advanced c (Mark name) m c.to_come ≡ d = cc in sym (ap (λ (x : Participant). x.past) same)
+
+abbrev past_of : View → ℕ → List Deed
+past_of v p = (v.participant p).past
+
+-- what the step adds to the past of its role
+abbrev deed_of : View → Step → Deed
+deed_of v s = record { act = s.act; moved = moved v s.role s.act }
+
+past_step : (v w : View) (s : Step) → rule v s ≡ Some w → past_of w s.role ≡ past_of v s.role ++ deed_of v s ∷ []
+past_step v w s e =
+    let parts = rule_parts v w s e in
+    let c = parts.0 in
+    let own : (view_after v s c).participant s.role ≡ c = cond-true (s.role == s.role) c (v.participant s.role) (eq-eqb s.role s.role refl) in
+    ap (λ (u : View). past_of u s.role) (sym parts.2) ∙ ap (λ (x : Participant). x.past) own ∙ past_grows (v.participant s.role) c s.act (moved v s.role s.act) parts.1
+
+past_stays : (v w : View) (s : Step) (p : ℕ) → rule v s ≡ Some w → (p == s.role) ≡ false → past_of w p ≡ past_of v p
+past_stays v w s p e other =
+    let parts = rule_parts v w s e in
+    let c = parts.0 in
+    let old : (view_after v s c).participant p ≡ v.participant p = cond-false (p == s.role) c (v.participant p) other in
+    ap (λ (u : View). past_of u p) (sym parts.2) ∙ ap (λ (x : Participant). x.past) old
+
+-- a replay only adds to a past
+past_added : (h : List Step) (v w : View) (p : ℕ) → replay v h ≡ Some w → (new : List Deed) × (past_of w p ≡ past_of v p ++ new)
+past_added [] v w p e =
+    let same : w ≡ v = cc in
+    ([], ap (λ (u : View). past_of u p) same ∙ sym (append-nil (past_of v p)))
+past_added (s ∷ h) v w p e =
+    let parts = replay_parts v w s h e in
+    let rest = past_added h parts.0 w p parts.2 in
+    ⊎_elim
+    (λ (y : (p == s.role) ≡ true).
+    let own = subst (λ (k : ℕ). past_of parts.0 k ≡ past_of v k ++ deed_of v s ∷ []) (sym (eqb-true p s.role y)) (past_step v parts.0 s parts.1) in
+    (deed_of v s ∷ rest.0, rest.1 ∙ ap (λ (l : List Deed). l ++ rest.0) own ∙ append_assoc (past_of v p) (deed_of v s ∷ []) rest.0))
+    (λ (n : (p == s.role) ≡ false). (rest.0, rest.1 ∙ ap (λ (l : List Deed). l ++ rest.0) (past_stays v parts.0 s p parts.1 n)))
+    (cases_Bool (p == s.role))
+
+-- the deed of the first step is the first that is new to its role
+first_deed : (v w : View) (s : Step) (h : List Step) → replay v (s ∷ h) ≡ Some w → (new : List Deed) × (past_of w s.role ≡ past_of v s.role ++ deed_of v s ∷ new)
+first_deed v w s h e =
+    let parts = replay_parts v w s h e in
+    let rest = past_added h parts.0 w s.role parts.2 in
+    (rest.0, rest.1 ∙ ap (λ (l : List Deed). l ++ rest.0) (past_step v parts.0 s parts.1) ∙ append_assoc (past_of v s.role) (deed_of v s ∷ []) rest.0)
+
+not_longer : (past new : List Deed) (d : Deed) → past ≡ past ++ d ∷ new → ⊥
+not_longer past new d e = let bad = append_cancel_left past [] (d ∷ new) (append-nil past ∙ e) in cc
+
+-- where a replay adds a deed to the past of a role, the first step of that role did it
+find_first : (h : List Step) (v w : View) (p : ℕ) (d : Deed) (new : List Deed) → replay v h ≡ Some w → past_of w p ≡ past_of v p ++ d ∷ new → (a : List Step) × (b : List Step) × (t : Step) × (h ≡ a ++ t ∷ b) × AllByRecursion (λ u. u.role ≢ p) a × (t.role ≡ p) × (t.act ≡ d.act)
+find_first [] v w p d new e grown =
+    let same : v ≡ w = cc in
+    absurd (not_longer (past_of v p) new d (ap (λ (u : View). past_of u p) same ∙ grown))
+find_first (s ∷ h) v w p d new e grown =
+    let parts = replay_parts v w s h e in
+    ⊎_elim
+    (λ (y : (p == s.role) ≡ true).
+    let r = eqb-true p s.role y in
+    let first = first_deed v w s h e in
+    let own = subst (λ (k : ℕ). past_of w k ≡ past_of v k ++ deed_of v s ∷ first.0) (sym r) first.1 in
+    let tails = append_cancel_left (past_of v p) (deed_of v s ∷ first.0) (d ∷ new) (sym own ∙ grown) in
+    let heads : deed_of v s ≡ d = cc in
+    ([], h, s, refl, tt, sym r, ap (λ (x : Deed). x.act) heads))
+    (λ (n : (p == s.role) ≡ false).
+    let grown' = grown ∙ ap (λ (l : List Deed). l ++ d ∷ new) (sym (past_stays v parts.0 s p parts.1 n)) in
+    let k = find_first h parts.0 w p d new parts.2 grown' in
+    (s ∷ k.0, k.1, k.2, ap (λ (l : List Step). s ∷ l) k.3, ((λ (q : s.role ≡ p). eqb-false p s.role n (sym q)), k.4), k.5, k.6))
+    (cases_Bool (p == s.role))
+
+-- whatever the step may receive waits already
+abbrev IsReady : View → Step → Type 0
+IsReady v t = (p : ℕ) → receives p t.role t ≡ true → 0 < length (v.queue p t.role)
+
+ready_step : (v w : View) (t : Step) → rule v t ≡ Some w → IsReady v t
+ready_step v w t e p y =
+    let parts = rule_parts v w t e in
+    a_receipt_waits p t.role t.id t.role t.act v (v.participant t.role) parts.0 parts.1 y
+
+-- and waits still after a step of another role
+ready_later : (v w : View) (u t : Step) → rule v u ≡ Some w → u.role ≢ t.role → IsReady v t → IsReady w t
+ready_later v w u t e ne ready p y =
+    let count = queue_step v w u p t.role e in
+    let quiet : receives p t.role u ≡ false = and_left (u.role == t.role) _ (ne_eqb u.role t.role ne) in
+    let silent : one_if (receives p t.role u) ≡ 0 = ap one_if quiet in
+    let some = ready p y in
+    omega arith
+
+-- so no step in between sent it
+unmatched : (types : List LocalType) (a : List Step) (v : View) (u t : Step) → replay (opening types) a ≡ Some v → IsReady v t → is_matched_after a u t ≡ false
+unmatched types a v u t ea ready =
+    let p = u.role in
+    let q = t.role in
+    false_from_ne_true (is_matched_after a u t)
+    (λ m.
+    let tests = and_parts (sends p q u && receives p q t) (length (filter (sends p q) a) == length (filter (receives p q) a)) m in
+    let same = eqb-true (length (filter (sends p q) a)) (length (filter (receives p q) a)) tests.1 in
+    let count = queue_count (opening types) v a p q ea in
+    let some = ready p (and_parts (sends p q u) (receives p q t) tests.0).1 in
+    omega arith)
+
+-- a step that is ready may be taken before steps of other roles, by exchanges
+to_front : (types : List LocalType) (b a c : List Step) (t : Step) (v w : View) (h : List Step) → AllByRecursion (λ u. u.role ≢ t.role) b → replay (opening types) a ≡ Some v → replay v (b ++ t ∷ c) ≡ Some w → IsReady v t → (replay v (t ∷ (b ++ c)) ≡ Some w) × (Swaps (a ++ t ∷ (b ++ c)) h → Swaps (a ++ (b ++ t ∷ c)) h)
+to_front types [] a c t v w h others ea e ready = (e, λ swaps. swaps)
+to_front types (u ∷ b) a c t v w h others ea e ready =
+    let parts = replay_parts v w u (b ++ t ∷ c) e in
+    let v1 = parts.0 in
+    let ea' : replay (opening types) (a ++ u ∷ []) ≡ Some v1 = replay-append (opening types) v a (u ∷ []) ea ∙ replay_from v v1 u [] parts.1 in
+    let rest = to_front types b (a ++ u ∷ []) c t v1 w h others.1 ea' parts.2 (ready_later v v1 u t parts.1 others.0 ready) in
+    let off = unmatched types a v u t ea ready in
+    let whole : replay (opening types) (a ++ u ∷ t ∷ (b ++ c)) ≡ Some w = replay-append (opening types) v a (u ∷ t ∷ (b ++ c)) ea ∙ replay_from v v1 u (t ∷ (b ++ c)) parts.1 ∙ rest.0 in
+    let new = exchanged types a (b ++ c) u t w whole others.0 off in (
+      sym (replay-append (opening types) v a (t ∷ u ∷ (b ++ c)) ea) ∙ new,
+      λ swaps.
+          subst (λ (l : List Step). Swaps l h) (append_assoc a (u ∷ []) (b ++ t ∷ c))
+          (rest.1
+          (subst (λ (l : List Step). Swaps l h) (sym (append_assoc a (u ∷ []) (t ∷ (b ++ c))))
+          (Exchange (a ++ u ∷ t ∷ (b ++ c)) h a (b ++ c) u t refl others.0 off swaps))),
+    )
+
+deeds-append : (a b : List Step) → deeds (a ++ b) ≡ deeds a ++ deeds b
+deeds-append [] b = refl
+deeds-append (s ∷ a) b = ap (λ (l : List (ℕ × Act)). (s.role, s.act) ∷ l) (deeds-append a b)
+
+deeds_joined : (a b k h : List Step) → deeds a ≡ deeds b → deeds k ≡ deeds h → deeds (a ++ k) ≡ deeds (b ++ h)
+deeds_joined a b k h e f = deeds-append a k ∙ ap (λ (l : List (ℕ × Act)). l ++ deeds k) e ∙ ap (λ (l : List (ℕ × Act)). deeds b ++ l) f ∙ sym (deeds-append b h)
+
+one_deed : (s t : Step) → s.role ≡ t.role → s.act ≡ t.act → deeds (s ∷ []) ≡ deeds (t ∷ [])
+one_deed s t r a = cc
+
+-- histories of equal pasts are joined by swaps: from the front, the next step of the one is brought to the front of the other
+bring : (types : List LocalType) (h k ak ah : List Step) (v wk wh : View) → replay (opening types) ak ≡ Some v → replay v k ≡ Some wk → replay v h ≡ Some wh → ((p : ℕ) → past_of wk p ≡ past_of wh p) → deeds ak ≡ deeds ah → Swaps (ak ++ k) (ah ++ h)
+bring types [] [] ak ah v wk wh ea ek eh same d = Same (ak ++ []) (ah ++ []) (deeds_joined ak ah [] [] d refl)
+bring types [] (t ∷ k) ak ah v wk wh ea ek eh same d =
+    let first = first_deed v wk t k ek in
+    let still : v ≡ wh = cc in
+    absurd (not_longer (past_of v t.role) first.0 (deed_of v t) (ap (λ (u : View). past_of u t.role) still ∙ sym (same t.role) ∙ first.1))
+bring types (s ∷ h) k ak ah v wk wh ea ek eh same d =
+    let first = first_deed v wh s h eh in
+    let parts = replay_parts v wh s h eh in
+    let x = parts.0 in
+    let found = find_first k v wk s.role (deed_of v s) first.0 ek (same s.role ∙ first.1) in
+    let b = found.0 in
+    let c = found.1 in
+    let t = found.2 in
+    let et : rule v t ≡ Some x = rule_same v t s found.5 found.6 ∙ parts.1 in
+    let ek' : replay v (b ++ t ∷ c) ≡ Some wk = subst (λ (l : List Step). replay v l ≡ Some wk) found.3 ek in
+    let others = subst (λ (p : ℕ). AllByRecursion (λ u. u.role ≢ p) b) (sym found.5) found.4 in
+    let front = to_front types b ak c t v wk (ah ++ s ∷ h) others ea ek' (ready_step v x t et) in
+    let ea' : replay (opening types) (ak ++ t ∷ []) ≡ Some x = replay-append (opening types) v ak (t ∷ []) ea ∙ replay_from v x t [] et in
+    let rest : replay x (b ++ c) ≡ Some wk = sym (replay_from v x t (b ++ c) et) ∙ front.0 in
+    let d' = deeds_joined ak ah (t ∷ []) (s ∷ []) d (one_deed t s found.5 found.6) in
+    let swaps = bring types h (b ++ c) (ak ++ t ∷ []) (ah ++ s ∷ []) x wk wh ea' rest parts.2 same d' in
+    let swaps' : Swaps (ak ++ t ∷ (b ++ c)) (ah ++ s ∷ h) =
+    subst (λ (l : List Step). Swaps l (ah ++ s ∷ h)) (append_assoc ak (t ∷ []) (b ++ c))
+    (subst (λ (l : List Step). Swaps ((ak ++ t ∷ []) ++ (b ++ c)) l) (append_assoc ah (s ∷ []) h) swaps) in
+    subst (λ (l : List Step). Swaps (ak ++ l) (ah ++ s ∷ h)) (sym found.3) (front.1 swaps')
+
+-- histories that lead to one view are joined by swaps
+pub one_view_by_swaps : (types : List LocalType) (k h : List Step) (v w : View) → replay (opening types) k ≡ Some v → replay (opening types) h ≡ Some w → v ≡ w → Swaps k h
+one_view_by_swaps types k h v w ek eh same = bring types h k [] [] (opening types) v w refl ek eh (λ p. ap (λ (u : View). past_of u p) same) refl

@@ -1,0 +1,19 @@
+//! When two histories lead to the same view.
+ghost use Rattle.std.specs.Prelude.{◌≡◌, List, Some};
+ghost use Rattle.mps_base.specs.declared.action.Step.{Step};
+ghost use Rattle.mps_local.specs.Local.{LocalType};
+ghost use Rattle.mps_history.specs.Swaps.{Swaps};
+ghost use Rattle.mps_machine.specs.View.{View, opening};
+ghost use Rattle.mps_machine.specs.Rule.{replay};
+
+/// Two histories that have a replay lead to the same view exactly where one becomes the other, numbers aside, by
+/// exchanges of neighbours of different roles of which the second doesn't receive what the first sends
+/// (the traces of Mazurkiewicz, 1977). Such exchanges keep the replay and its view.
+pub fn equal_views_are_swaps()
+    ensures swapped { (types : List LocalType) (k h : List Step) (v w : View) →
+        replay (opening types) k ≡ Some v → replay (opening types) h ≡ Some w → v ≡ w → Swaps k h }
+    ensures equal { (types : List LocalType) (k h : List Step) (v w : View) →
+        replay (opening types) k ≡ Some v → replay (opening types) h ≡ Some w → Swaps k h → v ≡ w }
+    ensures kept { (types : List LocalType) (k h : List Step) (v : View) →
+        replay (opening types) k ≡ Some v → Swaps k h → replay (opening types) h ≡ Some v }
+{}

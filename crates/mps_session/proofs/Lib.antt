@@ -1,0 +1,4 @@
+pub mod Stores
+pub mod Types
+pub mod Accepting
+pub mod Serving

@@ -1,0 +1,13 @@
+//! Sessions: what roles send and receive, each step remembered.
+#![tactic(auto)]
+
+mod judge;
+pub mod open;
+mod parts;
+mod queue;
+pub mod session;
+mod store;
+
+pub use mps_machine::{Done, Forward, Refusal, Violation};
+pub use open::OpenFault;
+pub use session::Session;

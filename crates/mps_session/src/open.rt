@@ -1,0 +1,98 @@
+//! Which types a session can be opened with.
+ghost use Rattle.std.specs.Prelude.{◌≡◌, ◌↔◌, ◌<◌, ◌≤◌, ℕ, IsTrue, IfSome, IfNone, IfOk, length, map, List, [], replicate};
+ghost use Rattle.mps_session.specs.declared.open.OpenFault.TheVariants.{Memory as OutOfMemory};
+ghost use Rattle.mps_local.specs.Local.{plain};
+ghost use Rattle.mps_machine.specs.View.{type_at};
+ghost use Rattle.mps_session.specs.Peers.{HasPeers, IsFirstBad};
+
+use crate::queue::Queue;
+use crate::store::Store;
+use mps_base::Role;
+use mps_local::Local;
+use std::alloc::{AllocError, Global};
+use thiserror::Error;
+
+/// How few and how many roles a session has.
+pub const MIN_ROLES: usize = 2;
+
+pub const MAX_ROLES: usize = 8;
+
+/// Why a session can't be opened.
+#[derive(Clone, Copy, Debug, PartialEq, Eq, Error)]
+pub enum OpenFault {
+    #[error("a session has 2 to 8 roles")]
+    RoleCount,
+    #[error("the type of role {} names itself or no role of the session", role.index())]
+    BadPeer { role: Role },
+    #[error("out of memory")]
+    Memory,
+}
+
+impl From<AllocError> for OpenFault {
+    ghost from_gives = { λ _ e. e ≡ OutOfMemory };
+
+    fn from(_e: AllocError) -> OpenFault {
+        OpenFault::Memory
+    }
+}
+
+/// Whether each peer that the type of this role names is another of the n roles.
+fn has_peers(n: usize, role: usize, t: &Local) -> bool
+    ensures { IsTrue result ↔ HasPeers n role (plain t.now) }
+{
+    match t {
+        Local::End => true,
+        Local::Send { peer, next, .. } | Local::Recv { peer, next, .. } => {
+            let q = peer.index();
+            q < n && q != role && has_peers(n, role, next)
+        }
+    }
+}
+
+/// The least role whose type names itself or no role of the session.
+pub fn first_bad(types: &[Local]) -> Option<Role>
+    requires { length types.now ≤ 8 }
+    ensures bad { IfSome result (IsFirstBad (map plain types.now)) }
+    ensures none { IfNone result ((p : ℕ) → p < length types.now → HasPeers (length types.now) p (type_at (map plain types.now) p)) }
+{
+    let n = types.len();
+    for (i, t) in types.iter().enumerate() {
+        if !has_peers(n, i, t) {
+            return Some(Role::new(i as u8));
+        }
+    }
+    None
+}
+
+/// Equal types.
+pub fn copies(alloc: Global, types: &[Local]) -> Result<Vec<Local>, AllocError>
+    ensures { IfOk result (λ all. map plain all.items ≡ map plain types.now) }
+{
+    let mut all = Vec::with_capacity(alloc, types.len())?;
+    for t in types {
+        all.push(t.copy(alloc)?)?;
+    }
+    Ok(all)
+}
+
+/// As many empty stores.
+pub fn empty_stores(alloc: Global, count: usize) -> Result<Vec<Store>, AllocError>
+    ensures { IfOk result (λ stores. stores.items ≡ replicate count []) }
+{
+    let mut stores = Vec::with_capacity(alloc, count)?;
+    for _ in 0..count {
+        stores.push(Store::new(alloc))?;
+    }
+    Ok(stores)
+}
+
+/// As many empty queues.
+pub fn empty_queues(alloc: Global, count: usize) -> Result<Vec<Queue>, AllocError>
+    ensures { IfOk result (λ queues. queues.items ≡ replicate count []) }
+{
+    let mut queues = Vec::with_capacity(alloc, count)?;
+    for _ in 0..count {
+        queues.push(Queue::new(alloc))?;
+    }
+    Ok(queues)
+}

@@ -1,0 +1,65 @@
+//! Stores of received values.
+ghost use Rattle.std.specs.Prelude.{◌≡◌, List, [], ◌∷◌, ◌++◌, OnOk, OnErr};
+ghost use Rattle.std.specs.Option.{option_copied};
+ghost use Rattle.mps_machine.specs.View.{bound, value_in};
+ghost use Rattle.mps_session.specs.Places.{place_in};
+
+use mps_base::{Name, Value};
+use std::alloc::{AllocError, Global};
+use std::marker::Model;
+
+/// Slots and the values that were received into them, in the order in which the slots were first bound.
+#[derive(Drop)]
+pub struct Store {
+    bindings: Vec<(Name, Value)>,
+}
+
+impl Model for Store {
+    ghost use Rattle.mps_machine.specs.View.{Store as Bindings};
+
+    ghost Value = { Bindings };
+
+    ghost view = { λ s. s.bindings.items };
+}
+
+impl Store {
+    /// A store in which no slot is bound.
+    pub fn new(alloc: Global) -> Store
+        ensures { result ≡ [] }
+    {
+        Store {
+            bindings: Vec::new(alloc),
+        }
+    }
+
+    /// The value in the slot.
+    pub fn get(&self, slot: &Name) -> Option<&Value>
+        ensures { option_copied result ≡ value_in slot.now self.now }
+    {
+        match place_of(self.bindings.as_slice(), slot) {
+            Some(k) => Some(&self.bindings[k].1),
+            None => None,
+        }
+    }
+
+    /// Binds the slot to the value: in its place where it is known, else last.
+    pub fn bind(&mut self, slot: Name, value: Value) -> Result<(), AllocError>
+        ensures ok { OnOk result (self.new ≡ bound slot value self.old) }
+        ensures err { OnErr result (self.new ≡ self.old) }
+    {
+        match place_of(self.bindings.as_slice(), &slot) {
+            Some(k) => {
+                self.bindings[k] = (slot, value);
+            }
+            None => self.bindings.push((slot, value))?,
+        }
+        Ok(())
+    }
+}
+
+/// The place of the slot among the bindings.
+fn place_of(bindings: &[(Name, Value)], slot: &Name) -> Option<usize>
+    ensures { result ≡ place_in slot.now bindings.now }
+{
+    bindings.iter().position(|binding| binding.0.is(slot))
+}
