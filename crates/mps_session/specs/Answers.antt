@@ -1,5 +1,8 @@
 -- What a session answers, against the plain machine.
-use Rattle.std.specs.Prelude.{◌≡◌, Result, Err, IsOk}
+use Rattle.std.specs.Prelude.{◌≡◌, ℕ, Result, Err, IsOk}
+use Rattle.std.specs.Borrow.{Bor}
+use Rattle.mps_base.specs.declared.action.Act.{Act}
+use Rattle.mps_base.specs.declared.action.Step.{Step}
 use Rattle.mps_machine.specs.declared.answer.Done.{Done}
 use Rattle.mps_machine.specs.declared.answer.Refusal.{Refusal}
 use Rattle.mps_machine.specs.declared.answer.Refusal.TheVariants.{Memory}
@@ -8,3 +11,7 @@ use Rattle.mps_machine.specs.declared.answer.Refusal.TheVariants.{Memory}
 abbrev pub IsAnswer : Result Done Refusal → Result Done Refusal → Type 0
 IsAnswer (Err Memory) answer = IsOk answer
 IsAnswer result answer = result ≡ answer
+
+-- a step, as it is shown
+abbrev pub as_step : ℕ × ℕ × Bor Act → Step
+as_step shown = record { id = shown.0; role = shown.1; act = shown.2.now }

@@ -8,7 +8,7 @@ ghost use Rattle.mps_machine.specs.Machine as machine;
 ghost use Rattle.mps_machine.specs.View.{value_in};
 ghost use Rattle.mps_machine.specs.Commands.{act_of};
 ghost use Rattle.mps_session.specs.Peers.{HasRoleCount, IsFirstBad, CanOpen};
-ghost use Rattle.mps_session.specs.Answers.{IsAnswer};
+ghost use Rattle.mps_session.specs.Answers.{IsAnswer, as_step};
 
 use crate::judge::{received, send_fault};
 use crate::open::{MAX_ROLES, MIN_ROLES, OpenFault, copies, empty_queues, empty_stores, first_bad};
@@ -182,5 +182,35 @@ impl Session {
         ensures { result ≡ length self.now.state.history }
     {
         self.history.len()
+    }
+
+    /// The k-th surviving step, from 0.
+    pub fn step(&self, k: usize) -> Option<(StepId, Role, &Act)>
+        ensures { option_map as_step result ≡ slice_get self.now.state.history k }
+    {
+        let step = self.history.get(k)?;
+        Some((step.id, step.role, &step.act))
+    }
+
+    /// What the role keeps in the slot.
+    pub fn slot(&self, role: Role, slot: &Name) -> Option<&Value>
+        requires { role < length self.now.types }
+        ensures { option_copied result
+            ≡ value_in slot.now ((machine.view_of (map plain self.now.types) self.now.state.history).participant role).store }
+    {
+        let store = &self.stores[role.index()];
+        store.get(slot)
+    }
+
+    /// The k-th message that waits, from 0, of those that one role sent to another.
+    pub fn message(&self, from: Role, to: Role, k: usize) -> Option<&Message>
+        requires sender { from < length self.now.types }
+        requires receiver { to < length self.now.types }
+        ensures { option_copied result
+            ≡ slice_get ((machine.view_of (map plain self.now.types) self.now.state.history).queue from to) k }
+    {
+        let place = from.index() * self.types.len() + to.index();
+        let queue = &self.queues[place];
+        queue.get(k)
     }
 }
