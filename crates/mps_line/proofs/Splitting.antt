@@ -1,0 +1,65 @@
+-- A line is split in one place.
+use Rattle.std.proofs.Common.{◌≡◌, ◌≢◌, ℕ, List, [], ◌∷◌, refl, sym, ◌∙◌}
+use Rattle.std.specs.Prelude.{All, IsTrue, Option, Some, None, IfNone}
+use Rattle.std.specs.List.{AllByRecursion}
+use Rattle.std.proofs.lemmas.List.Elements.{recursion_from_All}
+use Rattle.mps_base.specs.Names.{IsName, is_name_byte}
+use Rattle.mps_line.specs.Parts.{spaced, HasNoSpace, SpellsRole, BeginsWithRole}
+
+-- what holds anyway
+pub if_none : {T P : Type 0} (r : Option T) → P → IfNone r P
+if_none None p = p
+if_none (Some x) p = tt
+
+pub no_space : (bytes : List ℕ) → All (λ c. c ≢ 32) bytes → HasNoSpace bytes
+no_space bytes h = recursion_from_All _ bytes h
+
+-- bytes without a space aren't two parts
+pub never_split : (bytes first rest : List ℕ) → HasNoSpace bytes → bytes ≢ spaced first rest
+never_split [] [] rest h e = absurd cc
+never_split [] (f ∷ first) rest h e = absurd cc
+never_split (b ∷ bytes) [] rest h e = h.0 cc
+never_split (b ∷ bytes) (f ∷ first) rest h e = never_split bytes first rest h.1 cc
+
+pub never_spaced : (bytes : List ℕ) → All (λ c. c ≢ 32) bytes → (first rest : List ℕ) → bytes ≢ spaced first rest
+never_spaced bytes h first rest = never_split bytes first rest (no_space bytes h)
+
+-- the parts round the first space
+pub one_split : (a b x y : List ℕ) → HasNoSpace a → HasNoSpace b → spaced a x ≡ spaced b y → (a ≡ b) × (x ≡ y)
+one_split [] [] x y p q e = (refl, cc)
+one_split [] (b ∷ ss) x y p q e = absurd (q.0 cc)
+one_split (a ∷ rs) [] x y p q e = absurd (p.0 cc)
+one_split (a ∷ rs) (b ∷ ss) x y p q e =
+    let front : a ≡ b = cc in
+    let tails : spaced rs x ≡ spaced ss y = cc in
+    let more = one_split rs ss x y p.1 q.1 tails in
+    (cc, more.1)
+
+space_is_none : IsTrue (is_name_byte 32) → ⊥
+space_is_none h = absurd cc
+
+byte_is_no_space : (c : ℕ) → IsTrue (is_name_byte c) → c ≢ 32
+byte_is_no_space c h e = absurd (space_is_none (rw e at h))
+
+bytes_have_no_space : (bytes : List ℕ) → AllByRecursion (λ c. IsTrue (is_name_byte c)) bytes → HasNoSpace bytes
+bytes_have_no_space [] h = tt
+bytes_have_no_space (c ∷ bytes) h = (byte_is_no_space c h.0, bytes_have_no_space bytes h.1)
+
+-- a name is one part
+pub name_has_no_space : (bytes : List ℕ) → IsName bytes → HasNoSpace bytes
+name_has_no_space bytes h = bytes_have_no_space bytes h.each
+
+-- the rest behind the first space
+pub same_rest : (names : List (List ℕ)) (bytes first rest : List ℕ) (role : ℕ) (other : List ℕ) → bytes ≡ spaced first rest → HasNoSpace first → BeginsWithRole names bytes role other → other ≡ rest
+same_rest names bytes first rest role other e h b =
+    (one_split b.name first other rest (name_has_no_space b.name b.spelled.name) h (sym b.parts ∙ e)).1
+
+-- what stands before the first space is no role's name
+pub no_role : (names : List (List ℕ)) (bytes first rest : List ℕ) → bytes ≡ spaced first rest → HasNoSpace first → ((role : ℕ) → SpellsRole names first role → ⊥) → (role : ℕ) (other : List ℕ) → BeginsWithRole names bytes role other → ⊥
+no_role names bytes first rest e h none role other b =
+    let same = one_split b.name first other rest (name_has_no_space b.name b.spelled.name) h (sym b.parts ∙ e) in
+    none role (rw same.0 at b.spelled)
+
+-- bytes without a space don't begin with a role's name
+pub no_role_alone : (names : List (List ℕ)) (bytes : List ℕ) → ((first rest : List ℕ) → bytes ≢ spaced first rest) → (role : ℕ) (rest : List ℕ) → BeginsWithRole names bytes role rest → ⊥
+no_role_alone names bytes none role rest b = none b.name rest b.parts

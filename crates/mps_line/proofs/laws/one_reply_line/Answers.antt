@@ -1,0 +1,16 @@
+use Rattle.mps_line.proofs.Unique.{reply_spelling}
+use Rattle.mps_line.proofs.Shown.{shown_reply, no_line_feed}
+use Rattle.mps_line.proofs.Meaning.{one_reply}
+use Rattle.mps_line.proofs.laws.one_reply_line.Goals as goal
+
+pub returns-clause-spelling : goal.returns-clause-spelling
+returns-clause-spelling c = reply_spelling
+
+pub returns-clause-shown : goal.returns-clause-shown
+returns-clause-shown c = shown_reply
+
+pub returns-clause-no_line_feed : goal.returns-clause-no_line_feed
+returns-clause-no_line_feed c = no_line_feed
+
+pub returns-clause-reply : goal.returns-clause-reply
+returns-clause-reply c = one_reply c.one_spelling.ensures.value c.one_spelling.ensures.no_name

@@ -1,0 +1,15 @@
+use Rattle.mps_line.proofs.Unique.{same_line, line_spelling}
+use Rattle.mps_line.proofs.Shown.{shown_line}
+use Rattle.mps_line.proofs.laws.one_script_line.Goals as goal
+
+pub returns-clause-role : goal.returns-clause-role
+returns-clause-role c = λ names a p q d e distinct h k. (same_line c.one_spelling.ensures.value names a p q d e distinct h k).0
+
+pub returns-clause-command : goal.returns-clause-command
+returns-clause-command c = λ names a p q d e distinct h k. (same_line c.one_spelling.ensures.value names a p q d e distinct h k).1
+
+pub returns-clause-spelling : goal.returns-clause-spelling
+returns-clause-spelling c = line_spelling
+
+pub returns-clause-shown : goal.returns-clause-shown
+returns-clause-shown c = shown_line

@@ -1,0 +1,13 @@
+//! The lines of a script, and the lines that answer them.
+#![tactic(auto)]
+
+pub mod laws;
+pub mod parts;
+pub mod reply;
+pub mod script;
+
+pub use reply::Reply;
+pub use script::{LineFault, read_command, read_script_line};
+
+#[cfg(test)]
+mod tests;

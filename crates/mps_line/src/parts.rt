@@ -1,0 +1,47 @@
+//! The parts of a line.
+ghost use Rattle.std.specs.Prelude.{◌≡◌, ◌≢◌, ℕ, List, IfSome, IfNone, ◌<◌, All, length, slice_index, take};
+ghost use Rattle.mps_line.specs.Parts.{spaced, HasNoSpace, SpellsRole, BeginsWithRole};
+
+use mps_base::{Name, Role, Roles};
+
+// Where the first space stands.
+fn first_space(bytes: &[u8]) -> Option<usize>
+    ensures within { IfSome result (λ place. place < length bytes.now) }
+    ensures space { IfSome result (λ place. slice_index bytes.now place ≡ 32) }
+    ensures before { IfSome result (λ place. All (λ c. c ≢ 32) (take place bytes.now)) }
+    ensures none { IfNone result (All (λ c. c ≢ 32) bytes.now) }
+{
+    bytes.iter().position(|&byte| byte == b' ')
+}
+
+// What stands before the first space, and what behind it.
+#[tactic(auto, using(crate::proofs::Splitting::no_space, crate::proofs::Splitting::never_spaced))]
+pub(crate) fn split_at_space(bytes: &[u8]) -> Option<(&[u8], &[u8])>
+    ensures parts { IfSome result (λ parts. bytes.now ≡ spaced parts.0.now parts.1.now) }
+    ensures first { IfSome result (λ parts. HasNoSpace parts.0.now) }
+    ensures none { IfNone result ((first rest : List ℕ) → bytes.now ≢ spaced first rest) }
+{
+    let place = first_space(bytes)?;
+    Some((&bytes[..place], &bytes[place + 1..]))
+}
+
+// The role of that name.
+pub(crate) fn read_role(roles: &Roles, bytes: &[u8]) -> Option<Role>
+    ensures read { IfSome result (SpellsRole roles.now bytes.now) }
+    ensures none { IfNone result ((role : ℕ) → SpellsRole roles.now bytes.now role → ⊥) }
+{
+    roles.find(&Name::read(bytes)?)
+}
+
+// The role whose name stands before the first space, and what stands behind it.
+#[tactic(auto, using(crate::proofs::Splitting::no_role_alone))]
+pub(crate) fn split_role<'a>(roles: &Roles, bytes: &'a [u8]) -> Option<(Role, &'a [u8])>
+    ensures read { IfSome result (λ r. BeginsWithRole roles.now bytes.now r.0 r.1.now) }
+    ensures rest { IfSome result (λ r. (role : ℕ) (rest : List ℕ)
+        → BeginsWithRole roles.now bytes.now role rest → rest ≡ r.1.now) }
+    ensures none { IfNone result ((role : ℕ) (rest : List ℕ)
+        → BeginsWithRole roles.now bytes.now role rest → ⊥) }
+{
+    let (name, rest) = split_at_space(bytes)?;
+    Some((read_role(roles, name)?, rest))
+}

@@ -1,0 +1,136 @@
+//! The lines that answer commands.
+ghost use Rattle.std.specs.Prelude.{◌≡◌, OnOk, OnErr};
+ghost use Rattle.mps_base.specs.Appends.{Appends};
+ghost use Rattle.mps_machine.specs.declared.answer.Refusal.TheVariants.{Violation as Violates};
+ghost use Rattle.mps_line.specs.Replies.{SpellsDone, SpellsMessage, SpellsRefusal, SpellsStep, word_of};
+
+use mps_base::{Message, StepId, write_number};
+use mps_machine::{Done, Refusal, Violation};
+use std::alloc::AllocError;
+
+/// The answer to a line of a script.
+#[derive(Drop)]
+pub enum Reply {
+    /// The step was accepted.
+    Done(Done),
+    /// The command was refused, and nothing has changed.
+    Refused(Refusal),
+    /// The line is spelled like no command.
+    BadLine,
+}
+
+impl Reply {
+    ghost use Rattle.mps_line.specs.Replies.{SpellsReply, reply_to};
+
+    /// The reply to a step that was accepted or refused.
+    pub fn of(answer: Result<Done, Refusal>) -> Reply
+        ensures { result ≡ reply_to answer }
+    {
+        match answer {
+            Ok(done) => Reply::Done(done),
+            Err(refusal) => Reply::Refused(refusal),
+        }
+    }
+
+    /// Writes the reply at the end, without a line break.
+    pub fn write(&self, out: &mut Vec<u8>) -> Result<(), AllocError>
+        ensures ok { OnOk result (Appends (λ text. SpellsReply text self.now) out.old.items out.new.items) }
+        ensures err { OnErr result (out.new.items ≡ out.old.items) }
+    {
+        let mut text = Vec::new(*out.allocator());
+        self.write_parts(&mut text)?;
+        out.extend_from_slice(&text)
+    }
+
+    // Writes the reply, or a part of it.
+    fn write_parts(&self, out: &mut Vec<u8>) -> Result<(), AllocError>
+        ensures { OnOk result (Appends (λ text. SpellsReply text self.now) out.old.items out.new.items) }
+    {
+        match self {
+            Reply::Done(done) => {
+                out.extend_from_slice(b"done ")?;
+                write_done(done, out)
+            }
+            Reply::Refused(refusal) => {
+                out.extend_from_slice(b"refused ")?;
+                write_refusal(refusal, out)
+            }
+            Reply::BadLine => out.extend_from_slice(b"refused line"),
+        }
+    }
+}
+
+// Writes the number of the step and the message that it took, or a part of them.
+fn write_done(done: &Done, out: &mut Vec<u8>) -> Result<(), AllocError>
+    ensures { OnOk result (Appends (λ text. SpellsDone text done.now.id done.now.got) out.old.items out.new.items) }
+{
+    write_step(done.id, out)?;
+    match &done.got {
+        Some(message) => {
+            out.push(b' ')?;
+            write_message(message, out)
+        }
+        None => Ok(()),
+    }
+}
+
+// Writes the message, or a part of it.
+fn write_message(message: &Message, out: &mut Vec<u8>) -> Result<(), AllocError>
+    ensures { OnOk result (Appends (λ text. SpellsMessage text message.now) out.old.items out.new.items) }
+{
+    match message {
+        Message::Value(value) => value.write(out),
+        Message::Label(label) => out.extend_from_slice(label.as_bytes()),
+    }
+}
+
+// Writes why the command was refused, or a part of it.
+fn write_refusal(refusal: &Refusal, out: &mut Vec<u8>) -> Result<(), AllocError>
+    ensures { OnOk result (Appends (λ text. SpellsRefusal text refusal.now) out.old.items out.new.items) }
+{
+    out.extend_from_slice(word_of(refusal))?;
+    match refusal {
+        Refusal::Needed { by } => {
+            out.push(b' ')?;
+            write_step(*by, out)
+        }
+        _ => Ok(()),
+    }
+}
+
+// Writes the number of the step.
+fn write_step(id: StepId, out: &mut Vec<u8>) -> Result<(), AllocError>
+    ensures { OnOk result (Appends (λ text. SpellsStep text id) out.old.items out.new.items) }
+{
+    write_number(id.number(), out)
+}
+
+// The word for a refusal.
+fn word_of(refusal: &Refusal) -> &'static [u8]
+    ensures { result.now ≡ word_of refusal.now }
+{
+    match refusal {
+        Refusal::Violation(violation) => violation_word(*violation),
+        Refusal::NoStep => b"nostep",
+        Refusal::NotYours => b"notyours",
+        Refusal::Needed { .. } => b"needed",
+        Refusal::NoMark => b"nomark",
+        Refusal::Full => b"full",
+        Refusal::Memory => b"memory",
+    }
+}
+
+// The word for what a role's type doesn't allow.
+fn violation_word(violation: Violation) -> &'static [u8]
+    ensures { result.now ≡ word_of (Violates violation) }
+{
+    match violation {
+        Violation::Ended => b"ended",
+        Violation::WrongAct => b"wrongact",
+        Violation::WrongPeer => b"wrongpeer",
+        Violation::WrongSort => b"wrongsort",
+        Violation::NoLabel => b"nolabel",
+        Violation::NothingQueued => b"nothingqueued",
+        Violation::Mismatch => b"mismatch",
+    }
+}

@@ -1,0 +1,6 @@
+use Rattle.std.proofs.Common.{◌≡◌, ◌+◌, drop}
+use Rattle.mps_text.specs.Lexing.{run_len}
+use Rattle.mps_text.proofs.lexing.run_len.Given as goal
+
+abbrev pub invariant-loop-byte : goal.invariant-loop-byte
+invariant-loop-byte l = (l.len ≡ l.byte-index) × (l.len + run_len (drop l.byte-index l.bytes) ≡ run_len l.bytes)

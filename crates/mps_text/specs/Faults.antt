@@ -1,0 +1,105 @@
+-- The first fault of a text.
+use Rattle.std.specs.Prelude.{◌≡◌, ◌≢◌, false, ℕ, ◌+◌, ◌<◌, ◌≤◌, ⊤, List, [], ◌∷◌, ◌++◌, length, replicate, Option, Some, None, IsTrue}
+use Rattle.std.specs.List.{AllByRecursion, list_all}
+use Rattle.mps_global.specs.Global.{GlobalType, End, Message}
+use Rattle.mps_text.specs.Tokens.{is_blank, first_is, IsTokenBefore, Begins, BeginsAll}
+use Rattle.mps_text.specs.Grammar.{SpellsProtocol}
+use Rattle.mps_text.specs.declared.fault.TextKind.{TextKind}
+use Rattle.mps_text.specs.declared.fault.TextKind.TheVariants.{TooLong, Word, Unexpected, TooManyNodes, TooDeep, Trailing, Memory}
+
+-- for each token of a global type whose root has that depth, the depth of the node that it begins, or None
+abbrev pub node_starts : ℕ → GlobalType → List (Option ℕ)
+node_starts depth End = Some depth ∷ []
+node_starts depth (Message sender receiver sort next) = Some depth ∷ replicate 5 None ++ node_starts (depth + 1) next
+
+-- for each token that no node begins
+abbrev pub no_starts : List (List ℕ) → List (Option ℕ)
+no_starts [] = []
+no_starts (token ∷ tokens) = None ∷ no_starts tokens
+
+-- the same of a protocol, in which `roles`, the roles and `;` stand before the type
+abbrev pub protocol_starts : List (List ℕ) → GlobalType → List (Option ℕ)
+protocol_starts roles tree = (None ∷ no_starts roles) ++ None ∷ node_starts 1 tree
+
+-- how many nodes begin
+abbrev pub nodes_begun : List (Option ℕ) → ℕ
+nodes_begun [] = 0
+nodes_begun (None ∷ starts) = nodes_begun starts
+nodes_begun (Some depth ∷ starts) = nodes_begun starts + 1
+
+-- no node begins, or one that isn't too deep
+abbrev pub IsShallow : Option ℕ → Type 0
+IsShallow None = ⊤
+IsShallow (Some depth) = depth ≤ 64
+
+-- the tokens are a whole protocol
+abbrev pub IsWhole : List (List ℕ) → Type 0
+IsWhole tokens = (roles : List (List ℕ)) × (tree : GlobalType) × SpellsProtocol tokens roles tree
+
+-- some protocol begins with the tokens, and they begin these nodes
+pub record Opens (tokens : List (List ℕ)) (starts : List (Option ℕ)) : Type 0 where
+  pub more : List (List ℕ)
+  pub roles : List (List ℕ)
+  pub tree : GlobalType
+  pub spelled : SpellsProtocol (tokens ++ more) roles tree
+  pub later : List (Option ℕ)
+  pub nodes : protocol_starts roles tree ≡ starts ++ later
+  pub each : length starts ≡ length tokens
+
+-- each node is within the limits
+pub record AreWithin (starts : List (Option ℕ)) : Type 0 where
+  pub shallow : AllByRecursion IsShallow starts
+  pub few : nodes_begun starts ≤ 256
+
+-- what stands in front of the bytes: this token, or None where they have ended
+abbrev pub Shows : List ℕ → Option (List ℕ) → Type 0
+Shows bytes None = bytes ≡ []
+Shows bytes (Some token) = (after : List ℕ) × (bytes ≡ token ++ after) × IsTokenBefore token after
+
+-- neither a blank nor a token stands in front of the bytes: they begin with a byte that begins no token, a `-` without `>`, or a malformed word
+pub record IsMalformed (bytes : List ℕ) : Type 0 where
+  pub some : bytes ≢ []
+  pub no_blank : first_is is_blank bytes ≡ false
+  pub no_token : (token rest : List ℕ) → Begins bytes token rest → ⊥
+
+-- no protocol goes on with that token, or ends there, behind these tokens
+abbrev pub IsUnexpected : List (List ℕ) → Option (List ℕ) → Type 0
+IsUnexpected front None = ¬ IsWhole front
+IsUnexpected front (Some token) = (¬ IsWhole front) × ((starts : List (Option ℕ)) → ¬ Opens (front ++ token ∷ []) starts)
+
+-- what is wrong at these bytes, where the tokens before begin these nodes
+abbrev pub IsWrong : List (List ℕ) → List (Option ℕ) → List ℕ → TextKind → Type 0
+IsWrong front starts bytes Word = IsMalformed bytes
+IsWrong front starts bytes Unexpected = (next : Option (List ℕ)) × Shows bytes next × IsUnexpected front next
+IsWrong front starts bytes TooManyNodes =
+    (token : List ℕ) × (depth : ℕ) × Shows bytes (Some token) × Opens (front ++ token ∷ []) (starts ++ Some depth ∷ []) × (nodes_begun starts ≡ 256)
+IsWrong front starts bytes TooDeep =
+    (token : List ℕ) × Shows bytes (Some token) × Opens (front ++ token ∷ []) (starts ++ Some 65 ∷ []) × (nodes_begun starts < 256)
+IsWrong front starts bytes Trailing = (token : List ℕ) × Shows bytes (Some token) × IsWhole front
+IsWrong front starts bytes TooLong = ⊥
+IsWrong front starts bytes Memory = ⊥
+
+-- the tokens in front begin a protocol within the limits, and behind them something is wrong at that byte
+pub record FaultAt (text : List ℕ) (at : ℕ) (kind : TextKind) : Type 0 where
+  pub front : List (List ℕ)
+  pub starts : List (Option ℕ)
+  pub rest : List ℕ
+  pub read : BeginsAll text front rest
+  pub opens : Opens front starts
+  pub within : AreWithin starts
+  pub blanks : List ℕ
+  pub blank : IsTrue (list_all is_blank blanks)
+  pub bytes : List ℕ
+  pub parts : rest ≡ blanks ++ bytes
+  pub place : at + length bytes ≡ length text
+  pub wrong : IsWrong front starts bytes kind
+
+-- the text has this first fault, unless memory ran out
+abbrev pub IsFirstFault : List ℕ → ℕ → TextKind → Type 0
+IsFirstFault text at TooLong = (65536 < length text) × (at ≡ 65536)
+IsFirstFault text at Memory = ⊤
+IsFirstFault text at Word = (length text ≤ 65536) × FaultAt text at Word
+IsFirstFault text at Unexpected = (length text ≤ 65536) × FaultAt text at Unexpected
+IsFirstFault text at TooManyNodes = (length text ≤ 65536) × FaultAt text at TooManyNodes
+IsFirstFault text at TooDeep = (length text ≤ 65536) × FaultAt text at TooDeep
+IsFirstFault text at Trailing = (length text ≤ 65536) × FaultAt text at Trailing

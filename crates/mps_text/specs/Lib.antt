@@ -1,0 +1,5 @@
+pub mod Tokens
+pub mod Grammar
+pub mod Lexing
+pub mod Reading
+pub mod Faults

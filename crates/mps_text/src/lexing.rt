@@ -1,0 +1,226 @@
+//! Tokens, one at a time.
+ghost use Rattle.std.specs.Prelude.{◌≡◌, ◌≤◌, true, false, length, MatchOption};
+ghost use Rattle.std.specs.List.{list_all};
+ghost use Rattle.mps_base.specs.Names.{is_lower, is_name_byte};
+ghost use Rattle.mps_text.specs.Tokens.{first_is, is_blank, is_upper, is_variable_byte, is_word_byte};
+ghost use Rattle.mps_text.specs.Lexing.{is_small_word, is_capital_word, is_word};
+ghost use Rattle.mps_text.specs.Lexing.{Gives, unblanked, is_mark_byte, run_len, word_len, token_len};
+ghost use Rattle.mps_text.specs.Lexing.{lexeme_of, lexeme_at, plain_lexeme, is_name};
+ghost use Rattle.mps_text.specs.declared.lexing.Halt.TheVariants.{Memory};
+
+use crate::fault::TextKind;
+use mps_base::Name;
+use mps_base::name::MAX_NAME;
+use std::alloc::{AllocError, AllocFailed};
+
+/// Why reading stopped: for want of memory, or at a fault with so many bytes left from it on.
+#[derive(Clone, Copy, Debug)]
+pub(crate) enum Halt {
+    Memory,
+    At(usize, TextKind),
+}
+
+impl From<AllocError> for Halt {
+    ghost from_gives = { λ _ e. e ≡ Memory };
+
+    fn from(_e: AllocError) -> Halt {
+        Halt::Memory
+    }
+}
+
+impl<T: Drop> From<AllocFailed<T>> for Halt {
+    ghost from_gives = { λ _ e. e ≡ Memory };
+
+    fn from(_e: AllocFailed<T>) -> Halt {
+        Halt::Memory
+    }
+}
+
+/// A token, how many bytes are left from its first one on, and those after it.
+#[derive(Clone, Copy, Debug)]
+pub(crate) struct Lexeme<'a> {
+    pub(crate) token: &'a [u8],
+    pub(crate) left: usize,
+    pub(crate) rest: &'a [u8],
+}
+
+impl Lexeme<'_> {
+    /// The fault of that kind that begins at the token.
+    pub(crate) fn fault(&self, kind: TextKind) -> Halt
+        ensures { result ≡ Halt.At self.now.left kind }
+    {
+        Halt::At(self.left, kind)
+    }
+}
+
+/// The bytes that aren't read yet.
+#[derive(Debug, Drop)]
+pub(crate) struct Cursor<'a> {
+    pub(crate) rest: &'a [u8],
+}
+
+/// The next token.
+#[tactic(auto, unfolding(crate::specs::Lexing::lexeme_at))]
+pub(crate) fn lexeme_at(bytes: &[u8]) -> Result<Lexeme<'_>, Halt>
+    ensures { Gives plain_lexeme result (lexeme_at bytes.now) }
+{
+    lexeme_of(unblanked(bytes))
+}
+
+// The token in front of bytes that begin with no blank.
+#[tactic(auto, unfolding(crate::specs::Lexing::lexeme_of))]
+fn lexeme_of(bytes: &[u8]) -> Result<Lexeme<'_>, Halt>
+    ensures { Gives plain_lexeme result (lexeme_of bytes.now) }
+{
+    if bytes.is_empty() {
+        return Err(Halt::At(0, TextKind::Unexpected));
+    }
+    let len = token_len(bytes);
+    if len == 0 {
+        return Err(Halt::At(bytes.len(), TextKind::Word));
+    }
+    let (token, rest) = bytes.split_at(len);
+    Ok(Lexeme {
+        token,
+        left: bytes.len(),
+        rest,
+    })
+}
+
+/// The bytes behind the blanks in front.
+pub(crate) fn unblanked(bytes: &[u8]) -> &[u8]
+    ensures { result.now ≡ unblanked bytes.now }
+{
+    let mut rest = bytes;
+    while let [first, after @ ..] = rest {
+        if !is_blank(*first) {
+            return rest;
+        }
+        rest = after;
+    }
+    rest
+}
+
+// Whether the byte is a blank.
+fn is_blank(byte: u8) -> bool
+    ensures { result ≡ is_blank byte }
+{
+    byte == b' ' || byte == b'\t' || byte == b'\n' || byte == b'\r'
+}
+
+// How many bytes the token in front takes, 0 where none stands there.
+#[tactic(auto, unfolding(crate::specs::Lexing::token_len))]
+fn token_len(bytes: &[u8]) -> usize
+    ensures len { result ≡ token_len bytes.now }
+    ensures within { result ≤ length bytes.now }
+{
+    if bytes.starts_with(b"->") {
+        return 2;
+    }
+    match bytes {
+        [first, ..] if is_mark(*first) => 1,
+        _ => word_len(bytes),
+    }
+}
+
+// Whether the byte is a token alone.
+fn is_mark(byte: u8) -> bool
+    ensures { result ≡ is_mark_byte byte }
+{
+    byte == b':' || byte == b';' || byte == b'.' || byte == b',' || byte == b'{' || byte == b'}'
+}
+
+// How many bytes the word in front takes, 0 where no well-formed word stands there.
+#[tactic(auto, unfolding(crate::specs::Lexing::word_len))]
+fn word_len(bytes: &[u8]) -> usize
+    ensures len { result ≡ word_len bytes.now }
+    ensures within { result ≤ length bytes.now }
+{
+    let len = run_len(bytes);
+    if is_word(&bytes[..len]) { len } else { 0 }
+}
+
+// How many bytes the longest run of word bytes in front takes.
+fn run_len(bytes: &[u8]) -> usize
+    ensures len { result ≡ run_len bytes.now }
+    ensures within { result ≤ length bytes.now }
+{
+    let mut len = 0;
+    for byte in bytes {
+        if !is_word_byte(*byte) {
+            return len;
+        }
+        len += 1;
+    }
+    len
+}
+
+// Whether a word may contain the byte.
+fn is_word_byte(byte: u8) -> bool
+    ensures { result ≡ is_word_byte byte }
+{
+    byte.is_ascii_lowercase() || byte.is_ascii_digit() || byte == b'_' || byte.is_ascii_uppercase()
+}
+
+// Whether the bytes are a well-formed word.
+fn is_word(bytes: &[u8]) -> bool
+    ensures { result ≡ is_word bytes.now }
+{
+    bytes.len() <= MAX_NAME && (is_small_word(bytes) || is_capital_word(bytes))
+}
+
+// Whether they are small letters, digits and `_`, the first a letter.
+fn is_small_word(bytes: &[u8]) -> bool
+    ensures { result ≡ is_small_word bytes.now }
+{
+    begins_small(bytes) && are_name_bytes(bytes)
+}
+
+// Whether a small letter stands in front.
+fn begins_small(bytes: &[u8]) -> bool
+    ensures { result ≡ first_is is_lower bytes.now }
+{
+    match bytes {
+        [] => false,
+        [first, ..] => first.is_ascii_lowercase(),
+    }
+}
+
+// Whether they are small letters, digits and `_`.
+fn are_name_bytes(bytes: &[u8]) -> bool
+    ensures { result ≡ list_all is_name_byte bytes.now }
+{
+    bytes.iter().all(|byte| byte.is_ascii_lowercase() || byte.is_ascii_digit() || *byte == b'_')
+}
+
+// Whether they are capital letters, digits and `_`, the first a letter.
+fn is_capital_word(bytes: &[u8]) -> bool
+    ensures { result ≡ is_capital_word bytes.now }
+{
+    begins_capital(bytes) && are_variable_bytes(bytes)
+}
+
+// Whether a capital letter stands in front.
+fn begins_capital(bytes: &[u8]) -> bool
+    ensures { result ≡ first_is is_upper bytes.now }
+{
+    match bytes {
+        [] => false,
+        [first, ..] => first.is_ascii_uppercase(),
+    }
+}
+
+// Whether they are capital letters, digits and `_`.
+fn are_variable_bytes(bytes: &[u8]) -> bool
+    ensures { result ≡ list_all is_variable_byte bytes.now }
+{
+    bytes.iter().all(|byte| byte.is_ascii_uppercase() || byte.is_ascii_digit() || *byte == b'_')
+}
+
+/// The name of these bytes.
+pub(crate) fn name_of(bytes: &[u8]) -> Option<Name>
+    ensures { MatchOption result (is_name bytes.now ≡ false)
+        (λ name. (is_name bytes.now ≡ true) × (name ≡ bytes.now)) }
+{
+    Name::read(bytes)
+}

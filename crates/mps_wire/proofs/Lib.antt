@@ -1,0 +1,7 @@
+pub mod Bytes
+pub mod Splitting
+pub mod Serving
+pub mod Answering
+pub mod Feeding
+pub mod Turning
+pub mod Running

@@ -1,0 +1,4 @@
+pub mod Lines
+pub mod Flow
+pub mod Script
+pub mod Runs

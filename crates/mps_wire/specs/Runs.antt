@@ -1,0 +1,64 @@
+-- A script over a source and a sink: given is what the source had left at first, took what the sink had taken.
+use Rattle.std.specs.Prelude.{ℕ, Bool, true, false, List, Option, Result, Ok, Err}
+use Rattle.std.specs.Io.KnownBytes.{Appends, Consumes, IsAtEnd}
+use Rattle.mps_local.specs.Local.{LocalType}
+use Rattle.mps_machine.specs.Machine.{State, initial}
+use Rattle.mps_session.specs.Peers.{HasRoleCount, IsFirstBad, CanOpen}
+use Rattle.mps_session.specs.declared.open.OpenFault.{OpenFault}
+use Rattle.mps_session.specs.declared.open.OpenFault.TheVariants.{RoleCount, BadPeer, Memory as OutOfMemory}
+use Rattle.mps_wire.specs.declared.script.ReplayFault.{ReplayFault}
+use Rattle.mps_wire.specs.declared.script.ReplayFault.TheVariants.{Open, ReadFault, WriteFault, Turns, Memory}
+use Rattle.mps_wire.specs.Script.{Answered, AnsweredAll, AnsweredInPart}
+
+-- what was read is answered line by line, and of a rest that no LF ends the front is kept
+pub record Going (names : List (List ℕ)) (types : List LocalType) (given left took taken : Option (List ℕ)) (kept : List ℕ) (st : State) : Type 0 where
+  pub read : List ℕ
+  pub out : List ℕ
+  pub bytes : Consumes given left read
+  pub sent : Appends took taken out
+  pub answered : Answered names types initial read kept out st
+
+-- no more is read: each whole line of what was read is answered
+pub record Stopped (names : List (List ℕ)) (types : List LocalType) (given left took taken : Option (List ℕ)) : Type 0 where
+  pub kept : List ℕ
+  pub st : State
+  pub going : Going names types given left took taken kept st
+
+-- all that was to be read is answered, line by line, a rest that no LF ends too
+pub record Finished (names : List (List ℕ)) (types : List LocalType) (given left took taken : Option (List ℕ)) (st : State) : Type 0 where
+  pub read : List ℕ
+  pub out : List ℕ
+  pub bytes : Consumes given left read
+  pub over : IsAtEnd left
+  pub sent : Appends took taken out
+  pub answered : AnsweredAll names types read out st
+
+-- what was written are answers to the first lines of what was read, up to some place in them
+pub record Cut (names : List (List ℕ)) (types : List LocalType) (given left took taken : Option (List ℕ)) : Type 0 where
+  pub read : List ℕ
+  pub written : List ℕ
+  pub bytes : Consumes given left read
+  pub sent : Appends took taken written
+  pub answered : AnsweredInPart names types read written
+
+-- what holds after one read and its answers: at the end, before it, after a read fault, or after another fault
+abbrev pub AfterTurn : Result Bool ReplayFault → Type 0 → Type 0 → Type 0 → Type 0 → Type 0
+AfterTurn (Ok true) at_end before_it stopped cut = at_end
+AfterTurn (Ok false) at_end before_it stopped cut = before_it
+AfterTurn (Err ReadFault) at_end before_it stopped cut = stopped
+AfterTurn (Err WriteFault) at_end before_it stopped cut = cut
+AfterTurn (Err Memory) at_end before_it stopped cut = cut
+AfterTurn (Err (Open fault)) at_end before_it stopped cut = ⊥
+AfterTurn (Err Turns) at_end before_it stopped cut = ⊥
+
+-- how a session that can't be opened is reported
+abbrev pub of_opening : OpenFault → ReplayFault
+of_opening OutOfMemory = Memory
+of_opening RoleCount = Open RoleCount
+of_opening (BadPeer role) = Open (BadPeer role)
+
+-- why a session with these types isn't opened; memory may run out with any
+abbrev pub KeepsShut : List LocalType → OpenFault → Type 0
+KeepsShut types RoleCount = ¬ (HasRoleCount types)
+KeepsShut types (BadPeer role) = IsFirstBad types role
+KeepsShut types OutOfMemory = CanOpen types

@@ -1,0 +1,6 @@
+//! Scripts over streams: lines from blocks of bytes, and the answers to them in blocks.
+#![tactic(auto)]
+
+pub mod flow;
+pub mod lines;
+pub mod script;

@@ -1,0 +1,29 @@
+//! Lines from blocks of bytes.
+ghost use Rattle.std.specs.Prelude.{◌≡◌, ◌≢◌, ◌+◌, ◌<◌, ◌≤◌, ◌++◌, ℕ, OnOk, OnErr, IfSome, IfNone, length, take, slice_index};
+ghost use Rattle.mps_wire.specs.Lines.{HasNoBreak, front};
+
+use std::alloc::AllocError;
+
+/// How many bytes of a line are kept while it comes: one more than a line may have, which tell that it is too long.
+pub const MOST_KEPT: usize = 513;
+
+/// Where the first line ends.
+pub fn line_end(bytes: &[u8]) -> Option<usize>
+    ensures within { IfSome result (λ k. k < length bytes.now) }
+    ensures end { IfSome result (λ k. slice_index bytes.now k ≡ 10) }
+    ensures before { IfSome result (λ k. HasNoBreak (take k bytes.now)) }
+    ensures none { IfNone result (HasNoBreak bytes.now) }
+{
+    bytes.iter().position(|&byte| byte == b'\n')
+}
+
+/// Adds to the front of a line what comes of it. More than `MOST_KEPT` bytes are dropped.
+pub fn keep(line: &mut Vec<u8>, piece: &[u8]) -> Result<(), AllocError>
+    requires { length line.old.items ≤ 513 }
+    ensures ok { OnOk result (line.new.items ≡ front (line.old.items ++ piece.now)) }
+    ensures err { OnErr result (line.new.items ≡ line.old.items) }
+{
+    let room = MOST_KEPT - line.len();
+    let count = room.min(piece.len());
+    line.extend_from_slice(&piece[..count])
+}

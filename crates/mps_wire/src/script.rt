@@ -1,0 +1,294 @@
+//! A script over streams.
+ghost use Rattle.std.specs.Prelude.{◌≡◌, ◌↔◌, ◌⊎◌, ◌+◌, ◌<◌, ◌≤◌, ◌^◌, ◌++◌, ℕ, Option, List, [], length, map, OnOk, OnErr, IfOk, IsErr, IsErrOf};
+ghost use Rattle.std.specs.Io.KnownBytes.{Appends, Consumes, IsAtEnd};
+ghost use Rattle.mps_local.specs.Local.{plain};
+ghost use Rattle.mps_machine.specs.Machine.{initial};
+ghost use Rattle.mps_wire.specs.Lines.{HasNoBreak, ended, front};
+ghost use Rattle.mps_wire.specs.declared.script.ReplayFault.TheVariants.{Memory as OutOfMemory};
+ghost use Rattle.mps_wire.specs.Flow.{TookFront};
+ghost use Rattle.mps_wire.specs.Runs.{Going, Finished, Cut, AfterTurn, Stopped, of_opening, KeepsShut};
+ghost use Rattle.mps_wire.specs.Script.{RepliesTo, AnswersLine, Answered, AnsweredAll, AnsweredInPart};
+ghost use Rattle.mps_session.specs.Peers.{CanOpen};
+ghost use Rattle.mps_session.specs.declared.open.OpenFault.{OpenFault};
+
+use crate::flow::send_all;
+use crate::lines::{MOST_KEPT, keep, line_end};
+use mps_base::Roles;
+use mps_dev::{Failed, Sink, Source};
+use mps_line::{LineFault, Reply, read_script_line};
+use mps_local::Local;
+use mps_session::{OpenFault, Refusal, Session};
+use std::alloc::{AllocError, Global};
+use thiserror::Error;
+
+/// How many bytes a line may have, without the LF that ends it.
+pub const MAX_LINE: usize = 512;
+
+/// How often a script is read from at most.
+pub const MAX_READS: u64 = 1_000_000;
+
+/// How many bytes are asked for at a time.
+pub const BLOCK: usize = 65_536;
+
+/// Why a script was not run to its end.
+#[derive(Clone, Copy, Debug, PartialEq, Eq, Error)]
+pub enum ReplayFault {
+    #[error(transparent)]
+    Open(OpenFault),
+    #[error("the script can't be read")]
+    ReadFault,
+    #[error("the answers can't be written")]
+    WriteFault,
+    #[error("the script was read from too often")]
+    Turns,
+    #[error("out of memory")]
+    Memory,
+}
+
+impl From<AllocError> for ReplayFault {
+    ghost from_gives = { λ _ e. e ≡ OutOfMemory };
+
+    fn from(_e: AllocError) -> ReplayFault {
+        ReplayFault::Memory
+    }
+}
+
+impl From<OpenFault> for ReplayFault {
+    ghost from_gives = { λ fault e. e ≡ of_opening fault };
+
+    fn from(fault: OpenFault) -> ReplayFault {
+        match fault {
+            OpenFault::Memory => ReplayFault::Memory,
+            fault => ReplayFault::Open(fault),
+        }
+    }
+}
+
+/// Replies to a line: runs its command, if it has one.
+fn reply_to_line(alloc: Global, roles: &Roles, session: &mut Session, line: &[u8]) -> Reply
+    requires { length roles.now ≡ length session.old.types }
+    ensures types { session.new.types ≡ session.old.types }
+    ensures reply { RepliesTo roles.now (map plain session.old.types) line.now session.old.state result session.new.state }
+{
+    if line.len() > MAX_LINE || !line.is_ascii() {
+        return Reply::BadLine;
+    }
+    match read_script_line(alloc, roles, line) {
+        Ok(request) => {
+            let (role, command) = request;
+            Reply::of(session.forward(role, command))
+        }
+        Err(LineFault::Bad) => Reply::BadLine,
+        Err(LineFault::Memory) => Reply::Refused(Refusal::Memory),
+    }
+}
+
+/// Answers a line, whose answer goes behind the others.
+fn answer_line(
+    alloc: Global,
+    roles: &Roles,
+    session: &mut Session,
+    line: &[u8],
+    answers: &mut Vec<u8>,
+) -> Result<(), AllocError>
+    requires { length roles.now ≡ length session.old.types }
+    ensures types { session.new.types ≡ session.old.types }
+    ensures answer { OnOk result ((text : List ℕ) × (answers.new.items ≡ answers.old.items ++ ended text)
+        × AnswersLine roles.now (map plain session.old.types) line.now session.old.state text session.new.state) }
+{
+    let reply = reply_to_line(alloc, roles, session, line);
+    reply.write(answers)?;
+    answers.push(b'\n')?;
+    Ok(())
+}
+
+/// A script while it runs.
+#[derive(Drop)]
+struct Run {
+    roles: Roles,
+    session: Session,
+    // the front of the line that comes
+    line: Vec<u8>,
+    // the answers that wait to be written
+    answers: Vec<u8>,
+    alloc: Global,
+}
+
+impl Run {
+    /// Answers the line that came, and begins the next.
+    fn end_line(&mut self) -> Result<(), AllocError>
+        requires { length self.old.roles ≡ length self.old.session.types }
+        ensures roles { self.new.roles ≡ self.old.roles }
+        ensures types { self.new.session.types ≡ self.old.session.types }
+        ensures next { OnOk result (self.new.line.items ≡ []) }
+        ensures answer { OnOk result ((text : List ℕ) × (self.new.answers.items ≡ self.old.answers.items ++ ended text)
+            × AnswersLine self.old.roles (map plain self.old.session.types) self.old.line.items self.old.session.state text self.new.session.state) }
+    {
+        let line = self.line.as_slice();
+        answer_line(
+            self.alloc,
+            &self.roles,
+            &mut self.session,
+            line,
+            &mut self.answers,
+        )?;
+        self.line.clear();
+        Ok(())
+    }
+
+    /// Takes the next bytes, and answers each line that they end.
+    fn feed(&mut self, bytes: &[u8]) -> Result<(), AllocError>
+        requires named { length self.old.roles ≡ length self.old.session.types }
+        requires kept { length self.old.line.items ≤ 513 }
+        ensures roles { self.new.roles ≡ self.old.roles }
+        ensures types { self.new.session.types ≡ self.old.session.types }
+        ensures kept { OnOk result (length self.new.line.items ≤ 513) }
+        ensures answered { OnOk result ((before out : List ℕ)
+            → Answered self.old.roles (map plain self.old.session.types) initial before self.old.line.items out self.old.session.state
+            → (more : List ℕ) × (self.new.answers.items ≡ self.old.answers.items ++ more)
+            × Answered self.old.roles (map plain self.old.session.types) initial (before ++ bytes.now) self.new.line.items (out ++ more) self.new.session.state) }
+    {
+        let mut rest = bytes;
+        while let Some(k) = line_end(rest) {
+            keep(&mut self.line, &rest[..k])?;
+            self.end_line()?;
+            rest = &rest[k + 1..];
+        }
+        keep(&mut self.line, rest)
+    }
+
+    /// Answers a last line that no LF ends, if there is one.
+    fn finish(&mut self) -> Result<(), AllocError>
+        requires { length self.old.roles ≡ length self.old.session.types }
+        ensures roles { self.new.roles ≡ self.old.roles }
+        ensures types { self.new.session.types ≡ self.old.session.types }
+        ensures answered { OnOk result ((bytes out : List ℕ)
+            → Answered self.old.roles (map plain self.old.session.types) initial bytes self.old.line.items out self.old.session.state
+            → (more : List ℕ) × (self.new.answers.items ≡ self.old.answers.items ++ more)
+            × AnsweredAll self.old.roles (map plain self.old.session.types) bytes (out ++ more) self.new.session.state) }
+        ensures kept { OnOk result (self.new.line.items ≡ []) }
+    {
+        if self.line.is_empty() {
+            return Ok(());
+        }
+        self.end_line()
+    }
+}
+
+/// Writes the answers that wait.
+fn send_answers<W: Sink>(writer: &mut W, answers: &mut Vec<u8>) -> Result<(), Failed>
+    requires { W.failed_calls writer.old < 2 ^ 63 }
+    ensures sent { OnOk result (Appends (W.taken writer.old) (W.taken writer.new) answers.old.items) }
+    ensures none_wait { OnOk result (answers.new.items ≡ []) }
+    ensures counted { OnOk result (W.failed_calls writer.new ≡ W.failed_calls writer.old) }
+    ensures failed { OnErr result (W.failed_calls writer.new ≡ W.failed_calls writer.old + 1) }
+    ensures front { OnErr result (TookFront (W.taken writer.old) (W.taken writer.new) answers.old.items) }
+{
+    send_all(writer, answers.as_slice())?;
+    answers.clear();
+    Ok(())
+}
+
+/// Reads once, and writes the answers to the lines that are whole then. Says whether that was the end.
+fn turn<R: Source, W: Sink>(
+    reader: &mut R,
+    writer: &mut W,
+    run: &mut Run,
+    block: &mut [u8],
+) -> Result<bool, ReplayFault>
+    requires named { length run.old.roles ≡ length run.old.session.types }
+    requires short { length run.old.line.items ≤ 513 }
+    requires none_wait { run.old.answers.items ≡ [] }
+    requires room { 0 < length block.old }
+    requires reads { R.calls reader.old < 2 ^ 63 }
+    requires writes { W.failed_calls writer.old < 2 ^ 63 }
+    ensures roles { run.new.roles ≡ run.old.roles }
+    ensures types { run.new.session.types ≡ run.old.session.types }
+    ensures short { OnOk result (length run.new.line.items ≤ 513) }
+    ensures none_wait { OnOk result (run.new.answers.items ≡ []) }
+    ensures calls { R.calls reader.new ≡ R.calls reader.old + 1 }
+    ensures reads_well { OnOk result (R.failed_calls reader.new ≡ R.failed_calls reader.old) }
+    ensures writes_well { OnOk result (W.failed_calls writer.new ≡ W.failed_calls writer.old) }
+    ensures read_fault { IsErrOf result ReplayFault.ReadFault → R.failed_calls reader.new ≡ R.failed_calls reader.old + 1 }
+    ensures write_fault { IsErrOf result ReplayFault.WriteFault → W.failed_calls writer.new ≡ W.failed_calls writer.old + 1 }
+    ensures step { (given took : Option (List ℕ))
+        → Going run.old.roles (map plain run.old.session.types) given (R.remaining reader.old) took (W.taken writer.old) run.old.line.items run.old.session.state
+        → AfterTurn result
+        (Finished run.old.roles (map plain run.old.session.types) given (R.remaining reader.new) took (W.taken writer.new) run.new.session.state)
+        (Going run.old.roles (map plain run.old.session.types) given (R.remaining reader.new) took (W.taken writer.new) run.new.line.items run.new.session.state)
+        (Going run.old.roles (map plain run.old.session.types) given (R.remaining reader.new) took (W.taken writer.new) run.old.line.items run.old.session.state)
+        (Cut run.old.roles (map plain run.old.session.types) given (R.remaining reader.new) took (W.taken writer.new)) }
+{
+    let Ok(count) = reader.read(block) else {
+        return Err(ReplayFault::ReadFault);
+    };
+    if count == 0 {
+        run.finish()?;
+        if send_answers(writer, &mut run.answers).is_err() {
+            return Err(ReplayFault::WriteFault);
+        }
+        return Ok(true);
+    }
+    run.feed(&block[..count])?;
+    if send_answers(writer, &mut run.answers).is_err() {
+        return Err(ReplayFault::WriteFault);
+    }
+    Ok(false)
+}
+
+/// A script on a new session, of which nothing was read yet.
+fn begin(alloc: Global, roles: Roles, types: Vec<Local>) -> Result<Run, OpenFault>
+    ensures roles { IfOk result (λ run. run.roles ≡ roles) }
+    ensures session { IfOk result (λ run. run.session ≡ record { types = types.items; state = initial }) }
+    ensures line { IfOk result (λ run. run.line.items ≡ []) }
+    ensures answers { IfOk result (λ run. run.answers.items ≡ []) }
+    ensures can { OnOk result (CanOpen (map plain types.items)) }
+    ensures faults { (fault : OpenFault) → IsErrOf result fault → KeepsShut (map plain types.items) fault }
+{
+    Ok(Run {
+        roles,
+        session: Session::open(alloc, types)?,
+        line: Vec::new(alloc),
+        answers: Vec::new(alloc),
+        alloc,
+    })
+}
+
+/// Runs the script that the reader gives, on a new session of these roles and types, and writes an answer to each line.
+///
+/// The answers to the lines of one read are written before the next read. A last line needs no LF. The reader is asked for
+/// `BLOCK` bytes at a time, `MAX_READS` times at most.
+pub fn run_script<R: Source, W: Sink>(
+    alloc: Global,
+    reader: &mut R,
+    writer: &mut W,
+    roles: Roles,
+    types: Vec<Local>,
+) -> Result<Session, ReplayFault>
+    requires named { length roles ≡ length types.items }
+    requires reads { R.calls reader.old < 2 ^ 62 }
+    requires writes { W.failed_calls writer.old < 2 ^ 62 }
+    ensures types { IfOk result (λ session. session.types ≡ types.items) }
+    ensures done { IfOk result (λ session. Finished roles (map plain types.items) (R.remaining reader.old) (R.remaining reader.new) (W.taken writer.old) (W.taken writer.new) session.state) }
+    ensures opened { OnOk result (CanOpen (map plain types.items)) }
+    ensures shut { (fault : OpenFault) → IsErrOf result (ReplayFault.Open fault) → (R.remaining reader.new ≡ R.remaining reader.old) × (W.taken writer.new ≡ W.taken writer.old) × KeepsShut (map plain types.items) fault }
+    ensures read_fault { IsErrOf result ReplayFault.ReadFault → Stopped roles (map plain types.items) (R.remaining reader.old) (R.remaining reader.new) (W.taken writer.old) (W.taken writer.new)
+        × (R.failed_calls reader.new ≡ R.failed_calls reader.old + 1) }
+    ensures turns { IsErrOf result ReplayFault.Turns → Stopped roles (map plain types.items) (R.remaining reader.old) (R.remaining reader.new) (W.taken writer.old) (W.taken writer.new)
+        × (R.calls reader.new ≡ R.calls reader.old + 1000000) }
+    ensures write_fault { IsErrOf result ReplayFault.WriteFault → Cut roles (map plain types.items) (R.remaining reader.old) (R.remaining reader.new) (W.taken writer.old) (W.taken writer.new)
+        × (W.failed_calls writer.new ≡ W.failed_calls writer.old + 1) }
+    ensures memory { IsErrOf result ReplayFault.Memory → Cut roles (map plain types.items) (R.remaining reader.old) (R.remaining reader.new) (W.taken writer.old) (W.taken writer.new) }
+    ensures calls { R.calls reader.new ≤ R.calls reader.old + 1000000 }
+    ensures reads_well { OnOk result (R.failed_calls reader.new ≡ R.failed_calls reader.old) }
+    ensures writes_well { OnOk result (W.failed_calls writer.new ≡ W.failed_calls writer.old) }
+{
+    let mut run = begin(alloc, roles, types)?;
+    let mut block = vec![in alloc; 0u8; BLOCK]?;
+    for _ in 0..MAX_READS {
+        if turn(reader, writer, &mut run, block.as_mut_slice())? {
+            return Ok(run.session);
+        }
+    }
+    Err(ReplayFault::Turns)
+}
