@@ -1,6 +1,7 @@
 -- What the machine answers, from what a session keeps.
 use Rattle.std.proofs.Common.{◌≡◌, ℕ, ◌+◌, ◌*◌, ◌<◌, ◌≤◌, List, [], ◌∷◌, ◌++◌, length, drop, get_or, set, map, Option, Some, None, Result, Ok, Err, refl, sym, ap, ◌∙◌, subst, arith}
-use Rattle.std.specs.Prelude.{nat_lt, is_ok}
+use Rattle.std.specs.Prelude.{nat_lt, is_ok, IsErrAnd}
+use Rattle.std.proofs.lemmas.Result.{err_from_is_err_and}
 use Rattle.std.proofs.lemmas.Nat.{mul-add-lt}
 use Rattle.std.proofs.lemmas.Bool.{cond-true, cond-false, lt-ltb, le-ltb}
 use Rattle.mps_base.specs.declared.action.Act.{Act}
@@ -133,11 +134,11 @@ module _ (s : Inside) (now : Machine) (is : ◌≡◌ {A = Machine} (record { ty
       receipt_moves : moved (view_of (map plain s.types.items) s.history.items) p (In from (Some slot)) ≡ m
       receipt_moves = ap first_of (sym (kept.held.queues from p receipt_peer in_types)) ∙ sym first
 
-      pub receipt_done : s.next ≤ most_numbers → forward (map plain now.types) now.state p (In from (Some slot)) ≡ (Ok (record { id = s.next; got = m }), accepted (state_of s) p (In from (Some slot)))
+      pub receipt_done : s.next ≤ most_numbers → forward (map plain now.types) now.state p (In from (Some slot)) ≡ (Ok (record { id = s.next; got = Some (Plain x) }), accepted (state_of s) p (In from (Some slot)))
       receipt_done room =
           sym (machine_is (In from (Some slot)))
           ∙ answers_done (map plain s.types.items) (state_of s) p (In from (Some slot)) (receipt_fault_is ∙ fine) room
-          ∙ ap (λ (g : Option Message). let r : Result Done Refusal × State = (Ok (record { id = s.next; got = g }), accepted (state_of s) p (In from (Some slot))) in r) receipt_moves
+          ∙ ap (λ (g : Option Message). let r : Result Done Refusal × State = (Ok (record { id = s.next; got = g }), accepted (state_of s) p (In from (Some slot))) in r) (receipt_moves ∙ value)
 
       pub receipt_holds : Holds (map plain s.types.items) (set (map plain s.to_come.items) p (rest_of (type_at (map plain s.to_come.items) p))) (set s.stores.items p (bound slot x (get_or s.stores.items p []))) (set s.queues.items (from * length (map plain s.types.items) + p) (drop 1 (get_or s.queues.items (from * length (map plain s.types.items) + p) []))) (accepted (state_of s) p (In from (Some slot)))
       receipt_holds =
@@ -146,8 +147,11 @@ module _ (s : Inside) (now : Machine) (is : ◌≡◌ {A = Machine} (record { ty
           from slot x receipt_still (sym first ∙ value)
 
 -- where the machine accepts, memory may run out
-pub out_of_memory : (r : Result Done Refusal) (a : Done) (st : State) (answer : Result Done Refusal × State) → answer ≡ (Ok a, st) → r ≡ Err Memory → IsAnswer r answer.0
-out_of_memory r a st answer e is = rw is (ap is_ok (ap (λ (x : Result Done Refusal × State). x.0) e))
+pub out_of_memory : (r : Result Done Refusal) (a : Done) (st : State) (answer : Result Done Refusal × State) → answer ≡ (Ok a, st) → IsErrAnd r (λ e. e ≡ Memory) → IsAnswer r answer.0
+out_of_memory r a st answer e failed =
+    let p = err_from_is_err_and r failed in
+    let is : r ≡ Err Memory = p.1 ∙ ap Err p.2 in
+    rw is (ap is_ok (ap (λ (x : Result Done Refusal × State). x.0) e))
 
 -- the same, spelled otherwise
 pub holds_by : (types coming coming' : List LocalType) (kept kept' : List Store) (waiting waiting' : List (List Message)) (st st' : State) → coming ≡ coming' → kept ≡ kept' → waiting ≡ waiting' → st ≡ st' → Holds types coming kept waiting st → Holds types coming' kept' waiting' st'

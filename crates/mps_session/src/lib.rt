@@ -11,3 +11,6 @@ mod store;
 pub use mps_machine::{Done, Forward, Refusal, Violation};
 pub use open::OpenFault;
 pub use session::Session;
+
+#[cfg(test)]
+mod tests;
