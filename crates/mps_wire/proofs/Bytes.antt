@@ -1,5 +1,5 @@
 -- Known bytes, over several calls of a device.
-use Rattle.std.proofs.Common.{◌≡◌, ℕ, ◌+◌, ◌-◌, ◌≤◌, List, [], ◌++◌, length, take, drop, Option, Some, None, refl, sym, ap, ◌∙◌, subst, arith, append_assoc, append-nil, length-drop}
+use Rattle.std.proofs.Common.{◌≡◌, ℕ, ◌+◌, ◌-◌, ◌≤◌, List, [], ◌++◌, length, take, drop, Option, Some, None, refl, sym, ap, ◌∙◌, subst, arith, append_assoc, append-nil, length-drop, length-take, length-append}
 use Rattle.std.specs.Io.KnownBytes.{Appends, Consumes}
 use Rattle.std.proofs.Math.Seq.{take-add}
 use Rattle.std.proofs.lemmas.List.{take_rest, drop-drop}
@@ -43,3 +43,7 @@ sends_on old mid new bytes rest count s few more =
       sent = subst (Appends old new) (sym (take-add n count bytes) ∙ ap (λ k. take k bytes) (sym past)) (Appends-trans old mid new (take n bytes) (take count (drop n bytes)) s.sent (subst (λ l. Appends mid new (take count l)) s.left more));
     } in
     subst (Sending old new bytes) (sym is) goal
+
+-- a buffer that was read into is as long as before
+pub same_room : (len n : ℕ) (new items : List ℕ) → len ≡ length items → length items ≡ n → length (take len (new ++ drop (length new) items)) ≡ n
+same_room len n new items e f = omega (arith, e, f, length-take len (new ++ drop (length new) items), length-append new (drop (length new) items), length-drop (length new) items)

@@ -1,5 +1,5 @@
 -- What one read and its answers lead to.
-use Rattle.std.proofs.Common.{◌≡◌, ◌≢◌, ℕ, List, [], ◌∷◌, ◌++◌, take, drop, Bool, Option, Result, Err, refl, sym, ap, ◌∙◌, subst, ⊎_elim, append_assoc, append-nil}
+use Rattle.std.proofs.Common.{◌≡◌, ◌≢◌, ℕ, List, [], ◌∷◌, ◌++◌, take, drop, Bool, Option, Result, Ok, Err, IsErrAnd, refl, sym, ap, ◌∙◌, subst, ⊎_elim, append_assoc, append-nil}
 use Rattle.std.specs.Io.KnownBytes.{Appends, Consumes, IsAtEnd}
 use Rattle.std.proofs.lemmas.Bool.{cases_eq}
 use Rattle.std.proofs.lemmas.List.{take-append-drop}
@@ -86,7 +86,7 @@ module _ (names : List (List ℕ)) (types : List LocalType) where
     }
 
     -- memory ran out after more was read
-    pub starved : (bytes : List ℕ) → Consumes left left' bytes → Cut names types given left' took now
+    starved : (bytes : List ℕ) → Consumes left left' bytes → Cut names types given left' took now
     starved bytes more = record {
       read = going.read ++ bytes;
       written = going.out;
@@ -94,6 +94,11 @@ module _ (names : List (List ℕ)) (types : List LocalType) where
       sent = going.sent;
       answered = part_of going.read bytes kept going.out going.out [] st going.answered (sym (append-nil going.out));
     }
+
+    pub runs_out : (r : Result Bool ReplayFault) (at_end before_it stopped : Type 0) → IsErrAnd r (λ e. e ≡ Memory) → (bytes : List ℕ) → Consumes left left' bytes → AfterTurn r at_end before_it stopped (Cut names types given left' took now)
+    runs_out (Ok x) at_end before_it stopped h bytes more = absurd h
+    runs_out (Err e) at_end before_it stopped h bytes more =
+        subst (λ (fault : ReplayFault). AfterTurn (Err fault) at_end before_it stopped (Cut names types given left' took now)) (sym h) (starved bytes more)
 
     module _ (now' : Option (List ℕ)) (bytes kept' waiting answers : List ℕ) (st' : State) (none_waits : waiting ≡ []) (more : Consumes left left' bytes) (fed : (before out : List ℕ) → Answered names types initial before kept out st → (new : List ℕ) × (answers ≡ waiting ++ new) × Answered names types initial (before ++ bytes) kept' (out ++ new) st') where
       pub goes_on : Appends now now' answers → Going names types given left' took now' kept' st'
@@ -150,9 +155,6 @@ module _ (names : List (List ℕ)) (types : List LocalType) where
 
 pub none_taken : (left left' : Option (List ℕ)) (count : ℕ) (buf : List ℕ) → count ≡ 0 → Consumes left left' (take count buf) → Consumes left left' []
 none_taken left left' count buf e h = subst (λ (n : ℕ). Consumes left left' (take n buf)) e h
-
-pub after_memory : (r : Result Bool ReplayFault) (at_end before_it stopped cut : Type 0) → r ≡ Err Memory → cut → AfterTurn r at_end before_it stopped cut
-after_memory r at_end before_it stopped cut e h = subst (λ (x : Result Bool ReplayFault). AfterTurn x at_end before_it stopped cut) (sym e) h
 
 module _ (names : List (List ℕ)) (types : List LocalType) (left taken : Option (List ℕ)) where
   -- nothing was read or written yet

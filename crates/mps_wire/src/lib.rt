@@ -4,3 +4,5 @@
 pub mod flow;
 pub mod lines;
 pub mod script;
+#[cfg(test)]
+mod tests;

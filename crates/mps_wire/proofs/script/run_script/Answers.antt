@@ -1,4 +1,5 @@
-use Rattle.std.proofs.Common.{◌≡◌, ℕ, List, length, Ok, Err, refl, sym, ap, ◌∙◌, arith, take, drop, ◌++◌, length-take, length-append, length-drop}
+use Rattle.std.proofs.Common.{length, Ok, Err, refl, sym, ap, ◌∙◌, arith}
+use Rattle.mps_wire.proofs.Bytes.{same_room}
 use Rattle.mps_wire.proofs.Turning.{begun, starved_first}
 use Rattle.mps_wire.proofs.Running.{at_end, before_end, unread, unwritten, out_of_memory, not_open, not_turns}
 use Rattle.mps_wire.proofs.script.run_script.Goals as goal
@@ -8,9 +9,6 @@ returns-in_err-run-clause-memory g c = λ e. starved_first _ _ _ _
 
 pub returns-in_err-block-clause-memory : goal.returns-in_err-block-clause-memory
 returns-in_err-block-clause-memory g c = λ e. starved_first _ _ _ _
-
-same_room : (len : ℕ) (new items : List ℕ) → len ≡ length items → length items ≡ 65536 → length (take len (new ++ drop (length new) items)) ≡ 65536
-same_room len new items n e = omega (arith, n, e, length-take len (new ++ drop (length new) items), length-append new (drop (length new) items), length-drop (length new) items)
 
 pub loop-init : goal.loop-init
 loop-init g c = record {
@@ -57,7 +55,7 @@ loop-preserved g c = record {
   types = c.in_ok-turn.ensures.types ∙ c.loop.invariant.types;
   short = c.in_ok-turn.ensures.short;
   none_waits = c.in_ok-turn.ensures.none_wait;
-  room = same_room c.loop.block.len c.turn.new.block c.loop.block.items c.loop.block.ok.0 c.loop.invariant.room;
+  room = same_room c.loop.block.len 65536 c.turn.new.block c.loop.block.items c.loop.block.ok.0 c.loop.invariant.room;
   calls = omega (arith, c.in_ok-turn.ensures.calls, c.loop.invariant.calls);
   none_unread = c.in_ok-turn.ensures.reads_well ∙ c.loop.invariant.none_unread;
   none_unsent = c.in_ok-turn.ensures.writes_well ∙ c.loop.invariant.none_unsent;

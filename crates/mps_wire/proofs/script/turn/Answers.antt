@@ -1,13 +1,11 @@
-use Rattle.std.proofs.Common.{rules, [], take, Err, ap, ◌∙◌}
-use Rattle.std.proofs.lemmas.Result.{err_from_is_err_and}
-use Rattle.mps_wire.proofs.Turning.{after_memory, starved, goes_on, breaks_off, ends, end_breaks_off, none_taken}
+use Rattle.std.proofs.Common.{rules, [], take}
+use Rattle.mps_wire.proofs.Turning.{runs_out, goes_on, breaks_off, ends, end_breaks_off, none_taken}
 use Rattle.mps_wire.proofs.script.turn.Goals as goal
 
 pub returns-in_err-finish-clause-step : goal.returns-in_err-finish-clause-step
 returns-in_err-finish-clause-step g c = λ given took h.
-    let p = err_from_is_err_and c.from_residual.result c.from_residual.ensures.1 in
-    let cut = starved _ _ given _ _ took _ _ _ h [] (none_taken _ _ c.in-Ok.count c.read.new.buf c.if-count-eq0.true c.in-Ok.ensures.bytes.0) in
-    after_memory _ _ _ _ _ (p.1 ∙ ap Err p.2) cut
+    runs_out _ _ given _ _ took _ _ _ h _ _ _ _ c.from_residual.ensures.1 []
+    (none_taken _ _ c.in-Ok.count c.read.new.buf c.if-count-eq0.true c.in-Ok.ensures.bytes.0)
 
 pub returns-then-is_err-clause-step : goal.returns-then-is_err-clause-step
 returns-then-is_err-clause-step g c = λ given took h.
@@ -21,9 +19,7 @@ returns-then-count-eq0-clause-step g c = λ given took h.
 
 pub returns-in_err-feed-clause-step : goal.returns-in_err-feed-clause-step
 returns-in_err-feed-clause-step g c = λ given took h.
-    let p = err_from_is_err_and c.from_residual-in_err-feed.result c.from_residual-in_err-feed.ensures.1 in
-    let cut = starved _ _ given _ _ took _ _ _ h (take c.in-Ok.count c.read.new.buf) c.in-Ok.ensures.bytes.0 in
-    after_memory _ _ _ _ _ (p.1 ∙ ap Err p.2) cut
+    runs_out _ _ given _ _ took _ _ _ h _ _ _ _ c.from_residual-in_err-feed.ensures.1 (take c.in-Ok.count c.read.new.buf) c.in-Ok.ensures.bytes.0
 
 pub returns-then-is_err-2-clause-step : goal.returns-then-is_err-2-clause-step
 returns-then-is_err-2-clause-step g c = λ given took h.

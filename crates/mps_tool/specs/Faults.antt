@@ -1,0 +1,74 @@
+-- How faults are told.
+use Rattle.std.specs.Prelude.{◌≡◌, ℕ, List, codes, ◌++◌}
+use Rattle.std.specs.String.{string_bytes}
+use Rattle.mps_base.specs.Numbers.{IsNumberText}
+use Rattle.mps_global.specs.declared.faults.GlobalFault.{GlobalFault}
+use Rattle.mps_global.specs.declared.faults.GlobalFault.TheVariants.{RoleCount, DoubleRole, TooManyNodes as ManyNodes, TooDeep as Deep, UnknownRole, SelfMessage}
+use Rattle.mps_text.specs.declared.fault.TextKind.{TextKind}
+use Rattle.mps_text.specs.declared.fault.TextKind.TheVariants.{TooLong, Word, Unexpected, TooManyNodes, TooDeep, Trailing, Memory as NoRoom}
+use Rattle.mps_wire.specs.declared.script.ReplayFault.{ReplayFault}
+use Rattle.mps_wire.specs.declared.script.ReplayFault.TheVariants.{Open as NotOpened, ReadFault, WriteFault, Turns as TooManyReads, Memory as OutOfMemory}
+use Rattle.mps_tool.specs.declared.fault.ToolFault.{ToolFault}
+use Rattle.mps_tool.specs.declared.fault.ToolFault.TheVariants.{Usage, File, Text, Protocol, Open, Read, Write, Turns, Memory}
+
+-- the word for a fault of a text
+abbrev pub text_word : TextKind → List ℕ
+text_word TooLong = codes "toolong"
+text_word Word = codes "word"
+text_word Unexpected = codes "unexpected"
+text_word TooManyNodes = codes "toomanynodes"
+text_word TooDeep = codes "toodeep"
+text_word Trailing = codes "trailing"
+text_word NoRoom = codes "memory"
+
+-- the word for a fault of a protocol
+abbrev pub protocol_word : GlobalFault → List ℕ
+protocol_word RoleCount = codes "rolecount"
+protocol_word DoubleRole = codes "doublerole"
+protocol_word ManyNodes = codes "toomanynodes"
+protocol_word Deep = codes "toodeep"
+protocol_word UnknownRole = codes "unknownrole"
+protocol_word SelfMessage = codes "selfmessage"
+
+-- the line that tells the fault
+abbrev pub IsFaultLine : List ℕ → ToolFault → Type 0
+IsFaultLine line (Usage text) = line ≡ string_bytes text
+IsFaultLine line (File name) = line ≡ codes "refused file " ++ name.now
+IsFaultLine line (Text at kind) =
+    (number : List ℕ) × (line ≡ codes "refused text " ++ text_word kind ++ codes " " ++ number) × IsNumberText number at
+IsFaultLine line (Protocol fault) = line ≡ codes "refused protocol " ++ protocol_word fault
+IsFaultLine line Open = line ≡ codes "refused open"
+IsFaultLine line Read = line ≡ codes "refused read"
+IsFaultLine line Write = line ≡ codes "refused write"
+IsFaultLine line Turns = line ≡ codes "refused turns"
+IsFaultLine line Memory = line ≡ codes "refused memory"
+
+-- 2 for the words and the files, 3 for the protocol, 4 for a device and for memory
+abbrev pub status_of : ToolFault → ℕ
+status_of (Usage text) = 2
+status_of (File name) = 2
+status_of (Text at kind) = 3
+status_of (Protocol fault) = 3
+status_of Open = 3
+status_of Read = 4
+status_of Write = 4
+status_of Turns = 4
+status_of Memory = 4
+
+-- a fault of a text, as the program tells it
+abbrev pub of_text : ℕ → TextKind → ToolFault
+of_text at NoRoom = Memory
+of_text at TooLong = Text at TooLong
+of_text at Word = Text at Word
+of_text at Unexpected = Text at Unexpected
+of_text at TooManyNodes = Text at TooManyNodes
+of_text at TooDeep = Text at TooDeep
+of_text at Trailing = Text at Trailing
+
+-- why a script was not run to its end, as the program tells it
+abbrev pub of_script : ReplayFault → ToolFault
+of_script (NotOpened fault) = Open
+of_script ReadFault = Read
+of_script WriteFault = Write
+of_script TooManyReads = Turns
+of_script OutOfMemory = Memory

@@ -1,0 +1,160 @@
+//! What the program says when it can't go on.
+ghost use Rattle.std.specs.Prelude.{◌≡◌, OnOk, IfOk};
+ghost use Rattle.mps_base.specs.Appends.{Appends};
+ghost use Rattle.mps_tool.specs.Faults.{IsFaultLine, of_script, of_text, protocol_word, status_of, text_word};
+ghost use Rattle.mps_tool.specs.declared.fault.ToolFault.TheVariants.{Memory as OutOfMemory, Protocol as OfProtocol};
+
+use mps_base::write_number;
+use mps_global::GlobalFault;
+use mps_text::{TextFault, TextKind};
+use mps_wire::script::ReplayFault;
+use std::alloc::{AllocError, AllocFailed, Global};
+
+/// Why the program didn't do what it was told.
+#[derive(Debug, Drop)]
+pub enum ToolFault<'a> {
+    /// The words are none of the program's; the text says how to use it.
+    Usage { text: String },
+    /// The file can't be opened.
+    File { name: &'a str },
+    /// The protocol's text has a fault.
+    Text { at: usize, kind: TextKind },
+    /// The protocol has a fault.
+    Protocol { fault: GlobalFault },
+    /// No session can be opened with the types.
+    Open,
+    /// A file can't be read.
+    Read,
+    /// The answers can't be written.
+    Write,
+    /// The script was read from too often.
+    Turns,
+    /// Memory ran out.
+    Memory,
+}
+
+impl From<AllocError> for ToolFault<'_> {
+    ghost from_gives = { λ _ fault. fault ≡ OutOfMemory };
+
+    fn from(_: AllocError) -> Self {
+        ToolFault::Memory
+    }
+}
+
+impl<T: Drop> From<AllocFailed<T>> for ToolFault<'_> {
+    ghost from_gives = { λ _ fault. fault ≡ OutOfMemory };
+
+    fn from(_: AllocFailed<T>) -> Self {
+        ToolFault::Memory
+    }
+}
+
+impl From<TextFault> for ToolFault<'_> {
+    ghost from_gives = { λ f fault. fault ≡ of_text f.at f.kind };
+
+    fn from(fault: TextFault) -> Self {
+        match fault.kind {
+            TextKind::Memory => ToolFault::Memory,
+            kind => ToolFault::Text { at: fault.at, kind },
+        }
+    }
+}
+
+impl From<GlobalFault> for ToolFault<'_> {
+    ghost from_gives = { λ f fault. fault ≡ OfProtocol f };
+
+    fn from(fault: GlobalFault) -> Self {
+        ToolFault::Protocol { fault }
+    }
+}
+
+impl From<ReplayFault> for ToolFault<'_> {
+    ghost from_gives = { λ f fault. fault ≡ of_script f };
+
+    fn from(fault: ReplayFault) -> Self {
+        match fault {
+            ReplayFault::Open(_) => ToolFault::Open,
+            ReplayFault::ReadFault => ToolFault::Read,
+            ReplayFault::WriteFault => ToolFault::Write,
+            ReplayFault::Turns => ToolFault::Turns,
+            ReplayFault::Memory => ToolFault::Memory,
+        }
+    }
+}
+
+/// The word for a fault of a text.
+fn text_word_of(kind: TextKind) -> &'static str
+    ensures { result.now ≡ text_word kind }
+{
+    match kind {
+        TextKind::TooLong => "toolong",
+        TextKind::Word => "word",
+        TextKind::Unexpected => "unexpected",
+        TextKind::TooManyNodes => "toomanynodes",
+        TextKind::TooDeep => "toodeep",
+        TextKind::Trailing => "trailing",
+        TextKind::Memory => "memory",
+    }
+}
+
+/// The word for a fault of a protocol.
+fn protocol_word_of(fault: GlobalFault) -> &'static str
+    ensures { result.now ≡ protocol_word fault }
+{
+    match fault {
+        GlobalFault::RoleCount => "rolecount",
+        GlobalFault::DoubleRole => "doublerole",
+        GlobalFault::TooManyNodes => "toomanynodes",
+        GlobalFault::TooDeep => "toodeep",
+        GlobalFault::UnknownRole => "unknownrole",
+        GlobalFault::SelfMessage => "selfmessage",
+    }
+}
+
+/// The line that tells the fault, without a line break. What is said of the words may have several lines.
+pub fn fault_line(alloc: Global, fault: &ToolFault<'_>) -> Result<Vec<u8>, AllocError>
+    ensures { IfOk result (λ line. IsFaultLine line.items fault.now) }
+{
+    let mut line = Vec::new(alloc);
+    write_line(fault, &mut line)?;
+    Ok(line)
+}
+
+/// Writes the line at the end, or a part of it.
+fn write_line(fault: &ToolFault<'_>, out: &mut Vec<u8>) -> Result<(), AllocError>
+    ensures { OnOk result (Appends (λ line. IsFaultLine line fault.now) out.old.items out.new.items) }
+{
+    match fault {
+        ToolFault::Usage { text } => out.extend_from_slice(text.as_bytes()),
+        ToolFault::File { name } => {
+            out.extend_from_slice(b"refused file ")?;
+            out.extend_from_slice(name.as_bytes())
+        }
+        ToolFault::Text { at, kind } => {
+            out.extend_from_slice(b"refused text ")?;
+            out.extend_from_slice(text_word_of(*kind).as_bytes())?;
+            out.push(b' ')?;
+            write_number(*at as u64, out)
+        }
+        ToolFault::Protocol { fault } => {
+            out.extend_from_slice(b"refused protocol ")?;
+            out.extend_from_slice(protocol_word_of(*fault).as_bytes())
+        }
+        ToolFault::Open => out.extend_from_slice(b"refused open"),
+        ToolFault::Read => out.extend_from_slice(b"refused read"),
+        ToolFault::Write => out.extend_from_slice(b"refused write"),
+        ToolFault::Turns => out.extend_from_slice(b"refused turns"),
+        ToolFault::Memory => out.extend_from_slice(b"refused memory"),
+    }
+}
+
+/// The exit status for the fault: 2 for the words and files, 3 for the protocol, 4 for a device and memory.
+pub fn status(fault: &ToolFault<'_>) -> u8
+    ensures { result ≡ status_of fault.now }
+{
+    match fault {
+        ToolFault::Usage { .. } | ToolFault::File { .. } => 2,
+        ToolFault::Text { .. } | ToolFault::Protocol { .. } | ToolFault::Open => 3,
+        ToolFault::Read | ToolFault::Write | ToolFault::Turns | ToolFault::Memory => 4,
+    }
+}

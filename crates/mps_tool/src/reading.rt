@@ -1,0 +1,48 @@
+//! Reading the protocol's text.
+ghost use Rattle.std.specs.Prelude.{◌≡◌, ◌+◌, ◌<◌, ◌≤◌, ◌^◌, ◌++◌, ℕ, List, length, IfOk};
+ghost use Rattle.std.specs.Io.KnownBytes.{Consumes, IsAtEnd};
+
+use crate::fault::ToolFault;
+use mps_dev::Source;
+use mps_text::MAX_TEXT_BYTES;
+use std::alloc::Global;
+
+/// How many bytes are asked for at a time.
+const BLOCK: usize = 65_536;
+
+/// Reads a text to its end, or until it has more bytes than a protocol may have.
+pub fn read_text<'a, R: Source>(alloc: Global, reader: &mut R) -> Result<Vec<u8>, ToolFault<'a>>
+    requires { R.calls reader.old < 2 ^ 62 }
+    ensures bytes { IfOk result (λ text. Consumes (R.remaining reader.old) (R.remaining reader.new) text.items) }
+    ensures most { IfOk result (λ text. length text.items ≤ 131072) }
+    ensures whole { IfOk result (λ text. length text.items ≤ 65536 → IsAtEnd (R.remaining reader.new)) }
+{
+    let mut text = Vec::new(alloc);
+    let mut block = vec![in alloc; 0u8; BLOCK]?;
+    while text.len() <= MAX_TEXT_BYTES {
+        if read_more(reader, block.as_mut_slice(), &mut text)? == 0 {
+            return Ok(text);
+        }
+    }
+    Ok(text)
+}
+
+/// Reads once, and puts what was read behind the text. Gives the number of bytes.
+fn read_more<'a, R: Source>(
+    reader: &mut R,
+    block: &mut [u8],
+    text: &mut Vec<u8>,
+) -> Result<usize, ToolFault<'a>>
+    requires { R.calls reader.old < 2 ^ 63 }
+    ensures calls { R.calls reader.new ≡ R.calls reader.old + 1 }
+    ensures more { IfOk result (λ n. (piece : List ℕ) × (length piece ≡ n) × (text.new.items ≡ text.old.items ++ piece)
+        × Consumes (R.remaining reader.old) (R.remaining reader.new) piece) }
+    ensures most { IfOk result (λ n. n ≤ length block.old) }
+    ensures end { IfOk result (λ n. n ≡ 0 → 0 < length block.old → IsAtEnd (R.remaining reader.new)) }
+{
+    let Ok(count) = reader.read(block) else {
+        return Err(ToolFault::Read);
+    };
+    text.extend_from_slice(&block[..count])?;
+    Ok(count)
+}

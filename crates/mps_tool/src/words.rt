@@ -1,0 +1,40 @@
+//! The words that the program is called with.
+
+use crate::command::Order;
+use crate::fault::ToolFault;
+use clap::{Arg, Command};
+use std::alloc::{AllocError, Global};
+
+/// The commands of the program.
+fn commands<'a>(alloc: Global) -> Result<Command<'a>, AllocError> {
+    let file = Arg::new(alloc, "FILE").help("The protocol").required(true);
+    let script = Arg::new(alloc, "SCRIPT")
+        .help("A command on each line")
+        .required(true);
+    let run = Command::new(alloc, "run")
+        .about("Runs a script and prints the answers")
+        .arg(file)?
+        .arg(script)?;
+    Command::new(alloc, "mps_tool")
+        .about("A monitor for multiparty sessions")
+        .subcommand_required(true)
+        .subcommand(run)
+}
+
+/// Reads the words, of which the first is the program's name.
+pub fn order<'a>(alloc: Global, words: &'a [&'a str]) -> Result<Order<'a>, ToolFault<'a>> {
+    let matches = match commands(alloc)?.try_get_matches_from(words) {
+        Ok(matches) => matches,
+        Err(error) => {
+            return Err(ToolFault::Usage {
+                text: format!(in alloc; "{error}")?,
+            });
+        }
+    };
+    if let Some((_, found)) = matches.subcommand() {
+        if let (Some(file), Some(script)) = (found.get_str("FILE"), found.get_str("SCRIPT")) {
+            return Ok(Order::Run { file, script });
+        }
+    }
+    Err(ToolFault::Memory)
+}

@@ -1,0 +1,193 @@
+use crate::script::{BLOCK, MAX_LINE, ReplayFault, run_script};
+use mps_base::{Name, Role, Roles, Sort};
+use mps_dev::{Pieces, Short};
+use mps_local::Local;
+use mps_session::OpenFault;
+use std::alloc::Global;
+use std::test::Fail;
+
+// An output (at true) or an input of a type, with the peer and the sort.
+type Row = (bool, u8, Sort);
+
+// a gives b a number, and then b gives c one.
+const A_TO_B_TO_C: &[&[Row]] = &[
+    &[(true, 1, Sort::Int)],
+    &[(false, 0, Sort::Int), (true, 2, Sort::Int)],
+    &[(false, 1, Sort::Int)],
+];
+
+const RELAY: &str = "a send b 5\nb recv a x\nb send c 7\nc recv b y\n";
+
+const RELAYED: &str = "done 1\ndone 2 5\ndone 3\ndone 4 7\n";
+
+// How a run went: what was written, and the fault that ended it.
+type Outcome = (Vec<u8>, Option<ReplayFault>);
+
+fn name(text: &str) -> Result<Name, Fail> {
+    Ok(Name::read(text.as_bytes()).ok_or("a name")?)
+}
+
+// The types of these rows, the first role's first.
+fn types(alloc: Global, rows: &[&[Row]]) -> Result<Vec<Local>, Fail> {
+    let mut types = Vec::new(alloc);
+    for row in rows {
+        let mut t = Local::End;
+        for (sends, peer, sort) in row.iter().rev() {
+            let peer = Role::new(*peer);
+            t = if *sends {
+                Local::send(alloc, peer, *sort, t)?
+            } else {
+                Local::recv(alloc, peer, *sort, t)?
+            };
+        }
+        types.push(t)?;
+    }
+    Ok(types)
+}
+
+// Runs the pieces as a script of the roles a, b and so on, of a source that fails from a call on, with room for so many bytes.
+fn outcome(
+    alloc: Global,
+    rows: &[&[Row]],
+    pieces: Vec<Vec<u8>>,
+    fails_from: Option<u64>,
+    room: usize,
+) -> Result<Outcome, Fail> {
+    let mut names = vec![in alloc; name("a")?, name("b")?, name("c")?]?;
+    names.truncate(rows.len());
+    let roles = Roles::of(alloc, &names)?;
+    let types = types(alloc, rows)?;
+    if roles.count() != types.len() {
+        return Err("a type for each role".into());
+    }
+    let mut reader = Pieces::new(pieces, fails_from);
+    let mut writer = Short::new(alloc, room)?;
+    let fault = run_script(alloc, &mut reader, &mut writer, roles, types).err();
+    if fault == Some(ReplayFault::Memory) {
+        return Err(ReplayFault::Memory.into());
+    }
+    Ok((Vec::from_slice(alloc, writer.bytes())?, fault))
+}
+
+fn in_one_piece(alloc: Global, text: &str) -> Result<Vec<Vec<u8>>, Fail> {
+    Ok(vec![in alloc; Vec::from_slice(alloc, text.as_bytes())?]?)
+}
+
+fn in_single_bytes(alloc: Global, text: &str) -> Result<Vec<Vec<u8>>, Fail> {
+    let mut pieces = Vec::new(alloc);
+    for byte in text.as_bytes() {
+        pieces.push(vec![in alloc; *byte]?)?;
+    }
+    Ok(pieces)
+}
+
+// The answers to a script that runs to its end.
+fn answers(alloc: Global, rows: &[&[Row]], pieces: Vec<Vec<u8>>) -> Result<Vec<u8>, Fail> {
+    let (written, fault) = outcome(alloc, rows, pieces, None, 200)?;
+    match fault {
+        None => Ok(written),
+        Some(fault) => Err(fault.into()),
+    }
+}
+
+// The fault that ends the run of a script with these types, before anything is written.
+fn fault(alloc: Global, rows: &[&[Row]]) -> Result<Option<ReplayFault>, Fail> {
+    let (written, fault) = outcome(alloc, rows, in_one_piece(alloc, RELAY)?, None, 200)?;
+    if written.is_empty() {
+        Ok(fault)
+    } else {
+        Err("nothing".into())
+    }
+}
+
+#[test]
+fn answers_each_line(rt: HostRuntime) -> Result<(), Fail> {
+    let rows = [
+        (RELAY, RELAYED),
+        ("", ""),
+        ("\n", "refused line\n"),
+        ("a send b 5", "done 1\n"),
+        (
+            "\na send b 5\n\nb recv a x",
+            "refused line\ndone 1\nrefused line\ndone 2 5\n",
+        ),
+        (
+            "b recv a x\na send c 5\na send b true\na send b 5\n",
+            "refused nothingqueued\nrefused wrongpeer\nrefused wrongsort\ndone 1\n",
+        ),
+        ("a send b 9223372036854775807\n", "done 1\n"),
+        ("a send b 9223372036854775808\n", "refused line\n"),
+        ("a send b é\na send b 5\r\n", "refused line\nrefused line\n"),
+    ];
+    for (script, want) in rows {
+        let whole = answers(rt.alloc(), A_TO_B_TO_C, in_one_piece(rt.alloc(), script)?)?;
+        assert_eq!(rt; whole.as_slice(), want.as_bytes(), "whole: {script}");
+        let single = answers(
+            rt.alloc(),
+            A_TO_B_TO_C,
+            in_single_bytes(rt.alloc(), script)?,
+        )?;
+        assert_eq!(rt; single.as_slice(), want.as_bytes(), "in bytes: {script}");
+    }
+    Ok(())
+}
+
+#[test]
+fn answers_long_lines(rt: HostRuntime) -> Result<(), Fail> {
+    let alloc = rt.alloc();
+    for length in [MAX_LINE, MAX_LINE + 1, BLOCK, BLOCK + 1] {
+        let mut script = vec![in alloc; b'a'; length]?;
+        script.extend_from_slice(b"\na send b 5\n")?;
+        let written = answers(alloc, A_TO_B_TO_C, vec![in alloc; script]?)?;
+        assert_eq!(rt;
+            written.as_slice(),
+            b"refused line\ndone 1\n".as_slice(),
+            "of {length}"
+        );
+    }
+    Ok(())
+}
+
+#[test]
+fn ends_at_faults(rt: HostRuntime) -> Result<(), Fail> {
+    let alloc = rt.alloc();
+    let relay = in_one_piece(alloc, RELAY)?;
+    let (written, fault) = outcome(alloc, A_TO_B_TO_C, relay, Some(1), 200)?;
+    assert_eq!(rt; fault, Some(ReplayFault::ReadFault));
+    assert!(rt; written.is_empty());
+
+    let halves = vec![in alloc;
+        Vec::from_slice(alloc, b"a send b 5\nb re")?,
+        Vec::from_slice(alloc, b"cv a x\n")?,
+    ]?;
+    let (written, fault) = outcome(alloc, A_TO_B_TO_C, halves, Some(2), 200)?;
+    assert_eq!(rt; fault, Some(ReplayFault::ReadFault));
+    assert_eq!(rt; written.as_slice(), b"done 1\n".as_slice());
+
+    let relay = in_one_piece(alloc, RELAY)?;
+    let (written, fault) = outcome(alloc, A_TO_B_TO_C, relay, None, 3)?;
+    assert_eq!(rt; fault, Some(ReplayFault::WriteFault));
+    assert_eq!(rt; written.as_slice(), b"don".as_slice());
+    Ok(())
+}
+
+#[test]
+fn refuses_a_message_of_another_sort(rt: HostRuntime) -> Result<(), Fail> {
+    let rows: &[&[Row]] = &[&[(true, 1, Sort::Int)], &[(false, 0, Sort::Text)]];
+    let script = in_one_piece(rt.alloc(), "a send b 5\nb recv a x\n")?;
+    let written = answers(rt.alloc(), rows, script)?;
+    assert_eq!(rt;
+        written.as_slice(),
+        b"done 1\nrefused mismatch\n".as_slice()
+    );
+    Ok(())
+}
+
+#[test]
+fn opens_no_session(rt: HostRuntime) -> Result<(), Fail> {
+    let to_a: &[Row] = &[(true, 0, Sort::Int)];
+    let itself = OpenFault::BadPeer { role: Role::new(0) };
+    let found = fault(rt.alloc(), &[to_a, &[]])?;
+    assert_eq!(rt; found, Some(ReplayFault::Open(itself)));
+    Ok(())
+}
