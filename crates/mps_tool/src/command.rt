@@ -1,8 +1,10 @@
 //! What the program can do.
 
 /// What the program is told to do.
-#[derive(Clone, Copy, Debug, PartialEq, Eq)]
+#[derive(Debug, Drop)]
 pub enum Order<'a> {
+    /// Say how the program is used.
+    Help { text: String },
     /// Run the script on a session of the protocol in the file.
     Run { file: &'a str, script: &'a str },
 }

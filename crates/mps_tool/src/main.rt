@@ -19,6 +19,9 @@ use std::rt::Files;
 use std::{env, fs, io};
 pub use words::order;
 
+#[cfg(test)]
+mod tests;
+
 /// Runs the script on a new session of the protocol, and prints the answers.
 fn run<'a, R: Files + AllocGlobal + Print>(
     rt: &R,
@@ -46,6 +49,12 @@ fn obey<'a, R: Files + AllocGlobal + Print>(
     words: &'a [&'a str],
 ) -> Result<(), ToolFault<'a>> {
     match order(rt.alloc(), words)? {
+        Order::Help { text } => {
+            if println!(rt; "{text}").is_err() {
+                return Err(ToolFault::Write);
+            }
+            Ok(())
+        }
         Order::Run { file, script } => run(rt, file, script),
     }
 }

@@ -7,19 +7,17 @@ use mps_dev::Source;
 use mps_text::MAX_TEXT_BYTES;
 use std::alloc::Global;
 
-/// How many bytes are asked for at a time.
-const BLOCK: usize = 65_536;
-
-/// Reads a text to its end, or until it has more bytes than a protocol may have.
+/// Reads a text to its end, or one byte more of it than a protocol may have.
 pub fn read_text<'a, R: Source>(alloc: Global, reader: &mut R) -> Result<Vec<u8>, ToolFault<'a>>
     requires { R.calls reader.old < 2 ^ 62 }
     ensures bytes { IfOk result (λ text. Consumes (R.remaining reader.old) (R.remaining reader.new) text.items) }
-    ensures most { IfOk result (λ text. length text.items ≤ 131072) }
+    ensures most { IfOk result (λ text. length text.items ≤ 65537) }
     ensures whole { IfOk result (λ text. length text.items ≤ 65536 → IsAtEnd (R.remaining reader.new)) }
 {
     let mut text = Vec::new(alloc);
-    let mut block = vec![in alloc; 0u8; BLOCK]?;
+    let mut block = vec![in alloc; 0u8; MAX_TEXT_BYTES + 1]?;
     while text.len() <= MAX_TEXT_BYTES {
+        block.truncate(MAX_TEXT_BYTES + 1 - text.len());
         if read_more(reader, block.as_mut_slice(), &mut text)? == 0 {
             return Ok(text);
         }

@@ -26,9 +26,12 @@ pub fn order<'a>(alloc: Global, words: &'a [&'a str]) -> Result<Order<'a>, ToolF
     let matches = match commands(alloc)?.try_get_matches_from(words) {
         Ok(matches) => matches,
         Err(error) => {
-            return Err(ToolFault::Usage {
-                text: format!(in alloc; "{error}")?,
-            });
+            let text = format!(in alloc; "{error}")?;
+            let text = format!(in alloc; "{}", text.as_str().trim_end())?;
+            if error.use_stderr() {
+                return Err(ToolFault::Usage { text });
+            }
+            return Ok(Order::Help { text });
         }
     };
     if let Some((_, found)) = matches.subcommand() {

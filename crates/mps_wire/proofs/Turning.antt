@@ -1,5 +1,5 @@
 -- What one read and its answers lead to.
-use Rattle.std.proofs.Common.{◌≡◌, ◌≢◌, ℕ, List, [], ◌∷◌, ◌++◌, take, drop, Bool, Option, Result, Ok, Err, IsErrAnd, refl, sym, ap, ◌∙◌, subst, ⊎_elim, append_assoc, append-nil}
+use Rattle.std.proofs.Common.{◌≡◌, ◌≢◌, ◌+◌, ◌≤◌, ℕ, List, [], ◌∷◌, ◌++◌, take, drop, Bool, Option, Result, Ok, Err, IsErrAnd, refl, sym, ap, ◌∙◌, subst, ⊎_elim, append_assoc, append-nil, arith, length, length-take, length-append}
 use Rattle.std.specs.Io.KnownBytes.{Appends, Consumes, IsAtEnd}
 use Rattle.std.proofs.lemmas.Bool.{cases_eq}
 use Rattle.std.proofs.lemmas.List.{take-append-drop}
@@ -10,7 +10,7 @@ use Rattle.mps_wire.specs.Lines.{IsSplit, with_last}
 use Rattle.mps_wire.specs.Script.{Answered, AnsweredAll, AnsweredInPart}
 use Rattle.mps_wire.specs.declared.script.ReplayFault.{ReplayFault}
 use Rattle.mps_wire.specs.declared.script.ReplayFault.TheVariants.{Memory}
-use Rattle.mps_wire.specs.Runs.{Going, Finished, Cut, AfterTurn}
+use Rattle.mps_wire.specs.Runs.{Going, Finished, Cut, AfterTurn, GaveAtLeast}
 use Rattle.mps_wire.proofs.Bytes.{Appends-trans, Appends-none, Consumes-trans, Consumes-none}
 use Rattle.mps_wire.proofs.Splitting.{split_more, split_ended}
 use Rattle.mps_wire.proofs.Answering.{answered_nothing}
@@ -152,6 +152,19 @@ module _ (names : List (List ℕ)) (types : List LocalType) where
             answered = part_of_all going.read (going.out ++ f.0) (going.out ++ written) (drop front.count f.0) st' f.2
                 (ap (λ (l : List ℕ). going.out ++ l) (sym (take-append-drop front.count f.0)) ∙ sym (append_assoc going.out written (drop front.count f.0)));
           }
+
+pub gave_none : (given : Option (List ℕ)) → GaveAtLeast 0 given given
+gave_none given = record { read = []; bytes = Consumes-none given; many = omega arith }
+
+pub gave_some : (left left' : Option (List ℕ)) (count : ℕ) (buf : List ℕ) → count ≢ 0 → count ≤ length buf → Consumes left left' (take count buf) → GaveAtLeast 1 left left'
+gave_some left left' count buf some within h = record { read = take count buf; bytes = h; many = omega (arith, length-take count buf) }
+
+pub gave_more : (given left left' : Option (List ℕ)) (count : ℕ) → GaveAtLeast count given left → GaveAtLeast 1 left left' → GaveAtLeast (count + 1) given left'
+gave_more given left left' count a b = record {
+  read = a.read ++ b.read;
+  bytes = Consumes-trans given left left' a.read b.read a.bytes b.bytes;
+  many = omega (arith, a.many, b.many, length-append a.read b.read);
+}
 
 pub none_taken : (left left' : Option (List ℕ)) (count : ℕ) (buf : List ℕ) → count ≡ 0 → Consumes left left' (take count buf) → Consumes left left' []
 none_taken left left' count buf e h = subst (λ (n : ℕ). Consumes left left' (take n buf)) e h

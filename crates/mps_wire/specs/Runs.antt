@@ -1,5 +1,5 @@
 -- A script over a source and a sink: given is what the source had left at first, took what the sink had taken.
-use Rattle.std.specs.Prelude.{ℕ, Bool, true, false, List, Option, Result, Ok, Err}
+use Rattle.std.specs.Prelude.{ℕ, ◌≤◌, Bool, true, false, List, Option, Result, Ok, Err, length}
 use Rattle.std.specs.Io.KnownBytes.{Appends, Consumes, IsAtEnd}
 use Rattle.mps_local.specs.Local.{LocalType}
 use Rattle.mps_machine.specs.Machine.{State, initial}
@@ -32,6 +32,12 @@ pub record Finished (names : List (List ℕ)) (types : List LocalType) (given le
   pub over : IsAtEnd left
   pub sent : Appends took taken out
   pub answered : AnsweredAll names types read out st
+
+-- the source gave so many bytes, or more
+pub record GaveAtLeast (count : ℕ) (given left : Option (List ℕ)) : Type 0 where
+  pub read : List ℕ
+  pub bytes : Consumes given left read
+  pub many : count ≤ length read
 
 -- what was written are answers to the first lines of what was read, up to some place in them
 pub record Cut (names : List (List ℕ)) (types : List LocalType) (given left took taken : Option (List ℕ)) : Type 0 where

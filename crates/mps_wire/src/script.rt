@@ -1,12 +1,12 @@
 //! A script over streams.
-ghost use Rattle.std.specs.Prelude.{◌≡◌, ◌↔◌, ◌⊎◌, ◌+◌, ◌<◌, ◌≤◌, ◌^◌, ◌++◌, ℕ, Option, List, [], length, map, OnOk, OnErr, IfOk, IsErr, IsErrOf};
+ghost use Rattle.std.specs.Prelude.{◌≡◌, ◌↔◌, ◌⊎◌, ◌+◌, ◌<◌, ◌≤◌, ◌^◌, ◌++◌, ℕ, false, Option, List, [], length, map, OnOk, OnErr, IfOk, IsErr, IsErrOf};
 ghost use Rattle.std.specs.Io.KnownBytes.{Appends, Consumes, IsAtEnd};
 ghost use Rattle.mps_local.specs.Local.{plain};
 ghost use Rattle.mps_machine.specs.Machine.{initial};
 ghost use Rattle.mps_wire.specs.Lines.{HasNoBreak, ended, front};
 ghost use Rattle.mps_wire.specs.declared.script.ReplayFault.TheVariants.{Memory as OutOfMemory};
 ghost use Rattle.mps_wire.specs.Flow.{TookFront};
-ghost use Rattle.mps_wire.specs.Runs.{Going, Finished, Cut, AfterTurn, Stopped, of_opening, KeepsShut};
+ghost use Rattle.mps_wire.specs.Runs.{Going, Finished, Cut, AfterTurn, Stopped, GaveAtLeast, of_opening, KeepsShut};
 ghost use Rattle.mps_wire.specs.Script.{RepliesTo, AnswersLine, Answered, AnsweredAll, AnsweredInPart};
 ghost use Rattle.mps_session.specs.Peers.{CanOpen};
 ghost use Rattle.mps_session.specs.declared.open.OpenFault.{OpenFault};
@@ -209,6 +209,7 @@ fn turn<R: Source, W: Sink>(
     ensures calls { R.calls reader.new ≡ R.calls reader.old + 1 }
     ensures reads_well { OnOk result (R.failed_calls reader.new ≡ R.failed_calls reader.old) }
     ensures writes_well { OnOk result (W.failed_calls writer.new ≡ W.failed_calls writer.old) }
+    ensures gave { IfOk result (λ over. over ≡ false → GaveAtLeast 1 (R.remaining reader.old) (R.remaining reader.new)) }
     ensures read_fault { IsErrOf result ReplayFault.ReadFault → R.failed_calls reader.new ≡ R.failed_calls reader.old + 1 }
     ensures write_fault { IsErrOf result ReplayFault.WriteFault → W.failed_calls writer.new ≡ W.failed_calls writer.old + 1 }
     ensures step { (given took : Option (List ℕ))
@@ -276,6 +277,7 @@ pub fn run_script<R: Source, W: Sink>(
         × (R.failed_calls reader.new ≡ R.failed_calls reader.old + 1) }
     ensures turns { IsErrOf result ReplayFault.Turns → Stopped roles (map plain types.items) (R.remaining reader.old) (R.remaining reader.new) (W.taken writer.old) (W.taken writer.new)
         × (R.calls reader.new ≡ R.calls reader.old + 1000000) }
+    ensures long { IsErrOf result ReplayFault.Turns → GaveAtLeast 1000000 (R.remaining reader.old) (R.remaining reader.new) }
     ensures write_fault { IsErrOf result ReplayFault.WriteFault → Cut roles (map plain types.items) (R.remaining reader.old) (R.remaining reader.new) (W.taken writer.old) (W.taken writer.new)
         × (W.failed_calls writer.new ≡ W.failed_calls writer.old + 1) }
     ensures memory { IsErrOf result ReplayFault.Memory → Cut roles (map plain types.items) (R.remaining reader.old) (R.remaining reader.new) (W.taken writer.old) (W.taken writer.new) }

@@ -1,6 +1,6 @@
 use Rattle.std.proofs.Common.{length, Ok, Err, refl, sym, ap, ◌∙◌, arith}
 use Rattle.mps_wire.proofs.Bytes.{same_room}
-use Rattle.mps_wire.proofs.Turning.{begun, starved_first}
+use Rattle.mps_wire.proofs.Turning.{begun, starved_first, gave_none, gave_more}
 use Rattle.mps_wire.proofs.Running.{at_end, before_end, unread, unwritten, out_of_memory, not_open, not_turns}
 use Rattle.mps_wire.proofs.script.run_script.Goals as goal
 
@@ -20,6 +20,7 @@ loop-init g c = record {
   calls = omega arith;
   none_unread = refl;
   none_unsent = refl;
+  gave = gave_none _;
   going = begun _ _ _ _ _ _ c.in_ok-run.ensures.line (ap (λ s. s.state) c.in_ok-run.ensures.session);
 }
 
@@ -34,6 +35,10 @@ returns-in_err-turn-clause-read_fault g c = λ e.
 
 pub returns-in_err-turn-clause-turns : goal.returns-in_err-turn-clause-turns
 returns-in_err-turn-clause-turns g c = λ e.
+    absurd (not_turns _ _ _ _ c.loop.invariant.roles c.loop.invariant.types _ _ _ _ _ _ _ _ _ _ _ c.in_err-turn.ensures.step c.loop.invariant.going (ap Err (sym (rw e at c.from_residual-in_err-turn.ensures.1))))
+
+pub returns-in_err-turn-clause-long : goal.returns-in_err-turn-clause-long
+returns-in_err-turn-clause-long g c = λ e.
     absurd (not_turns _ _ _ _ c.loop.invariant.roles c.loop.invariant.types _ _ _ _ _ _ _ _ _ _ _ c.in_err-turn.ensures.step c.loop.invariant.going (ap Err (sym (rw e at c.from_residual-in_err-turn.ensures.1))))
 
 pub returns-in_err-turn-clause-write_fault : goal.returns-in_err-turn-clause-write_fault
@@ -59,5 +64,12 @@ loop-preserved g c = record {
   calls = omega (arith, c.in_ok-turn.ensures.calls, c.loop.invariant.calls);
   none_unread = c.in_ok-turn.ensures.reads_well ∙ c.loop.invariant.none_unread;
   none_unsent = c.in_ok-turn.ensures.writes_well ∙ c.loop.invariant.none_unsent;
+  gave = gave_more _ _ _ _ c.loop.invariant.gave (c.in_ok-turn.ensures.gave c.if-branch.false);
   going = before_end _ _ _ _ c.loop.invariant.roles c.loop.invariant.types _ _ _ _ _ _ _ _ _ _ _ c.in_ok-turn.ensures.step c.loop.invariant.going (ap Ok c.if-branch.false);
 }
+
+pub returns-clause-turns : goal.returns-clause-turns
+returns-clause-turns g c = λ e. (
+  record { kept = c.loop.run.line.items; st = c.loop.run.session.state; going = c.loop.invariant.going },
+  omega (arith, c.loop.invariant.calls, c.loop.auto.counter-end, c.loop-test.false),
+)

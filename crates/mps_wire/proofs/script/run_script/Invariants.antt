@@ -1,6 +1,6 @@
 use Rattle.std.proofs.Common.{◌≡◌, ◌+◌, ◌≤◌, [], length, map}
 use Rattle.mps_local.specs.Local.{plain}
-use Rattle.mps_wire.specs.Runs.{Going}
+use Rattle.mps_wire.specs.Runs.{Going, GaveAtLeast}
 use Rattle.mps_wire.proofs.script.run_script.Given as goal
 
 abbrev pub invariant-loop : goal.invariant-loop
@@ -13,5 +13,6 @@ invariant-loop g l = record {
   calls : g.R.Source.calls l.reader ≡ g.R.Source.calls l.fn.reader + l.counter;
   none_unread : g.R.Source.failed_calls l.reader ≡ g.R.Source.failed_calls l.fn.reader;
   none_unsent : g.W.Sink.failed_calls l.writer ≡ g.W.Sink.failed_calls l.fn.writer;
+  gave : GaveAtLeast l.counter (g.R.Source.remaining l.fn.reader) (g.R.Source.remaining l.reader);
   going : Going l.fn.roles (map plain l.fn.types.items) (g.R.Source.remaining l.fn.reader) (g.R.Source.remaining l.reader) (g.W.Sink.taken l.fn.writer) (g.W.Sink.taken l.writer) l.run.line.items l.run.session.state;
 }

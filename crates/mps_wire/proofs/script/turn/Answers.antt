@@ -1,5 +1,5 @@
 use Rattle.std.proofs.Common.{rules, [], take}
-use Rattle.mps_wire.proofs.Turning.{runs_out, goes_on, breaks_off, ends, end_breaks_off, none_taken}
+use Rattle.mps_wire.proofs.Turning.{gave_some, runs_out, goes_on, breaks_off, ends, end_breaks_off, none_taken}
 use Rattle.mps_wire.proofs.script.turn.Goals as goal
 
 pub returns-in_err-finish-clause-step : goal.returns-in_err-finish-clause-step
@@ -28,3 +28,6 @@ returns-then-is_err-2-clause-step g c = λ given took h.
 pub returns-clause-step : goal.returns-clause-step
 returns-clause-step g c = λ given took h.
     goes_on _ _ given _ _ took _ _ _ h _ (take c.in-Ok.count c.read.new.buf) _ _ _ _ c.requires.none_wait c.in-Ok.ensures.bytes.0 c.in_ok-feed.ensures.answered (search rules)
+
+pub returns-clause-gave : goal.returns-clause-gave
+returns-clause-gave g c = λ over. gave_some _ _ c.in-Ok.count c.read.new.buf c.if-count-eq0.false (search rules) c.in-Ok.ensures.bytes.0

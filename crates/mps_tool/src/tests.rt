@@ -1,0 +1,188 @@
+use crate::{Order, ToolFault, fault_line, order, read_text, roles_and_types, run_script, status};
+use mps_dev::{Pieces, Short};
+use mps_global::GlobalFault;
+use mps_text::TextKind;
+use std::alloc::Global;
+use std::test::Fail;
+
+const RELAY: &str = "roles a b c ; a -> b : int . b -> c : int . end";
+
+// The answers to the script on a new session of the protocol.
+fn answers(alloc: Global, protocol: &str, script: &str) -> Result<Vec<u8>, Fail> {
+    let Ok((roles, types)) = roles_and_types(alloc, protocol.as_bytes()) else {
+        return Err("a protocol".into());
+    };
+    if roles.count() != types.len() {
+        return Err("a type for each role".into());
+    }
+    let pieces = vec![in alloc; Vec::from_slice(alloc, script.as_bytes())?]?;
+    let mut writer = Short::new(alloc, 1000)?;
+    run_script(
+        alloc,
+        &mut Pieces::new(pieces, None),
+        &mut writer,
+        roles,
+        types,
+    )?;
+    Ok(Vec::from_slice(alloc, writer.bytes())?)
+}
+
+// The line and the status of the fault.
+fn told(alloc: Global, fault: ToolFault<'static>) -> Result<(Vec<u8>, u8), Fail> {
+    Ok((fault_line(alloc, &fault)?, status(&fault)))
+}
+
+// The line of the fault that the protocol has.
+fn refused(alloc: Global, protocol: &str) -> Result<Vec<u8>, Fail> {
+    match roles_and_types(alloc, protocol.as_bytes()) {
+        Ok(_) => Err("no fault".into()),
+        Err(fault) => Ok(fault_line(alloc, &fault)?),
+    }
+}
+
+#[test]
+fn relays(rt: HostRuntime) -> Result<(), Fail> {
+    let script = "a send b 5\nb recv a x\nb send c 7\nc recv b y\n";
+    let relayed = answers(rt.alloc(), RELAY, script)?;
+    assert_eq!(rt;
+        relayed.as_slice(),
+        b"done 1\ndone 2 5\ndone 3\ndone 4 7\n".as_slice()
+    );
+    let script = "b recv a x\na send c 5\na send b true\na send b 5\n";
+    let wrong = answers(rt.alloc(), RELAY, script)?;
+    assert_eq!(rt;
+        wrong.as_slice(),
+        b"refused nothingqueued\nrefused wrongpeer\nrefused wrongsort\ndone 1\n".as_slice()
+    );
+    let pairs = "roles a b c d ; a -> b : int . c -> d : int . end";
+    let apart = answers(rt.alloc(), pairs, "a send b 1\nc send d 2\n")?;
+    assert_eq!(rt; apart.as_slice(), b"done 1\ndone 2\n".as_slice());
+    Ok(())
+}
+
+#[test]
+fn reads_numbers_to_the_last(rt: HostRuntime) -> Result<(), Fail> {
+    let most = answers(rt.alloc(), RELAY, "a send b 9223372036854775807\n")?;
+    assert_eq!(rt; most.as_slice(), b"done 1\n".as_slice());
+    let more = answers(rt.alloc(), RELAY, "a send b 9223372036854775808\n")?;
+    assert_eq!(rt; more.as_slice(), b"refused line\n".as_slice());
+    let none = answers(rt.alloc(), RELAY, "")?;
+    assert_eq!(rt; none.as_slice(), b"".as_slice());
+    Ok(())
+}
+
+#[test]
+fn takes_its_words(rt: HostRuntime) -> Result<(), Fail> {
+    let words = ["mps_tool", "run", "a.protocol", "a.script"];
+    match order(rt.alloc(), &words) {
+        Ok(Order::Run { file, script }) => {
+            assert_eq!(rt; file, "a.protocol");
+            assert_eq!(rt; script, "a.script");
+        }
+        _ => return Err("a run".into()),
+    }
+    match order(rt.alloc(), &["mps_tool", "--help"]) {
+        Ok(Order::Help { .. }) => {}
+        _ => return Err("help".into()),
+    }
+    let wrong = [
+        ["mps_tool"].as_slice(),
+        &["mps_tool", "fly"],
+        &["mps_tool", "run"],
+        &["mps_tool", "run", "a.protocol"],
+        &["mps_tool", "run", "a.protocol", "a.script", "more"],
+    ];
+    for words in wrong {
+        match order(rt.alloc(), words) {
+            Err(fault) => assert_eq!(rt; status(&fault), 2),
+            Ok(_) => return Err("a fault of use".into()),
+        }
+    }
+    Ok(())
+}
+
+#[test]
+fn tells_faults(rt: HostRuntime) -> Result<(), Fail> {
+    let alloc = rt.alloc();
+    let (line, code) = told(alloc, ToolFault::File { name: "a b" })?;
+    assert_eq!(rt;
+        (line.as_slice(), code),
+        (b"refused file a b".as_slice(), 2)
+    );
+    let fault = ToolFault::Text {
+        at: 65536,
+        kind: TextKind::TooLong,
+    };
+    let (line, code) = told(alloc, fault)?;
+    assert_eq!(rt;
+        (line.as_slice(), code),
+        (b"refused text toolong 65536".as_slice(), 3)
+    );
+    let fault = ToolFault::Protocol {
+        fault: GlobalFault::RoleCount,
+    };
+    let (line, code) = told(alloc, fault)?;
+    assert_eq!(rt;
+        (line.as_slice(), code),
+        (b"refused protocol rolecount".as_slice(), 3)
+    );
+    let (line, code) = told(alloc, ToolFault::Open)?;
+    assert_eq!(rt; (line.as_slice(), code), (b"refused open".as_slice(), 3));
+    let (line, code) = told(alloc, ToolFault::Read)?;
+    assert_eq!(rt; (line.as_slice(), code), (b"refused read".as_slice(), 4));
+    let (line, code) = told(alloc, ToolFault::Write)?;
+    assert_eq!(rt; (line.as_slice(), code), (b"refused write".as_slice(), 4));
+    let (line, code) = told(alloc, ToolFault::Turns)?;
+    assert_eq!(rt; (line.as_slice(), code), (b"refused turns".as_slice(), 4));
+    let (line, code) = told(alloc, ToolFault::Memory)?;
+    assert_eq!(rt; (line.as_slice(), code), (b"refused memory".as_slice(), 4));
+    Ok(())
+}
+
+#[test]
+fn refuses_protocols(rt: HostRuntime) -> Result<(), Fail> {
+    let rows = [
+        ("roles a b ; a -> b : int end", "refused text unexpected 25"),
+        ("roles a b ; end end", "refused text trailing 16"),
+        ("roles a b ; a -> Bc : int . end", "refused text word 17"),
+        ("roles a b ; a -> b : int .", "refused text unexpected 26"),
+        ("roles a end ; end", "refused text unexpected 8"),
+        (
+            "roles a b ; rec X . a -> b : int . X",
+            "refused text unexpected 12",
+        ),
+        (
+            "roles a b ; a -> z : int . end",
+            "refused protocol unknownrole",
+        ),
+        (
+            "roles a b ; a -> a : int . end",
+            "refused protocol selfmessage",
+        ),
+        ("roles a a ; end", "refused protocol doublerole"),
+    ];
+    for (protocol, line) in rows {
+        let found = refused(rt.alloc(), protocol)?;
+        assert_eq!(rt; found.as_slice(), line.as_bytes());
+    }
+    Ok(())
+}
+
+#[test]
+fn reads_texts(rt: HostRuntime) -> Result<(), Fail> {
+    let alloc = rt.alloc();
+    let pieces = vec![in alloc;
+        Vec::from_slice(alloc, b"roles a")?,
+        Vec::from_slice(alloc, b" b ; end")?,
+    ]?;
+    let Ok(text) = read_text(alloc, &mut Pieces::new(pieces, None)) else {
+        return Err("a text".into());
+    };
+    assert_eq!(rt; text.as_slice(), b"roles a b ; end".as_slice());
+    let pieces = vec![in alloc; Vec::from_slice(alloc, b"roles a")?]?;
+    match read_text(alloc, &mut Pieces::new(pieces, Some(2))) {
+        Err(ToolFault::Read) => {}
+        _ => return Err("a fault of the reader".into()),
+    }
+    Ok(())
+}
