@@ -27,9 +27,10 @@ fn answers(alloc: Global, protocol: &str, script: &str) -> Result<Vec<u8>, Fail>
     Ok(Vec::from_slice(alloc, writer.bytes())?)
 }
 
-// The line and the status of the fault.
-fn told(alloc: Global, fault: ToolFault<'static>) -> Result<(Vec<u8>, u8), Fail> {
-    Ok((fault_line(alloc, &fault)?, status(&fault)))
+// Whether the fault is told by this line and has this status.
+fn tells(alloc: Global, fault: ToolFault<'static>, line: &str, code: u8) -> Result<bool, Fail> {
+    let told = fault_line(alloc, &fault)?;
+    Ok(told.as_slice() == line.as_bytes() && status(&fault) == code)
 }
 
 // The line of the fault that the protocol has.
@@ -104,38 +105,22 @@ fn takes_its_words(rt: HostRuntime) -> Result<(), Fail> {
 #[test]
 fn tells_faults(rt: HostRuntime) -> Result<(), Fail> {
     let alloc = rt.alloc();
-    let (line, code) = told(alloc, ToolFault::File { name: "a b" })?;
-    assert_eq!(rt;
-        (line.as_slice(), code),
-        (b"refused file a b".as_slice(), 2)
-    );
+    let fault = ToolFault::File { name: "a b" };
+    assert!(rt; tells(alloc, fault, "refused file a b", 2)?);
     let fault = ToolFault::Text {
         at: 65536,
         kind: TextKind::TooLong,
     };
-    let (line, code) = told(alloc, fault)?;
-    assert_eq!(rt;
-        (line.as_slice(), code),
-        (b"refused text toolong 65536".as_slice(), 3)
-    );
+    assert!(rt; tells(alloc, fault, "refused text toolong 65536", 3)?);
     let fault = ToolFault::Protocol {
         fault: GlobalFault::RoleCount,
     };
-    let (line, code) = told(alloc, fault)?;
-    assert_eq!(rt;
-        (line.as_slice(), code),
-        (b"refused protocol rolecount".as_slice(), 3)
-    );
-    let (line, code) = told(alloc, ToolFault::Open)?;
-    assert_eq!(rt; (line.as_slice(), code), (b"refused open".as_slice(), 3));
-    let (line, code) = told(alloc, ToolFault::Read)?;
-    assert_eq!(rt; (line.as_slice(), code), (b"refused read".as_slice(), 4));
-    let (line, code) = told(alloc, ToolFault::Write)?;
-    assert_eq!(rt; (line.as_slice(), code), (b"refused write".as_slice(), 4));
-    let (line, code) = told(alloc, ToolFault::Turns)?;
-    assert_eq!(rt; (line.as_slice(), code), (b"refused turns".as_slice(), 4));
-    let (line, code) = told(alloc, ToolFault::Memory)?;
-    assert_eq!(rt; (line.as_slice(), code), (b"refused memory".as_slice(), 4));
+    assert!(rt; tells(alloc, fault, "refused protocol rolecount", 3)?);
+    assert!(rt; tells(alloc, ToolFault::Open, "refused open", 3)?);
+    assert!(rt; tells(alloc, ToolFault::Read, "refused read", 4)?);
+    assert!(rt; tells(alloc, ToolFault::Write, "refused write", 4)?);
+    assert!(rt; tells(alloc, ToolFault::Turns, "refused turns", 4)?);
+    assert!(rt; tells(alloc, ToolFault::Memory, "refused memory", 4)?);
     Ok(())
 }
 
