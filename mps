@@ -3,9 +3,10 @@
 set -e
 home=$(cd "$(dirname "$0")" && pwd)
 tool=$home/crates/mps_tool/out/mps_tool
-if [ ! -x "$tool" ] || [ -n "$(find "$home/crates" \( -name '*.rt' -o -name '*.antt' \) -not -path '*/out/*' -newer "$tool" -print -quit)" ]; then
-    (cd "$home/crates/mps_tool" && rt run -- run data/relay.protocol data/relay.script) >"$home/crates/mps_tool/out.log" 2>&1 ||
-        { cat "$home/crates/mps_tool/out.log" >&2; rm -f "$home/crates/mps_tool/out.log"; exit 1; }
-    rm -f "$home/crates/mps_tool/out.log"
+if [ ! -x "$tool" ] || [ -n "$(find "$home/crates" -name out -prune -o \( -name '*.rt' -o -name '*.antt' \) -newer "$tool" -print -quit)" ]; then
+    log=$(mktemp)
+    echo "building mps_tool: a first build proves every crate, and takes some minutes" >&2
+    (cd "$home/crates/mps_tool" && rt run -- run data/relay.protocol data/relay.script) >"$log" 2>&1 || { cat "$log" >&2; rm -f "$log"; exit 1; }
+    rm -f "$log"
 fi
 exec "$tool" "$@"
