@@ -5,3 +5,4 @@ pub mod Answering
 pub mod Feeding
 pub mod Turning
 pub mod Running
+pub mod Faults

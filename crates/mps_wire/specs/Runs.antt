@@ -1,5 +1,5 @@
 -- A script over a source and a sink: given is what the source had left at first, took what the sink had taken.
-use Rattle.std.specs.Prelude.{ℕ, ◌≤◌, Bool, true, false, List, Option, Result, Ok, Err, length}
+use Rattle.std.specs.Prelude.{ℕ, ◌+◌, ◌≤◌, ⊤, Bool, true, false, List, Option, Result, Ok, Err, length}
 use Rattle.std.specs.Io.KnownBytes.{Appends, Consumes, IsAtEnd}
 use Rattle.mps_local.specs.Local.{LocalType}
 use Rattle.mps_machine.specs.Machine.{State, initial}
@@ -63,8 +63,50 @@ of_opening OutOfMemory = Memory
 of_opening RoleCount = Open RoleCount
 of_opening (BadPeer role) = Open (BadPeer role)
 
--- why a session with these types isn't opened; memory may run out with any
+-- what holds at each fault but a fault of opening
+abbrev pub UnlessOpening : ReplayFault → Type 0 → Type 0
+UnlessOpening (Open fault) fact = ⊤
+UnlessOpening ReadFault fact = fact
+UnlessOpening WriteFault fact = fact
+UnlessOpening Turns fact = fact
+UnlessOpening Memory fact = fact
+
+-- how many reads failed where this is the fault
+abbrev pub failed_reads : ReplayFault → ℕ
+failed_reads (Open fault) = 0
+failed_reads ReadFault = 1
+failed_reads WriteFault = 0
+failed_reads Turns = 0
+failed_reads Memory = 0
+
+-- how many writes failed where this is the fault
+abbrev pub failed_writes : ReplayFault → ℕ
+failed_writes (Open fault) = 0
+failed_writes ReadFault = 0
+failed_writes WriteFault = 1
+failed_writes Turns = 0
+failed_writes Memory = 0
+
+-- how many calls of the source have failed after this answer
+abbrev pub after_reads : {A : Type 0} → Result A ReplayFault → ℕ → ℕ
+after_reads (Ok x) before = before
+after_reads (Err fault) before = before + failed_reads fault
+
+-- how many calls of the sink have failed after this answer
+abbrev pub after_writes : {A : Type 0} → Result A ReplayFault → ℕ → ℕ
+after_writes (Ok x) before = before
+after_writes (Err fault) before = before + failed_writes fault
+
+-- why a session with these types isn't opened; want of memory is told as such, and not as a fault of opening
 abbrev pub KeepsShut : List LocalType → OpenFault → Type 0
 KeepsShut types RoleCount = ¬ (HasRoleCount types)
 KeepsShut types (BadPeer role) = IsFirstBad types role
-KeepsShut types OutOfMemory = CanOpen types
+KeepsShut types OutOfMemory = ⊥
+
+-- why no run begins: the session isn't opened, or memory ran out
+abbrev pub KeepsFromBeginning : List LocalType → ReplayFault → Type 0
+KeepsFromBeginning types (Open fault) = KeepsShut types fault
+KeepsFromBeginning types Memory = CanOpen types
+KeepsFromBeginning types ReadFault = ⊥
+KeepsFromBeginning types WriteFault = ⊥
+KeepsFromBeginning types Turns = ⊥

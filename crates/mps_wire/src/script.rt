@@ -1,12 +1,12 @@
 //! A script over streams.
-ghost use Rattle.std.specs.Prelude.{◌≡◌, ◌↔◌, ◌⊎◌, ◌+◌, ◌<◌, ◌≤◌, ◌^◌, ◌++◌, ℕ, false, Option, List, [], length, map, OnOk, OnErr, IfOk, IsErr, IsErrOf};
+ghost use Rattle.std.specs.Prelude.{◌≡◌, ◌↔◌, ◌⊎◌, ◌+◌, ◌<◌, ◌≤◌, ◌^◌, ◌++◌, ℕ, false, Option, List, [], length, map, OnOk, OnErr, IfOk, IfErr, IsErr, IsErrOf};
 ghost use Rattle.std.specs.Io.KnownBytes.{Appends, Consumes, IsAtEnd};
 ghost use Rattle.mps_local.specs.Local.{plain};
 ghost use Rattle.mps_machine.specs.Machine.{initial};
 ghost use Rattle.mps_wire.specs.Lines.{HasNoBreak, ended, front};
 ghost use Rattle.mps_wire.specs.declared.script.ReplayFault.TheVariants.{Memory as OutOfMemory};
 ghost use Rattle.mps_wire.specs.Flow.{TookFront};
-ghost use Rattle.mps_wire.specs.Runs.{Going, Finished, Cut, AfterTurn, Stopped, GaveAtLeast, of_opening, KeepsShut};
+ghost use Rattle.mps_wire.specs.Runs.{Going, Finished, Cut, AfterTurn, Stopped, GaveAtLeast, UnlessOpening, after_reads, after_writes, of_opening, KeepsShut, KeepsFromBeginning};
 ghost use Rattle.mps_wire.specs.Script.{RepliesTo, AnswersLine, Answered, AnsweredAll, AnsweredInPart};
 ghost use Rattle.mps_session.specs.Peers.{CanOpen};
 ghost use Rattle.mps_session.specs.declared.open.OpenFault.{OpenFault};
@@ -207,11 +207,9 @@ fn turn<R: Source, W: Sink>(
     ensures short { OnOk result (length run.new.line.items ≤ 513) }
     ensures none_wait { OnOk result (run.new.answers.items ≡ []) }
     ensures calls { R.calls reader.new ≡ R.calls reader.old + 1 }
-    ensures reads_well { OnOk result (R.failed_calls reader.new ≡ R.failed_calls reader.old) }
-    ensures writes_well { OnOk result (W.failed_calls writer.new ≡ W.failed_calls writer.old) }
+    ensures reads { R.failed_calls reader.new ≡ after_reads result (R.failed_calls reader.old) }
+    ensures writes { W.failed_calls writer.new ≡ after_writes result (W.failed_calls writer.old) }
     ensures gave { IfOk result (λ over. over ≡ false → GaveAtLeast 1 (R.remaining reader.old) (R.remaining reader.new)) }
-    ensures read_fault { IsErrOf result ReplayFault.ReadFault → R.failed_calls reader.new ≡ R.failed_calls reader.old + 1 }
-    ensures write_fault { IsErrOf result ReplayFault.WriteFault → W.failed_calls writer.new ≡ W.failed_calls writer.old + 1 }
     ensures step { (given took : Option (List ℕ))
         → Going run.old.roles (map plain run.old.session.types) given (R.remaining reader.old) took (W.taken writer.old) run.old.line.items run.old.session.state
         → AfterTurn result
@@ -238,13 +236,13 @@ fn turn<R: Source, W: Sink>(
 }
 
 /// A script on a new session, of which nothing was read yet.
-fn begin(alloc: Global, roles: Roles, types: Vec<Local>) -> Result<Run, OpenFault>
+fn begin(alloc: Global, roles: Roles, types: Vec<Local>) -> Result<Run, ReplayFault>
     ensures roles { IfOk result (λ run. run.roles ≡ roles) }
     ensures session { IfOk result (λ run. run.session ≡ record { types = types.items; state = initial }) }
     ensures line { IfOk result (λ run. run.line.items ≡ []) }
     ensures answers { IfOk result (λ run. run.answers.items ≡ []) }
     ensures can { OnOk result (CanOpen (map plain types.items)) }
-    ensures faults { (fault : OpenFault) → IsErrOf result fault → KeepsShut (map plain types.items) fault }
+    ensures faults { IfErr result (KeepsFromBeginning (map plain types.items)) }
 {
     Ok(Run {
         roles,
@@ -272,18 +270,18 @@ pub fn run_script<R: Source, W: Sink>(
     ensures types { IfOk result (λ session. session.types ≡ types.items) }
     ensures done { IfOk result (λ session. Finished roles (map plain types.items) (R.remaining reader.old) (R.remaining reader.new) (W.taken writer.old) (W.taken writer.new) session.state) }
     ensures opened { OnOk result (CanOpen (map plain types.items)) }
-    ensures shut { (fault : OpenFault) → IsErrOf result (ReplayFault.Open fault) → (R.remaining reader.new ≡ R.remaining reader.old) × (W.taken writer.new ≡ W.taken writer.old) × KeepsShut (map plain types.items) fault }
-    ensures read_fault { IsErrOf result ReplayFault.ReadFault → Stopped roles (map plain types.items) (R.remaining reader.old) (R.remaining reader.new) (W.taken writer.old) (W.taken writer.new)
-        × (R.failed_calls reader.new ≡ R.failed_calls reader.old + 1) }
+    ensures faults { IfErr result (λ fault. UnlessOpening fault (CanOpen (map plain types.items))) }
+    ensures shut { (fault : OpenFault) → IsErrOf result (ReplayFault.Open fault) → KeepsShut (map plain types.items) fault
+        × (R.calls reader.new ≡ R.calls reader.old) × (R.remaining reader.new ≡ R.remaining reader.old) × (W.taken writer.new ≡ W.taken writer.old) }
+    ensures read_fault { IsErrOf result ReplayFault.ReadFault → Stopped roles (map plain types.items) (R.remaining reader.old) (R.remaining reader.new) (W.taken writer.old) (W.taken writer.new) }
     ensures turns { IsErrOf result ReplayFault.Turns → Stopped roles (map plain types.items) (R.remaining reader.old) (R.remaining reader.new) (W.taken writer.old) (W.taken writer.new)
         × (R.calls reader.new ≡ R.calls reader.old + 1000000) }
     ensures long { IsErrOf result ReplayFault.Turns → GaveAtLeast 1000000 (R.remaining reader.old) (R.remaining reader.new) }
-    ensures write_fault { IsErrOf result ReplayFault.WriteFault → Cut roles (map plain types.items) (R.remaining reader.old) (R.remaining reader.new) (W.taken writer.old) (W.taken writer.new)
-        × (W.failed_calls writer.new ≡ W.failed_calls writer.old + 1) }
+    ensures write_fault { IsErrOf result ReplayFault.WriteFault → Cut roles (map plain types.items) (R.remaining reader.old) (R.remaining reader.new) (W.taken writer.old) (W.taken writer.new) }
     ensures memory { IsErrOf result ReplayFault.Memory → Cut roles (map plain types.items) (R.remaining reader.old) (R.remaining reader.new) (W.taken writer.old) (W.taken writer.new) }
     ensures calls { R.calls reader.new ≤ R.calls reader.old + 1000000 }
-    ensures reads_well { OnOk result (R.failed_calls reader.new ≡ R.failed_calls reader.old) }
-    ensures writes_well { OnOk result (W.failed_calls writer.new ≡ W.failed_calls writer.old) }
+    ensures reads { R.failed_calls reader.new ≡ after_reads result (R.failed_calls reader.old) }
+    ensures writes { W.failed_calls writer.new ≡ after_writes result (W.failed_calls writer.old) }
 {
     let mut run = begin(alloc, roles, types)?;
     let mut block = vec![in alloc; 0u8; BLOCK]?;
