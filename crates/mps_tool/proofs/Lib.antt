@@ -1,1 +1,2 @@
 pub mod Projected
+pub mod Faults

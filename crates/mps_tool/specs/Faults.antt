@@ -1,5 +1,5 @@
 -- How faults are told.
-use Rattle.std.specs.Prelude.{◌≡◌, ℕ, List, codes, ◌++◌}
+use Rattle.std.specs.Prelude.{◌+◌, ◌⊎◌, ⊤, ◌≡◌, ℕ, List, codes, ◌++◌}
 use Rattle.std.specs.String.{string_bytes}
 use Rattle.mps_base.specs.Numbers.{IsNumberText}
 use Rattle.mps_global.specs.declared.faults.GlobalFault.{GlobalFault}
@@ -72,3 +72,39 @@ of_script ReadFault = Read
 of_script WriteFault = Write
 of_script TooManyReads = Turns
 of_script OutOfMemory = Memory
+
+-- how a text may fail to be read: a call more failed, or memory ran out and none more failed
+abbrev pub IsReadFault : ℕ → ℕ → ToolFault → Type 0
+IsReadFault before after Read = after ≡ before + 1
+IsReadFault before after Memory = after ≡ before
+IsReadFault before after (Usage text) = ⊥
+IsReadFault before after (File name) = ⊥
+IsReadFault before after (Text at kind) = ⊥
+IsReadFault before after (Protocol fault) = ⊥
+IsReadFault before after Open = ⊥
+IsReadFault before after Write = ⊥
+IsReadFault before after Turns = ⊥
+
+-- how words may fail to be read: they are none of the program's, or memory ran out
+abbrev pub IsUseFault : ToolFault → Type 0
+IsUseFault (Usage text) = ⊤
+IsUseFault Memory = ⊤
+IsUseFault (File name) = ⊥
+IsUseFault (Text at kind) = ⊥
+IsUseFault (Protocol fault) = ⊥
+IsUseFault Open = ⊥
+IsUseFault Read = ⊥
+IsUseFault Write = ⊥
+IsUseFault Turns = ⊥
+
+-- how a run of these two files may fail: a file that can't be opened is one of them
+abbrev pub IsRunFault : List ℕ → List ℕ → ToolFault → Type 0
+IsRunFault file script (File name) = (name.now ≡ file) ⊎ (name.now ≡ script)
+IsRunFault file script (Usage text) = ⊥
+IsRunFault file script (Text at kind) = ⊤
+IsRunFault file script (Protocol fault) = ⊤
+IsRunFault file script Open = ⊤
+IsRunFault file script Read = ⊤
+IsRunFault file script Write = ⊤
+IsRunFault file script Turns = ⊤
+IsRunFault file script Memory = ⊤

@@ -6,6 +6,8 @@ use Rattle.mps_local.specs.Local.{LocalType}
 use Rattle.mps_local.specs.Projection.{projection}
 use Rattle.mps_text.specs.Grammar.{SpellsText, IsWithinLimits}
 use Rattle.mps_text.specs.Faults.{IsFirstFault}
+use Rattle.mps_text.specs.declared.fault.TextKind.{TextKind}
+use Rattle.mps_text.specs.declared.fault.TextKind.TheVariants.{TooLong, Word, Unexpected, TooManyNodes, TooDeep, Trailing, Memory as NoRoom}
 use Rattle.mps_tool.specs.declared.fault.ToolFault.{ToolFault}
 use Rattle.mps_tool.specs.declared.fault.ToolFault.TheVariants.{Usage, File, Text, Protocol, Open, Read, Write, Turns, Memory}
 
@@ -26,9 +28,19 @@ pub record AreTypesOf (text : List ℕ) (roles : List (List ℕ)) (types : List 
   pub faultless : fault_of roles tree ≡ None
   pub projected : AreProjections roles tree types
 
+-- the first fault of the text; want of memory is none of a text's
+abbrev pub IsTextFault : List ℕ → ℕ → TextKind → Type 0
+IsTextFault text at TooLong = IsFirstFault text at TooLong
+IsTextFault text at Word = IsFirstFault text at Word
+IsTextFault text at Unexpected = IsFirstFault text at Unexpected
+IsTextFault text at TooManyNodes = IsFirstFault text at TooManyNodes
+IsTextFault text at TooDeep = IsFirstFault text at TooDeep
+IsTextFault text at Trailing = IsFirstFault text at Trailing
+IsTextFault text at NoRoom = ⊥
+
 -- why a text gives no types: its first fault, the fault of the protocol that it spells, or want of memory
 abbrev pub GivesNoTypes : List ℕ → ToolFault → Type 0
-GivesNoTypes text (Text at kind) = IsFirstFault text at kind
+GivesNoTypes text (Text at kind) = IsTextFault text at kind
 GivesNoTypes text (Protocol fault) =
     (roles : List (List ℕ)) × (tree : GlobalType) × IsProtocolText text roles tree × (fault_of roles tree ≡ Some fault)
 GivesNoTypes text Memory = ⊤

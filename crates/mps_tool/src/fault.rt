@@ -9,27 +9,37 @@ use mps_global::GlobalFault;
 use mps_text::{TextFault, TextKind};
 use mps_wire::script::ReplayFault;
 use std::alloc::{AllocError, AllocFailed, Global};
+use thiserror::Error;
 
-/// Why the program didn't do what it was told.
-#[derive(Debug, Drop)]
+/// Why the program didn't do what it was told. What it displays as is its line, which `fault_line` spells.
+#[derive(Debug, Drop, Error)]
 pub enum ToolFault<'a> {
     /// The words are none of the program's; the text says how to use it.
+    #[error("{text}")]
     Usage { text: String },
     /// The file can't be opened.
+    #[error("refused file {name}")]
     File { name: &'a str },
     /// The protocol's text has a fault.
+    #[error("refused text {} {at}", text_word_of(*kind))]
     Text { at: usize, kind: TextKind },
     /// The protocol has a fault.
+    #[error("refused protocol {}", protocol_word_of(*fault))]
     Protocol { fault: GlobalFault },
     /// No session can be opened with the types.
+    #[error("refused open")]
     Open,
     /// A file can't be read.
+    #[error("refused read")]
     Read,
     /// The answers can't be written.
+    #[error("refused write")]
     Write,
     /// The script was read from too often.
+    #[error("refused turns")]
     Turns,
     /// Memory ran out.
+    #[error("refused memory")]
     Memory,
 }
 

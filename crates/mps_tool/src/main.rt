@@ -5,43 +5,23 @@ mod command;
 mod fault;
 mod opening;
 mod reading;
+mod running;
 mod words;
 
 pub use command::Order;
 pub use fault::{ToolFault, fault_line, status};
-use mps_dev::{OverRead, OverWrite};
 pub use mps_wire::script::{ReplayFault, run_script};
 pub use opening::roles_and_types;
 pub use reading::read_text;
-use std::alloc::Global;
+pub use running::{open_file, run};
+use std::io::ErrorKind;
 use std::process::ExitCode;
-use std::rt::Files;
-use std::{env, fs, io};
+use std::rt::{Env, Files};
+use std::{env, io};
 pub use words::order;
 
 #[cfg(test)]
 mod tests;
-
-/// Runs the script on a new session of the protocol, and prints the answers.
-fn run<'a, R: Files + AllocGlobal + Print>(
-    rt: &R,
-    file: &'a str,
-    script: &'a str,
-) -> Result<(), ToolFault<'a>> {
-    let alloc = rt.alloc();
-    let Ok(opened) = fs::open(rt, file) else {
-        return Err(ToolFault::File { name: file });
-    };
-    let text = read_text(alloc, &mut OverRead::new(opened))?;
-    let (roles, types) = roles_and_types(alloc, text.as_slice())?;
-    let Ok(opened) = fs::open(rt, script) else {
-        return Err(ToolFault::File { name: script });
-    };
-    let mut reader = OverRead::new(opened);
-    let mut writer = OverWrite::new(io::writer(rt));
-    run_script(alloc, &mut reader, &mut writer, roles, types)?;
-    Ok(())
-}
 
 /// Does what the words say, of which the first is the program's name.
 fn obey<'a, R: Files + AllocGlobal + Print>(
@@ -59,19 +39,43 @@ fn obey<'a, R: Files + AllocGlobal + Print>(
     }
 }
 
-/// Prints what went wrong.
-fn report<R: AllocGlobal + Eprint>(rt: &R, fault: &ToolFault<'_>) -> io::Result<()> {
-    let line = fault_line(rt.alloc(), fault)?;
-    eprintln!(rt; "{}", String::from_utf8_lossy(rt.alloc(), line.as_slice())?)
+/// The words that the program is called with.
+fn called_with<R: Env + AllocGlobal>(rt: &R) -> Result<Vec<String>, ToolFault<'static>> {
+    match env::args(rt) {
+        Ok(words) => Ok(words.collect(rt.alloc())?),
+        Err(error) if error.kind() == ErrorKind::OutOfMemory => Err(ToolFault::Memory),
+        Err(_) => {
+            let text = String::from_str(rt.alloc(), "error: a word is not UTF-8")?;
+            Err(ToolFault::Usage { text })
+        }
+    }
 }
 
-fn main(rt: HostRuntime) -> io::Result<ExitCode> {
-    let alloc = rt.alloc();
-    let words: Vec<String> = env::args(&rt)?.collect(alloc)?;
-    let words: Vec<&str> = words.iter().map(|word| word.as_str()).collect(alloc)?;
-    if let Err(fault) = obey(&rt, words.as_slice()) {
-        report(&rt, &fault)?;
-        return Ok(ExitCode::from(status(&fault)));
+/// Prints what went wrong.
+fn report<R: AllocGlobal + Eprint>(rt: &R, fault: &ToolFault<'_>) -> io::Result<()> {
+    match fault_line(rt.alloc(), fault) {
+        Ok(line) => eprintln!(rt; "{}", String::from_utf8_lossy(rt.alloc(), line.as_slice())?),
+        Err(_) => eprintln!(rt; "{fault}"),
     }
-    Ok(ExitCode::SUCCESS)
+}
+
+/// Prints what went wrong, if that can be printed, and gives the exit status.
+fn end<R: AllocGlobal + Eprint>(rt: &R, fault: &ToolFault<'_>) -> ExitCode {
+    let _told = report(rt, fault);
+    ExitCode::from(status(fault))
+}
+
+fn main(rt: HostRuntime) -> ExitCode {
+    let words = match called_with(&rt) {
+        Ok(words) => words,
+        Err(fault) => return end(&rt, &fault),
+    };
+    let words: Vec<&str> = match words.iter().map(|word| word.as_str()).collect(rt.alloc()) {
+        Ok(words) => words,
+        Err(_) => return end(&rt, &ToolFault::Memory),
+    };
+    match obey(&rt, words.as_slice()) {
+        Ok(()) => ExitCode::SUCCESS,
+        Err(fault) => end(&rt, &fault),
+    }
 }

@@ -1,6 +1,7 @@
 //! Reading the protocol's text.
-ghost use Rattle.std.specs.Prelude.{◌≡◌, ◌+◌, ◌<◌, ◌≤◌, ◌^◌, ◌++◌, ℕ, List, length, IfOk};
+ghost use Rattle.std.specs.Prelude.{◌≡◌, ◌+◌, ◌<◌, ◌≤◌, ◌^◌, ◌++◌, ℕ, List, length, IfOk, IfErr, OnOk};
 ghost use Rattle.std.specs.Io.KnownBytes.{Consumes, IsAtEnd};
+ghost use Rattle.mps_tool.specs.Faults.{IsReadFault};
 
 use crate::fault::ToolFault;
 use mps_dev::Source;
@@ -13,6 +14,8 @@ pub fn read_text<'a, R: Source>(alloc: Global, reader: &mut R) -> Result<Vec<u8>
     ensures bytes { IfOk result (λ text. Consumes (R.remaining reader.old) (R.remaining reader.new) text.items) }
     ensures most { IfOk result (λ text. length text.items ≤ 65537) }
     ensures whole { IfOk result (λ text. length text.items ≤ 65536 → IsAtEnd (R.remaining reader.new)) }
+    ensures reads_well { OnOk result (R.failed_calls reader.new ≡ R.failed_calls reader.old) }
+    ensures fault { IfErr result (IsReadFault (R.failed_calls reader.old) (R.failed_calls reader.new)) }
 {
     let mut text = Vec::new(alloc);
     let mut block = vec![in alloc; 0u8; MAX_TEXT_BYTES + 1]?;
@@ -36,6 +39,8 @@ fn read_more<'a, R: Source>(
     ensures more { IfOk result (λ n. (piece : List ℕ) × (length piece ≡ n) × (text.new.items ≡ text.old.items ++ piece)
         × Consumes (R.remaining reader.old) (R.remaining reader.new) piece) }
     ensures most { IfOk result (λ n. n ≤ length block.old) }
+    ensures reads_well { OnOk result (R.failed_calls reader.new ≡ R.failed_calls reader.old) }
+    ensures fault { IfErr result (IsReadFault (R.failed_calls reader.old) (R.failed_calls reader.new)) }
     ensures end { IfOk result (λ n. n ≡ 0 → 0 < length block.old → IsAtEnd (R.remaining reader.new)) }
 {
     let Ok(count) = reader.read(block) else {

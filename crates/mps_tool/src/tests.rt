@@ -1,4 +1,7 @@
-use crate::{Order, ToolFault, fault_line, order, read_text, roles_and_types, run_script, status};
+use crate::{
+    Order, ToolFault, fault_line, open_file, order, read_text, roles_and_types, run, run_script,
+    status,
+};
 use mps_dev::{Pieces, Short};
 use mps_global::GlobalFault;
 use mps_text::TextKind;
@@ -30,7 +33,8 @@ fn answers(alloc: Global, protocol: &str, script: &str) -> Result<Vec<u8>, Fail>
 // Whether the fault is told by this line and has this status.
 fn tells(alloc: Global, fault: ToolFault<'static>, line: &str, code: u8) -> Result<bool, Fail> {
     let told = fault_line(alloc, &fault)?;
-    Ok(told.as_slice() == line.as_bytes() && status(&fault) == code)
+    let shown = format!(in alloc; "{fault}")?;
+    Ok(told.as_slice() == line.as_bytes() && shown.as_str() == line && status(&fault) == code)
 }
 
 // The line of the fault that the protocol has.
@@ -168,6 +172,19 @@ fn reads_texts(rt: HostRuntime) -> Result<(), Fail> {
     match read_text(alloc, &mut Pieces::new(pieces, Some(2))) {
         Err(ToolFault::Read) => {}
         _ => return Err("a fault of the reader".into()),
+    }
+    Ok(())
+}
+
+#[test]
+fn names_files_that_do_not_open(rt: HostRuntime) -> Result<(), Fail> {
+    match open_file(&rt, "no such file") {
+        Err(fault) => assert!(rt; tells(rt.alloc(), fault, "refused file no such file", 2)?),
+        Ok(_) => return Err("no file".into()),
+    }
+    match run(&rt, "no such file", "no such script") {
+        Err(fault) => assert!(rt; tells(rt.alloc(), fault, "refused file no such file", 2)?),
+        Ok(()) => return Err("no run".into()),
     }
     Ok(())
 }

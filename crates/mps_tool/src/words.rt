@@ -1,7 +1,11 @@
 //! The words that the program is called with.
 
+ghost use Rattle.std.specs.Prelude.{IfErr};
+ghost use Rattle.mps_tool.specs.Faults.{IsUseFault};
+
 use crate::command::Order;
 use crate::fault::ToolFault;
+use clap::error::ErrorKind;
 use clap::{Arg, Command};
 use std::alloc::{AllocError, Global};
 
@@ -22,9 +26,12 @@ fn commands<'a>(alloc: Global) -> Result<Command<'a>, AllocError> {
 }
 
 /// Reads the words, of which the first is the program's name.
-pub fn order<'a>(alloc: Global, words: &'a [&'a str]) -> Result<Order<'a>, ToolFault<'a>> {
+pub fn order<'a>(alloc: Global, words: &'a [&'a str]) -> Result<Order<'a>, ToolFault<'a>>
+    ensures { IfErr result IsUseFault }
+{
     let matches = match commands(alloc)?.try_get_matches_from(words) {
         Ok(matches) => matches,
+        Err(error) if error.kind() == ErrorKind::OutOfMemory => return Err(ToolFault::Memory),
         Err(error) => {
             let text = format!(in alloc; "{error}")?;
             let text = format!(in alloc; "{}", text.as_str().trim_end())?;

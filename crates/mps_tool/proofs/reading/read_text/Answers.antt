@@ -1,5 +1,7 @@
 use Rattle.std.proofs.Common.{zero, suc, refl, length-append, ◌+◌, ◌≡◌, ◌≤◌, ℕ, length, take, ◌-◌, List, length-take, sym, ap, ◌∙◌, subst, arith}
 use Rattle.std.specs.Io.KnownBytes.{Consumes}
+use Rattle.mps_tool.specs.Faults.{IsReadFault}
+use Rattle.mps_tool.proofs.Faults.{told}
 use Rattle.mps_wire.proofs.Bytes.{Consumes-none, Consumes-trans, same_room}
 use Rattle.mps_tool.proofs.reading.read_text.Goals as goal
 
@@ -8,6 +10,7 @@ loop-block-init g c = record {
   room = omega (arith, c.in_ok-block.block.ok.0, c.in_ok-block.ensures.len);
   most = omega (arith, ap length c.new-text.ensures.items);
   calls = omega arith;
+  none_failed = refl;
   bytes = subst (Consumes (g.R.Source.remaining c.args.reader.now) (g.R.Source.remaining c.args.reader.now)) (sym c.new-text.ensures.items) (Consumes-none (g.R.Source.remaining c.args.reader.now));
 }
 
@@ -26,6 +29,20 @@ returns-then-branch-eq0-clause-whole g c = λ h.
     let cut = cut_length (length c.loop-block.text.items) c.len-in-loop-block.result c.loop-block.block.items c.truncate.new.self.items (omega (arith, c.len-in-loop-block.ensures, c.loop-block.text.ok.0)) c.loop-block.invariant.room c.truncate.ensures.items in
     c.in_ok-read_more.ensures.end c.if-branch-eq0.true (omega (arith, cut, c.loop-block-test.true, c.len.ensures, c.loop-block.text.ok.0, c.as_mut_slice.ensures.len, ap length c.as_mut_slice.ensures.value))
 
+pub returns-then-branch-eq0-clause-reads_well : goal.returns-then-branch-eq0-clause-reads_well
+returns-then-branch-eq0-clause-reads_well g c = c.in_ok-read_more.ensures.reads_well ∙ c.loop-block.invariant.none_failed
+
+pub returns-clause-reads_well : goal.returns-clause-reads_well
+returns-clause-reads_well g c = c.loop-block.invariant.none_failed
+
+pub returns-in_err-block-clause-fault : goal.returns-in_err-block-clause-fault
+returns-in_err-block-clause-fault g c = told _ (IsReadFault (g.R.Source.failed_calls c.args.reader.now) (g.R.Source.failed_calls c.args.reader.now)) _ c.from_residual.ensures.1 refl
+
+pub returns-in_err-read_more-clause-fault : goal.returns-in_err-read_more-clause-fault
+returns-in_err-read_more-clause-fault g c =
+    told _ (IsReadFault (g.R.Source.failed_calls c.args.reader.now) (g.R.Source.failed_calls c.read_more.new.reader)) _ c.from_residual-in_err-read_more.ensures.1
+    (subst (λ (n : ℕ). IsReadFault n (g.R.Source.failed_calls c.read_more.new.reader) c.in_err-read_more.field-0.0) c.loop-block.invariant.none_failed c.in_err-read_more.ensures.fault)
+
 pub loop-block-preserved : goal.loop-block-preserved
 loop-block-preserved g c =
     let m = c.in_ok-read_more.ensures.more in
@@ -37,6 +54,7 @@ loop-block-preserved g c =
       room = omega (arith, same, cut, added);
       most = omega (arith, added, cut, c.loop-block-test.true, c.len.ensures, c.loop-block.text.ok.0, c.in_ok-read_more.ensures.most, c.as_mut_slice.ensures.len, ap length c.as_mut_slice.ensures.value);
       calls = omega (arith, added, some, c.loop-block.invariant.calls, c.in_ok-read_more.ensures.calls);
+      none_failed = c.in_ok-read_more.ensures.reads_well ∙ c.loop-block.invariant.none_failed;
       bytes =
           subst (Consumes (g.R.Source.remaining c.args.reader.now) (g.R.Source.remaining c.read_more.new.reader)) (sym m.2)
           (Consumes-trans _ _ _ c.loop-block.text.items m.0 c.loop-block.invariant.bytes m.3);

@@ -1,0 +1,41 @@
+//! Running a script from files.
+ghost use Rattle.std.specs.Prelude.{◌≡◌, IfOk, IfErr};
+ghost use Rattle.mps_dev.specs.Standard.{calls_of};
+ghost use Rattle.mps_tool.specs.Faults.{IsRunFault};
+ghost use Rattle.mps_tool.specs.declared.fault.ToolFault.TheVariants.{File as NotOpened};
+
+use crate::fault::ToolFault;
+use crate::opening::roles_and_types;
+use crate::reading::read_text;
+use mps_dev::{OverRead, OverWrite};
+use mps_wire::script::run_script;
+use std::rt::Files;
+use std::{fs, io};
+
+/// Opens the file, of which nothing was read yet.
+pub fn open_file<'a, R: Files>(rt: &R, name: &'a str) -> Result<OverRead<R::File>, ToolFault<'a>>
+    ensures fresh { IfOk result (λ reader. calls_of reader ≡ 0) }
+    ensures fault { IfErr result (λ fault. fault ≡ NotOpened name.entry) }
+{
+    match fs::open(rt, name) {
+        Ok(opened) => Ok(OverRead::new(opened)),
+        Err(_) => Err(ToolFault::File { name }),
+    }
+}
+
+/// Runs the script on a new session of the protocol in the file, and prints the answers.
+pub fn run<'a, R: Files + AllocGlobal + Print>(
+    rt: &R,
+    file: &'a str,
+    script: &'a str,
+) -> Result<(), ToolFault<'a>>
+    ensures { IfErr result (IsRunFault file.now script.now) }
+{
+    let alloc = rt.alloc();
+    let text = read_text(alloc, &mut open_file(rt, file)?)?;
+    let (roles, types) = roles_and_types(alloc, text.as_slice())?;
+    let mut reader = open_file(rt, script)?;
+    let mut writer = OverWrite::new(io::writer(rt));
+    run_script(alloc, &mut reader, &mut writer, roles, types)?;
+    Ok(())
+}
