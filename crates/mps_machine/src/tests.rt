@@ -2,6 +2,25 @@ use crate::Forward;
 use mps_base::{Name, Role, Value};
 use std::test::Fail;
 
+// Whether the command is the sending of this text to that role.
+fn sends(command: &Forward, peer: u8, said: &str) -> bool {
+    match command {
+        Forward::Send {
+            to,
+            value: Value::Text(text),
+        } => to.is(Role::new(peer)) && text.as_bytes() == said.as_bytes(),
+        _ => false,
+    }
+}
+
+// Whether the command is a receipt from that role into this slot.
+fn receives(command: &Forward, peer: u8, into: &Name) -> bool {
+    match command {
+        Forward::Receive { from, slot } => from.is(Role::new(peer)) && slot.is(into),
+        Forward::Send { .. } => false,
+    }
+}
+
 #[test]
 fn copies_commands(rt: HostRuntime) -> Result<(), Fail> {
     let alloc = rt.alloc();
@@ -9,27 +28,12 @@ fn copies_commands(rt: HostRuntime) -> Result<(), Fail> {
         to: Role::new(1),
         value: Value::read(alloc, b"\"good day\"")?,
     };
-    match send.copy(alloc)? {
-        Forward::Send {
-            to,
-            value: Value::Text(text),
-        } => {
-            assert_eq!(rt; to, Role::new(1));
-            assert_eq!(rt; text.as_bytes(), b"good day".as_slice());
-        }
-        _ => return Err("a sending of a text".into()),
-    }
+    assert!(rt; sends(&send.copy(alloc)?, 1, "good day"));
     let slot = Name::read(b"x").ok_or("a name")?;
     let receive = Forward::Receive {
         from: Role::new(2),
         slot,
     };
-    match receive.copy(alloc)? {
-        Forward::Receive { from, slot } => {
-            assert_eq!(rt; from, Role::new(2));
-            assert_eq!(rt; slot.as_bytes(), b"x".as_slice());
-        }
-        Forward::Send { .. } => return Err("a receipt".into()),
-    }
+    assert!(rt; receives(&receive.copy(alloc)?, 2, &slot));
     Ok(())
 }
