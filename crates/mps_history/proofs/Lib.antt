@@ -1,3 +1,4 @@
 pub mod Order
 pub mod Reaching
 pub mod Removal
+pub mod Pairing

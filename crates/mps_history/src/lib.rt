@@ -5,7 +5,8 @@
 ghost use Rattle.std.specs.Prelude.{◌≡◌, ◌↔◌, ◌⊎◌, ℕ, ◌<◌, ◌==◌, List, [], ◌∷◌, ◌++◌, Some, IsTrue};
 ghost use Rattle.mps_base.specs.declared.action.Step.{Step};
 ghost use Rattle.mps_history.specs.Steps.{IsIn, IsRising, step_of, within, without};
-ghost use Rattle.mps_history.specs.Dependence.{DependsOn, IsClosed, consequences};
+ghost use Rattle.mps_history.specs.Dependence.{DependsOn, IsClosed, consequences, is_matched};
+ghost use Rattle.mps_history.specs.Swaps.{is_matched_after};
 
 /// In a history whose numbers rise, a step is found by its number, and only a step that has the number.
 pub fn found_by_number()
@@ -32,4 +33,11 @@ pub fn a_last_step_is_alone()
         within (h ++ s ∷ []) (consequences (h ++ s ∷ []) s.id) ≡ s ∷ [] }
     ensures taken_out { (h : List Step) (s : Step) → IsRising (h ++ s ∷ []) →
         without (h ++ s ∷ []) (λ m. m == s.id) ≡ h }
+{}
+
+/// In a history whose numbers rise, a receipt is matched with the send right before it, by their numbers, exactly
+/// where it is by their places.
+pub fn neighbours_pair_by_place()
+    ensures { (a b : List Step) (s t : Step) → IsRising (a ++ s ∷ t ∷ b) →
+        is_matched (a ++ s ∷ t ∷ b) s t ≡ is_matched_after a s t }
 {}

@@ -80,9 +80,13 @@ stream = Rec (codes "X") (Send b IntSort (Var (codes "X"))) ∷ Rec (codes "X") 
 abbrev pub unfitting : List LocalType
 unfitting = Send b IntSort End ∷ Recv a BoolSort End ∷ []
 
--- the first four steps of a relay from a over b to c
-abbrev pub relayed : List Request
-relayed = sends_int a b 5 ∷ receives_into b a (codes "x") ∷ sends_int b c 7 ∷ receives_into c b (codes "y") ∷ []
+-- a value is relayed from a over b to c in four steps, and then more is asked for
+abbrev pub relayed_then : List Request → List Request
+relayed_then more = sends_int a b 5 ∷ receives_into b a (codes "x") ∷ sends_int b c 7 ∷ receives_into c b (codes "y") ∷ more
+
+-- what the four steps are answered, and then more
+abbrev pub relay_done_then : List Answer → List Answer
+relay_done_then more = done 1 ∷ done_with 2 5 ∷ done 3 ∷ done_with 4 7 ∷ more
 
 -- an undo waits for the undo of what depends on it
 abbrev pub AnUndoWaitsForTheReceipt : Type 0
@@ -93,14 +97,21 @@ AnUndoWaitsForTheReceipt =
 -- a rollback of the first step takes all that depends on it, the newest first
 abbrev pub ARollbackTakesAllThatDepends : Type 0
 ARollbackTakesAllThatDepends =
-    answers verdict initial (sends_int a b 5 ∷ receives_into b a (codes "x") ∷ sends_int b c 7 ∷ receives_into c b (codes "y") ∷ Rollback a 1 ∷ [])
-    ≡ done 1 ∷ done_with 2 5 ∷ done 3 ∷ done_with 4 7 ∷ undone (4 ∷ 3 ∷ 2 ∷ 1 ∷ []) ∷ []
+    answers verdict initial (relayed_then (Rollback a 1 ∷ []))
+    ≡ relay_done_then (undone (4 ∷ 3 ∷ 2 ∷ 1 ∷ []) ∷ [])
+
+-- a rollback of the second step takes that step and what depends on it, and leaves the first
+abbrev pub ARollbackLeavesWhatCameBefore : Type 0
+ARollbackLeavesWhatCameBefore =
+    answers verdict initial (relayed_then (Rollback b 2 ∷ []))
+    ≡ relay_done_then (undone (4 ∷ 3 ∷ 2 ∷ []) ∷ [])
 
 -- a rollback leaves what doesn't depend on the step
 abbrev pub ARollbackLeavesTheStrangers : Type 0
 ARollbackLeavesTheStrangers =
-    answers two_pairs initial (sends_int a b 1 ∷ sends_int c d 2 ∷ Rollback a 1 ∷ [])
-    ≡ done 1 ∷ done 2 ∷ undone (1 ∷ []) ∷ []
+    let requests = sends_int a b 1 ∷ sends_int c d 2 ∷ Rollback a 1 ∷ [] in
+    (answers two_pairs initial requests ≡ done 1 ∷ done 2 ∷ undone (1 ∷ []) ∷ [])
+    × (numbers (after two_pairs initial requests).history ≡ 2 ∷ [])
 
 -- an undone receipt takes the same message again
 abbrev pub AReceiptUndoneTakesTheSameMessageAgain : Type 0
@@ -153,8 +164,8 @@ RefusalsAreNamed =
 -- a choice is made, picked, and ends the part
 abbrev pub AChoiceIsMadeAndPicked : Type 0
 AChoiceIsMadeAndPicked =
-    answers verdict initial (sends_int a b 5 ∷ receives_into b a (codes "x") ∷ sends_int b c 7 ∷ receives_into c b (codes "y") ∷ chooses c a (codes "maybe") ∷ picks a c ∷ chooses c a (codes "ok") ∷ picks a c ∷ marks a (codes "e") ∷ sends_int a b 1 ∷ [])
-    ≡ done 1 ∷ done_with 2 5 ∷ done 3 ∷ done_with 4 7 ∷ violates NoLabel ∷ violates NothingQueued ∷ done 5 ∷ done_label 6 (codes "ok") ∷ done 7 ∷ violates Ended ∷ []
+    answers verdict initial (relayed_then (chooses c a (codes "maybe") ∷ picks a c ∷ chooses c a (codes "ok") ∷ picks a c ∷ marks a (codes "e") ∷ sends_int a b 1 ∷ []))
+    ≡ relay_done_then (violates NoLabel ∷ violates NothingQueued ∷ done 5 ∷ done_label 6 (codes "ok") ∷ done 7 ∷ violates Ended ∷ [])
 
 -- a message of another sort than the receiver expects stays
 abbrev pub AMessageOfAnotherSortIsAMismatch : Type 0
@@ -165,7 +176,7 @@ AMessageOfAnotherSortIsAMismatch =
 -- after a rollback of the receipt, its message waits again and the send survives
 abbrev pub TheMessageWaitsAgain : Type 0
 TheMessageWaitsAgain =
-    let h = (after verdict initial (sends_int a b 5 ∷ receives_into b a (codes "x") ∷ sends_int b c 7 ∷ receives_into c b (codes "y") ∷ Rollback b 2 ∷ [])).history in
+    let h = (after verdict initial (relayed_then (Rollback b 2 ∷ []))).history in
     ((view_of verdict h).queue a b ≡ Plain (Int (pos 5)) ∷ []) × (numbers h ≡ 1 ∷ [])
 
 -- after an undo of the second receipt into a slot, the slot has the first value, and the second message waits again

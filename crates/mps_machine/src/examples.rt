@@ -1,10 +1,11 @@
 //! Worked sessions, which show that the definitions say what they mean.
-ghost use Rattle.mps_machine.specs.Examples.{AnUndoWaitsForTheReceipt, ARollbackTakesAllThatDepends, ARollbackLeavesTheStrangers, AReceiptUndoneTakesTheSameMessageAgain, AnUndoneSendIsGone, AReceiptIntoAUsedSlotIsUndone, TheLeastDependentIsNamedASend, TheLeastDependentIsNamedAReceipt, AReturnToAMarkLeavesTheMark, NumbersAreNeverUsedAgain, RefusalsAreNamed, AChoiceIsMadeAndPicked, AMessageOfAnotherSortIsAMismatch, TheMessageWaitsAgain, TheSlotHasItsOldValue};
+ghost use Rattle.mps_machine.specs.Examples.{AnUndoWaitsForTheReceipt, ARollbackTakesAllThatDepends, ARollbackLeavesWhatCameBefore, ARollbackLeavesTheStrangers, AReceiptUndoneTakesTheSameMessageAgain, AnUndoneSendIsGone, AReceiptIntoAUsedSlotIsUndone, TheLeastDependentIsNamedASend, TheLeastDependentIsNamedAReceipt, AReturnToAMarkLeavesTheMark, NumbersAreNeverUsedAgain, RefusalsAreNamed, AChoiceIsMadeAndPicked, AMessageOfAnotherSortIsAMismatch, TheMessageWaitsAgain, TheSlotHasItsOldValue};
 
 /// What the machine answers in short sessions, as worked out by hand.
 pub fn worked_sessions()
     ensures an_undo_waits_for_the_receipt { AnUndoWaitsForTheReceipt }
     ensures a_rollback_takes_all_that_depends { ARollbackTakesAllThatDepends }
+    ensures a_rollback_leaves_what_came_before { ARollbackLeavesWhatCameBefore }
     ensures a_rollback_leaves_the_strangers { ARollbackLeavesTheStrangers }
     ensures a_receipt_undone_takes_the_same_message_again { AReceiptUndoneTakesTheSameMessageAgain }
     ensures an_undone_send_is_gone { AnUndoneSendIsGone }

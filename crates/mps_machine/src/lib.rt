@@ -10,3 +10,6 @@ pub mod swaps;
 
 pub use answer::{Done, Refusal, Violation};
 pub use command::Forward;
+
+#[cfg(test)]
+mod tests;

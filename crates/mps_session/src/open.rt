@@ -50,7 +50,7 @@ fn has_peers(n: usize, role: usize, t: &Local) -> bool
 }
 
 /// The least role whose type names itself or no role of the session.
-pub fn first_bad(types: &[Local]) -> Option<Role>
+pub(crate) fn first_bad(types: &[Local]) -> Option<Role>
     requires { length types.now ≤ 8 }
     ensures bad { IfSome result (IsFirstBad (map plain types.now)) }
     ensures none { IfNone result ((p : ℕ) → p < length types.now → HasPeers (length types.now) p (type_at (map plain types.now) p)) }
@@ -65,7 +65,7 @@ pub fn first_bad(types: &[Local]) -> Option<Role>
 }
 
 /// Equal types.
-pub fn copies(alloc: Global, types: &[Local]) -> Result<Vec<Local>, AllocError>
+pub(crate) fn copies(alloc: Global, types: &[Local]) -> Result<Vec<Local>, AllocError>
     ensures { IfOk result (λ all. map plain all.items ≡ map plain types.now) }
 {
     let mut all = Vec::with_capacity(alloc, types.len())?;
@@ -76,7 +76,7 @@ pub fn copies(alloc: Global, types: &[Local]) -> Result<Vec<Local>, AllocError>
 }
 
 /// As many empty stores.
-pub fn empty_stores(alloc: Global, count: usize) -> Result<Vec<Store>, AllocError>
+pub(crate) fn empty_stores(alloc: Global, count: usize) -> Result<Vec<Store>, AllocError>
     ensures { IfOk result (λ stores. stores.items ≡ replicate count []) }
 {
     let mut stores = Vec::with_capacity(alloc, count)?;
@@ -87,7 +87,7 @@ pub fn empty_stores(alloc: Global, count: usize) -> Result<Vec<Store>, AllocErro
 }
 
 /// As many empty queues.
-pub fn empty_queues(alloc: Global, count: usize) -> Result<Vec<Queue>, AllocError>
+pub(crate) fn empty_queues(alloc: Global, count: usize) -> Result<Vec<Queue>, AllocError>
     ensures { IfOk result (λ queues. queues.items ≡ replicate count []) }
 {
     let mut queues = Vec::with_capacity(alloc, count)?;

@@ -1,5 +1,5 @@
 //! The session.
-ghost use Rattle.std.specs.Prelude.{◌≡◌, ◌↔◌, ◌+◌, ◌<◌, ℕ, length, map, IfOk, IsErrOf, OnOk, OnErr, Ok, Err, Some, List, slice_get};
+ghost use Rattle.std.specs.Prelude.{◌≡◌, ◌↔◌, ◌+◌, ◌<◌, ◌≤◌, ℕ, length, map, IfOk, IsErrOf, OnOk, OnErr, Ok, Err, Some, List, slice_get};
 ghost use Rattle.std.specs.Option.{option_copied, option_map};
 ghost use Rattle.mps_base.specs.declared.action.Act.TheVariants.{Out, In};
 ghost use Rattle.mps_base.specs.declared.action.Message.TheVariants.{Value as Plain};
@@ -55,7 +55,8 @@ impl Model for Session {
 }
 
 impl Session {
-    /// A session in which nothing was done yet. Any types may be given: they needn't fit each other.
+    /// A session in which nothing was done yet. The types needn't fit each other. They are walked by recursion: the
+    /// caller owes types of at most 256 nodes, and far longer ones run the stack out.
     pub fn open(alloc: Global, types: Vec<Local>) -> Result<Session, OpenFault>
         ensures opened { IfOk result (λ session. session ≡ record { types = types.items; state = machine.initial }) }
         ensures can { OnOk result (CanOpen (map plain types.items)) }
@@ -165,7 +166,9 @@ impl Session {
 
     /// How many roles the session has.
     pub fn roles(&self) -> usize
-        ensures { result ≡ length self.now.types }
+        ensures count { result ≡ length self.now.types }
+        ensures some { 2 ≤ result }
+        ensures few { result ≤ 8 }
     {
         self.types.len()
     }
@@ -177,9 +180,10 @@ impl Session {
         self.next - 1
     }
 
-    /// How many steps survive.
+    /// How many steps survive. Their numbers rise and were given out, and the view that is shown is their replay.
     pub fn len(&self) -> usize
-        ensures { result ≡ length self.now.state.history }
+        ensures count { result ≡ length self.now.state.history }
+        ensures sound { machine.IsSound (map plain self.now.types) self.now.state }
     {
         self.history.len()
     }

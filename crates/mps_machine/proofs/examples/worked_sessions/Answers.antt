@@ -12,7 +12,11 @@ returns-clause-a_rollback_takes_all_that_depends c = refl
 
 pub returns-clause-a_rollback_leaves_the_strangers : goal.returns-clause-a_rollback_leaves_the_strangers
 unfolding unfolded
-returns-clause-a_rollback_leaves_the_strangers c = refl
+returns-clause-a_rollback_leaves_the_strangers c = (refl, refl)
+
+pub returns-clause-a_rollback_leaves_what_came_before : goal.returns-clause-a_rollback_leaves_what_came_before
+unfolding unfolded
+returns-clause-a_rollback_leaves_what_came_before c = refl
 
 pub returns-clause-a_receipt_undone_takes_the_same_message_again : goal.returns-clause-a_receipt_undone_takes_the_same_message_again
 unfolding unfolded
