@@ -1,8 +1,8 @@
 //! Scripts over streams: lines from blocks of bytes, and the answers to them in blocks.
 #![tactic(auto)]
 
-pub mod flow;
-pub mod lines;
+mod flow;
+mod lines;
 pub mod script;
 #[cfg(test)]
 mod tests;

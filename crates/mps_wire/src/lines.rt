@@ -5,10 +5,10 @@ ghost use Rattle.mps_wire.specs.Lines.{HasNoBreak, front};
 use std::alloc::AllocError;
 
 /// How many bytes of a line are kept while it comes: one more than a line may have, which tell that it is too long.
-pub const MOST_KEPT: usize = 513;
+pub(crate) const MOST_KEPT: usize = 513;
 
 /// Where the first line ends.
-pub fn line_end(bytes: &[u8]) -> Option<usize>
+pub(crate) fn line_end(bytes: &[u8]) -> Option<usize>
     ensures within { IfSome result (λ k. k < length bytes.now) }
     ensures end { IfSome result (λ k. slice_index bytes.now k ≡ 10) }
     ensures before { IfSome result (λ k. HasNoBreak (take k bytes.now)) }
@@ -18,7 +18,7 @@ pub fn line_end(bytes: &[u8]) -> Option<usize>
 }
 
 /// Adds to the front of a line what comes of it. More than `MOST_KEPT` bytes are dropped.
-pub fn keep(line: &mut Vec<u8>, piece: &[u8]) -> Result<(), AllocError>
+pub(crate) fn keep(line: &mut Vec<u8>, piece: &[u8]) -> Result<(), AllocError>
     requires { length line.old.items ≤ 513 }
     ensures ok { OnOk result (line.new.items ≡ front (line.old.items ++ piece.now)) }
     ensures err { OnErr result (line.new.items ≡ line.old.items) }
