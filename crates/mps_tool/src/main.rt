@@ -17,7 +17,7 @@ pub use running::{open_file, run};
 use std::io::ErrorKind;
 use std::process::ExitCode;
 use std::rt::{Env, Files};
-use std::{env, io};
+use std::{env, io, str};
 pub use words::order;
 
 #[cfg(test)]
@@ -51,12 +51,14 @@ fn called_with<R: Env + AllocGlobal>(rt: &R) -> Result<Vec<String>, ToolFault<'s
     }
 }
 
-/// Prints what went wrong.
+/// Prints what went wrong: the line of the fault, or its display, which takes no memory.
 fn report<R: AllocGlobal + Eprint>(rt: &R, fault: &ToolFault<'_>) -> io::Result<()> {
-    match fault_line(rt.alloc(), fault) {
-        Ok(line) => eprintln!(rt; "{}", String::from_utf8_lossy(rt.alloc(), line.as_slice())?),
-        Err(_) => eprintln!(rt; "{fault}"),
+    if let Ok(line) = fault_line(rt.alloc(), fault) {
+        if let Ok(text) = str::from_utf8(line.as_slice()) {
+            return eprintln!(rt; "{text}");
+        }
     }
+    eprintln!(rt; "{fault}")
 }
 
 /// Prints what went wrong, if that can be printed, and gives the exit status.
