@@ -1,4 +1,5 @@
-pub mod Names
+pub mod Kept
 pub mod Numbers
 pub mod Values
 pub mod RoleLists
+pub mod Spaced

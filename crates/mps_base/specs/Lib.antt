@@ -7,3 +7,5 @@ pub mod Numbers
 pub mod Appends
 pub mod Values
 pub mod RoleLists
+pub mod Spaced
+pub mod Sorts

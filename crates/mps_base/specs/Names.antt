@@ -1,4 +1,4 @@
--- How the names of roles, labels, slots and marks are spelled.
+-- How the names of roles, labels, slots, marks and recursion variables are spelled.
 use Rattle.std.specs.Prelude.{◌≢◌, ℕ, ◌<◌, ◌≤◌, Bool, ◌==◌, nat_le, ◌&&◌, ◌||◌, List, [], ◌∷◌, ◌++◌, length, codes, IsTrue, slice_index}
 use Rattle.std.specs.List.{AllByRecursion}
 
@@ -39,3 +39,18 @@ pub record IsName (bytes : List ℕ) : Type 0 where
   pub first : IsTrue (is_lower (slice_index bytes 0))
   pub each : AllByRecursion (λ c. IsTrue (is_name_byte c)) bytes
   pub free : IsNoneOf reserved_words bytes
+
+-- the bytes `A` to `Z`
+abbrev pub is_upper : ℕ → Bool
+is_upper c = nat_le 65 c && nat_le c 90
+
+-- what a variable is made of: capital letters, digits and `_`
+abbrev pub is_variable_byte : ℕ → Bool
+is_variable_byte c = is_upper c || is_digit c || c == 95
+
+-- 1 to 32 bytes, the first a capital letter
+pub record IsVariable (bytes : List ℕ) : Type 0 where
+  pub some : 0 < length bytes
+  pub short : length bytes ≤ 32
+  pub first : IsTrue (is_upper (slice_index bytes 0))
+  pub each : AllByRecursion (λ c. IsTrue (is_variable_byte c)) bytes

@@ -3,35 +3,28 @@ ghost use Rattle.std.specs.Prelude.{◌≡◌, ◌↔◌, IsTrue, IsSome, IfSome
 ghost use Rattle.std.specs.List.{AllByRecursion};
 ghost use Rattle.mps_base.specs.Names.{IsName, IsNoneOf, is_name_byte, structure_words, sort_words, bool_words, reserved_words};
 
+use crate::inline::{Inline, MAX_WORD};
 use std::marker::Model;
 
 /// How many bytes a name may have.
-pub const MAX_NAME: usize = 32;
+pub const MAX_NAME: usize = MAX_WORD;
 
 /// The name of a role, a label, a slot or a mark: 1 to 32 small letters, digits and `_`, the first
 /// a letter, and no reserved word.
 #[derive(Clone, Copy, Debug, PartialEq, Eq)]
-pub struct Name {
-    len: u8,
-    // zeros behind the name
-    bytes: [u8; 32],
-}
+pub struct Name(Inline);
 
 impl Model for Name {
-    ghost use Rattle.std.specs.Prelude.{ℕ, ◌-◌, ◌++◌, List, length, take, replicate};
-    ghost use Rattle.mps_base.specs.Inline.{IsKept};
+    ghost use Rattle.std.specs.Prelude.{ℕ, List, refl};
+    ghost use Rattle.mps_base.specs.Names.{IsName};
 
     ghost Value = { List ℕ };
 
-    ghost use Rattle.mps_base.specs.Refilled.{refilled};
+    ghost view = { λ n. n.0 };
 
-    ghost view = { λ n. take n.len n.bytes };
+    ghost invariant = { λ n. IsName n.0 };
 
-    ghost invariant = { λ n. IsKept n.len n.bytes };
-
-    ghost inverse = { λ l. record { len = length l; bytes = l ++ replicate (32 - length l) 0 } };
-
-    ghost inverse_ok = { refilled };
+    ghost inverse = { λ l. record { 0 = l } };
 }
 
 impl Name {
@@ -40,15 +33,11 @@ impl Name {
         ensures some { IsSome result ↔ IsName bytes.now }
         ensures name { IfSome result (λ name. name ≡ bytes.now) }
     {
-        if !is_name(bytes) {
-            return None;
+        if is_name(bytes) {
+            Some(Name(Inline::of(bytes)))
+        } else {
+            None
         }
-        let mut kept = [0; MAX_NAME];
-        kept[..bytes.len()].copy_from_slice(bytes);
-        Some(Name {
-            len: bytes.len() as u8,
-            bytes: kept,
-        })
     }
 
     /// Its bytes, from the first to the last.
@@ -56,8 +45,7 @@ impl Name {
         ensures bytes { result.now ≡ self.now }
         ensures name { IsName self.now }
     {
-        let len = usize::from(self.len);
-        &self.bytes[..len]
+        self.0.as_bytes()
     }
 
     /// Whether it is spelled like that name.

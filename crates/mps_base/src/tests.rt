@@ -41,6 +41,20 @@ fn names(rt: HostRuntime) -> Result<(), Fail> {
 }
 
 #[test]
+fn variables(rt: HostRuntime) -> Result<(), Fail> {
+    for good in ["X", "A_1", "ABCDEFGHIJKLMNOPQRSTUVWXYZ_01234", "END"] {
+        let variable = VarName::read(good.as_bytes()).ok_or("a variable")?;
+        assert_eq!(rt; variable.as_bytes(), good.as_bytes());
+        assert!(rt; variable.is(&variable));
+    }
+    let long = "ABCDEFGHIJKLMNOPQRSTUVWXYZ_012345";
+    for bad in ["", "x", "Xy", "1A", "_A", "A-B", "A B", "end", long] {
+        assert!(rt; VarName::read(bad.as_bytes()).is_none(), "{bad}");
+    }
+    Ok(())
+}
+
+#[test]
 fn values(rt: HostRuntime) -> Result<(), Fail> {
     let good = [
         "0",
@@ -187,5 +201,16 @@ fn copied_steps(rt: HostRuntime) -> Result<(), Fail> {
         let second = format!(in rt.alloc(); "{copied:?}")?;
         assert_eq!(rt; first.as_str(), second.as_str());
     }
+    Ok(())
+}
+
+#[test]
+fn spaces_tokens(rt: HostRuntime) -> Result<(), Fail> {
+    let mut text = Vec::new(rt.alloc());
+    for token in [b"a".as_slice(), b"->", b"b"] {
+        push_token(&mut text, token)?;
+    }
+    assert_eq!(rt; text.as_slice(), b"a -> b".as_slice());
+    spacing::written_spaced();
     Ok(())
 }

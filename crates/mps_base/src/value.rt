@@ -1,4 +1,5 @@
 //! Values and their sorts.
+ghost use Rattle.mps_base.specs.Sorts.{sort_word};
 ghost use Rattle.std.specs.Prelude.{◌≡◌, ◌↔◌, IsTrue, IsSome, IfSome, IfOk, All};
 ghost use Rattle.mps_base.specs.Texts.{IsText, IsPlainByte};
 
@@ -11,6 +12,19 @@ pub enum Sort {
     Int,
     Bool,
     Text,
+}
+
+impl Sort {
+    /// The word for it in a protocol.
+    pub fn word(&self) -> &'static [u8]
+        ensures { result.now ≡ sort_word self.now }
+    {
+        match self {
+            Sort::Int => b"int",
+            Sort::Bool => b"bool",
+            Sort::Text => b"text",
+        }
+    }
 }
 
 /// How many bytes a text may have.

@@ -1,2 +1,5 @@
 pub mod Global
+pub mod Weights
 pub mod Faults
+pub mod Above
+pub mod Arms

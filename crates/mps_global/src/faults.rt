@@ -1,13 +1,14 @@
 //! Which protocols are well-formed.
-ghost use Rattle.std.specs.Prelude.{◌≡◌, ◌↔◌, ◌+◌, ◌<◌, ◌≤◌, ℕ, List, IsTrue, IsOk, IfErr, MatchOption};
-ghost use Rattle.std.specs.List.{list_any};
-ghost use Rattle.std.specs.Str.{bytes_eq};
+ghost use Rattle.std.specs.Prelude.{◌≡◌, ◌↔◌, ◌+◌, ◌<◌, ◌≤◌, ◌∷◌, ℕ, List, [], IsTrue, IsOk, IfErr, MatchOption, length, nat_lt};
 ghost use Rattle.mps_base.specs.RoleLists.{AreRoles};
-ghost use Rattle.mps_global.specs.Global.{GlobalType, plain};
-ghost use Rattle.mps_global.specs.Faults.{has_double, preorder, node_count, depth, first_fault, fault_of};
+ghost use Rattle.mps_global.specs.Global.{GlobalType, plain, plain_branches};
+ghost use Rattle.mps_global.specs.Faults.{is_among, has_double, labels, node_count, branch_nodes, depth, branch_depth};
+ghost use Rattle.mps_global.specs.Faults.{places, branch_places, binds, is_guard, is_bound, is_unguarded};
+ghost use Rattle.mps_global.specs.Faults.{variable_fault, rec_fault, pair_fault, label_fault, node_fault, first_fault, fault_of};
+ghost use Rattle.mps_global.specs.Above.{nodes_above};
 
-use crate::{Global, Protocol};
-use mps_base::{MAX_ROLES, MIN_ROLES, Name};
+use crate::{Branches, Global, Protocol};
+use mps_base::{MAX_ROLES, MIN_ROLES, Name, VarName};
 use thiserror::Error;
 
 /// How many nodes a global type has at most.
@@ -15,6 +16,9 @@ pub const MAX_NODES: usize = 256;
 
 /// How many nodes stand on the longest path of a global type at most.
 pub const MAX_DEPTH: usize = 64;
+
+/// How many branches a choice has at most.
+pub const MAX_BRANCHES: usize = 16;
 
 /// What is wrong with a protocol.
 #[derive(Clone, Copy, Debug, PartialEq, Eq, Error)]
@@ -27,10 +31,29 @@ pub enum GlobalFault {
     TooManyNodes,
     #[error("the protocol is more than 64 nodes deep")]
     TooDeep,
-    #[error("a message names no role")]
+    #[error("a message or a choice names no role")]
     UnknownRole,
     #[error("a role sends to itself")]
     SelfMessage,
+    #[error("a choice has a label twice")]
+    DoubleLabel,
+    #[error("a choice has more than 16 branches")]
+    TooManyBranches,
+    #[error("a choice has no branches")]
+    NoBranches,
+    #[error("a variable stands outside its `rec`")]
+    Unbound,
+    #[error("a variable is bound inside its own `rec`")]
+    Shadowed,
+    #[error("no message or choice stands between a `rec` and its variable")]
+    Unguarded,
+}
+
+// The nodes on the path to a node, the nearest first.
+#[derive(Clone, Copy)]
+enum Above<'a> {
+    Root,
+    Under(&'a Global, &'a Above<'a>),
 }
 
 /// Whether a protocol is well-formed, or else its first fault. The tree may be of any size: nothing
@@ -54,7 +77,7 @@ pub fn check(protocol: &Protocol) -> Result<(), GlobalFault>
     if !is_within(&protocol.body, MAX_DEPTH) {
         return Err(GlobalFault::TooDeep);
     }
-    match faulty_node(roles, &protocol.body) {
+    match first_fault(roles, &protocol.body, &Above::Root) {
         None => Ok(()),
         Some(fault) => Err(fault),
     }
@@ -81,12 +104,13 @@ fn names_twice(names: &[Name]) -> bool
 
 // Whether the name is in the list.
 fn is_among(names: &[Name], name: &Name) -> bool
-    ensures { result ≡ list_any (bytes_eq name.now) names.now }
+    ensures { result ≡ is_among names.now name.now }
 {
     names.iter().any(|other| other.is(name))
 }
 
 // What is left of the limit after each node has taken 1, or None where the nodes are more.
+#[cycle(nodes)]
 #[tactic(auto, using(crate::proofs::Sizes::some_node))]
 fn nodes_left(tree: &Global, limit: usize) -> Option<usize>
     ensures { MatchOption result
@@ -97,12 +121,30 @@ fn nodes_left(tree: &Global, limit: usize) -> Option<usize>
         return None;
     }
     match tree {
-        Global::End => Some(limit - 1),
-        Global::Message { next, .. } => nodes_left(next, limit - 1),
+        Global::End | Global::Var(_) => Some(limit - 1),
+        Global::Rec(_, next) | Global::Message { next, .. } => nodes_left(next, limit - 1),
+        Global::Choice { branches, .. } => branch_nodes_left(branches, limit - 1),
+    }
+}
+
+// The same of the nodes of the branches.
+#[cycle(nodes)]
+fn branch_nodes_left(branches: &Branches, limit: usize) -> Option<usize>
+    ensures { MatchOption result
+        (limit < branch_nodes (plain_branches branches.now))
+        (λ left. left + branch_nodes (plain_branches branches.now) ≡ limit) }
+{
+    match branches {
+        Branches::NoMore => Some(limit),
+        Branches::More { next, others, .. } => {
+            let left = nodes_left(next, limit)?;
+            branch_nodes_left(others, left)
+        }
     }
 }
 
 // Whether no path from the root has more nodes than the limit.
+#[cycle(levels)]
 #[tactic(auto, using(crate::proofs::Sizes::some_depth))]
 fn is_within(tree: &Global, limit: usize) -> bool
     ensures { IsTrue result ↔ (depth (plain tree.now) ≤ limit) }
@@ -111,123 +153,205 @@ fn is_within(tree: &Global, limit: usize) -> bool
         return false;
     }
     match tree {
-        Global::End => true,
-        Global::Message { next, .. } => is_within(next, limit - 1),
+        Global::End | Global::Var(_) => true,
+        Global::Rec(_, next) | Global::Message { next, .. } => is_within(next, limit - 1),
+        Global::Choice { branches, .. } => are_within(branches, limit - 1),
+    }
+}
+
+// Whether no path of the branches has more nodes than the limit.
+#[cycle(levels)]
+fn are_within(branches: &Branches, limit: usize) -> bool
+    ensures { IsTrue result ↔ (branch_depth (plain_branches branches.now) ≤ limit) }
+{
+    match branches {
+        Branches::NoMore => true,
+        Branches::More { next, others, .. } => is_within(next, limit) && are_within(others, limit),
     }
 }
 
 // What is wrong with the first faulty node in preorder.
-fn faulty_node(roles: &[Name], tree: &Global) -> Option<GlobalFault>
-    ensures { result ≡ first_fault roles.now (preorder (plain tree.now)) }
+#[cycle(walk)]
+fn first_fault(roles: &[Name], tree: &Global, above: &Above<'_>) -> Option<GlobalFault>
+    ensures { result
+        ≡ first_fault roles.now (places (nodes_above above.now) (plain tree.now)) }
 {
+    if let Some(fault) = node_fault(&*roles, &*tree, &*above) {
+        return Some(fault);
+    }
     match tree {
-        Global::End => None,
-        Global::Message {
-            sender,
-            receiver,
-            next,
-            ..
-        } => {
-            if !is_among(roles, sender) || !is_among(roles, receiver) {
-                return Some(GlobalFault::UnknownRole);
-            }
-            if sender.is(receiver) {
-                return Some(GlobalFault::SelfMessage);
-            }
-            faulty_node(roles, next)
+        Global::End | Global::Var(_) => None,
+        Global::Rec(_, next) | Global::Message { next, .. } => {
+            first_fault(&*roles, next, &Above::Under(&*tree, &*above))
+        }
+        Global::Choice { branches, .. } => {
+            first_branch_fault(&*roles, branches, &Above::Under(&*tree, &*above))
         }
     }
 }
 
-#[cfg(test)]
-mod tests {
-    use super::*;
-    use mps_base::Sort;
-    use std::alloc;
-    use std::process::Abort;
-    use std::test::Fail;
-
-    // The name of these letters.
-    fn name(rt: &impl Abort, letters: &str) -> Name {
-        Name::read(letters.as_bytes()).expect(rt, "a name")
+// The same of the nodes of the branches.
+#[cycle(walk)]
+#[tactic(auto, using(crate::proofs::Walks::first_of_both))]
+fn first_branch_fault(roles: &[Name], branches: &Branches, above: &Above<'_>) -> Option<GlobalFault>
+    ensures { result
+        ≡ first_fault roles.now (branch_places (nodes_above above.now) (plain_branches branches.now)) }
+{
+    match branches {
+        Branches::NoMore => None,
+        Branches::More { next, others, .. } => match first_fault(&*roles, next, &*above) {
+            Some(fault) => Some(fault),
+            None => first_branch_fault(&*roles, others, &*above),
+        },
     }
+}
 
-    // Whether these roles may send these messages of a number one after the other.
-    fn checked(
-        rt: &impl Abort,
-        alloc: alloc::Global,
-        roles: &[&str],
-        messages: &[(&str, &str)],
-    ) -> Result<Result<(), GlobalFault>, Fail> {
-        let mut names = Vec::new(alloc);
-        for role in roles {
-            names.push(name(rt, role))?;
+// What is wrong at the node with that path.
+fn node_fault(roles: &[Name], node: &Global, above: &Above<'_>) -> Option<GlobalFault>
+    ensures { result ≡ node_fault roles.now (nodes_above above.now) (plain node.now) }
+{
+    match node {
+        Global::End => None,
+        Global::Var(name) => variable_fault(name, above),
+        Global::Rec(name, _) => rec_fault(name, above),
+        Global::Message {
+            sender,
+            receiver,
+            ..
+        } => pair_fault(roles, sender, receiver),
+        Global::Choice {
+            sender,
+            receiver,
+            branches,
+        } => match pair_fault(roles, sender, receiver) {
+            Some(fault) => Some(fault),
+            None => label_fault(branches),
+        },
+    }
+}
+
+// What is wrong with a variable that has that path.
+fn variable_fault(name: &VarName, above: &Above<'_>) -> Option<GlobalFault>
+    ensures { result ≡ variable_fault name.now (nodes_above above.now) }
+{
+    if !is_bound(name, above) {
+        return Some(GlobalFault::Unbound);
+    }
+    if is_unguarded(name, above) {
+        return Some(GlobalFault::Unguarded);
+    }
+    None
+}
+
+// What is wrong with a `rec` of that variable, which has that path.
+fn rec_fault(name: &VarName, above: &Above<'_>) -> Option<GlobalFault>
+    ensures { result ≡ rec_fault name.now (nodes_above above.now) }
+{
+    if is_bound(name, above) {
+        return Some(GlobalFault::Shadowed);
+    }
+    None
+}
+
+// What is wrong with the two roles of a message or a choice.
+fn pair_fault(roles: &[Name], sender: &Name, receiver: &Name) -> Option<GlobalFault>
+    ensures { result ≡ pair_fault roles.now sender.now receiver.now None }
+{
+    if !is_among(roles, sender) || !is_among(roles, receiver) {
+        return Some(GlobalFault::UnknownRole);
+    }
+    if sender.is(receiver) {
+        return Some(GlobalFault::SelfMessage);
+    }
+    None
+}
+
+// What is wrong with the labels of a choice.
+fn label_fault(branches: &Branches) -> Option<GlobalFault>
+    ensures { result ≡ label_fault (labels (plain_branches branches.now)) }
+{
+    if has_double_label(branches) {
+        return Some(GlobalFault::DoubleLabel);
+    }
+    if has_more_than(branches, MAX_BRANCHES) {
+        return Some(GlobalFault::TooManyBranches);
+    }
+    match branches {
+        Branches::NoMore => Some(GlobalFault::NoBranches),
+        Branches::More { .. } => None,
+    }
+}
+
+// Whether two branches have one label.
+fn has_double_label(branches: &Branches) -> bool
+    ensures { result ≡ has_double (labels (plain_branches branches.now)) }
+{
+    match branches {
+        Branches::NoMore => false,
+        Branches::More { label, others, .. } => has_label(others, label)
+            || has_double_label(others),
+    }
+}
+
+// Whether a branch has that label.
+fn has_label(branches: &Branches, label: &Name) -> bool
+    ensures { result ≡ is_among (labels (plain_branches branches.now)) label.now }
+{
+    match branches {
+        Branches::NoMore => false,
+        Branches::More {
+            label: other,
+            others,
+            ..
+        } => label.is(other) || has_label(others, label),
+    }
+}
+
+// Whether the branches are more than the limit.
+fn has_more_than(branches: &Branches, limit: usize) -> bool
+    ensures { result ≡ nat_lt limit (length (labels (plain_branches branches.now))) }
+{
+    match branches {
+        Branches::NoMore => false,
+        Branches::More { others, .. } => limit == 0 || has_more_than(others, limit - 1),
+    }
+}
+
+// Whether a `rec` of the variable stands on the path.
+fn is_bound(name: &VarName, above: &Above<'_>) -> bool
+    ensures { result ≡ is_bound name.now (nodes_above above.now) }
+{
+    match above {
+        Above::Root => false,
+        Above::Under(node, above) => binds(name, node) || is_bound(name, above),
+    }
+}
+
+// Whether a `rec` of the variable stands on the path below the nearest message or choice.
+fn is_unguarded(name: &VarName, above: &Above<'_>) -> bool
+    ensures { result ≡ is_unguarded name.now (nodes_above above.now) }
+{
+    match above {
+        Above::Root => false,
+        Above::Under(node, above) => {
+            !is_guard(node) && (binds(name, node) || is_unguarded(name, above))
         }
-        let mut body = Global::End;
-        for (sender, receiver) in messages.iter().rev() {
-            body = Global::message(alloc, name(rt, sender), name(rt, receiver), Sort::Int, body)?;
-        }
-        Ok(check(&Protocol { roles: names, body }))
     }
+}
 
-    #[test]
-    fn answers_the_first_fault(rt: HostRuntime) -> Result<(), Fail> {
-        let long = [("a", "b"); 256];
-        let nine = ["a", "b", "c", "d", "e", "f", "g", "h", "i"];
-        let ok = Ok(());
-        let alloc = rt.alloc();
-        assert_eq!(rt; checked(&rt, alloc, &["a", "b"], &[])?, ok);
-        assert_eq!(rt;
-            checked(&rt, alloc, &["a", "b", "c"], &[("a", "b"), ("b", "c")])?,
-            ok
-        );
-        assert_eq!(rt; checked(&rt, alloc, &nine[..8], &[("a", "h")])?, ok);
-        assert_eq!(rt; checked(&rt, alloc, &["a", "b"], &long[..63])?, ok);
-        let too_deep = Err(GlobalFault::TooDeep);
-        assert_eq!(rt; checked(&rt, alloc, &["a", "b"], &long[..64])?, too_deep);
-        assert_eq!(rt; checked(&rt, alloc, &["a", "b"], &long[..255])?, too_deep);
-        let too_many = Err(GlobalFault::TooManyNodes);
-        assert_eq!(rt; checked(&rt, alloc, &["a", "b"], &long)?, too_many);
-        let role_count = Err(GlobalFault::RoleCount);
-        assert_eq!(rt; checked(&rt, alloc, &["a"], &long)?, role_count);
-        assert_eq!(rt; checked(&rt, alloc, &nine, &[])?, role_count);
-        let double_role = Err(GlobalFault::DoubleRole);
-        assert_eq!(rt; checked(&rt, alloc, &["a", "a"], &long)?, double_role);
-        let unknown_role = Err(GlobalFault::UnknownRole);
-        assert_eq!(rt;
-            checked(&rt, alloc, &["a", "b"], &[("z", "b")])?,
-            unknown_role
-        );
-        assert_eq!(rt;
-            checked(&rt, alloc, &["a", "b"], &[("a", "b"), ("a", "z")])?,
-            unknown_role
-        );
-        assert_eq!(rt;
-            checked(&rt, alloc, &["a", "b"], &[("z", "z"), ("a", "a")])?,
-            unknown_role
-        );
-        let self_message = Err(GlobalFault::SelfMessage);
-        assert_eq!(rt;
-            checked(&rt, alloc, &["a", "b"], &[("a", "a"), ("a", "z")])?,
-            self_message
-        );
-        Ok(())
+// Whether the node is the `rec` of the variable.
+fn binds(name: &VarName, node: &Global) -> bool
+    ensures { result ≡ binds name.now (plain node.now) }
+{
+    match node {
+        Global::Rec(bound, _) => name.is(bound),
+        _ => false,
     }
+}
 
-    #[test]
-    fn drops_a_long_chain(rt: HostRuntime) -> Result<(), Fail> {
-        let a = name(&rt, "a");
-        let mut body = Global::End;
-        for _ in 0..1_000_000 {
-            body = Global::message(rt.alloc(), a, a, Sort::Int, body)?;
-        }
-        let mut roles = Vec::new(rt.alloc());
-        roles.push(a)?;
-        roles.push(name(&rt, "b"))?;
-        assert_eq!(rt;
-            check(&Protocol { roles, body }),
-            Err(GlobalFault::TooManyNodes)
-        );
-        Ok(())
-    }
+// Whether the node is a message or a choice.
+fn is_guard(node: &Global) -> bool
+    ensures { result ≡ is_guard (plain node.now) }
+{
+    matches!(node, Global::Message { .. } | Global::Choice { .. })
 }

@@ -1,61 +1,129 @@
 //! Global types: what a whole session may say, as one tree.
 #![tactic(auto)]
 
-ghost use Rattle.std.specs.Prelude.{◌≡◌, IfOk};
-ghost use Rattle.mps_global.specs.Global.{plain, Message};
+ghost use Rattle.std.specs.Prelude.{◌≡◌, ◌+◌, MatchOption};
+ghost use Rattle.mps_global.specs.Weights.{weight, branch_weight, waiting_weight};
 
+mod building;
 pub mod faults;
+mod walking;
 
 pub use faults::{GlobalFault, check, protocol_laws};
-use mps_base::{Name, Sort};
-use std::alloc::{self, AllocError};
+use mps_base::{Name, Sort, VarName};
+use std::mem;
+pub use walking::Arms;
 
 /// A global type (Honda, Yoshida, Carbone, POPL 2008), without parallel composition.
+#[cycle(global)]
 pub enum Global {
     End,
+    Var(VarName),
+    Rec(VarName, Box<Global>),
     Message {
         sender: Name,
         receiver: Name,
         sort: Sort,
         next: Box<Global>,
     },
+    Choice {
+        sender: Name,
+        receiver: Name,
+        branches: Branches,
+    },
+}
+
+/// The branches of a choice, each a label and what follows it.
+#[cycle(global)]
+pub enum Branches {
+    NoMore,
+    More {
+        label: Name,
+        next: Box<Global>,
+        others: Box<Branches>,
+    },
 }
 
 impl Drop for Global {
-    // in a loop, so that a long chain does not run the stack out
+    // in a loop, so that no tree, long, deep or wide, runs the stack out: what still waits stands in a list of branches, made of the boxes that are there
+    #[tactic(auto, using(crate::proofs::Weights::some_weight))]
     fn drop(mut self) {
+        let mut waiting = Branches::NoMore;
         loop {
             match self {
-                Global::End => return,
+                Global::End | Global::Var(_) => match waiting.first() {
+                    None => return,
+                    Some((_, next, others)) => {
+                        self = Box::into_inner(next);
+                        waiting = Box::into_inner(others);
+                    }
+                },
+                Global::Rec(_, next) => self = Box::into_inner(next),
                 Global::Message {
                     sender: _,
                     receiver: _,
                     sort: _,
                     next,
                 } => self = Box::into_inner(next),
+                Global::Choice {
+                    sender,
+                    receiver,
+                    branches,
+                } => match branches.first() {
+                    None => self = Global::End,
+                    Some((label, mut next, mut others)) => {
+                        let branches = mem::replace(&mut *others, waiting);
+                        let rest = Global::Choice {
+                            sender,
+                            receiver,
+                            branches,
+                        };
+                        self = mem::replace(&mut *next, rest);
+                        waiting = Branches::More {
+                            label,
+                            next,
+                            others,
+                        };
+                    }
+                },
             }
         }
     }
 }
 
-impl Global {
-    /// The sender gives the receiver a value of the sort, and then `next` happens.
-    pub fn message(
-        alloc: alloc::Global,
-        sender: Name,
-        receiver: Name,
-        sort: Sort,
-        next: Global,
-    ) -> Result<Global, AllocError>
-        ensures { IfOk result (λ g. plain g ≡ Message sender receiver sort (plain next)) }
+impl Drop for Branches {
+    fn drop(mut self) {
+        loop {
+            match self {
+                Branches::NoMore => return,
+                Branches::More {
+                    label: _,
+                    next,
+                    others,
+                } => {
+                    drop(next);
+                    self = Box::into_inner(others);
+                }
+            }
+        }
+    }
+}
+
+impl Branches {
+    // The first branch and the others, where there is one.
+    fn first(self) -> Option<(Name, Box<Global>, Box<Branches>)>
+        ensures { MatchOption result
+            ((branch_weight self ≡ 1) × (waiting_weight self ≡ 0))
+            (λ arm. (branch_weight self ≡ weight arm.1.value + branch_weight arm.2.value + 1)
+            × (waiting_weight self ≡ weight arm.1.value + waiting_weight arm.2.value)) }
     {
-        let next = Box::new(alloc, next)?;
-        Ok(Global::Message {
-            sender,
-            receiver,
-            sort,
-            next,
-        })
+        match self {
+            Branches::NoMore => None,
+            Branches::More {
+                label,
+                next,
+                others,
+            } => Some((label, next, others)),
+        }
     }
 }
 
@@ -65,3 +133,6 @@ pub struct Protocol {
     pub roles: Vec<Name>,
     pub body: Global,
 }
+
+#[cfg(test)]
+mod tests;

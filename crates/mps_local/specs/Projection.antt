@@ -1,17 +1,90 @@
--- What one role does in a protocol (Honda, Yoshida, Carbone, POPL 2008).
-use Rattle.std.specs.Prelude.{ℕ, ◌==◌, List, Option, Some, option_and_then, position, if◌then◌else◌}
+-- What one role does in a protocol without faults (Honda, Yoshida, Carbone, POPL 2008; without merging of
+-- branches that differ, and with `end` for a loop that a role takes no part in).
+use Rattle.std.specs.Prelude.{ℕ, suc, ◌+◌, Bool, true, false, ◌==◌, ◌&&◌, ◌||◌, not, List, [], ◌∷◌, ◌++◌, Option, Some, None, option_map, option_and_then, if◌then◌else◌}
+use Rattle.std.specs.List.{list_any, position_or_len}
 use Rattle.std.specs.Str.{bytes_eq}
 use Rattle.mps_base.specs.declared.value.Sort.{Sort}
-use Rattle.mps_global.specs.Global.{GlobalType, End as GlobalEnd, Message}
-use Rattle.mps_local.specs.Local.{LocalType, End, Send, Recv}
+use Rattle.mps_base.specs.declared.value.Sort.TheVariants as sorts
+use Rattle.mps_global.specs.Global as global
+use Rattle.mps_global.specs.Global.{GlobalType}
+use Rattle.mps_local.specs.Local.{LocalType, Branches, End, Var, Rec, Send, Recv, Select, Branch, NoMore, More}
 
 infixl 10 ◌>>=◌
 abbrev pub ◌>>=◌ : {A B : Type 0} → Option A → (A → Option B) → Option B
 o >>= f = option_and_then f o
 
--- the place of the name in the list of roles
-abbrev pub place_of : List (List ℕ) → List ℕ → Option ℕ
-place_of roles name = position (bytes_eq name) roles
+-- the place of the name in the list of roles, or how many they are where it is none of them
+abbrev pub place_of : List (List ℕ) → List ℕ → ℕ
+place_of roles name = position_or_len (bytes_eq name) roles
+
+abbrev mutual
+  -- whether the role sends or receives anywhere in the tree
+  pub occurs : (roles : List (List ℕ)) (role : ℕ) → GlobalType → Bool
+  occurs roles role global.End = false
+  occurs roles role (global.Var name) = false
+  occurs roles role (global.Rec name body) = occurs roles role body
+  occurs roles role (global.Message sender receiver sort next) =
+      role == place_of roles sender || role == place_of roles receiver || occurs roles role next
+  occurs roles role (global.Choice sender receiver branches) =
+      role == place_of roles sender || role == place_of roles receiver || occurs_in roles role branches
+
+  -- the same of the branches
+  pub occurs_in : (roles : List (List ℕ)) (role : ℕ) → global.Branches → Bool
+  occurs_in roles role global.NoMore = false
+  occurs_in roles role (global.More label next others) = occurs roles role next || occurs_in roles role others
+
+abbrev mutual
+  -- whether each variable of the tree stands in a `rec` of it, or is one of these
+  pub is_closed : List (List ℕ) → GlobalType → Bool
+  is_closed bound global.End = true
+  is_closed bound (global.Var name) = list_any (bytes_eq name) bound
+  is_closed bound (global.Rec name body) = is_closed (name ∷ bound) body
+  is_closed bound (global.Message sender receiver sort next) = is_closed bound next
+  is_closed bound (global.Choice sender receiver branches) = are_closed bound branches
+
+  -- the same of the branches
+  pub are_closed : List (List ℕ) → global.Branches → Bool
+  are_closed bound global.NoMore = true
+  are_closed bound (global.More label next others) = is_closed bound next && are_closed bound others
+
+-- whether a loop is none for the role: the role takes no part in it, and it has no free variable
+abbrev pub is_idle : (roles : List (List ℕ)) (role : ℕ) (name : List ℕ) → GlobalType → Bool
+is_idle roles role name body = not (occurs roles role body) && is_closed [] (global.Rec name body)
+
+-- whether two sorts are the same
+abbrev pub same_sort : Sort → Sort → Bool
+same_sort sorts.Int sorts.Int = true
+same_sort sorts.Bool sorts.Bool = true
+same_sort sorts.Text sorts.Text = true
+same_sort sort of = false
+
+abbrev mutual
+  -- whether two types are the same tree
+  pub same : LocalType → LocalType → Bool
+  same End End = true
+  same (Var name) (Var other) = bytes_eq name other
+  same (Rec name body) (Rec other rest) = bytes_eq name other && same body rest
+  same (Send peer sort next) (Send from of rest) = peer == from && same_sort sort of && same next rest
+  same (Recv peer sort next) (Recv from of rest) = peer == from && same_sort sort of && same next rest
+  same (Select peer branches) (Select from rest) = peer == from && same_branches branches rest
+  same (Branch peer branches) (Branch from rest) = peer == from && same_branches branches rest
+  same t u = false
+
+  -- whether two lists of branches are
+  pub same_branches : Branches → Branches → Bool
+  same_branches NoMore NoMore = true
+  same_branches (More label next others) (More other rest more) = bytes_eq label other && same next rest && same_branches others more
+  same_branches b c = false
+
+-- whether each branch goes on with that type
+abbrev pub go_on_with : LocalType → Branches → Bool
+go_on_with t NoMore = true
+go_on_with t (More label next others) = same next t && go_on_with t others
+
+-- the one type that each branch goes on with
+abbrev pub merged : Branches → Option LocalType
+merged NoMore = None
+merged (More label next others) = if go_on_with next others then Some next else None
 
 -- what a role does in a message and then: its sender has an output, its receiver an input, each other role nothing
 abbrev pub with_message : (role sender receiver : ℕ) (sort : Sort) (rest : LocalType) → LocalType
@@ -19,11 +92,74 @@ with_message role sender receiver sort rest =
     if role == sender then Send receiver sort rest
     else (if role == receiver then Recv sender sort rest else rest)
 
--- what a role does in a global type; nothing where the type names other roles than these
-abbrev pub projection : (roles : List (List ℕ)) (role : ℕ) → GlobalType → Option LocalType
-projection roles role GlobalEnd = Some End
-projection roles role (Message sender receiver sort next) = do
-  from ← place_of roles sender
-  to ← place_of roles receiver
-  rest ← projection roles role next
-  Some (with_message role from to sort rest)
+-- what a role does in a choice: its sender chooses, its receiver picks, each other role does the same in every branch
+abbrev pub with_choice : (role sender receiver : ℕ) → Branches → Option LocalType
+with_choice role sender receiver branches =
+    if role == sender then Some (Select receiver branches)
+    else (if role == receiver then Some (Branch sender branches) else merged branches)
+
+abbrev mutual
+  -- what a role does in a global type; nothing where branches that it has to merge differ
+  pub projection : (roles : List (List ℕ)) (role : ℕ) → GlobalType → Option LocalType
+  projection roles role global.End = Some End
+  projection roles role (global.Var name) = Some (Var name)
+  projection roles role (global.Rec name body) =
+      if is_idle roles role name body then Some End else option_map (Rec name) (projection roles role body)
+  projection roles role (global.Message sender receiver sort next) =
+      option_map (with_message role (place_of roles sender) (place_of roles receiver) sort) (projection roles role next)
+  projection roles role (global.Choice sender receiver branches) =
+      projections roles role branches >>= with_choice role (place_of roles sender) (place_of roles receiver)
+
+  -- the same of each branch
+  pub projections : (roles : List (List ℕ)) (role : ℕ) → global.Branches → Option Branches
+  projections roles role global.NoMore = Some NoMore
+  projections roles role (global.More label next others) = do
+    t ← projection roles role next
+    ts ← projections roles role others
+    Some (More label t ts)
+
+abbrev mutual
+  -- how many choices the tree has
+  pub choice_count : GlobalType → ℕ
+  choice_count global.End = 0
+  choice_count (global.Var name) = 0
+  choice_count (global.Rec name body) = choice_count body
+  choice_count (global.Message sender receiver sort next) = choice_count next
+  choice_count (global.Choice sender receiver branches) = suc (branch_choices branches)
+
+  -- the same of the branches
+  pub branch_choices : global.Branches → ℕ
+  branch_choices global.NoMore = 0
+  branch_choices (global.More label next others) = choice_count next + branch_choices others
+
+-- a choice, and its number in preorder
+pub record Numbered : Type 0 where
+  pub number : ℕ
+  pub choice : GlobalType
+
+abbrev mutual
+  -- the choices that the role's projection examines, in that order: those of the branches from left to right, and then
+  -- the one that holds them. The tree's first choice in preorder has that number
+  pub examined : (roles : List (List ℕ)) (role number : ℕ) → GlobalType → List Numbered
+  examined roles role number global.End = []
+  examined roles role number (global.Var name) = []
+  examined roles role number (global.Rec name body) = if is_idle roles role name body then [] else examined roles role number body
+  examined roles role number (global.Message sender receiver sort next) = examined roles role number next
+  examined roles role number (global.Choice sender receiver branches) =
+      examined_in roles role (suc number) branches ++ record { number = number; choice = global.Choice sender receiver branches } ∷ []
+
+  -- the same of the branches
+  pub examined_in : (roles : List (List ℕ)) (role number : ℕ) → global.Branches → List Numbered
+  examined_in roles role number global.NoMore = []
+  examined_in roles role number (global.More label next others) =
+      examined roles role number next ++ examined_in roles role (number + choice_count next) others
+
+-- whether there is no type
+abbrev pub is_undefined : Option LocalType → Bool
+is_undefined None = true
+is_undefined (Some t) = false
+
+-- the number of the first choice of the list in which the role has no projection
+abbrev pub first_unmerged : (roles : List (List ℕ)) (role : ℕ) → List Numbered → Option ℕ
+first_unmerged roles role [] = None
+first_unmerged roles role (c ∷ cs) = if is_undefined (projection roles role c.choice) then Some c.number else first_unmerged roles role cs

@@ -1,6 +1,5 @@
 -- How large a local type is, and with whom it speaks.
-use Rattle.std.specs.Prelude.{ℕ, ◌+◌, ◌<◌, ◌≢◌, max, List, [], ◌∷◌, ◌++◌}
-use Rattle.std.specs.List.{AllByRecursion}
+use Rattle.std.specs.Prelude.{ℕ, ◌+◌, ◌<◌, ◌≢◌, max, ⊤}
 use Rattle.mps_local.specs.Local.{LocalType, Branches, End, Var, Rec, Send, Recv, Select, Branch, NoMore, More}
 
 abbrev mutual
@@ -36,21 +35,21 @@ abbrev mutual
   branch_depth (More label next others) = max (depth next) (branch_depth others)
 
 abbrev mutual
-  -- the peers of a local type's actions, in preorder
-  pub peers : LocalType → List ℕ
-  peers End = []
-  peers (Var name) = []
-  peers (Rec name body) = peers body
-  peers (Send peer sort next) = peer ∷ peers next
-  peers (Recv peer sort next) = peer ∷ peers next
-  peers (Select peer branches) = peer ∷ branch_peers branches
-  peers (Branch peer branches) = peer ∷ branch_peers branches
+  -- each peer of a local type's acts is such a role
+  pub AllPeers : (IsSuch : ℕ → Type 0) → LocalType → Type 0
+  AllPeers IsSuch End = ⊤
+  AllPeers IsSuch (Var name) = ⊤
+  AllPeers IsSuch (Rec name body) = AllPeers IsSuch body
+  AllPeers IsSuch (Send peer sort next) = IsSuch peer × AllPeers IsSuch next
+  AllPeers IsSuch (Recv peer sort next) = IsSuch peer × AllPeers IsSuch next
+  AllPeers IsSuch (Select peer branches) = IsSuch peer × AllBranchPeers IsSuch branches
+  AllPeers IsSuch (Branch peer branches) = IsSuch peer × AllBranchPeers IsSuch branches
 
-  -- the peers in the branches
-  pub branch_peers : Branches → List ℕ
-  branch_peers NoMore = []
-  branch_peers (More label next others) = peers next ++ branch_peers others
+  -- the same of the branches
+  pub AllBranchPeers : (IsSuch : ℕ → Type 0) → Branches → Type 0
+  AllBranchPeers IsSuch NoMore = ⊤
+  AllBranchPeers IsSuch (More label next others) = AllPeers IsSuch next × AllBranchPeers IsSuch others
 
--- each of these places is that of a role of the session, but not of the role itself
-abbrev pub AreOtherRoles : (count role : ℕ) → List ℕ → Type 0
-AreOtherRoles count role places = AllByRecursion (λ place. (place < count) × (place ≢ role)) places
+-- a role of so many, but not that one
+abbrev pub IsOtherRole : (count role : ℕ) → ℕ → Type 0
+IsOtherRole count role peer = (peer < count) × (peer ≢ role)

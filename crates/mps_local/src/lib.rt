@@ -1,19 +1,29 @@
 //! Local types: what one role of a session may do.
 #![tactic(auto)]
 
-ghost use Rattle.std.specs.Prelude.{◌≡◌, IfOk};
-ghost use Rattle.mps_local.specs.Local.{plain, rest_of, Send, Recv};
+ghost use Rattle.std.specs.Prelude.{◌≡◌, ◌+◌, MatchOption};
+ghost use Rattle.mps_local.specs.Local.{plain, plain_branches, NoMore, More};
+ghost use Rattle.mps_local.specs.Weights.{weight, branch_weight, waiting_weight};
 
+mod building;
+mod equality;
+mod loops;
 pub mod projection;
+mod walking;
+mod writing;
 
-use mps_base::{Role, Sort};
+use mps_base::{Name, Role, Sort, VarName};
 pub use projection::{ProjectFault, project, projection_laws};
-use std::alloc::{self, AllocError};
+use std::mem;
+pub use walking::Arms;
+pub use writing::write_local;
 
 /// A local type (Honda, Yoshida, Carbone, POPL 2008), with the peers as places in the list of roles.
 #[cycle(local)]
 pub enum Local {
     End,
+    Var(VarName),
+    Rec(VarName, Box<Local>),
     Send {
         peer: Role,
         sort: Sort,
@@ -24,14 +34,45 @@ pub enum Local {
         sort: Sort,
         next: Box<Local>,
     },
+    /// Chooses a label and sends it.
+    Select {
+        peer: Role,
+        branches: Branches,
+    },
+    /// Takes the label that the peer chose.
+    Branch {
+        peer: Role,
+        branches: Branches,
+    },
+}
+
+/// The branches of a choice, each a label and what follows it.
+#[cycle(local)]
+pub enum Branches {
+    NoMore,
+    More {
+        label: Name,
+        next: Box<Local>,
+        others: Box<Branches>,
+    },
 }
 
 impl Drop for Local {
-    // in a loop, so that a long chain does not run the stack out
+    // in a loop, so that no tree, long, deep or wide, runs the stack out: what still waits stands
+    // in a list of branches, made of the boxes that are there
+    #[tactic(auto, using(crate::proofs::Weights::some_weight))]
     fn drop(mut self) {
+        let mut waiting = Branches::NoMore;
         loop {
             match self {
-                Local::End => return,
+                Local::End | Local::Var(_) => match waiting.first() {
+                    None => return,
+                    Some((_, next, others)) => {
+                        self = Box::into_inner(next);
+                        waiting = Box::into_inner(others);
+                    }
+                },
+                Local::Rec(_, next) => self = Box::into_inner(next),
                 Local::Send {
                     peer: _,
                     sort: _,
@@ -42,71 +83,65 @@ impl Drop for Local {
                     sort: _,
                     next,
                 } => self = Box::into_inner(next),
+                Local::Select { peer, branches } | Local::Branch { peer, branches } => {
+                    match branches.first() {
+                        None => self = Local::End,
+                        Some((label, mut next, mut others)) => {
+                            let branches = mem::replace(&mut *others, waiting);
+                            self = mem::replace(&mut *next, Local::Select { peer, branches });
+                            waiting = Branches::More {
+                                label,
+                                next,
+                                others,
+                            };
+                        }
+                    }
+                }
             }
         }
     }
 }
 
-impl Local {
-    /// An output to the peer, and then `next`.
-    pub fn send(
-        alloc: alloc::Global,
-        peer: Role,
-        sort: Sort,
-        next: Local,
-    ) -> Result<Local, AllocError>
-        ensures { IfOk result (λ t. plain t ≡ Send peer sort (plain next)) }
-    {
-        let next = Box::new(alloc, next)?;
-        Ok(Local::Send { peer, sort, next })
-    }
-
-    /// An input from the peer, and then `next`.
-    pub fn recv(
-        alloc: alloc::Global,
-        peer: Role,
-        sort: Sort,
-        next: Local,
-    ) -> Result<Local, AllocError>
-        ensures { IfOk result (λ t. plain t ≡ Recv peer sort (plain next)) }
-    {
-        let next = Box::new(alloc, next)?;
-        Ok(Local::Recv { peer, sort, next })
-    }
-
-    /// What comes after the first act, and the end for the end.
-    pub fn rest(self) -> Local
-        ensures { plain result ≡ rest_of (plain self) }
-    {
-        match self {
-            Local::End => Local::End,
-            Local::Send {
-                peer: _,
-                sort: _,
-                next,
-            } => Box::into_inner(next),
-            Local::Recv {
-                peer: _,
-                sort: _,
-                next,
-            } => Box::into_inner(next),
-        }
-    }
-
-    /// An equal type. It needs stack for each level, of which a projection has at most 64.
-    pub fn copy(&self, alloc: alloc::Global) -> Result<Local, AllocError>
-        ensures { IfOk result (λ t. plain t ≡ plain self.now) }
-    {
-        match self {
-            Local::End => Ok(Local::End),
-            Local::Send { peer, sort, next } => {
-                let next = next.copy(alloc)?;
-                Local::send(alloc, *peer, *sort, next)
-            }
-            Local::Recv { peer, sort, next } => {
-                let next = next.copy(alloc)?;
-                Local::recv(alloc, *peer, *sort, next)
+impl Drop for Branches {
+    fn drop(mut self) {
+        loop {
+            match self {
+                Branches::NoMore => return,
+                Branches::More {
+                    label: _,
+                    next,
+                    others,
+                } => {
+                    drop(next);
+                    self = Box::into_inner(others);
+                }
             }
         }
     }
 }
+
+impl Branches {
+    /// The first branch, and the others, where there is one.
+    pub(crate) fn first(self) -> Option<(Name, Box<Local>, Box<Branches>)>
+        ensures weight { MatchOption result
+            ((branch_weight self ≡ 1) × (waiting_weight self ≡ 0))
+            (λ arm. (branch_weight self ≡ weight arm.1.value + branch_weight arm.2.value + 1)
+            × (waiting_weight self ≡ weight arm.1.value + waiting_weight arm.2.value)) }
+        ensures parts { MatchOption result
+            (plain_branches self ≡ NoMore)
+            (λ arm. plain_branches self
+            ≡ More arm.0 (plain arm.1.value) (plain_branches arm.2.value)) }
+    {
+        match self {
+            Branches::NoMore => None,
+            Branches::More {
+                label,
+                next,
+                others,
+            } => Some((label, next, others)),
+        }
+    }
+}
+
+#[cfg(test)]
+mod tests;

@@ -1,13 +1,19 @@
 //! What one role of a protocol does in it.
-ghost use Rattle.std.specs.Prelude.{◌≡◌, ◌<◌, ◌≤◌, ℕ, List, length, IsTrue, IfOk, IsSome};
-ghost use Rattle.mps_global.specs.Global.{GlobalType, plain as global_type};
-ghost use Rattle.mps_global.specs.Faults.{is_role, preorder, node_count as global_nodes, depth as global_depth, first_fault, fault_of};
-ghost use Rattle.mps_local.specs.Local.{LocalType, plain};
-ghost use Rattle.mps_local.specs.Projection.{place_of, projection};
-ghost use Rattle.mps_local.specs.Shape.{node_count, depth, peers, AreOtherRoles};
+ghost use Rattle.std.specs.Prelude.{◌≡◌, ◌+◌, ◌<◌, ◌≤◌, ◌∷◌, ℕ, suc, List, Option, Some, None, length, IsTrue, IfOk, IfErr, IsSome, MatchOption, position};
+ghost use Rattle.std.specs.Str.{bytes_eq};
+ghost use Rattle.mps_global.specs.Global.{GlobalType, plain as global_type, plain_branches as global_branches};
+ghost use Rattle.mps_global.specs.Faults.{node_count as global_nodes, depth as global_depth, fault_of};
+ghost use Rattle.mps_local.specs.Local.{LocalType, plain, plain_branches};
+ghost use Rattle.mps_local.specs.Projection.{place_of, same};
+ghost use Rattle.mps_local.specs.Projection.{go_on_with, merged, with_message, with_choice, projection, projections};
+ghost use Rattle.mps_local.specs.Projection.{choice_count, branch_choices, examined, examined_in, first_unmerged};
+ghost use Rattle.mps_local.specs.Shape.{node_count, depth, AllPeers, IsOtherRole};
+ghost use Rattle.mps_local.specs.Outcome.{IsDone, AreDone, IsUnmerged, AreUnmerged};
 
-use crate::Local;
-use mps_base::{Name, Role};
+use crate::equality::same;
+use crate::loops::{choice_count, is_idle};
+use crate::{Branches, Local};
+use mps_base::{Name, Role, Sort};
 use mps_global::{Global, Protocol};
 use std::alloc::{self, AllocError};
 use thiserror::Error;
@@ -15,6 +21,10 @@ use thiserror::Error;
 /// Why a protocol is not projected.
 #[derive(Clone, Copy, Debug, PartialEq, Eq, Error)]
 pub enum ProjectFault {
+    /// The role does not do the same in each branch of a choice of others. Choices are counted in
+    /// preorder, from 0.
+    #[error("the branches of choice {choice} differ for a role that takes no part in it")]
+    Unmergeable { role: Role, choice: usize },
     #[error("out of memory")]
     Memory,
 }
@@ -29,24 +39,28 @@ impl From<AllocError> for ProjectFault {
     }
 }
 
-/// What the role does in the protocol.
+/// What the role does in the protocol. It takes stack for each level, of which there are at most 64.
 pub fn project(alloc: alloc::Global, protocol: &Protocol, role: Role) -> Result<Local, ProjectFault>
     requires well_formed { fault_of protocol.now.roles.items (global_type protocol.now.body) ≡ None }
     requires in_session { role < length protocol.now.roles.items }
-    ensures { IfOk result
+    ensures ok { IfOk result
         (λ t. projection protocol.now.roles.items role (global_type protocol.now.body) ≡ Some (plain t)) }
+    ensures peers { IfOk result
+        (λ t. AllPeers (λ peer. peer < length protocol.now.roles.items) (plain t)) }
+    // It is refused only where there is no projection, and names the role and the choice.
+    ensures fault { IfErr result
+        (IsUnmerged protocol.now.roles.items role 0 (global_type protocol.now.body)) }
 {
-    project_tree(alloc, &protocol.roles, &protocol.body, role)
+    let (local, _) = project_tree(alloc, &protocol.roles, &protocol.body, role, 0)?;
+    Ok(local)
 }
 
-/// What holds of the local types of a protocol without faults: each role has one, its peers are other
-/// roles of the protocol, and it is no larger than the global type.
+/// What holds of the local types of a protocol without faults: their peers are other roles of the
+/// protocol, and they are no larger than the global type.
 pub fn projection_laws()
-    ensures defined { (roles : List (List ℕ)) (role : ℕ) (tree : GlobalType)
-        → fault_of roles tree ≡ None → IsSome (projection roles role tree) }
     ensures peers { (roles : List (List ℕ)) (role : ℕ) (tree : GlobalType) (t : LocalType)
         → fault_of roles tree ≡ None → projection roles role tree ≡ Some t
-        → AreOtherRoles (length roles) role (peers t) }
+        → AllPeers (IsOtherRole (length roles) role) t }
     ensures no_larger { (roles : List (List ℕ)) (role : ℕ) (tree : GlobalType) (t : LocalType)
         → fault_of roles tree ≡ None → projection roles role tree ≡ Some t
         → node_count t ≤ global_nodes tree }
@@ -58,127 +72,184 @@ pub fn projection_laws()
         → (node_count t ≤ 256) × (depth t ≤ 64) }
 {}
 
-// What the role does in the tree, whose nodes have no fault.
+// What the role does in the tree, whose first choice has that number, and the number of the next
+// choice behind it.
+#[cycle(project)]
+#[tactic(auto, using(crate::proofs::Examined::message_done, crate::proofs::Examined::choice_fails_in_a_branch, crate::proofs::Examined::choice_done, crate::proofs::Examined::choice_fails))]
 fn project_tree(
     alloc: alloc::Global,
     roles: &[Name],
     tree: &Global,
     role: Role,
-) -> Result<Local, ProjectFault>
+    number: usize,
+) -> Result<(Local, usize), ProjectFault>
     requires few { length roles.now ≤ 8 }
-    requires sound { first_fault roles.now (preorder (global_type tree.now)) ≡ None }
-    ensures { IfOk result (λ t. projection roles.now role (global_type tree.now) ≡ Some (plain t)) }
+    requires within { number + choice_count (global_type tree.now) ≤ 256 }
+    ensures ok { IfOk result
+        (λ r. IsDone roles.now role number (global_type tree.now) (plain r.0) r.1) }
+    ensures fault { IfErr result (IsUnmerged roles.now role number (global_type tree.now)) }
 {
     match tree {
-        Global::End => Ok(Local::End),
+        Global::End => Ok((Local::End, number)),
+        Global::Var(name) => Ok((Local::Var(*name), number)),
+        Global::Rec(name, body) => {
+            if is_idle(&*roles, name, body, role) {
+                return Ok((Local::End, number + choice_count(body)));
+            }
+            let (rest, after) = project_tree(alloc, &*roles, body, role, number)?;
+            let local = Local::rec(alloc, *name, rest)?;
+            Ok((local, after))
+        }
         Global::Message {
             sender,
             receiver,
             sort,
             next,
         } => {
-            let from = role_of(roles, sender);
-            let to = role_of(roles, receiver);
-            let rest = project_tree(alloc, roles, next, role)?;
-            if role.is(from) {
-                let sent = Local::send(alloc, to, *sort, rest)?;
-                return Ok(sent);
+            let (rest, after) = project_tree(alloc, &*roles, next, role, number)?;
+            let (from, to) = (role_of(&*roles, sender), role_of(&*roles, receiver));
+            let local = with_message(alloc, role, from, to, *sort, rest)?;
+            Ok((local, after))
+        }
+        Global::Choice {
+            sender,
+            receiver,
+            branches,
+        } => {
+            let (rest, after) = project_branches(alloc, &*roles, branches, role, number + 1)?;
+            let (from, to) = (role_of(&*roles, sender), role_of(&*roles, receiver));
+            match with_choice(role, from, to, rest) {
+                Some(local) => Ok((local, after)),
+                None => Err(ProjectFault::Unmergeable {
+                    role,
+                    choice: number,
+                }),
             }
-            if role.is(to) {
-                let received = Local::recv(alloc, from, *sort, rest)?;
-                return Ok(received);
-            }
-            Ok(rest)
         }
     }
 }
 
-// The role of that name, which is one of the names.
-fn role_of(names: &[Name], name: &Name) -> Role
-    requires few { length names.now ≤ 8 }
-    requires known { IsTrue (is_role names.now name.now) }
-    ensures { place_of names.now name.now ≡ Some result }
+// The same of each branch.
+#[cycle(project)]
+#[tactic(auto, using(crate::proofs::Examined::first_fails, crate::proofs::Examined::others_fail, crate::proofs::Examined::branches_done))]
+fn project_branches(
+    alloc: alloc::Global,
+    roles: &[Name],
+    branches: &mps_global::Branches,
+    role: Role,
+    number: usize,
+) -> Result<(Branches, usize), ProjectFault>
+    requires few { length roles.now ≤ 8 }
+    requires within { number + branch_choices (global_branches branches.now) ≤ 256 }
+    ensures ok { IfOk result
+        (λ r. AreDone roles.now role number (global_branches branches.now) (plain_branches r.0) r.1) }
+    ensures fault { IfErr result
+        (AreUnmerged roles.now role number (global_branches branches.now)) }
 {
-    match place(names, name) {
-        Some(place) => Role::new(place as u8),
-        None => unreachable!(),
+    match branches {
+        mps_global::Branches::NoMore => Ok((Branches::NoMore, number)),
+        mps_global::Branches::More {
+            label,
+            next,
+            others,
+        } => {
+            let (first, between) = project_tree(alloc, &*roles, next, role, number)?;
+            let (rest, after) = project_branches(alloc, &*roles, others, role, between)?;
+            let more = Branches::more(alloc, *label, first, rest)?;
+            Ok((more, after))
+        }
     }
 }
 
-// The place of the first name that is spelled like that one.
-fn place(names: &[Name], name: &Name) -> Option<usize>
+// What the role does in a message and then.
+fn with_message(
+    alloc: alloc::Global,
+    role: Role,
+    sender: Role,
+    receiver: Role,
+    sort: Sort,
+    rest: Local,
+) -> Result<Local, AllocError>
+    ensures { IfOk result (λ t. plain t ≡ with_message role sender receiver sort (plain rest)) }
+{
+    if role.is(sender) {
+        return Local::send(alloc, receiver, sort, rest);
+    }
+    if role.is(receiver) {
+        return Local::recv(alloc, sender, sort, rest);
+    }
+    Ok(rest)
+}
+
+// What the role does in a choice, where there is one such type.
+fn with_choice(role: Role, sender: Role, receiver: Role, branches: Branches) -> Option<Local>
+    ensures { MatchOption result
+        (with_choice role sender receiver (plain_branches branches) ≡ None)
+        (λ t. with_choice role sender receiver (plain_branches branches) ≡ Some (plain t)) }
+{
+    if role.is(sender) {
+        return Some(Local::Select {
+            peer: receiver,
+            branches,
+        });
+    }
+    if role.is(receiver) {
+        return Some(Local::Branch {
+            peer: sender,
+            branches,
+        });
+    }
+    merged(branches)
+}
+
+// The one type that each branch goes on with.
+fn merged(branches: Branches) -> Option<Local>
+    ensures { MatchOption result
+        (merged (plain_branches branches) ≡ None)
+        (λ t. merged (plain_branches branches) ≡ Some (plain t)) }
+{
+    let (_, next, others) = branches.first()?;
+    let first = Box::into_inner(next);
+    if go_on_with(&first, &others) {
+        Some(first)
+    } else {
+        None
+    }
+}
+
+// Whether each branch goes on with that type.
+fn go_on_with(first: &Local, branches: &Branches) -> bool
+    ensures { result ≡ go_on_with (plain first.now) (plain_branches branches.now) }
+{
+    match branches {
+        Branches::NoMore => true,
+        Branches::More { next, others, .. } => same(next, first) && go_on_with(first, others),
+    }
+}
+
+/// The role of that name, or one behind all of them.
+pub(crate) fn role_of(names: &[Name], name: &Name) -> Role
+    requires few { length names.now ≤ 8 }
     ensures { result ≡ place_of names.now name.now }
 {
-    names.iter().position(|other| name.is(other))
+    Role::new(place_of(names, name) as u8)
 }
 
-#[cfg(test)]
-mod tests {
-    use super::*;
-    use mps_base::Sort;
-    use mps_global::check;
-    use std::process::Abort;
-    use std::test::Fail;
-
-    // The name of these letters.
-    fn name(rt: &impl Abort, letters: &str) -> Name {
-        Name::read(letters.as_bytes()).expect(rt, "a name")
+// The place of the first of the names that is spelled like that one, or how many they are.
+#[tactic(auto, using(crate::proofs::Places::found_place, crate::proofs::Places::no_place))]
+fn place_of(names: &[Name], name: &Name) -> usize
+    ensures place { result ≡ place_of names.now name.now }
+    ensures within { result ≤ length names.now }
+{
+    match position_of(names, name) {
+        Some(place) => place,
+        None => names.len(),
     }
+}
 
-    // Whether the type is this row of outputs (at true) and inputs, each of a number.
-    fn is_row(tree: &Local, actions: &[(bool, u8)]) -> bool {
-        let mut at = tree;
-        for (sends, place) in actions {
-            match at {
-                Local::Send { peer, sort, next } if *sends => {
-                    if !peer.is(Role::new(*place)) || *sort != Sort::Int {
-                        return false;
-                    }
-                    at = next;
-                }
-                Local::Recv { peer, sort, next } if !*sends => {
-                    if !peer.is(Role::new(*place)) || *sort != Sort::Int {
-                        return false;
-                    }
-                    at = next;
-                }
-                _ => return false,
-            }
-        }
-        matches!(at, Local::End)
-    }
-
-    #[test]
-    fn projects_each_role(rt: HostRuntime) -> Result<(), Fail> {
-        let alloc = rt.alloc();
-        let a = name(&rt, "a");
-        let b = name(&rt, "b");
-        let c = name(&rt, "c");
-        let roles = vec![in alloc; a, b, c]?;
-        let last = Global::message(alloc, b, c, Sort::Int, Global::End)?;
-        let body = Global::message(alloc, a, b, Sort::Int, last)?;
-        let protocol = Protocol { roles, body };
-        assert!(rt; check(&protocol).is_ok());
-        assert_eq!(rt; protocol.roles.len(), 3);
-        let of_a = project(alloc, &protocol, Role::new(0))?;
-        assert!(rt; is_row(&of_a, &[(true, 1)]));
-        let of_b = project(alloc, &protocol, Role::new(1))?;
-        assert!(rt; is_row(&of_b, &[(false, 0), (true, 2)]));
-        assert!(rt; is_row(&of_b.copy(alloc)?, &[(false, 0), (true, 2)]));
-        let of_c = project(alloc, &protocol, Role::new(2))?;
-        assert!(rt; is_row(&of_c, &[(false, 1)]));
-        projection_laws();
-        Ok(())
-    }
-
-    #[test]
-    fn drops_a_long_chain(rt: HostRuntime) -> Result<(), Fail> {
-        let mut tree = Local::End;
-        for _ in 0..500_000 {
-            let sent = Local::send(rt.alloc(), Role::new(1), Sort::Int, tree)?;
-            tree = Local::recv(rt.alloc(), Role::new(1), Sort::Int, sent)?;
-        }
-        assert!(rt; !is_row(&tree, &[]));
-        Ok(())
-    }
+// The place of the first of the names that is spelled like that one.
+fn position_of(names: &[Name], name: &Name) -> Option<usize>
+    ensures { result ≡ position (bytes_eq name.now) names.now }
+{
+    names.iter().position(|other| name.is(other))
 }

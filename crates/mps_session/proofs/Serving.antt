@@ -9,7 +9,8 @@ use Rattle.mps_base.specs.declared.action.Act.TheVariants.{Out, In}
 use Rattle.mps_base.specs.declared.action.Message.{Message}
 use Rattle.mps_base.specs.declared.action.Message.TheVariants.{Value as Plain}
 use Rattle.mps_base.specs.declared.value.Value.{Value}
-use Rattle.mps_local.specs.declared.Local.{Local, End as End', Send', Recv'}
+use Rattle.mps_session.specs.Rows.{row_type}
+use Rattle.mps_session.specs.declared.row.Row.{Row, End as End', Send', Recv'}
 use Rattle.mps_local.specs.Local.{LocalType, plain, rest_of}
 use Rattle.mps_machine.specs.declared.answer.Done.{Done}
 use Rattle.mps_machine.specs.declared.answer.Refusal.{Refusal}
@@ -25,11 +26,11 @@ use Rattle.mps_session.specs.Seen.{Machine}
 use Rattle.mps_session.specs.Held.{Holds}
 use Rattle.mps_session.specs.Kept.{IsKept, state_of}
 use Rattle.mps_session.specs.Answers.{IsAnswer}
-use Rattle.mps_session.proofs.Types.{type_at-plain, length_map}
+use Rattle.mps_session.proofs.Types.{type_at-map, length_map}
 use Rattle.mps_session.proofs.Accepting.{same_fault, receipt_fault, send_allowed, sent_holds, receipt_allowed, received_holds}
 
 -- a type of the program begins with no `rec`
-pub unfolded_plain : (t : Local) → unfolded (plain t) ≡ plain t
+pub unfolded_plain : (t : Row) → unfolded (row_type t) ≡ row_type t
 unfolding unfolded
 unfolded_plain End' = refl
 unfolded_plain (Send' peer sort p t) = refl
@@ -49,21 +50,21 @@ module _ (types : List LocalType) (st : State) (p : ℕ) (act : Act) where
       ap (λ (f : Option Violation). forward_unless f types st p act) e
       ∙ cond-false (nat_lt most_numbers st.next) (Err Full, st) _ (le-ltb most_numbers st.next room)
 
-module _ (types : List LocalType) (coming : List Local) (kept : List Store) (waiting : List (List Message)) (st : State) (holds : Holds types (map plain coming) kept waiting st) (p : ℕ) (d : Local) (at : d ≡ get_or coming p d) (within : p < length coming) where
-  type_is : type_at (map plain coming) p ≡ plain d
-  type_is = type_at-plain coming p d within ∙ ap plain (sym at)
+module _ (types : List LocalType) (coming : List Row) (kept : List Store) (waiting : List (List Message)) (st : State) (holds : Holds types (map row_type coming) kept waiting st) (p : ℕ) (d : Row) (at : d ≡ get_or coming p d) (within : p < length coming) where
+  type_is : type_at (map row_type coming) p ≡ row_type d
+  type_is = type_at-map row_type coming p d within ∙ ap row_type (sym at)
 
-  pub opened_is : unfolded (type_at (map plain coming) p) ≡ type_at (map plain coming) p
+  pub opened_is : unfolded (type_at (map row_type coming) p) ≡ type_at (map row_type coming) p
   opened_is = ap unfolded type_is ∙ unfolded_plain d ∙ sym type_is
 
-  pub send_violation : (to : ℕ) (x : Value) → violation (view_of types st.history) p (Out to (Plain x)) ≡ act_fault (plain d) (Out to (Plain x)) (Some (Plain x))
+  pub send_violation : (to : ℕ) (x : Value) → violation (view_of types st.history) p (Out to (Plain x)) ≡ act_fault (row_type d) (Out to (Plain x)) (Some (Plain x))
   send_violation to x =
-      same_fault types (map plain coming) kept waiting st holds p (Out to (Plain x)) opened_is
+      same_fault types (map row_type coming) kept waiting st holds p (Out to (Plain x)) opened_is
       ∙ ap (λ (t : LocalType). act_fault t (Out to (Plain x)) (Some (Plain x))) type_is
 
-  pub receipt_violation : (from : ℕ) (slot : List ℕ) → p < length types → violation (view_of types st.history) p (In from (Some slot)) ≡ act_fault (plain d) (In from (Some slot)) (first_of (get_or waiting (from * length types + p) []))
+  pub receipt_violation : (from : ℕ) (slot : List ℕ) → p < length types → violation (view_of types st.history) p (In from (Some slot)) ≡ act_fault (row_type d) (In from (Some slot)) (first_of (get_or waiting (from * length types + p) []))
   receipt_violation from slot inside =
-      receipt_fault types (map plain coming) kept waiting st holds p from slot inside opened_is
+      receipt_fault types (map row_type coming) kept waiting st holds p from slot inside opened_is
       ∙ ap (λ (t : LocalType). act_fault t (In from (Some slot)) (first_of (get_or waiting (from * length types + p) []))) type_is
 
 module _ (s : Inside) (now : Machine) (is : ◌≡◌ {A = Machine} (record { types = s.types.items; state = state_of s }) now) (kept : IsKept s) (p : ℕ) (within : p < length now.types) where
@@ -71,20 +72,20 @@ module _ (s : Inside) (now : Machine) (is : ◌≡◌ {A = Machine} (record { ty
   in_types = omega (arith, length_map plain s.types.items, ap (λ (m : Machine). length m.types) is)
 
   pub in_coming : p < length s.to_come.items
-  in_coming = omega (arith, in_types, kept.held.long_coming, length_map plain s.to_come.items)
+  in_coming = omega (arith, in_types, kept.held.long_coming, length_map row_type s.to_come.items)
 
   machine_is : (act : Act) → forward (map plain s.types.items) (state_of s) p act ≡ forward (map plain now.types) now.state p act
   machine_is act = ap (λ (m : Machine). forward (map plain m.types) m.state p act) is
 
-  module _ (d : Local) (at : d ≡ get_or s.to_come.items p d) (to : ℕ) (x : Value) where
-    send_fault_is : violation (view_of (map plain s.types.items) s.history.items) p (Out to (Plain x)) ≡ act_fault (plain d) (Out to (Plain x)) (Some (Plain x))
+  module _ (d : Row) (at : d ≡ get_or s.to_come.items p d) (to : ℕ) (x : Value) where
+    send_fault_is : violation (view_of (map plain s.types.items) s.history.items) p (Out to (Plain x)) ≡ act_fault (row_type d) (Out to (Plain x)) (Some (Plain x))
     send_fault_is = send_violation (map plain s.types.items) s.to_come.items s.stores.items s.queues.items (state_of s) kept.held p d at in_coming to x
 
-    pub send_refused : (fault : Violation) → Some fault ≡ act_fault (plain d) (Out to (Plain x)) (Some (Plain x)) → Err (Violates fault) ≡ (forward (map plain now.types) now.state p (Out to (Plain x))).0
+    pub send_refused : (fault : Violation) → Some fault ≡ act_fault (row_type d) (Out to (Plain x)) (Some (Plain x)) → Err (Violates fault) ≡ (forward (map plain now.types) now.state p (Out to (Plain x))).0
     send_refused fault e =
         ap (λ (r : Result Done Refusal × State). r.0) (sym (answers_fault (map plain s.types.items) (state_of s) p (Out to (Plain x)) fault (send_fault_is ∙ sym e)) ∙ machine_is (Out to (Plain x)))
 
-    module _ (fine : None ≡ act_fault (plain d) (Out to (Plain x)) (Some (Plain x))) where
+    module _ (fine : None ≡ act_fault (row_type d) (Out to (Plain x)) (Some (Plain x))) where
       pub send_full : most_numbers < s.next → Err Full ≡ (forward (map plain now.types) now.state p (Out to (Plain x))).0
       send_full full =
           ap (λ (r : Result Done Refusal × State). r.0) (sym (answers_full (map plain s.types.items) (state_of s) p (Out to (Plain x)) (send_fault_is ∙ sym fine) full) ∙ machine_is (Out to (Plain x)))
@@ -93,43 +94,43 @@ module _ (s : Inside) (now : Machine) (is : ◌≡◌ {A = Machine} (record { ty
       send_done room =
           sym (machine_is (Out to (Plain x))) ∙ answers_done (map plain s.types.items) (state_of s) p (Out to (Plain x)) (send_fault_is ∙ sym fine) room
 
-      send_still : act_fault (type_at (map plain s.to_come.items) p) (Out to (Plain x)) (Some (Plain x)) ≡ None
-      send_still = ap (λ (t : LocalType). act_fault t (Out to (Plain x)) (Some (Plain x))) (type_at-plain s.to_come.items p d in_coming ∙ ap plain (sym at)) ∙ sym fine
+      send_still : act_fault (type_at (map row_type s.to_come.items) p) (Out to (Plain x)) (Some (Plain x)) ≡ None
+      send_still = ap (λ (t : LocalType). act_fault t (Out to (Plain x)) (Some (Plain x))) (type_at-map row_type s.to_come.items p d in_coming ∙ ap row_type (sym at)) ∙ sym fine
 
       pub send_peer : to < length (map plain s.types.items)
-      send_peer = (send_allowed (type_at (map plain s.to_come.items) p) to x (Some (Plain x)) (length (map plain s.types.items)) p (kept.held.peers p in_types) send_still).1
+      send_peer = (send_allowed (type_at (map row_type s.to_come.items) p) to x (Some (Plain x)) (length (map plain s.types.items)) p (kept.held.peers p in_types) send_still).1
 
       pub send_place : p * length (map plain s.types.items) + to < length s.queues.items
       send_place = omega (arith, mul-add-lt p (length (map plain s.types.items)) to (length (map plain s.types.items)) in_types send_peer, kept.held.long_waiting)
 
-      pub send_holds : Holds (map plain s.types.items) (set (map plain s.to_come.items) p (rest_of (type_at (map plain s.to_come.items) p))) s.stores.items (set s.queues.items (p * length (map plain s.types.items) + to) (get_or s.queues.items (p * length (map plain s.types.items) + to) [] ++ Plain x ∷ [])) (accepted (state_of s) p (Out to (Plain x)))
+      pub send_holds : Holds (map plain s.types.items) (set (map row_type s.to_come.items) p (rest_of (type_at (map row_type s.to_come.items) p))) s.stores.items (set s.queues.items (p * length (map plain s.types.items) + to) (get_or s.queues.items (p * length (map plain s.types.items) + to) [] ++ Plain x ∷ [])) (accepted (state_of s) p (Out to (Plain x)))
       send_holds =
-          sent_holds (map plain s.types.items) (map plain s.to_come.items) s.stores.items s.queues.items (state_of s) kept.held p in_types
+          sent_holds (map plain s.types.items) (map row_type s.to_come.items) s.stores.items s.queues.items (state_of s) kept.held p in_types
           (opened_is (map plain s.types.items) s.to_come.items s.stores.items s.queues.items (state_of s) kept.held p d at in_coming)
           to x send_still
 
-  module _ (d : Local) (at : d ≡ get_or s.to_come.items p d) (from : ℕ) (slot : List ℕ) (m : Option Message) (first : m ≡ first_of (get_or s.queues.items (from * length (map plain s.types.items) + p) [])) where
-    receipt_fault_is : violation (view_of (map plain s.types.items) s.history.items) p (In from (Some slot)) ≡ act_fault (plain d) (In from (Some slot)) m
+  module _ (d : Row) (at : d ≡ get_or s.to_come.items p d) (from : ℕ) (slot : List ℕ) (m : Option Message) (first : m ≡ first_of (get_or s.queues.items (from * length (map plain s.types.items) + p) [])) where
+    receipt_fault_is : violation (view_of (map plain s.types.items) s.history.items) p (In from (Some slot)) ≡ act_fault (row_type d) (In from (Some slot)) m
     receipt_fault_is =
         receipt_violation (map plain s.types.items) s.to_come.items s.stores.items s.queues.items (state_of s) kept.held p d at in_coming from slot in_types
-        ∙ ap (act_fault (plain d) (In from (Some slot))) (sym first)
+        ∙ ap (act_fault (row_type d) (In from (Some slot))) (sym first)
 
-    pub receipt_refused : (fault : Violation) → act_fault (plain d) (In from (Some slot)) m ≡ Some fault → Err (Violates fault) ≡ (forward (map plain now.types) now.state p (In from (Some slot))).0
+    pub receipt_refused : (fault : Violation) → act_fault (row_type d) (In from (Some slot)) m ≡ Some fault → Err (Violates fault) ≡ (forward (map plain now.types) now.state p (In from (Some slot))).0
     receipt_refused fault e =
         ap (λ (r : Result Done Refusal × State). r.0) (sym (answers_fault (map plain s.types.items) (state_of s) p (In from (Some slot)) fault (receipt_fault_is ∙ e)) ∙ machine_is (In from (Some slot)))
 
-    module _ (fine : act_fault (plain d) (In from (Some slot)) m ≡ None) (x : Value) (value : m ≡ Some (Plain x)) where
+    module _ (fine : act_fault (row_type d) (In from (Some slot)) m ≡ None) (x : Value) (value : m ≡ Some (Plain x)) where
       pub receipt_full : most_numbers < s.next → Err Full ≡ (forward (map plain now.types) now.state p (In from (Some slot))).0
       receipt_full full =
           ap (λ (r : Result Done Refusal × State). r.0) (sym (answers_full (map plain s.types.items) (state_of s) p (In from (Some slot)) (receipt_fault_is ∙ fine) full) ∙ machine_is (In from (Some slot)))
 
-      receipt_still : act_fault (type_at (map plain s.to_come.items) p) (In from (Some slot)) (first_of (get_or s.queues.items (from * length (map plain s.types.items) + p) [])) ≡ None
+      receipt_still : act_fault (type_at (map row_type s.to_come.items) p) (In from (Some slot)) (first_of (get_or s.queues.items (from * length (map plain s.types.items) + p) [])) ≡ None
       receipt_still =
-          ap (λ (t : LocalType). act_fault t (In from (Some slot)) (first_of (get_or s.queues.items (from * length (map plain s.types.items) + p) []))) (type_at-plain s.to_come.items p d in_coming ∙ ap plain (sym at))
-          ∙ ap (act_fault (plain d) (In from (Some slot))) (sym first) ∙ fine
+          ap (λ (t : LocalType). act_fault t (In from (Some slot)) (first_of (get_or s.queues.items (from * length (map plain s.types.items) + p) []))) (type_at-map row_type s.to_come.items p d in_coming ∙ ap row_type (sym at))
+          ∙ ap (act_fault (row_type d) (In from (Some slot))) (sym first) ∙ fine
 
       receipt_peer : from < length (map plain s.types.items)
-      receipt_peer = (receipt_allowed (type_at (map plain s.to_come.items) p) from slot (first_of (get_or s.queues.items (from * length (map plain s.types.items) + p) [])) (length (map plain s.types.items)) p (kept.held.peers p in_types) receipt_still).3
+      receipt_peer = (receipt_allowed (type_at (map row_type s.to_come.items) p) from slot (first_of (get_or s.queues.items (from * length (map plain s.types.items) + p) [])) (length (map plain s.types.items)) p (kept.held.peers p in_types) receipt_still).3
 
       receipt_moves : moved (view_of (map plain s.types.items) s.history.items) p (In from (Some slot)) ≡ m
       receipt_moves = ap first_of (sym (kept.held.queues from p receipt_peer in_types)) ∙ sym first
@@ -140,9 +141,9 @@ module _ (s : Inside) (now : Machine) (is : ◌≡◌ {A = Machine} (record { ty
           ∙ answers_done (map plain s.types.items) (state_of s) p (In from (Some slot)) (receipt_fault_is ∙ fine) room
           ∙ ap (λ (g : Option Message). let r : Result Done Refusal × State = (Ok (record { id = s.next; got = g }), accepted (state_of s) p (In from (Some slot))) in r) (receipt_moves ∙ value)
 
-      pub receipt_holds : Holds (map plain s.types.items) (set (map plain s.to_come.items) p (rest_of (type_at (map plain s.to_come.items) p))) (set s.stores.items p (bound slot x (get_or s.stores.items p []))) (set s.queues.items (from * length (map plain s.types.items) + p) (drop 1 (get_or s.queues.items (from * length (map plain s.types.items) + p) []))) (accepted (state_of s) p (In from (Some slot)))
+      pub receipt_holds : Holds (map plain s.types.items) (set (map row_type s.to_come.items) p (rest_of (type_at (map row_type s.to_come.items) p))) (set s.stores.items p (bound slot x (get_or s.stores.items p []))) (set s.queues.items (from * length (map plain s.types.items) + p) (drop 1 (get_or s.queues.items (from * length (map plain s.types.items) + p) []))) (accepted (state_of s) p (In from (Some slot)))
       receipt_holds =
-          received_holds (map plain s.types.items) (map plain s.to_come.items) s.stores.items s.queues.items (state_of s) kept.held p in_types
+          received_holds (map plain s.types.items) (map row_type s.to_come.items) s.stores.items s.queues.items (state_of s) kept.held p in_types
           (opened_is (map plain s.types.items) s.to_come.items s.stores.items s.queues.items (state_of s) kept.held p d at in_coming)
           from slot x receipt_still (sym first ∙ value)
 

@@ -4,3 +4,4 @@ pub mod Peers
 pub mod Held
 pub mod Kept
 pub mod Answers
+pub mod Rows

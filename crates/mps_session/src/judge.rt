@@ -4,20 +4,20 @@ ghost use Rattle.std.specs.Option.{option_copied};
 ghost use Rattle.mps_base.specs.declared.action.Act.TheVariants.{Out, In};
 ghost use Rattle.mps_base.specs.declared.action.Message.{Message as Sent};
 ghost use Rattle.mps_base.specs.declared.action.Message.TheVariants.{Value as Plain};
-ghost use Rattle.mps_local.specs.Local.{plain};
 ghost use Rattle.mps_machine.specs.Violations.{act_fault};
+ghost use Rattle.mps_session.specs.Rows.{row_type};
 
+use crate::row::Row;
 use mps_base::{Message, Role, Value};
-use mps_local::Local;
 use mps_machine::Violation;
 
 /// What is wrong with a send of the value to this peer.
-pub fn send_fault(t: &Local, to: Role, value: &Value) -> Option<Violation>
-    ensures { (m : Option Sent) → result ≡ act_fault (plain t.now) (Out to (Plain value.now)) m }
+pub fn send_fault(t: &Row, to: Role, value: &Value) -> Option<Violation>
+    ensures { (m : Option Sent) → result ≡ act_fault (row_type t.now) (Out to (Plain value.now)) m }
 {
     match t {
-        Local::End => Some(Violation::Ended),
-        Local::Send { peer, sort, .. } => {
+        Row::End => Some(Violation::Ended),
+        Row::Send { peer, sort, .. } => {
             if !to.is(*peer) {
                 Some(Violation::WrongPeer)
             } else if !value.is_of(*sort) {
@@ -26,23 +26,19 @@ pub fn send_fault(t: &Local, to: Role, value: &Value) -> Option<Violation>
                 None
             }
         }
-        Local::Recv { .. } => Some(Violation::WrongAct),
+        Row::Recv { .. } => Some(Violation::WrongAct),
     }
 }
 
 /// The value that a receipt from this peer takes, where this message of the peer's waits first, or what is wrong.
-pub fn received<'a>(
-    t: &Local,
-    from: Role,
-    first: Option<&'a Message>,
-) -> Result<&'a Value, Violation>
+pub fn received<'a>(t: &Row, from: Role, first: Option<&'a Message>) -> Result<&'a Value, Violation>
     ensures value { IfOk result (λ v. option_copied first.entry ≡ Some (Plain v.now)) }
-    ensures fine { OnOk result ((slot : List ℕ) → act_fault (plain t.now) (In from (Some slot)) (option_copied first.entry) ≡ None) }
-    ensures fault { IfErr result (λ fault. (slot : List ℕ) → act_fault (plain t.now) (In from (Some slot)) (option_copied first.entry) ≡ Some fault) }
+    ensures fine { OnOk result ((slot : List ℕ) → act_fault (row_type t.now) (In from (Some slot)) (option_copied first.entry) ≡ None) }
+    ensures fault { IfErr result (λ fault. (slot : List ℕ) → act_fault (row_type t.now) (In from (Some slot)) (option_copied first.entry) ≡ Some fault) }
 {
-    let Local::Recv { peer, sort, .. } = t else {
+    let Row::Recv { peer, sort, .. } = t else {
         return Err(match t {
-            Local::End => Violation::Ended,
+            Row::End => Violation::Ended,
             _ => Violation::WrongAct,
         });
     };

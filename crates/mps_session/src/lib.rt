@@ -5,11 +5,13 @@ mod judge;
 pub mod open;
 mod parts;
 mod queue;
+pub mod row;
 pub mod session;
 mod store;
 
 pub use mps_machine::{Done, Forward, Refusal, Violation};
 pub use open::OpenFault;
+pub use row::are_message_only;
 pub use session::Session;
 
 #[cfg(test)]

@@ -1,14 +1,17 @@
 //! Which types a session can be opened with.
 ghost use Rattle.std.specs.Prelude.{◌≡◌, ◌↔◌, ◌<◌, ◌≤◌, ℕ, IsTrue, IfSome, IfNone, IfOk, length, map, List, [], replicate};
+ghost use Rattle.std.specs.List.{AllByRecursion};
 ghost use Rattle.mps_session.specs.declared.open.OpenFault.TheVariants.{Memory as OutOfMemory};
-ghost use Rattle.mps_local.specs.Local.{plain};
+ghost use Rattle.mps_local.specs.Local.{plain, plain_branches};
 ghost use Rattle.mps_machine.specs.View.{type_at};
-ghost use Rattle.mps_session.specs.Peers.{HasPeers, IsFirstBad};
+ghost use Rattle.mps_session.specs.Peers.{IsPeer, HasPeers, HavePeers, IsFirstBad};
+ghost use Rattle.mps_session.specs.Rows.{IsMessageOnly, row_type};
 
 use crate::queue::Queue;
+use crate::row::Row;
 use crate::store::Store;
 use mps_base::Role;
-use mps_local::Local;
+use mps_local::{Branches, Local};
 use std::alloc::{AllocError, Global};
 use thiserror::Error;
 
@@ -36,17 +39,41 @@ impl From<AllocError> for OpenFault {
     }
 }
 
-/// Whether each peer that the type of this role names is another of the n roles.
+// Whether each peer that the type of this role names is another of the n roles.
+#[cycle(peers)]
 fn has_peers(n: usize, role: usize, t: &Local) -> bool
     ensures { IsTrue result ↔ HasPeers n role (plain t.now) }
 {
     match t {
-        Local::End => true,
+        Local::End | Local::Var(_) => true,
+        Local::Rec(_, body) => has_peers(n, role, body),
         Local::Send { peer, next, .. } | Local::Recv { peer, next, .. } => {
-            let q = peer.index();
-            q < n && q != role && has_peers(n, role, next)
+            is_peer(n, role, *peer) && has_peers(n, role, next)
+        }
+        Local::Select { peer, branches } | Local::Branch { peer, branches } => {
+            is_peer(n, role, *peer) && have_peers(n, role, branches)
         }
     }
+}
+
+// The same of the branches.
+#[cycle(peers)]
+fn have_peers(n: usize, role: usize, branches: &Branches) -> bool
+    ensures { IsTrue result ↔ HavePeers n role (plain_branches branches.now) }
+{
+    match branches {
+        Branches::NoMore => true,
+        Branches::More { next, others, .. } => {
+            has_peers(n, role, next) && have_peers(n, role, others)
+        }
+    }
+}
+
+// Whether the peer is another of the n roles.
+fn is_peer(n: usize, role: usize, peer: Role) -> bool
+    ensures { IsTrue result ↔ IsPeer n role peer }
+{
+    peer.index() < n && peer.index() != role
 }
 
 /// The least role whose type names itself or no role of the session.
@@ -64,13 +91,14 @@ pub(crate) fn first_bad(types: &[Local]) -> Option<Role>
     None
 }
 
-/// Equal types.
-pub(crate) fn copies(alloc: Global, types: &[Local]) -> Result<Vec<Local>, AllocError>
-    ensures { IfOk result (λ all. map plain all.items ≡ map plain types.now) }
+/// The rows of the types.
+pub(crate) fn rows(alloc: Global, types: &[Local]) -> Result<Vec<Row>, AllocError>
+    requires messages { AllByRecursion IsMessageOnly (map plain types.now) }
+    ensures { IfOk result (λ all. map row_type all.items ≡ map plain types.now) }
 {
     let mut all = Vec::with_capacity(alloc, types.len())?;
     for t in types {
-        all.push(t.copy(alloc)?)?;
+        all.push(Row::of(alloc, t)?)?;
     }
     Ok(all)
 }

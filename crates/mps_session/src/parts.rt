@@ -1,14 +1,15 @@
 //! What one step changes: a queue, a store, a type to come.
 ghost use Rattle.std.specs.Prelude.{◌≡◌, ◌<◌, List, [], ◌∷◌, ◌++◌, OnOk, OnErr, drop, map, vec_len, slice_index_or, slice_set};
 ghost use Rattle.std.specs.Option.{option_copied};
-ghost use Rattle.mps_local.specs.Local.{plain, rest_of};
+ghost use Rattle.mps_local.specs.Local.{rest_of};
 ghost use Rattle.mps_machine.specs.Rule.{first_of};
 ghost use Rattle.mps_machine.specs.View.{bound, type_at};
+ghost use Rattle.mps_session.specs.Rows.{row_type};
 
 use crate::queue::Queue;
+use crate::row::Row;
 use crate::store::Store;
 use mps_base::{Message, Name, Value};
-use mps_local::Local;
 use std::alloc::AllocError;
 use std::mem;
 
@@ -58,10 +59,10 @@ pub fn bind_at(
 }
 
 /// Goes past the first act of the i-th type.
-pub fn advance_at(types: &mut Vec<Local>, i: usize)
+pub fn advance_at(types: &mut Vec<Row>, i: usize)
     requires { i < vec_len types.old }
-    ensures { map plain types.new.items ≡ slice_set (map plain types.old.items) i (rest_of (type_at (map plain types.old.items) i)) }
+    ensures { map row_type types.new.items ≡ slice_set (map row_type types.old.items) i (rest_of (type_at (map row_type types.old.items) i)) }
 {
-    let t = mem::replace(&mut types[i], Local::End);
+    let t = mem::replace(&mut types[i], Row::End);
     types[i] = t.rest();
 }

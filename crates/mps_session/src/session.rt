@@ -1,5 +1,6 @@
 //! The session.
 ghost use Rattle.std.specs.Prelude.{◌≡◌, ◌↔◌, ◌+◌, ◌<◌, ◌≤◌, ℕ, length, map, IfOk, IsErrOf, OnOk, OnErr, Ok, Err, Some, List, slice_get};
+ghost use Rattle.std.specs.List.{AllByRecursion};
 ghost use Rattle.std.specs.Option.{option_copied, option_map};
 ghost use Rattle.mps_base.specs.declared.action.Act.TheVariants.{Out, In};
 ghost use Rattle.mps_base.specs.declared.action.Message.TheVariants.{Value as Plain};
@@ -8,12 +9,14 @@ ghost use Rattle.mps_machine.specs.Machine as machine;
 ghost use Rattle.mps_machine.specs.View.{value_in};
 ghost use Rattle.mps_machine.specs.Commands.{act_of};
 ghost use Rattle.mps_session.specs.Peers.{HasRoleCount, IsFirstBad, CanOpen};
+ghost use Rattle.mps_session.specs.Rows.{IsMessageOnly};
 ghost use Rattle.mps_session.specs.Answers.{IsAnswer, as_step};
 
 use crate::judge::{received, send_fault};
-use crate::open::{MAX_ROLES, MIN_ROLES, OpenFault, copies, empty_queues, empty_stores, first_bad};
+use crate::open::{MAX_ROLES, MIN_ROLES, OpenFault, empty_queues, empty_stores, first_bad, rows};
 use crate::parts::{advance_at, bind_at, first_at, push_at, take_at};
 use crate::queue::Queue;
+use crate::row::Row;
 use crate::store::Store;
 use mps_base::{Act, Message, Name, Role, Step, StepId, Value};
 use mps_local::Local;
@@ -28,7 +31,7 @@ pub const MAX_NUMBERS: u64 = 100_000;
 #[derive(Drop)]
 pub struct Session {
     types: Vec<Local>,
-    to_come: Vec<Local>,
+    to_come: Vec<Row>,
     stores: Vec<Store>,
     // the queue from p to q stands at p * n + q, of n roles
     queues: Vec<Queue>,
@@ -55,9 +58,11 @@ impl Model for Session {
 }
 
 impl Session {
-    /// A session in which nothing was done yet. The types needn't fit each other. They are walked by recursion: the
-    /// caller owes types of at most 256 nodes, and far longer ones run the stack out.
+    /// A session in which nothing was done yet. Any types of outputs and inputs alone may be given:
+    /// they needn't fit each other. They are walked by recursion: the caller owes types of at most
+    /// 256 nodes, and far longer ones run the stack out.
     pub fn open(alloc: Global, types: Vec<Local>) -> Result<Session, OpenFault>
+        requires messages { AllByRecursion IsMessageOnly (map plain types.items) }
         ensures opened { IfOk result (λ session. session ≡ record { types = types.items; state = machine.initial }) }
         ensures can { OnOk result (CanOpen (map plain types.items)) }
         ensures count { IsErrOf result OpenFault.RoleCount ↔ ¬ HasRoleCount (map plain types.items) }
@@ -71,7 +76,7 @@ impl Session {
         if let Some(role) = first_bad(types.as_slice()) {
             return Err(OpenFault::BadPeer { role });
         }
-        let to_come = copies(alloc, types.as_slice())?;
+        let to_come = rows(alloc, types.as_slice())?;
         let stores = empty_stores(alloc, n)?;
         let queues = empty_queues(alloc, n * n)?;
         Ok(Session {

@@ -34,7 +34,11 @@ fn types(alloc: Global, rows: &[&[Row]]) -> Result<Vec<Local>, Fail> {
 }
 
 fn session(alloc: Global, rows: &[&[Row]]) -> Result<Session, Fail> {
-    Ok(Session::open(alloc, types(alloc, rows)?)?)
+    let types = types(alloc, rows)?;
+    if !are_message_only(&types) {
+        return Err(Fail::from("a choice or a loop"));
+    }
+    Ok(Session::open(alloc, types)?)
 }
 
 fn name(text: &str) -> Result<Name, Fail> {
@@ -207,7 +211,11 @@ fn refuses_a_message_of_another_sort(rt: HostRuntime) -> Result<(), Fail> {
 
 // Why no session can be opened with the types of these rows.
 fn fault(alloc: Global, rows: &[&[Row]]) -> Result<Option<OpenFault>, Fail> {
-    match Session::open(alloc, types(alloc, rows)?) {
+    let types = types(alloc, rows)?;
+    if !are_message_only(&types) {
+        return Err(Fail::from("a choice or a loop"));
+    }
+    match Session::open(alloc, types) {
         Err(OpenFault::Memory) => Err(OpenFault::Memory.into()),
         opened => Ok(opened.err()),
     }

@@ -6,11 +6,11 @@ use Rattle.std.specs.Str.{bytes_eq}
 use Rattle.std.proofs.lemmas.Bool.Decides.{nat_tests}
 use Rattle.std.proofs.lemmas.List.{take-append-drop, take_at, drop_at, length-append, append-nil}
 use Rattle.std.proofs.lemmas.Slice.Eq.{bytes_eq-Decides}
-use Rattle.mps_base.specs.Names.{reserved_words, is_lower, is_name_byte}
-use Rattle.mps_text.specs.Tokens.{is_blank, is_upper, is_word_byte, is_variable_byte, first_is, IsWord, marks, IsTokenBefore, Begins}
+use Rattle.mps_base.specs.Names.{reserved_words, is_lower, is_upper, is_name_byte, is_variable_byte}
+use Rattle.mps_text.specs.Tokens.{is_blank, is_word_byte, first_is, IsWord, marks, IsTokenBefore, Begins}
 use Rattle.mps_text.specs.Lexing.{is_small_word, is_capital_word, is_word, Fault, Lexeme, unblanked, run_len, is_mark_byte, word_len, token_len, lexeme_of, lexeme_at}
 use Rattle.mps_text.specs.declared.fault.TextKind.TheVariants.{Word, Unexpected}
-use Rattle.mps_text.proofs.Names.{both_true, true_both, name_is, is_name_of}
+use Rattle.mps_text.proofs.Names.{both_true, true_both, name_is, is_name_of, variable_is, is_variable_of}
 
 -- ---- blanks
 
@@ -75,8 +75,7 @@ word_by bytes true false e f h =
 word_by bytes false reserved e f h =
     let w = both_true (nat_le (length bytes) 32) (is_small_word bytes || is_capital_word bytes) h in
     let capital : is_capital_word bytes ≡ true = rw e at w.1 in
-    let b = both_true (first_is is_upper bytes) (list_all is_variable_byte bytes) capital in
-    inr (inr (true_both (nat_le (length bytes) 32 && first_is is_upper bytes) (list_all is_variable_byte bytes) (true_both (nat_le (length bytes) 32) (first_is is_upper bytes) w.0 b.0) b.1))
+    inr (inr (variable_is bytes (true_both (nat_le (length bytes) 32) (is_capital_word bytes) w.0 capital)))
 
 word_is : (bytes : List ℕ) → is_word bytes ≡ true → IsWord bytes
 word_is bytes h = word_by bytes (is_small_word bytes) (list_any (bytes_eq bytes) reserved_words) refl refl h
@@ -95,9 +94,8 @@ is_word_of bytes (inl name) =
     small_is bytes (is_capital_word bytes) b.0 b.1
 is_word_of bytes (inr (inl reserved)) = each_of (λ t. is_word t ≡ true) bytes reserved_words reserved (refl, (refl, (refl, (refl, (refl, (refl, (refl, (refl, tt))))))))
 is_word_of bytes (inr (inr variable)) =
-    let a = both_true (nat_le (length bytes) 32 && first_is is_upper bytes) (list_all is_variable_byte bytes) variable in
-    let b = both_true (nat_le (length bytes) 32) (first_is is_upper bytes) a.0 in
-    capital_is (nat_le (length bytes) 32) (is_small_word bytes) (is_capital_word bytes) b.0 (true_both (first_is is_upper bytes) (list_all is_variable_byte bytes) b.1 a.1)
+    let b = both_true (nat_le (length bytes) 32) (is_capital_word bytes) (is_variable_of bytes variable) in
+    capital_is (nat_le (length bytes) 32) (is_small_word bytes) (is_capital_word bytes) b.0 b.1
 
 -- ---- what was found is a token
 
@@ -251,6 +249,15 @@ token_again : (token rest : List ℕ) → IsTokenBefore token rest → Again tok
 token_again token rest (inl mark) = mark_again token rest mark
 token_again token rest (inr word) = word_again token rest (is_small_word token) refl (is_word_of token word.0) word.1
 
+pub token_some : (token rest : List ℕ) → IsTokenBefore token rest → 0 < length token
+token_some token rest h = (token_again token rest h).some
+
+-- what stands behind the blanks
+pub begins_behind : (bytes token rest : List ℕ) → Begins bytes token rest → unblanked bytes ≡ token ++ rest
+begins_behind bytes token rest h =
+    let a = token_again token rest h.found in
+    ap unblanked h.parts ∙ unblanked_front h.blanks (token ++ rest) h.blank ∙ unblanked_same (token ++ rest) a.first
+
 not_nil : (n : ℕ) → 0 < n → (n == 0) ≡ false
 not_nil n h = grind (arith, nat_tests)
 
@@ -258,7 +265,7 @@ pub lexeme_again : (bytes token rest : List ℕ) → Begins bytes token rest →
 unfolding lexeme_at lexeme_of
 lexeme_again bytes token rest h =
     let a = token_again token rest h.found in
-    let start : unblanked bytes ≡ token ++ rest = ap unblanked h.parts ∙ unblanked_front h.blanks (token ++ rest) h.blank ∙ unblanked_same (token ++ rest) a.first in
+    let start = begins_behind bytes token rest h in
     let long : (length (token ++ rest) == 0) ≡ false = not_nil (length (token ++ rest)) (omega (arith, length-append token rest, a.some)) in
     let some : (length token == 0) ≡ false = not_nil (length token) a.some in
     rw (start, long, a.len, some, take_at token rest (length token) refl, drop_at token rest (length token) refl) refl

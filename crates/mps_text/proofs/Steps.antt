@@ -1,18 +1,122 @@
--- Reading with room for more.
-use Rattle.std.proofs.Common.{◌≡◌, ◌≢◌, ℕ, zero, suc, ◌-◌, cond, List, [], ◌∷◌, ◌++◌, Ok, Err, refl, arith}
-use Rattle.std.specs.Prelude.{codes}
-use Rattle.std.specs.Str.{bytes_eq}
-use Rattle.mps_global.specs.Global.{End, Message}
-use Rattle.mps_text.specs.Lexing.{◌>>=◌, lexeme_at, is_name}
-use Rattle.mps_text.specs.Reading.{message_at, global_at, roles_at}
-use Rattle.mps_text.specs.declared.fault.TextKind.TheVariants.{Unexpected}
+-- A text, cut into tokens.
+use Rattle.std.proofs.Common.{◌≡◌, ◌≢◌, ℕ, zero, suc, ◌<◌, Bool, false, true, ◌⊎◌, inl, inr, List, [], ◌∷◌, ◌++◌, length, Result, Ok, Err, refl, ap, sym, subst, ◌∙◌, arith}
+use Rattle.std.specs.Prelude.{◌==◌}
+use Rattle.std.specs.List.{list_all}
+use Rattle.std.proofs.lemmas.Bool.Decides.{nat_tests}
+use Rattle.std.proofs.lemmas.List.{length-append, append-nil, nil_from_length}
+use Rattle.mps_text.specs.Tokens.{is_blank, first_is}
+use Rattle.mps_text.specs.Faults.{IsMalformed}
+use Rattle.mps_text.specs.Lexing.{Fault, Lexeme, Lexed, Ended, Malformed, Next, lexeme_at, lexeme_of, token_len, lexed_by, lexed_end, lexed_in, lexed, unblanked}
+use Rattle.mps_text.specs.Reading.{Symbol, run}
+use Rattle.mps_text.specs.declared.fault.TextKind.{TextKind}
+use Rattle.mps_text.specs.declared.fault.TextKind.TheVariants.{Word, Unexpected, Trailing}
+use Rattle.mps_text.proofs.Lexemes.{lexeme_takes, lexeme_again, token_some, unblanked_parts, unblanked_first, unblanked_same, unblanked_none}
 
-pub global_more : (room : ℕ) (bytes : List ℕ) → room ≢ 0 → global_at room bytes ≡ (lexeme_at bytes >>= λ next. cond (bytes_eq next.token (codes "end")) (Ok (End, next.rest)) (cond (is_name next.token) (message_at next.rest >>= λ message. global_at (room - 1) message.2 >>= λ after. Ok (Message next.token message.0 message.1 after.0, after.1)) (Err (next.left, Unexpected))))
-unfolding global_at
-global_more zero bytes some = absurd (some refl)
-global_more (suc room) bytes some = let e : suc room - 1 ≡ room = omega arith in rw e refl
+-- a token takes a byte at least
+pub next_shorter : (bytes : List ℕ) (next : Lexeme) → lexeme_at bytes ≡ Ok next → length next.rest < length bytes
+next_shorter bytes next h =
+    let f = lexeme_takes bytes next h in
+    let b = f.begins in
+    let some : 0 < length next.token = token_some next.token next.rest b.found in
+    omega (arith, some, ap length b.parts, length-append b.blanks (next.token ++ next.rest), length-append next.token next.rest)
 
-pub roles_more : (room : ℕ) (roles : List (List ℕ)) (bytes : List ℕ) → room ≢ 0 → roles_at room roles bytes ≡ (lexeme_at bytes >>= λ next. cond (bytes_eq next.token (codes ";")) (Ok (roles, next.rest)) (cond (is_name next.token) (roles_at (room - 1) (roles ++ next.token ∷ []) next.rest) (Err (next.left, Unexpected))))
-unfolding roles_at
-roles_more zero roles bytes some = absurd (some refl)
-roles_more (suc room) roles bytes some = let e : suc room - 1 ≡ room = omega arith in rw e refl
+lexed_alike : (room more : ℕ) (bytes : List ℕ) (r : Result Lexeme Fault) → lexeme_at bytes ≡ r → ((rest : List ℕ) → length rest < length bytes → lexed_in room rest ≡ lexed_in more rest) → lexed_by (lexed_in room) r ≡ lexed_by (lexed_in more) r
+lexed_alike room more bytes (Ok next) h same = ap (λ (l : Lexed). Next next.token next.left l) (same next.rest (next_shorter bytes next h))
+lexed_alike room more bytes (Err fault) h same = refl
+
+-- with room for every byte it is all one how much there is
+lexed_same : (room more : ℕ) (bytes : List ℕ) → length bytes < room → length bytes < more → lexed_in room bytes ≡ lexed_in more bytes
+lexed_same zero more bytes a b = absurd (omega arith)
+lexed_same (suc room) zero bytes a b = absurd (omega arith)
+lexed_same (suc room) (suc more) bytes a b =
+    lexed_alike room more bytes (lexeme_at bytes) refl (λ rest less. lexed_same room more rest (omega arith) (omega arith))
+
+pub lexed_next : (bytes : List ℕ) (next : Lexeme) → lexeme_at bytes ≡ Ok next → lexed bytes ≡ Next next.token next.left (lexed next.rest)
+unfolding lexed
+lexed_next bytes next h =
+    ap (lexed_by (lexed_in (length bytes))) h
+    ∙ ap (λ (l : Lexed). Next next.token next.left l) (lexed_same (length bytes) (suc (length next.rest)) next.rest (next_shorter bytes next h) (omega arith))
+
+pub lexed_stop : (bytes : List ℕ) (left : ℕ) (kind : TextKind) → lexeme_at bytes ≡ Err (left, kind) → lexed bytes ≡ lexed_end left kind
+unfolding lexed
+lexed_stop bytes left kind h = ap (lexed_by (lexed_in (length bytes))) h
+
+-- ---- no token is there
+
+-- what bytes without a token begin with, behind blanks
+pub record NoLexeme (bytes : List ℕ) (fault : Fault) : Type 0 where
+  pub blanks : List ℕ
+  pub blank : list_all is_blank blanks ≡ true
+  pub here : List ℕ
+  pub parts : bytes ≡ blanks ++ here
+  pub left : length here ≡ fault.0
+  pub wrong : ((fault.1 ≡ Unexpected) × (here ≡ [])) ⊎ ((fault.1 ≡ Word) × IsMalformed here)
+
+err_is : {A : Type 0} (d e : Fault) (r : Result A Fault) → r ≡ Err d → r ≡ Err e → d ≡ e
+err_is d e r p q = cc
+
+malformed : (bytes : List ℕ) → (length bytes == 0) ≡ false → (token_len bytes == 0) ≡ true → first_is is_blank bytes ≡ false → IsMalformed bytes
+unfolding lexeme_at lexeme_of
+malformed bytes some none first = record {
+  some = λ e. absurd (cc (ap length e, some));
+  no_blank = first;
+  no_token = λ token rest h.
+      let found = lexeme_again bytes token rest h in
+      let not : lexeme_at bytes ≡ Err (length bytes, Word) = rw (unblanked_same bytes first, some, none) refl in
+      absurd (cc (found, not));
+}
+
+lexeme_by : (bytes : List ℕ) (fault : Fault) (a b : Bool) → (length (unblanked bytes) == 0) ≡ a → (token_len (unblanked bytes) == 0) ≡ b → lexeme_at bytes ≡ Err fault → NoLexeme bytes fault
+unfolding lexeme_at lexeme_of
+lexeme_by bytes fault true b e f h =
+    let u = unblanked_parts bytes in
+    let none : unblanked bytes ≡ [] = nil_from_length (unblanked bytes) (grind (arith, nat_tests, e)) in
+    let end : lexeme_at bytes ≡ Err (0, Unexpected) = rw e refl in
+    subst (NoLexeme bytes) (err_is (0, Unexpected) fault (lexeme_at bytes) end h)
+    (record { blanks = u.blanks; blank = u.blank; here = []; parts = u.parts ∙ ap (λ (xs : List ℕ). u.blanks ++ xs) none; left = refl; wrong = inl (refl, refl) })
+lexeme_by bytes fault false true e f h =
+    let u = unblanked_parts bytes in
+    let bad : lexeme_at bytes ≡ Err (length (unblanked bytes), Word) = rw (e, f) refl in
+    subst (NoLexeme bytes) (err_is (length (unblanked bytes), Word) fault (lexeme_at bytes) bad h)
+    (record { blanks = u.blanks; blank = u.blank; here = unblanked bytes; parts = u.parts; left = refl; wrong = inr (refl, malformed (unblanked bytes) e f (unblanked_first bytes)) })
+lexeme_by bytes fault false false e f h = absurd (cc (rw (e, f) at h))
+
+pub lexeme_fails : (bytes : List ℕ) (fault : Fault) → lexeme_at bytes ≡ Err fault → NoLexeme bytes fault
+lexeme_fails bytes fault h = lexeme_by bytes fault (length (unblanked bytes) == 0) (token_len (unblanked bytes) == 0) refl refl h
+
+-- ---- where the reader stops for want of a token
+
+pub run_stop : (x : Symbol) (others : List Symbol) (nodes : ℕ) (bytes : List ℕ) (left : ℕ) (kind : TextKind) → lexeme_at bytes ≡ Err (left, kind) → run (x ∷ others) nodes (lexed bytes) ≡ Err (left, kind)
+run_stop x others nodes bytes left kind h =
+    let n = lexeme_fails bytes (left, kind) h in
+    elim n.wrong [
+      | inl w ↦
+          let none : 0 ≡ left = sym (ap length w.1) ∙ n.left in
+          let cut : lexed bytes ≡ Ended = lexed_stop bytes left kind h ∙ ap (lexed_end left) w.0 in
+          rw (cut, w.0, ← none) refl
+      | inr w ↦
+          let cut : lexed bytes ≡ Malformed left = lexed_stop bytes left kind h ∙ ap (lexed_end left) w.0 in
+          rw (cut, w.0) refl
+    ]
+
+pub blanks_end : (bytes : List ℕ) → length (unblanked bytes) ≡ 0 → lexed bytes ≡ Ended
+unfolding lexeme_at lexeme_of
+blanks_end bytes h =
+    let end : lexeme_at bytes ≡ Err (0, Unexpected) = rw h refl in
+    lexed_stop bytes 0 Unexpected end
+
+pub stop_behind : (nodes : ℕ) (bytes : List ℕ) (left : ℕ) (kind : TextKind) → length (unblanked bytes) ≢ 0 → lexeme_at bytes ≡ Err (left, kind) → run [] nodes (lexed bytes) ≡ Err (left, kind)
+stop_behind nodes bytes left kind some h =
+    let n = lexeme_fails bytes (left, kind) h in
+    elim n.wrong [
+      | inl w ↦
+          let all : bytes ≡ n.blanks = n.parts ∙ ap (λ (xs : List ℕ). n.blanks ++ xs) w.1 ∙ append-nil n.blanks in
+          let none : unblanked bytes ≡ [] = ap unblanked all ∙ unblanked_none n.blanks n.blank in
+          absurd (some (ap length none))
+      | inr w ↦
+          let cut : lexed bytes ≡ Malformed left = lexed_stop bytes left kind h ∙ ap (lexed_end left) w.0 in
+          rw (cut, w.0) refl
+    ]
+
+pub token_behind : (nodes : ℕ) (bytes : List ℕ) (next : Lexeme) → lexeme_at bytes ≡ Ok next → run [] nodes (lexed bytes) ≡ Err (next.left, Trailing)
+token_behind nodes bytes next h = rw (lexed_next bytes next h) refl

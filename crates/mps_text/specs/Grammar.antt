@@ -1,40 +1,62 @@
 -- Which tokens spell a protocol.
-use Rattle.std.specs.Prelude.{◌≡◌, ℕ, ◌≤◌, List, [], ◌∷◌, ◌++◌, length, codes, Result, Ok, Err}
+use Rattle.std.specs.Prelude.{◌≡◌, ℕ, ◌≤◌, ⊤, List, [], ◌∷◌, ◌++◌, length, codes, Result, Ok, Err}
 use Rattle.std.specs.List.{AllByRecursion}
-use Rattle.mps_base.specs.Names.{IsName}
+use Rattle.mps_base.specs.Names.{IsName, IsVariable}
 use Rattle.mps_base.specs.RoleLists.{HasRoleCount}
-use Rattle.mps_base.specs.declared.value.Sort.{Sort}
-use Rattle.mps_base.specs.declared.value.Sort.TheVariants.{Int, Bool, Text}
-use Rattle.mps_global.specs.Global.{GlobalType, End, Message, plain}
+use Rattle.mps_base.specs.Sorts.{sort_word}
+use Rattle.mps_global.specs.Global.{GlobalType, Branches, End, Var, Rec, Message, Choice, NoMore, More, plain}
 use Rattle.mps_global.specs.Faults.{node_count, depth}
 use Rattle.mps_global.specs.declared.Protocol.{Protocol}
 use Rattle.mps_text.specs.Tokens.{AreTokensOf}
 use Rattle.mps_text.specs.declared.fault.TextFault.{TextFault}
 use Rattle.mps_text.specs.declared.fault.TextKind.TheVariants.{Memory}
 
--- the word for a sort
-abbrev pub sort_word : Sort → List ℕ
-sort_word Int = codes "int"
-sort_word Bool = codes "bool"
-sort_word Text = codes "text"
+abbrev mutual
+  -- the tokens of a global type
+  pub global_tokens : GlobalType → List (List ℕ)
+  global_tokens End = codes "end" ∷ []
+  global_tokens (Var name) = name ∷ []
+  global_tokens (Rec name body) = codes "rec" ∷ name ∷ codes "." ∷ global_tokens body
+  global_tokens (Message sender receiver sort next) =
+      sender ∷ codes "->" ∷ receiver ∷ codes ":" ∷ sort_word sort ∷ codes "." ∷ global_tokens next
+  global_tokens (Choice sender receiver branches) =
+      sender ∷ codes "->" ∷ receiver ∷ codes "{" ∷ branch_tokens branches ++ codes "}" ∷ []
 
--- what stands before the type that follows a message
-abbrev pub message_tokens : List ℕ → List ℕ → Sort → List (List ℕ)
-message_tokens sender receiver sort = sender ∷ codes "->" ∷ receiver ∷ codes ":" ∷ sort_word sort ∷ codes "." ∷ []
+  -- the tokens of branches, with a comma between two
+  pub branch_tokens : Branches → List (List ℕ)
+  branch_tokens NoMore = []
+  branch_tokens (More label next NoMore) = label ∷ codes ":" ∷ global_tokens next
+  branch_tokens (More label next others) = label ∷ codes ":" ∷ global_tokens next ++ codes "," ∷ branch_tokens others
 
--- the tokens spell the global type
-abbrev pub SpellsGlobal : List (List ℕ) → GlobalType → Type 0
-SpellsGlobal tokens End = tokens ≡ codes "end" ∷ []
-SpellsGlobal tokens (Message sender receiver sort next) =
-    IsName sender × IsName receiver × (rest : List (List ℕ)) × (tokens ≡ message_tokens sender receiver sort ++ rest) × SpellsGlobal rest next
+-- there is a branch
+abbrev pub HasBranch : Branches → Type 0
+HasBranch NoMore = ⊥
+HasBranch (More label next others) = ⊤
 
--- the tokens spell the protocol: `roles`, 2 to 8 names, `;` and a global type
+abbrev mutual
+  -- roles and labels are names, variables are variables, and each choice has a branch
+  pub IsSpellable : GlobalType → Type 0
+  IsSpellable End = ⊤
+  IsSpellable (Var name) = IsVariable name
+  IsSpellable (Rec name body) = IsVariable name × IsSpellable body
+  IsSpellable (Message sender receiver sort next) = IsName sender × IsName receiver × IsSpellable next
+  IsSpellable (Choice sender receiver branches) = IsName sender × IsName receiver × HasBranch branches × AreSpellable branches
+
+  -- the same of what the branches hold
+  pub AreSpellable : Branches → Type 0
+  AreSpellable NoMore = ⊤
+  AreSpellable (More label next others) = IsName label × IsSpellable next × AreSpellable others
+
+-- the tokens of a protocol: `roles`, the roles, `;` and a global type
+abbrev pub protocol_tokens : List (List ℕ) → GlobalType → List (List ℕ)
+protocol_tokens roles tree = codes "roles" ∷ roles ++ codes ";" ∷ global_tokens tree
+
+-- the tokens spell the protocol, which has 2 to 8 roles
 pub record SpellsProtocol (tokens roles : List (List ℕ)) (tree : GlobalType) : Type 0 where
   pub names : AllByRecursion IsName roles
   pub count : HasRoleCount roles
-  pub body : List (List ℕ)
-  pub parts : tokens ≡ codes "roles" ∷ roles ++ codes ";" ∷ body
-  pub spelled : SpellsGlobal body tree
+  pub body : IsSpellable tree
+  pub parts : tokens ≡ protocol_tokens roles tree
 
 -- the text spells the protocol
 pub record SpellsText (text : List ℕ) (roles : List (List ℕ)) (tree : GlobalType) : Type 0 where

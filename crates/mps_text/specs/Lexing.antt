@@ -1,9 +1,9 @@
 -- The token in front, found from left to right.
-use Rattle.std.specs.Prelude.{◌≡◌, ℕ, ◌+◌, Bool, ◌==◌, nat_le, ◌&&◌, ◌||◌, not, List, [], ◌∷◌, length, take, drop, codes, Result, Ok, Err, if◌then◌else◌}
+use Rattle.std.specs.Prelude.{◌≡◌, ℕ, zero, suc, ◌+◌, Bool, ◌==◌, nat_le, ◌&&◌, ◌||◌, not, List, [], ◌∷◌, length, take, drop, codes, Result, Ok, Err, if◌then◌else◌}
 use Rattle.std.specs.List.{list_all, list_any}
 use Rattle.std.specs.Str.{bytes_eq}
-use Rattle.mps_base.specs.Names.{is_lower, is_name_byte, reserved_words}
-use Rattle.mps_text.specs.Tokens.{first_is, is_blank, is_upper, is_variable_byte, is_word_byte}
+use Rattle.mps_base.specs.Names.{is_lower, is_upper, is_name_byte, is_variable_byte, reserved_words}
+use Rattle.mps_text.specs.Tokens.{first_is, is_blank, is_word_byte}
 use Rattle.mps_text.specs.declared.fault.TextKind.{TextKind}
 use Rattle.mps_text.specs.declared.fault.TextKind.TheVariants.{Word, Unexpected}
 use Rattle.mps_text.specs.declared.lexing.Halt.{Halt}
@@ -85,3 +85,35 @@ lexeme_at bytes = lexeme_of (unblanked bytes)
 -- whether the bytes are a name
 abbrev pub is_name : List ℕ → Bool
 is_name bytes = nat_le (length bytes) 32 && is_small_word bytes && not (list_any (bytes_eq bytes) reserved_words)
+
+-- whether the bytes are a variable
+abbrev pub is_variable : List ℕ → Bool
+is_variable bytes = nat_le (length bytes) 32 && is_capital_word bytes
+
+-- what stands in a text: its tokens, each with how many bytes are left from its first one on, up to the end or to what is no token
+pub data Lexed : Type 0 where
+  Ended : Lexed
+  Malformed : (left : ℕ) → Lexed
+  Next : (token : List ℕ) (left : ℕ) (rest : Lexed) → Lexed
+
+abbrev pub lexed_end : ℕ → TextKind → Lexed
+lexed_end left Word = Malformed left
+lexed_end left kind = Ended
+
+abbrev pub lexed_by : (List ℕ → Lexed) → Result Lexeme Fault → Lexed
+lexed_by more (Ok next) = Next next.token next.left (more next.rest)
+lexed_by more (Err fault) = lexed_end fault.0 fault.1
+
+-- no more tokens than that
+abbrev pub lexed_in : ℕ → List ℕ → Lexed
+lexed_in zero bytes = Ended
+lexed_in (suc room) bytes = lexed_by (lexed_in room) (lexeme_at bytes)
+
+-- all of them
+unfoldable pub lexed : List ℕ → Lexed
+lexed bytes = lexed_in (suc (length bytes)) bytes
+
+abbrev pub tokens_in : Lexed → List (List ℕ)
+tokens_in Ended = []
+tokens_in (Malformed left) = []
+tokens_in (Next token left rest) = token ∷ tokens_in rest

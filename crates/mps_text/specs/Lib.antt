@@ -3,3 +3,4 @@ pub mod Grammar
 pub mod Lexing
 pub mod Reading
 pub mod Faults
+pub mod Writing

@@ -1,20 +1,12 @@
 -- How a text is cut into tokens. A token is its bytes.
-use Rattle.std.specs.Prelude.{◌≡◌, ℕ, Bool, false, ◌==◌, nat_le, ◌&&◌, ◌||◌, ◌⊎◌, List, [], ◌∷◌, ◌++◌, length, codes, IsTrue}
+use Rattle.std.specs.Prelude.{◌≡◌, ℕ, Bool, false, ◌==◌, ◌||◌, ◌⊎◌, List, [], ◌∷◌, ◌++◌, codes, IsTrue}
 use Rattle.std.specs.List.{list_all, list_any}
 use Rattle.std.specs.Str.{bytes_eq}
-use Rattle.mps_base.specs.Names.{IsName, is_digit, is_name_byte, reserved_words}
+use Rattle.mps_base.specs.Names.{IsName, IsVariable, is_name_byte, is_upper, reserved_words}
 
 -- space, tab, LF and CR
 abbrev pub is_blank : ℕ → Bool
 is_blank c = c == 32 || c == 9 || c == 10 || c == 13
-
--- the bytes `A` to `Z`
-abbrev pub is_upper : ℕ → Bool
-is_upper c = nat_le 65 c && nat_le c 90
-
--- what a variable is made of: capital letters, digits and `_`
-abbrev pub is_variable_byte : ℕ → Bool
-is_variable_byte c = is_upper c || is_digit c || c == 95
 
 -- what words are made of: letters, digits and `_`
 abbrev pub is_word_byte : ℕ → Bool
@@ -25,13 +17,9 @@ abbrev pub first_is : (ℕ → Bool) → List ℕ → Bool
 first_is kind [] = false
 first_is kind (c ∷ cs) = kind c
 
--- a variable: 1 to 32 capital letters, digits and `_`, the first a letter
-abbrev pub is_variable : List ℕ → Bool
-is_variable bytes = nat_le (length bytes) 32 && first_is is_upper bytes && list_all is_variable_byte bytes
-
 -- a well-formed word: a name, a reserved word or a variable
 abbrev pub IsWord : List ℕ → Type 0
-IsWord bytes = IsName bytes ⊎ (IsTrue (list_any (bytes_eq bytes) reserved_words) ⊎ IsTrue (is_variable bytes))
+IsWord bytes = IsName bytes ⊎ (IsTrue (list_any (bytes_eq bytes) reserved_words) ⊎ IsVariable bytes)
 
 -- the tokens that are no words
 abbrev pub marks : List (List ℕ)

@@ -1,16 +1,17 @@
 //! Tokens, one at a time.
 ghost use Rattle.std.specs.Prelude.{◌≡◌, ◌≤◌, true, false, length, MatchOption};
 ghost use Rattle.std.specs.List.{list_all};
-ghost use Rattle.mps_base.specs.Names.{is_lower, is_name_byte};
-ghost use Rattle.mps_text.specs.Tokens.{first_is, is_blank, is_upper, is_variable_byte, is_word_byte};
+ghost use Rattle.mps_base.specs.Names.{is_lower, is_upper, is_name_byte, is_variable_byte};
+ghost use Rattle.mps_text.specs.Tokens.{first_is, is_blank, is_word_byte};
 ghost use Rattle.mps_text.specs.Lexing.{is_small_word, is_capital_word, is_word};
 ghost use Rattle.mps_text.specs.Lexing.{Gives, unblanked, is_mark_byte, run_len, word_len, token_len};
-ghost use Rattle.mps_text.specs.Lexing.{lexeme_of, lexeme_at, plain_lexeme, is_name};
+ghost use Rattle.mps_text.specs.Lexing.{lexeme_of, lexeme_at, plain_lexeme, is_name, is_variable};
+ghost use Rattle.mps_text.specs.Reading.{Takes};
 ghost use Rattle.mps_text.specs.declared.lexing.Halt.TheVariants.{Memory};
 
 use crate::fault::TextKind;
-use mps_base::Name;
 use mps_base::name::MAX_NAME;
+use mps_base::{Name, VarName};
 use std::alloc::{AllocError, AllocFailed};
 
 /// Why reading stopped: for want of memory, or at a fault with so many bytes left from it on.
@@ -53,10 +54,21 @@ impl Lexeme<'_> {
     }
 }
 
-/// The bytes that aren't read yet.
+/// The bytes that aren't read yet, and how many more nodes may begin there.
 #[derive(Debug, Drop)]
 pub(crate) struct Cursor<'a> {
     pub(crate) rest: &'a [u8],
+    pub(crate) nodes: usize,
+}
+
+/// The next token, behind which the cursor stands then.
+pub(crate) fn take<'a>(cursor: &mut Cursor<'a>) -> Result<Lexeme<'a>, Halt>
+    ensures next { Takes result cursor.old cursor.new }
+    ensures nodes { cursor.new.nodes ≡ cursor.old.nodes }
+{
+    let next = lexeme_at(cursor.rest)?;
+    cursor.rest = next.rest;
+    Ok(next)
 }
 
 /// The next token.
@@ -223,4 +235,12 @@ pub(crate) fn name_of(bytes: &[u8]) -> Option<Name>
         (λ name. (is_name bytes.now ≡ true) × (name ≡ bytes.now)) }
 {
     Name::read(bytes)
+}
+
+/// The variable of these bytes.
+pub(crate) fn variable_of(bytes: &[u8]) -> Option<VarName>
+    ensures { MatchOption result (is_variable bytes.now ≡ false)
+        (λ name. (is_variable bytes.now ≡ true) × (name ≡ bytes.now)) }
+{
+    VarName::read(bytes)
 }

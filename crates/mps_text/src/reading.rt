@@ -1,17 +1,25 @@
 //! Reading a protocol.
-ghost use Rattle.std.specs.Prelude.{◌≡◌, ℕ, List, length, codes, IfOk, IfErr};
-ghost use Rattle.mps_global.specs.Global.{GlobalType, plain};
-ghost use Rattle.mps_text.specs.Grammar.{IsWithinLimits, SpellsText, IsRead};
+ghost use Rattle.std.specs.Prelude.{◌≡◌, ◌≢◌, ◌+◌, ◌<◌, ◌≤◌, ℕ, List, []};
+ghost use Rattle.std.specs.Prelude.{◌∷◌, ◌++◌, length, codes, IfOk, IfErr, OnOk, false, true, MatchOption};
+ghost use Rattle.std.specs.List.{AllByRecursion};
+ghost use Rattle.mps_base.specs.Names.{IsName, IsVariable};
+ghost use Rattle.mps_base.specs.RoleLists.{HasRoleCount};
+ghost use Rattle.mps_global.specs.Global.{GlobalType, plain, plain_branches};
+ghost use Rattle.mps_base.specs.Sorts.{sort_word};
+ghost use Rattle.mps_text.specs.Grammar.{IsSpellable, AreSpellable, HasBranch, IsWithinLimits, SpellsText, IsRead};
 ghost use Rattle.mps_text.specs.Faults.{IsFirstFault};
-ghost use Rattle.mps_text.specs.Lexing.{Gives, plain_lexeme};
-ghost use Rattle.mps_text.specs.Reading.{expect, name_at, sort_at, message_at, too_deep, global_at};
-ghost use Rattle.mps_text.specs.Reading.{roles_at, heading_at, ended, protocol_of};
+ghost use Rattle.mps_text.specs.declared.fault.TextKind.{TextKind};
+ghost use Rattle.mps_text.specs.declared.fault.TextKind.TheVariants.{Memory};
+ghost use Rattle.mps_text.specs.Lexing.{lexed, tokens_in};
+ghost use Rattle.mps_text.specs.Reading.{Symbol, Token, AName, AVariable, ASort, Roles, Node, Exchange, Others, branch};
+ghost use Rattle.mps_text.specs.Reading.{first_of, first_token, IsFirst, behind_first, sort_of, which, Reads, ReadsAll, Ends};
+ghost use Rattle.mps_text.specs.Reading.{tokens_from, tokens_before, branches_before, exchange_tokens, behind_exchange, separator, behind_branch};
 
 use crate::fault::{TextFault, TextKind};
-use crate::lexing::{Cursor, Halt, Lexeme, lexeme_at, name_of, unblanked};
-use mps_base::{MAX_ROLES, Name, Sort};
-use mps_global::faults::MAX_DEPTH;
-use mps_global::{Global, Protocol};
+use crate::lexing::{Cursor, Halt, lexeme_at, name_of, take, unblanked, variable_of};
+use mps_base::{MAX_ROLES, Name, Sort, VarName};
+use mps_global::faults::{MAX_DEPTH, MAX_NODES};
+use mps_global::{Branches, Global, Protocol};
 use std::alloc;
 
 /// How many bytes a protocol text may have.
@@ -54,23 +62,42 @@ pub fn one_protocol()
         → SpellsText text r t → SpellsText text s u → (r ≡ s) × (t ≡ u) }
 {}
 
+/// A text has one first fault at most, and none where it spells a protocol within the limits.
+pub fn one_fault()
+    ensures one { (text : List ℕ) (a b : ℕ) (k l : TextKind) → IsFirstFault text a k
+        → IsFirstFault text b l → k ≢ Memory → l ≢ Memory → (a ≡ b) × (k ≡ l) }
+    ensures none { (text : List ℕ) (roles : List (List ℕ)) (tree : GlobalType) (at : ℕ) (kind : TextKind)
+        → IsWithinLimits text tree → SpellsText text roles tree → IsFirstFault text at kind → kind ≡ Memory }
+{}
+
 // The protocol that takes all of the text.
-#[tactic(auto, unfolding(crate::specs::Reading::protocol_of))]
 fn protocol_of(alloc: alloc::Global, text: &[u8]) -> Result<Protocol, Halt>
-    ensures { Gives (λ p. (p.roles.items, plain p.body)) result (protocol_of text.now) }
+    ensures runs { ReadsAll text.now result }
+    ensures tokens { IfOk result (λ p. tokens_in (lexed text.now)
+        ≡ codes "roles" ∷ p.roles.items ++ codes ";" ∷ tokens_before (plain p.body) []) }
+    ensures names { IfOk result (λ p. AllByRecursion IsName p.roles.items) }
+    ensures count { IfOk result (λ p. HasRoleCount p.roles.items) }
+    ensures spellable { IfOk result (λ p. IsSpellable (plain p.body)) }
 {
-    let mut cursor = Cursor { rest: text };
+    let mut cursor = Cursor {
+        rest: text,
+        nodes: MAX_NODES,
+    };
     let roles = heading_at(alloc, &mut cursor)?;
-    let body = global_at(alloc, MAX_DEPTH, &mut cursor)?;
+    let body = global_at(alloc, 1, &mut cursor)?;
     ended(&cursor)?;
     Ok(Protocol { roles, body })
 }
 
 // All of the roles, and `;`.
-#[tactic(auto, unfolding(crate::specs::Reading::heading_at))]
 fn heading_at(alloc: alloc::Global, cursor: &mut Cursor<'_>) -> Result<Vec<Name>, Halt>
-    ensures { Gives (λ roles. (roles.items, cursor.new.rest.now)) result
-        (heading_at cursor.old.rest.now) }
+    ensures runs { Reads (Token (codes "roles") ∷ AName ∷ AName ∷ Roles 6 ∷ []) (λ _. [])
+        cursor.old cursor.new result }
+    ensures tokens { IfOk result (λ roles. tokens_from cursor.old
+        ≡ codes "roles" ∷ roles.items ++ codes ";" ∷ tokens_from cursor.new) }
+    ensures names { IfOk result (λ roles. AllByRecursion IsName roles.items) }
+    ensures count { IfOk result (λ roles. HasRoleCount roles.items) }
+    ensures nodes { cursor.new.nodes ≡ cursor.old.nodes }
 {
     expect(cursor, b"roles")?;
     let first = name_at(cursor)?;
@@ -83,18 +110,22 @@ fn heading_at(alloc: alloc::Global, cursor: &mut Cursor<'_>) -> Result<Vec<Name>
 }
 
 // As many more roles as there is room, and `;`.
-#[tactic(auto, using(crate::proofs::Steps::roles_more), unfolding(crate::specs::Reading::roles_at))]
 fn roles_at(room: usize, roles: &mut Vec<Name>, cursor: &mut Cursor<'_>) -> Result<(), Halt>
-    ensures { Gives (λ _. (roles.new.items, cursor.new.rest.now)) result
-        (roles_at room roles.old.items cursor.old.rest.now) }
+    ensures runs { Reads (Roles room ∷ []) (λ _. []) cursor.old cursor.new result }
+    ensures tokens { OnOk result (roles.old.items ++ tokens_from cursor.old
+        ≡ roles.new.items ++ codes ";" ∷ tokens_from cursor.new) }
+    ensures names { OnOk result
+        (AllByRecursion IsName roles.old.items → AllByRecursion IsName roles.new.items) }
+    ensures some { OnOk result (length roles.old.items ≤ length roles.new.items) }
+    ensures few { OnOk result (length roles.new.items ≤ length roles.old.items + room) }
+    ensures nodes { cursor.new.nodes ≡ cursor.old.nodes }
 {
-    if room == 0 {
-        return expect(cursor, b";");
-    }
-    let next = lexeme_at(cursor.rest)?;
-    cursor.rest = next.rest;
+    let next = take(cursor)?;
     if next.token == b";".as_slice() {
         return Ok(());
+    }
+    if room == 0 {
+        return Err(next.fault(TextKind::Unexpected));
     }
     match name_of(next.token) {
         None => Err(next.fault(TextKind::Unexpected)),
@@ -105,91 +136,245 @@ fn roles_at(room: usize, roles: &mut Vec<Name>, cursor: &mut Cursor<'_>) -> Resu
     }
 }
 
-// A global type that is no deeper than that.
-#[tactic(auto, using(crate::proofs::Steps::global_more), unfolding(crate::specs::Reading::global_at))]
-fn global_at(alloc: alloc::Global, room: usize, cursor: &mut Cursor<'_>) -> Result<Global, Halt>
-    ensures { Gives (λ tree. (plain tree, cursor.new.rest.now)) result
-        (global_at room cursor.old.rest.now) }
+// A global type whose root has that depth.
+#[cycle(reading)]
+fn global_at(alloc: alloc::Global, depth: usize, cursor: &mut Cursor<'_>) -> Result<Global, Halt>
+    ensures runs { Reads (Node depth ∷ []) (λ _. []) cursor.old cursor.new result }
+    ensures tokens { IfOk result (λ tree. tokens_from cursor.old
+        ≡ tokens_before (plain tree) (tokens_from cursor.new)) }
+    ensures spellable { IfOk result (λ tree. IsSpellable (plain tree)) }
+    ensures nodes { OnOk result (cursor.new.nodes < cursor.old.nodes) }
 {
-    let next = lexeme_at(cursor.rest)?;
-    if room == 0 {
-        return Err(too_deep(&next));
-    }
-    cursor.rest = next.rest;
-    if next.token == b"end".as_slice() {
-        return Ok(Global::End);
-    }
-    match name_of(next.token) {
-        None => Err(next.fault(TextKind::Unexpected)),
-        Some(sender) => {
-            let (receiver, sort) = message_at(cursor)?;
-            let after = global_at(alloc, room - 1, cursor)?;
-            Ok(Global::message(alloc, sender, receiver, sort, after)?)
+    match node_at(depth, cursor)? {
+        First::End => Ok(Global::End),
+        First::Var(name) => Ok(Global::Var(name)),
+        First::Rec => {
+            let name = variable_at(cursor)?;
+            expect(cursor, b".")?;
+            let body = global_at(alloc, depth + 1, cursor)?;
+            Ok(Global::rec(alloc, name, body)?)
+        }
+        First::Sender(sender) => {
+            let (receiver, payload) = exchange_at(cursor)?;
+            match payload {
+                Some(sort) => {
+                    let next = global_at(alloc, depth + 1, cursor)?;
+                    Ok(Global::message(alloc, sender, receiver, sort, next)?)
+                }
+                None => {
+                    let branches = branches_at(alloc, depth + 1, cursor)?;
+                    Ok(Global::Choice {
+                        sender,
+                        receiver,
+                        branches,
+                    })
+                }
+            }
         }
     }
 }
 
-// What is wrong with a token where no global type may begin for depth.
-#[tactic(auto, unfolding(crate::specs::Reading::too_deep))]
-fn too_deep(next: &Lexeme<'_>) -> Halt
-    ensures { let fault = too_deep (plain_lexeme next.now) in result ≡ Halt.At fault.0 fault.1 }
+// Branches whose types have roots of that depth, and `}`.
+#[cycle(reading)]
+fn branches_at(
+    alloc: alloc::Global,
+    depth: usize,
+    cursor: &mut Cursor<'_>,
+) -> Result<Branches, Halt>
+    ensures runs { Reads (branch depth) (λ _. []) cursor.old cursor.new result }
+    ensures tokens { IfOk result (λ branches. (sep : List ℕ) → (sep ∷ tokens_from cursor.old)
+        ≡ branches_before sep (plain_branches branches) (tokens_from cursor.new)) }
+    ensures some { IfOk result (λ branches. HasBranch (plain_branches branches)) }
+    ensures spellable { IfOk result (λ branches. AreSpellable (plain_branches branches)) }
+    ensures nodes { OnOk result (cursor.new.nodes < cursor.old.nodes) }
 {
-    if next.token == b"end".as_slice() || name_of(next.token).is_some() {
-        next.fault(TextKind::TooDeep)
+    let label = name_at(cursor)?;
+    expect(cursor, b":")?;
+    let next = global_at(alloc, depth, cursor)?;
+    let others = if another_at(cursor)? {
+        branches_at(alloc, depth, cursor)?
     } else {
-        next.fault(TextKind::Unexpected)
+        Branches::NoMore
+    };
+    Ok(Branches::more(alloc, label, next, others)?)
+}
+
+// How a global type begins.
+#[derive(Clone, Copy, Debug)]
+pub(crate) enum First {
+    End,
+    Rec,
+    Sender(Name),
+    Var(VarName),
+}
+
+// The first token of a global type whose root has that depth.
+#[tactic(auto, using(crate::proofs::Tokens::first_is))]
+fn node_at(depth: usize, cursor: &mut Cursor<'_>) -> Result<First, Halt>
+    ensures runs { Reads (Node depth ∷ []) (behind_first depth) cursor.old cursor.new result }
+    ensures tokens { IfOk result (λ first. tokens_from cursor.old
+        ≡ first_token first ∷ tokens_from cursor.new) }
+    ensures first { IfOk result IsFirst }
+    ensures nodes { OnOk result (cursor.new.nodes + 1 ≡ cursor.old.nodes) }
+    ensures shallow { OnOk result (depth ≤ 64) }
+{
+    let next = take(cursor)?;
+    match first_of(next.token) {
+        None => Err(next.fault(TextKind::Unexpected)),
+        Some(_) if cursor.nodes == 0 => Err(next.fault(TextKind::TooManyNodes)),
+        Some(_) if depth > MAX_DEPTH => Err(next.fault(TextKind::TooDeep)),
+        Some(first) => {
+            cursor.nodes -= 1;
+            Ok(first)
+        }
     }
 }
 
-// The receiver and the sort of a message, whose sender stands before.
-#[tactic(auto, unfolding(crate::specs::Reading::message_at))]
-fn message_at(cursor: &mut Cursor<'_>) -> Result<(Name, Sort), Halt>
-    ensures { Gives (λ x. (x.0, x.1, cursor.new.rest.now)) result
-        (message_at cursor.old.rest.now) }
+// How a global type begins with the token.
+#[tactic(auto, unfolding(crate::specs::Reading::first_of))]
+fn first_of(token: &[u8]) -> Option<First>
+    ensures { result ≡ first_of token.now }
+{
+    if token == b"end".as_slice() {
+        return Some(First::End);
+    }
+    if token == b"rec".as_slice() {
+        return Some(First::Rec);
+    }
+    match name_of(token) {
+        Some(name) => Some(First::Sender(name)),
+        None => variable_of(token).map(First::Var),
+    }
+}
+
+// What stands behind the sender: the receiver, and a sort and `.`, or `{`.
+fn exchange_at(cursor: &mut Cursor<'_>) -> Result<(Name, Option<Sort>), Halt>
+    ensures runs { (depth : ℕ) → Reads (Token (codes "->") ∷ AName ∷ Exchange depth ∷ [])
+        (λ x. behind_exchange depth x.1) cursor.old cursor.new result }
+    ensures tokens { IfOk result (λ x. tokens_from cursor.old
+        ≡ codes "->" ∷ x.0 ∷ exchange_tokens x.1 (tokens_from cursor.new)) }
+    ensures name { IfOk result (λ x. IsName x.0) }
+    ensures nodes { cursor.new.nodes ≡ cursor.old.nodes }
 {
     expect(cursor, b"->")?;
     let receiver = name_at(cursor)?;
-    expect(cursor, b":")?;
-    let sort = sort_at(cursor)?;
-    expect(cursor, b".")?;
+    let sort = payload_at(cursor)?;
     Ok((receiver, sort))
 }
 
-// The sort that the next token has to name.
-#[tactic(auto, unfolding(crate::specs::Reading::sort_at, crate::specs::Reading::sort_of))]
-fn sort_at(cursor: &mut Cursor<'_>) -> Result<Sort, Halt>
-    ensures { Gives (λ sort. (sort, cursor.new.rest.now)) result (sort_at cursor.old.rest.now) }
+// What stands behind the receiver: `:`, a sort and `.`, or `{`.
+fn payload_at(cursor: &mut Cursor<'_>) -> Result<Option<Sort>, Halt>
+    ensures runs { (depth : ℕ) → Reads (Exchange depth ∷ []) (behind_exchange depth)
+        cursor.old cursor.new result }
+    ensures tokens { IfOk result (λ sort. tokens_from cursor.old
+        ≡ exchange_tokens sort (tokens_from cursor.new)) }
+    ensures nodes { cursor.new.nodes ≡ cursor.old.nodes }
 {
-    let next = lexeme_at(cursor.rest)?;
-    cursor.rest = next.rest;
-    match next.token {
-        b"int" => Ok(Sort::Int),
-        b"bool" => Ok(Sort::Bool),
-        b"text" => Ok(Sort::Text),
-        _ => Err(next.fault(TextKind::Unexpected)),
+    let next = take(cursor)?;
+    match which(next.token, b":", b"{") {
+        None => Err(next.fault(TextKind::Unexpected)),
+        Some(false) => Ok(None),
+        Some(true) => {
+            let sort = sort_at(cursor)?;
+            expect(cursor, b".")?;
+            Ok(Some(sort))
+        }
+    }
+}
+
+// Whether `,` and another branch stand behind a branch, and not `}`.
+#[tactic(auto, using(crate::proofs::Tokens::separator_is))]
+fn another_at(cursor: &mut Cursor<'_>) -> Result<bool, Halt>
+    ensures runs { (depth : ℕ) → Reads (Others depth ∷ []) (behind_branch depth)
+        cursor.old cursor.new result }
+    ensures tokens { IfOk result (λ more. tokens_from cursor.old
+        ≡ separator more ∷ tokens_from cursor.new) }
+    ensures nodes { cursor.new.nodes ≡ cursor.old.nodes }
+{
+    let next = take(cursor)?;
+    match which(next.token, b",", b"}") {
+        None => Err(next.fault(TextKind::Unexpected)),
+        Some(more) => Ok(more),
+    }
+}
+
+// Which of two tokens it is.
+#[tactic(auto, unfolding(crate::specs::Reading::which))]
+fn which(token: &[u8], this: &[u8], that: &[u8]) -> Option<bool>
+    ensures { result ≡ which this.now that.now token.now }
+{
+    if token == this {
+        Some(true)
+    } else if token == that {
+        Some(false)
+    } else {
+        None
+    }
+}
+
+// The sort that the next token has to name.
+#[tactic(auto, using(crate::proofs::Tokens::sort_is))]
+fn sort_at(cursor: &mut Cursor<'_>) -> Result<Sort, Halt>
+    ensures runs { Reads (ASort ∷ []) (λ _. []) cursor.old cursor.new result }
+    ensures tokens { IfOk result (λ sort. tokens_from cursor.old
+        ≡ sort_word sort ∷ tokens_from cursor.new) }
+    ensures nodes { cursor.new.nodes ≡ cursor.old.nodes }
+{
+    let next = take(cursor)?;
+    match sort_of(next.token) {
+        None => Err(next.fault(TextKind::Unexpected)),
+        Some(sort) => Ok(sort),
+    }
+}
+
+// The sort that the token names.
+#[tactic(auto, unfolding(crate::specs::Reading::sort_of))]
+fn sort_of(token: &[u8]) -> Option<Sort>
+    ensures { result ≡ sort_of token.now }
+{
+    match token {
+        b"int" => Some(Sort::Int),
+        b"bool" => Some(Sort::Bool),
+        b"text" => Some(Sort::Text),
+        _ => None,
     }
 }
 
 // The next token, which has to be a name.
-#[tactic(auto, unfolding(crate::specs::Reading::name_at))]
 fn name_at(cursor: &mut Cursor<'_>) -> Result<Name, Halt>
-    ensures { Gives (λ name. (name, cursor.new.rest.now)) result (name_at cursor.old.rest.now) }
+    ensures runs { Reads (AName ∷ []) (λ _. []) cursor.old cursor.new result }
+    ensures tokens { IfOk result (λ name. tokens_from cursor.old ≡ name ∷ tokens_from cursor.new) }
+    ensures name { IfOk result IsName }
+    ensures nodes { cursor.new.nodes ≡ cursor.old.nodes }
 {
-    let next = lexeme_at(cursor.rest)?;
-    cursor.rest = next.rest;
+    let next = take(cursor)?;
     match name_of(next.token) {
         None => Err(next.fault(TextKind::Unexpected)),
         Some(name) => Ok(name),
     }
 }
 
-// Takes this token, which has to be the next.
-#[tactic(auto, unfolding(crate::specs::Reading::expect))]
-fn expect(cursor: &mut Cursor<'_>, token: &[u8]) -> Result<(), Halt>
-    ensures { Gives (λ _. cursor.new.rest.now) result (expect token.now cursor.old.rest.now) }
+// The next token, which has to be a variable.
+fn variable_at(cursor: &mut Cursor<'_>) -> Result<VarName, Halt>
+    ensures runs { Reads (AVariable ∷ []) (λ _. []) cursor.old cursor.new result }
+    ensures tokens { IfOk result (λ name. tokens_from cursor.old ≡ name ∷ tokens_from cursor.new) }
+    ensures name { IfOk result IsVariable }
+    ensures nodes { cursor.new.nodes ≡ cursor.old.nodes }
 {
-    let next = lexeme_at(cursor.rest)?;
-    cursor.rest = next.rest;
+    let next = take(cursor)?;
+    match variable_of(next.token) {
+        None => Err(next.fault(TextKind::Unexpected)),
+        Some(name) => Ok(name),
+    }
+}
+
+// Takes this token, which has to be the next.
+fn expect(cursor: &mut Cursor<'_>, token: &[u8]) -> Result<(), Halt>
+    ensures runs { Reads (Token token.now ∷ []) (λ _. []) cursor.old cursor.new result }
+    ensures tokens { OnOk result (tokens_from cursor.old ≡ token.now ∷ tokens_from cursor.new) }
+    ensures nodes { cursor.new.nodes ≡ cursor.old.nodes }
+{
+    let next = take(cursor)?;
     if next.token == token {
         Ok(())
     } else {
@@ -198,9 +383,9 @@ fn expect(cursor: &mut Cursor<'_>, token: &[u8]) -> Result<(), Halt>
 }
 
 // Whether nothing but blanks is left, behind a whole protocol.
-#[tactic(auto, unfolding(crate::specs::Reading::ended))]
 fn ended(cursor: &Cursor<'_>) -> Result<(), Halt>
-    ensures { Gives (λ _. tt) result (ended cursor.now.rest.now) }
+    ensures runs { Ends cursor.now result }
+    ensures tokens { OnOk result (tokens_from cursor.now ≡ []) }
 {
     if unblanked(cursor.rest).is_empty() {
         return Ok(());

@@ -1,2 +1,3 @@
 pub mod Projected
 pub mod Faults
+pub mod Lines

@@ -1,9 +1,10 @@
 -- The types of the first roles.
-use Rattle.std.proofs.Common.{◌≡◌, ℕ, zero, suc, ◌+◌, ◌<◌, List, [], ◌∷◌, ◌++◌, length, map, Some, slice_get, refl, sym, ◌∙◌, subst, arith, ⊎_elim, ◌≤◌}
+use Rattle.std.proofs.Common.{◌≡◌, ℕ, zero, suc, ◌+◌, ◌<◌, List, [], ◌∷◌, ◌++◌, length, map, Some, Option, IsSome, slice_get, refl, sym, ◌∙◌, subst, arith, ⊎_elim, ◌≤◌}
 use Rattle.std.proofs.lemmas.Bool.{cases_lt}
 use Rattle.mps_global.specs.Global.{GlobalType}
 use Rattle.mps_local.specs.declared.Local.{Local}
-use Rattle.mps_local.specs.Local.{plain}
+use Rattle.std.specs.List.{AllByRecursion}
+use Rattle.mps_local.specs.Local.{LocalType, plain}
 use Rattle.mps_local.specs.Projection.{projection}
 
 get_before : {A B : Type 0} (f : A → B) (xs : List A) (x : A) (p : ℕ) → p < length xs → slice_get (map f (xs ++ x ∷ [])) p ≡ slice_get (map f xs) p
@@ -27,3 +28,20 @@ one_more roles tree types new t place n e each last p h =
   where
     same : (k : ℕ) → slice_get (map plain new) k ≡ slice_get (map plain (types ++ t ∷ [])) k
     same k = subst (λ (l : List Local). slice_get (map plain l) k ≡ slice_get (map plain (types ++ t ∷ [])) k) (sym e) refl
+
+-- what holds of the types and of one more
+pub one_more_holds : (P : LocalType → Type 0) (types new : List Local) (t : Local) → new ≡ types ++ t ∷ [] → AllByRecursion P (map plain types) → P (plain t) → AllByRecursion P (map plain new)
+one_more_holds P types new t e all last = subst (λ (l : List Local). AllByRecursion P (map plain l)) (sym e) (behind types all)
+  where
+    behind : (ts : List Local) → AllByRecursion P (map plain ts) → AllByRecursion P (map plain (ts ++ t ∷ []))
+    behind [] a = (last, tt)
+    behind (u ∷ ts) a = (a.0, behind ts a.1)
+
+-- each place of the types that are there has a projection
+pub each_some : (roles : List (List ℕ)) (tree : GlobalType) (types : List Local) → ((p : ℕ) → p < length types → projection roles p tree ≡ slice_get (map plain types) p) → (p : ℕ) → p < length types → IsSome (projection roles p tree)
+each_some roles tree types each p h = subst (λ (o : Option LocalType). IsSome o) (sym (each p h)) (there types p h)
+  where
+    there : (ts : List Local) (k : ℕ) → k < length ts → IsSome (slice_get (map plain ts) k)
+    there [] k h = absurd (omega (arith, h))
+    there (u ∷ ts) zero h = refl
+    there (u ∷ ts) (suc k) h = there ts k (omega (arith, h))

@@ -3,13 +3,13 @@ use Rattle.std.specs.Prelude.{◌+◌, ◌⊎◌, ⊤, ◌≡◌, ℕ, List, cod
 use Rattle.std.specs.String.{string_bytes}
 use Rattle.mps_base.specs.Numbers.{IsNumberText}
 use Rattle.mps_global.specs.declared.faults.GlobalFault.{GlobalFault}
-use Rattle.mps_global.specs.declared.faults.GlobalFault.TheVariants.{RoleCount, DoubleRole, TooManyNodes as ManyNodes, TooDeep as Deep, UnknownRole, SelfMessage}
+use Rattle.mps_global.specs.declared.faults.GlobalFault.TheVariants.{RoleCount, DoubleRole, TooManyNodes as ManyNodes, TooDeep as Deep, UnknownRole, SelfMessage, DoubleLabel, TooManyBranches, NoBranches, Unbound, Shadowed, Unguarded}
 use Rattle.mps_text.specs.declared.fault.TextKind.{TextKind}
 use Rattle.mps_text.specs.declared.fault.TextKind.TheVariants.{TooLong, Word, Unexpected, TooManyNodes, TooDeep, Trailing, Memory as NoRoom}
 use Rattle.mps_wire.specs.declared.script.ReplayFault.{ReplayFault}
 use Rattle.mps_wire.specs.declared.script.ReplayFault.TheVariants.{Open as NotOpened, ReadFault, WriteFault, Turns as TooManyReads, Memory as OutOfMemory}
 use Rattle.mps_tool.specs.declared.fault.ToolFault.{ToolFault}
-use Rattle.mps_tool.specs.declared.fault.ToolFault.TheVariants.{Usage, File, Text, Protocol, Open, Read, Write, Turns, Memory}
+use Rattle.mps_tool.specs.declared.fault.ToolFault.TheVariants.{Usage, File, Text, Protocol, Projection, Unready, Open, Read, Write, Turns, Memory}
 
 -- the word for a fault of a text
 abbrev pub text_word : TextKind → List ℕ
@@ -29,6 +29,12 @@ protocol_word ManyNodes = codes "toomanynodes"
 protocol_word Deep = codes "toodeep"
 protocol_word UnknownRole = codes "unknownrole"
 protocol_word SelfMessage = codes "selfmessage"
+protocol_word DoubleLabel = codes "doublelabel"
+protocol_word TooManyBranches = codes "toomanybranches"
+protocol_word NoBranches = codes "nobranches"
+protocol_word Unbound = codes "unbound"
+protocol_word Shadowed = codes "shadowed"
+protocol_word Unguarded = codes "unguarded"
 
 -- the line that tells the fault
 abbrev pub IsFaultLine : List ℕ → ToolFault → Type 0
@@ -37,6 +43,9 @@ IsFaultLine line (File name) = line ≡ codes "refused file " ++ name.now
 IsFaultLine line (Text at kind) =
     (number : List ℕ) × (line ≡ codes "refused text " ++ text_word kind ++ codes " " ++ number) × IsNumberText number at
 IsFaultLine line (Protocol fault) = line ≡ codes "refused protocol " ++ protocol_word fault
+IsFaultLine line (Projection role choice) =
+    (number : List ℕ) × (line ≡ codes "refused projection " ++ role ++ codes " " ++ number) × IsNumberText number choice
+IsFaultLine line Unready = line ≡ codes "refused unready"
 IsFaultLine line Open = line ≡ codes "refused open"
 IsFaultLine line Read = line ≡ codes "refused read"
 IsFaultLine line Write = line ≡ codes "refused write"
@@ -49,6 +58,8 @@ status_of (Usage text) = 2
 status_of (File name) = 2
 status_of (Text at kind) = 3
 status_of (Protocol fault) = 3
+status_of (Projection role choice) = 3
+status_of Unready = 3
 status_of Open = 3
 status_of Read = 4
 status_of Write = 4
@@ -81,6 +92,8 @@ IsReadFault before after (Usage text) = ⊥
 IsReadFault before after (File name) = ⊥
 IsReadFault before after (Text at kind) = ⊥
 IsReadFault before after (Protocol fault) = ⊥
+IsReadFault before after (Projection role choice) = ⊥
+IsReadFault before after Unready = ⊥
 IsReadFault before after Open = ⊥
 IsReadFault before after Write = ⊥
 IsReadFault before after Turns = ⊥
@@ -92,6 +105,8 @@ IsUseFault Memory = ⊤
 IsUseFault (File name) = ⊥
 IsUseFault (Text at kind) = ⊥
 IsUseFault (Protocol fault) = ⊥
+IsUseFault (Projection role choice) = ⊥
+IsUseFault Unready = ⊥
 IsUseFault Open = ⊥
 IsUseFault Read = ⊥
 IsUseFault Write = ⊥
@@ -103,6 +118,8 @@ IsRunFault file script (File name) = (name.now ≡ file) ⊎ (name.now ≡ scrip
 IsRunFault file script (Usage text) = ⊥
 IsRunFault file script (Text at kind) = ⊤
 IsRunFault file script (Protocol fault) = ⊤
+IsRunFault file script (Projection role choice) = ⊤
+IsRunFault file script Unready = ⊤
 IsRunFault file script Open = ⊤
 IsRunFault file script Read = ⊤
 IsRunFault file script Write = ⊤

@@ -5,6 +5,8 @@
 pub enum Order<'a> {
     /// Say how the program is used.
     Help { text: String },
+    /// Show each role's local type of the protocol in the file.
+    Check { file: &'a str },
     /// Run the script on a session of the protocol in the file.
     Run { file: &'a str, script: &'a str },
 }

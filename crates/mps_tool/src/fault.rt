@@ -4,7 +4,7 @@ ghost use Rattle.mps_base.specs.Appends.{Appends};
 ghost use Rattle.mps_tool.specs.Faults.{IsFaultLine, of_script, of_text, protocol_word, status_of, text_word};
 ghost use Rattle.mps_tool.specs.declared.fault.ToolFault.TheVariants.{Memory as OutOfMemory, Protocol as OfProtocol};
 
-use mps_base::write_number;
+use mps_base::{Name, write_number};
 use mps_global::GlobalFault;
 use mps_text::{TextFault, TextKind};
 use mps_wire::script::ReplayFault;
@@ -26,6 +26,12 @@ pub enum ToolFault<'a> {
     /// The protocol has a fault.
     #[error("refused protocol {}", protocol_word_of(*fault))]
     Protocol { fault: GlobalFault },
+    /// The role does not do the same in each branch of that choice, counted in preorder from 0.
+    #[error("refused projection {} {choice}", text_of(role))]
+    Projection { role: Name, choice: usize },
+    /// A role's type has a choice or a loop, which sessions don't follow yet.
+    #[error("refused unready")]
+    Unready,
     /// No session can be opened with the types.
     #[error("refused open")]
     Open,
@@ -92,6 +98,11 @@ impl From<ReplayFault> for ToolFault<'_> {
     }
 }
 
+/// The name as text.
+fn text_of(name: &Name) -> &str {
+    str::from_utf8(name.as_bytes()).unwrap_or_default()
+}
+
 /// The word for a fault of a text.
 fn text_word_of(kind: TextKind) -> &'static str
     ensures { result.now ≡ text_word kind }
@@ -118,6 +129,12 @@ fn protocol_word_of(fault: GlobalFault) -> &'static str
         GlobalFault::TooDeep => "toodeep",
         GlobalFault::UnknownRole => "unknownrole",
         GlobalFault::SelfMessage => "selfmessage",
+        GlobalFault::DoubleLabel => "doublelabel",
+        GlobalFault::TooManyBranches => "toomanybranches",
+        GlobalFault::NoBranches => "nobranches",
+        GlobalFault::Unbound => "unbound",
+        GlobalFault::Shadowed => "shadowed",
+        GlobalFault::Unguarded => "unguarded",
     }
 }
 
@@ -150,6 +167,13 @@ fn write_line(fault: &ToolFault<'_>, out: &mut Vec<u8>) -> Result<(), AllocError
             out.extend_from_slice(b"refused protocol ")?;
             out.extend_from_slice(protocol_word_of(*fault).as_bytes())
         }
+        ToolFault::Projection { role, choice } => {
+            out.extend_from_slice(b"refused projection ")?;
+            out.extend_from_slice(role.as_bytes())?;
+            out.push(b' ')?;
+            write_number(*choice as u64, out)
+        }
+        ToolFault::Unready => out.extend_from_slice(b"refused unready"),
         ToolFault::Open => out.extend_from_slice(b"refused open"),
         ToolFault::Read => out.extend_from_slice(b"refused read"),
         ToolFault::Write => out.extend_from_slice(b"refused write"),
@@ -164,7 +188,11 @@ pub fn status(fault: &ToolFault<'_>) -> u8
 {
     match fault {
         ToolFault::Usage { .. } | ToolFault::File { .. } => 2,
-        ToolFault::Text { .. } | ToolFault::Protocol { .. } | ToolFault::Open => 3,
+        ToolFault::Text { .. }
+        | ToolFault::Protocol { .. }
+        | ToolFault::Projection { .. }
+        | ToolFault::Unready
+        | ToolFault::Open => 3,
         ToolFault::Read | ToolFault::Write | ToolFault::Turns | ToolFault::Memory => 4,
     }
 }

@@ -1,4 +1,4 @@
-//! Runs scripts of commands on multiparty sessions.
+//! Checks protocols, and runs scripts of commands on multiparty sessions.
 #![tactic(auto)]
 
 mod command;
@@ -11,9 +11,9 @@ mod words;
 pub use command::Order;
 pub use fault::{ToolFault, fault_line, status};
 pub use mps_wire::script::{ReplayFault, run_script};
-pub use opening::roles_and_types;
+pub use opening::{check_out, roles_and_types};
 pub use reading::read_text;
-pub use running::{open_file, run};
+pub use running::{open_file, run, show};
 use std::io::ErrorKind;
 use std::process::ExitCode;
 use std::rt::{Env, Files};
@@ -35,6 +35,7 @@ fn obey<'a, R: Files + AllocGlobal + Print>(
             }
             Ok(())
         }
+        Order::Check { file } => show(rt, file),
         Order::Run { file, script } => run(rt, file, script),
     }
 }

@@ -5,10 +5,11 @@ ghost use Rattle.mps_tool.specs.Faults.{IsRunFault};
 ghost use Rattle.mps_tool.specs.declared.fault.ToolFault.TheVariants.{File as NotOpened};
 
 use crate::fault::ToolFault;
-use crate::opening::roles_and_types;
+use crate::opening::{check_out, roles_and_types};
 use crate::reading::read_text;
 use mps_dev::{OverRead, OverWrite};
 use mps_wire::script::run_script;
+use std::io::Write;
 use std::rt::Files;
 use std::{fs, io};
 
@@ -38,4 +39,17 @@ pub fn run<'a, R: Files + AllocGlobal + Print>(
     let mut writer = OverWrite::new(io::writer(rt));
     run_script(alloc, &mut reader, &mut writer, roles, types)?;
     Ok(())
+}
+
+/// Prints a line for each role of the protocol in the file: its name and its local type.
+pub fn show<'a, R: Files + AllocGlobal + Print>(rt: &R, file: &'a str) -> Result<(), ToolFault<'a>>
+    ensures { IfErr result (IsRunFault file.now file.now) }
+{
+    let alloc = rt.alloc();
+    let text = read_text(alloc, &mut open_file(rt, file)?)?;
+    let lines = check_out(alloc, text.as_slice())?;
+    match io::writer(rt).write_all(lines.as_slice()) {
+        Ok(()) => Ok(()),
+        Err(_) => Err(ToolFault::Write),
+    }
 }

@@ -1,7 +1,8 @@
 use crate::{
-    Order, ToolFault, fault_line, open_file, order, read_text, roles_and_types, run, run_script,
-    status,
+    Order, ToolFault, check_out, fault_line, open_file, order, read_text, roles_and_types, run,
+    run_script, show, status,
 };
+use mps_base::Name;
 use mps_dev::{Pieces, Short};
 use mps_global::GlobalFault;
 use mps_text::TextKind;
@@ -86,6 +87,10 @@ fn takes_its_words(rt: HostRuntime) -> Result<(), Fail> {
         }
         _ => return Err("a run".into()),
     }
+    match order(rt.alloc(), &["mps_tool", "check", "a.protocol"]) {
+        Ok(Order::Check { file }) => assert_eq!(rt; file, "a.protocol"),
+        _ => return Err("a check".into()),
+    }
     match order(rt.alloc(), &["mps_tool", "--help"]) {
         Ok(Order::Help { .. }) => {}
         _ => return Err("help".into()),
@@ -93,6 +98,8 @@ fn takes_its_words(rt: HostRuntime) -> Result<(), Fail> {
     let wrong = [
         ["mps_tool"].as_slice(),
         &["mps_tool", "fly"],
+        &["mps_tool", "check"],
+        &["mps_tool", "check", "a.protocol", "more"],
         &["mps_tool", "run"],
         &["mps_tool", "run", "a.protocol"],
         &["mps_tool", "run", "a.protocol", "a.script", "more"],
@@ -120,6 +127,12 @@ fn tells_faults(rt: HostRuntime) -> Result<(), Fail> {
         fault: GlobalFault::RoleCount,
     };
     assert!(rt; tells(alloc, fault, "refused protocol rolecount", 3)?);
+    let fault = ToolFault::Projection {
+        role: Name::read(b"c").ok_or("a name")?,
+        choice: 12,
+    };
+    assert!(rt; tells(alloc, fault, "refused projection c 12", 3)?);
+    assert!(rt; tells(alloc, ToolFault::Unready, "refused unready", 3)?);
     assert!(rt; tells(alloc, ToolFault::Open, "refused open", 3)?);
     assert!(rt; tells(alloc, ToolFault::Read, "refused read", 4)?);
     assert!(rt; tells(alloc, ToolFault::Write, "refused write", 4)?);
@@ -136,9 +149,10 @@ fn refuses_protocols(rt: HostRuntime) -> Result<(), Fail> {
         ("roles a b ; a -> Bc : int . end", "refused text word 17"),
         ("roles a b ; a -> b : int .", "refused text unexpected 26"),
         ("roles a end ; end", "refused text unexpected 8"),
+        ("roles a b ; rec X . a -> b : int . X", "refused unready"),
         (
-            "roles a b ; rec X . a -> b : int . X",
-            "refused text unexpected 12",
+            "roles a b c ; a -> b { l : a -> c : int . end , r : end }",
+            "refused projection c 0",
         ),
         (
             "roles a b ; a -> z : int . end",
@@ -186,5 +200,106 @@ fn names_files_that_do_not_open(rt: HostRuntime) -> Result<(), Fail> {
         Err(fault) => assert!(rt; tells(rt.alloc(), fault, "refused file no such file", 2)?),
         Ok(()) => return Err("no run".into()),
     }
+    match show(&rt, "no such file") {
+        Err(fault) => assert!(rt; tells(rt.alloc(), fault, "refused file no such file", 2)?),
+        Ok(()) => return Err("no check".into()),
+    }
     Ok(())
 }
+
+// The lines of the protocol's roles, or the line of its fault.
+fn shown(alloc: Global, protocol: &str) -> Result<Vec<u8>, Fail> {
+    match check_out(alloc, protocol.as_bytes()) {
+        Ok(lines) => Ok(lines),
+        Err(fault) => Ok(fault_line(alloc, &fault)?),
+    }
+}
+
+#[test]
+fn shows_types(rt: HostRuntime) -> Result<(), Fail> {
+    let rows = [
+        (
+            "roles a b c ; a -> b : int . b -> c : int . c -> a { ok : end , no : end }\n",
+            "a : send b int . pick c { ok : end , no : end }\n\
+             b : recv a int . send c int . end\n\
+             c : recv b int . choose a { ok : end , no : end }\n",
+        ),
+        (
+            "roles a b c ; a -> b { l : a -> c : int . end , r : a -> c : int . end }",
+            "a : choose b { l : send c int . end , r : send c int . end }\n\
+             b : pick a { l : end , r : end }\n\
+             c : recv a int . end\n",
+        ),
+        (
+            "roles a b c ; rec X . a -> b : int . X",
+            "a : rec X . send b int . X\nb : rec X . recv a int . X\nc : end\n",
+        ),
+        (
+            "roles a b c ; rec X . a -> c : int . rec Y . a -> b : int . X",
+            "a : rec X . send c int . rec Y . send b int . X\n\
+             b : rec X . rec Y . recv a int . X\n\
+             c : rec X . recv a int . rec Y . X\n",
+        ),
+    ];
+    for (protocol, lines) in rows {
+        let found = shown(rt.alloc(), protocol)?;
+        assert_eq!(rt; found.as_slice(), lines.as_bytes());
+    }
+    Ok(())
+}
+
+#[test]
+fn refuses_to_show(rt: HostRuntime) -> Result<(), Fail> {
+    let rows = [
+        (
+            "roles a b c ; a -> b { l : a -> c : int . end , r : end }",
+            "refused projection c 0",
+        ),
+        (
+            "roles a b c ; a -> b : int . a -> b { l : a -> c : int . end , r : end }",
+            "refused projection c 0",
+        ),
+        ("roles a b ; rec X . X", "refused protocol unguarded"),
+        (
+            "roles a b ; a -> z : int . end",
+            "refused protocol unknownrole",
+        ),
+        (
+            "roles a b ; a -> a : int . end",
+            "refused protocol selfmessage",
+        ),
+        (
+            "roles a b ; a -> b { l : end , l : end }",
+            "refused protocol doublelabel",
+        ),
+        (SEVENTEEN, "refused protocol toomanybranches"),
+        ("roles a b ; a -> b : int . X", "refused protocol unbound"),
+        (
+            "roles a b ; rec X . a -> b : int . rec X . a -> b : int . X",
+            "refused protocol shadowed",
+        ),
+        (
+            "roles a b ; rec X . rec Y . X",
+            "refused protocol unguarded",
+        ),
+        (
+            "roles a b ; z -> z : int . X",
+            "refused protocol unknownrole",
+        ),
+        ("roles a a ; end", "refused protocol doublerole"),
+        (
+            "roles a b ; a -> b { end : end }",
+            "refused text unexpected 21",
+        ),
+    ];
+    for (protocol, line) in rows {
+        let found = shown(rt.alloc(), protocol)?;
+        assert_eq!(rt; found.as_slice(), line.as_bytes());
+    }
+    Ok(())
+}
+
+// A choice of 17 labels.
+const SEVENTEEN: &str = "roles a b ; a -> b { l1 : end , l2 : end , l3 : end , l4 : end , \
+    l5 : end , l6 : end , l7 : end , l8 : end , l9 : end , l10 : end , l11 : end , l12 : end , \
+    l13 : end , l14 : end , l15 : end , l16 : end , l17 : end }";

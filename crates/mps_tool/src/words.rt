@@ -15,6 +15,9 @@ fn commands<'a>(alloc: Global) -> Result<Command<'a>, AllocError> {
     let script = Arg::new(alloc, "SCRIPT")
         .help("A command on each line")
         .required(true);
+    let check = Command::new(alloc, "check")
+        .about("Shows each role's local type")
+        .arg(Arg::new(alloc, "FILE").help("The protocol").required(true))?;
     let run = Command::new(alloc, "run")
         .about("Runs a script and prints the answers")
         .arg(file)?
@@ -22,6 +25,7 @@ fn commands<'a>(alloc: Global) -> Result<Command<'a>, AllocError> {
     Command::new(alloc, "mps_tool")
         .about("A monitor for multiparty sessions")
         .subcommand_required(true)
+        .subcommand(check)?
         .subcommand(run)
 }
 
@@ -41,10 +45,15 @@ pub fn order<'a>(alloc: Global, words: &'a [&'a str]) -> Result<Order<'a>, ToolF
             return Ok(Order::Help { text });
         }
     };
-    if let Some((_, found)) = matches.subcommand() {
-        if let (Some(file), Some(script)) = (found.get_str("FILE"), found.get_str("SCRIPT")) {
-            return Ok(Order::Run { file, script });
-        }
+    match matches.subcommand() {
+        Some(("check", found)) => match found.get_str("FILE") {
+            Some(file) => Ok(Order::Check { file }),
+            None => Err(ToolFault::Memory),
+        },
+        Some((_, found)) => match (found.get_str("FILE"), found.get_str("SCRIPT")) {
+            (Some(file), Some(script)) => Ok(Order::Run { file, script }),
+            _ => Err(ToolFault::Memory),
+        },
+        None => Err(ToolFault::Memory),
     }
-    Err(ToolFault::Memory)
 }

@@ -1,5 +1,6 @@
 //! A script over streams.
 ghost use Rattle.std.specs.Prelude.{◌≡◌, ◌↔◌, ◌⊎◌, ◌+◌, ◌<◌, ◌≤◌, ◌^◌, ◌++◌, ℕ, false, Option, List, [], length, map, OnOk, OnErr, IfOk, IfErr, IsErr, IsErrOf};
+ghost use Rattle.std.specs.List.{AllByRecursion};
 ghost use Rattle.std.specs.Io.KnownBytes.{Appends, Consumes, IsAtEnd};
 ghost use Rattle.mps_local.specs.Local.{plain};
 ghost use Rattle.mps_machine.specs.Machine.{initial};
@@ -9,6 +10,7 @@ ghost use Rattle.mps_wire.specs.Flow.{TookFront};
 ghost use Rattle.mps_wire.specs.Runs.{Going, Finished, Cut, AfterTurn, Stopped, GaveAtLeast, UnlessOpening, after_reads, after_writes, of_opening, KeepsShut, KeepsFromBeginning};
 ghost use Rattle.mps_wire.specs.Script.{RepliesTo, AnswersLine, Answered, AnsweredAll, AnsweredInPart};
 ghost use Rattle.mps_session.specs.Peers.{CanOpen};
+ghost use Rattle.mps_session.specs.Rows.{IsMessageOnly};
 ghost use Rattle.mps_session.specs.declared.open.OpenFault.{OpenFault};
 
 use crate::flow::send_all;
@@ -237,6 +239,7 @@ fn turn<R: Source, W: Sink>(
 
 /// A script on a new session, of which nothing was read yet.
 fn begin(alloc: Global, roles: Roles, types: Vec<Local>) -> Result<Run, ReplayFault>
+    requires messages { AllByRecursion IsMessageOnly (map plain types.items) }
     ensures roles { IfOk result (λ run. run.roles ≡ roles) }
     ensures session { IfOk result (λ run. run.session ≡ record { types = types.items; state = initial }) }
     ensures line { IfOk result (λ run. run.line.items ≡ []) }
@@ -265,6 +268,7 @@ pub fn run_script<R: Source, W: Sink>(
     types: Vec<Local>,
 ) -> Result<Session, ReplayFault>
     requires named { length roles ≡ length types.items }
+    requires messages { AllByRecursion IsMessageOnly (map plain types.items) }
     requires reads { R.calls reader.old < 2 ^ 62 }
     requires writes { W.failed_calls writer.old < 2 ^ 62 }
     ensures types { IfOk result (λ session. session.types ≡ types.items) }

@@ -2,7 +2,7 @@ use crate::script::{BLOCK, MAX_LINE, ReplayFault, run_script};
 use mps_base::{Name, Role, Roles, Sort};
 use mps_dev::{Pieces, Short};
 use mps_local::Local;
-use mps_session::OpenFault;
+use mps_session::{OpenFault, are_message_only};
 use std::alloc::Global;
 use std::test::Fail;
 
@@ -57,7 +57,7 @@ fn outcome(
     names.truncate(rows.len());
     let roles = Roles::of(alloc, &names)?;
     let types = types(alloc, rows)?;
-    if roles.count() != types.len() {
+    if roles.count() != types.len() || !are_message_only(&types) {
         return Err("a type for each role".into());
     }
     let mut reader = Pieces::new(pieces, fails_from);

@@ -1,10 +1,7 @@
 use Rattle.std.proofs.Common.{arith}
 use Rattle.mps_global.proofs.Sound.{sound_protocol}
-use Rattle.mps_local.proofs.Projected.{defined, fitting}
+use Rattle.mps_local.proofs.Projected.{fitting}
 use Rattle.mps_local.proofs.projection.projection_laws.Goals as goal
-
-pub returns-clause-defined : goal.returns-clause-defined
-returns-clause-defined c = defined
 
 pub returns-clause-peers : goal.returns-clause-peers
 returns-clause-peers c = λ roles role tree t h e. (fitting roles role tree t h e).others
@@ -20,4 +17,5 @@ returns-clause-limits c =
     λ roles role tree t h e.
     let f = fitting roles role tree t h e in
     let s = sound_protocol roles tree h in
-    (omega (arith, f.nodes_fit, s.small), omega (arith, f.levels_fit, s.shallow))
+    let n = f.nodes_fit in let l = f.levels_fit in let m = s.small in let d = s.shallow in
+    (omega (arith, n, m), omega (arith, l, d))

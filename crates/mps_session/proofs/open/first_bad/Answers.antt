@@ -3,7 +3,7 @@ use Rattle.std.proofs.lemmas.Bool.{false≢true}
 use Rattle.mps_local.specs.Local.{LocalType, plain}
 use Rattle.mps_machine.specs.View.{type_at}
 use Rattle.mps_session.specs.Peers.{HasPeers, IsFirstBad}
-use Rattle.mps_session.proofs.Types.{type_at-plain, length_map}
+use Rattle.mps_session.proofs.Types.{type_at-map, length_map}
 use Rattle.mps_session.proofs.open.first_bad.Goals as goal
 
 pub returns-then-not-has_peers-clause-bad : goal.returns-then-not-has_peers-clause-bad
@@ -12,7 +12,7 @@ returns-then-not-has_peers-clause-bad c =
     let n = length types in
     let i = c.loop-i.i in
     let d = c.index-types-i.result in
-    let is = type_at-plain types i d c.loop-i-test.true ∙ ap plain (sym c.index-types-i.is) in
+    let is = type_at-map plain types i d c.loop-i-test.true ∙ ap plain (sym c.index-types-i.is) in
     let long = length_map plain types in
     subst (λ (p : ℕ). IsFirstBad (map plain types) p) (sym c.new.ensures)
     (record {
@@ -27,6 +27,6 @@ loop-i-preserved c =
     let n = length types in
     let i = c.loop-i.i in
     let d = c.index-types-i.result in
-    let is = type_at-plain types i d c.loop-i-test.true ∙ ap plain (sym c.index-types-i.is) in
+    let is = type_at-map plain types i d c.loop-i-test.true ∙ ap plain (sym c.index-types-i.is) in
     below_more (λ p. HasPeers n p (type_at (map plain types) p)) i c.loop-i.invariant
     (subst (λ (t : LocalType). HasPeers n i t) (sym is) (c.has_peers.ensures.0 c.if-not-has_peers.false))

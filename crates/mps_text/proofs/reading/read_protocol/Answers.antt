@@ -1,27 +1,32 @@
-use Rattle.std.proofs.Common.{◌∙◌, sym, ap, arith}
+use Rattle.std.proofs.Common.{arith}
 use Rattle.mps_global.specs.Global.{plain}
 use Rattle.mps_text.proofs.FirstFault.{first_fault}
-use Rattle.mps_text.proofs.Spelled.{protocol_takes, protocol_again, one_path, ok_is}
+use Rattle.mps_text.proofs.OneFault.{spelled_runs}
+use Rattle.mps_text.proofs.OneTree.{one_protocol}
+use Rattle.mps_text.proofs.Read.{taken}
 use Rattle.mps_text.proofs.reading.read_protocol.Goals as goal
 
 pub returns-in-Ok-clause-read : goal.returns-in-Ok-clause-read
 returns-in-Ok-clause-read c =
-    let t = protocol_takes c.args.text.now _ c.in-Ok.ensures in
-    (record { short = omega arith; small = omega (arith, one_path (plain c.in-Ok.protocol.body), t.1); shallow = t.1 }, t.0)
+    let p = c.in-Ok.protocol in
+    let e = c.in-Ok.ensures in
+    taken c.args.text.now p.roles.items (plain p.body) (omega arith) e.runs e.tokens e.names e.count e.spellable
 
 pub returns-in-Ok-clause-only : goal.returns-in-Ok-clause-only
 returns-in-Ok-clause-only c = λ roles tree limits spelled.
-    let same = ok_is (c.in-Ok.protocol.roles.items, plain c.in-Ok.protocol.body) (roles, tree) (sym c.in-Ok.ensures ∙ protocol_again c.args.text.now roles tree spelled limits.shallow) in
-    (ap (λ x. x.0) same, ap (λ x. x.1) same)
+    let p = c.in-Ok.protocol in
+    let e = c.in-Ok.ensures in
+    let t = taken c.args.text.now p.roles.items (plain p.body) limits.short e.runs e.tokens e.names e.count e.spellable in
+    one_protocol c.args.text.now p.roles.items roles (plain p.body) tree t.1 spelled
 
 pub returns-in-Err-At-clause-only : goal.returns-in-Err-At-clause-only
 returns-in-Err-At-clause-only c = λ roles tree limits spelled.
-    let again = protocol_again c.args.text.now roles tree spelled limits.shallow in
-    let fault = rw c.in-Err-At.field-0-is at c.in-Err-At.ensures in
-    absurd (cc (again, fault))
+    let ok = spelled_runs c.args.text.now roles tree limits spelled in
+    let fault = rw c.in-Err-At.field-0-is at c.in-Err-At.ensures.runs in
+    absurd (cc (ok, fault))
 
 pub returns-in-Err-At-clause-fault : goal.returns-in-Err-At-clause-fault
 returns-in-Err-At-clause-fault c =
-    let fault = rw c.in-Err-At.field-0-is at c.in-Err-At.ensures in
+    let fault = rw c.in-Err-At.field-0-is at c.in-Err-At.ensures.runs in
     let first = first_fault c.args.text.now c.in-Err-At.left c.in-Err-At.kind (omega arith) fault in
     rw c.saturating_sub.ensures first

@@ -13,6 +13,7 @@ use Rattle.mps_machine.specs.Violations.{act_fault}
 use Rattle.mps_machine.specs.declared.answer.Done.{Done}
 use Rattle.mps_machine.specs.declared.answer.Refusal.{Refusal}
 use Rattle.mps_session.specs.Kept.{state_of}
+use Rattle.mps_session.specs.Rows.{row_type}
 use Rattle.mps_session.proofs.Types.{length_map}
 use Rattle.mps_session.proofs.Serving.{receipt_refused, receipt_full, receipt_done, receipt_holds, holds_by, out_of_memory}
 use Rattle.mps_session.proofs.session.Session.receive.Goals as goal
@@ -38,8 +39,8 @@ first_is c =
     ∙ ap (λ (k : ℕ). first_of (get_or c.self.inside.queues.items k [])) (place_is c)
 
 -- its receipt is allowed
-fine : (c : In-Ok) → act_fault (plain c.index-2.result.now) (In c.args.from (Some c.args.slot)) (Some (Plain c.in-Ok.value.now)) ≡ None
-fine c = ap (act_fault (plain c.index-2.result.now) (In c.args.from (Some c.args.slot))) (sym c.in-Ok.ensures.value) ∙ c.in-Ok.ensures.fine c.args.slot
+fine : (c : In-Ok) → act_fault (row_type c.index-2.result.now) (In c.args.from (Some c.args.slot)) (Some (Plain c.in-Ok.value.now)) ≡ None
+fine c = ap (act_fault (row_type c.index-2.result.now) (In c.args.from (Some c.args.slot))) (sym c.in-Ok.ensures.value) ∙ c.in-Ok.ensures.fine c.args.slot
 
 -- the machine accepts it
 accepts : (c : In-Ok) → c.self.inside.next ≤ most_numbers → forward (map plain c.args.self.now.types) c.args.self.now.state c.args.role (In c.args.from (Some c.args.slot)) ≡ (Ok (record { id = c.self.inside.next; got = Some (Plain c.in-Ok.value.now) }), accepted (state_of c.self.inside) c.args.role (In c.args.from (Some c.args.slot)))
@@ -91,7 +92,7 @@ invariant_of-self-2 c =
     let l = (goal.at.invariant_of-self-2 c).In-Ok in
     let there = place_is l in
     let h = receipt_holds s c.args.self.now c.self.view_is c.self.invariant c.args.role c.requires c.index-2.result.now (type_is l) c.args.from c.args.slot _ (first_is l) (fine l) c.in-Ok.value.now refl in
-    let types = map plain s.to_come.items in
+    let types = map row_type s.to_come.items in
     let coming = c.advance_at.ensures ∙ ap (λ (k : ℕ). set types k (rest_of (type_at types k))) c.index-p.ensures.place in
     let queues = s.queues.items in
     let waiting = c.take_at-got.ensures.others ∙ ap (λ (k : ℕ). set queues k (drop 1 (get_or queues k []))) there in

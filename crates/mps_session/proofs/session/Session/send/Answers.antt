@@ -10,6 +10,7 @@ use Rattle.mps_machine.specs.Machine.{State, accepted, forward, most_numbers}
 use Rattle.mps_machine.specs.declared.answer.Done.{Done}
 use Rattle.mps_machine.specs.declared.answer.Refusal.{Refusal}
 use Rattle.mps_session.specs.Kept.{state_of}
+use Rattle.mps_session.specs.Rows.{row_type}
 use Rattle.mps_session.proofs.Types.{length_map}
 use Rattle.mps_session.proofs.Serving.{send_refused, send_full, send_done, send_place, send_holds, holds_by, out_of_memory}
 use Rattle.mps_session.proofs.session.Session.send.Goals as goal
@@ -78,7 +79,7 @@ invariant_of-self-2 c =
     let s = c.self.inside in
     let l = (goal.at.invariant_of-self-2 c).In_default in
     let h = send_holds s c.args.self.now c.self.view_is c.self.invariant c.args.role c.requires c.index.result.now (type_is l) c.args.to c.args.value (c.in_default.ensures (Some (Plain c.args.value))) in
-    let types = map plain s.to_come.items in
+    let types = map row_type s.to_come.items in
     let coming = c.advance_at.ensures ∙ ap (λ (k : ℕ). set types k (rest_of (type_at types k))) c.index-p.ensures.place in
     let queues = s.queues.items in
     let place = c.args.role * length (map plain s.types.items) + c.args.to in

@@ -1,0 +1,8 @@
+use Rattle.mps_base.proofs.Spaced.{written_parts, written_all}
+use Rattle.mps_base.proofs.spacing.written_spaced.Goals as goal
+
+pub returns-clause-parts : goal.returns-clause-parts
+returns-clause-parts c = written_parts
+
+pub returns-clause-spaced : goal.returns-clause-spaced
+returns-clause-spaced c = written_all

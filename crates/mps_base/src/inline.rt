@@ -1,0 +1,55 @@
+//! Short words, kept inline.
+ghost use Rattle.std.specs.Prelude.{◌≡◌, ◌≤◌, length};
+
+use std::marker::Model;
+
+/// How many bytes a word may have.
+pub(crate) const MAX_WORD: usize = 32;
+
+/// At most 32 bytes.
+#[derive(Clone, Copy, Debug, PartialEq, Eq)]
+pub(crate) struct Inline {
+    len: u8,
+    // zeros behind the word
+    bytes: [u8; 32],
+}
+
+impl Model for Inline {
+    ghost use Rattle.std.specs.Prelude.{ℕ, ◌-◌, ◌++◌, List, length, take, replicate};
+    ghost use Rattle.mps_base.specs.Inline.{IsKept};
+
+    ghost Value = { List ℕ };
+
+    ghost use Rattle.mps_base.specs.Refilled.{refilled};
+
+    ghost view = { λ n. take n.len n.bytes };
+
+    ghost invariant = { λ n. IsKept n.len n.bytes };
+
+    ghost inverse = { λ l. record { len = length l; bytes = l ++ replicate (32 - length l) 0 } };
+
+    ghost inverse_ok = { refilled };
+}
+
+impl Inline {
+    /// These bytes.
+    pub(crate) fn of(bytes: &[u8]) -> Inline
+        requires short { length bytes.now ≤ 32 }
+        ensures { result ≡ bytes.now }
+    {
+        let mut kept = [0; MAX_WORD];
+        kept[..bytes.len()].copy_from_slice(bytes);
+        Inline {
+            len: bytes.len() as u8,
+            bytes: kept,
+        }
+    }
+
+    /// Them, from the first to the last.
+    pub(crate) fn as_bytes(&self) -> &[u8]
+        ensures { result.now ≡ self.now }
+    {
+        let len = usize::from(self.len);
+        &self.bytes[..len]
+    }
+}

@@ -1,0 +1,6 @@
+use Rattle.std.proofs.Common.{◌+◌}
+use Rattle.mps_global.specs.Weights.{weight, waiting_weight}
+use Rattle.mps_global.proofs.Global.drop.Given as goal
+
+abbrev pub decreases-loop-self : goal.decreases-loop-self
+decreases-loop-self l = weight l.self + waiting_weight l.waiting

@@ -1,6 +1,0 @@
-use Rattle.std.proofs.Common.{◌≡◌, map, take}
-use Rattle.mps_local.specs.Local.{plain}
-use Rattle.mps_session.proofs.open.copies.Given as goal
-
-abbrev pub invariant-loop-t : goal.invariant-loop-t
-invariant-loop-t l = map plain l.all.items ≡ map plain (take l.t-index l.types)

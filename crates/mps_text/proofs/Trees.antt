@@ -1,0 +1,241 @@
+-- The tokens of a tree, and how they drive a stack on.
+use Rattle.std.proofs.Common.{◌≡◌, ℕ, ◌+◌, ◌-◌, ◌≤◌, true, nat_lt, List, [], ◌∷◌, ◌++◌, length, Option, Some, None, refl, ap, sym, ◌∙◌, append_assoc, arith}
+use Rattle.std.specs.Prelude.{codes, ⊤}
+use Rattle.std.specs.List.{AllByRecursion}
+use Rattle.std.proofs.lemmas.Bool.Decides.{nat_tests}
+use Rattle.std.proofs.lemmas.List.{append-nil}
+use Rattle.mps_base.specs.Names.{IsName, IsVariable}
+use Rattle.mps_global.specs.Global.{GlobalType, Branches, End, Var, Rec, Message, Choice, NoMore, More}
+use Rattle.mps_base.specs.Sorts.{sort_word}
+use Rattle.mps_text.specs.Grammar.{global_tokens, branch_tokens, HasBranch, IsSpellable, AreSpellable, SpellsProtocol, protocol_tokens}
+use Rattle.mps_text.specs.Faults.{node_starts, branch_starts, no_starts, protocol_starts}
+use Rattle.mps_text.specs.Reading.{Symbol, Token, AName, AVariable, ASort, Roles, Node, Exchange, Others, branch, step, mark, begun, named, which, whole, tokens_before, branches_before}
+use Rattle.mps_text.specs.declared.reading.First.TheVariants as firsts
+use Rattle.mps_text.proofs.Names.{is_name_of, is_variable_of}
+use Rattle.mps_text.proofs.Tokens.{name_apart, sort_again, first_again}
+use Rattle.mps_text.proofs.Machine.{Drives, drives_more}
+
+-- ---- with others behind
+
+abbrev mutual
+  -- for each token of a global type the depth of the node that it begins, and then others
+  pub starts_before : ℕ → GlobalType → List (Option ℕ) → List (Option ℕ)
+  starts_before level End later = Some level ∷ later
+  starts_before level (Var name) later = Some level ∷ later
+  starts_before level (Rec name body) later = Some level ∷ None ∷ None ∷ starts_before (level + 1) body later
+  starts_before level (Message sender receiver sort next) later = Some level ∷ None ∷ None ∷ None ∷ None ∷ None ∷ starts_before (level + 1) next later
+  starts_before level (Choice sender receiver branches) later = Some level ∷ None ∷ None ∷ branch_starts_before (level + 1) branches later
+
+  -- the same of branches, each with the token before it, and `}`
+  pub branch_starts_before : ℕ → Branches → List (Option ℕ) → List (Option ℕ)
+  branch_starts_before level NoMore later = None ∷ later
+  branch_starts_before level (More label next others) later = None ∷ None ∷ None ∷ starts_before level next (branch_starts_before level others later)
+
+branches_are : (label : List ℕ) (next : GlobalType) (others : Branches) (sep : List ℕ) (rest : List (List ℕ)) → ((tokens : List (List ℕ)) → tokens_before next tokens ≡ global_tokens next ++ tokens) → (HasBranch others → branches_before (codes ",") others rest ≡ codes "," ∷ branch_tokens others ++ codes "}" ∷ rest) → branches_before sep (More label next others) rest ≡ sep ∷ branch_tokens (More label next others) ++ codes "}" ∷ rest
+branches_are label next NoMore sep rest one more = ap (λ (ts : List (List ℕ)). sep ∷ label ∷ codes ":" ∷ ts) (one (codes "}" ∷ rest))
+branches_are label next (More second then others) sep rest one more =
+    ap (λ (ts : List (List ℕ)). sep ∷ label ∷ codes ":" ∷ ts)
+    (one (branches_before (codes ",") (More second then others) rest)
+    ∙ ap (λ (ts : List (List ℕ)). global_tokens next ++ ts) (more tt)
+    ∙ sym (append_assoc (global_tokens next) (codes "," ∷ branch_tokens (More second then others)) (codes "}" ∷ rest)))
+
+mutual
+  pub before_is : (tree : GlobalType) (rest : List (List ℕ)) → IsSpellable tree → tokens_before tree rest ≡ global_tokens tree ++ rest
+  before_is End rest s = refl
+  before_is (Var name) rest s = refl
+  before_is (Rec name body) rest s = ap (λ (ts : List (List ℕ)). codes "rec" ∷ name ∷ codes "." ∷ ts) (before_is body rest s.1)
+  before_is (Message sender receiver sort next) rest s =
+      ap (λ (ts : List (List ℕ)). sender ∷ codes "->" ∷ receiver ∷ codes ":" ∷ sort_word sort ∷ codes "." ∷ ts) (before_is next rest s.2)
+  before_is (Choice sender receiver branches) rest s =
+      ap (λ (ts : List (List ℕ)). sender ∷ codes "->" ∷ receiver ∷ ts)
+      (all_before_is branches (codes "{") rest s.2 s.3
+      ∙ ap (λ (ts : List (List ℕ)). codes "{" ∷ ts) (sym (append_assoc (branch_tokens branches) (codes "}" ∷ []) rest)))
+
+  all_before_is : (branches : Branches) (sep : List ℕ) (rest : List (List ℕ)) → HasBranch branches → AreSpellable branches → branches_before sep branches rest ≡ sep ∷ branch_tokens branches ++ codes "}" ∷ rest
+  all_before_is NoMore sep rest some s = absurd some
+  all_before_is (More label next others) sep rest some s =
+      branches_are label next others sep rest (λ tokens. before_is next tokens s.1) (λ more. all_before_is others (codes ",") rest more s.2)
+
+branch_starts_are : (label : List ℕ) (next : GlobalType) (others : Branches) (level : ℕ) (later : List (Option ℕ)) → ((starts : List (Option ℕ)) → starts_before level next starts ≡ node_starts level next ++ starts) → (HasBranch others → branch_starts_before level others later ≡ None ∷ branch_starts level others ++ None ∷ later) → branch_starts_before level (More label next others) later ≡ None ∷ branch_starts level (More label next others) ++ None ∷ later
+branch_starts_are label next NoMore level later one more = ap (λ (st : List (Option ℕ)). None ∷ None ∷ None ∷ st) (one (None ∷ later))
+branch_starts_are label next (More second then others) level later one more =
+    ap (λ (st : List (Option ℕ)). None ∷ None ∷ None ∷ st)
+    (one (branch_starts_before level (More second then others) later)
+    ∙ ap (λ (st : List (Option ℕ)). node_starts level next ++ st) (more tt)
+    ∙ sym (append_assoc (node_starts level next) (None ∷ branch_starts level (More second then others)) (None ∷ later)))
+
+mutual
+  pub starts_are : (tree : GlobalType) (level : ℕ) (later : List (Option ℕ)) → IsSpellable tree → starts_before level tree later ≡ node_starts level tree ++ later
+  starts_are End level later s = refl
+  starts_are (Var name) level later s = refl
+  starts_are (Rec name body) level later s = ap (λ (st : List (Option ℕ)). Some level ∷ None ∷ None ∷ st) (starts_are body (level + 1) later s.1)
+  starts_are (Message sender receiver sort next) level later s =
+      ap (λ (st : List (Option ℕ)). Some level ∷ None ∷ None ∷ None ∷ None ∷ None ∷ st) (starts_are next (level + 1) later s.2)
+  starts_are (Choice sender receiver branches) level later s =
+      ap (λ (st : List (Option ℕ)). Some level ∷ None ∷ None ∷ st)
+      (all_starts_are branches (level + 1) later s.2 s.3
+      ∙ ap (λ (st : List (Option ℕ)). None ∷ st) (sym (append_assoc (branch_starts (level + 1) branches) (None ∷ []) later)))
+
+  all_starts_are : (branches : Branches) (level : ℕ) (later : List (Option ℕ)) → HasBranch branches → AreSpellable branches → branch_starts_before level branches later ≡ None ∷ branch_starts level branches ++ None ∷ later
+  all_starts_are NoMore level later some s = absurd some
+  all_starts_are (More label next others) level later some s =
+      branch_starts_are label next others level later (λ starts. starts_are next level starts s.1) (λ more. all_starts_are others level later more s.2)
+
+-- ---- driven by a tree
+
+-- behind the last branch the symbol is closed by `}`
+abbrev Closes : Symbol → Branches → Type 0
+Closes x NoMore = step x (codes "}") ≡ Some []
+Closes x (More label next others) = ⊤
+
+closes_some : (x : Symbol) (branches : Branches) → HasBranch branches → Closes x branches
+closes_some x NoMore some = absurd some
+closes_some x (More label next others) some = tt
+
+others_close : (level : ℕ) (branches : Branches) → Closes (Others level) branches
+unfolding which
+others_close level NoMore = refl
+others_close level (More label next others) = tt
+
+colon_step : (level : ℕ) → step (Exchange level) (codes ":") ≡ Some (ASort ∷ Token (codes ".") ∷ Node level ∷ [])
+unfolding which
+colon_step level = refl
+
+brace_step : (level : ℕ) → step (Exchange level) (codes "{") ≡ Some (branch level)
+unfolding which
+brace_step level = refl
+
+comma_step : (level : ℕ) → step (Others level) (codes ",") ≡ Some (branch level)
+unfolding which
+comma_step level = refl
+
+name_step : (name : List ℕ) → IsName name → step AName name ≡ Some []
+name_step name h = rw (is_name_of name h) refl
+
+variable_step : (name : List ℕ) → IsVariable name → step AVariable name ≡ Some []
+variable_step name h = rw (is_variable_of name h) refl
+
+mutual
+  pub drives_tree : (tree : GlobalType) (level : ℕ) (stack to : List Symbol) (tokens : List (List ℕ)) (starts : List (Option ℕ)) → IsSpellable tree → Drives stack tokens to starts → Drives (Node level ∷ stack) (tokens_before tree tokens) to (starts_before level tree starts)
+  drives_tree End level stack to tokens starts s d = drives_more (Node level) stack [] to (codes "end") tokens starts (ap (begun level) (first_again firsts.End tt)) d
+  drives_tree (Var name) level stack to tokens starts s d = drives_more (Node level) stack [] to name tokens starts (ap (begun level) (first_again (firsts.Var name) s)) d
+  drives_tree (Rec name body) level stack to tokens starts s d = (
+    AVariable ∷ Token (codes ".") ∷ Node (level + 1) ∷ [],
+    ap (begun level) (first_again firsts.Rec tt),
+    None ∷ None ∷ starts_before (level + 1) body starts,
+    refl,
+    (
+      [],
+      variable_step name s.0,
+      None ∷ starts_before (level + 1) body starts,
+      refl,
+      ([], refl, starts_before (level + 1) body starts, refl, drives_tree body (level + 1) stack to tokens starts s.1 d),
+    ),
+  )
+  drives_tree (Message sender receiver sort next) level stack to tokens starts s d =
+      let later = starts_before (level + 1) next starts in (
+        Token (codes "->") ∷ AName ∷ Exchange (level + 1) ∷ [],
+        ap (begun level) (first_again (firsts.Sender sender) s.0),
+        None ∷ None ∷ None ∷ None ∷ None ∷ later,
+        refl,
+        (
+          [],
+          refl,
+          None ∷ None ∷ None ∷ None ∷ later,
+          refl,
+          (
+            [],
+            name_step receiver s.1,
+            None ∷ None ∷ None ∷ later,
+            refl,
+            (
+              ASort ∷ Token (codes ".") ∷ Node (level + 1) ∷ [],
+              colon_step (level + 1),
+              None ∷ None ∷ later,
+              refl,
+              (
+                [],
+                ap named (sort_again sort),
+                None ∷ later,
+                refl,
+                ([], refl, later, refl, drives_tree next (level + 1) stack to tokens starts s.2 d),
+              ),
+            ),
+          ),
+        ),
+      )
+  drives_tree (Choice sender receiver branches) level stack to tokens starts s d =
+      let later = branch_starts_before (level + 1) branches starts in (
+        Token (codes "->") ∷ AName ∷ Exchange (level + 1) ∷ [],
+        ap (begun level) (first_again (firsts.Sender sender) s.0),
+        None ∷ None ∷ later,
+        refl,
+        (
+          [],
+          refl,
+          None ∷ later,
+          refl,
+          (
+            [],
+            name_step receiver s.1,
+            later,
+            refl,
+            drives_branches branches (Exchange (level + 1)) (level + 1) (codes "{") stack to tokens starts (brace_step (level + 1)) refl (closes_some (Exchange (level + 1)) branches s.2) s.3 d,
+          ),
+        ),
+      )
+
+  drives_branches : (branches : Branches) (x : Symbol) (level : ℕ) (sep : List ℕ) (stack to : List Symbol) (tokens : List (List ℕ)) (starts : List (Option ℕ)) → step x sep ≡ Some (branch level) → mark x ≡ None → Closes x branches → AreSpellable branches → Drives stack tokens to starts → Drives (x ∷ stack) (branches_before sep branches tokens) to (branch_starts_before level branches starts)
+  drives_branches NoMore x level sep stack to tokens starts opens plain closes s d = ([], closes, starts, ap (λ (m : Option ℕ). m ∷ starts) (sym plain), d)
+  drives_branches (More label next others) x level sep stack to tokens starts opens plain closes s d =
+      let rest = branch_starts_before level others starts in
+      let later = starts_before level next rest in (
+        branch level,
+        opens,
+        None ∷ None ∷ later,
+        ap (λ (m : Option ℕ). m ∷ None ∷ None ∷ later) (sym plain),
+        (
+          [],
+          name_step label s.0,
+          None ∷ later,
+          refl,
+          (
+            [],
+            refl,
+            later,
+            refl,
+            drives_tree next level (Others level ∷ stack) to (branches_before (codes ",") others tokens) rest s.1
+                (drives_branches others (Others level) level (codes ",") stack to tokens starts (comma_step level) refl (others_close level others) s.2 d),
+          ),
+        ),
+      )
+
+-- ---- driven by a protocol
+
+drives_roles : (names : List (List ℕ)) (room : ℕ) (stack to : List Symbol) (tokens : List (List ℕ)) (starts : List (Option ℕ)) → AllByRecursion IsName names → length names ≤ room → Drives stack tokens to starts → Drives (Roles room ∷ stack) (names ++ codes ";" ∷ tokens) to (no_starts names ++ None ∷ starts)
+drives_roles [] room stack to tokens starts are few d = ([], refl, starts, refl, d)
+drives_roles (name ∷ names) room stack to tokens starts are few d =
+    let some : nat_lt 0 room ≡ true = grind (arith, nat_tests, few) in (
+      Roles (room - 1) ∷ [],
+      rw (name_apart name (codes ";") are.0 refl, some, is_name_of name are.0) refl,
+      no_starts names ++ None ∷ starts,
+      refl,
+      drives_roles names (room - 1) stack to tokens starts are.1 (omega arith) d,
+    )
+
+drives_heading : (first second : List ℕ) (more : List (List ℕ)) (tree : GlobalType) → IsName first → IsName second → AllByRecursion IsName more → length more ≤ 6 → IsSpellable tree → Drives whole (protocol_tokens (first ∷ second ∷ more) tree) [] (protocol_starts (first ∷ second ∷ more) tree)
+drives_heading first second more tree a b are few s =
+    let tokens : tokens_before tree [] ≡ global_tokens tree = before_is tree [] s ∙ append-nil (global_tokens tree) in
+    let starts : starts_before 1 tree [] ≡ node_starts 1 tree = starts_are tree 1 [] s ∙ append-nil (node_starts 1 tree) in
+    let body : Drives (Node 1 ∷ []) (global_tokens tree) [] (node_starts 1 tree) = rw (tokens, starts) at (drives_tree tree 1 [] [] [] [] s (refl, refl)) in
+    let roles = drives_roles more 6 (Node 1 ∷ []) [] (global_tokens tree) (node_starts 1 tree) are few body in
+    let later = no_starts more ++ None ∷ node_starts 1 tree in
+    ([], refl, None ∷ None ∷ later, refl, ([], name_step first a, None ∷ later, refl, ([], name_step second b, later, refl, roles)))
+
+-- the tokens of a protocol drive it away
+pub drives_whole : (tokens roles : List (List ℕ)) (tree : GlobalType) → SpellsProtocol tokens roles tree → Drives whole tokens [] (protocol_starts roles tree)
+drives_whole tokens [] tree s = absurd (let some = s.count.some in omega arith)
+drives_whole tokens (first ∷ []) tree s = absurd (let some = s.count.some in omega arith)
+drives_whole tokens (first ∷ second ∷ more) tree s =
+    let few : length more ≤ 6 = let few = s.count.few in omega arith in
+    rw s.parts (drives_heading first second more tree s.names.0 s.names.1.0 s.names.1.1 few s.body)

@@ -1,0 +1,8 @@
+use Rattle.std.proofs.Common.{◌+◌, ◌*◌}
+use Rattle.mps_text.proofs.reading.+reading.Given as goal
+
+abbrev pub decreases-global_at : goal.decreases-global_at
+decreases-global_at l = l.cursor.now.nodes * 2
+
+abbrev pub decreases-branches_at : goal.decreases-branches_at
+decreases-branches_at l = l.cursor.now.nodes * 2 + 1
