@@ -1,26 +1,12 @@
 -- Which peers a type may name.
-use Rattle.std.specs.Prelude.{◌≢◌, ℕ, ◌<◌, ◌≤◌, List, length, ⊤}
-use Rattle.mps_local.specs.Local.{LocalType, Branches, End, Var, Rec, Send, Recv, Select, Branch, NoMore, More}
+use Rattle.std.specs.Prelude.{ℕ, ◌<◌, ◌≤◌, List, length}
+use Rattle.mps_local.specs.Local.{LocalType}
+use Rattle.mps_local.specs.Shape.{AllPeers, IsOtherRole}
 use Rattle.mps_machine.specs.View.{type_at}
 
--- a peer of role p among n roles: another one of them
-abbrev pub IsPeer : ℕ → ℕ → ℕ → Type 0
-IsPeer n p q = (q < n) × (q ≢ p)
-
-abbrev mutual
-  -- each peer that the type of role p names is another of the n roles
-  pub HasPeers : ℕ → ℕ → LocalType → Type 0
-  HasPeers n p End = ⊤
-  HasPeers n p (Var x) = ⊤
-  HasPeers n p (Rec x t) = HasPeers n p t
-  HasPeers n p (Send peer sort t) = IsPeer n p peer × HasPeers n p t
-  HasPeers n p (Recv peer sort t) = IsPeer n p peer × HasPeers n p t
-  HasPeers n p (Select peer branches) = IsPeer n p peer × HavePeers n p branches
-  HasPeers n p (Branch peer branches) = IsPeer n p peer × HavePeers n p branches
-
-  pub HavePeers : ℕ → ℕ → Branches → Type 0
-  HavePeers n p NoMore = ⊤
-  HavePeers n p (More label t others) = HasPeers n p t × HavePeers n p others
+-- each peer that the type of role p names is another of the n roles
+abbrev pub HasPeers : (n p : ℕ) → LocalType → Type 0
+HasPeers n p = AllPeers (IsOtherRole n p)
 
 -- 2 to 8 roles
 abbrev pub HasRoleCount : List LocalType → Type 0

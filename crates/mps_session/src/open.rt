@@ -4,7 +4,8 @@ ghost use Rattle.std.specs.List.{AllByRecursion};
 ghost use Rattle.mps_session.specs.declared.open.OpenFault.TheVariants.{Memory as OutOfMemory};
 ghost use Rattle.mps_local.specs.Local.{plain, plain_branches};
 ghost use Rattle.mps_machine.specs.View.{type_at};
-ghost use Rattle.mps_session.specs.Peers.{IsPeer, HasPeers, HavePeers, IsFirstBad};
+ghost use Rattle.mps_local.specs.Shape.{AllBranchPeers, IsOtherRole};
+ghost use Rattle.mps_session.specs.Peers.{HasPeers, IsFirstBad};
 ghost use Rattle.mps_session.specs.Rows.{IsMessageOnly, row_type};
 
 use crate::queue::Queue;
@@ -59,7 +60,7 @@ fn has_peers(n: usize, role: usize, t: &Local) -> bool
 // The same of the branches.
 #[cycle(peers)]
 fn have_peers(n: usize, role: usize, branches: &Branches) -> bool
-    ensures { IsTrue result ↔ HavePeers n role (plain_branches branches.now) }
+    ensures { IsTrue result ↔ AllBranchPeers (IsOtherRole n role) (plain_branches branches.now) }
 {
     match branches {
         Branches::NoMore => true,
@@ -71,7 +72,7 @@ fn have_peers(n: usize, role: usize, branches: &Branches) -> bool
 
 // Whether the peer is another of the n roles.
 fn is_peer(n: usize, role: usize, peer: Role) -> bool
-    ensures { IsTrue result ↔ IsPeer n role peer }
+    ensures { IsTrue result ↔ IsOtherRole n role peer }
 {
     peer.index() < n && peer.index() != role
 }

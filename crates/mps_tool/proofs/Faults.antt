@@ -1,11 +1,8 @@
 -- From the faults of one step to those of all.
-use Rattle.std.proofs.Common.{◌≡◌, ℕ, ◌<◌, List, length, Some, None, IsSome, Result, Ok, Err, IsErrAnd, IfErr, refl, sym, subst}
-use Rattle.std.specs.Prelude.{slice_get}
+use Rattle.std.proofs.Common.{◌≡◌, ℕ, ◌<◌, List, None, IsSome, Result, Ok, Err, IsErrAnd, IfErr, sym, subst}
 use Rattle.mps_global.specs.Global.{GlobalType}
 use Rattle.mps_global.specs.Faults.{fault_of}
 use Rattle.mps_local.specs.Projection.{projection}
-use Rattle.mps_text.specs.declared.fault.TextKind.{TextKind}
-use Rattle.mps_text.specs.declared.fault.TextKind.TheVariants.{TooLong, Word, Unexpected, TooManyNodes, TooDeep, Trailing, Memory as NoRoom}
 use Rattle.mps_tool.specs.Opening.{IsProtocolText, IsUnprojected, GivesNoProjections, GivesNoProtocol, GivesNoTypes, GivesNoSession}
 use Rattle.mps_tool.specs.declared.fault.ToolFault.{ToolFault}
 use Rattle.mps_tool.specs.declared.fault.ToolFault.TheVariants.{Usage, File, Text, Protocol, Projection, Unready, Open, Read, Write, Turns, Memory}

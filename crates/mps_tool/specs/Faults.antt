@@ -1,5 +1,5 @@
 -- How faults are told.
-use Rattle.std.specs.Prelude.{◌+◌, ◌⊎◌, ⊤, ◌≡◌, ℕ, List, codes, ◌++◌}
+use Rattle.std.specs.Prelude.{◌+◌, ◌⊎◌, ⊤, ◌≡◌, ℕ, List, Result, Ok, Err, codes, ◌++◌}
 use Rattle.std.specs.String.{string_bytes}
 use Rattle.mps_base.specs.Numbers.{IsNumberText}
 use Rattle.mps_global.specs.declared.faults.GlobalFault.{GlobalFault}
@@ -98,6 +98,26 @@ IsReadFault before after Open = ⊥
 IsReadFault before after Write = ⊥
 IsReadFault before after Turns = ⊥
 
+-- how many reads failed where this is the fault
+abbrev pub failed_reads : ToolFault → ℕ
+failed_reads Read = 1
+failed_reads fault = 0
+
+-- how many writes failed where this is the fault
+abbrev pub failed_writes : ToolFault → ℕ
+failed_writes Write = 1
+failed_writes fault = 0
+
+-- how many calls of the source have failed after this answer
+abbrev pub after_reads : {A : Type 0} → Result A ToolFault → ℕ → ℕ
+after_reads (Ok x) before = before
+after_reads (Err fault) before = before + failed_reads fault
+
+-- how many calls of the sink have failed after this answer
+abbrev pub after_writes : {A : Type 0} → Result A ToolFault → ℕ → ℕ
+after_writes (Ok x) before = before
+after_writes (Err fault) before = before + failed_writes fault
+
 -- how words may fail to be read: they are none of the program's, or memory ran out
 abbrev pub IsUseFault : ToolFault → Type 0
 IsUseFault (Usage text) = ⊤
@@ -125,3 +145,12 @@ IsRunFault file script Read = ⊤
 IsRunFault file script Write = ⊤
 IsRunFault file script Turns = ⊤
 IsRunFault file script Memory = ⊤
+
+-- how a check of this file may fail: a file that can't be opened is this one
+abbrev pub IsCheckFault : List ℕ → ToolFault → Type 0
+IsCheckFault file (File name) = name.now ≡ file
+IsCheckFault file (Usage text) = ⊥
+IsCheckFault file Unready = ⊥
+IsCheckFault file Open = ⊥
+IsCheckFault file Turns = ⊥
+IsCheckFault file fault = ⊤

@@ -6,6 +6,7 @@ mod fault;
 mod opening;
 mod reading;
 mod running;
+mod showing;
 mod words;
 
 pub use command::Order;
@@ -14,6 +15,7 @@ pub use mps_wire::script::{ReplayFault, run_script};
 pub use opening::{check_out, roles_and_types};
 pub use reading::read_text;
 pub use running::{open_file, run, show};
+pub use showing::write_types;
 use std::io::ErrorKind;
 use std::process::ExitCode;
 use std::rt::{Env, Files};

@@ -1,15 +1,15 @@
 //! Running a script from files.
 ghost use Rattle.std.specs.Prelude.{◌≡◌, IfOk, IfErr};
 ghost use Rattle.mps_dev.specs.Standard.{calls_of};
-ghost use Rattle.mps_tool.specs.Faults.{IsRunFault};
+ghost use Rattle.mps_tool.specs.Faults.{IsCheckFault, IsRunFault};
 ghost use Rattle.mps_tool.specs.declared.fault.ToolFault.TheVariants.{File as NotOpened};
 
 use crate::fault::ToolFault;
-use crate::opening::{check_out, roles_and_types};
+use crate::opening::roles_and_types;
 use crate::reading::read_text;
+use crate::showing::write_types;
 use mps_dev::{OverRead, OverWrite};
 use mps_wire::script::run_script;
-use std::io::Write;
 use std::rt::Files;
 use std::{fs, io};
 
@@ -43,13 +43,9 @@ pub fn run<'a, R: Files + AllocGlobal + Print>(
 
 /// Prints a line for each role of the protocol in the file: its name and its local type.
 pub fn show<'a, R: Files + AllocGlobal + Print>(rt: &R, file: &'a str) -> Result<(), ToolFault<'a>>
-    ensures { IfErr result (IsRunFault file.now file.now) }
+    ensures { IfErr result (IsCheckFault file.now) }
 {
-    let alloc = rt.alloc();
-    let text = read_text(alloc, &mut open_file(rt, file)?)?;
-    let lines = check_out(alloc, text.as_slice())?;
-    match io::writer(rt).write_all(lines.as_slice()) {
-        Ok(()) => Ok(()),
-        Err(_) => Err(ToolFault::Write),
-    }
+    let mut reader = open_file(rt, file)?;
+    let mut writer = OverWrite::new(io::writer(rt));
+    write_types(rt.alloc(), &mut reader, &mut writer)
 }

@@ -1,6 +1,6 @@
 use crate::{
     Order, ToolFault, check_out, fault_line, open_file, order, read_text, roles_and_types, run,
-    run_script, show, status,
+    run_script, show, status, write_types,
 };
 use mps_base::Name;
 use mps_dev::{Pieces, Short};
@@ -244,6 +244,57 @@ fn shows_types(rt: HostRuntime) -> Result<(), Fail> {
     for (protocol, lines) in rows {
         let found = shown(rt.alloc(), protocol)?;
         assert_eq!(rt; found.as_slice(), lines.as_bytes());
+    }
+    Ok(())
+}
+
+// Whether the protocol, read in two pieces, shows these bytes to a writer that takes so many, and
+// ends with the line, which is empty for no fault.
+fn shows(
+    alloc: Global,
+    protocol: &str,
+    room: usize,
+    written: &str,
+    line: &str,
+) -> Result<bool, Fail> {
+    let (front, rest) = protocol.as_bytes().split_at(protocol.len() / 2);
+    let pieces = vec![in alloc;
+        Vec::from_slice(alloc, front)?,
+        Vec::from_slice(alloc, rest)?,
+    ]?;
+    let mut writer = Short::new(alloc, room)?;
+    let told = match write_types(alloc, &mut Pieces::new(pieces, None), &mut writer) {
+        Ok(()) => Vec::new(alloc),
+        Err(fault) => fault_line(alloc, &fault)?,
+    };
+    Ok(writer.bytes() == written.as_bytes() && told.as_slice() == line.as_bytes())
+}
+
+#[test]
+fn writes_types(rt: HostRuntime) -> Result<(), Fail> {
+    let alloc = rt.alloc();
+    let lines = "a : send b int . end\n\
+                 b : recv a int . send c int . end\n\
+                 c : recv b int . end\n";
+    assert!(rt; shows(alloc, RELAY, 1000, lines, "")?);
+    assert!(rt; shows(alloc, RELAY, lines.len(), lines, "")?);
+    assert!(rt; shows(alloc, RELAY, 8, "a : send", "refused write")?);
+    let shadowed = "roles a b ; rec X . a -> b : int . rec X . end";
+    assert!(rt; shows(alloc, shadowed, 1000, "", "refused protocol shadowed")?);
+    assert!(rt;
+        shows(
+            alloc,
+            "roles a b ; end end",
+            0,
+            "",
+            "refused text trailing 16"
+        )?
+    );
+    let pieces = vec![in alloc; Vec::from_slice(alloc, RELAY.as_bytes())?]?;
+    let mut writer = Short::new(alloc, 1000)?;
+    match write_types(alloc, &mut Pieces::new(pieces, Some(2)), &mut writer) {
+        Err(ToolFault::Read) => assert_eq!(rt; writer.bytes(), b"".as_slice()),
+        _ => return Err("a fault of the reader".into()),
     }
     Ok(())
 }

@@ -1,7 +1,7 @@
 //! Scripts over streams: lines from blocks of bytes, and the answers to them in blocks.
 #![tactic(auto)]
 
-mod flow;
+pub mod flow;
 mod lines;
 pub mod script;
 #[cfg(test)]

@@ -21,7 +21,7 @@ cut_length used len old new e room f = omega (arith, e, room, ap length f, lengt
 pub returns-then-branch-eq0-clause-bytes : goal.returns-then-branch-eq0-clause-bytes
 returns-then-branch-eq0-clause-bytes g c =
     let m = c.in_ok-read_more.ensures.more in
-    subst (Consumes (g.R.Source.remaining c.args.reader.now) (g.R.Source.remaining c.read_more.new.reader)) (sym m.2)
+    subst (Consumes (g.R.Source.remaining c.args.reader.now) (g.R.Source.remaining c.read_more.new.reader)) (sym {A = List ℕ} m.2)
     (Consumes-trans _ _ _ c.loop-block.text.items m.0 c.loop-block.invariant.bytes m.3)
 
 pub returns-then-branch-eq0-clause-whole : goal.returns-then-branch-eq0-clause-whole
@@ -56,7 +56,7 @@ loop-block-preserved g c =
       calls = omega (arith, added, some, c.loop-block.invariant.calls, c.in_ok-read_more.ensures.calls);
       none_failed = c.in_ok-read_more.ensures.reads_well ∙ c.loop-block.invariant.none_failed;
       bytes =
-          subst (Consumes (g.R.Source.remaining c.args.reader.now) (g.R.Source.remaining c.read_more.new.reader)) (sym m.2)
+          subst (Consumes (g.R.Source.remaining c.args.reader.now) (g.R.Source.remaining c.read_more.new.reader)) (sym {A = List ℕ} m.2)
           (Consumes-trans _ _ _ c.loop-block.text.items m.0 c.loop-block.invariant.bytes m.3);
     }
   where
