@@ -1,6 +1,6 @@
 //! Runs a script on a long conversation, in which two roles send each other a number in turn.
 //!
-//! The first word is the number of rounds, of two messages each. A protocol's text has at most 63 messages so far,
+//! The first word is the number of rounds, of two messages each. A protocol of messages alone has at most 63 of them,
 //! so `bench/history` times longer histories with this program, which makes the types itself.
 #![tactic(auto)]
 

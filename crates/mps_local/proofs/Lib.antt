@@ -2,6 +2,6 @@ pub mod Weights
 pub mod Examined
 pub mod Places
 pub mod Choices
-pub mod TokenRows
+pub mod Written
 pub mod Apart
 pub mod Projected

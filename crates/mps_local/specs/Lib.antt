@@ -6,3 +6,4 @@ pub mod Text
 pub mod Bound
 pub mod Outcome
 pub mod Arms
+pub mod Writing

@@ -1,4 +1,4 @@
--- How much of a tree is left to drop.
+-- How much of a tree is left to drop or to write.
 use Rattle.std.specs.Prelude.{ℕ, ◌+◌}
 use Rattle.mps_local.specs.declared.Local.{Local, End, Var, Rec', Send', Recv', Select, Branch}
 use Rattle.mps_local.specs.declared.Branches.{Branches, NoMore, More'}

@@ -1,3 +1,7 @@
+ghost use Rattle.std.specs.Prelude.{◌<◌, IfOk};
+ghost use Rattle.mps_local.specs.Local.{plain, plain_branches};
+ghost use Rattle.mps_local.specs.Shape.{AllPeers, AllBranchPeers};
+
 use crate::{Local, ProjectFault, project, projection_laws, write_local};
 use mps_base::{Name, Role, Roles, Sort, VarName};
 use mps_global::{Branches, Global, Protocol, check};
@@ -218,5 +222,64 @@ fn drops_deep_trees(rt: HostRuntime) -> Result<(), Fail> {
     }
     assert!(rt; matches!(&tree, Local::Select { .. }));
     assert!(rt; matches!(&Local::End.rest(), Local::End));
+    Ok(())
+}
+
+// How many nodes or branches run the stack out where a function calls itself for each.
+const MANY: usize = 100_000;
+
+// So many outputs to the second role, one behind the other.
+fn sends(alloc: alloc::Global, count: usize) -> Result<Local, Fail>
+    ensures { IfOk result (λ t. AllPeers (λ peer. peer < 2) (plain t)) }
+{
+    let mut tree = Local::End;
+    for _ in 0..count {
+        tree = Local::send(alloc, Role::new(1), Sort::Int, tree)?;
+    }
+    Ok(tree)
+}
+
+// So many choices of one branch, each in the one before it.
+fn choices(rt: &impl Abort, alloc: alloc::Global, count: usize) -> Result<Local, Fail>
+    ensures { IfOk result (λ t. AllPeers (λ peer. peer < 2) (plain t)) }
+{
+    let (peer, label) = (Role::new(1), name(rt, "l"));
+    let mut tree = Local::End;
+    for _ in 0..count {
+        let branches = crate::Branches::more(alloc, label, tree, crate::Branches::NoMore)?;
+        tree = Local::Select { peer, branches };
+    }
+    Ok(tree)
+}
+
+// A choice of so many branches, of which each ends.
+fn choice(rt: &impl Abort, alloc: alloc::Global, count: usize) -> Result<Local, Fail>
+    ensures { IfOk result (λ t. AllPeers (λ peer. peer < 2) (plain t)) }
+{
+    let (peer, label) = (Role::new(1), name(rt, "l"));
+    let mut branches = crate::Branches::NoMore;
+    for _ in 0..count {
+        branches = crate::Branches::more(alloc, label, Local::End, branches)?;
+    }
+    Ok(Local::Branch { peer, branches })
+}
+
+#[test]
+fn writes_deep_and_wide_types(rt: HostRuntime) -> Result<(), Fail> {
+    let alloc = rt.alloc();
+    let names = vec![in alloc; name(&rt, "a"), name(&rt, "b")]?;
+    let roles = Roles::of(alloc, &names)?;
+    let deep = write_local(alloc, &roles, &sends(alloc, MANY)?)?;
+    assert_eq!(rt; deep.len(), "send b int . ".len() * MANY + "end".len());
+    let nested = write_local(alloc, &roles, &choices(&rt, alloc, MANY)?)?;
+    assert_eq!(rt;
+        nested.len(),
+        "choose b { l :  }".len() * MANY + "end".len()
+    );
+    let wide = write_local(alloc, &roles, &choice(&rt, alloc, MANY)?)?;
+    assert_eq!(rt;
+        wide.len(),
+        "pick b { }".len() + "l : end , ".len() * MANY - ", ".len()
+    );
     Ok(())
 }

@@ -1,89 +1,142 @@
 //! Local types as text.
-ghost use Rattle.std.specs.Prelude.{◌≡◌, ◌<◌, ◌∷◌, ◌++◌, [], codes, length, IfOk};
+ghost use Rattle.std.specs.Prelude.{◌≡◌, ◌<◌, ◌+◌, ◌∷◌, ◌++◌, [], codes, length, IfOk, OnOk};
+ghost use Rattle.std.specs.List.{AllByRecursion};
 ghost use Rattle.mps_base.specs.Sorts.{sort_word};
 ghost use Rattle.mps_base.specs.Spaced.{with_tokens};
 ghost use Rattle.mps_local.specs.Local.{plain, plain_branches};
 ghost use Rattle.mps_local.specs.Shape.{AllPeers, AllBranchPeers};
-ghost use Rattle.mps_local.specs.Text.{name_at, local_tokens, branch_tokens, local_text};
+ghost use Rattle.mps_local.specs.Text.{name_at, local_tokens, local_text};
+ghost use Rattle.mps_local.specs.Weights.{weight, branch_weight};
+ghost use Rattle.mps_local.specs.Writing.{todo_tokens, todo_weight, IsTodoKnown};
+ghost use Rattle.mps_local.specs.Writing.{left_tokens, left_weight, branches_tokens, others_tokens};
 
 use crate::{Branches, Local};
 use mps_base::spacing::push_token;
-use mps_base::{Role, Roles, Sort};
+use mps_base::{Role, Roles, Sort, VarName};
 use std::alloc::{AllocError, Global};
 
 /// The text of a local type, whose peers are roles of these: its tokens with one space between two,
-/// and no LF. It needs stack for each level, of which a projection has at most 64.
-#[tactic(auto, using(crate::proofs::TokenRows::as_text))]
+/// and no LF.
+#[tactic(auto, using(crate::proofs::Written::as_text))]
 pub fn write_local(alloc: Global, roles: &Roles, tree: &Local) -> Result<Vec<u8>, AllocError>
     requires known { AllPeers (λ peer. peer < length roles.now) (plain tree.now) }
     ensures { IfOk result (λ text. text.items ≡ local_text roles.now (plain tree.now)) }
 {
     let mut out = Vec::new(alloc);
-    push_local(&mut out, roles, tree)?;
+    write_tree(alloc, roles, tree, &mut out)?;
     Ok(out)
 }
 
-// Writes the tokens of a type at the end.
-#[cycle(push)]
-fn push_local(out: &mut Vec<u8>, roles: &Roles, tree: &Local) -> Result<(), AllocError>
+// What is still to be written: a local type, the branches behind `{`, or those behind a branch.
+#[derive(Clone, Copy)]
+enum Todo<'a> {
+    Tree(&'a Local),
+    Branches(&'a Branches),
+    Others(&'a Branches),
+}
+
+// A local type, in a loop, so that no tree runs the stack out, however deep or wide it is.
+#[tactic(auto, using(crate::proofs::Written::left_more, crate::proofs::Written::weight_more))]
+fn write_tree(
+    alloc: Global,
+    roles: &Roles,
+    tree: &Local,
+    out: &mut Vec<u8>,
+) -> Result<(), AllocError>
     requires known { AllPeers (λ peer. peer < length roles.now) (plain tree.now) }
-    ensures { IfOk result (λ _. out.new.items
+    ensures { OnOk result (out.new.items
         ≡ with_tokens out.old.items (local_tokens roles.now (plain tree.now))) }
 {
-    match tree {
-        Local::End => push_token(out, b"end"),
-        Local::Var(name) => push_token(out, name.as_bytes()),
-        Local::Rec(name, body) => {
-            push_token(out, b"rec")?;
-            push_token(out, name.as_bytes())?;
-            push_token(out, b".")?;
-            push_local(out, &*roles, body)
-        }
-        Local::Send { peer, sort, next } => {
-            push_value(out, &*roles, b"send", *peer, *sort)?;
-            push_local(out, &*roles, next)
-        }
-        Local::Recv { peer, sort, next } => {
-            push_value(out, &*roles, b"recv", *peer, *sort)?;
-            push_local(out, &*roles, next)
-        }
-        Local::Select { peer, branches } => {
-            push_choice(out, &*roles, b"choose", *peer, branches)
-        }
-        Local::Branch { peer, branches } => push_choice(out, &*roles, b"pick", *peer, branches),
+    let mut waiting = Vec::new(alloc);
+    waiting.push(Todo::Tree(tree))?;
+    while let Some(next) = waiting.pop() {
+        write_next(&*roles, next, &mut waiting, out)?;
+    }
+    Ok(())
+}
+
+// The next that is to be written, up to what then waits.
+fn write_next<'a>(
+    roles: &Roles,
+    next: Todo<'a>,
+    waiting: &mut Vec<Todo<'a>>,
+    out: &mut Vec<u8>,
+) -> Result<(), AllocError>
+    requires known { IsTodoKnown (length roles.now) next }
+    requires others { AllByRecursion (IsTodoKnown (length roles.now)) waiting.old.items }
+    ensures text { OnOk result (with_tokens out.new.items (left_tokens roles.now waiting.new.items)
+        ≡ with_tokens out.old.items (todo_tokens roles.now next.entry ++ left_tokens roles.now waiting.old.items)) }
+    ensures less { OnOk result
+        (left_weight waiting.new.items < todo_weight next.entry + left_weight waiting.old.items) }
+    ensures known { OnOk result (AllByRecursion (IsTodoKnown (length roles.now)) waiting.new.items) }
+{
+    match next {
+        Todo::Tree(node) => write_node(roles, node, waiting, out),
+        Todo::Branches(branches) => write_branches(roles, branches, waiting, out),
+        Todo::Others(branches) => write_others(roles, branches, waiting, out),
     }
 }
 
-// Writes the tokens of a choice, of which the first is that word, at the end.
-#[cycle(push)]
-fn push_choice(
-    out: &mut Vec<u8>,
+// What stands before the types in a node, which then wait.
+#[tactic(auto, using(crate::proofs::Written::left_more, crate::proofs::Written::weight_more, crate::proofs::Written::more_known))]
+fn write_node<'a>(
     roles: &Roles,
-    word: &[u8],
-    peer: Role,
-    branches: &Branches,
+    node: &'a Local,
+    waiting: &mut Vec<Todo<'a>>,
+    out: &mut Vec<u8>,
 ) -> Result<(), AllocError>
-    requires peer { peer < length roles.now }
-    requires known { AllBranchPeers (λ peer. peer < length roles.now) (plain_branches branches.now) }
-    ensures { IfOk result (λ _. out.new.items
-        ≡ with_tokens out.old.items (word.now ∷ name_at roles.now peer ∷ codes "{"
-        ∷ branch_tokens roles.now (plain_branches branches.now) ++ codes "}" ∷ [])) }
+    requires known { AllPeers (λ peer. peer < length roles.now) (plain node.now) }
+    requires others { AllByRecursion (IsTodoKnown (length roles.now)) waiting.old.items }
+    ensures text { OnOk result (with_tokens out.new.items (left_tokens roles.now waiting.new.items)
+        ≡ with_tokens out.old.items (local_tokens roles.now (plain node.now) ++ left_tokens roles.now waiting.old.items)) }
+    ensures less { OnOk result
+        (left_weight waiting.new.items < weight node.now + left_weight waiting.old.items) }
+    ensures known { OnOk result (AllByRecursion (IsTodoKnown (length roles.now)) waiting.new.items) }
 {
-    push_head(out, &*roles, &*word, peer)?;
-    push_branches(out, &*roles, branches)?;
-    push_token(out, b"}")
+    match node {
+        Local::End => push_token(out, b"end"),
+        Local::Var(name) => push_token(out, name.as_bytes()),
+        Local::Rec(name, body) => {
+            push_rec(out, name)?;
+            Ok(waiting.push(Todo::Tree(body))?)
+        }
+        Local::Send { peer, sort, next } => {
+            push_value(out, roles, b"send", *peer, *sort)?;
+            Ok(waiting.push(Todo::Tree(next))?)
+        }
+        Local::Recv { peer, sort, next } => {
+            push_value(out, roles, b"recv", *peer, *sort)?;
+            Ok(waiting.push(Todo::Tree(next))?)
+        }
+        Local::Select { peer, branches } => {
+            push_head(out, roles, b"choose", *peer)?;
+            Ok(waiting.push(Todo::Branches(branches))?)
+        }
+        Local::Branch { peer, branches } => {
+            push_head(out, roles, b"pick", *peer)?;
+            Ok(waiting.push(Todo::Branches(branches))?)
+        }
+    }
 }
 
-// Writes the tokens of branches at the end, with a comma between two.
-#[cycle(push)]
-#[tactic(auto, using(crate::proofs::TokenRows::one_between))]
-fn push_branches(out: &mut Vec<u8>, roles: &Roles, branches: &Branches) -> Result<(), AllocError>
+// The first branch behind `{`, or `}`.
+#[tactic(auto, using(crate::proofs::Written::left_more, crate::proofs::Written::weight_more, crate::proofs::Written::more_known, crate::proofs::Written::branches_more))]
+fn write_branches<'a>(
+    roles: &Roles,
+    branches: &'a Branches,
+    waiting: &mut Vec<Todo<'a>>,
+    out: &mut Vec<u8>,
+) -> Result<(), AllocError>
     requires known { AllBranchPeers (λ peer. peer < length roles.now) (plain_branches branches.now) }
-    ensures { IfOk result (λ _. out.new.items
-        ≡ with_tokens out.old.items (branch_tokens roles.now (plain_branches branches.now))) }
+    requires others { AllByRecursion (IsTodoKnown (length roles.now)) waiting.old.items }
+    ensures text { OnOk result (with_tokens out.new.items (left_tokens roles.now waiting.new.items)
+        ≡ with_tokens out.old.items (branches_tokens roles.now (plain_branches branches.now) ++ left_tokens roles.now waiting.old.items)) }
+    ensures less { OnOk result
+        (left_weight waiting.new.items < branch_weight branches.now + left_weight waiting.old.items) }
+    ensures known { OnOk result (AllByRecursion (IsTodoKnown (length roles.now)) waiting.new.items) }
 {
     match branches {
-        Branches::NoMore => Ok(()),
+        Branches::NoMore => push_token(out, b"}"),
         Branches::More {
             label,
             next,
@@ -91,16 +144,41 @@ fn push_branches(out: &mut Vec<u8>, roles: &Roles, branches: &Branches) -> Resul
         } => {
             push_token(out, label.as_bytes())?;
             push_token(out, b":")?;
-            push_local(out, &*roles, next)?;
-            match &**others {
-                Branches::NoMore => Ok(()),
-                more => {
-                    push_token(out, b",")?;
-                    push_branches(out, &*roles, more)
-                }
-            }
+            waiting.push(Todo::Others(others))?;
+            Ok(waiting.push(Todo::Tree(next))?)
         }
     }
+}
+
+// The next branch behind another one, or `}`.
+fn write_others<'a>(
+    roles: &Roles,
+    branches: &'a Branches,
+    waiting: &mut Vec<Todo<'a>>,
+    out: &mut Vec<u8>,
+) -> Result<(), AllocError>
+    requires known { AllBranchPeers (λ peer. peer < length roles.now) (plain_branches branches.now) }
+    requires others { AllByRecursion (IsTodoKnown (length roles.now)) waiting.old.items }
+    ensures text { OnOk result (with_tokens out.new.items (left_tokens roles.now waiting.new.items)
+        ≡ with_tokens out.old.items (others_tokens roles.now (plain_branches branches.now) ++ left_tokens roles.now waiting.old.items)) }
+    ensures less { OnOk result
+        (left_weight waiting.new.items < branch_weight branches.now + left_weight waiting.old.items) }
+    ensures known { OnOk result (AllByRecursion (IsTodoKnown (length roles.now)) waiting.new.items) }
+{
+    if let Branches::More { .. } = branches {
+        push_token(out, b",")?;
+    }
+    write_branches(roles, branches, waiting, out)
+}
+
+// Writes what stands in front of the body of a `rec`.
+fn push_rec(out: &mut Vec<u8>, name: &VarName) -> Result<(), AllocError>
+    ensures { OnOk result (out.new.items
+        ≡ with_tokens out.old.items (codes "rec" ∷ name.now ∷ codes "." ∷ [])) }
+{
+    push_token(out, b"rec")?;
+    push_token(out, name.as_bytes())?;
+    push_token(out, b".")
 }
 
 // Writes what stands in front of the type that follows an output or an input.
@@ -112,7 +190,7 @@ fn push_value(
     sort: Sort,
 ) -> Result<(), AllocError>
     requires known { peer < length roles.now }
-    ensures { IfOk result (λ _. out.new.items
+    ensures { OnOk result (out.new.items
         ≡ with_tokens out.old.items (word.now ∷ name_at roles.now peer ∷ sort_word sort ∷ codes "." ∷ [])) }
 {
     push_token(out, word)?;
@@ -124,7 +202,7 @@ fn push_value(
 // Writes what stands in front of the branches of a choice.
 fn push_head(out: &mut Vec<u8>, roles: &Roles, word: &[u8], peer: Role) -> Result<(), AllocError>
     requires known { peer < length roles.now }
-    ensures { IfOk result (λ _. out.new.items
+    ensures { OnOk result (out.new.items
         ≡ with_tokens out.old.items (word.now ∷ name_at roles.now peer ∷ codes "{" ∷ [])) }
 {
     push_token(out, word)?;

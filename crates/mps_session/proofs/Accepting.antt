@@ -67,6 +67,12 @@ by_pair v s waiting n p q new hp hq long was here others a b ha hb =
     get_or-set_other waiting (p * n + q) (a * n + b) new [] ne ∙ was a b ha hb ∙ sym (untouched a b s (v.queue a b) off.0 off.1))
     (cases_eq (a * n + b) (p * n + q))
 
+-- a queue between others than roles of the session, after a step from one of its roles to another
+still_empty : (n p q a b : ℕ) (v : View) (s : Step) → p < n → q < n → ((a b : ℕ) → ((a ≡ p) × (b ≡ q) → ⊥) → (sends a b s ≡ false) × (receives a b s ≡ false)) → (a < n → b < n → ⊥) → v.queue a b ≡ [] → queue_after a b s (v.queue a b) ≡ []
+still_empty n p q a b v s hp hq others apart empty =
+    let off = others a b (λ k. apart (subst (λ (x : ℕ). x < n) (sym k.0) hp) (subst (λ (x : ℕ). x < n) (sym k.1) hq)) in
+    untouched a b s (v.queue a b) off.0 off.1 ∙ empty
+
 -- an allowed send goes to the peer that the type names
 pub send_allowed : (t : LocalType) (to : ℕ) (x : Value) (m : Option Message) (n p : ℕ) → HasPeers n p t → act_fault t (Out to (Plain x)) m ≡ None → (type_after t (Out to (Plain x)) m ≡ Some (rest_of t)) × (to < n) × HasPeers n p (rest_of t)
 send_allowed (Send peer sort t) to x m n p h e =
@@ -162,6 +168,7 @@ module _ (types coming : List LocalType) (kept : List Store) (waiting : List (Li
         let is = accepted_view types st p act c holds.sound step in
         let long : p < length coming = omega (arith, holds.long_coming) in
         let place = mul-add-lt p n to n within allowed.1 in
+        let elsewhere : (a b : ℕ) → ((a ≡ p) × (b ≡ to) → ⊥) → (sends a b s ≡ false) × (receives a b s ≡ false) = λ a b apart. (not_this p to a b apart, and_false (p == b)) in
         let inside : p * n + to < length waiting = omega (arith, holds.long_waiting) in
         record {
           sound = accepted_sound types st p act holds.sound (same_fault p act plain_type ∙ fine);
@@ -176,9 +183,11 @@ module _ (types coming : List LocalType) (kept : List Store) (waiting : List (Li
               by_pair v s waiting n p to (get_or waiting (p * n + to) [] ++ Plain x ∷ []) within allowed.1 holds.long_waiting holds.queues
               (ap (λ (l : List Message). l ++ Plain x ∷ []) (holds.queues p to within allowed.1)
               ∙ sym (cond-true (sends p to s) _ _ (and_from (p == p) (to == to) (eq-eqb p p refl) (eq-eqb to to refl))))
-              (λ a b apart. (not_this p to a b apart, and_false (p == b)))
-              a b ha hb
+              elsewhere a b ha hb
               ∙ ap (λ (w : View). w.queue a b) (sym is);
+          strangers = λ a b apart.
+              ap (λ (w : View). w.queue a b) is
+              ∙ still_empty n p to a b v s within allowed.1 elsewhere apart (holds.strangers a b apart);
         }
 
     -- after a receipt
@@ -198,6 +207,7 @@ module _ (types coming : List LocalType) (kept : List Store) (waiting : List (Li
         let is = accepted_view types st p act c holds.sound step in
         let long : p < length coming = omega (arith, holds.long_coming) in
         let stored : p < length kept = omega (arith, holds.long_kept) in
+        let elsewhere : (a b : ℕ) → ((a ≡ from) × (b ≡ p) → ⊥) → (sends a b s ≡ false) × (receives a b s ≡ false) = λ a b apart. (and_false (p == a), not_this p from b a (λ k. apart (k.1, k.0))) in
         record {
           sound = accepted_sound types st p act holds.sound (receipt_fault p from slot within plain_type ∙ fine);
           roles = holds.roles;
@@ -214,9 +224,11 @@ module _ (types coming : List LocalType) (kept : List Store) (waiting : List (Li
           queues = λ a b ha hb.
               by_pair v s waiting n from p (drop 1 (get_or waiting (from * n + p) [])) allowed.3 within holds.long_waiting holds.queues
               (ap (drop 1) waits ∙ sym (taken_here from p s (v.queue from p) (and_false (p == from)) (and_from (p == p) (from == from) (eq-eqb p p refl) (eq-eqb from from refl))))
-              (λ a b apart. (and_false (p == a), not_this p from b a (λ k. apart (k.1, k.0))))
-              a b ha hb
+              elsewhere a b ha hb
               ∙ ap (λ (w : View). w.queue a b) (sym is);
+          strangers = λ a b apart.
+              ap (λ (w : View). w.queue a b) is
+              ∙ still_empty n from p a b v s allowed.3 within elsewhere apart (holds.strangers a b apart);
         }
 
 -- past the end of a list of one value there is that value too
@@ -236,5 +248,6 @@ opened_holds types count peers = record {
   peers = peers;
   to_come = λ p. refl;
   stores = λ p. get_or-same (length types) p [];
+  strangers = λ p q apart. refl;
   queues = λ p q hp hq. get_or-same (length types * length types) (p * length types + q) [];
 }

@@ -17,4 +17,6 @@ pub record Holds (types coming : List LocalType) (kept : List Store) (waiting : 
   pub peers : (p : ℕ) → p < length types → HasPeers (length types) p (type_at coming p)
   pub to_come : (p : ℕ) → type_at coming p ≡ ((view_of types st.history).participant p).to_come
   pub stores : (p : ℕ) → slice_index_or kept p [] ≡ ((view_of types st.history).participant p).store
+  -- between roles of which one is none of the session nothing waits
+  pub strangers : (p q : ℕ) → (p < length types → q < length types → ⊥) → (view_of types st.history).queue p q ≡ []
   pub queues : (p q : ℕ) → p < length types → q < length types → slice_index_or waiting (p * length types + q) [] ≡ (view_of types st.history).queue p q

@@ -211,15 +211,17 @@ impl Session {
         store.get(slot)
     }
 
-    /// The k-th message that waits, from 0, of those that one role sent to another.
+    /// The k-th message that waits, from 0, of those that one role sent to another; none where one of both is no role
+    /// of the session.
     pub fn message(&self, from: Role, to: Role, k: usize) -> Option<&Message>
-        requires sender { from < length self.now.types }
-        requires receiver { to < length self.now.types }
         ensures { option_copied result
             ≡ slice_get ((machine.view_of (map plain self.now.types) self.now.state.history).queue from to) k }
     {
-        let place = from.index() * self.types.len() + to.index();
-        let queue = &self.queues[place];
+        let count = self.types.len();
+        if from.index() >= count || to.index() >= count {
+            return None;
+        }
+        let queue = &self.queues[from.index() * count + to.index()];
         queue.get(k)
     }
 }

@@ -92,9 +92,7 @@ fn number(message: Option<&Message>) -> Result<Option<i64>, Fail> {
 
 // The number that the k-th message from one role to another carries.
 fn queued(session: &Session, from: u8, to: u8, k: usize) -> Result<Option<i64>, Fail> {
-    let from = role_of(session, from)?;
-    let to = role_of(session, to)?;
-    number(session.message(from, to, k))
+    number(session.message(Role::new(from), Role::new(to), k))
 }
 
 // The number that the role keeps in the slot.
@@ -148,6 +146,9 @@ fn relays(rt: HostRuntime) -> Result<(), Fail> {
         assert_eq!(rt; queued(&session, 0, 1, 0)?, *to_b);
         assert_eq!(rt; queued(&session, 0, 1, 1)?, None);
         assert_eq!(rt; queued(&session, 1, 2, 0)?, *to_c);
+        for (from, to) in [(0, 3), (3, 1), (255, 255)] {
+            assert_eq!(rt; queued(&session, from, to, 0)?, None);
+        }
     }
     assert_eq!(rt; session.len(), 4);
     assert_eq!(rt; session.issued(), 4);

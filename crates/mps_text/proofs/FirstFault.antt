@@ -212,7 +212,7 @@ first_by text at left TooManyNodes short s f = (short, f)
 first_by text at left TooDeep short s f = (short, f)
 first_by text at left Trailing short s f = (short, f)
 first_by text at left TooLong short s f = absurd f.wrong
-first_by text at left Memory short s f = tt
+first_by text at left Memory short s f = short
 
 -- what a run answers is the first fault
 pub first_fault : (text : List ℕ) (left : ℕ) (kind : TextKind) → length text ≤ 65536 → run whole 256 (lexed text) ≡ Err (left, kind) → IsFirstFault text (length text - left) kind

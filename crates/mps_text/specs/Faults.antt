@@ -104,10 +104,10 @@ pub record FaultAt (text : List ℕ) (at : ℕ) (kind : TextKind) : Type 0 where
   pub place : at + length bytes ≡ length text
   pub wrong : IsWrong front starts bytes kind
 
--- the text has this first fault, unless memory ran out
+-- the text has this first fault; memory runs out only for a text that is short enough
 abbrev pub IsFirstFault : List ℕ → ℕ → TextKind → Type 0
 IsFirstFault text at TooLong = (65536 < length text) × (at ≡ 65536)
-IsFirstFault text at Memory = ⊤
+IsFirstFault text at Memory = length text ≤ 65536
 IsFirstFault text at Word = (length text ≤ 65536) × FaultAt text at Word
 IsFirstFault text at Unexpected = (length text ≤ 65536) × FaultAt text at Unexpected
 IsFirstFault text at TooManyNodes = (length text ≤ 65536) × FaultAt text at TooManyNodes

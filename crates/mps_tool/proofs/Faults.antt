@@ -38,7 +38,7 @@ no_protocol text Turns h = h
 -- no types
 pub no_types : (text : List ℕ) (roles : List (List ℕ)) (tree : GlobalType) (fault : ToolFault) → IsProtocolText text roles tree → fault_of roles tree ≡ None → GivesNoProjections roles tree fault → GivesNoTypes text fault
 no_types text roles tree (Projection name choice) read faultless h = (roles, tree, read, faultless, h)
-no_types text roles tree Memory read faultless h = tt
+no_types text roles tree Memory read faultless h = read.limits.short
 no_types text roles tree (Usage help) read faultless h = h
 no_types text roles tree (File name) read faultless h = h
 no_types text roles tree (Text at kind) read faultless h = absurd h

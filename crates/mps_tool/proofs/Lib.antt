@@ -1,3 +1,4 @@
 pub mod Projected
 pub mod Faults
 pub mod Lines
+pub mod Bounds

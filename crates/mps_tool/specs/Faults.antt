@@ -132,6 +132,27 @@ IsUseFault Read = ⊥
 IsUseFault Write = ⊥
 IsUseFault Turns = ⊥
 
+-- how the protocol of this file may fail to be had
+abbrev pub IsLoadFault : List ℕ → ToolFault → Type 0
+IsLoadFault file (File name) = name.now ≡ file
+IsLoadFault file (Text at kind) = ⊤
+IsLoadFault file (Protocol fault) = ⊤
+IsLoadFault file (Projection role choice) = ⊤
+IsLoadFault file Unready = ⊤
+IsLoadFault file Read = ⊤
+IsLoadFault file Memory = ⊤
+IsLoadFault file fault = ⊥
+
+-- how the script of this file may fail to be run
+abbrev pub IsReplayFault : List ℕ → ToolFault → Type 0
+IsReplayFault script (File name) = name.now ≡ script
+IsReplayFault script Open = ⊤
+IsReplayFault script Read = ⊤
+IsReplayFault script Write = ⊤
+IsReplayFault script Turns = ⊤
+IsReplayFault script Memory = ⊤
+IsReplayFault script fault = ⊥
+
 -- how a run of these two files may fail: a file that can't be opened is one of them
 abbrev pub IsRunFault : List ℕ → List ℕ → ToolFault → Type 0
 IsRunFault file script (File name) = (name.now ≡ file) ⊎ (name.now ≡ script)

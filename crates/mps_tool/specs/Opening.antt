@@ -1,5 +1,5 @@
 -- What the text of a protocol gives.
-use Rattle.std.specs.Prelude.{◌≡◌, ℕ, suc, ◌<◌, ⊤, List, [], ◌∷◌, ◌++◌, codes, length, slice_get, Some, None, IsSome}
+use Rattle.std.specs.Prelude.{◌≡◌, ℕ, suc, ◌<◌, ◌≤◌, ⊤, List, [], ◌∷◌, ◌++◌, codes, length, slice_get, Some, None, IsSome}
 use Rattle.std.specs.List.{AllByRecursion}
 use Rattle.mps_global.specs.Global.{GlobalType}
 use Rattle.mps_global.specs.Faults.{fault_of}
@@ -61,12 +61,12 @@ GivesNoProjections roles tree (Projection name choice) = HasNoProjection roles t
 GivesNoProjections roles tree Memory = ⊤
 GivesNoProjections roles tree fault = ⊥
 
--- why a text gives no protocol without faults: its first fault, the fault of the protocol that it spells, or want of memory
+-- why a text gives no protocol without faults: its first fault, the fault of the protocol that it spells, or want of memory, where it is short enough
 abbrev pub GivesNoProtocol : List ℕ → ToolFault → Type 0
 GivesNoProtocol text (Text at kind) = IsTextFault text at kind
 GivesNoProtocol text (Protocol fault) =
     (roles : List (List ℕ)) × (tree : GlobalType) × IsProtocolText text roles tree × (fault_of roles tree ≡ Some fault)
-GivesNoProtocol text Memory = ⊤
+GivesNoProtocol text Memory = length text ≤ 65536
 GivesNoProtocol text fault = ⊥
 
 -- why a text gives no types: it gives no protocol without faults, or a role of it has no projection

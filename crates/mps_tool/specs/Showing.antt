@@ -19,6 +19,7 @@ pub record HasShown (given left took taken : Option (List ℕ)) : Type 0 where
 pub record HasRefused (given left took taken : Option (List ℕ)) (fault : ToolFault) : Type 0 where
   pub text : List ℕ
   pub bytes : Consumes given left text
+  pub most : length text ≤ 65537
   pub whole : length text ≤ 65536 → IsAtEnd left
   pub why : GivesNoTypes text fault
   pub unsent : taken ≡ took

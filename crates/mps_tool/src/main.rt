@@ -1,6 +1,10 @@
 //! Checks protocols, and runs scripts of commands on multiparty sessions.
 #![tactic(auto)]
 
+ghost use Rattle.std.specs.Prelude.{◌≡◌};
+ghost use Rattle.std.specs.Process.{exit_status};
+ghost use Rattle.mps_tool.specs.Faults.{status_of};
+
 mod command;
 mod fault;
 mod opening;
@@ -22,6 +26,10 @@ use std::rt::{Env, Files};
 use std::{env, io, str};
 pub use words::order;
 
+#[cfg(test)]
+mod fake;
+#[cfg(test)]
+mod program_tests;
 #[cfg(test)]
 mod tests;
 
@@ -65,7 +73,9 @@ fn report<R: AllocGlobal + Eprint>(rt: &R, fault: &ToolFault<'_>) -> io::Result<
 }
 
 /// Prints what went wrong, if that can be printed, and gives the exit status.
-fn end<R: AllocGlobal + Eprint>(rt: &R, fault: &ToolFault<'_>) -> ExitCode {
+fn end<R: AllocGlobal + Eprint>(rt: &R, fault: &ToolFault<'_>) -> ExitCode
+    ensures { exit_status result ≡ status_of fault.now }
+{
     let _told = report(rt, fault);
     ExitCode::from(status(fault))
 }

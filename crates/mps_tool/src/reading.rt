@@ -2,6 +2,7 @@
 ghost use Rattle.std.specs.Prelude.{◌≡◌, ◌+◌, ◌<◌, ◌≤◌, ◌^◌, ◌++◌, ℕ, List, length, IfOk, IfErr, OnOk};
 ghost use Rattle.std.specs.Io.KnownBytes.{Consumes, IsAtEnd};
 ghost use Rattle.mps_tool.specs.Faults.{IsReadFault};
+ghost use Rattle.mps_tool.specs.Reading.{HasReadAtMost};
 
 use crate::fault::ToolFault;
 use mps_dev::Source;
@@ -12,7 +13,8 @@ use std::alloc::Global;
 pub fn read_text<'a, R: Source>(alloc: Global, reader: &mut R) -> Result<Vec<u8>, ToolFault<'a>>
     requires { R.calls reader.old < 2 ^ 62 }
     ensures bytes { IfOk result (λ text. Consumes (R.remaining reader.old) (R.remaining reader.new) text.items) }
-    ensures most { IfOk result (λ text. length text.items ≤ 65537) }
+    ensures most { HasReadAtMost 65537 (R.remaining reader.old) (R.remaining reader.new) }
+    ensures long { IfOk result (λ text. length text.items ≤ 65537) }
     ensures whole { IfOk result (λ text. length text.items ≤ 65536 → IsAtEnd (R.remaining reader.new)) }
     ensures reads_well { OnOk result (R.failed_calls reader.new ≡ R.failed_calls reader.old) }
     ensures fault { IfErr result (IsReadFault (R.failed_calls reader.old) (R.failed_calls reader.new)) }
@@ -38,7 +40,8 @@ fn read_more<'a, R: Source>(
     ensures calls { R.calls reader.new ≡ R.calls reader.old + 1 }
     ensures more { IfOk result (λ n. (piece : List ℕ) × (length piece ≡ n) × (text.new.items ≡ text.old.items ++ piece)
         × Consumes (R.remaining reader.old) (R.remaining reader.new) piece) }
-    ensures most { IfOk result (λ n. n ≤ length block.old) }
+    ensures most { HasReadAtMost (length block.old) (R.remaining reader.old) (R.remaining reader.new) }
+    ensures long { IfOk result (λ n. n ≤ length block.old) }
     ensures reads_well { OnOk result (R.failed_calls reader.new ≡ R.failed_calls reader.old) }
     ensures fault { IfErr result (IsReadFault (R.failed_calls reader.old) (R.failed_calls reader.new)) }
     ensures end { IfOk result (λ n. n ≡ 0 → 0 < length block.old → IsAtEnd (R.remaining reader.new)) }

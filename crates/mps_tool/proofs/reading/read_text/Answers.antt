@@ -2,6 +2,7 @@ use Rattle.std.proofs.Common.{zero, suc, refl, length-append, ◌+◌, ◌≡◌
 use Rattle.std.specs.Io.KnownBytes.{Consumes}
 use Rattle.mps_tool.specs.Faults.{IsReadFault}
 use Rattle.mps_tool.proofs.Faults.{told}
+use Rattle.mps_tool.proofs.Bounds.{read_on}
 use Rattle.mps_wire.proofs.Bytes.{Consumes-none, Consumes-trans, same_room}
 use Rattle.mps_tool.proofs.reading.read_text.Goals as goal
 
@@ -17,6 +18,19 @@ loop-block-init g c = record {
 -- the buffer is cut to the bytes that are wanted still
 cut_length : (used len : ℕ) (old new : List ℕ) → len ≡ used → 65537 ≤ length old + used → new ≡ take (65537 - len) old → length new ≡ 65537 - used
 cut_length used len old new e room f = omega (arith, e, room, ap length f, length-take (65537 - len) old)
+
+-- the room in the buffer and the bytes that were read are at most one byte more than a text may have
+pub returns-then-branch-eq0-clause-most : goal.returns-then-branch-eq0-clause-most
+returns-then-branch-eq0-clause-most g c =
+    let cut = cut_length (length c.loop-block.text.items) c.len-in-loop-block.result c.loop-block.block.items c.truncate.new.self.items (omega (arith, c.len-in-loop-block.ensures, c.loop-block.text.ok.0)) c.loop-block.invariant.room c.truncate.ensures.items in
+    read_on 65537 _ _ _ _ c.loop-block.text.items c.loop-block.invariant.bytes c.in_ok-read_more.ensures.most
+    (omega (arith, cut, c.loop-block-test.true, c.len.ensures, c.loop-block.text.ok.0, c.as_mut_slice.ensures.len, ap length c.as_mut_slice.ensures.value))
+
+pub returns-in_err-read_more-clause-most : goal.returns-in_err-read_more-clause-most
+returns-in_err-read_more-clause-most g c =
+    let cut = cut_length (length c.loop-block.text.items) c.len-in-loop-block.result c.loop-block.block.items c.truncate.new.self.items (omega (arith, c.len-in-loop-block.ensures, c.loop-block.text.ok.0)) c.loop-block.invariant.room c.truncate.ensures.items in
+    read_on 65537 _ _ _ _ c.loop-block.text.items c.loop-block.invariant.bytes c.in_err-read_more.ensures.most
+    (omega (arith, cut, c.loop-block-test.true, c.len.ensures, c.loop-block.text.ok.0, c.as_mut_slice.ensures.len, ap length c.as_mut_slice.ensures.value))
 
 pub returns-then-branch-eq0-clause-bytes : goal.returns-then-branch-eq0-clause-bytes
 returns-then-branch-eq0-clause-bytes g c =
@@ -52,7 +66,7 @@ loop-block-preserved g c =
     let same = same_room c.truncate.new.self.len (length c.truncate.new.self.items) c.read_more.new.block c.truncate.new.self.items c.truncate.new.self.ok.0 refl in
     record {
       room = omega (arith, same, cut, added);
-      most = omega (arith, added, cut, c.loop-block-test.true, c.len.ensures, c.loop-block.text.ok.0, c.in_ok-read_more.ensures.most, c.as_mut_slice.ensures.len, ap length c.as_mut_slice.ensures.value);
+      most = omega (arith, added, cut, c.loop-block-test.true, c.len.ensures, c.loop-block.text.ok.0, c.in_ok-read_more.ensures.long, c.as_mut_slice.ensures.len, ap length c.as_mut_slice.ensures.value);
       calls = omega (arith, added, some, c.loop-block.invariant.calls, c.in_ok-read_more.ensures.calls);
       none_failed = c.in_ok-read_more.ensures.reads_well ∙ c.loop-block.invariant.none_failed;
       bytes =
