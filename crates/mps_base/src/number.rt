@@ -3,6 +3,7 @@ ghost use Rattle.std.specs.Prelude.{◌≡◌, ℕ, ◌<◌, ◌^◌, ℤ, List,
 ghost use Rattle.mps_base.specs.Appends.{Appends};
 ghost use Rattle.mps_base.specs.Numbers.{IsNumberText, IsIntText};
 
+use itoa::Buffer;
 use std::alloc::AllocError;
 use std::str;
 
@@ -27,8 +28,8 @@ pub fn write_number(n: u64, out: &mut Vec<u8>) -> Result<(), AllocError>
     ensures ok { OnOk result (Appends (λ text. IsNumberText text n) out.old.items out.new.items) }
     ensures err { OnErr result (out.new.items ≡ out.old.items) }
 {
-    let digits = n.to_string(*out.allocator())?;
-    out.extend_from_slice(digits.as_bytes())
+    let mut digits = Buffer::new();
+    out.extend_from_slice(digits.format(n).as_bytes())
 }
 
 // Reads an integer: `0`, or digits without a `0` in front, behind a `-` if it is below 0.
@@ -53,8 +54,8 @@ pub(crate) fn write_int(n: i64, out: &mut Vec<u8>) -> Result<(), AllocError>
     ensures ok { OnOk result (Appends (λ text. IsIntText text n) out.old.items out.new.items) }
     ensures err { OnErr result (out.new.items ≡ out.old.items) }
 {
-    let text = n.to_string(*out.allocator())?;
-    out.extend_from_slice(text.as_bytes())
+    let mut text = Buffer::new();
+    out.extend_from_slice(text.format(n).as_bytes())
 }
 
 /// Each number of a step has one spelling, and a text spells at most one number.

@@ -204,6 +204,53 @@ fn copied_steps(rt: HostRuntime) -> Result<(), Fail> {
     Ok(())
 }
 
+// Whether the message is this number.
+fn is_number(message: &Message, number: i64) -> bool {
+    match message {
+        Message::Value(Value::Int(found)) => *found == number,
+        _ => false,
+    }
+}
+
+// Whether the message is this label.
+fn is_label(message: &Message, label: &Name) -> bool {
+    match message {
+        Message::Label(found) => found.is(label),
+        Message::Value(_) => false,
+    }
+}
+
+#[test]
+fn copied_messages(rt: HostRuntime) -> Result<(), Fail> {
+    let alloc = rt.alloc();
+    for number in [5, 7] {
+        let copied = Message::Value(Value::Int(number)).copy(alloc)?;
+        assert!(rt; is_number(&copied, number), "{number}");
+    }
+    let label = name(b"yes")?;
+    let copied = Message::Label(label).copy(alloc)?;
+    assert!(rt; is_label(&copied, &label));
+    Ok(())
+}
+
+#[test]
+fn copied_roles(rt: HostRuntime) -> Result<(), Fail> {
+    let names = [name(b"a")?, name(b"b")?, name(b"c")?];
+    let copied = Roles::of(rt.alloc(), &names)?.copy(rt.alloc())?;
+    assert_eq!(rt; copied.count(), 3);
+    for (place, name) in names.iter().enumerate() {
+        let role = copied.find(name).ok_or("a role")?;
+        assert_eq!(rt; role.index(), place);
+        assert_eq!(rt; copied.name(role), *name);
+    }
+    for (name, letter) in names.iter().zip([b"a", b"b", b"c"]) {
+        let again = *name;
+        assert!(rt; again.is(name));
+        assert_eq!(rt; again.as_bytes(), letter.as_slice());
+    }
+    Ok(())
+}
+
 #[test]
 fn spaces_tokens(rt: HostRuntime) -> Result<(), Fail> {
     let mut text = Vec::new(rt.alloc());

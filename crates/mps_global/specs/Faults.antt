@@ -1,4 +1,6 @@
 -- What is wrong with a protocol.
+-- Global types are those of Honda, Yoshida, Carbone (Multiparty asynchronous session types, POPL 2008), without channels
+-- and parallel composition; limits and the order of faults are this project's.
 use Rattle.std.specs.Prelude.{ℕ, ◌+◌, max, Bool, true, false, ◌==◌, ◌&&◌, ◌||◌, not, List, [], ◌∷◌, ◌++◌, length, nat_lt, Option, None, Some, if◌then◌else◌}
 use Rattle.std.specs.List.{list_any}
 use Rattle.std.specs.Option.{option_or}

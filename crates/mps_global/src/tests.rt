@@ -151,6 +151,12 @@ const LABELS: [&str; 17] = [
     "l16", "l17",
 ];
 
+// 17 labels, of which the last is the first once more.
+const FIRST_TWICE: [&str; 17] = [
+    "l1", "l2", "l3", "l4", "l5", "l6", "l7", "l8", "l9", "l10", "l11", "l12", "l13", "l14", "l15",
+    "l16", "l1",
+];
+
 #[test]
 fn checks_choices(rt: HostRuntime) -> Result<(), Fail> {
     let rows = [
@@ -161,6 +167,10 @@ fn checks_choices(rt: HostRuntime) -> Result<(), Fail> {
         ),
         (
             &[Part::Choice("a", "b", &["l", "m", "l"])],
+            Err(GlobalFault::DoubleLabel),
+        ),
+        (
+            &[Part::Choice("a", "b", &FIRST_TWICE)],
             Err(GlobalFault::DoubleLabel),
         ),
         (&[Part::Choice("a", "b", &[])], Err(GlobalFault::NoBranches)),
@@ -198,6 +208,7 @@ fn checks_variables(rt: HostRuntime) -> Result<(), Fail> {
             &[Part::Sent("a", "b"), Part::Var("X")],
             Err(GlobalFault::Unbound),
         ),
+        (&[Part::Var("X")], Err(GlobalFault::Unbound)),
         (
             &[
                 Part::Rec("X"),

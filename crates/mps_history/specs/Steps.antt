@@ -1,4 +1,5 @@
 -- Histories: lists of numbered steps, the oldest first.
+-- Order in one role and a send before its receipt are Lamport's happened-before (1978), which `Dependence` defines from the words here.
 use Rattle.std.specs.Prelude.{◌≡◌, ℕ, ◌<◌, ◌⊎◌, Bool, false, ◌==◌, ◌&&◌, not, List, [], ◌∷◌, map, Option, ⊤}
 use Rattle.std.specs.List.{filter, find, AllByRecursion}
 use Rattle.mps_base.specs.declared.action.Act.{Act}

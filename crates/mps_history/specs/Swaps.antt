@@ -1,4 +1,5 @@
 -- When one history becomes another by exchanging neighbours that have nothing to do with each other.
+-- Exchanges of independent neighbours are Mazurkiewicz's traces (1977); for reversible computations Danos, Krivine (CONCUR 2004).
 use Rattle.std.specs.Prelude.{◌≡◌, ◌≢◌, ℕ, Bool, false, ◌==◌, ◌&&◌, List, ◌∷◌, ◌++◌, length, map}
 use Rattle.std.specs.List.{filter}
 use Rattle.mps_base.specs.declared.action.Act.{Act}

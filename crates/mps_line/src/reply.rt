@@ -1,5 +1,6 @@
 //! The lines that answer commands.
 ghost use Rattle.std.specs.Prelude.{◌≡◌, OnOk, OnErr};
+ghost use Rattle.std.specs.Io.{StartsWith};
 ghost use Rattle.mps_base.specs.Appends.{Appends};
 ghost use Rattle.mps_machine.specs.declared.answer.Refusal.TheVariants.{Violation as Violates};
 ghost use Rattle.mps_line.specs.Replies.{SpellsDone, SpellsMessage, SpellsRefusal, SpellsStep, word_of};
@@ -37,14 +38,18 @@ impl Reply {
         ensures ok { OnOk result (Appends (λ text. SpellsReply text self.now) out.old.items out.new.items) }
         ensures err { OnErr result (out.new.items ≡ out.old.items) }
     {
-        let mut text = Vec::new(*out.allocator());
-        self.write_parts(&mut text)?;
-        out.extend_from_slice(&text)
+        let before = out.len();
+        let written = self.write_parts(out);
+        if written.is_err() {
+            out.truncate(before);
+        }
+        written
     }
 
     // Writes the reply, or a part of it.
     fn write_parts(&self, out: &mut Vec<u8>) -> Result<(), AllocError>
-        ensures { OnOk result (Appends (λ text. SpellsReply text self.now) out.old.items out.new.items) }
+        ensures ok { OnOk result (Appends (λ text. SpellsReply text self.now) out.old.items out.new.items) }
+        ensures err { OnErr result (StartsWith out.new.items out.old.items) }
     {
         match self {
             Reply::Done(done) => {
@@ -62,7 +67,8 @@ impl Reply {
 
 // Writes the number of the step and the message that it took, or a part of them.
 fn write_done(done: &Done, out: &mut Vec<u8>) -> Result<(), AllocError>
-    ensures { OnOk result (Appends (λ text. SpellsDone text done.now.id done.now.got) out.old.items out.new.items) }
+    ensures ok { OnOk result (Appends (λ text. SpellsDone text done.now.id done.now.got) out.old.items out.new.items) }
+    ensures err { OnErr result (StartsWith out.new.items out.old.items) }
 {
     write_step(done.id, out)?;
     match &done.got {
@@ -76,7 +82,8 @@ fn write_done(done: &Done, out: &mut Vec<u8>) -> Result<(), AllocError>
 
 // Writes the message, or a part of it.
 fn write_message(message: &Message, out: &mut Vec<u8>) -> Result<(), AllocError>
-    ensures { OnOk result (Appends (λ text. SpellsMessage text message.now) out.old.items out.new.items) }
+    ensures ok { OnOk result (Appends (λ text. SpellsMessage text message.now) out.old.items out.new.items) }
+    ensures err { OnErr result (StartsWith out.new.items out.old.items) }
 {
     match message {
         Message::Value(value) => value.write(out),
@@ -86,7 +93,8 @@ fn write_message(message: &Message, out: &mut Vec<u8>) -> Result<(), AllocError>
 
 // Writes why the command was refused, or a part of it.
 fn write_refusal(refusal: &Refusal, out: &mut Vec<u8>) -> Result<(), AllocError>
-    ensures { OnOk result (Appends (λ text. SpellsRefusal text refusal.now) out.old.items out.new.items) }
+    ensures ok { OnOk result (Appends (λ text. SpellsRefusal text refusal.now) out.old.items out.new.items) }
+    ensures err { OnErr result (StartsWith out.new.items out.old.items) }
 {
     out.extend_from_slice(word_of(refusal))?;
     match refusal {
@@ -100,7 +108,8 @@ fn write_refusal(refusal: &Refusal, out: &mut Vec<u8>) -> Result<(), AllocError>
 
 // Writes the number of the step.
 fn write_step(id: StepId, out: &mut Vec<u8>) -> Result<(), AllocError>
-    ensures { OnOk result (Appends (λ text. SpellsStep text id) out.old.items out.new.items) }
+    ensures ok { OnOk result (Appends (λ text. SpellsStep text id) out.old.items out.new.items) }
+    ensures err { OnErr result (StartsWith out.new.items out.old.items) }
 {
     write_number(id.number(), out)
 }

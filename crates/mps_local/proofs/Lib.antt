@@ -1,4 +1,5 @@
 pub mod Weights
+pub mod Copied
 pub mod Examined
 pub mod Places
 pub mod Choices

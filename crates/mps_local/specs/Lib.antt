@@ -7,3 +7,4 @@ pub mod Bound
 pub mod Outcome
 pub mod Arms
 pub mod Writing
+pub mod Copying

@@ -6,6 +6,7 @@ ghost use Rattle.mps_local.specs.Local.{plain, plain_branches, NoMore, More};
 ghost use Rattle.mps_local.specs.Weights.{weight, branch_weight, waiting_weight};
 
 mod building;
+mod copying;
 mod equality;
 mod loops;
 pub mod projection;

@@ -221,7 +221,6 @@ fn drops_deep_trees(rt: HostRuntime) -> Result<(), Fail> {
         tree = Local::Select { peer, branches };
     }
     assert!(rt; matches!(&tree, Local::Select { .. }));
-    assert!(rt; matches!(&Local::End.rest(), Local::End));
     Ok(())
 }
 
@@ -281,5 +280,76 @@ fn writes_deep_and_wide_types(rt: HostRuntime) -> Result<(), Fail> {
         wide.len(),
         "pick b { }".len() + "l : end , ".len() * MANY - ", ".len()
     );
+    Ok(())
+}
+
+// Whether both types send the same values to the same peers, in the same order, and then end.
+fn send_alike(one: &Local, other: &Local) -> bool {
+    let (mut one, mut other) = (one, other);
+    loop {
+        match (one, other) {
+            (Local::End, Local::End) => return true,
+            (
+                Local::Send { peer, sort, next },
+                Local::Send {
+                    peer: to,
+                    sort: of,
+                    next: rest,
+                },
+            ) => {
+                if !peer.is(*to) || *sort != *of {
+                    return false;
+                }
+                one = next;
+                other = rest;
+            }
+            _ => return false,
+        }
+    }
+}
+
+// Whether both have the same labels in the same order, and the types behind them send alike.
+fn choose_alike(one: &crate::Branches, other: &crate::Branches) -> bool {
+    let (mut ones, mut others) = (one.iter(), other.iter());
+    while let Some((label, next)) = ones.next() {
+        match others.next() {
+            Some((name, rest)) if label.is(name) && send_alike(next, rest) => {}
+            _ => return false,
+        }
+    }
+    others.next().is_none()
+}
+
+#[test]
+fn copies_deep_and_wide_types(rt: HostRuntime) -> Result<(), Fail> {
+    let alloc = rt.alloc();
+    let labels = [name(&rt, "l"), name(&rt, "r"), name(&rt, "again")];
+    let sorts = [Sort::Int, Sort::Bool, Sort::Text];
+    let (mut deep, mut wide) = (Local::End, crate::Branches::NoMore);
+    for i in 0..100_000usize {
+        let (label, sort) = (labels[i % 3], sorts[i % 3]);
+        let peer = Role::new(if i % 2 == 0 { 1 } else { 2 });
+        let next = Local::send(alloc, peer, sort, Local::End)?;
+        deep = Local::send(alloc, peer, sort, deep)?;
+        wide = crate::Branches::more(alloc, label, next, wide)?;
+    }
+    assert!(rt; send_alike(&deep, &deep.copy(alloc)?));
+    assert!(rt; choose_alike(&wide, &wide.copy(alloc)?));
+    let choice = Local::Select {
+        peer: Role::new(1),
+        branches: wide,
+    };
+    match (&choice, &choice.copy(alloc)?) {
+        (
+            Local::Select { branches, .. },
+            Local::Select {
+                branches: copied,
+                ..
+            },
+        ) => {
+            assert!(rt; choose_alike(branches, copied));
+        }
+        _ => return Err(Fail::from("a copy of a choice")),
+    }
     Ok(())
 }

@@ -1,4 +1,7 @@
 -- The rule of one step, and replay.
+-- Queues that keep order are those of Honda, Yoshida, Carbone (2008). That a monitor may serve as a memory for taking steps
+-- back is from Mezzina, Pérez (Causally consistent reversible choreographies, PPDP 2017). The form of participant, store and
+-- rule is this project's.
 use Rattle.std.specs.Prelude.{ℕ, Bool, true, false, ◌==◌, ◌&&◌, if◌then◌else◌, List, [], ◌∷◌, ◌++◌, drop, Option, Some, None, option_and_then}
 use Rattle.std.specs.Option.{option_map}
 use Rattle.std.specs.Str.{bytes_eq}

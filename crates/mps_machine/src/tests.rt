@@ -13,6 +13,17 @@ fn sends(command: &Forward, peer: u8, said: &str) -> bool {
     }
 }
 
+// Whether the command is the sending of this number to that role.
+fn sends_number(command: &Forward, peer: u8, number: i64) -> bool {
+    match command {
+        Forward::Send {
+            to,
+            value: Value::Int(found),
+        } => to.is(Role::new(peer)) && *found == number,
+        _ => false,
+    }
+}
+
 // Whether the command is a receipt from that role into this slot.
 fn receives(command: &Forward, peer: u8, into: &Name) -> bool {
     match command {
@@ -29,6 +40,11 @@ fn copies_commands(rt: HostRuntime) -> Result<(), Fail> {
         value: Value::read(alloc, b"\"good day\"")?,
     };
     assert!(rt; sends(&send.copy(alloc)?, 1, "good day"));
+    let send = Forward::Send {
+        to: Role::new(1),
+        value: Value::Int(5),
+    };
+    assert!(rt; sends_number(&send.copy(alloc)?, 1, 5));
     let slot = Name::read(b"x").ok_or("a name")?;
     let receive = Forward::Receive {
         from: Role::new(2),

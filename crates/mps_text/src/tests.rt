@@ -32,9 +32,24 @@ fn chain(alloc: alloc::Global, messages: usize, rest: &[u8]) -> Result<Vec<u8>, 
 // A choice of the labels `l1`, `l2` and so on, each with so many messages and then `end`.
 fn choice(alloc: alloc::Global, branches: &[usize]) -> Result<Vec<u8>, Fail> {
     let mut text = Vec::from_slice(alloc, b"roles a b ; a -> b ")?;
-    let labels: [&[u8]; 8] = [
-        b"{ l1 : ", b", l2 : ", b", l3 : ", b", l4 : ", b", l5 : ", b", l6 : ", b", l7 : ",
+    let labels: [&[u8]; 17] = [
+        b"{ l1 : ",
+        b", l2 : ",
+        b", l3 : ",
+        b", l4 : ",
+        b", l5 : ",
+        b", l6 : ",
+        b", l7 : ",
         b", l8 : ",
+        b", l9 : ",
+        b", l10 : ",
+        b", l11 : ",
+        b", l12 : ",
+        b", l13 : ",
+        b", l14 : ",
+        b", l15 : ",
+        b", l16 : ",
+        b", l17 : ",
     ];
     for (label, messages) in labels.iter().zip(branches) {
         text.extend_from_slice(label)?;
@@ -326,6 +341,10 @@ fn writes_what_it_read(rt: HostRuntime) -> Result<(), Fail> {
         b"roles a b ; rec X . rec Y . X",
         b"roles a b ; z -> z : int . X",
         b"roles a a ; end",
+        b"roles a b c ; a -> b : int . a -> b { l : a -> c : int . end , r : end }",
+        b"roles a b ; a -> z : int . end",
+        b"roles a b ; a -> a : int . end",
+        b"roles a b ; a -> b : int . X",
     ];
     for text in texts {
         let protocol = read_protocol(rt.alloc(), text)?;
@@ -339,9 +358,14 @@ fn writes_what_it_read(rt: HostRuntime) -> Result<(), Fail> {
         written.as_slice(),
         b"roles a b ; a -> b { l : end , m : X }".as_slice()
     );
+    // the most nodes, more branches than a choice may have, and the most levels
     let most = choice(rt.alloc(), &[31, 31, 31, 31, 31, 31, 31, 30])?;
-    let written = write_protocol(rt.alloc(), &read_protocol(rt.alloc(), &most)?)?;
-    assert_eq!(rt; written.as_slice(), most.as_slice());
+    let wide = choice(rt.alloc(), &[0; 17])?;
+    let deep = chain(rt.alloc(), 63, b"end")?;
+    for text in [most.as_slice(), wide.as_slice(), deep.as_slice()] {
+        let written = write_protocol(rt.alloc(), &read_protocol(rt.alloc(), text)?)?;
+        assert_eq!(rt; written.as_slice(), text);
+    }
     Ok(())
 }
 

@@ -310,6 +310,20 @@ fn refuses_to_show(rt: HostRuntime) -> Result<(), Fail> {
             "roles a b c ; a -> b : int . a -> b { l : a -> c : int . end , r : end }",
             "refused projection c 0",
         ),
+        (
+            "roles a b c ; a -> c { l : b -> a { p : end , q : end } , \
+             r : b -> a { p : end , q : a -> c : int . end } }",
+            "refused projection c 2",
+        ),
+        (
+            "roles a b c ; a -> c { l : b -> a { p : end , q : a -> c : int . end } , \
+             r : b -> a { p : end , q : a -> c : int . end } }",
+            "refused projection c 1",
+        ),
+        (
+            "roles a b c ; a -> b { l : b -> a { p : end , q : a -> c : int . end } , r : end }",
+            "refused projection c 1",
+        ),
         ("roles a b ; rec X . X", "refused protocol unguarded"),
         (
             "roles a b ; a -> z : int . end",

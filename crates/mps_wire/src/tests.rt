@@ -1,6 +1,6 @@
 use crate::script::{BLOCK, MAX_LINE, ReplayFault, run_script};
 use mps_base::{Name, Role, Roles, Sort};
-use mps_dev::{Pieces, Short};
+use mps_dev::{Pieces, Short, Source};
 use mps_local::Local;
 use mps_session::{OpenFault, are_message_only};
 use std::alloc::Global;
@@ -135,7 +135,7 @@ fn answers_each_line(rt: HostRuntime) -> Result<(), Fail> {
 #[test]
 fn answers_long_lines(rt: HostRuntime) -> Result<(), Fail> {
     let alloc = rt.alloc();
-    for length in [MAX_LINE, MAX_LINE + 1, BLOCK, BLOCK + 1] {
+    for length in [MAX_LINE, MAX_LINE + 1, BLOCK, BLOCK + 1, 1_000_001] {
         let mut script = vec![in alloc; b'a'; length]?;
         script.extend_from_slice(b"\na send b 5\n")?;
         let written = answers(alloc, A_TO_B_TO_C, vec![in alloc; script]?)?;
@@ -168,6 +168,64 @@ fn ends_at_faults(rt: HostRuntime) -> Result<(), Fail> {
     let (written, fault) = outcome(alloc, A_TO_B_TO_C, relay, None, 3)?;
     assert_eq!(rt; fault, Some(ReplayFault::WriteFault));
     assert_eq!(rt; written.as_slice(), b"don".as_slice());
+    Ok(())
+}
+
+// So many pieces, each of one byte, an LF.
+fn empty_lines(alloc: Global, count: usize) -> Result<Vec<Vec<u8>>, Fail> {
+    let mut pieces = Vec::new(alloc);
+    for _ in 0..count {
+        pieces.push(vec![in alloc; b'\n']?)?;
+    }
+    Ok(pieces)
+}
+
+// The answers to so many lines that are no commands.
+fn refused_lines(alloc: Global, count: usize) -> Result<Vec<u8>, Fail> {
+    let mut text = Vec::new(alloc);
+    for _ in 0..count {
+        text.extend_from_slice(b"refused line\n")?;
+    }
+    Ok(text)
+}
+
+#[test]
+fn stops_after_a_million_reads(rt: HostRuntime) -> Result<(), Fail> {
+    let alloc = rt.alloc();
+    // the last read of the second finds the end
+    let rows = [
+        (1_000_001, 1_000_000, Some(ReplayFault::Turns)),
+        (999_999, 999_999, None),
+    ];
+    for (pieces, lines, want) in rows {
+        let script = empty_lines(alloc, pieces)?;
+        let (written, fault) = outcome(alloc, A_TO_B_TO_C, script, None, 14_000_000)?;
+        assert_eq!(rt; fault, want, "{pieces}");
+        let answers = refused_lines(alloc, lines)?;
+        assert!(rt; written == answers, "{pieces}");
+    }
+    Ok(())
+}
+
+#[test]
+fn answers_before_it_reads_on(rt: HostRuntime) -> Result<(), Fail> {
+    let alloc = rt.alloc();
+    let lines = vec![in alloc;
+        Vec::from_slice(alloc, b"a send b 5\n")?,
+        Vec::from_slice(alloc, b"b recv a x\n")?,
+    ]?;
+    let roles = Roles::of(alloc, &[name("a")?, name("b")?, name("c")?])?;
+    let types = types(alloc, A_TO_B_TO_C)?;
+    if roles.count() != types.len() || !are_message_only(&types) {
+        return Err("a type for each role".into());
+    }
+    let mut reader = Pieces::new(lines, None);
+    let mut writer = Short::new(alloc, 0)?;
+    let fault = run_script(alloc, &mut reader, &mut writer, roles, types).err();
+    assert_eq!(rt; fault, Some(ReplayFault::WriteFault));
+    let mut rest = [0u8; 20];
+    assert_eq!(rt; reader.read(&mut rest), Ok(11));
+    assert_eq!(rt; &rest[..11], b"b recv a x\n".as_slice());
     Ok(())
 }
 

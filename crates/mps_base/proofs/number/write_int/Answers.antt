@@ -7,5 +7,5 @@ use Rattle.mps_base.proofs.number.write_int.Goals as goal
 
 pub returns-clause-ok : goal.returns-clause-ok
 returns-clause-ok c =
-    let text : c.as_bytes.result.now ≡ signed_decimal c.args.n = c.as_bytes.ensures.value ∙ c.in_ok-text.ensures.ok ∙ ap signed_decimal (to_z-of_z w64 c.args.n c.ranges.n) in
+    let text : c.as_bytes.result.now ≡ signed_decimal c.args.n = c.as_bytes.ensures.value ∙ c.format.ensures.text ∙ ap signed_decimal (to_z-of_z w64 c.args.n c.ranges.n) in
     appends_ok _ _ _ _ _ c.extend_from_slice.ensures.items (rw text (signed_is_int c.args.n c.ranges.n))

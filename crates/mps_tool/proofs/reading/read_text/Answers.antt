@@ -77,3 +77,7 @@ loop-block-preserved g c =
     positive : (n : ℕ) → (n ≡ 0 → ⊥) → 1 ≤ n
     positive zero h = absurd (h refl)
     positive (suc n) h = omega arith
+
+-- the loop ends where the text is longer than a text may be
+pub returns-clause-whole : goal.returns-clause-whole
+returns-clause-whole g c = λ h. absurd (omega (arith, h, c.loop-block-test.false, c.len.ensures, c.loop-block.text.ok.0))

@@ -1,0 +1,10 @@
+use Rattle.std.proofs.Common.{◌≡◌}
+use Rattle.mps_local.specs.Copying.{stacks, nothing_made, with_next, with_all, left_weight}
+use Rattle.mps_local.proofs.copying.make.Given as goal
+
+-- when what waits is made, it is
+abbrev pub invariant-loop-next : goal.invariant-loop-next
+invariant-loop-next l = with_all l.waiting.items (stacks l.made) ≡ with_next l.fn.first nothing_made
+
+abbrev pub decreases-loop-next : goal.decreases-loop-next
+decreases-loop-next l = left_weight l.waiting.items
