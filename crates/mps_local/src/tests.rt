@@ -132,6 +132,8 @@ const RELAY: [Part<'static>; 3] = [
     Part::Choice("c", "a", &["ok", "no"]),
 ];
 
+const MESSAGES: [Part<'static>; 2] = [Part::Sent("a", "b"), Part::Sent("b", "c")];
+
 const LOOPS: [Part<'static>; 5] = [
     Part::Rec("X"),
     Part::Sent("a", "c"),
@@ -193,6 +195,9 @@ fn projects_each_role(rt: HostRuntime) -> Result<(), Fail> {
         (&RELAY[..], 0, "send b int . pick c { ok : end , no : end }"),
         (&RELAY, 1, "recv a int . send c int . end"),
         (&RELAY, 2, "recv b int . choose a { ok : end , no : end }"),
+        (&MESSAGES, 0, "send b int . end"),
+        (&MESSAGES, 1, "recv a int . send c int . end"),
+        (&MESSAGES, 2, "recv b int . end"),
         (&LOOP, 0, "rec X . send b int . X"),
         (&LOOP, 1, "rec X . recv a int . X"),
         (&LOOP, 2, "end"),
