@@ -1,6 +1,5 @@
 pub mod Names
 pub mod Texts
-pub mod Actions
 pub mod Inline
 pub mod Refilled
 pub mod Numbers

@@ -126,9 +126,9 @@ fn sorts(rt: HostRuntime) -> Result<(), Fail> {
     for (text, sort) in sorts {
         let value = value(rt.alloc(), text.as_bytes())?;
         assert_eq!(rt; value.sort(), sort);
-        assert!(rt; value.is_of(sort));
+        assert!(rt; value.fits(sort));
     }
-    assert!(rt; !Value::Int(1).is_of(Sort::Bool));
+    assert!(rt; !Value::Int(1).fits(Sort::Bool));
     Ok(())
 }
 

@@ -1,7 +1,9 @@
 //! Values and their sorts.
-ghost use Rattle.mps_base.specs.Sorts.{sort_word};
-ghost use Rattle.std.specs.Prelude.{◌≡◌, ◌↔◌, IsTrue, IsSome, IfSome, IfOk, All};
+ghost use Rattle.std.specs.Prelude.{◌≡◌, ◌↔◌, true, IsTrue, IsSome, IfSome, IfOk, All};
+ghost use Rattle.mps_base.specs.Sorts.{sort_word, same_sort, sort_of, fits};
 ghost use Rattle.mps_base.specs.Texts.{IsText, IsPlainByte};
+ghost use Rattle.mps_base.specs.declared.value.Sort.{Sort};
+ghost use Rattle.mps_base.specs.declared.value.Value.{Value};
 
 use std::alloc::{AllocError, Global};
 use std::marker::Model;
@@ -25,7 +27,23 @@ impl Sort {
             Sort::Text => b"text",
         }
     }
+
+    /// Whether it is that sort.
+    pub fn is(self, other: Sort) -> bool
+        ensures { result ≡ same_sort self other }
+    {
+        matches!(
+            (self, other),
+            (Sort::Int, Sort::Int) | (Sort::Bool, Sort::Bool) | (Sort::Text, Sort::Text)
+        )
+    }
 }
+
+/// Two sorts are the same where the test says so, and a value is of its own sort alone.
+pub fn a_value_has_one_sort()
+    ensures same { (s t : Sort) → (same_sort s t ≡ true) ↔ (s ≡ t) }
+    ensures own { (v : Value) (s : Sort) → (fits v s ≡ true) ↔ (sort_of v ≡ s) }
+{}
 
 /// How many bytes a text may have.
 pub const MAX_TEXT: usize = 256;
@@ -109,8 +127,6 @@ pub enum Value {
 }
 
 impl Value {
-    ghost use Rattle.mps_base.specs.Actions.{sort_of, IsOfSort};
-
     /// Its sort.
     pub fn sort(&self) -> Sort
         ensures { result ≡ sort_of self.now }
@@ -123,10 +139,10 @@ impl Value {
     }
 
     /// Whether it is of that sort.
-    pub fn is_of(&self, sort: Sort) -> bool
-        ensures { IsTrue result ↔ IsOfSort self.now sort }
+    pub fn fits(&self, sort: Sort) -> bool
+        ensures { result ≡ fits self.now sort }
     {
-        self.sort() == sort
+        self.sort().is(sort)
     }
 
     /// The same value once more.
