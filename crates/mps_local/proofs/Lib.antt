@@ -6,3 +6,5 @@ pub mod Choices
 pub mod Written
 pub mod Apart
 pub mod Projected
+pub mod Equal
+pub mod Leading
