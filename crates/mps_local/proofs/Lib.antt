@@ -8,3 +8,4 @@ pub mod Apart
 pub mod Projected
 pub mod Equal
 pub mod Leading
+pub mod Unmerged

@@ -14,7 +14,7 @@ pub mod projection;
 mod walking;
 mod writing;
 
-pub use laws::{labels_lead, same_is_equality};
+pub use laws::{labels_lead, same_is_equality, unmerged_is_named};
 use mps_base::{Name, Role, Sort, VarName};
 pub use projection::{ProjectFault, project, projection_laws};
 use std::mem;
