@@ -13,7 +13,7 @@ none_here : (b : Bool) (number : ℕ) (rest : Option ℕ) → cond b (Some numbe
 none_here true number rest h = cc
 none_here false number rest h = (refl, h)
 
-none_first : (roles : List (List ℕ)) (role : ℕ) (a b : List Numbered) → first_unmerged roles role a ≡ None → first_unmerged roles role (a ++ b) ≡ first_unmerged roles role b
+pub none_first : (roles : List (List ℕ)) (role : ℕ) (a b : List Numbered) → first_unmerged roles role a ≡ None → first_unmerged roles role (a ++ b) ≡ first_unmerged roles role b
 none_first roles role [] b h = refl
 none_first roles role (c ∷ a) b h =
     let n = none_here (is_undefined (projection roles role c.choice)) c.number (first_unmerged roles role a) h in

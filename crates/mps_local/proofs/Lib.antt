@@ -6,3 +6,6 @@ pub mod Choices
 pub mod Written
 pub mod Apart
 pub mod Projected
+pub mod Equal
+pub mod Leading
+pub mod Unmerged

@@ -8,3 +8,5 @@ pub mod Outcome
 pub mod Arms
 pub mod Writing
 pub mod Copying
+pub mod Unfolding
+pub mod Actions

@@ -1,5 +1,5 @@
 -- What projecting a tree gives.
-use Rattle.std.specs.Prelude.{◌≡◌, ℕ, ◌+◌, ⊤, List, Some, None}
+use Rattle.std.specs.Prelude.{◌≡◌, ℕ, ◌+◌, ◌<◌, ⊤, List, Some, None, length, slice_get}
 use Rattle.mps_global.specs.Global as global
 use Rattle.mps_global.specs.Global.{GlobalType}
 use Rattle.mps_local.specs.Local.{LocalType, Branches}
@@ -40,3 +40,8 @@ IsUnmerged roles role number tree faults.Memory = ⊤
 abbrev pub AreUnmerged : (roles : List (List ℕ)) (role number : ℕ) → global.Branches → ProjectFault → Type 0
 AreUnmerged roles role number branches (faults.Unmergeable who choice) = CantMergeIn roles role number branches who choice
 AreUnmerged roles role number branches faults.Memory = ⊤
+
+-- the local type of each role, in order
+pub record AreProjections (roles : List (List ℕ)) (tree : GlobalType) (types : List LocalType) : Type 0 where
+  pub count : length types ≡ length roles
+  pub each : (p : ℕ) → p < length roles → projection roles p tree ≡ slice_get types p

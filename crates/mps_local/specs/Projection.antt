@@ -3,8 +3,8 @@
 use Rattle.std.specs.Prelude.{ℕ, suc, ◌+◌, Bool, true, false, ◌==◌, ◌&&◌, ◌||◌, not, List, [], ◌∷◌, ◌++◌, Option, Some, None, option_map, option_and_then, if◌then◌else◌}
 use Rattle.std.specs.List.{list_any, position_or_len}
 use Rattle.std.specs.Str.{bytes_eq}
+use Rattle.mps_base.specs.Sorts.{same_sort}
 use Rattle.mps_base.specs.declared.value.Sort.{Sort}
-use Rattle.mps_base.specs.declared.value.Sort.TheVariants as sorts
 use Rattle.mps_global.specs.Global as global
 use Rattle.mps_global.specs.Global.{GlobalType}
 use Rattle.mps_local.specs.Local.{LocalType, Branches, End, Var, Rec, Send, Recv, Select, Branch, NoMore, More}
@@ -51,15 +51,8 @@ abbrev mutual
 abbrev pub is_idle : (roles : List (List ℕ)) (role : ℕ) (name : List ℕ) → GlobalType → Bool
 is_idle roles role name body = not (occurs roles role body) && is_closed [] (global.Rec name body)
 
--- whether two sorts are the same
-abbrev pub same_sort : Sort → Sort → Bool
-same_sort sorts.Int sorts.Int = true
-same_sort sorts.Bool sorts.Bool = true
-same_sort sorts.Text sorts.Text = true
-same_sort sort of = false
-
 abbrev mutual
-  -- whether two types are the same tree
+  -- whether two types are the same tree: it is equality, as a law of this crate says
   pub same : LocalType → LocalType → Bool
   same End End = true
   same (Var name) (Var other) = bytes_eq name other

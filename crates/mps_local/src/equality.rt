@@ -1,10 +1,9 @@
 //! When two local types are the same.
 ghost use Rattle.std.specs.Prelude.{◌≡◌};
 ghost use Rattle.mps_local.specs.Local.{plain, plain_branches};
-ghost use Rattle.mps_local.specs.Projection.{same_sort, same, same_branches};
+ghost use Rattle.mps_local.specs.Projection.{same, same_branches};
 
 use crate::{Branches, Local};
-use mps_base::Sort;
 
 /// Whether two types are the same tree.
 #[cycle(same)]
@@ -30,7 +29,7 @@ pub(crate) fn same(one: &Local, other: &Local) -> bool
                 sort: of,
                 next: rest,
             },
-        ) => peer.is(*from) && same_sort(*sort, *of) && same(next, rest),
+        ) => peer.is(*from) && sort.is(*of) && same(next, rest),
         (
             Local::Select { peer, branches },
             Local::Select {
@@ -70,11 +69,4 @@ fn same_branches(one: &Branches, other: &Branches) -> bool
         ) => label.is(name) && same(next, rest) && same_branches(others, more),
         _ => false,
     }
-}
-
-// Whether two sorts are the same.
-fn same_sort(one: Sort, other: Sort) -> bool
-    ensures { result ≡ same_sort one other }
-{
-    one == other
 }

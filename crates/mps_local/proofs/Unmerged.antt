@@ -1,0 +1,72 @@
+-- Where there is no projection, a choice is the first that has none.
+use Rattle.std.proofs.Common.{◌≡◌, ℕ, suc, ◌+◌, Bool, true, false, cond, List, [], ◌∷◌, ◌++◌, Option, Some, None, refl, ap, ◌∙◌}
+use Rattle.std.specs.Prelude.{IsSome, option_and_then}
+use Rattle.std.specs.Option.{option_map}
+use Rattle.mps_global.specs.Global as global
+use Rattle.mps_global.specs.Global.{GlobalType}
+use Rattle.mps_local.specs.Local.{LocalType, Branches, End, Rec, More}
+use Rattle.mps_local.specs.Projection.{place_of, is_idle, with_message, with_choice, projection, projections, choice_count, Numbered, examined, examined_in, is_undefined, first_unmerged}
+use Rattle.mps_local.proofs.Examined.{none_first}
+
+map_some : {A B : Type 0} (f : A → B) (o : Option A) (y : B) → option_map f o ≡ Some y → (x : A) × (o ≡ Some x) × (f x ≡ y)
+map_some f None y e = absurd cc
+map_some f (Some x) y e = (x, refl, cc)
+
+map_none : {A B : Type 0} (f : A → B) (o : Option A) → option_map f o ≡ None → o ≡ None
+map_none f None e = refl
+map_none f (Some x) e = absurd cc
+
+and_then_some : {A B : Type 0} (f : A → Option B) (o : Option A) (y : B) → option_and_then f o ≡ Some y → (x : A) × (o ≡ Some x) × (f x ≡ Some y)
+and_then_some f None y e = absurd cc
+and_then_some f (Some x) y e = (x, refl, e)
+
+-- the last of the list has none
+last_named : (roles : List (List ℕ)) (role : ℕ) (cs : List Numbered) (c : Numbered) → projection roles role c.choice ≡ None → IsSome (first_unmerged roles role (cs ++ c ∷ []))
+last_named roles role [] c e = rw e refl
+last_named roles role (d ∷ cs) c e = by_test (is_undefined (projection roles role d.choice)) (last_named roles role cs c e)
+  where
+    by_test : (b : Bool) → IsSome (first_unmerged roles role (cs ++ c ∷ [])) → IsSome (cond b (Some d.number) (first_unmerged roles role (cs ++ c ∷ [])))
+    by_test true h = refl
+    by_test false h = h
+
+-- where there is no projection, a choice is named
+pub named : (roles : List (List ℕ)) (role number : ℕ) (tree : GlobalType) → projection roles role tree ≡ None → IsSome (first_unmerged roles role (examined roles role number tree))
+named roles role number global.End e = absurd cc
+named roles role number (global.Var name) e = absurd cc
+named roles role number (global.Rec name body) e =
+    by_test (is_idle roles role name body) e (named roles role number body)
+  where
+    by_test : (b : Bool) → cond b (Some End) (option_map (Rec name) (projection roles role body)) ≡ None → (projection roles role body ≡ None → IsSome (first_unmerged roles role (examined roles role number body))) → IsSome (first_unmerged roles role (cond b [] (examined roles role number body)))
+    by_test true h again = absurd cc
+    by_test false h again = again (map_none (Rec name) (projection roles role body) h)
+named roles role number (global.Message sender receiver sort next) e =
+    named roles role number next (map_none (with_message role (place_of roles sender) (place_of roles receiver) sort) (projection roles role next) e)
+named roles role number (global.Choice sender receiver branches) e =
+    last_named roles role (examined_in roles role (suc number) branches) (record { number = number; choice = global.Choice sender receiver branches }) e
+
+mutual
+  -- where there is one, none is
+  pub none_named : (roles : List (List ℕ)) (role number : ℕ) (tree : GlobalType) (t : LocalType) → projection roles role tree ≡ Some t → first_unmerged roles role (examined roles role number tree) ≡ None
+  none_named roles role number global.End t e = refl
+  none_named roles role number (global.Var name) t e = refl
+  none_named roles role number (global.Rec name body) t e =
+      by_test (is_idle roles role name body) e (none_named roles role number body)
+    where
+      by_test : (b : Bool) → cond b (Some End) (option_map (Rec name) (projection roles role body)) ≡ Some t → ((u : LocalType) → projection roles role body ≡ Some u → first_unmerged roles role (examined roles role number body) ≡ None) → first_unmerged roles role (cond b [] (examined roles role number body)) ≡ None
+      by_test true h again = refl
+      by_test false h again = let k = map_some (Rec name) (projection roles role body) t h in again k.0 k.1
+  none_named roles role number (global.Message sender receiver sort next) t e =
+      let k = map_some (with_message role (place_of roles sender) (place_of roles receiver) sort) (projection roles role next) t e in
+      none_named roles role number next k.0 k.1
+  none_named roles role number (global.Choice sender receiver branches) t e =
+      let k = and_then_some (with_choice role (place_of roles sender) (place_of roles receiver)) (projections roles role branches) t e in
+      none_first roles role (examined_in roles role (suc number) branches) (record { number = number; choice = global.Choice sender receiver branches } ∷ []) (none_named_in roles role (suc number) branches k.0 k.1)
+      ∙ ap (λ (o : Option LocalType). cond (is_undefined o) (Some number) None) e
+
+  none_named_in : (roles : List (List ℕ)) (role number : ℕ) (branches : global.Branches) (ts : Branches) → projections roles role branches ≡ Some ts → first_unmerged roles role (examined_in roles role number branches) ≡ None
+  none_named_in roles role number global.NoMore ts e = refl
+  none_named_in roles role number (global.More label next others) ts e =
+      let k = and_then_some (λ t. option_and_then (λ ts. Some (More label t ts)) (projections roles role others)) (projection roles role next) ts e in
+      let l = and_then_some (λ ts. Some (More label k.0 ts)) (projections roles role others) ts k.2 in
+      none_first roles role (examined roles role number next) (examined_in roles role (number + choice_count next) others) (none_named roles role number next k.0 k.1)
+      ∙ none_named_in roles role (number + choice_count next) others l.0 l.1

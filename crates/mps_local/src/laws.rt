@@ -1,0 +1,35 @@
+//! What holds of the definitions that the contracts cite.
+ghost use Rattle.std.specs.Prelude.{◌≡◌, ◌↔◌, ℕ, List, true, Some, None, IsSome, length, slice_get};
+ghost use Rattle.mps_base.specs.RoleLists.{AreDistinct};
+ghost use Rattle.mps_global.specs.Global.{GlobalType};
+ghost use Rattle.mps_local.specs.Local.{LocalType, Branches};
+ghost use Rattle.mps_local.specs.Actions.{branch_at, labels, nexts};
+ghost use Rattle.mps_local.specs.Projection.{same, same_branches, projection, examined, first_unmerged};
+
+/// Labels lead to what stands behind them. Each label has its type in the same place; where no
+/// label stands twice, that is what follows the label, and what follows a label stands behind it.
+pub fn labels_lead()
+    ensures paired { (b : Branches) → length (nexts b) ≡ length (labels b) }
+    ensures lead { (b : Branches) (place : ℕ) (label : List ℕ) → AreDistinct (labels b)
+        → slice_get (labels b) place ≡ Some label → branch_at label b ≡ slice_get (nexts b) place }
+    ensures placed { (b : Branches) (label : List ℕ) (t : LocalType) → branch_at label b ≡ Some t
+        → (place : ℕ) × (slice_get (labels b) place ≡ Some label)
+        × (slice_get (nexts b) place ≡ Some t) }
+{}
+
+/// Two types, or two lists of branches, are the same exactly where they are equal: the test passes
+/// over no node, and over nothing that stands in one.
+pub fn same_is_equality()
+    ensures types { (t u : LocalType) → (same t u ≡ true) ↔ (t ≡ u) }
+    ensures branches { (b c : Branches) → (same_branches b c ≡ true) ↔ (b ≡ c) }
+{}
+
+/// A choice is named exactly where there is no projection, whatever number the first choice has.
+pub fn unmerged_is_named()
+    ensures named { (roles : List (List ℕ)) (role number : ℕ) (tree : GlobalType)
+        → projection roles role tree ≡ None
+        → IsSome (first_unmerged roles role (examined roles role number tree)) }
+    ensures none { (roles : List (List ℕ)) (role number : ℕ) (tree : GlobalType) (t : LocalType)
+        → projection roles role tree ≡ Some t
+        → first_unmerged roles role (examined roles role number tree) ≡ None }
+{}
