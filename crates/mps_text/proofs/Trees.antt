@@ -9,7 +9,7 @@ use Rattle.mps_global.specs.Global.{GlobalType, Branches, End, Var, Rec, Message
 use Rattle.mps_base.specs.Sorts.{sort_word}
 use Rattle.mps_text.specs.Grammar.{global_tokens, branch_tokens, HasBranch, IsSpellable, AreSpellable, SpellsProtocol, protocol_tokens}
 use Rattle.mps_text.specs.Faults.{node_starts, branch_starts, no_starts, protocol_starts}
-use Rattle.mps_text.specs.Reading.{Symbol, Token, AName, AVariable, ASort, Roles, Node, Exchange, Others, branch, step, mark, begun, named, which, whole, tokens_before, branches_before}
+use Rattle.mps_text.specs.Reading.{Symbol, Token, AName, AVariable, ASort, Roles, Node, Exchange, Others, branch, step, start_of, begun, named, which, whole, tokens_before, branches_before}
 use Rattle.mps_text.specs.declared.reading.First.TheVariants as firsts
 use Rattle.mps_text.proofs.Names.{is_name_of, is_variable_of}
 use Rattle.mps_text.proofs.Tokens.{name_apart, sort_again, first_again}
@@ -185,7 +185,7 @@ mutual
         ),
       )
 
-  drives_branches : (branches : Branches) (x : Symbol) (level : ℕ) (sep : List ℕ) (stack to : List Symbol) (tokens : List (List ℕ)) (starts : List (Option ℕ)) → step x sep ≡ Some (branch level) → mark x ≡ None → Closes x branches → AreSpellable branches → Drives stack tokens to starts → Drives (x ∷ stack) (branches_before sep branches tokens) to (branch_starts_before level branches starts)
+  drives_branches : (branches : Branches) (x : Symbol) (level : ℕ) (sep : List ℕ) (stack to : List Symbol) (tokens : List (List ℕ)) (starts : List (Option ℕ)) → step x sep ≡ Some (branch level) → start_of x ≡ None → Closes x branches → AreSpellable branches → Drives stack tokens to starts → Drives (x ∷ stack) (branches_before sep branches tokens) to (branch_starts_before level branches starts)
   drives_branches NoMore x level sep stack to tokens starts opens plain closes s d = ([], closes, starts, ap (λ (m : Option ℕ). m ∷ starts) (sym plain), d)
   drives_branches (More label next others) x level sep stack to tokens starts opens plain closes s d =
       let rest = branch_starts_before level others starts in

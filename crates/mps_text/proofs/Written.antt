@@ -11,13 +11,14 @@ use Rattle.mps_base.specs.declared.value.Sort.{Sort}
 use Rattle.mps_base.specs.declared.value.Sort.TheVariants.{Int, Bool as Truth, Text}
 use Rattle.mps_base.proofs.Spaced.{written_parts, written_all}
 use Rattle.mps_global.specs.Global.{GlobalType, Branches, End, Var, Rec, Message, Choice, NoMore, More}
-use Rattle.mps_text.specs.Tokens.{is_blank, is_word_byte, first_is, IsWord, marks, IsTokenBefore, BeginsAll, AreTokensOf}
+use Rattle.mps_text.specs.Tokens.{is_blank, is_word_byte, first_is, IsWord, punctuation, IsTokenBefore, BeginsAll, AreTokensOf}
 use Rattle.mps_base.specs.Sorts.{sort_word}
-use Rattle.mps_text.specs.Grammar.{global_tokens, branch_tokens, protocol_tokens, IsSpellable, AreSpellable, SpellsText}
+use Rattle.mps_text.specs.Grammar.{global_tokens, branch_tokens, protocol_tokens, protocol_text, IsSpellable, AreSpellable, SpellsText, IsWithinLimits, SpellsOnly}
 use Rattle.mps_text.specs.Reading.{tokens_before, branches_before}
 use Rattle.mps_text.specs.Writing.{HasBranches, HaveBranches, IsNamed, AreNamed, branches_tokens, others_tokens, todo_tokens, todo_weight, IsTodoNamed, left_tokens, left_weight}
 use Rattle.mps_text.specs.declared.writing.Todo.{Todo}
 use Rattle.mps_text.proofs.Trees.{before_is}
+use Rattle.mps_text.proofs.OneTree.{one_protocol}
 
 -- one more that waits
 pub left_more : (waiting : List Todo) (next : Todo) → left_tokens (waiting ++ next ∷ []) ≡ todo_tokens next ++ left_tokens waiting
@@ -72,10 +73,10 @@ IsSpacing rest = first_is is_word_byte rest ≡ false
 
 -- a token of a protocol is found where a space or the end stands behind it
 abbrev IsToken : List ℕ → Type 0
-IsToken token = IsTrue (list_any (bytes_eq token) marks) ⊎ IsWord token
+IsToken token = IsTrue (list_any (bytes_eq token) punctuation) ⊎ IsWord token
 
 found_before : (token rest : List ℕ) → IsToken token → IsSpacing rest → IsTokenBefore token rest
-found_before token rest (inl mark) e = inl mark
+found_before token rest (inl start_of) e = inl start_of
 found_before token rest (inr word) e = inr (word, e)
 
 -- tokens with one space between two are cut into them
@@ -124,7 +125,7 @@ mutual
   tokens_of_branches sep (More label next others) rest is s r =
       (is, (a_name label s.0, (inl refl, tokens_of next (branches_before (codes ",") others rest) s.1 (tokens_of_branches (codes ",") others rest (inl refl) s.2 r))))
 
-pub written_spells : (roles : List (List ℕ)) (tree : GlobalType) → AllByRecursion IsName roles → HasRoleCount roles → IsNamed tree → HasBranches tree → SpellsText (spaced (protocol_tokens roles tree)) roles tree
+pub written_spells : (roles : List (List ℕ)) (tree : GlobalType) → AllByRecursion IsName roles → HasRoleCount roles → IsNamed tree → HasBranches tree → SpellsText (protocol_text roles tree) roles tree
 written_spells roles tree names count n h =
     let s = spellable tree n h in
     let alone : tokens_before tree [] ≡ global_tokens tree = before_is tree [] s ∙ append-nil (global_tokens tree) in
@@ -137,7 +138,7 @@ written_spells roles tree names count n h =
     }
 
 -- what was written after `roles`, the roles and `;`
-pub written_is : (out one two three four : List ℕ) (roles : List (List ℕ)) (tree : GlobalType) → out ≡ [] → one ≡ with_token out (codes "roles") → two ≡ with_tokens one roles → three ≡ with_token two (codes ";") → four ≡ with_tokens three (global_tokens tree) → four ≡ spaced (protocol_tokens roles tree)
+pub written_is : (out one two three four : List ℕ) (roles : List (List ℕ)) (tree : GlobalType) → out ≡ [] → one ≡ with_token out (codes "roles") → two ≡ with_tokens one roles → three ≡ with_token two (codes ";") → four ≡ with_tokens three (global_tokens tree) → four ≡ protocol_text roles tree
 written_is out one two three four roles tree a b c d e =
     let first : one ≡ codes "roles" = b ∙ ap (λ (bytes : List ℕ). with_token bytes (codes "roles")) a in
     let all : four ≡ with_tokens (codes "roles") (roles ++ codes ";" ∷ global_tokens tree) =
@@ -145,3 +146,9 @@ written_is out one two three four roles tree a b c d e =
     ∙ ap (λ (bytes : List ℕ). with_tokens bytes (codes ";" ∷ global_tokens tree)) (c ∙ ap (λ (bytes : List ℕ). with_tokens bytes roles) first)
     ∙ sym (written_parts (codes "roles") roles (codes ";" ∷ global_tokens tree)) in
     all ∙ written_all (codes "roles") (roles ++ codes ";" ∷ global_tokens tree) (omega arith)
+
+-- what is written within the limits is read back
+pub written_reads : (roles : List (List ℕ)) (tree : GlobalType) → AllByRecursion IsName roles → HasRoleCount roles → IsNamed tree → HasBranches tree → IsWithinLimits (protocol_text roles tree) tree → SpellsOnly (protocol_text roles tree) roles tree
+written_reads roles tree names count named branches limits =
+    let s = written_spells roles tree names count named branches in
+    record { limits = limits; spelled = s; only = λ r t other. one_protocol (protocol_text roles tree) r roles t tree other s }

@@ -3,7 +3,7 @@ use Rattle.std.specs.Prelude.{◌≡◌, ◌≢◌, false, ℕ, ◌+◌, ◌<◌
 use Rattle.std.specs.List.{AllByRecursion, list_all}
 use Rattle.mps_global.specs.Global.{GlobalType, Branches, End, Var, Rec, Message, Choice, NoMore, More}
 use Rattle.mps_text.specs.Tokens.{is_blank, first_is, IsTokenBefore, Begins, BeginsAll}
-use Rattle.mps_text.specs.Grammar.{SpellsProtocol}
+use Rattle.mps_text.specs.Grammar.{SpellsProtocol, SpellsText, IsWithinLimits}
 use Rattle.mps_text.specs.declared.fault.TextKind.{TextKind}
 use Rattle.mps_text.specs.declared.fault.TextKind.TheVariants.{TooLong, Word, Unexpected, TooManyNodes, TooDeep, Trailing, Memory}
 
@@ -104,12 +104,16 @@ pub record FaultAt (text : List ℕ) (at : ℕ) (kind : TextKind) : Type 0 where
   pub place : at + length bytes ≡ length text
   pub wrong : IsWrong front starts bytes kind
 
--- the text has this first fault; memory runs out only for a text that is short enough
+-- the text has this first fault: of a text that isn't too long, where it begins no more as a protocol does; memory may run out on any such text
 abbrev pub IsFirstFault : List ℕ → ℕ → TextKind → Type 0
 IsFirstFault text at TooLong = (65536 < length text) × (at ≡ 65536)
 IsFirstFault text at Memory = length text ≤ 65536
-IsFirstFault text at Word = (length text ≤ 65536) × FaultAt text at Word
-IsFirstFault text at Unexpected = (length text ≤ 65536) × FaultAt text at Unexpected
-IsFirstFault text at TooManyNodes = (length text ≤ 65536) × FaultAt text at TooManyNodes
-IsFirstFault text at TooDeep = (length text ≤ 65536) × FaultAt text at TooDeep
-IsFirstFault text at Trailing = (length text ≤ 65536) × FaultAt text at Trailing
+IsFirstFault text at kind = (length text ≤ 65536) × FaultAt text at kind
+
+-- the text spells a protocol within the limits
+abbrev pub HasProtocol : List ℕ → Type 0
+HasProtocol text = (roles : List (List ℕ)) × (tree : GlobalType) × IsWithinLimits text tree × SpellsText text roles tree
+
+-- the text has a first fault other than want of memory
+abbrev pub HasFault : List ℕ → Type 0
+HasFault text = (at : ℕ) × (kind : TextKind) × IsFirstFault text at kind × (kind ≢ Memory)

@@ -4,6 +4,7 @@ use Rattle.std.specs.List.{AllByRecursion}
 use Rattle.mps_base.specs.Names.{IsName, IsVariable}
 use Rattle.mps_base.specs.RoleLists.{HasRoleCount}
 use Rattle.mps_base.specs.Sorts.{sort_word}
+use Rattle.mps_base.specs.Spaced.{spaced}
 use Rattle.mps_global.specs.Global.{GlobalType, Branches, End, Var, Rec, Message, Choice, NoMore, More, plain}
 use Rattle.mps_global.specs.Faults.{node_count, depth}
 use Rattle.mps_global.specs.declared.Protocol.{Protocol}
@@ -51,6 +52,10 @@ abbrev mutual
 abbrev pub protocol_tokens : List (List ℕ) → GlobalType → List (List ℕ)
 protocol_tokens roles tree = codes "roles" ∷ roles ++ codes ";" ∷ global_tokens tree
 
+-- how a protocol is written: its tokens with one space between two
+abbrev pub protocol_text : List (List ℕ) → GlobalType → List ℕ
+protocol_text roles tree = spaced (protocol_tokens roles tree)
+
 -- the tokens spell the protocol, which has 2 to 8 roles
 pub record SpellsProtocol (tokens roles : List (List ℕ)) (tree : GlobalType) : Type 0 where
   pub names : AllByRecursion IsName roles
@@ -69,6 +74,12 @@ pub record IsWithinLimits (text : List ℕ) (tree : GlobalType) : Type 0 where
   pub short : length text ≤ 65536
   pub small : node_count tree ≤ 256
   pub shallow : depth tree ≤ 64
+
+-- the text spells this protocol within the limits, and no other
+pub record SpellsOnly (text : List ℕ) (roles : List (List ℕ)) (tree : GlobalType) : Type 0 where
+  pub limits : IsWithinLimits text tree
+  pub spelled : SpellsText text roles tree
+  pub only : (r : List (List ℕ)) (t : GlobalType) → SpellsText text r t → (r ≡ roles) × (t ≡ tree)
 
 -- the protocol was read, or memory ran out
 abbrev pub IsRead : List (List ℕ) → GlobalType → Result Protocol TextFault → Type 0
