@@ -139,7 +139,7 @@ more_branches level sep stack token tokens starts e a =
         branches = More a.token g.tree o.branches;
         after = o.after;
         later = o.later;
-        spellable = (a.is, g.spellable, o.spellable);
+        spellable = ((a.is, g.spellable.0, o.spellable.0), (g.spellable.1, o.spellable.1));
         goes_on = o.goes_on;
         cut = cc (e, a.cut, b.cut, b.is, g.cut, o.cut);
         marked = cc (a.marked, b.marked, g.marked, o.marked);
@@ -166,7 +166,7 @@ more_others level stack pushed token tokens starts (Some false) e s c =
       branches = NoMore;
       after = tokens;
       later = starts;
-      spellable = tt;
+      spellable = (tt, tt);
       goes_on = popped stack pushed tokens starts [] (some_is [] pushed s) c;
       cut = ap (λ (t : List ℕ). t ∷ tokens) (which_is (codes ",") (codes "}") token false e);
       marked = refl;
@@ -174,9 +174,9 @@ more_others level stack pushed token tokens starts (Some false) e s c =
 
 more_first : (level : ℕ) (first : First) (stack : List Symbol) (token : List ℕ) (tokens : List (List ℕ)) (starts : List (Option ℕ)) → token ≡ first_token first → IsFirst first → Completes (behind_first level first ++ stack) tokens starts → NodeOf level (Completes stack) (token ∷ tokens) (Some level ∷ starts)
 more_first level firsts.End stack token tokens starts e is c =
-    record { tree = End; after = tokens; later = starts; spellable = tt; goes_on = c; cut = ap (λ (t : List ℕ). t ∷ tokens) e; marked = refl }
+    record { tree = End; after = tokens; later = starts; spellable = (tt, tt); goes_on = c; cut = ap (λ (t : List ℕ). t ∷ tokens) e; marked = refl }
 more_first level (firsts.Var name) stack token tokens starts e is c =
-    record { tree = Var name; after = tokens; later = starts; spellable = is; goes_on = c; cut = ap (λ (t : List ℕ). t ∷ tokens) e; marked = refl }
+    record { tree = Var name; after = tokens; later = starts; spellable = (is, tt); goes_on = c; cut = ap (λ (t : List ℕ). t ∷ tokens) e; marked = refl }
 more_first level firsts.Rec stack token tokens starts e is a =
     let b = a.goes_on in
     let g = b.goes_on in
@@ -184,7 +184,7 @@ more_first level firsts.Rec stack token tokens starts e is a =
       tree = Rec a.token g.tree;
       after = g.after;
       later = g.later;
-      spellable = (a.is, g.spellable);
+      spellable = ((a.is, g.spellable.0), g.spellable.1);
       goes_on = g.goes_on;
       cut = cc (e, a.cut, b.cut, b.is, g.cut);
       marked = cc (a.marked, b.marked, g.marked);
@@ -200,7 +200,7 @@ more_first level (firsts.Sender name) stack token tokens starts e is a =
             tree = Message name b.token d.is.0 g.tree;
             after = g.after;
             later = g.later;
-            spellable = (is, b.is, g.spellable);
+            spellable = ((is, b.is, g.spellable.0), g.spellable.1);
             goes_on = g.goes_on;
             cut = cc (e, a.cut, a.is, b.cut, m.cut, m.is, d.cut, d.is.1, f.cut, f.is, g.cut);
             marked = cc (a.marked, b.marked, m.marked, d.marked, f.marked, g.marked);
@@ -211,7 +211,7 @@ more_first level (firsts.Sender name) stack token tokens starts e is a =
             tree = Choice name b.token h.branches;
             after = h.after;
             later = h.later;
-            spellable = (is, b.is, m.1, h.spellable);
+            spellable = ((is, b.is, h.spellable.0), (m.1, h.spellable.1));
             goes_on = h.goes_on;
             cut = cc (e, a.cut, a.is, b.cut, h.cut);
             marked = cc (a.marked, b.marked, h.marked);
@@ -263,7 +263,7 @@ one_completion : (P : List ℕ → Type 0) (stack : List Symbol) (token : List �
 one_completion P stack token c is = record { token = token; after = c.tokens; later = c.starts; is = is; goes_on = c.completes; cut = refl; marked = refl }
 
 end_completion : (level : ℕ) (stack : List Symbol) (c : Completion stack) → NodeOf level (Completes stack) (codes "end" ∷ c.tokens) (Some level ∷ c.starts)
-end_completion level stack c = record { tree = End; after = c.tokens; later = c.starts; spellable = tt; goes_on = c.completes; cut = refl; marked = refl }
+end_completion level stack c = record { tree = End; after = c.tokens; later = c.starts; spellable = (tt, tt); goes_on = c.completes; cut = refl; marked = refl }
 
 pub completion : (stack : List Symbol) → Completion stack
 completion [] = record { tokens = []; starts = []; completes = (refl, refl) }
@@ -296,7 +296,7 @@ completion (Exchange level ∷ stack) =
     }
 completion (Others level ∷ stack) =
     let c = completion stack in
-    record { tokens = codes "}" ∷ c.tokens; starts = None ∷ c.starts; completes = record { branches = NoMore; after = c.tokens; later = c.starts; spellable = tt; goes_on = c.completes; cut = refl; marked = refl } }
+    record { tokens = codes "}" ∷ c.tokens; starts = None ∷ c.starts; completes = record { branches = NoMore; after = c.tokens; later = c.starts; spellable = (tt, tt); goes_on = c.completes; cut = refl; marked = refl } }
 
 -- ---- the first stack stands for the protocols
 

@@ -43,18 +43,18 @@ mutual
   pub before_is : (tree : GlobalType) (rest : List (List ℕ)) → IsSpellable tree → tokens_before tree rest ≡ global_tokens tree ++ rest
   before_is End rest s = refl
   before_is (Var name) rest s = refl
-  before_is (Rec name body) rest s = ap (λ (ts : List (List ℕ)). codes "rec" ∷ name ∷ codes "." ∷ ts) (before_is body rest s.1)
+  before_is (Rec name body) rest s = ap (λ (ts : List (List ℕ)). codes "rec" ∷ name ∷ codes "." ∷ ts) (before_is body rest (s.0.1, s.1))
   before_is (Message sender receiver sort next) rest s =
-      ap (λ (ts : List (List ℕ)). sender ∷ codes "->" ∷ receiver ∷ codes ":" ∷ sort_word sort ∷ codes "." ∷ ts) (before_is next rest s.2)
+      ap (λ (ts : List (List ℕ)). sender ∷ codes "->" ∷ receiver ∷ codes ":" ∷ sort_word sort ∷ codes "." ∷ ts) (before_is next rest (s.0.2, s.1))
   before_is (Choice sender receiver branches) rest s =
       ap (λ (ts : List (List ℕ)). sender ∷ codes "->" ∷ receiver ∷ ts)
-      (all_before_is branches (codes "{") rest s.2 s.3
+      (all_before_is branches (codes "{") rest s.1.0 (s.0.2, s.1.1)
       ∙ ap (λ (ts : List (List ℕ)). codes "{" ∷ ts) (sym (append_assoc (branch_tokens branches) (codes "}" ∷ []) rest)))
 
   all_before_is : (branches : Branches) (sep : List ℕ) (rest : List (List ℕ)) → HasBranch branches → AreSpellable branches → branches_before sep branches rest ≡ sep ∷ branch_tokens branches ++ codes "}" ∷ rest
   all_before_is NoMore sep rest some s = absurd some
   all_before_is (More label next others) sep rest some s =
-      branches_are label next others sep rest (λ tokens. before_is next tokens s.1) (λ more. all_before_is others (codes ",") rest more s.2)
+      branches_are label next others sep rest (λ tokens. before_is next tokens (s.0.1, s.1.0)) (λ more. all_before_is others (codes ",") rest more (s.0.2, s.1.1))
 
 branch_starts_are : (label : List ℕ) (next : GlobalType) (others : Branches) (level : ℕ) (later : List (Option ℕ)) → ((starts : List (Option ℕ)) → starts_before level next starts ≡ node_starts level next ++ starts) → (HasBranch others → branch_starts_before level others later ≡ None ∷ branch_starts level others ++ None ∷ later) → branch_starts_before level (More label next others) later ≡ None ∷ branch_starts level (More label next others) ++ None ∷ later
 branch_starts_are label next NoMore level later one more = ap (λ (st : List (Option ℕ)). None ∷ None ∷ None ∷ st) (one (None ∷ later))
@@ -68,18 +68,18 @@ mutual
   pub starts_are : (tree : GlobalType) (level : ℕ) (later : List (Option ℕ)) → IsSpellable tree → starts_before level tree later ≡ node_starts level tree ++ later
   starts_are End level later s = refl
   starts_are (Var name) level later s = refl
-  starts_are (Rec name body) level later s = ap (λ (st : List (Option ℕ)). Some level ∷ None ∷ None ∷ st) (starts_are body (level + 1) later s.1)
+  starts_are (Rec name body) level later s = ap (λ (st : List (Option ℕ)). Some level ∷ None ∷ None ∷ st) (starts_are body (level + 1) later (s.0.1, s.1))
   starts_are (Message sender receiver sort next) level later s =
-      ap (λ (st : List (Option ℕ)). Some level ∷ None ∷ None ∷ None ∷ None ∷ None ∷ st) (starts_are next (level + 1) later s.2)
+      ap (λ (st : List (Option ℕ)). Some level ∷ None ∷ None ∷ None ∷ None ∷ None ∷ st) (starts_are next (level + 1) later (s.0.2, s.1))
   starts_are (Choice sender receiver branches) level later s =
       ap (λ (st : List (Option ℕ)). Some level ∷ None ∷ None ∷ st)
-      (all_starts_are branches (level + 1) later s.2 s.3
+      (all_starts_are branches (level + 1) later s.1.0 (s.0.2, s.1.1)
       ∙ ap (λ (st : List (Option ℕ)). None ∷ st) (sym (append_assoc (branch_starts (level + 1) branches) (None ∷ []) later)))
 
   all_starts_are : (branches : Branches) (level : ℕ) (later : List (Option ℕ)) → HasBranch branches → AreSpellable branches → branch_starts_before level branches later ≡ None ∷ branch_starts level branches ++ None ∷ later
   all_starts_are NoMore level later some s = absurd some
   all_starts_are (More label next others) level later some s =
-      branch_starts_are label next others level later (λ starts. starts_are next level starts s.1) (λ more. all_starts_are others level later more s.2)
+      branch_starts_are label next others level later (λ starts. starts_are next level starts (s.0.1, s.1.0)) (λ more. all_starts_are others level later more (s.0.2, s.1.1))
 
 -- ---- driven by a tree
 
@@ -118,7 +118,7 @@ variable_step name h = rw (is_variable_of name h) refl
 mutual
   pub drives_tree : (tree : GlobalType) (level : ℕ) (stack to : List Symbol) (tokens : List (List ℕ)) (starts : List (Option ℕ)) → IsSpellable tree → Drives stack tokens to starts → Drives (Node level ∷ stack) (tokens_before tree tokens) to (starts_before level tree starts)
   drives_tree End level stack to tokens starts s d = drives_more (Node level) stack [] to (codes "end") tokens starts (ap (begun level) (first_again firsts.End tt)) d
-  drives_tree (Var name) level stack to tokens starts s d = drives_more (Node level) stack [] to name tokens starts (ap (begun level) (first_again (firsts.Var name) s)) d
+  drives_tree (Var name) level stack to tokens starts s d = drives_more (Node level) stack [] to name tokens starts (ap (begun level) (first_again (firsts.Var name) s.0)) d
   drives_tree (Rec name body) level stack to tokens starts s d = (
     AVariable ∷ Token (codes ".") ∷ Node (level + 1) ∷ [],
     ap (begun level) (first_again firsts.Rec tt),
@@ -126,16 +126,16 @@ mutual
     refl,
     (
       [],
-      variable_step name s.0,
+      variable_step name s.0.0,
       None ∷ starts_before (level + 1) body starts,
       refl,
-      ([], refl, starts_before (level + 1) body starts, refl, drives_tree body (level + 1) stack to tokens starts s.1 d),
+      ([], refl, starts_before (level + 1) body starts, refl, drives_tree body (level + 1) stack to tokens starts (s.0.1, s.1) d),
     ),
   )
   drives_tree (Message sender receiver sort next) level stack to tokens starts s d =
       let later = starts_before (level + 1) next starts in (
         Token (codes "->") ∷ AName ∷ Exchange (level + 1) ∷ [],
-        ap (begun level) (first_again (firsts.Sender sender) s.0),
+        ap (begun level) (first_again (firsts.Sender sender) s.0.0),
         None ∷ None ∷ None ∷ None ∷ None ∷ later,
         refl,
         (
@@ -145,7 +145,7 @@ mutual
           refl,
           (
             [],
-            name_step receiver s.1,
+            name_step receiver s.0.1,
             None ∷ None ∷ None ∷ later,
             refl,
             (
@@ -158,7 +158,7 @@ mutual
                 ap named (sort_again sort),
                 None ∷ later,
                 refl,
-                ([], refl, later, refl, drives_tree next (level + 1) stack to tokens starts s.2 d),
+                ([], refl, later, refl, drives_tree next (level + 1) stack to tokens starts (s.0.2, s.1) d),
               ),
             ),
           ),
@@ -167,7 +167,7 @@ mutual
   drives_tree (Choice sender receiver branches) level stack to tokens starts s d =
       let later = branch_starts_before (level + 1) branches starts in (
         Token (codes "->") ∷ AName ∷ Exchange (level + 1) ∷ [],
-        ap (begun level) (first_again (firsts.Sender sender) s.0),
+        ap (begun level) (first_again (firsts.Sender sender) s.0.0),
         None ∷ None ∷ later,
         refl,
         (
@@ -177,10 +177,10 @@ mutual
           refl,
           (
             [],
-            name_step receiver s.1,
+            name_step receiver s.0.1,
             later,
             refl,
-            drives_branches branches (Exchange (level + 1)) (level + 1) (codes "{") stack to tokens starts (brace_step (level + 1)) refl (closes_some (Exchange (level + 1)) branches s.2) s.3 d,
+            drives_branches branches (Exchange (level + 1)) (level + 1) (codes "{") stack to tokens starts (brace_step (level + 1)) refl (closes_some (Exchange (level + 1)) branches s.1.0) (s.0.2, s.1.1) d,
           ),
         ),
       )
@@ -196,7 +196,7 @@ mutual
         ap (λ (m : Option ℕ). m ∷ None ∷ None ∷ later) (sym plain),
         (
           [],
-          name_step label s.0,
+          name_step label s.0.0,
           None ∷ later,
           refl,
           (
@@ -204,8 +204,8 @@ mutual
             refl,
             later,
             refl,
-            drives_tree next level (Others level ∷ stack) to (branches_before (codes ",") others tokens) rest s.1
-                (drives_branches others (Others level) level (codes ",") stack to tokens starts (comma_step level) refl (others_close level others) s.2 d),
+            drives_tree next level (Others level ∷ stack) to (branches_before (codes ",") others tokens) rest (s.0.1, s.1.0)
+                (drives_branches others (Others level) level (codes ",") stack to tokens starts (comma_step level) refl (others_close level others) (s.0.2, s.1.1) d),
           ),
         ),
       )

@@ -13,9 +13,9 @@ use Rattle.mps_base.proofs.Spaced.{written_parts, written_all}
 use Rattle.mps_global.specs.Global.{GlobalType, Branches, End, Var, Rec, Message, Choice, NoMore, More}
 use Rattle.mps_text.specs.Tokens.{is_blank, is_word_byte, first_is, IsWord, punctuation, IsTokenBefore, BeginsAll, AreTokensOf}
 use Rattle.mps_base.specs.Sorts.{sort_word}
-use Rattle.mps_text.specs.Grammar.{global_tokens, branch_tokens, protocol_tokens, protocol_text, IsSpellable, AreSpellable, SpellsText, IsWithinLimits, SpellsOnly}
+use Rattle.mps_text.specs.Grammar.{global_tokens, branch_tokens, protocol_tokens, protocol_text, IsSpellable, AreSpellable, SpellsText, IsWithinLimits, SpellsOnly, HasBranches, IsNamed}
 use Rattle.mps_text.specs.Reading.{tokens_before, branches_before}
-use Rattle.mps_text.specs.Writing.{HasBranches, HaveBranches, IsNamed, AreNamed, branches_tokens, others_tokens, todo_tokens, todo_weight, IsTodoNamed, left_tokens, left_weight}
+use Rattle.mps_text.specs.Writing.{branches_tokens, others_tokens, todo_tokens, todo_weight, IsTodoNamed, left_tokens, left_weight}
 use Rattle.mps_text.specs.declared.writing.Todo.{Todo}
 use Rattle.mps_text.proofs.Trees.{before_is}
 use Rattle.mps_text.proofs.OneTree.{one_protocol}
@@ -54,18 +54,6 @@ branches_more label next (More second then others) left =
     ∙ append_assoc (global_tokens next) (others_tokens more) left)
 
 -- ---- the whole
-
-mutual
-  pub spellable : (tree : GlobalType) → IsNamed tree → HasBranches tree → IsSpellable tree
-  spellable End n h = tt
-  spellable (Var name) n h = n
-  spellable (Rec name body) n h = (n.0, spellable body n.1 h)
-  spellable (Message sender receiver sort next) n h = (n.0, n.1, spellable next n.2 h)
-  spellable (Choice sender receiver branches) n h = (n.0, n.1, h.0, all_spellable branches n.2 h.1)
-
-  all_spellable : (branches : Branches) → AreNamed branches → HaveBranches branches → AreSpellable branches
-  all_spellable NoMore n h = tt
-  all_spellable (More label next others) n h = (n.0, spellable next n.1 h.0, all_spellable others n.2 h.1)
 
 -- what stands behind one space or at the end
 abbrev IsSpacing : List ℕ → Type 0
@@ -113,21 +101,21 @@ names_tokens (name ∷ names) h = (a_name name h.0, names_tokens names h.1)
 mutual
   tokens_of : (tree : GlobalType) (rest : List (List ℕ)) → IsSpellable tree → AllByRecursion IsToken rest → AllByRecursion IsToken (tokens_before tree rest)
   tokens_of End rest s r = (reserved (codes "end") refl, r)
-  tokens_of (Var name) rest s r = (inr (inr (inr s)), r)
-  tokens_of (Rec name body) rest s r = (reserved (codes "rec") refl, (inr (inr (inr s.0)), (inl refl, tokens_of body rest s.1 r)))
+  tokens_of (Var name) rest s r = (inr (inr (inr s.0)), r)
+  tokens_of (Rec name body) rest s r = (reserved (codes "rec") refl, (inr (inr (inr s.0.0)), (inl refl, tokens_of body rest (s.0.1, s.1) r)))
   tokens_of (Message sender receiver sort next) rest s r =
-      (a_name sender s.0, (inl refl, (a_name receiver s.1, (inl refl, (sort_token sort, (inl refl, tokens_of next rest s.2 r))))))
+      (a_name sender s.0.0, (inl refl, (a_name receiver s.0.1, (inl refl, (sort_token sort, (inl refl, tokens_of next rest (s.0.2, s.1) r))))))
   tokens_of (Choice sender receiver branches) rest s r =
-      (a_name sender s.0, (inl refl, (a_name receiver s.1, tokens_of_branches (codes "{") branches rest (inl refl) s.3 r)))
+      (a_name sender s.0.0, (inl refl, (a_name receiver s.0.1, tokens_of_branches (codes "{") branches rest (inl refl) (s.0.2, s.1.1) r)))
 
   tokens_of_branches : (sep : List ℕ) (branches : Branches) (rest : List (List ℕ)) → IsToken sep → AreSpellable branches → AllByRecursion IsToken rest → AllByRecursion IsToken (branches_before sep branches rest)
   tokens_of_branches sep NoMore rest is s r = (inl refl, r)
   tokens_of_branches sep (More label next others) rest is s r =
-      (is, (a_name label s.0, (inl refl, tokens_of next (branches_before (codes ",") others rest) s.1 (tokens_of_branches (codes ",") others rest (inl refl) s.2 r))))
+      (is, (a_name label s.0.0, (inl refl, tokens_of next (branches_before (codes ",") others rest) (s.0.1, s.1.0) (tokens_of_branches (codes ",") others rest (inl refl) (s.0.2, s.1.1) r))))
 
 pub written_spells : (roles : List (List ℕ)) (tree : GlobalType) → AllByRecursion IsName roles → HasRoleCount roles → IsNamed tree → HasBranches tree → SpellsText (protocol_text roles tree) roles tree
 written_spells roles tree names count n h =
-    let s = spellable tree n h in
+    let s : IsSpellable tree = (n, h) in
     let alone : tokens_before tree [] ≡ global_tokens tree = before_is tree [] s ∙ append-nil (global_tokens tree) in
     let body : AllByRecursion IsToken (global_tokens tree) = subst (AllByRecursion IsToken) alone (tokens_of tree [] s tt) in
     let behind = all_append roles (codes ";" ∷ global_tokens tree) (names_tokens roles names) (inl refl, body) in
@@ -148,7 +136,7 @@ written_is out one two three four roles tree a b c d e =
     all ∙ written_all (codes "roles") (roles ++ codes ";" ∷ global_tokens tree) (omega arith)
 
 -- what is written within the limits is read back
-pub written_reads : (roles : List (List ℕ)) (tree : GlobalType) → AllByRecursion IsName roles → HasRoleCount roles → IsNamed tree → HasBranches tree → IsWithinLimits (protocol_text roles tree) tree → SpellsOnly (protocol_text roles tree) roles tree
-written_reads roles tree names count named branches limits =
-    let s = written_spells roles tree names count named branches in
+pub written_reads : (roles : List (List ℕ)) (tree : GlobalType) → AllByRecursion IsName roles → HasRoleCount roles → IsSpellable tree → IsWithinLimits (protocol_text roles tree) tree → SpellsOnly (protocol_text roles tree) roles tree
+written_reads roles tree names count body limits =
+    let s = written_spells roles tree names count body.0 body.1 in
     record { limits = limits; spelled = s; only = λ r t other. one_protocol (protocol_text roles tree) r roles t tree other s }

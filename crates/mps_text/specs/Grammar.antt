@@ -35,18 +35,40 @@ HasBranch NoMore = ⊥
 HasBranch (More label next others) = ⊤
 
 abbrev mutual
-  -- roles and labels are names, variables are variables, and each choice has a branch
-  pub IsSpellable : GlobalType → Type 0
-  IsSpellable End = ⊤
-  IsSpellable (Var name) = IsVariable name
-  IsSpellable (Rec name body) = IsVariable name × IsSpellable body
-  IsSpellable (Message sender receiver sort next) = IsName sender × IsName receiver × IsSpellable next
-  IsSpellable (Choice sender receiver branches) = IsName sender × IsName receiver × HasBranch branches × AreSpellable branches
+  -- each choice has a branch
+  pub HasBranches : GlobalType → Type 0
+  HasBranches End = ⊤
+  HasBranches (Var name) = ⊤
+  HasBranches (Rec name body) = HasBranches body
+  HasBranches (Message sender receiver sort next) = HasBranches next
+  HasBranches (Choice sender receiver branches) = HasBranch branches × HaveBranches branches
 
   -- the same of what the branches hold
-  pub AreSpellable : Branches → Type 0
-  AreSpellable NoMore = ⊤
-  AreSpellable (More label next others) = IsName label × IsSpellable next × AreSpellable others
+  pub HaveBranches : Branches → Type 0
+  HaveBranches NoMore = ⊤
+  HaveBranches (More label next others) = HasBranches next × HaveBranches others
+
+abbrev mutual
+  -- roles and labels are names, and variables are variables
+  pub IsNamed : GlobalType → Type 0
+  IsNamed End = ⊤
+  IsNamed (Var name) = IsVariable name
+  IsNamed (Rec name body) = IsVariable name × IsNamed body
+  IsNamed (Message sender receiver sort next) = IsName sender × IsName receiver × IsNamed next
+  IsNamed (Choice sender receiver branches) = IsName sender × IsName receiver × AreNamed branches
+
+  -- the same of what the branches hold
+  pub AreNamed : Branches → Type 0
+  AreNamed NoMore = ⊤
+  AreNamed (More label next others) = IsName label × IsNamed next × AreNamed others
+
+-- what the text of a protocol can say: names are names, and each choice has a branch
+abbrev pub IsSpellable : GlobalType → Type 0
+IsSpellable tree = IsNamed tree × HasBranches tree
+
+-- the same of branches
+abbrev pub AreSpellable : Branches → Type 0
+AreSpellable branches = AreNamed branches × HaveBranches branches
 
 -- the tokens of a protocol: `roles`, the roles, `;` and a global type
 abbrev pub protocol_tokens : List (List ℕ) → GlobalType → List (List ℕ)

@@ -1,39 +1,10 @@
 -- What a protocol is written from.
-use Rattle.std.specs.Prelude.{ℕ, ◌+◌, ⊤, List, [], ◌∷◌, ◌++◌, codes}
-use Rattle.mps_base.specs.Names.{IsName, IsVariable}
-use Rattle.mps_global.specs.Global.{GlobalType, Branches, End, Var, Rec, Message, Choice, NoMore, More, plain, plain_branches}
+use Rattle.std.specs.Prelude.{ℕ, ◌+◌, List, [], ◌∷◌, ◌++◌, codes}
+use Rattle.mps_global.specs.Global.{Branches, NoMore, More, plain, plain_branches}
 use Rattle.mps_global.specs.Weights.{weight, branch_weight}
-use Rattle.mps_text.specs.Grammar.{global_tokens, branch_tokens, HasBranch}
+use Rattle.mps_text.specs.Grammar.{global_tokens, branch_tokens, IsNamed, AreNamed}
 use Rattle.mps_text.specs.declared.writing.Todo.{Todo}
 use Rattle.mps_text.specs.declared.writing.Todo.TheVariants as todos
-
-abbrev mutual
-  -- each choice has a branch
-  pub HasBranches : GlobalType → Type 0
-  HasBranches End = ⊤
-  HasBranches (Var name) = ⊤
-  HasBranches (Rec name body) = HasBranches body
-  HasBranches (Message sender receiver sort next) = HasBranches next
-  HasBranches (Choice sender receiver branches) = HasBranch branches × HaveBranches branches
-
-  -- the same of what the branches hold
-  pub HaveBranches : Branches → Type 0
-  HaveBranches NoMore = ⊤
-  HaveBranches (More label next others) = HasBranches next × HaveBranches others
-
-abbrev mutual
-  -- roles and labels are names, and variables are variables
-  pub IsNamed : GlobalType → Type 0
-  IsNamed End = ⊤
-  IsNamed (Var name) = IsVariable name
-  IsNamed (Rec name body) = IsVariable name × IsNamed body
-  IsNamed (Message sender receiver sort next) = IsName sender × IsName receiver × IsNamed next
-  IsNamed (Choice sender receiver branches) = IsName sender × IsName receiver × AreNamed branches
-
-  -- the same of what the branches hold
-  pub AreNamed : Branches → Type 0
-  AreNamed NoMore = ⊤
-  AreNamed (More label next others) = IsName label × IsNamed next × AreNamed others
 
 -- the tokens behind `{`
 abbrev pub branches_tokens : Branches → List (List ℕ)

@@ -7,7 +7,8 @@ ghost use Rattle.mps_base.specs.Spaced.{with_token, with_tokens};
 ghost use Rattle.mps_global.specs.Global.{GlobalType, plain, plain_branches};
 ghost use Rattle.mps_global.specs.Weights.{weight, branch_weight};
 ghost use Rattle.mps_text.specs.Grammar.{global_tokens, protocol_text, IsWithinLimits, SpellsText, SpellsOnly};
-ghost use Rattle.mps_text.specs.Writing.{HasBranches, IsNamed, AreNamed, IsTodoNamed};
+ghost use Rattle.mps_text.specs.Grammar.{HasBranches, IsSpellable, IsNamed, AreNamed};
+ghost use Rattle.mps_text.specs.Writing.{IsTodoNamed};
 ghost use Rattle.mps_text.specs.Writing.{todo_tokens, todo_weight, left_tokens, left_weight, branches_tokens, others_tokens};
 
 use mps_base::{Name, push_token};
@@ -36,8 +37,7 @@ pub fn write_protocol(alloc: alloc::Global, protocol: &Protocol) -> Result<Vec<u
 /// that `read_protocol` gives it (`only`).
 pub fn written_reads()
     ensures { (roles : List (List ℕ)) (tree : GlobalType) → AllByRecursion IsName roles
-        → HasRoleCount roles → IsNamed tree → HasBranches tree
-        → IsWithinLimits (protocol_text roles tree) tree
+        → HasRoleCount roles → IsSpellable tree → IsWithinLimits (protocol_text roles tree) tree
         → SpellsOnly (protocol_text roles tree) roles tree }
 {}
 
