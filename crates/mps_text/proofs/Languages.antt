@@ -10,8 +10,9 @@ use Rattle.mps_base.specs.declared.value.Sort.{Sort}
 use Rattle.mps_base.specs.declared.value.Sort.TheVariants.{Int}
 use Rattle.mps_global.specs.Global.{GlobalType, Branches, End, Var, Rec, Message, Choice, NoMore, More}
 use Rattle.mps_base.specs.Sorts.{sort_word}
-use Rattle.mps_text.specs.Grammar.{global_tokens, HasBranch, IsSpellable, AreSpellable, SpellsProtocol}
-use Rattle.mps_text.specs.Faults.{node_starts, no_starts, protocol_starts}
+use Rattle.mps_text.specs.Grammar.{HasBranch, IsSpellable, AreSpellable, SpellsProtocol}
+use Rattle.mps_text.specs.Writing.{global_tokens}
+use Rattle.mps_text.specs.Faults.{protocol_starts}
 use Rattle.mps_text.specs.Lexing.{is_name, is_variable}
 use Rattle.mps_text.specs.Reading.{Symbol, Token, AName, AVariable, ASort, Roles, Node, Exchange, Others, branch, behind_first, begun, named, exchanged, followed, first_of, first_token, IsFirst, sort_of, which, step, start_of, whole, tokens_before, branches_before}
 use Rattle.mps_text.specs.declared.reading.First.{First}
@@ -19,7 +20,7 @@ use Rattle.mps_text.specs.declared.reading.First.TheVariants as firsts
 use Rattle.mps_text.proofs.Names.{both_true, name_is, variable_is}
 use Rattle.mps_text.proofs.Tokens.{chosen, some_is, only_if, same_token, which_is, sort_is, first_is}
 use Rattle.mps_text.proofs.Machine.{Drives}
-use Rattle.mps_text.proofs.Trees.{starts_before, branch_starts_before, before_is, starts_are}
+use Rattle.mps_text.proofs.Trees.{node_starts, no_starts, protocol_tokens_are, protocol_starts_are, starts_before, branch_starts_before, before_is, starts_are}
 
 -- tokens, with the nodes that they begin
 abbrev pub Language : Type 1
@@ -316,9 +317,12 @@ whole_protocol tokens starts a =
     let none = g.goes_on in
     let text : tokens_before g.tree g.after ≡ global_tokens g.tree = ap (tokens_before g.tree) none.0 ∙ before_is g.tree [] g.spellable ∙ append-nil (global_tokens g.tree) in
     let nodes : starts_before 1 g.tree g.later ≡ node_starts 1 g.tree = ap (starts_before 1 g.tree) none.1 ∙ starts_are g.tree 1 [] g.spellable ∙ append-nil (node_starts 1 g.tree) in
+    let names = b.token ∷ c.token ∷ r.names in
+    let all_tokens = protocol_tokens_are names g.tree in
+    let all_starts = protocol_starts_are names g.tree in
     record {
       roles = b.token ∷ c.token ∷ r.names;
       tree = g.tree;
-      spelled = record { names = (b.is, (c.is, r.are)); count = record { some = omega arith; few = omega arith }; body = g.spellable; parts = cc (a.cut, a.is, b.cut, c.cut, r.cut, g.cut, text) };
-      nodes = cc (a.marked, b.marked, c.marked, r.marked, g.marked, nodes);
+      spelled = record { names = (b.is, (c.is, r.are)); count = record { some = omega arith; few = omega arith }; body = g.spellable; parts = cc (a.cut, a.is, b.cut, c.cut, r.cut, g.cut, text, all_tokens) };
+      nodes = cc (a.marked, b.marked, c.marked, r.marked, g.marked, nodes, all_starts);
     }

@@ -10,14 +10,15 @@ use Rattle.mps_base.specs.declared.value.Sort.{Sort}
 use Rattle.mps_global.specs.Global.{GlobalType, Branches, End, Var, Rec, Message, Choice, NoMore, More}
 use Rattle.mps_text.specs.Tokens.{is_blank, BeginsAll}
 use Rattle.mps_base.specs.Sorts.{sort_word}
-use Rattle.mps_text.specs.Grammar.{global_tokens, HasBranch, IsSpellable, AreSpellable, SpellsProtocol, SpellsText}
+use Rattle.mps_text.specs.Grammar.{HasBranch, IsSpellable, AreSpellable, SpellsProtocol, SpellsText}
+use Rattle.mps_text.specs.Writing.{global_tokens}
 use Rattle.mps_text.specs.Lexing.{lexed, tokens_in, is_name}
 use Rattle.mps_text.specs.Reading.{first_of, first_token, IsFirst, sort_of, tokens_before, branches_before}
 use Rattle.mps_text.specs.declared.reading.First.{First}
 use Rattle.mps_text.specs.declared.reading.First.TheVariants as firsts
 use Rattle.mps_text.proofs.Names.{is_name_of}
 use Rattle.mps_text.proofs.Tokens.{some_is, sort_again, first_again}
-use Rattle.mps_text.proofs.Trees.{before_is}
+use Rattle.mps_text.proofs.Trees.{before_is, protocol_tokens_are}
 use Rattle.mps_text.proofs.Cuts.{lexed_token, lexed_blanks}
 
 -- ---- the first token
@@ -155,7 +156,7 @@ alone tree s = before_is tree [] s ∙ append-nil (global_tokens tree)
 
 pub same_protocol : (tokens r s : List (List ℕ)) (t u : GlobalType) → SpellsProtocol tokens r t → SpellsProtocol tokens s u → (r ≡ s) × (t ≡ u)
 same_protocol tokens r s t u p q =
-    let behind = (same_cons (codes "roles") (codes "roles") (r ++ codes ";" ∷ global_tokens t) (s ++ codes ";" ∷ global_tokens u) (sym p.parts ∙ q.parts)).1 in
+    let behind = (same_cons (codes "roles") (codes "roles") (r ++ codes ";" ∷ global_tokens t) (s ++ codes ";" ∷ global_tokens u) (sym (p.parts ∙ protocol_tokens_are r t) ∙ q.parts ∙ protocol_tokens_are s u)).1 in
     let roles = same_roles r s (global_tokens t) (global_tokens u) p.names q.names behind in
     let trees = same_tree t u [] [] p.body q.body (alone t p.body ∙ roles.1 ∙ sym (alone u q.body)) in
     (roles.0, trees.0)

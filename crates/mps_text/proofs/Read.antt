@@ -1,5 +1,5 @@
 -- What the reader took is spelled so, and each text spells a protocol or has a fault.
-use Rattle.std.proofs.Common.{◌≡◌, ℕ, ◌-◌, ◌≤◌, ◌⊎◌, inl, inr, List, [], ◌∷◌, ◌++◌, length, Result, Ok, Err, refl, ap, subst, ◌∙◌}
+use Rattle.std.proofs.Common.{◌≡◌, ℕ, ◌-◌, ◌≤◌, ◌⊎◌, inl, inr, List, [], ◌∷◌, ◌++◌, length, Result, Ok, Err, refl, ap, sym, subst, ◌∙◌}
 use Rattle.std.specs.Prelude.{codes}
 use Rattle.std.specs.List.{AllByRecursion}
 use Rattle.std.proofs.lemmas.Bool.{cases_lt}
@@ -7,13 +7,14 @@ use Rattle.std.proofs.lemmas.List.{append-nil}
 use Rattle.mps_base.specs.Names.{IsName}
 use Rattle.mps_base.specs.RoleLists.{HasRoleCount}
 use Rattle.mps_global.specs.Global.{GlobalType}
-use Rattle.mps_text.specs.Grammar.{global_tokens, protocol_tokens, IsSpellable, SpellsProtocol, SpellsText, IsWithinLimits}
+use Rattle.mps_text.specs.Grammar.{protocol_tokens, IsSpellable, SpellsProtocol, SpellsText, IsWithinLimits}
 use Rattle.mps_text.specs.Faults.{protocol_starts, AreWithin, HasProtocol, HasFault}
 use Rattle.mps_text.specs.declared.fault.TextKind.TheVariants.{TooLong}
+use Rattle.mps_text.specs.Writing.{global_tokens}
 use Rattle.mps_text.specs.Lexing.{Fault, lexed, tokens_in}
 use Rattle.mps_text.specs.Reading.{run, whole, tokens_before}
 use Rattle.mps_text.proofs.Machine.{drives_one}
-use Rattle.mps_text.proofs.Trees.{before_is, drives_whole}
+use Rattle.mps_text.proofs.Trees.{before_is, protocol_tokens_are, drives_whole}
 use Rattle.mps_text.proofs.Limits.{within_protocol}
 use Rattle.mps_text.proofs.Cuts.{text_cut}
 use Rattle.mps_text.proofs.Runs.{Passed, run_passes}
@@ -33,7 +34,7 @@ pub taken : (text : List ℕ) (roles : List (List ℕ)) (tree : GlobalType) → 
 taken text roles tree short h tokens names count body =
     let w = run_passes (lexed text) whole 256 text (text_cut text) h in
     let alone : tokens_before tree [] ≡ global_tokens tree = before_is tree [] body ∙ append-nil (global_tokens tree) in
-    let parts : tokens_in (lexed text) ≡ protocol_tokens roles tree = tokens ∙ ap (λ (ts : List (List ℕ)). codes "roles" ∷ roles ++ codes ";" ∷ ts) alone in
+    let parts : tokens_in (lexed text) ≡ protocol_tokens roles tree = tokens ∙ ap (λ (ts : List (List ℕ)). codes "roles" ∷ roles ++ codes ";" ∷ ts) alone ∙ sym (protocol_tokens_are roles tree) in
     let s : SpellsProtocol (tokens_in (lexed text)) roles tree = record { names = names; count = count; body = body; parts = parts } in
     passed text roles tree short w s
 

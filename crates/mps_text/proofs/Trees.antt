@@ -1,19 +1,97 @@
 -- The tokens of a tree, and how they drive a stack on.
-use Rattle.std.proofs.Common.{◌≡◌, ℕ, ◌+◌, ◌-◌, ◌≤◌, true, nat_lt, List, [], ◌∷◌, ◌++◌, length, Option, Some, None, refl, ap, sym, ◌∙◌, append_assoc, arith}
+use Rattle.std.proofs.Common.{◌≡◌, ℕ, ◌+◌, ◌-◌, ◌≤◌, true, nat_lt, List, [], ◌∷◌, ◌++◌, length, Option, Some, None, refl, ap, sym, subst, ◌∙◌, append_assoc, map, arith}
 use Rattle.std.specs.Prelude.{codes, ⊤}
 use Rattle.std.specs.List.{AllByRecursion}
 use Rattle.std.proofs.lemmas.Bool.Decides.{nat_tests}
-use Rattle.std.proofs.lemmas.List.{append-nil}
+use Rattle.std.proofs.lemmas.List.{append-nil, map-append}
 use Rattle.mps_base.specs.Names.{IsName, IsVariable}
 use Rattle.mps_global.specs.Global.{GlobalType, Branches, End, Var, Rec, Message, Choice, NoMore, More}
 use Rattle.mps_base.specs.Sorts.{sort_word}
-use Rattle.mps_text.specs.Grammar.{global_tokens, branch_tokens, HasBranch, IsSpellable, AreSpellable, SpellsProtocol, protocol_tokens}
-use Rattle.mps_text.specs.Faults.{node_starts, branch_starts, no_starts, protocol_starts}
+use Rattle.mps_text.specs.Grammar.{Part, inside, node_parts, branch_parts, HasBranch, IsSpellable, AreSpellable, SpellsProtocol, protocol_tokens}
+use Rattle.mps_text.specs.Writing.{global_tokens, branch_tokens}
+use Rattle.mps_text.specs.Faults.{protocol_starts}
 use Rattle.mps_text.specs.Reading.{Symbol, Token, AName, AVariable, ASort, Roles, Node, Exchange, Others, branch, step, start_of, begun, named, which, whole, tokens_before, branches_before}
 use Rattle.mps_text.specs.declared.reading.First.TheVariants as firsts
 use Rattle.mps_text.proofs.Names.{is_name_of, is_variable_of}
 use Rattle.mps_text.proofs.Tokens.{name_apart, sort_again, first_again}
 use Rattle.mps_text.proofs.Machine.{Drives, drives_more}
+
+-- ---- the tokens, and the nodes that they begin, of parts
+
+abbrev tokens_in_parts : List Part → List (List ℕ)
+tokens_in_parts parts = map (λ part. part.0) parts
+
+abbrev starts_in_parts : List Part → List (Option ℕ)
+starts_in_parts parts = map (λ part. part.1) parts
+
+abbrev pub node_starts : ℕ → GlobalType → List (Option ℕ)
+node_starts level tree = starts_in_parts (node_parts level tree)
+
+abbrev branch_starts : ℕ → Branches → List (Option ℕ)
+branch_starts level branches = starts_in_parts (branch_parts level branches)
+
+-- for tokens that begin no node
+abbrev pub no_starts : List (List ℕ) → List (Option ℕ)
+no_starts [] = []
+no_starts (token ∷ tokens) = None ∷ no_starts tokens
+
+mutual
+  tokens_are : (level : ℕ) (tree : GlobalType) → tokens_in_parts (node_parts level tree) ≡ global_tokens tree
+  tokens_are level End = refl
+  tokens_are level (Var name) = refl
+  tokens_are level (Rec name body) = ap (λ (ts : List (List ℕ)). codes "rec" ∷ name ∷ codes "." ∷ ts) (tokens_are (level + 1) body)
+  tokens_are level (Message sender receiver sort next) =
+      ap (λ (ts : List (List ℕ)). sender ∷ codes "->" ∷ receiver ∷ codes ":" ∷ sort_word sort ∷ codes "." ∷ ts) (tokens_are (level + 1) next)
+  tokens_are level (Choice sender receiver branches) =
+      ap (λ (ts : List (List ℕ)). sender ∷ codes "->" ∷ receiver ∷ codes "{" ∷ ts)
+      (map-append (λ (part : Part). part.0) (branch_parts (level + 1) branches) (inside (codes "}" ∷ []))
+      ∙ ap (λ (ts : List (List ℕ)). ts ++ codes "}" ∷ []) (branch_tokens_are (level + 1) branches))
+
+  branch_tokens_are : (level : ℕ) (branches : Branches) → tokens_in_parts (branch_parts level branches) ≡ branch_tokens branches
+  branch_tokens_are level NoMore = refl
+  branch_tokens_are level (More label next NoMore) = ap (λ (ts : List (List ℕ)). label ∷ codes ":" ∷ ts) (tokens_are level next)
+  branch_tokens_are level (More label next (More second then others)) =
+      let more = More second then others in
+      ap (λ (ts : List (List ℕ)). label ∷ codes ":" ∷ ts)
+      (map-append (λ (part : Part). part.0) (node_parts level next ++ inside (codes "," ∷ [])) (branch_parts level more)
+      ∙ ap (λ (ts : List (List ℕ)). ts ++ tokens_in_parts (branch_parts level more)) (map-append (λ (part : Part). part.0) (node_parts level next) (inside (codes "," ∷ [])))
+      ∙ append_assoc (tokens_in_parts (node_parts level next)) (codes "," ∷ []) (tokens_in_parts (branch_parts level more))
+      ∙ ap (λ (ts : List (List ℕ)). ts ++ codes "," ∷ tokens_in_parts (branch_parts level more)) (tokens_are level next)
+      ∙ ap (λ (ts : List (List ℕ)). global_tokens next ++ codes "," ∷ ts) (branch_tokens_are level (More second then others)))
+
+inside_tokens : (tokens : List (List ℕ)) → tokens_in_parts (inside tokens) ≡ tokens
+inside_tokens [] = refl
+inside_tokens (token ∷ tokens) = ap (λ (ts : List (List ℕ)). token ∷ ts) (inside_tokens tokens)
+
+inside_starts : (tokens : List (List ℕ)) → starts_in_parts (inside tokens) ≡ no_starts tokens
+inside_starts [] = refl
+inside_starts (token ∷ tokens) = ap (λ (st : List (Option ℕ)). None ∷ st) (inside_starts tokens)
+
+pub protocol_tokens_are : (roles : List (List ℕ)) (tree : GlobalType) → protocol_tokens roles tree ≡ codes "roles" ∷ roles ++ codes ";" ∷ global_tokens tree
+protocol_tokens_are roles tree =
+    ap (λ (ts : List (List ℕ)). codes "roles" ∷ ts)
+    (ap tokens_in_parts (append_assoc (inside roles) (inside (codes ";" ∷ [])) (node_parts 1 tree))
+    ∙ map-append (λ (part : Part). part.0) (inside roles) (inside (codes ";" ∷ []) ++ node_parts 1 tree)
+    ∙ ap (λ (ts : List (List ℕ)). ts ++ codes ";" ∷ tokens_in_parts (node_parts 1 tree)) (inside_tokens roles)
+    ∙ ap (λ (ts : List (List ℕ)). roles ++ codes ";" ∷ ts) (tokens_are 1 tree))
+
+pub protocol_starts_are : (roles : List (List ℕ)) (tree : GlobalType) → protocol_starts roles tree ≡ None ∷ no_starts roles ++ None ∷ node_starts 1 tree
+protocol_starts_are roles tree =
+    ap (λ (st : List (Option ℕ)). None ∷ st)
+    (ap starts_in_parts (append_assoc (inside roles) (inside (codes ";" ∷ [])) (node_parts 1 tree))
+    ∙ map-append (λ (part : Part). part.1) (inside roles) (inside (codes ";" ∷ []) ++ node_parts 1 tree)
+    ∙ ap (λ (st : List (Option ℕ)). st ++ None ∷ node_starts 1 tree) (inside_starts roles))
+
+choice_starts : (level : ℕ) (branches : Branches) → starts_in_parts (branch_parts level branches ++ inside (codes "}" ∷ [])) ≡ branch_starts level branches ++ None ∷ []
+choice_starts level branches = map-append (λ (part : Part). part.1) (branch_parts level branches) (inside (codes "}" ∷ []))
+
+more_starts : (level : ℕ) (label : List ℕ) (next : GlobalType) (second : List ℕ) (then : GlobalType) (others : Branches) → branch_starts level (More label next (More second then others)) ≡ None ∷ None ∷ (node_starts level next ++ None ∷ branch_starts level (More second then others))
+more_starts level label next second then others =
+    let more = More second then others in
+    ap (λ (st : List (Option ℕ)). None ∷ None ∷ st)
+    (map-append (λ (part : Part). part.1) (node_parts level next ++ inside (codes "," ∷ [])) (branch_parts level more)
+    ∙ ap (λ (st : List (Option ℕ)). st ++ branch_starts level more) (map-append (λ (part : Part). part.1) (node_parts level next) (inside (codes "," ∷ [])))
+    ∙ append_assoc (node_starts level next) (None ∷ []) (branch_starts level more))
 
 -- ---- with others behind
 
@@ -63,6 +141,7 @@ branch_starts_are label next (More second then others) level later one more =
     (one (branch_starts_before level (More second then others) later)
     ∙ ap (λ (st : List (Option ℕ)). node_starts level next ++ st) (more tt)
     ∙ sym (append_assoc (node_starts level next) (None ∷ branch_starts level (More second then others)) (None ∷ later)))
+    ∙ ap (λ (st : List (Option ℕ)). None ∷ st ++ None ∷ later) (sym (more_starts level label next second then others))
 
 mutual
   pub starts_are : (tree : GlobalType) (level : ℕ) (later : List (Option ℕ)) → IsSpellable tree → starts_before level tree later ≡ node_starts level tree ++ later
@@ -74,7 +153,8 @@ mutual
   starts_are (Choice sender receiver branches) level later s =
       ap (λ (st : List (Option ℕ)). Some level ∷ None ∷ None ∷ st)
       (all_starts_are branches (level + 1) later s.1.0 (s.0.2, s.1.1)
-      ∙ ap (λ (st : List (Option ℕ)). None ∷ st) (sym (append_assoc (branch_starts (level + 1) branches) (None ∷ []) later)))
+      ∙ ap (λ (st : List (Option ℕ)). None ∷ st) (sym (append_assoc (branch_starts (level + 1) branches) (None ∷ []) later))
+      ∙ ap (λ (st : List (Option ℕ)). None ∷ st ++ later) (sym (choice_starts (level + 1) branches)))
 
   all_starts_are : (branches : Branches) (level : ℕ) (later : List (Option ℕ)) → HasBranch branches → AreSpellable branches → branch_starts_before level branches later ≡ None ∷ branch_starts level branches ++ None ∷ later
   all_starts_are NoMore level later some s = absurd some
@@ -230,7 +310,10 @@ drives_heading first second more tree a b are few s =
     let body : Drives (Node 1 ∷ []) (global_tokens tree) [] (node_starts 1 tree) = rw (tokens, starts) at (drives_tree tree 1 [] [] [] [] s (refl, refl)) in
     let roles = drives_roles more 6 (Node 1 ∷ []) [] (global_tokens tree) (node_starts 1 tree) are few body in
     let later = no_starts more ++ None ∷ node_starts 1 tree in
-    ([], refl, None ∷ None ∷ later, refl, ([], name_step first a, None ∷ later, refl, ([], name_step second b, later, refl, roles)))
+    let all : Drives whole (codes "roles" ∷ first ∷ second ∷ more ++ codes ";" ∷ global_tokens tree) [] (None ∷ None ∷ None ∷ later) = ([], refl, None ∷ None ∷ later, refl, ([], name_step first a, None ∷ later, refl, ([], name_step second b, later, refl, roles))) in
+    let names = first ∷ second ∷ more in
+    let spoken : Drives whole (protocol_tokens names tree) [] (None ∷ None ∷ None ∷ later) = subst (λ (ts : List (List ℕ)). Drives whole ts [] (None ∷ None ∷ None ∷ later)) (sym (protocol_tokens_are names tree)) all in
+    subst (λ (st : List (Option ℕ)). Drives whole (protocol_tokens names tree) [] st) (sym (protocol_starts_are names tree)) spoken
 
 -- the tokens of a protocol drive it away
 pub drives_whole : (tokens roles : List (List ℕ)) (tree : GlobalType) → SpellsProtocol tokens roles tree → Drives whole tokens [] (protocol_starts roles tree)

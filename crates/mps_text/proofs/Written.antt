@@ -13,11 +13,11 @@ use Rattle.mps_base.proofs.Spaced.{written_parts, written_all}
 use Rattle.mps_global.specs.Global.{GlobalType, Branches, End, Var, Rec, Message, Choice, NoMore, More}
 use Rattle.mps_text.specs.Tokens.{is_blank, is_word_byte, first_is, IsWord, punctuation, IsTokenBefore, BeginsAll, AreTokensOf}
 use Rattle.mps_base.specs.Sorts.{sort_word}
-use Rattle.mps_text.specs.Grammar.{global_tokens, branch_tokens, protocol_tokens, protocol_text, IsSpellable, AreSpellable, SpellsText, IsWithinLimits, SpellsOnly, HasBranches, IsNamed}
+use Rattle.mps_text.specs.Grammar.{protocol_tokens, protocol_text, IsSpellable, AreSpellable, SpellsText, IsWithinLimits, SpellsOnly, HasBranches, IsNamed}
 use Rattle.mps_text.specs.Reading.{tokens_before, branches_before}
-use Rattle.mps_text.specs.Writing.{branches_tokens, others_tokens, todo_tokens, todo_weight, IsTodoNamed, left_tokens, left_weight}
+use Rattle.mps_text.specs.Writing.{global_tokens, branch_tokens, branches_tokens, others_tokens, todo_tokens, todo_weight, IsTodoNamed, left_tokens, left_weight}
 use Rattle.mps_text.specs.declared.writing.Todo.{Todo}
-use Rattle.mps_text.proofs.Trees.{before_is}
+use Rattle.mps_text.proofs.Trees.{before_is, protocol_tokens_are}
 use Rattle.mps_text.proofs.OneTree.{one_protocol}
 
 -- one more that waits
@@ -119,9 +119,10 @@ written_spells roles tree names count n h =
     let alone : tokens_before tree [] ≡ global_tokens tree = before_is tree [] s ∙ append-nil (global_tokens tree) in
     let body : AllByRecursion IsToken (global_tokens tree) = subst (AllByRecursion IsToken) alone (tokens_of tree [] s tt) in
     let behind = all_append roles (codes ";" ∷ global_tokens tree) (names_tokens roles names) (inl refl, body) in
+    let cut = spaced_tokens (codes "roles") (roles ++ codes ";" ∷ global_tokens tree) (reserved (codes "roles") refl) behind in
     record {
       tokens = protocol_tokens roles tree;
-      cut = spaced_tokens (codes "roles") (roles ++ codes ";" ∷ global_tokens tree) (reserved (codes "roles") refl) behind;
+      cut = subst (λ (ts : List (List ℕ)). AreTokensOf (spaced ts) ts) (sym (protocol_tokens_are roles tree)) cut;
       spelled = record { names = names; count = count; body = s; parts = refl };
     }
 
@@ -133,7 +134,7 @@ written_is out one two three four roles tree a b c d e =
     e ∙ ap (λ (bytes : List ℕ). with_tokens bytes (global_tokens tree)) d
     ∙ ap (λ (bytes : List ℕ). with_tokens bytes (codes ";" ∷ global_tokens tree)) (c ∙ ap (λ (bytes : List ℕ). with_tokens bytes roles) first)
     ∙ sym (written_parts (codes "roles") roles (codes ";" ∷ global_tokens tree)) in
-    all ∙ written_all (codes "roles") (roles ++ codes ";" ∷ global_tokens tree) (omega arith)
+    all ∙ written_all (codes "roles") (roles ++ codes ";" ∷ global_tokens tree) (omega arith) ∙ ap spaced (sym (protocol_tokens_are roles tree))
 
 -- what is written within the limits is read back
 pub written_reads : (roles : List (List ℕ)) (tree : GlobalType) → AllByRecursion IsName roles → HasRoleCount roles → IsSpellable tree → IsWithinLimits (protocol_text roles tree) tree → SpellsOnly (protocol_text roles tree) roles tree

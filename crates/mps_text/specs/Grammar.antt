@@ -1,5 +1,5 @@
 -- Which tokens spell a protocol.
-use Rattle.std.specs.Prelude.{◌≡◌, ℕ, ◌≤◌, ⊤, List, [], ◌∷◌, ◌++◌, length, codes, Result, Ok, Err}
+use Rattle.std.specs.Prelude.{◌≡◌, ℕ, ◌+◌, ◌≤◌, ⊤, List, [], ◌∷◌, ◌++◌, length, map, codes, Option, Some, None, Result, Ok, Err}
 use Rattle.std.specs.List.{AllByRecursion}
 use Rattle.mps_base.specs.Names.{IsName, IsVariable}
 use Rattle.mps_base.specs.RoleLists.{HasRoleCount}
@@ -12,22 +12,39 @@ use Rattle.mps_text.specs.Tokens.{AreTokensOf}
 use Rattle.mps_text.specs.declared.fault.TextFault.{TextFault}
 use Rattle.mps_text.specs.declared.fault.TextKind.TheVariants.{Memory}
 
+-- a token of a protocol, and the depth of the node that it begins, or None
+abbrev pub Part : Type 0
+Part = List ℕ × Option ℕ
+
+-- tokens that begin no node
+abbrev pub inside : List (List ℕ) → List Part
+inside tokens = map (λ token. (token, None)) tokens
+
 abbrev mutual
-  -- the tokens of a global type
-  pub global_tokens : GlobalType → List (List ℕ)
-  global_tokens End = codes "end" ∷ []
-  global_tokens (Var name) = name ∷ []
-  global_tokens (Rec name body) = codes "rec" ∷ name ∷ codes "." ∷ global_tokens body
-  global_tokens (Message sender receiver sort next) =
-      sender ∷ codes "->" ∷ receiver ∷ codes ":" ∷ sort_word sort ∷ codes "." ∷ global_tokens next
-  global_tokens (Choice sender receiver branches) =
-      sender ∷ codes "->" ∷ receiver ∷ codes "{" ∷ branch_tokens branches ++ codes "}" ∷ []
+  -- the tokens of a global type whose root has that depth; the first token of each node begins it
+  pub node_parts : ℕ → GlobalType → List Part
+  node_parts depth End = (codes "end", Some depth) ∷ []
+  node_parts depth (Var name) = (name, Some depth) ∷ []
+  node_parts depth (Rec name body) = (codes "rec", Some depth) ∷ inside (name ∷ codes "." ∷ []) ++ node_parts (depth + 1) body
+  node_parts depth (Message sender receiver sort next) =
+      (sender, Some depth) ∷ inside (codes "->" ∷ receiver ∷ codes ":" ∷ sort_word sort ∷ codes "." ∷ []) ++ node_parts (depth + 1) next
+  node_parts depth (Choice sender receiver branches) =
+      (sender, Some depth) ∷ inside (codes "->" ∷ receiver ∷ codes "{" ∷ []) ++ branch_parts (depth + 1) branches ++ inside (codes "}" ∷ [])
 
   -- the tokens of branches, with a comma between two
-  pub branch_tokens : Branches → List (List ℕ)
-  branch_tokens NoMore = []
-  branch_tokens (More label next NoMore) = label ∷ codes ":" ∷ global_tokens next
-  branch_tokens (More label next others) = label ∷ codes ":" ∷ global_tokens next ++ codes "," ∷ branch_tokens others
+  pub branch_parts : ℕ → Branches → List Part
+  branch_parts depth NoMore = []
+  branch_parts depth (More label next NoMore) = inside (label ∷ codes ":" ∷ []) ++ node_parts depth next
+  branch_parts depth (More label next others) =
+      inside (label ∷ codes ":" ∷ []) ++ node_parts depth next ++ inside (codes "," ∷ []) ++ branch_parts depth others
+
+-- the tokens of a protocol: `roles`, the roles, `;` and a global type
+abbrev pub protocol_parts : List (List ℕ) → GlobalType → List Part
+protocol_parts roles tree = inside (codes "roles" ∷ roles) ++ inside (codes ";" ∷ []) ++ node_parts 1 tree
+
+-- the tokens alone
+abbrev pub protocol_tokens : List (List ℕ) → GlobalType → List (List ℕ)
+protocol_tokens roles tree = map (λ part. part.0) (protocol_parts roles tree)
 
 -- there is a branch
 abbrev pub HasBranch : Branches → Type 0
@@ -69,10 +86,6 @@ IsSpellable tree = IsNamed tree × HasBranches tree
 -- the same of branches
 abbrev pub AreSpellable : Branches → Type 0
 AreSpellable branches = AreNamed branches × HaveBranches branches
-
--- the tokens of a protocol: `roles`, the roles, `;` and a global type
-abbrev pub protocol_tokens : List (List ℕ) → GlobalType → List (List ℕ)
-protocol_tokens roles tree = codes "roles" ∷ roles ++ codes ";" ∷ global_tokens tree
 
 -- how a protocol is written: its tokens with one space between two
 abbrev pub protocol_text : List (List ℕ) → GlobalType → List ℕ
