@@ -1,7 +1,7 @@
--- Each tree has a root.
-use Rattle.std.proofs.Common.{◌<◌, arith}
-use Rattle.mps_global.specs.Global.{GlobalType, End, Var, Rec, Message, Choice}
-use Rattle.mps_global.specs.Faults.{node_count, depth}
+-- The size of a tree, and the list of its nodes.
+use Rattle.std.proofs.Common.{◌≡◌, ◌+◌, ◌<◌, max, List, [], ◌∷◌, ◌++◌, length, map, length-append, refl, arith}
+use Rattle.mps_global.specs.Global.{GlobalType, Branches, End, Var, Rec, Message, Choice, NoMore, More}
+use Rattle.mps_global.specs.Faults.{Place, node_count, branch_nodes, depth, branch_depth, places, branch_places, level, greatest}
 
 -- a tree has a node
 pub some_node : (tree : GlobalType) → 0 < node_count tree
@@ -18,3 +18,39 @@ some_depth (Var name) = omega arith
 some_depth (Rec name body) = omega arith
 some_depth (Message sender receiver sort next) = omega arith
 some_depth (Choice sender receiver branches) = omega arith
+
+mutual
+  -- the list is as long as the tree has nodes
+  pub as_many : (above : List GlobalType) (tree : GlobalType) → length (places above tree) ≡ node_count tree
+  as_many above End = omega arith
+  as_many above (Var name) = omega arith
+  as_many above (Rec name body) = omega (arith, as_many (Rec name body ∷ above) body)
+  as_many above (Message sender receiver sort next) = omega (arith, as_many (Message sender receiver sort next ∷ above) next)
+  as_many above (Choice sender receiver branches) =
+      omega (arith, branches_as_many (Choice sender receiver branches ∷ above) branches)
+
+  branches_as_many : (above : List GlobalType) (branches : Branches) → length (branch_places above branches) ≡ branch_nodes branches
+  branches_as_many above NoMore = refl
+  branches_as_many above (More label next others) =
+      omega (arith, as_many above next, branches_as_many above others, length-append (places above next) (branch_places above others))
+
+-- the greatest of two lists is that of both
+greatest_of_both : (ps qs : List Place) → greatest (map level (ps ++ qs)) ≡ max (greatest (map level ps)) (greatest (map level qs))
+greatest_of_both [] qs = omega arith
+greatest_of_both (p ∷ ps) qs = omega (arith, greatest_of_both ps qs)
+
+mutual
+  -- below so many nodes, the deepest node stands so much deeper
+  pub as_deep : (above : List GlobalType) (tree : GlobalType) → greatest (map level (places above tree)) ≡ length above + depth tree
+  as_deep above End = omega arith
+  as_deep above (Var name) = omega arith
+  as_deep above (Rec name body) = omega (arith, as_deep (Rec name body ∷ above) body, some_depth body)
+  as_deep above (Message sender receiver sort next) =
+      omega (arith, as_deep (Message sender receiver sort next ∷ above) next, some_depth next)
+  as_deep above (Choice sender receiver branches) =
+      omega (arith, branches_as_deep (Choice sender receiver branches ∷ above) branches)
+
+  branches_as_deep : (above : List GlobalType) (branches : Branches) → max (length above) (greatest (map level (branch_places above branches))) ≡ length above + branch_depth branches
+  branches_as_deep above NoMore = omega arith
+  branches_as_deep above (More label next others) =
+      omega (arith, as_deep above next, branches_as_deep above others, greatest_of_both (places above next) (branch_places above others))

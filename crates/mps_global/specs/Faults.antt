@@ -1,9 +1,8 @@
 -- What is wrong with a protocol.
 -- Global types are those of Honda, Yoshida, Carbone (Multiparty asynchronous session types, POPL 2008), without channels
 -- and parallel composition; limits and the order of faults are this project's.
-use Rattle.std.specs.Prelude.{ℕ, ◌+◌, max, Bool, true, false, ◌==◌, ◌&&◌, ◌||◌, not, List, [], ◌∷◌, ◌++◌, length, nat_lt, Option, None, Some, if◌then◌else◌}
+use Rattle.std.specs.Prelude.{ℕ, ◌+◌, max, Bool, true, false, ◌==◌, ◌&&◌, ◌||◌, not, List, [], ◌∷◌, ◌++◌, length, nat_lt, Option, None, Some, flat_map, take_while, if◌then◌else◌}
 use Rattle.std.specs.List.{list_any}
-use Rattle.std.specs.Option.{option_or}
 use Rattle.std.specs.Str.{bytes_eq}
 use Rattle.mps_global.specs.Global.{GlobalType, Branches, End, Var, Rec, Message, Choice, NoMore, More}
 use Rattle.mps_global.specs.declared.faults.GlobalFault.{GlobalFault}
@@ -75,6 +74,15 @@ abbrev mutual
   branch_places above NoMore = []
   branch_places above (More label next others) = places above next ++ branch_places above others
 
+-- how many nodes stand on the path from the root to a node, with both
+abbrev pub level : Place → ℕ
+level p = length p.above + 1
+
+-- the greatest of the numbers, or 0
+abbrev pub greatest : List ℕ → ℕ
+greatest [] = 0
+greatest (n ∷ ns) = max n (greatest ns)
+
 -- whether the node is the `rec` of that variable
 abbrev pub binds : List ℕ → GlobalType → Bool
 binds name (Rec bound body) = bytes_eq name bound
@@ -90,52 +98,57 @@ is_guard node = false
 abbrev pub is_bound : List ℕ → List GlobalType → Bool
 is_bound name above = list_any (binds name) above
 
--- whether a `rec` of that variable stands on the path below the nearest message or choice
+-- whether a `rec` of that variable stands below the nearest message or choice: among the nodes up to the first that guards
 abbrev pub is_unguarded : List ℕ → List GlobalType → Bool
-is_unguarded name [] = false
-is_unguarded name (node ∷ above) = not (is_guard node) && (binds name node || is_unguarded name above)
+is_unguarded name above = list_any (binds name) (take_while (λ node. not (is_guard node)) above)
 
--- the first of these tests that is true names the fault
-abbrev pub fault_if : Bool → GlobalFault → Option GlobalFault → Option GlobalFault
-fault_if wrong fault later = if wrong then Some fault else later
+-- of tests in a row, each with the fault that it tells, the fault of the first that is true
+abbrev pub first_true : List (Bool × GlobalFault) → Option GlobalFault
+first_true [] = None
+first_true (test ∷ tests) = if test.0 then Some test.1 else first_true tests
 
--- what is wrong with the two roles of a message or a choice, or else what comes after
-abbrev pub pair_fault : List (List ℕ) → (sender receiver : List ℕ) → Option GlobalFault → Option GlobalFault
-pair_fault roles sender receiver later =
-    fault_if (not (is_among roles sender && is_among roles receiver)) faults.UnknownRole (fault_if (bytes_eq sender receiver) faults.SelfMessage later)
+-- what may be wrong with the roles
+abbrev pub role_tests : List (List ℕ) → List (Bool × GlobalFault)
+role_tests roles = (nat_lt (length roles) 2 || nat_lt 8 (length roles), faults.RoleCount) ∷ (has_double roles, faults.DoubleRole) ∷ []
 
--- what is wrong with the labels of a choice
-abbrev pub label_fault : List (List ℕ) → Option GlobalFault
-label_fault names =
-    fault_if (has_double names) faults.DoubleLabel (fault_if (nat_lt 16 (length names)) faults.TooManyBranches (fault_if (length names == 0) faults.NoBranches None))
+-- what may be wrong with the size of the tree
+abbrev pub size_tests : GlobalType → List (Bool × GlobalFault)
+size_tests tree = (nat_lt 256 (node_count tree), faults.TooManyNodes) ∷ (nat_lt 64 (depth tree), faults.TooDeep) ∷ []
 
--- what is wrong with a variable that has that path
-abbrev pub variable_fault : List ℕ → List GlobalType → Option GlobalFault
-variable_fault name above = fault_if (not (is_bound name above)) faults.Unbound (fault_if (is_unguarded name above) faults.Unguarded None)
+-- what may be wrong with the two roles of a message or a choice
+abbrev pub pair_tests : List (List ℕ) → (sender receiver : List ℕ) → List (Bool × GlobalFault)
+pair_tests roles sender receiver =
+    (not (is_among roles sender && is_among roles receiver), faults.UnknownRole) ∷ (bytes_eq sender receiver, faults.SelfMessage) ∷ []
 
--- what is wrong with a `rec` of that variable, which has that path
-abbrev pub rec_fault : List ℕ → List GlobalType → Option GlobalFault
-rec_fault name above = fault_if (is_bound name above) faults.Shadowed None
+-- what may be wrong with the labels of a choice
+abbrev pub label_tests : List (List ℕ) → List (Bool × GlobalFault)
+label_tests names =
+    (has_double names, faults.DoubleLabel) ∷ (nat_lt 16 (length names), faults.TooManyBranches) ∷ (length names == 0, faults.NoBranches) ∷ []
 
--- what is wrong at a node with that path
-abbrev pub node_fault : List (List ℕ) → List GlobalType → GlobalType → Option GlobalFault
-node_fault roles above End = None
-node_fault roles above (Var name) = variable_fault name above
-node_fault roles above (Rec name body) = rec_fault name above
-node_fault roles above (Message sender receiver sort next) = pair_fault roles sender receiver None
-node_fault roles above (Choice sender receiver branches) = pair_fault roles sender receiver (label_fault (labels branches))
+-- what may be wrong with a variable that has that path
+abbrev pub variable_tests : List ℕ → List GlobalType → List (Bool × GlobalFault)
+variable_tests name above = (not (is_bound name above), faults.Unbound) ∷ (is_unguarded name above, faults.Unguarded) ∷ []
 
--- what is wrong at the first faulty node of the list
+-- what may be wrong with a `rec` of that variable
+abbrev pub rec_tests : List ℕ → List GlobalType → List (Bool × GlobalFault)
+rec_tests name above = (is_bound name above, faults.Shadowed) ∷ []
+
+-- what may be wrong at a node with that path
+abbrev pub node_tests : List (List ℕ) → List GlobalType → GlobalType → List (Bool × GlobalFault)
+node_tests roles above End = []
+node_tests roles above (Var name) = variable_tests name above
+node_tests roles above (Rec name body) = rec_tests name above
+node_tests roles above (Message sender receiver sort next) = pair_tests roles sender receiver
+node_tests roles above (Choice sender receiver branches) = pair_tests roles sender receiver ++ label_tests (labels branches)
+
+-- what may be wrong at these nodes, one after the other
+abbrev pub tests_at : List (List ℕ) → List Place → List (Bool × GlobalFault)
+tests_at roles ps = flat_map (λ p. node_tests roles p.above p.node) ps
+
+-- what is wrong at the first faulty one of them
 abbrev pub first_fault : List (List ℕ) → List Place → Option GlobalFault
-first_fault roles [] = None
-first_fault roles (p ∷ ps) = option_or (node_fault roles p.above p.node) (first_fault roles ps)
-
--- what is wrong with the number or the names of the roles, or else what comes after
-abbrev pub role_fault : List (List ℕ) → Option GlobalFault → Option GlobalFault
-role_fault roles later =
-    fault_if (nat_lt (length roles) 2 || nat_lt 8 (length roles)) faults.RoleCount (fault_if (has_double roles) faults.DoubleRole later)
+first_fault roles ps = first_true (tests_at roles ps)
 
 -- the first fault of a protocol with these roles and this tree, or none
 abbrev pub fault_of : List (List ℕ) → GlobalType → Option GlobalFault
-fault_of roles tree =
-    role_fault roles (fault_if (nat_lt 256 (node_count tree)) faults.TooManyNodes (fault_if (nat_lt 64 (depth tree)) faults.TooDeep (first_fault roles (places [] tree))))
+fault_of roles tree = first_true (role_tests roles ++ size_tests tree ++ tests_at roles (places [] tree))

@@ -1,10 +1,10 @@
 //! Which protocols are well-formed.
-ghost use Rattle.std.specs.Prelude.{◌≡◌, ◌↔◌, ◌+◌, ◌<◌, ◌≤◌, ◌∷◌, ℕ, List, [], IsTrue, IsOk, IfErr, MatchOption, length, nat_lt};
+ghost use Rattle.std.specs.Prelude.{◌≡◌, ◌↔◌, ◌+◌, ◌<◌, ◌≤◌, ◌∷◌, ℕ, List, [], IsTrue, IsOk, IfErr, MatchOption, length, map, nat_lt};
 ghost use Rattle.mps_base.specs.RoleLists.{AreRoles};
 ghost use Rattle.mps_global.specs.Global.{GlobalType, plain, plain_branches};
 ghost use Rattle.mps_global.specs.Faults.{is_among, has_double, labels, node_count, branch_nodes, depth, branch_depth};
-ghost use Rattle.mps_global.specs.Faults.{places, branch_places, binds, is_guard, is_bound, is_unguarded};
-ghost use Rattle.mps_global.specs.Faults.{variable_fault, rec_fault, pair_fault, label_fault, node_fault, first_fault, fault_of};
+ghost use Rattle.mps_global.specs.Faults.{places, branch_places, level, greatest, binds, is_guard, is_bound, is_unguarded};
+ghost use Rattle.mps_global.specs.Faults.{first_true, pair_tests, label_tests, variable_tests, rec_tests, node_tests, first_fault, fault_of};
 ghost use Rattle.mps_global.specs.Above.{nodes_above};
 
 use crate::{Branches, Global, Protocol};
@@ -90,6 +90,13 @@ pub fn protocol_laws()
         → fault_of roles tree ≡ None → AreRoles roles }
     ensures limits { (roles : List (List ℕ)) (tree : GlobalType)
         → fault_of roles tree ≡ None → (node_count tree ≤ 256) × (depth tree ≤ 64) }
+{}
+
+/// The size of a tree by the list of its nodes: it has as many nodes as stand there, and is as deep
+/// as the deepest of them stands.
+pub fn size_laws()
+    ensures nodes { (tree : GlobalType) → length (places [] tree) ≡ node_count tree }
+    ensures levels { (tree : GlobalType) → greatest (map level (places [] tree)) ≡ depth tree }
 {}
 
 // Whether a name stands twice in the list.
@@ -208,7 +215,8 @@ fn first_branch_fault(roles: &[Name], branches: &Branches, above: &Above<'_>) ->
 
 // What is wrong at the node with that path.
 fn node_fault(roles: &[Name], node: &Global, above: &Above<'_>) -> Option<GlobalFault>
-    ensures { result ≡ node_fault roles.now (nodes_above above.now) (plain node.now) }
+    ensures { result
+        ≡ first_true (node_tests roles.now (nodes_above above.now) (plain node.now)) }
 {
     match node {
         Global::End => None,
@@ -232,7 +240,7 @@ fn node_fault(roles: &[Name], node: &Global, above: &Above<'_>) -> Option<Global
 
 // What is wrong with a variable that has that path.
 fn variable_fault(name: &VarName, above: &Above<'_>) -> Option<GlobalFault>
-    ensures { result ≡ variable_fault name.now (nodes_above above.now) }
+    ensures { result ≡ first_true (variable_tests name.now (nodes_above above.now)) }
 {
     if !is_bound(name, above) {
         return Some(GlobalFault::Unbound);
@@ -245,7 +253,7 @@ fn variable_fault(name: &VarName, above: &Above<'_>) -> Option<GlobalFault>
 
 // What is wrong with a `rec` of that variable, which has that path.
 fn rec_fault(name: &VarName, above: &Above<'_>) -> Option<GlobalFault>
-    ensures { result ≡ rec_fault name.now (nodes_above above.now) }
+    ensures { result ≡ first_true (rec_tests name.now (nodes_above above.now)) }
 {
     if is_bound(name, above) {
         return Some(GlobalFault::Shadowed);
@@ -255,7 +263,7 @@ fn rec_fault(name: &VarName, above: &Above<'_>) -> Option<GlobalFault>
 
 // What is wrong with the two roles of a message or a choice.
 fn pair_fault(roles: &[Name], sender: &Name, receiver: &Name) -> Option<GlobalFault>
-    ensures { result ≡ pair_fault roles.now sender.now receiver.now None }
+    ensures { result ≡ first_true (pair_tests roles.now sender.now receiver.now) }
 {
     if !is_among(roles, sender) || !is_among(roles, receiver) {
         return Some(GlobalFault::UnknownRole);
@@ -268,7 +276,7 @@ fn pair_fault(roles: &[Name], sender: &Name, receiver: &Name) -> Option<GlobalFa
 
 // What is wrong with the labels of a choice.
 fn label_fault(branches: &Branches) -> Option<GlobalFault>
-    ensures { result ≡ label_fault (labels (plain_branches branches.now)) }
+    ensures { result ≡ first_true (label_tests (labels (plain_branches branches.now))) }
 {
     if has_double_label(branches) {
         return Some(GlobalFault::DoubleLabel);

@@ -8,7 +8,7 @@ mod building;
 pub mod faults;
 mod walking;
 
-pub use faults::{GlobalFault, check, protocol_laws};
+pub use faults::{GlobalFault, check, protocol_laws, size_laws};
 use mps_base::{Name, Sort, VarName};
 use std::mem;
 pub use walking::Arms;

@@ -1,4 +1,4 @@
-use crate::{Branches, Global, GlobalFault, Protocol, check, protocol_laws};
+use crate::{Branches, Global, GlobalFault, Protocol, check, protocol_laws, size_laws};
 use mps_base::{Name, Sort, VarName};
 use std::alloc;
 use std::process::Abort;
@@ -254,6 +254,7 @@ fn checks_variables(rt: HostRuntime) -> Result<(), Fail> {
     for (parts, answer) in rows {
         assert_eq!(rt; checked(&rt, rt.alloc(), &NINE[..2], parts)?, answer);
     }
+    size_laws();
     protocol_laws();
     Ok(())
 }

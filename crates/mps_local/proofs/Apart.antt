@@ -1,14 +1,14 @@
 -- The two roles of each message and choice of a protocol without faults.
 use Rattle.std.proofs.Common.{◌≡◌, ◌≢◌, ℕ, ◌<◌, Bool, true, false, ◌&&◌, not, List, ◌∷◌, length, Option, None, Some, refl}
-use Rattle.std.specs.Prelude.{⊤}
+use Rattle.std.specs.Prelude.{⊤, ◌++◌}
 use Rattle.std.specs.Option.{option_or}
 use Rattle.std.specs.Str.{bytes_eq}
 use Rattle.mps_global.specs.Global as global
 use Rattle.mps_global.specs.Global.{GlobalType}
-use Rattle.mps_global.specs.Faults.{is_among, labels, places, branch_places, fault_if, pair_fault, label_fault, rec_fault, first_fault}
+use Rattle.mps_global.specs.Faults.{is_among, labels, places, branch_places, first_true, pair_tests, label_tests, rec_tests, tests_at, first_fault}
 use Rattle.mps_global.specs.declared.faults.GlobalFault.{GlobalFault}
 use Rattle.mps_global.specs.declared.faults.GlobalFault.TheVariants as faults
-use Rattle.mps_global.proofs.Walks.{first_of_both}
+use Rattle.mps_global.proofs.Walks.{first_of_tests, first_of_both}
 use Rattle.mps_local.specs.Projection.{place_of}
 use Rattle.mps_local.proofs.Places.{place_below, places_differ}
 
@@ -35,16 +35,21 @@ both_none : (a b : Option GlobalFault) → option_or a b ≡ None → (a ≡ Non
 both_none None b h = (refl, h)
 both_none (Some fault) b h = cc
 
-pair_tests : (s r e : Bool) (later : Option GlobalFault) → fault_if (not (s && r)) faults.UnknownRole (fault_if e faults.SelfMessage later) ≡ None → (s ≡ true) × (r ≡ true) × (e ≡ false)
-pair_tests true true true later h = cc
-pair_tests true true false later h = (refl, refl, refl)
-pair_tests true false e later h = cc
-pair_tests false r e later h = cc
+roles_differ : (s r e : Bool) (others : List (Bool × GlobalFault)) → first_true ((not (s && r), faults.UnknownRole) ∷ (e, faults.SelfMessage) ∷ others) ≡ None → (s ≡ true) × (r ≡ true) × (e ≡ false) × (first_true others ≡ None)
+roles_differ true true true others h = cc
+roles_differ true true false others h = (refl, refl, refl, h)
+roles_differ true false e others h = cc
+roles_differ false r e others h = cc
 
-apart : (roles : List (List ℕ)) (sender receiver : List ℕ) (later : Option GlobalFault) → pair_fault roles sender receiver later ≡ None → AreApart roles sender receiver
-apart roles sender receiver later h =
-    let t = pair_tests (is_among roles sender) (is_among roles receiver) (bytes_eq sender receiver) later h in
-    record { from = place_below (bytes_eq sender) roles t.0; to = place_below (bytes_eq receiver) roles t.1; differ = places_differ roles sender receiver t.0 t.1 t.2 }
+-- where the tests of the two roles and the others tell no fault
+apart : (roles : List (List ℕ)) (sender receiver : List ℕ) (others : List (Bool × GlobalFault)) → first_true (pair_tests roles sender receiver ++ others) ≡ None → AreApart roles sender receiver × (first_true others ≡ None)
+apart roles sender receiver others h =
+    let t = roles_differ (is_among roles sender) (is_among roles receiver) (bytes_eq sender receiver) others h in
+    (record { from = place_below (bytes_eq sender) roles t.0; to = place_below (bytes_eq receiver) roles t.1; differ = places_differ roles sender receiver t.0 t.1 t.2 }, t.3)
+
+-- where no test of either list tells a fault
+both_pass : (a b : List (Bool × GlobalFault)) → first_true (a ++ b) ≡ None → (first_true a ≡ None) × (first_true b ≡ None)
+both_pass a b h = let split = first_of_tests a b in both_none (first_true a) (first_true b) (cc (split, h))
 
 mutual
   -- where no node has a fault
@@ -52,14 +57,17 @@ mutual
   all_apart roles above global.End h = tt
   all_apart roles above (global.Var name) h = tt
   all_apart roles above (global.Rec name body) h =
-      all_apart roles (global.Rec name body ∷ above) body (both_none (rec_fault name above) (first_fault roles (places (global.Rec name body ∷ above) body)) h).1
+      let below = global.Rec name body ∷ above in
+      all_apart roles below body (both_pass (rec_tests name above) (tests_at roles (places below body)) h).1
   all_apart roles above (global.Message sender receiver sort next) h =
-      let b = both_none (pair_fault roles sender receiver None) (first_fault roles (places (global.Message sender receiver sort next ∷ above) next)) h in
-      (apart roles sender receiver None b.0, all_apart roles (global.Message sender receiver sort next ∷ above) next b.1)
+      let below = global.Message sender receiver sort next ∷ above in
+      let a = apart roles sender receiver (tests_at roles (places below next)) h in
+      (a.0, all_apart roles below next a.1)
   all_apart roles above (global.Choice sender receiver branches) h =
-      let later = label_fault (labels branches) in
-      let b = both_none (pair_fault roles sender receiver later) (first_fault roles (branch_places (global.Choice sender receiver branches ∷ above) branches)) h in
-      (apart roles sender receiver later b.0, all_branches_apart roles (global.Choice sender receiver branches ∷ above) branches b.1)
+      let below = global.Choice sender receiver branches ∷ above in
+      let later = tests_at roles (branch_places below branches) in
+      let a = apart roles sender receiver (label_tests (labels branches) ++ later) h in
+      (a.0, all_branches_apart roles below branches (both_pass (label_tests (labels branches)) later a.1).1)
 
   all_branches_apart : (roles : List (List ℕ)) (above : List GlobalType) (branches : global.Branches) → first_fault roles (branch_places above branches) ≡ None → AllBranchesApart roles branches
   all_branches_apart roles above global.NoMore h = tt

@@ -1,5 +1,5 @@
 -- The fault that a run answers is the first one, and there is no other.
-use Rattle.std.proofs.Common.{◌≡◌, ℕ, ◌+◌, ◌-◌, ◌≤◌, nat_lt, Bool, true, false, inl, inr, List, [], ◌∷◌, ◌++◌, length, Option, Some, None, Err, refl, ap, sym, subst, ◌∙◌, cond, arith}
+use Rattle.std.proofs.Common.{◌≡◌, ◌≢◌, ℕ, ◌+◌, ◌-◌, ◌≤◌, nat_lt, Bool, true, false, inl, inr, List, [], ◌∷◌, ◌++◌, length, Option, Some, None, Err, refl, ap, sym, subst, ◌∙◌, cond, arith}
 use Rattle.std.specs.Prelude.{codes, ◌&&◌, ⊤}
 use Rattle.std.specs.List.{AllByRecursion}
 use Rattle.std.specs.Str.{bytes_eq}
@@ -7,7 +7,7 @@ use Rattle.std.proofs.lemmas.List.{append-nil}
 use Rattle.mps_text.specs.Grammar.{SpellsProtocol}
 use Rattle.mps_text.specs.Faults.{protocol_starts, nodes_begun, IsShallow, IsWhole, Opens, IsUnexpected, IsWrong, FaultAt, IsFirstFault}
 use Rattle.mps_text.specs.Lexing.{lexed, is_name, is_variable}
-use Rattle.mps_text.specs.Reading.{Symbol, Token, AName, AVariable, ASort, Roles, Node, Exchange, Others, branch, behind_first, begun, named, exchanged, followed, first_of, sort_of, which, step, mark, run, whole}
+use Rattle.mps_text.specs.Reading.{Symbol, Token, AName, AVariable, ASort, Roles, Node, Exchange, Others, branch, behind_first, begun, named, exchanged, followed, first_of, sort_of, which, step, start_of, run, whole}
 use Rattle.mps_base.specs.declared.value.Sort.{Sort}
 use Rattle.mps_text.specs.declared.reading.First.{First}
 use Rattle.mps_text.specs.declared.reading.First.TheVariants as firsts
@@ -54,7 +54,7 @@ driven_by front starts o =
 pub record Behind (x : Symbol) (token : List ℕ) (starts later : List (Option ℕ)) : Type 0 where
   pub pushed : List Symbol
   pub steps : step x token ≡ Some pushed
-  pub marked : later ≡ starts ++ mark x ∷ []
+  pub marked : later ≡ starts ++ start_of x ∷ []
 
 pub not_whole : (front : List (List ℕ)) (x : Symbol) (stack : List Symbol) (starts : List (Option ℕ)) → Drives whole front (x ∷ stack) starts → IsWhole front → ⊥
 not_whole front x stack starts d w =
@@ -78,13 +78,13 @@ some_behind front x stack starts token later d o =
     record {
       pushed = s.0;
       steps = s.1;
-      marked = p.parts ∙ ap (λ (st : List (Option ℕ)). st ++ p.behind) one.1 ∙ ap (λ (st : List (Option ℕ)). starts ++ st) (s.3 ∙ ap (λ (st : List (Option ℕ)). mark x ∷ st) s.4.1);
+      marked = p.parts ∙ ap (λ (st : List (Option ℕ)). st ++ p.behind) one.1 ∙ ap (λ (st : List (Option ℕ)). starts ++ st) (s.3 ∙ ap (λ (st : List (Option ℕ)). start_of x ∷ st) s.4.1);
     }
 
-pub opens_behind : (front : List (List ℕ)) (x : Symbol) (stack pushed : List Symbol) (starts : List (Option ℕ)) (token : List ℕ) → Drives whole front (x ∷ stack) starts → step x token ≡ Some pushed → Opens (front ++ token ∷ []) (starts ++ mark x ∷ [])
+pub opens_behind : (front : List (List ℕ)) (x : Symbol) (stack pushed : List Symbol) (starts : List (Option ℕ)) (token : List ℕ) → Drives whole front (x ∷ stack) starts → step x token ≡ Some pushed → Opens (front ++ token ∷ []) (starts ++ start_of x ∷ [])
 opens_behind front x stack pushed starts token d s =
-    opens_by (front ++ token ∷ []) (pushed ++ stack) (starts ++ mark x ∷ [])
-    (drives_then whole front (x ∷ stack) starts (token ∷ []) (pushed ++ stack) (mark x ∷ []) d (pushed, s, [], refl, (refl, refl)))
+    opens_by (front ++ token ∷ []) (pushed ++ stack) (starts ++ start_of x ∷ [])
+    (drives_then whole front (x ∷ stack) starts (token ∷ []) (pushed ++ stack) (start_of x ∷ []) d (pushed, s, [], refl, (refl, refl)))
 
 -- ---- no node is begun far too deep
 
@@ -129,7 +129,7 @@ near_others level None pushed e less = absurd cc
 near_others level (Some true) pushed e less = near_same (branch level) pushed (some_is (branch level) pushed e) (near_branch level less)
 near_others level (Some false) pushed e less = near_same [] pushed (some_is [] pushed e) tt
 
-near_step : (x : Symbol) (token : List ℕ) (pushed : List Symbol) → step x token ≡ Some pushed → IsShallow (mark x) → IsNear x → AllByRecursion IsNear pushed
+near_step : (x : Symbol) (token : List ℕ) (pushed : List Symbol) → step x token ≡ Some pushed → IsShallow (start_of x) → IsNear x → AllByRecursion IsNear pushed
 near_step (Token word) token pushed s shallow near = near_same [] pushed (only_if (bytes_eq token word) [] pushed s).1 tt
 near_step AName token pushed s shallow near = near_same [] pushed (only_if (is_name token) [] pushed s).1 tt
 near_step AVariable token pushed s shallow near = near_same [] pushed (only_if (is_variable token) [] pushed s).1 tt
@@ -147,18 +147,18 @@ near_driven : (stack : List Symbol) (tokens : List (List ℕ)) (to : List Symbol
 near_driven stack [] to starts d shallow near = near_same stack to d.0 near
 near_driven [] (token ∷ tokens) to starts d shallow near = absurd d
 near_driven (x ∷ stack) (token ∷ tokens) to starts d shallow near =
-    let all : AllByRecursion IsShallow (mark x ∷ d.2) = subst (AllByRecursion IsShallow) d.3 shallow in
+    let all : AllByRecursion IsShallow (start_of x ∷ d.2) = subst (AllByRecursion IsShallow) d.3 shallow in
     near_driven (d.0 ++ stack) tokens to d.2 d.4 all.1 (near_append d.0 stack (near_step x token d.0 d.1 all.0 near.0) near.1)
 
-near_mark : (x : Symbol) (level : ℕ) → IsNear x → mark x ≡ Some level → level ≤ 65
-near_mark (Token token) level near e = absurd cc
-near_mark AName level near e = absurd cc
-near_mark AVariable level near e = absurd cc
-near_mark ASort level near e = absurd cc
-near_mark (Roles room) level near e = absurd cc
-near_mark (Node depth) level near e = omega (arith, near, some_is depth level e)
-near_mark (Exchange depth) level near e = absurd cc
-near_mark (Others depth) level near e = absurd cc
+near_start : (x : Symbol) (level : ℕ) → IsNear x → start_of x ≡ Some level → level ≤ 65
+near_start (Token token) level near e = absurd cc
+near_start AName level near e = absurd cc
+near_start AVariable level near e = absurd cc
+near_start ASort level near e = absurd cc
+near_start (Roles room) level near e = absurd cc
+near_start (Node depth) level near e = omega (arith, near, some_is depth level e)
+near_start (Exchange depth) level near e = absurd cc
+near_start (Others depth) level near e = absurd cc
 
 -- ---- where a run sticks, the text has that fault
 
@@ -177,7 +177,7 @@ wrong_by TooManyNodes front (x ∷ stack) starts room here d shallow count w =
 wrong_by TooDeep front [] starts room here d shallow count w = absurd w
 wrong_by TooDeep front (x ∷ stack) starts room here d shallow count w =
     let near = near_driven whole front (x ∷ stack) starts d shallow (tt, (tt, (tt, (tt, (omega arith, tt))))) in
-    let most = near_mark x w.1 near.0 w.5 in
+    let most = near_start x w.1 near.0 w.5 in
     let least = w.7 in
     let some = w.6 in
     let level : Some w.1 ≡ Some 65 = let e : w.1 ≡ 65 = omega (arith, most, least) in ap Some e in
@@ -219,3 +219,16 @@ pub first_fault : (text : List ℕ) (left : ℕ) (kind : TextKind) → length te
 first_fault text left kind short h =
     let s = run_sticks (lexed text) whole 256 text (left, kind) (text_cut text) h in
     first_by text (length text - left) left kind short s (stuck_fault text left kind s)
+
+stuck_kind : (kind : TextKind) (text : List ℕ) (left : ℕ) → Stuck whole 256 text (left, kind) → kind ≢ Memory
+stuck_kind TooLong text left s e = absurd s.wrong
+stuck_kind Word text left s e = cc (e)
+stuck_kind Unexpected text left s e = cc (e)
+stuck_kind TooManyNodes text left s e = cc (e)
+stuck_kind TooDeep text left s e = cc (e)
+stuck_kind Trailing text left s e = cc (e)
+stuck_kind Memory text left s e = absurd s.wrong
+
+-- and it is none of memory
+pub fault_kind : (text : List ℕ) (left : ℕ) (kind : TextKind) → run whole 256 (lexed text) ≡ Err (left, kind) → kind ≢ Memory
+fault_kind text left kind h = stuck_kind kind text left (run_sticks (lexed text) whole 256 text (left, kind) (text_cut text) h)

@@ -10,16 +10,17 @@ use Rattle.mps_base.specs.declared.value.Sort.{Sort}
 use Rattle.mps_base.specs.declared.value.Sort.TheVariants.{Int}
 use Rattle.mps_global.specs.Global.{GlobalType, Branches, End, Var, Rec, Message, Choice, NoMore, More}
 use Rattle.mps_base.specs.Sorts.{sort_word}
-use Rattle.mps_text.specs.Grammar.{global_tokens, HasBranch, IsSpellable, AreSpellable, SpellsProtocol}
-use Rattle.mps_text.specs.Faults.{node_starts, no_starts, protocol_starts}
+use Rattle.mps_text.specs.Grammar.{HasBranch, IsSpellable, AreSpellable, SpellsProtocol}
+use Rattle.mps_text.specs.Writing.{global_tokens}
+use Rattle.mps_text.specs.Faults.{protocol_starts}
 use Rattle.mps_text.specs.Lexing.{is_name, is_variable}
-use Rattle.mps_text.specs.Reading.{Symbol, Token, AName, AVariable, ASort, Roles, Node, Exchange, Others, branch, behind_first, begun, named, exchanged, followed, first_of, first_token, IsFirst, sort_of, which, step, mark, whole, tokens_before, branches_before}
+use Rattle.mps_text.specs.Reading.{Symbol, Token, AName, AVariable, ASort, Roles, Node, Exchange, Others, branch, behind_first, begun, named, exchanged, followed, first_of, first_token, IsFirst, sort_of, which, step, start_of, whole, tokens_before, branches_before}
 use Rattle.mps_text.specs.declared.reading.First.{First}
 use Rattle.mps_text.specs.declared.reading.First.TheVariants as firsts
 use Rattle.mps_text.proofs.Names.{both_true, name_is, variable_is}
 use Rattle.mps_text.proofs.Tokens.{chosen, some_is, only_if, same_token, which_is, sort_is, first_is}
 use Rattle.mps_text.proofs.Machine.{Drives}
-use Rattle.mps_text.proofs.Trees.{starts_before, branch_starts_before, before_is, starts_are}
+use Rattle.mps_text.proofs.Trees.{node_starts, no_starts, protocol_tokens_are, protocol_starts_are, starts_before, branch_starts_before, before_is, starts_are}
 
 -- tokens, with the nodes that they begin
 abbrev pub Language : Type 1
@@ -29,42 +30,42 @@ Language = List (List ℕ) → List (Option ℕ) → Type 0
 pub record One (P : List ℕ → Type 0) (N : Language) (tokens : List (List ℕ)) (starts : List (Option ℕ)) : Type 0 where
   pub token : List ℕ
   pub after : List (List ℕ)
-  pub marks : List (Option ℕ)
+  pub later : List (Option ℕ)
   pub is : P token
-  pub goes_on : N after marks
+  pub goes_on : N after later
   pub cut : tokens ≡ token ∷ after
-  pub marked : starts ≡ None ∷ marks
+  pub marked : starts ≡ None ∷ later
 
 -- some roles and `;`
 pub record RolesOf (room : ℕ) (N : Language) (tokens : List (List ℕ)) (starts : List (Option ℕ)) : Type 0 where
   pub names : List (List ℕ)
   pub after : List (List ℕ)
-  pub marks : List (Option ℕ)
+  pub later : List (Option ℕ)
   pub are : AllByRecursion IsName names
   pub few : length names ≤ room
-  pub goes_on : N after marks
+  pub goes_on : N after later
   pub cut : tokens ≡ names ++ codes ";" ∷ after
-  pub marked : starts ≡ no_starts names ++ None ∷ marks
+  pub marked : starts ≡ no_starts names ++ None ∷ later
 
 -- a global type
 pub record NodeOf (level : ℕ) (N : Language) (tokens : List (List ℕ)) (starts : List (Option ℕ)) : Type 0 where
   pub tree : GlobalType
   pub after : List (List ℕ)
-  pub marks : List (Option ℕ)
+  pub later : List (Option ℕ)
   pub spellable : IsSpellable tree
-  pub goes_on : N after marks
+  pub goes_on : N after later
   pub cut : tokens ≡ tokens_before tree after
-  pub marked : starts ≡ starts_before level tree marks
+  pub marked : starts ≡ starts_before level tree later
 
 -- branches, with the token before them
 pub record BranchesOf (level : ℕ) (sep : List ℕ) (N : Language) (tokens : List (List ℕ)) (starts : List (Option ℕ)) : Type 0 where
   pub branches : Branches
   pub after : List (List ℕ)
-  pub marks : List (Option ℕ)
+  pub later : List (Option ℕ)
   pub spellable : AreSpellable branches
-  pub goes_on : N after marks
+  pub goes_on : N after later
   pub cut : tokens ≡ branches_before sep branches after
-  pub marked : starts ≡ branch_starts_before level branches marks
+  pub marked : starts ≡ branch_starts_before level branches later
 
 abbrev pub Is : List ℕ → List ℕ → Type 0
 Is word token = token ≡ word
@@ -97,7 +98,7 @@ popped : (stack pushed : List Symbol) (tokens : List (List ℕ)) (starts : List 
 popped stack pushed tokens starts q e c = subst (λ (p : List Symbol). Completes (p ++ stack) tokens starts) (sym e) c
 
 one_more : (P : List ℕ → Type 0) (stack pushed : List Symbol) (token : List ℕ) (tokens : List (List ℕ)) (starts : List (Option ℕ)) → P token → [] ≡ pushed → Completes (pushed ++ stack) tokens starts → One P (Completes stack) (token ∷ tokens) (None ∷ starts)
-one_more P stack pushed token tokens starts is e c = record { token = token; after = tokens; marks = starts; is = is; goes_on = popped stack pushed tokens starts [] e c; cut = refl; marked = refl }
+one_more P stack pushed token tokens starts is e c = record { token = token; after = tokens; later = starts; is = is; goes_on = popped stack pushed tokens starts [] e c; cut = refl; marked = refl }
 
 more_roles : (room : ℕ) (stack pushed : List Symbol) (token : List ℕ) (tokens : List (List ℕ)) (starts : List (Option ℕ)) → step (Roles room) token ≡ Some pushed → Completes (pushed ++ stack) tokens starts → RolesOf room (Completes stack) (token ∷ tokens) (None ∷ starts)
 more_roles room stack pushed token tokens starts s c =
@@ -105,7 +106,7 @@ more_roles room stack pushed token tokens starts s c =
       | inl a ↦ record {
         names = [];
         after = tokens;
-        marks = starts;
+        later = starts;
         are = tt;
         few = omega arith;
         goes_on = popped stack pushed tokens starts [] (some_is [] pushed a.1) c;
@@ -121,7 +122,7 @@ more_roles room stack pushed token tokens starts s c =
           record {
             names = token ∷ r.names;
             after = r.after;
-            marks = r.marks;
+            later = r.later;
             are = (name_is token both.1, r.are);
             few = grind (arith, nat_tests, some, few);
             goes_on = r.goes_on;
@@ -138,8 +139,8 @@ more_branches level sep stack token tokens starts e a =
       record {
         branches = More a.token g.tree o.branches;
         after = o.after;
-        marks = o.marks;
-        spellable = (a.is, g.spellable, o.spellable);
+        later = o.later;
+        spellable = ((a.is, g.spellable.0, o.spellable.0), (g.spellable.1, o.spellable.1));
         goes_on = o.goes_on;
         cut = cc (e, a.cut, b.cut, b.is, g.cut, o.cut);
         marked = cc (a.marked, b.marked, g.marked, o.marked);
@@ -151,7 +152,7 @@ more_exchange : (level : ℕ) (stack pushed : List Symbol) (token : List ℕ) (t
 more_exchange level stack pushed token tokens starts None e s c = absurd cc
 more_exchange level stack pushed token tokens starts (Some true) e s c =
     let m = popped stack pushed tokens starts (ASort ∷ Token (codes ".") ∷ Node level ∷ []) (some_is (ASort ∷ Token (codes ".") ∷ Node level ∷ []) pushed s) c in
-    inl (record { token = token; after = tokens; marks = starts; is = which_is (codes ":") (codes "{") token true e; goes_on = m; cut = refl; marked = refl })
+    inl (record { token = token; after = tokens; later = starts; is = which_is (codes ":") (codes "{") token true e; goes_on = m; cut = refl; marked = refl })
 more_exchange level stack pushed token tokens starts (Some false) e s c =
     let m = popped stack pushed tokens starts (branch level) (some_is (branch level) pushed s) c in
     inr (more_branches level (codes "{") stack token tokens starts (which_is (codes ":") (codes "{") token false e) m)
@@ -165,8 +166,8 @@ more_others level stack pushed token tokens starts (Some false) e s c =
     record {
       branches = NoMore;
       after = tokens;
-      marks = starts;
-      spellable = tt;
+      later = starts;
+      spellable = (tt, tt);
       goes_on = popped stack pushed tokens starts [] (some_is [] pushed s) c;
       cut = ap (λ (t : List ℕ). t ∷ tokens) (which_is (codes ",") (codes "}") token false e);
       marked = refl;
@@ -174,17 +175,17 @@ more_others level stack pushed token tokens starts (Some false) e s c =
 
 more_first : (level : ℕ) (first : First) (stack : List Symbol) (token : List ℕ) (tokens : List (List ℕ)) (starts : List (Option ℕ)) → token ≡ first_token first → IsFirst first → Completes (behind_first level first ++ stack) tokens starts → NodeOf level (Completes stack) (token ∷ tokens) (Some level ∷ starts)
 more_first level firsts.End stack token tokens starts e is c =
-    record { tree = End; after = tokens; marks = starts; spellable = tt; goes_on = c; cut = ap (λ (t : List ℕ). t ∷ tokens) e; marked = refl }
+    record { tree = End; after = tokens; later = starts; spellable = (tt, tt); goes_on = c; cut = ap (λ (t : List ℕ). t ∷ tokens) e; marked = refl }
 more_first level (firsts.Var name) stack token tokens starts e is c =
-    record { tree = Var name; after = tokens; marks = starts; spellable = is; goes_on = c; cut = ap (λ (t : List ℕ). t ∷ tokens) e; marked = refl }
+    record { tree = Var name; after = tokens; later = starts; spellable = (is, tt); goes_on = c; cut = ap (λ (t : List ℕ). t ∷ tokens) e; marked = refl }
 more_first level firsts.Rec stack token tokens starts e is a =
     let b = a.goes_on in
     let g = b.goes_on in
     record {
       tree = Rec a.token g.tree;
       after = g.after;
-      marks = g.marks;
-      spellable = (a.is, g.spellable);
+      later = g.later;
+      spellable = ((a.is, g.spellable.0), g.spellable.1);
       goes_on = g.goes_on;
       cut = cc (e, a.cut, b.cut, b.is, g.cut);
       marked = cc (a.marked, b.marked, g.marked);
@@ -199,8 +200,8 @@ more_first level (firsts.Sender name) stack token tokens starts e is a =
           record {
             tree = Message name b.token d.is.0 g.tree;
             after = g.after;
-            marks = g.marks;
-            spellable = (is, b.is, g.spellable);
+            later = g.later;
+            spellable = ((is, b.is, g.spellable.0), g.spellable.1);
             goes_on = g.goes_on;
             cut = cc (e, a.cut, a.is, b.cut, m.cut, m.is, d.cut, d.is.1, f.cut, f.is, g.cut);
             marked = cc (a.marked, b.marked, m.marked, d.marked, f.marked, g.marked);
@@ -210,8 +211,8 @@ more_first level (firsts.Sender name) stack token tokens starts e is a =
           record {
             tree = Choice name b.token h.branches;
             after = h.after;
-            marks = h.marks;
-            spellable = (is, b.is, m.1, h.spellable);
+            later = h.later;
+            spellable = ((is, b.is, h.spellable.0), (m.1, h.spellable.1));
             goes_on = h.goes_on;
             cut = cc (e, a.cut, a.is, b.cut, h.cut);
             marked = cc (a.marked, b.marked, h.marked);
@@ -229,7 +230,7 @@ more_sort : (stack pushed : List Symbol) (token : List ℕ) (tokens : List (List
 more_sort stack pushed token tokens starts None e s c = absurd cc
 more_sort stack pushed token tokens starts (Some sort) e s c = one_more IsSortWord stack pushed token tokens starts (sort, sort_is token sort e) (some_is [] pushed s) c
 
-pub one_token_more : (x : Symbol) (stack pushed : List Symbol) (token : List ℕ) (tokens : List (List ℕ)) (starts : List (Option ℕ)) → step x token ≡ Some pushed → Completes (pushed ++ stack) tokens starts → Completes (x ∷ stack) (token ∷ tokens) (mark x ∷ starts)
+pub one_token_more : (x : Symbol) (stack pushed : List Symbol) (token : List ℕ) (tokens : List (List ℕ)) (starts : List (Option ℕ)) → step x token ≡ Some pushed → Completes (pushed ++ stack) tokens starts → Completes (x ∷ stack) (token ∷ tokens) (start_of x ∷ starts)
 one_token_more (Token word) stack pushed token tokens starts s c =
     let a = only_if (bytes_eq token word) [] pushed s in
     one_more (Is word) stack pushed token tokens starts (same_token token word a.0) a.1 c
@@ -260,10 +261,10 @@ pub record Completion (stack : List Symbol) : Type 0 where
   pub completes : Completes stack tokens starts
 
 one_completion : (P : List ℕ → Type 0) (stack : List Symbol) (token : List ℕ) (c : Completion stack) → P token → One P (Completes stack) (token ∷ c.tokens) (None ∷ c.starts)
-one_completion P stack token c is = record { token = token; after = c.tokens; marks = c.starts; is = is; goes_on = c.completes; cut = refl; marked = refl }
+one_completion P stack token c is = record { token = token; after = c.tokens; later = c.starts; is = is; goes_on = c.completes; cut = refl; marked = refl }
 
 end_completion : (level : ℕ) (stack : List Symbol) (c : Completion stack) → NodeOf level (Completes stack) (codes "end" ∷ c.tokens) (Some level ∷ c.starts)
-end_completion level stack c = record { tree = End; after = c.tokens; marks = c.starts; spellable = tt; goes_on = c.completes; cut = refl; marked = refl }
+end_completion level stack c = record { tree = End; after = c.tokens; later = c.starts; spellable = (tt, tt); goes_on = c.completes; cut = refl; marked = refl }
 
 pub completion : (stack : List Symbol) → Completion stack
 completion [] = record { tokens = []; starts = []; completes = (refl, refl) }
@@ -281,22 +282,22 @@ completion (ASort ∷ stack) =
     record { tokens = codes "int" ∷ c.tokens; starts = None ∷ c.starts; completes = one_completion IsSortWord stack (codes "int") c (Int, refl) }
 completion (Roles room ∷ stack) =
     let c = completion stack in
-    record { tokens = codes ";" ∷ c.tokens; starts = None ∷ c.starts; completes = record { names = []; after = c.tokens; marks = c.starts; are = tt; few = omega arith; goes_on = c.completes; cut = refl; marked = refl } }
+    record { tokens = codes ";" ∷ c.tokens; starts = None ∷ c.starts; completes = record { names = []; after = c.tokens; later = c.starts; are = tt; few = omega arith; goes_on = c.completes; cut = refl; marked = refl } }
 completion (Node level ∷ stack) =
     let c = completion stack in
     record { tokens = codes "end" ∷ c.tokens; starts = Some level ∷ c.starts; completes = end_completion level stack c }
 completion (Exchange level ∷ stack) =
     let c = completion stack in
-    let dot : One (Is (codes ".")) (NodeOf level (Completes stack)) (codes "." ∷ codes "end" ∷ c.tokens) (None ∷ Some level ∷ c.starts) = record { token = codes "."; after = codes "end" ∷ c.tokens; marks = Some level ∷ c.starts; is = refl; goes_on = end_completion level stack c; cut = refl; marked = refl } in
-    let sort : One IsSortWord (One (Is (codes ".")) (NodeOf level (Completes stack))) (codes "int" ∷ codes "." ∷ codes "end" ∷ c.tokens) (None ∷ None ∷ Some level ∷ c.starts) = record { token = codes "int"; after = codes "." ∷ codes "end" ∷ c.tokens; marks = None ∷ Some level ∷ c.starts; is = (Int, refl); goes_on = dot; cut = refl; marked = refl } in
+    let dot : One (Is (codes ".")) (NodeOf level (Completes stack)) (codes "." ∷ codes "end" ∷ c.tokens) (None ∷ Some level ∷ c.starts) = record { token = codes "."; after = codes "end" ∷ c.tokens; later = Some level ∷ c.starts; is = refl; goes_on = end_completion level stack c; cut = refl; marked = refl } in
+    let sort : One IsSortWord (One (Is (codes ".")) (NodeOf level (Completes stack))) (codes "int" ∷ codes "." ∷ codes "end" ∷ c.tokens) (None ∷ None ∷ Some level ∷ c.starts) = record { token = codes "int"; after = codes "." ∷ codes "end" ∷ c.tokens; later = None ∷ Some level ∷ c.starts; is = (Int, refl); goes_on = dot; cut = refl; marked = refl } in
     record {
       tokens = codes ":" ∷ codes "int" ∷ codes "." ∷ codes "end" ∷ c.tokens;
       starts = None ∷ None ∷ None ∷ Some level ∷ c.starts;
-      completes = inl (record { token = codes ":"; after = codes "int" ∷ codes "." ∷ codes "end" ∷ c.tokens; marks = None ∷ None ∷ Some level ∷ c.starts; is = refl; goes_on = sort; cut = refl; marked = refl });
+      completes = inl (record { token = codes ":"; after = codes "int" ∷ codes "." ∷ codes "end" ∷ c.tokens; later = None ∷ None ∷ Some level ∷ c.starts; is = refl; goes_on = sort; cut = refl; marked = refl });
     }
 completion (Others level ∷ stack) =
     let c = completion stack in
-    record { tokens = codes "}" ∷ c.tokens; starts = None ∷ c.starts; completes = record { branches = NoMore; after = c.tokens; marks = c.starts; spellable = tt; goes_on = c.completes; cut = refl; marked = refl } }
+    record { tokens = codes "}" ∷ c.tokens; starts = None ∷ c.starts; completes = record { branches = NoMore; after = c.tokens; later = c.starts; spellable = (tt, tt); goes_on = c.completes; cut = refl; marked = refl } }
 
 -- ---- the first stack stands for the protocols
 
@@ -315,10 +316,13 @@ whole_protocol tokens starts a =
     let few = r.few in
     let none = g.goes_on in
     let text : tokens_before g.tree g.after ≡ global_tokens g.tree = ap (tokens_before g.tree) none.0 ∙ before_is g.tree [] g.spellable ∙ append-nil (global_tokens g.tree) in
-    let nodes : starts_before 1 g.tree g.marks ≡ node_starts 1 g.tree = ap (starts_before 1 g.tree) none.1 ∙ starts_are g.tree 1 [] g.spellable ∙ append-nil (node_starts 1 g.tree) in
+    let nodes : starts_before 1 g.tree g.later ≡ node_starts 1 g.tree = ap (starts_before 1 g.tree) none.1 ∙ starts_are g.tree 1 [] g.spellable ∙ append-nil (node_starts 1 g.tree) in
+    let names = b.token ∷ c.token ∷ r.names in
+    let all_tokens = protocol_tokens_are names g.tree in
+    let all_starts = protocol_starts_are names g.tree in
     record {
       roles = b.token ∷ c.token ∷ r.names;
       tree = g.tree;
-      spelled = record { names = (b.is, (c.is, r.are)); count = record { some = omega arith; few = omega arith }; body = g.spellable; parts = cc (a.cut, a.is, b.cut, c.cut, r.cut, g.cut, text) };
-      nodes = cc (a.marked, b.marked, c.marked, r.marked, g.marked, nodes);
+      spelled = record { names = (b.is, (c.is, r.are)); count = record { some = omega arith; few = omega arith }; body = g.spellable; parts = cc (a.cut, a.is, b.cut, c.cut, r.cut, g.cut, text, all_tokens) };
+      nodes = cc (a.marked, b.marked, c.marked, r.marked, g.marked, nodes, all_starts);
     }

@@ -7,8 +7,8 @@ use Rattle.std.proofs.lemmas.Bool.Decides.{nat_tests}
 use Rattle.std.proofs.lemmas.List.{take-append-drop, take_at, drop_at, length-append, append-nil}
 use Rattle.std.proofs.lemmas.Slice.Eq.{bytes_eq-Decides}
 use Rattle.mps_base.specs.Names.{reserved_words, is_lower, is_upper, is_name_byte, is_variable_byte}
-use Rattle.mps_text.specs.Tokens.{is_blank, is_word_byte, first_is, IsWord, marks, IsTokenBefore, Begins}
-use Rattle.mps_text.specs.Lexing.{is_small_word, is_capital_word, is_word, Fault, Lexeme, unblanked, run_len, is_mark_byte, word_len, token_len, lexeme_of, lexeme_at}
+use Rattle.mps_text.specs.Tokens.{is_blank, is_word_byte, first_is, IsWord, punctuation, IsTokenBefore, Begins}
+use Rattle.mps_text.specs.Lexing.{is_small_word, is_capital_word, is_word, Fault, Lexeme, unblanked, run_len, is_punctuation_byte, word_len, token_len, lexeme_of, lexeme_at}
 use Rattle.mps_text.specs.declared.fault.TextKind.TheVariants.{Word, Unexpected}
 use Rattle.mps_text.proofs.Names.{both_true, true_both, name_is, is_name_of, variable_is, is_variable_of}
 
@@ -107,29 +107,29 @@ run_ends : (bytes : List ℕ) → first_is is_word_byte (drop (run_len bytes) by
 run_ends [] = refl
 run_ends (c ∷ cs) = run_ends_by c cs (is_word_byte c) refl (run_ends cs)
 
-mark_found : (c : ℕ) → is_mark_byte c ≡ true → list_any (bytes_eq (c ∷ [])) marks ≡ true
-mark_found c h = grind (arith, nat_tests)
+punctuation_found : (c : ℕ) → is_punctuation_byte c ≡ true → list_any (bytes_eq (c ∷ [])) punctuation ≡ true
+punctuation_found c h = grind (arith, nat_tests)
 
 arrow_found : (bytes : List ℕ) → bytes_eq (take 2 bytes) (codes "->") ≡ true → IsTokenBefore (take 2 bytes) (drop 2 bytes)
 arrow_found bytes h = inl (rw ((bytes_eq-Decides (take 2 bytes) (codes "->")).0 h) refl)
 
-byte_found : (bytes : List ℕ) → first_is is_mark_byte bytes ≡ true → IsTokenBefore (take 1 bytes) (drop 1 bytes)
+byte_found : (bytes : List ℕ) → first_is is_punctuation_byte bytes ≡ true → IsTokenBefore (take 1 bytes) (drop 1 bytes)
 byte_found [] h = absurd cc
-byte_found (c ∷ cs) h = inl (mark_found c h)
+byte_found (c ∷ cs) h = inl (punctuation_found c h)
 
 word_found : (bytes : List ℕ) (b : Bool) → is_word (take (run_len bytes) bytes) ≡ b → word_len bytes ≢ 0 → IsTokenBefore (take (word_len bytes) bytes) (drop (word_len bytes) bytes)
 unfolding word_len
 word_found bytes true e some = rw e (inr (word_is (take (run_len bytes) bytes) e, run_ends bytes))
 word_found bytes false e some = absurd (some (rw e refl))
 
-found_by : (bytes : List ℕ) (a m : Bool) → bytes_eq (take 2 bytes) (codes "->") ≡ a → first_is is_mark_byte bytes ≡ m → token_len bytes ≢ 0 → IsTokenBefore (take (token_len bytes) bytes) (drop (token_len bytes) bytes)
+found_by : (bytes : List ℕ) (a m : Bool) → bytes_eq (take 2 bytes) (codes "->") ≡ a → first_is is_punctuation_byte bytes ≡ m → token_len bytes ≢ 0 → IsTokenBefore (take (token_len bytes) bytes) (drop (token_len bytes) bytes)
 unfolding token_len
 found_by bytes true m e f some = rw e (arrow_found bytes e)
 found_by bytes false true e f some = rw (e, f) (byte_found bytes f)
 found_by bytes false false e f some = rw (e, f) (word_found bytes (is_word (take (run_len bytes) bytes)) refl (λ none. some (rw (e, f) none)))
 
 token_found : (bytes : List ℕ) → token_len bytes ≢ 0 → IsTokenBefore (take (token_len bytes) bytes) (drop (token_len bytes) bytes)
-token_found bytes some = found_by bytes (bytes_eq (take 2 bytes) (codes "->")) (first_is is_mark_byte bytes) refl refl some
+token_found bytes some = found_by bytes (bytes_eq (take 2 bytes) (codes "->")) (first_is is_punctuation_byte bytes) refl refl some
 
 -- what the next token says of the bytes
 pub record Found (bytes : List ℕ) (next : Lexeme) : Type 0 where
@@ -184,7 +184,7 @@ variable_byte c h = grind (arith, nat_tests)
 -- what the first letter of a word is not
 pub record IsLetter (c : ℕ) : Type 0 where
   pub no_blank : is_blank c ≡ false
-  pub no_mark : is_mark_byte c ≡ false
+  pub no_mark : is_punctuation_byte c ≡ false
   pub no_dash : (c == 45) ≡ false
 
 lower_letter : (c : ℕ) → is_lower c ≡ true → IsLetter c
@@ -199,10 +199,10 @@ pub record Again (token rest : List ℕ) : Type 0 where
   pub len : token_len (token ++ rest) ≡ length token
   pub some : 0 < length token
 
-mark_again : (token rest : List ℕ) → list_any (bytes_eq token) marks ≡ true → Again token rest
+punctuation_again : (token rest : List ℕ) → list_any (bytes_eq token) punctuation ≡ true → Again token rest
 unfolding token_len
-mark_again token rest h =
-    each_of (λ t. Again t rest) token marks h (
+punctuation_again token rest h =
+    each_of (λ t. Again t rest) token punctuation h (
       record { first = refl; len = refl; some = omega arith },
       (
         record { first = refl; len = refl; some = omega arith },
@@ -246,7 +246,7 @@ word_again (c ∷ cs) rest false e word ends =
     word_again_by c cs rest (upper_letter c b.0) (weaker is_variable_byte is_word_byte (c ∷ cs) variable_byte b.1) word ends
 
 token_again : (token rest : List ℕ) → IsTokenBefore token rest → Again token rest
-token_again token rest (inl mark) = mark_again token rest mark
+token_again token rest (inl start_of) = punctuation_again token rest start_of
 token_again token rest (inr word) = word_again token rest (is_small_word token) refl (is_word_of token word.0) word.1
 
 pub token_some : (token rest : List ℕ) → IsTokenBefore token rest → 0 < length token

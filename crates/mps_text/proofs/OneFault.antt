@@ -9,7 +9,7 @@ use Rattle.mps_text.specs.Tokens.{is_blank, Begins}
 use Rattle.mps_text.specs.Grammar.{SpellsText, IsWithinLimits}
 use Rattle.mps_text.specs.Faults.{protocol_starts, nodes_begun, Shows, IsUnexpected, IsWrong, FaultAt, IsFirstFault}
 use Rattle.mps_text.specs.Lexing.{Fault, Lexed, Ended, Malformed, Next, lexed}
-use Rattle.mps_text.specs.Reading.{Symbol, step, mark, run, whole}
+use Rattle.mps_text.specs.Reading.{Symbol, step, start_of, run, whole}
 use Rattle.mps_text.specs.declared.fault.TextKind.{TextKind}
 use Rattle.mps_text.specs.declared.fault.TextKind.TheVariants.{TooLong, Word, Unexpected, TooManyNodes, TooDeep, Trailing, Memory}
 use Rattle.mps_text.proofs.Machine.{Drives}
@@ -33,7 +33,7 @@ run_malformed (x ∷ stack) room left = refl
 
 refused_at : (front : List (List ℕ)) (x : Symbol) (stack : List Symbol) (starts : List (Option ℕ)) (room : ℕ) (text more : Lexed) (token : List ℕ) (left : ℕ) (o : Option (List Symbol)) → Drives whole front (x ∷ stack) starts → text ≡ Next token left more → IsUnexpected front (Some token) → step x token ≡ o → run (x ∷ stack) room text ≡ Err (left, Unexpected)
 refused_at front x stack starts room text more token left None d cut u e = rw (cut, e) refl
-refused_at front x stack starts room text more token left (Some pushed) d cut u e = absurd (u.1 (starts ++ mark x ∷ []) (opens_behind front x stack pushed starts token d e))
+refused_at front x stack starts room text more token left (Some pushed) d cut u e = absurd (u.1 (starts ++ start_of x ∷ []) (opens_behind front x stack pushed starts token d e))
 
 unexpected_at : (next : Option (List ℕ)) (front : List (List ℕ)) (mid : List Symbol) (starts : List (Option ℕ)) (room : ℕ) (rest blanks bytes : List ℕ) → Drives whole front mid starts → rest ≡ blanks ++ bytes → list_all is_blank blanks ≡ true → Shows bytes next → IsUnexpected front next → run mid room (lexed rest) ≡ Err (length bytes, Unexpected)
 unexpected_at None front [] starts room rest blanks bytes d parts blank s u = absurd (u (whole_by front starts d))
@@ -56,14 +56,14 @@ wrong_at Unexpected front mid starts room rest blanks bytes d count parts blank 
 wrong_at TooManyNodes front [] starts room rest blanks bytes d count parts blank w = absurd (none_behind front starts w.0 (starts ++ Some w.1 ∷ []) d w.3)
 wrong_at TooManyNodes front (x ∷ stack) starts room rest blanks bytes d count parts blank w =
     let b = some_behind front x stack starts w.0 (starts ++ Some w.1 ∷ []) d w.3 in
-    let marked : mark x ≡ Some w.1 = sym (last_same starts (Some w.1) (mark x) b.marked) in
+    let marked : start_of x ≡ Some w.1 = sym (last_same starts (Some w.1) (start_of x) b.marked) in
     let full = w.4 in
     let none : room ≡ 0 = omega (arith, count, full) in
     rw (shown_cut rest blanks bytes w.0 parts blank w.2, b.steps, marked, none) refl
 wrong_at TooDeep front [] starts room rest blanks bytes d count parts blank w = absurd (none_behind front starts w.0 (starts ++ Some 65 ∷ []) d w.2)
 wrong_at TooDeep front (x ∷ stack) starts room rest blanks bytes d count parts blank w =
     let b = some_behind front x stack starts w.0 (starts ++ Some 65 ∷ []) d w.2 in
-    let marked : mark x ≡ Some 65 = sym (last_same starts (Some 65) (mark x) b.marked) in
+    let marked : start_of x ≡ Some 65 = sym (last_same starts (Some 65) (start_of x) b.marked) in
     let few = w.3 in
     let some : (room == 0) ≡ false = grind (arith, nat_tests, count, few) in
     rw (shown_cut rest blanks bytes w.0 parts blank w.1, b.steps, marked, some) refl

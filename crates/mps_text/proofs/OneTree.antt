@@ -10,14 +10,15 @@ use Rattle.mps_base.specs.declared.value.Sort.{Sort}
 use Rattle.mps_global.specs.Global.{GlobalType, Branches, End, Var, Rec, Message, Choice, NoMore, More}
 use Rattle.mps_text.specs.Tokens.{is_blank, BeginsAll}
 use Rattle.mps_base.specs.Sorts.{sort_word}
-use Rattle.mps_text.specs.Grammar.{global_tokens, HasBranch, IsSpellable, AreSpellable, SpellsProtocol, SpellsText}
+use Rattle.mps_text.specs.Grammar.{HasBranch, IsSpellable, AreSpellable, SpellsProtocol, SpellsText}
+use Rattle.mps_text.specs.Writing.{global_tokens}
 use Rattle.mps_text.specs.Lexing.{lexed, tokens_in, is_name}
 use Rattle.mps_text.specs.Reading.{first_of, first_token, IsFirst, sort_of, tokens_before, branches_before}
 use Rattle.mps_text.specs.declared.reading.First.{First}
 use Rattle.mps_text.specs.declared.reading.First.TheVariants as firsts
 use Rattle.mps_text.proofs.Names.{is_name_of}
 use Rattle.mps_text.proofs.Tokens.{some_is, sort_again, first_again}
-use Rattle.mps_text.proofs.Trees.{before_is}
+use Rattle.mps_text.proofs.Trees.{before_is, protocol_tokens_are}
 use Rattle.mps_text.proofs.Cuts.{lexed_token, lexed_blanks}
 
 -- ---- the first token
@@ -36,10 +37,10 @@ record Headed (tree : GlobalType) (rest : List (List ℕ)) : Type 0 where
 
 headed : (tree : GlobalType) (rest : List (List ℕ)) → Headed tree rest
 headed End rest = record { tail = rest; good = λ s. tt; parts = refl }
-headed (Var name) rest = record { tail = rest; good = λ s. s; parts = refl }
+headed (Var name) rest = record { tail = rest; good = λ s. s.0; parts = refl }
 headed (Rec name body) rest = record { tail = name ∷ codes "." ∷ tokens_before body rest; good = λ s. tt; parts = refl }
-headed (Message sender receiver sort next) rest = record { tail = codes "->" ∷ receiver ∷ codes ":" ∷ sort_word sort ∷ codes "." ∷ tokens_before next rest; good = λ s. s.0; parts = refl }
-headed (Choice sender receiver branches) rest = record { tail = codes "->" ∷ receiver ∷ branches_before (codes "{") branches rest; good = λ s. s.0; parts = refl }
+headed (Message sender receiver sort next) rest = record { tail = codes "->" ∷ receiver ∷ codes ":" ∷ sort_word sort ∷ codes "." ∷ tokens_before next rest; good = λ s. s.0.0; parts = refl }
+headed (Choice sender receiver branches) rest = record { tail = codes "->" ∷ receiver ∷ branches_before (codes "{") branches rest; good = λ s. s.0.0; parts = refl }
 
 same_cons : (x y : List ℕ) (xs ys : List (List ℕ)) → x ∷ xs ≡ y ∷ ys → (x ≡ y) × (xs ≡ ys)
 same_cons x y xs ys e = (cc, cc)
@@ -74,7 +75,7 @@ mutual
       let p = same_cons (codes "rec") (codes "rec") (a ∷ codes "." ∷ tokens_before body rest) (b ∷ codes "." ∷ tokens_before other others) e in
       let q = same_cons a b (codes "." ∷ tokens_before body rest) (codes "." ∷ tokens_before other others) p.1 in
       let d = same_cons (codes ".") (codes ".") (tokens_before body rest) (tokens_before other others) q.1 in
-      let m = same_tree body other rest others s.1 r.1 d.1 in
+      let m = same_tree body other rest others (s.0.1, s.1) (r.0.1, r.1) d.1 in
       let name = q.0 in
       let tree = m.0 in
       (cc (name, tree), m.1)
@@ -85,7 +86,7 @@ mutual
       let g = same_cons (codes ":") (codes ":") (sort_word sort ∷ codes "." ∷ tokens_before next rest) (sort_word kind ∷ codes "." ∷ tokens_before other others) f.1 in
       let h = same_cons (sort_word sort) (sort_word kind) (codes "." ∷ tokens_before next rest) (codes "." ∷ tokens_before other others) g.1 in
       let i = same_cons (codes ".") (codes ".") (tokens_before next rest) (tokens_before other others) h.1 in
-      let m = same_tree next other rest others s.2 r.2 i.1 in
+      let m = same_tree next other rest others (s.0.2, s.1) (r.0.2, r.1) i.1 in
       let sender = p.0 in
       let receiver = f.0 in
       let sorts = same_sort sort kind h.0 in
@@ -95,7 +96,7 @@ mutual
       let p = same_cons a c (codes "->" ∷ b ∷ branches_before (codes "{") branches rest) (codes "->" ∷ d ∷ branches_before (codes "{") more others) e in
       let q = same_cons (codes "->") (codes "->") (b ∷ branches_before (codes "{") branches rest) (d ∷ branches_before (codes "{") more others) p.1 in
       let f = same_cons b d (branches_before (codes "{") branches rest) (branches_before (codes "{") more others) q.1 in
-      let m = same_branches branches more (codes "{") rest others (apart (codes "{") (codes "}") refl) s.3 r.3 f.1 in
+      let m = same_branches branches more (codes "{") rest others (apart (codes "{") (codes "}") refl) (s.0.2, s.1.1) (r.0.2, r.1.1) f.1 in
       let sender = p.0 in
       let receiver = f.0 in
       let tree = m.0 in
@@ -103,11 +104,11 @@ mutual
   same_tree (Message a b sort next) (Choice c d branches) rest others s r e =
       let p = same_cons a c (codes "->" ∷ b ∷ codes ":" ∷ sort_word sort ∷ codes "." ∷ tokens_before next rest) (codes "->" ∷ d ∷ branches_before (codes "{") branches others) e in
       let q = same_cons (codes "->") (codes "->") (b ∷ codes ":" ∷ sort_word sort ∷ codes "." ∷ tokens_before next rest) (d ∷ branches_before (codes "{") branches others) p.1 in
-      absurd (no_brace b d (sort_word sort) branches others (codes "." ∷ tokens_before next rest) r.2 q.1)
+      absurd (no_brace b d (sort_word sort) branches others (codes "." ∷ tokens_before next rest) r.1.0 q.1)
   same_tree (Choice c d branches) (Message a b sort next) rest others s r e =
       let p = same_cons a c (codes "->" ∷ b ∷ codes ":" ∷ sort_word sort ∷ codes "." ∷ tokens_before next others) (codes "->" ∷ d ∷ branches_before (codes "{") branches rest) (sym e) in
       let q = same_cons (codes "->") (codes "->") (b ∷ codes ":" ∷ sort_word sort ∷ codes "." ∷ tokens_before next others) (d ∷ branches_before (codes "{") branches rest) p.1 in
-      absurd (no_brace b d (sort_word sort) branches rest (codes "." ∷ tokens_before next others) s.2 q.1)
+      absurd (no_brace b d (sort_word sort) branches rest (codes "." ∷ tokens_before next others) s.1.0 q.1)
   same_tree t u rest others s r e = absurd (cc (same_head t u rest others s r e))
 
   same_branches : (b c : Branches) (sep : List ℕ) (rest others : List (List ℕ)) → (sep ≡ codes "}" → ⊥) → AreSpellable b → AreSpellable c → branches_before sep b rest ≡ branches_before sep c others → (b ≡ c) × (rest ≡ others)
@@ -122,8 +123,8 @@ mutual
       let p = same_cons sep sep (a ∷ codes ":" ∷ x) (b ∷ codes ":" ∷ y) e in
       let q = same_cons a b (codes ":" ∷ x) (codes ":" ∷ y) p.1 in
       let d = same_cons (codes ":") (codes ":") x y q.1 in
-      let m = same_tree next other (branches_before (codes ",") more rest) (branches_before (codes ",") further others) s.1 r.1 d.1 in
-      let n = same_branches more further (codes ",") rest others (apart (codes ",") (codes "}") refl) s.2 r.2 m.1 in
+      let m = same_tree next other (branches_before (codes ",") more rest) (branches_before (codes ",") further others) (s.0.1, s.1.0) (r.0.1, r.1.0) d.1 in
+      let n = same_branches more further (codes ",") rest others (apart (codes ",") (codes "}") refl) (s.0.2, s.1.1) (r.0.2, r.1.1) m.1 in
       let label = q.0 in
       let tree = m.0 in
       let branches = n.0 in
@@ -155,7 +156,7 @@ alone tree s = before_is tree [] s ∙ append-nil (global_tokens tree)
 
 pub same_protocol : (tokens r s : List (List ℕ)) (t u : GlobalType) → SpellsProtocol tokens r t → SpellsProtocol tokens s u → (r ≡ s) × (t ≡ u)
 same_protocol tokens r s t u p q =
-    let behind = (same_cons (codes "roles") (codes "roles") (r ++ codes ";" ∷ global_tokens t) (s ++ codes ";" ∷ global_tokens u) (sym p.parts ∙ q.parts)).1 in
+    let behind = (same_cons (codes "roles") (codes "roles") (r ++ codes ";" ∷ global_tokens t) (s ++ codes ";" ∷ global_tokens u) (sym (p.parts ∙ protocol_tokens_are r t) ∙ q.parts ∙ protocol_tokens_are s u)).1 in
     let roles = same_roles r s (global_tokens t) (global_tokens u) p.names q.names behind in
     let trees = same_tree t u [] [] p.body q.body (alone t p.body ∙ roles.1 ∙ sym (alone u q.body)) in
     (roles.0, trees.0)

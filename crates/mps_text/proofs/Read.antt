@@ -1,30 +1,57 @@
--- What the reader took is spelled so.
-use Rattle.std.proofs.Common.{◌≡◌, ℕ, ◌≤◌, List, [], ◌∷◌, ◌++◌, length, Ok, ap, subst, ◌∙◌}
+-- What the reader took is spelled so, and each text spells a protocol or has a fault.
+use Rattle.std.proofs.Common.{◌≡◌, ℕ, ◌-◌, ◌≤◌, ◌⊎◌, inl, inr, List, [], ◌∷◌, ◌++◌, length, Result, Ok, Err, refl, ap, sym, subst, ◌∙◌}
 use Rattle.std.specs.Prelude.{codes}
 use Rattle.std.specs.List.{AllByRecursion}
+use Rattle.std.proofs.lemmas.Bool.{cases_lt}
 use Rattle.std.proofs.lemmas.List.{append-nil}
 use Rattle.mps_base.specs.Names.{IsName}
 use Rattle.mps_base.specs.RoleLists.{HasRoleCount}
 use Rattle.mps_global.specs.Global.{GlobalType}
-use Rattle.mps_text.specs.Grammar.{global_tokens, protocol_tokens, IsSpellable, SpellsProtocol, SpellsText, IsWithinLimits}
-use Rattle.mps_text.specs.Faults.{protocol_starts, AreWithin}
-use Rattle.mps_text.specs.Lexing.{lexed, tokens_in}
+use Rattle.mps_text.specs.Grammar.{protocol_tokens, IsSpellable, SpellsProtocol, SpellsText, IsWithinLimits}
+use Rattle.mps_text.specs.Faults.{protocol_starts, AreWithin, HasProtocol, HasFault}
+use Rattle.mps_text.specs.declared.fault.TextKind.TheVariants.{TooLong}
+use Rattle.mps_text.specs.Writing.{global_tokens}
+use Rattle.mps_text.specs.Lexing.{Fault, lexed, tokens_in}
 use Rattle.mps_text.specs.Reading.{run, whole, tokens_before}
 use Rattle.mps_text.proofs.Machine.{drives_one}
-use Rattle.mps_text.proofs.Trees.{before_is, drives_whole}
+use Rattle.mps_text.proofs.Trees.{before_is, protocol_tokens_are, drives_whole}
 use Rattle.mps_text.proofs.Limits.{within_protocol}
 use Rattle.mps_text.proofs.Cuts.{text_cut}
-use Rattle.mps_text.proofs.Runs.{run_passes}
+use Rattle.mps_text.proofs.Runs.{Passed, run_passes}
+use Rattle.mps_text.proofs.FirstFault.{whole_by, first_fault, fault_kind}
+
+-- what a whole run drives away is within the limits
+passed : (text : List ℕ) (roles : List (List ℕ)) (tree : GlobalType) → length text ≤ 65536 → Passed (tokens_in (lexed text)) whole 256 text → SpellsProtocol (tokens_in (lexed text)) roles tree → IsWithinLimits text tree × SpellsText text roles tree
+passed text roles tree short w s =
+    let same = (drives_one whole (tokens_in (lexed text)) [] w.starts [] (protocol_starts roles tree) w.drives (drives_whole (tokens_in (lexed text)) roles tree s)).1 in
+    let within : AreWithin (protocol_starts roles tree) = subst AreWithin same (record { shallow = w.shallow; few = w.few }) in
+    let limits = within_protocol roles tree s.body within in (
+      record { short = short; small = limits.0; shallow = limits.1 },
+      record { tokens = tokens_in (lexed text); cut = record { rest = w.rest; all = w.read; blank = w.blank }; spelled = s },
+    )
 
 pub taken : (text : List ℕ) (roles : List (List ℕ)) (tree : GlobalType) → length text ≤ 65536 → run whole 256 (lexed text) ≡ Ok tt → tokens_in (lexed text) ≡ codes "roles" ∷ roles ++ codes ";" ∷ tokens_before tree [] → AllByRecursion IsName roles → HasRoleCount roles → IsSpellable tree → IsWithinLimits text tree × SpellsText text roles tree
 taken text roles tree short h tokens names count body =
     let w = run_passes (lexed text) whole 256 text (text_cut text) h in
     let alone : tokens_before tree [] ≡ global_tokens tree = before_is tree [] body ∙ append-nil (global_tokens tree) in
-    let parts : tokens_in (lexed text) ≡ protocol_tokens roles tree = tokens ∙ ap (λ (ts : List (List ℕ)). codes "roles" ∷ roles ++ codes ";" ∷ ts) alone in
+    let parts : tokens_in (lexed text) ≡ protocol_tokens roles tree = tokens ∙ ap (λ (ts : List (List ℕ)). codes "roles" ∷ roles ++ codes ";" ∷ ts) alone ∙ sym (protocol_tokens_are roles tree) in
     let s : SpellsProtocol (tokens_in (lexed text)) roles tree = record { names = names; count = count; body = body; parts = parts } in
-    let same = (drives_one whole (tokens_in (lexed text)) [] w.starts [] (protocol_starts roles tree) w.drives (drives_whole (tokens_in (lexed text)) roles tree s)).1 in
-    let within : AreWithin (protocol_starts roles tree) = subst AreWithin same (record { shallow = w.shallow; few = w.few }) in
-    let limits = within_protocol roles tree body within in (
-      record { short = short; small = limits.0; shallow = limits.1 },
-      record { tokens = tokens_in (lexed text); cut = record { rest = w.rest; all = w.read; blank = w.blank }; spelled = s },
-    )
+    passed text roles tree short w s
+
+-- ---- each text spells a protocol or has a fault
+
+answered : (text : List ℕ) (r : Result (Unit {0}) Fault) → length text ≤ 65536 → run whole 256 (lexed text) ≡ r → HasProtocol text ⊎ HasFault text
+answered text (Ok tt) short h =
+    let w = run_passes (lexed text) whole 256 text (text_cut text) h in
+    let p = whole_by (tokens_in (lexed text)) w.starts w.drives in
+    let s = passed text p.0 p.1 short w p.2 in
+    inl (p.0, p.1, s.0, s.1)
+answered text (Err fault) short h =
+    inr (length text - fault.0, fault.1, first_fault text fault.0 fault.1 short h, fault_kind text fault.0 fault.1 h)
+
+pub protocol_or_fault : (text : List ℕ) → HasProtocol text ⊎ HasFault text
+protocol_or_fault text =
+    elim (cases_lt 65536 (length text)) [
+      | inl long ↦ inr (65536, TooLong, (long, refl), λ e. cc (e))
+      | inr short ↦ answered text (run whole 256 (lexed text)) short refl
+    ]

@@ -7,7 +7,7 @@ use Rattle.std.proofs.lemmas.List.{append-nil}
 use Rattle.mps_text.specs.Tokens.{is_blank, Begins, BeginsAll}
 use Rattle.mps_text.specs.Faults.{IsShallow, nodes_begun, Shows, IsMalformed}
 use Rattle.mps_text.specs.Lexing.{Fault, ◌>>=◌, Lexed, Ended, Malformed, Next, lexed, tokens_in}
-use Rattle.mps_text.specs.Reading.{Symbol, step, mark, pushed_by, counted, run}
+use Rattle.mps_text.specs.Reading.{Symbol, step, start_of, pushed_by, counted, run}
 use Rattle.mps_text.specs.declared.fault.TextKind.{TextKind}
 use Rattle.mps_text.specs.declared.fault.TextKind.TheVariants.{TooLong, Word, Unexpected, TooManyNodes, TooDeep, Trailing, Memory}
 use Rattle.mps_text.proofs.Tokens.{chosen}
@@ -104,17 +104,17 @@ run_passes (Malformed left) [] nodes bytes c h = absurd cc
 run_passes (Malformed left) (x ∷ stack) nodes bytes c h = absurd cc
 run_passes (Next token left rest) [] nodes bytes c h = absurd cc
 run_passes (Next token left rest) (x ∷ stack) nodes bytes c h =
-    let a = bind_ok (pushed_by left (step x token)) (λ pushed. counted (mark x) nodes left >>= λ more. run (pushed ++ stack) more rest) tt h in
-    let b = bind_ok (counted (mark x) nodes left) (λ more. run (a.0 ++ stack) more rest) tt a.2 in
-    let k = counted_is (mark x) nodes left b.0 b.1 in
+    let a = bind_ok (pushed_by left (step x token)) (λ pushed. counted (start_of x) nodes left >>= λ more. run (pushed ++ stack) more rest) tt h in
+    let b = bind_ok (counted (start_of x) nodes left) (λ more. run (a.0 ++ stack) more rest) tt a.2 in
+    let k = counted_is (start_of x) nodes left b.0 b.1 in
     let w = run_passes rest (a.0 ++ stack) b.0 c.0 c.3 b.2 in
     let count = k.1 in
     let few = w.few in
     record {
-      starts = mark x ∷ w.starts;
+      starts = start_of x ∷ w.starts;
       drives = (a.0, pushed_is left (step x token) a.0 a.1, w.starts, refl, w.drives);
       shallow = (k.0, w.shallow);
-      few = omega (arith, begun_more (mark x) w.starts, count, few);
+      few = omega (arith, begun_more (start_of x) w.starts, count, few);
       rest = w.rest;
       read = (c.0, c.1, w.read);
       blank = w.blank;
@@ -129,10 +129,10 @@ WrongAt Unexpected [] room here = ⊥
 WrongAt Unexpected (x ∷ stack) room here = (here ≡ []) ⊎ ((token : List ℕ) × Shows here (Some token) × (step x token ≡ None))
 WrongAt TooManyNodes [] room here = ⊥
 WrongAt TooManyNodes (x ∷ stack) room here =
-    (token : List ℕ) × (level : ℕ) × (pushed : List Symbol) × Shows here (Some token) × (step x token ≡ Some pushed) × (mark x ≡ Some level) × (room ≡ 0)
+    (token : List ℕ) × (level : ℕ) × (pushed : List Symbol) × Shows here (Some token) × (step x token ≡ Some pushed) × (start_of x ≡ Some level) × (room ≡ 0)
 WrongAt TooDeep [] room here = ⊥
 WrongAt TooDeep (x ∷ stack) room here =
-    (token : List ℕ) × (level : ℕ) × (pushed : List Symbol) × Shows here (Some token) × (step x token ≡ Some pushed) × (mark x ≡ Some level) × (0 < room) × (64 < level)
+    (token : List ℕ) × (level : ℕ) × (pushed : List Symbol) × Shows here (Some token) × (step x token ≡ Some pushed) × (start_of x ≡ Some level) × (0 < room) × (64 < level)
 WrongAt Trailing [] room here = (token : List ℕ) × Shows here (Some token)
 WrongAt Trailing (x ∷ stack) room here = ⊥
 WrongAt TooLong stack room here = ⊥
@@ -170,19 +170,19 @@ stuck_word : (stack : List Symbol) (nodes : ℕ) (bytes : List ℕ) (left : ℕ)
 stuck_word stack nodes bytes left s = stuck_at stack nodes bytes s.blanks s.here (left, Word) s.parts s.blank s.long s.wrong
 
 -- behind a token
-stuck_behind : (x : Symbol) (stack pushed : List Symbol) (token after bytes : List ℕ) (nodes more : ℕ) (fault : Fault) → step x token ≡ Some pushed → IsShallow (mark x) → more + nodes_begun (mark x ∷ []) ≡ nodes → Begins bytes token after → Stuck (pushed ++ stack) more after fault → Stuck (x ∷ stack) nodes bytes fault
+stuck_behind : (x : Symbol) (stack pushed : List Symbol) (token after bytes : List ℕ) (nodes more : ℕ) (fault : Fault) → step x token ≡ Some pushed → IsShallow (start_of x) → more + nodes_begun (start_of x ∷ []) ≡ nodes → Begins bytes token after → Stuck (pushed ++ stack) more after fault → Stuck (x ∷ stack) nodes bytes fault
 stuck_behind x stack pushed token after bytes nodes more fault s shallow count b w =
     let inner = w.count in
     record {
       front = token ∷ w.front;
-      starts = mark x ∷ w.starts;
+      starts = start_of x ∷ w.starts;
       mid = w.mid;
       room = w.room;
       rest = w.rest;
       read = (after, b, w.read);
       drives = (pushed, s, w.starts, refl, w.drives);
       shallow = (shallow, w.shallow);
-      count = omega (arith, begun_more (mark x) w.starts, count, inner);
+      count = omega (arith, begun_more (start_of x) w.starts, count, inner);
       blanks = w.blanks;
       blank = w.blank;
       here = w.here;
@@ -191,7 +191,7 @@ stuck_behind x stack pushed token after bytes nodes more fault s shallow count b
       wrong = w.wrong;
     }
 
-limit_stuck : (x : Symbol) (stack pushed : List Symbol) (token after bytes : List ℕ) (nodes left : ℕ) (fault : Fault) → step x token ≡ Some pushed → Begins bytes token after → left ≡ length (token ++ after) → Passes (mark x) nodes fault left → Stuck (x ∷ stack) nodes bytes fault
+limit_stuck : (x : Symbol) (stack pushed : List Symbol) (token after bytes : List ℕ) (nodes left : ℕ) (fault : Fault) → step x token ≡ Some pushed → Begins bytes token after → left ≡ length (token ++ after) → Passes (start_of x) nodes fault left → Stuck (x ∷ stack) nodes bytes fault
 limit_stuck x stack pushed token after bytes nodes left fault s b long p =
     elim p.2 [
       | inl a ↦ subst (Stuck (x ∷ stack) nodes bytes) a.1 (stuck_token (x ∷ stack) nodes bytes token after left TooManyNodes b long (token, p.0, pushed, (after, refl, b.found), s, p.1, a.0))
@@ -207,17 +207,17 @@ run_sticks (Next token left rest) [] nodes bytes fault c h =
     subst (Stuck [] nodes bytes) (fault_is (left, Trailing) fault (run [] nodes (Next token left rest)) refl h)
     (stuck_token [] nodes bytes token c.0 left Trailing c.1 c.2 (token, (c.0, refl, c.1.found)))
 run_sticks (Next token left rest) (x ∷ stack) nodes bytes fault c h =
-    elim (bind_err (pushed_by left (step x token)) (λ pushed. counted (mark x) nodes left >>= λ more. run (pushed ++ stack) more rest) fault h) [
+    elim (bind_err (pushed_by left (step x token)) (λ pushed. counted (start_of x) nodes left >>= λ more. run (pushed ++ stack) more rest) fault h) [
       | inl e ↦
           let n = not_pushed left (step x token) fault e in
           subst (Stuck (x ∷ stack) nodes bytes) n.1
           (stuck_token (x ∷ stack) nodes bytes token c.0 left Unexpected c.1 c.2 (inr (token, (c.0, refl, c.1.found), n.0)))
       | inr a ↦
           let s = pushed_is left (step x token) a.0 a.1 in
-          elim (bind_err (counted (mark x) nodes left) (λ more. run (a.0 ++ stack) more rest) fault a.2) [
-            | inl e ↦ limit_stuck x stack a.0 token c.0 bytes nodes left fault s c.1 c.2 (not_counted (mark x) nodes left fault e)
+          elim (bind_err (counted (start_of x) nodes left) (λ more. run (a.0 ++ stack) more rest) fault a.2) [
+            | inl e ↦ limit_stuck x stack a.0 token c.0 bytes nodes left fault s c.1 c.2 (not_counted (start_of x) nodes left fault e)
             | inr b ↦
-                let k = counted_is (mark x) nodes left b.0 b.1 in
+                let k = counted_is (start_of x) nodes left b.0 b.1 in
                 stuck_behind x stack a.0 token c.0 bytes nodes b.0 fault s k.0 k.1 c.1 (run_sticks rest (a.0 ++ stack) b.0 c.0 fault c.3 b.2)
           ]
     ]
@@ -230,7 +230,7 @@ run_driven [] stack mid starts room nodes bytes rest d shallow count read =
     rw (d.0, read, sym all) refl
 run_driven (token ∷ front) [] mid starts room nodes bytes rest d shallow count read = absurd d
 run_driven (token ∷ front) (x ∷ stack) mid starts room nodes bytes rest d shallow count read =
-    let all : AllByRecursion IsShallow (mark x ∷ d.2) = subst (AllByRecursion IsShallow) d.3 shallow in
-    let sum : room + nodes_begun (mark x ∷ d.2) ≡ nodes = subst (λ (st : List (Option ℕ)). room + nodes_begun st ≡ nodes) d.3 count in
-    let more = counted_again (mark x) d.2 room nodes (length (token ++ read.0)) all.0 sum in
+    let all : AllByRecursion IsShallow (start_of x ∷ d.2) = subst (AllByRecursion IsShallow) d.3 shallow in
+    let sum : room + nodes_begun (start_of x ∷ d.2) ≡ nodes = subst (λ (st : List (Option ℕ)). room + nodes_begun st ≡ nodes) d.3 count in
+    let more = counted_again (start_of x) d.2 room nodes (length (token ++ read.0)) all.0 sum in
     rw (lexed_token bytes token read.0 read.1, d.1, more) (run_driven front (d.0 ++ stack) mid d.2 room (room + nodes_begun d.2) read.0 rest d.4 all.1 refl read.2)

@@ -1,19 +1,97 @@
 -- The tokens of a tree, and how they drive a stack on.
-use Rattle.std.proofs.Common.{◌≡◌, ℕ, ◌+◌, ◌-◌, ◌≤◌, true, nat_lt, List, [], ◌∷◌, ◌++◌, length, Option, Some, None, refl, ap, sym, ◌∙◌, append_assoc, arith}
+use Rattle.std.proofs.Common.{◌≡◌, ℕ, ◌+◌, ◌-◌, ◌≤◌, true, nat_lt, List, [], ◌∷◌, ◌++◌, length, Option, Some, None, refl, ap, sym, subst, ◌∙◌, append_assoc, map, arith}
 use Rattle.std.specs.Prelude.{codes, ⊤}
 use Rattle.std.specs.List.{AllByRecursion}
 use Rattle.std.proofs.lemmas.Bool.Decides.{nat_tests}
-use Rattle.std.proofs.lemmas.List.{append-nil}
+use Rattle.std.proofs.lemmas.List.{append-nil, map-append}
 use Rattle.mps_base.specs.Names.{IsName, IsVariable}
 use Rattle.mps_global.specs.Global.{GlobalType, Branches, End, Var, Rec, Message, Choice, NoMore, More}
 use Rattle.mps_base.specs.Sorts.{sort_word}
-use Rattle.mps_text.specs.Grammar.{global_tokens, branch_tokens, HasBranch, IsSpellable, AreSpellable, SpellsProtocol, protocol_tokens}
-use Rattle.mps_text.specs.Faults.{node_starts, branch_starts, no_starts, protocol_starts}
-use Rattle.mps_text.specs.Reading.{Symbol, Token, AName, AVariable, ASort, Roles, Node, Exchange, Others, branch, step, mark, begun, named, which, whole, tokens_before, branches_before}
+use Rattle.mps_text.specs.Grammar.{Part, inside, node_parts, branch_parts, HasBranch, IsSpellable, AreSpellable, SpellsProtocol, protocol_tokens}
+use Rattle.mps_text.specs.Writing.{global_tokens, branch_tokens}
+use Rattle.mps_text.specs.Faults.{protocol_starts}
+use Rattle.mps_text.specs.Reading.{Symbol, Token, AName, AVariable, ASort, Roles, Node, Exchange, Others, branch, step, start_of, begun, named, which, whole, tokens_before, branches_before}
 use Rattle.mps_text.specs.declared.reading.First.TheVariants as firsts
 use Rattle.mps_text.proofs.Names.{is_name_of, is_variable_of}
 use Rattle.mps_text.proofs.Tokens.{name_apart, sort_again, first_again}
 use Rattle.mps_text.proofs.Machine.{Drives, drives_more}
+
+-- ---- the tokens, and the nodes that they begin, of parts
+
+abbrev tokens_in_parts : List Part → List (List ℕ)
+tokens_in_parts parts = map (λ part. part.0) parts
+
+abbrev starts_in_parts : List Part → List (Option ℕ)
+starts_in_parts parts = map (λ part. part.1) parts
+
+abbrev pub node_starts : ℕ → GlobalType → List (Option ℕ)
+node_starts level tree = starts_in_parts (node_parts level tree)
+
+abbrev branch_starts : ℕ → Branches → List (Option ℕ)
+branch_starts level branches = starts_in_parts (branch_parts level branches)
+
+-- for tokens that begin no node
+abbrev pub no_starts : List (List ℕ) → List (Option ℕ)
+no_starts [] = []
+no_starts (token ∷ tokens) = None ∷ no_starts tokens
+
+mutual
+  tokens_are : (level : ℕ) (tree : GlobalType) → tokens_in_parts (node_parts level tree) ≡ global_tokens tree
+  tokens_are level End = refl
+  tokens_are level (Var name) = refl
+  tokens_are level (Rec name body) = ap (λ (ts : List (List ℕ)). codes "rec" ∷ name ∷ codes "." ∷ ts) (tokens_are (level + 1) body)
+  tokens_are level (Message sender receiver sort next) =
+      ap (λ (ts : List (List ℕ)). sender ∷ codes "->" ∷ receiver ∷ codes ":" ∷ sort_word sort ∷ codes "." ∷ ts) (tokens_are (level + 1) next)
+  tokens_are level (Choice sender receiver branches) =
+      ap (λ (ts : List (List ℕ)). sender ∷ codes "->" ∷ receiver ∷ codes "{" ∷ ts)
+      (map-append (λ (part : Part). part.0) (branch_parts (level + 1) branches) (inside (codes "}" ∷ []))
+      ∙ ap (λ (ts : List (List ℕ)). ts ++ codes "}" ∷ []) (branch_tokens_are (level + 1) branches))
+
+  branch_tokens_are : (level : ℕ) (branches : Branches) → tokens_in_parts (branch_parts level branches) ≡ branch_tokens branches
+  branch_tokens_are level NoMore = refl
+  branch_tokens_are level (More label next NoMore) = ap (λ (ts : List (List ℕ)). label ∷ codes ":" ∷ ts) (tokens_are level next)
+  branch_tokens_are level (More label next (More second then others)) =
+      let more = More second then others in
+      ap (λ (ts : List (List ℕ)). label ∷ codes ":" ∷ ts)
+      (map-append (λ (part : Part). part.0) (node_parts level next ++ inside (codes "," ∷ [])) (branch_parts level more)
+      ∙ ap (λ (ts : List (List ℕ)). ts ++ tokens_in_parts (branch_parts level more)) (map-append (λ (part : Part). part.0) (node_parts level next) (inside (codes "," ∷ [])))
+      ∙ append_assoc (tokens_in_parts (node_parts level next)) (codes "," ∷ []) (tokens_in_parts (branch_parts level more))
+      ∙ ap (λ (ts : List (List ℕ)). ts ++ codes "," ∷ tokens_in_parts (branch_parts level more)) (tokens_are level next)
+      ∙ ap (λ (ts : List (List ℕ)). global_tokens next ++ codes "," ∷ ts) (branch_tokens_are level (More second then others)))
+
+inside_tokens : (tokens : List (List ℕ)) → tokens_in_parts (inside tokens) ≡ tokens
+inside_tokens [] = refl
+inside_tokens (token ∷ tokens) = ap (λ (ts : List (List ℕ)). token ∷ ts) (inside_tokens tokens)
+
+inside_starts : (tokens : List (List ℕ)) → starts_in_parts (inside tokens) ≡ no_starts tokens
+inside_starts [] = refl
+inside_starts (token ∷ tokens) = ap (λ (st : List (Option ℕ)). None ∷ st) (inside_starts tokens)
+
+pub protocol_tokens_are : (roles : List (List ℕ)) (tree : GlobalType) → protocol_tokens roles tree ≡ codes "roles" ∷ roles ++ codes ";" ∷ global_tokens tree
+protocol_tokens_are roles tree =
+    ap (λ (ts : List (List ℕ)). codes "roles" ∷ ts)
+    (ap tokens_in_parts (append_assoc (inside roles) (inside (codes ";" ∷ [])) (node_parts 1 tree))
+    ∙ map-append (λ (part : Part). part.0) (inside roles) (inside (codes ";" ∷ []) ++ node_parts 1 tree)
+    ∙ ap (λ (ts : List (List ℕ)). ts ++ codes ";" ∷ tokens_in_parts (node_parts 1 tree)) (inside_tokens roles)
+    ∙ ap (λ (ts : List (List ℕ)). roles ++ codes ";" ∷ ts) (tokens_are 1 tree))
+
+pub protocol_starts_are : (roles : List (List ℕ)) (tree : GlobalType) → protocol_starts roles tree ≡ None ∷ no_starts roles ++ None ∷ node_starts 1 tree
+protocol_starts_are roles tree =
+    ap (λ (st : List (Option ℕ)). None ∷ st)
+    (ap starts_in_parts (append_assoc (inside roles) (inside (codes ";" ∷ [])) (node_parts 1 tree))
+    ∙ map-append (λ (part : Part). part.1) (inside roles) (inside (codes ";" ∷ []) ++ node_parts 1 tree)
+    ∙ ap (λ (st : List (Option ℕ)). st ++ None ∷ node_starts 1 tree) (inside_starts roles))
+
+choice_starts : (level : ℕ) (branches : Branches) → starts_in_parts (branch_parts level branches ++ inside (codes "}" ∷ [])) ≡ branch_starts level branches ++ None ∷ []
+choice_starts level branches = map-append (λ (part : Part). part.1) (branch_parts level branches) (inside (codes "}" ∷ []))
+
+more_starts : (level : ℕ) (label : List ℕ) (next : GlobalType) (second : List ℕ) (then : GlobalType) (others : Branches) → branch_starts level (More label next (More second then others)) ≡ None ∷ None ∷ (node_starts level next ++ None ∷ branch_starts level (More second then others))
+more_starts level label next second then others =
+    let more = More second then others in
+    ap (λ (st : List (Option ℕ)). None ∷ None ∷ st)
+    (map-append (λ (part : Part). part.1) (node_parts level next ++ inside (codes "," ∷ [])) (branch_parts level more)
+    ∙ ap (λ (st : List (Option ℕ)). st ++ branch_starts level more) (map-append (λ (part : Part). part.1) (node_parts level next) (inside (codes "," ∷ [])))
+    ∙ append_assoc (node_starts level next) (None ∷ []) (branch_starts level more))
 
 -- ---- with others behind
 
@@ -43,18 +121,18 @@ mutual
   pub before_is : (tree : GlobalType) (rest : List (List ℕ)) → IsSpellable tree → tokens_before tree rest ≡ global_tokens tree ++ rest
   before_is End rest s = refl
   before_is (Var name) rest s = refl
-  before_is (Rec name body) rest s = ap (λ (ts : List (List ℕ)). codes "rec" ∷ name ∷ codes "." ∷ ts) (before_is body rest s.1)
+  before_is (Rec name body) rest s = ap (λ (ts : List (List ℕ)). codes "rec" ∷ name ∷ codes "." ∷ ts) (before_is body rest (s.0.1, s.1))
   before_is (Message sender receiver sort next) rest s =
-      ap (λ (ts : List (List ℕ)). sender ∷ codes "->" ∷ receiver ∷ codes ":" ∷ sort_word sort ∷ codes "." ∷ ts) (before_is next rest s.2)
+      ap (λ (ts : List (List ℕ)). sender ∷ codes "->" ∷ receiver ∷ codes ":" ∷ sort_word sort ∷ codes "." ∷ ts) (before_is next rest (s.0.2, s.1))
   before_is (Choice sender receiver branches) rest s =
       ap (λ (ts : List (List ℕ)). sender ∷ codes "->" ∷ receiver ∷ ts)
-      (all_before_is branches (codes "{") rest s.2 s.3
+      (all_before_is branches (codes "{") rest s.1.0 (s.0.2, s.1.1)
       ∙ ap (λ (ts : List (List ℕ)). codes "{" ∷ ts) (sym (append_assoc (branch_tokens branches) (codes "}" ∷ []) rest)))
 
   all_before_is : (branches : Branches) (sep : List ℕ) (rest : List (List ℕ)) → HasBranch branches → AreSpellable branches → branches_before sep branches rest ≡ sep ∷ branch_tokens branches ++ codes "}" ∷ rest
   all_before_is NoMore sep rest some s = absurd some
   all_before_is (More label next others) sep rest some s =
-      branches_are label next others sep rest (λ tokens. before_is next tokens s.1) (λ more. all_before_is others (codes ",") rest more s.2)
+      branches_are label next others sep rest (λ tokens. before_is next tokens (s.0.1, s.1.0)) (λ more. all_before_is others (codes ",") rest more (s.0.2, s.1.1))
 
 branch_starts_are : (label : List ℕ) (next : GlobalType) (others : Branches) (level : ℕ) (later : List (Option ℕ)) → ((starts : List (Option ℕ)) → starts_before level next starts ≡ node_starts level next ++ starts) → (HasBranch others → branch_starts_before level others later ≡ None ∷ branch_starts level others ++ None ∷ later) → branch_starts_before level (More label next others) later ≡ None ∷ branch_starts level (More label next others) ++ None ∷ later
 branch_starts_are label next NoMore level later one more = ap (λ (st : List (Option ℕ)). None ∷ None ∷ None ∷ st) (one (None ∷ later))
@@ -63,23 +141,25 @@ branch_starts_are label next (More second then others) level later one more =
     (one (branch_starts_before level (More second then others) later)
     ∙ ap (λ (st : List (Option ℕ)). node_starts level next ++ st) (more tt)
     ∙ sym (append_assoc (node_starts level next) (None ∷ branch_starts level (More second then others)) (None ∷ later)))
+    ∙ ap (λ (st : List (Option ℕ)). None ∷ st ++ None ∷ later) (sym (more_starts level label next second then others))
 
 mutual
   pub starts_are : (tree : GlobalType) (level : ℕ) (later : List (Option ℕ)) → IsSpellable tree → starts_before level tree later ≡ node_starts level tree ++ later
   starts_are End level later s = refl
   starts_are (Var name) level later s = refl
-  starts_are (Rec name body) level later s = ap (λ (st : List (Option ℕ)). Some level ∷ None ∷ None ∷ st) (starts_are body (level + 1) later s.1)
+  starts_are (Rec name body) level later s = ap (λ (st : List (Option ℕ)). Some level ∷ None ∷ None ∷ st) (starts_are body (level + 1) later (s.0.1, s.1))
   starts_are (Message sender receiver sort next) level later s =
-      ap (λ (st : List (Option ℕ)). Some level ∷ None ∷ None ∷ None ∷ None ∷ None ∷ st) (starts_are next (level + 1) later s.2)
+      ap (λ (st : List (Option ℕ)). Some level ∷ None ∷ None ∷ None ∷ None ∷ None ∷ st) (starts_are next (level + 1) later (s.0.2, s.1))
   starts_are (Choice sender receiver branches) level later s =
       ap (λ (st : List (Option ℕ)). Some level ∷ None ∷ None ∷ st)
-      (all_starts_are branches (level + 1) later s.2 s.3
-      ∙ ap (λ (st : List (Option ℕ)). None ∷ st) (sym (append_assoc (branch_starts (level + 1) branches) (None ∷ []) later)))
+      (all_starts_are branches (level + 1) later s.1.0 (s.0.2, s.1.1)
+      ∙ ap (λ (st : List (Option ℕ)). None ∷ st) (sym (append_assoc (branch_starts (level + 1) branches) (None ∷ []) later))
+      ∙ ap (λ (st : List (Option ℕ)). None ∷ st ++ later) (sym (choice_starts (level + 1) branches)))
 
   all_starts_are : (branches : Branches) (level : ℕ) (later : List (Option ℕ)) → HasBranch branches → AreSpellable branches → branch_starts_before level branches later ≡ None ∷ branch_starts level branches ++ None ∷ later
   all_starts_are NoMore level later some s = absurd some
   all_starts_are (More label next others) level later some s =
-      branch_starts_are label next others level later (λ starts. starts_are next level starts s.1) (λ more. all_starts_are others level later more s.2)
+      branch_starts_are label next others level later (λ starts. starts_are next level starts (s.0.1, s.1.0)) (λ more. all_starts_are others level later more (s.0.2, s.1.1))
 
 -- ---- driven by a tree
 
@@ -118,7 +198,7 @@ variable_step name h = rw (is_variable_of name h) refl
 mutual
   pub drives_tree : (tree : GlobalType) (level : ℕ) (stack to : List Symbol) (tokens : List (List ℕ)) (starts : List (Option ℕ)) → IsSpellable tree → Drives stack tokens to starts → Drives (Node level ∷ stack) (tokens_before tree tokens) to (starts_before level tree starts)
   drives_tree End level stack to tokens starts s d = drives_more (Node level) stack [] to (codes "end") tokens starts (ap (begun level) (first_again firsts.End tt)) d
-  drives_tree (Var name) level stack to tokens starts s d = drives_more (Node level) stack [] to name tokens starts (ap (begun level) (first_again (firsts.Var name) s)) d
+  drives_tree (Var name) level stack to tokens starts s d = drives_more (Node level) stack [] to name tokens starts (ap (begun level) (first_again (firsts.Var name) s.0)) d
   drives_tree (Rec name body) level stack to tokens starts s d = (
     AVariable ∷ Token (codes ".") ∷ Node (level + 1) ∷ [],
     ap (begun level) (first_again firsts.Rec tt),
@@ -126,16 +206,16 @@ mutual
     refl,
     (
       [],
-      variable_step name s.0,
+      variable_step name s.0.0,
       None ∷ starts_before (level + 1) body starts,
       refl,
-      ([], refl, starts_before (level + 1) body starts, refl, drives_tree body (level + 1) stack to tokens starts s.1 d),
+      ([], refl, starts_before (level + 1) body starts, refl, drives_tree body (level + 1) stack to tokens starts (s.0.1, s.1) d),
     ),
   )
   drives_tree (Message sender receiver sort next) level stack to tokens starts s d =
       let later = starts_before (level + 1) next starts in (
         Token (codes "->") ∷ AName ∷ Exchange (level + 1) ∷ [],
-        ap (begun level) (first_again (firsts.Sender sender) s.0),
+        ap (begun level) (first_again (firsts.Sender sender) s.0.0),
         None ∷ None ∷ None ∷ None ∷ None ∷ later,
         refl,
         (
@@ -145,7 +225,7 @@ mutual
           refl,
           (
             [],
-            name_step receiver s.1,
+            name_step receiver s.0.1,
             None ∷ None ∷ None ∷ later,
             refl,
             (
@@ -158,7 +238,7 @@ mutual
                 ap named (sort_again sort),
                 None ∷ later,
                 refl,
-                ([], refl, later, refl, drives_tree next (level + 1) stack to tokens starts s.2 d),
+                ([], refl, later, refl, drives_tree next (level + 1) stack to tokens starts (s.0.2, s.1) d),
               ),
             ),
           ),
@@ -167,7 +247,7 @@ mutual
   drives_tree (Choice sender receiver branches) level stack to tokens starts s d =
       let later = branch_starts_before (level + 1) branches starts in (
         Token (codes "->") ∷ AName ∷ Exchange (level + 1) ∷ [],
-        ap (begun level) (first_again (firsts.Sender sender) s.0),
+        ap (begun level) (first_again (firsts.Sender sender) s.0.0),
         None ∷ None ∷ later,
         refl,
         (
@@ -177,15 +257,15 @@ mutual
           refl,
           (
             [],
-            name_step receiver s.1,
+            name_step receiver s.0.1,
             later,
             refl,
-            drives_branches branches (Exchange (level + 1)) (level + 1) (codes "{") stack to tokens starts (brace_step (level + 1)) refl (closes_some (Exchange (level + 1)) branches s.2) s.3 d,
+            drives_branches branches (Exchange (level + 1)) (level + 1) (codes "{") stack to tokens starts (brace_step (level + 1)) refl (closes_some (Exchange (level + 1)) branches s.1.0) (s.0.2, s.1.1) d,
           ),
         ),
       )
 
-  drives_branches : (branches : Branches) (x : Symbol) (level : ℕ) (sep : List ℕ) (stack to : List Symbol) (tokens : List (List ℕ)) (starts : List (Option ℕ)) → step x sep ≡ Some (branch level) → mark x ≡ None → Closes x branches → AreSpellable branches → Drives stack tokens to starts → Drives (x ∷ stack) (branches_before sep branches tokens) to (branch_starts_before level branches starts)
+  drives_branches : (branches : Branches) (x : Symbol) (level : ℕ) (sep : List ℕ) (stack to : List Symbol) (tokens : List (List ℕ)) (starts : List (Option ℕ)) → step x sep ≡ Some (branch level) → start_of x ≡ None → Closes x branches → AreSpellable branches → Drives stack tokens to starts → Drives (x ∷ stack) (branches_before sep branches tokens) to (branch_starts_before level branches starts)
   drives_branches NoMore x level sep stack to tokens starts opens plain closes s d = ([], closes, starts, ap (λ (m : Option ℕ). m ∷ starts) (sym plain), d)
   drives_branches (More label next others) x level sep stack to tokens starts opens plain closes s d =
       let rest = branch_starts_before level others starts in
@@ -196,7 +276,7 @@ mutual
         ap (λ (m : Option ℕ). m ∷ None ∷ None ∷ later) (sym plain),
         (
           [],
-          name_step label s.0,
+          name_step label s.0.0,
           None ∷ later,
           refl,
           (
@@ -204,8 +284,8 @@ mutual
             refl,
             later,
             refl,
-            drives_tree next level (Others level ∷ stack) to (branches_before (codes ",") others tokens) rest s.1
-                (drives_branches others (Others level) level (codes ",") stack to tokens starts (comma_step level) refl (others_close level others) s.2 d),
+            drives_tree next level (Others level ∷ stack) to (branches_before (codes ",") others tokens) rest (s.0.1, s.1.0)
+                (drives_branches others (Others level) level (codes ",") stack to tokens starts (comma_step level) refl (others_close level others) (s.0.2, s.1.1) d),
           ),
         ),
       )
@@ -230,7 +310,10 @@ drives_heading first second more tree a b are few s =
     let body : Drives (Node 1 ∷ []) (global_tokens tree) [] (node_starts 1 tree) = rw (tokens, starts) at (drives_tree tree 1 [] [] [] [] s (refl, refl)) in
     let roles = drives_roles more 6 (Node 1 ∷ []) [] (global_tokens tree) (node_starts 1 tree) are few body in
     let later = no_starts more ++ None ∷ node_starts 1 tree in
-    ([], refl, None ∷ None ∷ later, refl, ([], name_step first a, None ∷ later, refl, ([], name_step second b, later, refl, roles)))
+    let all : Drives whole (codes "roles" ∷ first ∷ second ∷ more ++ codes ";" ∷ global_tokens tree) [] (None ∷ None ∷ None ∷ later) = ([], refl, None ∷ None ∷ later, refl, ([], name_step first a, None ∷ later, refl, ([], name_step second b, later, refl, roles))) in
+    let names = first ∷ second ∷ more in
+    let spoken : Drives whole (protocol_tokens names tree) [] (None ∷ None ∷ None ∷ later) = subst (λ (ts : List (List ℕ)). Drives whole ts [] (None ∷ None ∷ None ∷ later)) (sym (protocol_tokens_are names tree)) all in
+    subst (λ (st : List (Option ℕ)). Drives whole (protocol_tokens names tree) [] st) (sym (protocol_starts_are names tree)) spoken
 
 -- the tokens of a protocol drive it away
 pub drives_whole : (tokens roles : List (List ℕ)) (tree : GlobalType) → SpellsProtocol tokens roles tree → Drives whole tokens [] (protocol_starts roles tree)

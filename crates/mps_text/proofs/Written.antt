@@ -11,13 +11,14 @@ use Rattle.mps_base.specs.declared.value.Sort.{Sort}
 use Rattle.mps_base.specs.declared.value.Sort.TheVariants.{Int, Bool as Truth, Text}
 use Rattle.mps_base.proofs.Spaced.{written_parts, written_all}
 use Rattle.mps_global.specs.Global.{GlobalType, Branches, End, Var, Rec, Message, Choice, NoMore, More}
-use Rattle.mps_text.specs.Tokens.{is_blank, is_word_byte, first_is, IsWord, marks, IsTokenBefore, BeginsAll, AreTokensOf}
+use Rattle.mps_text.specs.Tokens.{is_blank, is_word_byte, first_is, IsWord, punctuation, IsTokenBefore, BeginsAll, AreTokensOf}
 use Rattle.mps_base.specs.Sorts.{sort_word}
-use Rattle.mps_text.specs.Grammar.{global_tokens, branch_tokens, protocol_tokens, IsSpellable, AreSpellable, SpellsText}
+use Rattle.mps_text.specs.Grammar.{protocol_tokens, protocol_text, IsSpellable, AreSpellable, SpellsText, IsWithinLimits, SpellsOnly, HasBranches, IsNamed}
 use Rattle.mps_text.specs.Reading.{tokens_before, branches_before}
-use Rattle.mps_text.specs.Writing.{HasBranches, HaveBranches, IsNamed, AreNamed, branches_tokens, others_tokens, todo_tokens, todo_weight, IsTodoNamed, left_tokens, left_weight}
+use Rattle.mps_text.specs.Writing.{global_tokens, branch_tokens, branches_tokens, others_tokens, todo_tokens, todo_weight, IsTodoNamed, left_tokens, left_weight}
 use Rattle.mps_text.specs.declared.writing.Todo.{Todo}
-use Rattle.mps_text.proofs.Trees.{before_is}
+use Rattle.mps_text.proofs.Trees.{before_is, protocol_tokens_are}
+use Rattle.mps_text.proofs.OneTree.{one_protocol}
 
 -- one more that waits
 pub left_more : (waiting : List Todo) (next : Todo) → left_tokens (waiting ++ next ∷ []) ≡ todo_tokens next ++ left_tokens waiting
@@ -54,28 +55,16 @@ branches_more label next (More second then others) left =
 
 -- ---- the whole
 
-mutual
-  pub spellable : (tree : GlobalType) → IsNamed tree → HasBranches tree → IsSpellable tree
-  spellable End n h = tt
-  spellable (Var name) n h = n
-  spellable (Rec name body) n h = (n.0, spellable body n.1 h)
-  spellable (Message sender receiver sort next) n h = (n.0, n.1, spellable next n.2 h)
-  spellable (Choice sender receiver branches) n h = (n.0, n.1, h.0, all_spellable branches n.2 h.1)
-
-  all_spellable : (branches : Branches) → AreNamed branches → HaveBranches branches → AreSpellable branches
-  all_spellable NoMore n h = tt
-  all_spellable (More label next others) n h = (n.0, spellable next n.1 h.0, all_spellable others n.2 h.1)
-
 -- what stands behind one space or at the end
 abbrev IsSpacing : List ℕ → Type 0
 IsSpacing rest = first_is is_word_byte rest ≡ false
 
 -- a token of a protocol is found where a space or the end stands behind it
 abbrev IsToken : List ℕ → Type 0
-IsToken token = IsTrue (list_any (bytes_eq token) marks) ⊎ IsWord token
+IsToken token = IsTrue (list_any (bytes_eq token) punctuation) ⊎ IsWord token
 
 found_before : (token rest : List ℕ) → IsToken token → IsSpacing rest → IsTokenBefore token rest
-found_before token rest (inl mark) e = inl mark
+found_before token rest (inl start_of) e = inl start_of
 found_before token rest (inr word) e = inr (word, e)
 
 -- tokens with one space between two are cut into them
@@ -112,36 +101,43 @@ names_tokens (name ∷ names) h = (a_name name h.0, names_tokens names h.1)
 mutual
   tokens_of : (tree : GlobalType) (rest : List (List ℕ)) → IsSpellable tree → AllByRecursion IsToken rest → AllByRecursion IsToken (tokens_before tree rest)
   tokens_of End rest s r = (reserved (codes "end") refl, r)
-  tokens_of (Var name) rest s r = (inr (inr (inr s)), r)
-  tokens_of (Rec name body) rest s r = (reserved (codes "rec") refl, (inr (inr (inr s.0)), (inl refl, tokens_of body rest s.1 r)))
+  tokens_of (Var name) rest s r = (inr (inr (inr s.0)), r)
+  tokens_of (Rec name body) rest s r = (reserved (codes "rec") refl, (inr (inr (inr s.0.0)), (inl refl, tokens_of body rest (s.0.1, s.1) r)))
   tokens_of (Message sender receiver sort next) rest s r =
-      (a_name sender s.0, (inl refl, (a_name receiver s.1, (inl refl, (sort_token sort, (inl refl, tokens_of next rest s.2 r))))))
+      (a_name sender s.0.0, (inl refl, (a_name receiver s.0.1, (inl refl, (sort_token sort, (inl refl, tokens_of next rest (s.0.2, s.1) r))))))
   tokens_of (Choice sender receiver branches) rest s r =
-      (a_name sender s.0, (inl refl, (a_name receiver s.1, tokens_of_branches (codes "{") branches rest (inl refl) s.3 r)))
+      (a_name sender s.0.0, (inl refl, (a_name receiver s.0.1, tokens_of_branches (codes "{") branches rest (inl refl) (s.0.2, s.1.1) r)))
 
   tokens_of_branches : (sep : List ℕ) (branches : Branches) (rest : List (List ℕ)) → IsToken sep → AreSpellable branches → AllByRecursion IsToken rest → AllByRecursion IsToken (branches_before sep branches rest)
   tokens_of_branches sep NoMore rest is s r = (inl refl, r)
   tokens_of_branches sep (More label next others) rest is s r =
-      (is, (a_name label s.0, (inl refl, tokens_of next (branches_before (codes ",") others rest) s.1 (tokens_of_branches (codes ",") others rest (inl refl) s.2 r))))
+      (is, (a_name label s.0.0, (inl refl, tokens_of next (branches_before (codes ",") others rest) (s.0.1, s.1.0) (tokens_of_branches (codes ",") others rest (inl refl) (s.0.2, s.1.1) r))))
 
-pub written_spells : (roles : List (List ℕ)) (tree : GlobalType) → AllByRecursion IsName roles → HasRoleCount roles → IsNamed tree → HasBranches tree → SpellsText (spaced (protocol_tokens roles tree)) roles tree
+pub written_spells : (roles : List (List ℕ)) (tree : GlobalType) → AllByRecursion IsName roles → HasRoleCount roles → IsNamed tree → HasBranches tree → SpellsText (protocol_text roles tree) roles tree
 written_spells roles tree names count n h =
-    let s = spellable tree n h in
+    let s : IsSpellable tree = (n, h) in
     let alone : tokens_before tree [] ≡ global_tokens tree = before_is tree [] s ∙ append-nil (global_tokens tree) in
     let body : AllByRecursion IsToken (global_tokens tree) = subst (AllByRecursion IsToken) alone (tokens_of tree [] s tt) in
     let behind = all_append roles (codes ";" ∷ global_tokens tree) (names_tokens roles names) (inl refl, body) in
+    let cut = spaced_tokens (codes "roles") (roles ++ codes ";" ∷ global_tokens tree) (reserved (codes "roles") refl) behind in
     record {
       tokens = protocol_tokens roles tree;
-      cut = spaced_tokens (codes "roles") (roles ++ codes ";" ∷ global_tokens tree) (reserved (codes "roles") refl) behind;
+      cut = subst (λ (ts : List (List ℕ)). AreTokensOf (spaced ts) ts) (sym (protocol_tokens_are roles tree)) cut;
       spelled = record { names = names; count = count; body = s; parts = refl };
     }
 
 -- what was written after `roles`, the roles and `;`
-pub written_is : (out one two three four : List ℕ) (roles : List (List ℕ)) (tree : GlobalType) → out ≡ [] → one ≡ with_token out (codes "roles") → two ≡ with_tokens one roles → three ≡ with_token two (codes ";") → four ≡ with_tokens three (global_tokens tree) → four ≡ spaced (protocol_tokens roles tree)
+pub written_is : (out one two three four : List ℕ) (roles : List (List ℕ)) (tree : GlobalType) → out ≡ [] → one ≡ with_token out (codes "roles") → two ≡ with_tokens one roles → three ≡ with_token two (codes ";") → four ≡ with_tokens three (global_tokens tree) → four ≡ protocol_text roles tree
 written_is out one two three four roles tree a b c d e =
     let first : one ≡ codes "roles" = b ∙ ap (λ (bytes : List ℕ). with_token bytes (codes "roles")) a in
     let all : four ≡ with_tokens (codes "roles") (roles ++ codes ";" ∷ global_tokens tree) =
     e ∙ ap (λ (bytes : List ℕ). with_tokens bytes (global_tokens tree)) d
     ∙ ap (λ (bytes : List ℕ). with_tokens bytes (codes ";" ∷ global_tokens tree)) (c ∙ ap (λ (bytes : List ℕ). with_tokens bytes roles) first)
     ∙ sym (written_parts (codes "roles") roles (codes ";" ∷ global_tokens tree)) in
-    all ∙ written_all (codes "roles") (roles ++ codes ";" ∷ global_tokens tree) (omega arith)
+    all ∙ written_all (codes "roles") (roles ++ codes ";" ∷ global_tokens tree) (omega arith) ∙ ap spaced (sym (protocol_tokens_are roles tree))
+
+-- what is written within the limits is read back
+pub written_reads : (roles : List (List ℕ)) (tree : GlobalType) → AllByRecursion IsName roles → HasRoleCount roles → IsSpellable tree → IsWithinLimits (protocol_text roles tree) tree → SpellsOnly (protocol_text roles tree) roles tree
+written_reads roles tree names count body limits =
+    let s = written_spells roles tree names count body.0 body.1 in
+    record { limits = limits; spelled = s; only = λ r t other. one_protocol (protocol_text roles tree) r roles t tree other s }

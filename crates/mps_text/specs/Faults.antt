@@ -1,35 +1,15 @@
 -- The first fault of a text.
-use Rattle.std.specs.Prelude.{◌≡◌, ◌≢◌, false, ℕ, ◌+◌, ◌<◌, ◌≤◌, ⊤, List, [], ◌∷◌, ◌++◌, length, replicate, Option, Some, None, IsTrue}
+use Rattle.std.specs.Prelude.{◌≡◌, ◌≢◌, false, ℕ, ◌+◌, ◌<◌, ◌≤◌, ⊤, List, [], ◌∷◌, ◌++◌, length, map, Option, Some, None, IsTrue}
 use Rattle.std.specs.List.{AllByRecursion, list_all}
-use Rattle.mps_global.specs.Global.{GlobalType, Branches, End, Var, Rec, Message, Choice, NoMore, More}
+use Rattle.mps_global.specs.Global.{GlobalType}
 use Rattle.mps_text.specs.Tokens.{is_blank, first_is, IsTokenBefore, Begins, BeginsAll}
-use Rattle.mps_text.specs.Grammar.{SpellsProtocol}
+use Rattle.mps_text.specs.Grammar.{protocol_parts, SpellsProtocol, SpellsText, IsWithinLimits}
 use Rattle.mps_text.specs.declared.fault.TextKind.{TextKind}
 use Rattle.mps_text.specs.declared.fault.TextKind.TheVariants.{TooLong, Word, Unexpected, TooManyNodes, TooDeep, Trailing, Memory}
 
-abbrev mutual
-  -- for each token of a global type whose root has that depth, the depth of the node that it begins, or None
-  pub node_starts : ℕ → GlobalType → List (Option ℕ)
-  node_starts depth End = Some depth ∷ []
-  node_starts depth (Var name) = Some depth ∷ []
-  node_starts depth (Rec name body) = Some depth ∷ replicate 2 None ++ node_starts (depth + 1) body
-  node_starts depth (Message sender receiver sort next) = Some depth ∷ replicate 5 None ++ node_starts (depth + 1) next
-  node_starts depth (Choice sender receiver branches) = Some depth ∷ replicate 3 None ++ branch_starts (depth + 1) branches ++ None ∷ []
-
-  -- the same of branches
-  pub branch_starts : ℕ → Branches → List (Option ℕ)
-  branch_starts depth NoMore = []
-  branch_starts depth (More label next NoMore) = replicate 2 None ++ node_starts depth next
-  branch_starts depth (More label next others) = replicate 2 None ++ node_starts depth next ++ None ∷ branch_starts depth others
-
--- for each token that no node begins
-abbrev pub no_starts : List (List ℕ) → List (Option ℕ)
-no_starts [] = []
-no_starts (token ∷ tokens) = None ∷ no_starts tokens
-
--- the same of a protocol, in which `roles`, the roles and `;` stand before the type
+-- for each token of a protocol, the depth of the node that it begins, or None
 abbrev pub protocol_starts : List (List ℕ) → GlobalType → List (Option ℕ)
-protocol_starts roles tree = (None ∷ no_starts roles) ++ None ∷ node_starts 1 tree
+protocol_starts roles tree = map (λ part. part.1) (protocol_parts roles tree)
 
 -- how many nodes begin
 abbrev pub nodes_begun : List (Option ℕ) → ℕ
@@ -104,12 +84,16 @@ pub record FaultAt (text : List ℕ) (at : ℕ) (kind : TextKind) : Type 0 where
   pub place : at + length bytes ≡ length text
   pub wrong : IsWrong front starts bytes kind
 
--- the text has this first fault; memory runs out only for a text that is short enough
+-- the text has this first fault: of a text that isn't too long, where it begins no more as a protocol does; memory may run out on any such text
 abbrev pub IsFirstFault : List ℕ → ℕ → TextKind → Type 0
 IsFirstFault text at TooLong = (65536 < length text) × (at ≡ 65536)
 IsFirstFault text at Memory = length text ≤ 65536
-IsFirstFault text at Word = (length text ≤ 65536) × FaultAt text at Word
-IsFirstFault text at Unexpected = (length text ≤ 65536) × FaultAt text at Unexpected
-IsFirstFault text at TooManyNodes = (length text ≤ 65536) × FaultAt text at TooManyNodes
-IsFirstFault text at TooDeep = (length text ≤ 65536) × FaultAt text at TooDeep
-IsFirstFault text at Trailing = (length text ≤ 65536) × FaultAt text at Trailing
+IsFirstFault text at kind = (length text ≤ 65536) × FaultAt text at kind
+
+-- the text spells a protocol within the limits
+abbrev pub HasProtocol : List ℕ → Type 0
+HasProtocol text = (roles : List (List ℕ)) × (tree : GlobalType) × IsWithinLimits text tree × SpellsText text roles tree
+
+-- the text has a first fault other than want of memory
+abbrev pub HasFault : List ℕ → Type 0
+HasFault text = (at : ℕ) × (kind : TextKind) × IsFirstFault text at kind × (kind ≢ Memory)

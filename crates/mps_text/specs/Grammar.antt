@@ -1,9 +1,10 @@
 -- Which tokens spell a protocol.
-use Rattle.std.specs.Prelude.{◌≡◌, ℕ, ◌≤◌, ⊤, List, [], ◌∷◌, ◌++◌, length, codes, Result, Ok, Err}
+use Rattle.std.specs.Prelude.{◌≡◌, ℕ, ◌+◌, ◌≤◌, ⊤, List, [], ◌∷◌, ◌++◌, length, map, codes, Option, Some, None, Result, Ok, Err}
 use Rattle.std.specs.List.{AllByRecursion}
 use Rattle.mps_base.specs.Names.{IsName, IsVariable}
 use Rattle.mps_base.specs.RoleLists.{HasRoleCount}
 use Rattle.mps_base.specs.Sorts.{sort_word}
+use Rattle.mps_base.specs.Spaced.{spaced}
 use Rattle.mps_global.specs.Global.{GlobalType, Branches, End, Var, Rec, Message, Choice, NoMore, More, plain}
 use Rattle.mps_global.specs.Faults.{node_count, depth}
 use Rattle.mps_global.specs.declared.Protocol.{Protocol}
@@ -11,22 +12,39 @@ use Rattle.mps_text.specs.Tokens.{AreTokensOf}
 use Rattle.mps_text.specs.declared.fault.TextFault.{TextFault}
 use Rattle.mps_text.specs.declared.fault.TextKind.TheVariants.{Memory}
 
+-- a token of a protocol, and the depth of the node that it begins, or None
+abbrev pub Part : Type 0
+Part = List ℕ × Option ℕ
+
+-- tokens that begin no node
+abbrev pub inside : List (List ℕ) → List Part
+inside tokens = map (λ token. (token, None)) tokens
+
 abbrev mutual
-  -- the tokens of a global type
-  pub global_tokens : GlobalType → List (List ℕ)
-  global_tokens End = codes "end" ∷ []
-  global_tokens (Var name) = name ∷ []
-  global_tokens (Rec name body) = codes "rec" ∷ name ∷ codes "." ∷ global_tokens body
-  global_tokens (Message sender receiver sort next) =
-      sender ∷ codes "->" ∷ receiver ∷ codes ":" ∷ sort_word sort ∷ codes "." ∷ global_tokens next
-  global_tokens (Choice sender receiver branches) =
-      sender ∷ codes "->" ∷ receiver ∷ codes "{" ∷ branch_tokens branches ++ codes "}" ∷ []
+  -- the tokens of a global type whose root has that depth; the first token of each node begins it
+  pub node_parts : ℕ → GlobalType → List Part
+  node_parts depth End = (codes "end", Some depth) ∷ []
+  node_parts depth (Var name) = (name, Some depth) ∷ []
+  node_parts depth (Rec name body) = (codes "rec", Some depth) ∷ inside (name ∷ codes "." ∷ []) ++ node_parts (depth + 1) body
+  node_parts depth (Message sender receiver sort next) =
+      (sender, Some depth) ∷ inside (codes "->" ∷ receiver ∷ codes ":" ∷ sort_word sort ∷ codes "." ∷ []) ++ node_parts (depth + 1) next
+  node_parts depth (Choice sender receiver branches) =
+      (sender, Some depth) ∷ inside (codes "->" ∷ receiver ∷ codes "{" ∷ []) ++ branch_parts (depth + 1) branches ++ inside (codes "}" ∷ [])
 
   -- the tokens of branches, with a comma between two
-  pub branch_tokens : Branches → List (List ℕ)
-  branch_tokens NoMore = []
-  branch_tokens (More label next NoMore) = label ∷ codes ":" ∷ global_tokens next
-  branch_tokens (More label next others) = label ∷ codes ":" ∷ global_tokens next ++ codes "," ∷ branch_tokens others
+  pub branch_parts : ℕ → Branches → List Part
+  branch_parts depth NoMore = []
+  branch_parts depth (More label next NoMore) = inside (label ∷ codes ":" ∷ []) ++ node_parts depth next
+  branch_parts depth (More label next others) =
+      inside (label ∷ codes ":" ∷ []) ++ node_parts depth next ++ inside (codes "," ∷ []) ++ branch_parts depth others
+
+-- the tokens of a protocol: `roles`, the roles, `;` and a global type
+abbrev pub protocol_parts : List (List ℕ) → GlobalType → List Part
+protocol_parts roles tree = inside (codes "roles" ∷ roles) ++ inside (codes ";" ∷ []) ++ node_parts 1 tree
+
+-- the tokens alone
+abbrev pub protocol_tokens : List (List ℕ) → GlobalType → List (List ℕ)
+protocol_tokens roles tree = map (λ part. part.0) (protocol_parts roles tree)
 
 -- there is a branch
 abbrev pub HasBranch : Branches → Type 0
@@ -34,22 +52,44 @@ HasBranch NoMore = ⊥
 HasBranch (More label next others) = ⊤
 
 abbrev mutual
-  -- roles and labels are names, variables are variables, and each choice has a branch
-  pub IsSpellable : GlobalType → Type 0
-  IsSpellable End = ⊤
-  IsSpellable (Var name) = IsVariable name
-  IsSpellable (Rec name body) = IsVariable name × IsSpellable body
-  IsSpellable (Message sender receiver sort next) = IsName sender × IsName receiver × IsSpellable next
-  IsSpellable (Choice sender receiver branches) = IsName sender × IsName receiver × HasBranch branches × AreSpellable branches
+  -- each choice has a branch
+  pub HasBranches : GlobalType → Type 0
+  HasBranches End = ⊤
+  HasBranches (Var name) = ⊤
+  HasBranches (Rec name body) = HasBranches body
+  HasBranches (Message sender receiver sort next) = HasBranches next
+  HasBranches (Choice sender receiver branches) = HasBranch branches × HaveBranches branches
 
   -- the same of what the branches hold
-  pub AreSpellable : Branches → Type 0
-  AreSpellable NoMore = ⊤
-  AreSpellable (More label next others) = IsName label × IsSpellable next × AreSpellable others
+  pub HaveBranches : Branches → Type 0
+  HaveBranches NoMore = ⊤
+  HaveBranches (More label next others) = HasBranches next × HaveBranches others
 
--- the tokens of a protocol: `roles`, the roles, `;` and a global type
-abbrev pub protocol_tokens : List (List ℕ) → GlobalType → List (List ℕ)
-protocol_tokens roles tree = codes "roles" ∷ roles ++ codes ";" ∷ global_tokens tree
+abbrev mutual
+  -- roles and labels are names, and variables are variables
+  pub IsNamed : GlobalType → Type 0
+  IsNamed End = ⊤
+  IsNamed (Var name) = IsVariable name
+  IsNamed (Rec name body) = IsVariable name × IsNamed body
+  IsNamed (Message sender receiver sort next) = IsName sender × IsName receiver × IsNamed next
+  IsNamed (Choice sender receiver branches) = IsName sender × IsName receiver × AreNamed branches
+
+  -- the same of what the branches hold
+  pub AreNamed : Branches → Type 0
+  AreNamed NoMore = ⊤
+  AreNamed (More label next others) = IsName label × IsNamed next × AreNamed others
+
+-- what the text of a protocol can say: names are names, and each choice has a branch
+abbrev pub IsSpellable : GlobalType → Type 0
+IsSpellable tree = IsNamed tree × HasBranches tree
+
+-- the same of branches
+abbrev pub AreSpellable : Branches → Type 0
+AreSpellable branches = AreNamed branches × HaveBranches branches
+
+-- how a protocol is written: its tokens with one space between two
+abbrev pub protocol_text : List (List ℕ) → GlobalType → List ℕ
+protocol_text roles tree = spaced (protocol_tokens roles tree)
 
 -- the tokens spell the protocol, which has 2 to 8 roles
 pub record SpellsProtocol (tokens roles : List (List ℕ)) (tree : GlobalType) : Type 0 where
@@ -69,6 +109,12 @@ pub record IsWithinLimits (text : List ℕ) (tree : GlobalType) : Type 0 where
   pub short : length text ≤ 65536
   pub small : node_count tree ≤ 256
   pub shallow : depth tree ≤ 64
+
+-- the text spells this protocol within the limits, and no other
+pub record SpellsOnly (text : List ℕ) (roles : List (List ℕ)) (tree : GlobalType) : Type 0 where
+  pub limits : IsWithinLimits text tree
+  pub spelled : SpellsText text roles tree
+  pub only : (r : List (List ℕ)) (t : GlobalType) → SpellsText text r t → (r ≡ roles) × (t ≡ tree)
 
 -- the protocol was read, or memory ran out
 abbrev pub IsRead : List (List ℕ) → GlobalType → Result Protocol TextFault → Type 0

@@ -38,9 +38,9 @@ abbrev pub run_len : List ℕ → ℕ
 run_len [] = 0
 run_len (c ∷ cs) = if is_word_byte c then run_len cs + 1 else 0
 
--- a byte that is a token alone
-abbrev pub is_mark_byte : ℕ → Bool
-is_mark_byte c = c == 58 || c == 59 || c == 46 || c == 44 || c == 123 || c == 125
+-- a byte that is punctuation alone
+abbrev pub is_punctuation_byte : ℕ → Bool
+is_punctuation_byte c = c == 58 || c == 59 || c == 46 || c == 44 || c == 123 || c == 125
 
 -- small letters, digits and `_`, the first a letter: how names and reserved words look
 abbrev pub is_small_word : List ℕ → Bool
@@ -60,7 +60,7 @@ word_len bytes = if is_word (take (run_len bytes) bytes) then run_len bytes else
 
 -- how many bytes the token in front takes, 0 where none stands there
 unfoldable pub token_len : List ℕ → ℕ
-token_len bytes = if bytes_eq (take 2 bytes) (codes "->") then 2 else (if first_is is_mark_byte bytes then 1 else word_len bytes)
+token_len bytes = if bytes_eq (take 2 bytes) (codes "->") then 2 else (if first_is is_punctuation_byte bytes then 1 else word_len bytes)
 
 -- a token, how many bytes are left from its first one on, and those after it
 pub record Lexeme : Type 0 where

@@ -113,15 +113,15 @@ step (Exchange depth) token = exchanged depth (which (codes ":") (codes "{") tok
 step (Others depth) token = followed depth (which (codes ",") (codes "}") token)
 
 -- the depth of the node that the symbol's first token begins
-abbrev pub mark : Symbol → Option ℕ
-mark (Token token) = None
-mark AName = None
-mark AVariable = None
-mark ASort = None
-mark (Roles room) = None
-mark (Node depth) = Some depth
-mark (Exchange depth) = None
-mark (Others depth) = None
+abbrev pub start_of : Symbol → Option ℕ
+start_of (Token token) = None
+start_of AName = None
+start_of AVariable = None
+start_of ASort = None
+start_of (Roles room) = None
+start_of (Node depth) = Some depth
+start_of (Exchange depth) = None
+start_of (Others depth) = None
 
 -- what is pushed, or the fault of a token that may not stand there
 abbrev pub pushed_by : ℕ → Option (List Symbol) → Result (List Symbol) Fault
@@ -141,7 +141,7 @@ run (x ∷ stack) nodes Ended = Err (0, Unexpected)
 run stack nodes (Malformed left) = Err (left, Word)
 run [] nodes (Next token left rest) = Err (left, Trailing)
 run (x ∷ stack) nodes (Next token left rest) =
-    pushed_by left (step x token) >>= λ pushed. counted (mark x) nodes left >>= λ more. run (pushed ++ stack) more rest
+    pushed_by left (step x token) >>= λ pushed. counted (start_of x) nodes left >>= λ more. run (pushed ++ stack) more rest
 
 -- a whole protocol
 abbrev pub whole : List Symbol

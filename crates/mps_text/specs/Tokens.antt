@@ -21,13 +21,13 @@ first_is kind (c ∷ cs) = kind c
 abbrev pub IsWord : List ℕ → Type 0
 IsWord bytes = IsName bytes ⊎ (IsTrue (list_any (bytes_eq bytes) reserved_words) ⊎ IsVariable bytes)
 
--- the tokens that are no words
-abbrev pub marks : List (List ℕ)
-marks = codes "->" ∷ codes ":" ∷ codes ";" ∷ codes "." ∷ codes "," ∷ codes "{" ∷ codes "}" ∷ []
+-- punctuation: the tokens that are no words
+abbrev pub punctuation : List (List ℕ)
+punctuation = codes "->" ∷ codes ":" ∷ codes ";" ∷ codes "." ∷ codes "," ∷ codes "{" ∷ codes "}" ∷ []
 
--- the token is a mark, or a well-formed word that the bytes after it don't make longer
+-- the token is punctuation, or a well-formed word that the bytes after it don't make longer
 abbrev pub IsTokenBefore : List ℕ → List ℕ → Type 0
-IsTokenBefore token rest = IsTrue (list_any (bytes_eq token) marks) ⊎ (IsWord token × (first_is is_word_byte rest ≡ false))
+IsTokenBefore token rest = IsTrue (list_any (bytes_eq token) punctuation) ⊎ (IsWord token × (first_is is_word_byte rest ≡ false))
 
 -- blanks, then the token, then the rest
 pub record Begins (bytes token rest : List ℕ) : Type 0 where

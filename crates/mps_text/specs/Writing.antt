@@ -1,39 +1,28 @@
 -- What a protocol is written from.
-use Rattle.std.specs.Prelude.{ℕ, ◌+◌, ⊤, List, [], ◌∷◌, ◌++◌, codes}
-use Rattle.mps_base.specs.Names.{IsName, IsVariable}
+use Rattle.std.specs.Prelude.{ℕ, ◌+◌, List, [], ◌∷◌, ◌++◌, codes}
 use Rattle.mps_global.specs.Global.{GlobalType, Branches, End, Var, Rec, Message, Choice, NoMore, More, plain, plain_branches}
+use Rattle.mps_base.specs.Sorts.{sort_word}
 use Rattle.mps_global.specs.Weights.{weight, branch_weight}
-use Rattle.mps_text.specs.Grammar.{global_tokens, branch_tokens, HasBranch}
+use Rattle.mps_text.specs.Grammar.{IsNamed, AreNamed}
 use Rattle.mps_text.specs.declared.writing.Todo.{Todo}
 use Rattle.mps_text.specs.declared.writing.Todo.TheVariants as todos
 
 abbrev mutual
-  -- each choice has a branch
-  pub HasBranches : GlobalType → Type 0
-  HasBranches End = ⊤
-  HasBranches (Var name) = ⊤
-  HasBranches (Rec name body) = HasBranches body
-  HasBranches (Message sender receiver sort next) = HasBranches next
-  HasBranches (Choice sender receiver branches) = HasBranch branches × HaveBranches branches
+  -- the tokens of a global type
+  pub global_tokens : GlobalType → List (List ℕ)
+  global_tokens End = codes "end" ∷ []
+  global_tokens (Var name) = name ∷ []
+  global_tokens (Rec name body) = codes "rec" ∷ name ∷ codes "." ∷ global_tokens body
+  global_tokens (Message sender receiver sort next) =
+      sender ∷ codes "->" ∷ receiver ∷ codes ":" ∷ sort_word sort ∷ codes "." ∷ global_tokens next
+  global_tokens (Choice sender receiver branches) =
+      sender ∷ codes "->" ∷ receiver ∷ codes "{" ∷ branch_tokens branches ++ codes "}" ∷ []
 
-  -- the same of what the branches hold
-  pub HaveBranches : Branches → Type 0
-  HaveBranches NoMore = ⊤
-  HaveBranches (More label next others) = HasBranches next × HaveBranches others
-
-abbrev mutual
-  -- roles and labels are names, and variables are variables
-  pub IsNamed : GlobalType → Type 0
-  IsNamed End = ⊤
-  IsNamed (Var name) = IsVariable name
-  IsNamed (Rec name body) = IsVariable name × IsNamed body
-  IsNamed (Message sender receiver sort next) = IsName sender × IsName receiver × IsNamed next
-  IsNamed (Choice sender receiver branches) = IsName sender × IsName receiver × AreNamed branches
-
-  -- the same of what the branches hold
-  pub AreNamed : Branches → Type 0
-  AreNamed NoMore = ⊤
-  AreNamed (More label next others) = IsName label × IsNamed next × AreNamed others
+  -- the tokens of branches, with a comma between two
+  pub branch_tokens : Branches → List (List ℕ)
+  branch_tokens NoMore = []
+  branch_tokens (More label next NoMore) = label ∷ codes ":" ∷ global_tokens next
+  branch_tokens (More label next others) = label ∷ codes ":" ∷ global_tokens next ++ codes "," ∷ branch_tokens others
 
 -- the tokens behind `{`
 abbrev pub branches_tokens : Branches → List (List ℕ)

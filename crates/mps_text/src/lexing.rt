@@ -4,7 +4,7 @@ ghost use Rattle.std.specs.List.{list_all};
 ghost use Rattle.mps_base.specs.Names.{is_lower, is_upper, is_name_byte, is_variable_byte};
 ghost use Rattle.mps_text.specs.Tokens.{first_is, is_blank, is_word_byte};
 ghost use Rattle.mps_text.specs.Lexing.{is_small_word, is_capital_word, is_word};
-ghost use Rattle.mps_text.specs.Lexing.{Gives, unblanked, is_mark_byte, run_len, word_len, token_len};
+ghost use Rattle.mps_text.specs.Lexing.{Gives, unblanked, is_punctuation_byte, run_len, word_len, token_len};
 ghost use Rattle.mps_text.specs.Lexing.{lexeme_of, lexeme_at, plain_lexeme, is_name, is_variable};
 ghost use Rattle.mps_text.specs.Reading.{Takes};
 ghost use Rattle.mps_text.specs.declared.lexing.Halt.TheVariants.{Memory};
@@ -130,14 +130,14 @@ fn token_len(bytes: &[u8]) -> usize
         return 2;
     }
     match bytes {
-        [first, ..] if is_mark(*first) => 1,
+        [first, ..] if is_punctuation(*first) => 1,
         _ => word_len(bytes),
     }
 }
 
-// Whether the byte is a token alone.
-fn is_mark(byte: u8) -> bool
-    ensures { result ≡ is_mark_byte byte }
+// Whether the byte is punctuation alone.
+fn is_punctuation(byte: u8) -> bool
+    ensures { result ≡ is_punctuation_byte byte }
 {
     byte == b':' || byte == b';' || byte == b'.' || byte == b',' || byte == b'{' || byte == b'}'
 }

@@ -7,8 +7,8 @@ mod reading;
 mod writing;
 
 pub use fault::{TextFault, TextKind};
-pub use reading::{MAX_TEXT_BYTES, one_fault, one_protocol, read_protocol};
-pub use writing::write_protocol;
+pub use reading::{MAX_TEXT_BYTES, one_fault, one_protocol, protocol_or_fault, read_protocol};
+pub use writing::{write_protocol, written_reads};
 
 #[cfg(test)]
 mod tests;

@@ -1,5 +1,5 @@
 //! Reading a protocol.
-ghost use Rattle.std.specs.Prelude.{◌≡◌, ◌≢◌, ◌+◌, ◌<◌, ◌≤◌, ℕ, List, []};
+ghost use Rattle.std.specs.Prelude.{◌≡◌, ◌≢◌, ◌+◌, ◌<◌, ◌≤◌, ◌⊎◌, ℕ, List, []};
 ghost use Rattle.std.specs.Prelude.{◌∷◌, ◌++◌, length, codes, IfOk, IfErr, OnOk, false, true, MatchOption};
 ghost use Rattle.std.specs.List.{AllByRecursion};
 ghost use Rattle.mps_base.specs.Names.{IsName, IsVariable};
@@ -7,7 +7,7 @@ ghost use Rattle.mps_base.specs.RoleLists.{HasRoleCount};
 ghost use Rattle.mps_global.specs.Global.{GlobalType, plain, plain_branches};
 ghost use Rattle.mps_base.specs.Sorts.{sort_word};
 ghost use Rattle.mps_text.specs.Grammar.{IsSpellable, AreSpellable, HasBranch, IsWithinLimits, SpellsText, IsRead};
-ghost use Rattle.mps_text.specs.Faults.{IsFirstFault};
+ghost use Rattle.mps_text.specs.Faults.{IsFirstFault, HasProtocol, HasFault};
 ghost use Rattle.mps_text.specs.declared.fault.TextKind.{TextKind};
 ghost use Rattle.mps_text.specs.declared.fault.TextKind.TheVariants.{Memory};
 ghost use Rattle.mps_text.specs.Lexing.{lexed, tokens_in};
@@ -68,6 +68,12 @@ pub fn one_fault()
         → IsFirstFault text b l → k ≢ Memory → l ≢ Memory → (a ≡ b) × (k ≡ l) }
     ensures none { (text : List ℕ) (roles : List (List ℕ)) (tree : GlobalType) (at : ℕ) (kind : TextKind)
         → IsWithinLimits text tree → SpellsText text roles tree → IsFirstFault text at kind → kind ≡ Memory }
+{}
+
+/// Each text spells a protocol within the limits, or has a first fault: `TooLong` where it has more
+/// than 65,536 bytes, and otherwise one that it shows, never want of memory.
+pub fn protocol_or_fault()
+    ensures { (text : List ℕ) → HasProtocol text ⊎ HasFault text }
 {}
 
 // The protocol that takes all of the text.

@@ -1,5 +1,6 @@
 use crate::{
-    MAX_TEXT_BYTES, TextFault, TextKind, one_fault, one_protocol, read_protocol, write_protocol,
+    MAX_TEXT_BYTES, TextFault, TextKind, one_fault, one_protocol, protocol_or_fault, read_protocol,
+    write_protocol, written_reads,
 };
 use mps_base::{Name, Sort, VarName};
 use mps_global::{Branches, Global, Protocol, check};
@@ -401,5 +402,7 @@ fn shows_a_fault(rt: HostRuntime) -> Result<(), Fail> {
     );
     one_protocol();
     one_fault();
+    protocol_or_fault();
+    written_reads();
     Ok(())
 }

@@ -3,11 +3,12 @@ ghost use Rattle.std.specs.Prelude.{◌≡◌, ◌+◌, ◌<◌, ℕ, List, [], 
 ghost use Rattle.std.specs.List.{AllByRecursion};
 ghost use Rattle.mps_base.specs.Names.{IsName};
 ghost use Rattle.mps_base.specs.RoleLists.{HasRoleCount};
-ghost use Rattle.mps_base.specs.Spaced.{spaced, with_token, with_tokens};
-ghost use Rattle.mps_global.specs.Global.{plain, plain_branches};
+ghost use Rattle.mps_base.specs.Spaced.{with_token, with_tokens};
+ghost use Rattle.mps_global.specs.Global.{GlobalType, plain, plain_branches};
 ghost use Rattle.mps_global.specs.Weights.{weight, branch_weight};
-ghost use Rattle.mps_text.specs.Grammar.{global_tokens, protocol_tokens, SpellsText};
-ghost use Rattle.mps_text.specs.Writing.{HasBranches, IsNamed, AreNamed, IsTodoNamed};
+ghost use Rattle.mps_text.specs.Grammar.{protocol_text, IsWithinLimits, SpellsText, SpellsOnly};
+ghost use Rattle.mps_text.specs.Grammar.{HasBranches, IsSpellable, IsNamed, AreNamed};
+ghost use Rattle.mps_text.specs.Writing.{global_tokens, IsTodoNamed};
 ghost use Rattle.mps_text.specs.Writing.{todo_tokens, todo_weight, left_tokens, left_weight, branches_tokens, others_tokens};
 
 use mps_base::{Name, push_token};
@@ -17,7 +18,7 @@ use std::alloc::{self, AllocError};
 /// Writes a protocol as its tokens with one space between two.
 pub fn write_protocol(alloc: alloc::Global, protocol: &Protocol) -> Result<Vec<u8>, AllocError>
     ensures text { IfOk result (λ text. text.items
-        ≡ spaced (protocol_tokens protocol.now.roles.items (plain protocol.now.body))) }
+        ≡ protocol_text protocol.now.roles.items (plain protocol.now.body)) }
     // With 2 to 8 roles, and a branch in each choice, it spells the protocol.
     ensures spelled { IfOk result (λ text. HasRoleCount protocol.now.roles.items
         → HasBranches (plain protocol.now.body)
@@ -30,6 +31,15 @@ pub fn write_protocol(alloc: alloc::Global, protocol: &Protocol) -> Result<Vec<u
     write_tree(alloc, &protocol.body, &mut out)?;
     Ok(out)
 }
+
+/// A written protocol is read back: where it has 2 to 8 roles, its names are names, each choice has a
+/// branch, and it and its text are within the limits, its text spells this protocol and no other, so
+/// that `read_protocol` gives it (`only`).
+pub fn written_reads()
+    ensures { (roles : List (List ℕ)) (tree : GlobalType) → AllByRecursion IsName roles
+        → HasRoleCount roles → IsSpellable tree → IsWithinLimits (protocol_text roles tree) tree
+        → SpellsOnly (protocol_text roles tree) roles tree }
+{}
 
 // The names, one after the other.
 fn write_names(names: &[Name], out: &mut Vec<u8>) -> Result<(), AllocError>

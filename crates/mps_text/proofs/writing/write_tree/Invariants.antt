@@ -2,8 +2,8 @@ use Rattle.std.proofs.Common.{◌≡◌}
 use Rattle.std.specs.List.{AllByRecursion}
 use Rattle.mps_base.specs.Spaced.{with_tokens}
 use Rattle.mps_global.specs.Global.{plain}
-use Rattle.mps_text.specs.Grammar.{global_tokens}
-use Rattle.mps_text.specs.Writing.{IsNamed, IsTodoNamed, left_tokens, left_weight}
+use Rattle.mps_text.specs.Grammar.{IsNamed}
+use Rattle.mps_text.specs.Writing.{global_tokens, IsTodoNamed, left_tokens, left_weight}
 use Rattle.mps_text.proofs.writing.write_tree.Given as goal
 
 -- what waits is what is still to be written
