@@ -1,16 +1,18 @@
 -- What a source over memory has left to give.
 use Rattle.std.specs.Prelude.{ℕ, ◌+◌, ◌≤◌, Bool, true, false, List, [], ◌∷◌, drop, filter, Option, None, Some}
 
--- the pieces that a source over memory has left, the call from which on all fail, and its calls
+-- the pieces that a source over memory has left, the call from which on all fail, and its calls: those that were
+-- answered by bytes or had no room, those that ended, and those that failed
 pub record Script : Type 0 where
   pub pieces : List (List ℕ)
   pub fails_from : Option ℕ
   pub answered : ℕ
+  pub ends : ℕ
   pub failed_calls : ℕ
 
 -- how many times the source was read from
 abbrev pub calls_of : Script → ℕ
-calls_of s = s.answered + s.failed_calls
+calls_of s = s.answered + s.ends + s.failed_calls
 
 -- whether a piece has bytes
 abbrev pub has_bytes : List ℕ → Bool

@@ -15,6 +15,10 @@ calls_of s = s.calls
 abbrev pub failed_reads_of : {R : Type 0} → OverRead R → ℕ
 failed_reads_of s = s.failed_calls
 
+-- how many of them ended
+abbrev pub ends_of : {R : Type 0} → OverRead R → ℕ
+ends_of s = s.ends
+
 -- the writer that a sink writes to
 abbrev pub writer_of : {W : Type 0} → OverWrite W → W
 writer_of s = s.inner

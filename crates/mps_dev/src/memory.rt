@@ -2,8 +2,8 @@ ghost use Rattle.std.specs.Prelude.{◌≡◌, ◌+◌, ◌^◌, ◌<◌, ◌↔
 ghost use Rattle.std.specs.Io.{ReadsAtMost, WritesAtMost};
 ghost use Rattle.std.specs.Io.KnownBytes.{ReadConsumes, WriteAppends};
 ghost use Rattle.std.specs.List.{concat, flat_map, slice_index_or};
-ghost use Rattle.std.proofs.Math.Nat.{le-add_left};
-ghost use Rattle.mps_dev.specs.Calls.{failures_after, TakesSome};
+ghost use Rattle.std.proofs.Common.{arith};
+ghost use Rattle.mps_dev.specs.Calls.{ends_after, failures_after, TakesSome};
 ghost use Rattle.mps_dev.specs.Pieces.{IsFailingCall, calls_of, first_piece, left_from, non_empty, past};
 
 use super::{Failed, Sink, Source};
@@ -19,6 +19,7 @@ pub struct Pieces {
     given: usize,
     fails_from: Option<u64>,
     answered: u64,
+    ends: u64,
     failed_calls: u64,
 }
 
@@ -32,6 +33,7 @@ impl Model for Pieces {
       pieces = left_from s.next s.given (map vec_items s.pieces.items);
       fails_from = s.fails_from;
       answered = s.answered;
+      ends = s.ends;
       failed_calls = s.failed_calls;
     } };
 }
@@ -43,6 +45,7 @@ impl Pieces {
           pieces = non_empty (map vec_items pieces.items);
           fails_from = fails_from;
           answered = 0;
+          ends = 0;
           failed_calls = 0;
         } }
         ensures bytes { concat result.pieces ≡ flat_map vec_items pieces.items }
@@ -53,6 +56,7 @@ impl Pieces {
             given: 0,
             fails_from,
             answered: 0,
+            ends: 0,
             failed_calls: 0,
         }
     }
@@ -65,13 +69,16 @@ impl Source for Pieces {
 
     ghost failed_calls = { λ s. s.failed_calls };
 
-    ghost fewer_failed = { λ s. le-add_left s.failed_calls s.answered };
+    ghost ends = { λ s. s.ends };
+
+    ghost fewer_failed = { λ s. Prim.omega arith };
 
     fn read(&mut self, buf: &mut [u8]) -> Result<usize, Failed>
         requires { calls_of self.old < 2 ^ 63 }
         ensures within { ReadsAtMost result buf.new }
         ensures calls { calls_of self.new ≡ calls_of self.old + 1 }
         ensures failures { self.new.failed_calls ≡ failures_after result self.old.failed_calls }
+        ensures ends { self.new.ends ≡ ends_after result buf.old self.old.ends }
         ensures bytes { ReadConsumes (Some (concat self.old.pieces)) (Some (concat self.new.pieces))
             result buf.new }
 
@@ -86,7 +93,7 @@ impl Source for Pieces {
         ensures given { IfOk result (λ n. buf.new ≡ take n (first_piece self.old.pieces) ++ drop n buf.old) }
         ensures left { IfOk result (λ n. self.new.pieces ≡ non_empty (past n self.old.pieces)) }
     {
-        let call = self.answered + self.failed_calls + 1;
+        let call = self.answered + self.ends + self.failed_calls + 1;
         if self.fails_from.is_some_and(|first| first <= call) {
             self.failed_calls += 1;
             return Err(Failed);
@@ -98,7 +105,11 @@ impl Source for Pieces {
         };
         self.next = next;
         self.given = given + n;
-        self.answered += 1;
+        if n == 0 && !buf.is_empty() {
+            self.ends += 1;
+        } else {
+            self.answered += 1;
+        }
         Ok(n)
     }
 }

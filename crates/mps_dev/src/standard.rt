@@ -1,4 +1,4 @@
-ghost use Rattle.std.specs.Prelude.{◌≡◌, ◌≤◌};
+ghost use Rattle.std.specs.Prelude.{◌≡◌, ◌+◌, ◌≤◌};
 
 use super::{Failed, Sink, Source};
 use std::io::{Read, Write};
@@ -10,21 +10,24 @@ pub struct OverRead<R> {
     inner: R,
     calls: u64,
     failed_calls: u64,
-    ghost fewer_failed: { failed_calls ≤ calls },
+    ends: u64,
+    ghost fewer_failed: { failed_calls + ends ≤ calls },
 }
 
 impl<R> OverRead<R> {
-    ghost use Rattle.mps_dev.specs.Standard.{reader_of, calls_of, failed_reads_of};
+    ghost use Rattle.mps_dev.specs.Standard.{reader_of, calls_of, failed_reads_of, ends_of};
 
     pub fn new(inner: R) -> Self
         ensures reader { reader_of result ≡ inner }
         ensures calls { calls_of result ≡ 0 }
         ensures failures { failed_reads_of result ≡ 0 }
+        ensures ends { ends_of result ≡ 0 }
     {
         OverRead {
             inner,
             calls: 0,
             failed_calls: 0,
+            ends: 0,
         }
     }
 
@@ -38,7 +41,7 @@ impl<R> OverRead<R> {
 }
 
 impl<R: Read> Source for OverRead<R> {
-    ghost use Rattle.mps_dev.specs.Standard.{reader_of, calls_of, failed_reads_of};
+    ghost use Rattle.mps_dev.specs.Standard.{reader_of, calls_of, failed_reads_of, ends_of};
 
     ghost remaining = { λ s. R.remaining (reader_of s) };
 
@@ -46,12 +49,19 @@ impl<R: Read> Source for OverRead<R> {
 
     ghost failed_calls = { failed_reads_of };
 
+    ghost ends = { ends_of };
+
     ghost fewer_failed = { λ s. s.fewer_failed };
 
     fn read(&mut self, buf: &mut [u8]) -> Result<usize, Failed> {
         self.calls += 1;
         match self.inner.read(buf) {
-            Ok(n) => Ok(n),
+            Ok(n) => {
+                if n == 0 && !buf.is_empty() {
+                    self.ends += 1;
+                }
+                Ok(n)
+            }
             Err(_) => {
                 self.failed_calls += 1;
                 Err(Failed)

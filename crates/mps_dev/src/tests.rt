@@ -39,17 +39,25 @@ fn handed_over<K: Sink>(sink: &mut K, bytes: &[u8]) -> usize
     at
 }
 
-// A reader that is interrupted once, and then gives two bytes and ends.
+// A device that fails once, by an error of this kind, and counts its calls. As a reader it then gives two bytes and
+// ends, as a writer it then takes what comes.
 #[derive(Drop)]
-struct Interrupted {
-    reads: u8,
+struct FailsOnce {
+    kind: ErrorKind,
+    calls: u8,
 }
 
-impl Read for Interrupted {
+impl FailsOnce {
+    fn new(kind: ErrorKind) -> Self {
+        FailsOnce { kind, calls: 0 }
+    }
+}
+
+impl Read for FailsOnce {
     fn read(&mut self, buf: &mut [u8]) -> io::Result<usize> {
-        self.reads = self.reads.saturating_add(1);
-        match self.reads {
-            1 => Err(ErrorKind::Interrupted.into()),
+        self.calls = self.calls.saturating_add(1);
+        match self.calls {
+            1 => Err(self.kind.into()),
             2 if buf.len() >= 2 => {
                 buf[0] = 8;
                 buf[1] = 9;
@@ -59,6 +67,27 @@ impl Read for Interrupted {
         }
     }
 }
+
+impl Write for FailsOnce {
+    fn write(&mut self, buf: &[u8]) -> io::Result<usize> {
+        self.calls = self.calls.saturating_add(1);
+        match self.calls {
+            1 => Err(self.kind.into()),
+            _ => Ok(buf.len()),
+        }
+    }
+
+    fn flush(&mut self) -> io::Result<()> {
+        Ok(())
+    }
+}
+
+// Kinds of errors, of which std's own loops ask again after the first.
+const KINDS: [ErrorKind; 3] = [
+    ErrorKind::Interrupted,
+    ErrorKind::ConnectionReset,
+    ErrorKind::Other,
+];
 
 // A writer that takes nothing.
 #[derive(Drop)]
@@ -131,13 +160,6 @@ fn readers_of_std_are_sources(rt: HostRuntime) -> Result<(), Fail> {
     assert_eq!(rt; bytes.as_slice(), text.as_slice());
     assert!(rt; !failed);
     assert!(rt; source.into_inner().is_empty());
-
-    let mut interrupted = OverRead::new(Interrupted { reads: 0 });
-    assert_eq!(rt; drained(rt.alloc(), &mut interrupted)?.1, true);
-    assert_eq!(rt;
-        drained(rt.alloc(), &mut interrupted)?.0.as_slice(),
-        [8, 9].as_slice()
-    );
     Ok(())
 }
 
@@ -150,5 +172,38 @@ fn writers_of_std_are_sinks(rt: HostRuntime) -> Result<(), Fail> {
     let mut stuck = OverWrite::new(Stuck);
     assert_eq!(rt; stuck.write(&[1]), Err(Failed));
     assert_eq!(rt; stuck.write(&[]), Ok(0));
+    Ok(())
+}
+
+#[test]
+fn a_failed_read_is_not_asked_again(rt: HostRuntime) -> Result<(), Fail> {
+    for kind in KINDS {
+        let mut buf = [0; 4];
+        let mut once = OverRead::new(FailsOnce::new(kind));
+        assert_eq!(rt; once.read(&mut buf), Err(Failed));
+        assert_eq!(rt; once.into_inner().calls, 1, "{kind:?}");
+
+        let mut source = OverRead::new(FailsOnce::new(kind));
+        assert_eq!(rt; source.read(&mut buf), Err(Failed), "{kind:?}");
+        assert_eq!(rt; source.read(&mut buf), Ok(2), "{kind:?}");
+        assert_eq!(rt; buf, [8, 9, 0, 0]);
+        assert_eq!(rt; source.read(&mut buf), Ok(0));
+        assert_eq!(rt; source.into_inner().calls, 3, "{kind:?}");
+    }
+    Ok(())
+}
+
+#[test]
+fn a_failed_write_is_not_asked_again(rt: HostRuntime) -> Result<(), Fail> {
+    for kind in KINDS {
+        let mut once = OverWrite::new(FailsOnce::new(kind));
+        assert_eq!(rt; once.write(&[5, 6]), Err(Failed));
+        assert_eq!(rt; once.into_inner().calls, 1, "{kind:?}");
+
+        let mut sink = OverWrite::new(FailsOnce::new(kind));
+        assert_eq!(rt; sink.write(&[5, 6]), Err(Failed), "{kind:?}");
+        assert_eq!(rt; sink.write(&[5, 6]), Ok(2), "{kind:?}");
+        assert_eq!(rt; sink.into_inner().calls, 2, "{kind:?}");
+    }
     Ok(())
 }

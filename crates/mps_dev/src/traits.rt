@@ -1,7 +1,7 @@
 ghost use Rattle.std.specs.Prelude.{◌≡◌, ℕ, ◌+◌, ◌^◌, ◌<◌, ◌≤◌, List, Option};
 ghost use Rattle.std.specs.Io.{ReadsAtMost, WritesAtMost};
 ghost use Rattle.std.specs.Io.KnownBytes.{ReadConsumes, WriteAppends};
-ghost use Rattle.mps_dev.specs.Calls.{failures_after, TakesSome};
+ghost use Rattle.mps_dev.specs.Calls.{ends_after, failures_after, TakesSome};
 
 use thiserror::Error;
 
@@ -21,16 +21,20 @@ pub trait Source {
     // How many of these calls failed.
     ghost failed_calls: { Self → ℕ };
 
+    // How many of them ended: they answered that nothing is left, though there was room for it.
+    ghost ends: { Self → ℕ };
+
     /// Reads some bytes into the front of `buf`, and says how many. `Ok(0)` with room in `buf` is the end.
     fn read(&mut self, buf: &mut [u8]) -> Result<usize, Failed>
         requires { calls self.old < 2 ^ 63 }
         ensures within { ReadsAtMost result buf.new }
         ensures calls { calls self.new ≡ calls self.old + 1 }
         ensures failures { failed_calls self.new ≡ failures_after result (failed_calls self.old) }
+        ensures ends { ends self.new ≡ ends_after result buf.old (ends self.old) }
         ensures bytes { ReadConsumes (remaining self.old) (remaining self.new) result buf.new };
 
-    // No more calls failed than were made.
-    ghost fewer_failed: { (s : Self) → failed_calls s ≤ calls s };
+    // No call failed and ended too.
+    ghost fewer_failed: { (s : Self) → failed_calls s + ends s ≤ calls s };
 }
 
 /// What bytes are written to, one call at a time. It takes no memory.

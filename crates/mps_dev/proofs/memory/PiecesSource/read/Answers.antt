@@ -4,11 +4,11 @@ use Rattle.mps_dev.specs.Pieces.{first_piece, left_from}
 use Rattle.mps_dev.proofs.PiecesLeft.{left_from-read, concat-left_from-read}
 use Rattle.mps_dev.proofs.memory.PiecesSource.read.Goals as goal
 
-pub returns-clause-left : goal.returns-clause-left
-returns-clause-left c = grind (arith, common_steps, left_from-read)
+pub returns-else-n-eq0-clause-left : goal.returns-else-n-eq0-clause-left
+returns-else-n-eq0-clause-left c = grind (arith, common_steps, left_from-read)
 
-pub returns-clause-bytes : goal.returns-clause-bytes
-returns-clause-bytes c =
+pub returns-else-n-eq0-clause-bytes : goal.returns-else-n-eq0-clause-bytes
+returns-else-n-eq0-clause-bytes c =
     let pieces = map vec_items c.match-get.self-inside.pieces.items in
     let left = c.args.self.now.pieces in
     let n = c.match-get.n in
