@@ -7,16 +7,17 @@ use Rattle.std.proofs.lemmas.Bool.{cases_Bool, cases_eq, cases_lt, cond-true, co
 use Rattle.std.proofs.lemmas.List.{get_or-set_same, get_or-set_other, length-set, length-replicate}
 use Rattle.std.proofs.lemmas.Nat.{mul-add-lt, same_from_place}
 use Rattle.mps_base.specs.declared.action.Act.{Act}
-use Rattle.mps_base.specs.declared.action.Act.TheVariants.{Out, In}
+use Rattle.mps_base.specs.declared.action.Act.TheVariants.{Out, In, Mark}
 use Rattle.mps_base.specs.declared.action.Message.{Message}
 use Rattle.mps_base.specs.declared.action.Message.TheVariants.{Value as Plain, Label}
 use Rattle.mps_base.specs.declared.action.Step.{Step}
 use Rattle.mps_base.specs.declared.value.Value.{Value}
 use Rattle.mps_local.specs.Local.{LocalType, Send, Recv, rest_of}
 use Rattle.mps_history.specs.Steps.{sends, receives}
-use Rattle.mps_machine.specs.Unfolding.{unfolded}
+use Rattle.mps_local.specs.Unfolding.{unfolded}
 use Rattle.mps_machine.specs.View.{Store, Participant, View, bound, opening, type_at}
-use Rattle.mps_machine.specs.Rule.{first_of, moved, fits, type_after, advanced, participant_after, store_after, queue_after, view_after, replay}
+use Rattle.mps_base.specs.Sorts.{fits}
+use Rattle.mps_machine.specs.Rule.{first_of, moved, type_after, advanced, participant_after, store_after, queue_after, view_after, replay}
 use Rattle.mps_machine.specs.Violations.{act_fault, violation}
 use Rattle.mps_machine.specs.Machine.{State, initial, view_of, accepted, IsSound}
 use Rattle.mps_machine.proofs.Stepping.{rule_from, replay_from, replay-append}
@@ -129,29 +130,57 @@ module _ (types coming : List LocalType) (kept : List Store) (waiting : List (Li
   -- the act that is looked at by the type kept for the role is looked at by the view
   pub same_fault : (p : ℕ) (act : Act) → unfolded (type_at coming p) ≡ type_at coming p → violation (view_of types st.history) p act ≡ act_fault (type_at coming p) act (moved (view_of types st.history) p act)
   same_fault p act plain_type =
-      ap (λ (t : LocalType). act_fault t act (moved (view_of types st.history) p act)) (ap unfolded (sym (holds.to_come p)) ∙ plain_type)
+      ap (λ (t : LocalType). act_fault t act (moved (view_of types st.history) p act)) (ap unfolded (sym (holds.to_come.each p)) ∙ plain_type)
 
   -- a receipt is judged by the queue that is kept
   pub receipt_fault : (q from : ℕ) (slot : List ℕ) → q < length types → unfolded (type_at coming q) ≡ type_at coming q → violation (view_of types st.history) q (In from (Some slot)) ≡ act_fault (type_at coming q) (In from (Some slot)) (first_of (get_or waiting (from * length types + q) []))
   receipt_fault q from slot within plain_type =
       same_fault q (In from (Some slot)) plain_type
       ∙ ⊎_elim
-      (λ (near : from < length types). ap (λ (l : List Message). act_fault (type_at coming q) (In from (Some slot)) (first_of l)) (sym (holds.queues from q near within)))
-      (λ (far : length types ≤ from). stranger_fault (type_at coming q) from slot _ _ (length types) q (holds.peers q within) far)
+      (λ (near : from < length types). ap (λ (l : List Message). act_fault (type_at coming q) (In from (Some slot)) (first_of l)) (sym (holds.queues.each from q near within)))
+      (λ (far : length types ≤ from). stranger_fault (type_at coming q) from slot _ _ (length types) q (holds.to_come.peers q within) far)
       (cases_lt from (length types))
+
+  -- after a mark
+  pub marked_holds : (p : ℕ) (name : List ℕ) → Holds types coming kept waiting (accepted st p (Mark name))
+  marked_holds p name =
+      let act : Act = Mark name in
+      let s : Step = record { id = st.next; role = p; act = act } in
+      let v = view_of types st.history in
+      let c = advanced (v.participant p) act None (v.participant p).to_come in
+      let is = accepted_view types st p act c holds.sound refl in
+      let elsewhere : (a b : ℕ) → queue_after a b s (v.queue a b) ≡ v.queue a b = λ a b. untouched a b s (v.queue a b) (and_false (p == a)) (and_false (p == b)) in
+      record {
+        sound = accepted_sound types st p act holds.sound refl;
+        roles = holds.roles;
+        to_come = record {
+          long = holds.to_come.long;
+          peers = holds.to_come.peers;
+          each = λ r. by_role (λ k. k.to_come) v s c (type_at coming) (holds.to_come.each p) (λ k ne. holds.to_come.each k) r ∙ ap (λ (w : View). (w.participant r).to_come) (sym is);
+        };
+        stores = record {
+          long = holds.stores.long;
+          each = λ r. by_role (λ k. k.store) v s c (λ k. get_or kept k []) (holds.stores.each p) (λ k ne. holds.stores.each k) r ∙ ap (λ (w : View). (w.participant r).store) (sym is);
+        };
+        queues = record {
+          long = holds.queues.long;
+          each = λ a b ha hb. holds.queues.each a b ha hb ∙ sym (elsewhere a b) ∙ ap (λ (w : View). w.queue a b) (sym is);
+          strangers = λ a b apart. ap (λ (w : View). w.queue a b) is ∙ elsewhere a b ∙ holds.queues.strangers a b apart;
+        };
+      }
 
   module _ (p : ℕ) (within : p < length types) (plain_type : unfolded (type_at coming p) ≡ type_at coming p) where
     after_act : (act : Act) (m : Option Message) → moved (view_of types st.history) p act ≡ m → type_after (type_at coming p) act m ≡ Some (rest_of (type_at coming p)) → type_after (unfolded ((view_of types st.history).participant p).to_come) act (moved (view_of types st.history) p act) ≡ Some (rest_of (type_at coming p))
     after_act act m is e =
-        ap (λ (t : LocalType). type_after t act (moved (view_of types st.history) p act)) (ap unfolded (sym (holds.to_come p)) ∙ plain_type)
+        ap (λ (t : LocalType). type_after t act (moved (view_of types st.history) p act)) (ap unfolded (sym (holds.to_come.each p)) ∙ plain_type)
         ∙ ap (type_after (type_at coming p) act) is ∙ e
 
     still_peers : HasPeers (length types) p (rest_of (type_at coming p)) → (r : ℕ) → r < length types → HasPeers (length types) r (type_at (set coming p (rest_of (type_at coming p))) r)
     still_peers h r less =
-        let long : p < length coming = omega (arith, holds.long_coming) in
+        let long : p < length coming = omega (arith, holds.to_come.long) in
         ⊎_elim
         (λ (e : r ≡ p). subst (λ (k : ℕ). HasPeers (length types) k (type_at (set coming p (rest_of (type_at coming p))) k)) (sym e) (subst (HasPeers (length types) p) (sym (type_at-set_same coming p (rest_of (type_at coming p)) long)) h))
-        (λ (ne : r ≢ p). subst (HasPeers (length types) r) (sym (type_at-set_other coming p r (rest_of (type_at coming p)) ne)) (holds.peers r less))
+        (λ (ne : r ≢ p). subst (HasPeers (length types) r) (sym (type_at-set_other coming p r (rest_of (type_at coming p)) ne)) (holds.to_come.peers r less))
         (cases_eq r p)
 
     -- after a send
@@ -162,32 +191,38 @@ module _ (types coming : List LocalType) (kept : List Store) (waiting : List (Li
         let s : Step = record { id = st.next; role = p; act = act } in
         let v = view_of types st.history in
         let t = rest_of (type_at coming p) in
-        let allowed = send_allowed (type_at coming p) to x (Some (Plain x)) n p (holds.peers p within) fine in
+        let allowed = send_allowed (type_at coming p) to x (Some (Plain x)) n p (holds.to_come.peers p within) fine in
         let c = advanced (v.participant p) act (Some (Plain x)) t in
         let step = ap (option_map (advanced (v.participant p) act (Some (Plain x)))) (after_act act (Some (Plain x)) refl allowed.0) in
         let is = accepted_view types st p act c holds.sound step in
-        let long : p < length coming = omega (arith, holds.long_coming) in
+        let long : p < length coming = omega (arith, holds.to_come.long) in
         let place = mul-add-lt p n to n within allowed.1 in
         let elsewhere : (a b : ℕ) → ((a ≡ p) × (b ≡ to) → ⊥) → (sends a b s ≡ false) × (receives a b s ≡ false) = λ a b apart. (not_this p to a b apart, and_false (p == b)) in
-        let inside : p * n + to < length waiting = omega (arith, holds.long_waiting) in
+        let inside : p * n + to < length waiting = omega (arith, holds.queues.long) in
         record {
           sound = accepted_sound types st p act holds.sound (same_fault p act plain_type ∙ fine);
           roles = holds.roles;
-          long_coming = length-set {A = LocalType} coming p t ∙ holds.long_coming;
-          long_kept = holds.long_kept;
-          long_waiting = length-set waiting (p * n + to) (get_or waiting (p * n + to) [] ++ Plain x ∷ []) ∙ holds.long_waiting;
-          peers = still_peers allowed.2;
-          to_come = λ r. by_role (λ k. k.to_come) v s c (type_at (set coming p t)) (type_at-set_same coming p t long) (λ k ne. type_at-set_other coming p k t ne ∙ holds.to_come k) r ∙ ap (λ (w : View). (w.participant r).to_come) (sym is);
-          stores = λ r. by_role (λ k. k.store) v s c (λ k. get_or kept k []) (holds.stores p) (λ k ne. holds.stores k) r ∙ ap (λ (w : View). (w.participant r).store) (sym is);
-          queues = λ a b ha hb.
-              by_pair v s waiting n p to (get_or waiting (p * n + to) [] ++ Plain x ∷ []) within allowed.1 holds.long_waiting holds.queues
-              (ap (λ (l : List Message). l ++ Plain x ∷ []) (holds.queues p to within allowed.1)
-              ∙ sym (cond-true (sends p to s) _ _ (and_from (p == p) (to == to) (eq-eqb p p refl) (eq-eqb to to refl))))
-              elsewhere a b ha hb
-              ∙ ap (λ (w : View). w.queue a b) (sym is);
-          strangers = λ a b apart.
-              ap (λ (w : View). w.queue a b) is
-              ∙ still_empty n p to a b v s within allowed.1 elsewhere apart (holds.strangers a b apart);
+          to_come = record {
+            long = length-set {A = LocalType} coming p t ∙ holds.to_come.long;
+            peers = still_peers allowed.2;
+            each = λ r. by_role (λ k. k.to_come) v s c (type_at (set coming p t)) (type_at-set_same coming p t long) (λ k ne. type_at-set_other coming p k t ne ∙ holds.to_come.each k) r ∙ ap (λ (w : View). (w.participant r).to_come) (sym is);
+          };
+          stores = record {
+            long = holds.stores.long;
+            each = λ r. by_role (λ k. k.store) v s c (λ k. get_or kept k []) (holds.stores.each p) (λ k ne. holds.stores.each k) r ∙ ap (λ (w : View). (w.participant r).store) (sym is);
+          };
+          queues = record {
+            long = length-set waiting (p * n + to) (get_or waiting (p * n + to) [] ++ Plain x ∷ []) ∙ holds.queues.long;
+            each = λ a b ha hb.
+                by_pair v s waiting n p to (get_or waiting (p * n + to) [] ++ Plain x ∷ []) within allowed.1 holds.queues.long holds.queues.each
+                (ap (λ (l : List Message). l ++ Plain x ∷ []) (holds.queues.each p to within allowed.1)
+                ∙ sym (cond-true (sends p to s) _ _ (and_from (p == p) (to == to) (eq-eqb p p refl) (eq-eqb to to refl))))
+                elsewhere a b ha hb
+                ∙ ap (λ (w : View). w.queue a b) (sym is);
+            strangers = λ a b apart.
+                ap (λ (w : View). w.queue a b) is
+                ∙ still_empty n p to a b v s within allowed.1 elsewhere apart (holds.queues.strangers a b apart);
+          };
         }
 
     -- after a receipt
@@ -199,36 +234,42 @@ module _ (types coming : List LocalType) (kept : List Store) (waiting : List (Li
         let v = view_of types st.history in
         let t = rest_of (type_at coming p) in
         let fine' : act_fault (type_at coming p) act (Some (Plain x)) ≡ None = ap (act_fault (type_at coming p) act) (sym first) ∙ fine in
-        let allowed = receipt_allowed (type_at coming p) from slot (Some (Plain x)) n p (holds.peers p within) fine' in
-        let waits = holds.queues from p allowed.3 within in
+        let allowed = receipt_allowed (type_at coming p) from slot (Some (Plain x)) n p (holds.to_come.peers p within) fine' in
+        let waits = holds.queues.each from p allowed.3 within in
         let is_moved : moved v p act ≡ Some (Plain x) = ap first_of (sym waits) ∙ first in
         let c = advanced (v.participant p) act (moved v p act) t in
         let step = ap (option_map (advanced (v.participant p) act (moved v p act))) (after_act act (Some (Plain x)) is_moved allowed.2) in
         let is = accepted_view types st p act c holds.sound step in
-        let long : p < length coming = omega (arith, holds.long_coming) in
-        let stored : p < length kept = omega (arith, holds.long_kept) in
+        let long : p < length coming = omega (arith, holds.to_come.long) in
+        let stored : p < length kept = omega (arith, holds.stores.long) in
         let elsewhere : (a b : ℕ) → ((a ≡ from) × (b ≡ p) → ⊥) → (sends a b s ≡ false) × (receives a b s ≡ false) = λ a b apart. (and_false (p == a), not_this p from b a (λ k. apart (k.1, k.0))) in
         record {
           sound = accepted_sound types st p act holds.sound (receipt_fault p from slot within plain_type ∙ fine);
           roles = holds.roles;
-          long_coming = length-set {A = LocalType} coming p t ∙ holds.long_coming;
-          long_kept = length-set {A = Store} kept p (bound slot x (get_or kept p [])) ∙ holds.long_kept;
-          long_waiting = length-set waiting (from * n + p) (drop 1 (get_or waiting (from * n + p) [])) ∙ holds.long_waiting;
-          peers = still_peers allowed.4;
-          to_come = λ r. by_role (λ k. k.to_come) v s c (type_at (set coming p t)) (type_at-set_same coming p t long) (λ k ne. type_at-set_other coming p k t ne ∙ holds.to_come k) r ∙ ap (λ (w : View). (w.participant r).to_come) (sym is);
-          stores = λ r.
-              by_role (λ k. k.store) v s c (λ k. get_or (set kept p (bound slot x (get_or kept p []))) k [])
-              (get_or-set_same kept p (bound slot x (get_or kept p [])) [] stored ∙ ap (bound slot x) (holds.stores p) ∙ ap (store_after (v.participant p).store act) (sym is_moved))
-              (λ k ne. get_or-set_other kept p k (bound slot x (get_or kept p [])) [] ne ∙ holds.stores k) r
-              ∙ ap (λ (w : View). (w.participant r).store) (sym is);
-          queues = λ a b ha hb.
-              by_pair v s waiting n from p (drop 1 (get_or waiting (from * n + p) [])) allowed.3 within holds.long_waiting holds.queues
-              (ap (drop 1) waits ∙ sym (taken_here from p s (v.queue from p) (and_false (p == from)) (and_from (p == p) (from == from) (eq-eqb p p refl) (eq-eqb from from refl))))
-              elsewhere a b ha hb
-              ∙ ap (λ (w : View). w.queue a b) (sym is);
-          strangers = λ a b apart.
-              ap (λ (w : View). w.queue a b) is
-              ∙ still_empty n from p a b v s allowed.3 within elsewhere apart (holds.strangers a b apart);
+          to_come = record {
+            long = length-set {A = LocalType} coming p t ∙ holds.to_come.long;
+            peers = still_peers allowed.4;
+            each = λ r. by_role (λ k. k.to_come) v s c (type_at (set coming p t)) (type_at-set_same coming p t long) (λ k ne. type_at-set_other coming p k t ne ∙ holds.to_come.each k) r ∙ ap (λ (w : View). (w.participant r).to_come) (sym is);
+          };
+          stores = record {
+            long = length-set {A = Store} kept p (bound slot x (get_or kept p [])) ∙ holds.stores.long;
+            each = λ r.
+                by_role (λ k. k.store) v s c (λ k. get_or (set kept p (bound slot x (get_or kept p []))) k [])
+                (get_or-set_same kept p (bound slot x (get_or kept p [])) [] stored ∙ ap (bound slot x) (holds.stores.each p) ∙ ap (store_after (v.participant p).store act) (sym is_moved))
+                (λ k ne. get_or-set_other kept p k (bound slot x (get_or kept p [])) [] ne ∙ holds.stores.each k) r
+                ∙ ap (λ (w : View). (w.participant r).store) (sym is);
+          };
+          queues = record {
+            long = length-set waiting (from * n + p) (drop 1 (get_or waiting (from * n + p) [])) ∙ holds.queues.long;
+            each = λ a b ha hb.
+                by_pair v s waiting n from p (drop 1 (get_or waiting (from * n + p) [])) allowed.3 within holds.queues.long holds.queues.each
+                (ap (drop 1) waits ∙ sym (taken_here from p s (v.queue from p) (and_false (p == from)) (and_from (p == p) (from == from) (eq-eqb p p refl) (eq-eqb from from refl))))
+                elsewhere a b ha hb
+                ∙ ap (λ (w : View). w.queue a b) (sym is);
+            strangers = λ a b apart.
+                ap (λ (w : View). w.queue a b) is
+                ∙ still_empty n from p a b v s allowed.3 within elsewhere apart (holds.queues.strangers a b apart);
+          };
         }
 
 -- past the end of a list of one value there is that value too
@@ -242,12 +283,11 @@ pub opened_holds : (types : List LocalType) → HasRoleCount types → ((p : ℕ
 opened_holds types count peers = record {
   sound = initial_sound types;
   roles = count;
-  long_coming = refl;
-  long_kept = length-replicate (length types) [];
-  long_waiting = length-replicate (length types * length types) [];
-  peers = peers;
-  to_come = λ p. refl;
-  stores = λ p. get_or-same (length types) p [];
-  strangers = λ p q apart. refl;
-  queues = λ p q hp hq. get_or-same (length types * length types) (p * length types + q) [];
+  to_come = record { long = refl; peers = peers; each = λ p. refl };
+  stores = record { long = length-replicate (length types) []; each = λ p. get_or-same (length types) p [] };
+  queues = record {
+    long = length-replicate (length types * length types) [];
+    each = λ p q hp hq. get_or-same (length types * length types) (p * length types + q) [];
+    strangers = λ p q apart. refl;
+  };
 }

@@ -3,9 +3,9 @@ use Rattle.std.specs.Prelude.{◌≡◌, ℕ, Result, Err, IsOk}
 use Rattle.std.specs.Borrow.{Bor}
 use Rattle.mps_base.specs.declared.action.Act.{Act}
 use Rattle.mps_base.specs.declared.action.Step.{Step}
-use Rattle.mps_machine.specs.declared.answer.Done.{Done}
-use Rattle.mps_machine.specs.declared.answer.Refusal.{Refusal}
-use Rattle.mps_machine.specs.declared.answer.Refusal.TheVariants.{Memory}
+use Rattle.mps_command.specs.declared.answer.Done.{Done}
+use Rattle.mps_command.specs.declared.answer.Refusal.{Refusal}
+use Rattle.mps_command.specs.declared.answer.Refusal.TheVariants.{Memory}
 
 -- the answer is the machine's, but memory may run out where the machine accepts
 abbrev pub IsAnswer : Result Done Refusal → Result Done Refusal → Type 0

@@ -9,7 +9,7 @@ pub mod row;
 pub mod session;
 mod store;
 
-pub use mps_machine::{Done, Forward, Refusal, Violation};
+pub use mps_command::{Done, Forward, Refusal, Violation};
 pub use open::OpenFault;
 pub use row::are_message_only;
 pub use session::Session;

@@ -2,25 +2,26 @@
 ghost use Rattle.std.specs.Prelude.{◌≡◌, ◌↔◌, ◌+◌, ◌<◌, ◌≤◌, ℕ, length, map, IfOk, IsErrOf, OnOk, OnErr, Ok, Err, Some, List, slice_get};
 ghost use Rattle.std.specs.List.{AllByRecursion};
 ghost use Rattle.std.specs.Option.{option_copied, option_map};
-ghost use Rattle.mps_base.specs.declared.action.Act.TheVariants.{Out, In};
+ghost use Rattle.mps_base.specs.declared.action.Act.TheVariants.{Out, In, Mark};
 ghost use Rattle.mps_base.specs.declared.action.Message.TheVariants.{Value as Plain};
 ghost use Rattle.mps_local.specs.Local.{plain};
 ghost use Rattle.mps_machine.specs.Machine as machine;
 ghost use Rattle.mps_machine.specs.View.{value_in};
-ghost use Rattle.mps_machine.specs.Commands.{act_of};
+ghost use Rattle.mps_command.specs.Acts.{act_of};
 ghost use Rattle.mps_session.specs.Peers.{HasRoleCount, IsFirstBad, CanOpen};
 ghost use Rattle.mps_session.specs.Rows.{IsMessageOnly};
 ghost use Rattle.mps_session.specs.Answers.{IsAnswer, as_step};
+ghost use Rattle.mps_session.specs.Seen.{view_of};
 
-use crate::judge::{received, send_fault};
+use crate::judge::{no_choice, received, send_fault};
 use crate::open::{MAX_ROLES, MIN_ROLES, OpenFault, empty_queues, empty_stores, first_bad, rows};
 use crate::parts::{advance_at, bind_at, first_at, push_at, take_at};
 use crate::queue::Queue;
 use crate::row::Row;
 use crate::store::Store;
 use mps_base::{Act, Message, Name, Role, Step, StepId, Value};
+use mps_command::{Done, Forward, Refusal};
 use mps_local::Local;
-use mps_machine::{Done, Forward, Refusal};
 use std::alloc::Global;
 use std::marker::Model;
 
@@ -42,17 +43,19 @@ pub struct Session {
 }
 
 impl Model for Session {
+    ghost use Rattle.std.specs.Prelude.{map};
     ghost use Rattle.std.specs.Coded.{codes};
-    ghost use Rattle.mps_local.specs.contracts.Local as local;
+    ghost use Rattle.mps_local.specs.Local.{plain};
+    ghost use Rattle.mps_local.specs.Codes.{coded_local};
     ghost use Rattle.mps_session.specs.Seen.{Machine};
 
     ghost Value = { Machine };
 
-    ghost coded = { Prim.hlevel (codes, local.the_row.coded) };
+    ghost coded = { Prim.hlevel (codes, coded_local) };
 
     ghost use Rattle.mps_session.specs.Kept.{IsKept, state_of};
 
-    ghost view = { λ s. record { types = s.types.items; state = state_of s } };
+    ghost view = { λ s. record { types = map plain s.types.items; state = state_of s } };
 
     ghost invariant = { IsKept };
 }
@@ -63,10 +66,12 @@ impl Session {
     /// 256 nodes, and far longer ones run the stack out.
     pub fn open(alloc: Global, types: Vec<Local>) -> Result<Session, OpenFault>
         requires messages { AllByRecursion IsMessageOnly (map plain types.items) }
-        ensures opened { IfOk result (λ session. session ≡ record { types = types.items; state = machine.initial }) }
+        ensures opened { IfOk result (λ session. session
+            ≡ record { types = map plain types.items; state = machine.initial }) }
         ensures can { OnOk result (CanOpen (map plain types.items)) }
         ensures count { IsErrOf result OpenFault.RoleCount ↔ ¬ HasRoleCount (map plain types.items) }
-        ensures peer { (role : ℕ) → IsErrOf result (OpenFault.BadPeer role) → IsFirstBad (map plain types.items) role }
+        ensures peer { (role : ℕ) → IsErrOf result (OpenFault.BadPeer role)
+            → IsFirstBad (map plain types.items) role }
         ensures memory { IsErrOf result OpenFault.Memory → CanOpen (map plain types.items) }
     {
         let n = types.len();
@@ -93,22 +98,31 @@ impl Session {
     /// Takes a step of the role, or says why not. A refusal changes nothing.
     pub fn forward(&mut self, role: Role, command: Forward) -> Result<Done, Refusal>
         requires { role < length self.old.types }
-        ensures answer { IsAnswer result (machine.forward (map plain self.old.types) self.old.state role (act_of command)).0 }
-        ensures state { OnOk result (self.new.state ≡ (machine.forward (map plain self.old.types) self.old.state role (act_of command)).1) }
+        ensures answer { IsAnswer result
+            (machine.forward self.old.types self.old.state role (act_of command)).0 }
+        ensures state { OnOk result (self.new.state
+            ≡ (machine.forward self.old.types self.old.state role (act_of command)).1) }
         ensures types { self.new.types ≡ self.old.types }
         ensures err { OnErr result (self.new.state ≡ self.old.state) }
     {
         match command {
             Forward::Send { to, value } => self.send(role, to, value),
             Forward::Receive { from, slot } => self.receive(role, from, slot),
+            Forward::Mark { name } => self.mark(role, name),
+            Forward::Choose { .. } | Forward::Pick { .. } => {
+                let p = role.index();
+                Err(Refusal::Violation(no_choice(&self.to_come[p])))
+            }
         }
     }
 
     /// Sends a value.
     fn send(&mut self, role: Role, to: Role, value: Value) -> Result<Done, Refusal>
         requires { role < length self.old.types }
-        ensures answer { IsAnswer result (machine.forward (map plain self.old.types) self.old.state role (Out to (Plain value))).0 }
-        ensures state { OnOk result (self.new.state ≡ (machine.forward (map plain self.old.types) self.old.state role (Out to (Plain value))).1) }
+        ensures answer { IsAnswer result
+            (machine.forward self.old.types self.old.state role (Out to (Plain value))).0 }
+        ensures state { OnOk result (self.new.state
+            ≡ (machine.forward self.old.types self.old.state role (Out to (Plain value))).1) }
         ensures types { self.new.types ≡ self.old.types }
         ensures err { OnErr result (self.new.state ≡ self.old.state) }
     {
@@ -138,8 +152,10 @@ impl Session {
     /// Receives a value into a slot.
     fn receive(&mut self, role: Role, from: Role, slot: Name) -> Result<Done, Refusal>
         requires { role < length self.old.types }
-        ensures answer { IsAnswer result (machine.forward (map plain self.old.types) self.old.state role (In from (Some slot))).0 }
-        ensures state { OnOk result (self.new.state ≡ (machine.forward (map plain self.old.types) self.old.state role (In from (Some slot))).1) }
+        ensures answer { IsAnswer result
+            (machine.forward self.old.types self.old.state role (In from (Some slot))).0 }
+        ensures state { OnOk result (self.new.state
+            ≡ (machine.forward self.old.types self.old.state role (In from (Some slot))).1) }
         ensures types { self.new.types ≡ self.old.types }
         ensures err { OnErr result (self.new.state ≡ self.old.state) }
     {
@@ -169,6 +185,30 @@ impl Session {
         Ok(Done { id, got })
     }
 
+    /// Leaves a mark.
+    fn mark(&mut self, role: Role, name: Name) -> Result<Done, Refusal>
+        requires { role < length self.old.types }
+        ensures answer { IsAnswer result
+            (machine.forward self.old.types self.old.state role (Mark name)).0 }
+        ensures state { OnOk result (self.new.state
+            ≡ (machine.forward self.old.types self.old.state role (Mark name)).1) }
+        ensures types { self.new.types ≡ self.old.types }
+        ensures err { OnErr result (self.new.state ≡ self.old.state) }
+    {
+        if self.next > MAX_NUMBERS {
+            return Err(Refusal::Full);
+        }
+        self.history.reserve(1)?;
+        let id = StepId::new(self.next);
+        self.history.push_reserved(Step {
+            id,
+            role,
+            act: Act::Mark(name),
+        });
+        self.next += 1;
+        Ok(Done { id, got: None })
+    }
+
     /// How many roles the session has.
     pub fn roles(&self) -> usize
         ensures count { result ≡ length self.now.types }
@@ -188,7 +228,7 @@ impl Session {
     /// How many steps survive. Their numbers rise and were given out, and the view that is shown is their replay.
     pub fn len(&self) -> usize
         ensures count { result ≡ length self.now.state.history }
-        ensures sound { machine.IsSound (map plain self.now.types) self.now.state }
+        ensures sound { machine.IsSound self.now.types self.now.state }
     {
         self.history.len()
     }
@@ -205,7 +245,7 @@ impl Session {
     pub fn slot(&self, role: Role, slot: &Name) -> Option<&Value>
         requires { role < length self.now.types }
         ensures { option_copied result
-            ≡ value_in slot.now ((machine.view_of (map plain self.now.types) self.now.state.history).participant role).store }
+            ≡ value_in slot.now ((view_of self.now).participant role).store }
     {
         let store = &self.stores[role.index()];
         store.get(slot)
@@ -215,7 +255,7 @@ impl Session {
     /// of the session.
     pub fn message(&self, from: Role, to: Role, k: usize) -> Option<&Message>
         ensures { option_copied result
-            ≡ slice_get ((machine.view_of (map plain self.now.types) self.now.state.history).queue from to) k }
+            ≡ slice_get ((view_of self.now).queue from to) k }
     {
         let count = self.types.len();
         if from.index() >= count || to.index() >= count {

@@ -10,8 +10,8 @@ use Rattle.mps_machine.specs.View.{bound, type_at}
 use Rattle.mps_machine.specs.Machine.{State, accepted, forward, most_numbers}
 use Rattle.mps_machine.specs.Rule.{first_of}
 use Rattle.mps_machine.specs.Violations.{act_fault}
-use Rattle.mps_machine.specs.declared.answer.Done.{Done}
-use Rattle.mps_machine.specs.declared.answer.Refusal.{Refusal}
+use Rattle.mps_command.specs.declared.answer.Done.{Done}
+use Rattle.mps_command.specs.declared.answer.Refusal.{Refusal}
 use Rattle.mps_session.specs.Kept.{state_of}
 use Rattle.mps_session.specs.Rows.{row_type}
 use Rattle.mps_session.proofs.Types.{length_map}
@@ -43,7 +43,7 @@ fine : (c : In-Ok) → act_fault (row_type c.index-2.result.now) (In c.args.from
 fine c = ap (act_fault (row_type c.index-2.result.now) (In c.args.from (Some c.args.slot))) (sym c.in-Ok.ensures.value) ∙ c.in-Ok.ensures.fine c.args.slot
 
 -- the machine accepts it
-accepts : (c : In-Ok) → c.self.inside.next ≤ most_numbers → forward (map plain c.args.self.now.types) c.args.self.now.state c.args.role (In c.args.from (Some c.args.slot)) ≡ (Ok (record { id = c.self.inside.next; got = Some (Plain c.in-Ok.value.now) }), accepted (state_of c.self.inside) c.args.role (In c.args.from (Some c.args.slot)))
+accepts : (c : In-Ok) → c.self.inside.next ≤ most_numbers → forward c.args.self.now.types c.args.self.now.state c.args.role (In c.args.from (Some c.args.slot)) ≡ (Ok (record { id = c.self.inside.next; got = Some (Plain c.in-Ok.value.now) }), accepted (state_of c.self.inside) c.args.role (In c.args.from (Some c.args.slot)))
 accepts c = receipt_done c.self.inside c.args.self.now c.self.view_is c.self.invariant c.args.role c.requires c.index-2.result.now (type_is c) c.args.from c.args.slot _ (first_is c) (fine c) c.in-Ok.value.now refl
 
 -- the step joins the end of the history

@@ -7,8 +7,8 @@ use Rattle.mps_base.specs.declared.value.Value.{Value}
 use Rattle.mps_local.specs.Local.{plain, rest_of}
 use Rattle.mps_machine.specs.View.{type_at}
 use Rattle.mps_machine.specs.Machine.{State, accepted, forward, most_numbers}
-use Rattle.mps_machine.specs.declared.answer.Done.{Done}
-use Rattle.mps_machine.specs.declared.answer.Refusal.{Refusal}
+use Rattle.mps_command.specs.declared.answer.Done.{Done}
+use Rattle.mps_command.specs.declared.answer.Refusal.{Refusal}
 use Rattle.mps_session.specs.Kept.{state_of}
 use Rattle.mps_session.specs.Rows.{row_type}
 use Rattle.mps_session.proofs.Types.{length_map}
@@ -21,7 +21,7 @@ type_is : (c : In_default) → c.index.result.now ≡ get_or c.self.inside.to_co
 type_is c = c.index.ensures ∙ ap (λ (k : ℕ). get_or c.self.inside.to_come.items k c.index.result.now) c.index-p.ensures.place
 
 -- the machine accepts the send
-accepts : (c : In_default) → c.self.inside.next ≤ most_numbers → forward (map plain c.args.self.now.types) c.args.self.now.state c.args.role (Out c.args.to (Plain c.args.value)) ≡ (Ok (record { id = c.self.inside.next; got = None }), accepted (state_of c.self.inside) c.args.role (Out c.args.to (Plain c.args.value)))
+accepts : (c : In_default) → c.self.inside.next ≤ most_numbers → forward c.args.self.now.types c.args.self.now.state c.args.role (Out c.args.to (Plain c.args.value)) ≡ (Ok (record { id = c.self.inside.next; got = None }), accepted (state_of c.self.inside) c.args.role (Out c.args.to (Plain c.args.value)))
 accepts c = send_done c.self.inside c.args.self.now c.self.view_is c.self.invariant c.args.role c.requires c.index.result.now (type_is c) c.args.to c.args.value (c.in_default.ensures (Some (Plain c.args.value)))
 
 -- where the queue to the peer stands
