@@ -10,3 +10,4 @@ pub mod Writing
 pub mod Copying
 pub mod Unfolding
 pub mod Actions
+pub mod Examples
