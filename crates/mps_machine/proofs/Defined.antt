@@ -8,10 +8,12 @@ use Rattle.mps_base.specs.declared.action.Message.{Message}
 use Rattle.mps_base.specs.declared.action.Message.TheVariants.{Value as Plain, Label}
 use Rattle.mps_base.specs.declared.action.Step.{Step}
 use Rattle.mps_local.specs.Local.{LocalType, Send, Recv, Select, Branch}
-use Rattle.mps_machine.specs.declared.answer.Violation.TheVariants.{WrongPeer, WrongSort, NoLabel, NothingQueued, Mismatch}
-use Rattle.mps_machine.specs.Unfolding.{unfolded}
+use Rattle.mps_command.specs.declared.answer.Violation.TheVariants.{WrongPeer, WrongSort, NoLabel, NothingQueued, Mismatch}
+use Rattle.mps_local.specs.Unfolding.{unfolded}
 use Rattle.mps_machine.specs.View.{Participant, View}
-use Rattle.mps_machine.specs.Rule.{fits, branch_at, moved, type_after, advanced, participant_after, view_after, rule}
+use Rattle.mps_base.specs.Sorts.{fits}
+use Rattle.mps_local.specs.Actions.{branch_at}
+use Rattle.mps_machine.specs.Rule.{moved, type_after, advanced, participant_after, view_after, rule}
 use Rattle.mps_machine.specs.Violations.{act_fault, violation}
 
 abbrev is_a_mark : Act → Bool

@@ -1,7 +1,8 @@
 -- Every state that requests lead to is sound.
-use Rattle.std.proofs.Common.{◌≡◌, ℕ, ◌+◌, ◌<◌, Bool, true, false, not, List, [], ◌∷◌, ◌++◌, Option, Some, None, refl, sym, ap, ◌∙◌, subst, arith, ⊎_elim}
-use Rattle.std.specs.Prelude.{◌==◌, nat_lt, unwrap_or}
+use Rattle.std.proofs.Common.{◌≡◌, ℕ, ◌+◌, ◌<◌, Bool, true, false, not, List, [], ◌∷◌, ◌++◌, Option, Some, None, Result, Ok, refl, sym, ap, ◌∙◌, subst, arith, ⊎_elim}
+use Rattle.std.specs.Prelude.{◌==◌, unwrap_or}
 use Rattle.std.specs.List.{filter, AllByRecursion}
+use Rattle.std.specs.Option.{option_map}
 use Rattle.std.proofs.lemmas.Bool.{cases_Bool, eqb-true, not_from_false}
 use Rattle.mps_base.specs.declared.action.Act.{Act}
 use Rattle.mps_base.specs.declared.action.Step.{Step}
@@ -10,11 +11,15 @@ use Rattle.mps_history.specs.Steps.{IsIn, IsRising, numbers, step_of, steps_of, 
 use Rattle.mps_history.specs.Dependence.{IsClosed, consequences}
 use Rattle.mps_history.proofs.Order.{at_member, from_members, IsIn-filter, IsRising-filter, IsRising-push, AllByRecursion-filter}
 use Rattle.mps_history.proofs.Reaching.{consequences_closed, consequences_self}
-use Rattle.mps_machine.specs.declared.answer.Violation.{Violation}
-use Rattle.mps_machine.specs.declared.answer.Refusal.{Refusal}
+use Rattle.mps_command.specs.declared.answer.Done.{Done}
+use Rattle.mps_command.specs.declared.answer.Refusal.{Refusal}
+use Rattle.mps_command.specs.declared.answer.Refusal.TheVariants.{Violation as Violates, Needed}
 use Rattle.mps_machine.specs.View.{View, opening}
 use Rattle.mps_machine.specs.Violations.{violation}
-use Rattle.mps_machine.specs.Machine.{State, initial, most_numbers, view_of, accepted, forward_unless, least, owner_fault, dependents, undo_unless, rollback_unless, rolled_back, since_mark, back_to, Request, Forward, Undo, Rollback, Back, serve, after, IsSound}
+use Rattle.mps_command.specs.Acts.{act_of}
+use Rattle.mps_command.specs.declared.command.Command.{Command}
+use Rattle.mps_command.specs.declared.command.Command.TheVariants.{Forward, Undo, Rollback, Back}
+use Rattle.mps_machine.specs.Machine.{State, initial, view_of, accepted, unless, full_fault, done_by, forward, least, owner_fault, dependents, undone, undo, rolled_back, rollback, since_mark, back_to, Request, serve, after, IsSound}
 use Rattle.mps_machine.proofs.Stepping.{replay-append, replay_from}
 use Rattle.mps_machine.proofs.Apart.{left_out}
 use Rattle.mps_machine.proofs.Defined.{allowed_step}
@@ -56,10 +61,21 @@ without_sound types st set ok closed =
       replayed = left.1;
     }
 
-forward_sound : (types : List LocalType) (st : State) (p : ℕ) (act : Act) (fault : Option Violation) → violation (view_of types st.history) p act ≡ fault → IsSound types st → IsSound types (forward_unless fault types st p act).1
-forward_sound types st p act (Some fault) e ok = ok
-forward_sound types st p act None e ok =
-    ⊎_elim (λ (y : nat_lt most_numbers st.next ≡ true). rw y ok) (λ (n : nat_lt most_numbers st.next ≡ false). rw n (accepted_sound types st p act ok e)) (cases_Bool (nat_lt most_numbers st.next))
+-- a refusal changes nothing, so what follows is all that has to be sound
+unless_sound : {A : Type 0} (types : List LocalType) (fault : Option Refusal) (st : State) (served : Result A Refusal × State) → IsSound types st → (fault ≡ None → IsSound types served.1) → IsSound types (unless fault st served).1
+unless_sound types (Some refusal) st served ok next = ok
+unless_sound types None st served ok next = next refl
+
+none_under : {A B : Type 0} (f : A → B) (o : Option A) → option_map f o ≡ None → o ≡ None
+none_under f None e = refl
+none_under f (Some x) e = absurd cc
+
+pub forward_sound : (types : List LocalType) (st : State) (p : ℕ) (act : Act) → IsSound types st → IsSound types (forward types st p act).1
+forward_sound types st p act ok =
+    let fault = violation (view_of types st.history) p act in
+    let new : Result Done Refusal × State = (Ok (done_by types st p act), accepted st p act) in
+    unless_sound types (option_map Violates fault) st (unless (full_fault st) st new) ok
+    (λ e. unless_sound types (full_fault st) st new ok (λ _. accepted_sound types st p act ok (none_under Violates fault e)))
 
 pub least_none : (ns : List ℕ) → least ns ≡ None → ns ≡ []
 least_none [] e = refl
@@ -81,30 +97,31 @@ alone_closed h n r none t s it is e d =
     (IsIn-filter (λ x. not (x.id == n)) t (within h set) (IsIn-filter (λ x. set x.id) t h it t_in) (not_from_false (t.id == n) f))))
     (cases_Bool (t.id == n))
 
-undo_sound : (types : List LocalType) (st : State) (n : ℕ) (fault : Option Refusal) (by : Option ℕ) → least (dependents st.history n) ≡ by → IsSound types st → IsSound types (undo_unless fault by st n).1
-undo_sound types st n (Some fault) by e ok = ok
-undo_sound types st n None (Some by) e ok = ok
-undo_sound types st n None None e ok =
-    without_sound types st (λ m. m == n) ok (alone_closed st.history n ok.rising (least_none (dependents st.history n) e))
+undo_sound : (types : List LocalType) (st : State) (p n : ℕ) → IsSound types st → IsSound types (undo st p n).1
+undo_sound types st p n ok =
+    let by = least (dependents st.history n) in
+    unless_sound types (owner_fault p (step_of st.history n)) st (unless (option_map Needed by) st (undone st n)) ok
+    (λ _. unless_sound types (option_map Needed by) st (undone st n) ok
+    (λ e. without_sound types st (λ m. m == n) ok (alone_closed st.history n ok.rising (least_none (dependents st.history n) (none_under Needed by e)))))
 
 rolled_back_sound : (types : List LocalType) (st : State) (n : ℕ) → IsSound types st → IsSound types (rolled_back st n).1
 rolled_back_sound types st n ok = without_sound types st (consequences st.history n) ok (consequences_closed st.history n ok.rising)
 
-rollback_sound : (types : List LocalType) (st : State) (n : ℕ) (fault : Option Refusal) → IsSound types st → IsSound types (rollback_unless fault st n).1
-rollback_sound types st n (Some fault) ok = ok
-rollback_sound types st n None ok = rolled_back_sound types st n ok
+rollback_sound : (types : List LocalType) (st : State) (p n : ℕ) → IsSound types st → IsSound types (rollback st p n).1
+rollback_sound types st p n ok =
+    unless_sound types (owner_fault p (step_of st.history n)) st (rolled_back st n) ok (λ _. rolled_back_sound types st n ok)
 
 back_sound : (types : List LocalType) (st : State) (found : Option (List Step)) → IsSound types st → IsSound types (back_to found st).1
 back_sound types st None ok = ok
 back_sound types st (Some []) ok = ok
 back_sound types st (Some (s ∷ h)) ok = rolled_back_sound types st s.id ok
 
-pub serve_sound : (types : List LocalType) (st : State) (r : Request) → IsSound types st → IsSound types (serve types st r).1
-serve_sound types st (Forward p act) ok = forward_sound types st p act (violation (view_of types st.history) p act) refl ok
-serve_sound types st (Undo p n) ok = undo_sound types st n (owner_fault p (step_of st.history n)) (least (dependents st.history n)) refl ok
-serve_sound types st (Rollback p n) ok = rollback_sound types st n (owner_fault p (step_of st.history n)) ok
-serve_sound types st (Back p name) ok = back_sound types st (since_mark name (steps_of p st.history)) ok
+pub serve_sound : (types : List LocalType) (st : State) (p : ℕ) (command : Command) → IsSound types st → IsSound types (serve types st p command).1
+serve_sound types st p (Forward step) ok = forward_sound types st p (act_of step) ok
+serve_sound types st p (Undo n) ok = undo_sound types st p n ok
+serve_sound types st p (Rollback n) ok = rollback_sound types st p n ok
+serve_sound types st p (Back name) ok = back_sound types st (since_mark name (steps_of p st.history)) ok
 
 pub after_sound : (types : List LocalType) (st : State) (rs : List Request) → IsSound types st → IsSound types (after types st rs)
 after_sound types st [] ok = ok
-after_sound types st (r ∷ rs) ok = after_sound types (serve types st r).1 rs (serve_sound types st r ok)
+after_sound types st (r ∷ rs) ok = after_sound types (serve types st r.0 r.1).1 rs (serve_sound types st r.0 r.1 ok)

@@ -10,7 +10,7 @@ use Rattle.mps_base.specs.declared.action.Message.{Message}
 use Rattle.mps_base.specs.declared.action.Step.{Step}
 use Rattle.mps_local.specs.Local.{LocalType, End, Var, Rec, Send, Recv, Select, Branch}
 use Rattle.mps_history.specs.Steps.{sends, receives}
-use Rattle.mps_machine.specs.Unfolding.{unfolded}
+use Rattle.mps_local.specs.Unfolding.{unfolded}
 use Rattle.mps_machine.specs.View.{Participant, View}
 use Rattle.mps_machine.specs.Rule.{first_of, moved, type_after, advanced, participant_after, given, view_after, rule, replay}
 

@@ -11,7 +11,7 @@ use Rattle.mps_base.specs.declared.action.Step.{Step}
 use Rattle.mps_local.specs.Local.{LocalType}
 use Rattle.mps_history.specs.Steps.{sends, receives}
 use Rattle.mps_history.specs.Swaps.{deeds, is_matched_after, Swaps, Same, Exchange}
-use Rattle.mps_machine.specs.Unfolding.{unfolded}
+use Rattle.mps_local.specs.Unfolding.{unfolded}
 use Rattle.mps_machine.specs.View.{Deed, Participant, View, opening}
 use Rattle.mps_machine.specs.Rule.{moved, type_after, advanced, participant_after, view_after, rule, replay}
 use Rattle.mps_machine.proofs.Stepping.{rule_parts, replay_parts, replay_from, replay-append, queue_step, queue_count, a_receipt_waits, one_if, map_some}

@@ -1,16 +1,18 @@
 -- Worked sessions: what the machine answers to short lists of requests, as answers were worked out by hand.
-use Rattle.std.specs.Prelude.{◌≡◌, ℕ, true, List, [], ◌∷◌, Some, None, Ok, Err, codes, pos}
-use Rattle.mps_base.specs.declared.action.Act.TheVariants.{Out, In, Mark}
+use Rattle.std.specs.Prelude.{◌≡◌, ℕ, true, List, [], ◌∷◌, Some, None, codes, pos}
 use Rattle.mps_base.specs.declared.action.Message.TheVariants.{Value as Plain, Label}
 use Rattle.mps_base.specs.declared.value.Value.TheVariants.{Int, Bool as Truth}
 use Rattle.mps_base.specs.declared.value.Sort.TheVariants.{Int as IntSort, Bool as BoolSort}
 use Rattle.mps_local.specs.Local.{LocalType, End, Var, Rec, Send, Recv, Select, Branch, NoMore, More}
 use Rattle.mps_history.specs.Steps.{numbers}
-use Rattle.mps_machine.specs.declared.answer.Violation.{Violation}
-use Rattle.mps_machine.specs.declared.answer.Violation.TheVariants.{Ended, WrongAct, WrongPeer, WrongSort, NoLabel, NothingQueued, Mismatch}
-use Rattle.mps_machine.specs.declared.answer.Refusal.{Refusal}
-use Rattle.mps_machine.specs.declared.answer.Refusal.TheVariants.{Violation as Violates, NoStep, NotYours, Needed, NoMark}
-use Rattle.mps_machine.specs.Machine.{initial, view_of, Request, Forward, Undo, Rollback, Back, Answer, Stepped, Removed, answers, after}
+use Rattle.mps_command.specs.declared.command.Forward.TheVariants as steps
+use Rattle.mps_command.specs.declared.command.Command.TheVariants.{Forward, Undo, Rollback, Back}
+use Rattle.mps_command.specs.declared.answer.Violation.{Violation}
+use Rattle.mps_command.specs.declared.answer.Violation.TheVariants.{Ended, WrongAct, WrongPeer, WrongSort, NoLabel, NothingQueued, Mismatch}
+use Rattle.mps_command.specs.declared.answer.Refusal.TheVariants.{Violation as Violates, NoStep, NotYours, Needed, NoMark}
+use Rattle.mps_command.specs.declared.answer.Answer.{Answer}
+use Rattle.mps_command.specs.declared.answer.Answer.TheVariants.{Done, Undone, Refused}
+use Rattle.mps_machine.specs.Machine.{initial, view_of, Request, answers, after}
 
 -- roles, by their places
 abbrev pub a : ℕ
@@ -27,38 +29,41 @@ d = 3
 
 -- requests
 abbrev pub sends_int : ℕ → ℕ → ℕ → Request
-sends_int p q n = Forward p (Out q (Plain (Int (pos n))))
+sends_int p q n = (p, Forward (steps.Send q (Int (pos n))))
 
 abbrev pub receives_into : ℕ → ℕ → List ℕ → Request
-receives_into q p slot = Forward q (In p (Some slot))
+receives_into q p slot = (q, Forward (steps.Receive p slot))
 
 abbrev pub chooses : ℕ → ℕ → List ℕ → Request
-chooses p q label = Forward p (Out q (Label label))
+chooses p q label = (p, Forward (steps.Choose q label))
 
 abbrev pub picks : ℕ → ℕ → Request
-picks q p = Forward q (In p None)
+picks q p = (q, Forward (steps.Pick p))
 
 abbrev pub marks : ℕ → List ℕ → Request
-marks p name = Forward p (Mark name)
+marks p name = (p, Forward (steps.Mark name))
+
+abbrev pub undoes : ℕ → ℕ → Request
+undoes p n = (p, Undo n)
+
+abbrev pub rolls_back : ℕ → ℕ → Request
+rolls_back p n = (p, Rollback n)
+
+abbrev pub goes_back : ℕ → List ℕ → Request
+goes_back p name = (p, Back name)
 
 -- answers
 abbrev pub done : ℕ → Answer
-done n = Stepped (Ok (record { id = n; got = None }))
+done n = Done (record { id = n; got = None })
 
 abbrev pub done_with : ℕ → ℕ → Answer
-done_with n v = Stepped (Ok (record { id = n; got = Some (Plain (Int (pos v))) }))
+done_with n v = Done (record { id = n; got = Some (Plain (Int (pos v))) })
 
 abbrev pub done_label : ℕ → List ℕ → Answer
-done_label n l = Stepped (Ok (record { id = n; got = Some (Label l) }))
+done_label n l = Done (record { id = n; got = Some (Label l) })
 
 abbrev pub violates : Violation → Answer
-violates v = Stepped (Err (Violates v))
-
-abbrev pub undone : List ℕ → Answer
-undone ns = Removed (Ok ns)
-
-abbrev pub refused : Refusal → Answer
-refused r = Removed (Err r)
+violates v = Refused (Violates v)
 
 -- a gives b an int, b gives c an int, and c tells a yes or no
 abbrev pub verdict : List LocalType
@@ -91,75 +96,75 @@ relay_done_then more = done 1 ∷ done_with 2 5 ∷ done 3 ∷ done_with 4 7 ∷
 -- an undo waits for the undo of what depends on it
 abbrev pub AnUndoWaitsForTheReceipt : Type 0
 AnUndoWaitsForTheReceipt =
-    answers verdict initial (sends_int a b 5 ∷ receives_into b a (codes "x") ∷ Undo a 1 ∷ Undo b 2 ∷ Undo a 1 ∷ [])
-    ≡ done 1 ∷ done_with 2 5 ∷ refused (Needed 2) ∷ undone (2 ∷ []) ∷ undone (1 ∷ []) ∷ []
+    answers verdict initial (sends_int a b 5 ∷ receives_into b a (codes "x") ∷ undoes a 1 ∷ undoes b 2 ∷ undoes a 1 ∷ [])
+    ≡ done 1 ∷ done_with 2 5 ∷ Refused (Needed 2) ∷ Undone (2 ∷ []) ∷ Undone (1 ∷ []) ∷ []
 
 -- a rollback of the first step takes all that depends on it, the newest first
 abbrev pub ARollbackTakesAllThatDepends : Type 0
 ARollbackTakesAllThatDepends =
-    answers verdict initial (relayed_then (Rollback a 1 ∷ []))
-    ≡ relay_done_then (undone (4 ∷ 3 ∷ 2 ∷ 1 ∷ []) ∷ [])
+    answers verdict initial (relayed_then (rolls_back a 1 ∷ []))
+    ≡ relay_done_then (Undone (4 ∷ 3 ∷ 2 ∷ 1 ∷ []) ∷ [])
 
 -- a rollback of the second step takes that step and what depends on it, and leaves the first
 abbrev pub ARollbackLeavesWhatCameBefore : Type 0
 ARollbackLeavesWhatCameBefore =
-    answers verdict initial (relayed_then (Rollback b 2 ∷ []))
-    ≡ relay_done_then (undone (4 ∷ 3 ∷ 2 ∷ []) ∷ [])
+    answers verdict initial (relayed_then (rolls_back b 2 ∷ []))
+    ≡ relay_done_then (Undone (4 ∷ 3 ∷ 2 ∷ []) ∷ [])
 
 -- a rollback leaves what doesn't depend on the step
 abbrev pub ARollbackLeavesTheStrangers : Type 0
 ARollbackLeavesTheStrangers =
-    let requests = sends_int a b 1 ∷ sends_int c d 2 ∷ Rollback a 1 ∷ [] in
-    (answers two_pairs initial requests ≡ done 1 ∷ done 2 ∷ undone (1 ∷ []) ∷ [])
+    let requests = sends_int a b 1 ∷ sends_int c d 2 ∷ rolls_back a 1 ∷ [] in
+    (answers two_pairs initial requests ≡ done 1 ∷ done 2 ∷ Undone (1 ∷ []) ∷ [])
     × (numbers (after two_pairs initial requests).history ≡ 2 ∷ [])
 
 -- an undone receipt takes the same message again
 abbrev pub AReceiptUndoneTakesTheSameMessageAgain : Type 0
 AReceiptUndoneTakesTheSameMessageAgain =
-    answers stream initial (sends_int a b 1 ∷ sends_int a b 2 ∷ receives_into b a (codes "x") ∷ Undo b 3 ∷ receives_into b a (codes "x") ∷ [])
-    ≡ done 1 ∷ done 2 ∷ done_with 3 1 ∷ undone (3 ∷ []) ∷ done_with 4 1 ∷ []
+    answers stream initial (sends_int a b 1 ∷ sends_int a b 2 ∷ receives_into b a (codes "x") ∷ undoes b 3 ∷ receives_into b a (codes "x") ∷ [])
+    ≡ done 1 ∷ done 2 ∷ done_with 3 1 ∷ Undone (3 ∷ []) ∷ done_with 4 1 ∷ []
 
 -- an undone send is gone, and its number with it
 abbrev pub AnUndoneSendIsGone : Type 0
 AnUndoneSendIsGone =
-    answers stream initial (sends_int a b 1 ∷ receives_into b a (codes "x") ∷ Undo b 2 ∷ Undo a 1 ∷ sends_int a b 9 ∷ receives_into b a (codes "x") ∷ [])
-    ≡ done 1 ∷ done_with 2 1 ∷ undone (2 ∷ []) ∷ undone (1 ∷ []) ∷ done 3 ∷ done_with 4 9 ∷ []
+    answers stream initial (sends_int a b 1 ∷ receives_into b a (codes "x") ∷ undoes b 2 ∷ undoes a 1 ∷ sends_int a b 9 ∷ receives_into b a (codes "x") ∷ [])
+    ≡ done 1 ∷ done_with 2 1 ∷ Undone (2 ∷ []) ∷ Undone (1 ∷ []) ∷ done 3 ∷ done_with 4 9 ∷ []
 
 -- a second receipt into one slot is undone
 abbrev pub AReceiptIntoAUsedSlotIsUndone : Type 0
 AReceiptIntoAUsedSlotIsUndone =
-    answers stream initial (sends_int a b 1 ∷ sends_int a b 2 ∷ receives_into b a (codes "x") ∷ receives_into b a (codes "x") ∷ Undo b 4 ∷ [])
-    ≡ done 1 ∷ done 2 ∷ done_with 3 1 ∷ done_with 4 2 ∷ undone (4 ∷ []) ∷ []
+    answers stream initial (sends_int a b 1 ∷ sends_int a b 2 ∷ receives_into b a (codes "x") ∷ receives_into b a (codes "x") ∷ undoes b 4 ∷ [])
+    ≡ done 1 ∷ done 2 ∷ done_with 3 1 ∷ done_with 4 2 ∷ Undone (4 ∷ []) ∷ []
 
 -- the least dependent is named, here the role's next send
 abbrev pub TheLeastDependentIsNamedASend : Type 0
 TheLeastDependentIsNamedASend =
-    answers stream initial (sends_int a b 1 ∷ sends_int a b 2 ∷ receives_into b a (codes "x") ∷ Undo a 1 ∷ [])
-    ≡ done 1 ∷ done 2 ∷ done_with 3 1 ∷ refused (Needed 2) ∷ []
+    answers stream initial (sends_int a b 1 ∷ sends_int a b 2 ∷ receives_into b a (codes "x") ∷ undoes a 1 ∷ [])
+    ≡ done 1 ∷ done 2 ∷ done_with 3 1 ∷ Refused (Needed 2) ∷ []
 
 -- the least dependent is named, here the receipt
 abbrev pub TheLeastDependentIsNamedAReceipt : Type 0
 TheLeastDependentIsNamedAReceipt =
-    answers stream initial (sends_int a b 1 ∷ receives_into b a (codes "x") ∷ sends_int a b 2 ∷ Undo a 1 ∷ [])
-    ≡ done 1 ∷ done_with 2 1 ∷ done 3 ∷ refused (Needed 2) ∷ []
+    answers stream initial (sends_int a b 1 ∷ receives_into b a (codes "x") ∷ sends_int a b 2 ∷ undoes a 1 ∷ [])
+    ≡ done 1 ∷ done_with 2 1 ∷ done 3 ∷ Refused (Needed 2) ∷ []
 
 -- a return to a mark takes what came after it, then nothing, and needs the mark
 abbrev pub AReturnToAMarkLeavesTheMark : Type 0
 AReturnToAMarkLeavesTheMark =
-    answers stream initial (marks a (codes "m") ∷ sends_int a b 1 ∷ receives_into b a (codes "x") ∷ Back a (codes "m") ∷ Back a (codes "m") ∷ Undo a 1 ∷ Back a (codes "m") ∷ [])
-    ≡ done 1 ∷ done 2 ∷ done_with 3 1 ∷ undone (3 ∷ 2 ∷ []) ∷ undone [] ∷ undone (1 ∷ []) ∷ refused NoMark ∷ []
+    answers stream initial (marks a (codes "m") ∷ sends_int a b 1 ∷ receives_into b a (codes "x") ∷ goes_back a (codes "m") ∷ goes_back a (codes "m") ∷ undoes a 1 ∷ goes_back a (codes "m") ∷ [])
+    ≡ done 1 ∷ done 2 ∷ done_with 3 1 ∷ Undone (3 ∷ 2 ∷ []) ∷ Undone [] ∷ Undone (1 ∷ []) ∷ Refused NoMark ∷ []
 
 -- a number is never used again
 abbrev pub NumbersAreNeverUsedAgain : Type 0
 NumbersAreNeverUsedAgain =
-    answers stream initial (sends_int a b 1 ∷ Undo a 1 ∷ sends_int a b 2 ∷ Undo a 1 ∷ [])
-    ≡ done 1 ∷ undone (1 ∷ []) ∷ done 2 ∷ refused NoStep ∷ []
+    answers stream initial (sends_int a b 1 ∷ undoes a 1 ∷ sends_int a b 2 ∷ undoes a 1 ∷ [])
+    ≡ done 1 ∷ Undone (1 ∷ []) ∷ done 2 ∷ Refused NoStep ∷ []
 
 -- each refusal by its name
 abbrev pub RefusalsAreNamed : Type 0
 RefusalsAreNamed =
-    answers verdict initial (receives_into b a (codes "x") ∷ receives_into a b (codes "x") ∷ sends_int a c 5 ∷ Forward a (Out b (Plain (Truth true))) ∷ Undo b 7 ∷ sends_int a b 5 ∷ Undo b 1 ∷ [])
-    ≡ violates NothingQueued ∷ violates WrongAct ∷ violates WrongPeer ∷ violates WrongSort ∷ refused NoStep ∷ done 1 ∷ refused NotYours ∷ []
+    answers verdict initial (receives_into b a (codes "x") ∷ receives_into a b (codes "x") ∷ sends_int a c 5 ∷ (a, Forward (steps.Send b (Truth true))) ∷ undoes b 7 ∷ sends_int a b 5 ∷ undoes b 1 ∷ [])
+    ≡ violates NothingQueued ∷ violates WrongAct ∷ violates WrongPeer ∷ violates WrongSort ∷ Refused NoStep ∷ done 1 ∷ Refused NotYours ∷ []
 
 -- a choice is made, picked, and ends the part
 abbrev pub AChoiceIsMadeAndPicked : Type 0
@@ -176,11 +181,11 @@ AMessageOfAnotherSortIsAMismatch =
 -- after a rollback of the receipt, its message waits again and the send survives
 abbrev pub TheMessageWaitsAgain : Type 0
 TheMessageWaitsAgain =
-    let h = (after verdict initial (relayed_then (Rollback b 2 ∷ []))).history in
+    let h = (after verdict initial (relayed_then (rolls_back b 2 ∷ []))).history in
     ((view_of verdict h).queue a b ≡ Plain (Int (pos 5)) ∷ []) × (numbers h ≡ 1 ∷ [])
 
 -- after an undo of the second receipt into a slot, the slot has the first value, and the second message waits again
 abbrev pub TheSlotHasItsOldValue : Type 0
 TheSlotHasItsOldValue =
-    let v = view_of stream (after stream initial (sends_int a b 1 ∷ sends_int a b 2 ∷ receives_into b a (codes "x") ∷ receives_into b a (codes "x") ∷ Undo b 4 ∷ [])).history in
+    let v = view_of stream (after stream initial (sends_int a b 1 ∷ sends_int a b 2 ∷ receives_into b a (codes "x") ∷ receives_into b a (codes "x") ∷ undoes b 4 ∷ [])).history in
     ((v.participant b).store ≡ (codes "x", Int (pos 1)) ∷ []) × (v.queue a b ≡ Plain (Int (pos 2)) ∷ [])

@@ -1,7 +1,5 @@
-pub mod Unfolding
 pub mod View
 pub mod Rule
 pub mod Violations
 pub mod Machine
 pub mod Examples
-pub mod Commands

@@ -2,6 +2,7 @@
 -- nothing that depends on the step survives (Danos, Krivine, CONCUR 2004).
 use Rattle.std.specs.Prelude.{◌≡◌, ℕ, ◌+◌, ◌<◌, Bool, false, ◌==◌, nat_lt, not, if◌then◌else◌, List, [], ◌∷◌, ◌++◌, reverse, Option, Some, None, is_some, unwrap_or, Result, Ok, Err, min}
 use Rattle.std.specs.List.{filter, AllByRecursion}
+use Rattle.std.specs.Option.{option_map}
 use Rattle.std.specs.Str.{bytes_eq}
 use Rattle.mps_base.specs.declared.action.Act.{Act}
 use Rattle.mps_base.specs.declared.action.Act.TheVariants.{In, Mark}
@@ -10,10 +11,14 @@ use Rattle.mps_base.specs.declared.action.Step.{Step}
 use Rattle.mps_local.specs.Local.{LocalType}
 use Rattle.mps_history.specs.Steps.{numbers, step_of, steps_of, within, without, IsRising}
 use Rattle.mps_history.specs.Dependence.{consequences}
-use Rattle.mps_machine.specs.declared.answer.Violation.{Violation}
-use Rattle.mps_machine.specs.declared.answer.Refusal.{Refusal}
-use Rattle.mps_machine.specs.declared.answer.Refusal.TheVariants.{Violation as Violates, NoStep, NotYours, Needed, NoMark, Full}
-use Rattle.mps_machine.specs.declared.answer.Done.{Done}
+use Rattle.mps_command.specs.Acts.{act_of}
+use Rattle.mps_command.specs.declared.command.Command.{Command}
+use Rattle.mps_command.specs.declared.command.Command.TheVariants.{Forward, Undo, Rollback, Back}
+use Rattle.mps_command.specs.declared.answer.Refusal.{Refusal}
+use Rattle.mps_command.specs.declared.answer.Refusal.TheVariants.{Violation as Violates, NoStep, NotYours, Needed, NoMark, Full}
+use Rattle.mps_command.specs.declared.answer.Done.{Done}
+use Rattle.mps_command.specs.declared.answer.Answer.{Answer}
+use Rattle.mps_command.specs.declared.answer.Answer.TheVariants.{Done as Stepped, Undone, Refused}
 use Rattle.mps_machine.specs.View.{View, opening}
 use Rattle.mps_machine.specs.Rule.{moved, replay}
 use Rattle.mps_machine.specs.Violations.{violation}
@@ -44,16 +49,24 @@ taken act m = None
 abbrev pub accepted : State → ℕ → Act → State
 accepted st p act = record { history = st.history ++ record { id = st.next; role = p; act = act } ∷ []; next = st.next + 1 }
 
--- the answer to an act in which this is wrong
-abbrev pub forward_unless : Option Violation → List LocalType → State → ℕ → Act → Result Done Refusal × State
-forward_unless (Some fault) types st p act = (Err (Violates fault), st)
-forward_unless None types st p act =
-    if nat_lt most_numbers st.next then (Err Full, st)
-    else (Ok (record { id = st.next; got = taken act (moved (view_of types st.history) p act) }), accepted st p act)
+-- a refusal that stands in the way, and then nothing changes, or else what follows
+abbrev pub unless : {A : Type 0} → Option Refusal → State → Result A Refusal × State → Result A Refusal × State
+unless (Some refusal) st served = (Err refusal, st)
+unless None st served = served
+
+-- whether every number is given out
+abbrev pub full_fault : State → Option Refusal
+full_fault st = if nat_lt most_numbers st.next then Some Full else None
+
+-- the new step, and the message that it took
+abbrev pub done_by : List LocalType → State → ℕ → Act → Done
+done_by types st p act = record { id = st.next; got = taken act (moved (view_of types st.history) p act) }
 
 -- the answer to an act of role p: why its type doesn't allow it, else Full where every number is given out, else the new step
 abbrev pub forward : List LocalType → State → ℕ → Act → Result Done Refusal × State
-forward types st p act = forward_unless (violation (view_of types st.history) p act) types st p act
+forward types st p act =
+    unless (option_map Violates (violation (view_of types st.history) p act)) st
+    (unless (full_fault st) st (Ok (done_by types st p act), accepted st p act))
 
 -- the least of the numbers
 abbrev pub least : List ℕ → Option ℕ
@@ -69,14 +82,15 @@ owner_fault p (Some s) = if s.role == p then None else Some NotYours
 abbrev pub dependents : List Step → ℕ → List ℕ
 dependents h n = numbers (filter (λ s. not (s.id == n)) (within h (consequences h n)))
 
-abbrev pub undo_unless : Option Refusal → Option ℕ → State → ℕ → Result (List ℕ) Refusal × State
-undo_unless (Some refusal) by st n = (Err refusal, st)
-undo_unless None (Some by) st n = (Err (Needed by), st)
-undo_unless None None st n = (Ok (n ∷ []), record st { history = without st.history (λ m. m == n) })
+-- step n is taken out
+abbrev pub undone : State → ℕ → Result (List ℕ) Refusal × State
+undone st n = (Ok (n ∷ []), record st { history = without st.history (λ m. m == n) })
 
 -- the answer of role p's undo of step n: it is taken out where no other step depends on it, else the least that does is named
 abbrev pub undo : State → ℕ → ℕ → Result (List ℕ) Refusal × State
-undo st p n = undo_unless (owner_fault p (step_of st.history n)) (least (dependents st.history n)) st n
+undo st p n =
+    unless (owner_fault p (step_of st.history n)) st
+    (unless (option_map Needed (least (dependents st.history n))) st (undone st n))
 
 -- step n and all that depend on it are taken out, and the answer has their numbers, the newest first
 abbrev pub rolled_back : State → ℕ → Result (List ℕ) Refusal × State
@@ -84,13 +98,9 @@ rolled_back st n =
     let gone = consequences st.history n in
     (Ok (reverse (numbers (within st.history gone))), record st { history = without st.history gone })
 
-abbrev pub rollback_unless : Option Refusal → State → ℕ → Result (List ℕ) Refusal × State
-rollback_unless (Some refusal) st n = (Err refusal, st)
-rollback_unless None st n = rolled_back st n
-
 -- the answer of role p's rollback of step n
 abbrev pub rollback : State → ℕ → ℕ → Result (List ℕ) Refusal × State
-rollback st p n = rollback_unless (owner_fault p (step_of st.history n)) st n
+rollback st p n = unless (owner_fault p (step_of st.history n)) st (rolled_back st n)
 
 -- whether the act marks a checkpoint of this name
 abbrev pub is_mark : List ℕ → Act → Bool
@@ -111,40 +121,35 @@ back_to (Some (s ∷ h)) st = rolled_back st s.id
 abbrev pub back : State → ℕ → List ℕ → Result (List ℕ) Refusal × State
 back st p name = back_to (since_mark name (steps_of p st.history)) st
 
--- what a participant asks for
-pub data Request : Type 0 where
-  Forward : (role : ℕ) (act : Act) → Request
-  Undo : (role id : ℕ) → Request
-  Rollback : (role id : ℕ) → Request
-  Back : (role : ℕ) (name : List ℕ) → Request
+-- a new step or a refusal as an answer, and the same of steps that were taken out
+abbrev pub stepped : Result Done Refusal → Answer
+stepped (Ok done) = Stepped done
+stepped (Err refusal) = Refused refusal
 
--- what the machine answers: a new step, or the numbers of the steps that were taken out, or a refusal
-pub data Answer : Type 0 where
-  Stepped : (result : Result Done Refusal) → Answer
-  Removed : (result : Result (List ℕ) Refusal) → Answer
+abbrev pub removed : Result (List ℕ) Refusal → Answer
+removed (Ok ids) = Undone ids
+removed (Err refusal) = Refused refusal
 
-abbrev pub stepped : Result Done Refusal × State → Answer × State
-stepped r = (Stepped r.0, r.1)
+-- the answer to a command of role p, and the state after it
+abbrev pub serve : List LocalType → State → ℕ → Command → Answer × State
+serve types st p (Forward step) = let r = forward types st p (act_of step) in (stepped r.0, r.1)
+serve types st p (Undo n) = let r = undo st p n in (removed r.0, r.1)
+serve types st p (Rollback n) = let r = rollback st p n in (removed r.0, r.1)
+serve types st p (Back name) = let r = back st p name in (removed r.0, r.1)
 
-abbrev pub removed : Result (List ℕ) Refusal × State → Answer × State
-removed r = (Removed r.0, r.1)
-
--- the answer to a request, and the state after it
-abbrev pub serve : List LocalType → State → Request → Answer × State
-serve types st (Forward p act) = stepped (forward types st p act)
-serve types st (Undo p n) = removed (undo st p n)
-serve types st (Rollback p n) = removed (rollback st p n)
-serve types st (Back p name) = removed (back st p name)
+-- a role and what it asks for
+abbrev pub Request : Type 0
+Request = ℕ × Command
 
 -- the answers to requests, in order
 abbrev pub answers : List LocalType → State → List Request → List Answer
 answers types st [] = []
-answers types st (r ∷ rs) = (serve types st r).0 ∷ answers types (serve types st r).1 rs
+answers types st (r ∷ rs) = let served = serve types st r.0 r.1 in served.0 ∷ answers types served.1 rs
 
 -- the state after requests
 abbrev pub after : List LocalType → State → List Request → State
 after types st [] = st
-after types st (r ∷ rs) = after types (serve types st r).1 rs
+after types st (r ∷ rs) = after types (serve types st r.0 r.1).1 rs
 
 -- what holds of every state that commands lead to
 pub record IsSound (types : List LocalType) (st : State) : Type 0 where

@@ -2,37 +2,19 @@
 -- Queues that keep order are those of Honda, Yoshida, Carbone (2008). That a monitor may serve as a memory for taking steps
 -- back is from Mezzina, Pérez (Causally consistent reversible choreographies, PPDP 2017). The form of participant, store and
 -- rule is this project's.
-use Rattle.std.specs.Prelude.{ℕ, Bool, true, false, ◌==◌, ◌&&◌, if◌then◌else◌, List, [], ◌∷◌, ◌++◌, drop, Option, Some, None, option_and_then}
+use Rattle.std.specs.Prelude.{ℕ, ◌==◌, ◌&&◌, if◌then◌else◌, List, [], ◌∷◌, ◌++◌, drop, Option, Some, None, option_and_then}
 use Rattle.std.specs.Option.{option_map}
-use Rattle.std.specs.Str.{bytes_eq}
 use Rattle.mps_base.specs.declared.action.Act.{Act}
 use Rattle.mps_base.specs.declared.action.Act.TheVariants.{Out, In, Mark}
 use Rattle.mps_base.specs.declared.action.Message.{Message}
 use Rattle.mps_base.specs.declared.action.Message.TheVariants.{Value as Plain, Label}
 use Rattle.mps_base.specs.declared.action.Step.{Step}
-use Rattle.mps_base.specs.declared.value.Value.{Value}
-use Rattle.mps_base.specs.declared.value.Sort.{Sort}
-use Rattle.mps_base.specs.declared.value.Sort.TheVariants.{Int as IntSort, Bool as BoolSort, Text as TextSort}
-use Rattle.mps_base.specs.Actions.{sort_of}
-use Rattle.mps_local.specs.Local.{LocalType, Branches, Send, Recv, Select, Branch, NoMore, More}
+use Rattle.mps_base.specs.Sorts.{fits}
+use Rattle.mps_local.specs.Local.{LocalType, Send, Recv, Select, Branch}
+use Rattle.mps_local.specs.Actions.{branch_at}
+use Rattle.mps_local.specs.Unfolding.{unfolded}
 use Rattle.mps_history.specs.Steps.{sends, receives}
-use Rattle.mps_machine.specs.Unfolding.{unfolded}
 use Rattle.mps_machine.specs.View.{Store, Participant, View, bound}
-
-abbrev pub same_sort : Sort → Sort → Bool
-same_sort IntSort IntSort = true
-same_sort BoolSort BoolSort = true
-same_sort TextSort TextSort = true
-same_sort s t = false
-
--- the value is of the sort
-abbrev pub fits : Value → Sort → Bool
-fits v s = same_sort (sort_of v) s
-
--- what follows the label
-abbrev pub branch_at : List ℕ → Branches → Option LocalType
-branch_at label NoMore = None
-branch_at label (More l t others) = if bytes_eq l label then Some t else branch_at label others
 
 -- the first message that waits
 abbrev pub first_of : List Message → Option Message

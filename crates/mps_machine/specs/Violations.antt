@@ -6,12 +6,14 @@ use Rattle.mps_base.specs.declared.action.Act.TheVariants.{Out, In, Mark}
 use Rattle.mps_base.specs.declared.action.Message.{Message}
 use Rattle.mps_base.specs.declared.action.Message.TheVariants.{Value as Plain, Label}
 use Rattle.mps_base.specs.declared.value.Sort.{Sort}
+use Rattle.mps_base.specs.Sorts.{fits}
+use Rattle.mps_local.specs.Actions.{branch_at}
 use Rattle.mps_local.specs.Local.{LocalType, Branches, End, Send, Recv, Select, Branch}
-use Rattle.mps_machine.specs.declared.answer.Violation.{Violation}
-use Rattle.mps_machine.specs.declared.answer.Violation.TheVariants.{Ended, WrongAct, WrongPeer, WrongSort, NoLabel, NothingQueued, Mismatch}
-use Rattle.mps_machine.specs.Unfolding.{unfolded}
+use Rattle.mps_local.specs.Unfolding.{unfolded}
+use Rattle.mps_command.specs.declared.answer.Violation.{Violation}
+use Rattle.mps_command.specs.declared.answer.Violation.TheVariants.{Ended, WrongAct, WrongPeer, WrongSort, NoLabel, NothingQueued, Mismatch}
 use Rattle.mps_machine.specs.View.{View}
-use Rattle.mps_machine.specs.Rule.{fits, branch_at, moved}
+use Rattle.mps_machine.specs.Rule.{moved}
 
 -- a value of the sort, and no label
 abbrev pub is_value_of : Sort → Message → Bool

@@ -3,6 +3,7 @@ ghost use Rattle.std.specs.Prelude.{◌≡◌, ◌≢◌, ◌↔◌, ℕ, ◌+�
 ghost use Rattle.std.specs.List.{filter};
 ghost use Rattle.mps_base.specs.declared.action.Act.{Act};
 ghost use Rattle.mps_base.specs.declared.action.Step.{Step};
+ghost use Rattle.mps_command.specs.declared.command.Command.{Command};
 ghost use Rattle.mps_local.specs.Local.{LocalType};
 ghost use Rattle.mps_history.specs.Steps.{IsIn, IsRising, sends, receives, within, without};
 ghost use Rattle.mps_history.specs.Dependence.{depends_on, is_matched, consequences, IsClosed};
@@ -10,7 +11,7 @@ ghost use Rattle.mps_history.specs.Swaps.{Swaps, is_matched_after};
 ghost use Rattle.mps_machine.specs.View.{View, opening};
 ghost use Rattle.mps_machine.specs.Rule.{rule, replay};
 ghost use Rattle.mps_machine.specs.Violations.{violation};
-ghost use Rattle.mps_machine.specs.Machine.{State, initial, view_of, forward, undo, Request, after, IsSound};
+ghost use Rattle.mps_machine.specs.Machine.{State, initial, Request, serve, after, IsSound};
 
 /// The rule allows an act exactly where it has no violation.
 pub fn the_rule_is_defined()
@@ -52,7 +53,10 @@ pub fn a_receipt_follows_its_send()
         replay (opening types) h ≡ Some w → IsTrue (is_matched h s t) → s.id < t.id }
 {}
 
-/// After any requests the numbers of the surviving steps rise below the next number, and these steps have a replay.
+/// After any commands of any roles the numbers of the surviving steps rise below the next number, and these steps have
+/// a replay. Each command keeps this.
 pub fn every_state_is_sound()
-    ensures { (types : List LocalType) (requests : List Request) → IsSound types (after types initial requests) }
+    ensures served { (types : List LocalType) (st : State) (p : ℕ) (command : Command) → IsSound types st →
+        IsSound types (serve types st p command).1 }
+    ensures always { (types : List LocalType) (requests : List Request) → IsSound types (after types initial requests) }
 {}

@@ -1,5 +1,5 @@
 use Rattle.std.proofs.Common.{refl}
-use Rattle.mps_machine.specs.Unfolding.{unfolded}
+use Rattle.mps_local.specs.Unfolding.{unfolded}
 use Rattle.mps_machine.proofs.examples.worked_sessions.Goals as goal
 
 pub returns-clause-an_undo_waits_for_the_receipt : goal.returns-clause-an_undo_waits_for_the_receipt

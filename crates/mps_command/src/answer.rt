@@ -1,9 +1,10 @@
-//! What a session answers to a command.
-ghost use Rattle.std.specs.Prelude.{◌≡◌};
-ghost use Rattle.mps_machine.specs.declared.answer.Refusal.TheVariants.{Memory as OutOfMemory};
+//! What participants are answered.
+ghost use Rattle.std.specs.Prelude.{◌≡◌, IfOk};
+ghost use Rattle.mps_command.specs.declared.answer.Refusal.TheVariants.{Memory as OutOfMemory};
 
+use crate::step_ids::StepIds;
 use mps_base::{Message, StepId};
-use std::alloc::{AllocError, AllocFailed};
+use std::alloc::{AllocError, AllocFailed, Global};
 use thiserror::Error;
 
 /// Why a role's type doesn't allow an act now: the first of these that applies.
@@ -61,8 +62,45 @@ impl<T: Drop> From<AllocFailed<T>> for Refusal {
 }
 
 /// An accepted step: its number, and the message that a receipt or a pick took.
-#[derive(Drop)]
+#[derive(Debug, Drop)]
 pub struct Done {
     pub id: StepId,
     pub got: Option<Message>,
+}
+
+impl Done {
+    /// The same answer once more.
+    pub fn copy(&self, alloc: Global) -> Result<Done, AllocError>
+        ensures { IfOk result (λ done. done ≡ self.now) }
+    {
+        let got = match &self.got {
+            Some(message) => Some(message.copy(alloc)?),
+            None => None,
+        };
+        Ok(Done { id: self.id, got })
+    }
+}
+
+/// The answer to a command.
+#[derive(Debug, Drop)]
+pub enum Answer {
+    /// A new step.
+    Done(Done),
+    /// The numbers of the steps that were taken back, the newest first.
+    Undone(StepIds),
+    /// Nothing has changed.
+    Refused(Refusal),
+}
+
+impl Answer {
+    /// The same answer once more.
+    pub fn copy(&self, alloc: Global) -> Result<Answer, AllocError>
+        ensures { IfOk result (λ answer. answer ≡ self.now) }
+    {
+        Ok(match self {
+            Answer::Done(done) => Answer::Done(done.copy(alloc)?),
+            Answer::Undone(ids) => Answer::Undone(ids.copy(alloc)?),
+            Answer::Refused(refusal) => Answer::Refused(*refusal),
+        })
+    }
 }

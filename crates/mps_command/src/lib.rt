@@ -1,0 +1,13 @@
+//! What participants of a session ask for, and what they are answered.
+#![tactic(auto)]
+
+pub mod answer;
+pub mod command;
+pub mod step_ids;
+
+pub use answer::{Answer, Done, Refusal, Violation};
+pub use command::{Command, Forward};
+pub use step_ids::StepIds;
+
+#[cfg(test)]
+mod tests;
