@@ -11,3 +11,4 @@ pub mod Copying
 pub mod Unfolding
 pub mod Actions
 pub mod Codes
+pub mod Examples

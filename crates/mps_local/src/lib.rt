@@ -8,12 +8,14 @@ ghost use Rattle.mps_local.specs.Weights.{weight, branch_weight, waiting_weight}
 mod building;
 mod copying;
 mod equality;
+pub mod examples;
 pub mod laws;
 mod loops;
 pub mod projection;
 mod walking;
 mod writing;
 
+pub use examples::{worked_actions, worked_projections};
 pub use laws::{labels_lead, same_is_equality, unmerged_is_named};
 use mps_base::{Name, Role, Sort, VarName};
 pub use projection::{ProjectFault, project, projection_laws};

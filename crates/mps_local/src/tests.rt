@@ -3,7 +3,8 @@ ghost use Rattle.mps_local.specs.Local.{plain, plain_branches};
 ghost use Rattle.mps_local.specs.Shape.{AllPeers, AllBranchPeers};
 
 use crate::{Local, ProjectFault, project, projection_laws, write_local};
-use mps_base::{Name, Role, Roles, Sort, VarName};
+use mps_base::Sort::{self, Bool, Int, Text};
+use mps_base::{Name, Role, Roles, VarName};
 use mps_global::{Branches, Global, Protocol, check};
 use std::alloc;
 use std::process::Abort;
@@ -14,7 +15,7 @@ use std::test::Fail;
 enum Part<'a> {
     Var(&'a str),
     Rec(&'a str),
-    Sent(&'a str, &'a str),
+    Sent(&'a str, &'a str, Sort),
     // the last of the labels goes on, each other one ends
     Choice(&'a str, &'a str, &'a [&'a str]),
 }
@@ -55,9 +56,9 @@ fn in_front(
     match part {
         Part::Var(letters) => Ok(Global::Var(variable(rt, letters))),
         Part::Rec(letters) => Ok(Global::rec(alloc, variable(rt, letters), next)?),
-        Part::Sent(from, to) => {
+        Part::Sent(from, to, sort) => {
             let (sender, receiver) = (name(rt, from), name(rt, to));
-            Ok(Global::message(alloc, sender, receiver, Sort::Int, next)?)
+            Ok(Global::message(alloc, sender, receiver, *sort, next)?)
         }
         Part::Choice(from, to, labels) => Ok(Global::Choice {
             sender: name(rt, from),
@@ -67,17 +68,29 @@ fn in_front(
     }
 }
 
-// The text of the role's type among `a`, `b` and `c`, and of a copy, where there is one.
-fn text_of(
-    rt: &impl Abort,
-    alloc: alloc::Global,
-    parts: &[Part<'_>],
-    role: u8,
-) -> Result<Result<(Vec<u8>, Vec<u8>), ProjectFault>, Fail> {
-    let names = vec![in alloc; name(rt, "a"), name(rt, "b"), name(rt, "c")]?;
+// The parts, one behind the other, and then the end.
+fn chain(rt: &impl Abort, alloc: alloc::Global, parts: &[Part<'_>]) -> Result<Global, Fail> {
     let mut body = Global::End;
     for part in parts.iter().rev() {
         body = in_front(rt, alloc, part, body)?;
+    }
+    Ok(body)
+}
+
+// The text of a type, and of a copy; or why there is no type.
+type Texts = Result<(Vec<u8>, Vec<u8>), ProjectFault>;
+
+// That of the role's type in the protocol of roles whose names are these letters.
+fn texts(
+    rt: &impl Abort,
+    alloc: alloc::Global,
+    letters: &[&str],
+    body: Global,
+    role: u8,
+) -> Result<Texts, Fail> {
+    let mut names = Vec::new(alloc);
+    for letter in letters {
+        names.push(name(rt, letter))?;
     }
     let roles = Roles::of(alloc, &names)?;
     let protocol = Protocol { roles: names, body };
@@ -94,6 +107,18 @@ fn text_of(
     }
 }
 
+const THREE: [&str; 3] = ["a", "b", "c"];
+
+// That of the role's type among `a`, `b` and `c`.
+fn text_of(
+    rt: &impl Abort,
+    alloc: alloc::Global,
+    parts: &[Part<'_>],
+    role: u8,
+) -> Result<Texts, Fail> {
+    texts(rt, alloc, &THREE, chain(rt, alloc, parts)?, role)
+}
+
 // The fault of the role's projection, None where it has one.
 fn fault_of(
     rt: &impl Abort,
@@ -104,50 +129,53 @@ fn fault_of(
     Ok(text_of(rt, alloc, parts, role)?.err())
 }
 
-const LOOP: [Part<'static>; 3] = [Part::Rec("X"), Part::Sent("a", "b"), Part::Var("X")];
+const LOOP: [Part<'static>; 3] = [Part::Rec("X"), Part::Sent("a", "b", Int), Part::Var("X")];
 
-const ONE: [Part<'static>; 2] = [Part::Choice("a", "b", &["l", "r"]), Part::Sent("a", "c")];
+const ONE: [Part<'static>; 2] = [
+    Part::Choice("a", "b", &["l", "r"]),
+    Part::Sent("a", "c", Int),
+];
 
 const BEHIND: [Part<'static>; 3] = [
-    Part::Sent("a", "b"),
+    Part::Sent("a", "b", Int),
     Part::Choice("a", "b", &["l", "r"]),
-    Part::Sent("a", "c"),
+    Part::Sent("a", "c", Int),
 ];
 
 const INNER: [Part<'static>; 3] = [
     Part::Choice("a", "b", &["l", "r"]),
     Part::Choice("b", "a", &["l", "r"]),
-    Part::Sent("a", "c"),
+    Part::Sent("a", "c", Int),
 ];
 
 const OWN: [Part<'static>; 3] = [
     Part::Choice("a", "c", &["l", "r"]),
     Part::Choice("b", "a", &["l", "r"]),
-    Part::Sent("a", "c"),
+    Part::Sent("a", "c", Int),
 ];
 
 const RELAY: [Part<'static>; 3] = [
-    Part::Sent("a", "b"),
-    Part::Sent("b", "c"),
+    Part::Sent("a", "b", Int),
+    Part::Sent("b", "c", Int),
     Part::Choice("c", "a", &["ok", "no"]),
 ];
 
-const MESSAGES: [Part<'static>; 2] = [Part::Sent("a", "b"), Part::Sent("b", "c")];
+const MESSAGES: [Part<'static>; 2] = [Part::Sent("a", "b", Int), Part::Sent("b", "c", Int)];
 
 const LOOPS: [Part<'static>; 5] = [
     Part::Rec("X"),
-    Part::Sent("a", "c"),
+    Part::Sent("a", "c", Int),
     Part::Rec("Y"),
-    Part::Sent("a", "b"),
+    Part::Sent("a", "b", Int),
     Part::Var("X"),
 ];
 
-const TOLD: [Part<'static>; 2] = [Part::Choice("a", "b", &["l"]), Part::Sent("a", "c")];
+const TOLD: [Part<'static>; 2] = [Part::Choice("a", "b", &["l"]), Part::Sent("a", "c", Int)];
 
 const IDLE: [Part<'static>; 4] = [
     Part::Choice("a", "b", &["l", "r"]),
     Part::Rec("X"),
-    Part::Sent("a", "b"),
+    Part::Sent("a", "b", Int),
     Part::Var("X"),
 ];
 
@@ -173,19 +201,13 @@ fn names_the_choice(rt: HostRuntime) -> Result<(), Fail> {
     Ok(())
 }
 
-// Whether the role's type, and a copy, is written so.
-fn is_written(
-    rt: &impl Abort,
-    alloc: alloc::Global,
-    parts: &[Part<'_>],
-    role: u8,
-    text: &str,
-) -> Result<bool, Fail> {
-    match text_of(rt, alloc, parts, role)? {
+// Whether the type, and a copy, is written so.
+fn are_so(texts: &Texts, text: &str) -> bool {
+    match texts {
         Ok((written, copied)) => {
-            Ok(written.as_slice() == text.as_bytes() && copied.as_slice() == text.as_bytes())
+            written.as_slice() == text.as_bytes() && copied.as_slice() == text.as_bytes()
         }
-        Err(_) => Ok(false),
+        Err(_) => false,
     }
 }
 
@@ -209,7 +231,167 @@ fn projects_each_role(rt: HostRuntime) -> Result<(), Fail> {
         (&IDLE, 2, "end"),
     ];
     for (parts, role, text) in rows {
-        assert!(rt; is_written(&rt, rt.alloc(), parts, role, text)?, "{text}");
+        assert!(rt;
+            are_so(&text_of(&rt, rt.alloc(), parts, role)?, text),
+            "{text}"
+        );
+    }
+    Ok(())
+}
+
+// A choice of `a` between these two, in a loop in a loop.
+fn chosen(
+    rt: &impl Abort,
+    alloc: alloc::Global,
+    left: &[Part<'_>],
+    right: &[Part<'_>],
+) -> Result<Global, Fail> {
+    let (left, right) = (chain(rt, alloc, left)?, chain(rt, alloc, right)?);
+    let right = Branches::more(alloc, name(rt, "r"), right, Branches::NoMore)?;
+    let choice = Global::Choice {
+        sender: name(rt, "a"),
+        receiver: name(rt, "b"),
+        branches: Branches::more(alloc, name(rt, "l"), left, right)?,
+    };
+    let inner = Global::rec(alloc, variable(rt, "Y"), choice)?;
+    Ok(Global::rec(alloc, variable(rt, "X"), inner)?)
+}
+
+// What `c` does where `a` chooses between these two.
+fn third_role(
+    rt: &impl Abort,
+    alloc: alloc::Global,
+    left: &[Part<'_>],
+    right: &[Part<'_>],
+) -> Result<Texts, Fail> {
+    texts(rt, alloc, &THREE, chosen(rt, alloc, left, right)?, 2)
+}
+
+// What `c` may do behind a choice of others, and how its type is written then.
+type Way = (&'static [Part<'static>], &'static str);
+
+const INT: Way = (&[Part::Sent("a", "c", Int)], "recv a int . end");
+
+const BOOL: Way = (&[Part::Sent("a", "c", Bool)], "recv a bool . end");
+
+const OF_B: Way = (&[Part::Sent("b", "c", Int)], "recv b int . end");
+
+const GIVES: Way = (&[Part::Sent("c", "a", Int)], "send a int . end");
+
+const X: Way = (&[Part::Choice("a", "c", &["x"])], "pick a { x : end }");
+
+const Y: Way = (&[Part::Choice("a", "c", &["y"])], "pick a { y : end }");
+
+const X_OF_B: Way = (&[Part::Choice("b", "c", &["x"])], "pick b { x : end }");
+
+const CHOOSES: Way = (&[Part::Choice("c", "a", &["x"])], "choose a { x : end }");
+
+const OUTER: Way = (
+    &[Part::Sent("a", "c", Int), Part::Var("X")],
+    "recv a int . X",
+);
+
+const INNER_ONE: Way = (
+    &[Part::Sent("a", "c", Int), Part::Var("Y")],
+    "recv a int . Y",
+);
+
+// The third role has a type where both branches are the same to it, and none where they differ in
+// one thing alone: the sort, the peer, the label, the variable or the kind of action.
+#[test]
+fn merges_what_is_the_same(rt: HostRuntime) -> Result<(), Fail> {
+    let alloc = rt.alloc();
+    let pairs = [
+        (INT, BOOL),
+        (INT, OF_B),
+        (INT, GIVES),
+        (X, Y),
+        (X, X_OF_B),
+        (X, CHOOSES),
+        (OUTER, INNER_ONE),
+    ];
+    let fault = ProjectFault::Unmergeable {
+        role: Role::new(2),
+        choice: 0,
+    };
+    for (one, other) in pairs {
+        assert_eq!(rt; third_role(&rt, alloc, one.0, other.0)?.err(), Some(fault));
+        assert_eq!(rt; third_role(&rt, alloc, other.0, one.0)?.err(), Some(fault));
+        for (way, text) in [one, other] {
+            let loops = format!(in alloc; "rec X . rec Y . {text}")?;
+            assert!(rt;
+                are_so(&third_role(&rt, alloc, way, way)?, loops.as_str()),
+                "{loops}"
+            );
+        }
+    }
+    Ok(())
+}
+
+const EIGHT: [&str; 8] = ["a", "b", "c", "d", "e", "f", "g", "h"];
+
+// What the roles behind the second do in each branch: a relay of values of all sorts.
+const PASSED_ON: [Part<'static>; 6] = [
+    Part::Sent("a", "c", Int),
+    Part::Sent("c", "d", Bool),
+    Part::Sent("d", "e", Text),
+    Part::Sent("e", "f", Int),
+    Part::Sent("f", "g", Bool),
+    Part::Sent("g", "h", Text),
+];
+
+// A choice of `a` between 16 labels, of which each has a value of its own sort for `b`.
+fn wide_choice(rt: &impl Abort, alloc: alloc::Global) -> Result<Global, Fail> {
+    let sorts = [Int, Bool, Text];
+    let (sender, receiver) = (name(rt, "a"), name(rt, "b"));
+    let mut branches = Branches::NoMore;
+    for i in (0..16usize).rev() {
+        let label = name(rt, format!(in alloc; "l{i}")?.as_str());
+        let rest = chain(rt, alloc, &PASSED_ON)?;
+        let next = Global::message(alloc, sender, receiver, sorts[i % 3], rest)?;
+        branches = Branches::more(alloc, label, next, branches)?;
+    }
+    Ok(Global::Choice {
+        sender,
+        receiver,
+        branches,
+    })
+}
+
+// The text of a choice of the 16 labels, with what stands before the sort of each and behind it.
+fn wide_text(alloc: alloc::Global, head: &str, before: &str, behind: &str) -> Result<String, Fail> {
+    let sorts = ["int", "bool", "text"];
+    let mut text = format!(in alloc; "{head}")?;
+    for i in 0..16usize {
+        let comma = if i == 0 { "" } else { " ," };
+        let sort = sorts[i % 3];
+        text.push_str(format!(in alloc; "{comma} l{i} : {before} {sort} . {behind}")?.as_str())?;
+    }
+    text.push_str(" }")?;
+    Ok(text)
+}
+
+#[test]
+fn projects_a_wide_choice(rt: HostRuntime) -> Result<(), Fail> {
+    let alloc = rt.alloc();
+    let sender = wide_text(alloc, "choose b {", "send b", "send c int . end")?;
+    let receiver = wide_text(alloc, "pick a {", "recv a", "end")?;
+    let rows = [
+        (0, sender.as_str()),
+        (1, receiver.as_str()),
+        (2, "recv a int . send d bool . end"),
+        (3, "recv c bool . send e text . end"),
+        (4, "recv d text . send f int . end"),
+        (5, "recv e int . send g bool . end"),
+        (6, "recv f bool . send h text . end"),
+        (7, "recv g text . end"),
+    ];
+    for (role, text) in rows {
+        let body = wide_choice(&rt, alloc)?;
+        assert!(rt;
+            are_so(&texts(&rt, alloc, &EIGHT, body, role)?, text),
+            "{text}"
+        );
     }
     Ok(())
 }

@@ -1,0 +1,59 @@
+use Rattle.std.proofs.Common.{refl}
+use Rattle.mps_local.proofs.examples.worked_projections.Goals as goal
+
+pub returns-clause-relay_of_a : goal.returns-clause-relay_of_a
+returns-clause-relay_of_a c = (refl, refl)
+
+pub returns-clause-relay_of_b : goal.returns-clause-relay_of_b
+returns-clause-relay_of_b c = (refl, refl)
+
+pub returns-clause-relay_of_c : goal.returns-clause-relay_of_c
+returns-clause-relay_of_c c = (refl, refl)
+
+pub returns-clause-loops_of_a : goal.returns-clause-loops_of_a
+returns-clause-loops_of_a c = (refl, refl)
+
+pub returns-clause-loops_of_b : goal.returns-clause-loops_of_b
+returns-clause-loops_of_b c = (refl, refl)
+
+pub returns-clause-loops_of_c : goal.returns-clause-loops_of_c
+returns-clause-loops_of_c c = (refl, refl)
+
+pub returns-clause-idle_loop : goal.returns-clause-idle_loop
+returns-clause-idle_loop c = (refl, refl)
+
+pub returns-clause-same_value : goal.returns-clause-same_value
+returns-clause-same_value c = (refl, refl)
+
+pub returns-clause-same_choice : goal.returns-clause-same_choice
+returns-clause-same_choice c = (refl, refl)
+
+pub returns-clause-same_loop : goal.returns-clause-same_loop
+returns-clause-same_loop c = (refl, refl)
+
+pub returns-clause-sort_alone : goal.returns-clause-sort_alone
+returns-clause-sort_alone c = (refl, refl)
+
+pub returns-clause-peer_alone : goal.returns-clause-peer_alone
+returns-clause-peer_alone c = (refl, refl)
+
+pub returns-clause-peer_of_a_choice_alone : goal.returns-clause-peer_of_a_choice_alone
+returns-clause-peer_of_a_choice_alone c = (refl, refl)
+
+pub returns-clause-label_alone : goal.returns-clause-label_alone
+returns-clause-label_alone c = (refl, refl)
+
+pub returns-clause-variable_alone : goal.returns-clause-variable_alone
+returns-clause-variable_alone c = (refl, refl)
+
+pub returns-clause-name_of_a_loop_alone : goal.returns-clause-name_of_a_loop_alone
+returns-clause-name_of_a_loop_alone c = (refl, refl)
+
+pub returns-clause-kind_of_a_value_alone : goal.returns-clause-kind_of_a_value_alone
+returns-clause-kind_of_a_value_alone c = (refl, refl)
+
+pub returns-clause-kind_of_a_choice_alone : goal.returns-clause-kind_of_a_choice_alone
+returns-clause-kind_of_a_choice_alone c = (refl, refl)
+
+pub returns-clause-ending_alone : goal.returns-clause-ending_alone
+returns-clause-ending_alone c = (refl, refl)

@@ -1,0 +1,83 @@
+-- Worked projections: trees whose local types were worked out by hand, and choices that a third role can't merge.
+use Rattle.std.specs.Prelude.{◌≡◌, ℕ, List, [], ◌∷◌, Some, None, codes}
+use Rattle.mps_base.specs.declared.value.Sort.TheVariants.{Int, Bool as Truth}
+use Rattle.mps_global.specs.Global as global
+use Rattle.mps_global.specs.Global.{GlobalType, Message, Choice}
+use Rattle.mps_local.specs.Local.{LocalType, Branches, End, Var, Rec, Send, Recv, NoMore, More}
+use Rattle.mps_local.specs.Projection.{projection, examined, first_unmerged}
+
+-- three roles, by their names and by their places
+abbrev pub a : List ℕ
+a = codes "a"
+
+abbrev pub b : List ℕ
+b = codes "b"
+
+abbrev pub c : List ℕ
+c = codes "c"
+
+abbrev pub three : List (List ℕ)
+three = a ∷ b ∷ c ∷ []
+
+abbrev pub at_a : ℕ
+at_a = 0
+
+abbrev pub at_b : ℕ
+at_b = 1
+
+abbrev pub at_c : ℕ
+at_c = 2
+
+-- the role at that place does that in the tree, and no choice is named
+abbrev pub Does : ℕ → GlobalType → LocalType → Type 0
+Does role tree t = (projection three role tree ≡ Some t) × (first_unmerged three role (examined three role 0 tree) ≡ None)
+
+-- c has no projection, and the first choice of the tree is named
+abbrev pub CantMergeFirst : GlobalType → Type 0
+CantMergeFirst tree = (projection three at_c tree ≡ None) × (first_unmerged three at_c (examined three at_c 0 tree) ≡ Some 0)
+
+-- a chooses between two labels, and b takes the choice
+abbrev pub chosen : GlobalType → GlobalType → GlobalType
+chosen left right = Choice a b (global.More (codes "l") left (global.More (codes "r") right global.NoMore))
+
+-- an integer from the one role to the other
+abbrev pub int_to : List ℕ → List ℕ → GlobalType → GlobalType
+int_to sender receiver next = Message sender receiver Int next
+
+abbrev pub bool_to : List ℕ → List ℕ → GlobalType → GlobalType
+bool_to sender receiver next = Message sender receiver Truth next
+
+-- a choice of one label, and then the end
+abbrev pub only : List ℕ → List ℕ → List ℕ → GlobalType
+only sender receiver label = Choice sender receiver (global.More label global.End global.NoMore)
+
+-- both in a loop in a loop
+abbrev pub in_loops : GlobalType → GlobalType
+in_loops tree = global.Rec (codes "X") (global.Rec (codes "Y") tree)
+
+-- back to the outer loop, and to the inner one
+abbrev pub outer : GlobalType
+outer = global.Var (codes "X")
+
+abbrev pub inner : GlobalType
+inner = global.Var (codes "Y")
+
+-- an integer goes from a to b and on to c, who tells a whether it will do
+abbrev pub relay : GlobalType
+relay = int_to a b (int_to b c (Choice c a (global.More (codes "ok") global.End (global.More (codes "no") global.End global.NoMore))))
+
+-- the branches of two labels behind which all ends
+abbrev pub ok_or_no : Branches
+ok_or_no = More (codes "ok") End (More (codes "no") End NoMore)
+
+-- a loop in which b takes part, in a loop in which c does too
+abbrev pub loops : GlobalType
+loops = global.Rec (codes "X") (int_to a c (global.Rec (codes "Y") (int_to a b outer)))
+
+-- one integer after the other to b
+abbrev pub ping : LocalType
+ping = Rec (codes "X") (Send at_b Int (Var (codes "X")))
+
+-- an integer from c, and then a loop of the same name
+abbrev pub ping_pong : LocalType
+ping_pong = Rec (codes "X") (Recv at_c Int ping)

@@ -1,0 +1,60 @@
+//! Worked projections, as theorems: they check the definitions.
+ghost use Rattle.std.specs.Prelude.{◌≡◌, codes, [], ◌∷◌, Some, None};
+ghost use Rattle.mps_base.specs.declared.value.Sort.TheVariants.{Int};
+ghost use Rattle.mps_global.specs.Global as global;
+ghost use Rattle.mps_global.specs.Global.{End as over};
+ghost use Rattle.mps_local.specs.Local.{End, Var, Rec, Send, Recv, Select, Branch, NoMore, More};
+ghost use Rattle.mps_local.specs.Actions.{Ends, Sends, Receives, Chooses, Picks, head, type_left};
+ghost use Rattle.mps_local.specs.Examples.{a, b, c, at_a, at_b, at_c, Does, CantMergeFirst};
+ghost use Rattle.mps_local.specs.Examples.{chosen, int_to, bool_to, only, in_loops, outer, inner};
+ghost use Rattle.mps_local.specs.Examples.{relay, ok_or_no, loops, ping, ping_pong};
+
+/// What roles do in short protocols, as worked out by hand.
+pub fn worked_projections()
+    ensures relay_of_a { Does at_a relay (Send at_b Int (Branch at_c ok_or_no)) }
+    ensures relay_of_b { Does at_b relay (Recv at_a Int (Send at_c Int End)) }
+    ensures relay_of_c { Does at_c relay (Recv at_b Int (Select at_a ok_or_no)) }
+    ensures loops_of_a { Does at_a loops
+        (Rec (codes "X") (Send at_c Int (Rec (codes "Y") (Send at_b Int (Var (codes "X")))))) }
+    ensures loops_of_b { Does at_b loops
+        (Rec (codes "X") (Rec (codes "Y") (Recv at_a Int (Var (codes "X"))))) }
+    ensures loops_of_c { Does at_c loops
+        (Rec (codes "X") (Recv at_a Int (Rec (codes "Y") (Var (codes "X"))))) }
+    ensures idle_loop { Does at_c (global.Rec (codes "X") (int_to a b outer)) End }
+    // The third role does the same in both branches.
+    ensures same_value { Does at_c (chosen (int_to a c over) (int_to a c over)) (Recv at_a Int End) }
+    ensures same_choice { Does at_c (chosen (only c a (codes "x")) (only c a (codes "x")))
+        (Select at_a (More (codes "x") End NoMore)) }
+    ensures same_loop { Does at_c (in_loops (chosen (int_to a c outer) (int_to a c outer)))
+        (Rec (codes "X") (Rec (codes "Y") (Recv at_a Int (Var (codes "X"))))) }
+    // It does not, and the branches differ in nothing else.
+    ensures sort_alone { CantMergeFirst (chosen (int_to a c over) (bool_to a c over)) }
+    ensures peer_alone { CantMergeFirst (chosen (int_to a c over) (int_to b c over)) }
+    ensures peer_of_a_choice_alone { CantMergeFirst (chosen (only a c (codes "x")) (only b c (codes "x"))) }
+    ensures label_alone { CantMergeFirst (chosen (only a c (codes "x")) (only a c (codes "y"))) }
+    ensures variable_alone { CantMergeFirst (in_loops (chosen (int_to a c outer) (int_to a c inner))) }
+    ensures name_of_a_loop_alone { CantMergeFirst (chosen
+        (global.Rec (codes "X") (int_to a c outer)) (global.Rec (codes "Y") (int_to a c inner))) }
+    ensures kind_of_a_value_alone { CantMergeFirst (chosen (int_to a c over) (int_to c a over)) }
+    ensures kind_of_a_choice_alone { CantMergeFirst (chosen (only a c (codes "x")) (only c a (codes "x"))) }
+    ensures ending_alone { CantMergeFirst (chosen (int_to a c over) over) }
+{}
+
+/// What short types allow first and what follows it, as worked out by hand.
+pub fn worked_actions()
+    ensures end { (head End ≡ Ends) × (type_left End None ≡ None) × (type_left End (Some 0) ≡ None) }
+    ensures output { (head (Send at_b Int End) ≡ Sends at_b Int)
+        × (type_left (Send at_b Int End) None ≡ Some End) }
+    ensures one_loop { (head ping ≡ Sends at_b Int) × (type_left ping None ≡ Some ping) }
+    ensures loop_in_a_loop { (head (Rec (codes "Y") ping) ≡ Sends at_b Int)
+        × (type_left (Rec (codes "Y") ping) None ≡ Some ping) }
+    // The inner loop's variable is its own.
+    ensures loop_of_the_same_name { (head ping_pong ≡ Receives at_c Int)
+        × (type_left ping_pong None ≡ Some ping) }
+    ensures choice { (head (Select at_b ok_or_no) ≡ Chooses at_b (codes "ok" ∷ codes "no" ∷ []))
+        × (type_left (Select at_b ok_or_no) (Some 1) ≡ Some End)
+        × (type_left (Select at_b ok_or_no) (Some 2) ≡ None)
+        × (type_left (Select at_b ok_or_no) None ≡ None) }
+    ensures pick { (head (Branch at_b (More (codes "x") ping NoMore)) ≡ Picks at_b (codes "x" ∷ []))
+        × (type_left (Branch at_b (More (codes "x") ping NoMore)) (Some 0) ≡ Some ping) }
+{}
