@@ -1,22 +1,24 @@
 -- What a script does to a session, and what it is answered.
-use Rattle.std.specs.Prelude.{◌≡◌, ℕ, ◌≤◌, ◌⊎◌, List, [], ◌∷◌, ◌++◌, length, IsOk}
+use Rattle.std.specs.Prelude.{◌≡◌, ℕ, ◌≤◌, ◌⊎◌, List, length, map, IsOk}
 use Rattle.std.specs.Str.{IsAscii}
 use Rattle.mps_base.specs.declared.value.Value.TheVariants.{Text}
-use Rattle.mps_local.specs.Local.{LocalType}
+use Rattle.mps_local.specs.Local.{LocalType, plain}
 use Rattle.mps_machine.specs.declared.command.Forward.{Forward}
 use Rattle.mps_machine.specs.declared.command.Forward.TheVariants.{Send}
 use Rattle.mps_machine.specs.declared.answer.Refusal.TheVariants.{Memory}
 use Rattle.mps_machine.specs.Commands.{act_of}
-use Rattle.mps_machine.specs.Machine.{State, initial, forward}
+use Rattle.mps_machine.specs.Machine.{State, forward}
 use Rattle.mps_line.specs.Commands.{SpellsScriptLine}
 use Rattle.mps_line.specs.Replies.{SpellsReply, reply_to}
 use Rattle.mps_line.specs.declared.reply.Reply.{Reply}
 use Rattle.mps_line.specs.declared.reply.Reply.TheVariants.{Refused, BadLine}
-use Rattle.mps_wire.specs.Lines.{IsSplit, with_last, ended, front}
+use Rattle.mps_wire.specs.Answers.{Answering, Place}
+use Rattle.mps_wire.specs.Lines.{max_line}
+use Rattle.mps_wire.specs.declared.script.Run.{Run}
 
--- a line of at most 512 bytes, each below 128, that spells a role's command
+-- a line that isn't too long, of bytes below 128, that spells a role's command
 pub record IsReadable (names : List (List ℕ)) (line : List ℕ) (role : ℕ) (command : Forward) : Type 0 where
-  pub short : length line ≤ 512
+  pub short : length line ≤ max_line
   pub ascii : IsAscii line
   pub spelled : SpellsScriptLine names line role command
 
@@ -54,38 +56,10 @@ pub record AnswersLine (names : List (List ℕ)) (types : List LocalType) (line 
   pub replies : RepliesTo names types line st reply after
   pub spelled : SpellsReply text reply
 
--- the texts that answer lines in order, each with an LF, and the state after them
-abbrev pub AnswersLines : List (List ℕ) → List LocalType → List (List ℕ) → State → List ℕ → State → Type 0
-AnswersLines names types [] st out after = (out ≡ []) × (after ≡ st)
-AnswersLines names types (line ∷ lines) st out after =
-    (text : List ℕ) × (others : List ℕ) × (mid : State) × (out ≡ ended text ++ others)
-    × AnswersLine names types line st text mid × AnswersLines names types lines mid others after
+-- how a line of a run is answered
+abbrev pub lines_of : Run → Answering State
+lines_of run = AnswersLine run.roles (map plain run.session.types)
 
--- each whole line of the bytes is answered, and of the rest the front is kept
-pub record Answered (names : List (List ℕ)) (types : List LocalType) (st : State) (bytes kept out : List ℕ) (after : State) : Type 0 where
-  pub lines : List (List ℕ)
-  pub rest : List ℕ
-  pub split : IsSplit bytes lines rest
-  pub front_kept : kept ≡ front rest
-  pub answers : AnswersLines names types lines st out after
-
--- each line of the bytes is answered, a rest that no LF ends too
-pub record AnsweredAll (names : List (List ℕ)) (types : List LocalType) (bytes out : List ℕ) (after : State) : Type 0 where
-  pub lines : List (List ℕ)
-  pub rest : List ℕ
-  pub split : IsSplit bytes lines rest
-  pub answers : AnswersLines names types (with_last lines rest) initial out after
-
--- what is written are answers to the first lines of the bytes, up to some place in them
-pub record AnsweredInPart (names : List (List ℕ)) (types : List LocalType) (bytes written : List ℕ) : Type 0 where
-  pub lines : List (List ℕ)
-  pub rest : List ℕ
-  pub split : IsSplit bytes lines rest
-  pub answered : List (List ℕ)
-  pub others : List (List ℕ)
-  pub first : with_last lines rest ≡ answered ++ others
-  pub out : List ℕ
-  pub after : State
-  pub answers : AnswersLines names types answered initial out after
-  pub unwritten : List ℕ
-  pub part : out ≡ written ++ unwritten
+-- where a run is among its lines
+abbrev pub place_of : Run → Place State
+place_of run = record { kept = run.line.items; state = run.session.state; waiting = run.answers.items }

@@ -1,6 +1,6 @@
 //! Lines from blocks of bytes.
-ghost use Rattle.std.specs.Prelude.{◌≡◌, ◌≢◌, ◌+◌, ◌<◌, ◌≤◌, ◌++◌, ℕ, OnOk, OnErr, IfSome, IfNone, length, take, slice_index};
-ghost use Rattle.mps_wire.specs.Lines.{HasNoBreak, front};
+ghost use Rattle.std.specs.Prelude.{◌≡◌, ◌<◌, ◌≤◌, ◌++◌, OnOk, OnErr, IfSome, IfNone, length, take, slice_index};
+ghost use Rattle.mps_wire.specs.Lines.{HasNoBreak, front, most_kept};
 
 use std::alloc::AllocError;
 
@@ -19,7 +19,7 @@ pub(crate) fn line_end(bytes: &[u8]) -> Option<usize>
 
 /// Adds to the front of a line what comes of it. More than `MOST_KEPT` bytes are dropped.
 pub(crate) fn keep(line: &mut Vec<u8>, piece: &[u8]) -> Result<(), AllocError>
-    requires { length line.old.items ≤ 513 }
+    requires { length line.old.items ≤ most_kept }
     ensures ok { OnOk result (line.new.items ≡ front (line.old.items ++ piece.now)) }
     ensures err { OnErr result (line.new.items ≡ line.old.items) }
 {
