@@ -11,9 +11,10 @@ use Rattle.mps_session.specs.Rows.{IsMessageOnly}
 use Rattle.mps_text.specs.Grammar.{SpellsText, IsWithinLimits}
 use Rattle.mps_text.specs.Faults.{IsFirstFault}
 use Rattle.mps_text.specs.declared.fault.TextKind.{TextKind}
-use Rattle.mps_text.specs.declared.fault.TextKind.TheVariants.{TooLong, Word, Unexpected, TooManyNodes, TooDeep, Trailing, Memory as NoRoom}
-use Rattle.mps_tool.specs.declared.fault.ToolFault.{ToolFault}
-use Rattle.mps_tool.specs.declared.fault.ToolFault.TheVariants.{Text, Protocol, Projection, Unready, Memory}
+use Rattle.mps_text.specs.declared.fault.TextKind.TheVariants.{Memory as NoRoom}
+use Rattle.mps_tool.specs.Files.{longest}
+use Rattle.mps_tool.specs.declared.faults.ToolFault.{ToolFault}
+use Rattle.mps_tool.specs.declared.faults.ToolFault.TheVariants.{Text, Protocol, Projection, Unready, Memory}
 
 -- the text is a protocol of these roles, whose conversation is the tree
 pub record IsProtocolText (text : List ℕ) (roles : List (List ℕ)) (tree : GlobalType) : Type 0 where
@@ -34,13 +35,8 @@ pub record AreTypesOf (text : List ℕ) (roles : List (List ℕ)) (types : List 
 
 -- the first fault of the text; want of memory is none of a text's
 abbrev pub IsTextFault : List ℕ → ℕ → TextKind → Type 0
-IsTextFault text at TooLong = IsFirstFault text at TooLong
-IsTextFault text at Word = IsFirstFault text at Word
-IsTextFault text at Unexpected = IsFirstFault text at Unexpected
-IsTextFault text at TooManyNodes = IsFirstFault text at TooManyNodes
-IsTextFault text at TooDeep = IsFirstFault text at TooDeep
-IsTextFault text at Trailing = IsFirstFault text at Trailing
 IsTextFault text at NoRoom = ⊥
+IsTextFault text at kind = IsFirstFault text at kind
 
 -- a role of the protocol has no projection, and each role before it has one
 pub record HasNoProjection (roles : List (List ℕ)) (tree : GlobalType) (name : List ℕ) (choice : ℕ) : Type 0 where
@@ -66,7 +62,7 @@ abbrev pub GivesNoProtocol : List ℕ → ToolFault → Type 0
 GivesNoProtocol text (Text at kind) = IsTextFault text at kind
 GivesNoProtocol text (Protocol fault) =
     (roles : List (List ℕ)) × (tree : GlobalType) × IsProtocolText text roles tree × (fault_of roles tree ≡ Some fault)
-GivesNoProtocol text Memory = length text ≤ 65536
+GivesNoProtocol text Memory = length text ≤ longest
 GivesNoProtocol text fault = ⊥
 
 -- why a text gives no types: it gives no protocol without faults, or a role of it has no projection

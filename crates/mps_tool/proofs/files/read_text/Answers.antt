@@ -1,10 +1,10 @@
 use Rattle.std.proofs.Common.{zero, suc, refl, length-append, ◌+◌, ◌≡◌, ◌≤◌, ℕ, length, take, ◌-◌, List, length-take, sym, ap, ◌∙◌, subst, arith}
 use Rattle.std.specs.Io.KnownBytes.{Consumes}
 use Rattle.mps_tool.specs.Faults.{IsReadFault}
-use Rattle.mps_tool.proofs.Faults.{told}
+use Rattle.mps_tool.proofs.Causes.{told}
 use Rattle.mps_tool.proofs.Bounds.{read_on}
 use Rattle.mps_wire.proofs.Bytes.{Consumes-none, Consumes-trans, same_room}
-use Rattle.mps_tool.proofs.reading.read_text.Goals as goal
+use Rattle.mps_tool.proofs.files.read_text.Goals as goal
 
 pub loop-block-init : goal.loop-block-init
 loop-block-init g c = record {

@@ -2,7 +2,7 @@
 ghost use Rattle.std.specs.Prelude.{◌≡◌, OnOk, IfOk};
 ghost use Rattle.mps_base.specs.Appends.{Appends};
 ghost use Rattle.mps_tool.specs.Faults.{IsFaultLine, of_script, of_text, protocol_word, status_of, text_word};
-ghost use Rattle.mps_tool.specs.declared.fault.ToolFault.TheVariants.{Memory as OutOfMemory, Protocol as OfProtocol};
+ghost use Rattle.mps_tool.specs.declared.faults.ToolFault.TheVariants.{Memory as OutOfMemory, Protocol as OfProtocol};
 
 use mps_base::{Name, write_number};
 use mps_global::GlobalFault;
@@ -11,7 +11,8 @@ use mps_wire::script::ReplayFault;
 use std::alloc::{AllocError, AllocFailed, Global};
 use thiserror::Error;
 
-/// Why the program didn't do what it was told. What it displays as is its line, which `fault_line` spells.
+/// Why the program didn't do what it was told. What it displays as is its line, which `fault_line`
+/// spells.
 #[derive(Debug, Drop, Error)]
 pub enum ToolFault<'a> {
     /// The words are none of the program's; the text says how to use it.
@@ -138,7 +139,8 @@ fn protocol_word_of(fault: GlobalFault) -> &'static str
     }
 }
 
-/// The line that tells the fault, without a line break. What is said of the words may have several lines.
+/// The line that tells the fault, without a line break. What is said of the words may have several
+/// lines.
 pub fn fault_line(alloc: Global, fault: &ToolFault<'_>) -> Result<Vec<u8>, AllocError>
     ensures { IfOk result (λ line. IsFaultLine line.items fault.now) }
 {
@@ -149,7 +151,8 @@ pub fn fault_line(alloc: Global, fault: &ToolFault<'_>) -> Result<Vec<u8>, Alloc
 
 /// Writes the line at the end, or a part of it.
 fn write_line(fault: &ToolFault<'_>, out: &mut Vec<u8>) -> Result<(), AllocError>
-    ensures { OnOk result (Appends (λ line. IsFaultLine line fault.now) out.old.items out.new.items) }
+    ensures { OnOk result
+        (Appends (λ line. IsFaultLine line fault.now) out.old.items out.new.items) }
 {
     match fault {
         ToolFault::Usage { text } => out.extend_from_slice(text.as_bytes()),
@@ -182,7 +185,8 @@ fn write_line(fault: &ToolFault<'_>, out: &mut Vec<u8>) -> Result<(), AllocError
     }
 }
 
-/// The exit status for the fault: 2 for the words and files, 3 for the protocol, 4 for a device and memory.
+/// The exit status for the fault: 2 for the words and files, 3 for the protocol, 4 for a device and
+/// memory.
 pub fn status(fault: &ToolFault<'_>) -> u8
     ensures { result ≡ status_of fault.now }
 {

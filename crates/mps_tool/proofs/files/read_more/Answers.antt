@@ -1,6 +1,6 @@
 use Rattle.mps_tool.specs.Faults.{IsReadFault}
-use Rattle.mps_tool.proofs.Faults.{told}
-use Rattle.mps_tool.proofs.reading.read_more.Goals as goal
+use Rattle.mps_tool.proofs.Causes.{told}
+use Rattle.mps_tool.proofs.files.read_more.Goals as goal
 
 pub returns-in_default-clause-fault : goal.returns-in_default-clause-fault
 returns-in_default-clause-fault g c = c.in_default.ensures.failures

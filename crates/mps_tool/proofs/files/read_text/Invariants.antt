@@ -1,6 +1,6 @@
 use Rattle.std.proofs.Common.{◌≡◌, ◌+◌, ◌-◌, ◌≤◌, length}
 use Rattle.std.specs.Io.KnownBytes.{Consumes}
-use Rattle.mps_tool.proofs.reading.read_text.Given as goal
+use Rattle.mps_tool.proofs.files.read_text.Given as goal
 
 abbrev pub invariant-loop-block : goal.invariant-loop-block
 invariant-loop-block g l = record {

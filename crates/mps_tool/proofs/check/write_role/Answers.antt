@@ -4,7 +4,7 @@ use Rattle.std.proofs.lemmas.Option.{get_or_from_slice_get}
 use Rattle.mps_local.specs.Local.{plain}
 use Rattle.mps_local.specs.Text.{name_at, local_text}
 use Rattle.mps_tool.proofs.Lines.{whole_line}
-use Rattle.mps_tool.proofs.opening.write_role.Goals as goal
+use Rattle.mps_tool.proofs.check.write_role.Goals as goal
 
 pub returns : goal.returns
 returns c =

@@ -3,9 +3,9 @@ use Rattle.std.proofs.Common.{◌≡◌, ℕ, ◌<◌, List, None, IsSome, Resul
 use Rattle.mps_global.specs.Global.{GlobalType}
 use Rattle.mps_global.specs.Faults.{fault_of}
 use Rattle.mps_local.specs.Projection.{projection}
-use Rattle.mps_tool.specs.Opening.{IsProtocolText, IsUnprojected, GivesNoProjections, GivesNoProtocol, GivesNoTypes, GivesNoSession}
-use Rattle.mps_tool.specs.declared.fault.ToolFault.{ToolFault}
-use Rattle.mps_tool.specs.declared.fault.ToolFault.TheVariants.{Usage, File, Text, Protocol, Projection, Unready, Open, Read, Write, Turns, Memory}
+use Rattle.mps_tool.specs.Check.{IsProtocolText, IsUnprojected, GivesNoProjections, GivesNoProtocol, GivesNoTypes, GivesNoSession}
+use Rattle.mps_tool.specs.declared.faults.ToolFault.{ToolFault}
+use Rattle.mps_tool.specs.declared.faults.ToolFault.TheVariants.{Usage, File, Text, Protocol, Projection, Unready, Open, Read, Write, Turns, Memory}
 
 -- a role without a projection
 pub no_projections : (roles : List (List ℕ)) (tree : GlobalType) (place : ℕ) (fault : ToolFault) → ((p : ℕ) → p < place → IsSome (projection roles p tree)) → IsUnprojected roles tree place fault → GivesNoProjections roles tree fault

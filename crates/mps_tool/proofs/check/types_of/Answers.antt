@@ -4,9 +4,9 @@ use Rattle.mps_global.specs.Global.{plain as global_type}
 use Rattle.mps_local.specs.Local.{plain}
 use Rattle.mps_local.specs.Projection.{projection}
 use Rattle.mps_local.specs.Shape.{AllPeers}
-use Rattle.mps_tool.proofs.Faults.{no_projections}
+use Rattle.mps_tool.proofs.Causes.{no_projections}
 use Rattle.mps_tool.proofs.Projected.{one_more, one_more_holds, each_some}
-use Rattle.mps_tool.proofs.opening.types_of.Goals as goal
+use Rattle.mps_tool.proofs.check.types_of.Goals as goal
 
 pub loop-place-preserved : goal.loop-place-preserved
 loop-place-preserved c = record {
