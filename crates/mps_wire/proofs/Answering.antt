@@ -19,7 +19,7 @@ module _ (names : List (List ℕ)) (types : List LocalType) where
   long_line line st after reply long r =
       let n : length (front line) ≡ most_kept = length-take most_kept line ∙ (let m : min most_kept (length line) ≡ most_kept = omega arith in m) in
       ⊎_elim
-      (λ (u : IsUnread names (front line) st reply after). inl (record { unreadable = λ role command readable. let s = readable.short in absurd (omega arith); bad = u.bad; unchanged = u.unchanged }))
+      (λ (u : IsUnread names types (front line) st reply after). inl (record { unreadable = λ role command readable. let s = readable.short in absurd (omega arith); bad = u.bad; unchanged = u.unchanged }))
       (λ (o : IsServed names types (front line) st reply after ⊎ IsStarved names types (front line) st reply after).
       ⊎_elim
       (λ (s : IsServed names types (front line) st reply after). let short = s.readable.short in absurd (omega arith))

@@ -36,9 +36,9 @@ module _ (first old now : Streams) (none : Counts first old 0 0 0) where
 
   -- a turn's fault is the run's
   pub breaks : (names : List (List ℕ)) (types : List LocalType) (kept : List ℕ) (st : State) (fault : ReplayFault) → CanOpen types → Turned (AnswersLine names types) initial first old now kept st (Err fault) → Outcome names types first now (Err fault)
-  breaks names types kept st ReadFault can h = (can, h.0, counts_more 1 0 0 h.1)
-  breaks names types kept st WriteFault can h = (can, h.0, counts_by_end 1 h.1)
-  breaks names types kept st Memory can h = (can, h.0, counts_by_end 0 h.1)
+  breaks names types kept st ReadFault can h = (can, (h.0, counts_more 1 0 0 h.1))
+  breaks names types kept st WriteFault can h = (can, (h.0, counts_by_end 1 h.1))
+  breaks names types kept st Memory can h = (can, (h.0, counts_by_end 0 h.1))
   breaks names types kept st Turns can h = absurd h
   breaks names types kept st (Open fault) can h = absurd h
 
@@ -54,7 +54,7 @@ module _ {S : Type 0} (answers : Answering S) (start : S) (first old now : Strea
 module _ (names : List (List ℕ)) (types : List LocalType) (s : Streams) where
   -- memory ran out before the first read
   pub starts_starved : CanOpen types → Outcome names types s s (Err Memory)
-  starts_starved can = (can, starved_first (AnswersLine names types) initial s, inl (same_counts s))
+  starts_starved can = (can, (starved_first (AnswersLine names types) initial s, inl (same_counts s)))
 
   -- no run begins
   pub not_begun : (fault : ReplayFault) → KeepsFromBeginning types fault → Outcome names types s s (Err fault)

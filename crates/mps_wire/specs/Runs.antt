@@ -17,36 +17,38 @@ use Rattle.mps_wire.specs.Streams.{Streams, Counts, CountsByEnd}
 abbrev pub max_reads : ℕ
 max_reads = 1000000
 
--- what was read is answered line by line, and of a rest that no LF ends the front is kept
-pub record Going {S : Type 0} (answers : Answering S) (start : S) (before after : Streams) (kept : List ℕ) (st : S) : Type 0 where
-  pub read : List ℕ
-  pub out : List ℕ
-  pub bytes : Consumes before.left after.left read
-  pub sent : Appends before.taken after.taken out
-  pub answered : Answered answers start read kept out st
+-- The lines of a source and the answers to a sink, from a state on.
+module _ {S : Type 0} (answers : Answering S) (start : S) (before after : Streams) where
+  -- what was read is answered line by line, and of a rest that no LF ends the front is kept
+  pub record Going (kept : List ℕ) (st : S) : Type 0 where
+    pub read : List ℕ
+    pub out : List ℕ
+    pub bytes : Consumes before.left after.left read
+    pub sent : Appends before.taken after.taken out
+    pub answered : Answered answers start read kept out st
 
--- no more is read: each whole line of what was read is answered
-pub record Stopped {S : Type 0} (answers : Answering S) (start : S) (before after : Streams) : Type 0 where
-  pub kept : List ℕ
-  pub st : S
-  pub going : Going answers start before after kept st
+  -- no more is read: each whole line of what was read is answered
+  pub record Stopped : Type 0 where
+    pub kept : List ℕ
+    pub st : S
+    pub going : Going kept st
 
--- all that was to be read is answered, line by line, a rest that no LF ends too
-pub record Finished {S : Type 0} (answers : Answering S) (start : S) (before after : Streams) (st : S) : Type 0 where
-  pub read : List ℕ
-  pub out : List ℕ
-  pub bytes : Consumes before.left after.left read
-  pub over : IsAtEnd after.left
-  pub sent : Appends before.taken after.taken out
-  pub answered : AnsweredAll answers start read out st
+  -- all that was to be read is answered, line by line, a rest that no LF ends too
+  pub record Finished (st : S) : Type 0 where
+    pub read : List ℕ
+    pub out : List ℕ
+    pub bytes : Consumes before.left after.left read
+    pub over : IsAtEnd after.left
+    pub sent : Appends before.taken after.taken out
+    pub answered : AnsweredAll answers start read out st
 
--- what was written are answers to the first lines of what was read, up to some place in them
-pub record Cut {S : Type 0} (answers : Answering S) (start : S) (before after : Streams) : Type 0 where
-  pub read : List ℕ
-  pub written : List ℕ
-  pub bytes : Consumes before.left after.left read
-  pub sent : Appends before.taken after.taken written
-  pub answered : AnsweredInPart answers start read written
+  -- what was written are answers to the first lines of what was read, up to some place in them
+  pub record Cut : Type 0 where
+    pub read : List ℕ
+    pub written : List ℕ
+    pub bytes : Consumes before.left after.left read
+    pub sent : Appends before.taken after.taken written
+    pub answered : AnsweredInPart answers start read written
 
 -- the source gave so many bytes, or more
 pub record GaveAtLeast (count : ℕ) (before after : Streams) : Type 0 where
@@ -54,12 +56,35 @@ pub record GaveAtLeast (count : ℕ) (before after : Streams) : Type 0 where
   pub bytes : Consumes before.left after.left read
   pub many : count ≤ length read
 
--- it was read from as often as it may be, and gave a byte each time
+-- it was read from as often as it may be, and gave as many bytes or more
 pub record ReadMost (before after : Streams) : Type 0 where
   pub reads : after.reads ≡ before.reads + max_reads
   pub gave : GaveAtLeast max_reads before after
 
--- why a session with these types isn't opened; want of memory is told as such, and not as a fault of opening
+-- What one read and its answers lead to, by their result. First are the streams before the run.
+module _ {S : Type 0} (answers : Answering S) (start : S) (first before after : Streams) where
+  abbrev pub Turned : List ℕ → S → Result Bool ReplayFault → Type 0
+  Turned kept st (Ok true) = Finished answers start first after st × Counts before after 0 1 0
+  Turned kept st (Ok false) =
+      Going answers start first after kept st × Counts before after 0 0 0 × GaveAtLeast 1 before after
+  Turned kept st (Err ReadFault) = Stopped answers start first after × Counts before after 1 0 0
+  Turned kept st (Err WriteFault) = Cut answers start first after × CountsByEnd before after 1
+  Turned kept st (Err Memory) = Cut answers start first after × CountsByEnd before after 0
+  Turned kept st (Err Turns) = ⊥
+  Turned kept st (Err (Open fault)) = ⊥
+
+-- What a run comes to that began, by its result: what was answered, how many reads failed and ended, and how many writes
+-- failed.
+module _ {S : Type 0} (answers : Answering S) (start : S) (before after : Streams) where
+  abbrev pub Ran : Result S ReplayFault → Type 0
+  Ran (Ok st) = Finished answers start before after st × Counts before after 0 1 0
+  Ran (Err ReadFault) = Stopped answers start before after × Counts before after 1 0 0
+  Ran (Err Turns) = Stopped answers start before after × Counts before after 0 0 0 × ReadMost before after
+  Ran (Err WriteFault) = Cut answers start before after × CountsByEnd before after 1
+  Ran (Err Memory) = Cut answers start before after × CountsByEnd before after 0
+  Ran (Err (Open fault)) = ⊥
+
+-- why a session with these types isn't opened; want of memory is no fault of opening
 abbrev pub KeepsShut : List LocalType → OpenFault → Type 0
 KeepsShut types RoleCount = ¬ (HasRoleCount types)
 KeepsShut types (BadPeer role) = IsFirstBad types role
@@ -79,28 +104,11 @@ KeepsFromBeginning types ReadFault = ⊥
 KeepsFromBeginning types WriteFault = ⊥
 KeepsFromBeginning types Turns = ⊥
 
--- what one read and its answers lead to, by their result: first are the streams before the run
-module _ {S : Type 0} (answers : Answering S) (start : S) (first before after : Streams) (kept : List ℕ) (st : S) where
-  abbrev pub Turned : Result Bool ReplayFault → Type 0
-  Turned (Ok true) = Finished answers start first after st × Counts before after 0 1 0
-  Turned (Ok false) = Going answers start first after kept st × Counts before after 0 0 0 × GaveAtLeast 1 before after
-  Turned (Err ReadFault) = Stopped answers start first after × Counts before after 1 0 0
-  Turned (Err WriteFault) = Cut answers start first after × CountsByEnd before after 1
-  Turned (Err Memory) = Cut answers start first after × CountsByEnd before after 0
-  Turned (Err Turns) = ⊥
-  Turned (Err (Open fault)) = ⊥
-
--- what the run of a script comes to, by its result
+-- what the run of a script on a new session comes to: the session is opened and the script run; or it can't be opened,
+-- and nothing is read or written
 module _ (names : List (List ℕ)) (types : List LocalType) (before after : Streams) where
   abbrev pub Outcome : Result Machine ReplayFault → Type 0
   Outcome (Ok session) =
-      CanOpen types × Finished (AnswersLine names types) initial before after session.state × Counts before after 0 1 0
-  Outcome (Err ReadFault) =
-      CanOpen types × Stopped (AnswersLine names types) initial before after × Counts before after 1 0 0
-  Outcome (Err Turns) =
-      CanOpen types × Stopped (AnswersLine names types) initial before after × Counts before after 0 0 0 × ReadMost before after
-  Outcome (Err WriteFault) =
-      CanOpen types × Cut (AnswersLine names types) initial before after × CountsByEnd before after 1
-  Outcome (Err Memory) =
-      CanOpen types × Cut (AnswersLine names types) initial before after × CountsByEnd before after 0
+      CanOpen types × Ran (AnswersLine names types) initial before after (Ok session.state)
   Outcome (Err (Open fault)) = KeepsShut types fault × (after ≡ before)
+  Outcome (Err fault) = CanOpen types × Ran (AnswersLine names types) initial before after (Err fault)

@@ -17,44 +17,47 @@ use Rattle.mps_wire.specs.Lines.{max_line}
 use Rattle.mps_wire.specs.declared.script.Run.{Run}
 
 -- a line that isn't too long, of bytes below 128, that spells a role's command
-pub record IsReadable (names : List (List ℕ)) (line : List ℕ) (role : ℕ) (command : Forward) : Type 0 where
+pub record IsReadable (names : List (List ℕ)) (line : List ℕ) (role : ℕ)
+    (command : Forward) : Type 0 where
   pub short : length line ≤ max_line
   pub ascii : IsAscii line
   pub spelled : SpellsScriptLine names line role command
 
--- no command can be read: the line is called bad, and nothing changes
-pub record IsUnread (names : List (List ℕ)) (line : List ℕ) (st : State) (reply : Reply) (after : State) : Type 0 where
-  pub unreadable : (role : ℕ) (command : Forward) → IsReadable names line role command → ⊥
-  pub bad : reply ≡ BadLine
-  pub unchanged : after ≡ st
+-- What one line does.
+module _ (names : List (List ℕ)) (types : List LocalType) (line : List ℕ) (st : State) where
+  -- no command can be read: the line is called bad, and nothing changes
+  pub record IsUnread (reply : Reply) (after : State) : Type 0 where
+    pub unreadable : (role : ℕ) (command : Forward) → IsReadable names line role command → ⊥
+    pub bad : reply ≡ BadLine
+    pub unchanged : after ≡ st
 
--- the role's command is answered as the machine answers it, and does what it does
-pub record IsServed (names : List (List ℕ)) (types : List LocalType) (line : List ℕ) (st : State) (reply : Reply) (after : State) : Type 0 where
-  pub role : ℕ
-  pub command : Forward
-  pub readable : IsReadable names line role command
-  pub answer : reply ≡ reply_to (forward types st role (act_of command)).0
-  pub state : after ≡ (forward types st role (act_of command)).1
+  -- the role's command is answered as the machine answers it, and does what it does
+  pub record IsServed (reply : Reply) (after : State) : Type 0 where
+    pub role : ℕ
+    pub command : Forward
+    pub readable : IsReadable names line role command
+    pub answer : reply ≡ reply_to (forward types st role (act_of command)).0
+    pub state : after ≡ (forward types st role (act_of command)).1
 
--- memory ran out, where the machine accepts the command or where its value is a text, and nothing changes
-pub record IsStarved (names : List (List ℕ)) (types : List LocalType) (line : List ℕ) (st : State) (reply : Reply) (after : State) : Type 0 where
-  pub role : ℕ
-  pub command : Forward
-  pub readable : IsReadable names line role command
-  pub cause : IsOk (forward types st role (act_of command)).0 ⊎ ((to : ℕ) × (value : List ℕ) × (command ≡ Send to (Text value)))
-  pub answer : reply ≡ Refused Memory
-  pub unchanged : after ≡ st
+  -- memory ran out, where the machine accepts the command or its value is a text, and nothing changes
+  pub record IsStarved (reply : Reply) (after : State) : Type 0 where
+    pub role : ℕ
+    pub command : Forward
+    pub readable : IsReadable names line role command
+    pub cause : IsOk (forward types st role (act_of command)).0
+        ⊎ ((to : ℕ) × (value : List ℕ) × (command ≡ Send to (Text value)))
+    pub answer : reply ≡ Refused Memory
+    pub unchanged : after ≡ st
 
--- the reply to a line, and the state after it
-abbrev pub RepliesTo : List (List ℕ) → List LocalType → List ℕ → State → Reply → State → Type 0
-RepliesTo names types line st reply after =
-    IsUnread names line st reply after ⊎ (IsServed names types line st reply after ⊎ IsStarved names types line st reply after)
+  -- the reply to the line, and the state after it
+  abbrev pub RepliesTo : Reply → State → Type 0
+  RepliesTo reply after = IsUnread reply after ⊎ (IsServed reply after ⊎ IsStarved reply after)
 
--- the text that answers a line, and the state after it
-pub record AnswersLine (names : List (List ℕ)) (types : List LocalType) (line : List ℕ) (st : State) (text : List ℕ) (after : State) : Type 0 where
-  pub reply : Reply
-  pub replies : RepliesTo names types line st reply after
-  pub spelled : SpellsReply text reply
+  -- the text that answers the line, and the state after it
+  pub record AnswersLine (text : List ℕ) (after : State) : Type 0 where
+    pub reply : Reply
+    pub replies : RepliesTo reply after
+    pub spelled : SpellsReply text reply
 
 -- how a line of a run is answered
 abbrev pub lines_of : Run → Answering State
@@ -62,4 +65,8 @@ lines_of run = AnswersLine run.roles (map plain run.session.types)
 
 -- where a run is among its lines
 abbrev pub place_of : Run → Place State
-place_of run = record { kept = run.line.items; state = run.session.state; waiting = run.answers.items }
+place_of run = record {
+  kept = run.line.items;
+  state = run.session.state;
+  waiting = run.answers.items;
+}

@@ -3,8 +3,8 @@ use Rattle.std.specs.Prelude.{◌≡◌, ℕ, ◌+◌, ◌⊎◌, List, Option}
 use Rattle.mps_dev.specs.declared.traits.Source.{Ghosts as SourceGhosts}
 use Rattle.mps_dev.specs.declared.traits.Sink.{Ghosts as SinkGhosts}
 
--- the bytes that a source has left and that a sink has taken, where they are known, the source's reads, how many of
--- them failed and how many ended, and how many writes failed
+-- a source's and a sink's: the bytes that are left and those taken, where they are known, how many reads there were,
+-- how many of them failed and how many ended, and how many writes failed
 pub record Streams : Type 0 where
   pub left : Option (List ℕ)
   pub reads : ℕ
@@ -32,4 +32,5 @@ pub record Counts (before after : Streams) (failed_reads ends failed_writes : �
 
 -- no read failed, so many writes did, and the end was not found yet, or once
 abbrev pub CountsByEnd : Streams → Streams → ℕ → Type 0
-CountsByEnd before after failed_writes = Counts before after 0 0 failed_writes ⊎ Counts before after 0 1 failed_writes
+CountsByEnd before after failed_writes =
+    Counts before after 0 0 failed_writes ⊎ Counts before after 0 1 failed_writes

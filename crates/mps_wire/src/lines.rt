@@ -1,11 +1,14 @@
 //! Lines from blocks of bytes.
-ghost use Rattle.std.specs.Prelude.{◌≡◌, ◌<◌, ◌≤◌, ◌++◌, OnOk, OnErr, IfSome, IfNone, length, take, slice_index};
+ghost use Rattle.std.specs.Prelude.{◌≡◌, ◌<◌, ◌≤◌, ◌++◌, OnOk, OnErr, IfSome, IfNone, length, take};
+ghost use Rattle.std.specs.Prelude.{slice_index};
 ghost use Rattle.mps_wire.specs.Lines.{HasNoBreak, front, most_kept};
 
+use crate::script::MAX_LINE;
 use std::alloc::AllocError;
 
-/// How many bytes of a line are kept while it comes: one more than a line may have, which tell that it is too long.
-pub(crate) const MOST_KEPT: usize = 513;
+/// How many bytes of a line are kept while it comes: one more than a line may have, which tells
+/// that it is too long.
+pub(crate) const MOST_KEPT: usize = MAX_LINE + 1;
 
 /// Where the first line ends.
 pub(crate) fn line_end(bytes: &[u8]) -> Option<usize>

@@ -129,7 +129,8 @@ impl Run {
         ensures next { OnOk result (self.new.line.items ≡ []) }
         ensures answer { OnOk result ((text : List ℕ)
             × (self.new.answers.items ≡ self.old.answers.items ++ ended text)
-            × lines_of self.old self.old.line.items self.old.session.state text self.new.session.state) }
+            × lines_of self.old self.old.line.items self.old.session.state
+            text self.new.session.state) }
     {
         let line = self.line.as_slice();
         answer_line(
@@ -181,18 +182,20 @@ impl Run {
 /// Writes the answers that wait.
 fn send_answers<W: Sink>(writer: &mut W, answers: &mut Vec<u8>) -> Result<(), Failed>
     requires { W.failed_calls writer.old < 2 ^ 63 }
-    ensures sent { OnOk result (Appends (W.taken writer.old) (W.taken writer.new) answers.old.items) }
+    ensures sent { OnOk result (Appends (W.taken writer.old) (W.taken writer.new)
+        answers.old.items) }
     ensures none_wait { OnOk result (answers.new.items ≡ []) }
     ensures counted { OnOk result (W.failed_calls writer.new ≡ W.failed_calls writer.old) }
     ensures failed { OnErr result (W.failed_calls writer.new ≡ W.failed_calls writer.old + 1) }
-    ensures front { OnErr result (TookFront (W.taken writer.old) (W.taken writer.new) answers.old.items) }
+    ensures front { OnErr result (TookFront (W.taken writer.old) (W.taken writer.new)
+        answers.old.items) }
 {
     send_all(writer, answers.as_slice())?;
     answers.clear();
     Ok(())
 }
 
-/// Reads once, and writes the answers to the lines that are whole then. Says whether that was the end.
+/// Reads once and answers the lines that are whole then. Says whether that was the end.
 fn turn<R: Source, W: Sink>(
     reader: &mut R,
     writer: &mut W,
@@ -256,10 +259,11 @@ fn begin(alloc: Global, roles: Roles, types: Vec<Local>) -> Result<Run, ReplayFa
     })
 }
 
-/// Runs the script that the reader gives, on a new session of these roles and types, and writes an answer to each line.
+/// Runs the script that the reader gives, on a new session of these roles and types, and writes an
+/// answer to each line.
 ///
-/// The answers to the lines of one read are written before the next read. A last line needs no LF. The reader is asked for
-/// `BLOCK` bytes at a time, `MAX_READS` times at most.
+/// The answers to the lines of one read are written before the next read. A last line needs no LF.
+/// The reader is asked for `BLOCK` bytes at a time, `MAX_READS` times at most.
 pub fn run_script<R: Source, W: Sink>(
     alloc: Global,
     reader: &mut R,

@@ -59,7 +59,7 @@ returns-then-branch-clause-outcome g c =
     let done =
     at_end (AnswersLine c.args.roles types) initial first old now c.turn.new.run.line.items c.turn.new.run.session.state c.in_ok-turn.field-0
     (turned c.args.roles c.loop.run.roles c.args.types.items c.loop.run.session.types i.roles i.types old now c.loop.run.line.items c.turn.new.run.line.items c.loop.run.session.state c.turn.new.run.session.state (Ok c.in_ok-turn.field-0) c.in_ok-turn.ensures.step first i.going) c.if-branch.true in
-    (c.in_ok-run.ensures.can, done.0, counts_more first old now i.counts 0 1 0 done.1)
+    (c.in_ok-run.ensures.can, (done.0, counts_more first old now i.counts 0 1 0 done.1))
 
 pub loop-preserved : goal.loop-preserved
 loop-preserved g c =
@@ -89,10 +89,12 @@ returns-clause-outcome g c =
     let first = streams g.R.Source g.W.Sink c.args.reader.now c.args.writer.now in
     let now = streams g.R.Source g.W.Sink c.loop.reader c.loop.writer in (
       c.in_ok-run.ensures.can,
-      record { kept = c.loop.run.line.items; st = c.loop.run.session.state; going = i.going },
-      i.counts,
-      record {
-        reads = omega (arith, i.reads, c.loop.auto.counter-end, c.loop-test.false);
-        gave = gave_fewer first now c.loop.counter max_reads (omega (arith, c.loop.auto.counter-end, c.loop-test.false)) i.gave;
-      },
+      (
+        record { kept = c.loop.run.line.items; st = c.loop.run.session.state; going = i.going },
+        i.counts,
+        record {
+          reads = omega (arith, i.reads, c.loop.auto.counter-end, c.loop-test.false);
+          gave = gave_fewer first now c.loop.counter max_reads (omega (arith, c.loop.auto.counter-end, c.loop-test.false)) i.gave;
+        },
+      ),
     )
