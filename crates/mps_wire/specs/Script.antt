@@ -3,10 +3,10 @@ use Rattle.std.specs.Prelude.{◌≡◌, ℕ, ◌≤◌, ◌⊎◌, List, length
 use Rattle.std.specs.Str.{IsAscii}
 use Rattle.mps_base.specs.declared.value.Value.TheVariants.{Text}
 use Rattle.mps_local.specs.Local.{LocalType, plain}
-use Rattle.mps_machine.specs.declared.command.Forward.{Forward}
-use Rattle.mps_machine.specs.declared.command.Forward.TheVariants.{Send}
-use Rattle.mps_machine.specs.declared.answer.Refusal.TheVariants.{Memory}
-use Rattle.mps_machine.specs.Commands.{act_of}
+use Rattle.mps_command.specs.declared.command.Forward.{Forward}
+use Rattle.mps_command.specs.declared.command.Forward.TheVariants.{Send}
+use Rattle.mps_command.specs.declared.answer.Refusal.TheVariants.{Memory}
+use Rattle.mps_command.specs.Acts.{act_of}
 use Rattle.mps_machine.specs.Machine.{State, forward}
 use Rattle.mps_line.specs.Commands.{SpellsScriptLine}
 use Rattle.mps_line.specs.Replies.{SpellsReply, reply_to}
@@ -61,7 +61,7 @@ module _ (names : List (List ℕ)) (types : List LocalType) (line : List ℕ) (s
 
 -- how a line of a run is answered
 abbrev pub lines_of : Run → Answering State
-lines_of run = AnswersLine run.roles (map plain run.session.types)
+lines_of run = AnswersLine run.roles run.session.types
 
 -- where a run is among its lines
 abbrev pub place_of : Run → Place State

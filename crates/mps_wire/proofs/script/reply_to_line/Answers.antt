@@ -5,7 +5,7 @@ use Rattle.mps_wire.proofs.script.reply_to_line.Goals as goal
 
 pub returns-in-Ok-clause-reply : goal.returns-in-Ok-clause-reply
 returns-in-Ok-clause-reply c =
-    replies c.args.roles.now (map plain c.args.session.now.types) c.args.line.now c.args.session.now.state c.forward.new.self.state c.in-Ok.request.0 c.in-Ok.request.1
+    replies c.args.roles.now c.args.session.now.types c.args.line.now c.args.session.now.state c.forward.new.self.state c.in-Ok.request.0 c.in-Ok.request.1
     (record { short = c.if-line-gt-MAX_LINE.false; ascii = search rules; spelled = c.in-Ok.ensures.read })
     c.of.result c.forward.result c.forward.ensures.answer c.forward.ensures.state c.forward.ensures.err c.of.ensures
 

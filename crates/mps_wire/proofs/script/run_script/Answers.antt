@@ -47,7 +47,7 @@ returns-in_err-turn-clause-outcome g c =
     let i = c.loop.invariant in
     handed_on _ _ (Outcome c.args.roles types first now) c.from_residual-in_err-turn.ensures.1
     (breaks first old now i.counts c.args.roles types c.turn.new.run.line.items c.turn.new.run.session.state c.in_err-turn.field-0.0 c.in_ok-run.ensures.can
-    (turned c.args.roles c.loop.run.roles c.args.types.items c.loop.run.session.types i.roles i.types old now c.loop.run.line.items c.turn.new.run.line.items c.loop.run.session.state c.turn.new.run.session.state (Err c.in_err-turn.field-0.0) c.in_err-turn.ensures.step first i.going))
+    (turned c.args.roles c.loop.run.roles types c.loop.run.session.types i.roles i.types old now c.loop.run.line.items c.turn.new.run.line.items c.loop.run.session.state c.turn.new.run.session.state (Err c.in_err-turn.field-0.0) c.in_err-turn.ensures.step first i.going))
 
 pub returns-then-branch-clause-outcome : goal.returns-then-branch-clause-outcome
 returns-then-branch-clause-outcome g c =
@@ -58,7 +58,7 @@ returns-then-branch-clause-outcome g c =
     let i = c.loop.invariant in
     let done =
     at_end (AnswersLine c.args.roles types) initial first old now c.turn.new.run.line.items c.turn.new.run.session.state c.in_ok-turn.field-0
-    (turned c.args.roles c.loop.run.roles c.args.types.items c.loop.run.session.types i.roles i.types old now c.loop.run.line.items c.turn.new.run.line.items c.loop.run.session.state c.turn.new.run.session.state (Ok c.in_ok-turn.field-0) c.in_ok-turn.ensures.step first i.going) c.if-branch.true in
+    (turned c.args.roles c.loop.run.roles types c.loop.run.session.types i.roles i.types old now c.loop.run.line.items c.turn.new.run.line.items c.loop.run.session.state c.turn.new.run.session.state (Ok c.in_ok-turn.field-0) c.in_ok-turn.ensures.step first i.going) c.if-branch.true in
     (c.in_ok-run.ensures.can, (done.0, counts_more first old now i.counts 0 1 0 done.1))
 
 pub loop-preserved : goal.loop-preserved
@@ -70,7 +70,7 @@ loop-preserved g c =
     let i = c.loop.invariant in
     let on =
     before_end (AnswersLine c.args.roles types) initial first old now c.turn.new.run.line.items c.turn.new.run.session.state c.in_ok-turn.field-0
-    (turned c.args.roles c.loop.run.roles c.args.types.items c.loop.run.session.types i.roles i.types old now c.loop.run.line.items c.turn.new.run.line.items c.loop.run.session.state c.turn.new.run.session.state (Ok c.in_ok-turn.field-0) c.in_ok-turn.ensures.step first i.going) c.if-branch.false in
+    (turned c.args.roles c.loop.run.roles types c.loop.run.session.types i.roles i.types old now c.loop.run.line.items c.turn.new.run.line.items c.loop.run.session.state c.turn.new.run.session.state (Ok c.in_ok-turn.field-0) c.in_ok-turn.ensures.step first i.going) c.if-branch.false in
     record {
       roles = c.in_ok-turn.ensures.roles ∙ i.roles;
       types = c.in_ok-turn.ensures.types ∙ i.types;

@@ -14,7 +14,7 @@ invariant-loop g l =
     let now = streams g.R.Source g.W.Sink l.reader l.writer in
     record {
       roles : l.run.roles ≡ l.fn.roles;
-      types : l.run.session.types ≡ l.fn.types.items;
+      types : l.run.session.types ≡ map plain l.fn.types.items;
       short : length l.run.line.items ≤ most_kept;
       none_waits : l.run.answers.items ≡ [];
       room : length l.block.items ≡ BLOCK;

@@ -34,7 +34,7 @@ loop-k-preserved c =
       types = c.in_ok-end_line.ensures.types ∙ i.types;
       short = omega (arith, ap length c.in_ok-end_line.ensures.next);
       feeding =
-          feeds_on answers initial (place_of c.args.self.now) c.args.bytes.now (by_front c.args.self.now.roles (map plain c.args.self.now.session.types))
+          feeds_on answers initial (place_of c.args.self.now) c.args.bytes.now (by_front c.args.self.now.roles c.args.self.now.session.types)
           c.loop-k.rest.now c.keep.new.line.items a.0 c.in-Some.k (place_of c.loop-k.self) (place_of c.end_line.new.self) i.feeding
           c.in-Some.ensures.within c.in-Some.ensures.end c.in-Some.ensures.before c.in_ok-keep.ensures.ok line a.1 c.in_ok-end_line.ensures.next;
     }

@@ -17,7 +17,7 @@ returns-clause-answered c =
     (λ a bytes out b. (
       ended a.0,
       a.1,
-      all_with_rest (lines_of self) initial (by_front self.roles (map plain self.session.types)) bytes self.line.items out a.0 _ _ b
+      all_with_rest (lines_of self) initial (by_front self.roles self.session.types) bytes self.line.items out a.0 _ _ b
           (not_empty self.line.items _ c.is_empty.result self.line.ok.0 c.is_empty.ensures c.if-is_empty.false) a.2,
     ))
     c.end_line.ensures.answer
