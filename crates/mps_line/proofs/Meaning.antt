@@ -2,23 +2,23 @@
 use Rattle.std.proofs.Common.{arith, rules, ◌≡◌, ◌≢◌, ℕ, List, [], ◌∷◌, Some, get_or, refl, sym, ap, ◌∙◌}
 use Rattle.std.specs.Prelude.{Option, None, if◌then◌else◌, codes}
 use Rattle.std.specs.Str.{bytes_eq}
-use Rattle.std.specs.Str.Parse.{AllDigits}
 use Rattle.std.proofs.lemmas.Option.{same_Some}
-use Rattle.std.proofs.lemmas.Str.Parse.{digit_from_value}
 use Rattle.mps_base.specs.Names.{IsName}
+use Rattle.mps_base.specs.Spaced.{spaced}
 use Rattle.mps_base.specs.Values.{SpellsValue}
 use Rattle.mps_base.specs.declared.value.Value.{Value}
 use Rattle.mps_base.specs.declared.action.Message.{Message}
 use Rattle.mps_base.specs.declared.action.Message.TheVariants.{Value as Plain, Label}
-use Rattle.mps_machine.specs.declared.answer.Done.{Done}
-use Rattle.mps_machine.specs.declared.answer.Violation.TheVariants.{Ended, WrongAct, WrongPeer, WrongSort, NoLabel, NothingQueued, Mismatch}
-use Rattle.mps_machine.specs.declared.answer.Refusal.{Refusal}
-use Rattle.mps_machine.specs.declared.answer.Refusal.TheVariants.{Violation as Violates, NoStep, NotYours, Needed, NoMark, Full, Memory}
+use Rattle.mps_command.specs.declared.answer.Done.{Done}
+use Rattle.mps_command.specs.declared.answer.Violation.TheVariants.{Ended, WrongAct, WrongPeer, WrongSort, NoLabel, NothingQueued, Mismatch}
+use Rattle.mps_command.specs.declared.answer.Refusal.{Refusal}
+use Rattle.mps_command.specs.declared.answer.Refusal.TheVariants.{Violation as Violates, NoStep, NotYours, Needed, NoMark, Full, Memory}
 use Rattle.mps_line.specs.declared.reply.Reply.{Reply}
 use Rattle.mps_line.specs.declared.reply.Reply.TheVariants.{Done as Accepted, Refused, BadLine}
-use Rattle.mps_line.specs.Parts.{HasNoSpace}
-use Rattle.mps_line.specs.Replies.{word_of, SpellsStep, SpellsMessage, SpellsDone, SpellsRefusal, SpellsReply}
-use Rattle.mps_line.proofs.Splitting.{one_split, never_split}
+use Rattle.mps_line.specs.Tokens.{Token, Word, Number, HasNoSpace, SpellsNumber, SpellsToken, SpellsLine}
+use Rattle.mps_line.specs.Replies.{word_of, message_token, done_tokens, refusal_tokens, SpellsReply}
+use Rattle.mps_line.proofs.Splitting.{one_split, never_split, digits_have_no_space, behind, alone}
+use Rattle.mps_line.proofs.Reading.{word_behind}
 
 -- the refusal that the word is for, `needed` by step 0
 abbrev meant : List ℕ → Option Refusal
@@ -87,42 +87,99 @@ done_has_no_space = search rules
 refused_has_no_space : HasNoSpace (codes "refused")
 refused_has_no_space = search rules
 
-digits_have_no_space : (ds : List ℕ) → AllDigits 10 ds → HasNoSpace ds
-digits_have_no_space [] h = tt
-digits_have_no_space (d ∷ ds) h =
-    let digit = digit_from_value d h.0 in
-    ((λ e. absurd (omega (arith, digit.0, e))), digits_have_no_space ds h.1)
+-- two lines that begin with this word
+one_word_first : (a letters : List ℕ) (t : Token) (ts : List Token) (u : Token) (us : List Token) → HasNoSpace letters → SpellsLine [] a (Word letters ∷ t ∷ ts) → SpellsLine [] a (Word letters ∷ u ∷ us) → (rest : List ℕ) × SpellsLine [] rest (t ∷ ts) × SpellsLine [] rest (u ∷ us)
+one_word_first a letters t ts u us p h k =
+    let b = word_behind [] a letters t ts h in
+    let d = word_behind [] a letters u us k in
+    let same = one_split letters letters b.0 d.0 p p (sym b.1 ∙ d.1) in
+    (b.0, b.2, rw (sym same.1) at d.2)
 
-one_step : (a : List ℕ) (m n : ℕ) → SpellsStep a m → SpellsStep a n → m ≡ n
-one_step a m n h k = sym h.number.value ∙ k.number.value
+-- no line is one word and two tokens
+never_both : (a letters : List ℕ) (t u : Token) (us : List Token) → HasNoSpace letters → SpellsLine [] a (Word letters ∷ []) → SpellsLine [] a (t ∷ u ∷ us) → ⊥
+never_both a letters t u us p h k =
+    let b = behind [] a t u us k in
+    never_split letters b.1.front b.0 p (sym (alone [] a (Word letters) h) ∙ b.1.parts)
 
-one_refusal : (a : List ℕ) (r s : Refusal) → SpellsRefusal a r → SpellsRefusal a s → r ≡ s
+one_number : (a : List ℕ) (m n : ℕ) → SpellsNumber a m → SpellsNumber a n → m ≡ n
+one_number a m n h k = sym h.number.value ∙ k.number.value
+
+one_refusal : (a : List ℕ) (r s : Refusal) → SpellsLine [] a (refusal_tokens r) → SpellsLine [] a (refusal_tokens s) → r ≡ s
 one_refusal a (Needed m) (Needed n) h k =
-    let same = one_split (codes "needed") (codes "needed") h.0 k.0 (word_has_no_space (Needed m)) (word_has_no_space (Needed n)) (sym h.1 ∙ k.1) in
-    ap Needed (one_step h.0 m n h.2 (rw (sym same.1) at k.2))
-one_refusal a (Needed m) s h k = absurd (never_split (word_of s) (codes "needed") h.0 (word_has_no_space s) (sym k ∙ h.1))
-one_refusal a r (Needed n) h k = absurd (never_split (word_of r) (codes "needed") k.0 (word_has_no_space r) (sym h ∙ k.1))
-one_refusal a r s h k = one_word r s (sym h ∙ k)
+    let b = one_word_first a (codes "needed") (Number m) [] (Number n) [] (word_has_no_space (Needed m)) h k in
+    ap Needed (one_number b.0 m n (alone [] b.0 (Number m) b.1) (alone [] b.0 (Number n) b.2))
+one_refusal a (Needed m) s h k = absurd (never_both a (word_of s) _ _ _ (word_has_no_space s) k h)
+one_refusal a r (Needed n) h k = absurd (never_both a (word_of r) _ _ _ (word_has_no_space r) h k)
+one_refusal a r s h k = one_word r s (sym (alone [] a (Word (word_of r)) h) ∙ alone [] a (Word (word_of s)) k)
 
-no_line_refusal : (r : Refusal) → SpellsRefusal (codes "line") r → ⊥
-no_line_refusal (Needed n) h = never_split (codes "line") (codes "needed") h.0 (search rules) h.1
-no_line_refusal r h = no_line_word r h
+line_has_no_space : HasNoSpace (codes "line")
+line_has_no_space = search rules
+
+no_line_refusal : (a : List ℕ) (r : Refusal) → SpellsLine [] a (Word (codes "line") ∷ []) → SpellsLine [] a (refusal_tokens r) → ⊥
+no_line_refusal a (Needed n) h k = never_both a (codes "line") _ _ _ line_has_no_space h k
+no_line_refusal a r h k = no_line_word r (sym (alone [] a (Word (codes "line")) h) ∙ alone [] a (Word (word_of r)) k)
+
+-- what stands behind a number
+record SameNumber (m n : ℕ) (t u : Token) : Type 0 where
+  number : m ≡ n
+  rest : List ℕ
+  one : SpellsToken [] rest t
+  other : SpellsToken [] rest u
+
+same_number : (a : List ℕ) (m n : ℕ) (t u : Token) → SpellsLine [] a (Number m ∷ t ∷ []) → SpellsLine [] a (Number n ∷ u ∷ []) → SameNumber m n t u
+same_number a m n t u h k =
+    let b = behind [] a (Number m) t [] h in
+    let d = behind [] a (Number n) u [] k in
+    let same = one_split b.1.front d.1.front b.0 d.0 (digits_have_no_space b.1.front b.1.spelled.number.digits) (digits_have_no_space d.1.front d.1.spelled.number.digits) (sym b.1.parts ∙ d.1.parts) in
+    record {
+      number = one_number b.1.front m n b.1.spelled (rw (sym same.0) at d.1.spelled);
+      rest = b.0;
+      one = alone [] b.0 t b.2;
+      other = alone [] b.0 u (rw (sym same.1) at d.2);
+    }
+
+-- no line is one number and two tokens
+number_or_two : (a : List ℕ) (m n : ℕ) (u : Token) → SpellsLine [] a (Number m ∷ []) → SpellsLine [] a (Number n ∷ u ∷ []) → ⊥
+number_or_two a m n u h k =
+    let b = behind [] a (Number n) u [] k in
+    never_split a b.1.front b.0 (digits_have_no_space a (alone [] a (Number m) h).number.digits) b.1.parts
+
+-- what stands behind the first word of a reply
+done_behind : (a letters : List ℕ) (id : ℕ) (got : Option Message) → SpellsLine [] a (Word letters ∷ done_tokens id got) → (rest : List ℕ) × (a ≡ spaced (letters ∷ rest ∷ [])) × SpellsLine [] rest (done_tokens id got)
+done_behind a letters id None h = word_behind [] a letters _ _ h
+done_behind a letters id (Some message) h = word_behind [] a letters _ _ h
+
+refusal_behind : (a letters : List ℕ) (r : Refusal) → SpellsLine [] a (Word letters ∷ refusal_tokens r) → (rest : List ℕ) × (a ≡ spaced (letters ∷ rest ∷ [])) × SpellsLine [] rest (refusal_tokens r)
+refusal_behind a letters (Needed by) h = word_behind [] a letters _ _ h
+refusal_behind a letters r h = word_behind [] a letters _ _ h
+
+-- `done` is not `refused`
+done_or_refused : (a x y : List ℕ) → a ≡ spaced (codes "done" ∷ x ∷ []) → a ≡ spaced (codes "refused" ∷ y ∷ []) → ⊥
+done_or_refused a x y e f = absurd (omega (arith, ap (λ (word : List ℕ). get_or word 0 0) (sym e ∙ f)))
+
+-- no refusal is a bad line
+refused_or_bad : (a : List ℕ) (r : Refusal) → SpellsReply a (Refused r) → SpellsReply a BadLine → ⊥
+refused_or_bad a r h k =
+    let b = refusal_behind a (codes "refused") r h in
+    let d = word_behind [] a (codes "refused") (Word (codes "line")) [] k in
+    let same = one_split (codes "refused") (codes "refused") b.0 d.0 refused_has_no_space refused_has_no_space (sym b.1 ∙ d.1) in
+    no_line_refusal b.0 r (rw (sym same.1) at d.2) b.2
 
 -- a text spells one value, and a value no name
 module _ (one_value : (a : List ℕ) (v w : Value) → SpellsValue a v → SpellsValue a w → v ≡ w) (no_name : (a : List ℕ) (v : Value) → SpellsValue a v → IsName a → ⊥) where
-  one_message : (a : List ℕ) (m n : Message) → SpellsMessage a m → SpellsMessage a n → m ≡ n
+  one_message : (a : List ℕ) (m n : Message) → SpellsToken [] a (message_token m) → SpellsToken [] a (message_token n) → m ≡ n
   one_message a (Plain v) (Plain w) h k = ap Plain (one_value a v w h k)
-  one_message a (Plain v) (Label l) h k = absurd (no_name a v h k.1)
-  one_message a (Label l) (Plain w) h k = absurd (no_name a w k h.1)
-  one_message a (Label l) (Label m) h k = ap Label (sym h.0 ∙ k.0)
+  one_message a (Plain v) (Label l) h k = absurd (no_name a v h k.allowed)
+  one_message a (Label l) (Plain w) h k = absurd (no_name a w k h.allowed)
+  one_message a (Label l) (Label m) h k = ap Label (sym h.is ∙ k.is)
 
-  one_done : (a : List ℕ) (m n : ℕ) (x y : Option Message) → SpellsDone a m x → SpellsDone a n y → (m ≡ n) × (x ≡ y)
-  one_done a m n None None h k = (one_step a m n h k, refl)
-  one_done a m n None (Some y) h k = absurd (never_split a k.0 k.1 (digits_have_no_space a h.number.digits) k.2)
-  one_done a m n (Some x) None h k = absurd (never_split a h.0 h.1 (digits_have_no_space a k.number.digits) h.2)
+  one_done : (a : List ℕ) (m n : ℕ) (x y : Option Message) → SpellsLine [] a (done_tokens m x) → SpellsLine [] a (done_tokens n y) → (m ≡ n) × (x ≡ y)
+  one_done a m n None None h k = (one_number a m n (alone [] a (Number m) h) (alone [] a (Number n) k), refl)
+  one_done a m n None (Some y) h k = absurd (number_or_two a m n (message_token y) h k)
+  one_done a m n (Some x) None h k = absurd (number_or_two a n m (message_token x) k h)
   one_done a m n (Some x) (Some y) h k =
-      let same = one_split h.0 k.0 h.1 k.1 (digits_have_no_space h.0 h.3.number.digits) (digits_have_no_space k.0 k.3.number.digits) (sym h.2 ∙ k.2) in
-      (one_step h.0 m n h.3 (rw (sym same.0) at k.3), ap Some (one_message h.1 x y h.4 (rw (sym same.1) at k.4)))
+      let s = same_number a m n (message_token x) (message_token y) h k in
+      (s.number, ap Some (one_message s.rest x y s.one s.other))
 
   same_done : (d e : Done) → (d.id ≡ e.id) × (d.got ≡ e.got) → d ≡ e
   same_done d e h =
@@ -131,19 +188,23 @@ module _ (one_value : (a : List ℕ) (v w : Value) → SpellsValue a v → Spell
 
   pub one_reply : (a : List ℕ) (r s : Reply) → SpellsReply a r → SpellsReply a s → r ≡ s
   one_reply a (Accepted d) (Accepted e) h k =
-      let same = one_split (codes "done") (codes "done") h.0 k.0 done_has_no_space done_has_no_space (sym h.1 ∙ k.1) in
-      ap Accepted (same_done d e (one_done h.0 d.id e.id d.got e.got h.2 (rw (sym same.1) at k.2)))
-  one_reply a (Accepted d) (Refused s) h k = absurd (omega (arith, ap (λ (word : List ℕ). get_or word 0 0) (sym h.1 ∙ k.1)))
-  one_reply a (Accepted d) BadLine h k = absurd (omega (arith, ap (λ (word : List ℕ). get_or word 0 0) (sym h.1 ∙ k)))
-  one_reply a (Refused r) (Accepted e) h k = absurd (omega (arith, ap (λ (word : List ℕ). get_or word 0 0) (sym h.1 ∙ k.1)))
+      let b = done_behind a (codes "done") d.id d.got h in
+      let f = done_behind a (codes "done") e.id e.got k in
+      let same = one_split (codes "done") (codes "done") b.0 f.0 done_has_no_space done_has_no_space (sym b.1 ∙ f.1) in
+      ap Accepted (same_done d e (one_done b.0 d.id e.id d.got e.got b.2 (rw (sym same.1) at f.2)))
+  one_reply a (Accepted d) (Refused s) h k =
+      absurd (done_or_refused a _ _ (done_behind a (codes "done") d.id d.got h).1 (refusal_behind a (codes "refused") s k).1)
+  one_reply a (Accepted d) BadLine h k =
+      absurd (done_or_refused a _ _ (done_behind a (codes "done") d.id d.got h).1 (word_behind [] a (codes "refused") _ _ k).1)
+  one_reply a (Refused r) (Accepted e) h k =
+      absurd (done_or_refused a _ _ (done_behind a (codes "done") e.id e.got k).1 (refusal_behind a (codes "refused") r h).1)
   one_reply a (Refused r) (Refused s) h k =
-      let same = one_split (codes "refused") (codes "refused") h.0 k.0 refused_has_no_space refused_has_no_space (sym h.1 ∙ k.1) in
-      ap Refused (one_refusal h.0 r s h.2 (rw (sym same.1) at k.2))
-  one_reply a (Refused r) BadLine h k =
-      let same = one_split (codes "refused") (codes "refused") h.0 (codes "line") refused_has_no_space refused_has_no_space (sym h.1 ∙ k) in
-      absurd (no_line_refusal r (rw same.1 at h.2))
-  one_reply a BadLine (Accepted e) h k = absurd (omega (arith, ap (λ (word : List ℕ). get_or word 0 0) (sym h ∙ k.1)))
-  one_reply a BadLine (Refused s) h k =
-      let same = one_split (codes "refused") (codes "refused") k.0 (codes "line") refused_has_no_space refused_has_no_space (sym k.1 ∙ h) in
-      absurd (no_line_refusal s (rw same.1 at k.2))
+      let b = refusal_behind a (codes "refused") r h in
+      let f = refusal_behind a (codes "refused") s k in
+      let same = one_split (codes "refused") (codes "refused") b.0 f.0 refused_has_no_space refused_has_no_space (sym b.1 ∙ f.1) in
+      ap Refused (one_refusal b.0 r s b.2 (rw (sym same.1) at f.2))
+  one_reply a (Refused r) BadLine h k = absurd (refused_or_bad a r h k)
+  one_reply a BadLine (Accepted e) h k =
+      absurd (done_or_refused a _ _ (done_behind a (codes "done") e.id e.got k).1 (word_behind [] a (codes "refused") _ _ h).1)
+  one_reply a BadLine (Refused s) h k = absurd (refused_or_bad a s k h)
   one_reply a BadLine BadLine h k = refl

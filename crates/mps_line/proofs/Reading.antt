@@ -1,64 +1,143 @@
 -- What can't be read.
-use Rattle.std.proofs.Common.{arith, rules, ◌≡◌, ◌≢◌, ℕ, List, get_or, refl, sym, ap, ◌∙◌}
+use Rattle.std.proofs.Common.{rules, ◌≡◌, ◌≢◌, ℕ, List, [], ◌∷◌, refl, sym, ap, ◌∙◌}
+use Rattle.std.specs.Prelude.{Option, Some, None, Result, Ok, Err, IfOk, if◌then◌else◌, codes}
+use Rattle.std.specs.Str.{bytes_eq}
+use Rattle.std.proofs.lemmas.Option.{same_Some}
 use Rattle.mps_base.specs.Names.{IsName}
-use Rattle.mps_base.specs.Values.{SpellsValue}
+use Rattle.mps_base.specs.Spaced.{spaced}
 use Rattle.mps_base.specs.declared.value.Value.{Value}
-use Rattle.mps_base.specs.declared.value.Value.TheVariants.{Text}
-use Rattle.mps_machine.specs.declared.command.Forward.{Forward}
-use Rattle.mps_machine.specs.declared.command.Forward.TheVariants.{Send, Receive}
+use Rattle.mps_command.specs.declared.command.Forward.{Forward}
+use Rattle.mps_command.specs.declared.command.Forward.TheVariants.{Send, Choose, Receive, Pick, Mark}
+use Rattle.mps_line.specs.declared.script.LineFault.{LineFault}
 use Rattle.mps_line.specs.declared.script.Verb.{Verb}
-use Rattle.mps_line.specs.declared.script.Verb.TheVariants.{Send as SendVerb, Receive as ReceiveVerb}
-use Rattle.mps_line.specs.Parts.{spaced, HasNoSpace, BeginsWithRole}
-use Rattle.mps_line.specs.Commands.{verb_word, verb_of, SpellsParcel, SpellsReceipt, SpellsArguments, SpellsCommand, SpellsScriptLine}
-use Rattle.mps_line.proofs.Splitting.{one_split}
+use Rattle.mps_line.specs.declared.script.Verb.TheVariants as verbs
+use Rattle.mps_line.specs.Tokens.{Token, Word, RoleAt, Called, Worth, HasNoSpace, SpellsRole, SpellsName, SpellsToken, SpellsLine, BeginsWith}
+use Rattle.mps_line.specs.Commands.{verb_word, verb_of, arguments, SpellsCommand}
+use Rattle.mps_line.proofs.Splitting.{one_split, behind, joined, alone, line_of_one}
 
 verb_has_no_space : (verb : Verb) → HasNoSpace (verb_word verb)
-verb_has_no_space SendVerb = search rules
-verb_has_no_space ReceiveVerb = search rules
+verb_has_no_space verbs.Send = search rules
+verb_has_no_space verbs.Choose = search rules
+verb_has_no_space verbs.Receive = search rules
+verb_has_no_space verbs.Pick = search rules
+verb_has_no_space verbs.Mark = search rules
 
 -- the first word is no verb
-pub no_verb : (bytes word rest : List ℕ) → bytes ≡ spaced word rest → HasNoSpace word → ((verb : Verb) → word ≢ verb_word verb) → (verb : Verb) (other : List ℕ) → bytes ≢ spaced (verb_word verb) other
+pub no_verb : (bytes word rest : List ℕ) → bytes ≡ spaced (word ∷ rest ∷ []) → HasNoSpace word → ((verb : Verb) → word ≢ verb_word verb) → (verb : Verb) (other : List ℕ) → bytes ≢ spaced (verb_word verb ∷ other ∷ [])
 no_verb bytes word rest e h none verb other f =
     none verb (one_split word (verb_word verb) rest other h (verb_has_no_space verb) (sym e ∙ f)).0
 
+-- the verb that the word is for
+abbrev meant : List ℕ → Option Verb
+meant word =
+    if bytes_eq word (codes "send") then Some verbs.Send
+    else if bytes_eq word (codes "choose") then Some verbs.Choose
+    else if bytes_eq word (codes "recv") then Some verbs.Receive
+    else if bytes_eq word (codes "pick") then Some verbs.Pick
+    else if bytes_eq word (codes "mark") then Some verbs.Mark
+    else None
+
+meant_word : (verb : Verb) → meant (verb_word verb) ≡ Some verb
+meant_word verbs.Send = refl
+meant_word verbs.Choose = refl
+meant_word verbs.Receive = refl
+meant_word verbs.Pick = refl
+meant_word verbs.Mark = refl
+
 same_verb : (v w : Verb) → verb_word v ≡ verb_word w → v ≡ w
-same_verb SendVerb SendVerb e = refl
-same_verb SendVerb ReceiveVerb e = absurd (omega (arith, ap (λ (word : List ℕ). get_or word 0 0) e))
-same_verb ReceiveVerb SendVerb e = absurd (omega (arith, ap (λ (word : List ℕ). get_or word 0 0) e))
-same_verb ReceiveVerb ReceiveVerb e = refl
+same_verb v w e = same_Some v w (sym (meant_word v) ∙ ap meant e ∙ meant_word w)
 
 -- a line has one verb, and one rest behind it
-pub one_verb : (bytes : List ℕ) (v w : Verb) (x y : List ℕ) → bytes ≡ spaced (verb_word v) x → bytes ≡ spaced (verb_word w) y → (v ≡ w) × (x ≡ y)
+pub one_verb : (bytes : List ℕ) (v w : Verb) (x y : List ℕ) → bytes ≡ spaced (verb_word v ∷ x ∷ []) → bytes ≡ spaced (verb_word w ∷ y ∷ []) → (v ≡ w) × (x ≡ y)
 one_verb bytes v w x y e f =
     let same = one_split (verb_word v) (verb_word w) x y (verb_has_no_space v) (verb_has_no_space w) (sym e ∙ f) in
     (same_verb v w same.0, same.1)
 
-pub no_parcel : (names : List (List ℕ)) (bytes : List ℕ) → ((to : ℕ) (value : Value) → SpellsParcel names bytes to value → ⊥) → (command : Forward) → verb_of command ≡ SendVerb → SpellsArguments names bytes command → ⊥
-no_parcel names bytes none (Send to value) e h = none to value h
-no_parcel names bytes none (Receive from slot) e h = absurd cc
+-- the parts of a command: its verb, a space and its arguments
+pub record HasVerb (names : List (List ℕ)) (bytes : List ℕ) (command : Forward) : Type 0 where
+  pub rest : List ℕ
+  pub parts : bytes ≡ spaced (verb_word (verb_of command) ∷ rest ∷ [])
+  pub spelled : SpellsLine names rest (arguments command)
 
-pub no_receipt : (names : List (List ℕ)) (bytes : List ℕ) → ((from : ℕ) (slot : List ℕ) → SpellsReceipt names bytes from slot → ⊥) → (command : Forward) → verb_of command ≡ ReceiveVerb → SpellsArguments names bytes command → ⊥
-no_receipt names bytes none (Send to value) e h = absurd cc
-no_receipt names bytes none (Receive from slot) e h = none from slot h
+-- a word in front of others
+pub word_behind : (names : List (List ℕ)) (bytes letters : List ℕ) (u : Token) (ts : List Token) → SpellsLine names bytes (Word letters ∷ u ∷ ts) → (rest : List ℕ) × (bytes ≡ spaced (letters ∷ rest ∷ [])) × SpellsLine names rest (u ∷ ts)
+word_behind names bytes letters u ts h =
+    let b = behind names bytes (Word letters) u ts h in
+    (b.0, rw b.1.spelled at b.1.parts, b.2)
+
+pub command_parts : (names : List (List ℕ)) (bytes : List ℕ) (command : Forward) → SpellsCommand names bytes command → HasVerb names bytes command
+command_parts names bytes (Send to value) h = let b = word_behind names bytes _ _ _ h in record { rest = b.0; parts = b.1; spelled = b.2 }
+command_parts names bytes (Choose to label) h = let b = word_behind names bytes _ _ _ h in record { rest = b.0; parts = b.1; spelled = b.2 }
+command_parts names bytes (Receive from slot) h = let b = word_behind names bytes _ _ _ h in record { rest = b.0; parts = b.1; spelled = b.2 }
+command_parts names bytes (Pick from) h = let b = word_behind names bytes _ _ _ h in record { rest = b.0; parts = b.1; spelled = b.2 }
+command_parts names bytes (Mark name) h = let b = word_behind names bytes _ _ _ h in record { rest = b.0; parts = b.1; spelled = b.2 }
+
+-- a verb in front of arguments is a command
+verb_before : (names : List (List ℕ)) (bytes letters rest : List ℕ) (u : Token) (ts : List Token) → bytes ≡ spaced (letters ∷ rest ∷ []) → SpellsLine names rest (u ∷ ts) → SpellsLine names bytes (Word letters ∷ u ∷ ts)
+verb_before names bytes letters rest u ts e h = joined names bytes (Word letters) u ts rest (record { front = letters; parts = e; spelled = refl }) h
+
+pub command_of : (names : List (List ℕ)) (bytes rest : List ℕ) (command : Forward) → bytes ≡ spaced (verb_word (verb_of command) ∷ rest ∷ []) → SpellsLine names rest (arguments command) → SpellsCommand names bytes command
+command_of names bytes rest (Send to value) e h = verb_before names bytes _ rest _ _ e h
+command_of names bytes rest (Choose to label) e h = verb_before names bytes _ rest _ _ e h
+command_of names bytes rest (Receive from slot) e h = verb_before names bytes _ rest _ _ e h
+command_of names bytes rest (Pick from) e h = verb_before names bytes _ rest _ _ e h
+command_of names bytes rest (Mark name) e h = verb_before names bytes _ rest _ _ e h
 
 -- a line of this verb with none of its arguments
-pub no_command : (names : List (List ℕ)) (bytes rest : List ℕ) (verb : Verb) → bytes ≡ spaced (verb_word verb) rest → ((command : Forward) → verb_of command ≡ verb → SpellsArguments names rest command → ⊥) → (command : Forward) → SpellsCommand names bytes command → ⊥
+pub no_command : (names : List (List ℕ)) (bytes rest : List ℕ) (verb : Verb) → bytes ≡ spaced (verb_word verb ∷ rest ∷ []) → ((command : Forward) → verb_of command ≡ verb → SpellsLine names rest (arguments command) → ⊥) → (command : Forward) → SpellsCommand names bytes command → ⊥
 no_command names bytes rest verb e none command h =
-    let same = one_verb bytes (verb_of command) verb h.rest rest h.parts e in
-    none command same.0 (rw same.1 at h.arguments)
+    let k = command_parts names bytes command h in
+    let same = one_verb bytes (verb_of command) verb k.rest rest k.parts e in
+    none command same.0 (rw same.1 at k.spelled)
 
--- what stands behind the peer is no value
-pub no_value : (names : List (List ℕ)) (bytes rest : List ℕ) → ((role : ℕ) (other : List ℕ) → BeginsWithRole names bytes role other → other ≡ rest) → ((value : Value) → SpellsValue rest value → ⊥) → (to : ℕ) (value : Value) → SpellsParcel names bytes to value → ⊥
-no_value names bytes rest only none to value h = none value (rw (only to h.text h.peer) at h.spelled)
+-- none of the lines of this verb
+pub no_sending : (names : List (List ℕ)) (bytes : List ℕ) → ((to : ℕ) (value : Value) → SpellsLine names bytes (RoleAt to ∷ Worth value ∷ []) → ⊥) → (command : Forward) → verb_of command ≡ verbs.Send → SpellsLine names bytes (arguments command) → ⊥
+no_sending names bytes none (Send to value) e h = none to value h
+no_sending names bytes none command e h = absurd cc
 
--- what stands behind the peer is no name
-pub no_slot : (names : List (List ℕ)) (bytes rest : List ℕ) → ((role : ℕ) (other : List ℕ) → BeginsWithRole names bytes role other → other ≡ rest) → (IsName rest → ⊥) → (from : ℕ) (slot : List ℕ) → SpellsReceipt names bytes from slot → ⊥
-no_slot names bytes rest only none from slot h = none (rw (only from slot h.peer) at h.name)
+pub no_choosing : (names : List (List ℕ)) (bytes : List ℕ) → ((role : ℕ) (name : List ℕ) → SpellsLine names bytes (RoleAt role ∷ Called name ∷ []) → ⊥) → (command : Forward) → verb_of command ≡ verbs.Choose → SpellsLine names bytes (arguments command) → ⊥
+no_choosing names bytes none (Choose to label) e h = none to label h
+no_choosing names bytes none command e h = absurd cc
 
--- what stands behind the role's name is no command
-pub no_line : (names : List (List ℕ)) (bytes rest : List ℕ) → ((role : ℕ) (other : List ℕ) → BeginsWithRole names bytes role other → other ≡ rest) → ((command : Forward) → SpellsCommand names rest command → ⊥) → (role : ℕ) (command : Forward) → SpellsScriptLine names bytes role command → ⊥
-no_line names bytes rest only none role command h = none command (rw (only role h.rest h.actor) at h.spelled)
+pub no_receiving : (names : List (List ℕ)) (bytes : List ℕ) → ((role : ℕ) (name : List ℕ) → SpellsLine names bytes (RoleAt role ∷ Called name ∷ []) → ⊥) → (command : Forward) → verb_of command ≡ verbs.Receive → SpellsLine names bytes (arguments command) → ⊥
+no_receiving names bytes none (Receive from slot) e h = none from slot h
+no_receiving names bytes none command e h = absurd cc
 
--- what stands behind the role's name sends a text
-pub text_line : (names : List (List ℕ)) (bytes rest : List ℕ) (role : ℕ) → BeginsWithRole names bytes role rest → (to : ℕ) × (text : List ℕ) × SpellsCommand names rest (Send to (Text text)) → (role : ℕ) × (to : ℕ) × (text : List ℕ) × SpellsScriptLine names bytes role (Send to (Text text))
-text_line names bytes rest role b h = (role, h.0, h.1, record { rest = rest; actor = b; spelled = h.2 })
+pub no_picking : (names : List (List ℕ)) (bytes : List ℕ) → ((role : ℕ) → SpellsRole names bytes role → ⊥) → (command : Forward) → verb_of command ≡ verbs.Pick → SpellsLine names bytes (arguments command) → ⊥
+no_picking names bytes none (Pick from) e h = none from (alone names bytes (RoleAt from) h)
+no_picking names bytes none command e h = absurd cc
+
+pub no_marking : (names : List (List ℕ)) (bytes : List ℕ) → (IsName bytes → ⊥) → (command : Forward) → verb_of command ≡ verbs.Mark → SpellsLine names bytes (arguments command) → ⊥
+no_marking names bytes none (Mark name) e h = none (alone names bytes (Called name) h).allowed
+no_marking names bytes none command e h = absurd cc
+
+-- what stands behind the role's name is no such line
+pub none_behind : (names : List (List ℕ)) (bytes rest : List ℕ) (u : Token) (ts : List Token) → ((role : ℕ) (other : List ℕ) → BeginsWith names bytes (RoleAt role) other → other ≡ rest) → (SpellsLine names rest (u ∷ ts) → ⊥) → (role : ℕ) → SpellsLine names bytes (RoleAt role ∷ u ∷ ts) → ⊥
+none_behind names bytes rest u ts only none role h =
+    let b = behind names bytes (RoleAt role) u ts h in
+    none (rw (only role b.0 b.1) at b.2)
+
+-- no role's name stands in front
+pub no_role_in_front : (names : List (List ℕ)) (bytes : List ℕ) (u : Token) (ts : List Token) → ((role : ℕ) (rest : List ℕ) → BeginsWith names bytes (RoleAt role) rest → ⊥) → (role : ℕ) → SpellsLine names bytes (RoleAt role ∷ u ∷ ts) → ⊥
+no_role_in_front names bytes u ts none role h = let b = behind names bytes (RoleAt role) u ts h in none role b.0 b.1
+
+-- a line with the role's name in front
+pub role_in_front : (names : List (List ℕ)) (bytes rest : List ℕ) (role : ℕ) (u : Token) → BeginsWith names bytes (RoleAt role) rest → SpellsToken names rest u → SpellsLine names bytes (RoleAt role ∷ u ∷ [])
+role_in_front names bytes rest role u b h = joined names bytes (RoleAt role) u [] rest b (line_of_one names rest u h)
+
+-- what stands behind the role's name is none of these
+pub none_of_these : (names : List (List ℕ)) (bytes rest : List ℕ) (u : Token) → ((role : ℕ) (other : List ℕ) → BeginsWith names bytes (RoleAt role) other → other ≡ rest) → (SpellsToken names rest u → ⊥) → (role : ℕ) → SpellsLine names bytes (RoleAt role ∷ u ∷ []) → ⊥
+none_of_these names bytes rest u only none role h = none_behind names bytes rest u [] only (λ k. none (alone names rest u k)) role h
+
+-- a name that was read
+pub name_read : (bytes name : List ℕ) → IsName bytes → name ≡ bytes → SpellsName bytes name
+name_read bytes name h e = record { is = sym e; allowed = h }
+
+-- the arguments that were read make a command behind their verb
+pub command_read : (names : List (List ℕ)) (bytes rest : List ℕ) (verb : Verb) (r : Result Forward LineFault) → bytes ≡ spaced (verb_word verb ∷ rest ∷ []) → IfOk r (λ command. verb_of command ≡ verb) → IfOk r (λ command. SpellsLine names rest (arguments command)) → IfOk r (SpellsCommand names bytes)
+command_read names bytes rest verb (Err fault) e v h = tt
+command_read names bytes rest verb (Ok command) e v h = command_of names bytes rest command (rw v e) h
+
+-- what stands behind the role's name is no name
+pub none_of_names : (names : List (List ℕ)) (bytes rest : List ℕ) → ((role : ℕ) (other : List ℕ) → BeginsWith names bytes (RoleAt role) other → other ≡ rest) → (IsName rest → ⊥) → (role : ℕ) (name : List ℕ) → SpellsLine names bytes (RoleAt role ∷ Called name ∷ []) → ⊥
+none_of_names names bytes rest only none role name = none_of_these names bytes rest (Called name) only (λ k. none k.allowed) role

@@ -1,34 +1,31 @@
 -- What is spelled stands on one line.
-use Rattle.std.proofs.Common.{arith, rules, ◌≢◌, ℕ, ◌≤◌, List, [], ◌∷◌, Some}
-use Rattle.std.specs.Prelude.{Option, None, IsTrue, codes}
+use Rattle.std.proofs.Common.{arith, rules, ◌≡◌, ◌≢◌, ℕ, ◌<◌, ◌≤◌, List, [], ◌∷◌, length, Some}
+use Rattle.std.specs.Prelude.{Option, None, IsTrue, ⊤, codes}
 use Rattle.std.specs.List.{AllByRecursion}
 use Rattle.std.specs.Str.Parse.{AllDigits}
 use Rattle.std.proofs.lemmas.Bool.Decides.{nat_tests}
 use Rattle.std.proofs.lemmas.Str.Parse.{digit_from_value}
 use Rattle.mps_base.specs.Names.{is_name_byte}
+use Rattle.mps_base.specs.Spaced.{spaced}
 use Rattle.mps_base.specs.Values.{IsShown}
 use Rattle.mps_base.specs.declared.action.Message.{Message}
 use Rattle.mps_base.specs.declared.action.Message.TheVariants.{Value as Plain, Label}
 use Rattle.mps_base.proofs.Values.{shown}
-use Rattle.mps_machine.specs.declared.answer.Violation.TheVariants.{Ended, WrongAct, WrongPeer, WrongSort, NoLabel, NothingQueued, Mismatch}
-use Rattle.mps_machine.specs.declared.answer.Refusal.{Refusal}
-use Rattle.mps_machine.specs.declared.answer.Refusal.TheVariants.{Violation as Violates, NoStep, NotYours, Needed, NoMark, Full, Memory}
+use Rattle.mps_command.specs.declared.answer.Violation.TheVariants.{Ended, WrongAct, WrongPeer, WrongSort, NoLabel, NothingQueued, Mismatch}
+use Rattle.mps_command.specs.declared.answer.Refusal.{Refusal}
+use Rattle.mps_command.specs.declared.answer.Refusal.TheVariants.{Violation as Violates, NoStep, NotYours, Needed, NoMark, Full, Memory}
+use Rattle.mps_command.specs.declared.command.Forward.{Forward}
+use Rattle.mps_command.specs.declared.command.Forward.TheVariants.{Send, Choose, Receive, Pick, Mark}
 use Rattle.mps_line.specs.declared.reply.Reply.{Reply}
 use Rattle.mps_line.specs.declared.reply.Reply.TheVariants.{Done as Accepted, Refused, BadLine}
-use Rattle.mps_machine.specs.declared.command.Forward.{Forward}
-use Rattle.mps_machine.specs.declared.command.Forward.TheVariants.{Send, Receive}
 use Rattle.mps_line.specs.declared.script.Verb.{Verb}
-use Rattle.mps_line.specs.declared.script.Verb.TheVariants.{Send as SendVerb, Receive as ReceiveVerb}
-use Rattle.mps_line.specs.Parts.{spaced, BeginsWithRole}
-use Rattle.mps_line.specs.Commands.{verb_word, verb_of, SpellsArguments, SpellsCommand, SpellsScriptLine}
-use Rattle.mps_line.specs.Replies.{word_of, SpellsMessage, SpellsDone, SpellsRefusal, SpellsReply}
+use Rattle.mps_line.specs.declared.script.Verb.TheVariants as verbs
+use Rattle.mps_line.specs.Tokens.{Token, Word, RoleAt, Called, Number, Worth, SpellsToken, SpellEach, SpellsLine}
+use Rattle.mps_line.specs.Commands.{verb_word, verb_of, arguments, SpellsScriptLine}
+use Rattle.mps_line.specs.Replies.{word_of, message_token, done_tokens, refusal_tokens, reply_tokens, SpellsReply}
 
 abbrev AreShown : List ℕ → Type 0
 AreShown bytes = AllByRecursion IsShown bytes
-
-shown_spaced : (xs ys : List ℕ) → AreShown xs → AreShown ys → AreShown (spaced xs ys)
-shown_spaced [] ys p q = (record { low = omega arith; high = omega arith }, q)
-shown_spaced (x ∷ xs) ys p q = (p.0, shown_spaced xs ys p.1 q)
 
 shown_digits : (ds : List ℕ) → AllDigits 10 ds → AreShown ds
 shown_digits [] h = tt
@@ -45,6 +42,54 @@ name_byte_high c h = grind (arith, nat_tests)
 shown_name : (bytes : List ℕ) → AllByRecursion (λ c. IsTrue (is_name_byte c)) bytes → AreShown bytes
 shown_name [] h = tt
 shown_name (c ∷ bytes) h = (record { low = name_byte_low c h.0; high = name_byte_high c h.0 }, shown_name bytes h.1)
+
+-- a word has only such bytes
+abbrev IsPlain : Token → Type 0
+IsPlain (Word letters) = AreShown letters
+IsPlain token = ⊤
+
+shown_token : (names : List (List ℕ)) (a : List ℕ) (t : Token) → IsPlain t → SpellsToken names a t → AreShown a
+shown_token names a (Word letters) p h = rw h p
+shown_token names a (RoleAt place) p h = shown_name a h.name.each
+shown_token names a (Called name) p h = shown_name a h.allowed.each
+shown_token names a (Number n) p h = shown_digits a h.number.digits
+shown_token names a (Worth value) p h = shown a value h
+
+-- a token in front of others
+shown_more : (xs : List ℕ) (ss : List (List ℕ)) → AreShown xs → AreShown (spaced ss) → AreShown (spaced (xs ∷ ss))
+shown_more xs [] p q = p
+shown_more [] (s ∷ ss) p q = (record { low = omega arith; high = omega arith }, q)
+shown_more (x ∷ xs) (s ∷ ss) p q = (p.0, shown_more xs (s ∷ ss) p.1 q)
+
+shown_each : (names : List (List ℕ)) (ss : List (List ℕ)) (ts : List Token) → AllByRecursion IsPlain ts → SpellEach names ss ts → AreShown (spaced ss)
+shown_each names [] [] p h = tt
+shown_each names (s ∷ ss) (t ∷ ts) p h = shown_more s ss (shown_token names s t p.0 h.0) (shown_each names ss ts p.1 h.1)
+shown_each names [] (t ∷ ts) p h = absurd h
+shown_each names (s ∷ ss) [] p h = absurd h
+
+shown_tokens : (names : List (List ℕ)) (a : List ℕ) (ts : List Token) → AllByRecursion IsPlain ts → SpellsLine names a ts → AreShown a
+shown_tokens names a ts p h = rw h.joined (shown_each names h.spellings ts p h.each)
+
+-- ---- commands
+
+shown_verb : (verb : Verb) → AreShown (verb_word verb)
+shown_verb verbs.Send = search rules
+shown_verb verbs.Choose = search rules
+shown_verb verbs.Receive = search rules
+shown_verb verbs.Pick = search rules
+shown_verb verbs.Mark = search rules
+
+plain_arguments : (c : Forward) → AllByRecursion IsPlain (arguments c)
+plain_arguments (Send to value) = (tt, (tt, tt))
+plain_arguments (Choose to label) = (tt, (tt, tt))
+plain_arguments (Receive from slot) = (tt, (tt, tt))
+plain_arguments (Pick from) = (tt, tt)
+plain_arguments (Mark name) = (tt, tt)
+
+pub shown_line : (names : List (List ℕ)) (a : List ℕ) (p : ℕ) (c : Forward) → SpellsScriptLine names a p c → AreShown a
+shown_line names a p c h = shown_tokens names a _ (tt, (shown_verb (verb_of c), plain_arguments c)) h
+
+-- ---- replies
 
 shown_word : (r : Refusal) → AreShown (word_of r)
 shown_word (Violates Ended) = search rules
@@ -67,25 +112,28 @@ done_word = search rules
 refused_word : AreShown (codes "refused")
 refused_word = search rules
 
-bad_line : AreShown (codes "refused line")
-bad_line = search rules
+line_word : AreShown (codes "line")
+line_word = search rules
 
-shown_message : (a : List ℕ) (m : Message) → SpellsMessage a m → AreShown a
-shown_message a (Plain v) h = shown a v h
-shown_message a (Label l) h = shown_name a h.1.each
+plain_message : (m : Message) → IsPlain (message_token m)
+plain_message (Plain value) = tt
+plain_message (Label name) = tt
 
-shown_done : (a : List ℕ) (id : ℕ) (got : Option Message) → SpellsDone a id got → AreShown a
-shown_done a id None h = shown_digits a h.number.digits
-shown_done a id (Some m) h = rw h.2 (shown_spaced h.0 h.1 (shown_digits h.0 h.3.number.digits) (shown_message h.1 m h.4))
+plain_done : (id : ℕ) (got : Option Message) → AllByRecursion IsPlain (done_tokens id got)
+plain_done id None = (tt, tt)
+plain_done id (Some message) = (tt, (plain_message message, tt))
 
-shown_refusal : (a : List ℕ) (r : Refusal) → SpellsRefusal a r → AreShown a
-shown_refusal a (Needed by) h = rw h.1 (shown_spaced (codes "needed") h.0 (shown_word (Needed by)) (shown_digits h.0 h.2.number.digits))
-shown_refusal a r h = rw h (shown_word r)
+plain_refusal : (r : Refusal) → AllByRecursion IsPlain (refusal_tokens r)
+plain_refusal (Needed by) = (shown_word (Needed by), (tt, tt))
+plain_refusal r = (shown_word r, tt)
+
+plain_reply : (r : Reply) → AllByRecursion IsPlain (reply_tokens r)
+plain_reply (Accepted done) = (done_word, plain_done done.id done.got)
+plain_reply (Refused refusal) = (refused_word, plain_refusal refusal)
+plain_reply BadLine = (refused_word, (line_word, tt))
 
 pub shown_reply : (a : List ℕ) (r : Reply) → SpellsReply a r → AreShown a
-shown_reply a (Accepted d) h = rw h.1 (shown_spaced (codes "done") h.0 done_word (shown_done h.0 d.id d.got h.2))
-shown_reply a (Refused r) h = rw h.1 (shown_spaced (codes "refused") h.0 refused_word (shown_refusal h.0 r h.2))
-shown_reply a BadLine h = rw h bad_line
+shown_reply a r h = shown_tokens [] a (reply_tokens r) (plain_reply r) h
 
 no_feed : (a : List ℕ) → AreShown a → AllByRecursion (λ c. c ≢ 10) a
 no_feed [] h = tt
@@ -94,19 +142,22 @@ no_feed (c ∷ a) h = ((λ e. absurd (omega (arith, h.0.low, e))), no_feed a h.1
 pub no_line_feed : (a : List ℕ) (r : Reply) → SpellsReply a r → AllByRecursion (λ c. c ≢ 10) a
 no_line_feed a r h = no_feed a (shown_reply a r h)
 
-shown_behind : (names : List (List ℕ)) (a : List ℕ) (p : ℕ) (rest : List ℕ) → BeginsWithRole names a p rest → AreShown rest → AreShown a
-shown_behind names a p rest h q = rw h.parts (shown_spaced h.name rest (shown_name h.name h.spelled.name.each) q)
+-- ---- a byte at least
 
-shown_verb : (verb : Verb) → AreShown (verb_word verb)
-shown_verb SendVerb = search rules
-shown_verb ReceiveVerb = search rules
+-- a line that begins with a word isn't empty
+some_word : (a : List ℕ) (letters : List ℕ) (ts : List Token) → 0 < length letters → SpellsLine [] a (Word letters ∷ ts) → 0 < length a
+some_word a letters ts some h = by_spellings h.spellings h.joined h.each
+  where
+    longer : (xs : List ℕ) (ss : List (List ℕ)) → 0 < length xs → 0 < length (spaced (xs ∷ ss))
+    longer [] ss k = absurd (omega (arith, k))
+    longer (x ∷ xs) [] k = omega arith
+    longer (x ∷ xs) (s ∷ ss) k = omega arith
 
-shown_arguments : (names : List (List ℕ)) (a : List ℕ) (c : Forward) → SpellsArguments names a c → AreShown a
-shown_arguments names a (Send p v) h = shown_behind names a p h.text h.peer (shown h.text v h.spelled)
-shown_arguments names a (Receive p s) h = shown_behind names a p s h.peer (shown_name s h.name.each)
+    by_spellings : (ss : List (List ℕ)) → a ≡ spaced ss → SpellEach [] ss (Word letters ∷ ts) → 0 < length a
+    by_spellings [] e k = absurd k
+    by_spellings (s ∷ ss) e k = rw e (longer s ss (rw k.0 some))
 
-shown_command : (names : List (List ℕ)) (a : List ℕ) (c : Forward) → SpellsCommand names a c → AreShown a
-shown_command names a c h = rw h.parts (shown_spaced (verb_word (verb_of c)) h.rest (shown_verb (verb_of c)) (shown_arguments names h.rest c h.arguments))
-
-pub shown_line : (names : List (List ℕ)) (a : List ℕ) (p : ℕ) (c : Forward) → SpellsScriptLine names a p c → AreShown a
-shown_line names a p c h = shown_behind names a p h.rest h.actor (shown_command names h.rest c h.spelled)
+pub some_reply : (a : List ℕ) (r : Reply) → SpellsReply a r → 0 < length a
+some_reply a (Accepted done) h = some_word a (codes "done") _ (omega arith) h
+some_reply a (Refused refusal) h = some_word a (codes "refused") _ (omega arith) h
+some_reply a BadLine h = some_word a (codes "refused") _ (omega arith) h

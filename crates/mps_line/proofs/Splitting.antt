@@ -1,10 +1,13 @@
 -- A line is split in one place.
-use Rattle.std.proofs.Common.{◌≡◌, ◌≢◌, ℕ, List, [], ◌∷◌, refl, sym, ◌∙◌}
+use Rattle.std.proofs.Common.{arith, ◌≡◌, ◌≢◌, ℕ, List, [], ◌∷◌, refl, sym, ◌∙◌}
 use Rattle.std.specs.Prelude.{All, IsTrue, Option, Some, None, IfNone}
 use Rattle.std.specs.List.{AllByRecursion}
+use Rattle.std.specs.Str.Parse.{AllDigits}
 use Rattle.std.proofs.lemmas.List.Elements.{recursion_from_All}
+use Rattle.std.proofs.lemmas.Str.Parse.{digit_from_value}
 use Rattle.mps_base.specs.Names.{IsName, is_name_byte}
-use Rattle.mps_line.specs.Parts.{spaced, HasNoSpace, SpellsRole, BeginsWithRole}
+use Rattle.mps_base.specs.Spaced.{spaced}
+use Rattle.mps_line.specs.Tokens.{Token, RoleAt, HasNoSpace, SpellsRole, SpellsToken, SpellEach, SpellsLine, BeginsWith}
 
 -- what holds anyway
 pub if_none : {T P : Type 0} (r : Option T) → P → IfNone r P
@@ -15,23 +18,23 @@ pub no_space : (bytes : List ℕ) → All (λ c. c ≢ 32) bytes → HasNoSpace 
 no_space bytes h = recursion_from_All _ bytes h
 
 -- bytes without a space aren't two parts
-pub never_split : (bytes first rest : List ℕ) → HasNoSpace bytes → bytes ≢ spaced first rest
+pub never_split : (bytes first rest : List ℕ) → HasNoSpace bytes → bytes ≢ spaced (first ∷ rest ∷ [])
 never_split [] [] rest h e = absurd cc
 never_split [] (f ∷ first) rest h e = absurd cc
 never_split (b ∷ bytes) [] rest h e = h.0 cc
 never_split (b ∷ bytes) (f ∷ first) rest h e = never_split bytes first rest h.1 cc
 
-pub never_spaced : (bytes : List ℕ) → All (λ c. c ≢ 32) bytes → (first rest : List ℕ) → bytes ≢ spaced first rest
+pub never_spaced : (bytes : List ℕ) → All (λ c. c ≢ 32) bytes → (first rest : List ℕ) → bytes ≢ spaced (first ∷ rest ∷ [])
 never_spaced bytes h first rest = never_split bytes first rest (no_space bytes h)
 
 -- the parts round the first space
-pub one_split : (a b x y : List ℕ) → HasNoSpace a → HasNoSpace b → spaced a x ≡ spaced b y → (a ≡ b) × (x ≡ y)
+pub one_split : (a b x y : List ℕ) → HasNoSpace a → HasNoSpace b → spaced (a ∷ x ∷ []) ≡ spaced (b ∷ y ∷ []) → (a ≡ b) × (x ≡ y)
 one_split [] [] x y p q e = (refl, cc)
 one_split [] (b ∷ ss) x y p q e = absurd (q.0 cc)
 one_split (a ∷ rs) [] x y p q e = absurd (p.0 cc)
 one_split (a ∷ rs) (b ∷ ss) x y p q e =
     let front : a ≡ b = cc in
-    let tails : spaced rs x ≡ spaced ss y = cc in
+    let tails : spaced (rs ∷ x ∷ []) ≡ spaced (ss ∷ y ∷ []) = cc in
     let more = one_split rs ss x y p.1 q.1 tails in
     (cc, more.1)
 
@@ -49,17 +52,55 @@ bytes_have_no_space (c ∷ bytes) h = (byte_is_no_space c h.0, bytes_have_no_spa
 pub name_has_no_space : (bytes : List ℕ) → IsName bytes → HasNoSpace bytes
 name_has_no_space bytes h = bytes_have_no_space bytes h.each
 
+-- and so is a number
+pub digits_have_no_space : (ds : List ℕ) → AllDigits 10 ds → HasNoSpace ds
+digits_have_no_space [] h = tt
+digits_have_no_space (d ∷ ds) h =
+    let digit = digit_from_value d h.0 in
+    ((λ e. absurd (omega (arith, digit.0, e))), digits_have_no_space ds h.1)
+
 -- the rest behind the first space
-pub same_rest : (names : List (List ℕ)) (bytes first rest : List ℕ) (role : ℕ) (other : List ℕ) → bytes ≡ spaced first rest → HasNoSpace first → BeginsWithRole names bytes role other → other ≡ rest
+pub same_rest : (names : List (List ℕ)) (bytes first rest : List ℕ) (role : ℕ) (other : List ℕ) → bytes ≡ spaced (first ∷ rest ∷ []) → HasNoSpace first → BeginsWith names bytes (RoleAt role) other → other ≡ rest
 same_rest names bytes first rest role other e h b =
-    (one_split b.name first other rest (name_has_no_space b.name b.spelled.name) h (sym b.parts ∙ e)).1
+    (one_split b.front first other rest (name_has_no_space b.front b.spelled.name) h (sym b.parts ∙ e)).1
 
 -- what stands before the first space is no role's name
-pub no_role : (names : List (List ℕ)) (bytes first rest : List ℕ) → bytes ≡ spaced first rest → HasNoSpace first → ((role : ℕ) → SpellsRole names first role → ⊥) → (role : ℕ) (other : List ℕ) → BeginsWithRole names bytes role other → ⊥
+pub no_role : (names : List (List ℕ)) (bytes first rest : List ℕ) → bytes ≡ spaced (first ∷ rest ∷ []) → HasNoSpace first → ((role : ℕ) → SpellsRole names first role → ⊥) → (role : ℕ) (other : List ℕ) → BeginsWith names bytes (RoleAt role) other → ⊥
 no_role names bytes first rest e h none role other b =
-    let same = one_split b.name first other rest (name_has_no_space b.name b.spelled.name) h (sym b.parts ∙ e) in
+    let same = one_split b.front first other rest (name_has_no_space b.front b.spelled.name) h (sym b.parts ∙ e) in
     none role (rw same.0 at b.spelled)
 
 -- bytes without a space don't begin with a role's name
-pub no_role_alone : (names : List (List ℕ)) (bytes : List ℕ) → ((first rest : List ℕ) → bytes ≢ spaced first rest) → (role : ℕ) (rest : List ℕ) → BeginsWithRole names bytes role rest → ⊥
-no_role_alone names bytes none role rest b = none b.name rest b.parts
+pub no_role_alone : (names : List (List ℕ)) (bytes : List ℕ) → ((first rest : List ℕ) → bytes ≢ spaced (first ∷ rest ∷ [])) → (role : ℕ) (rest : List ℕ) → BeginsWith names bytes (RoleAt role) rest → ⊥
+no_role_alone names bytes none role rest b = none b.front rest b.parts
+
+-- a line of two tokens and more begins with the first, and what stands behind it is a line of the others
+pub behind : (names : List (List ℕ)) (bytes : List ℕ) (t u : Token) (ts : List Token) → SpellsLine names bytes (t ∷ u ∷ ts) → (rest : List ℕ) × BeginsWith names bytes t rest × SpellsLine names rest (u ∷ ts)
+behind names bytes t u ts h = by_spellings h.spellings h.joined h.each
+  where
+    by_spellings : (ss : List (List ℕ)) → bytes ≡ spaced ss → SpellEach names ss (t ∷ u ∷ ts) → (rest : List ℕ) × BeginsWith names bytes t rest × SpellsLine names rest (u ∷ ts)
+    by_spellings [] e k = absurd k
+    by_spellings (s ∷ []) e k = absurd k.1
+    by_spellings (s ∷ r ∷ ss) e k =
+        (spaced (r ∷ ss), record { front = s; parts = e; spelled = k.0 }, record { spellings = r ∷ ss; joined = refl; each = k.1 })
+
+-- and so it is put together
+pub joined : (names : List (List ℕ)) (bytes : List ℕ) (t u : Token) (ts : List Token) (rest : List ℕ) → BeginsWith names bytes t rest → SpellsLine names rest (u ∷ ts) → SpellsLine names bytes (t ∷ u ∷ ts)
+joined names bytes t u ts rest b h = by_spellings h.spellings h.joined h.each
+  where
+    by_spellings : (ss : List (List ℕ)) → rest ≡ spaced ss → SpellEach names ss (u ∷ ts) → SpellsLine names bytes (t ∷ u ∷ ts)
+    by_spellings [] e k = absurd k
+    by_spellings (s ∷ ss) e k =
+        record { spellings = b.front ∷ s ∷ ss; joined = rw e at b.parts; each = (b.spelled, k) }
+
+-- a line of one token is the token
+pub alone : (names : List (List ℕ)) (bytes : List ℕ) (t : Token) → SpellsLine names bytes (t ∷ []) → SpellsToken names bytes t
+alone names bytes t h = by_spellings h.spellings h.joined h.each
+  where
+    by_spellings : (ss : List (List ℕ)) → bytes ≡ spaced ss → SpellEach names ss (t ∷ []) → SpellsToken names bytes t
+    by_spellings [] e k = absurd k
+    by_spellings (s ∷ []) e k = rw e k.0
+    by_spellings (s ∷ r ∷ ss) e k = absurd k.1
+
+pub line_of_one : (names : List (List ℕ)) (bytes : List ℕ) (t : Token) → SpellsToken names bytes t → SpellsLine names bytes (t ∷ [])
+line_of_one names bytes t h = record { spellings = bytes ∷ []; joined = refl; each = (h, tt) }

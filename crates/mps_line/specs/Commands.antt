@@ -1,48 +1,43 @@
 -- How the commands of a script are spelled.
-use Rattle.std.specs.Prelude.{◌≡◌, ℕ, List, codes}
-use Rattle.mps_base.specs.Names.{IsName}
-use Rattle.mps_base.specs.Values.{SpellsValue}
-use Rattle.mps_base.specs.declared.value.Value.{Value}
-use Rattle.mps_machine.specs.declared.command.Forward.{Forward}
-use Rattle.mps_machine.specs.declared.command.Forward.TheVariants.{Send, Receive}
+use Rattle.std.specs.Prelude.{ℕ, List, [], ◌∷◌, codes}
+use Rattle.mps_command.specs.declared.command.Forward.{Forward}
+use Rattle.mps_command.specs.declared.command.Forward.TheVariants.{Send, Choose, Receive, Pick, Mark}
 use Rattle.mps_line.specs.declared.script.Verb.{Verb}
-use Rattle.mps_line.specs.declared.script.Verb.TheVariants.{Send as SendVerb, Receive as ReceiveVerb}
-use Rattle.mps_line.specs.Parts.{spaced, BeginsWithRole}
+use Rattle.mps_line.specs.declared.script.Verb.TheVariants as verbs
+use Rattle.mps_line.specs.Tokens.{Token, Word, RoleAt, Called, Worth, SpellsLine}
 
 -- the first word of a command
 abbrev pub verb_word : Verb → List ℕ
-verb_word SendVerb = codes "send"
-verb_word ReceiveVerb = codes "recv"
+verb_word verbs.Send = codes "send"
+verb_word verbs.Choose = codes "choose"
+verb_word verbs.Receive = codes "recv"
+verb_word verbs.Pick = codes "pick"
+verb_word verbs.Mark = codes "mark"
 
 -- the verb of a command
 abbrev pub verb_of : Forward → Verb
-verb_of (Send to value) = SendVerb
-verb_of (Receive from slot) = ReceiveVerb
+verb_of (Send to value) = verbs.Send
+verb_of (Choose to label) = verbs.Choose
+verb_of (Receive from slot) = verbs.Receive
+verb_of (Pick from) = verbs.Pick
+verb_of (Mark name) = verbs.Mark
 
--- `PEER VALUE`
-pub record SpellsParcel (names : List (List ℕ)) (bytes : List ℕ) (to : ℕ) (value : Value) : Type 0 where
-  pub text : List ℕ
-  pub peer : BeginsWithRole names bytes to text
-  pub spelled : SpellsValue text value
+-- the tokens behind the verb
+abbrev pub arguments : Forward → List Token
+arguments (Send to value) = RoleAt to ∷ Worth value ∷ []
+arguments (Choose to label) = RoleAt to ∷ Called label ∷ []
+arguments (Receive from slot) = RoleAt from ∷ Called slot ∷ []
+arguments (Pick from) = RoleAt from ∷ []
+arguments (Mark name) = Called name ∷ []
 
--- `PEER SLOT`
-pub record SpellsReceipt (names : List (List ℕ)) (bytes : List ℕ) (from : ℕ) (slot : List ℕ) : Type 0 where
-  pub peer : BeginsWithRole names bytes from slot
-  pub name : IsName slot
+-- the verb and its arguments
+abbrev pub command_tokens : Forward → List Token
+command_tokens command = Word (verb_word (verb_of command)) ∷ arguments command
 
--- what stands behind the verb
-abbrev pub SpellsArguments : List (List ℕ) → List ℕ → Forward → Type 0
-SpellsArguments names bytes (Send to value) = SpellsParcel names bytes to value
-SpellsArguments names bytes (Receive from slot) = SpellsReceipt names bytes from slot
+-- `send PEER VALUE`, `choose PEER LABEL`, `recv PEER SLOT`, `pick PEER` or `mark NAME`
+abbrev pub SpellsCommand : (names : List (List ℕ)) → List ℕ → Forward → Type 0
+SpellsCommand names bytes command = SpellsLine names bytes (command_tokens command)
 
--- `VERB ARGUMENTS`: `send PEER VALUE` or `recv PEER SLOT`
-pub record SpellsCommand (names : List (List ℕ)) (bytes : List ℕ) (command : Forward) : Type 0 where
-  pub rest : List ℕ
-  pub parts : bytes ≡ spaced (verb_word (verb_of command)) rest
-  pub arguments : SpellsArguments names rest command
-
--- `ROLE COMMAND`
-pub record SpellsScriptLine (names : List (List ℕ)) (bytes : List ℕ) (role : ℕ) (command : Forward) : Type 0 where
-  pub rest : List ℕ
-  pub actor : BeginsWithRole names bytes role rest
-  pub spelled : SpellsCommand names rest command
+-- a role's name in front of a command
+abbrev pub SpellsScriptLine : (names : List (List ℕ)) → List ℕ → (role : ℕ) → Forward → Type 0
+SpellsScriptLine names bytes role command = SpellsLine names bytes (RoleAt role ∷ command_tokens command)

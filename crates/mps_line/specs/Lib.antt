@@ -1,3 +1,3 @@
-pub mod Parts
+pub mod Tokens
 pub mod Commands
 pub mod Replies

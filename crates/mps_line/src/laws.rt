@@ -3,14 +3,15 @@ ghost use Rattle.std.specs.Prelude.{◌≡◌, ◌≢◌, ℕ, ◌<◌, List, le
 ghost use Rattle.std.specs.List.{AllByRecursion};
 ghost use Rattle.mps_base.specs.RoleLists.{AreDistinct};
 ghost use Rattle.mps_base.specs.Values.{IsShown};
-ghost use Rattle.mps_machine.specs.declared.command.Forward.{Forward};
+ghost use Rattle.mps_command.specs.declared.command.Forward.{Forward};
 ghost use Rattle.mps_line.specs.declared.reply.Reply.{Reply};
 ghost use Rattle.mps_line.specs.Commands.{SpellsCommand, SpellsScriptLine};
 ghost use Rattle.mps_line.specs.Replies.{SpellsReply};
 
 use mps_base::spelling::one_spelling;
 
-/// Bytes spell at most one command, where no two roles have one name, and each command has one spelling.
+/// Bytes spell at most one command, where no two roles have one name, and each command has one
+/// spelling.
 pub fn one_command()
     ensures command { (names : List (List ℕ)) (a : List ℕ) (c d : Forward) → AreDistinct names
         → SpellsCommand names a c → SpellsCommand names a d → c ≡ d }
@@ -20,13 +21,13 @@ pub fn one_command()
     one_spelling();
 }
 
-/// A line has at most one role and one command, where no two roles have one name. These have one line, with no line
-/// break in it.
+/// A line has at most one role and one command, where no two roles have one name. These have one
+/// line, with no line break in it.
 pub fn one_script_line()
-    ensures role { (names : List (List ℕ)) (a : List ℕ) (p q : ℕ) (c d : Forward) → AreDistinct names
-        → SpellsScriptLine names a p c → SpellsScriptLine names a q d → p ≡ q }
-    ensures command { (names : List (List ℕ)) (a : List ℕ) (p q : ℕ) (c d : Forward) → AreDistinct names
-        → SpellsScriptLine names a p c → SpellsScriptLine names a q d → c ≡ d }
+    ensures role { (names : List (List ℕ)) (a : List ℕ) (p q : ℕ) (c d : Forward)
+        → AreDistinct names → SpellsScriptLine names a p c → SpellsScriptLine names a q d → p ≡ q }
+    ensures command { (names : List (List ℕ)) (a : List ℕ) (p q : ℕ) (c d : Forward)
+        → AreDistinct names → SpellsScriptLine names a p c → SpellsScriptLine names a q d → c ≡ d }
     ensures spelling { (names : List (List ℕ)) (a b : List ℕ) (p : ℕ) (c : Forward)
         → SpellsScriptLine names a p c → SpellsScriptLine names b p c → a ≡ b }
     ensures shown { (names : List (List ℕ)) (a : List ℕ) (p : ℕ) (c : Forward)
@@ -35,13 +36,15 @@ pub fn one_script_line()
     one_spelling();
 }
 
-/// Each reply has one text, which stands on one line and has a byte at least, and a text is at most one reply's.
+/// Each reply has one text, which stands on one line and has a byte at least, and a text is at most
+/// one reply's.
 pub fn one_reply_line()
     ensures spelling { (a b : List ℕ) (r : Reply) → SpellsReply a r → SpellsReply b r → a ≡ b }
     ensures reply { (a : List ℕ) (r s : Reply) → SpellsReply a r → SpellsReply a s → r ≡ s }
     ensures some { (a : List ℕ) (r : Reply) → SpellsReply a r → 0 < length a }
     ensures shown { (a : List ℕ) (r : Reply) → SpellsReply a r → AllByRecursion IsShown a }
-    ensures no_line_feed { (a : List ℕ) (r : Reply) → SpellsReply a r → AllByRecursion (λ c. c ≢ 10) a }
+    ensures no_line_feed { (a : List ℕ) (r : Reply) → SpellsReply a r
+        → AllByRecursion (λ c. c ≢ 10) a }
 {
     one_spelling();
 }

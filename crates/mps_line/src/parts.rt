@@ -1,6 +1,7 @@
 //! The parts of a line.
-ghost use Rattle.std.specs.Prelude.{◌≡◌, ◌≢◌, ℕ, List, IfSome, IfNone, ◌<◌, All, length, slice_index, take};
-ghost use Rattle.mps_line.specs.Parts.{spaced, HasNoSpace, SpellsRole, BeginsWithRole};
+ghost use Rattle.std.specs.Prelude.{◌≡◌, ◌≢◌, ℕ, List, [], ◌∷◌, IfSome, IfNone, ◌<◌, All, length, slice_index, take};
+ghost use Rattle.mps_base.specs.Spaced.{spaced};
+ghost use Rattle.mps_line.specs.Tokens.{RoleAt, Called, HasNoSpace, SpellsRole, SpellsLine, BeginsWith};
 
 use mps_base::{Name, Role, Roles};
 
@@ -17,9 +18,11 @@ fn first_space(bytes: &[u8]) -> Option<usize>
 // What stands before the first space, and what behind it.
 #[tactic(auto, using(crate::proofs::Splitting::no_space, crate::proofs::Splitting::never_spaced))]
 pub(crate) fn split_at_space(bytes: &[u8]) -> Option<(&[u8], &[u8])>
-    ensures parts { IfSome result (λ parts. bytes.now ≡ spaced parts.0.now parts.1.now) }
+    ensures parts { IfSome result
+        (λ parts. bytes.now ≡ spaced (parts.0.now ∷ parts.1.now ∷ [])) }
     ensures first { IfSome result (λ parts. HasNoSpace parts.0.now) }
-    ensures none { IfNone result ((first rest : List ℕ) → bytes.now ≢ spaced first rest) }
+    ensures none { IfNone result ((first rest : List ℕ)
+        → bytes.now ≢ spaced (first ∷ rest ∷ [])) }
 {
     let place = first_space(bytes)?;
     Some((&bytes[..place], &bytes[place + 1..]))
@@ -36,12 +39,26 @@ pub(crate) fn read_role(roles: &Roles, bytes: &[u8]) -> Option<Role>
 // The role whose name stands before the first space, and what stands behind it.
 #[tactic(auto, using(crate::proofs::Splitting::no_role_alone))]
 pub(crate) fn split_role<'a>(roles: &Roles, bytes: &'a [u8]) -> Option<(Role, &'a [u8])>
-    ensures read { IfSome result (λ r. BeginsWithRole roles.now bytes.now r.0 r.1.now) }
+    ensures read { IfSome result (λ r. BeginsWith roles.now bytes.now (RoleAt r.0) r.1.now) }
     ensures rest { IfSome result (λ r. (role : ℕ) (rest : List ℕ)
-        → BeginsWithRole roles.now bytes.now role rest → rest ≡ r.1.now) }
+        → BeginsWith roles.now bytes.now (RoleAt role) rest → rest ≡ r.1.now) }
     ensures none { IfNone result ((role : ℕ) (rest : List ℕ)
-        → BeginsWithRole roles.now bytes.now role rest → ⊥) }
+        → BeginsWith roles.now bytes.now (RoleAt role) rest → ⊥) }
 {
     let (name, rest) = split_at_space(bytes)?;
     Some((read_role(roles, name)?, rest))
+}
+
+// The role and the name behind it.
+pub(crate) fn read_role_and_name(roles: &Roles, bytes: &[u8]) -> Option<(Role, Name)>
+    ensures read { IfSome result
+        (λ r. SpellsLine roles.now bytes.now (RoleAt r.0 ∷ Called r.1 ∷ [])) }
+    ensures none { IfNone result ((role : ℕ) (name : List ℕ)
+        → SpellsLine roles.now bytes.now (RoleAt role ∷ Called name ∷ []) → ⊥) }
+{
+    let Some(parts) = split_role(roles, bytes) else {
+        return None;
+    };
+    let (role, name) = parts;
+    Some((role, Name::read(name)?))
 }

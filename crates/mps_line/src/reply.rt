@@ -1,12 +1,13 @@
 //! The lines that answer commands.
-ghost use Rattle.std.specs.Prelude.{◌≡◌, OnOk, OnErr};
+ghost use Rattle.std.specs.Prelude.{◌≡◌, [], OnOk, OnErr};
 ghost use Rattle.std.specs.Io.{StartsWith};
 ghost use Rattle.mps_base.specs.Appends.{Appends};
-ghost use Rattle.mps_machine.specs.declared.answer.Refusal.TheVariants.{Violation as Violates};
-ghost use Rattle.mps_line.specs.Replies.{SpellsDone, SpellsMessage, SpellsRefusal, SpellsStep, word_of};
+ghost use Rattle.mps_command.specs.declared.answer.Refusal.TheVariants.{Violation as Violates};
+ghost use Rattle.mps_line.specs.Tokens.{SpellsNumber, SpellsToken, SpellsLine};
+ghost use Rattle.mps_line.specs.Replies.{message_token, done_tokens, refusal_tokens, word_of};
 
 use mps_base::{Message, StepId, write_number};
-use mps_machine::{Done, Refusal, Violation};
+use mps_command::{Done, Refusal, Violation};
 use std::alloc::AllocError;
 
 /// The answer to a line of a script.
@@ -35,7 +36,8 @@ impl Reply {
 
     /// Writes the reply at the end, without a line break.
     pub fn write(&self, out: &mut Vec<u8>) -> Result<(), AllocError>
-        ensures ok { OnOk result (Appends (λ text. SpellsReply text self.now) out.old.items out.new.items) }
+        ensures ok { OnOk result
+            (Appends (λ text. SpellsReply text self.now) out.old.items out.new.items) }
         ensures err { OnErr result (out.new.items ≡ out.old.items) }
     {
         let before = out.len();
@@ -48,7 +50,8 @@ impl Reply {
 
     // Writes the reply, or a part of it.
     fn write_parts(&self, out: &mut Vec<u8>) -> Result<(), AllocError>
-        ensures ok { OnOk result (Appends (λ text. SpellsReply text self.now) out.old.items out.new.items) }
+        ensures ok { OnOk result
+            (Appends (λ text. SpellsReply text self.now) out.old.items out.new.items) }
         ensures err { OnErr result (StartsWith out.new.items out.old.items) }
     {
         match self {
@@ -67,7 +70,9 @@ impl Reply {
 
 // Writes the number of the step and the message that it took, or a part of them.
 fn write_done(done: &Done, out: &mut Vec<u8>) -> Result<(), AllocError>
-    ensures ok { OnOk result (Appends (λ text. SpellsDone text done.now.id done.now.got) out.old.items out.new.items) }
+    ensures ok { OnOk result (Appends
+        (λ text. SpellsLine [] text (done_tokens done.now.id done.now.got))
+        out.old.items out.new.items) }
     ensures err { OnErr result (StartsWith out.new.items out.old.items) }
 {
     write_step(done.id, out)?;
@@ -82,7 +87,8 @@ fn write_done(done: &Done, out: &mut Vec<u8>) -> Result<(), AllocError>
 
 // Writes the message, or a part of it.
 fn write_message(message: &Message, out: &mut Vec<u8>) -> Result<(), AllocError>
-    ensures ok { OnOk result (Appends (λ text. SpellsMessage text message.now) out.old.items out.new.items) }
+    ensures ok { OnOk result (Appends
+        (λ text. SpellsToken [] text (message_token message.now)) out.old.items out.new.items) }
     ensures err { OnErr result (StartsWith out.new.items out.old.items) }
 {
     match message {
@@ -93,7 +99,8 @@ fn write_message(message: &Message, out: &mut Vec<u8>) -> Result<(), AllocError>
 
 // Writes why the command was refused, or a part of it.
 fn write_refusal(refusal: &Refusal, out: &mut Vec<u8>) -> Result<(), AllocError>
-    ensures ok { OnOk result (Appends (λ text. SpellsRefusal text refusal.now) out.old.items out.new.items) }
+    ensures ok { OnOk result (Appends
+        (λ text. SpellsLine [] text (refusal_tokens refusal.now)) out.old.items out.new.items) }
     ensures err { OnErr result (StartsWith out.new.items out.old.items) }
 {
     out.extend_from_slice(word_of(refusal))?;
@@ -108,7 +115,7 @@ fn write_refusal(refusal: &Refusal, out: &mut Vec<u8>) -> Result<(), AllocError>
 
 // Writes the number of the step.
 fn write_step(id: StepId, out: &mut Vec<u8>) -> Result<(), AllocError>
-    ensures ok { OnOk result (Appends (λ text. SpellsStep text id) out.old.items out.new.items) }
+    ensures ok { OnOk result (Appends (λ text. SpellsNumber text id) out.old.items out.new.items) }
     ensures err { OnErr result (StartsWith out.new.items out.old.items) }
 {
     write_number(id.number(), out)

@@ -1,16 +1,17 @@
 //! The lines of a script.
-ghost use Rattle.std.specs.Prelude.{◌≡◌, ◌≢◌, ℕ, List, IfOk, IfSome, IfNone, IsErrOf};
+ghost use Rattle.std.specs.Prelude.{◌≡◌, ◌≢◌, ℕ, List, [], ◌∷◌, IfOk, IfSome, IfNone, IsErrOf};
+ghost use Rattle.mps_base.specs.Spaced.{spaced};
 ghost use Rattle.mps_base.specs.declared.value.Value.{Value};
 ghost use Rattle.mps_base.specs.declared.value.Value.TheVariants as values;
-ghost use Rattle.mps_machine.specs.declared.command.Forward.{Forward};
-ghost use Rattle.mps_machine.specs.declared.command.Forward.TheVariants as commands;
+ghost use Rattle.mps_command.specs.declared.command.Forward.{Forward};
+ghost use Rattle.mps_command.specs.declared.command.Forward.TheVariants as commands;
 ghost use Rattle.mps_line.specs.declared.script.Verb.{Verb};
-ghost use Rattle.mps_line.specs.Parts.{spaced};
-ghost use Rattle.mps_line.specs.Commands.{verb_word, verb_of, SpellsArguments, SpellsCommand, SpellsParcel, SpellsReceipt, SpellsScriptLine};
+ghost use Rattle.mps_line.specs.Tokens.{RoleAt, Worth, SpellsLine};
+ghost use Rattle.mps_line.specs.Commands.{verb_word, verb_of, arguments, SpellsCommand, SpellsScriptLine};
 
-use crate::parts::{split_at_space, split_role};
+use crate::parts::{read_role, read_role_and_name, split_at_space, split_role};
 use mps_base::{Name, Role, Roles, Value, ValueFault};
-use mps_machine::Forward;
+use mps_command::Forward;
 use std::alloc::Global;
 use thiserror::Error;
 
@@ -27,7 +28,10 @@ pub enum LineFault {
 #[derive(Clone, Copy, Debug, PartialEq, Eq)]
 pub enum Verb {
     Send,
+    Choose,
     Receive,
+    Pick,
+    Mark,
 }
 
 /// Reads a line of a script: a role's name and its command.
@@ -44,16 +48,15 @@ pub fn read_script_line(
     ensures memory { IsErrOf result LineFault.Memory → (role : ℕ) × (to : ℕ) × (text : List ℕ)
         × SpellsScriptLine roles.now bytes.now role (commands.Send to (values.Text text)) }
 {
-    let Some(actor) = split_role(roles, bytes) else {
+    let Some(parts) = split_role(roles, bytes) else {
         return Err(LineFault::Bad);
     };
-    let (role, rest) = actor;
+    let (role, rest) = parts;
     let command = read_command(alloc, roles, rest)?;
     Ok((role, command))
 }
 
 /// Reads a command that takes all of the bytes.
-#[tactic(auto, using(crate::proofs::Reading::no_command))]
 pub fn read_command(alloc: Global, roles: &Roles, bytes: &[u8]) -> Result<Forward, LineFault>
     ensures read { IfOk result (SpellsCommand roles.now bytes.now) }
     ensures bad { IsErrOf result LineFault.Bad → (command : Forward)
@@ -71,9 +74,9 @@ pub fn read_command(alloc: Global, roles: &Roles, bytes: &[u8]) -> Result<Forwar
 
 // The verb, and what stands behind it and a space.
 fn split_verb(bytes: &[u8]) -> Option<(Verb, &[u8])>
-    ensures read { IfSome result (λ r. bytes.now ≡ spaced (verb_word r.0) r.1.now) }
+    ensures read { IfSome result (λ r. bytes.now ≡ spaced (verb_word r.0 ∷ r.1.now ∷ [])) }
     ensures none { IfNone result ((verb : Verb) (rest : List ℕ)
-        → bytes.now ≢ spaced (verb_word verb) rest) }
+        → bytes.now ≢ spaced (verb_word verb ∷ rest ∷ [])) }
 {
     let (word, rest) = split_at_space(bytes)?;
     Some((read_verb(word)?, rest))
@@ -86,13 +89,15 @@ fn read_verb(word: &[u8]) -> Option<Verb>
 {
     match word {
         b"send" => Some(Verb::Send),
+        b"choose" => Some(Verb::Choose),
         b"recv" => Some(Verb::Receive),
+        b"pick" => Some(Verb::Pick),
+        b"mark" => Some(Verb::Mark),
         _ => None,
     }
 }
 
 // The command of that verb with these arguments.
-#[tactic(auto, using(crate::proofs::Reading::no_parcel, crate::proofs::Reading::no_receipt))]
 fn read_arguments(
     alloc: Global,
     roles: &Roles,
@@ -100,55 +105,65 @@ fn read_arguments(
     bytes: &[u8],
 ) -> Result<Forward, LineFault>
     ensures verb { IfOk result (λ command. verb_of command ≡ verb) }
-    ensures read { IfOk result (SpellsArguments roles.now bytes.now) }
+    ensures read { IfOk result (λ command. SpellsLine roles.now bytes.now (arguments command)) }
     ensures bad { IsErrOf result LineFault.Bad → (command : Forward) → verb_of command ≡ verb
-        → SpellsArguments roles.now bytes.now command → ⊥ }
+        → SpellsLine roles.now bytes.now (arguments command) → ⊥ }
     ensures send { IsErrOf result LineFault.Memory → verb ≡ Verb.Send }
     ensures memory { IsErrOf result LineFault.Memory → (to : ℕ) × (text : List ℕ)
-        × SpellsParcel roles.now bytes.now to (values.Text text) }
+        × SpellsLine roles.now bytes.now (RoleAt to ∷ Worth (values.Text text) ∷ []) }
 {
     match verb {
         Verb::Send => {
-            let (to, value) = read_parcel(alloc, roles, bytes)?;
+            let (to, value) = read_role_and_value(alloc, roles, bytes)?;
             Ok(Forward::Send { to, value })
         }
+        Verb::Choose => {
+            let Some((to, label)) = read_role_and_name(roles, bytes) else {
+                return Err(LineFault::Bad);
+            };
+            Ok(Forward::Choose { to, label })
+        }
         Verb::Receive => {
-            let Some((from, slot)) = read_receipt(roles, bytes) else {
+            let Some((from, slot)) = read_role_and_name(roles, bytes) else {
                 return Err(LineFault::Bad);
             };
             Ok(Forward::Receive { from, slot })
         }
+        Verb::Pick => {
+            let Some(from) = read_role(roles, bytes) else {
+                return Err(LineFault::Bad);
+            };
+            Ok(Forward::Pick { from })
+        }
+        Verb::Mark => {
+            let Some(name) = Name::read(bytes) else {
+                return Err(LineFault::Bad);
+            };
+            Ok(Forward::Mark { name })
+        }
     }
 }
 
-// The peer and the value that are to be sent.
-fn read_parcel(alloc: Global, roles: &Roles, bytes: &[u8]) -> Result<(Role, Value), LineFault>
-    ensures read { IfOk result (λ r. SpellsParcel roles.now bytes.now r.0 r.1) }
+// The peer and the value that is to be sent.
+fn read_role_and_value(
+    alloc: Global,
+    roles: &Roles,
+    bytes: &[u8],
+) -> Result<(Role, Value), LineFault>
+    ensures read { IfOk result
+        (λ r. SpellsLine roles.now bytes.now (RoleAt r.0 ∷ Worth r.1 ∷ [])) }
     ensures bad { IsErrOf result LineFault.Bad → (to : ℕ) (value : Value)
-        → SpellsParcel roles.now bytes.now to value → ⊥ }
+        → SpellsLine roles.now bytes.now (RoleAt to ∷ Worth value ∷ []) → ⊥ }
     ensures memory { IsErrOf result LineFault.Memory → (to : ℕ) × (text : List ℕ)
-        × SpellsParcel roles.now bytes.now to (values.Text text) }
+        × SpellsLine roles.now bytes.now (RoleAt to ∷ Worth (values.Text text) ∷ []) }
 {
-    let Some(peer) = split_role(roles, bytes) else {
+    let Some(parts) = split_role(roles, bytes) else {
         return Err(LineFault::Bad);
     };
-    let (to, text) = peer;
+    let (to, text) = parts;
     match Value::read(alloc, text) {
         Ok(value) => Ok((to, value)),
         Err(ValueFault::Bad) => Err(LineFault::Bad),
         Err(ValueFault::Memory) => Err(LineFault::Memory),
     }
-}
-
-// The peer whose message is to be taken, and the slot that keeps it.
-fn read_receipt(roles: &Roles, bytes: &[u8]) -> Option<(Role, Name)>
-    ensures read { IfSome result (λ r. SpellsReceipt roles.now bytes.now r.0 r.1) }
-    ensures none { IfNone result ((from : ℕ) (slot : List ℕ)
-        → SpellsReceipt roles.now bytes.now from slot → ⊥) }
-{
-    let Some(peer) = split_role(roles, bytes) else {
-        return None;
-    };
-    let (from, slot) = peer;
-    Some((from, Name::read(slot)?))
 }

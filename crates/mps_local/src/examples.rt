@@ -22,7 +22,8 @@ pub fn worked_projections()
         (Rec (codes "X") (Recv at_a Int (Rec (codes "Y") (Var (codes "X"))))) }
     ensures idle_loop { Does at_c (global.Rec (codes "X") (int_to a b outer)) End }
     // The third role does the same in both branches.
-    ensures same_value { Does at_c (chosen (int_to a c over) (int_to a c over)) (Recv at_a Int End) }
+    ensures same_value { Does at_c (chosen (int_to a c over) (int_to a c over))
+        (Recv at_a Int End) }
     ensures same_choice { Does at_c (chosen (only c a (codes "x")) (only c a (codes "x")))
         (Select at_a (More (codes "x") End NoMore)) }
     ensures same_loop { Does at_c (in_loops (chosen (int_to a c outer) (int_to a c outer)))
@@ -30,19 +31,23 @@ pub fn worked_projections()
     // It does not, and the branches differ in nothing else.
     ensures sort_alone { CantMergeFirst (chosen (int_to a c over) (bool_to a c over)) }
     ensures peer_alone { CantMergeFirst (chosen (int_to a c over) (int_to b c over)) }
-    ensures peer_of_a_choice_alone { CantMergeFirst (chosen (only a c (codes "x")) (only b c (codes "x"))) }
+    ensures peer_of_a_choice_alone { CantMergeFirst
+        (chosen (only a c (codes "x")) (only b c (codes "x"))) }
     ensures label_alone { CantMergeFirst (chosen (only a c (codes "x")) (only a c (codes "y"))) }
-    ensures variable_alone { CantMergeFirst (in_loops (chosen (int_to a c outer) (int_to a c inner))) }
+    ensures variable_alone { CantMergeFirst
+        (in_loops (chosen (int_to a c outer) (int_to a c inner))) }
     ensures name_of_a_loop_alone { CantMergeFirst (chosen
         (global.Rec (codes "X") (int_to a c outer)) (global.Rec (codes "Y") (int_to a c inner))) }
     ensures kind_of_a_value_alone { CantMergeFirst (chosen (int_to a c over) (int_to c a over)) }
-    ensures kind_of_a_choice_alone { CantMergeFirst (chosen (only a c (codes "x")) (only c a (codes "x"))) }
+    ensures kind_of_a_choice_alone { CantMergeFirst
+        (chosen (only a c (codes "x")) (only c a (codes "x"))) }
     ensures ending_alone { CantMergeFirst (chosen (int_to a c over) over) }
 {}
 
 /// What short types allow first and what follows it, as worked out by hand.
 pub fn worked_actions()
-    ensures end { (head End ≡ Ends) × (type_left End None ≡ None) × (type_left End (Some 0) ≡ None) }
+    ensures end { (head End ≡ Ends) × (type_left End None ≡ None)
+        × (type_left End (Some 0) ≡ None) }
     ensures output { (head (Send at_b Int End) ≡ Sends at_b Int)
         × (type_left (Send at_b Int End) None ≡ Some End) }
     ensures one_loop { (head ping ≡ Sends at_b Int) × (type_left ping None ≡ Some ping) }

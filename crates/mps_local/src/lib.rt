@@ -23,7 +23,8 @@ use std::mem;
 pub use walking::Arms;
 pub use writing::write_local;
 
-/// A local type (Honda, Yoshida, Carbone, POPL 2008), with the peers as places in the list of roles.
+/// A local type (Honda, Yoshida, Carbone, POPL 2008), with the peers as places in the list of
+/// roles.
 #[cycle(local)]
 pub enum Local {
     End,

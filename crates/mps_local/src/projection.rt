@@ -39,12 +39,14 @@ impl From<AllocError> for ProjectFault {
     }
 }
 
-/// What the role does in the protocol. It takes stack for each level, of which there are at most 64.
+/// What the role does in the protocol. It takes stack for each level, of which there are at most
+/// 64.
 pub fn project(alloc: alloc::Global, protocol: &Protocol, role: Role) -> Result<Local, ProjectFault>
     requires well_formed { fault_of protocol.now.roles.items (global_type protocol.now.body) ≡ None }
     requires in_session { role < length protocol.now.roles.items }
     ensures ok { IfOk result
-        (λ t. projection protocol.now.roles.items role (global_type protocol.now.body) ≡ Some (plain t)) }
+        (λ t. projection protocol.now.roles.items role (global_type protocol.now.body)
+        ≡ Some (plain t)) }
     ensures peers { IfOk result
         (λ t. AllPeers (λ peer. peer < length protocol.now.roles.items) (plain t)) }
     // It is refused only where there is no projection, and names the role and the choice.
@@ -142,7 +144,8 @@ fn project_branches(
     requires few { length roles.now ≤ 8 }
     requires within { number + branch_choices (global_branches branches.now) ≤ 256 }
     ensures ok { IfOk result
-        (λ r. AreDone roles.now role number (global_branches branches.now) (plain_branches r.0) r.1) }
+        (λ r. AreDone roles.now role number (global_branches branches.now)
+        (plain_branches r.0) r.1) }
     ensures fault { IfErr result
         (AreUnmerged roles.now role number (global_branches branches.now)) }
 {

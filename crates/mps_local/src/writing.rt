@@ -65,10 +65,12 @@ fn write_next<'a>(
     requires known { IsTodoKnown (length roles.now) next }
     requires others { AllByRecursion (IsTodoKnown (length roles.now)) waiting.old.items }
     ensures text { OnOk result (with_tokens out.new.items (left_tokens roles.now waiting.new.items)
-        ≡ with_tokens out.old.items (todo_tokens roles.now next.entry ++ left_tokens roles.now waiting.old.items)) }
+        ≡ with_tokens out.old.items
+        (todo_tokens roles.now next.entry ++ left_tokens roles.now waiting.old.items)) }
     ensures less { OnOk result
         (left_weight waiting.new.items < todo_weight next.entry + left_weight waiting.old.items) }
-    ensures known { OnOk result (AllByRecursion (IsTodoKnown (length roles.now)) waiting.new.items) }
+    ensures known { OnOk result
+        (AllByRecursion (IsTodoKnown (length roles.now)) waiting.new.items) }
 {
     match next {
         Todo::Tree(node) => write_node(roles, node, waiting, out),
@@ -88,10 +90,12 @@ fn write_node<'a>(
     requires known { AllPeers (λ peer. peer < length roles.now) (plain node.now) }
     requires others { AllByRecursion (IsTodoKnown (length roles.now)) waiting.old.items }
     ensures text { OnOk result (with_tokens out.new.items (left_tokens roles.now waiting.new.items)
-        ≡ with_tokens out.old.items (local_tokens roles.now (plain node.now) ++ left_tokens roles.now waiting.old.items)) }
+        ≡ with_tokens out.old.items
+        (local_tokens roles.now (plain node.now) ++ left_tokens roles.now waiting.old.items)) }
     ensures less { OnOk result
         (left_weight waiting.new.items < weight node.now + left_weight waiting.old.items) }
-    ensures known { OnOk result (AllByRecursion (IsTodoKnown (length roles.now)) waiting.new.items) }
+    ensures known { OnOk result
+        (AllByRecursion (IsTodoKnown (length roles.now)) waiting.new.items) }
 {
     match node {
         Local::End => push_token(out, b"end"),
@@ -130,10 +134,13 @@ fn write_branches<'a>(
     requires known { AllBranchPeers (λ peer. peer < length roles.now) (plain_branches branches.now) }
     requires others { AllByRecursion (IsTodoKnown (length roles.now)) waiting.old.items }
     ensures text { OnOk result (with_tokens out.new.items (left_tokens roles.now waiting.new.items)
-        ≡ with_tokens out.old.items (branches_tokens roles.now (plain_branches branches.now) ++ left_tokens roles.now waiting.old.items)) }
+        ≡ with_tokens out.old.items (branches_tokens roles.now (plain_branches branches.now)
+        ++ left_tokens roles.now waiting.old.items)) }
     ensures less { OnOk result
-        (left_weight waiting.new.items < branch_weight branches.now + left_weight waiting.old.items) }
-    ensures known { OnOk result (AllByRecursion (IsTodoKnown (length roles.now)) waiting.new.items) }
+        (left_weight waiting.new.items
+        < branch_weight branches.now + left_weight waiting.old.items) }
+    ensures known { OnOk result
+        (AllByRecursion (IsTodoKnown (length roles.now)) waiting.new.items) }
 {
     match branches {
         Branches::NoMore => push_token(out, b"}"),
@@ -160,10 +167,13 @@ fn write_others<'a>(
     requires known { AllBranchPeers (λ peer. peer < length roles.now) (plain_branches branches.now) }
     requires others { AllByRecursion (IsTodoKnown (length roles.now)) waiting.old.items }
     ensures text { OnOk result (with_tokens out.new.items (left_tokens roles.now waiting.new.items)
-        ≡ with_tokens out.old.items (others_tokens roles.now (plain_branches branches.now) ++ left_tokens roles.now waiting.old.items)) }
+        ≡ with_tokens out.old.items (others_tokens roles.now (plain_branches branches.now)
+        ++ left_tokens roles.now waiting.old.items)) }
     ensures less { OnOk result
-        (left_weight waiting.new.items < branch_weight branches.now + left_weight waiting.old.items) }
-    ensures known { OnOk result (AllByRecursion (IsTodoKnown (length roles.now)) waiting.new.items) }
+        (left_weight waiting.new.items
+        < branch_weight branches.now + left_weight waiting.old.items) }
+    ensures known { OnOk result
+        (AllByRecursion (IsTodoKnown (length roles.now)) waiting.new.items) }
 {
     if let Branches::More { .. } = branches {
         push_token(out, b",")?;
@@ -191,7 +201,8 @@ fn push_value(
 ) -> Result<(), AllocError>
     requires known { peer < length roles.now }
     ensures { OnOk result (out.new.items
-        ≡ with_tokens out.old.items (word.now ∷ name_at roles.now peer ∷ sort_word sort ∷ codes "." ∷ [])) }
+        ≡ with_tokens out.old.items
+        (word.now ∷ name_at roles.now peer ∷ sort_word sort ∷ codes "." ∷ [])) }
 {
     push_token(out, word)?;
     push_token(out, roles.name(peer).as_bytes())?;

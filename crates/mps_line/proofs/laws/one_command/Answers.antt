@@ -1,8 +1,9 @@
-use Rattle.mps_line.proofs.Unique.{same_command, command_spelling}
+use Rattle.mps_line.specs.Commands.{command_tokens}
+use Rattle.mps_line.proofs.Unique.{same_command, line_spelling}
 use Rattle.mps_line.proofs.laws.one_command.Goals as goal
 
 pub returns-clause-command : goal.returns-clause-command
 returns-clause-command c = same_command c.one_spelling.ensures.value
 
 pub returns-clause-spelling : goal.returns-clause-spelling
-returns-clause-spelling c = command_spelling
+returns-clause-spelling c = λ names a b d. line_spelling names a b (command_tokens d)

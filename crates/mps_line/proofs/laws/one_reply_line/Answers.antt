@@ -1,10 +1,12 @@
-use Rattle.mps_line.proofs.Unique.{reply_spelling}
-use Rattle.mps_line.proofs.Shown.{shown_reply, no_line_feed}
+use Rattle.std.specs.Prelude.{[]}
+use Rattle.mps_line.specs.Replies.{reply_tokens}
+use Rattle.mps_line.proofs.Unique.{line_spelling}
+use Rattle.mps_line.proofs.Shown.{shown_reply, some_reply, no_line_feed}
 use Rattle.mps_line.proofs.Meaning.{one_reply}
 use Rattle.mps_line.proofs.laws.one_reply_line.Goals as goal
 
 pub returns-clause-spelling : goal.returns-clause-spelling
-returns-clause-spelling c = reply_spelling
+returns-clause-spelling c = λ a b r. line_spelling [] a b (reply_tokens r)
 
 pub returns-clause-shown : goal.returns-clause-shown
 returns-clause-shown c = shown_reply
@@ -14,3 +16,6 @@ returns-clause-no_line_feed c = no_line_feed
 
 pub returns-clause-reply : goal.returns-clause-reply
 returns-clause-reply c = one_reply c.one_spelling.ensures.value c.one_spelling.ensures.no_name
+
+pub returns-clause-some : goal.returns-clause-some
+returns-clause-some c = some_reply
