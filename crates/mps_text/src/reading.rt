@@ -68,8 +68,9 @@ pub fn one_protocol()
 pub fn one_fault()
     ensures one { (text : List ℕ) (a b : ℕ) (k l : TextKind) → IsFirstFault text a k
         → IsFirstFault text b l → k ≢ Memory → l ≢ Memory → (a ≡ b) × (k ≡ l) }
-    ensures none { (text : List ℕ) (roles : List (List ℕ)) (tree : GlobalType) (at : ℕ) (kind : TextKind)
-        → IsWithinLimits text tree → SpellsText text roles tree → IsFirstFault text at kind → kind ≡ Memory }
+    ensures none { (text : List ℕ) (roles : List (List ℕ)) (tree : GlobalType)
+        (at : ℕ) (kind : TextKind) → IsWithinLimits text tree → SpellsText text roles tree
+        → IsFirstFault text at kind → kind ≡ Memory }
 {}
 
 /// Each text spells a protocol within the limits, or has a first fault: `TooLong` where it has more

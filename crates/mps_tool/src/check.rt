@@ -11,7 +11,7 @@ ghost use Rattle.mps_tool.specs.Check.{AreProjections, AreTypesOf, IsProtocolTex
 ghost use Rattle.mps_tool.specs.Check.{GivesNoProtocol, GivesNoProjections, GivesNoTypes, GivesNoSession, IsUnprojected};
 ghost use Rattle.mps_tool.specs.Faults.{after_reads, after_writes, IsCheckFault};
 ghost use Rattle.mps_tool.specs.Files.{HasReadAtMost, most_read};
-ghost use Rattle.mps_tool.specs.Streams.{CantShow, HasShown, CantLoad, HasLoaded};
+ghost use Rattle.mps_tool.specs.Streams.{CantShow, HasShown, WasShown, CantLoad, HasLoaded};
 
 use crate::faults::ToolFault;
 use crate::files::{open_file, read_text};
@@ -204,7 +204,8 @@ pub fn write_types<'a, R: Source, W: Sink>(
 
 /// Prints a line for each role of the protocol in the file: its name and its local type.
 pub fn show<'a, R: Files + AllocGlobal + Print>(rt: &R, file: &'a str) -> Result<(), ToolFault<'a>>
-    ensures { IfErr result (IsCheckFault file.now) }
+    ensures shown { OnOk result WasShown }
+    ensures fault { IfErr result (IsCheckFault file.now) }
 {
     let mut reader = open_file(rt, file)?;
     let mut writer = OverWrite::new(io::writer(rt));
