@@ -56,19 +56,6 @@ module _ {S : Type 0} (answers : Answering S) (start : S) where
     answers_lines = a.answers_lines;
   }
 
-  -- the end of the bytes, with no rest
-  pub all_without_rest : (bytes kept out : List ℕ) (after : S) → Answered answers start bytes kept out after → kept ≡ [] → AnsweredAll answers start bytes out after
-  all_without_rest bytes kept out after a e = record {
-    lines = a.lines;
-    rest = a.rest;
-    split = a.split;
-    answers_lines = subst (λ (l : List (List ℕ)). AnswersLines answers l start out after) (sym (no_last a.lines a.rest (sym a.front_kept ∙ e))) a.answers_lines;
-  }
-    where
-      no_last : (lines : List (List ℕ)) (rest : List ℕ) → front rest ≡ [] → with_last lines rest ≡ lines
-      no_last lines [] e = refl
-      no_last lines (c ∷ rest) e = absurd cc
-
   module _ (by_front : GoesByFront answers) where
     -- what the kept front of the last line does, the line does
     last_line : (kept rest text : List ℕ) (mid after : S) → kept ≡ front rest → answers kept mid text after → answers rest mid text after

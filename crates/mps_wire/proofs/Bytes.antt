@@ -1,6 +1,6 @@
 -- Known bytes, over several calls of a device.
 use Rattle.std.proofs.Common.{◌≡◌, ℕ, ◌+◌, ◌-◌, ◌≤◌, List, [], ◌++◌, length, take, drop, Option, Some, None, refl, sym, ap, ◌∙◌, subst, arith, append_assoc, append-nil, length-drop, length-take, length-append}
-use Rattle.std.specs.Io.KnownBytes.{Appends, Consumes, Keeps}
+use Rattle.std.specs.Io.KnownBytes.{Appends, Consumes}
 use Rattle.std.proofs.Math.Seq.{take-add}
 use Rattle.std.proofs.lemmas.List.{take_rest, drop-drop}
 
@@ -24,12 +24,6 @@ Consumes-trans (Some old) (Some mid) (Some new) xs ys h k = h ∙ ap (λ l. xs +
 pub Consumes-none : (a : Option (List ℕ)) → Consumes a a []
 Consumes-none None = tt
 Consumes-none (Some xs) = refl
-
--- bytes that stay are none consumed
-pub Consumes-kept : (a b : Option (List ℕ)) → Keeps a b → Consumes a b []
-Consumes-kept None b h = tt
-Consumes-kept (Some xs) None h = absurd h
-Consumes-kept (Some xs) (Some ys) h = sym h
 
 -- what is left to send, and what was sent
 pub record Sending (old now : Option (List ℕ)) (bytes rest : List ℕ) : Type 0 where

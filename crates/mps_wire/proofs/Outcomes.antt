@@ -1,5 +1,6 @@
 -- How the results of its parts are a run's.
 use Rattle.std.proofs.Common.{◌≡◌, ℕ, List, Bool, true, false, Result, Ok, Err, IsErrAnd, refl, sym, inl, inr, ⊎_elim, subst, arith}
+use Rattle.std.specs.Io.KnownBytes.{IsAtEnd}
 use Rattle.mps_local.specs.Local.{LocalType}
 use Rattle.mps_machine.specs.Machine.{State, initial}
 use Rattle.mps_session.specs.Peers.{CanOpen}
@@ -31,7 +32,7 @@ module _ (first old now : Streams) (none : Counts first old 0 0 0) where
   counts_by_end failed_writes c =
       ⊎_elim
       (λ (h : Counts old now 0 0 failed_writes). inl (counts_more 0 0 failed_writes h))
-      (λ (h : Counts old now 0 1 failed_writes). inr (counts_more 0 1 failed_writes h))
+      (λ (h : Counts old now 0 1 failed_writes × IsAtEnd now.left). inr (counts_more 0 1 failed_writes h.0, h.1))
       c
 
   -- a turn's fault is the run's

@@ -11,7 +11,7 @@ use Rattle.mps_wire.specs.Lines.{IsSplit, with_last}
 use Rattle.mps_wire.specs.Streams.{Streams, Counts, CountsByEnd}
 use Rattle.mps_wire.specs.declared.script.ReplayFault.{ReplayFault}
 use Rattle.mps_wire.specs.declared.script.ReplayFault.TheVariants.{Memory}
-use Rattle.mps_wire.specs.Runs.{Going, Finished, Cut, Stopped, Turned, GaveAtLeast}
+use Rattle.mps_wire.specs.Runs.{Going, Finished, Cut, Turned, GaveAtLeast}
 use Rattle.mps_wire.proofs.Bytes.{Appends-trans, Appends-none, Consumes-trans, Consumes-none}
 use Rattle.mps_wire.proofs.Splitting.{split_more, split_ended}
 use Rattle.mps_wire.proofs.Answering.{answered_nothing}
@@ -133,20 +133,6 @@ module _ {S : Type 0} (answers : Answering S) (start : S) where
     -- the answers that waited are those of this read
     waited : (next : Place S) (more : List ℕ) (P : List ℕ → Type 0) → at.waiting ≡ [] → next.waiting ≡ at.waiting ++ more → P next.waiting → P more
     waited next more P none is h = subst P (is ∙ ap (λ (l : List ℕ). l ++ more) none) h
-
-    -- a read failed
-    pub unread : Consumes old.left new.left [] → new.taken ≡ old.taken → Stopped answers start first new
-    unread none same = record {
-      kept = at.kept;
-      st = at.state;
-      going = record {
-        read = going.read;
-        out = going.out;
-        bytes = read_none none;
-        sent = subst (λ (t : Option (List ℕ)). Appends first.taken t going.out) (sym same) going.sent;
-        answered = going.answered;
-      };
-    }
 
     -- memory ran out after more was read
     starved : (bytes : List ℕ) → Consumes old.left new.left bytes → new.taken ≡ old.taken → Cut answers start first new

@@ -10,7 +10,7 @@ use Rattle.mps_session.specs.declared.open.OpenFault.TheVariants.{RoleCount, Bad
 use Rattle.mps_wire.specs.declared.script.ReplayFault.{ReplayFault}
 use Rattle.mps_wire.specs.declared.script.ReplayFault.TheVariants.{Open, ReadFault, WriteFault, Turns, Memory}
 use Rattle.mps_wire.specs.Answers.{Answering, Answered, AnsweredAll, AnsweredInPart}
-use Rattle.mps_wire.specs.Script.{AnswersLine}
+use Rattle.mps_wire.specs.Script.{AnswersLine, types_of}
 use Rattle.mps_wire.specs.Streams.{Streams, Counts, CountsByEnd}
 
 -- how often a stream is read from at most
@@ -73,8 +73,8 @@ module _ {S : Type 0} (answers : Answering S) (start : S) (first before after : 
   Turned kept st (Err Turns) = ⊥
   Turned kept st (Err (Open fault)) = ⊥
 
--- What a run comes to that began, by its result: what was answered, how many reads failed and ended, and how many writes
--- failed.
+-- What a run comes to that began, by its result: what was answered, how many reads failed and ended,
+-- and how many writes failed.
 module _ {S : Type 0} (answers : Answering S) (start : S) (before after : Streams) where
   abbrev pub Ran : Result S ReplayFault → Type 0
   Ran (Ok st) = Finished answers start before after st × Counts before after 0 1 0
@@ -104,11 +104,12 @@ KeepsFromBeginning types ReadFault = ⊥
 KeepsFromBeginning types WriteFault = ⊥
 KeepsFromBeginning types Turns = ⊥
 
--- what the run of a script on a new session comes to: the session is opened and the script run; or it can't be opened,
--- and nothing is read or written
+-- what the run of a script on a new session comes to: the session is opened with the types and the
+-- script run; or it can't be opened, and nothing is read or written
 module _ (names : List (List ℕ)) (types : List LocalType) (before after : Streams) where
   abbrev pub Outcome : Result Machine ReplayFault → Type 0
-  Outcome (Ok session) =
-      CanOpen types × Ran (AnswersLine names types) initial before after (Ok session.state)
+  Outcome (Ok session) = CanOpen types
+      × Ran (AnswersLine names types) initial before after (Ok session.state)
+      × (types_of session ≡ types)
   Outcome (Err (Open fault)) = KeepsShut types fault × (after ≡ before)
   Outcome (Err fault) = CanOpen types × Ran (AnswersLine names types) initial before after (Err fault)

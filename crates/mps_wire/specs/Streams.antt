@@ -1,10 +1,11 @@
 -- What a clause reads of a source and a sink.
 use Rattle.std.specs.Prelude.{◌≡◌, ℕ, ◌+◌, ◌⊎◌, List, Option}
+use Rattle.std.specs.Io.KnownBytes.{IsAtEnd}
 use Rattle.mps_dev.specs.declared.traits.Source.{Ghosts as SourceGhosts}
 use Rattle.mps_dev.specs.declared.traits.Sink.{Ghosts as SinkGhosts}
 
--- a source's and a sink's: the bytes that are left and those taken, where they are known, how many reads there were,
--- how many of them failed and how many ended, and how many writes failed
+-- a source's and a sink's: the bytes that are left and those taken, where they are known, how many
+-- reads there were, how many of them failed and how many ended, and how many writes failed
 pub record Streams : Type 0 where
   pub left : Option (List ℕ)
   pub reads : ℕ
@@ -30,7 +31,8 @@ pub record Counts (before after : Streams) (failed_reads ends failed_writes : �
   pub reads_ended : after.ends ≡ before.ends + ends
   pub writes_failed : after.failed_writes ≡ before.failed_writes + failed_writes
 
--- no read failed, so many writes did, and the end was not found yet, or once
+-- no read failed, so many writes did, and the end was not found yet, or once, with nothing left
 abbrev pub CountsByEnd : Streams → Streams → ℕ → Type 0
 CountsByEnd before after failed_writes =
-    Counts before after 0 0 failed_writes ⊎ Counts before after 0 1 failed_writes
+    Counts before after 0 0 failed_writes
+    ⊎ (Counts before after 0 1 failed_writes × IsAtEnd after.left)

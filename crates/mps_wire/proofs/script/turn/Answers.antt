@@ -11,7 +11,7 @@ returns-in_err-finish-clause-step g c = λ first h.
     let old = streams g.R.Source g.W.Sink c.args.reader.now c.args.writer.now in
     let new = streams g.R.Source g.W.Sink c.read.new.self c.args.writer.now in
     runs_out (lines_of run) initial first old new (place_of run) h _ _ _ c.from_residual.ensures.1 [] (none_taken _ _ c.in-Ok.count c.read.new.buf c.if-count-eq0.true c.in-Ok.ensures.bytes.0) refl
-    (inr (counts_at_end old new c.in-Ok.count c.args.block.now 0 c.in-Ok.ensures.failures c.in-Ok.ensures.ends c.if-count-eq0.true c.requires.room (none_more _ _ refl)))
+    (inr (counts_at_end old new c.in-Ok.count c.args.block.now 0 c.in-Ok.ensures.failures c.in-Ok.ensures.ends c.if-count-eq0.true c.requires.room (none_more _ _ refl), search rules))
 
 pub returns-then-is_err-clause-step : goal.returns-then-is_err-clause-step
 returns-then-is_err-clause-step g c = λ first h.
@@ -20,7 +20,7 @@ returns-then-is_err-clause-step g c = λ first h.
     let new = streams g.R.Source g.W.Sink c.read.new.self c.send_answers.new.writer in (
       end_breaks_off (lines_of run) initial first old new (place_of run) h (place_of c.finish.new.self) c.requires.none_wait (none_taken _ _ c.in-Ok.count c.read.new.buf c.if-count-eq0.true c.in-Ok.ensures.bytes.0)
           c.in_ok-finish.ensures.answered (search rules),
-      inr (counts_at_end old new c.in-Ok.count c.args.block.now 1 c.in-Ok.ensures.failures c.in-Ok.ensures.ends c.if-count-eq0.true c.requires.room (search rules)),
+      inr (counts_at_end old new c.in-Ok.count c.args.block.now 1 c.in-Ok.ensures.failures c.in-Ok.ensures.ends c.if-count-eq0.true c.requires.room (search rules), search rules),
     )
 
 pub returns-then-count-eq0-clause-step : goal.returns-then-count-eq0-clause-step
