@@ -4,7 +4,7 @@ use Rattle.std.specs.List.{AllByRecursion}
 use Rattle.mps_global.specs.Global.{GlobalType}
 use Rattle.mps_global.specs.Faults.{fault_of}
 use Rattle.mps_local.specs.Local.{LocalType}
-use Rattle.mps_local.specs.Outcome.{CantMerge}
+use Rattle.mps_local.specs.Outcome.{AreProjections, CantMerge}
 use Rattle.mps_local.specs.Projection.{projection}
 use Rattle.mps_local.specs.Text.{name_at, local_text}
 use Rattle.mps_session.specs.Rows.{IsMessageOnly}
@@ -20,11 +20,6 @@ use Rattle.mps_tool.specs.declared.faults.ToolFault.TheVariants.{Text, Protocol,
 pub record IsProtocolText (text : List ℕ) (roles : List (List ℕ)) (tree : GlobalType) : Type 0 where
   pub spelled : SpellsText text roles tree
   pub limits : IsWithinLimits text tree
-
--- the local type of each role, in order
-pub record AreProjections (roles : List (List ℕ)) (tree : GlobalType) (types : List LocalType) : Type 0 where
-  pub count : length types ≡ length roles
-  pub each : (p : ℕ) → p < length roles → projection roles p tree ≡ slice_get types p
 
 -- the text is a protocol without faults, and these are its types
 pub record AreTypesOf (text : List ℕ) (roles : List (List ℕ)) (types : List LocalType) : Type 0 where

@@ -1,7 +1,8 @@
 -- What a line is answered, from what the session answers.
-use Rattle.std.proofs.Common.{◌≡◌, ℕ, true, false, List, Option, Some, None, Result, Ok, Err, refl, sym, ap, ◌∙◌, ⊎_elim, inl, inr}
+use Rattle.std.proofs.Common.{◌≡◌, ℕ, ◌<◌, List, [], ◌∷◌, length, Option, Some, None, Result, Ok, Err, refl, sym, ap, ◌∙◌, inl, inr}
 use Rattle.std.specs.Prelude.{OnOk, OnErr}
 use Rattle.std.specs.Option.{option_map}
+use Rattle.std.proofs.lemmas.Option.{slice_get_within}
 use Rattle.mps_base.specs.declared.action.Act.{Act}
 use Rattle.mps_local.specs.Local.{LocalType}
 use Rattle.mps_command.specs.declared.command.Forward.{Forward}
@@ -13,8 +14,18 @@ use Rattle.mps_machine.specs.Machine.{State, view_of, unless, full_fault, done_b
 use Rattle.mps_machine.specs.Violations.{violation}
 use Rattle.mps_session.specs.Answers.{IsAnswer}
 use Rattle.mps_line.specs.declared.reply.Reply.{Reply}
+use Rattle.mps_line.specs.Commands.{SpellsScriptLine, command_tokens}
 use Rattle.mps_line.specs.Replies.{reply_to}
+use Rattle.mps_line.specs.Tokens.{RoleAt, SpellEach}
 use Rattle.mps_wire.specs.Script.{IsReadable, RepliesTo}
+
+-- the role of a line is one of the names
+pub role_within : (names : List (List ℕ)) (line : List ℕ) (role : ℕ) (command : Forward) → SpellsScriptLine names line role command → role < length names
+role_within names line role command spelled = first spelled.spellings spelled.each
+  where
+    first : (spellings : List (List ℕ)) → SpellEach names spellings (RoleAt role ∷ command_tokens command) → role < length names
+    first [] each = absurd each
+    first (bytes ∷ others) each = slice_get_within names role bytes each.0.place
 
 -- a refusal that stands in the way changes nothing, whatever would follow
 keeps : {A : Type 0} (fault : Option Refusal) (st : State) (served : Result A Refusal × State) (e : Refusal) → (served.0 ≡ Err e → served.1 ≡ st) → (unless fault st served).0 ≡ Err e → (unless fault st served).1 ≡ st

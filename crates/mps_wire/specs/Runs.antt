@@ -10,7 +10,7 @@ use Rattle.mps_session.specs.declared.open.OpenFault.TheVariants.{RoleCount, Bad
 use Rattle.mps_wire.specs.declared.script.ReplayFault.{ReplayFault}
 use Rattle.mps_wire.specs.declared.script.ReplayFault.TheVariants.{Open, ReadFault, WriteFault, Turns, Memory}
 use Rattle.mps_wire.specs.Answers.{Answering, Answered, AnsweredAll, AnsweredInPart}
-use Rattle.mps_wire.specs.Script.{AnswersLine, types_of}
+use Rattle.mps_wire.specs.Script.{AnswersLine}
 use Rattle.mps_wire.specs.Streams.{Streams, Counts, CountsByEnd}
 
 -- how often a stream is read from at most
@@ -110,6 +110,6 @@ module _ (names : List (List ℕ)) (types : List LocalType) (before after : Stre
   abbrev pub Outcome : Result Machine ReplayFault → Type 0
   Outcome (Ok session) = CanOpen types
       × Ran (AnswersLine names types) initial before after (Ok session.state)
-      × (types_of session ≡ types)
+      × (session.types ≡ types)
   Outcome (Err (Open fault)) = KeepsShut types fault × (after ≡ before)
   Outcome (Err fault) = CanOpen types × Ran (AnswersLine names types) initial before after (Err fault)

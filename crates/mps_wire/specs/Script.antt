@@ -1,14 +1,13 @@
 -- What a script does to a session, and what it is answered.
-use Rattle.std.specs.Prelude.{◌≡◌, ℕ, ◌≤◌, ◌⊎◌, List, length, map, IsOk}
+use Rattle.std.specs.Prelude.{◌≡◌, ℕ, ◌≤◌, ◌⊎◌, List, length, IsOk}
 use Rattle.std.specs.Str.{IsAscii}
 use Rattle.mps_base.specs.declared.value.Value.TheVariants.{Text}
-use Rattle.mps_local.specs.Local.{LocalType, plain}
-use Rattle.mps_machine.specs.declared.command.Forward.{Forward}
-use Rattle.mps_machine.specs.declared.command.Forward.TheVariants.{Send}
-use Rattle.mps_machine.specs.declared.answer.Refusal.TheVariants.{Memory}
-use Rattle.mps_machine.specs.Commands.{act_of}
+use Rattle.mps_local.specs.Local.{LocalType}
+use Rattle.mps_command.specs.declared.command.Forward.{Forward}
+use Rattle.mps_command.specs.declared.command.Forward.TheVariants.{Send}
+use Rattle.mps_command.specs.declared.answer.Refusal.TheVariants.{Memory}
+use Rattle.mps_command.specs.Acts.{act_of}
 use Rattle.mps_machine.specs.Machine.{State, forward}
-use Rattle.mps_session.specs.Seen.{Machine}
 use Rattle.mps_line.specs.Commands.{SpellsScriptLine}
 use Rattle.mps_line.specs.Replies.{SpellsReply, reply_to}
 use Rattle.mps_line.specs.declared.reply.Reply.{Reply}
@@ -60,13 +59,9 @@ module _ (names : List (List ℕ)) (types : List LocalType) (line : List ℕ) (s
     pub replies : RepliesTo reply after
     pub spelled : SpellsReply text reply
 
--- the types of a session
-abbrev pub types_of : Machine → List LocalType
-types_of session = map plain session.types
-
 -- how a line of a run is answered
 abbrev pub lines_of : Run → Answering State
-lines_of run = AnswersLine run.roles (types_of run.session)
+lines_of run = AnswersLine run.roles run.session.types
 
 -- where a run is among its lines
 abbrev pub place_of : Run → Place State

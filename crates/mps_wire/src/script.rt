@@ -10,7 +10,7 @@ ghost use Rattle.mps_wire.specs.Answers.{TakesBytes, TakesEnd};
 ghost use Rattle.mps_wire.specs.Flow.{TookFront};
 ghost use Rattle.mps_wire.specs.Lines.{ended, most_kept};
 ghost use Rattle.mps_wire.specs.Runs.{Going, KeepsFromBeginning, Outcome, Turned, max_reads, of_opening};
-ghost use Rattle.mps_wire.specs.Script.{AnswersLine, RepliesTo, lines_of, place_of, types_of};
+ghost use Rattle.mps_wire.specs.Script.{AnswersLine, RepliesTo, lines_of, place_of};
 ghost use Rattle.mps_wire.specs.Streams.{streams};
 ghost use Rattle.mps_wire.specs.declared.script.ReplayFault.TheVariants.{Memory as OutOfMemory};
 
@@ -71,7 +71,7 @@ impl From<OpenFault> for ReplayFault {
 fn reply_to_line(alloc: Global, roles: &Roles, session: &mut Session, line: &[u8]) -> Reply
     requires { length roles.now ≡ length session.old.types }
     ensures types { session.new.types ≡ session.old.types }
-    ensures reply { RepliesTo roles.now (types_of session.old) line.now session.old.state
+    ensures reply { RepliesTo roles.now session.old.types line.now session.old.state
         result session.new.state }
 {
     if line.len() > MAX_LINE || !line.is_ascii() {
@@ -99,7 +99,7 @@ fn answer_line(
     ensures types { session.new.types ≡ session.old.types }
     ensures answer { OnOk result ((text : List ℕ)
         × (answers.new.items ≡ answers.old.items ++ ended text)
-        × AnswersLine roles.now (types_of session.old) line.now session.old.state
+        × AnswersLine roles.now session.old.types line.now session.old.state
         text session.new.state) }
 {
     let reply = reply_to_line(alloc, roles, session, line);
@@ -242,7 +242,7 @@ fn begin(alloc: Global, roles: Roles, types: Vec<Local>) -> Result<Run, ReplayFa
     requires messages { AllByRecursion IsMessageOnly (map plain types.items) }
     ensures roles { IfOk result (λ run. run.roles ≡ roles) }
     ensures session { IfOk result (λ run. run.session ≡ record {
-      types = types.items;
+      types = map plain types.items;
       state = initial;
     }) }
     ensures line { IfOk result (λ run. run.line.items ≡ []) }

@@ -2,11 +2,12 @@ use Rattle.std.proofs.Common.{length, map, Ok, Err, sym, ap, ◌∙◌, arith}
 use Rattle.mps_local.specs.Local.{plain}
 use Rattle.mps_machine.specs.Machine.{initial}
 use Rattle.mps_wire.specs.Runs.{Outcome, max_reads}
-use Rattle.mps_wire.specs.Script.{AnswersLine, types_of}
+use Rattle.mps_wire.specs.Script.{AnswersLine}
 use Rattle.mps_wire.specs.Streams.{streams}
 use Rattle.mps_wire.specs.declared.script.TheConstants.{BLOCK}
+use Rattle.mps_session.proofs.Types.{length_map}
 use Rattle.mps_wire.proofs.Bytes.{same_room}
-use Rattle.mps_wire.proofs.Carrying.{same_types, turned}
+use Rattle.mps_wire.proofs.Carrying.{turned}
 use Rattle.mps_wire.proofs.Outcomes.{handed_on, same_counts, counts_more, breaks, at_end, before_end, starts_starved, not_begun}
 use Rattle.mps_wire.proofs.Turning.{begun, gave_none, gave_more, gave_fewer}
 use Rattle.mps_wire.proofs.script.run_script.Goals as goal
@@ -28,8 +29,8 @@ loop-init g c =
     let first = streams g.R.Source g.W.Sink c.args.reader.now c.args.writer.now in
     record {
       roles = c.in_ok-run.ensures.roles;
-      named = ap length c.in_ok-run.ensures.roles ∙ c.requires.named ∙ sym (ap (λ s. length s.types) c.in_ok-run.ensures.session);
-      types = ap types_of c.in_ok-run.ensures.session;
+      named = ap length c.in_ok-run.ensures.roles ∙ c.requires.named ∙ sym (length_map plain c.args.types.items) ∙ sym (ap (λ s. length s.types) c.in_ok-run.ensures.session);
+      types = ap (λ s. s.types) c.in_ok-run.ensures.session;
       short = omega (arith, ap length c.in_ok-run.ensures.line);
       none_waits = c.in_ok-run.ensures.answers;
       room = omega (arith, c.in_ok-block.block.ok.0, c.in_ok-block.ensures.len);
@@ -48,7 +49,7 @@ returns-in_err-turn-clause-outcome g c =
     let i = c.loop.invariant in
     handed_on _ _ (Outcome c.args.roles types first now) c.from_residual-in_err-turn.ensures.1
     (breaks first old now i.counts c.args.roles types c.turn.new.run.line.items c.turn.new.run.session.state c.in_err-turn.field-0.0 c.in_ok-run.ensures.can
-    (turned c.args.roles c.loop.run.roles types (types_of c.loop.run.session) i.roles i.types old now c.loop.run.line.items c.turn.new.run.line.items c.loop.run.session.state c.turn.new.run.session.state (Err c.in_err-turn.field-0.0) c.in_err-turn.ensures.step first i.going))
+    (turned c.args.roles c.loop.run.roles types c.loop.run.session.types i.roles i.types old now c.loop.run.line.items c.turn.new.run.line.items c.loop.run.session.state c.turn.new.run.session.state (Err c.in_err-turn.field-0.0) c.in_err-turn.ensures.step first i.going))
 
 pub returns-then-branch-clause-outcome : goal.returns-then-branch-clause-outcome
 returns-then-branch-clause-outcome g c =
@@ -59,10 +60,10 @@ returns-then-branch-clause-outcome g c =
     let i = c.loop.invariant in
     let done =
     at_end (AnswersLine c.args.roles types) initial first old now c.turn.new.run.line.items c.turn.new.run.session.state c.in_ok-turn.field-0
-    (turned c.args.roles c.loop.run.roles types (types_of c.loop.run.session) i.roles i.types old now c.loop.run.line.items c.turn.new.run.line.items c.loop.run.session.state c.turn.new.run.session.state (Ok c.in_ok-turn.field-0) c.in_ok-turn.ensures.step first i.going) c.if-branch.true in (
+    (turned c.args.roles c.loop.run.roles types c.loop.run.session.types i.roles i.types old now c.loop.run.line.items c.turn.new.run.line.items c.loop.run.session.state c.turn.new.run.session.state (Ok c.in_ok-turn.field-0) c.in_ok-turn.ensures.step first i.going) c.if-branch.true in (
       c.in_ok-run.ensures.can,
       (done.0, counts_more first old now i.counts 0 1 0 done.1),
-      same_types c.loop.run.session c.turn.new.run.session c.in_ok-turn.ensures.types ∙ i.types,
+      c.in_ok-turn.ensures.types ∙ i.types,
     )
 
 pub loop-preserved : goal.loop-preserved
@@ -74,11 +75,11 @@ loop-preserved g c =
     let i = c.loop.invariant in
     let on =
     before_end (AnswersLine c.args.roles types) initial first old now c.turn.new.run.line.items c.turn.new.run.session.state c.in_ok-turn.field-0
-    (turned c.args.roles c.loop.run.roles types (types_of c.loop.run.session) i.roles i.types old now c.loop.run.line.items c.turn.new.run.line.items c.loop.run.session.state c.turn.new.run.session.state (Ok c.in_ok-turn.field-0) c.in_ok-turn.ensures.step first i.going) c.if-branch.false in
+    (turned c.args.roles c.loop.run.roles types c.loop.run.session.types i.roles i.types old now c.loop.run.line.items c.turn.new.run.line.items c.loop.run.session.state c.turn.new.run.session.state (Ok c.in_ok-turn.field-0) c.in_ok-turn.ensures.step first i.going) c.if-branch.false in
     record {
       roles = c.in_ok-turn.ensures.roles ∙ i.roles;
       named = ap length c.in_ok-turn.ensures.roles ∙ i.named ∙ sym (ap length c.in_ok-turn.ensures.types);
-      types = same_types c.loop.run.session c.turn.new.run.session c.in_ok-turn.ensures.types ∙ i.types;
+      types = c.in_ok-turn.ensures.types ∙ i.types;
       short = c.in_ok-turn.ensures.short;
       none_waits = c.in_ok-turn.ensures.none_wait;
       room = same_room c.loop.block.len BLOCK c.turn.new.block c.loop.block.items c.loop.block.ok.0 i.room;

@@ -3,7 +3,7 @@ use Rattle.mps_local.specs.Local.{plain}
 use Rattle.mps_machine.specs.Machine.{initial}
 use Rattle.mps_wire.specs.Lines.{most_kept}
 use Rattle.mps_wire.specs.Runs.{Going, GaveAtLeast}
-use Rattle.mps_wire.specs.Script.{AnswersLine, types_of}
+use Rattle.mps_wire.specs.Script.{AnswersLine}
 use Rattle.mps_wire.specs.Streams.{Counts, streams}
 use Rattle.mps_wire.specs.declared.script.TheConstants.{BLOCK}
 use Rattle.mps_wire.proofs.script.run_script.Given as goal
@@ -15,7 +15,7 @@ invariant-loop g l =
     record {
       roles : l.run.roles ≡ l.fn.roles;
       named : length l.run.roles ≡ length l.run.session.types;
-      types : types_of l.run.session ≡ map plain l.fn.types.items;
+      types : l.run.session.types ≡ map plain l.fn.types.items;
       short : length l.run.line.items ≤ most_kept;
       none_waits : l.run.answers.items ≡ [];
       room : length l.block.items ≡ BLOCK;

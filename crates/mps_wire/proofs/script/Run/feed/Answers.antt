@@ -3,9 +3,9 @@ use Rattle.std.proofs.lemmas.Result.{on_ok_weaker}
 use Rattle.mps_machine.specs.Machine.{State, initial}
 use Rattle.mps_wire.specs.Answers.{Answering}
 use Rattle.mps_wire.specs.Lines.{most_kept, front}
-use Rattle.mps_wire.specs.Script.{lines_of, place_of, types_of}
+use Rattle.mps_wire.specs.Script.{lines_of, place_of}
 use Rattle.mps_wire.proofs.Answering.{by_front}
-use Rattle.mps_wire.proofs.Carrying.{carried, same_types}
+use Rattle.mps_wire.proofs.Carrying.{carried}
 use Rattle.mps_wire.proofs.Feeding.{feeding_begins, feeds_on, feeding_ends}
 use Rattle.mps_wire.proofs.script.Run.feed.Goals as goal
 
@@ -26,14 +26,14 @@ loop-k-preserved c =
     let a = c.in_ok-end_line.ensures.answer in
     let answers = lines_of c.args.self.now in
     let line =
-    carried _ _ _ _ i.roles (same_types c.args.self.now.session c.loop-k.self.session i.types)
+    carried _ _ _ _ i.roles i.types
     (λ (answers : Answering State). answers c.keep.new.line.items c.loop-k.self.session.state a.0 c.end_line.new.self.session.state) a.2 in
     record {
       roles = c.in_ok-end_line.ensures.roles ∙ i.roles;
       types = c.in_ok-end_line.ensures.types ∙ i.types;
       short = omega (arith, ap length c.in_ok-end_line.ensures.next);
       feeding =
-          feeds_on answers initial (place_of c.args.self.now) c.args.bytes.now (by_front c.args.self.now.roles (types_of c.args.self.now.session))
+          feeds_on answers initial (place_of c.args.self.now) c.args.bytes.now (by_front c.args.self.now.roles c.args.self.now.session.types)
           c.loop-k.rest.now c.keep.new.line.items a.0 c.in-Some.k (place_of c.loop-k.self) (place_of c.end_line.new.self) i.feeding
           c.in-Some.ensures.within c.in-Some.ensures.end c.in-Some.ensures.before c.in_ok-keep.ensures.ok line a.1 c.in_ok-end_line.ensures.next;
     }
