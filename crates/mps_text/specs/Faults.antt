@@ -26,7 +26,7 @@ IsShallow (Some depth) = depth ≤ 64
 abbrev pub IsWhole : List (List ℕ) → Type 0
 IsWhole tokens = (roles : List (List ℕ)) × (tree : GlobalType) × SpellsProtocol tokens roles tree
 
--- some protocol begins with these tokens, each of which begins its node
+-- some protocol begins with these tokens, and they begin these nodes
 pub record Opens (front : List Part) : Type 0 where
   pub roles : List (List ℕ)
   pub tree : GlobalType
