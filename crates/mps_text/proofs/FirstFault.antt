@@ -214,13 +214,9 @@ stuck_fault text left kind s =
     }
 
 first_by : (text : List ℕ) (at left : ℕ) (kind : TextKind) → length text ≤ 65536 → Stuck whole 256 text (left, kind) → FaultAt text at kind → IsFirstFault text at kind
-first_by text at left Word short s f = (short, f)
-first_by text at left Unexpected short s f = (short, f)
-first_by text at left TooManyNodes short s f = (short, f)
-first_by text at left TooDeep short s f = (short, f)
-first_by text at left Trailing short s f = (short, f)
 first_by text at left TooLong short s f = absurd f.wrong
 first_by text at left Memory short s f = short
+first_by text at left kind short s f = (short, f)
 
 -- what a run answers is the first fault
 pub first_fault : (text : List ℕ) (left : ℕ) (kind : TextKind) → length text ≤ 65536 → run whole 256 (lexed text) ≡ Err (left, kind) → IsFirstFault text (length text - left) kind
@@ -230,12 +226,8 @@ first_fault text left kind short h =
 
 stuck_kind : (kind : TextKind) (text : List ℕ) (left : ℕ) → Stuck whole 256 text (left, kind) → kind ≢ Memory
 stuck_kind TooLong text left s e = absurd s.wrong
-stuck_kind Word text left s e = cc (e)
-stuck_kind Unexpected text left s e = cc (e)
-stuck_kind TooManyNodes text left s e = cc (e)
-stuck_kind TooDeep text left s e = cc (e)
-stuck_kind Trailing text left s e = cc (e)
 stuck_kind Memory text left s e = absurd s.wrong
+stuck_kind kind text left s e = cc (e)
 
 -- and it is none of memory
 pub fault_kind : (text : List ℕ) (left : ℕ) (kind : TextKind) → run whole 256 (lexed text) ≡ Err (left, kind) → kind ≢ Memory

@@ -107,12 +107,8 @@ Seen text at kind = ((65536 < length text) × (at ≡ 65536) × (kind ≡ TooLon
 
 seen : (text : List ℕ) (at : ℕ) (kind : TextKind) → IsFirstFault text at kind → kind ≢ Memory → Seen text at kind
 seen text at TooLong f some = inl (f.0, f.1, refl)
-seen text at Word f some = inr f
-seen text at Unexpected f some = inr f
-seen text at TooManyNodes f some = inr f
-seen text at TooDeep f some = inr f
-seen text at Trailing f some = inr f
 seen text at Memory f some = absurd (some refl)
+seen text at kind f some = inr f
 
 same_place : (a b m n total : ℕ) → a + m ≡ total → b + n ≡ total → m ≡ n → a ≡ b
 same_place a b m n total p q e = omega (arith, p, q, e)
@@ -148,9 +144,4 @@ no_fault text roles tree at kind limits h f some =
 
 pub only_memory : (text : List ℕ) (roles : List (List ℕ)) (tree : GlobalType) (at : ℕ) (kind : TextKind) → IsWithinLimits text tree → SpellsText text roles tree → IsFirstFault text at kind → kind ≡ Memory
 only_memory text roles tree at Memory limits h f = refl
-only_memory text roles tree at TooLong limits h f = absurd (no_fault text roles tree at TooLong limits h f (λ e. cc (e)))
-only_memory text roles tree at Word limits h f = absurd (no_fault text roles tree at Word limits h f (λ e. cc (e)))
-only_memory text roles tree at Unexpected limits h f = absurd (no_fault text roles tree at Unexpected limits h f (λ e. cc (e)))
-only_memory text roles tree at TooManyNodes limits h f = absurd (no_fault text roles tree at TooManyNodes limits h f (λ e. cc (e)))
-only_memory text roles tree at TooDeep limits h f = absurd (no_fault text roles tree at TooDeep limits h f (λ e. cc (e)))
-only_memory text roles tree at Trailing limits h f = absurd (no_fault text roles tree at Trailing limits h f (λ e. cc (e)))
+only_memory text roles tree at kind limits h f = absurd (no_fault text roles tree at kind limits h f (λ e. cc (e)))

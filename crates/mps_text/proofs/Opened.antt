@@ -5,7 +5,7 @@ use Rattle.mps_global.specs.Global.{GlobalType}
 use Rattle.mps_text.specs.Grammar.{Part, protocol_parts, protocol_tokens, tokens_of, SpellsProtocol}
 use Rattle.mps_text.specs.Faults.{starts_of, nodes_begun, IsWhole, Opens, Shows, IsMalformed, IsUnexpected, IsWrong}
 use Rattle.mps_text.specs.declared.fault.TextKind.{TextKind}
-use Rattle.mps_text.specs.declared.fault.TextKind.TheVariants.{TooLong, Word, Unexpected, TooManyNodes, TooDeep, Trailing, Memory}
+use Rattle.mps_text.specs.declared.fault.TextKind.TheVariants.{Word, Unexpected, TooManyNodes, TooDeep, Trailing}
 use Rattle.mps_text.proofs.Trees.{protocol_starts}
 
 -- some protocol begins with the tokens, and they begin these nodes
@@ -30,8 +30,7 @@ IsWrongBy front starts bytes TooManyNodes =
 IsWrongBy front starts bytes TooDeep =
     (token : List ℕ) × Shows bytes (Some token) × OpensBy (front ++ token ∷ []) (starts ++ Some 65 ∷ []) × (nodes_begun starts < 256)
 IsWrongBy front starts bytes Trailing = (token : List ℕ) × Shows bytes (Some token) × IsWhole front
-IsWrongBy front starts bytes TooLong = ⊥
-IsWrongBy front starts bytes Memory = ⊥
+IsWrongBy front starts bytes kind = ⊥
 
 -- ---- from one list to two
 
@@ -128,19 +127,13 @@ unexpected_one front None u = u
 unexpected_one front (Some token) u = (u.0, λ start o. u.1 start (two_behind front token start o))
 
 pub wrong_two : (kind : TextKind) (front : List Part) (bytes : List ℕ) → IsWrong front bytes kind → IsWrongBy (tokens_of front) (starts_of front) bytes kind
-wrong_two Word front bytes w = w
 wrong_two Unexpected front bytes w = (w.0, w.1, unexpected_two front w.0 w.2)
 wrong_two TooManyNodes front bytes w = (w.0, w.1, w.2, two_behind front w.0 (Some w.1) w.3, w.4)
 wrong_two TooDeep front bytes w = (w.0, w.1, two_behind front w.0 (Some 65) w.2, w.3)
-wrong_two Trailing front bytes w = w
-wrong_two TooLong front bytes w = w
-wrong_two Memory front bytes w = w
+wrong_two kind front bytes w = w
 
 pub wrong_one : (kind : TextKind) (front : List Part) (bytes : List ℕ) → IsWrongBy (tokens_of front) (starts_of front) bytes kind → IsWrong front bytes kind
-wrong_one Word front bytes w = w
 wrong_one Unexpected front bytes w = (w.0, w.1, unexpected_one front w.0 w.2)
 wrong_one TooManyNodes front bytes w = (w.0, w.1, w.2, one_behind front w.0 (Some w.1) w.3, w.4)
 wrong_one TooDeep front bytes w = (w.0, w.1, one_behind front w.0 (Some 65) w.2, w.3)
-wrong_one Trailing front bytes w = w
-wrong_one TooLong front bytes w = w
-wrong_one Memory front bytes w = w
+wrong_one kind front bytes w = w
