@@ -4,8 +4,10 @@ use Rattle.std.specs.Prelude.{codes, ◌&&◌, ⊤}
 use Rattle.std.specs.List.{AllByRecursion}
 use Rattle.std.specs.Str.{bytes_eq}
 use Rattle.std.proofs.lemmas.List.{append-nil}
-use Rattle.mps_text.specs.Grammar.{SpellsProtocol}
-use Rattle.mps_text.specs.Faults.{protocol_starts, nodes_begun, IsShallow, IsWhole, Opens, IsUnexpected, IsWrong, FaultAt, IsFirstFault}
+use Rattle.mps_text.specs.Grammar.{tokens_of, SpellsProtocol}
+use Rattle.mps_text.specs.Tokens.{BeginsAll}
+use Rattle.mps_text.specs.Faults.{starts_of, nodes_begun, IsShallow, IsWhole, FaultAt, IsFirstFault}
+use Rattle.mps_text.proofs.Opened.{OpensBy, IsUnexpectedBy, IsWrongBy, opens_one, join, wrong_one}
 use Rattle.mps_text.specs.Lexing.{lexed, is_name, is_variable}
 use Rattle.mps_text.specs.Reading.{Symbol, Token, AName, AVariable, ASort, Roles, Node, Exchange, Others, branch, behind_first, begun, named, exchanged, followed, first_of, sort_of, which, step, start_of, run, whole}
 use Rattle.mps_base.specs.declared.value.Sort.{Sort}
@@ -15,14 +17,14 @@ use Rattle.mps_text.specs.declared.fault.TextKind.{TextKind}
 use Rattle.mps_text.specs.declared.fault.TextKind.TheVariants.{TooLong, Word, Unexpected, TooManyNodes, TooDeep, Trailing, Memory}
 use Rattle.mps_text.proofs.Tokens.{chosen, some_is, only_if}
 use Rattle.mps_text.proofs.Machine.{Drives, drives_then, drives_part, drives_one, drives_each}
-use Rattle.mps_text.proofs.Trees.{drives_whole}
+use Rattle.mps_text.proofs.Trees.{protocol_starts, drives_whole}
 use Rattle.mps_text.proofs.Languages.{completes_behind, completion, whole_protocol}
 use Rattle.mps_text.proofs.Cuts.{text_cut, place_is}
 use Rattle.mps_text.proofs.Runs.{WrongAt, Stuck, run_sticks}
 
 -- ---- what tokens drive the first stack, and what they open
 
-pub opens_by : (front : List (List ℕ)) (mid : List Symbol) (starts : List (Option ℕ)) → Drives whole front mid starts → Opens front starts
+pub opens_by : (front : List (List ℕ)) (mid : List Symbol) (starts : List (Option ℕ)) → Drives whole front mid starts → OpensBy front starts
 opens_by front mid starts d =
     let c = completion mid in
     let p = whole_protocol (front ++ c.tokens) (starts ++ c.starts) (completes_behind whole front mid starts c.tokens c.starts d c.completes) in
@@ -43,7 +45,7 @@ same_front (x ∷ xs) (y ∷ ys) c d e h =
     let rest = same_front xs ys c d (omega (arith, e)) tail in
     cc (head, rest)
 
-pub driven_by : (front : List (List ℕ)) (starts : List (Option ℕ)) → Opens front starts → (mid : List Symbol) × Drives whole front mid starts
+pub driven_by : (front : List (List ℕ)) (starts : List (Option ℕ)) → OpensBy front starts → (mid : List Symbol) × Drives whole front mid starts
 driven_by front starts o =
     let d = drives_whole (front ++ o.more) o.roles o.tree o.spelled in
     let p = drives_part whole front o.more [] (protocol_starts o.roles o.tree) d in
@@ -62,14 +64,14 @@ not_whole front x stack starts d w =
     let same = one.0 in
     cc (same)
 
-pub none_behind : (front : List (List ℕ)) (starts : List (Option ℕ)) (token : List ℕ) (later : List (Option ℕ)) → Drives whole front [] starts → Opens (front ++ token ∷ []) later → ⊥
+pub none_behind : (front : List (List ℕ)) (starts : List (Option ℕ)) (token : List ℕ) (later : List (Option ℕ)) → Drives whole front [] starts → OpensBy (front ++ token ∷ []) later → ⊥
 none_behind front starts token later d o =
     let b = driven_by (front ++ token ∷ []) later o in
     let p = drives_part whole front (token ∷ []) b.0 later b.1 in
     let one = drives_one whole front p.mid p.before [] starts p.first d in
     subst (λ (stack : List Symbol). Drives stack (token ∷ []) b.0 p.behind) one.0 p.second
 
-pub some_behind : (front : List (List ℕ)) (x : Symbol) (stack : List Symbol) (starts : List (Option ℕ)) (token : List ℕ) (later : List (Option ℕ)) → Drives whole front (x ∷ stack) starts → Opens (front ++ token ∷ []) later → Behind x token starts later
+pub some_behind : (front : List (List ℕ)) (x : Symbol) (stack : List Symbol) (starts : List (Option ℕ)) (token : List ℕ) (later : List (Option ℕ)) → Drives whole front (x ∷ stack) starts → OpensBy (front ++ token ∷ []) later → Behind x token starts later
 some_behind front x stack starts token later d o =
     let b = driven_by (front ++ token ∷ []) later o in
     let p = drives_part whole front (token ∷ []) b.0 later b.1 in
@@ -81,7 +83,7 @@ some_behind front x stack starts token later d o =
       marked = p.parts ∙ ap (λ (st : List (Option ℕ)). st ++ p.behind) one.1 ∙ ap (λ (st : List (Option ℕ)). starts ++ st) (s.3 ∙ ap (λ (st : List (Option ℕ)). start_of x ∷ st) s.4.1);
     }
 
-pub opens_behind : (front : List (List ℕ)) (x : Symbol) (stack pushed : List Symbol) (starts : List (Option ℕ)) (token : List ℕ) → Drives whole front (x ∷ stack) starts → step x token ≡ Some pushed → Opens (front ++ token ∷ []) (starts ++ start_of x ∷ [])
+pub opens_behind : (front : List (List ℕ)) (x : Symbol) (stack pushed : List Symbol) (starts : List (Option ℕ)) (token : List ℕ) → Drives whole front (x ∷ stack) starts → step x token ≡ Some pushed → OpensBy (front ++ token ∷ []) (starts ++ start_of x ∷ [])
 opens_behind front x stack pushed starts token d s =
     opens_by (front ++ token ∷ []) (pushed ++ stack) (starts ++ start_of x ∷ [])
     (drives_then whole front (x ∷ stack) starts (token ∷ []) (pushed ++ stack) (start_of x ∷ []) d (pushed, s, [], refl, (refl, refl)))
@@ -162,10 +164,10 @@ near_start (Others depth) level near e = absurd cc
 
 -- ---- where a run sticks, the text has that fault
 
-unexpected_by : (front : List (List ℕ)) (x : Symbol) (stack : List Symbol) (starts : List (Option ℕ)) (token : List ℕ) → Drives whole front (x ∷ stack) starts → step x token ≡ None → IsUnexpected front (Some token)
-unexpected_by front x stack starts token d none = (not_whole front x stack starts d, (λ later o. let b = some_behind front x stack starts token later d o in let some = b.steps in cc (none, some)))
+unexpected_by : (front : List (List ℕ)) (x : Symbol) (stack : List Symbol) (starts : List (Option ℕ)) (token : List ℕ) → Drives whole front (x ∷ stack) starts → step x token ≡ None → IsUnexpectedBy front starts (Some token)
+unexpected_by front x stack starts token d none = (not_whole front x stack starts d, (λ start o. let b = some_behind front x stack starts token (starts ++ start ∷ []) d o in let some = b.steps in cc (none, some)))
 
-wrong_by : (kind : TextKind) (front : List (List ℕ)) (mid : List Symbol) (starts : List (Option ℕ)) (room : ℕ) (here : List ℕ) → Drives whole front mid starts → AllByRecursion IsShallow starts → room + nodes_begun starts ≡ 256 → WrongAt kind mid room here → IsWrong front starts here kind
+wrong_by : (kind : TextKind) (front : List (List ℕ)) (mid : List Symbol) (starts : List (Option ℕ)) (room : ℕ) (here : List ℕ) → Drives whole front mid starts → AllByRecursion IsShallow starts → room + nodes_begun starts ≡ 256 → WrongAt kind mid room here → IsWrongBy front starts here kind
 wrong_by Word front mid starts room here d shallow count w = w
 wrong_by Unexpected front [] starts room here d shallow count w = absurd w
 wrong_by Unexpected front (x ∷ stack) starts room here d shallow count (inl none) = (None, none, not_whole front x stack starts d)
@@ -173,7 +175,7 @@ wrong_by Unexpected front (x ∷ stack) starts room here d shallow count (inr w)
 wrong_by TooManyNodes front [] starts room here d shallow count w = absurd w
 wrong_by TooManyNodes front (x ∷ stack) starts room here d shallow count w =
     let none = w.6 in
-    (w.0, w.1, w.3, subst (λ (m : Option ℕ). Opens (front ++ w.0 ∷ []) (starts ++ m ∷ [])) w.5 (opens_behind front x stack w.2 starts w.0 d w.4), omega (arith, none, count))
+    (w.0, w.1, w.3, subst (λ (m : Option ℕ). OpensBy (front ++ w.0 ∷ []) (starts ++ m ∷ [])) w.5 (opens_behind front x stack w.2 starts w.0 d w.4), omega (arith, none, count))
 wrong_by TooDeep front [] starts room here d shallow count w = absurd w
 wrong_by TooDeep front (x ∷ stack) starts room here d shallow count w =
     let near = near_driven whole front (x ∷ stack) starts d shallow (tt, (tt, (tt, (tt, (omega arith, tt))))) in
@@ -181,7 +183,7 @@ wrong_by TooDeep front (x ∷ stack) starts room here d shallow count w =
     let least = w.7 in
     let some = w.6 in
     let level : Some w.1 ≡ Some 65 = let e : w.1 ≡ 65 = omega (arith, most, least) in ap Some e in
-    (w.0, w.3, subst (λ (m : Option ℕ). Opens (front ++ w.0 ∷ []) (starts ++ m ∷ [])) (w.5 ∙ level) (opens_behind front x stack w.2 starts w.0 d w.4), omega (arith, some, count))
+    (w.0, w.3, subst (λ (m : Option ℕ). OpensBy (front ++ w.0 ∷ []) (starts ++ m ∷ [])) (w.5 ∙ level) (opens_behind front x stack w.2 starts w.0 d w.4), omega (arith, some, count))
 wrong_by Trailing front [] starts room here d shallow count w = (w.0, w.1, whole_by front starts d)
 wrong_by Trailing front (x ∷ stack) starts room here d shallow count w = absurd w
 wrong_by TooLong front mid starts room here d shallow count w = absurd w
@@ -189,30 +191,32 @@ wrong_by Memory front mid starts room here d shallow count w = absurd w
 
 stuck_fault : (text : List ℕ) (left : ℕ) (kind : TextKind) → Stuck whole 256 text (left, kind) → FaultAt text (length text - left) kind
 stuck_fault text left kind s =
-    let count = s.count in
+    let j = join s.front s.starts (drives_each whole s.front s.mid s.starts s.drives) in
+    let front = tokens_of j.parts in
+    let starts = starts_of j.parts in
+    let read : BeginsAll text front s.rest = subst (λ (ts : List (List ℕ)). BeginsAll text ts s.rest) j.said s.read in
+    let said : Drives whole front s.mid s.starts = subst (λ (ts : List (List ℕ)). Drives whole ts s.mid s.starts) j.said s.drives in
+    let drives : Drives whole front s.mid starts = subst (λ (st : List (Option ℕ)). Drives whole front s.mid st) j.begun said in
+    let shallow : AllByRecursion IsShallow starts = subst (AllByRecursion IsShallow) j.begun s.shallow in
+    let count : s.room + nodes_begun starts ≡ 256 = subst (λ (st : List (Option ℕ)). s.room + nodes_begun st ≡ 256) j.begun s.count in
     record {
-      front = s.front;
-      starts = s.starts;
+      front = j.parts;
       rest = s.rest;
-      read = s.read;
-      opens = opens_by s.front s.mid s.starts s.drives;
-      within = record { shallow = s.shallow; few = omega (arith, count) };
+      read = read;
+      opens = opens_one j.parts front starts refl refl (opens_by front s.mid starts drives);
+      within = record { shallow = shallow; few = omega (arith, count) };
       blanks = s.blanks;
       blank = s.blank;
       bytes = s.here;
       parts = s.parts;
-      place = place_is text s.front s.rest s.blanks s.here left s.read s.parts s.long;
-      wrong = wrong_by kind s.front s.mid s.starts s.room s.here s.drives s.shallow s.count s.wrong;
+      place = place_is text front s.rest s.blanks s.here left read s.parts s.long;
+      wrong = wrong_one kind j.parts s.here (wrong_by kind front s.mid starts s.room s.here drives shallow count s.wrong);
     }
 
 first_by : (text : List ℕ) (at left : ℕ) (kind : TextKind) → length text ≤ 65536 → Stuck whole 256 text (left, kind) → FaultAt text at kind → IsFirstFault text at kind
-first_by text at left Word short s f = (short, f)
-first_by text at left Unexpected short s f = (short, f)
-first_by text at left TooManyNodes short s f = (short, f)
-first_by text at left TooDeep short s f = (short, f)
-first_by text at left Trailing short s f = (short, f)
 first_by text at left TooLong short s f = absurd f.wrong
 first_by text at left Memory short s f = short
+first_by text at left kind short s f = (short, f)
 
 -- what a run answers is the first fault
 pub first_fault : (text : List ℕ) (left : ℕ) (kind : TextKind) → length text ≤ 65536 → run whole 256 (lexed text) ≡ Err (left, kind) → IsFirstFault text (length text - left) kind
@@ -222,12 +226,8 @@ first_fault text left kind short h =
 
 stuck_kind : (kind : TextKind) (text : List ℕ) (left : ℕ) → Stuck whole 256 text (left, kind) → kind ≢ Memory
 stuck_kind TooLong text left s e = absurd s.wrong
-stuck_kind Word text left s e = cc (e)
-stuck_kind Unexpected text left s e = cc (e)
-stuck_kind TooManyNodes text left s e = cc (e)
-stuck_kind TooDeep text left s e = cc (e)
-stuck_kind Trailing text left s e = cc (e)
 stuck_kind Memory text left s e = absurd s.wrong
+stuck_kind kind text left s e = cc (e)
 
 -- and it is none of memory
 pub fault_kind : (text : List ℕ) (left : ℕ) (kind : TextKind) → run whole 256 (lexed text) ≡ Err (left, kind) → kind ≢ Memory

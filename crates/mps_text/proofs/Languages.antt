@@ -12,7 +12,6 @@ use Rattle.mps_global.specs.Global.{GlobalType, Branches, End, Var, Rec, Message
 use Rattle.mps_base.specs.Sorts.{sort_word}
 use Rattle.mps_text.specs.Grammar.{HasBranch, IsSpellable, AreSpellable, SpellsProtocol}
 use Rattle.mps_text.specs.Writing.{global_tokens}
-use Rattle.mps_text.specs.Faults.{protocol_starts}
 use Rattle.mps_text.specs.Lexing.{is_name, is_variable}
 use Rattle.mps_text.specs.Reading.{Symbol, Token, AName, AVariable, ASort, Roles, Node, Exchange, Others, branch, behind_first, begun, named, exchanged, followed, first_of, first_token, IsFirst, sort_of, which, step, start_of, whole, tokens_before, branches_before}
 use Rattle.mps_text.specs.declared.reading.First.{First}
@@ -20,7 +19,7 @@ use Rattle.mps_text.specs.declared.reading.First.TheVariants as firsts
 use Rattle.mps_text.proofs.Names.{both_true, name_is, variable_is}
 use Rattle.mps_text.proofs.Tokens.{chosen, some_is, only_if, same_token, which_is, sort_is, first_is}
 use Rattle.mps_text.proofs.Machine.{Drives}
-use Rattle.mps_text.proofs.Trees.{node_starts, no_starts, protocol_tokens_are, protocol_starts_are, starts_before, branch_starts_before, before_is, starts_are}
+use Rattle.mps_text.proofs.Trees.{protocol_starts, node_starts, no_starts, protocol_tokens_are, protocol_starts_are, starts_before, branch_starts_before, before_is, starts_are}
 
 -- tokens, with the nodes that they begin
 abbrev pub Language : Type 1

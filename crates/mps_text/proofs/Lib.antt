@@ -15,3 +15,4 @@ pub mod OneFault
 pub mod Read
 pub mod Written
 pub mod Parts
+pub mod Opened

@@ -5,8 +5,9 @@ use Rattle.std.proofs.lemmas.List.{append-nil}
 use Rattle.mps_global.specs.Global.{GlobalType, Branches, End, Var, Rec, Message, Choice, NoMore, More}
 use Rattle.mps_global.specs.Faults.{node_count, branch_nodes, depth, branch_depth}
 use Rattle.mps_text.specs.Grammar.{IsSpellable}
-use Rattle.mps_text.specs.Faults.{protocol_starts, nodes_begun, IsShallow, AreWithin}
-use Rattle.mps_text.proofs.Trees.{node_starts, no_starts, protocol_starts_are, starts_before, branch_starts_before, starts_are}
+use Rattle.mps_text.specs.Faults.{nodes_begun, IsShallow, AreWithin}
+use Rattle.mps_text.specs.Grammar.{protocol_parts}
+use Rattle.mps_text.proofs.Trees.{protocol_starts, node_starts, no_starts, protocol_starts_are, starts_before, branch_starts_before, starts_are}
 
 mutual
   begun_by : (tree : GlobalType) (level : ℕ) (later : List (Option ℕ)) → nodes_begun (starts_before level tree later) ≡ node_count tree + nodes_begun later
@@ -79,20 +80,27 @@ behind_roles (role ∷ roles) starts h = behind_roles roles starts h.1
 alone : (tree : GlobalType) → IsSpellable tree → starts_before 1 tree [] ≡ node_starts 1 tree
 alone tree s = starts_are tree 1 [] s ∙ append-nil (node_starts 1 tree)
 
+-- the same of the depths alone
+record StartsWithin (starts : List (Option ℕ)) : Type 0 where
+  shallow : AllByRecursion IsShallow starts
+  few : nodes_begun starts ≤ 256
+
 -- the nodes that a protocol's tokens begin are those of its tree
-pub protocol_within : (roles : List (List ℕ)) (tree : GlobalType) → IsSpellable tree → node_count tree ≤ 256 → depth tree ≤ 64 → AreWithin (protocol_starts roles tree)
+pub protocol_within : (roles : List (List ℕ)) (tree : GlobalType) → IsSpellable tree → node_count tree ≤ 256 → depth tree ≤ 64 → AreWithin (protocol_parts roles tree)
 protocol_within roles tree s small shallow =
     let nodes : nodes_begun (node_starts 1 tree) ≡ node_count tree + 0 = ap nodes_begun (sym (alone tree s)) ∙ begun_by tree 1 [] in
     let all : AllByRecursion IsShallow (node_starts 1 tree) = subst (AllByRecursion IsShallow) (alone tree s) (within_depth tree 1 [] (omega (arith, shallow)) tt) in
-    let w : AreWithin (None ∷ no_starts roles ++ None ∷ node_starts 1 tree) = record {
+    let w : StartsWithin (None ∷ no_starts roles ++ None ∷ node_starts 1 tree) = record {
       shallow = (tt, role_shallow roles (None ∷ node_starts 1 tree) (tt, all));
       few = omega (arith, role_begun roles (None ∷ node_starts 1 tree), nodes, small);
     } in
-    subst AreWithin (sym (protocol_starts_are roles tree)) w
+    let v = subst StartsWithin (sym (protocol_starts_are roles tree)) w in
+    record { shallow = v.shallow; few = v.few }
 
-pub within_protocol : (roles : List (List ℕ)) (tree : GlobalType) → IsSpellable tree → AreWithin (protocol_starts roles tree) → (node_count tree ≤ 256) × (depth tree ≤ 64)
+pub within_protocol : (roles : List (List ℕ)) (tree : GlobalType) → IsSpellable tree → AreWithin (protocol_parts roles tree) → (node_count tree ≤ 256) × (depth tree ≤ 64)
 within_protocol roles tree s within =
-    let w : AreWithin (None ∷ no_starts roles ++ None ∷ node_starts 1 tree) = subst AreWithin (protocol_starts_are roles tree) within in
+    let v : StartsWithin (protocol_starts roles tree) = record { shallow = within.shallow; few = within.few } in
+    let w : StartsWithin (None ∷ no_starts roles ++ None ∷ node_starts 1 tree) = subst StartsWithin (protocol_starts_are roles tree) v in
     let nodes : nodes_begun (node_starts 1 tree) ≡ node_count tree + 0 = ap nodes_begun (sym (alone tree s)) ∙ begun_by tree 1 [] in
     let all = behind_roles roles (None ∷ node_starts 1 tree) w.shallow.1 in
     let m = depth_within tree 1 [] (subst (AllByRecursion IsShallow) (sym (alone tree s)) all.1) in

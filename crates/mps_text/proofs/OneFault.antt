@@ -7,13 +7,15 @@ use Rattle.std.proofs.lemmas.List.{append-nil}
 use Rattle.mps_global.specs.Global.{GlobalType}
 use Rattle.mps_text.specs.Tokens.{is_blank, Begins}
 use Rattle.mps_text.specs.Grammar.{SpellsText, IsWithinLimits}
-use Rattle.mps_text.specs.Faults.{protocol_starts, nodes_begun, Shows, IsUnexpected, IsWrong, FaultAt, IsFirstFault}
+use Rattle.mps_text.specs.Faults.{starts_of, nodes_begun, Shows, FaultAt, IsFirstFault}
+use Rattle.mps_text.specs.Grammar.{tokens_of}
+use Rattle.mps_text.proofs.Opened.{IsUnexpectedBy, IsWrongBy, opens_two, wrong_two}
 use Rattle.mps_text.specs.Lexing.{Fault, Lexed, Ended, Malformed, Next, lexed}
 use Rattle.mps_text.specs.Reading.{Symbol, step, start_of, run, whole}
 use Rattle.mps_text.specs.declared.fault.TextKind.{TextKind}
 use Rattle.mps_text.specs.declared.fault.TextKind.TheVariants.{TooLong, Word, Unexpected, TooManyNodes, TooDeep, Trailing, Memory}
 use Rattle.mps_text.proofs.Machine.{Drives}
-use Rattle.mps_text.proofs.Trees.{drives_whole}
+use Rattle.mps_text.proofs.Trees.{protocol_starts, drives_whole}
 use Rattle.mps_text.proofs.Limits.{protocol_within}
 use Rattle.mps_text.proofs.Cuts.{lexed_token, lexed_blanks, lexed_spoilt}
 use Rattle.mps_text.proofs.Runs.{run_driven}
@@ -31,11 +33,11 @@ run_malformed : (mid : List Symbol) (room left : ℕ) → run mid room (Malforme
 run_malformed [] room left = refl
 run_malformed (x ∷ stack) room left = refl
 
-refused_at : (front : List (List ℕ)) (x : Symbol) (stack : List Symbol) (starts : List (Option ℕ)) (room : ℕ) (text more : Lexed) (token : List ℕ) (left : ℕ) (o : Option (List Symbol)) → Drives whole front (x ∷ stack) starts → text ≡ Next token left more → IsUnexpected front (Some token) → step x token ≡ o → run (x ∷ stack) room text ≡ Err (left, Unexpected)
+refused_at : (front : List (List ℕ)) (x : Symbol) (stack : List Symbol) (starts : List (Option ℕ)) (room : ℕ) (text more : Lexed) (token : List ℕ) (left : ℕ) (o : Option (List Symbol)) → Drives whole front (x ∷ stack) starts → text ≡ Next token left more → IsUnexpectedBy front starts (Some token) → step x token ≡ o → run (x ∷ stack) room text ≡ Err (left, Unexpected)
 refused_at front x stack starts room text more token left None d cut u e = rw (cut, e) refl
-refused_at front x stack starts room text more token left (Some pushed) d cut u e = absurd (u.1 (starts ++ start_of x ∷ []) (opens_behind front x stack pushed starts token d e))
+refused_at front x stack starts room text more token left (Some pushed) d cut u e = absurd (u.1 (start_of x) (opens_behind front x stack pushed starts token d e))
 
-unexpected_at : (next : Option (List ℕ)) (front : List (List ℕ)) (mid : List Symbol) (starts : List (Option ℕ)) (room : ℕ) (rest blanks bytes : List ℕ) → Drives whole front mid starts → rest ≡ blanks ++ bytes → list_all is_blank blanks ≡ true → Shows bytes next → IsUnexpected front next → run mid room (lexed rest) ≡ Err (length bytes, Unexpected)
+unexpected_at : (next : Option (List ℕ)) (front : List (List ℕ)) (mid : List Symbol) (starts : List (Option ℕ)) (room : ℕ) (rest blanks bytes : List ℕ) → Drives whole front mid starts → rest ≡ blanks ++ bytes → list_all is_blank blanks ≡ true → Shows bytes next → IsUnexpectedBy front starts next → run mid room (lexed rest) ≡ Err (length bytes, Unexpected)
 unexpected_at None front [] starts room rest blanks bytes d parts blank s u = absurd (u (whole_by front starts d))
 unexpected_at None front (x ∷ stack) starts room rest blanks bytes d parts blank s u =
     let all : rest ≡ blanks = parts ∙ ap (λ (xs : List ℕ). blanks ++ xs) s ∙ append-nil blanks in
@@ -49,7 +51,7 @@ last_same : (xs : List (Option ℕ)) (a b : Option ℕ) → xs ++ a ∷ [] ≡ x
 last_same [] a b e = cc
 last_same (x ∷ xs) a b e = let tail : xs ++ a ∷ [] ≡ xs ++ b ∷ [] = cc in last_same xs a b tail
 
-wrong_at : (kind : TextKind) (front : List (List ℕ)) (mid : List Symbol) (starts : List (Option ℕ)) (room : ℕ) (rest blanks bytes : List ℕ) → Drives whole front mid starts → room + nodes_begun starts ≡ 256 → rest ≡ blanks ++ bytes → list_all is_blank blanks ≡ true → IsWrong front starts bytes kind → run mid room (lexed rest) ≡ Err (length bytes, kind)
+wrong_at : (kind : TextKind) (front : List (List ℕ)) (mid : List Symbol) (starts : List (Option ℕ)) (room : ℕ) (rest blanks bytes : List ℕ) → Drives whole front mid starts → room + nodes_begun starts ≡ 256 → rest ≡ blanks ++ bytes → list_all is_blank blanks ≡ true → IsWrongBy front starts bytes kind → run mid room (lexed rest) ≡ Err (length bytes, kind)
 wrong_at Word front mid starts room rest blanks bytes d count parts blank w =
     ap (run mid room) (lexed_spoilt rest blanks bytes parts blank w) ∙ run_malformed mid room (length bytes)
 wrong_at Unexpected front mid starts room rest blanks bytes d count parts blank w = unexpected_at w.0 front mid starts room rest blanks bytes d parts blank w.1 w.2
@@ -74,12 +76,14 @@ wrong_at Memory front mid starts room rest blanks bytes d count parts blank w = 
 
 fault_runs : (text : List ℕ) (at : ℕ) (kind : TextKind) → (f : FaultAt text at kind) → run whole 256 (lexed text) ≡ Err (length f.bytes, kind)
 fault_runs text at kind f =
-    let b = driven_by f.front f.starts f.opens in
+    let front = tokens_of f.front in
+    let starts = starts_of f.front in
+    let b = driven_by front starts (opens_two f.front f.opens) in
     let few = f.within.few in
-    let room = 256 - nodes_begun f.starts in
-    let count : room + nodes_begun f.starts ≡ 256 = omega (arith, few) in
-    run_driven f.front whole b.0 f.starts room 256 text f.rest b.1 f.within.shallow count f.read
-    ∙ wrong_at kind f.front b.0 f.starts room f.rest f.blanks f.bytes b.1 count f.parts f.blank f.wrong
+    let room = 256 - nodes_begun starts in
+    let count : room + nodes_begun starts ≡ 256 = omega (arith, few) in
+    run_driven front whole b.0 starts room 256 text f.rest b.1 f.within.shallow count f.read
+    ∙ wrong_at kind front b.0 starts room f.rest f.blanks f.bytes b.1 count f.parts f.blank (wrong_two kind f.front f.bytes f.wrong)
 
 -- ---- what a run answers where a protocol is spelled
 
@@ -103,12 +107,8 @@ Seen text at kind = ((65536 < length text) × (at ≡ 65536) × (kind ≡ TooLon
 
 seen : (text : List ℕ) (at : ℕ) (kind : TextKind) → IsFirstFault text at kind → kind ≢ Memory → Seen text at kind
 seen text at TooLong f some = inl (f.0, f.1, refl)
-seen text at Word f some = inr f
-seen text at Unexpected f some = inr f
-seen text at TooManyNodes f some = inr f
-seen text at TooDeep f some = inr f
-seen text at Trailing f some = inr f
 seen text at Memory f some = absurd (some refl)
+seen text at kind f some = inr f
 
 same_place : (a b m n total : ℕ) → a + m ≡ total → b + n ≡ total → m ≡ n → a ≡ b
 same_place a b m n total p q e = omega (arith, p, q, e)
@@ -144,9 +144,4 @@ no_fault text roles tree at kind limits h f some =
 
 pub only_memory : (text : List ℕ) (roles : List (List ℕ)) (tree : GlobalType) (at : ℕ) (kind : TextKind) → IsWithinLimits text tree → SpellsText text roles tree → IsFirstFault text at kind → kind ≡ Memory
 only_memory text roles tree at Memory limits h f = refl
-only_memory text roles tree at TooLong limits h f = absurd (no_fault text roles tree at TooLong limits h f (λ e. cc (e)))
-only_memory text roles tree at Word limits h f = absurd (no_fault text roles tree at Word limits h f (λ e. cc (e)))
-only_memory text roles tree at Unexpected limits h f = absurd (no_fault text roles tree at Unexpected limits h f (λ e. cc (e)))
-only_memory text roles tree at TooManyNodes limits h f = absurd (no_fault text roles tree at TooManyNodes limits h f (λ e. cc (e)))
-only_memory text roles tree at TooDeep limits h f = absurd (no_fault text roles tree at TooDeep limits h f (λ e. cc (e)))
-only_memory text roles tree at Trailing limits h f = absurd (no_fault text roles tree at Trailing limits h f (λ e. cc (e)))
+only_memory text roles tree at kind limits h f = absurd (no_fault text roles tree at kind limits h f (λ e. cc (e)))

@@ -1,5 +1,5 @@
 -- What the reader took is spelled so, and each text spells a protocol or has a fault.
-use Rattle.std.proofs.Common.{◌≡◌, ℕ, ◌-◌, ◌≤◌, ◌⊎◌, inl, inr, List, [], ◌∷◌, ◌++◌, length, Result, Ok, Err, refl, ap, sym, subst, ◌∙◌}
+use Rattle.std.proofs.Common.{◌≡◌, ℕ, ◌-◌, ◌≤◌, ◌⊎◌, inl, inr, List, [], ◌∷◌, ◌++◌, length, Option, Result, Ok, Err, refl, ap, sym, subst, ◌∙◌}
 use Rattle.std.specs.Prelude.{codes}
 use Rattle.std.specs.List.{AllByRecursion}
 use Rattle.std.proofs.lemmas.Bool.{cases_lt}
@@ -7,14 +7,14 @@ use Rattle.std.proofs.lemmas.List.{append-nil}
 use Rattle.mps_base.specs.Names.{IsName}
 use Rattle.mps_base.specs.RoleLists.{HasRoleCount}
 use Rattle.mps_global.specs.Global.{GlobalType}
-use Rattle.mps_text.specs.Grammar.{protocol_tokens, IsSpellable, SpellsProtocol, SpellsText, IsWithinLimits}
-use Rattle.mps_text.specs.Faults.{protocol_starts, AreWithin, HasProtocol, HasFault}
+use Rattle.mps_text.specs.Grammar.{protocol_parts, protocol_tokens, IsSpellable, SpellsProtocol, SpellsText, IsWithinLimits}
+use Rattle.mps_text.specs.Faults.{IsShallow, nodes_begun, AreWithin, HasProtocol, HasFault}
 use Rattle.mps_text.specs.declared.fault.TextKind.TheVariants.{TooLong}
 use Rattle.mps_text.specs.Writing.{global_tokens}
 use Rattle.mps_text.specs.Lexing.{Fault, lexed, tokens_in}
 use Rattle.mps_text.specs.Reading.{run, whole, tokens_before}
 use Rattle.mps_text.proofs.Machine.{drives_one}
-use Rattle.mps_text.proofs.Trees.{before_is, protocol_tokens_are, drives_whole}
+use Rattle.mps_text.proofs.Trees.{protocol_starts, before_is, protocol_tokens_are, drives_whole}
 use Rattle.mps_text.proofs.Limits.{within_protocol}
 use Rattle.mps_text.proofs.Cuts.{text_cut}
 use Rattle.mps_text.proofs.Runs.{Passed, run_passes}
@@ -24,7 +24,10 @@ use Rattle.mps_text.proofs.FirstFault.{whole_by, first_fault, fault_kind}
 passed : (text : List ℕ) (roles : List (List ℕ)) (tree : GlobalType) → length text ≤ 65536 → Passed (tokens_in (lexed text)) whole 256 text → SpellsProtocol (tokens_in (lexed text)) roles tree → IsWithinLimits text tree × SpellsText text roles tree
 passed text roles tree short w s =
     let same = (drives_one whole (tokens_in (lexed text)) [] w.starts [] (protocol_starts roles tree) w.drives (drives_whole (tokens_in (lexed text)) roles tree s)).1 in
-    let within : AreWithin (protocol_starts roles tree) = subst AreWithin same (record { shallow = w.shallow; few = w.few }) in
+    let within : AreWithin (protocol_parts roles tree) = record {
+      shallow = subst (AllByRecursion IsShallow) same w.shallow;
+      few = subst (λ (st : List (Option ℕ)). nodes_begun st ≤ 256) same w.few;
+    } in
     let limits = within_protocol roles tree s.body within in (
       record { short = short; small = limits.0; shallow = limits.1 },
       record { tokens = tokens_in (lexed text); cut = record { rest = w.rest; all = w.read; blank = w.blank }; spelled = s },

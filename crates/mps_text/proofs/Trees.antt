@@ -1,5 +1,5 @@
 -- The tokens of a tree, and how they drive a stack on.
-use Rattle.std.proofs.Common.{◌≡◌, ℕ, ◌+◌, ◌-◌, ◌≤◌, true, nat_lt, List, [], ◌∷◌, ◌++◌, length, Option, Some, None, refl, ap, sym, subst, ◌∙◌, append_assoc, map, arith}
+use Rattle.std.proofs.Common.{◌≡◌, ℕ, ◌+◌, ◌-◌, ◌≤◌, true, nat_lt, List, [], ◌∷◌, ◌++◌, length, Option, Some, None, refl, ap, sym, subst, ◌∙◌, append_assoc, arith}
 use Rattle.std.specs.Prelude.{codes, ⊤}
 use Rattle.std.specs.List.{AllByRecursion}
 use Rattle.std.proofs.lemmas.Bool.Decides.{nat_tests}
@@ -7,9 +7,9 @@ use Rattle.std.proofs.lemmas.List.{append-nil, map-append}
 use Rattle.mps_base.specs.Names.{IsName, IsVariable}
 use Rattle.mps_global.specs.Global.{GlobalType, Branches, End, Var, Rec, Message, Choice, NoMore, More}
 use Rattle.mps_base.specs.Sorts.{sort_word}
-use Rattle.mps_text.specs.Grammar.{Part, inside, node_parts, branch_parts, HasBranch, IsSpellable, AreSpellable, SpellsProtocol, protocol_tokens}
+use Rattle.mps_text.specs.Grammar.{Part, inside, node_parts, branch_parts, protocol_parts, tokens_of, HasBranch, IsSpellable, AreSpellable, SpellsProtocol, protocol_tokens}
 use Rattle.mps_text.specs.Writing.{global_tokens, branch_tokens}
-use Rattle.mps_text.specs.Faults.{protocol_starts}
+use Rattle.mps_text.specs.Faults.{starts_of}
 use Rattle.mps_text.specs.Reading.{Symbol, Token, AName, AVariable, ASort, Roles, Node, Exchange, Others, branch, step, start_of, begun, named, which, whole, tokens_before, branches_before}
 use Rattle.mps_text.specs.declared.reading.First.TheVariants as firsts
 use Rattle.mps_text.proofs.Names.{is_name_of, is_variable_of}
@@ -18,17 +18,14 @@ use Rattle.mps_text.proofs.Machine.{Drives, drives_more}
 
 -- ---- the tokens, and the nodes that they begin, of parts
 
-abbrev tokens_in_parts : List Part → List (List ℕ)
-tokens_in_parts parts = map (λ part. part.0) parts
-
-abbrev starts_in_parts : List Part → List (Option ℕ)
-starts_in_parts parts = map (λ part. part.1) parts
+abbrev pub protocol_starts : List (List ℕ) → GlobalType → List (Option ℕ)
+protocol_starts roles tree = starts_of (protocol_parts roles tree)
 
 abbrev pub node_starts : ℕ → GlobalType → List (Option ℕ)
-node_starts level tree = starts_in_parts (node_parts level tree)
+node_starts level tree = starts_of (node_parts level tree)
 
 abbrev branch_starts : ℕ → Branches → List (Option ℕ)
-branch_starts level branches = starts_in_parts (branch_parts level branches)
+branch_starts level branches = starts_of (branch_parts level branches)
 
 -- for tokens that begin no node
 abbrev pub no_starts : List (List ℕ) → List (Option ℕ)
@@ -36,7 +33,7 @@ no_starts [] = []
 no_starts (token ∷ tokens) = None ∷ no_starts tokens
 
 mutual
-  tokens_are : (level : ℕ) (tree : GlobalType) → tokens_in_parts (node_parts level tree) ≡ global_tokens tree
+  tokens_are : (level : ℕ) (tree : GlobalType) → tokens_of (node_parts level tree) ≡ global_tokens tree
   tokens_are level End = refl
   tokens_are level (Var name) = refl
   tokens_are level (Rec name body) = ap (λ (ts : List (List ℕ)). codes "rec" ∷ name ∷ codes "." ∷ ts) (tokens_are (level + 1) body)
@@ -47,42 +44,42 @@ mutual
       (map-append (λ (part : Part). part.0) (branch_parts (level + 1) branches) (inside (codes "}" ∷ []))
       ∙ ap (λ (ts : List (List ℕ)). ts ++ codes "}" ∷ []) (branch_tokens_are (level + 1) branches))
 
-  branch_tokens_are : (level : ℕ) (branches : Branches) → tokens_in_parts (branch_parts level branches) ≡ branch_tokens branches
+  branch_tokens_are : (level : ℕ) (branches : Branches) → tokens_of (branch_parts level branches) ≡ branch_tokens branches
   branch_tokens_are level NoMore = refl
   branch_tokens_are level (More label next NoMore) = ap (λ (ts : List (List ℕ)). label ∷ codes ":" ∷ ts) (tokens_are level next)
   branch_tokens_are level (More label next (More second then others)) =
       let more = More second then others in
       ap (λ (ts : List (List ℕ)). label ∷ codes ":" ∷ ts)
       (map-append (λ (part : Part). part.0) (node_parts level next ++ inside (codes "," ∷ [])) (branch_parts level more)
-      ∙ ap (λ (ts : List (List ℕ)). ts ++ tokens_in_parts (branch_parts level more)) (map-append (λ (part : Part). part.0) (node_parts level next) (inside (codes "," ∷ [])))
-      ∙ append_assoc (tokens_in_parts (node_parts level next)) (codes "," ∷ []) (tokens_in_parts (branch_parts level more))
-      ∙ ap (λ (ts : List (List ℕ)). ts ++ codes "," ∷ tokens_in_parts (branch_parts level more)) (tokens_are level next)
+      ∙ ap (λ (ts : List (List ℕ)). ts ++ tokens_of (branch_parts level more)) (map-append (λ (part : Part). part.0) (node_parts level next) (inside (codes "," ∷ [])))
+      ∙ append_assoc (tokens_of (node_parts level next)) (codes "," ∷ []) (tokens_of (branch_parts level more))
+      ∙ ap (λ (ts : List (List ℕ)). ts ++ codes "," ∷ tokens_of (branch_parts level more)) (tokens_are level next)
       ∙ ap (λ (ts : List (List ℕ)). global_tokens next ++ codes "," ∷ ts) (branch_tokens_are level (More second then others)))
 
-inside_tokens : (tokens : List (List ℕ)) → tokens_in_parts (inside tokens) ≡ tokens
+inside_tokens : (tokens : List (List ℕ)) → tokens_of (inside tokens) ≡ tokens
 inside_tokens [] = refl
 inside_tokens (token ∷ tokens) = ap (λ (ts : List (List ℕ)). token ∷ ts) (inside_tokens tokens)
 
-inside_starts : (tokens : List (List ℕ)) → starts_in_parts (inside tokens) ≡ no_starts tokens
+inside_starts : (tokens : List (List ℕ)) → starts_of (inside tokens) ≡ no_starts tokens
 inside_starts [] = refl
 inside_starts (token ∷ tokens) = ap (λ (st : List (Option ℕ)). None ∷ st) (inside_starts tokens)
 
 pub protocol_tokens_are : (roles : List (List ℕ)) (tree : GlobalType) → protocol_tokens roles tree ≡ codes "roles" ∷ roles ++ codes ";" ∷ global_tokens tree
 protocol_tokens_are roles tree =
     ap (λ (ts : List (List ℕ)). codes "roles" ∷ ts)
-    (ap tokens_in_parts (append_assoc (inside roles) (inside (codes ";" ∷ [])) (node_parts 1 tree))
+    (ap tokens_of (append_assoc (inside roles) (inside (codes ";" ∷ [])) (node_parts 1 tree))
     ∙ map-append (λ (part : Part). part.0) (inside roles) (inside (codes ";" ∷ []) ++ node_parts 1 tree)
-    ∙ ap (λ (ts : List (List ℕ)). ts ++ codes ";" ∷ tokens_in_parts (node_parts 1 tree)) (inside_tokens roles)
+    ∙ ap (λ (ts : List (List ℕ)). ts ++ codes ";" ∷ tokens_of (node_parts 1 tree)) (inside_tokens roles)
     ∙ ap (λ (ts : List (List ℕ)). roles ++ codes ";" ∷ ts) (tokens_are 1 tree))
 
 pub protocol_starts_are : (roles : List (List ℕ)) (tree : GlobalType) → protocol_starts roles tree ≡ None ∷ no_starts roles ++ None ∷ node_starts 1 tree
 protocol_starts_are roles tree =
     ap (λ (st : List (Option ℕ)). None ∷ st)
-    (ap starts_in_parts (append_assoc (inside roles) (inside (codes ";" ∷ [])) (node_parts 1 tree))
+    (ap starts_of (append_assoc (inside roles) (inside (codes ";" ∷ [])) (node_parts 1 tree))
     ∙ map-append (λ (part : Part). part.1) (inside roles) (inside (codes ";" ∷ []) ++ node_parts 1 tree)
     ∙ ap (λ (st : List (Option ℕ)). st ++ None ∷ node_starts 1 tree) (inside_starts roles))
 
-choice_starts : (level : ℕ) (branches : Branches) → starts_in_parts (branch_parts level branches ++ inside (codes "}" ∷ [])) ≡ branch_starts level branches ++ None ∷ []
+choice_starts : (level : ℕ) (branches : Branches) → starts_of (branch_parts level branches ++ inside (codes "}" ∷ [])) ≡ branch_starts level branches ++ None ∷ []
 choice_starts level branches = map-append (λ (part : Part). part.1) (branch_parts level branches) (inside (codes "}" ∷ []))
 
 more_starts : (level : ℕ) (label : List ℕ) (next : GlobalType) (second : List ℕ) (then : GlobalType) (others : Branches) → branch_starts level (More label next (More second then others)) ≡ None ∷ None ∷ (node_starts level next ++ None ∷ branch_starts level (More second then others))

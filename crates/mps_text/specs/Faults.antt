@@ -3,13 +3,13 @@ use Rattle.std.specs.Prelude.{◌≡◌, ◌≢◌, false, ℕ, ◌+◌, ◌<◌
 use Rattle.std.specs.List.{AllByRecursion, list_all}
 use Rattle.mps_global.specs.Global.{GlobalType}
 use Rattle.mps_text.specs.Tokens.{is_blank, first_is, IsTokenBefore, Begins, BeginsAll}
-use Rattle.mps_text.specs.Grammar.{protocol_parts, SpellsProtocol, SpellsText, IsWithinLimits}
+use Rattle.mps_text.specs.Grammar.{Part, protocol_parts, protocol_tokens, tokens_of, SpellsProtocol, SpellsText, IsWithinLimits}
 use Rattle.mps_text.specs.declared.fault.TextKind.{TextKind}
 use Rattle.mps_text.specs.declared.fault.TextKind.TheVariants.{TooLong, Word, Unexpected, TooManyNodes, TooDeep, Trailing, Memory}
 
--- for each token of a protocol, the depth of the node that it begins, or None
-abbrev pub protocol_starts : List (List ℕ) → GlobalType → List (Option ℕ)
-protocol_starts roles tree = map (λ part. part.1) (protocol_parts roles tree)
+-- for each token the depth of the node that it begins, or None
+abbrev pub starts_of : List Part → List (Option ℕ)
+starts_of parts = map (λ part. part.1) parts
 
 -- how many nodes begin
 abbrev pub nodes_begun : List (Option ℕ) → ℕ
@@ -26,20 +26,18 @@ IsShallow (Some depth) = depth ≤ 64
 abbrev pub IsWhole : List (List ℕ) → Type 0
 IsWhole tokens = (roles : List (List ℕ)) × (tree : GlobalType) × SpellsProtocol tokens roles tree
 
--- some protocol begins with the tokens, and they begin these nodes
-pub record Opens (tokens : List (List ℕ)) (starts : List (Option ℕ)) : Type 0 where
-  pub more : List (List ℕ)
+-- some protocol begins with these tokens, and they begin these nodes
+pub record Opens (front : List Part) : Type 0 where
   pub roles : List (List ℕ)
   pub tree : GlobalType
-  pub spelled : SpellsProtocol (tokens ++ more) roles tree
-  pub later : List (Option ℕ)
-  pub nodes : protocol_starts roles tree ≡ starts ++ later
-  pub each : length starts ≡ length tokens
+  pub spelled : SpellsProtocol (protocol_tokens roles tree) roles tree
+  pub later : List Part
+  pub parts : protocol_parts roles tree ≡ front ++ later
 
--- each node is within the limits
-pub record AreWithin (starts : List (Option ℕ)) : Type 0 where
-  pub shallow : AllByRecursion IsShallow starts
-  pub few : nodes_begun starts ≤ 256
+-- each node that they begin is within the limits
+pub record AreWithin (front : List Part) : Type 0 where
+  pub shallow : AllByRecursion IsShallow (starts_of front)
+  pub few : nodes_begun (starts_of front) ≤ 256
 
 -- what stands in front of the bytes: this token, or None where they have ended
 abbrev pub Shows : List ℕ → Option (List ℕ) → Type 0
@@ -53,36 +51,34 @@ pub record IsMalformed (bytes : List ℕ) : Type 0 where
   pub no_token : (token rest : List ℕ) → Begins bytes token rest → ⊥
 
 -- no protocol goes on with that token, or ends there, behind these tokens
-abbrev pub IsUnexpected : List (List ℕ) → Option (List ℕ) → Type 0
-IsUnexpected front None = ¬ IsWhole front
-IsUnexpected front (Some token) = (¬ IsWhole front) × ((starts : List (Option ℕ)) → ¬ Opens (front ++ token ∷ []) starts)
+abbrev pub IsUnexpected : List Part → Option (List ℕ) → Type 0
+IsUnexpected front None = ¬ IsWhole (tokens_of front)
+IsUnexpected front (Some token) = (¬ IsWhole (tokens_of front)) × ((start : Option ℕ) → ¬ Opens (front ++ (token, start) ∷ []))
 
--- what is wrong at these bytes, where the tokens before begin these nodes
-abbrev pub IsWrong : List (List ℕ) → List (Option ℕ) → List ℕ → TextKind → Type 0
-IsWrong front starts bytes Word = IsMalformed bytes
-IsWrong front starts bytes Unexpected = (next : Option (List ℕ)) × Shows bytes next × IsUnexpected front next
-IsWrong front starts bytes TooManyNodes =
-    (token : List ℕ) × (depth : ℕ) × Shows bytes (Some token) × Opens (front ++ token ∷ []) (starts ++ Some depth ∷ []) × (nodes_begun starts ≡ 256)
-IsWrong front starts bytes TooDeep =
-    (token : List ℕ) × Shows bytes (Some token) × Opens (front ++ token ∷ []) (starts ++ Some 65 ∷ []) × (nodes_begun starts < 256)
-IsWrong front starts bytes Trailing = (token : List ℕ) × Shows bytes (Some token) × IsWhole front
-IsWrong front starts bytes TooLong = ⊥
-IsWrong front starts bytes Memory = ⊥
+-- what is wrong at these bytes behind the tokens
+abbrev pub IsWrong : List Part → List ℕ → TextKind → Type 0
+IsWrong front bytes Word = IsMalformed bytes
+IsWrong front bytes Unexpected = (next : Option (List ℕ)) × Shows bytes next × IsUnexpected front next
+IsWrong front bytes TooManyNodes =
+    (token : List ℕ) × (depth : ℕ) × Shows bytes (Some token) × Opens (front ++ (token, Some depth) ∷ []) × (nodes_begun (starts_of front) ≡ 256)
+IsWrong front bytes TooDeep =
+    (token : List ℕ) × Shows bytes (Some token) × Opens (front ++ (token, Some 65) ∷ []) × (nodes_begun (starts_of front) < 256)
+IsWrong front bytes Trailing = (token : List ℕ) × Shows bytes (Some token) × IsWhole (tokens_of front)
+IsWrong front bytes kind = ⊥
 
 -- the tokens in front begin a protocol within the limits, and behind them something is wrong at that byte
 pub record FaultAt (text : List ℕ) (at : ℕ) (kind : TextKind) : Type 0 where
-  pub front : List (List ℕ)
-  pub starts : List (Option ℕ)
+  pub front : List Part
   pub rest : List ℕ
-  pub read : BeginsAll text front rest
-  pub opens : Opens front starts
-  pub within : AreWithin starts
+  pub read : BeginsAll text (tokens_of front) rest
+  pub opens : Opens front
+  pub within : AreWithin front
   pub blanks : List ℕ
   pub blank : IsTrue (list_all is_blank blanks)
   pub bytes : List ℕ
   pub parts : rest ≡ blanks ++ bytes
   pub place : at + length bytes ≡ length text
-  pub wrong : IsWrong front starts bytes kind
+  pub wrong : IsWrong front bytes kind
 
 -- the text has this first fault: of a text that isn't too long, where it begins no more as a protocol does; memory may run out on any such text
 abbrev pub IsFirstFault : List ℕ → ℕ → TextKind → Type 0

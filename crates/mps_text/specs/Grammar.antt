@@ -56,8 +56,11 @@ first_token_of (Message sender receiver sort next) = sender
 first_token_of (Choice sender receiver branches) = sender
 
 -- the tokens alone
+abbrev pub tokens_of : List Part → List (List ℕ)
+tokens_of parts = map (λ part. part.0) parts
+
 abbrev pub protocol_tokens : List (List ℕ) → GlobalType → List (List ℕ)
-protocol_tokens roles tree = map (λ part. part.0) (protocol_parts roles tree)
+protocol_tokens roles tree = tokens_of (protocol_parts roles tree)
 
 -- there is a branch
 abbrev pub HasBranch : Branches → Type 0

@@ -43,7 +43,8 @@ fn type_of<'a>(alloc: Global, protocol: &Protocol, place: usize) -> Result<Local
     requires faultless { fault_of protocol.now.roles.items (global_type protocol.now.body) ≡ None }
     requires in_session { place < length protocol.now.roles.items }
     ensures ok { IfOk result (λ t.
-        projection protocol.now.roles.items place (global_type protocol.now.body) ≡ Some (plain t)) }
+        projection protocol.now.roles.items place (global_type protocol.now.body)
+        ≡ Some (plain t)) }
     ensures peers { IfOk result
         (λ t. AllPeers (λ peer. peer < length protocol.now.roles.items) (plain t)) }
     ensures fault { IfErr result
@@ -192,6 +193,7 @@ pub fn write_types<'a, R: Source, W: Sink>(
         (W.taken writer.old) (W.taken writer.new)) }
     ensures fault { IfErr result (CantShow (R.remaining reader.old) (R.remaining reader.new)
         (W.taken writer.old) (W.taken writer.new)) }
+    ensures most { HasReadAtMost most_read (R.remaining reader.old) (R.remaining reader.new) }
     ensures reads { R.failed_calls reader.new ≡ after_reads result (R.failed_calls reader.old) }
     ensures writes { W.failed_calls writer.new ≡ after_writes result (W.failed_calls writer.old) }
 {

@@ -24,7 +24,8 @@ const FILES: &[(&str, &str)] = &[
     ("empty", ""),
 ];
 
-// Whether these words print so much, tell so much, and end with this status, which is 0 for success.
+// Whether these words print so much, tell so much, and end with this status, which is 0 for
+// success.
 fn does(alloc: Global, words: &[&str], room: usize, out: &str, told: &str, code: u8) -> bool {
     let machine = Machine::new(alloc, FILES, room);
     let status = match obey(&machine, words) {

@@ -194,7 +194,8 @@ fn reads_texts(rt: HostRuntime) -> Result<(), Fail> {
     Ok(())
 }
 
-// What is had of the protocol, read in two pieces: how many roles and types, or the line of its fault.
+// What is had of the protocol, read in two pieces: how many roles and types, or the line of its
+// fault.
 fn loaded(alloc: Global, protocol: &str) -> Result<Result<(usize, usize), Vec<u8>>, Fail> {
     let (front, rest) = protocol.as_bytes().split_at(protocol.len() / 2);
     let pieces = vec![in alloc;
