@@ -6,7 +6,7 @@ use Rattle.mps_wire.specs.Lines.{IsSplit, with_last, ended, front}
 abbrev pub Answering : Type 0 → Type 1
 Answering S = List ℕ → S → List ℕ → S → Type 0
 
--- where a run is among its lines: the front of the line that comes, the state, and the answers that wait
+-- where a run is among its lines: the front of the line that comes, the state, the answers that wait
 pub record Place (S : Type 0) : Type 0 where
   pub kept : List ℕ
   pub state : S

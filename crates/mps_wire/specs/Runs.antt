@@ -61,25 +61,26 @@ pub record ReadMost (before after : Streams) : Type 0 where
   pub reads : after.reads ≡ before.reads + max_reads
   pub gave : GaveAtLeast max_reads before after
 
--- What one read and its answers lead to, by their result. First are the streams before the run.
 module _ {S : Type 0} (answers : Answering S) (start : S) (first before after : Streams) where
+  -- what one read and its answers lead to, by their result; first are the streams before the run
   abbrev pub Turned : List ℕ → S → Result Bool ReplayFault → Type 0
   Turned kept st (Ok true) = Finished answers start first after st × Counts before after 0 1 0
-  Turned kept st (Ok false) =
-      Going answers start first after kept st × Counts before after 0 0 0 × GaveAtLeast 1 before after
+  Turned kept st (Ok false) = Going answers start first after kept st × Counts before after 0 0 0
+      × GaveAtLeast 1 before after
   Turned kept st (Err ReadFault) = Stopped answers start first after × Counts before after 1 0 0
   Turned kept st (Err WriteFault) = Cut answers start first after × CountsByEnd before after 1
   Turned kept st (Err Memory) = Cut answers start first after × CountsByEnd before after 0
   Turned kept st (Err Turns) = ⊥
   Turned kept st (Err (Open fault)) = ⊥
 
--- What a run comes to that began, by its result: what was answered, how many reads failed and ended,
--- and how many writes failed.
 module _ {S : Type 0} (answers : Answering S) (start : S) (before after : Streams) where
+  -- what a run comes to that began, by its result: what was answered, and how many more reads failed,
+  -- how many ended, and how many writes failed
   abbrev pub Ran : Result S ReplayFault → Type 0
   Ran (Ok st) = Finished answers start before after st × Counts before after 0 1 0
   Ran (Err ReadFault) = Stopped answers start before after × Counts before after 1 0 0
-  Ran (Err Turns) = Stopped answers start before after × Counts before after 0 0 0 × ReadMost before after
+  Ran (Err Turns) = Stopped answers start before after × Counts before after 0 0 0
+      × ReadMost before after
   Ran (Err WriteFault) = Cut answers start before after × CountsByEnd before after 1
   Ran (Err Memory) = Cut answers start before after × CountsByEnd before after 0
   Ran (Err (Open fault)) = ⊥
@@ -104,12 +105,13 @@ KeepsFromBeginning types ReadFault = ⊥
 KeepsFromBeginning types WriteFault = ⊥
 KeepsFromBeginning types Turns = ⊥
 
--- what the run of a script on a new session comes to: the session is opened with the types and the
--- script run; or it can't be opened, and nothing is read or written
 module _ (names : List (List ℕ)) (types : List LocalType) (before after : Streams) where
+  -- what the run of a script on a new session comes to: the session is opened with the types and the
+  -- script run; or it can't be opened, and nothing is read or written
   abbrev pub Outcome : Result Machine ReplayFault → Type 0
   Outcome (Ok session) = CanOpen types
       × Ran (AnswersLine names types) initial before after (Ok session.state)
       × (session.types ≡ types)
   Outcome (Err (Open fault)) = KeepsShut types fault × (after ≡ before)
-  Outcome (Err fault) = CanOpen types × Ran (AnswersLine names types) initial before after (Err fault)
+  Outcome (Err fault) = CanOpen types
+      × Ran (AnswersLine names types) initial before after (Err fault)

@@ -39,7 +39,7 @@ module _ (names : List (List ℕ)) (types : List LocalType) (line : List ℕ) (s
     pub answer : reply ≡ reply_to (forward types st role (act_of command)).0
     pub state : after ≡ (forward types st role (act_of command)).1
 
-  -- memory ran out, where the machine accepts the command or its value is a text, and nothing changes
+  -- memory ran out where the machine accepts the command or its value is a text; nothing changes
   pub record IsStarved (reply : Reply) (after : State) : Type 0 where
     pub role : ℕ
     pub command : Forward
