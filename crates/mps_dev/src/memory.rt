@@ -10,8 +10,8 @@ use super::{Failed, Sink, Source};
 use std::alloc::{AllocError, Global};
 use std::marker::Model;
 
-/// A source over memory: it gives pieces in order, and fails from a given call on. A read gives bytes of one piece,
-/// at most what is left of it, and passes over empty pieces.
+/// A source over memory: it gives pieces in order, and fails from a given call on. A read gives bytes of
+/// one piece, at most what is left of it, and passes over empty pieces.
 #[derive(Debug, Drop)]
 pub struct Pieces {
     pieces: Vec<Vec<u8>>,
@@ -89,8 +89,10 @@ impl Source for Pieces {
         ensures schedule { self.new.fails_from ≡ self.old.fails_from }
 
         // Else it gives as much of the next piece as there is room for.
-        ensures count { IfOk result (λ n. n ≡ min (length (first_piece self.old.pieces)) (length buf.old)) }
-        ensures given { IfOk result (λ n. buf.new ≡ take n (first_piece self.old.pieces) ++ drop n buf.old) }
+        ensures count { IfOk result (λ n.
+            n ≡ min (length (first_piece self.old.pieces)) (length buf.old)) }
+        ensures given { IfOk result (λ n.
+            buf.new ≡ take n (first_piece self.old.pieces) ++ drop n buf.old) }
         ensures left { IfOk result (λ n. self.new.pieces ≡ non_empty (past n self.old.pieces)) }
     {
         let call = self.answered + self.ends + self.failed_calls + 1;
@@ -116,8 +118,10 @@ impl Source for Pieces {
 
 // Where the first byte is left from the byte `given` of the piece `next` on: its piece, and its place there.
 fn first_left(pieces: &[Vec<u8>], mut next: usize, mut given: usize) -> (usize, usize)
-    ensures same { left_from result.0 result.1 (map vec_items pieces.now) ≡ left_from next given (map vec_items pieces.now) }
-    ensures found { result.0 < length pieces.now → result.1 < length (slice_index_or (map vec_items pieces.now) result.0 []) }
+    ensures same { left_from result.0 result.1 (map vec_items pieces.now)
+        ≡ left_from next given (map vec_items pieces.now) }
+    ensures found { result.0 < length pieces.now
+        → result.1 < length (slice_index_or (map vec_items pieces.now) result.0 []) }
 {
     while next < pieces.len() && given >= pieces[next].len() {
         next += 1;
@@ -150,7 +154,11 @@ impl Model for Short {
 
     ghost Value = { Tray };
 
-    ghost view = { λ s. record { bytes = s.bytes.items; room = s.room; failed_calls = s.failed_calls } };
+    ghost view = { λ s. record {
+      bytes = s.bytes.items;
+      room = s.room;
+      failed_calls = s.failed_calls;
+    } };
 
     ghost invariant = { λ s. vec_len s.bytes + s.room ≤ vec_capacity s.bytes };
 }

@@ -10,7 +10,8 @@ use std::test::Fail;
 fn drained<S: Source>(alloc: Global, source: &mut S) -> Result<(Vec<u8>, bool), AllocError>
     requires { S.calls source.old < 2 ^ 62 }
     ensures calls { S.calls source.new ≤ S.calls source.old + 10 }
-    ensures bytes { IfOk result (λ r. Consumes (S.remaining source.old) (S.remaining source.new) r.0.items) }
+    ensures bytes { IfOk result (λ r.
+        Consumes (S.remaining source.old) (S.remaining source.new) r.0.items) }
 {
     let mut bytes = Vec::new(alloc);
     for _turn in 0..10u8 {
@@ -39,8 +40,8 @@ fn handed_over<K: Sink>(sink: &mut K, bytes: &[u8]) -> usize
     at
 }
 
-// A device that fails once, by an error of this kind, and counts its calls. As a reader it then gives two bytes and
-// ends, as a writer it then takes what comes.
+// A device that fails once, by an error of this kind, and counts its calls. As a reader it then gives two
+// bytes and ends, as a writer it then takes what comes.
 #[derive(Drop)]
 struct FailsOnce {
     kind: ErrorKind,

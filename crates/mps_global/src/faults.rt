@@ -83,8 +83,8 @@ pub fn check(protocol: &Protocol) -> Result<(), GlobalFault>
     }
 }
 
-/// What holds of a protocol without faults: its roles are those of a session, and its tree is within
-/// the limits.
+/// What holds of a protocol without faults: its roles are those of a session, and its tree is
+/// within the limits.
 pub fn protocol_laws()
     ensures roles { (roles : List (List ℕ)) (tree : GlobalType)
         → fault_of roles tree ≡ None → AreRoles roles }
@@ -201,8 +201,8 @@ fn first_fault(roles: &[Name], tree: &Global, above: &Above<'_>) -> Option<Globa
 #[cycle(walk)]
 #[tactic(auto, using(crate::proofs::Walks::first_of_both))]
 fn first_branch_fault(roles: &[Name], branches: &Branches, above: &Above<'_>) -> Option<GlobalFault>
-    ensures { result
-        ≡ first_fault roles.now (branch_places (nodes_above above.now) (plain_branches branches.now)) }
+    ensures { result ≡ first_fault roles.now
+        (branch_places (nodes_above above.now) (plain_branches branches.now)) }
 {
     match branches {
         Branches::NoMore => None,

@@ -44,7 +44,8 @@ pub enum Branches {
 }
 
 impl Drop for Global {
-    // in a loop, so that no tree, long, deep or wide, runs the stack out: what still waits stands in a list of branches, made of the boxes that are there
+    // in a loop, so that no tree, long, deep or wide, runs the stack out: what still waits stands in
+    // a list of branches, made of the boxes that are there
     #[tactic(auto, using(crate::proofs::Weights::some_weight))]
     fn drop(mut self) {
         let mut waiting = Branches::NoMore;

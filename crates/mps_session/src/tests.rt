@@ -281,3 +281,46 @@ fn binds_a_slot_again(rt: HostRuntime) -> Result<(), Fail> {
     assert_eq!(rt; kept(&session, 1, y)?, Some(2));
     Ok(())
 }
+
+#[test]
+fn marks(rt: HostRuntime) -> Result<(), Fail> {
+    let mut session = session(rt.alloc(), A_TO_B_TO_C)?;
+    let m = name("m")?;
+    let first = answer(&mut session, 0, Forward::Mark { name: m })??;
+    assert_eq!(rt; first.id, StepId::new(1));
+    assert!(rt; first.got.is_none());
+    let sent = answer(&mut session, 0, send(1, Value::Int(5)))??;
+    assert_eq!(rt; sent.id, StepId::new(2));
+    // a mark is taken at the end of a part too
+    let last = answer(&mut session, 0, Forward::Mark { name: m })??;
+    assert_eq!(rt; last.id, StepId::new(3));
+    assert_eq!(rt; session.len(), 3);
+    assert_eq!(rt; queued(&session, 0, 1, 0)?, Some(5));
+    let Some((id, role, act)) = session.step(2) else {
+        return Err("a step".into());
+    };
+    assert_eq!(rt; id, StepId::new(3));
+    assert_eq!(rt; role, Role::new(0));
+    assert!(rt; matches!(act, Act::Mark(left) if left.is(&m)));
+    Ok(())
+}
+
+#[test]
+fn refuses_choices(rt: HostRuntime) -> Result<(), Fail> {
+    let mut session = session(rt.alloc(), A_TO_B_TO_C)?;
+    let label = name("ok")?;
+    let b = Role::new(1);
+    let wrong = Some(Refusal::Violation(Violation::WrongAct));
+    let ended = Some(Refusal::Violation(Violation::Ended));
+    for fault in [wrong, ended] {
+        let refusal = answer(&mut session, 0, Forward::Choose { to: b, label })?.err();
+        assert_eq!(rt; refusal, fault);
+        let refusal = answer(&mut session, 0, Forward::Pick { from: b })?.err();
+        assert_eq!(rt; refusal, fault);
+        if fault == wrong {
+            let _ = answer(&mut session, 0, send(1, Value::Int(5)))??;
+        }
+    }
+    assert_eq!(rt; session.len(), 1);
+    Ok(())
+}

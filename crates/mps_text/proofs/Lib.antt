@@ -14,3 +14,4 @@ pub mod OneTree
 pub mod OneFault
 pub mod Read
 pub mod Written
+pub mod Parts

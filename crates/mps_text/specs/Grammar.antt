@@ -1,6 +1,7 @@
 -- Which tokens spell a protocol.
 use Rattle.std.specs.Prelude.{◌≡◌, ℕ, ◌+◌, ◌≤◌, ⊤, List, [], ◌∷◌, ◌++◌, length, map, codes, Option, Some, None, Result, Ok, Err}
 use Rattle.std.specs.List.{AllByRecursion}
+use Rattle.std.specs.Option.{option_map}
 use Rattle.mps_base.specs.Names.{IsName, IsVariable}
 use Rattle.mps_base.specs.RoleLists.{HasRoleCount}
 use Rattle.mps_base.specs.Sorts.{sort_word}
@@ -41,6 +42,18 @@ abbrev mutual
 -- the tokens of a protocol: `roles`, the roles, `;` and a global type
 abbrev pub protocol_parts : List (List ℕ) → GlobalType → List Part
 protocol_parts roles tree = inside (codes "roles" ∷ roles) ++ inside (codes ";" ∷ []) ++ node_parts 1 tree
+
+-- a token and the depth of the node that it begins, if it begins one
+abbrev pub begun_by : Part → Option (List ℕ × ℕ)
+begun_by part = option_map (λ depth. (part.0, depth)) part.1
+
+-- the first token of a node
+abbrev pub first_token_of : GlobalType → List ℕ
+first_token_of End = codes "end"
+first_token_of (Var name) = name
+first_token_of (Rec name body) = codes "rec"
+first_token_of (Message sender receiver sort next) = sender
+first_token_of (Choice sender receiver branches) = sender
 
 -- the tokens alone
 abbrev pub protocol_tokens : List (List ℕ) → GlobalType → List (List ℕ)

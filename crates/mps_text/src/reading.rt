@@ -1,12 +1,14 @@
 //! Reading a protocol.
 ghost use Rattle.std.specs.Prelude.{◌≡◌, ◌≢◌, ◌+◌, ◌<◌, ◌≤◌, ◌⊎◌, ℕ, List, []};
-ghost use Rattle.std.specs.Prelude.{◌∷◌, ◌++◌, length, codes, IfOk, IfErr, OnOk, false, true, MatchOption};
+ghost use Rattle.std.specs.Prelude.{◌∷◌, ◌++◌, length, map, filter_map, codes, IfOk, IfErr, OnOk, false, true, MatchOption};
 ghost use Rattle.std.specs.List.{AllByRecursion};
 ghost use Rattle.mps_base.specs.Names.{IsName, IsVariable};
 ghost use Rattle.mps_base.specs.RoleLists.{HasRoleCount};
 ghost use Rattle.mps_global.specs.Global.{GlobalType, plain, plain_branches};
 ghost use Rattle.mps_base.specs.Sorts.{sort_word};
 ghost use Rattle.mps_text.specs.Grammar.{IsSpellable, AreSpellable, HasBranch, IsWithinLimits, SpellsText, IsRead};
+ghost use Rattle.mps_global.specs.Faults.{places, level};
+ghost use Rattle.mps_text.specs.Grammar.{protocol_parts, begun_by, first_token_of};
 ghost use Rattle.mps_text.specs.Faults.{IsFirstFault, HasProtocol, HasFault};
 ghost use Rattle.mps_text.specs.declared.fault.TextKind.{TextKind};
 ghost use Rattle.mps_text.specs.declared.fault.TextKind.TheVariants.{Memory};
@@ -66,14 +68,23 @@ pub fn one_protocol()
 pub fn one_fault()
     ensures one { (text : List ℕ) (a b : ℕ) (k l : TextKind) → IsFirstFault text a k
         → IsFirstFault text b l → k ≢ Memory → l ≢ Memory → (a ≡ b) × (k ≡ l) }
-    ensures none { (text : List ℕ) (roles : List (List ℕ)) (tree : GlobalType) (at : ℕ) (kind : TextKind)
-        → IsWithinLimits text tree → SpellsText text roles tree → IsFirstFault text at kind → kind ≡ Memory }
+    ensures none { (text : List ℕ) (roles : List (List ℕ)) (tree : GlobalType)
+        (at : ℕ) (kind : TextKind) → IsWithinLimits text tree → SpellsText text roles tree
+        → IsFirstFault text at kind → kind ≡ Memory }
 {}
 
 /// Each text spells a protocol within the limits, or has a first fault: `TooLong` where it has more
 /// than 65,536 bytes, and otherwise one that it shows, never want of memory.
 pub fn protocol_or_fault()
     ensures { (text : List ℕ) → HasProtocol text ⊎ HasFault text }
+{}
+
+/// Of a protocol's tokens exactly the first ones of its nodes begin a node, in the order of
+/// `places`, each with the depth of its node.
+pub fn first_tokens()
+    ensures { (roles : List (List ℕ)) (tree : GlobalType)
+        → filter_map begun_by (protocol_parts roles tree)
+        ≡ map (λ p. (first_token_of p.node, level p)) (places [] tree) }
 {}
 
 // The protocol that takes all of the text.

@@ -1,6 +1,6 @@
 use crate::{
-    MAX_TEXT_BYTES, TextFault, TextKind, one_fault, one_protocol, protocol_or_fault, read_protocol,
-    write_protocol, written_reads,
+    MAX_TEXT_BYTES, TextFault, TextKind, first_tokens, one_fault, one_protocol, protocol_or_fault,
+    read_protocol, write_protocol, written_reads,
 };
 use mps_base::{Name, Sort, VarName};
 use mps_global::{Branches, Global, Protocol, check};
@@ -404,5 +404,6 @@ fn shows_a_fault(rt: HostRuntime) -> Result<(), Fail> {
     one_fault();
     protocol_or_fault();
     written_reads();
+    first_tokens();
     Ok(())
 }

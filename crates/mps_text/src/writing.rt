@@ -32,9 +32,9 @@ pub fn write_protocol(alloc: alloc::Global, protocol: &Protocol) -> Result<Vec<u
     Ok(out)
 }
 
-/// A written protocol is read back: where it has 2 to 8 roles, its names are names, each choice has a
-/// branch, and it and its text are within the limits, its text spells this protocol and no other, so
-/// that `read_protocol` gives it (`only`).
+/// A written protocol is read back: where it has 2 to 8 roles, its names are names, each choice has
+/// a branch, and it and its text are within the limits, its text spells this protocol and no other,
+/// so that `read_protocol` gives it (`only`).
 pub fn written_reads()
     ensures { (roles : List (List ℕ)) (tree : GlobalType) → AllByRecursion IsName roles
         → HasRoleCount roles → IsSpellable tree → IsWithinLimits (protocol_text roles tree) tree
@@ -103,7 +103,8 @@ fn write_node<'a>(
     out: &mut Vec<u8>,
 ) -> Result<(), AllocError>
     ensures text { OnOk result (with_tokens out.new.items (left_tokens waiting.new.items)
-        ≡ with_tokens out.old.items (global_tokens (plain node.now) ++ left_tokens waiting.old.items)) }
+        ≡ with_tokens out.old.items
+        (global_tokens (plain node.now) ++ left_tokens waiting.old.items)) }
     ensures less { OnOk result
         (left_weight waiting.new.items < weight node.now + left_weight waiting.old.items) }
     ensures named { OnOk result (AllByRecursion IsTodoNamed waiting.new.items
@@ -150,9 +151,10 @@ fn write_branches<'a>(
     out: &mut Vec<u8>,
 ) -> Result<(), AllocError>
     ensures text { OnOk result (with_tokens out.new.items (left_tokens waiting.new.items)
-        ≡ with_tokens out.old.items (branches_tokens (plain_branches branches.now) ++ left_tokens waiting.old.items)) }
-    ensures less { OnOk result
-        (left_weight waiting.new.items < branch_weight branches.now + left_weight waiting.old.items) }
+        ≡ with_tokens out.old.items
+        (branches_tokens (plain_branches branches.now) ++ left_tokens waiting.old.items)) }
+    ensures less { OnOk result (left_weight waiting.new.items
+        < branch_weight branches.now + left_weight waiting.old.items) }
     ensures named { OnOk result (AllByRecursion IsTodoNamed waiting.new.items
         → AreNamed (plain_branches branches.now) × AllByRecursion IsTodoNamed waiting.old.items) }
 {
@@ -178,9 +180,10 @@ fn write_others<'a>(
     out: &mut Vec<u8>,
 ) -> Result<(), AllocError>
     ensures text { OnOk result (with_tokens out.new.items (left_tokens waiting.new.items)
-        ≡ with_tokens out.old.items (others_tokens (plain_branches branches.now) ++ left_tokens waiting.old.items)) }
-    ensures less { OnOk result
-        (left_weight waiting.new.items < branch_weight branches.now + left_weight waiting.old.items) }
+        ≡ with_tokens out.old.items
+        (others_tokens (plain_branches branches.now) ++ left_tokens waiting.old.items)) }
+    ensures less { OnOk result (left_weight waiting.new.items
+        < branch_weight branches.now + left_weight waiting.old.items) }
     ensures named { OnOk result (AllByRecursion IsTodoNamed waiting.new.items
         → AreNamed (plain_branches branches.now) × AllByRecursion IsTodoNamed waiting.old.items) }
 {

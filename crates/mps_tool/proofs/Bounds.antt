@@ -2,7 +2,7 @@
 use Rattle.std.proofs.Common.{ℕ, ◌+◌, ◌≤◌, List, ◌++◌, length, Option, length-append, arith}
 use Rattle.std.specs.Io.KnownBytes.{Consumes}
 use Rattle.mps_wire.proofs.Bytes.{Consumes-trans}
-use Rattle.mps_tool.specs.Reading.{HasReadAtMost}
+use Rattle.mps_tool.specs.Files.{HasReadAtMost}
 
 pub read_on : (most room : ℕ) (a b c : Option (List ℕ)) (text : List ℕ) → Consumes a b text → HasReadAtMost room b c → length text + room ≤ most → HasReadAtMost most a c
 read_on most room a b c text h more fits =

@@ -1,4 +1,4 @@
 pub mod Projected
-pub mod Faults
+pub mod Causes
 pub mod Lines
 pub mod Bounds

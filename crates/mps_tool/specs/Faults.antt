@@ -1,5 +1,5 @@
 -- How faults are told.
-use Rattle.std.specs.Prelude.{◌+◌, ◌⊎◌, ⊤, ◌≡◌, ℕ, List, Result, Ok, Err, codes, ◌++◌}
+use Rattle.std.specs.Prelude.{◌+◌, ◌⊎◌, ⊤, ◌≡◌, ℕ, List, Option, Result, Ok, Err, codes, ◌++◌}
 use Rattle.std.specs.String.{string_bytes}
 use Rattle.mps_base.specs.Numbers.{IsNumberText}
 use Rattle.mps_global.specs.declared.faults.GlobalFault.{GlobalFault}
@@ -8,8 +8,9 @@ use Rattle.mps_text.specs.declared.fault.TextKind.{TextKind}
 use Rattle.mps_text.specs.declared.fault.TextKind.TheVariants.{TooLong, Word, Unexpected, TooManyNodes, TooDeep, Trailing, Memory as NoRoom}
 use Rattle.mps_wire.specs.declared.script.ReplayFault.{ReplayFault}
 use Rattle.mps_wire.specs.declared.script.ReplayFault.TheVariants.{Open as NotOpened, ReadFault, WriteFault, Turns as TooManyReads, Memory as OutOfMemory}
-use Rattle.mps_tool.specs.declared.fault.ToolFault.{ToolFault}
-use Rattle.mps_tool.specs.declared.fault.ToolFault.TheVariants.{Usage, File, Text, Protocol, Projection, Unready, Open, Read, Write, Turns, Memory}
+use Rattle.mps_tool.specs.Streams.{CantLoad, CantShow}
+use Rattle.mps_tool.specs.declared.faults.ToolFault.{ToolFault}
+use Rattle.mps_tool.specs.declared.faults.ToolFault.TheVariants.{Usage, File, Text, Protocol, Projection, Unready, Open, Read, Write, Turns, Memory}
 
 -- the word for a fault of a text
 abbrev pub text_word : TextKind → List ℕ
@@ -69,12 +70,7 @@ status_of Memory = 4
 -- a fault of a text, as the program tells it
 abbrev pub of_text : ℕ → TextKind → ToolFault
 of_text at NoRoom = Memory
-of_text at TooLong = Text at TooLong
-of_text at Word = Text at Word
-of_text at Unexpected = Text at Unexpected
-of_text at TooManyNodes = Text at TooManyNodes
-of_text at TooDeep = Text at TooDeep
-of_text at Trailing = Text at Trailing
+of_text at kind = Text at kind
 
 -- why a script was not run to its end, as the program tells it
 abbrev pub of_script : ReplayFault → ToolFault
@@ -88,15 +84,7 @@ of_script OutOfMemory = Memory
 abbrev pub IsReadFault : ℕ → ℕ → ToolFault → Type 0
 IsReadFault before after Read = after ≡ before + 1
 IsReadFault before after Memory = after ≡ before
-IsReadFault before after (Usage text) = ⊥
-IsReadFault before after (File name) = ⊥
-IsReadFault before after (Text at kind) = ⊥
-IsReadFault before after (Protocol fault) = ⊥
-IsReadFault before after (Projection role choice) = ⊥
-IsReadFault before after Unready = ⊥
-IsReadFault before after Open = ⊥
-IsReadFault before after Write = ⊥
-IsReadFault before after Turns = ⊥
+IsReadFault before after fault = ⊥
 
 -- how many reads failed where this is the fault
 abbrev pub failed_reads : ToolFault → ℕ
@@ -122,56 +110,23 @@ after_writes (Err fault) before = before + failed_writes fault
 abbrev pub IsUseFault : ToolFault → Type 0
 IsUseFault (Usage text) = ⊤
 IsUseFault Memory = ⊤
-IsUseFault (File name) = ⊥
-IsUseFault (Text at kind) = ⊥
-IsUseFault (Protocol fault) = ⊥
-IsUseFault (Projection role choice) = ⊥
-IsUseFault Unready = ⊥
-IsUseFault Open = ⊥
-IsUseFault Read = ⊥
-IsUseFault Write = ⊥
-IsUseFault Turns = ⊥
+IsUseFault fault = ⊥
 
--- how the protocol of this file may fail to be had
-abbrev pub IsLoadFault : List ℕ → ToolFault → Type 0
-IsLoadFault file (File name) = name.now ≡ file
-IsLoadFault file (Text at kind) = ⊤
-IsLoadFault file (Protocol fault) = ⊤
-IsLoadFault file (Projection role choice) = ⊤
-IsLoadFault file Unready = ⊤
-IsLoadFault file Read = ⊤
-IsLoadFault file Memory = ⊤
-IsLoadFault file fault = ⊥
+-- the file of that name can't be opened
+abbrev pub IsFileFault : List ℕ → ToolFault → Type 0
+IsFileFault name (File file) = file.now ≡ name
+IsFileFault name fault = ⊥
 
--- how the script of this file may fail to be run
+-- how the script of this file may fail to be run: it can't be opened, or its run ends so
 abbrev pub IsReplayFault : List ℕ → ToolFault → Type 0
-IsReplayFault script (File name) = name.now ≡ script
-IsReplayFault script Open = ⊤
-IsReplayFault script Read = ⊤
-IsReplayFault script Write = ⊤
-IsReplayFault script Turns = ⊤
-IsReplayFault script Memory = ⊤
-IsReplayFault script fault = ⊥
+IsReplayFault script fault = IsFileFault script fault ⊎ ((end : ReplayFault) × (fault ≡ of_script end))
 
--- how a run of these two files may fail: a file that can't be opened is one of them
+-- how a run of these two files may fail: the first can't be opened, or gives no types that a session can follow, or the script fails to be run
 abbrev pub IsRunFault : List ℕ → List ℕ → ToolFault → Type 0
-IsRunFault file script (File name) = (name.now ≡ file) ⊎ (name.now ≡ script)
-IsRunFault file script (Usage text) = ⊥
-IsRunFault file script (Text at kind) = ⊤
-IsRunFault file script (Protocol fault) = ⊤
-IsRunFault file script (Projection role choice) = ⊤
-IsRunFault file script Unready = ⊤
-IsRunFault file script Open = ⊤
-IsRunFault file script Read = ⊤
-IsRunFault file script Write = ⊤
-IsRunFault file script Turns = ⊤
-IsRunFault file script Memory = ⊤
+IsRunFault file script fault =
+    IsFileFault file fault ⊎ (((given : Option (List ℕ)) × (left : Option (List ℕ)) × CantLoad given left fault) ⊎ IsReplayFault script fault)
 
--- how a check of this file may fail: a file that can't be opened is this one
+-- how a check of this file may fail: it can't be opened, or its types can't be shown
 abbrev pub IsCheckFault : List ℕ → ToolFault → Type 0
-IsCheckFault file (File name) = name.now ≡ file
-IsCheckFault file (Usage text) = ⊥
-IsCheckFault file Unready = ⊥
-IsCheckFault file Open = ⊥
-IsCheckFault file Turns = ⊥
-IsCheckFault file fault = ⊤
+IsCheckFault file fault =
+    IsFileFault file fault ⊎ ((given : Option (List ℕ)) × (left : Option (List ℕ)) × (took : Option (List ℕ)) × (taken : Option (List ℕ)) × CantShow given left took taken fault)

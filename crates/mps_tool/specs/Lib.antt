@@ -1,4 +1,4 @@
+pub mod Check
 pub mod Faults
-pub mod Opening
-pub mod Reading
-pub mod Showing
+pub mod Files
+pub mod Streams

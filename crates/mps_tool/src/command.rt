@@ -3,7 +3,7 @@
 /// What the program is told to do.
 #[derive(Debug, Drop)]
 pub enum Order<'a> {
-    /// Say how the program is used.
+    /// Say how the program is used, or which version it is.
     Help { text: String },
     /// Show each role's local type of the protocol in the file.
     Check { file: &'a str },

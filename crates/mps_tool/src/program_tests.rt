@@ -9,7 +9,13 @@ const RELAY: &str = "roles a b c ;\na -> b : int .\nb -> c : int .\nend\n";
 
 const SCRIPT: &str = "a send b 5\nb recv a x\nb send c 7\nc recv b y";
 
+const GREETING: &str = "roles a b ; a -> b : text . b -> a : bool . end";
+
+const WORDS: &str = "a send b \"good day\"\nb recv a x\nb send a true\na recv b y\n";
+
 const FILES: &[(&str, &str)] = &[
+    ("greeting", GREETING),
+    ("words", WORDS),
     ("relay", RELAY),
     ("script", SCRIPT),
     ("loop", "roles a b ; rec X . a -> b : int . X"),
@@ -51,6 +57,28 @@ fn runs_scripts(rt: HostRuntime) -> Result<(), Fail> {
     for file in ["loop", "choice"] {
         let words = ["mps_tool", "run", file, "script"];
         assert!(rt; does(alloc, &words, 1000, "", "refused unready\n", 3));
+    }
+    Ok(())
+}
+
+#[test]
+fn sends_texts_and_truth_values(rt: HostRuntime) -> Result<(), Fail> {
+    let alloc = rt.alloc();
+    let words = ["mps_tool", "run", "greeting", "words"];
+    let answers = "done 1\ndone 2 \"good day\"\ndone 3\ndone 4 true\n";
+    assert!(rt; does(alloc, &words, 1000, answers, "", 0));
+    let words = ["mps_tool", "check", "greeting"];
+    let lines = "a : send b text . recv b bool . end\nb : recv a text . send a bool . end\n";
+    assert!(rt; does(alloc, &words, 1000, lines, "", 0));
+    Ok(())
+}
+
+#[test]
+fn tells_its_version(rt: HostRuntime) -> Result<(), Fail> {
+    let alloc = rt.alloc();
+    for word in ["--version", "-V"] {
+        let words = ["mps_tool", word];
+        assert!(rt; does(alloc, &words, 1000, "mps_tool 0.1.0\n", "", 0));
     }
     Ok(())
 }

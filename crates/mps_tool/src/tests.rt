@@ -1,6 +1,6 @@
 use crate::{
-    Order, ToolFault, check_out, fault_line, open_file, order, read_text, roles_and_types, run,
-    run_script, show, status, write_types,
+    Order, ToolFault, check_out, fault_line, open_file, order, read_text, read_types,
+    roles_and_types, run, run_script, show, status, write_types,
 };
 use mps_base::Name;
 use mps_dev::{Pieces, Short};
@@ -95,6 +95,10 @@ fn takes_its_words(rt: HostRuntime) -> Result<(), Fail> {
         Ok(Order::Help { .. }) => {}
         _ => return Err("help".into()),
     }
+    match order(rt.alloc(), &["mps_tool", "--version"]) {
+        Ok(Order::Help { text }) => assert_eq!(rt; text.as_str(), "mps_tool 0.1.0"),
+        _ => return Err("the version".into()),
+    }
     let wrong = [
         ["mps_tool"].as_slice(),
         &["mps_tool", "fly"],
@@ -188,6 +192,52 @@ fn reads_texts(rt: HostRuntime) -> Result<(), Fail> {
         _ => return Err("a fault of the reader".into()),
     }
     Ok(())
+}
+
+// What is had of the protocol, read in two pieces: how many roles and types, or the line of its fault.
+fn loaded(alloc: Global, protocol: &str) -> Result<Result<(usize, usize), Vec<u8>>, Fail> {
+    let (front, rest) = protocol.as_bytes().split_at(protocol.len() / 2);
+    let pieces = vec![in alloc;
+        Vec::from_slice(alloc, front)?,
+        Vec::from_slice(alloc, rest)?,
+    ]?;
+    match read_types(alloc, &mut Pieces::new(pieces, None)) {
+        Ok((roles, types)) => Ok(Ok((roles.count(), types.len()))),
+        Err(fault) => Ok(Err(fault_line(alloc, &fault)?)),
+    }
+}
+
+#[test]
+fn loads_types(rt: HostRuntime) -> Result<(), Fail> {
+    let alloc = rt.alloc();
+    assert!(rt; matches!(loaded(alloc, RELAY)?, Ok((3, 3))));
+    let rows = [
+        ("roles a b ; rec X . a -> b : int . X", "refused unready"),
+        ("roles a b ; end end", "refused text trailing 16"),
+        ("roles a a ; end", "refused protocol doublerole"),
+    ];
+    for (protocol, line) in rows {
+        match loaded(alloc, protocol)? {
+            Err(told) => assert_eq!(rt; told.as_slice(), line.as_bytes()),
+            Ok(_) => return Err("a fault".into()),
+        }
+    }
+    // 65,536 bytes are a text, and one more is not read to its end
+    for (bytes, line) in [
+        (65_536, "refused text unexpected 65536"),
+        (70_000, "refused text toolong 65536"),
+    ] {
+        let pieces = vec![in alloc; vec![in alloc; b' '; bytes]?]?;
+        match read_types(alloc, &mut Pieces::new(pieces, None)) {
+            Err(fault) => assert_eq!(rt; fault_line(alloc, &fault)?.as_slice(), line.as_bytes()),
+            Ok(_) => return Err("a fault".into()),
+        }
+    }
+    let pieces = vec![in alloc; Vec::from_slice(alloc, RELAY.as_bytes())?]?;
+    match read_types(alloc, &mut Pieces::new(pieces, Some(2))) {
+        Err(ToolFault::Read) => Ok(()),
+        _ => Err("a fault of the reader".into()),
+    }
 }
 
 #[test]

@@ -4,10 +4,13 @@ ghost use Rattle.std.specs.Prelude.{IfErr};
 ghost use Rattle.mps_tool.specs.Faults.{IsUseFault};
 
 use crate::command::Order;
-use crate::fault::ToolFault;
+use crate::faults::ToolFault;
 use clap::error::ErrorKind;
 use clap::{Arg, Command};
 use std::alloc::{AllocError, Global};
+
+/// The version of the program.
+const VERSION: &str = "0.1.0";
 
 /// The commands of the program.
 fn commands<'a>(alloc: Global) -> Result<Command<'a>, AllocError> {
@@ -24,6 +27,7 @@ fn commands<'a>(alloc: Global) -> Result<Command<'a>, AllocError> {
         .arg(script)?;
     Command::new(alloc, "mps_tool")
         .about("A monitor for multiparty sessions")
+        .version(VERSION)
         .subcommand_required(true)
         .subcommand(check)?
         .subcommand(run)

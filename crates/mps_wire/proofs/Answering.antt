@@ -2,11 +2,16 @@
 use Rattle.std.proofs.Common.{◌≡◌, ℕ, ◌⊎◌, ◌<◌, ◌≤◌, List, [], ◌∷◌, ◌++◌, length, min, refl, sym, ap, ◌∙◌, subst, arith, ⊎_elim, inl, append_assoc, append-nil, length-take}
 use Rattle.std.proofs.lemmas.Bool.{cases_lt}
 use Rattle.mps_local.specs.Local.{LocalType}
-use Rattle.mps_machine.specs.Machine.{State, initial}
+use Rattle.mps_machine.specs.Machine.{State}
 use Rattle.mps_line.specs.declared.reply.Reply.{Reply}
+use Rattle.mps_wire.specs.Answers.{Answering, AnswersLines, Answered, AnsweredAll}
 use Rattle.mps_wire.specs.Lines.{HasNoBreak, ended, with_last, most_kept, front}
-use Rattle.mps_wire.specs.Script.{IsUnread, IsServed, IsStarved, RepliesTo, AnswersLine, AnswersLines, Answered, AnsweredAll}
+use Rattle.mps_wire.specs.Script.{IsUnread, IsServed, IsStarved, RepliesTo, AnswersLine}
 use Rattle.mps_wire.proofs.Splitting.{split_nothing, split_more, split_ended, front_front, front_short}
+
+-- what the front of a line does, the line does
+abbrev pub GoesByFront : {S : Type 0} → Answering S → Type 0
+GoesByFront {S} answers = (line : List ℕ) (st : S) (text : List ℕ) (after : S) → answers (front line) st text after → answers line st text after
 
 module _ (names : List (List ℕ)) (types : List LocalType) where
   -- of a line that is too long the front says enough
@@ -14,7 +19,7 @@ module _ (names : List (List ℕ)) (types : List LocalType) where
   long_line line st after reply long r =
       let n : length (front line) ≡ most_kept = length-take most_kept line ∙ (let m : min most_kept (length line) ≡ most_kept = omega arith in m) in
       ⊎_elim
-      (λ (u : IsUnread names (front line) st reply after). inl (record { unreadable = λ role command readable. let s = readable.short in absurd (omega arith); bad = u.bad; unchanged = u.unchanged }))
+      (λ (u : IsUnread names types (front line) st reply after). inl (record { unreadable = λ role command readable. let s = readable.short in absurd (omega arith); bad = u.bad; unchanged = u.unchanged }))
       (λ (o : IsServed names types (front line) st reply after ⊎ IsStarved names types (front line) st reply after).
       ⊎_elim
       (λ (s : IsServed names types (front line) st reply after). let short = s.readable.short in absurd (omega arith))
@@ -22,66 +27,61 @@ module _ (names : List (List ℕ)) (types : List LocalType) where
       o)
       r
 
-  pub whole_line : (line : List ℕ) (st after : State) (text : List ℕ) → AnswersLine names types (front line) st text after → AnswersLine names types line st text after
-  whole_line line st after text a =
+  -- a script's lines go by their fronts
+  pub by_front : GoesByFront (AnswersLine names types)
+  by_front line st text after a =
       ⊎_elim
       (λ (long : most_kept < length line). record { reply = a.reply; replies = long_line line st after a.reply long a.replies; spelled = a.spelled })
       (λ (short : length line ≤ most_kept). subst (λ (l : List ℕ). AnswersLine names types l st text after) (front_short line short) a)
       (cases_lt most_kept (length line))
 
-  pub lines_push : (lines : List (List ℕ)) (line : List ℕ) (st mid after : State) (out text : List ℕ) → AnswersLines names types lines st out mid → AnswersLine names types line mid text after → AnswersLines names types (lines ++ line ∷ []) st (out ++ ended text) after
+-- Lines answered by a relation, from a state on.
+module _ {S : Type 0} (answers : Answering S) (start : S) where
+  pub lines_push : (lines : List (List ℕ)) (line : List ℕ) (st mid after : S) (out text : List ℕ) → AnswersLines answers lines st out mid → answers line mid text after → AnswersLines answers (lines ++ line ∷ []) st (out ++ ended text) after
   lines_push [] line st mid after out text a b =
-      (text, [], after, ap (λ (l : List ℕ). l ++ ended text) a.0 ∙ sym (append-nil (ended text)), subst (λ (s : State). AnswersLine names types line s text after) a.1 b, (refl, refl))
+      (text, [], after, ap (λ (l : List ℕ). l ++ ended text) a.0 ∙ sym (append-nil (ended text)), subst (λ (s : S). answers line s text after) a.1 b, (refl, refl))
   lines_push (l ∷ lines) line st mid after out text a b =
       (a.0, a.1 ++ ended text, a.2, ap (λ (x : List ℕ). x ++ ended text) a.3 ∙ append_assoc (ended a.0) a.1 (ended text), a.4, lines_push lines line a.2 mid after a.1 text a.5 b)
 
-  pub answered_nothing : Answered names types initial [] [] [] initial
-  answered_nothing = record { lines = []; rest = []; split = split_nothing; front_kept = refl; answers = (refl, refl) }
+  pub answered_nothing : Answered answers start [] [] [] start
+  answered_nothing = record { lines = []; rest = []; split = split_nothing; front_kept = refl; answers_lines = (refl, refl) }
 
   -- more of the line that comes
-  pub answered_more : (st mid : State) (bytes kept out piece : List ℕ) → Answered names types st bytes kept out mid → HasNoBreak piece → Answered names types st (bytes ++ piece) (front (kept ++ piece)) out mid
-  answered_more st mid bytes kept out piece a h = record {
+  pub answered_more : (mid : S) (bytes kept out piece : List ℕ) → Answered answers start bytes kept out mid → HasNoBreak piece → Answered answers start (bytes ++ piece) (front (kept ++ piece)) out mid
+  answered_more mid bytes kept out piece a h = record {
     lines = a.lines;
     rest = a.rest ++ piece;
     split = split_more bytes a.lines a.rest piece a.split h;
     front_kept = ap (λ (l : List ℕ). front (l ++ piece)) a.front_kept ∙ front_front a.rest piece;
-    answers = a.answers;
+    answers_lines = a.answers_lines;
   }
 
-  -- the line is ended and answered
-  pub answered_line : (st mid after : State) (bytes kept out text : List ℕ) → Answered names types st bytes kept out mid → AnswersLine names types kept mid text after → Answered names types st (bytes ++ 10 ∷ []) [] (out ++ ended text) after
-  answered_line st mid after bytes kept out text a b = record {
-    lines = a.lines ++ a.rest ∷ [];
-    rest = [];
-    split = split_ended bytes a.lines a.rest a.split;
-    front_kept = refl;
-    answers = lines_push a.lines a.rest st mid after out text a.answers (whole_line a.rest mid after text (subst (λ (l : List ℕ). AnswersLine names types l mid text after) a.front_kept b));
-  }
+  module _ (by_front : GoesByFront answers) where
+    -- what the kept front of the last line does, the line does
+    last_line : (kept rest text : List ℕ) (mid after : S) → kept ≡ front rest → answers kept mid text after → answers rest mid text after
+    last_line kept rest text mid after e b = by_front rest mid text after (subst (λ (l : List ℕ). answers l mid text after) e b)
 
-  -- the end of the bytes, with no rest
-  pub all_without_rest : (bytes kept out : List ℕ) (after : State) → Answered names types initial bytes kept out after → kept ≡ [] → AnsweredAll names types bytes out after
-  all_without_rest bytes kept out after a e = record {
-    lines = a.lines;
-    rest = a.rest;
-    split = a.split;
-    answers = subst (λ (l : List (List ℕ)). AnswersLines names types l initial out after) (sym (no_last a.lines a.rest (sym a.front_kept ∙ e))) a.answers;
-  }
-    where
-      no_last : (lines : List (List ℕ)) (rest : List ℕ) → front rest ≡ [] → with_last lines rest ≡ lines
-      no_last lines [] e = refl
-      no_last lines (c ∷ rest) e = absurd cc
+    -- the line is ended and answered
+    pub answered_line : (mid after : S) (bytes kept out text : List ℕ) → Answered answers start bytes kept out mid → answers kept mid text after → Answered answers start (bytes ++ 10 ∷ []) [] (out ++ ended text) after
+    answered_line mid after bytes kept out text a b = record {
+      lines = a.lines ++ a.rest ∷ [];
+      rest = [];
+      split = split_ended bytes a.lines a.rest a.split;
+      front_kept = refl;
+      answers_lines = lines_push a.lines a.rest start mid after out text a.answers_lines (last_line kept a.rest text mid after a.front_kept b);
+    }
 
-  -- the end of the bytes, with a rest
-  pub all_with_rest : (bytes kept out text : List ℕ) (mid after : State) → Answered names types initial bytes kept out mid → (kept ≡ [] → ⊥) → AnswersLine names types kept mid text after → AnsweredAll names types bytes (out ++ ended text) after
-  all_with_rest bytes kept out text mid after a ne b = record {
-    lines = a.lines;
-    rest = a.rest;
-    split = a.split;
-    answers =
-        subst (λ (l : List (List ℕ)). AnswersLines names types l initial (out ++ ended text) after) (sym (a_last a.lines a.rest (λ e. ne (a.front_kept ∙ e))))
-        (lines_push a.lines a.rest initial mid after out text a.answers (whole_line a.rest mid after text (subst (λ (l : List ℕ). AnswersLine names types l mid text after) a.front_kept b)));
-  }
-    where
-      a_last : (lines : List (List ℕ)) (rest : List ℕ) → (front rest ≡ [] → ⊥) → with_last lines rest ≡ lines ++ rest ∷ []
-      a_last lines [] ne = absurd (ne refl)
-      a_last lines (c ∷ rest) ne = refl
+    -- the end of the bytes, with a rest
+    pub all_with_rest : (bytes kept out text : List ℕ) (mid after : S) → Answered answers start bytes kept out mid → (kept ≡ [] → ⊥) → answers kept mid text after → AnsweredAll answers start bytes (out ++ ended text) after
+    all_with_rest bytes kept out text mid after a ne b = record {
+      lines = a.lines;
+      rest = a.rest;
+      split = a.split;
+      answers_lines =
+          subst (λ (l : List (List ℕ)). AnswersLines answers l start (out ++ ended text) after) (sym (a_last a.lines a.rest (λ e. ne (a.front_kept ∙ e))))
+          (lines_push a.lines a.rest start mid after out text a.answers_lines (last_line kept a.rest text mid after a.front_kept b));
+    }
+      where
+        a_last : (lines : List (List ℕ)) (rest : List ℕ) → (front rest ≡ [] → ⊥) → with_last lines rest ≡ lines ++ rest ∷ []
+        a_last lines [] ne = absurd (ne refl)
+        a_last lines (c ∷ rest) ne = refl

@@ -2,35 +2,34 @@
 use Rattle.std.proofs.Common.{◌≡◌, ℕ, ◌+◌, ◌-◌, ◌<◌, ◌≤◌, List, [], ◌∷◌, ◌++◌, length, take, drop, get_or, sym, ap, ◌∙◌, subst, arith, append_assoc, append-nil, length-drop}
 use Rattle.std.proofs.Math.Seq.{take-add}
 use Rattle.std.proofs.lemmas.List.{take_rest, take_more, drop-drop, take-append-drop}
-use Rattle.mps_local.specs.Local.{LocalType}
-use Rattle.mps_machine.specs.Machine.{State, initial}
+use Rattle.mps_wire.specs.Answers.{Answering, Answered, Place, TakesBytes}
 use Rattle.mps_wire.specs.Lines.{HasNoBreak, ended, front}
-use Rattle.mps_wire.specs.Script.{AnswersLine, Answered}
-use Rattle.mps_wire.proofs.Answering.{answered_more, answered_line}
+use Rattle.mps_wire.proofs.Answering.{GoesByFront, answered_more, answered_line}
 
 -- what was made of the bytes up to the rest
-pub record Feeding (names : List (List ℕ)) (types : List LocalType) (kept0 : List ℕ) (st0 : State) (answers0 bytes rest kept : List ℕ) (st : State) (answers : List ℕ) : Type 0 where
+pub record Feeding {S : Type 0} (answers : Answering S) (start : S) (old : Place S) (bytes rest : List ℕ) (now : Place S) : Type 0 where
   pub within : length rest ≤ length bytes
   pub left : rest ≡ drop (length bytes - length rest) bytes
-  pub answered : (before out : List ℕ) → Answered names types initial before kept0 out st0 → (more : List ℕ) × (answers ≡ answers0 ++ more) × Answered names types initial (before ++ take (length bytes - length rest) bytes) kept (out ++ more) st
+  pub taken : TakesBytes answers start (take (length bytes - length rest) bytes) old now
 
-module _ (names : List (List ℕ)) (types : List LocalType) (kept0 : List ℕ) (st0 : State) (answers0 bytes : List ℕ) where
-  pub feeding_begins : Feeding names types kept0 st0 answers0 bytes bytes kept0 st0 answers0
+module _ {S : Type 0} (answers : Answering S) (start : S) (old : Place S) (bytes : List ℕ) where
+  pub feeding_begins : Feeding answers start old bytes bytes old
   feeding_begins =
       let none : length bytes - length bytes ≡ 0 = omega arith in
       record {
         within = omega arith;
         left = sym (ap (λ (k : ℕ). drop k bytes) none);
-        answered = λ before out a. (
+        taken = λ before out a. (
           [],
-          sym (append-nil answers0),
-          subst (λ (b : List ℕ). Answered names types initial b kept0 (out ++ []) st0) (sym (append-nil before) ∙ ap (λ (k : ℕ). before ++ take k bytes) (sym none))
-              (subst (λ (o : List ℕ). Answered names types initial before kept0 o st0) (sym (append-nil out)) a),
+          sym (append-nil old.waiting),
+          subst (λ (b : List ℕ). Answered answers start b old.kept (out ++ []) old.state) (sym (append-nil before) ∙ ap (λ (k : ℕ). before ++ take k bytes) (sym none))
+              (subst (λ (o : List ℕ). Answered answers start before old.kept o old.state) (sym (append-nil out)) a),
         );
       }
 
-  pub feeds_on : (rest kept kept1 kept2 : List ℕ) (st after : State) (answers answers1 text : List ℕ) (k : ℕ) → Feeding names types kept0 st0 answers0 bytes rest kept st answers → k < length rest → get_or rest k 0 ≡ 10 → HasNoBreak (take k rest) → kept1 ≡ front (kept ++ take k rest) → AnswersLine names types kept1 st text after → answers1 ≡ answers ++ ended text → kept2 ≡ [] → Feeding names types kept0 st0 answers0 bytes (take (length rest - (k + 1)) (drop (k + 1) rest)) kept2 after answers1
-  feeds_on rest kept kept1 kept2 st after answers answers1 text k f less is none kept_is line answers_are empty =
+  -- a line more, whose front is kept and then answered
+  pub feeds_on : GoesByFront answers → (rest kept text : List ℕ) (k : ℕ) (now next : Place S) → Feeding answers start old bytes rest now → k < length rest → get_or rest k 0 ≡ 10 → HasNoBreak (take k rest) → kept ≡ front (now.kept ++ take k rest) → answers kept now.state text next.state → next.waiting ≡ now.waiting ++ ended text → next.kept ≡ [] → Feeding answers start old bytes (take (length rest - (k + 1)) (drop (k + 1) rest)) next
+  feeds_on by_front rest kept text k now next f less is none kept_is line waiting_is empty =
       let n = length bytes - length rest in
       let tail : take (length rest - (k + 1)) (drop (k + 1) rest) ≡ drop (k + 1) rest = take_rest rest (k + 1) in
       let long : length (drop (k + 1) rest) ≡ length rest - (k + 1) = length-drop (k + 1) rest in
@@ -38,34 +37,36 @@ module _ (names : List (List ℕ)) (types : List LocalType) (kept0 : List ℕ) (
       let piece = take k rest in
       let one : take (k + 1) rest ≡ piece ++ 10 ∷ [] = take_more rest k 0 less ∙ ap (λ (c : ℕ). piece ++ c ∷ []) is in
       let step : take (n + (k + 1)) bytes ≡ take n bytes ++ (piece ++ 10 ∷ []) = take-add n (k + 1) bytes ∙ ap (λ (l : List ℕ). take n bytes ++ take (k + 1) l) (sym f.left) ∙ ap (λ (l : List ℕ). take n bytes ++ l) one in
-      let goal : Feeding names types kept0 st0 answers0 bytes (drop (k + 1) rest) kept2 after answers1 = record {
+      let goal : Feeding answers start old bytes (drop (k + 1) rest) next = record {
         within = omega (arith, f.within, long);
         left = ap (drop (k + 1)) f.left ∙ drop-drop (k + 1) n bytes ∙ ap (λ (j : ℕ). drop j bytes) (sym past);
-        answered = λ before out a.
-            let had = f.answered before out a in
+        taken = λ before out a.
+            let had = f.taken before out a in
             let whole : (before ++ take n bytes ++ piece) ++ 10 ∷ [] ≡ before ++ take (length bytes - length (drop (k + 1) rest)) bytes =
             append_assoc (before ++ take n bytes) piece (10 ∷ []) ∙ append_assoc before (take n bytes) (piece ++ 10 ∷ []) ∙ ap (λ (l : List ℕ). before ++ l) (sym step ∙ ap (λ (j : ℕ). take j bytes) (sym past)) in
-            let more = answered_more names types initial st (before ++ take n bytes) kept (out ++ had.0) piece had.2 none in
-            let more' = subst (λ (x : List ℕ). Answered names types initial (before ++ take n bytes ++ piece) x (out ++ had.0) st) (sym kept_is) more in
-            let next = answered_line names types initial st after (before ++ take n bytes ++ piece) kept1 (out ++ had.0) text more' line in (
+            let more = answered_more answers start now.state (before ++ take n bytes) now.kept (out ++ had.0) piece had.2 none in
+            let more' = subst (λ (x : List ℕ). Answered answers start (before ++ take n bytes ++ piece) x (out ++ had.0) now.state) (sym kept_is) more in
+            let after = answered_line answers start by_front now.state next.state (before ++ take n bytes ++ piece) kept (out ++ had.0) text more' line in (
               had.0 ++ ended text,
-              answers_are ∙ ap (λ (l : List ℕ). l ++ ended text) had.1 ∙ append_assoc answers0 had.0 (ended text),
-              subst (λ (x : List ℕ). Answered names types initial (before ++ take (length bytes - length (drop (k + 1) rest)) bytes) x (out ++ (had.0 ++ ended text)) after) (sym empty)
-                  (subst (λ (o : List ℕ). Answered names types initial (before ++ take (length bytes - length (drop (k + 1) rest)) bytes) [] o after) (append_assoc out had.0 (ended text))
-                  (subst (λ (b : List ℕ). Answered names types initial b [] ((out ++ had.0) ++ ended text) after) whole next)),
+              waiting_is ∙ ap (λ (l : List ℕ). l ++ ended text) had.1 ∙ append_assoc old.waiting had.0 (ended text),
+              subst (λ (x : List ℕ). Answered answers start (before ++ take (length bytes - length (drop (k + 1) rest)) bytes) x (out ++ (had.0 ++ ended text)) next.state) (sym empty)
+                  (subst (λ (o : List ℕ). Answered answers start (before ++ take (length bytes - length (drop (k + 1) rest)) bytes) [] o next.state) (append_assoc out had.0 (ended text))
+                  (subst (λ (b : List ℕ). Answered answers start b [] ((out ++ had.0) ++ ended text) next.state) whole after)),
             );
       } in
-      subst (λ (r : List ℕ). Feeding names types kept0 st0 answers0 bytes r kept2 after answers1) (sym tail) goal
+      subst (λ (r : List ℕ). Feeding answers start old bytes r next) (sym tail) goal
 
-  pub feeding_ends : (rest kept kept1 : List ℕ) (st : State) (answers : List ℕ) → Feeding names types kept0 st0 answers0 bytes rest kept st answers → HasNoBreak rest → kept1 ≡ front (kept ++ rest) → (before out : List ℕ) → Answered names types initial before kept0 out st0 → (more : List ℕ) × (answers ≡ answers0 ++ more) × Answered names types initial (before ++ bytes) kept1 (out ++ more) st
-  feeding_ends rest kept kept1 st answers f none kept_is before out a =
+  -- the rest has no LF: its front is kept
+  pub feeding_ends : (rest : List ℕ) (now next : Place S) → Feeding answers start old bytes rest now → HasNoBreak rest → next.kept ≡ front (now.kept ++ rest) → next.state ≡ now.state → next.waiting ≡ now.waiting → TakesBytes answers start bytes old next
+  feeding_ends rest now next f none kept_is same_state same_waiting before out a =
       let n = length bytes - length rest in
-      let had = f.answered before out a in
-      let more = answered_more names types initial st (before ++ take n bytes) kept (out ++ had.0) rest had.2 none in
+      let had = f.taken before out a in
+      let more = answered_more answers start now.state (before ++ take n bytes) now.kept (out ++ had.0) rest had.2 none in
       let whole : before ++ take n bytes ++ rest ≡ before ++ bytes =
       append_assoc before (take n bytes) rest ∙ ap (λ (l : List ℕ). before ++ l) (ap (λ (l : List ℕ). take n bytes ++ l) f.left ∙ take-append-drop n bytes) in (
         had.0,
-        had.1,
-        subst (λ (b : List ℕ). Answered names types initial b kept1 (out ++ had.0) st) whole
-            (subst (λ (x : List ℕ). Answered names types initial (before ++ take n bytes ++ rest) x (out ++ had.0) st) (sym kept_is) more),
+        same_waiting ∙ had.1,
+        subst (λ (s : S). Answered answers start (before ++ bytes) next.kept (out ++ had.0) s) (sym same_state)
+            (subst (λ (b : List ℕ). Answered answers start b next.kept (out ++ had.0) now.state) whole
+            (subst (λ (x : List ℕ). Answered answers start (before ++ take n bytes ++ rest) x (out ++ had.0) now.state) (sym kept_is) more)),
       )

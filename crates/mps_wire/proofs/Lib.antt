@@ -4,5 +4,5 @@ pub mod Serving
 pub mod Answering
 pub mod Feeding
 pub mod Turning
-pub mod Running
-pub mod Faults
+pub mod Outcomes
+pub mod Carrying

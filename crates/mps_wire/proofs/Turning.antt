@@ -1,16 +1,17 @@
 -- What one read and its answers lead to.
-use Rattle.std.proofs.Common.{◌≡◌, ◌≢◌, ◌+◌, ◌≤◌, ℕ, List, [], ◌∷◌, ◌++◌, take, drop, Bool, Option, Result, Ok, Err, IsErrAnd, refl, sym, ap, ◌∙◌, subst, ⊎_elim, append_assoc, append-nil, arith, length, length-take, length-append}
+use Rattle.std.proofs.Common.{◌≡◌, ◌≢◌, ◌+◌, ◌<◌, ◌≤◌, ℕ, zero, suc, List, [], ◌∷◌, ◌++◌, take, drop, Bool, Option, Result, Ok, Err, IsErrAnd, refl, sym, ap, ◌∙◌, subst, ⊎_elim, append_assoc, append-nil, arith, length, length-take, length-append}
 use Rattle.std.specs.Io.KnownBytes.{Appends, Consumes, IsAtEnd}
 use Rattle.std.proofs.lemmas.Bool.{cases_eq}
 use Rattle.std.proofs.lemmas.List.{take-append-drop}
-use Rattle.mps_local.specs.Local.{LocalType}
-use Rattle.mps_machine.specs.Machine.{State, initial}
+use Rattle.mps_dev.specs.Calls.{ends_after}
+use Rattle.mps_dev.specs.declared.traits.Failed.{Failed}
+use Rattle.mps_wire.specs.Answers.{Answering, Answered, AnsweredAll, AnsweredInPart, Place, TakesBytes, TakesEnd}
 use Rattle.mps_wire.specs.Flow.{TookFront}
 use Rattle.mps_wire.specs.Lines.{IsSplit, with_last}
-use Rattle.mps_wire.specs.Script.{Answered, AnsweredAll, AnsweredInPart}
+use Rattle.mps_wire.specs.Streams.{Streams, Counts, CountsByEnd}
 use Rattle.mps_wire.specs.declared.script.ReplayFault.{ReplayFault}
 use Rattle.mps_wire.specs.declared.script.ReplayFault.TheVariants.{Memory}
-use Rattle.mps_wire.specs.Runs.{Going, Finished, Cut, AfterTurn, GaveAtLeast}
+use Rattle.mps_wire.specs.Runs.{Going, Finished, Cut, Turned, GaveAtLeast}
 use Rattle.mps_wire.proofs.Bytes.{Appends-trans, Appends-none, Consumes-trans, Consumes-none}
 use Rattle.mps_wire.proofs.Splitting.{split_more, split_ended}
 use Rattle.mps_wire.proofs.Answering.{answered_nothing}
@@ -40,9 +41,43 @@ last_behind : (lines others : List (List ℕ)) (rest : List ℕ) → with_last (
 last_behind lines others [] = refl
 last_behind lines others (c ∷ rest) = append_assoc lines others ((c ∷ rest) ∷ [])
 
-module _ (names : List (List ℕ)) (types : List LocalType) where
+-- answers up to some place in them, and the others
+parts : (before answers : List ℕ) (count : ℕ) → before ++ answers ≡ (before ++ take count answers) ++ drop count answers
+parts before answers count = ap (λ (l : List ℕ). before ++ l) (sym (take-append-drop count answers)) ∙ sym (append_assoc before (take count answers) (drop count answers))
+
+-- a read that gave nothing into a buffer with room ended
+one_end : (count : ℕ) (buf : List ℕ) (old new : ℕ) → count ≡ 0 → 0 < length buf → new ≡ ends_after {E = Failed} (Ok count) buf old → new ≡ old + 1
+one_end zero [] old new none room e = absurd (omega arith)
+one_end zero (c ∷ buf) old new none room e = e
+one_end (suc count) buf old new none room e = absurd (omega arith)
+
+-- one that gave bytes did not
+no_end : (count : ℕ) (buf : List ℕ) (old new : ℕ) → count ≢ 0 → new ≡ ends_after {E = Failed} (Ok count) buf old → new ≡ old + 0
+no_end zero buf old new some e = absurd (some refl)
+no_end (suc count) buf old new some e = omega (arith, e)
+
+-- the counts after a read that was answered, and so many failed writes
+module _ (old new : Streams) (count : ℕ) (buf : List ℕ) (failed_writes : ℕ) (none_unread : new.failed_reads ≡ old.failed_reads) (ends : new.ends ≡ ends_after {E = Failed} (Ok count) buf old.ends) where
+  pub counts_at_end : count ≡ 0 → 0 < length buf → new.failed_writes ≡ old.failed_writes + failed_writes → Counts old new 0 1 failed_writes
+  counts_at_end none room writes = record {
+    reads_failed = omega arith;
+    reads_ended = one_end count buf old.ends new.ends none room ends;
+    writes_failed = writes;
+  }
+
+  pub counts_before_end : count ≢ 0 → new.failed_writes ≡ old.failed_writes + failed_writes → Counts old new 0 0 failed_writes
+  counts_before_end some writes = record {
+    reads_failed = omega arith;
+    reads_ended = no_end count buf old.ends new.ends some ends;
+    writes_failed = writes;
+  }
+
+pub none_more : (old new : ℕ) → new ≡ old → new ≡ old + 0
+none_more old new e = omega arith
+
+module _ {S : Type 0} (answers : Answering S) (start : S) where
   -- the answers so far are answers to the first lines of what was read, whatever else was read
-  part_of : (bytes more kept out written unwritten : List ℕ) (st : State) → Answered names types initial bytes kept out st → out ≡ written ++ unwritten → AnsweredInPart names types (bytes ++ more) written
+  part_of : (bytes more kept out written unwritten : List ℕ) (st : S) → Answered answers start bytes kept out st → out ≡ written ++ unwritten → AnsweredInPart answers start (bytes ++ more) written
   part_of bytes more kept out written unwritten st a e =
       let s = split_on more bytes a.lines a.rest a.split in
       record {
@@ -54,12 +89,12 @@ module _ (names : List (List ℕ)) (types : List LocalType) where
         first = last_behind a.lines s.0 s.1;
         out = out;
         after = st;
-        answers = a.answers;
+        answers_lines = a.answers_lines;
         unwritten = unwritten;
         part = e;
       }
 
-  part_of_all : (bytes out written unwritten : List ℕ) (st : State) → AnsweredAll names types bytes out st → out ≡ written ++ unwritten → AnsweredInPart names types bytes written
+  part_of_all : (bytes out written unwritten : List ℕ) (st : S) → AnsweredAll answers start bytes out st → out ≡ written ++ unwritten → AnsweredInPart answers start bytes written
   part_of_all bytes out written unwritten st a e = record {
     lines = a.lines;
     rest = a.rest;
@@ -69,115 +104,123 @@ module _ (names : List (List ℕ)) (types : List LocalType) where
     first = sym (append-nil (with_last a.lines a.rest));
     out = out;
     after = st;
-    answers = a.answers;
+    answers_lines = a.answers_lines;
     unwritten = unwritten;
     part = e;
   }
 
-  module _ (given left left' took now : Option (List ℕ)) (kept : List ℕ) (st : State) (going : Going names types given left took now kept st) where
-    -- nothing more was read or written
-    pub stays : Consumes left left' [] → Going names types given left' took now kept st
-    stays none = record {
-      read = going.read;
-      out = going.out;
-      bytes = subst (λ (b : List ℕ). Consumes given left' b) (append-nil going.read) (Consumes-trans given left left' going.read [] going.bytes none);
-      sent = going.sent;
-      answered = going.answered;
-    }
+  -- nothing was read or written yet
+  pub goes_first : (s : Streams) → Going answers start s s [] start
+  goes_first s = record { read = []; out = []; bytes = Consumes-none s.left; sent = Appends-none s.taken; answered = answered_nothing answers start }
+
+  pub begun : (s : Streams) (kept : List ℕ) (st : S) → kept ≡ [] → st ≡ start → Going answers start s s kept st
+  begun s kept st e f =
+      subst (λ (k : List ℕ). Going answers start s s k st) (sym e)
+      (subst (λ (x : S). Going answers start s s [] x) (sym f) (goes_first s))
+
+  module _ (first old new : Streams) (at : Place S) (going : Going answers start first old at.kept at.state) where
+    -- the bytes of a read, behind those before
+    read_on : (bytes : List ℕ) → Consumes old.left new.left bytes → Consumes first.left new.left (going.read ++ bytes)
+    read_on bytes more = Consumes-trans first.left old.left new.left going.read bytes going.bytes more
+
+    read_none : Consumes old.left new.left [] → Consumes first.left new.left going.read
+    read_none none = subst (λ (b : List ℕ). Consumes first.left new.left b) (append-nil going.read) (read_on [] none)
+
+    -- the answers that were written, behind those before
+    sent_on : (more : List ℕ) → Appends old.taken new.taken more → Appends first.taken new.taken (going.out ++ more)
+    sent_on more sent = Appends-trans first.taken old.taken new.taken going.out more going.sent sent
+
+    -- the answers that waited are those of this read
+    waited : (next : Place S) (more : List ℕ) (P : List ℕ → Type 0) → at.waiting ≡ [] → next.waiting ≡ at.waiting ++ more → P next.waiting → P more
+    waited next more P none is h = subst P (is ∙ ap (λ (l : List ℕ). l ++ more) none) h
 
     -- memory ran out after more was read
-    starved : (bytes : List ℕ) → Consumes left left' bytes → Cut names types given left' took now
-    starved bytes more = record {
+    starved : (bytes : List ℕ) → Consumes old.left new.left bytes → new.taken ≡ old.taken → Cut answers start first new
+    starved bytes more same = record {
       read = going.read ++ bytes;
       written = going.out;
-      bytes = Consumes-trans given left left' going.read bytes going.bytes more;
-      sent = going.sent;
-      answered = part_of going.read bytes kept going.out going.out [] st going.answered (sym (append-nil going.out));
+      bytes = read_on bytes more;
+      sent = subst (λ (t : Option (List ℕ)). Appends first.taken t going.out) (sym same) going.sent;
+      answered = part_of going.read bytes at.kept going.out going.out [] at.state going.answered (sym (append-nil going.out));
     }
 
-    pub runs_out : (r : Result Bool ReplayFault) (at_end before_it stopped : Type 0) → IsErrAnd r (λ e. e ≡ Memory) → (bytes : List ℕ) → Consumes left left' bytes → AfterTurn r at_end before_it stopped (Cut names types given left' took now)
-    runs_out (Ok x) at_end before_it stopped h bytes more = absurd h
-    runs_out (Err e) at_end before_it stopped h bytes more =
-        subst (λ (fault : ReplayFault). AfterTurn (Err fault) at_end before_it stopped (Cut names types given left' took now)) (sym h) (starved bytes more)
+    pub runs_out : (kept : List ℕ) (st : S) (r : Result Bool ReplayFault) → IsErrAnd r (λ e. e ≡ Memory) → (bytes : List ℕ) → Consumes old.left new.left bytes → new.taken ≡ old.taken → CountsByEnd old new 0 → Turned answers start first old new kept st r
+    runs_out kept st (Ok x) h bytes more same counts = absurd h
+    runs_out kept st (Err e) h bytes more same counts =
+        subst (λ (fault : ReplayFault). Turned answers start first old new kept st (Err fault)) (sym h) (starved bytes more same, counts)
 
-    module _ (now' : Option (List ℕ)) (bytes kept' waiting answers : List ℕ) (st' : State) (none_waits : waiting ≡ []) (more : Consumes left left' bytes) (fed : (before out : List ℕ) → Answered names types initial before kept out st → (new : List ℕ) × (answers ≡ waiting ++ new) × Answered names types initial (before ++ bytes) kept' (out ++ new) st') where
-      pub goes_on : Appends now now' answers → Going names types given left' took now' kept' st'
+    module _ (next : Place S) (bytes : List ℕ) (none_waits : at.waiting ≡ []) (more : Consumes old.left new.left bytes) (fed : TakesBytes answers start bytes at next) where
+      pub goes_on : Appends old.taken new.taken next.waiting → Going answers start first new next.kept next.state
       goes_on sent =
           let f = fed going.read going.out going.answered in
           record {
             read = going.read ++ bytes;
             out = going.out ++ f.0;
-            bytes = Consumes-trans given left left' going.read bytes going.bytes more;
-            sent = Appends-trans took now now' going.out f.0 going.sent (subst (Appends now now') (f.1 ∙ ap (λ (l : List ℕ). l ++ f.0) none_waits) sent);
+            bytes = read_on bytes more;
+            sent = sent_on f.0 (waited next f.0 (Appends old.taken new.taken) none_waits f.1 sent);
             answered = f.2;
           }
 
-      pub breaks_off : TookFront now now' answers → Cut names types given left' took now'
+      pub breaks_off : TookFront old.taken new.taken next.waiting → Cut answers start first new
       breaks_off front =
           let f = fed going.read going.out going.answered in
           let written = take front.count f.0 in
           record {
             read = going.read ++ bytes;
             written = going.out ++ written;
-            bytes = Consumes-trans given left left' going.read bytes going.bytes more;
-            sent = Appends-trans took now now' going.out written going.sent (subst (λ (l : List ℕ). Appends now now' (take front.count l)) (f.1 ∙ ap (λ (l : List ℕ). l ++ f.0) none_waits) front.taken);
+            bytes = read_on bytes more;
+            sent = sent_on written (waited next f.0 (λ (l : List ℕ). Appends old.taken new.taken (take front.count l)) none_waits f.1 front.taken);
             answered =
-                subst (λ (b : List ℕ). AnsweredInPart names types b (going.out ++ written)) (append-nil (going.read ++ bytes))
-                (part_of (going.read ++ bytes) [] kept' (going.out ++ f.0) (going.out ++ written) (drop front.count f.0) st' f.2
-                (ap (λ (l : List ℕ). going.out ++ l) (sym (take-append-drop front.count f.0)) ∙ sym (append_assoc going.out written (drop front.count f.0))));
+                subst (λ (b : List ℕ). AnsweredInPart answers start b (going.out ++ written)) (append-nil (going.read ++ bytes))
+                (part_of (going.read ++ bytes) [] next.kept (going.out ++ f.0) (going.out ++ written) (drop front.count f.0) next.state f.2 (parts going.out f.0 front.count));
           }
 
-    module _ (now' : Option (List ℕ)) (waiting answers : List ℕ) (st' : State) (none_waits : waiting ≡ []) (none : Consumes left left' []) (done : (bytes out : List ℕ) → Answered names types initial bytes kept out st → (new : List ℕ) × (answers ≡ waiting ++ new) × AnsweredAll names types bytes (out ++ new) st') where
-      pub ends : IsAtEnd left' → Appends now now' answers → Finished names types given left' took now' st'
+    module _ (next : Place S) (none_waits : at.waiting ≡ []) (none : Consumes old.left new.left []) (done : TakesEnd answers start at next) where
+      pub ends : IsAtEnd new.left → Appends old.taken new.taken next.waiting → Finished answers start first new next.state
       ends over sent =
           let f = done going.read going.out going.answered in
           record {
             read = going.read;
             out = going.out ++ f.0;
-            bytes = (subst (λ (b : List ℕ). Consumes given left' b) (append-nil going.read) (Consumes-trans given left left' going.read [] going.bytes none));
+            bytes = read_none none;
             over = over;
-            sent = Appends-trans took now now' going.out f.0 going.sent (subst (Appends now now') (f.1 ∙ ap (λ (l : List ℕ). l ++ f.0) none_waits) sent);
+            sent = sent_on f.0 (waited next f.0 (Appends old.taken new.taken) none_waits f.1 sent);
             answered = f.2;
           }
 
-      pub end_breaks_off : TookFront now now' answers → Cut names types given left' took now'
+      pub end_breaks_off : TookFront old.taken new.taken next.waiting → Cut answers start first new
       end_breaks_off front =
           let f = done going.read going.out going.answered in
           let written = take front.count f.0 in
           record {
             read = going.read;
             written = going.out ++ written;
-            bytes = (subst (λ (b : List ℕ). Consumes given left' b) (append-nil going.read) (Consumes-trans given left left' going.read [] going.bytes none));
-            sent = Appends-trans took now now' going.out written going.sent (subst (λ (l : List ℕ). Appends now now' (take front.count l)) (f.1 ∙ ap (λ (l : List ℕ). l ++ f.0) none_waits) front.taken);
-            answered = part_of_all going.read (going.out ++ f.0) (going.out ++ written) (drop front.count f.0) st' f.2
-                (ap (λ (l : List ℕ). going.out ++ l) (sym (take-append-drop front.count f.0)) ∙ sym (append_assoc going.out written (drop front.count f.0)));
+            bytes = read_none none;
+            sent = sent_on written (waited next f.0 (λ (l : List ℕ). Appends old.taken new.taken (take front.count l)) none_waits f.1 front.taken);
+            answered = part_of_all going.read (going.out ++ f.0) (going.out ++ written) (drop front.count f.0) next.state f.2 (parts going.out f.0 front.count);
           }
 
-pub gave_none : (given : Option (List ℕ)) → GaveAtLeast 0 given given
-gave_none given = record { read = []; bytes = Consumes-none given; many = omega arith }
+-- memory ran out before the first read
+pub starved_first : {S : Type 0} (answers : Answering S) (start : S) (s : Streams) → Cut answers start s s
+starved_first answers start s =
+    starved answers start s s s (record { kept = []; state = start; waiting = [] }) (goes_first answers start s) [] (Consumes-none s.left) refl
 
-pub gave_some : (left left' : Option (List ℕ)) (count : ℕ) (buf : List ℕ) → count ≢ 0 → count ≤ length buf → Consumes left left' (take count buf) → GaveAtLeast 1 left left'
-gave_some left left' count buf some within h = record { read = take count buf; bytes = h; many = omega (arith, length-take count buf) }
+-- the bytes that a read gave
+pub gave_none : (s : Streams) → GaveAtLeast 0 s s
+gave_none s = record { read = []; bytes = Consumes-none s.left; many = omega arith }
 
-pub gave_more : (given left left' : Option (List ℕ)) (count : ℕ) → GaveAtLeast count given left → GaveAtLeast 1 left left' → GaveAtLeast (count + 1) given left'
-gave_more given left left' count a b = record {
+pub gave_some : (old new : Streams) (count : ℕ) (buf : List ℕ) → count ≢ 0 → count ≤ length buf → Consumes old.left new.left (take count buf) → GaveAtLeast 1 old new
+gave_some old new count buf some within h = record { read = take count buf; bytes = h; many = omega (arith, length-take count buf) }
+
+pub gave_more : (first old new : Streams) (count : ℕ) → GaveAtLeast count first old → GaveAtLeast 1 old new → GaveAtLeast (count + 1) first new
+gave_more first old new count a b = record {
   read = a.read ++ b.read;
-  bytes = Consumes-trans given left left' a.read b.read a.bytes b.bytes;
+  bytes = Consumes-trans first.left old.left new.left a.read b.read a.bytes b.bytes;
   many = omega (arith, a.many, b.many, length-append a.read b.read);
 }
 
+pub gave_fewer : (first now : Streams) (count fewer : ℕ) → fewer ≤ count → GaveAtLeast count first now → GaveAtLeast fewer first now
+gave_fewer first now count fewer few g = record { read = g.read; bytes = g.bytes; many = omega (arith, g.many) }
+
 pub none_taken : (left left' : Option (List ℕ)) (count : ℕ) (buf : List ℕ) → count ≡ 0 → Consumes left left' (take count buf) → Consumes left left' []
 none_taken left left' count buf e h = subst (λ (n : ℕ). Consumes left left' (take n buf)) e h
-
-module _ (names : List (List ℕ)) (types : List LocalType) (left taken : Option (List ℕ)) where
-  -- nothing was read or written yet
-  goes_first : Going names types left left taken taken [] initial
-  goes_first = record { read = []; out = []; bytes = Consumes-none left; sent = Appends-none taken; answered = answered_nothing names types }
-
-  pub starved_first : Cut names types left left taken taken
-  starved_first = starved names types left left left taken taken [] initial goes_first [] (Consumes-none left)
-
-  pub begun : (kept : List ℕ) (st : State) → kept ≡ [] → st ≡ initial → Going names types left left taken taken kept st
-  begun kept st e f =
-      subst (λ (k : List ℕ). Going names types left left taken taken k st) (sym e)
-      (subst (λ (s : State). Going names types left left taken taken [] s) (sym f) goes_first)

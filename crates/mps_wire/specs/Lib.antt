@@ -1,4 +1,6 @@
 pub mod Lines
 pub mod Flow
+pub mod Streams
+pub mod Answers
 pub mod Script
 pub mod Runs

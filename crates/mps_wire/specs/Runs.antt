@@ -1,107 +1,100 @@
--- A script over a source and a sink: given is what the source had left at first, took what the sink had taken.
-use Rattle.std.specs.Prelude.{ℕ, ◌+◌, ◌≤◌, ⊤, Bool, true, false, List, Option, Result, Ok, Err, length}
+-- What a run comes to, from the streams before it to those after.
+use Rattle.std.specs.Prelude.{◌≡◌, ℕ, ◌+◌, ◌≤◌, Bool, true, false, List, Result, Ok, Err, length}
 use Rattle.std.specs.Io.KnownBytes.{Appends, Consumes, IsAtEnd}
 use Rattle.mps_local.specs.Local.{LocalType}
-use Rattle.mps_machine.specs.Machine.{State, initial}
+use Rattle.mps_machine.specs.Machine.{initial}
 use Rattle.mps_session.specs.Peers.{HasRoleCount, IsFirstBad, CanOpen}
+use Rattle.mps_session.specs.Seen.{Machine}
 use Rattle.mps_session.specs.declared.open.OpenFault.{OpenFault}
 use Rattle.mps_session.specs.declared.open.OpenFault.TheVariants.{RoleCount, BadPeer, Memory as OutOfMemory}
 use Rattle.mps_wire.specs.declared.script.ReplayFault.{ReplayFault}
 use Rattle.mps_wire.specs.declared.script.ReplayFault.TheVariants.{Open, ReadFault, WriteFault, Turns, Memory}
-use Rattle.mps_wire.specs.Script.{Answered, AnsweredAll, AnsweredInPart}
+use Rattle.mps_wire.specs.Answers.{Answering, Answered, AnsweredAll, AnsweredInPart}
+use Rattle.mps_wire.specs.Script.{AnswersLine, types_of}
+use Rattle.mps_wire.specs.Streams.{Streams, Counts, CountsByEnd}
 
--- what was read is answered line by line, and of a rest that no LF ends the front is kept
-pub record Going (names : List (List ℕ)) (types : List LocalType) (given left took taken : Option (List ℕ)) (kept : List ℕ) (st : State) : Type 0 where
-  pub read : List ℕ
-  pub out : List ℕ
-  pub bytes : Consumes given left read
-  pub sent : Appends took taken out
-  pub answered : Answered names types initial read kept out st
+-- how often a stream is read from at most
+abbrev pub max_reads : ℕ
+max_reads = 1000000
 
--- no more is read: each whole line of what was read is answered
-pub record Stopped (names : List (List ℕ)) (types : List LocalType) (given left took taken : Option (List ℕ)) : Type 0 where
-  pub kept : List ℕ
-  pub st : State
-  pub going : Going names types given left took taken kept st
+-- The lines of a source and the answers to a sink, from a state on.
+module _ {S : Type 0} (answers : Answering S) (start : S) (before after : Streams) where
+  -- what was read is answered line by line, and of a rest that no LF ends the front is kept
+  pub record Going (kept : List ℕ) (st : S) : Type 0 where
+    pub read : List ℕ
+    pub out : List ℕ
+    pub bytes : Consumes before.left after.left read
+    pub sent : Appends before.taken after.taken out
+    pub answered : Answered answers start read kept out st
 
--- all that was to be read is answered, line by line, a rest that no LF ends too
-pub record Finished (names : List (List ℕ)) (types : List LocalType) (given left took taken : Option (List ℕ)) (st : State) : Type 0 where
-  pub read : List ℕ
-  pub out : List ℕ
-  pub bytes : Consumes given left read
-  pub over : IsAtEnd left
-  pub sent : Appends took taken out
-  pub answered : AnsweredAll names types read out st
+  -- no more is read: each whole line of what was read is answered
+  pub record Stopped : Type 0 where
+    pub kept : List ℕ
+    pub st : S
+    pub going : Going kept st
+
+  -- all that was to be read is answered, line by line, a rest that no LF ends too
+  pub record Finished (st : S) : Type 0 where
+    pub read : List ℕ
+    pub out : List ℕ
+    pub bytes : Consumes before.left after.left read
+    pub over : IsAtEnd after.left
+    pub sent : Appends before.taken after.taken out
+    pub answered : AnsweredAll answers start read out st
+
+  -- what was written are answers to the first lines of what was read, up to some place in them
+  pub record Cut : Type 0 where
+    pub read : List ℕ
+    pub written : List ℕ
+    pub bytes : Consumes before.left after.left read
+    pub sent : Appends before.taken after.taken written
+    pub answered : AnsweredInPart answers start read written
 
 -- the source gave so many bytes, or more
-pub record GaveAtLeast (count : ℕ) (given left : Option (List ℕ)) : Type 0 where
+pub record GaveAtLeast (count : ℕ) (before after : Streams) : Type 0 where
   pub read : List ℕ
-  pub bytes : Consumes given left read
+  pub bytes : Consumes before.left after.left read
   pub many : count ≤ length read
 
--- what was written are answers to the first lines of what was read, up to some place in them
-pub record Cut (names : List (List ℕ)) (types : List LocalType) (given left took taken : Option (List ℕ)) : Type 0 where
-  pub read : List ℕ
-  pub written : List ℕ
-  pub bytes : Consumes given left read
-  pub sent : Appends took taken written
-  pub answered : AnsweredInPart names types read written
+-- it was read from as often as it may be, and gave as many bytes or more
+pub record ReadMost (before after : Streams) : Type 0 where
+  pub reads : after.reads ≡ before.reads + max_reads
+  pub gave : GaveAtLeast max_reads before after
 
--- what holds after one read and its answers: at the end, before it, after a read fault, or after another fault
-abbrev pub AfterTurn : Result Bool ReplayFault → Type 0 → Type 0 → Type 0 → Type 0 → Type 0
-AfterTurn (Ok true) at_end before_it stopped cut = at_end
-AfterTurn (Ok false) at_end before_it stopped cut = before_it
-AfterTurn (Err ReadFault) at_end before_it stopped cut = stopped
-AfterTurn (Err WriteFault) at_end before_it stopped cut = cut
-AfterTurn (Err Memory) at_end before_it stopped cut = cut
-AfterTurn (Err (Open fault)) at_end before_it stopped cut = ⊥
-AfterTurn (Err Turns) at_end before_it stopped cut = ⊥
+-- What one read and its answers lead to, by their result. First are the streams before the run.
+module _ {S : Type 0} (answers : Answering S) (start : S) (first before after : Streams) where
+  abbrev pub Turned : List ℕ → S → Result Bool ReplayFault → Type 0
+  Turned kept st (Ok true) = Finished answers start first after st × Counts before after 0 1 0
+  Turned kept st (Ok false) =
+      Going answers start first after kept st × Counts before after 0 0 0 × GaveAtLeast 1 before after
+  Turned kept st (Err ReadFault) = Stopped answers start first after × Counts before after 1 0 0
+  Turned kept st (Err WriteFault) = Cut answers start first after × CountsByEnd before after 1
+  Turned kept st (Err Memory) = Cut answers start first after × CountsByEnd before after 0
+  Turned kept st (Err Turns) = ⊥
+  Turned kept st (Err (Open fault)) = ⊥
+
+-- What a run comes to that began, by its result: what was answered, how many reads failed and ended,
+-- and how many writes failed.
+module _ {S : Type 0} (answers : Answering S) (start : S) (before after : Streams) where
+  abbrev pub Ran : Result S ReplayFault → Type 0
+  Ran (Ok st) = Finished answers start before after st × Counts before after 0 1 0
+  Ran (Err ReadFault) = Stopped answers start before after × Counts before after 1 0 0
+  Ran (Err Turns) = Stopped answers start before after × Counts before after 0 0 0 × ReadMost before after
+  Ran (Err WriteFault) = Cut answers start before after × CountsByEnd before after 1
+  Ran (Err Memory) = Cut answers start before after × CountsByEnd before after 0
+  Ran (Err (Open fault)) = ⊥
+
+-- why a session with these types isn't opened; want of memory is no fault of opening
+abbrev pub KeepsShut : List LocalType → OpenFault → Type 0
+KeepsShut types RoleCount = ¬ (HasRoleCount types)
+KeepsShut types (BadPeer role) = IsFirstBad types role
+KeepsShut types OutOfMemory = ⊥
 
 -- how a session that can't be opened is reported
 abbrev pub of_opening : OpenFault → ReplayFault
 of_opening OutOfMemory = Memory
 of_opening RoleCount = Open RoleCount
 of_opening (BadPeer role) = Open (BadPeer role)
-
--- what holds at each fault but a fault of opening
-abbrev pub UnlessOpening : ReplayFault → Type 0 → Type 0
-UnlessOpening (Open fault) fact = ⊤
-UnlessOpening ReadFault fact = fact
-UnlessOpening WriteFault fact = fact
-UnlessOpening Turns fact = fact
-UnlessOpening Memory fact = fact
-
--- how many reads failed where this is the fault
-abbrev pub failed_reads : ReplayFault → ℕ
-failed_reads (Open fault) = 0
-failed_reads ReadFault = 1
-failed_reads WriteFault = 0
-failed_reads Turns = 0
-failed_reads Memory = 0
-
--- how many writes failed where this is the fault
-abbrev pub failed_writes : ReplayFault → ℕ
-failed_writes (Open fault) = 0
-failed_writes ReadFault = 0
-failed_writes WriteFault = 1
-failed_writes Turns = 0
-failed_writes Memory = 0
-
--- how many calls of the source have failed after this answer
-abbrev pub after_reads : {A : Type 0} → Result A ReplayFault → ℕ → ℕ
-after_reads (Ok x) before = before
-after_reads (Err fault) before = before + failed_reads fault
-
--- how many calls of the sink have failed after this answer
-abbrev pub after_writes : {A : Type 0} → Result A ReplayFault → ℕ → ℕ
-after_writes (Ok x) before = before
-after_writes (Err fault) before = before + failed_writes fault
-
--- why a session with these types isn't opened; want of memory is told as such, and not as a fault of opening
-abbrev pub KeepsShut : List LocalType → OpenFault → Type 0
-KeepsShut types RoleCount = ¬ (HasRoleCount types)
-KeepsShut types (BadPeer role) = IsFirstBad types role
-KeepsShut types OutOfMemory = ⊥
 
 -- why no run begins: the session isn't opened, or memory ran out
 abbrev pub KeepsFromBeginning : List LocalType → ReplayFault → Type 0
@@ -110,3 +103,13 @@ KeepsFromBeginning types Memory = CanOpen types
 KeepsFromBeginning types ReadFault = ⊥
 KeepsFromBeginning types WriteFault = ⊥
 KeepsFromBeginning types Turns = ⊥
+
+-- what the run of a script on a new session comes to: the session is opened with the types and the
+-- script run; or it can't be opened, and nothing is read or written
+module _ (names : List (List ℕ)) (types : List LocalType) (before after : Streams) where
+  abbrev pub Outcome : Result Machine ReplayFault → Type 0
+  Outcome (Ok session) = CanOpen types
+      × Ran (AnswersLine names types) initial before after (Ok session.state)
+      × (types_of session ≡ types)
+  Outcome (Err (Open fault)) = KeepsShut types fault × (after ≡ before)
+  Outcome (Err fault) = CanOpen types × Ran (AnswersLine names types) initial before after (Err fault)

@@ -1,11 +1,14 @@
 //! Lines from blocks of bytes.
-ghost use Rattle.std.specs.Prelude.{◌≡◌, ◌≢◌, ◌+◌, ◌<◌, ◌≤◌, ◌++◌, ℕ, OnOk, OnErr, IfSome, IfNone, length, take, slice_index};
-ghost use Rattle.mps_wire.specs.Lines.{HasNoBreak, front};
+ghost use Rattle.std.specs.Prelude.{◌≡◌, ◌<◌, ◌≤◌, ◌++◌, OnOk, OnErr, IfSome, IfNone, length, take};
+ghost use Rattle.std.specs.Prelude.{slice_index};
+ghost use Rattle.mps_wire.specs.Lines.{HasNoBreak, front, most_kept};
 
+use crate::script::MAX_LINE;
 use std::alloc::AllocError;
 
-/// How many bytes of a line are kept while it comes: one more than a line may have, which tell that it is too long.
-pub(crate) const MOST_KEPT: usize = 513;
+/// How many bytes of a line are kept while it comes: one more than a line may have, which tells
+/// that it is too long.
+pub(crate) const MOST_KEPT: usize = MAX_LINE + 1;
 
 /// Where the first line ends.
 pub(crate) fn line_end(bytes: &[u8]) -> Option<usize>
@@ -19,7 +22,7 @@ pub(crate) fn line_end(bytes: &[u8]) -> Option<usize>
 
 /// Adds to the front of a line what comes of it. More than `MOST_KEPT` bytes are dropped.
 pub(crate) fn keep(line: &mut Vec<u8>, piece: &[u8]) -> Result<(), AllocError>
-    requires { length line.old.items ≤ 513 }
+    requires { length line.old.items ≤ most_kept }
     ensures ok { OnOk result (line.new.items ≡ front (line.old.items ++ piece.now)) }
     ensures err { OnErr result (line.new.items ≡ line.old.items) }
 {

@@ -1,17 +1,18 @@
 //! A script over streams.
-ghost use Rattle.std.specs.Prelude.{◌≡◌, ◌↔◌, ◌⊎◌, ◌+◌, ◌<◌, ◌≤◌, ◌^◌, ◌++◌, ℕ, false, Option, List, [], length, map, OnOk, OnErr, IfOk, IfErr, IsErr, IsErrOf};
+ghost use Rattle.std.specs.Prelude.{◌≡◌, ◌+◌, ◌<◌, ◌≤◌, ◌^◌, ◌++◌, ℕ, List, [], length, map, OnOk, OnErr, IfOk, IfErr};
 ghost use Rattle.std.specs.List.{AllByRecursion};
-ghost use Rattle.std.specs.Io.KnownBytes.{Appends, Consumes, IsAtEnd};
+ghost use Rattle.std.specs.Io.KnownBytes.{Appends};
 ghost use Rattle.mps_local.specs.Local.{plain};
 ghost use Rattle.mps_machine.specs.Machine.{initial};
-ghost use Rattle.mps_wire.specs.Lines.{HasNoBreak, ended, front};
-ghost use Rattle.mps_wire.specs.declared.script.ReplayFault.TheVariants.{Memory as OutOfMemory};
-ghost use Rattle.mps_wire.specs.Flow.{TookFront};
-ghost use Rattle.mps_wire.specs.Runs.{Going, Finished, Cut, AfterTurn, Stopped, GaveAtLeast, UnlessOpening, after_reads, after_writes, of_opening, KeepsShut, KeepsFromBeginning};
-ghost use Rattle.mps_wire.specs.Script.{RepliesTo, AnswersLine, Answered, AnsweredAll, AnsweredInPart};
 ghost use Rattle.mps_session.specs.Peers.{CanOpen};
 ghost use Rattle.mps_session.specs.Rows.{IsMessageOnly};
-ghost use Rattle.mps_session.specs.declared.open.OpenFault.{OpenFault};
+ghost use Rattle.mps_wire.specs.Answers.{TakesBytes, TakesEnd};
+ghost use Rattle.mps_wire.specs.Flow.{TookFront};
+ghost use Rattle.mps_wire.specs.Lines.{ended, most_kept};
+ghost use Rattle.mps_wire.specs.Runs.{Going, KeepsFromBeginning, Outcome, Turned, max_reads, of_opening};
+ghost use Rattle.mps_wire.specs.Script.{AnswersLine, RepliesTo, lines_of, place_of, types_of};
+ghost use Rattle.mps_wire.specs.Streams.{streams};
+ghost use Rattle.mps_wire.specs.declared.script.ReplayFault.TheVariants.{Memory as OutOfMemory};
 
 use crate::flow::send_all;
 use crate::lines::{MOST_KEPT, keep, line_end};
@@ -70,7 +71,8 @@ impl From<OpenFault> for ReplayFault {
 fn reply_to_line(alloc: Global, roles: &Roles, session: &mut Session, line: &[u8]) -> Reply
     requires { length roles.now ≡ length session.old.types }
     ensures types { session.new.types ≡ session.old.types }
-    ensures reply { RepliesTo roles.now (map plain session.old.types) line.now session.old.state result session.new.state }
+    ensures reply { RepliesTo roles.now (types_of session.old) line.now session.old.state
+        result session.new.state }
 {
     if line.len() > MAX_LINE || !line.is_ascii() {
         return Reply::BadLine;
@@ -95,8 +97,10 @@ fn answer_line(
 ) -> Result<(), AllocError>
     requires { length roles.now ≡ length session.old.types }
     ensures types { session.new.types ≡ session.old.types }
-    ensures answer { OnOk result ((text : List ℕ) × (answers.new.items ≡ answers.old.items ++ ended text)
-        × AnswersLine roles.now (map plain session.old.types) line.now session.old.state text session.new.state) }
+    ensures answer { OnOk result ((text : List ℕ)
+        × (answers.new.items ≡ answers.old.items ++ ended text)
+        × AnswersLine roles.now (types_of session.old) line.now session.old.state
+        text session.new.state) }
 {
     let reply = reply_to_line(alloc, roles, session, line);
     reply.write(answers)?;
@@ -123,8 +127,10 @@ impl Run {
         ensures roles { self.new.roles ≡ self.old.roles }
         ensures types { self.new.session.types ≡ self.old.session.types }
         ensures next { OnOk result (self.new.line.items ≡ []) }
-        ensures answer { OnOk result ((text : List ℕ) × (self.new.answers.items ≡ self.old.answers.items ++ ended text)
-            × AnswersLine self.old.roles (map plain self.old.session.types) self.old.line.items self.old.session.state text self.new.session.state) }
+        ensures answer { OnOk result ((text : List ℕ)
+            × (self.new.answers.items ≡ self.old.answers.items ++ ended text)
+            × lines_of self.old self.old.line.items self.old.session.state
+            text self.new.session.state) }
     {
         let line = self.line.as_slice();
         answer_line(
@@ -141,14 +147,12 @@ impl Run {
     /// Takes the next bytes, and answers each line that they end.
     fn feed(&mut self, bytes: &[u8]) -> Result<(), AllocError>
         requires named { length self.old.roles ≡ length self.old.session.types }
-        requires kept { length self.old.line.items ≤ 513 }
+        requires kept { length self.old.line.items ≤ most_kept }
         ensures roles { self.new.roles ≡ self.old.roles }
         ensures types { self.new.session.types ≡ self.old.session.types }
-        ensures kept { OnOk result (length self.new.line.items ≤ 513) }
-        ensures answered { OnOk result ((before out : List ℕ)
-            → Answered self.old.roles (map plain self.old.session.types) initial before self.old.line.items out self.old.session.state
-            → (more : List ℕ) × (self.new.answers.items ≡ self.old.answers.items ++ more)
-            × Answered self.old.roles (map plain self.old.session.types) initial (before ++ bytes.now) self.new.line.items (out ++ more) self.new.session.state) }
+        ensures kept { OnOk result (length self.new.line.items ≤ most_kept) }
+        ensures answered { OnOk result (TakesBytes (lines_of self.old) initial bytes.now
+            (place_of self.old) (place_of self.new)) }
     {
         let mut rest = bytes;
         while let Some(k) = line_end(rest) {
@@ -164,10 +168,8 @@ impl Run {
         requires { length self.old.roles ≡ length self.old.session.types }
         ensures roles { self.new.roles ≡ self.old.roles }
         ensures types { self.new.session.types ≡ self.old.session.types }
-        ensures answered { OnOk result ((bytes out : List ℕ)
-            → Answered self.old.roles (map plain self.old.session.types) initial bytes self.old.line.items out self.old.session.state
-            → (more : List ℕ) × (self.new.answers.items ≡ self.old.answers.items ++ more)
-            × AnsweredAll self.old.roles (map plain self.old.session.types) bytes (out ++ more) self.new.session.state) }
+        ensures answered { OnOk result (TakesEnd (lines_of self.old) initial
+            (place_of self.old) (place_of self.new)) }
         ensures kept { OnOk result (self.new.line.items ≡ []) }
     {
         if self.line.is_empty() {
@@ -180,18 +182,20 @@ impl Run {
 /// Writes the answers that wait.
 fn send_answers<W: Sink>(writer: &mut W, answers: &mut Vec<u8>) -> Result<(), Failed>
     requires { W.failed_calls writer.old < 2 ^ 63 }
-    ensures sent { OnOk result (Appends (W.taken writer.old) (W.taken writer.new) answers.old.items) }
+    ensures sent { OnOk result (Appends (W.taken writer.old) (W.taken writer.new)
+        answers.old.items) }
     ensures none_wait { OnOk result (answers.new.items ≡ []) }
     ensures counted { OnOk result (W.failed_calls writer.new ≡ W.failed_calls writer.old) }
     ensures failed { OnErr result (W.failed_calls writer.new ≡ W.failed_calls writer.old + 1) }
-    ensures front { OnErr result (TookFront (W.taken writer.old) (W.taken writer.new) answers.old.items) }
+    ensures front { OnErr result (TookFront (W.taken writer.old) (W.taken writer.new)
+        answers.old.items) }
 {
     send_all(writer, answers.as_slice())?;
     answers.clear();
     Ok(())
 }
 
-/// Reads once, and writes the answers to the lines that are whole then. Says whether that was the end.
+/// Reads once and answers the lines that are whole then. Says whether that was the end.
 fn turn<R: Source, W: Sink>(
     reader: &mut R,
     writer: &mut W,
@@ -199,26 +203,22 @@ fn turn<R: Source, W: Sink>(
     block: &mut [u8],
 ) -> Result<bool, ReplayFault>
     requires named { length run.old.roles ≡ length run.old.session.types }
-    requires short { length run.old.line.items ≤ 513 }
+    requires short { length run.old.line.items ≤ most_kept }
     requires none_wait { run.old.answers.items ≡ [] }
     requires room { 0 < length block.old }
     requires reads { R.calls reader.old < 2 ^ 63 }
     requires writes { W.failed_calls writer.old < 2 ^ 63 }
     ensures roles { run.new.roles ≡ run.old.roles }
     ensures types { run.new.session.types ≡ run.old.session.types }
-    ensures short { OnOk result (length run.new.line.items ≤ 513) }
+    ensures short { OnOk result (length run.new.line.items ≤ most_kept) }
     ensures none_wait { OnOk result (run.new.answers.items ≡ []) }
-    ensures calls { R.calls reader.new ≡ R.calls reader.old + 1 }
-    ensures reads { R.failed_calls reader.new ≡ after_reads result (R.failed_calls reader.old) }
-    ensures writes { W.failed_calls writer.new ≡ after_writes result (W.failed_calls writer.old) }
-    ensures gave { IfOk result (λ over. over ≡ false → GaveAtLeast 1 (R.remaining reader.old) (R.remaining reader.new)) }
-    ensures step { (given took : Option (List ℕ))
-        → Going run.old.roles (map plain run.old.session.types) given (R.remaining reader.old) took (W.taken writer.old) run.old.line.items run.old.session.state
-        → AfterTurn result
-        (Finished run.old.roles (map plain run.old.session.types) given (R.remaining reader.new) took (W.taken writer.new) run.new.session.state)
-        (Going run.old.roles (map plain run.old.session.types) given (R.remaining reader.new) took (W.taken writer.new) run.new.line.items run.new.session.state)
-        (Going run.old.roles (map plain run.old.session.types) given (R.remaining reader.new) took (W.taken writer.new) run.old.line.items run.old.session.state)
-        (Cut run.old.roles (map plain run.old.session.types) given (R.remaining reader.new) took (W.taken writer.new)) }
+    ensures reads { R.calls reader.new ≡ R.calls reader.old + 1 }
+    ensures step { (first : _)
+        → Going (lines_of run.old) initial first (streams R.Source W.Sink reader.old writer.old)
+        run.old.line.items run.old.session.state
+        → Turned (lines_of run.old) initial first (streams R.Source W.Sink reader.old writer.old)
+        (streams R.Source W.Sink reader.new writer.new)
+        run.new.line.items run.new.session.state result }
 {
     let Ok(count) = reader.read(block) else {
         return Err(ReplayFault::ReadFault);
@@ -241,7 +241,10 @@ fn turn<R: Source, W: Sink>(
 fn begin(alloc: Global, roles: Roles, types: Vec<Local>) -> Result<Run, ReplayFault>
     requires messages { AllByRecursion IsMessageOnly (map plain types.items) }
     ensures roles { IfOk result (λ run. run.roles ≡ roles) }
-    ensures session { IfOk result (λ run. run.session ≡ record { types = types.items; state = initial }) }
+    ensures session { IfOk result (λ run. run.session ≡ record {
+      types = types.items;
+      state = initial;
+    }) }
     ensures line { IfOk result (λ run. run.line.items ≡ []) }
     ensures answers { IfOk result (λ run. run.answers.items ≡ []) }
     ensures can { OnOk result (CanOpen (map plain types.items)) }
@@ -256,10 +259,11 @@ fn begin(alloc: Global, roles: Roles, types: Vec<Local>) -> Result<Run, ReplayFa
     })
 }
 
-/// Runs the script that the reader gives, on a new session of these roles and types, and writes an answer to each line.
+/// Runs the script that the reader gives, on a new session of these roles and types, and writes an
+/// answer to each line.
 ///
-/// The answers to the lines of one read are written before the next read. A last line needs no LF. The reader is asked for
-/// `BLOCK` bytes at a time, `MAX_READS` times at most.
+/// The answers to the lines of one read are written before the next read. A last line needs no LF.
+/// The reader is asked for `BLOCK` bytes at a time, `MAX_READS` times at most.
 pub fn run_script<R: Source, W: Sink>(
     alloc: Global,
     reader: &mut R,
@@ -271,21 +275,10 @@ pub fn run_script<R: Source, W: Sink>(
     requires messages { AllByRecursion IsMessageOnly (map plain types.items) }
     requires reads { R.calls reader.old < 2 ^ 62 }
     requires writes { W.failed_calls writer.old < 2 ^ 62 }
-    ensures types { IfOk result (λ session. session.types ≡ types.items) }
-    ensures done { IfOk result (λ session. Finished roles (map plain types.items) (R.remaining reader.old) (R.remaining reader.new) (W.taken writer.old) (W.taken writer.new) session.state) }
-    ensures opened { OnOk result (CanOpen (map plain types.items)) }
-    ensures faults { IfErr result (λ fault. UnlessOpening fault (CanOpen (map plain types.items))) }
-    ensures shut { (fault : OpenFault) → IsErrOf result (ReplayFault.Open fault) → KeepsShut (map plain types.items) fault
-        × (R.calls reader.new ≡ R.calls reader.old) × (R.remaining reader.new ≡ R.remaining reader.old) × (W.taken writer.new ≡ W.taken writer.old) }
-    ensures read_fault { IsErrOf result ReplayFault.ReadFault → Stopped roles (map plain types.items) (R.remaining reader.old) (R.remaining reader.new) (W.taken writer.old) (W.taken writer.new) }
-    ensures turns { IsErrOf result ReplayFault.Turns → Stopped roles (map plain types.items) (R.remaining reader.old) (R.remaining reader.new) (W.taken writer.old) (W.taken writer.new)
-        × (R.calls reader.new ≡ R.calls reader.old + 1000000) }
-    ensures long { IsErrOf result ReplayFault.Turns → GaveAtLeast 1000000 (R.remaining reader.old) (R.remaining reader.new) }
-    ensures write_fault { IsErrOf result ReplayFault.WriteFault → Cut roles (map plain types.items) (R.remaining reader.old) (R.remaining reader.new) (W.taken writer.old) (W.taken writer.new) }
-    ensures memory { IsErrOf result ReplayFault.Memory → Cut roles (map plain types.items) (R.remaining reader.old) (R.remaining reader.new) (W.taken writer.old) (W.taken writer.new) }
-    ensures calls { R.calls reader.new ≤ R.calls reader.old + 1000000 }
-    ensures reads { R.failed_calls reader.new ≡ after_reads result (R.failed_calls reader.old) }
-    ensures writes { W.failed_calls writer.new ≡ after_writes result (W.failed_calls writer.old) }
+    ensures outcome { Outcome roles (map plain types.items)
+        (streams R.Source W.Sink reader.old writer.old)
+        (streams R.Source W.Sink reader.new writer.new) result }
+    ensures reads { R.calls reader.new ≤ R.calls reader.old + max_reads }
 {
     let mut run = begin(alloc, roles, types)?;
     let mut block = vec![in alloc; 0u8; BLOCK]?;

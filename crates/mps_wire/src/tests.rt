@@ -45,7 +45,8 @@ fn types(alloc: Global, rows: &[&[Row]]) -> Result<Vec<Local>, Fail> {
     Ok(types)
 }
 
-// Runs the pieces as a script of the roles a, b and so on, of a source that fails from a call on, with room for so many bytes.
+// Runs the pieces as a script of the roles a, b and so on, of a source that fails from a call on,
+// with room for so many bytes.
 fn outcome(
     alloc: Global,
     rows: &[&[Row]],
@@ -238,6 +239,37 @@ fn refuses_a_message_of_another_sort(rt: HostRuntime) -> Result<(), Fail> {
         written.as_slice(),
         b"done 1\nrefused mismatch\n".as_slice()
     );
+    Ok(())
+}
+
+#[test]
+fn passes_values_of_each_sort(rt: HostRuntime) -> Result<(), Fail> {
+    let rows: &[&[Row]] = &[
+        &[
+            (true, 1, Sort::Text),
+            (false, 1, Sort::Bool),
+            (true, 1, Sort::Text),
+            (false, 1, Sort::Bool),
+            (true, 1, Sort::Int),
+        ],
+        &[
+            (false, 0, Sort::Text),
+            (true, 0, Sort::Bool),
+            (false, 0, Sort::Text),
+            (true, 0, Sort::Bool),
+            (false, 0, Sort::Int),
+        ],
+    ];
+    let script = "a send b \"good day\"\nb recv a x\nb send a true\na recv b y\n\
+        a send b \"\"\nb recv a x\nb send a false\na recv b z\n\
+        a send b -9223372036854775808\nb recv a x\n";
+    let want = "done 1\ndone 2 \"good day\"\ndone 3\ndone 4 true\n\
+        done 5\ndone 6 \"\"\ndone 7\ndone 8 false\n\
+        done 9\ndone 10 -9223372036854775808\n";
+    let whole = answers(rt.alloc(), rows, in_one_piece(rt.alloc(), script)?)?;
+    assert_eq!(rt; whole.as_slice(), want.as_bytes());
+    let single = answers(rt.alloc(), rows, in_single_bytes(rt.alloc(), script)?)?;
+    assert_eq!(rt; single.as_slice(), want.as_bytes());
     Ok(())
 }
 

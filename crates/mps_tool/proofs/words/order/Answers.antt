@@ -1,5 +1,5 @@
 use Rattle.mps_tool.specs.Faults.{IsUseFault}
-use Rattle.mps_tool.proofs.Faults.{told}
+use Rattle.mps_tool.proofs.Causes.{told}
 use Rattle.mps_tool.proofs.words.order.Goals as goal
 
 pub returns-in_err-commands : goal.returns-in_err-commands

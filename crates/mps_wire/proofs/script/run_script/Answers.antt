@@ -1,104 +1,105 @@
-use Rattle.std.proofs.Common.{◌+◌, length, map, Ok, Err, refl, sym, ap, ◌∙◌, arith}
-use Rattle.mps_session.specs.Peers.{CanOpen}
+use Rattle.std.proofs.Common.{length, map, Ok, Err, sym, ap, ◌∙◌, arith}
 use Rattle.mps_local.specs.Local.{plain}
-use Rattle.mps_wire.specs.Runs.{UnlessOpening, failed_reads, failed_writes}
+use Rattle.mps_machine.specs.Machine.{initial}
+use Rattle.mps_wire.specs.Runs.{Outcome, max_reads}
+use Rattle.mps_wire.specs.Script.{AnswersLine, types_of}
+use Rattle.mps_wire.specs.Streams.{streams}
+use Rattle.mps_wire.specs.declared.script.TheConstants.{BLOCK}
 use Rattle.mps_wire.proofs.Bytes.{same_room}
-use Rattle.mps_wire.proofs.Faults.{unless_opening, shut_or_starved, reads_of, writes_of, if_fault, shut_of}
-use Rattle.mps_wire.proofs.Turning.{begun, starved_first, gave_none, gave_more}
-use Rattle.mps_wire.proofs.Running.{at_end, before_end, unread, unwritten, out_of_memory, not_open, not_turns}
+use Rattle.mps_wire.proofs.Carrying.{same_types, turned}
+use Rattle.mps_wire.proofs.Outcomes.{handed_on, same_counts, counts_more, breaks, at_end, before_end, starts_starved, not_begun}
+use Rattle.mps_wire.proofs.Turning.{begun, gave_none, gave_more, gave_fewer}
 use Rattle.mps_wire.proofs.script.run_script.Goals as goal
 
-pub returns-in_err-run-clause-memory : goal.returns-in_err-run-clause-memory
-returns-in_err-run-clause-memory g c = λ e. starved_first _ _ _ _
+pub returns-in_err-run-clause-outcome : goal.returns-in_err-run-clause-outcome
+returns-in_err-run-clause-outcome g c =
+    let types = map plain c.args.types.items in
+    let first = streams g.R.Source g.W.Sink c.args.reader.now c.args.writer.now in
+    handed_on _ _ (Outcome c.args.roles types first first) c.from_residual.ensures.1 (not_begun c.args.roles types first _ c.in_err-run.ensures.faults)
 
-pub returns-in_err-block-clause-memory : goal.returns-in_err-block-clause-memory
-returns-in_err-block-clause-memory g c = λ e. starved_first _ _ _ _
+pub returns-in_err-block-clause-outcome : goal.returns-in_err-block-clause-outcome
+returns-in_err-block-clause-outcome g c =
+    let types = map plain c.args.types.items in
+    let first = streams g.R.Source g.W.Sink c.args.reader.now c.args.writer.now in
+    handed_on _ _ (Outcome c.args.roles types first first) c.from_residual-in_err-block.ensures.1 (starts_starved c.args.roles types first c.in_ok-run.ensures.can)
 
 pub loop-init : goal.loop-init
-loop-init g c = record {
-  roles = c.in_ok-run.ensures.roles;
-  types = ap (λ s. s.types) c.in_ok-run.ensures.session;
-  short = omega (arith, ap length c.in_ok-run.ensures.line);
-  none_waits = c.in_ok-run.ensures.answers;
-  room = omega (arith, c.in_ok-block.block.ok.0, c.in_ok-block.ensures.len);
-  calls = omega arith;
-  none_unread = refl;
-  none_unsent = refl;
-  gave = gave_none _;
-  going = begun _ _ _ _ _ _ c.in_ok-run.ensures.line (ap (λ s. s.state) c.in_ok-run.ensures.session);
-}
+loop-init g c =
+    let first = streams g.R.Source g.W.Sink c.args.reader.now c.args.writer.now in
+    record {
+      roles = c.in_ok-run.ensures.roles;
+      named = ap length c.in_ok-run.ensures.roles ∙ c.requires.named ∙ sym (ap (λ s. length s.types) c.in_ok-run.ensures.session);
+      types = ap types_of c.in_ok-run.ensures.session;
+      short = omega (arith, ap length c.in_ok-run.ensures.line);
+      none_waits = c.in_ok-run.ensures.answers;
+      room = omega (arith, c.in_ok-block.block.ok.0, c.in_ok-block.ensures.len);
+      reads = omega arith;
+      counts = same_counts first;
+      gave = gave_none first;
+      going = begun (AnswersLine c.args.roles (map plain c.args.types.items)) initial first _ _ c.in_ok-run.ensures.line (ap (λ s. s.state) c.in_ok-run.ensures.session);
+    }
 
-pub returns-in_err-turn-clause-shut : goal.returns-in_err-turn-clause-shut
-returns-in_err-turn-clause-shut g c = λ fault e.
-    absurd (not_open _ _ _ _ c.loop.invariant.roles c.loop.invariant.types _ _ _ _ _ _ _ _ _ _ _ c.in_err-turn.ensures.step c.loop.invariant.going fault (ap Err (sym (rw e at c.from_residual-in_err-turn.ensures.1))))
+pub returns-in_err-turn-clause-outcome : goal.returns-in_err-turn-clause-outcome
+returns-in_err-turn-clause-outcome g c =
+    let types = map plain c.args.types.items in
+    let first = streams g.R.Source g.W.Sink c.args.reader.now c.args.writer.now in
+    let old = streams g.R.Source g.W.Sink c.loop.reader c.loop.writer in
+    let now = streams g.R.Source g.W.Sink c.turn.new.reader c.turn.new.writer in
+    let i = c.loop.invariant in
+    handed_on _ _ (Outcome c.args.roles types first now) c.from_residual-in_err-turn.ensures.1
+    (breaks first old now i.counts c.args.roles types c.turn.new.run.line.items c.turn.new.run.session.state c.in_err-turn.field-0.0 c.in_ok-run.ensures.can
+    (turned c.args.roles c.loop.run.roles types (types_of c.loop.run.session) i.roles i.types old now c.loop.run.line.items c.turn.new.run.line.items c.loop.run.session.state c.turn.new.run.session.state (Err c.in_err-turn.field-0.0) c.in_err-turn.ensures.step first i.going))
 
-pub returns-in_err-turn-clause-read_fault : goal.returns-in_err-turn-clause-read_fault
-returns-in_err-turn-clause-read_fault g c = λ e.
-    unread _ _ _ _ c.loop.invariant.roles c.loop.invariant.types _ _ _ _ _ _ _ _ _ _ _ c.in_err-turn.ensures.step c.loop.invariant.going (ap Err (sym (rw e at c.from_residual-in_err-turn.ensures.1)))
-
-pub returns-in_err-turn-clause-turns : goal.returns-in_err-turn-clause-turns
-returns-in_err-turn-clause-turns g c = λ e.
-    absurd (not_turns _ _ _ _ c.loop.invariant.roles c.loop.invariant.types _ _ _ _ _ _ _ _ _ _ _ c.in_err-turn.ensures.step c.loop.invariant.going (ap Err (sym (rw e at c.from_residual-in_err-turn.ensures.1))))
-
-pub returns-in_err-turn-clause-long : goal.returns-in_err-turn-clause-long
-returns-in_err-turn-clause-long g c = λ e.
-    absurd (not_turns _ _ _ _ c.loop.invariant.roles c.loop.invariant.types _ _ _ _ _ _ _ _ _ _ _ c.in_err-turn.ensures.step c.loop.invariant.going (ap Err (sym (rw e at c.from_residual-in_err-turn.ensures.1))))
-
-pub returns-in_err-turn-clause-write_fault : goal.returns-in_err-turn-clause-write_fault
-returns-in_err-turn-clause-write_fault g c = λ e.
-    unwritten _ _ _ _ c.loop.invariant.roles c.loop.invariant.types _ _ _ _ _ _ _ _ _ _ _ c.in_err-turn.ensures.step c.loop.invariant.going (ap Err (sym (rw e at c.from_residual-in_err-turn.ensures.1)))
-
-pub returns-in_err-turn-clause-memory : goal.returns-in_err-turn-clause-memory
-returns-in_err-turn-clause-memory g c = λ e.
-    out_of_memory _ _ _ _ c.loop.invariant.roles c.loop.invariant.types _ _ _ _ _ _ _ _ _ _ _ c.in_err-turn.ensures.step c.loop.invariant.going (ap Err (sym (rw e at c.from_residual-in_err-turn.ensures.1)))
-
-pub returns-then-branch-clause-done : goal.returns-then-branch-clause-done
-returns-then-branch-clause-done g c =
-    at_end _ _ _ _ c.loop.invariant.roles c.loop.invariant.types _ _ _ _ _ _ _ _ _ _ _ c.in_ok-turn.ensures.step c.loop.invariant.going (ap Ok c.if-branch.true)
+pub returns-then-branch-clause-outcome : goal.returns-then-branch-clause-outcome
+returns-then-branch-clause-outcome g c =
+    let types = map plain c.args.types.items in
+    let first = streams g.R.Source g.W.Sink c.args.reader.now c.args.writer.now in
+    let old = streams g.R.Source g.W.Sink c.loop.reader c.loop.writer in
+    let now = streams g.R.Source g.W.Sink c.turn.new.reader c.turn.new.writer in
+    let i = c.loop.invariant in
+    let done =
+    at_end (AnswersLine c.args.roles types) initial first old now c.turn.new.run.line.items c.turn.new.run.session.state c.in_ok-turn.field-0
+    (turned c.args.roles c.loop.run.roles types (types_of c.loop.run.session) i.roles i.types old now c.loop.run.line.items c.turn.new.run.line.items c.loop.run.session.state c.turn.new.run.session.state (Ok c.in_ok-turn.field-0) c.in_ok-turn.ensures.step first i.going) c.if-branch.true in (
+      c.in_ok-run.ensures.can,
+      (done.0, counts_more first old now i.counts 0 1 0 done.1),
+      same_types c.loop.run.session c.turn.new.run.session c.in_ok-turn.ensures.types ∙ i.types,
+    )
 
 pub loop-preserved : goal.loop-preserved
-loop-preserved g c = record {
-  roles = c.in_ok-turn.ensures.roles ∙ c.loop.invariant.roles;
-  types = c.in_ok-turn.ensures.types ∙ c.loop.invariant.types;
-  short = c.in_ok-turn.ensures.short;
-  none_waits = c.in_ok-turn.ensures.none_wait;
-  room = same_room c.loop.block.len 65536 c.turn.new.block c.loop.block.items c.loop.block.ok.0 c.loop.invariant.room;
-  calls = omega (arith, c.in_ok-turn.ensures.calls, c.loop.invariant.calls);
-  none_unread = c.in_ok-turn.ensures.reads ∙ c.loop.invariant.none_unread;
-  none_unsent = c.in_ok-turn.ensures.writes ∙ c.loop.invariant.none_unsent;
-  gave = gave_more _ _ _ _ c.loop.invariant.gave (c.in_ok-turn.ensures.gave c.if-branch.false);
-  going = before_end _ _ _ _ c.loop.invariant.roles c.loop.invariant.types _ _ _ _ _ _ _ _ _ _ _ c.in_ok-turn.ensures.step c.loop.invariant.going (ap Ok c.if-branch.false);
-}
+loop-preserved g c =
+    let types = map plain c.args.types.items in
+    let first = streams g.R.Source g.W.Sink c.args.reader.now c.args.writer.now in
+    let old = streams g.R.Source g.W.Sink c.loop.reader c.loop.writer in
+    let now = streams g.R.Source g.W.Sink c.turn.new.reader c.turn.new.writer in
+    let i = c.loop.invariant in
+    let on =
+    before_end (AnswersLine c.args.roles types) initial first old now c.turn.new.run.line.items c.turn.new.run.session.state c.in_ok-turn.field-0
+    (turned c.args.roles c.loop.run.roles types (types_of c.loop.run.session) i.roles i.types old now c.loop.run.line.items c.turn.new.run.line.items c.loop.run.session.state c.turn.new.run.session.state (Ok c.in_ok-turn.field-0) c.in_ok-turn.ensures.step first i.going) c.if-branch.false in
+    record {
+      roles = c.in_ok-turn.ensures.roles ∙ i.roles;
+      named = ap length c.in_ok-turn.ensures.roles ∙ i.named ∙ sym (ap length c.in_ok-turn.ensures.types);
+      types = same_types c.loop.run.session c.turn.new.run.session c.in_ok-turn.ensures.types ∙ i.types;
+      short = c.in_ok-turn.ensures.short;
+      none_waits = c.in_ok-turn.ensures.none_wait;
+      room = same_room c.loop.block.len BLOCK c.turn.new.block c.loop.block.items c.loop.block.ok.0 i.room;
+      reads = omega (arith, c.in_ok-turn.ensures.reads, i.reads);
+      counts = counts_more first old now i.counts 0 0 0 on.1;
+      gave = gave_more first old now _ i.gave on.2;
+      going = on.0;
+    }
 
-pub returns-clause-turns : goal.returns-clause-turns
-returns-clause-turns g c = λ e. (
-  record { kept = c.loop.run.line.items; st = c.loop.run.session.state; going = c.loop.invariant.going },
-  omega (arith, c.loop.invariant.calls, c.loop.auto.counter-end, c.loop-test.false),
-)
-
-pub returns-in_err-turn-clause-reads : goal.returns-in_err-turn-clause-reads
-returns-in_err-turn-clause-reads g c =
-    reads_of _ _ c.from_residual-in_err-turn.ensures.1 _ _ (c.in_err-turn.ensures.reads ∙ ap (λ n. n + failed_reads c.in_err-turn.field-0.0) c.loop.invariant.none_unread)
-
-pub returns-in_err-turn-clause-writes : goal.returns-in_err-turn-clause-writes
-returns-in_err-turn-clause-writes g c =
-    writes_of _ _ c.from_residual-in_err-turn.ensures.1 _ _ (c.in_err-turn.ensures.writes ∙ ap (λ n. n + failed_writes c.in_err-turn.field-0.0) c.loop.invariant.none_unsent)
-
-pub returns-in_err-turn-clause-faults : goal.returns-in_err-turn-clause-faults
-returns-in_err-turn-clause-faults g c =
-    if_fault _ _ c.from_residual-in_err-turn.ensures.1 (λ fault. UnlessOpening fault (CanOpen (map plain c.args.types.items)))
-    (unless_opening c.in_err-turn.field-0.0 (CanOpen (map plain c.args.types.items)) c.in_ok-run.ensures.can)
-
-pub returns-in_err-block-clause-faults : goal.returns-in_err-block-clause-faults
-returns-in_err-block-clause-faults g c =
-    if_fault _ _ c.from_residual-in_err-block.ensures.1 (λ fault. UnlessOpening fault (CanOpen (map plain c.args.types.items)))
-    c.in_ok-run.ensures.can
-
-pub returns-in_err-run-clause-faults : goal.returns-in_err-run-clause-faults
-returns-in_err-run-clause-faults g c =
-    if_fault _ _ c.from_residual.ensures.1 (λ fault. UnlessOpening fault (CanOpen (map plain c.args.types.items)))
-    (shut_or_starved (map plain c.args.types.items) _ c.in_err-run.ensures.faults)
-
-pub returns-in_err-run-clause-shut : goal.returns-in_err-run-clause-shut
-returns-in_err-run-clause-shut g c = λ fault e.
-    (shut_of (map plain c.args.types.items) _ _ fault c.from_residual.ensures.1 c.in_err-run.ensures.faults e, refl, refl, refl)
+pub returns-clause-outcome : goal.returns-clause-outcome
+returns-clause-outcome g c =
+    let i = c.loop.invariant in
+    let first = streams g.R.Source g.W.Sink c.args.reader.now c.args.writer.now in
+    let now = streams g.R.Source g.W.Sink c.loop.reader c.loop.writer in (
+      c.in_ok-run.ensures.can,
+      (
+        record { kept = c.loop.run.line.items; st = c.loop.run.session.state; going = i.going },
+        i.counts,
+        record {
+          reads = omega (arith, i.reads, c.loop.auto.counter-end, c.loop-test.false);
+          gave = gave_fewer first now c.loop.counter max_reads (omega (arith, c.loop.auto.counter-end, c.loop-test.false)) i.gave;
+        },
+      ),
+    )

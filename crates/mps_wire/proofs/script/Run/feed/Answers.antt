@@ -1,29 +1,41 @@
-use Rattle.std.proofs.Common.{◌≡◌, ℕ, ◌≤◌, List, length, map, refl, ap, ◌∙◌, subst, arith, length-take}
+use Rattle.std.proofs.Common.{◌≡◌, ℕ, ◌≤◌, List, length, refl, ap, ◌∙◌, arith, length-take}
 use Rattle.std.proofs.lemmas.Result.{on_ok_weaker}
-use Rattle.mps_local.specs.declared.Local.{Local}
-use Rattle.mps_local.specs.Local.{plain}
-use Rattle.mps_wire.specs.Lines.{front}
-use Rattle.mps_wire.specs.Script.{AnswersLine}
+use Rattle.mps_machine.specs.Machine.{State, initial}
+use Rattle.mps_wire.specs.Answers.{Answering}
+use Rattle.mps_wire.specs.Lines.{most_kept, front}
+use Rattle.mps_wire.specs.Script.{lines_of, place_of, types_of}
+use Rattle.mps_wire.proofs.Answering.{by_front}
+use Rattle.mps_wire.proofs.Carrying.{carried, same_types}
 use Rattle.mps_wire.proofs.Feeding.{feeding_begins, feeds_on, feeding_ends}
 use Rattle.mps_wire.proofs.script.Run.feed.Goals as goal
 
-front_short_enough : (line new : List ℕ) → new ≡ front line → length new ≤ 513
-front_short_enough line new e = omega (arith, ap length e, length-take 513 line)
+front_short_enough : (line new : List ℕ) → new ≡ front line → length new ≤ most_kept
+front_short_enough line new e = omega (arith, ap length e, length-take most_kept line)
 
 pub loop-k-init : goal.loop-k-init
-loop-k-init c = record { roles = refl; types = refl; short = c.requires.kept; feeding = feeding_begins _ _ _ _ _ _ }
+loop-k-init c = record {
+  roles = refl;
+  types = refl;
+  short = c.requires.kept;
+  feeding = feeding_begins (lines_of c.args.self.now) initial (place_of c.args.self.now) c.args.bytes.now;
+}
 
 pub loop-k-preserved : goal.loop-k-preserved
 loop-k-preserved c =
     let i = c.loop-k.invariant in
     let a = c.in_ok-end_line.ensures.answer in
-    let line = subst (λ (names : List (List ℕ)). AnswersLine names (map plain c.loop-k.self.session.types) c.keep.new.line.items c.loop-k.self.session.state a.0 c.end_line.new.self.session.state) i.roles a.2 in
-    let line' = subst (λ (types : List Local). AnswersLine c.args.self.now.roles (map plain types) c.keep.new.line.items c.loop-k.self.session.state a.0 c.end_line.new.self.session.state) i.types line in
+    let answers = lines_of c.args.self.now in
+    let line =
+    carried _ _ _ _ i.roles (same_types c.args.self.now.session c.loop-k.self.session i.types)
+    (λ (answers : Answering State). answers c.keep.new.line.items c.loop-k.self.session.state a.0 c.end_line.new.self.session.state) a.2 in
     record {
       roles = c.in_ok-end_line.ensures.roles ∙ i.roles;
       types = c.in_ok-end_line.ensures.types ∙ i.types;
       short = omega (arith, ap length c.in_ok-end_line.ensures.next);
-      feeding = feeds_on _ _ _ _ _ _ c.loop-k.rest.now c.loop-k.self.line.items c.keep.new.line.items _ _ _ _ _ a.0 c.in-Some.k i.feeding c.in-Some.ensures.within c.in-Some.ensures.end c.in-Some.ensures.before c.in_ok-keep.ensures.ok line' a.1 c.in_ok-end_line.ensures.next;
+      feeding =
+          feeds_on answers initial (place_of c.args.self.now) c.args.bytes.now (by_front c.args.self.now.roles (types_of c.args.self.now.session))
+          c.loop-k.rest.now c.keep.new.line.items a.0 c.in-Some.k (place_of c.loop-k.self) (place_of c.end_line.new.self) i.feeding
+          c.in-Some.ensures.within c.in-Some.ensures.end c.in-Some.ensures.before c.in_ok-keep.ensures.ok line a.1 c.in_ok-end_line.ensures.next;
     }
 
 pub returns-clause-kept : goal.returns-clause-kept
@@ -32,5 +44,7 @@ returns-clause-kept c = on_ok_weaker c.keep-2.result (λ e. front_short_enough _
 pub returns-clause-answered : goal.returns-clause-answered
 returns-clause-answered c =
     on_ok_weaker c.keep-2.result
-    (λ e before out a. feeding_ends _ _ _ _ _ _ c.loop-k.rest.now c.loop-k.self.line.items c.keep-2.new.line.items _ _ c.loop-k.invariant.feeding c.in_default.ensures.none e before out a)
+    (λ e. feeding_ends (lines_of c.args.self.now) initial (place_of c.args.self.now) c.args.bytes.now c.loop-k.rest.now (place_of c.loop-k.self)
+    (record { kept = c.keep-2.new.line.items; state = c.loop-k.self.session.state; waiting = c.loop-k.self.answers.items })
+    c.loop-k.invariant.feeding c.in_default.ensures.none e refl refl)
     c.keep-2.ensures.ok

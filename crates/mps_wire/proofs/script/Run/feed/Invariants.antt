@@ -1,5 +1,7 @@
-use Rattle.std.proofs.Common.{◌≡◌, ◌≤◌, length, map}
-use Rattle.mps_local.specs.Local.{plain}
+use Rattle.std.proofs.Common.{◌≡◌, ◌≤◌, length}
+use Rattle.mps_machine.specs.Machine.{initial}
+use Rattle.mps_wire.specs.Lines.{most_kept}
+use Rattle.mps_wire.specs.Script.{lines_of, place_of}
 use Rattle.mps_wire.proofs.Feeding.{Feeding}
 use Rattle.mps_wire.proofs.script.Run.feed.Given as goal
 
@@ -7,8 +9,8 @@ abbrev pub invariant-loop-k : goal.invariant-loop-k
 invariant-loop-k l = record {
   roles : l.self.roles ≡ l.fn.self.roles;
   types : l.self.session.types ≡ l.fn.self.session.types;
-  short : length l.self.line.items ≤ 513;
-  feeding : Feeding l.fn.self.roles (map plain l.fn.self.session.types) l.fn.self.line.items l.fn.self.session.state l.fn.self.answers.items l.bytes l.rest l.self.line.items l.self.session.state l.self.answers.items;
+  short : length l.self.line.items ≤ most_kept;
+  feeding : Feeding (lines_of l.fn.self) initial (place_of l.fn.self) l.bytes l.rest (place_of l.self);
 }
 
 abbrev pub decreases-loop-k : goal.decreases-loop-k

@@ -1,7 +1,9 @@
 use Rattle.std.proofs.Common.{◌≡◌, ℕ, Bool, false, ◌==◌, List, [], length}
 use Rattle.std.proofs.lemmas.Result.{on_ok_weaker}
+use Rattle.mps_machine.specs.Machine.{initial}
 use Rattle.mps_wire.specs.Lines.{ended}
-use Rattle.mps_wire.proofs.Answering.{all_with_rest}
+use Rattle.mps_wire.specs.Script.{lines_of, types_of}
+use Rattle.mps_wire.proofs.Answering.{all_with_rest, by_front}
 use Rattle.mps_wire.proofs.script.Run.finish.Goals as goal
 
 not_empty : (line : List ℕ) (len : ℕ) (empty : Bool) → len ≡ length line → empty ≡ (len == 0) → empty ≡ false → line ≡ [] → ⊥
@@ -9,6 +11,12 @@ not_empty line len empty n e f l = cc
 
 pub returns-clause-answered : goal.returns-clause-answered
 returns-clause-answered c =
+    let self = c.args.self.now in
     on_ok_weaker c.end_line.result
-    (λ a bytes out b. (ended a.0, a.1, all_with_rest _ _ bytes c.args.self.now.line.items out a.0 _ _ b (not_empty c.args.self.now.line.items _ c.is_empty.result c.args.self.now.line.ok.0 c.is_empty.ensures c.if-is_empty.false) a.2))
+    (λ a bytes out b. (
+      ended a.0,
+      a.1,
+      all_with_rest (lines_of self) initial (by_front self.roles (types_of self.session)) bytes self.line.items out a.0 _ _ b
+          (not_empty self.line.items _ c.is_empty.result self.line.ok.0 c.is_empty.ensures c.if-is_empty.false) a.2,
+    ))
     c.end_line.ensures.answer

@@ -1,0 +1,94 @@
+-- What the text of a protocol gives.
+use Rattle.std.specs.Prelude.{◌≡◌, ℕ, suc, ◌<◌, ◌≤◌, ⊤, List, [], ◌∷◌, ◌++◌, codes, length, slice_get, Some, None, IsSome}
+use Rattle.std.specs.List.{AllByRecursion}
+use Rattle.mps_global.specs.Global.{GlobalType}
+use Rattle.mps_global.specs.Faults.{fault_of}
+use Rattle.mps_local.specs.Local.{LocalType}
+use Rattle.mps_local.specs.Outcome.{CantMerge}
+use Rattle.mps_local.specs.Projection.{projection}
+use Rattle.mps_local.specs.Text.{name_at, local_text}
+use Rattle.mps_session.specs.Rows.{IsMessageOnly}
+use Rattle.mps_text.specs.Grammar.{SpellsText, IsWithinLimits}
+use Rattle.mps_text.specs.Faults.{IsFirstFault}
+use Rattle.mps_text.specs.declared.fault.TextKind.{TextKind}
+use Rattle.mps_text.specs.declared.fault.TextKind.TheVariants.{Memory as NoRoom}
+use Rattle.mps_tool.specs.Files.{longest}
+use Rattle.mps_tool.specs.declared.faults.ToolFault.{ToolFault}
+use Rattle.mps_tool.specs.declared.faults.ToolFault.TheVariants.{Text, Protocol, Projection, Unready, Memory}
+
+-- the text is a protocol of these roles, whose conversation is the tree
+pub record IsProtocolText (text : List ℕ) (roles : List (List ℕ)) (tree : GlobalType) : Type 0 where
+  pub spelled : SpellsText text roles tree
+  pub limits : IsWithinLimits text tree
+
+-- the local type of each role, in order
+pub record AreProjections (roles : List (List ℕ)) (tree : GlobalType) (types : List LocalType) : Type 0 where
+  pub count : length types ≡ length roles
+  pub each : (p : ℕ) → p < length roles → projection roles p tree ≡ slice_get types p
+
+-- the text is a protocol without faults, and these are its types
+pub record AreTypesOf (text : List ℕ) (roles : List (List ℕ)) (types : List LocalType) : Type 0 where
+  pub tree : GlobalType
+  pub read : IsProtocolText text roles tree
+  pub faultless : fault_of roles tree ≡ None
+  pub projected : AreProjections roles tree types
+
+-- the first fault of the text; want of memory is none of a text's
+abbrev pub IsTextFault : List ℕ → ℕ → TextKind → Type 0
+IsTextFault text at NoRoom = ⊥
+IsTextFault text at kind = IsFirstFault text at kind
+
+-- a role of the protocol has no projection, and each role before it has one
+pub record HasNoProjection (roles : List (List ℕ)) (tree : GlobalType) (name : List ℕ) (choice : ℕ) : Type 0 where
+  pub role : ℕ
+  pub named : slice_get roles role ≡ Some name
+  pub unmerged : CantMerge roles role 0 tree role choice
+  pub first : (p : ℕ) → p < role → IsSome (projection roles p tree)
+
+-- why the role at that place has no type: it has no projection, or want of memory
+abbrev pub IsUnprojected : List (List ℕ) → GlobalType → ℕ → ToolFault → Type 0
+IsUnprojected roles tree place (Projection name choice) = (slice_get roles place ≡ Some name) × CantMerge roles place 0 tree place choice
+IsUnprojected roles tree place Memory = ⊤
+IsUnprojected roles tree place fault = ⊥
+
+-- why a protocol without faults gives no types: a role without a projection, or want of memory
+abbrev pub GivesNoProjections : List (List ℕ) → GlobalType → ToolFault → Type 0
+GivesNoProjections roles tree (Projection name choice) = HasNoProjection roles tree name choice
+GivesNoProjections roles tree Memory = ⊤
+GivesNoProjections roles tree fault = ⊥
+
+-- why a text gives no protocol without faults: its first fault, the fault of the protocol that it spells, or want of memory, where it is short enough
+abbrev pub GivesNoProtocol : List ℕ → ToolFault → Type 0
+GivesNoProtocol text (Text at kind) = IsTextFault text at kind
+GivesNoProtocol text (Protocol fault) =
+    (roles : List (List ℕ)) × (tree : GlobalType) × IsProtocolText text roles tree × (fault_of roles tree ≡ Some fault)
+GivesNoProtocol text Memory = length text ≤ longest
+GivesNoProtocol text fault = ⊥
+
+-- why a text gives no types: it gives no protocol without faults, or a role of it has no projection
+abbrev pub GivesNoTypes : List ℕ → ToolFault → Type 0
+GivesNoTypes text (Projection name choice) =
+    (roles : List (List ℕ)) × (tree : GlobalType) × IsProtocolText text roles tree × (fault_of roles tree ≡ None) × HasNoProjection roles tree name choice
+GivesNoTypes text fault = GivesNoProtocol text fault
+
+-- why a text gives no types that a session can follow: it gives none, or one has a choice or a loop
+abbrev pub GivesNoSession : List ℕ → ToolFault → Type 0
+GivesNoSession text Unready =
+    (roles : List (List ℕ)) × (types : List LocalType) × AreTypesOf text roles types × ¬ AllByRecursion IsMessageOnly types
+GivesNoSession text fault = GivesNoTypes text fault
+
+-- the line of the role at that place: its name, ` : `, and its type
+abbrev pub role_line : (roles : List (List ℕ)) (place : ℕ) → LocalType → List ℕ
+role_line roles place t = name_at roles place ++ codes " : " ++ local_text roles t ++ 10 ∷ []
+
+-- a line for each role from that place on
+abbrev pub role_lines : (roles : List (List ℕ)) (place : ℕ) → List LocalType → List ℕ
+role_lines roles place [] = []
+role_lines roles place (t ∷ types) = role_line roles place t ++ role_lines roles (suc place) types
+
+-- the text is a protocol without faults, and these are the lines of its roles
+pub record AreLinesOf (text bytes : List ℕ) : Type 0 where
+  pub roles : List (List ℕ)
+  pub types : List LocalType
+  pub read : AreTypesOf text roles types
+  pub lines : bytes ≡ role_lines roles 0 types

@@ -1,0 +1,213 @@
+//! From a protocol's text to the roles, their types and the lines that show them.
+ghost use Rattle.std.specs.Prelude.{◌≡◌, ◌+◌, ◌<◌, ◌≤◌, ◌^◌, ◌++◌, ℕ, Option, length, map, IfOk, IfErr, OnOk, None, Some};
+ghost use Rattle.std.specs.List.{AllByRecursion};
+ghost use Rattle.mps_global.specs.Global.{plain as global_type};
+ghost use Rattle.mps_global.specs.Faults.{fault_of};
+ghost use Rattle.mps_local.specs.Local.{plain};
+ghost use Rattle.mps_local.specs.Projection.{projection};
+ghost use Rattle.mps_local.specs.Shape.{AllPeers};
+ghost use Rattle.mps_session.specs.Rows.{IsMessageOnly};
+ghost use Rattle.mps_tool.specs.Check.{AreProjections, AreTypesOf, IsProtocolText, role_line, role_lines, AreLinesOf};
+ghost use Rattle.mps_tool.specs.Check.{GivesNoProtocol, GivesNoProjections, GivesNoTypes, GivesNoSession, IsUnprojected};
+ghost use Rattle.mps_tool.specs.Faults.{after_reads, after_writes, IsCheckFault};
+ghost use Rattle.mps_tool.specs.Files.{HasReadAtMost, most_read};
+ghost use Rattle.mps_tool.specs.Streams.{CantShow, HasShown, WasShown, CantLoad, HasLoaded};
+
+use crate::faults::ToolFault;
+use crate::files::{open_file, read_text};
+use mps_base::{Role, Roles};
+use mps_dev::{OverWrite, Sink, Source};
+use mps_global::{Protocol, check};
+use mps_local::{Local, ProjectFault, project, write_local};
+use mps_session::are_message_only;
+use mps_text::read_protocol;
+use mps_wire::flow::send_all;
+use std::alloc::{AllocError, Global};
+use std::io;
+use std::rt::Files;
+
+/// The protocol without faults that the text spells.
+fn protocol_of<'a>(alloc: Global, text: &[u8]) -> Result<Protocol, ToolFault<'a>>
+    ensures read { IfOk result (λ p. IsProtocolText text.now p.roles.items (global_type p.body)) }
+    ensures faultless { IfOk result (λ p. fault_of p.roles.items (global_type p.body) ≡ None) }
+    ensures fault { IfErr result (GivesNoProtocol text.now) }
+{
+    let protocol = read_protocol(alloc, text)?;
+    check(&protocol)?;
+    Ok(protocol)
+}
+
+/// The local type of the role at that place.
+fn type_of<'a>(alloc: Global, protocol: &Protocol, place: usize) -> Result<Local, ToolFault<'a>>
+    requires faultless { fault_of protocol.now.roles.items (global_type protocol.now.body) ≡ None }
+    requires in_session { place < length protocol.now.roles.items }
+    ensures ok { IfOk result (λ t.
+        projection protocol.now.roles.items place (global_type protocol.now.body) ≡ Some (plain t)) }
+    ensures peers { IfOk result
+        (λ t. AllPeers (λ peer. peer < length protocol.now.roles.items) (plain t)) }
+    ensures fault { IfErr result
+        (IsUnprojected protocol.now.roles.items (global_type protocol.now.body) place) }
+{
+    match project(alloc, protocol, Role::new(place as u8)) {
+        Ok(t) => Ok(t),
+        Err(ProjectFault::Memory) => Err(ToolFault::Memory),
+        Err(ProjectFault::Unmergeable { choice, .. }) => Err(ToolFault::Projection {
+            role: protocol.roles[place],
+            choice,
+        }),
+    }
+}
+
+/// The local type of each role in order.
+fn types_of<'a>(alloc: Global, protocol: &Protocol) -> Result<Vec<Local>, ToolFault<'a>>
+    requires faultless { fault_of protocol.now.roles.items (global_type protocol.now.body) ≡ None }
+    ensures ok { IfOk result (λ types. AreProjections
+        protocol.now.roles.items (global_type protocol.now.body) (map plain types.items)) }
+    ensures peers { IfOk result (λ types. AllByRecursion
+        (AllPeers (λ peer. peer < length protocol.now.roles.items)) (map plain types.items)) }
+    ensures fault { IfErr result
+        (GivesNoProjections protocol.now.roles.items (global_type protocol.now.body)) }
+{
+    let mut types = Vec::with_capacity(alloc, protocol.roles.len())?;
+    for place in 0..protocol.roles.len() {
+        match type_of(alloc, protocol, place) {
+            Ok(t) => types.push(t)?,
+            Err(fault) => return Err(fault),
+        }
+    }
+    Ok(types)
+}
+
+/// The roles of the protocol that the text spells, and their local types, which have outputs and
+/// inputs alone.
+pub fn roles_and_types<'a>(alloc: Global, text: &[u8]) -> Result<(Roles, Vec<Local>), ToolFault<'a>>
+    ensures types { IfOk result (λ r. AreTypesOf text.now r.0 (map plain r.1.items)) }
+    ensures messages { IfOk result (λ r. AllByRecursion IsMessageOnly (map plain r.1.items)) }
+    ensures fault { IfErr result (GivesNoSession text.now) }
+{
+    let protocol = protocol_of(alloc, text)?;
+    let types = types_of(alloc, &protocol)?;
+    // the check has shown that they are roles
+    let Ok(roles) = Roles::of(alloc, protocol.roles.as_slice()) else {
+        return Err(ToolFault::Memory);
+    };
+    if !are_message_only(types.as_slice()) {
+        return Err(ToolFault::Unready);
+    }
+    Ok((roles, types))
+}
+
+/// Reads a protocol, and gives its roles and their types, which have outputs and inputs alone.
+///
+/// The text is read to its end, or one byte further than a protocol may go.
+pub fn read_types<'a, R: Source>(
+    alloc: Global,
+    reader: &mut R,
+) -> Result<(Roles, Vec<Local>), ToolFault<'a>>
+    requires { R.calls reader.old < 2 ^ 62 }
+    ensures read { IfOk result (λ r. HasLoaded
+        (R.remaining reader.old) (R.remaining reader.new) r.0 (map plain r.1.items)) }
+    ensures messages { IfOk result (λ r. AllByRecursion IsMessageOnly (map plain r.1.items)) }
+    ensures fault { IfErr result (CantLoad (R.remaining reader.old) (R.remaining reader.new)) }
+    ensures most { HasReadAtMost most_read (R.remaining reader.old) (R.remaining reader.new) }
+    ensures reads { R.failed_calls reader.new ≡ after_reads result (R.failed_calls reader.old) }
+{
+    let text = read_text(alloc, reader)?;
+    roles_and_types(alloc, text.as_slice())
+}
+
+/// A line for each role of the protocol that the text spells: its name, ` : `, and its local type.
+pub fn check_out<'a>(alloc: Global, text: &[u8]) -> Result<Vec<u8>, ToolFault<'a>>
+    ensures lines { IfOk result (λ out. AreLinesOf text.now out.items) }
+    ensures fault { IfErr result (GivesNoTypes text.now) }
+{
+    let protocol = protocol_of(alloc, text)?;
+    let types = types_of(alloc, &protocol)?;
+    let Ok(roles) = Roles::of(alloc, protocol.roles.as_slice()) else {
+        return Err(ToolFault::Memory);
+    };
+    let mut out = Vec::new(alloc);
+    write_lines(alloc, &mut out, &roles, 0, &types)?;
+    Ok(out)
+}
+
+/// Writes a line for each role from that place on at the end.
+fn write_lines(
+    alloc: Global,
+    out: &mut Vec<u8>,
+    roles: &Roles,
+    place: usize,
+    types: &[Local],
+) -> Result<(), AllocError>
+    requires few { length roles.now ≤ 8 }
+    requires named { place + length types.now ≤ length roles.now }
+    requires known { AllByRecursion
+        (AllPeers (λ peer. peer < length roles.now)) (map plain types.now) }
+    ensures { IfOk result (λ _. out.new.items
+        ≡ out.old.items ++ role_lines roles.now place (map plain types.now)) }
+{
+    match types {
+        [] => Ok(()),
+        [t, later @ ..] => {
+            write_role(alloc, out, &*roles, place, t)?;
+            write_lines(alloc, out, &*roles, place + 1, later)
+        }
+    }
+}
+
+/// Writes the line of the role at that place at the end.
+fn write_role(
+    alloc: Global,
+    out: &mut Vec<u8>,
+    roles: &Roles,
+    place: usize,
+    t: &Local,
+) -> Result<(), AllocError>
+    requires few { length roles.now ≤ 8 }
+    requires named { place < length roles.now }
+    requires known { AllPeers (λ peer. peer < length roles.now) (plain t.now) }
+    ensures { IfOk result (λ _. out.new.items
+        ≡ out.old.items ++ role_line roles.now place (plain t.now)) }
+{
+    let text = write_local(alloc, roles, t)?;
+    out.extend_from_slice(roles.name(Role::new(place as u8)).as_bytes())?;
+    out.extend_from_slice(b" : ")?;
+    out.extend_from_slice(&text)?;
+    out.push(b'\n')?;
+    Ok(())
+}
+
+/// Reads a protocol, and writes a line for each role: its name, ` : `, and its local type.
+///
+/// All is read and checked before the first byte is written.
+pub fn write_types<'a, R: Source, W: Sink>(
+    alloc: Global,
+    reader: &mut R,
+    writer: &mut W,
+) -> Result<(), ToolFault<'a>>
+    requires reads { R.calls reader.old < 2 ^ 62 }
+    requires writes { W.failed_calls writer.old < 2 ^ 63 }
+    ensures shown { OnOk result (HasShown (R.remaining reader.old) (R.remaining reader.new)
+        (W.taken writer.old) (W.taken writer.new)) }
+    ensures fault { IfErr result (CantShow (R.remaining reader.old) (R.remaining reader.new)
+        (W.taken writer.old) (W.taken writer.new)) }
+    ensures reads { R.failed_calls reader.new ≡ after_reads result (R.failed_calls reader.old) }
+    ensures writes { W.failed_calls writer.new ≡ after_writes result (W.failed_calls writer.old) }
+{
+    let text = read_text(alloc, reader)?;
+    let lines = check_out(alloc, text.as_slice())?;
+    match send_all(writer, lines.as_slice()) {
+        Ok(()) => Ok(()),
+        Err(_) => Err(ToolFault::Write),
+    }
+}
+
+/// Prints a line for each role of the protocol in the file: its name and its local type.
+pub fn show<'a, R: Files + AllocGlobal + Print>(rt: &R, file: &'a str) -> Result<(), ToolFault<'a>>
+    ensures shown { OnOk result WasShown }
+    ensures fault { IfErr result (IsCheckFault file.now) }
+{
+    let mut reader = open_file(rt, file)?;
+    let mut writer = OverWrite::new(io::writer(rt));
+    write_types(rt.alloc(), &mut reader, &mut writer)
+}
