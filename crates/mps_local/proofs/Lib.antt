@@ -9,3 +9,4 @@ pub mod Projected
 pub mod Equal
 pub mod Leading
 pub mod Unmerged
+pub mod Merging

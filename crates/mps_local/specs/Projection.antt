@@ -52,7 +52,7 @@ abbrev pub is_idle : (roles : List (List ℕ)) (role : ℕ) (name : List ℕ) �
 is_idle roles role name body = not (occurs roles role body) && is_closed [] (global.Rec name body)
 
 abbrev mutual
-  -- whether two types are the same tree: it is equality, as a law of this crate says
+  -- whether two types are the same tree. That this is equality is the law same_is_equality
   pub same : LocalType → LocalType → Bool
   same End End = true
   same (Var name) (Var other) = bytes_eq name other
@@ -74,7 +74,7 @@ abbrev pub go_on_with : LocalType → Branches → Bool
 go_on_with t NoMore = true
 go_on_with t (More label next others) = same next t && go_on_with t others
 
--- the one type that each branch goes on with
+-- the one type that each branch goes on with, as the law merging_is_equality says
 abbrev pub merged : Branches → Option LocalType
 merged NoMore = None
 merged (More label next others) = if go_on_with next others then Some next else None

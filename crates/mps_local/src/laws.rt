@@ -1,10 +1,11 @@
 //! What holds of the definitions that the contracts cite.
-ghost use Rattle.std.specs.Prelude.{◌≡◌, ◌↔◌, ℕ, List, true, Some, None, IsSome, length, slice_get};
+ghost use Rattle.std.specs.Prelude.{◌≡◌, ◌≢◌, ◌↔◌, ℕ, List, [], true, Some, None, IsSome, length, slice_get};
+ghost use Rattle.std.specs.List.{AllByRecursion};
 ghost use Rattle.mps_base.specs.RoleLists.{AreDistinct};
 ghost use Rattle.mps_global.specs.Global.{GlobalType};
 ghost use Rattle.mps_local.specs.Local.{LocalType, Branches};
 ghost use Rattle.mps_local.specs.Actions.{branch_at, labels, nexts};
-ghost use Rattle.mps_local.specs.Projection.{same, same_branches, projection, examined, first_unmerged};
+ghost use Rattle.mps_local.specs.Projection.{same, same_branches, merged, projection, examined, first_unmerged};
 
 /// Labels lead to what stands behind them. Each label has its type in the same place; where no
 /// label stands twice, that is what follows the label, and what follows a label stands behind it.
@@ -22,6 +23,12 @@ pub fn labels_lead()
 pub fn same_is_equality()
     ensures types { (t u : LocalType) → (same t u ≡ true) ↔ (t ≡ u) }
     ensures branches { (b c : Branches) → (same_branches b c ≡ true) ↔ (b ≡ c) }
+{}
+
+/// Branches merge to a type exactly where there is one at least, and each goes on with that type.
+pub fn merging_is_equality()
+    ensures merged { (b : Branches) (t : LocalType) → (merged b ≡ Some t)
+        ↔ ((nexts b ≢ []) × AllByRecursion (λ u. u ≡ t) (nexts b)) }
 {}
 
 /// A choice is named exactly where there is no projection, whatever number the first choice has.

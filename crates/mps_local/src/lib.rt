@@ -16,7 +16,7 @@ mod walking;
 mod writing;
 
 pub use examples::{worked_actions, worked_projections};
-pub use laws::{labels_lead, same_is_equality, unmerged_is_named};
+pub use laws::{labels_lead, merging_is_equality, same_is_equality, unmerged_is_named};
 use mps_base::{Name, Role, Sort, VarName};
 pub use projection::{ProjectFault, project, projection_laws};
 use std::mem;
