@@ -1,8 +1,8 @@
 -- What a local type allows first, and what comes then.
-use Rattle.std.specs.Prelude.{ℕ, if◌then◌else◌, List, [], ◌∷◌, Option, None, Some, slice_get}
+use Rattle.std.specs.Prelude.{◌≡◌, ℕ, if◌then◌else◌, List, [], ◌∷◌, Option, None, Some, slice_get}
 use Rattle.std.specs.Str.{bytes_eq}
 use Rattle.mps_base.specs.declared.value.Sort.{Sort}
-use Rattle.mps_local.specs.Local.{LocalType, Branches, Send, Recv, Select, Branch, NoMore, More}
+use Rattle.mps_local.specs.Local.{LocalType, Branches, End, Send, Recv, Select, Branch, NoMore, More}
 use Rattle.mps_local.specs.Unfolding.{unfolded}
 
 -- what follows the label
@@ -51,3 +51,11 @@ head t = first_action (unfolded t)
 -- the type that is left when it was done, with the place of the label that was chosen, if it is a choice
 abbrev pub type_left : LocalType → Option ℕ → Option LocalType
 type_left t choice = continuation (unfolded t) choice
+
+-- the type begins so: it is the end, or an action of that kind with that peer, and with that sort or those labels
+abbrev pub Begins : Head → LocalType → Type 0
+Begins Ends t = t ≡ End
+Begins (Sends peer sort) t = (next : LocalType) × (t ≡ Send peer sort next)
+Begins (Receives peer sort) t = (next : LocalType) × (t ≡ Recv peer sort next)
+Begins (Chooses peer names) t = (branches : Branches) × (t ≡ Select peer branches) × (names ≡ labels branches)
+Begins (Picks peer names) t = (branches : Branches) × (t ≡ Branch peer branches) × (names ≡ labels branches)
