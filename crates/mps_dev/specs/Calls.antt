@@ -6,7 +6,8 @@ abbrev pub failures_after : {A E : Type 0} → Result A E → ℕ → ℕ
 failures_after (Ok x) n = n
 failures_after (Err e) n = n + 1
 
--- how many reads ended, one read into this buffer later: one more where it gave nothing and there was room
+-- how many reads ended, one read into this buffer later: one more where it gave nothing and there
+-- was room
 abbrev pub ends_after : {E : Type 0} → Result ℕ E → List ℕ → ℕ → ℕ
 ends_after (Ok zero) (byte ∷ bytes) n = n + 1
 ends_after (Ok zero) [] n = n

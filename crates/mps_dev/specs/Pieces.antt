@@ -1,8 +1,8 @@
 -- What a source over memory has left to give.
 use Rattle.std.specs.Prelude.{ℕ, ◌+◌, ◌≤◌, Bool, true, false, List, [], ◌∷◌, drop, filter, Option, None, Some}
 
--- the pieces that a source over memory has left, the call from which on all fail, and its calls: those that were
--- answered by bytes or had no room, those that ended, and those that failed
+-- the pieces that a source over memory has left, the call from which on all fail, and its calls:
+-- those that were answered by bytes or had no room, those that ended, and those that failed
 pub record Script : Type 0 where
   pub pieces : List (List ℕ)
   pub fails_from : Option ℕ

@@ -1,5 +1,5 @@
-//! Readers and writers that count: two traits of devices, `Source` and `Sink`, with devices over std's
-//! readers and writers and over memory. Code above is proved once, for every device.
+//! Readers and writers that count: two traits of devices, `Source` and `Sink`, with devices over
+//! std's readers and writers and over memory. Code above is proved once, for every device.
 #![tactic(auto)]
 
 mod memory;

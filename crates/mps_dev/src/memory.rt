@@ -10,8 +10,8 @@ use super::{Failed, Sink, Source};
 use std::alloc::{AllocError, Global};
 use std::marker::Model;
 
-/// A source over memory: it gives pieces in order, and fails from a given call on. A read gives bytes of
-/// one piece, at most what is left of it, and passes over empty pieces.
+/// A source over memory: it gives pieces in order, and fails from a given call on. A read gives
+/// bytes of one piece, at most what is left of it, and passes over empty pieces.
 #[derive(Debug, Drop)]
 pub struct Pieces {
     pieces: Vec<Vec<u8>>,
@@ -39,7 +39,8 @@ impl Model for Pieces {
 }
 
 impl Pieces {
-    /// A source that gives `pieces`, and fails from the call `fails_from` on, counted from 1. It takes no memory.
+    /// A source that gives `pieces`, and fails from the call `fails_from` on, counted from 1. It
+    /// takes no memory.
     pub fn new(pieces: Vec<Vec<u8>>, fails_from: Option<u64>) -> Self
         ensures script { result ≡ record {
           pieces = non_empty (map vec_items pieces.items);
@@ -116,7 +117,8 @@ impl Source for Pieces {
     }
 }
 
-// Where the first byte is left from the byte `given` of the piece `next` on: its piece, and its place there.
+// Where the first byte is left from the byte `given` of the piece `next` on: its piece, and its
+// place there.
 fn first_left(pieces: &[Vec<u8>], mut next: usize, mut given: usize) -> (usize, usize)
     ensures same { left_from result.0 result.1 (map vec_items pieces.now)
         ≡ left_from next given (map vec_items pieces.now) }
@@ -164,7 +166,8 @@ impl Model for Short {
 }
 
 impl Short {
-    /// A sink that has taken nothing, and takes `room` bytes. Their memory is taken here, and none later.
+    /// A sink that has taken nothing, and takes `room` bytes. Their memory is taken here, and none
+    /// later.
     pub fn new(alloc: Global, room: usize) -> Result<Self, AllocError>
         ensures { IfOk result (λ s. s ≡ record { bytes = []; room = room; failed_calls = 0 }) }
     {

@@ -3,8 +3,8 @@ ghost use Rattle.std.specs.Prelude.{◌≡◌, ◌+◌, ◌≤◌};
 use super::{Failed, Sink, Source};
 use std::io::{Read, Write};
 
-/// A source over one of std's readers: a call of `read` is one read of it. Each `io::Error` is `Failed`, one of
-/// kind `Interrupted` too, so a caller that wants to go on reads again.
+/// A source over one of std's readers: a call of `read` is one read of it. Each `io::Error` is
+/// `Failed`, one of kind `Interrupted` too, so a caller that wants to go on reads again.
 #[derive(Debug, Drop)]
 pub struct OverRead<R> {
     inner: R,
@@ -70,9 +70,10 @@ impl<R: Read> Source for OverRead<R> {
     }
 }
 
-/// A sink over one of std's writers: a call of `write` is one write to it. Each `io::Error` is `Failed`, one of kind
-/// `Interrupted` too, and so is an `Ok(0)` for some bytes. Nothing is flushed: a writer that keeps bytes back, as a
-/// `BufWriter` does, is flushed by who takes it out again.
+/// A sink over one of std's writers: a call of `write` is one write to it. Each `io::Error` is
+/// `Failed`, one of kind `Interrupted` too, and so is an `Ok(0)` for some bytes. Nothing is
+/// flushed: a writer that keeps bytes back, as a `BufWriter` does, is flushed by who takes it out
+/// again.
 #[derive(Debug, Drop)]
 pub struct OverWrite<W> {
     inner: W,

@@ -6,7 +6,8 @@ use std::alloc::{AllocError, Global};
 use std::io::{self, ErrorKind, Read, Write};
 use std::test::Fail;
 
-// What up to ten reads of at most four bytes give, until the end or a failure, and whether that was a failure.
+// What up to ten reads of at most four bytes give, until the end or a failure, and whether that was
+// a failure.
 fn drained<S: Source>(alloc: Global, source: &mut S) -> Result<(Vec<u8>, bool), AllocError>
     requires { S.calls source.old < 2 ^ 62 }
     ensures calls { S.calls source.new ≤ S.calls source.old + 10 }
@@ -40,8 +41,8 @@ fn handed_over<K: Sink>(sink: &mut K, bytes: &[u8]) -> usize
     at
 }
 
-// A device that fails once, by an error of this kind, and counts its calls. As a reader it then gives two
-// bytes and ends, as a writer it then takes what comes.
+// A device that fails once, by an error of this kind, and counts its calls. As a reader it then
+// gives two bytes and ends, as a writer it then takes what comes.
 #[derive(Drop)]
 struct FailsOnce {
     kind: ErrorKind,

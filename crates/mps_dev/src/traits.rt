@@ -24,7 +24,8 @@ pub trait Source {
     // How many of them ended: they answered that nothing is left, though there was room for it.
     ghost ends: { Self → ℕ };
 
-    /// Reads some bytes into the front of `buf`, and says how many. `Ok(0)` with room in `buf` is the end.
+    /// Reads some bytes into the front of `buf`, and says how many. `Ok(0)` with room in `buf` is
+    /// the end.
     fn read(&mut self, buf: &mut [u8]) -> Result<usize, Failed>
         requires { calls self.old < 2 ^ 63 }
         ensures within { ReadsAtMost result buf.new }
@@ -45,7 +46,8 @@ pub trait Sink {
     // How many calls of `write` failed.
     ghost failed_calls: { Self → ℕ };
 
-    /// Takes some bytes from the front of `bytes`, and says how many. A device that takes none of some bytes failed.
+    /// Takes some bytes from the front of `bytes`, and says how many. A device that takes none of
+    /// some bytes failed.
     fn write(&mut self, bytes: &[u8]) -> Result<usize, Failed>
         requires { failed_calls self.old < 2 ^ 63 }
         ensures within { WritesAtMost result bytes.now }

@@ -1,11 +1,11 @@
 use Rattle.std.proofs.Common.{length, map, Ok, Err, sym, ap, ◌∙◌, arith}
+use Rattle.std.proofs.lemmas.List.{length-map}
 use Rattle.mps_local.specs.Local.{plain}
 use Rattle.mps_machine.specs.Machine.{initial}
 use Rattle.mps_wire.specs.Runs.{Outcome, max_reads}
 use Rattle.mps_wire.specs.Script.{AnswersLine}
 use Rattle.mps_wire.specs.Streams.{streams}
 use Rattle.mps_wire.specs.declared.script.TheConstants.{BLOCK}
-use Rattle.mps_session.proofs.Types.{length_map}
 use Rattle.mps_wire.proofs.Bytes.{same_room}
 use Rattle.mps_wire.proofs.Carrying.{turned}
 use Rattle.mps_wire.proofs.Outcomes.{handed_on, same_counts, counts_more, breaks, at_end, before_end, starts_starved, not_begun}
@@ -29,7 +29,7 @@ loop-init g c =
     let first = streams g.R.Source g.W.Sink c.args.reader.now c.args.writer.now in
     record {
       roles = c.in_ok-run.ensures.roles;
-      named = ap length c.in_ok-run.ensures.roles ∙ c.requires.named ∙ sym (length_map plain c.args.types.items) ∙ sym (ap (λ s. length s.types) c.in_ok-run.ensures.session);
+      named = omega (arith, ap length c.in_ok-run.ensures.roles, c.requires.named, ap (λ s. length s.types) c.in_ok-run.ensures.session, length-map c.args.types.items plain);
       types = ap (λ s. s.types) c.in_ok-run.ensures.session;
       short = omega (arith, ap length c.in_ok-run.ensures.line);
       none_waits = c.in_ok-run.ensures.answers;
