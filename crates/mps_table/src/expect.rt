@@ -1,0 +1,32 @@
+//! What a node of a table stands for.
+use mps_base::{Name, Role, Sort};
+use std::marker::Model;
+
+/// A place in the part of a role, of the table that gave it.
+#[derive(Clone, Copy, Debug, PartialEq, Eq)]
+pub struct Node(u16);
+
+impl Model for Node {
+    ghost use Rattle.std.specs.Prelude.{ℕ};
+
+    ghost Value = { ℕ };
+
+    ghost view = { λ n. n.0 };
+
+    ghost inverse = { λ n. record { 0 = n } };
+}
+
+/// What a role may do first at a node; labels in the order of the branches.
+#[derive(Clone, Copy, Debug)]
+pub enum Expect<'a> {
+    /// Its part has ended.
+    End,
+    /// It gives the peer a value of the sort.
+    Send(Role, Sort),
+    /// It takes a value of the sort from the peer.
+    Recv(Role, Sort),
+    /// It chooses one of the labels, and tells the peer.
+    Select(Role, &'a [Name]),
+    /// It takes one of the labels from the peer.
+    Branch(Role, &'a [Name]),
+}
