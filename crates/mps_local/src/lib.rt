@@ -11,6 +11,7 @@ mod equality;
 pub mod examples;
 pub mod laws;
 mod loops;
+pub mod peers;
 pub mod projection;
 mod walking;
 mod writing;

@@ -540,3 +540,21 @@ fn copies_deep_and_wide_types(rt: HostRuntime) -> Result<(), Fail> {
     }
     Ok(())
 }
+
+#[test]
+fn names_its_peers(rt: HostRuntime) -> Result<(), Fail> {
+    let alloc = rt.alloc();
+    for (count, role, good) in [(2, 0, true), (2, 1, false), (1, 0, false)] {
+        assert_eq!(rt; sends(alloc, 1_000_000)?.names_others(count, role), good);
+        assert_eq!(rt; choices(&rt, alloc, MANY)?.names_others(count, role), good);
+        assert_eq!(rt; choice(&rt, alloc, MANY)?.names_others(count, role), good);
+        assert!(rt; sends(alloc, 0)?.names_others(count, role));
+    }
+    // the last node alone names another peer
+    let mut tree = Local::recv(alloc, Role::new(2), Sort::Text, Local::End)?;
+    for _ in 0..1_000_000 {
+        tree = Local::send(alloc, Role::new(1), Sort::Int, tree)?;
+    }
+    assert!(rt; !tree.names_others(2, 0));
+    Ok(())
+}
