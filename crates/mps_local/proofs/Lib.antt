@@ -10,3 +10,4 @@ pub mod Equal
 pub mod Leading
 pub mod Unmerged
 pub mod Merging
+pub mod Filling

@@ -10,5 +10,6 @@ pub mod Writing
 pub mod Copying
 pub mod Unfolding
 pub mod Actions
+pub mod Loops
 pub mod Codes
 pub mod Examples

@@ -1,0 +1,7 @@
+use Rattle.mps_table.proofs.Standing.{shown_begins}
+use Rattle.mps_table.specs.Expects.{head_of}
+use Rattle.mps_table.proofs.table.Table.expect.Goals as goal
+
+pub returns-clause-begins : goal.returns-clause-begins
+returns-clause-begins c =
+    λ t stands. shown_begins c.args.self.now c.args.node c.entry.result (head_of c.shown.result) t c.entry.ensures.entry c.shown.ensures stands
