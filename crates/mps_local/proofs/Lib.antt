@@ -10,3 +10,8 @@ pub mod Equal
 pub mod Leading
 pub mod Unmerged
 pub mod Merging
+pub mod Sizes
+pub mod Faulty
+pub mod Silence
+pub mod Looping
+pub mod Faultless
