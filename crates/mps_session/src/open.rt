@@ -81,7 +81,8 @@ fn is_peer(n: usize, role: usize, peer: Role) -> bool
 pub(crate) fn first_bad(types: &[Local]) -> Option<Role>
     requires { length types.now ≤ 8 }
     ensures bad { IfSome result (IsFirstBad (map plain types.now)) }
-    ensures none { IfNone result ((p : ℕ) → p < length types.now → HasPeers (length types.now) p (type_at (map plain types.now) p)) }
+    ensures none { IfNone result ((p : ℕ) → p < length types.now
+        → HasPeers (length types.now) p (type_at (map plain types.now) p)) }
 {
     let n = types.len();
     for (i, t) in types.iter().enumerate() {

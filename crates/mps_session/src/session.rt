@@ -69,7 +69,8 @@ impl Session {
         ensures opened { IfOk result (λ session. session
             ≡ record { types = map plain types.items; state = machine.initial }) }
         ensures can { OnOk result (CanOpen (map plain types.items)) }
-        ensures count { IsErrOf result OpenFault.RoleCount ↔ ¬ HasRoleCount (map plain types.items) }
+        ensures count { IsErrOf result OpenFault.RoleCount
+            ↔ ¬ HasRoleCount (map plain types.items) }
         ensures peer { (role : ℕ) → IsErrOf result (OpenFault.BadPeer role)
             → IsFirstBad (map plain types.items) role }
         ensures memory { IsErrOf result OpenFault.Memory → CanOpen (map plain types.items) }
