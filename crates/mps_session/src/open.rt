@@ -16,11 +16,6 @@ use mps_local::{Branches, Local};
 use std::alloc::{AllocError, Global};
 use thiserror::Error;
 
-/// How few and how many roles a session has.
-pub const MIN_ROLES: usize = 2;
-
-pub const MAX_ROLES: usize = 8;
-
 /// Why a session can't be opened.
 #[derive(Clone, Copy, Debug, PartialEq, Eq, Error)]
 pub enum OpenFault {
