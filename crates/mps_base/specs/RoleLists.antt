@@ -2,10 +2,10 @@
 use Rattle.std.specs.Prelude.{◌≢◌, ℕ, ◌≤◌, List, [], ◌∷◌, length, ⊤}
 use Rattle.std.specs.List.{AllByRecursion}
 
--- from 2 to 8
-pub record HasRoleCount (names : List (List ℕ)) : Type 0 where
-  pub some : 2 ≤ length names
-  pub few : length names ≤ 8
+-- from 2 to 8, of names of roles or of what else there is one of for each role
+pub record HasRoleCount {A : Type 0} (each : List A) : Type 0 where
+  pub some : 2 ≤ length each
+  pub few : length each ≤ 8
 
 -- no name stands twice
 abbrev pub AreDistinct : List (List ℕ) → Type 0

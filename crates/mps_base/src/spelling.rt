@@ -47,7 +47,8 @@ impl Value {
 
     /// Writes the value at the end.
     pub fn write(&self, out: &mut Vec<u8>) -> Result<(), AllocError>
-        ensures ok { OnOk result (Appends (λ text. SpellsValue text self.now) out.old.items out.new.items) }
+        ensures ok { OnOk result
+            (Appends (λ text. SpellsValue text self.now) out.old.items out.new.items) }
         ensures err { OnErr result (out.new.items ≡ out.old.items) }
     {
         match self {

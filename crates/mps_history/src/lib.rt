@@ -11,7 +11,8 @@ ghost use Rattle.mps_history.specs.Swaps.{is_matched_after};
 /// In a history whose numbers rise, a step is found by its number, and only a step that has the number.
 pub fn found_by_number()
     ensures found { (h : List Step) (s : Step) → IsRising h → IsIn s h → step_of h s.id ≡ Some s }
-    ensures only { (h : List Step) (n : ℕ) (s : Step) → step_of h n ≡ Some s → IsIn s h × (s.id ≡ n) }
+    ensures only { (h : List Step) (n : ℕ) (s : Step) → step_of h n ≡ Some s
+        → IsIn s h × (s.id ≡ n) }
 {}
 
 /// A step depends on earlier steps alone.

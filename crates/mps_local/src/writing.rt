@@ -131,7 +131,8 @@ fn write_branches<'a>(
     waiting: &mut Vec<Todo<'a>>,
     out: &mut Vec<u8>,
 ) -> Result<(), AllocError>
-    requires known { AllBranchPeers (λ peer. peer < length roles.now) (plain_branches branches.now) }
+    requires known { AllBranchPeers (λ peer. peer < length roles.now)
+        (plain_branches branches.now) }
     requires others { AllByRecursion (IsTodoKnown (length roles.now)) waiting.old.items }
     ensures text { OnOk result (with_tokens out.new.items (left_tokens roles.now waiting.new.items)
         ≡ with_tokens out.old.items (branches_tokens roles.now (plain_branches branches.now)
@@ -164,7 +165,8 @@ fn write_others<'a>(
     waiting: &mut Vec<Todo<'a>>,
     out: &mut Vec<u8>,
 ) -> Result<(), AllocError>
-    requires known { AllBranchPeers (λ peer. peer < length roles.now) (plain_branches branches.now) }
+    requires known { AllBranchPeers (λ peer. peer < length roles.now)
+        (plain_branches branches.now) }
     requires others { AllByRecursion (IsTodoKnown (length roles.now)) waiting.old.items }
     ensures text { OnOk result (with_tokens out.new.items (left_tokens roles.now waiting.new.items)
         ≡ with_tokens out.old.items (others_tokens roles.now (plain_branches branches.now)

@@ -20,43 +20,49 @@ pub fn the_rule_is_defined()
 
 /// What was queued is what was sent and isn't yet received.
 pub fn queues_count()
-    ensures { (types : List LocalType) (h : List Step) (v : View) (p q : ℕ) → replay (opening types) h ≡ Some v →
-        length (v.queue p q) + length (filter (receives p q) h) ≡ length (filter (sends p q) h) }
+    ensures { (types : List LocalType) (h : List Step) (v : View) (p q : ℕ)
+        → replay (opening types) h ≡ Some v
+        → length (v.queue p q) + length (filter (receives p q) h) ≡ length (filter (sends p q) h) }
 {}
 
 /// Neighbours of different roles may be exchanged, unless the second receives what the first sends.
 pub fn neighbours_commute()
     ensures { (types : List LocalType) (a b : List Step) (s t : Step) (w : View) →
-        replay (opening types) (a ++ s ∷ t ∷ b) ≡ Some w → s.role ≢ t.role → is_matched_after a s t ≡ false →
-        replay (opening types) (a ++ t ∷ s ∷ b) ≡ Some w }
+        replay (opening types) (a ++ s ∷ t ∷ b) ≡ Some w → s.role ≢ t.role
+        → is_matched_after a s t ≡ false
+        → replay (opening types) (a ++ t ∷ s ∷ b) ≡ Some w }
 {}
 
 /// Where no step of a history depends on s, the history without s has a replay too, and the rule allows s after it
 /// and gives the view of the whole (Danos, Krivine, CONCUR 2004).
 pub fn an_unneeded_step_can_be_taken_out()
-    ensures { (types : List LocalType) (h : List Step) (s : Step) (w : View) → IsRising h → IsIn s h →
-        ((t : Step) → IsIn t h → depends_on h t s ≡ false) → replay (opening types) h ≡ Some w →
-        (x : View) × (replay (opening types) (without h (λ m. m == s.id)) ≡ Some x) × (rule x s ≡ Some w) }
+    ensures { (types : List LocalType) (h : List Step) (s : Step) (w : View)
+        → IsRising h → IsIn s h → ((t : Step) → IsIn t h → depends_on h t s ≡ false) → replay (opening types) h ≡ Some w →
+        (x : View) × (replay (opening types) (without h (λ m. m == s.id)) ≡ Some x)
+        × (rule x s ≡ Some w) }
 {}
 
 /// The history without a step and all that depends on it has a replay, and these steps lead on from there to the
 /// view of the whole.
 pub fn consequences_can_be_taken_out()
-    ensures { (types : List LocalType) (h : List Step) (n : ℕ) (w : View) → IsRising h → replay (opening types) h ≡ Some w →
+    ensures { (types : List LocalType) (h : List Step) (n : ℕ) (w : View)
+        → IsRising h → replay (opening types) h ≡ Some w →
         (x : View) × (replay (opening types) (without h (consequences h n)) ≡ Some x)
         × (replay x (within h (consequences h n)) ≡ Some w) }
 {}
 
 /// In a history that has a replay, a receipt comes after the send that it is matched with.
 pub fn a_receipt_follows_its_send()
-    ensures { (types : List LocalType) (h : List Step) (s t : Step) (w : View) → IsRising h → IsIn s h → IsIn t h →
+    ensures { (types : List LocalType) (h : List Step) (s t : Step) (w : View)
+        → IsRising h → IsIn s h → IsIn t h →
         replay (opening types) h ≡ Some w → IsTrue (is_matched h s t) → s.id < t.id }
 {}
 
 /// After any commands of any roles the numbers of the surviving steps rise below the next number, and these steps have
 /// a replay. Each command keeps this.
 pub fn every_state_is_sound()
-    ensures served { (types : List LocalType) (st : State) (p : ℕ) (command : Command) → IsSound types st →
-        IsSound types (serve types st p command).1 }
-    ensures always { (types : List LocalType) (requests : List Request) → IsSound types (after types initial requests) }
+    ensures served { (types : List LocalType) (st : State) (p : ℕ) (command : Command)
+        → IsSound types st → IsSound types (serve types st p command).1 }
+    ensures always { (types : List LocalType) (requests : List Request)
+        → IsSound types (after types initial requests) }
 {}

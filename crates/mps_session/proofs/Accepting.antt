@@ -22,7 +22,8 @@ use Rattle.mps_machine.specs.Violations.{act_fault, violation}
 use Rattle.mps_machine.specs.Machine.{State, initial, view_of, accepted, IsSound}
 use Rattle.mps_machine.proofs.Stepping.{rule_from, replay_from, replay-append}
 use Rattle.mps_machine.proofs.Sound.{view_is, initial_sound, accepted_sound}
-use Rattle.mps_session.specs.Peers.{HasRoleCount, HasPeers}
+use Rattle.mps_base.specs.RoleLists.{HasRoleCount}
+use Rattle.mps_session.specs.Peers.{HasPeers}
 use Rattle.mps_session.specs.Held.{Holds}
 use Rattle.mps_session.proofs.Types.{type_at-set_same, type_at-set_other}
 

@@ -4,7 +4,8 @@ use Rattle.mps_base.specs.declared.action.Message.{Message}
 use Rattle.mps_local.specs.Local.{LocalType}
 use Rattle.mps_machine.specs.View.{Store, View, type_at}
 use Rattle.mps_machine.specs.Machine.{State, view_of, IsSound}
-use Rattle.mps_session.specs.Peers.{HasRoleCount, HasPeers}
+use Rattle.mps_base.specs.RoleLists.{HasRoleCount}
+use Rattle.mps_session.specs.Peers.{HasPeers}
 
 -- a type for each role, whose peers are other roles: what the role may still do
 pub record AreToCome (n : ℕ) (coming : List LocalType) (v : View) : Type 0 where

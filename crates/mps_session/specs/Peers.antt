@@ -1,5 +1,6 @@
 -- Which peers a type may name.
 use Rattle.std.specs.Prelude.{ℕ, ◌<◌, ◌≤◌, List, length}
+use Rattle.mps_base.specs.RoleLists.{HasRoleCount}
 use Rattle.mps_local.specs.Local.{LocalType}
 use Rattle.mps_local.specs.Shape.{AllPeers, IsOtherRole}
 use Rattle.mps_machine.specs.View.{type_at}
@@ -7,10 +8,6 @@ use Rattle.mps_machine.specs.View.{type_at}
 -- each peer that the type of role p names is another of the n roles
 abbrev pub HasPeers : (n p : ℕ) → LocalType → Type 0
 HasPeers n p = AllPeers (IsOtherRole n p)
-
--- 2 to 8 roles
-abbrev pub HasRoleCount : List LocalType → Type 0
-HasRoleCount types = (2 ≤ length types) × (length types ≤ 8)
 
 -- p is the least role whose type names itself or no role of the session
 pub record IsFirstBad (types : List LocalType) (p : ℕ) : Type 0 where

@@ -49,7 +49,8 @@ pub fn received<'a>(t: &Row, from: Role, first: Option<&'a Message>) -> Result<&
     ensures fine { OnOk result ((slot : List ℕ)
         → act_fault (row_type t.now) (In from (Some slot)) (option_copied first.entry) ≡ None) }
     ensures fault { IfErr result (λ fault. (slot : List ℕ)
-        → act_fault (row_type t.now) (In from (Some slot)) (option_copied first.entry) ≡ Some fault) }
+        → act_fault (row_type t.now) (In from (Some slot)) (option_copied first.entry)
+        ≡ Some fault) }
 {
     let Row::Recv { peer, sort, .. } = t else {
         return Err(match t {

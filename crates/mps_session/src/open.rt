@@ -16,11 +16,6 @@ use mps_local::{Branches, Local};
 use std::alloc::{AllocError, Global};
 use thiserror::Error;
 
-/// How few and how many roles a session has.
-pub const MIN_ROLES: usize = 2;
-
-pub const MAX_ROLES: usize = 8;
-
 /// Why a session can't be opened.
 #[derive(Clone, Copy, Debug, PartialEq, Eq, Error)]
 pub enum OpenFault {
@@ -81,7 +76,8 @@ fn is_peer(n: usize, role: usize, peer: Role) -> bool
 pub(crate) fn first_bad(types: &[Local]) -> Option<Role>
     requires { length types.now ≤ 8 }
     ensures bad { IfSome result (IsFirstBad (map plain types.now)) }
-    ensures none { IfNone result ((p : ℕ) → p < length types.now → HasPeers (length types.now) p (type_at (map plain types.now) p)) }
+    ensures none { IfNone result ((p : ℕ) → p < length types.now
+        → HasPeers (length types.now) p (type_at (map plain types.now) p)) }
 {
     let n = types.len();
     for (i, t) in types.iter().enumerate() {

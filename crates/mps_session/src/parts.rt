@@ -16,7 +16,8 @@ use std::mem;
 /// Puts a message behind all others of the i-th queue.
 pub fn push_at(queues: &mut Vec<Queue>, i: usize, message: Message) -> Result<(), AllocError>
     requires { i < vec_len queues.old }
-    ensures ok { OnOk result (queues.new.items ≡ slice_set queues.old.items i (slice_index_or queues.old.items i [] ++ message ∷ [])) }
+    ensures ok { OnOk result (queues.new.items
+        ≡ slice_set queues.old.items i (slice_index_or queues.old.items i [] ++ message ∷ [])) }
     ensures err { OnErr result (queues.new.items ≡ queues.old.items) }
 {
     let queue = &mut queues[i];
@@ -37,7 +38,8 @@ pub fn first_at(queues: &[Queue], i: usize) -> Option<&Message>
 pub fn take_at(queues: &mut Vec<Queue>, i: usize) -> Option<Message>
     requires { i < vec_len queues.old }
     ensures first { result ≡ first_of (slice_index_or queues.old.items i []) }
-    ensures others { queues.new.items ≡ slice_set queues.old.items i (drop 1 (slice_index_or queues.old.items i [])) }
+    ensures others { queues.new.items
+        ≡ slice_set queues.old.items i (drop 1 (slice_index_or queues.old.items i [])) }
 {
     let queue = &mut queues[i];
     queue.take()
@@ -51,7 +53,8 @@ pub fn bind_at(
     value: Value,
 ) -> Result<(), AllocError>
     requires { i < vec_len stores.old }
-    ensures ok { OnOk result (stores.new.items ≡ slice_set stores.old.items i (bound slot value (slice_index_or stores.old.items i []))) }
+    ensures ok { OnOk result (stores.new.items
+        ≡ slice_set stores.old.items i (bound slot value (slice_index_or stores.old.items i []))) }
     ensures err { OnErr result (stores.new.items ≡ stores.old.items) }
 {
     let store = &mut stores[i];
@@ -61,7 +64,8 @@ pub fn bind_at(
 /// Goes past the first act of the i-th type.
 pub fn advance_at(types: &mut Vec<Row>, i: usize)
     requires { i < vec_len types.old }
-    ensures { map row_type types.new.items ≡ slice_set (map row_type types.old.items) i (rest_of (type_at (map row_type types.old.items) i)) }
+    ensures { map row_type types.new.items ≡ slice_set (map row_type types.old.items) i
+        (rest_of (type_at (map row_type types.old.items) i)) }
 {
     let t = mem::replace(&mut types[i], Row::End);
     types[i] = t.rest();

@@ -8,18 +8,19 @@ ghost use Rattle.mps_local.specs.Local.{plain};
 ghost use Rattle.mps_machine.specs.Machine as machine;
 ghost use Rattle.mps_machine.specs.View.{value_in};
 ghost use Rattle.mps_command.specs.Acts.{act_of};
-ghost use Rattle.mps_session.specs.Peers.{HasRoleCount, IsFirstBad, CanOpen};
+ghost use Rattle.mps_base.specs.RoleLists.{HasRoleCount};
+ghost use Rattle.mps_session.specs.Peers.{IsFirstBad, CanOpen};
 ghost use Rattle.mps_session.specs.Rows.{IsMessageOnly};
 ghost use Rattle.mps_session.specs.Answers.{IsAnswer, as_step};
 ghost use Rattle.mps_session.specs.Seen.{view_of};
 
 use crate::judge::{no_choice, received, send_fault};
-use crate::open::{MAX_ROLES, MIN_ROLES, OpenFault, empty_queues, empty_stores, first_bad, rows};
+use crate::open::{OpenFault, empty_queues, empty_stores, first_bad, rows};
 use crate::parts::{advance_at, bind_at, first_at, push_at, take_at};
 use crate::queue::Queue;
 use crate::row::Row;
 use crate::store::Store;
-use mps_base::{Act, Message, Name, Role, Step, StepId, Value};
+use mps_base::{Act, MAX_ROLES, MIN_ROLES, Message, Name, Role, Step, StepId, Value};
 use mps_command::{Done, Forward, Refusal};
 use mps_local::Local;
 use std::alloc::Global;
@@ -69,7 +70,8 @@ impl Session {
         ensures opened { IfOk result (λ session. session
             ≡ record { types = map plain types.items; state = machine.initial }) }
         ensures can { OnOk result (CanOpen (map plain types.items)) }
-        ensures count { IsErrOf result OpenFault.RoleCount ↔ ¬ HasRoleCount (map plain types.items) }
+        ensures count { IsErrOf result OpenFault.RoleCount
+            ↔ ¬ HasRoleCount (map plain types.items) }
         ensures peer { (role : ℕ) → IsErrOf result (OpenFault.BadPeer role)
             → IsFirstBad (map plain types.items) role }
         ensures memory { IsErrOf result OpenFault.Memory → CanOpen (map plain types.items) }

@@ -3,7 +3,8 @@ use Rattle.std.specs.Prelude.{◌≡◌, ℕ, ◌+◌, ◌≤◌, Bool, true, fa
 use Rattle.std.specs.Io.KnownBytes.{Appends, Consumes, IsAtEnd}
 use Rattle.mps_local.specs.Local.{LocalType}
 use Rattle.mps_machine.specs.Machine.{initial}
-use Rattle.mps_session.specs.Peers.{HasRoleCount, IsFirstBad, CanOpen}
+use Rattle.mps_base.specs.RoleLists.{HasRoleCount}
+use Rattle.mps_session.specs.Peers.{IsFirstBad, CanOpen}
 use Rattle.mps_session.specs.Seen.{Machine}
 use Rattle.mps_session.specs.declared.open.OpenFault.{OpenFault}
 use Rattle.mps_session.specs.declared.open.OpenFault.TheVariants.{RoleCount, BadPeer, Memory as OutOfMemory}
