@@ -152,4 +152,6 @@ impl Branches {
 }
 
 #[cfg(test)]
+mod fault_tests;
+#[cfg(test)]
 mod tests;
