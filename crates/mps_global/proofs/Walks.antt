@@ -6,12 +6,12 @@ use Rattle.std.proofs.lemmas.Grind.{flat_map-append}
 use Rattle.mps_global.specs.Faults.{Place, node_tests, first_true, first_fault}
 use Rattle.mps_global.specs.declared.faults.GlobalFault.{GlobalFault}
 
-one_more : (wrong : Bool) (fault : GlobalFault) (a b c : Option GlobalFault) → a ≡ option_or b c → cond wrong (Some fault) a ≡ option_or (cond wrong (Some fault) b) c
+one_more : {F : Type 0} (wrong : Bool) (fault : F) (a b c : Option F) → a ≡ option_or b c → cond wrong (Some fault) a ≡ option_or (cond wrong (Some fault) b) c
 one_more true fault a b c h = refl
 one_more false fault a b c h = h
 
 -- it is that of the first list, or else that of the second
-pub first_of_tests : (a b : List (Bool × GlobalFault)) → first_true (a ++ b) ≡ option_or (first_true a) (first_true b)
+pub first_of_tests : {F : Type 0} (a b : List (Bool × F)) → first_true (a ++ b) ≡ option_or (first_true a) (first_true b)
 first_of_tests [] b = refl
 first_of_tests (t ∷ ts) b = one_more t.0 t.1 (first_true (ts ++ b)) (first_true ts) (first_true b) (first_of_tests ts b)
 

@@ -103,7 +103,7 @@ abbrev pub is_unguarded : List ℕ → List GlobalType → Bool
 is_unguarded name above = list_any (binds name) (take_while (λ node. not (is_guard node)) above)
 
 -- of tests in a row, each with the fault that it tells, the fault of the first that is true
-abbrev pub first_true : List (Bool × GlobalFault) → Option GlobalFault
+abbrev pub first_true : {F : Type 0} → List (Bool × F) → Option F
 first_true [] = None
 first_true (test ∷ tests) = if test.0 then Some test.1 else first_true tests
 

@@ -31,7 +31,7 @@ abbrev mutual
   AllBranchesApart roles global.NoMore = ⊤
   AllBranchesApart roles (global.More label next others) = AllApart roles next × AllBranchesApart roles others
 
-both_none : (a b : Option GlobalFault) → option_or a b ≡ None → (a ≡ None) × (b ≡ None)
+pub both_none : {F : Type 0} (a b : Option F) → option_or a b ≡ None → (a ≡ None) × (b ≡ None)
 both_none None b h = (refl, h)
 both_none (Some fault) b h = cc
 
@@ -48,7 +48,7 @@ apart roles sender receiver others h =
     (record { from = place_below (bytes_eq sender) roles t.0; to = place_below (bytes_eq receiver) roles t.1; differ = places_differ roles sender receiver t.0 t.1 t.2 }, t.3)
 
 -- where no test of either list tells a fault
-both_pass : (a b : List (Bool × GlobalFault)) → first_true (a ++ b) ≡ None → (first_true a ≡ None) × (first_true b ≡ None)
+pub both_pass : {F : Type 0} (a b : List (Bool × F)) → first_true (a ++ b) ≡ None → (first_true a ≡ None) × (first_true b ≡ None)
 both_pass a b h = let split = first_of_tests a b in both_none (first_true a) (first_true b) (cc (split, h))
 
 mutual

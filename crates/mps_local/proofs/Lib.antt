@@ -11,3 +11,8 @@ pub mod Leading
 pub mod Unmerged
 pub mod Merging
 pub mod Filling
+pub mod Sizes
+pub mod Faulty
+pub mod Silence
+pub mod Looping
+pub mod Faultless

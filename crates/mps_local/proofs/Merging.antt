@@ -8,7 +8,7 @@ use Rattle.mps_local.specs.Projection.{same, go_on_with, merged}
 use Rattle.mps_local.proofs.Equal.{same_is, same_of_equal}
 
 -- each of the types is that one
-abbrev AllAre : LocalType → List LocalType → Type 0
+abbrev pub AllAre : LocalType → List LocalType → Type 0
 AllAre t ts = AllByRecursion (λ u. u ≡ t) ts
 
 all_are : (t : LocalType) (b : Branches) → go_on_with t b ≡ true → AllAre t (nexts b)

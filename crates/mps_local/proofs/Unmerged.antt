@@ -8,7 +8,7 @@ use Rattle.mps_local.specs.Local.{LocalType, Branches, End, Rec, More}
 use Rattle.mps_local.specs.Projection.{place_of, is_idle, with_message, with_choice, projection, projections, choice_count, Numbered, examined, examined_in, is_undefined, first_unmerged}
 use Rattle.mps_local.proofs.Examined.{none_first}
 
-map_some : {A B : Type 0} (f : A → B) (o : Option A) (y : B) → option_map f o ≡ Some y → (x : A) × (o ≡ Some x) × (f x ≡ y)
+pub map_some : {A B : Type 0} (f : A → B) (o : Option A) (y : B) → option_map f o ≡ Some y → (x : A) × (o ≡ Some x) × (f x ≡ y)
 map_some f None y e = absurd cc
 map_some f (Some x) y e = (x, refl, cc)
 
@@ -16,7 +16,7 @@ map_none : {A B : Type 0} (f : A → B) (o : Option A) → option_map f o ≡ No
 map_none f None e = refl
 map_none f (Some x) e = absurd cc
 
-and_then_some : {A B : Type 0} (f : A → Option B) (o : Option A) (y : B) → option_and_then f o ≡ Some y → (x : A) × (o ≡ Some x) × (f x ≡ Some y)
+pub and_then_some : {A B : Type 0} (f : A → Option B) (o : Option A) (y : B) → option_and_then f o ≡ Some y → (x : A) × (o ≡ Some x) × (f x ≡ Some y)
 and_then_some f None y e = absurd cc
 and_then_some f (Some x) y e = (x, refl, e)
 

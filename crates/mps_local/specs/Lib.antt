@@ -11,5 +11,7 @@ pub mod Copying
 pub mod Unfolding
 pub mod Actions
 pub mod Loops
+pub mod LocalFaults
+pub mod Above
 pub mod Codes
 pub mod Examples

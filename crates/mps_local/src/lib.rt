@@ -9,6 +9,7 @@ mod building;
 mod copying;
 mod equality;
 pub mod examples;
+pub mod faults;
 pub mod laws;
 mod loops;
 pub mod projection;
@@ -16,6 +17,7 @@ mod walking;
 mod writing;
 
 pub use examples::{worked_actions, worked_projections};
+pub use faults::{LocalFault, first_fault, local_fault_laws, projections_have_no_fault};
 pub use laws::{labels_lead, merging_is_equality, same_is_equality, unmerged_is_named};
 use mps_base::{Name, Role, Sort, VarName};
 pub use projection::{ProjectFault, project, projection_laws};
@@ -149,5 +151,7 @@ impl Branches {
     }
 }
 
+#[cfg(test)]
+mod fault_tests;
 #[cfg(test)]
 mod tests;

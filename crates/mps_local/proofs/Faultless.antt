@@ -1,0 +1,244 @@
+-- A type has no fault exactly where it is closed, guarded and unshadowed, has labels and is within the limits.
+use Rattle.std.proofs.Common.{◌≡◌, ℕ, ◌≤◌, ⊎_elim, Bool, true, false, List, [], ◌∷◌, ◌++◌, length, cond, Option, Some, None, refl, sym, ap, ◌∙◌, subst, arith}
+use Rattle.std.specs.Prelude.{◌||◌, ◌&&◌, ◌==◌, nat_lt, not}
+use Rattle.std.specs.List.{list_any}
+use Rattle.std.specs.Option.{option_or}
+use Rattle.std.specs.Str.{bytes_eq}
+use Rattle.std.proofs.lemmas.Bool.{cases_Bool, and_parts, and_from}
+use Rattle.std.proofs.lemmas.Bool.Decides.{nat_tests}
+use Rattle.std.proofs.lemmas.List.Sums.{take_while-cons}
+use Rattle.mps_global.specs.Global.{GlobalType}
+use Rattle.mps_global.specs.Faults.{has_double, first_true, fault_of}
+use Rattle.mps_global.proofs.Sound.{sound_protocol}
+use Rattle.mps_global.proofs.Walks.{first_of_tests}
+use Rattle.mps_local.specs.Local.{LocalType, Branches, End, Var, Rec, Send, Recv, Select, Branch, NoMore, More}
+use Rattle.mps_local.specs.Actions.{labels}
+use Rattle.mps_local.specs.Shape.{node_count, depth}
+use Rattle.mps_local.specs.Projection.{projection}
+use Rattle.mps_local.specs.Loops.{is_closed, are_closed, ends_in, is_guarded, are_guarded, is_unshadowed, are_unshadowed, are_labels, is_labelled, are_labelled}
+use Rattle.mps_local.specs.LocalFaults.{places, branch_places, binds, is_guard, is_bound, is_unguarded, size_tests, label_tests, rec_tests, tests_at, fault_at, local_fault_of}
+use Rattle.mps_local.specs.declared.faults.LocalFault.TheVariants as faults
+use Rattle.mps_local.proofs.Apart.{both_none, both_pass}
+use Rattle.mps_local.proofs.Equal.{name_same, name_is, name_turned}
+use Rattle.mps_local.proofs.Faulty.{first_of_both}
+use Rattle.mps_local.proofs.Looping.{true_unless, false_where, labels_so, not_so, sound_closed, projection_closed, projection_guarded, projection_unshadowed, projection_labelled}
+use Rattle.mps_local.proofs.Projected.{fitting}
+
+none_then : {F : Type 0} (a b : Option F) → a ≡ None → b ≡ None → option_or a b ≡ None
+none_then None b e f = f
+none_then (Some fault) b e f = absurd cc
+
+-- where neither list of tests tells a fault, both together tell none
+both_told : {F : Type 0} (a b : List (Bool × F)) → first_true a ≡ None → first_true b ≡ None → first_true (a ++ b) ≡ None
+both_told a b e f = first_of_tests a b ∙ none_then (first_true a) (first_true b) e f
+
+variable_fine : {F : Type 0} (unbound unguarded : F) (a b : Bool) → a ≡ true → b ≡ false → first_true ((not a, unbound) ∷ (b, unguarded) ∷ []) ≡ None
+variable_fine unbound unguarded true true e f = absurd cc
+variable_fine unbound unguarded true false e f = refl
+variable_fine unbound unguarded false b e f = absurd cc
+
+rec_fine : {F : Type 0} (shadowed : F) (a : Bool) → a ≡ false → first_true ((a, shadowed) ∷ []) ≡ None
+rec_fine shadowed true e = absurd cc
+rec_fine shadowed false e = refl
+
+labels_fine : {F : Type 0} (double many none : F) (a b c : Bool) → (not a && not b && not c) ≡ true → first_true ((a, double) ∷ (b, many) ∷ (c, none) ∷ []) ≡ None
+labels_fine double many none true b c e = absurd cc
+labels_fine double many none false true c e = absurd cc
+labels_fine double many none false false true e = absurd cc
+labels_fine double many none false false false e = refl
+
+-- below a `rec` its own variable is unguarded, and those that were
+under_rec : (z name : List ℕ) (body : LocalType) (above : List LocalType) → is_unguarded z (Rec name body ∷ above) ≡ (bytes_eq z name || is_unguarded z above)
+under_rec z name body above = ap (list_any (binds z)) (take_while-cons (λ node. not (is_guard node)) (Rec name body) above)
+
+or_first : (a b : Bool) → a ≡ true → (a || b) ≡ true
+or_first true b h = refl
+or_first false b h = absurd cc
+
+or_second : (a b : Bool) → b ≡ true → (a || b) ≡ true
+or_second true b h = refl
+or_second false b h = h
+
+second_of : (a b : Bool) → (a || b) ≡ true → a ≡ false → b ≡ true
+second_of true b h e = absurd cc
+second_of false b h e = h
+
+not_true : (a : Bool) → not a ≡ true → a ≡ false
+not_true true e = absurd cc
+not_true false e = refl
+
+mutual
+  no_fault : (above : List LocalType) (bound : List (List ℕ)) (t : LocalType) → ((z : List ℕ) → list_any (bytes_eq z) bound ≡ list_any (binds z) above) → ((z : List ℕ) → is_unguarded z above ≡ true → ends_in z t ≡ false) → is_closed bound t ≡ true → is_guarded t ≡ true → is_unshadowed bound t ≡ true → is_labelled t ≡ true → fault_at (places above t) ≡ None
+  no_fault above bound End f g c d u l = refl
+  no_fault above bound (Var name) f g c d u l =
+      (variable_fine faults.Unbound faults.Unguarded (is_bound name above) (is_unguarded name above) (sym (f name) ∙ c)
+      (⊎_elim (λ (e : is_unguarded name above ≡ true). absurd (let k = g name e in let n = name_same name in cc)) (λ (e : is_unguarded name above ≡ false). e) (cases_Bool (is_unguarded name above))))
+  no_fault above bound (Rec name body) f g c d u l =
+      let us = and_parts (not (list_any (bytes_eq name) bound)) (is_unshadowed (name ∷ bound) body) u in
+      let ds = and_parts (not (ends_in name body)) (is_guarded body) d in
+      both_told (rec_tests name above) (tests_at (places (Rec name body ∷ above) body))
+      (rec_fine faults.Shadowed (is_bound name above) (sym (f name) ∙ not_true (list_any (bytes_eq name) bound) us.0))
+      (no_fault (Rec name body ∷ above) (name ∷ bound) body
+      (λ z. ap (λ (b : Bool). bytes_eq z name || b) (f z))
+      (λ z h.
+      ⊎_elim
+      (λ (e : bytes_eq z name ≡ true). subst (λ (k : List ℕ). ends_in k body ≡ false) (sym (name_is z name e)) (not_true (ends_in name body) ds.0))
+      (λ (e : bytes_eq z name ≡ false).
+      let off : bytes_eq name z ≡ false = name_turned name z ∙ e in
+      let h' : is_unguarded z above ≡ true = second_of (bytes_eq z name) (is_unguarded z above) (sym (under_rec z name body above) ∙ h) e in
+      let k : cond (bytes_eq name z) false (ends_in z body) ≡ false = g z h' in
+      rw off at k)
+      (cases_Bool (bytes_eq z name)))
+      c ds.1 us.1 l)
+  no_fault above bound (Send peer sort next) f g c d u l = no_fault (Send peer sort next ∷ above) bound next f (λ z h. absurd cc) c d u l
+  no_fault above bound (Recv peer sort next) f g c d u l = no_fault (Recv peer sort next ∷ above) bound next f (λ z h. absurd cc) c d u l
+  no_fault above bound (Select peer branches) f g c d u l =
+      let ls = and_parts (are_labels (labels branches)) (are_labelled branches) l in
+      both_told (label_tests (labels branches)) (tests_at (branch_places (Select peer branches ∷ above) branches))
+      (labels_fine faults.DoubleLabel faults.TooManyBranches faults.NoBranches (has_double (labels branches)) (nat_lt 16 (length (labels branches))) (length (labels branches) == 0) ls.0)
+      (no_faults (Select peer branches ∷ above) bound branches f (λ z h. absurd cc) c d u ls.1)
+  no_fault above bound (Branch peer branches) f g c d u l =
+      let ls = and_parts (are_labels (labels branches)) (are_labelled branches) l in
+      both_told (label_tests (labels branches)) (tests_at (branch_places (Branch peer branches ∷ above) branches))
+      (labels_fine faults.DoubleLabel faults.TooManyBranches faults.NoBranches (has_double (labels branches)) (nat_lt 16 (length (labels branches))) (length (labels branches) == 0) ls.0)
+      (no_faults (Branch peer branches ∷ above) bound branches f (λ z h. absurd cc) c d u ls.1)
+
+  no_faults : (above : List LocalType) (bound : List (List ℕ)) (ts : Branches) → ((z : List ℕ) → list_any (bytes_eq z) bound ≡ list_any (binds z) above) → ((z : List ℕ) → is_unguarded z above ≡ true → ⊥) → are_closed bound ts ≡ true → are_guarded ts ≡ true → are_unshadowed bound ts ≡ true → are_labelled ts ≡ true → fault_at (branch_places above ts) ≡ None
+  no_faults above bound NoMore f g c d u l = refl
+  no_faults above bound (More label t others) f g c d u l =
+      let cs = and_parts (is_closed bound t) (are_closed bound others) c in
+      let ds = and_parts (is_guarded t) (are_guarded others) d in
+      let us = and_parts (is_unshadowed bound t) (are_unshadowed bound others) u in
+      let ls = and_parts (is_labelled t) (are_labelled others) l in
+      first_of_both (places above t) (branch_places above others)
+      ∙ none_then (fault_at (places above t)) (fault_at (branch_places above others))
+      (no_fault above bound t f (λ z h. absurd (g z h)) cs.0 ds.0 us.0 ls.0)
+      (no_faults above bound others f g cs.1 ds.1 us.1 ls.1)
+
+within : (limit n : ℕ) → n ≤ limit → nat_lt limit n ≡ false
+within limit n h = grind (arith, nat_tests)
+
+limits_fine : {F : Type 0} (many deep : F) (a b : Bool) → a ≡ false → b ≡ false → first_true ((a, many) ∷ (b, deep) ∷ []) ≡ None
+limits_fine many deep true b e f = absurd cc
+limits_fine many deep false true e f = absurd cc
+limits_fine many deep false false e f = refl
+
+-- such a type has no fault
+pub faultless_so : (t : LocalType) → is_closed [] t ≡ true → is_guarded t ≡ true → is_unshadowed [] t ≡ true → is_labelled t ≡ true → node_count t ≤ 256 → depth t ≤ 64 → local_fault_of t ≡ None
+faultless_so t c g u l n d =
+    both_told (size_tests t) (tests_at (places [] t))
+    (limits_fine faults.TooManyNodes faults.TooDeep (nat_lt 256 (node_count t)) (nat_lt 64 (depth t)) (within 256 (node_count t) n) (within 64 (depth t) d))
+    (no_fault [] [] t (λ z. refl) (λ z k. absurd cc) c g u l)
+
+-- and projections are such types
+pub faultless : (roles : List (List ℕ)) (role : ℕ) (tree : GlobalType) (t : LocalType) → fault_of roles tree ≡ None → projection roles role tree ≡ Some t → local_fault_of t ≡ None
+faultless roles role tree t h e =
+    let sound = sound_protocol roles tree h in
+    let fits = fitting roles role tree t h e in
+    let small = sound.small in let shallow = sound.shallow in let n = fits.nodes_fit in let l = fits.levels_fit in
+    faultless_so t
+    (projection_closed roles role [] tree t (sound_closed roles [] [] (λ z k. k) tree sound.nodes) e)
+    (projection_guarded roles role tree t e)
+    (projection_unshadowed roles role [] [] (λ z k. k) tree t sound.nodes e)
+    (projection_labelled roles role [] tree t sound.nodes e)
+    (omega arith) (omega arith)
+
+-- where a type's nodes have no fault, it does not come to an unguarded variable before an act
+unended : (z : List ℕ) (above : List LocalType) (t : LocalType) → is_unguarded z above ≡ true → fault_at (places above t) ≡ None → ends_in z t ≡ false
+unended z above End u h = refl
+unended z above (Var name) u h = by_test (bytes_eq name z) refl
+  where
+    by_test : (b : Bool) → bytes_eq name z ≡ b → b ≡ false
+    by_test true e =
+        let k : is_unguarded name above ≡ true = subst (λ (x : List ℕ). is_unguarded x above ≡ true) (sym (name_is name z e)) u in
+        let free = (both_pass ((not (is_bound name above), faults.Unbound) ∷ []) ((is_unguarded name above, faults.Unguarded) ∷ []) h).1 in
+        let l = false_where faults.Unguarded (is_unguarded name above) free in
+        absurd cc
+    by_test false e = refl
+unended z above (Rec name body) u h = by_test (bytes_eq name z)
+    (unended z (Rec name body ∷ above) body (under_rec z name body above ∙ or_second (bytes_eq z name) (is_unguarded z above) u) (both_pass (rec_tests name above) (tests_at (places (Rec name body ∷ above) body)) h).1)
+  where
+    by_test : (b : Bool) → ends_in z body ≡ false → cond b false (ends_in z body) ≡ false
+    by_test true e = refl
+    by_test false e = e
+unended z above (Send peer sort next) u h = refl
+unended z above (Recv peer sort next) u h = refl
+unended z above (Select peer branches) u h = refl
+unended z above (Branch peer branches) u h = refl
+
+-- what holds of a type whose nodes have no fault, where these variables are bound
+pub record IsFine (bound : List (List ℕ)) (t : LocalType) : Type 0 where
+  pub closed : is_closed bound t ≡ true
+  pub guarded : is_guarded t ≡ true
+  pub unshadowed : is_unshadowed bound t ≡ true
+  pub labelled : is_labelled t ≡ true
+
+record AreFine (bound : List (List ℕ)) (ts : Branches) : Type 0 where
+  closed : are_closed bound ts ≡ true
+  guarded : are_guarded ts ≡ true
+  unshadowed : are_unshadowed bound ts ≡ true
+  labelled : are_labelled ts ≡ true
+
+choice_labels : (names : List (List ℕ)) → first_true (label_tests names) ≡ None → are_labels names ≡ true
+choice_labels names h = labels_so faults.DoubleLabel faults.TooManyBranches faults.NoBranches (has_double names) (nat_lt 16 (length names)) (length names == 0) h
+
+mutual
+  fine : (above : List LocalType) (bound : List (List ℕ)) (t : LocalType) → ((z : List ℕ) → list_any (bytes_eq z) bound ≡ list_any (binds z) above) → fault_at (places above t) ≡ None → IsFine bound t
+  fine above bound End f h = record { closed = refl; guarded = refl; unshadowed = refl; labelled = refl }
+  fine above bound (Var name) f h =
+      let known = (both_pass ((not (is_bound name above), faults.Unbound) ∷ []) ((is_unguarded name above, faults.Unguarded) ∷ []) h).0 in
+      record { closed = f name ∙ true_unless faults.Unbound (is_bound name above) known; guarded = refl; unshadowed = refl; labelled = refl }
+  fine above bound (Rec name body) f h =
+      let below = Rec name body ∷ above in
+      let b = both_pass (rec_tests name above) (tests_at (places below body)) h in
+      let k = fine below (name ∷ bound) body (λ z. ap (λ (c : Bool). bytes_eq z name || c) (f z)) b.1 in
+      let own : is_unguarded name below ≡ true = under_rec name name body above ∙ or_first (bytes_eq name name) (is_unguarded name above) (name_same name) in
+      record {
+        closed = k.closed;
+        guarded = not_so (ends_in name body) (is_guarded body) (unended name below body own b.1) k.guarded;
+        unshadowed = not_so (list_any (bytes_eq name) bound) (is_unshadowed (name ∷ bound) body) (f name ∙ false_where faults.Shadowed (is_bound name above) b.0) k.unshadowed;
+        labelled = k.labelled;
+      }
+  fine above bound (Send peer sort next) f h =
+      let k = fine (Send peer sort next ∷ above) bound next f h in
+      record { closed = k.closed; guarded = k.guarded; unshadowed = k.unshadowed; labelled = k.labelled }
+  fine above bound (Recv peer sort next) f h =
+      let k = fine (Recv peer sort next ∷ above) bound next f h in
+      record { closed = k.closed; guarded = k.guarded; unshadowed = k.unshadowed; labelled = k.labelled }
+  fine above bound (Select peer branches) f h =
+      let below = Select peer branches ∷ above in
+      let b = both_pass (label_tests (labels branches)) (tests_at (branch_places below branches)) h in
+      let k = all_fine below bound branches f b.1 in
+      record { closed = k.closed; guarded = k.guarded; unshadowed = k.unshadowed; labelled = and_from (are_labels (labels branches)) (are_labelled branches) (choice_labels (labels branches) b.0) k.labelled }
+  fine above bound (Branch peer branches) f h =
+      let below = Branch peer branches ∷ above in
+      let b = both_pass (label_tests (labels branches)) (tests_at (branch_places below branches)) h in
+      let k = all_fine below bound branches f b.1 in
+      record { closed = k.closed; guarded = k.guarded; unshadowed = k.unshadowed; labelled = and_from (are_labels (labels branches)) (are_labelled branches) (choice_labels (labels branches) b.0) k.labelled }
+
+  all_fine : (above : List LocalType) (bound : List (List ℕ)) (ts : Branches) → ((z : List ℕ) → list_any (bytes_eq z) bound ≡ list_any (binds z) above) → fault_at (branch_places above ts) ≡ None → AreFine bound ts
+  all_fine above bound NoMore f h = record { closed = refl; guarded = refl; unshadowed = refl; labelled = refl }
+  all_fine above bound (More label t others) f h =
+      let split = first_of_both (places above t) (branch_places above others) in
+      let b = both_none (fault_at (places above t)) (fault_at (branch_places above others)) (cc (split, h)) in
+      let k = fine above bound t f b.0 in
+      let l = all_fine above bound others f b.1 in
+      record {
+        closed = and_from (is_closed bound t) (are_closed bound others) k.closed l.closed;
+        guarded = and_from (is_guarded t) (are_guarded others) k.guarded l.guarded;
+        unshadowed = and_from (is_unshadowed bound t) (are_unshadowed bound others) k.unshadowed l.unshadowed;
+        labelled = and_from (is_labelled t) (are_labelled others) k.labelled l.labelled;
+      }
+
+no_more_than : (limit n : ℕ) → nat_lt limit n ≡ false → n ≤ limit
+no_more_than limit n h = grind (arith, nat_tests)
+
+-- a type without a fault is fine
+pub fine_so : (t : LocalType) → local_fault_of t ≡ None → IsFine [] t
+fine_so t h = fine [] [] t (λ z. refl) (both_pass (size_tests t) (tests_at (places [] t)) h).1
+
+-- and within the limits
+pub limits_so : (t : LocalType) → local_fault_of t ≡ None → (node_count t ≤ 256) × (depth t ≤ 64)
+limits_so t h =
+    let b = both_pass ((nat_lt 256 (node_count t), faults.TooManyNodes) ∷ []) ((nat_lt 64 (depth t), faults.TooDeep) ∷ []) (both_pass (size_tests t) (tests_at (places [] t)) h).0 in
+    (no_more_than 256 (node_count t) (false_where faults.TooManyNodes (nat_lt 256 (node_count t)) b.0), no_more_than 64 (depth t) (false_where faults.TooDeep (nat_lt 64 (depth t)) b.1))

@@ -1,0 +1,140 @@
+-- Where a role takes no part, and what its projections are like.
+use Rattle.std.proofs.Common.{◌≡◌, ℕ, ⊎_elim, Bool, true, false, List, [], ◌∷◌, cond, Some, refl, sym, ap, ◌∙◌, subst}
+use Rattle.std.specs.Prelude.{◌||◌, ◌&&◌, ◌==◌, not, option_and_then}
+use Rattle.std.specs.List.{list_any}
+use Rattle.std.specs.Option.{option_map}
+use Rattle.std.specs.Str.{bytes_eq}
+use Rattle.std.proofs.lemmas.Bool.{cases_Bool, and_parts, and_from}
+use Rattle.mps_base.specs.declared.value.Sort.{Sort}
+use Rattle.mps_global.specs.Global as global
+use Rattle.mps_global.specs.Global.{GlobalType}
+use Rattle.mps_local.specs.Local.{LocalType, Branches, End, Var, Rec, Send, Recv, Select, Branch, More}
+use Rattle.mps_local.specs.Actions.{nexts}
+use Rattle.mps_local.specs.Loops.{ends_in}
+use Rattle.mps_local.specs.Projection.{place_of, occurs, occurs_in, is_closed, are_closed, is_idle, merged, with_message, with_choice, projection, projections}
+use Rattle.mps_local.proofs.Merging.{AllAre, merged_are}
+use Rattle.mps_local.proofs.Unmerged.{map_some, and_then_some}
+
+-- the parts of a projection
+pub data RecParts (roles : List (List ℕ)) (role : ℕ) (name : List ℕ) (body : GlobalType) (t : LocalType) : Type 0 where
+  idle : is_idle roles role name body ≡ true → t ≡ End → RecParts roles role name body t
+  busy : is_idle roles role name body ≡ false → (u : LocalType) → projection roles role body ≡ Some u → t ≡ Rec name u → RecParts roles role name body t
+
+pub rec_parts : (roles : List (List ℕ)) (role : ℕ) (name : List ℕ) (body : GlobalType) (t : LocalType) → projection roles role (global.Rec name body) ≡ Some t → RecParts roles role name body t
+rec_parts roles role name body t e = by_test (is_idle roles role name body) refl e
+  where
+    by_test : (b : Bool) → is_idle roles role name body ≡ b → cond b (Some End) (option_map (Rec name) (projection roles role body)) ≡ Some t → RecParts roles role name body t
+    by_test true f g = idle f (let k : t ≡ End = cc in k)
+    by_test false f g = let k = map_some (Rec name) (projection roles role body) t g in busy f k.0 k.1 (sym k.2)
+
+pub more_parts : (roles : List (List ℕ)) (role : ℕ) (label : List ℕ) (next : GlobalType) (others : global.Branches) (ts : Branches) → projections roles role (global.More label next others) ≡ Some ts → (u : LocalType) × (us : Branches) × (projection roles role next ≡ Some u) × (projections roles role others ≡ Some us) × (ts ≡ More label u us)
+more_parts roles role label next others ts e =
+    let k = and_then_some (λ t. option_and_then (λ ts. Some (More label t ts)) (projections roles role others)) (projection roles role next) ts e in
+    let l = and_then_some (λ ts. Some (More label k.0 ts)) (projections roles role others) ts k.2 in
+    (k.0, l.0, k.1, l.1, let m : ts ≡ More label k.0 l.0 = cc in m)
+
+-- more variables are bound
+pub or_more : (a b c : Bool) → (b ≡ true → c ≡ true) → (a || b) ≡ true → (a || c) ≡ true
+or_more true b c f e = refl
+or_more false b c f e = f e
+
+mutual
+  pub closed_in_more : (some more : List (List ℕ)) → ((z : List ℕ) → list_any (bytes_eq z) some ≡ true → list_any (bytes_eq z) more ≡ true) → (tree : GlobalType) → is_closed some tree ≡ true → is_closed more tree ≡ true
+  closed_in_more some more f global.End e = refl
+  closed_in_more some more f (global.Var name) e = f name e
+  closed_in_more some more f (global.Rec name body) e =
+      closed_in_more (name ∷ some) (name ∷ more) (λ z h. or_more (bytes_eq z name) (list_any (bytes_eq z) some) (list_any (bytes_eq z) more) (f z) h) body e
+  closed_in_more some more f (global.Message sender receiver sort next) e = closed_in_more some more f next e
+  closed_in_more some more f (global.Choice sender receiver branches) e = are_closed_in_more some more f branches e
+
+  are_closed_in_more : (some more : List (List ℕ)) → ((z : List ℕ) → list_any (bytes_eq z) some ≡ true → list_any (bytes_eq z) more ≡ true) → (branches : global.Branches) → are_closed some branches ≡ true → are_closed more branches ≡ true
+  are_closed_in_more some more f global.NoMore e = refl
+  are_closed_in_more some more f (global.More label next others) e =
+      let k = and_parts (is_closed some next) (are_closed some others) e in
+      and_from (is_closed more next) (are_closed more others) (closed_in_more some more f next k.0) (are_closed_in_more some more f others k.1)
+
+-- the role does nothing in the tree, which has no other free variable
+pub record IsSilent (roles : List (List ℕ)) (role : ℕ) (x : List ℕ) (tree : GlobalType) : Type 0 where
+  pub absent : occurs roles role tree ≡ false
+  pub closed : is_closed (x ∷ []) tree ≡ true
+
+record AreSilent (roles : List (List ℕ)) (role : ℕ) (x : List ℕ) (branches : global.Branches) : Type 0 where
+  absent : occurs_in roles role branches ≡ false
+  closed : are_closed (x ∷ []) branches ≡ true
+
+or_both : (a b : Bool) → a ≡ false → b ≡ false → (a || b) ≡ false
+or_both true b e f = absurd cc
+or_both false b e f = f
+
+ends_in_rec : (x y : List ℕ) (u : LocalType) → ends_in x (Rec y u) ≡ true → ends_in x u ≡ true
+ends_in_rec x y u e = by_test (bytes_eq y x) e
+  where
+    by_test : (b : Bool) → cond b false (ends_in x u) ≡ true → ends_in x u ≡ true
+    by_test true f = absurd cc
+    by_test false f = f
+
+message_silent : (a b : Bool) (x : List ℕ) (from to : ℕ) (sort : Sort) (u : LocalType) → ends_in x (cond a (Send to sort u) (cond b (Recv from sort u) u)) ≡ true → (a ≡ false) × (b ≡ false) × (ends_in x u ≡ true)
+message_silent true b x from to sort u h = absurd cc
+message_silent false true x from to sort u h = absurd cc
+message_silent false false x from to sort u h = (refl, refl, h)
+
+choice_silent : (a b : Bool) (x : List ℕ) (from to : ℕ) (ts : Branches) (t : LocalType) → cond a (Some (Select to ts)) (cond b (Some (Branch from ts)) (merged ts)) ≡ Some t → ends_in x t ≡ true → (a ≡ false) × (b ≡ false) × (merged ts ≡ Some t)
+choice_silent true b x from to ts t e h = absurd (let k : Select to ts ≡ t = cc in let l = ap (ends_in x) k ∙ h in cc)
+choice_silent false true x from to ts t e h = absurd (let k : Branch from ts ≡ t = cc in let l = ap (ends_in x) k ∙ h in cc)
+choice_silent false false x from to ts t e h = (refl, refl, e)
+
+mutual
+  -- where a role's projection comes to a variable before any action
+  pub silent_end : (roles : List (List ℕ)) (role : ℕ) (x : List ℕ) (tree : GlobalType) (t : LocalType) → projection roles role tree ≡ Some t → ends_in x t ≡ true → IsSilent roles role x tree
+  silent_end roles role x global.End t e h = absurd (let k : End ≡ t = cc in let l = ap (ends_in x) k ∙ h in cc)
+  silent_end roles role x (global.Var name) t e h =
+      let k : Var name ≡ t = cc in
+      let l : bytes_eq name x ≡ true = ap (ends_in x) k ∙ h in
+      record { absent = refl; closed = rw l refl }
+  silent_end roles role x (global.Rec name body) t e h = by_parts (rec_parts roles role name body t e)
+      (λ u f g. silent_end roles role x body u f g)
+    where
+      by_parts : RecParts roles role name body t → ((u : LocalType) → projection roles role body ≡ Some u → ends_in x u ≡ true → IsSilent roles role x body) → IsSilent roles role x (global.Rec name body)
+      by_parts (idle f g) again = absurd (let k = ap (ends_in x) (sym g) ∙ h in cc)
+      by_parts (busy f u g k) again =
+          let s = again u g (ends_in_rec x name u (ap (ends_in x) (sym k) ∙ h)) in
+          record { absent = s.absent; closed = closed_in_more (x ∷ []) (name ∷ x ∷ []) (λ z l. wider (bytes_eq z name) (list_any (bytes_eq z) (x ∷ [])) l) body s.closed }
+        where
+          wider : (a b : Bool) → b ≡ true → (a || b) ≡ true
+          wider true b l = refl
+          wider false b l = l
+  silent_end roles role x (global.Message sender receiver sort next) t e h =
+      let from = place_of roles sender in let to = place_of roles receiver in
+      let k = map_some (with_message role from to sort) (projection roles role next) t e in
+      let n = message_silent (role == from) (role == to) x from to sort k.0 (ap (ends_in x) k.2 ∙ h) in
+      let s = silent_end roles role x next k.0 k.1 n.2 in
+      record { absent = or_both (role == from || role == to) (occurs roles role next) (or_both (role == from) (role == to) n.0 n.1) s.absent; closed = s.closed }
+  silent_end roles role x (global.Choice sender receiver branches) t e h =
+      let from = place_of roles sender in let to = place_of roles receiver in
+      let k = and_then_some (with_choice role from to) (projections roles role branches) t e in
+      let n = choice_silent (role == from) (role == to) x from to k.0 t k.2 h in
+      let s = silent_ends roles role x branches k.0 t k.1 (merged_are k.0 t n.2).1 h in
+      record { absent = or_both (role == from || role == to) (occurs_in roles role branches) (or_both (role == from) (role == to) n.0 n.1) s.absent; closed = s.closed }
+
+  silent_ends : (roles : List (List ℕ)) (role : ℕ) (x : List ℕ) (branches : global.Branches) (ts : Branches) (t : LocalType) → projections roles role branches ≡ Some ts → AllAre t (nexts ts) → ends_in x t ≡ true → AreSilent roles role x branches
+  silent_ends roles role x global.NoMore ts t e g h = record { absent = refl; closed = refl }
+  silent_ends roles role x (global.More label next others) ts t e g h =
+      let k = more_parts roles role label next others ts e in
+      let l : AllAre t (nexts (More label k.0 k.1)) = subst (λ (z : Branches). AllAre t (nexts z)) k.4 g in
+      let a = silent_end roles role x next k.0 k.2 (ap (ends_in x) l.0 ∙ h) in
+      let b = silent_ends roles role x others k.1 t k.3 l.1 h in
+      record { absent = or_both (occurs roles role next) (occurs_in roles role others) a.absent b.absent; closed = and_from (is_closed (x ∷ []) next) (are_closed (x ∷ []) others) a.closed b.closed }
+
+-- a loop that is not idle does not come to its variable before an action
+pub busy_guarded : (roles : List (List ℕ)) (role : ℕ) (name : List ℕ) (body : GlobalType) (u : LocalType) → is_idle roles role name body ≡ false → projection roles role body ≡ Some u → ends_in name u ≡ false
+busy_guarded roles role name body u f e =
+    ⊎_elim
+    (λ (h : ends_in name u ≡ true).
+    let s = silent_end roles role name body u e h in
+    absurd (let k = idle_from (occurs roles role body) (is_closed (name ∷ []) body) s.absent s.closed in cc))
+    (λ (h : ends_in name u ≡ false). h)
+    (cases_Bool (ends_in name u))
+  where
+    idle_from : (a b : Bool) → a ≡ false → b ≡ true → (not a && b) ≡ true
+    idle_from true b h k = absurd cc
+    idle_from false b h k = k

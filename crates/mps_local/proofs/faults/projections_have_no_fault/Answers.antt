@@ -1,0 +1,5 @@
+use Rattle.mps_local.proofs.Faultless.{faultless}
+use Rattle.mps_local.proofs.faults.projections_have_no_fault.Goals as goal
+
+pub returns : goal.returns
+returns c = faultless

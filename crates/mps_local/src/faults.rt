@@ -1,0 +1,324 @@
+//! Which local types are well-formed.
+ghost use Rattle.std.specs.Prelude.{◌≡◌, ◌+◌, ◌<◌, ◌≤◌, ◌↔◌, ℕ, List, [], None, Some, true, IsTrue, MatchOption, length, nat_lt};
+ghost use Rattle.mps_global.specs.Faults.{is_among, has_double, first_true, fault_of};
+ghost use Rattle.mps_global.specs.Global.{GlobalType};
+ghost use Rattle.mps_local.specs.Local.{LocalType, plain, plain_branches};
+ghost use Rattle.mps_local.specs.Actions.{labels};
+ghost use Rattle.mps_local.specs.Loops.{is_closed, is_guarded, is_unshadowed, is_labelled};
+ghost use Rattle.mps_local.specs.Shape.{node_count, branch_nodes, depth, branch_depth};
+ghost use Rattle.mps_local.specs.Projection.{projection};
+ghost use Rattle.mps_local.specs.LocalFaults.{places, branch_places, binds, is_guard, is_bound, is_unguarded};
+ghost use Rattle.mps_local.specs.LocalFaults.{label_tests, variable_tests, rec_tests, node_tests, fault_at, local_fault_of};
+ghost use Rattle.mps_local.specs.Above.{nodes_above};
+
+use crate::{Branches, Local};
+use mps_base::{Name, VarName};
+use mps_global::faults::{MAX_BRANCHES, MAX_DEPTH, MAX_NODES};
+use std::alloc::AllocError;
+use thiserror::Error;
+
+/// What is wrong with a local type, or why no table was made of it.
+#[derive(Clone, Copy, Debug, PartialEq, Eq, Error)]
+pub enum LocalFault {
+    #[error("the type has more than 256 nodes")]
+    TooManyNodes,
+    #[error("the type is more than 64 nodes deep")]
+    TooDeep,
+    #[error("a choice has a label twice")]
+    DoubleLabel,
+    #[error("a choice has more than 16 branches")]
+    TooManyBranches,
+    #[error("a choice has no branches")]
+    NoBranches,
+    #[error("a variable stands outside its `rec`")]
+    Unbound,
+    #[error("a variable is bound inside its own `rec`")]
+    Shadowed,
+    #[error("no act stands between a `rec` and its variable")]
+    Unguarded,
+    /// No type has this fault: it is for those who need room for a type.
+    #[error("out of memory")]
+    Memory,
+}
+
+impl From<AllocError> for LocalFault {
+    ghost use Rattle.mps_local.specs.declared.faults.LocalFault.TheVariants.{Memory};
+
+    ghost from_gives = { λ _ fault. fault ≡ Memory };
+
+    fn from(_: AllocError) -> LocalFault {
+        LocalFault::Memory
+    }
+}
+
+// The nodes on the path to a node, the nearest first.
+#[derive(Clone, Copy)]
+enum Above<'a> {
+    Root,
+    Under(&'a Local, &'a Above<'a>),
+}
+
+/// The first fault of a local type. The type may be of any size: nothing goes more than 257 nodes
+/// deep into it.
+pub fn first_fault(t: &Local) -> Option<LocalFault>
+    ensures { result ≡ local_fault_of (plain t.now) }
+{
+    if nodes_left(t, MAX_NODES).is_none() {
+        return Some(LocalFault::TooManyNodes);
+    }
+    if !is_within(t, MAX_DEPTH) {
+        return Some(LocalFault::TooDeep);
+    }
+    fault_in(t, &Above::Root)
+}
+
+/// What holds of a type without faults, and of no other: each variable stands in its `rec` and
+/// behind an act of it, no `rec` has the variable of one around it, each choice has 1 to 16 labels
+/// that differ, and the type is within the limits.
+pub fn local_fault_laws()
+    ensures closed { (t : LocalType) → local_fault_of t ≡ None → is_closed [] t ≡ true }
+    ensures guarded { (t : LocalType) → local_fault_of t ≡ None → is_guarded t ≡ true }
+    ensures unshadowed { (t : LocalType) → local_fault_of t ≡ None → is_unshadowed [] t ≡ true }
+    ensures labelled { (t : LocalType) → local_fault_of t ≡ None → is_labelled t ≡ true }
+    ensures limits { (t : LocalType) → local_fault_of t ≡ None
+        → (node_count t ≤ 256) × (depth t ≤ 64) }
+    ensures no_other { (t : LocalType) → is_closed [] t ≡ true → is_guarded t ≡ true
+        → is_unshadowed [] t ≡ true → is_labelled t ≡ true
+        → node_count t ≤ 256 → depth t ≤ 64 → local_fault_of t ≡ None }
+{}
+
+/// What a role does in a protocol without faults has no fault.
+pub fn projections_have_no_fault()
+    ensures { (roles : List (List ℕ)) (role : ℕ) (tree : GlobalType) (t : LocalType)
+        → fault_of roles tree ≡ None → projection roles role tree ≡ Some t
+        → local_fault_of t ≡ None }
+{}
+
+// What is left of the limit after each node has taken 1, or None where the nodes are more.
+#[cycle(nodes)]
+#[tactic(auto, using(crate::proofs::Sizes::some_node))]
+fn nodes_left(t: &Local, limit: usize) -> Option<usize>
+    ensures { MatchOption result
+        (limit < node_count (plain t.now))
+        (λ left. left + node_count (plain t.now) ≡ limit) }
+{
+    if limit == 0 {
+        return None;
+    }
+    match t {
+        Local::End | Local::Var(_) => Some(limit - 1),
+        Local::Rec(_, next) | Local::Send { next, .. } | Local::Recv { next, .. } => {
+            nodes_left(next, limit - 1)
+        }
+        Local::Select { branches, .. } | Local::Branch { branches, .. } => {
+            branch_nodes_left(branches, limit - 1)
+        }
+    }
+}
+
+// The same of the nodes of the branches.
+#[cycle(nodes)]
+fn branch_nodes_left(branches: &Branches, limit: usize) -> Option<usize>
+    ensures { MatchOption result
+        (limit < branch_nodes (plain_branches branches.now))
+        (λ left. left + branch_nodes (plain_branches branches.now) ≡ limit) }
+{
+    match branches {
+        Branches::NoMore => Some(limit),
+        Branches::More { next, others, .. } => {
+            let left = nodes_left(next, limit)?;
+            branch_nodes_left(others, left)
+        }
+    }
+}
+
+// Whether no path from the root has more nodes than the limit.
+#[cycle(levels)]
+#[tactic(auto, using(crate::proofs::Sizes::some_depth))]
+fn is_within(t: &Local, limit: usize) -> bool
+    ensures { IsTrue result ↔ (depth (plain t.now) ≤ limit) }
+{
+    if limit == 0 {
+        return false;
+    }
+    match t {
+        Local::End | Local::Var(_) => true,
+        Local::Rec(_, next) | Local::Send { next, .. } | Local::Recv { next, .. } => {
+            is_within(next, limit - 1)
+        }
+        Local::Select { branches, .. } | Local::Branch { branches, .. } => {
+            are_within(branches, limit - 1)
+        }
+    }
+}
+
+// Whether no path of the branches has more nodes than the limit.
+#[cycle(levels)]
+fn are_within(branches: &Branches, limit: usize) -> bool
+    ensures { IsTrue result ↔ (branch_depth (plain_branches branches.now) ≤ limit) }
+{
+    match branches {
+        Branches::NoMore => true,
+        Branches::More { next, others, .. } => is_within(next, limit) && are_within(others, limit),
+    }
+}
+
+// What is wrong with the first faulty node in preorder.
+#[cycle(walk)]
+fn fault_in(t: &Local, above: &Above<'_>) -> Option<LocalFault>
+    ensures { result ≡ fault_at (places (nodes_above above.now) (plain t.now)) }
+{
+    if let Some(fault) = node_fault(&*t, &*above) {
+        return Some(fault);
+    }
+    match t {
+        Local::End | Local::Var(_) => None,
+        Local::Rec(_, next) | Local::Send { next, .. } | Local::Recv { next, .. } => {
+            fault_in(next, &Above::Under(&*t, &*above))
+        }
+        Local::Select { branches, .. } | Local::Branch { branches, .. } => {
+            fault_in_branches(branches, &Above::Under(&*t, &*above))
+        }
+    }
+}
+
+// The same of the nodes of the branches.
+#[cycle(walk)]
+#[tactic(auto, using(crate::proofs::Faulty::first_of_both))]
+fn fault_in_branches(branches: &Branches, above: &Above<'_>) -> Option<LocalFault>
+    ensures { result
+        ≡ fault_at (branch_places (nodes_above above.now) (plain_branches branches.now)) }
+{
+    match branches {
+        Branches::NoMore => None,
+        Branches::More { next, others, .. } => match fault_in(next, &*above) {
+            Some(fault) => Some(fault),
+            None => fault_in_branches(others, &*above),
+        },
+    }
+}
+
+// What is wrong at the node with that path.
+fn node_fault(node: &Local, above: &Above<'_>) -> Option<LocalFault>
+    ensures { result ≡ first_true (node_tests (nodes_above above.now) (plain node.now)) }
+{
+    match node {
+        Local::End | Local::Send { .. } | Local::Recv { .. } => None,
+        Local::Var(name) => variable_fault(name, above),
+        Local::Rec(name, _) => rec_fault(name, above),
+        Local::Select { branches, .. } | Local::Branch { branches, .. } => label_fault(branches),
+    }
+}
+
+// What is wrong with a variable that has that path.
+fn variable_fault(name: &VarName, above: &Above<'_>) -> Option<LocalFault>
+    ensures { result ≡ first_true (variable_tests name.now (nodes_above above.now)) }
+{
+    if !is_bound(name, above) {
+        return Some(LocalFault::Unbound);
+    }
+    if is_unguarded(name, above) {
+        return Some(LocalFault::Unguarded);
+    }
+    None
+}
+
+// What is wrong with a `rec` of that variable, which has that path.
+fn rec_fault(name: &VarName, above: &Above<'_>) -> Option<LocalFault>
+    ensures { result ≡ first_true (rec_tests name.now (nodes_above above.now)) }
+{
+    if is_bound(name, above) {
+        return Some(LocalFault::Shadowed);
+    }
+    None
+}
+
+// What is wrong with the labels of a choice.
+fn label_fault(branches: &Branches) -> Option<LocalFault>
+    ensures { result ≡ first_true (label_tests (labels (plain_branches branches.now))) }
+{
+    if has_double_label(branches) {
+        return Some(LocalFault::DoubleLabel);
+    }
+    if has_more_than(branches, MAX_BRANCHES) {
+        return Some(LocalFault::TooManyBranches);
+    }
+    match branches {
+        Branches::NoMore => Some(LocalFault::NoBranches),
+        Branches::More { .. } => None,
+    }
+}
+
+// Whether two branches have one label.
+fn has_double_label(branches: &Branches) -> bool
+    ensures { result ≡ has_double (labels (plain_branches branches.now)) }
+{
+    match branches {
+        Branches::NoMore => false,
+        Branches::More { label, others, .. } => has_label(others, label)
+            || has_double_label(others),
+    }
+}
+
+// Whether a branch has that label.
+fn has_label(branches: &Branches, label: &Name) -> bool
+    ensures { result ≡ is_among (labels (plain_branches branches.now)) label.now }
+{
+    match branches {
+        Branches::NoMore => false,
+        Branches::More {
+            label: other,
+            others,
+            ..
+        } => label.is(other) || has_label(others, label),
+    }
+}
+
+// Whether the branches are more than the limit.
+fn has_more_than(branches: &Branches, limit: usize) -> bool
+    ensures { result ≡ nat_lt limit (length (labels (plain_branches branches.now))) }
+{
+    match branches {
+        Branches::NoMore => false,
+        Branches::More { others, .. } => limit == 0 || has_more_than(others, limit - 1),
+    }
+}
+
+// Whether a `rec` of the variable stands on the path.
+fn is_bound(name: &VarName, above: &Above<'_>) -> bool
+    ensures { result ≡ is_bound name.now (nodes_above above.now) }
+{
+    match above {
+        Above::Root => false,
+        Above::Under(node, above) => binds(name, node) || is_bound(name, above),
+    }
+}
+
+// Whether a `rec` of the variable stands on the path below the nearest act.
+fn is_unguarded(name: &VarName, above: &Above<'_>) -> bool
+    ensures { result ≡ is_unguarded name.now (nodes_above above.now) }
+{
+    match above {
+        Above::Root => false,
+        Above::Under(node, above) => {
+            !is_guard(node) && (binds(name, node) || is_unguarded(name, above))
+        }
+    }
+}
+
+// Whether the node is the `rec` of the variable.
+fn binds(name: &VarName, node: &Local) -> bool
+    ensures { result ≡ binds name.now (plain node.now) }
+{
+    match node {
+        Local::Rec(bound, _) => name.is(bound),
+        _ => false,
+    }
+}
+
+// Whether the node is an act.
+fn is_guard(node: &Local) -> bool
+    ensures { result ≡ is_guard (plain node.now) }
+{
+    !matches!(node, Local::End | Local::Var(_) | Local::Rec(..))
+}
