@@ -153,4 +153,6 @@ impl Branches {
 }
 
 #[cfg(test)]
+mod fault_tests;
+#[cfg(test)]
 mod tests;

@@ -1,16 +1,17 @@
 -- What an entry says of the types that its node stands for.
-use Rattle.std.proofs.Common.{◌≡◌, ℕ, zero, suc, ◌+◌, ◌<◌, ◌≤◌, List, [], ◌∷◌, length, take, drop, Option, None, Some, refl, sym, ap, ◌∙◌, subst, arith, add-zero, ◌-◌}
-use Rattle.std.specs.Prelude.{⊤, slice_get, slice_range}
+use Rattle.std.proofs.Common.{◌≡◌, ℕ, zero, suc, ◌+◌, ◌<◌, List, [], ◌∷◌, length, take, drop, Option, None, Some, refl, sym, ap, subst, arith, add-zero, ◌-◌}
+use Rattle.std.specs.Prelude.{slice_get, slice_range}
 use Rattle.std.specs.List.{AllByRecursion}
 use Rattle.mps_local.specs.Local as local
 use Rattle.mps_local.specs.Local.{LocalType, Branches}
-use Rattle.mps_local.specs.Actions as actions
-use Rattle.mps_local.specs.Actions.{Head, labels, nexts, Begins, type_left, continuation}
+use Rattle.mps_local.specs.Actions.{Head, Ends, Sends, Receives, Chooses, Picks, labels, nexts, Begins, first_action, type_left, continuation}
+use Rattle.mps_local.proofs.Leading.{paired}
+use Rattle.std.proofs.lemmas.Option.{slice_get_within}
 use Rattle.mps_local.specs.Unfolding.{unfolded}
 use Rattle.mps_table.specs.declared.entry.Entry.{Entry}
 use Rattle.mps_table.specs.declared.entry.Entry.TheVariants.{End, Send, Recv, Select, Branch}
-use Rattle.mps_table.specs.Graph.{Graph, IsWithin, shown, next_of, IsFollowed}
-use Rattle.mps_table.specs.Standing.{HasFrom, StandsIn, StandFrom, HasBranches, IsEntryOf, AreEntriesOf, Explains, StandsFor}
+use Rattle.mps_table.specs.Graph.{Graph, IsNode, HasNext, shown, next_of, IsFollowed}
+use Rattle.mps_table.specs.Standing.{HasFrom, StandsIn, StandFrom, HasBranches, IsEntryOf, AreEntriesOf, StandsFor}
 
 -- what all are, the one at that place is
 pub all_at : {A : Type 0} (P : A → Type 0) (xs : List A) (n : ℕ) (x : A) → AllByRecursion P xs → slice_get xs n ≡ Some x → P x
@@ -103,3 +104,50 @@ follows g node after choice entry t u e f s left =
 -- the same, of what is shown
 pub shown_begins : (g : Graph) (node : ℕ) (entry : Entry) (h : Head) (t : LocalType) → slice_get g.entries node ≡ Some entry → h ≡ shown g entry → StandsFor g node t → Begins h (unfolded t)
 shown_begins g node entry h t e f s = subst (λ (x : Head). Begins x (unfolded t)) (sym f) (begins g node entry t e s)
+
+-- each type has its entry
+entry_of : (g : Graph) (types : List LocalType) (entries : List Entry) (ts : List LocalType) (n : ℕ) (t : LocalType) → AreEntriesOf g types entries ts → slice_get ts n ≡ Some t → (entry : Entry) × (slice_get entries n ≡ Some entry) × IsEntryOf g types entry t
+entry_of g types [] [] n t a e = absurd cc
+entry_of g types [] (u ∷ us) n t a e = absurd a
+entry_of g types (x ∷ xs) [] n t a e = absurd a
+entry_of g types (x ∷ xs) (u ∷ us) zero t a e = (x, refl, subst (λ (y : LocalType). IsEntryOf g types x y) (let k : u ≡ t = cc in k) a.0)
+entry_of g types (x ∷ xs) (u ∷ us) (suc n) t a e = entry_of g types xs us n t a.1 e
+
+-- a node that stands for a type is one of the table
+pub node_stands : (g : Graph) (node : ℕ) (t : LocalType) → StandsFor g node t → IsNode g node
+node_stands g node t s =
+    let entry = entry_of g s.0 g.entries s.0 node (unfolded t) s.1 s.2 in
+    slice_get_within g.entries node entry.0 entry.1
+
+place_within : (b : Branches) (place count : ℕ) (u : LocalType) → count ≡ length (labels b) → slice_get (nexts b) place ≡ Some u → place < count
+place_within b place count u e f = omega (arith, slice_get_within (nexts b) place u f, paired b)
+
+-- an entry is followed where its type is
+entry_followed : (g : Graph) (types : List LocalType) (choice : Option ℕ) (entry : Entry) (t u : LocalType) → IsEntryOf g types entry t → continuation t choice ≡ Some u → IsFollowed choice entry
+entry_followed g types None End t u h e = absurd (let k : continuation local.End None ≡ Some u = rw h at e in cc)
+entry_followed g types (Some place) End t u h e = absurd (let k : continuation local.End (Some place) ≡ Some u = rw h at e in cc)
+entry_followed g types None (Send peer sort next) t u h e = tt
+entry_followed g types (Some place) (Send peer sort next) t u h e = absurd (let k : continuation (local.Send peer sort h.0) (Some place) ≡ Some u = rw h.1 at e in cc)
+entry_followed g types None (Recv peer sort next) t u h e = tt
+entry_followed g types (Some place) (Recv peer sort next) t u h e = absurd (let k : continuation (local.Recv peer sort h.0) (Some place) ≡ Some u = rw h.1 at e in cc)
+entry_followed g types None (Select peer first count) t u h e = absurd (let k : continuation (local.Select peer h.0) None ≡ Some u = rw h.1 at e in cc)
+entry_followed g types (Some place) (Select peer first count) t u h e =
+    place_within h.0 place count u h.2.as_many (let k : slice_get (nexts h.0) place ≡ Some u = rw h.1 at e in k)
+entry_followed g types None (Branch peer first count) t u h e = absurd (let k : continuation (local.Branch peer h.0) None ≡ Some u = rw h.1 at e in cc)
+entry_followed g types (Some place) (Branch peer first count) t u h e =
+    place_within h.0 place count u h.2.as_many (let k : slice_get (nexts h.0) place ≡ Some u = rw h.1 at e in k)
+
+-- where something is left of the type, the node has a next one
+pub next_stands : (g : Graph) (node : ℕ) (choice : Option ℕ) (t u : LocalType) → StandsFor g node t → type_left t choice ≡ Some u → HasNext g node choice
+next_stands g node choice t u s e =
+    let entry = entry_of g s.0 g.entries s.0 node (unfolded t) s.1 s.2 in
+    let follows = entry_followed g s.0 choice entry.0 (unfolded t) u entry.2 e in
+    rw entry.1 follows
+
+-- a type begins in one way only
+pub head_begins : (h : Head) (t : LocalType) → Begins h t → first_action t ≡ h
+head_begins Ends t b = rw b refl
+head_begins (Sends peer sort) t b = rw b.1 refl
+head_begins (Receives peer sort) t b = rw b.1 refl
+head_begins (Chooses peer names) t b = rw b.1 (ap (Chooses peer) (sym b.2))
+head_begins (Picks peer names) t b = rw b.1 (ap (Picks peer) (sym b.2))

@@ -16,10 +16,10 @@ use std::marker::Model;
 /// without walking.
 #[derive(Debug, Drop)]
 pub struct Table {
-    entries: Vec<Entry>,
-    labels: Vec<Name>,
-    targets: Vec<Node>,
-    first: Node,
+    pub(crate) entries: Vec<Entry>,
+    pub(crate) labels: Vec<Name>,
+    pub(crate) targets: Vec<Node>,
+    pub(crate) first: Node,
 }
 
 impl Model for Table {
@@ -27,7 +27,12 @@ impl Model for Table {
 
     ghost Value = { Graph };
 
-    ghost view = { λ t. record { entries = t.entries.items; labels = t.labels.items; targets = t.targets.items; first = t.first } };
+    ghost view = { λ t. record {
+      entries = t.entries.items;
+      labels = t.labels.items;
+      targets = t.targets.items;
+      first = t.first;
+    } };
 
     ghost invariant = { λ t. IsSound t.entries.items t.labels.items t.targets.items };
 }
