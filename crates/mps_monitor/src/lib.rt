@@ -1,0 +1,7 @@
+//! What the monitor of one role answers to a command: whether the role's type allows it.
+#![tactic(auto)]
+
+mod verdict;
+
+pub use mps_command::{Forward, Violation};
+pub use verdict::{Advance, judge};

@@ -1,0 +1,155 @@
+//! Whether what a role expects allows a command, or why not.
+ghost use Rattle.std.specs.Prelude.{◌≡◌, ◌<◌, ◌↔◌, ℕ, List, None, Some, Ok, IfOk, OnOk, IfErr, IsTrue, length};
+ghost use Rattle.std.specs.Option.{option_copied};
+ghost use Rattle.mps_base.specs.declared.action.Act.TheVariants as acts;
+ghost use Rattle.mps_base.specs.declared.action.Message.TheVariants as messages;
+ghost use Rattle.mps_command.specs.Acts.{act_of};
+ghost use Rattle.mps_local.specs.Actions.{Begins, Sends, Receives, Chooses, Picks};
+ghost use Rattle.mps_local.specs.Local.{LocalType};
+ghost use Rattle.mps_machine.specs.Violations.{act_fault};
+ghost use Rattle.mps_table.specs.Expects.{head_of};
+ghost use Rattle.mps_monitor.specs.Verdicts.{moved_by, is_mark, labels_of, place_of, GoesOn, IsVerdict};
+
+use mps_base::{Message, Name, Role, Sort, Value};
+use mps_command::{Forward, Violation};
+use mps_table::Expect;
+
+/// How a role goes on in its part after an allowed command.
+#[derive(Clone, Copy, Debug, PartialEq, Eq)]
+pub enum Advance {
+    /// Not at all: a mark is no act of the type.
+    Stay,
+    /// Past the value that it gives or takes.
+    Next,
+    /// Into the branch of that place.
+    Into(usize),
+}
+
+/// How a role goes on that expects this, or the first reason why the command is not allowed. The
+/// message is the first that waits from the peer whom the command names, if one does. Nothing is
+/// allocated.
+pub fn judge(
+    expected: Expect<'_>,
+    command: &Forward,
+    first: Option<&Message>,
+) -> Result<Advance, Violation>
+    ensures violation { IfErr result (λ fault. (t : LocalType)
+        → Begins (head_of expected.entry) t
+        → act_fault t (act_of command.now) (moved_by command.now (option_copied first.entry))
+        ≡ Some fault) }
+    ensures allowed { OnOk result ((t : LocalType)
+        → Begins (head_of expected.entry) t
+        → act_fault t (act_of command.now) (moved_by command.now (option_copied first.entry))
+        ≡ None) }
+    ensures advance { IfOk result (λ a. (t : LocalType)
+        → Begins (head_of expected.entry) t
+        → GoesOn a t (act_of command.now) (moved_by command.now (option_copied first.entry))) }
+    ensures stay { (result ≡ Ok Advance.Stay) ↔ IsTrue (is_mark command.now) }
+    // The place is that of a label that is expected.
+    ensures place { (k : ℕ) → result ≡ Ok (Advance.Into k)
+        → k < length (labels_of (head_of expected.entry)) }
+{
+    match command {
+        Forward::Mark { .. } => Ok(Advance::Stay),
+        Forward::Send { to, value } => match expected {
+            Expect::End => Err(Violation::Ended),
+            Expect::Send(peer, sort) => judge_send(peer, sort, *to, value),
+            _ => Err(Violation::WrongAct),
+        },
+        Forward::Choose { to, label } => match expected {
+            Expect::End => Err(Violation::Ended),
+            Expect::Select(peer, labels) => judge_choice(peer, &*labels, *to, label),
+            _ => Err(Violation::WrongAct),
+        },
+        Forward::Receive { from, .. } => match expected {
+            Expect::End => Err(Violation::Ended),
+            Expect::Recv(peer, sort) => judge_receipt(peer, sort, *from, first),
+            _ => Err(Violation::WrongAct),
+        },
+        Forward::Pick { from } => match expected {
+            Expect::End => Err(Violation::Ended),
+            Expect::Branch(peer, labels) => judge_pick(peer, &*labels, *from, first),
+            _ => Err(Violation::WrongAct),
+        },
+    }
+}
+
+// The verdict on giving a value, where the peer is expected to get one of the sort.
+fn judge_send(peer: Role, sort: Sort, to: Role, value: &Value) -> Result<Advance, Violation>
+    ensures { IsVerdict (Sends peer sort) (acts.Out to (messages.Value value.now))
+        (Some (messages.Value value.now)) result }
+{
+    if !to.is(peer) {
+        return Err(Violation::WrongPeer);
+    }
+    if !value.fits(sort) {
+        return Err(Violation::WrongSort);
+    }
+    Ok(Advance::Next)
+}
+
+// The verdict on choosing a label, where the peer is expected to get one of these.
+#[tactic(auto, using(crate::proofs::Labels::a_label, crate::proofs::Labels::not_a_label))]
+fn judge_choice(peer: Role, labels: &[Name], to: Role, label: &Name) -> Result<Advance, Violation>
+    ensures { IsVerdict (Chooses peer labels.now) (acts.Out to (messages.Label label.now))
+        (Some (messages.Label label.now)) result }
+{
+    if !to.is(peer) {
+        return Err(Violation::WrongPeer);
+    }
+    match place_of(labels, label) {
+        None => Err(Violation::NoLabel),
+        Some(place) => Ok(Advance::Into(place)),
+    }
+}
+
+// The verdict on taking a value, where the peer is expected to have given one of the sort.
+fn judge_receipt(
+    peer: Role,
+    sort: Sort,
+    from: Role,
+    first: Option<&Message>,
+) -> Result<Advance, Violation>
+    ensures { (slot : List ℕ) → IsVerdict (Receives peer sort) (acts.In from (Some slot))
+        (option_copied first.entry) result }
+{
+    if !from.is(peer) {
+        return Err(Violation::WrongPeer);
+    }
+    match first {
+        None => Err(Violation::NothingQueued),
+        Some(Message::Value(value)) if value.fits(sort) => Ok(Advance::Next),
+        Some(_) => Err(Violation::Mismatch),
+    }
+}
+
+// The verdict on taking a label, where the peer is expected to have chosen one of these.
+#[tactic(auto, using(crate::proofs::Labels::a_label, crate::proofs::Labels::not_a_label))]
+fn judge_pick(
+    peer: Role,
+    labels: &[Name],
+    from: Role,
+    first: Option<&Message>,
+) -> Result<Advance, Violation>
+    ensures { IsVerdict (Picks peer labels.now) (acts.In from None)
+        (option_copied first.entry) result }
+{
+    if !from.is(peer) {
+        return Err(Violation::WrongPeer);
+    }
+    match first {
+        None => Err(Violation::NothingQueued),
+        Some(Message::Value(_)) => Err(Violation::Mismatch),
+        Some(Message::Label(label)) => match place_of(labels, label) {
+            None => Err(Violation::Mismatch),
+            Some(place) => Ok(Advance::Into(place)),
+        },
+    }
+}
+
+// The first place at which the label stands.
+fn place_of(labels: &[Name], label: &Name) -> Option<usize>
+    ensures { result ≡ place_of labels.now label.now }
+{
+    labels.iter().position(|other| other.is(label))
+}
