@@ -54,11 +54,17 @@ def digest(needed):
     return found.hexdigest()
 
 
+def stamp_of(sources):
+    """What is noted of a program that was built of the sources with that digest."""
+    with open(TOOL, "rb") as program:
+        return f"{sources} {hashlib.sha256(program.read()).hexdigest()}\n"
+
+
 def is_built(sources):
-    """Whether the program was built of the sources with that digest."""
+    """Whether the program that is there was built of the sources with that digest."""
     try:
         with open(STAMP, encoding="utf-8") as stamp:
-            return stamp.read() == sources and os.access(TOOL, os.X_OK)
+            return stamp.read() == stamp_of(sources) and os.access(TOOL, os.X_OK)
     except OSError:
         return False
 
@@ -94,7 +100,7 @@ class Proof:
 def build(needed):
     """Proves the crates, as many side by side as there are cores and 4 GB of memory for each."""
     memory = os.sysconf("SC_PAGE_SIZE") * os.sysconf("SC_PHYS_PAGES")
-    room = max(1, min(os.cpu_count() or 1, memory // (4 << 30)))
+    room = max(1, min(os.cpu_count() or 1, (memory + (2 << 30)) // (4 << 30)))
     waiting, running, proved = list(needed), [], set()
     print(f"building mps_tool: {len(needed)} crates are proved first, which takes some minutes", file=sys.stderr)
     try:
@@ -115,15 +121,20 @@ def build(needed):
 
 
 def main():
-    signal.signal(signal.SIGTERM, lambda *_: sys.exit(143))
+    for number in (signal.SIGTERM, signal.SIGHUP):
+        signal.signal(number, lambda number, _: sys.exit(128 + number))
     needed = crates()
     sources = digest(needed)
     if not is_built(sources):
         if shutil.which("rt") is None:
             sys.exit("mps: there is no rt, the command of the Rattle kit, which proves and builds mps_tool")
+        if os.path.exists(STAMP):
+            os.remove(STAMP)
         build(needed)
+        if digest(needed) != sources:
+            sys.exit("mps: a source was changed while mps_tool was built; call it again")
         with open(STAMP, "w", encoding="utf-8") as stamp:
-            stamp.write(sources)
+            stamp.write(stamp_of(sources))
     os.execv(TOOL, [TOOL, *sys.argv[1:]])
 
 
