@@ -10,8 +10,8 @@ use Rattle.mps_local.specs.Actions.{labels, nexts}
 use Rattle.mps_local.specs.Loops.{ends_in, is_closed, are_closed, is_guarded, are_guarded}
 use Rattle.mps_local.specs.Shape.{node_count, branch_nodes}
 use Rattle.mps_local.specs.Unfolding.{unfolded}
-use Rattle.mps_local.proofs.Equal.{name_same, name_is}
-use Rattle.mps_local.proofs.Filling.{Env, put, filled, filled_in, AreWhole, whole_put, whole_filled, loop_unfolds, name_turned, filled_same}
+use Rattle.mps_local.proofs.Equal.{name_same, name_is, name_turned}
+use Rattle.mps_local.proofs.Filling.{Env, put, filled, filled_in, AreWhole, whole_put, whole_filled, loop_unfolds, filled_same}
 use Rattle.mps_table.specs.declared.entry.Entry.{Entry}
 use Rattle.mps_table.specs.Graph.{Graph, IsWithin, IsSound}
 use Rattle.mps_table.specs.Standing.{HasFrom, StandsIn, StandFrom, HasBranches, AreEntriesOf, StandsFor}

@@ -1,6 +1,6 @@
 use Rattle.mps_local.specs.Local.{plain}
 use Rattle.mps_table.proofs.Compiled.{few_entries, few_labels, draft_sound, draft_stands}
-use Rattle.mps_table.proofs.compile.compile_sound.Goals as goal
+use Rattle.mps_table.proofs.compiling.table_of.Goals as goal
 
 pub laid_out-requires-clause-entries : goal.laid_out-requires-clause-entries
 laid_out-requires-clause-entries c = few_entries (plain c.args.tree.now) 256 c.requires.few
