@@ -9,7 +9,8 @@ pub laid_out-requires-clause-labels : goal.laid_out-requires-clause-labels
 laid_out-requires-clause-labels c = few_labels (plain c.args.tree.now) 256 c.requires.few
 
 pub invariant_of-result : goal.invariant_of-result
-invariant_of-result c = draft_sound c.in_ok-draft.draft c.in_ok-draft.first (plain c.args.tree.now) c.in_ok-draft.ensures
+invariant_of-result c =
+    draft_sound c.in_ok-draft.draft c.in_ok-draft.first (plain c.args.tree.now) c.in_ok-draft.ensures c.requires.closed c.requires.guarded
 
 pub returns : goal.returns
 returns c =
