@@ -4,21 +4,11 @@ use Rattle.std.specs.Prelude.{◌||◌, ◌&&◌, if◌then◌else◌}
 use Rattle.std.specs.List.{list_any}
 use Rattle.std.specs.Str.{bytes_eq}
 use Rattle.std.proofs.lemmas.Bool.{cases_Bool}
-use Rattle.std.proofs.lemmas.Slice.Eq.{bytes_eq-Decides}
 use mathlib.Core.Path.{fun_ext}
 use Rattle.mps_local.specs.Local.{LocalType, Branches, End, Var, Rec, Send, Recv, Select, Branch, NoMore, More}
 use Rattle.mps_local.specs.Loops.{ends_in, is_closed, are_closed}
 use Rattle.mps_local.specs.Unfolding.{replaced, replaced_in, leading, opened_times, unfolded}
-use Rattle.mps_local.proofs.Equal.{name_same, name_is}
-
-pub name_turned : (x y : List ℕ) → bytes_eq x y ≡ bytes_eq y x
-name_turned x y =
-    ⊎_elim (λ (e : bytes_eq x y ≡ true). e ∙ sym ((bytes_eq-Decides y x).1 (sym (name_is x y e))))
-    (λ (e : bytes_eq x y ≡ false).
-    ⊎_elim (λ (f : bytes_eq y x ≡ true). absurd (let g : bytes_eq x y ≡ true = (bytes_eq-Decides x y).1 (sym (name_is y x f)) in cc))
-    (λ (f : bytes_eq y x ≡ false). e ∙ sym f)
-    (cases_Bool (bytes_eq y x)))
-    (cases_Bool (bytes_eq x y))
+use Rattle.mps_local.proofs.Equal.{name_same, name_is, name_turned}
 
 -- a type for each name
 abbrev pub Env : Type 0

@@ -4,16 +4,19 @@ use Rattle.std.specs.Prelude.{◌++◌, not}
 use Rattle.std.specs.List.{list_any, AllByRecursion}
 use Rattle.std.specs.Str.{bytes_eq}
 use Rattle.std.proofs.lemmas.Bool.{cases_Bool, and_parts}
+use Rattle.std.proofs.lemmas.Option.{slice_get_within}
+use Rattle.mps_table.specs.Drafts.{nowhere}
 use Rattle.mps_base.specs.declared.value.Sort.{Sort}
 use Rattle.mps_local.specs.Local.{LocalType, Branches, End, Var, Rec, Send, Recv, Select, Branch, NoMore, More}
 use Rattle.mps_local.specs.Actions.{labels, nexts}
 use Rattle.mps_local.specs.Loops.{ends_in, is_closed, are_closed, is_guarded, are_guarded}
 use Rattle.mps_local.specs.Shape.{node_count, branch_nodes}
 use Rattle.mps_local.specs.Unfolding.{unfolded}
-use Rattle.mps_local.proofs.Equal.{name_same, name_is}
-use Rattle.mps_local.proofs.Filling.{Env, put, filled, filled_in, AreWhole, whole_put, whole_filled, loop_unfolds, name_turned, filled_same}
+use Rattle.mps_local.proofs.Equal.{name_same, name_is, name_turned}
+use Rattle.mps_local.proofs.Filling.{Env, put, filled, filled_in, AreWhole, whole_put, whole_filled, loop_unfolds, filled_same}
 use Rattle.mps_table.specs.declared.entry.Entry.{Entry}
-use Rattle.mps_table.specs.Graph.{Graph, IsWithin, IsSound}
+use Rattle.mps_table.specs.declared.entry.Entry.TheVariants as entries
+use Rattle.mps_table.specs.Graph.{Graph, IsWithin, LeadsWithin, IsSound}
 use Rattle.mps_table.specs.Standing.{HasFrom, StandsIn, StandFrom, HasBranches, AreEntriesOf, StandsFor}
 use Rattle.mps_table.specs.Laying.{size, branch_size, all_labels, branch_labels, Places, put_node, start, starts, all_targets, branch_targets, all_entries, branch_entries}
 
@@ -178,6 +181,12 @@ put_agrees : (types : List LocalType) (b : Bool) (n m : ℕ) (t u : LocalType) �
 put_agrees types true n m t u f g = f
 put_agrees types false n m t u f g = g refl
 
+-- in a `rec` its variable has the node of the `rec`
+rec_agrees : (types : List LocalType) (places : Places) (env : Env) (bound : List (List ℕ)) (at : ℕ) (x : List ℕ) (u : LocalType) → AreWhole env → Agree types bound places env → is_guarded (Rec x u) ≡ true → is_closed bound (Rec x u) ≡ true → HasFrom types at (flat env (Rec x u)) → Agree types (x ∷ bound) (put_node x (start places at u) places) (put x (filled env (Rec x u)) env)
+rec_agrees types places env bound at x u w a g c h z e =
+    put_agrees types (bytes_eq z x) (start places at u) (places z) (filled env (Rec x u)) (env z)
+    (starts_stand types places env bound at (Rec x u) w a g c h) (λ f. a z (rw f at e))
+
 -- a choice's labels and the nodes behind them are where its entry says
 choice_stands : (g : Graph) (types : List LocalType) (places : Places) (env : Env) (bound : List (List ℕ)) (at first : ℕ) (b : Branches) → AreWhole env → Agree types bound places env → are_guarded b ≡ true → are_closed bound b ≡ true → HasFrom types at (flat_in env b) → HasFrom g.labels first (labels b) → HasFrom g.targets first (starts places at b) → HasBranches g types first (length (labels b)) (filled_in env b)
 choice_stands g types places env bound at first b w a gs cs h k l =
@@ -190,10 +199,9 @@ mutual
   entries_laid g types places env bound at first (Var x) w a gs cs h k l = tt
   entries_laid g types places env bound at first (Rec x u) w a gs cs h k l =
       let t = filled env (Rec x u) in
-      let here = starts_stand types places env bound at (Rec x u) w a gs cs h in
       entries_laid g types (put_node x (start places at u) places) (put x t env) (x ∷ bound) at first u
       (whole_put x t env (whole_filled env w (Rec x u)) w)
-      (λ z e. put_agrees types (bytes_eq z x) (start places at u) (places z) t (env z) here (λ f. a z (rw f at e)))
+      (rec_agrees types places env bound at x u w a gs cs h)
       (guard_of x u gs).1 cs h k l
   entries_laid g types places env bound at first (Send peer sort u) w a gs cs h k l =
       let rest = has_at types (suc at) (at + 1) (flat env u) (sym (add-one at)) h.1 in (
@@ -289,9 +297,93 @@ mutual
       (entries_within many places at first u (omega arith))
       (branches_within many places (at + size u) (first + length (all_labels u)) others (omega arith))
 
-pub laid_sound : (places : Places) (t : LocalType) → IsSound (all_entries places 0 0 t) (all_labels t) (all_targets places 0 t)
-laid_sound places t =
-    record { paired = sym (length-all_targets places 0 t); within = entries_within (length (all_labels t)) places 0 0 t (omega arith) }
+both_known : (n : ℕ) (xs ys : List ℕ) → AllByRecursion (λ m. m < n) xs → AllByRecursion (λ m. m < n) ys → AllByRecursion (λ m. m < n) (xs ++ ys)
+both_known n [] ys a b = b
+both_known n (x ∷ xs) ys a b = (a.0, both_known n xs ys a.1 b)
+
+-- where branches start are nodes
+starts_known : (types : List LocalType) (places : Places) (env : Env) (bound : List (List ℕ)) (at : ℕ) (b : Branches) → AreWhole env → Agree types bound places env → are_guarded b ≡ true → are_closed bound b ≡ true → HasFrom types at (flat_in env b) → AllByRecursion (λ m. m < length types) (starts places at b)
+starts_known types places env bound at NoMore w a g c h = tt
+starts_known types places env bound at (More label u others) w a g c h =
+    let gs = and_parts (is_guarded u) (are_guarded others) g in
+    let cs = and_parts (is_closed bound u) (are_closed bound others) c in
+    let hs = has_both types at (flat env u) (flat_in env others) h in
+    let rest = has_at types (at + length (flat env u)) (at + size u) (flat_in env others) (ap (λ (n : ℕ). at + n) (length-flat env u)) hs.1 in (
+      slice_get_within types (start places at u) (unfolded (filled env u)) (starts_stand types places env bound at u w a gs.0 cs.0 hs.0),
+      starts_known types places env bound (at + size u) others w a gs.1 cs.1 rest,
+    )
+
+mutual
+  -- behind each label is a node
+  targets_known : (types : List LocalType) (places : Places) (env : Env) (bound : List (List ℕ)) (at : ℕ) (t : LocalType) → AreWhole env → Agree types bound places env → is_guarded t ≡ true → is_closed bound t ≡ true → HasFrom types at (flat env t) → AllByRecursion (λ m. m < length types) (all_targets places at t)
+  targets_known types places env bound at End w a g c h = tt
+  targets_known types places env bound at (Var x) w a g c h = tt
+  targets_known types places env bound at (Rec x u) w a g c h =
+      let t = filled env (Rec x u) in
+      targets_known types (put_node x (start places at u) places) (put x t env) (x ∷ bound) at u
+      (whole_put x t env (whole_filled env w (Rec x u)) w)
+      (rec_agrees types places env bound at x u w a g c h)
+      (guard_of x u g).1 c h
+  targets_known types places env bound at (Send peer sort u) w a g c h =
+      targets_known types places env bound (at + 1) u w a g c (has_at types (suc at) (at + 1) (flat env u) (sym (add-one at)) h.1)
+  targets_known types places env bound at (Recv peer sort u) w a g c h =
+      targets_known types places env bound (at + 1) u w a g c (has_at types (suc at) (at + 1) (flat env u) (sym (add-one at)) h.1)
+  targets_known types places env bound at (Select peer b) w a g c h =
+      let rest = has_at types (suc at) (at + 1) (flat_in env b) (sym (add-one at)) h.1 in
+      both_known (length types) (starts places (at + 1) b) (branch_targets places (at + 1) b)
+      (starts_known types places env bound (at + 1) b w a g c rest) (branch_targets_known types places env bound (at + 1) b w a g c rest)
+  targets_known types places env bound at (Branch peer b) w a g c h =
+      let rest = has_at types (suc at) (at + 1) (flat_in env b) (sym (add-one at)) h.1 in
+      both_known (length types) (starts places (at + 1) b) (branch_targets places (at + 1) b)
+      (starts_known types places env bound (at + 1) b w a g c rest) (branch_targets_known types places env bound (at + 1) b w a g c rest)
+
+  branch_targets_known : (types : List LocalType) (places : Places) (env : Env) (bound : List (List ℕ)) (at : ℕ) (b : Branches) → AreWhole env → Agree types bound places env → are_guarded b ≡ true → are_closed bound b ≡ true → HasFrom types at (flat_in env b) → AllByRecursion (λ m. m < length types) (branch_targets places at b)
+  branch_targets_known types places env bound at NoMore w a g c h = tt
+  branch_targets_known types places env bound at (More label u others) w a g c h =
+      let gs = and_parts (is_guarded u) (are_guarded others) g in
+      let cs = and_parts (is_closed bound u) (are_closed bound others) c in
+      let hs = has_both types at (flat env u) (flat_in env others) h in
+      both_known (length types) (all_targets places at u) (branch_targets places (at + size u) others)
+      (targets_known types places env bound at u w a gs.0 cs.0 hs.0)
+      (branch_targets_known types places env bound (at + size u) others w a gs.1 cs.1
+      (has_at types (at + length (flat env u)) (at + size u) (flat_in env others) (ap (λ (n : ℕ). at + n) (length-flat env u)) hs.1))
+
+-- entries of types lead to nodes
+entries_lead : (g : Graph) (types : List LocalType) (es : List Entry) (ts : List LocalType) → AreEntriesOf g types es ts → AllByRecursion (LeadsWithin (length types)) es
+entries_lead g types [] [] a = tt
+entries_lead g types [] (t ∷ ts) a = absurd a
+entries_lead g types (e ∷ es) [] a = absurd a
+entries_lead g types (entries.End ∷ es) (t ∷ ts) a = (tt, entries_lead g types es ts a.1)
+entries_lead g types (entries.Send peer sort next ∷ es) (t ∷ ts) a =
+    (slice_get_within types next (unfolded a.0.0) a.0.2, entries_lead g types es ts a.1)
+entries_lead g types (entries.Recv peer sort next ∷ es) (t ∷ ts) a =
+    (slice_get_within types next (unfolded a.0.0) a.0.2, entries_lead g types es ts a.1)
+entries_lead g types (entries.Select peer first count ∷ es) (t ∷ ts) a = (tt, entries_lead g types es ts a.1)
+entries_lead g types (entries.Branch peer first count ∷ es) (t ∷ ts) a = (tt, entries_lead g types es ts a.1)
+
+as_many : (g : Graph) (types : List LocalType) (es : List Entry) (ts : List LocalType) → AreEntriesOf g types es ts → length ts ≡ length es
+as_many g types [] [] a = refl
+as_many g types [] (t ∷ ts) a = absurd a
+as_many g types (e ∷ es) [] a = absurd a
+as_many g types (e ∷ es) (t ∷ ts) a = ap suc (as_many g types es ts a.1)
+
+-- what is laid out of a closed and guarded type is a sound table
+pub laid_sound : (t : LocalType) → is_closed [] t ≡ true → is_guarded t ≡ true → IsSound (all_entries nowhere 0 0 t) (all_labels t) (all_targets nowhere 0 t) (start nowhere 0 t)
+laid_sound t c guarded =
+    let g : Graph = record { entries = all_entries nowhere 0 0 t; labels = all_labels t; targets = all_targets nowhere 0 t; first = start nowhere 0 t } in
+    let env : Env = λ z. End in
+    let types = flat env t in
+    let whole : AreWhole env = λ z x s. refl in
+    let agree : Agree types [] nowhere env = λ z k. absurd (let bad : false ≡ true = k in cc) in
+    let laid = entries_laid g types nowhere env [] 0 0 t whole agree guarded c (has_all types) (has_all (all_labels t)) (has_all (all_targets nowhere 0 t)) in
+    let many = as_many g types (all_entries nowhere 0 0 t) types laid in
+    record {
+      paired = sym (length-all_targets nowhere 0 t);
+      within = entries_within (length (all_labels t)) nowhere 0 0 t (omega arith);
+      leads = subst (λ (n : ℕ). AllByRecursion (LeadsWithin n) (all_entries nowhere 0 0 t)) many (entries_lead g types (all_entries nowhere 0 0 t) types laid);
+      targets_known = subst (λ (n : ℕ). AllByRecursion (λ m. m < n) (all_targets nowhere 0 t)) many (targets_known types nowhere env [] 0 t whole agree guarded c (has_all types));
+      first_known = subst (λ (n : ℕ). start nowhere 0 t < n) many (slice_get_within types (start nowhere 0 t) (unfolded (filled env t)) (starts_stand types nowhere env [] 0 t whole agree guarded c (has_all types)));
+    }
 
 mutual
   -- it has no more entries and fewer labels than the type has nodes

@@ -1,5 +1,5 @@
 -- What an entry says of the types that its node stands for.
-use Rattle.std.proofs.Common.{◌≡◌, ℕ, zero, suc, ◌+◌, ◌<◌, List, [], ◌∷◌, length, take, drop, Option, None, Some, refl, sym, ap, subst, arith, add-zero, ◌-◌}
+use Rattle.std.proofs.Common.{◌≡◌, ℕ, zero, suc, ◌+◌, ◌<◌, List, [], ◌∷◌, length, length-take, take, drop, Option, None, Some, refl, sym, ap, subst, arith, add-zero, ◌-◌}
 use Rattle.std.specs.Prelude.{slice_get, slice_range}
 use Rattle.std.specs.List.{AllByRecursion}
 use Rattle.mps_local.specs.Local as local
@@ -10,6 +10,7 @@ use Rattle.std.proofs.lemmas.Option.{slice_get_within}
 use Rattle.mps_local.specs.Unfolding.{unfolded}
 use Rattle.mps_table.specs.declared.entry.Entry.{Entry}
 use Rattle.mps_table.specs.declared.entry.Entry.TheVariants.{End, Send, Recv, Select, Branch}
+use Rattle.mps_table.specs.Expects.{Allows}
 use Rattle.mps_table.specs.Graph.{Graph, IsNode, HasNext, shown, next_of, IsFollowed}
 use Rattle.mps_table.specs.Standing.{HasFrom, StandsIn, StandFrom, HasBranches, IsEntryOf, AreEntriesOf, StandsFor}
 
@@ -151,3 +152,26 @@ head_begins (Sends peer sort) t b = rw b.1 refl
 head_begins (Receives peer sort) t b = rw b.1 refl
 head_begins (Chooses peer names) t b = rw b.1 (ap (Chooses peer) (sym b.2))
 head_begins (Picks peer names) t b = rw b.1 (ap (Picks peer) (sym b.2))
+
+range_within : (list : List (List ℕ)) (first count place : ℕ) → place < length (slice_range list first (first + count)) → place < count
+range_within list first count place h =
+    let k = length-take ((first + count) - first) (drop first list) in
+    omega (arith, k)
+
+-- what may follow what is shown of an entry, may follow the entry
+allowed : (g : Graph) (choice : Option ℕ) (entry : Entry) → Allows choice (shown g entry) → IsFollowed choice entry
+allowed g None End h = h
+allowed g (Some place) End h = h
+allowed g None (Send peer sort next) h = tt
+allowed g (Some place) (Send peer sort next) h = h
+allowed g None (Recv peer sort next) h = tt
+allowed g (Some place) (Recv peer sort next) h = h
+allowed g None (Select peer first count) h = h
+allowed g (Some place) (Select peer first count) h = range_within g.labels first count place h
+allowed g None (Branch peer first count) h = h
+allowed g (Some place) (Branch peer first count) h = range_within g.labels first count place h
+
+pub next_allowed : (g : Graph) (node : ℕ) (entry : Entry) (h : Head) (choice : Option ℕ) → slice_get g.entries node ≡ Some entry → h ≡ shown g entry → Allows choice h → HasNext g node choice
+next_allowed g node entry h choice e f a =
+    let follows = allowed g choice entry (subst (λ (x : Head). Allows choice x) f a) in
+    rw e follows

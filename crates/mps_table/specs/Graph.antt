@@ -18,10 +18,19 @@ IsWithin many (Select peer first count) = first + count ≤ many
 IsWithin many (Branch peer first count) = first + count ≤ many
 IsWithin many entry = ⊤
 
--- a node stands behind each label, and each choice has labels of the table
-pub record IsSound (entries : List Entry) (labels : List (List ℕ)) (targets : List ℕ) : Type 0 where
+-- what follows an output or an input is one of so many nodes
+abbrev pub LeadsWithin : ℕ → Entry → Type 0
+LeadsWithin many (Send peer sort next) = next < many
+LeadsWithin many (Recv peer sort next) = next < many
+LeadsWithin many entry = ⊤
+
+-- a node stands behind each label, each choice has labels of the table, and all nodes are nodes of the table
+pub record IsSound (entries : List Entry) (labels : List (List ℕ)) (targets : List ℕ) (first : ℕ) : Type 0 where
   pub paired : length labels ≡ length targets
   pub within : AllByRecursion (IsWithin (length labels)) entries
+  pub leads : AllByRecursion (LeadsWithin (length entries)) entries
+  pub targets_known : AllByRecursion (λ node. node < length entries) targets
+  pub first_known : first < length entries
 
 -- a node of the table
 abbrev pub IsNode : Graph → ℕ → Type 0

@@ -3,9 +3,9 @@ ghost use Rattle.std.specs.Prelude.{◌≡◌, ◌+◌, ◌≤◌, ℕ, Option, 
 ghost use Rattle.mps_local.specs.Local.{LocalType};
 ghost use Rattle.mps_local.specs.Unfolding.{unfolded};
 ghost use Rattle.mps_local.specs.Actions.{Begins, type_left};
-ghost use Rattle.mps_table.specs.Graph.{IsNode, HasNext, IsFollowed, IsWithin, shown, next_of};
+ghost use Rattle.mps_table.specs.Graph.{IsNode, HasNext, IsFollowed, IsWithin, LeadsWithin, shown, next_of};
 ghost use Rattle.mps_table.specs.Standing.{StandsFor};
-ghost use Rattle.mps_table.specs.Expects.{head_of};
+ghost use Rattle.mps_table.specs.Expects.{head_of, Allows};
 
 use crate::entry::Entry;
 use crate::expect::{Expect, Node};
@@ -34,13 +34,14 @@ impl Model for Table {
       first = t.first;
     } };
 
-    ghost invariant = { λ t. IsSound t.entries.items t.labels.items t.targets.items };
+    ghost invariant = { λ t. IsSound t.entries.items t.labels.items t.targets.items t.first };
 }
 
 impl Table {
     /// The node that stands for the type of which the table was made.
     pub fn first(&self) -> Node
-        ensures { result ≡ self.now.first }
+        ensures first { result ≡ self.now.first }
+        ensures node { IsNode self.now result }
     {
         self.first
     }
@@ -50,6 +51,8 @@ impl Table {
         requires node { IsNode self.now node }
         ensures entry { option_map (shown self.now) (slice_get self.now.entries node)
             ≡ Some (head_of result) }
+        ensures next { (choice : Option ℕ) → Allows choice (head_of result)
+            → HasNext self.now node choice }
         ensures begins { (t : LocalType) → StandsFor self.now node t
             → Begins (head_of result) (unfolded t) }
     {
@@ -60,6 +63,7 @@ impl Table {
     /// the label that was chosen.
     pub fn after(&self, node: Node, choice: Option<usize>) -> Node
         requires action { HasNext self.now node choice }
+        ensures node { IsNode self.now result }
         ensures next { option_and_then (next_of self.now choice) (slice_get self.now.entries node)
             ≡ Some result }
         ensures follows { (t u : LocalType) → StandsFor self.now node t
@@ -74,6 +78,7 @@ impl Table {
         ensures entry { slice_get self.now.entries node ≡ Some result }
         ensures labels { IsWithin (length self.now.labels) result }
         ensures targets { IsWithin (length self.now.targets) result }
+        ensures leads { LeadsWithin (length self.now.entries) result }
     {
         self.entries[node.index()]
     }
@@ -101,8 +106,10 @@ impl Table {
     // The node that follows an entry.
     fn next(&self, entry: Entry, choice: Option<usize>) -> Node
         requires within { IsWithin (length self.now.targets) entry }
+        requires leads { LeadsWithin (length self.now.entries) entry }
         requires followed { IsFollowed choice entry }
-        ensures { next_of self.now choice entry ≡ Some result }
+        ensures next { next_of self.now choice entry ≡ Some result }
+        ensures node { IsNode self.now result }
     {
         match choice {
             None => match entry {
