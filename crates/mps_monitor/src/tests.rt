@@ -60,6 +60,34 @@ fn truth() -> Option<Message> {
     Some(Message::Value(Value::Bool(true)))
 }
 
+// What a type begins with, where it is no end with the first peer.
+#[derive(Clone, Copy)]
+enum Kind {
+    End,
+    Gives(Sort),
+    Takes(Sort),
+    Chooses,
+    Picks,
+}
+
+// The verdict on the command, where a type of that kind has these labels.
+fn judged(
+    kind: Kind,
+    labels: &[Name],
+    command: &Forward,
+    first: Option<&Message>,
+) -> Result<Advance, Violation> {
+    let peer = Role::new(B);
+    let expected = match kind {
+        Kind::End => Expect::End,
+        Kind::Gives(sort) => Expect::Send(peer, sort),
+        Kind::Takes(sort) => Expect::Recv(peer, sort),
+        Kind::Chooses => Expect::Select(peer, labels),
+        Kind::Picks => Expect::Branch(peer, labels),
+    };
+    judge(expected, command, first)
+}
+
 // A command, the message that waits first, and the answer.
 type Row = (Forward, Option<Message>, Result<Advance, Violation>);
 
@@ -75,7 +103,7 @@ fn nothing_but_marks_after_the_end(rt: HostRuntime) -> Result<(), Fail> {
         (mark()?, None, Ok(Advance::Stay)),
     ];
     for (command, first, answer) in rows {
-        assert_eq!(rt; judge(Expect::End, &command, first.as_ref()), answer);
+        assert_eq!(rt; judged(Kind::End, &[], &command, first.as_ref()), answer);
     }
     Ok(())
 }
@@ -95,8 +123,10 @@ fn gives_what_is_expected(rt: HostRuntime) -> Result<(), Fail> {
         (mark()?, None, Ok(Advance::Stay)),
     ];
     for (command, first, answer) in rows {
-        let expected = Expect::Send(Role::new(B), Sort::Int);
-        assert_eq!(rt; judge(expected, &command, first.as_ref()), answer);
+        assert_eq!(rt;
+            judged(Kind::Gives(Sort::Int), &[], &command, first.as_ref()),
+            answer
+        );
     }
     Ok(())
 }
@@ -116,8 +146,10 @@ fn takes_what_is_expected(rt: HostRuntime) -> Result<(), Fail> {
         (mark()?, int(), Ok(Advance::Stay)),
     ];
     for (command, first, answer) in rows {
-        let expected = Expect::Recv(Role::new(B), Sort::Int);
-        assert_eq!(rt; judge(expected, &command, first.as_ref()), answer);
+        assert_eq!(rt;
+            judged(Kind::Takes(Sort::Int), &[], &command, first.as_ref()),
+            answer
+        );
     }
     Ok(())
 }
@@ -139,8 +171,10 @@ fn chooses_among_labels(rt: HostRuntime) -> Result<(), Fail> {
         (mark()?, None, Ok(Advance::Stay)),
     ];
     for (command, first, answer) in rows {
-        let expected = Expect::Select(Role::new(B), &labels);
-        assert_eq!(rt; judge(expected, &command, first.as_ref()), answer);
+        assert_eq!(rt;
+            judged(Kind::Chooses, &labels, &command, first.as_ref()),
+            answer
+        );
     }
     Ok(())
 }
@@ -163,8 +197,10 @@ fn picks_the_branch_of_the_label(rt: HostRuntime) -> Result<(), Fail> {
         (mark()?, label("okay")?, Ok(Advance::Stay)),
     ];
     for (command, first, answer) in rows {
-        let expected = Expect::Branch(Role::new(B), &labels);
-        assert_eq!(rt; judge(expected, &command, first.as_ref()), answer);
+        assert_eq!(rt;
+            judged(Kind::Picks, &labels, &command, first.as_ref()),
+            answer
+        );
     }
     Ok(())
 }
@@ -172,10 +208,9 @@ fn picks_the_branch_of_the_label(rt: HostRuntime) -> Result<(), Fail> {
 #[test]
 fn takes_the_first_of_labels_that_are_the_same(rt: HostRuntime) -> Result<(), Fail> {
     let labels = [name("ok")?, name("no")?, name("no")?];
-    let expected = Expect::Select(Role::new(B), &labels);
-    let answer = judge(expected, &choose(B, "no")?, None);
+    let answer = judged(Kind::Chooses, &labels, &choose(B, "no")?, None);
     assert_eq!(rt; answer, Ok(Advance::Into(1)));
-    let answer = judge(Expect::Select(Role::new(B), &[]), &choose(B, "no")?, None);
+    let answer = judged(Kind::Chooses, &[], &choose(B, "no")?, None);
     assert_eq!(rt; answer, Err(Violation::NoLabel));
     Ok(())
 }
