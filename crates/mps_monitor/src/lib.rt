@@ -5,3 +5,6 @@ mod verdict;
 
 pub use mps_command::{Forward, Violation};
 pub use verdict::{Advance, judge};
+
+#[cfg(test)]
+mod tests;

@@ -1,0 +1,216 @@
+use super::*;
+use mps_base::{Message, Name, Role, Sort, Value};
+use mps_table::Expect;
+use std::test::Fail;
+
+// The peer that the type names, and another one.
+const B: u8 = 1;
+
+const C: u8 = 2;
+
+fn name(text: &str) -> Result<Name, Fail> {
+    Ok(Name::read(text.as_bytes()).ok_or("a name")?)
+}
+
+// `ok`, `no` and `more`.
+fn labels() -> Result<[Name; 3], Fail> {
+    Ok([name("ok")?, name("no")?, name("more")?])
+}
+
+fn send(to: u8, value: Value) -> Forward {
+    Forward::Send {
+        to: Role::new(to),
+        value,
+    }
+}
+
+fn choose(to: u8, label: &str) -> Result<Forward, Fail> {
+    Ok(Forward::Choose {
+        to: Role::new(to),
+        label: name(label)?,
+    })
+}
+
+fn receive(from: u8) -> Result<Forward, Fail> {
+    Ok(Forward::Receive {
+        from: Role::new(from),
+        slot: name("x")?,
+    })
+}
+
+fn pick(from: u8) -> Forward {
+    Forward::Pick {
+        from: Role::new(from),
+    }
+}
+
+fn mark() -> Result<Forward, Fail> {
+    Ok(Forward::Mark { name: name("m")? })
+}
+
+fn label(text: &str) -> Result<Option<Message>, Fail> {
+    Ok(Some(Message::Label(name(text)?)))
+}
+
+fn int() -> Option<Message> {
+    Some(Message::Value(Value::Int(7)))
+}
+
+fn truth() -> Option<Message> {
+    Some(Message::Value(Value::Bool(true)))
+}
+
+// What a type begins with, where it is no end with the first peer.
+#[derive(Clone, Copy)]
+enum Kind {
+    End,
+    Gives(Sort),
+    Takes(Sort),
+    Chooses,
+    Picks,
+}
+
+// The verdict on the command, where a type of that kind has these labels.
+fn judged(
+    kind: Kind,
+    labels: &[Name],
+    command: &Forward,
+    first: Option<&Message>,
+) -> Result<Advance, Violation> {
+    let peer = Role::new(B);
+    let expected = match kind {
+        Kind::End => Expect::End,
+        Kind::Gives(sort) => Expect::Send(peer, sort),
+        Kind::Takes(sort) => Expect::Recv(peer, sort),
+        Kind::Chooses => Expect::Select(peer, labels),
+        Kind::Picks => Expect::Branch(peer, labels),
+    };
+    judge(expected, command, first)
+}
+
+// A command, the message that waits first, and the answer.
+type Row = (Forward, Option<Message>, Result<Advance, Violation>);
+
+#[test]
+fn nothing_but_marks_after_the_end(rt: HostRuntime) -> Result<(), Fail> {
+    let ended = Err(Violation::Ended);
+    let rows: [Row; 6] = [
+        (send(B, Value::Int(1)), None, ended),
+        (choose(B, "ok")?, None, ended),
+        (receive(B)?, int(), ended),
+        (pick(B), label("ok")?, ended),
+        (pick(B), None, ended),
+        (mark()?, None, Ok(Advance::Stay)),
+    ];
+    for (command, first, answer) in rows {
+        assert_eq!(rt; judged(Kind::End, &[], &command, first.as_ref()), answer);
+    }
+    Ok(())
+}
+
+#[test]
+fn gives_what_is_expected(rt: HostRuntime) -> Result<(), Fail> {
+    let rows: [Row; 10] = [
+        (send(B, Value::Int(1)), None, Ok(Advance::Next)),
+        (send(B, Value::Int(1)), truth(), Ok(Advance::Next)),
+        (send(B, Value::Bool(true)), None, Err(Violation::WrongSort)),
+        (send(C, Value::Int(1)), None, Err(Violation::WrongPeer)),
+        (send(C, Value::Bool(true)), None, Err(Violation::WrongPeer)),
+        (choose(B, "ok")?, None, Err(Violation::WrongAct)),
+        (choose(C, "ok")?, None, Err(Violation::WrongAct)),
+        (receive(C)?, None, Err(Violation::WrongAct)),
+        (pick(B), label("ok")?, Err(Violation::WrongAct)),
+        (mark()?, None, Ok(Advance::Stay)),
+    ];
+    for (command, first, answer) in rows {
+        assert_eq!(rt;
+            judged(Kind::Gives(Sort::Int), &[], &command, first.as_ref()),
+            answer
+        );
+    }
+    Ok(())
+}
+
+#[test]
+fn takes_what_is_expected(rt: HostRuntime) -> Result<(), Fail> {
+    let rows: [Row; 10] = [
+        (receive(B)?, int(), Ok(Advance::Next)),
+        (receive(B)?, truth(), Err(Violation::Mismatch)),
+        (receive(B)?, label("ok")?, Err(Violation::Mismatch)),
+        (receive(B)?, None, Err(Violation::NothingQueued)),
+        (receive(C)?, None, Err(Violation::WrongPeer)),
+        (receive(C)?, truth(), Err(Violation::WrongPeer)),
+        (pick(B), None, Err(Violation::WrongAct)),
+        (pick(C), label("ok")?, Err(Violation::WrongAct)),
+        (send(C, Value::Bool(true)), int(), Err(Violation::WrongAct)),
+        (mark()?, int(), Ok(Advance::Stay)),
+    ];
+    for (command, first, answer) in rows {
+        assert_eq!(rt;
+            judged(Kind::Takes(Sort::Int), &[], &command, first.as_ref()),
+            answer
+        );
+    }
+    Ok(())
+}
+
+#[test]
+fn chooses_among_labels(rt: HostRuntime) -> Result<(), Fail> {
+    let labels = labels()?;
+    let rows: [Row; 11] = [
+        (choose(B, "ok")?, None, Ok(Advance::Into(0))),
+        (choose(B, "no")?, None, Ok(Advance::Into(1))),
+        (choose(B, "more")?, label("ok")?, Ok(Advance::Into(2))),
+        (choose(B, "okay")?, None, Err(Violation::NoLabel)),
+        (choose(B, "o")?, None, Err(Violation::NoLabel)),
+        (choose(C, "ok")?, None, Err(Violation::WrongPeer)),
+        (choose(C, "okay")?, None, Err(Violation::WrongPeer)),
+        (send(C, Value::Int(1)), None, Err(Violation::WrongAct)),
+        (pick(B), label("ok")?, Err(Violation::WrongAct)),
+        (receive(B)?, int(), Err(Violation::WrongAct)),
+        (mark()?, None, Ok(Advance::Stay)),
+    ];
+    for (command, first, answer) in rows {
+        assert_eq!(rt;
+            judged(Kind::Chooses, &labels, &command, first.as_ref()),
+            answer
+        );
+    }
+    Ok(())
+}
+
+#[test]
+fn picks_the_branch_of_the_label(rt: HostRuntime) -> Result<(), Fail> {
+    let labels = labels()?;
+    let rows: [Row; 12] = [
+        (pick(B), label("ok")?, Ok(Advance::Into(0))),
+        (pick(B), label("no")?, Ok(Advance::Into(1))),
+        (pick(B), label("more")?, Ok(Advance::Into(2))),
+        (pick(B), label("okay")?, Err(Violation::Mismatch)),
+        (pick(B), int(), Err(Violation::Mismatch)),
+        (pick(B), None, Err(Violation::NothingQueued)),
+        (pick(C), None, Err(Violation::WrongPeer)),
+        (pick(C), label("okay")?, Err(Violation::WrongPeer)),
+        (receive(B)?, None, Err(Violation::WrongAct)),
+        (choose(B, "ok")?, label("ok")?, Err(Violation::WrongAct)),
+        (send(B, Value::Int(1)), None, Err(Violation::WrongAct)),
+        (mark()?, label("okay")?, Ok(Advance::Stay)),
+    ];
+    for (command, first, answer) in rows {
+        assert_eq!(rt;
+            judged(Kind::Picks, &labels, &command, first.as_ref()),
+            answer
+        );
+    }
+    Ok(())
+}
+
+#[test]
+fn takes_the_first_of_labels_that_are_the_same(rt: HostRuntime) -> Result<(), Fail> {
+    let labels = [name("ok")?, name("no")?, name("no")?];
+    let answer = judged(Kind::Chooses, &labels, &choose(B, "no")?, None);
+    assert_eq!(rt; answer, Ok(Advance::Into(1)));
+    let answer = judged(Kind::Chooses, &[], &choose(B, "no")?, None);
+    assert_eq!(rt; answer, Err(Violation::NoLabel));
+    Ok(())
+}
