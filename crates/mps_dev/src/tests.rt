@@ -91,13 +91,34 @@ const KINDS: [ErrorKind; 3] = [
     ErrorKind::Other,
 ];
 
-// A writer that takes nothing.
+// A writer that counts its calls. It has room for so many bytes, and once it is full it fails by
+// this error, or takes nothing where there is none.
 #[derive(Drop)]
-struct Stuck;
+struct Stuck {
+    room: usize,
+    error: Option<ErrorKind>,
+    calls: u8,
+}
+
+impl Stuck {
+    fn new(room: usize, error: Option<ErrorKind>) -> Self {
+        Stuck {
+            room,
+            error,
+            calls: 0,
+        }
+    }
+}
 
 impl Write for Stuck {
-    fn write(&mut self, _buf: &[u8]) -> io::Result<usize> {
-        Ok(0)
+    fn write(&mut self, buf: &[u8]) -> io::Result<usize> {
+        self.calls = self.calls.saturating_add(1);
+        let count = self.room.min(buf.len());
+        self.room -= count;
+        match self.error {
+            Some(kind) if count == 0 => Err(kind.into()),
+            _ => Ok(count),
+        }
     }
 
     fn flush(&mut self) -> io::Result<()> {
@@ -171,7 +192,7 @@ fn writers_of_std_are_sinks(rt: HostRuntime) -> Result<(), Fail> {
     assert_eq!(rt; handed_over(&mut sink, &[5, 6, 7]), 3);
     assert_eq!(rt; sink.into_inner().as_slice(), [5, 6, 7].as_slice());
 
-    let mut stuck = OverWrite::new(Stuck);
+    let mut stuck = OverWrite::new(Stuck::new(0, None));
     assert_eq!(rt; stuck.write(&[1]), Err(Failed));
     assert_eq!(rt; stuck.write(&[]), Ok(0));
     Ok(())
@@ -206,6 +227,29 @@ fn a_failed_write_is_not_asked_again(rt: HostRuntime) -> Result<(), Fail> {
         assert_eq!(rt; sink.write(&[5, 6]), Err(Failed), "{kind:?}");
         assert_eq!(rt; sink.write(&[5, 6]), Ok(2), "{kind:?}");
         assert_eq!(rt; sink.into_inner().calls, 2, "{kind:?}");
+    }
+    Ok(())
+}
+
+#[test]
+fn a_stuck_writer_is_not_asked_again(rt: HostRuntime) -> Result<(), Fail> {
+    let mut stuck = OverWrite::new(Stuck::new(0, None));
+    assert_eq!(rt; stuck.write(&[5]), Err(Failed));
+    assert_eq!(rt; stuck.into_inner().calls, 1);
+    Ok(())
+}
+
+#[test]
+fn a_short_write_is_not_asked_again(rt: HostRuntime) -> Result<(), Fail> {
+    for error in [None, Some(ErrorKind::Interrupted), Some(ErrorKind::Other)] {
+        let mut once = OverWrite::new(Stuck::new(1, error));
+        assert_eq!(rt; once.write(&[5, 6]), Ok(1));
+        assert_eq!(rt; once.into_inner().calls, 1);
+
+        let mut sink = OverWrite::new(Stuck::new(1, error));
+        assert_eq!(rt; sink.write(&[5, 6]), Ok(1));
+        assert_eq!(rt; sink.write(&[6]), Err(Failed));
+        assert_eq!(rt; sink.into_inner().calls, 2);
     }
     Ok(())
 }

@@ -1,9 +1,9 @@
 -- Worked projections: trees whose local types were worked out by hand, and choices that a third role can't merge.
 use Rattle.std.specs.Prelude.{◌≡◌, ℕ, List, [], ◌∷◌, Some, None, codes}
-use Rattle.mps_base.specs.declared.value.Sort.TheVariants.{Int, Bool as Truth}
+use Rattle.mps_base.specs.declared.value.Sort.TheVariants.{Int, Bool as Truth, Text}
 use Rattle.mps_global.specs.Global as global
 use Rattle.mps_global.specs.Global.{GlobalType, Message, Choice}
-use Rattle.mps_local.specs.Local.{LocalType, Branches, End, Var, Rec, Send, Recv, NoMore, More}
+use Rattle.mps_local.specs.Local.{LocalType, Branches, End, Var, Rec, Send, Recv, Select, Branch, NoMore, More}
 use Rattle.mps_local.specs.Projection.{projection, examined, first_unmerged}
 
 -- three roles, by their names and by their places
@@ -81,3 +81,23 @@ ping = Rec (codes "X") (Send at_b Int (Var (codes "X")))
 -- an integer from c, and then a loop of the same name
 abbrev pub ping_pong : LocalType
 ping_pong = Rec (codes "X") (Recv at_c Int ping)
+
+-- the choice to go on or to stop, where a text comes back before the type goes on so
+abbrev pub go_or_stop : LocalType → Branches
+go_or_stop next = More (codes "go") (Recv at_b Text next) (More (codes "stop") End NoMore)
+
+-- b is told to go or to stop, again and again
+abbrev pub asking : LocalType
+asking = Rec (codes "X") (Select at_b (go_or_stop (Var (codes "X"))))
+
+-- b tells to go or to stop, again and again
+abbrev pub asked : LocalType
+asked = Rec (codes "X") (Branch at_b (go_or_stop (Var (codes "X"))))
+
+-- an int to c, and then in a loop of its own one to b, which leads back to the outer loop
+abbrev pub turns : LocalType
+turns = Rec (codes "X") (Send at_c Int (Rec (codes "Y") (Send at_b Int (Var (codes "X")))))
+
+-- the inner loop of these, in which the outer one is opened
+abbrev pub inner_turn : LocalType
+inner_turn = Rec (codes "Y") (Send at_b Int turns)

@@ -1,6 +1,6 @@
 //! Worked projections, as theorems: they check the definitions.
 ghost use Rattle.std.specs.Prelude.{◌≡◌, codes, [], ◌∷◌, Some, None};
-ghost use Rattle.mps_base.specs.declared.value.Sort.TheVariants.{Int};
+ghost use Rattle.mps_base.specs.declared.value.Sort.TheVariants.{Int, Text};
 ghost use Rattle.mps_global.specs.Global as global;
 ghost use Rattle.mps_global.specs.Global.{End as over};
 ghost use Rattle.mps_local.specs.Local.{End, Var, Rec, Send, Recv, Select, Branch, NoMore, More};
@@ -8,6 +8,8 @@ ghost use Rattle.mps_local.specs.Actions.{Ends, Sends, Receives, Chooses, Picks,
 ghost use Rattle.mps_local.specs.Examples.{a, b, c, at_a, at_b, at_c, Does, CantMergeFirst};
 ghost use Rattle.mps_local.specs.Examples.{chosen, int_to, bool_to, only, in_loops, outer, inner};
 ghost use Rattle.mps_local.specs.Examples.{relay, ok_or_no, loops, ping, ping_pong};
+ghost use Rattle.mps_local.specs.Examples.{go_or_stop, asking, asked, turns, inner_turn};
+ghost use Rattle.mps_local.specs.Unfolding.{unfolded};
 
 /// What roles do in short protocols, as worked out by hand.
 pub fn worked_projections()
@@ -62,4 +64,23 @@ pub fn worked_actions()
         × (type_left (Select at_b ok_or_no) None ≡ None) }
     ensures pick { (head (Branch at_b (More (codes "x") ping NoMore)) ≡ Picks at_b (codes "x" ∷ []))
         × (type_left (Branch at_b (More (codes "x") ping NoMore)) (Some 0) ≡ Some ping) }
+    // The loop's variable is replaced behind each label, and after the receipt the loop is back.
+    ensures choice_in_a_loop { (unfolded asking ≡ Select at_b (go_or_stop asking))
+        × (head asking ≡ Chooses at_b (codes "go" ∷ codes "stop" ∷ []))
+        × (type_left asking (Some 0) ≡ Some (Recv at_b Text asking))
+        × (type_left (Recv at_b Text asking) None ≡ Some asking)
+        × (type_left asking (Some 1) ≡ Some End)
+        × (type_left asking None ≡ None) }
+    ensures pick_in_a_loop { (unfolded asked ≡ Branch at_b (go_or_stop asked))
+        × (head asked ≡ Picks at_b (codes "go" ∷ codes "stop" ∷ []))
+        × (type_left asked (Some 0) ≡ Some (Recv at_b Text asked))
+        × (type_left (Recv at_b Text asked) None ≡ Some asked)
+        × (type_left asked (Some 1) ≡ Some End)
+        × (type_left asked None ≡ None) }
+    // The outer loop's variable is replaced in the inner loop too.
+    ensures loop_behind_an_action { (unfolded turns ≡ Send at_c Int inner_turn)
+        × (type_left turns None ≡ Some inner_turn)
+        × (head inner_turn ≡ Sends at_b Int)
+        × (unfolded inner_turn ≡ Send at_b Int turns)
+        × (type_left inner_turn None ≡ Some turns) }
 {}

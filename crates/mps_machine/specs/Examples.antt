@@ -9,10 +9,10 @@ use Rattle.mps_command.specs.declared.command.Forward.TheVariants as steps
 use Rattle.mps_command.specs.declared.command.Command.TheVariants.{Forward, Undo, Rollback, Back}
 use Rattle.mps_command.specs.declared.answer.Violation.{Violation}
 use Rattle.mps_command.specs.declared.answer.Violation.TheVariants.{Ended, WrongAct, WrongPeer, WrongSort, NoLabel, NothingQueued, Mismatch}
-use Rattle.mps_command.specs.declared.answer.Refusal.TheVariants.{Violation as Violates, NoStep, NotYours, Needed, NoMark}
+use Rattle.mps_command.specs.declared.answer.Refusal.TheVariants.{Violation as Violates, NoStep, NotYours, Needed, NoMark, Full}
 use Rattle.mps_command.specs.declared.answer.Answer.{Answer}
 use Rattle.mps_command.specs.declared.answer.Answer.TheVariants.{Done, Undone, Refused}
-use Rattle.mps_machine.specs.Machine.{initial, view_of, Request, answers, after}
+use Rattle.mps_machine.specs.Machine.{State, initial, view_of, Request, answers, after}
 
 -- roles, by their places
 abbrev pub a : ℕ
@@ -84,6 +84,22 @@ stream = Rec (codes "X") (Send b IntSort (Var (codes "X"))) ∷ Rec (codes "X") 
 -- the sender expects an int to be taken, the receiver a bool to come
 abbrev pub unfitting : List LocalType
 unfitting = Send b IntSort End ∷ Recv a BoolSort End ∷ []
+
+-- the sender chooses x, the receiver expects y alone
+abbrev pub other_label : List LocalType
+other_label = Select b (More (codes "x") End NoMore) ∷ Branch a (More (codes "y") End NoMore) ∷ []
+
+-- the sender gives an int, the receiver expects a label
+abbrev pub value_for_a_label : List LocalType
+value_for_a_label = Send b IntSort End ∷ Branch a (More (codes "y") End NoMore) ∷ []
+
+-- the sender chooses x, the receiver expects an int
+abbrev pub label_for_a_value : List LocalType
+label_for_a_value = Select b (More (codes "x") End NoMore) ∷ Recv a IntSort End ∷ []
+
+-- nothing survives, and this is the next number
+abbrev pub from_number : ℕ → State
+from_number n = record { history = []; next = n }
 
 -- a value is relayed from a over b to c in four steps, and then more is asked for
 abbrev pub relayed_then : List Request → List Request
@@ -189,3 +205,52 @@ abbrev pub TheSlotHasItsOldValue : Type 0
 TheSlotHasItsOldValue =
     let v = view_of stream (after stream initial (sends_int a b 1 ∷ sends_int a b 2 ∷ receives_into b a (codes "x") ∷ receives_into b a (codes "x") ∷ undoes b 4 ∷ [])).history in
     ((v.participant b).store ≡ (codes "x", Int (pos 1)) ∷ []) × (v.queue a b ≡ Plain (Int (pos 2)) ∷ [])
+
+-- the number 100000 is given out, and none after it, also where the step is undone. An act that isn't allowed is told as that
+abbrev pub AHundredThousandNumbersAreGivenOut : Type 0
+AHundredThousandNumbersAreGivenOut =
+    let requests = sends_int a b 1 ∷ sends_int a b 2 ∷ sends_int c b 3 ∷ sends_int c d 4 ∷ marks a (codes "m") ∷ undoes a 100000 ∷ sends_int a b 5 ∷ [] in
+    (answers two_pairs (from_number 100000) requests
+    ≡ done 100000 ∷ violates Ended ∷ violates WrongPeer ∷ Refused Full ∷ Refused Full ∷ Undone (100000 ∷ []) ∷ Refused Full ∷ [])
+    × ((after two_pairs (from_number 100000) requests).next ≡ 100001)
+
+-- a mark may have the number 100000, and none may have the next
+abbrev pub AMarkMayHaveTheLastNumber : Type 0
+AMarkMayHaveTheLastNumber =
+    (answers stream (from_number 100000) (marks a (codes "m") ∷ []) ≡ done 100000 ∷ [])
+    × ((after stream (from_number 100000) (marks a (codes "m") ∷ [])).next ≡ 100001)
+    × (answers stream (from_number 100001) (marks a (codes "m") ∷ []) ≡ Refused Full ∷ [])
+
+-- a return is to the role's own last mark of that name
+abbrev pub AReturnIsToTheLastMarkOfTheName : Type 0
+AReturnIsToTheLastMarkOfTheName =
+    let marked = marks a (codes "m") ∷ sends_int a b 1 ∷ marks a (codes "k") ∷ marks a (codes "m") ∷ sends_int a b 2 ∷ marks b (codes "m") ∷ [] in
+    let st = after stream initial marked in
+    (answers stream initial marked ≡ done 1 ∷ done 2 ∷ done 3 ∷ done 4 ∷ done 5 ∷ done 6 ∷ [])
+    × (answers stream st (goes_back b (codes "k") ∷ goes_back a (codes "m") ∷ goes_back a (codes "k") ∷ goes_back a (codes "m") ∷ goes_back a (codes "k") ∷ goes_back b (codes "m") ∷ [])
+    ≡ Refused NoMark ∷ Undone (5 ∷ []) ∷ Undone (4 ∷ []) ∷ Undone (3 ∷ 2 ∷ []) ∷ Refused NoMark ∷ Undone [] ∷ [])
+
+-- a step that isn't there, or is another role's, is told as that, whether others depend on it or not
+abbrev pub AnotherRolesStepIsNotYours : Type 0
+AnotherRolesStepIsNotYours =
+    answers verdict initial (sends_int a b 5 ∷ receives_into b a (codes "x") ∷ undoes c 1 ∷ undoes b 1 ∷ undoes a 3 ∷ rolls_back a 3 ∷ rolls_back b 1 ∷ rolls_back a 2 ∷ undoes a 1 ∷ [])
+    ≡ done 1 ∷ done_with 2 5 ∷ Refused NotYours ∷ Refused NotYours ∷ Refused NoStep ∷ Refused NoStep ∷ Refused NotYours ∷ Refused NotYours ∷ Refused (Needed 2) ∷ []
+
+-- at a choice another peer is told before another label, and a value is another kind of act
+abbrev pub AChoiceIsOfOnePeer : Type 0
+AChoiceIsOfOnePeer =
+    answers verdict initial (relayed_then (chooses c b (codes "maybe") ∷ chooses c b (codes "ok") ∷ picks a b ∷ sends_int c a 1 ∷ receives_into a c (codes "x") ∷ []))
+    ≡ relay_done_then (violates WrongPeer ∷ violates WrongPeer ∷ violates WrongPeer ∷ violates WrongAct ∷ violates WrongAct ∷ [])
+
+-- a label that the receiver doesn't expect stays, as does a value where a label is expected, and a label where a value is
+abbrev pub AnUnexpectedMessageIsAMismatch : Type 0
+AnUnexpectedMessageIsAMismatch =
+    (answers other_label initial (chooses a b (codes "x") ∷ picks b a ∷ []) ≡ done 1 ∷ violates Mismatch ∷ [])
+    × (answers value_for_a_label initial (sends_int a b 5 ∷ picks b a ∷ []) ≡ done 1 ∷ violates Mismatch ∷ [])
+    × (answers label_for_a_value initial (chooses a b (codes "x") ∷ receives_into b a (codes "s") ∷ []) ≡ done 1 ∷ violates Mismatch ∷ [])
+
+-- a slot that is bound again keeps its place
+abbrev pub ASlotKeepsItsPlace : Type 0
+ASlotKeepsItsPlace =
+    let sent = sends_int a b 1 ∷ sends_int a b 2 ∷ sends_int a b 3 ∷ receives_into b a (codes "x") ∷ receives_into b a (codes "y") ∷ receives_into b a (codes "x") ∷ [] in
+    ((view_of stream (after stream initial sent).history).participant b).store ≡ (codes "x", Int (pos 3)) ∷ (codes "y", Int (pos 2)) ∷ []

@@ -1,5 +1,6 @@
 //! Worked sessions, which show that the definitions say what they mean.
 ghost use Rattle.mps_machine.specs.Examples.{AnUndoWaitsForTheReceipt, ARollbackTakesAllThatDepends, ARollbackLeavesWhatCameBefore, ARollbackLeavesTheStrangers, AReceiptUndoneTakesTheSameMessageAgain, AnUndoneSendIsGone, AReceiptIntoAUsedSlotIsUndone, TheLeastDependentIsNamedASend, TheLeastDependentIsNamedAReceipt, AReturnToAMarkLeavesTheMark, NumbersAreNeverUsedAgain, RefusalsAreNamed, AChoiceIsMadeAndPicked, AMessageOfAnotherSortIsAMismatch, TheMessageWaitsAgain, TheSlotHasItsOldValue};
+ghost use Rattle.mps_machine.specs.Examples.{AHundredThousandNumbersAreGivenOut, AMarkMayHaveTheLastNumber, AReturnIsToTheLastMarkOfTheName, AnotherRolesStepIsNotYours, AChoiceIsOfOnePeer, AnUnexpectedMessageIsAMismatch, ASlotKeepsItsPlace};
 
 /// What the machine answers in short sessions, as worked out by hand.
 pub fn worked_sessions()
@@ -19,4 +20,11 @@ pub fn worked_sessions()
     ensures a_message_of_another_sort_is_a_mismatch { AMessageOfAnotherSortIsAMismatch }
     ensures the_message_waits_again { TheMessageWaitsAgain }
     ensures the_slot_has_its_old_value { TheSlotHasItsOldValue }
+    ensures a_hundred_thousand_numbers_are_given_out { AHundredThousandNumbersAreGivenOut }
+    ensures a_mark_may_have_the_last_number { AMarkMayHaveTheLastNumber }
+    ensures a_return_is_to_the_last_mark_of_the_name { AReturnIsToTheLastMarkOfTheName }
+    ensures another_roles_step_is_not_yours { AnotherRolesStepIsNotYours }
+    ensures a_choice_is_of_one_peer { AChoiceIsOfOnePeer }
+    ensures an_unexpected_message_is_a_mismatch { AnUnexpectedMessageIsAMismatch }
+    ensures a_slot_keeps_its_place { ASlotKeepsItsPlace }
 {}

@@ -29,3 +29,15 @@ returns-clause-choice c = (refl, refl, refl, refl)
 pub returns-clause-pick : goal.returns-clause-pick
 unfolding unfolded
 returns-clause-pick c = (refl, refl)
+
+pub returns-clause-choice_in_a_loop : goal.returns-clause-choice_in_a_loop
+unfolding unfolded
+returns-clause-choice_in_a_loop c = (refl, refl, refl, refl, refl, refl)
+
+pub returns-clause-pick_in_a_loop : goal.returns-clause-pick_in_a_loop
+unfolding unfolded
+returns-clause-pick_in_a_loop c = (refl, refl, refl, refl, refl, refl)
+
+pub returns-clause-loop_behind_an_action : goal.returns-clause-loop_behind_an_action
+unfolding unfolded
+returns-clause-loop_behind_an_action c = (refl, refl, refl, refl, refl)

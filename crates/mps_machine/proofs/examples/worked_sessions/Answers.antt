@@ -65,3 +65,31 @@ returns-clause-the_message_waits_again c = (refl, refl)
 pub returns-clause-the_slot_has_its_old_value : goal.returns-clause-the_slot_has_its_old_value
 unfolding unfolded
 returns-clause-the_slot_has_its_old_value c = (refl, refl)
+
+pub returns-clause-a_hundred_thousand_numbers_are_given_out : goal.returns-clause-a_hundred_thousand_numbers_are_given_out
+unfolding unfolded
+returns-clause-a_hundred_thousand_numbers_are_given_out c = (refl, refl)
+
+pub returns-clause-a_mark_may_have_the_last_number : goal.returns-clause-a_mark_may_have_the_last_number
+unfolding unfolded
+returns-clause-a_mark_may_have_the_last_number c = (refl, refl, refl)
+
+pub returns-clause-a_return_is_to_the_last_mark_of_the_name : goal.returns-clause-a_return_is_to_the_last_mark_of_the_name
+unfolding unfolded
+returns-clause-a_return_is_to_the_last_mark_of_the_name c = (refl, refl)
+
+pub returns-clause-another_roles_step_is_not_yours : goal.returns-clause-another_roles_step_is_not_yours
+unfolding unfolded
+returns-clause-another_roles_step_is_not_yours c = refl
+
+pub returns-clause-a_choice_is_of_one_peer : goal.returns-clause-a_choice_is_of_one_peer
+unfolding unfolded
+returns-clause-a_choice_is_of_one_peer c = refl
+
+pub returns-clause-an_unexpected_message_is_a_mismatch : goal.returns-clause-an_unexpected_message_is_a_mismatch
+unfolding unfolded
+returns-clause-an_unexpected_message_is_a_mismatch c = (refl, refl, refl)
+
+pub returns-clause-a_slot_keeps_its_place : goal.returns-clause-a_slot_keeps_its_place
+unfolding unfolded
+returns-clause-a_slot_keeps_its_place c = refl
