@@ -1,2 +1,3 @@
 pub mod Labels
 pub mod Judged
+pub mod Able
