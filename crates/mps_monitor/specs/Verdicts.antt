@@ -1,5 +1,5 @@
 -- What a role's type says of a command.
-use Rattle.std.specs.Prelude.{◌≡◌, ℕ, Bool, true, false, List, [], ◌∷◌, Option, Some, None, Result, Ok, Err, IsSome}
+use Rattle.std.specs.Prelude.{◌≡◌, ℕ, Bool, true, false, List, [], ◌∷◌, Option, Some, None, option_and_then, Result, Ok, Err, IsSome}
 use Rattle.std.specs.List.{position}
 use Rattle.std.specs.Str.{bytes_eq}
 use Rattle.mps_base.specs.declared.action.Act.{Act}
@@ -11,7 +11,8 @@ use Rattle.mps_command.specs.declared.command.Forward.{Forward}
 use Rattle.mps_command.specs.declared.command.Forward.TheVariants as commands
 use Rattle.mps_local.specs.Actions.{Head, Ends, Sends, Receives, Chooses, Picks, continuation}
 use Rattle.mps_local.specs.Local.{LocalType, Branches, End, Send, Recv, Select, Branch, NoMore, More}
-use Rattle.mps_machine.specs.Rule.{type_after}
+use Rattle.mps_machine.specs.Rule.{first_of, type_after}
+use Rattle.mps_machine.specs.View.{View}
 use Rattle.mps_machine.specs.Violations.{act_fault}
 use Rattle.mps_monitor.specs.declared.verdict.Advance.{Advance}
 use Rattle.mps_monitor.specs.declared.verdict.Advance.TheVariants.{Stay, Next, Into}
@@ -23,6 +24,18 @@ moved_by (commands.Choose to label) first = Some (messages.Label label)
 moved_by (commands.Receive from slot) first = first
 moved_by (commands.Pick from) first = first
 moved_by (commands.Mark name) first = None
+
+-- the peer whom a command names, if it names one
+abbrev pub peer_of : Forward → Option ℕ
+peer_of (commands.Send to value) = Some to
+peer_of (commands.Choose to label) = Some to
+peer_of (commands.Receive from slot) = Some from
+peer_of (commands.Pick from) = Some from
+peer_of (commands.Mark name) = None
+
+-- the first message that waits for role p from the peer, if there is one
+abbrev pub waiting_from : View → ℕ → Option ℕ → Option Message
+waiting_from v p peer = option_and_then (λ q. first_of (v.queue q p)) peer
 
 -- whether the command is a mark
 abbrev pub is_mark : Forward → Bool

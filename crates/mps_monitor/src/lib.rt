@@ -6,7 +6,7 @@ mod verdict;
 
 pub use cursor::Cursor;
 pub use mps_command::{Forward, Violation};
-pub use verdict::{Advance, judge};
+pub use verdict::{Advance, judge, the_machine_moves_the_same};
 
 #[cfg(test)]
 mod tests;

@@ -212,5 +212,6 @@ fn takes_the_first_of_labels_that_are_the_same(rt: HostRuntime) -> Result<(), Fa
     assert_eq!(rt; answer, Ok(Advance::Into(1)));
     let answer = judged(Kind::Chooses, &[], &choose(B, "no")?, None);
     assert_eq!(rt; answer, Err(Violation::NoLabel));
+    the_machine_moves_the_same();
     Ok(())
 }

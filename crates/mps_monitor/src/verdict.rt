@@ -4,11 +4,14 @@ ghost use Rattle.std.specs.Option.{option_copied};
 ghost use Rattle.mps_base.specs.declared.action.Act.TheVariants as acts;
 ghost use Rattle.mps_base.specs.declared.action.Message.TheVariants as messages;
 ghost use Rattle.mps_command.specs.Acts.{act_of};
+ghost use Rattle.mps_command.specs.declared.command.Forward.{Forward as Asked};
 ghost use Rattle.mps_local.specs.Actions.{Begins, Sends, Receives, Chooses, Picks};
 ghost use Rattle.mps_local.specs.Local.{LocalType};
+ghost use Rattle.mps_machine.specs.Rule.{moved};
+ghost use Rattle.mps_machine.specs.View.{View};
 ghost use Rattle.mps_machine.specs.Violations.{act_fault};
 ghost use Rattle.mps_table.specs.Expects.{head_of};
-ghost use Rattle.mps_monitor.specs.Verdicts.{moved_by, is_mark, labels_of, place_of, GoesOn, IsVerdict};
+ghost use Rattle.mps_monitor.specs.Verdicts.{moved_by, peer_of, waiting_from, is_mark, labels_of, place_of, GoesOn, IsVerdict};
 
 use mps_base::{Message, Name, Role, Sort, Value};
 use mps_command::{Forward, Violation};
@@ -73,6 +76,13 @@ pub fn judge(
         },
     }
 }
+
+/// The message that a command moves is the machine's, where the first that waits from its peer is
+/// looked at.
+pub fn the_machine_moves_the_same()
+    ensures { (v : View) (p : ℕ) (command : Asked)
+        → moved v p (act_of command) ≡ moved_by command (waiting_from v p (peer_of command)) }
+{}
 
 // The verdict on giving a value, where the peer is expected to get one of the sort.
 fn judge_send(peer: Role, sort: Sort, to: Role, value: &Value) -> Result<Advance, Violation>
