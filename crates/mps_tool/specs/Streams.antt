@@ -30,21 +30,11 @@ pub record HasLoaded (given left : Option (List ℕ)) (roles : List (List ℕ)) 
   pub over : IsAtEnd left
   pub read : AreTypesOf text roles types
 
--- some source was loaded from so
-abbrev pub WasLoaded : Type 0
-WasLoaded =
-    (given : Option (List ℕ)) × (left : Option (List ℕ)) × (roles : List (List ℕ)) × (types : List LocalType) × HasLoaded given left roles types
-
 -- why no types were had that a session can follow: the text gives none, a read failed, or memory ran out
 abbrev pub CantLoad : (given left : Option (List ℕ)) → ToolFault → Type 0
 CantLoad given left Read = ⊤
 CantLoad given left Memory = ⊤
 CantLoad given left fault = (text : List ℕ) × HasGiven given left text × GivesNoSession text fault
-
--- some source was shown so to some sink
-abbrev pub WasShown : Type 0
-WasShown =
-    (given : Option (List ℕ)) × (left : Option (List ℕ)) × (took : Option (List ℕ)) × (taken : Option (List ℕ)) × HasShown given left took taken
 
 -- the source gave a text that has this fault, and the sink took nothing
 pub record HasRefused (given left took taken : Option (List ℕ)) (fault : ToolFault) : Type 0 where

@@ -12,11 +12,12 @@ ghost use Rattle.mps_tool.specs.Check.{AreTypesOf, IsProtocolText, role_line, ro
 ghost use Rattle.mps_tool.specs.Check.{GivesNoProtocol, GivesNoProjections, GivesNoTypes, GivesNoSession, IsUnprojected};
 ghost use Rattle.mps_tool.specs.Faults.{after_reads, after_writes, IsCheckFault};
 ghost use Rattle.mps_tool.specs.Files.{HasReadAtMost, most_read};
-ghost use Rattle.mps_tool.specs.Streams.{CantShow, HasShown, WasShown, CantLoad, HasLoaded};
+ghost use Rattle.mps_tool.specs.declared.faults.ToolFault.TheVariants.{Memory as OutOfMemory};
+ghost use Rattle.mps_tool.specs.Streams.{CantShow, HasShown, CantLoad, HasLoaded};
 
 use crate::faults::ToolFault;
 use crate::files::{open_file, read_text};
-use mps_base::{Role, Roles};
+use mps_base::{Role, RoleFault, Roles};
 use mps_dev::{OverWrite, Sink, Source};
 use mps_global::{Protocol, check};
 use mps_local::{Local, ProjectFault, project, write_local};
@@ -80,6 +81,20 @@ fn types_of<'a>(alloc: Global, protocol: &Protocol) -> Result<Vec<Local>, ToolFa
     Ok(types)
 }
 
+/// The roles of a protocol without faults.
+fn roles_of<'a>(alloc: Global, protocol: &Protocol) -> Result<Roles, ToolFault<'a>>
+    requires { fault_of protocol.now.roles.items (global_type protocol.now.body) ≡ None }
+    ensures ok { IfOk result (λ roles. roles ≡ protocol.now.roles.items) }
+    ensures fault { IfErr result (λ fault. fault ≡ OutOfMemory) }
+{
+    match Roles::of(alloc, protocol.roles.as_slice()) {
+        Ok(roles) => Ok(roles),
+        Err(RoleFault::Memory) => Err(ToolFault::Memory),
+        Err(RoleFault::RoleCount) => unreachable!(),
+        Err(RoleFault::DoubleRole) => unreachable!(),
+    }
+}
+
 /// The roles of the protocol that the text spells, and their local types, which have outputs and
 /// inputs alone.
 pub fn roles_and_types<'a>(alloc: Global, text: &[u8]) -> Result<(Roles, Vec<Local>), ToolFault<'a>>
@@ -89,10 +104,7 @@ pub fn roles_and_types<'a>(alloc: Global, text: &[u8]) -> Result<(Roles, Vec<Loc
 {
     let protocol = protocol_of(alloc, text)?;
     let types = types_of(alloc, &protocol)?;
-    // the check has shown that they are roles
-    let Ok(roles) = Roles::of(alloc, protocol.roles.as_slice()) else {
-        return Err(ToolFault::Memory);
-    };
+    let roles = roles_of(alloc, &protocol)?;
     if !are_message_only(types.as_slice()) {
         return Err(ToolFault::Unready);
     }
@@ -125,9 +137,7 @@ pub fn check_out<'a>(alloc: Global, text: &[u8]) -> Result<Vec<u8>, ToolFault<'a
 {
     let protocol = protocol_of(alloc, text)?;
     let types = types_of(alloc, &protocol)?;
-    let Ok(roles) = Roles::of(alloc, protocol.roles.as_slice()) else {
-        return Err(ToolFault::Memory);
-    };
+    let roles = roles_of(alloc, &protocol)?;
     let mut out = Vec::new(alloc);
     write_lines(alloc, &mut out, &roles, 0, &types)?;
     Ok(out)
@@ -207,8 +217,7 @@ pub fn write_types<'a, R: Source, W: Sink>(
 
 /// Prints a line for each role of the protocol in the file: its name and its local type.
 pub fn show<'a, R: Files + AllocGlobal + Print>(rt: &R, file: &'a str) -> Result<(), ToolFault<'a>>
-    ensures shown { OnOk result WasShown }
-    ensures fault { IfErr result (IsCheckFault file.now) }
+    ensures { IfErr result (IsCheckFault file.now) }
 {
     let mut reader = open_file(rt, file)?;
     let mut writer = OverWrite::new(io::writer(rt));

@@ -1,6 +1,5 @@
 //! Running a script from files.
-ghost use Rattle.std.specs.Prelude.{◌≡◌, IfErr, OnOk, length, map};
-ghost use Rattle.mps_tool.specs.Streams.{WasLoaded};
+ghost use Rattle.std.specs.Prelude.{◌≡◌, IfErr, length, map};
 ghost use Rattle.mps_tool.specs.Faults.{IsReplayFault, IsRunFault};
 ghost use Rattle.mps_local.specs.Local.{plain};
 ghost use Rattle.mps_session.specs.Rows.{IsMessageOnly};
@@ -35,15 +34,13 @@ fn replay<'a, R: Files + AllocGlobal + Print>(
 
 /// Runs the script on a new session of the protocol in the file, and prints the answers.
 ///
-/// The protocol is read and checked before the script is opened. What stands in a file is known to
-/// nobody: that a run went well says that some text gave the types.
+/// The protocol is read and checked before the script is opened.
 pub fn run<'a, R: Files + AllocGlobal + Print>(
     rt: &R,
     file: &'a str,
     script: &'a str,
 ) -> Result<(), ToolFault<'a>>
-    ensures loaded { OnOk result WasLoaded }
-    ensures fault { IfErr result (IsRunFault file.now script.now) }
+    ensures { IfErr result (IsRunFault file.now script.now) }
 {
     let (roles, types) = read_types(rt.alloc(), &mut open_file(rt, file)?)?;
     replay(rt, script, roles, types)

@@ -146,6 +146,44 @@ fn tells_faults(rt: HostRuntime) -> Result<(), Fail> {
 }
 
 #[test]
+fn tells_each_word(rt: HostRuntime) -> Result<(), Fail> {
+    let texts = [
+        (TextKind::TooLong, "refused text toolong 7"),
+        (TextKind::Word, "refused text word 7"),
+        (TextKind::Unexpected, "refused text unexpected 7"),
+        (TextKind::TooManyNodes, "refused text toomanynodes 7"),
+        (TextKind::TooDeep, "refused text toodeep 7"),
+        (TextKind::Trailing, "refused text trailing 7"),
+    ];
+    for (kind, line) in texts {
+        let fault = ToolFault::Text { at: 7, kind };
+        assert!(rt; tells(rt.alloc(), fault, line, 3)?, "{line}");
+    }
+    let protocols = [
+        (GlobalFault::RoleCount, "refused protocol rolecount"),
+        (GlobalFault::DoubleRole, "refused protocol doublerole"),
+        (GlobalFault::TooManyNodes, "refused protocol toomanynodes"),
+        (GlobalFault::TooDeep, "refused protocol toodeep"),
+        (GlobalFault::UnknownRole, "refused protocol unknownrole"),
+        (GlobalFault::SelfMessage, "refused protocol selfmessage"),
+        (GlobalFault::DoubleLabel, "refused protocol doublelabel"),
+        (
+            GlobalFault::TooManyBranches,
+            "refused protocol toomanybranches",
+        ),
+        (GlobalFault::NoBranches, "refused protocol nobranches"),
+        (GlobalFault::Unbound, "refused protocol unbound"),
+        (GlobalFault::Shadowed, "refused protocol shadowed"),
+        (GlobalFault::Unguarded, "refused protocol unguarded"),
+    ];
+    for (fault, line) in protocols {
+        let fault = ToolFault::Protocol { fault };
+        assert!(rt; tells(rt.alloc(), fault, line, 3)?, "{line}");
+    }
+    Ok(())
+}
+
+#[test]
 fn refuses_protocols(rt: HostRuntime) -> Result<(), Fail> {
     let rows = [
         ("roles a b ; a -> b : int end", "refused text unexpected 25"),

@@ -6,7 +6,7 @@ ghost use Rattle.mps_tool.specs.Faults.{IsUseFault};
 use crate::command::Order;
 use crate::faults::ToolFault;
 use clap::error::ErrorKind;
-use clap::{Arg, Command};
+use clap::{Arg, ArgMatches, Command};
 use std::alloc::{AllocError, Global};
 
 /// The version of the program.
@@ -33,6 +33,17 @@ fn commands<'a>(alloc: Global) -> Result<Command<'a>, AllocError> {
         .subcommand(run)
 }
 
+/// The order that stands in the words, as they matched the commands.
+fn order_in<'a>(matches: &ArgMatches<'a>) -> Option<Order<'a>> {
+    let (command, found) = matches.subcommand()?;
+    let file = found.get_str("FILE")?;
+    if command == "check" {
+        return Some(Order::Check { file });
+    }
+    let script = found.get_str("SCRIPT")?;
+    Some(Order::Run { file, script })
+}
+
 /// Reads the words, of which the first is the program's name.
 pub fn order<'a>(alloc: Global, words: &'a [&'a str]) -> Result<Order<'a>, ToolFault<'a>>
     ensures { IfErr result IsUseFault }
@@ -49,15 +60,11 @@ pub fn order<'a>(alloc: Global, words: &'a [&'a str]) -> Result<Order<'a>, ToolF
             return Ok(Order::Help { text });
         }
     };
-    match matches.subcommand() {
-        Some(("check", found)) => match found.get_str("FILE") {
-            Some(file) => Ok(Order::Check { file }),
-            None => Err(ToolFault::Memory),
-        },
-        Some((_, found)) => match (found.get_str("FILE"), found.get_str("SCRIPT")) {
-            (Some(file), Some(script)) => Ok(Order::Run { file, script }),
-            _ => Err(ToolFault::Memory),
-        },
-        None => Err(ToolFault::Memory),
+    match order_in(&matches) {
+        Some(order) => Ok(order),
+        None => {
+            let text = String::from_str(alloc, "error: a word is missing")?;
+            Err(ToolFault::Usage { text })
+        }
     }
 }

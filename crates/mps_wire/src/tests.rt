@@ -191,6 +191,32 @@ fn refused_lines(alloc: Global, count: usize) -> Result<Vec<u8>, Fail> {
 }
 
 #[test]
+fn reads_a_block_at_a_time(rt: HostRuntime) -> Result<(), Fail> {
+    let alloc = rt.alloc();
+    // 4,096 lines of 16 bytes are 65,536 bytes; one more byte ends an empty line
+    let mut piece = Vec::new(alloc);
+    for _ in 0..4096 {
+        piece.extend_from_slice(b"a send b 123456\n")?;
+    }
+    piece.push(b'\n')?;
+    let mut answers = Vec::from_slice(alloc, b"done 1\n")?;
+    for _ in 0..4095 {
+        answers.extend_from_slice(b"refused ended\n")?;
+    }
+    let script = vec![in alloc; piece.clone()?]?;
+    let (written, fault) = outcome(alloc, A_TO_B_TO_C, script, Some(2), 100_000)?;
+    assert_eq!(rt; fault, Some(ReplayFault::ReadFault));
+    assert!(rt; written == answers, "the lines of the first block");
+
+    answers.extend_from_slice(b"refused line\n")?;
+    let script = vec![in alloc; piece]?;
+    let (written, fault) = outcome(alloc, A_TO_B_TO_C, script, None, 100_000)?;
+    assert_eq!(rt; fault, None);
+    assert!(rt; written == answers, "all lines");
+    Ok(())
+}
+
+#[test]
 fn stops_after_a_million_reads(rt: HostRuntime) -> Result<(), Fail> {
     let alloc = rt.alloc();
     // the last read of the second finds the end
