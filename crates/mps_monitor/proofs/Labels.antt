@@ -48,7 +48,7 @@ nowhere (More l t others) label i e = by_test (bytes_eq l label) e (nowhere othe
     by_test true f again = absurd cc
     by_test false f again = again f
 
-pub labels_ending : (names : List (List ℕ)) → labels (ending names) ≡ names
+labels_ending : (names : List (List ℕ)) → labels (ending names) ≡ names
 labels_ending [] = refl
 labels_ending (name ∷ names) = ap (λ (ns : List (List ℕ)). name ∷ ns) (labels_ending names)
 

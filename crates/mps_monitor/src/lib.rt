@@ -1,10 +1,8 @@
 //! What the monitor of one role answers to a command: whether the role's type allows it.
 #![tactic(auto)]
 
-mod cursor;
 mod verdict;
 
-pub use cursor::Cursor;
 pub use mps_command::{Forward, Violation};
 pub use verdict::{Advance, judge, the_machine_moves_the_same};
 
