@@ -10,6 +10,7 @@ pub mod Equal
 pub mod Leading
 pub mod Unmerged
 pub mod Merging
+pub mod Filling
 pub mod Sizes
 pub mod Faulty
 pub mod Silence

@@ -1,4 +1,6 @@
 //! What a node of a table stands for.
+ghost use Rattle.std.specs.Prelude.{◌≡◌, ◌<◌, ◌^◌};
+
 use mps_base::{Name, Role, Sort};
 use std::marker::Model;
 
@@ -14,6 +16,23 @@ impl Model for Node {
     ghost view = { λ n. n.0 };
 
     ghost inverse = { λ n. record { 0 = n } };
+}
+
+impl Node {
+    /// The node at this place; a table may have no such node.
+    pub(crate) const fn new(index: u16) -> Node
+        ensures { result ≡ index }
+    {
+        Node(index)
+    }
+
+    /// Its place in the table.
+    pub(crate) fn index(self) -> usize
+        ensures place { result ≡ self }
+        ensures small { result < 2 ^ 16 }
+    {
+        usize::from(self.0)
+    }
 }
 
 /// What a role may do first at a node; labels in the order of the branches.

@@ -1,0 +1,4 @@
+pub mod Standing
+pub mod Laid
+pub mod Drafted
+pub mod Compiled

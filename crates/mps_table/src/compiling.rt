@@ -1,0 +1,52 @@
+//! Tables of local types.
+ghost use Rattle.std.specs.Prelude.{◌≡◌, ◌≤◌, true, [], None, Some, Err, IfOk, OnOk, IsOkUnless};
+ghost use Rattle.mps_local.specs.Local.{plain};
+ghost use Rattle.mps_local.specs.Shape.{node_count};
+ghost use Rattle.mps_local.specs.Loops.{is_closed, is_guarded};
+ghost use Rattle.mps_local.specs.LocalFaults.{local_fault_of};
+ghost use Rattle.mps_local.specs.declared.faults.LocalFault.{LocalFault};
+ghost use Rattle.mps_table.specs.Standing.{StandsFor};
+
+use crate::laying::{Draft, laid_out};
+use crate::table::Table;
+use mps_local::{Local, LocalFault, first_fault};
+use std::alloc::{AllocError, Global};
+
+/// The table of a local type, or the type's first fault. The type may be of any size.
+pub fn compile(alloc: Global, tree: &Local) -> Result<Table, LocalFault>
+    ensures table { IfOk result (λ table. StandsFor table table.first (plain tree.now)) }
+    ensures ok { OnOk result (local_fault_of (plain tree.now) ≡ None) }
+    ensures fault { (fault : LocalFault) → local_fault_of (plain tree.now) ≡ Some fault
+        → result ≡ Err fault }
+
+    // Memory comes last.
+    ensures memory { local_fault_of (plain tree.now) ≡ None
+        → IsOkUnless result LocalFault.Memory }
+{
+    match first_fault(tree) {
+        Some(fault) => Err(fault),
+        None => Ok(table_of(alloc, tree)?),
+    }
+}
+
+// The table of a type of at most 256 nodes, whose variables stand in their `rec`s, and in which no
+// `rec` comes to its variable without an act.
+fn table_of(alloc: Global, tree: &Local) -> Result<Table, AllocError>
+    requires few { node_count (plain tree.now) ≤ 256 }
+    requires closed { is_closed [] (plain tree.now) ≡ true }
+    requires guarded { is_guarded (plain tree.now) ≡ true }
+    ensures { IfOk result (λ table. StandsFor table table.first (plain tree.now)) }
+{
+    let (draft, first) = laid_out(alloc, tree)?;
+    let Draft {
+        entries,
+        labels,
+        targets,
+    } = draft;
+    Ok(Table {
+        entries,
+        labels,
+        targets,
+        first,
+    })
+}

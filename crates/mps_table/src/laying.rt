@@ -1,0 +1,242 @@
+//! Laying a local type out as a table.
+ghost use Rattle.std.specs.Prelude.{◌≡◌, ◌+◌, ◌<◌, ◌≤◌, ◌^◌, [], ◌∷◌, length, IfOk, OnOk};
+ghost use Rattle.mps_local.specs.Local.{plain, plain_branches};
+ghost use Rattle.mps_local.specs.Actions.{labels};
+ghost use Rattle.mps_table.specs.Laying.{size, branch_size, all_labels, branch_labels, start, starts};
+ghost use Rattle.mps_table.specs.Drafts.{places_of, Adds, Lays, LaysBranches, IsLaidOut, entry_count, label_count};
+
+use crate::entry::Entry;
+use crate::expect::Node;
+use mps_base::{Name, VarName};
+use mps_local::{Branches, Local};
+use std::alloc::{AllocError, Global};
+
+// The variables of the `rec`s around a tree, spelled out, with their nodes; the nearest first.
+#[derive(Clone, Copy)]
+enum Bound<'a> {
+    Nothing,
+    Inside(&'a [u8], Node, &'a Bound<'a>),
+}
+
+/// The lists of a table, as far as they are made.
+#[derive(Drop)]
+pub(crate) struct Draft {
+    pub(crate) entries: Vec<Entry>,
+    pub(crate) labels: Vec<Name>,
+    pub(crate) targets: Vec<Node>,
+}
+
+// The node of a variable.
+fn node_of(name: &VarName, bound: &Bound<'_>) -> Node
+    ensures { result ≡ places_of bound.now name.now }
+{
+    match bound {
+        Bound::Nothing => Node::new(0),
+        Bound::Inside(other, node, outer) => {
+            if name.as_bytes() == *other {
+                *node
+            } else {
+                node_of(name, outer)
+            }
+        }
+    }
+}
+
+// The node of a type whose entries begin at that place.
+fn start(tree: &Local, bound: &Bound<'_>, at: usize) -> Node
+    requires few { at ≤ 256 }
+    ensures { result ≡ start (places_of bound.now) at (plain tree.now) }
+{
+    match tree {
+        Local::Var(name) => node_of(name, bound),
+        Local::Rec(_, body) => start(body, bound, at),
+        _ => Node::new(at as u16),
+    }
+}
+
+// How many entries a type has.
+#[cycle(size)]
+fn size(tree: &Local) -> usize
+    requires few { size (plain tree.now) ≤ 256 }
+    ensures { result ≡ size (plain tree.now) }
+{
+    match tree {
+        Local::End => 1,
+        Local::Var(_) => 0,
+        Local::Rec(_, body) => size(body),
+        Local::Send { next, .. } | Local::Recv { next, .. } => size(next) + 1,
+        Local::Select { branches, .. } | Local::Branch { branches, .. } => branch_size(branches)
+            + 1,
+    }
+}
+
+// How many the branches have.
+#[cycle(size)]
+fn branch_size(branches: &Branches) -> usize
+    requires few { branch_size (plain_branches branches.now) ≤ 256 }
+    ensures { result ≡ branch_size (plain_branches branches.now) }
+{
+    match branches {
+        Branches::NoMore => 0,
+        Branches::More { next, others, .. } => size(next) + branch_size(others),
+    }
+}
+
+/// A closed type laid out, and its node.
+pub(crate) fn laid_out(alloc: Global, tree: &Local) -> Result<(Draft, Node), AllocError>
+    requires entries { size (plain tree.now) ≤ 256 }
+    requires labels { length (all_labels (plain tree.now)) ≤ 256 }
+    ensures { IfOk result (λ r. IsLaidOut r.0 r.1 (plain tree.now)) }
+{
+    let outside = Bound::Nothing;
+    let mut draft = Draft::new(alloc);
+    draft.lay(tree, &outside)?;
+    Ok((draft, start(tree, &outside, 0)))
+}
+
+impl Draft {
+    // With nothing in it.
+    fn new(alloc: Global) -> Draft
+        ensures entries { result.entries.items ≡ [] }
+        ensures labels { result.labels.items ≡ [] }
+        ensures targets { result.targets.items ≡ [] }
+    {
+        Draft {
+            entries: Vec::new(alloc),
+            labels: Vec::new(alloc),
+            targets: Vec::new(alloc),
+        }
+    }
+
+    // Lays a type out, in which the variables that are bound outside have these nodes.
+    #[cycle(lay)]
+    fn lay(&mut self, tree: &Local, bound: &Bound<'_>) -> Result<(), AllocError>
+        requires entries { entry_count self.old + size (plain tree.now) ≤ 256 }
+        requires labels { label_count self.old + length (all_labels (plain tree.now)) ≤ 256 }
+        ensures { OnOk result (Lays self.old self.new (places_of bound.now) (plain tree.now)) }
+    {
+        match tree {
+            Local::End => self.push_entry(Entry::End),
+            Local::Var(_) => Ok(()),
+            Local::Rec(name, body) => {
+                let node = start(body, &*bound, self.entries.len());
+                self.lay(body, &Bound::Inside(name.as_bytes(), node, &*bound))
+            }
+            Local::Send { peer, sort, next } => {
+                let node = start(next, &*bound, self.entries.len() + 1);
+                self.push_entry(Entry::Send {
+                    peer: *peer,
+                    sort: *sort,
+                    next: node,
+                })?;
+                self.lay(next, &*bound)
+            }
+            Local::Recv { peer, sort, next } => {
+                let node = start(next, &*bound, self.entries.len() + 1);
+                self.push_entry(Entry::Recv {
+                    peer: *peer,
+                    sort: *sort,
+                    next: node,
+                })?;
+                self.lay(next, &*bound)
+            }
+            Local::Select { peer, branches } => {
+                let (first, count) = self.lay_labels(branches, &*bound)?;
+                self.push_entry(Entry::Select {
+                    peer: *peer,
+                    first,
+                    count,
+                })?;
+                self.lay_branches(branches, &*bound)
+            }
+            Local::Branch { peer, branches } => {
+                let (first, count) = self.lay_labels(branches, &*bound)?;
+                self.push_entry(Entry::Branch {
+                    peer: *peer,
+                    first,
+                    count,
+                })?;
+                self.lay_branches(branches, &*bound)
+            }
+        }
+    }
+
+    // Lays the types behind the labels out.
+    #[cycle(lay)]
+    fn lay_branches(&mut self, branches: &Branches, bound: &Bound<'_>) -> Result<(), AllocError>
+        requires entries { entry_count self.old + branch_size (plain_branches branches.now) ≤ 256 }
+        requires labels { label_count self.old
+            + length (branch_labels (plain_branches branches.now)) ≤ 256 }
+        ensures { OnOk result
+            (LaysBranches self.old self.new (places_of bound.now) (plain_branches branches.now)) }
+    {
+        match branches {
+            Branches::NoMore => Ok(()),
+            Branches::More { next, others, .. } => {
+                self.lay(next, &*bound)?;
+                self.lay_branches(others, &*bound)
+            }
+        }
+    }
+
+    // Adds the labels of the choice whose entry comes next, and says where the first stands and how
+    // many there are.
+    fn lay_labels(
+        &mut self,
+        branches: &Branches,
+        bound: &Bound<'_>,
+    ) -> Result<(u16, u16), AllocError>
+        requires entries { entry_count self.old + branch_size (plain_branches branches.now) < 256 }
+        requires labels { label_count self.old + length (labels (plain_branches branches.now)) ≤ 256 }
+        ensures adds { OnOk result (Adds self.old self.new [] (labels (plain_branches branches.now))
+            (starts (places_of bound.now) (entry_count self.old + 1)
+            (plain_branches branches.now))) }
+        ensures place { IfOk result (λ r. r.0 ≡ label_count self.old) }
+        ensures count { IfOk result (λ r. r.1 ≡ length (labels (plain_branches branches.now))) }
+    {
+        let first = self.labels.len();
+        let at = self.entries.len() + 1;
+        self.push_labels(branches, bound, at)?;
+        let count = self.labels.len() - first;
+        Ok((first as u16, count as u16))
+    }
+
+    // Adds the labels of branches whose entries begin at that place, with their nodes.
+    fn push_labels(
+        &mut self,
+        branches: &Branches,
+        bound: &Bound<'_>,
+        at: usize,
+    ) -> Result<(), AllocError>
+        requires few { at + branch_size (plain_branches branches.now) ≤ 256 }
+        ensures { OnOk result (Adds self.old self.new [] (labels (plain_branches branches.now))
+            (starts (places_of bound.now) at (plain_branches branches.now))) }
+    {
+        match branches {
+            Branches::NoMore => Ok(()),
+            Branches::More {
+                label,
+                next,
+                others,
+            } => {
+                self.push_label(*label, start(next, bound, at))?;
+                self.push_labels(others, bound, at + size(next))
+            }
+        }
+    }
+
+    // Adds an entry.
+    fn push_entry(&mut self, entry: Entry) -> Result<(), AllocError>
+        ensures { OnOk result (Adds self.old self.new (entry ∷ []) [] []) }
+    {
+        Ok(self.entries.push(entry)?)
+    }
+
+    // Adds a label with the node behind it.
+    fn push_label(&mut self, label: Name, node: Node) -> Result<(), AllocError>
+        ensures { OnOk result (Adds self.old self.new [] (label ∷ []) (node ∷ [])) }
+    {
+        self.labels.push(label)?;
+        Ok(self.targets.push(node)?)
+    }
+}

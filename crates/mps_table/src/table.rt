@@ -1,0 +1,136 @@
+//! The table of a local type.
+ghost use Rattle.std.specs.Prelude.{◌≡◌, ◌+◌, ◌≤◌, ℕ, Option, Some, length, slice_get, slice_range, option_map, option_and_then};
+ghost use Rattle.mps_local.specs.Local.{LocalType};
+ghost use Rattle.mps_local.specs.Unfolding.{unfolded};
+ghost use Rattle.mps_local.specs.Actions.{Begins, type_left};
+ghost use Rattle.mps_table.specs.Graph.{IsNode, HasNext, IsFollowed, IsWithin, LeadsWithin, shown, next_of};
+ghost use Rattle.mps_table.specs.Standing.{StandsFor};
+ghost use Rattle.mps_table.specs.Expects.{head_of, Allows};
+
+use crate::entry::Entry;
+use crate::expect::{Expect, Node};
+use mps_base::Name;
+use std::marker::Model;
+
+/// A local type as a table: a node for each of its actions and ends. What stands at a node is found
+/// without walking.
+#[derive(Debug, Drop)]
+pub struct Table {
+    pub(crate) entries: Vec<Entry>,
+    pub(crate) labels: Vec<Name>,
+    pub(crate) targets: Vec<Node>,
+    pub(crate) first: Node,
+}
+
+impl Model for Table {
+    ghost use Rattle.mps_table.specs.Graph.{Graph, IsSound};
+
+    ghost Value = { Graph };
+
+    ghost view = { λ t. record {
+      entries = t.entries.items;
+      labels = t.labels.items;
+      targets = t.targets.items;
+      first = t.first;
+    } };
+
+    ghost invariant = { λ t. IsSound t.entries.items t.labels.items t.targets.items t.first };
+}
+
+impl Table {
+    /// The node that stands for the type of which the table was made.
+    pub fn first(&self) -> Node
+        ensures first { result ≡ self.now.first }
+        ensures node { IsNode self.now result }
+    {
+        self.first
+    }
+
+    /// What a role may do first at a node.
+    pub fn expect(&self, node: Node) -> Expect<'_>
+        requires node { IsNode self.now node }
+        ensures entry { option_map (shown self.now) (slice_get self.now.entries node)
+            ≡ Some (head_of result) }
+        ensures next { (choice : Option ℕ) → Allows choice (head_of result)
+            → HasNext self.now node choice }
+        ensures begins { (t : LocalType) → StandsFor self.now node t
+            → Begins (head_of result) (unfolded t) }
+    {
+        self.shown(self.entry(node))
+    }
+
+    /// The node of what comes then: behind a value with no choice, behind a choice with the place of
+    /// the label that was chosen.
+    pub fn after(&self, node: Node, choice: Option<usize>) -> Node
+        requires action { HasNext self.now node choice }
+        ensures node { IsNode self.now result }
+        ensures next { option_and_then (next_of self.now choice) (slice_get self.now.entries node)
+            ≡ Some result }
+        ensures follows { (t u : LocalType) → StandsFor self.now node t
+            → type_left t choice ≡ Some u → StandsFor self.now result u }
+    {
+        self.next(self.entry(node), choice)
+    }
+
+    // What stands at a node.
+    fn entry(&self, node: Node) -> Entry
+        requires { IsNode self.now node }
+        ensures entry { slice_get self.now.entries node ≡ Some result }
+        ensures labels { IsWithin (length self.now.labels) result }
+        ensures targets { IsWithin (length self.now.targets) result }
+        ensures leads { LeadsWithin (length self.now.entries) result }
+    {
+        self.entries[node.index()]
+    }
+
+    // What an entry shows.
+    fn shown(&self, entry: Entry) -> Expect<'_>
+        requires within { IsWithin (length self.now.labels) entry }
+        ensures { head_of result ≡ shown self.now entry }
+    {
+        match entry {
+            Entry::End => Expect::End,
+            Entry::Send { peer, sort, .. } => Expect::Send(peer, sort),
+            Entry::Recv { peer, sort, .. } => Expect::Recv(peer, sort),
+            Entry::Select { peer, first, count } => Expect::Select(
+                peer,
+                self.labels_at(first, count),
+            ),
+            Entry::Branch { peer, first, count } => Expect::Branch(
+                peer,
+                self.labels_at(first, count),
+            ),
+        }
+    }
+
+    // The node that follows an entry.
+    fn next(&self, entry: Entry, choice: Option<usize>) -> Node
+        requires within { IsWithin (length self.now.targets) entry }
+        requires leads { LeadsWithin (length self.now.entries) entry }
+        requires followed { IsFollowed choice entry }
+        ensures next { next_of self.now choice entry ≡ Some result }
+        ensures node { IsNode self.now result }
+    {
+        match choice {
+            None => match entry {
+                Entry::Send { next, .. } | Entry::Recv { next, .. } => next,
+                _ => unreachable!(),
+            },
+            Some(place) => match entry {
+                Entry::Select { first, .. } | Entry::Branch { first, .. } => {
+                    self.targets[usize::from(first) + place]
+                }
+                _ => unreachable!(),
+            },
+        }
+    }
+
+    // The labels from that place on, so many.
+    fn labels_at(&self, first: u16, count: u16) -> &[Name]
+        requires { first + count ≤ length self.now.labels }
+        ensures { result.now ≡ slice_range self.now.labels first (first + count) }
+    {
+        let first = usize::from(first);
+        &self.labels[first..first + usize::from(count)]
+    }
+}
