@@ -27,16 +27,16 @@ pub fn next_node(
     requires { IsNode table.now node }
     ensures violation { IfErr result (λ fault. (t : LocalType) → StandsFor table.now node t
         → act_fault (unfolded t) (act_of command.now)
-            (moved_by command.now (option_copied first.entry))
+        (moved_by command.now (option_copied first.entry))
         ≡ Some fault) }
     ensures allowed { OnOk result ((t : LocalType) → StandsFor table.now node t
         → act_fault (unfolded t) (act_of command.now)
-            (moved_by command.now (option_copied first.entry))
+        (moved_by command.now (option_copied first.entry))
         ≡ None) }
     ensures mark { IsTrue (is_mark command.now) → result ≡ Ok node }
     ensures follows { IfOk result (λ next. (t u : LocalType) → StandsFor table.now node t
         → type_after (unfolded t) (act_of command.now)
-            (moved_by command.now (option_copied first.entry))
+        (moved_by command.now (option_copied first.entry))
         ≡ Some u
         → StandsFor table.now next u) }
     ensures node { IfOk result (IsNode table.now) }
