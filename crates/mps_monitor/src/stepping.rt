@@ -1,5 +1,5 @@
 //! The step of a role that stands at a node of its table.
-ghost use Rattle.std.specs.Prelude.{◌≡◌, ◌↔◌, Some, None, Ok, IfOk, OnOk, IfErr, IsTrue};
+ghost use Rattle.std.specs.Prelude.{◌≡◌, Some, None, Ok, IfOk, OnOk, IfErr, IsTrue};
 ghost use Rattle.std.specs.Option.{option_copied};
 ghost use Rattle.mps_command.specs.Acts.{act_of};
 ghost use Rattle.mps_local.specs.Local.{LocalType};

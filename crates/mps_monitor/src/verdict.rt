@@ -1,5 +1,5 @@
 //! Whether what a role expects allows a command, or why not.
-ghost use Rattle.std.specs.Prelude.{◌≡◌, ◌<◌, ◌↔◌, ℕ, List, None, Some, Ok, IfOk, OnOk, IfErr, IsTrue, length};
+ghost use Rattle.std.specs.Prelude.{◌≡◌, ◌↔◌, ℕ, List, None, Some, Ok, IfOk, OnOk, IfErr, IsTrue};
 ghost use Rattle.std.specs.Option.{option_copied};
 ghost use Rattle.mps_base.specs.declared.action.Act.TheVariants as acts;
 ghost use Rattle.mps_base.specs.declared.action.Message.TheVariants as messages;
