@@ -14,7 +14,7 @@ use Rattle.mps_local.specs.Actions.{Head, Ends, Sends, Receives, Chooses, Picks,
 use Rattle.mps_local.specs.Local.{LocalType, Branches, End, Send, Recv, Select, Branch}
 use Rattle.mps_machine.specs.Rule.{type_after}
 use Rattle.mps_machine.specs.Violations.{is_label_of, waiting_fault, act_fault}
-use Rattle.mps_monitor.specs.Verdicts.{labels_of, place_of, IsLeft, GoesOn, ending, one_of, Suits, IsVerdict}
+use Rattle.mps_monitor.specs.Verdicts.{labels_of, place_of, IsLeft, GoesOn, IsOffered, ending, one_of, Suits, IsVerdict}
 use Rattle.mps_monitor.specs.declared.verdict.Advance.{Advance}
 use Rattle.mps_monitor.specs.declared.verdict.Advance.TheVariants.{Stay, Next, Into}
 use Rattle.mps_monitor.proofs.Labels.{LeadsTo, leads, same_labels}
@@ -168,13 +168,11 @@ moves_on h act (Some (Label l)) (Ok Next) v e = v.1
 moves_on h act (Some (Label l)) (Ok (Into k)) v e = cc
 moves_on h act m (Err fault) v e = cc
 
--- where no choice is expected, it goes into no branch
-pub no_branch : (peer : ℕ) (sort : Sort) (act : Act) (m : Option Message) (r : Result Advance Violation) → IsVerdict (Receives peer sort) act m r → (k : ℕ) → r ≡ Ok (Into k) → ⊥
-no_branch peer sort act m (Err fault) v k e = cc
-no_branch peer sort act None (Ok a) v k e = v.1
-no_branch peer sort act (Some (Plain w)) (Ok Stay) v k e = v.1
-no_branch peer sort act (Some (Plain w)) (Ok Next) v k e = cc
-no_branch peer sort act (Some (Plain w)) (Ok (Into j)) v k e = v.1
-no_branch peer sort act (Some (Label l)) (Ok Stay) v k e = v.1
-no_branch peer sort act (Some (Label l)) (Ok Next) v k e = v.1
-no_branch peer sort act (Some (Label l)) (Ok (Into j)) v k e = let none = v.1 in cc
+-- where a value is expected, it goes into no branch
+pub value_offered : (peer : ℕ) (sort : Sort) (act : Act) (m : Option Message) (r : Result Advance Violation) → IsVerdict (Receives peer sort) act m r → IfOk r (λ a. IsOffered a (Receives peer sort))
+value_offered peer sort act m (Err fault) v = tt
+value_offered peer sort act m (Ok Stay) v = tt
+value_offered peer sort act m (Ok Next) v = tt
+value_offered peer sort act None (Ok (Into k)) v = v.1
+value_offered peer sort act (Some (Plain w)) (Ok (Into k)) v = v.1
+value_offered peer sort act (Some (Label l)) (Ok (Into k)) v = let none = v.1 in absurd cc

@@ -1,5 +1,5 @@
 -- What a role's type says of a command.
-use Rattle.std.specs.Prelude.{◌≡◌, ℕ, Bool, true, false, List, [], ◌∷◌, Option, Some, None, option_and_then, Result, Ok, Err, IsSome}
+use Rattle.std.specs.Prelude.{◌≡◌, ℕ, Bool, true, false, List, [], ◌∷◌, Option, Some, None, option_and_then, Result, Ok, Err, IsSome, ⊤}
 use Rattle.std.specs.List.{position}
 use Rattle.std.specs.Str.{bytes_eq}
 use Rattle.mps_base.specs.declared.action.Act.{Act}
@@ -14,6 +14,7 @@ use Rattle.mps_local.specs.Local.{LocalType, Branches, End, Send, Recv, Select, 
 use Rattle.mps_machine.specs.Rule.{first_of, type_after}
 use Rattle.mps_machine.specs.View.{View}
 use Rattle.mps_machine.specs.Violations.{act_fault}
+use Rattle.mps_table.specs.Expects.{Allows}
 use Rattle.mps_monitor.specs.declared.verdict.Advance.{Advance}
 use Rattle.mps_monitor.specs.declared.verdict.Advance.TheVariants.{Stay, Next, Into}
 
@@ -61,6 +62,12 @@ abbrev pub GoesOn : Advance → LocalType → Act → Option Message → Type 0
 GoesOn Stay t act m = (name : List ℕ) × (act ≡ acts.Mark name)
 GoesOn Next t act m = IsLeft t act m None
 GoesOn (Into k) t act m = IsLeft t act m (Some k)
+
+-- a type that begins so lets a role go on in that way: a mark always may be, and else what the type allows may follow
+abbrev pub IsOffered : Advance → Head → Type 0
+IsOffered Stay h = ⊤
+IsOffered Next h = Allows None h
+IsOffered (Into k) h = Allows (Some k) h
 
 -- branches of these labels, each of which ends
 abbrev pub ending : List (List ℕ) → Branches

@@ -1,6 +1,8 @@
 use super::*;
-use mps_base::{Message, Name, Role, Sort, Value};
-use mps_table::Expect;
+use mps_base::{Message, Name, Role, Sort, Value, VarName};
+use mps_local::{Branches, Local};
+use mps_table::{Expect, Table, compile};
+use std::alloc::Global;
 use std::test::Fail;
 
 // The peer that the type names, and another one.
@@ -213,5 +215,52 @@ fn takes_the_first_of_labels_that_are_the_same(rt: HostRuntime) -> Result<(), Fa
     let answer = judged(Kind::Chooses, &[], &choose(B, "no")?, None);
     assert_eq!(rt; answer, Err(Violation::NoLabel));
     the_machine_moves_the_same();
+    Ok(())
+}
+
+// `rec X . choose b { ok : send b int . X, no : recv b bool . end, more : X }`.
+fn in_turns(alloc: Global) -> Result<Table, Fail> {
+    let (b, x) = (Role::new(B), VarName::read(b"X").ok_or("a variable")?);
+    let [ok, no, more] = labels()?;
+    let sent = Local::send(alloc, b, Sort::Int, Local::Var(x))?;
+    let taken = Local::recv(alloc, b, Sort::Bool, Local::End)?;
+    let last = Branches::more(alloc, more, Local::Var(x), Branches::NoMore)?;
+    let last = Branches::more(alloc, no, taken, last)?;
+    let branches = Branches::more(alloc, ok, sent, last)?;
+    let body = Local::Select { peer: b, branches };
+    Ok(compile(alloc, &Local::rec(alloc, x, body)?)?)
+}
+
+// A command, the message that waits first, and why it is not allowed.
+type Asked = (Forward, Option<Message>, Option<Violation>);
+
+#[test]
+fn goes_on_in_a_loop(rt: HostRuntime) -> Result<(), Fail> {
+    let table = in_turns(rt.alloc())?;
+    let rows: [Asked; 13] = [
+        (send(B, Value::Int(1)), None, Some(Violation::WrongAct)),
+        (choose(B, "okay")?, None, Some(Violation::NoLabel)),
+        (choose(B, "ok")?, None, None),
+        (choose(B, "ok")?, None, Some(Violation::WrongAct)),
+        (mark()?, None, None),
+        (send(B, Value::Int(1)), None, None),
+        (choose(B, "more")?, None, None),
+        (choose(B, "more")?, None, None),
+        (choose(B, "no")?, None, None),
+        (receive(B)?, int(), Some(Violation::Mismatch)),
+        (receive(B)?, truth(), None),
+        (mark()?, None, None),
+        (choose(B, "ok")?, None, Some(Violation::Ended)),
+    ];
+    let mut node = table.first();
+    for (command, first, fault) in rows {
+        match next_node(&table, node, &command, first.as_ref()) {
+            Ok(next) => {
+                assert_eq!(rt; fault, None);
+                node = next;
+            }
+            Err(violation) => assert_eq!(rt; fault, Some(violation)),
+        }
+    }
     Ok(())
 }

@@ -1,5 +1,5 @@
 //! Whether what a role expects allows a command, or why not.
-ghost use Rattle.std.specs.Prelude.{◌≡◌, ◌<◌, ◌↔◌, ℕ, List, None, Some, Ok, IfOk, OnOk, IfErr, IsTrue, length};
+ghost use Rattle.std.specs.Prelude.{◌≡◌, ◌↔◌, ℕ, List, None, Some, Ok, IfOk, OnOk, IfErr, IsTrue};
 ghost use Rattle.std.specs.Option.{option_copied};
 ghost use Rattle.mps_base.specs.declared.action.Act.TheVariants as acts;
 ghost use Rattle.mps_base.specs.declared.action.Message.TheVariants as messages;
@@ -11,7 +11,7 @@ ghost use Rattle.mps_machine.specs.Rule.{moved};
 ghost use Rattle.mps_machine.specs.View.{View};
 ghost use Rattle.mps_machine.specs.Violations.{act_fault};
 ghost use Rattle.mps_table.specs.Expects.{head_of};
-ghost use Rattle.mps_monitor.specs.Verdicts.{moved_by, peer_of, waiting_from, is_mark, labels_of, place_of, GoesOn, IsVerdict};
+ghost use Rattle.mps_monitor.specs.Verdicts.{moved_by, peer_of, waiting_from, is_mark, place_of, GoesOn, IsOffered, IsVerdict};
 
 use mps_base::{Message, Name, Role, Sort, Value};
 use mps_command::{Forward, Violation};
@@ -48,9 +48,7 @@ pub fn judge(
         → Begins (head_of expected.entry) t
         → GoesOn a t (act_of command.now) (moved_by command.now (option_copied first.entry))) }
     ensures stay { (result ≡ Ok Advance.Stay) ↔ IsTrue (is_mark command.now) }
-    // The place is that of a label that is expected.
-    ensures place { (k : ℕ) → result ≡ Ok (Advance.Into k)
-        → k < length (labels_of (head_of expected.entry)) }
+    ensures offered { IfOk result (λ a. IsOffered a (head_of expected.entry)) }
 {
     match command {
         Forward::Mark { .. } => Ok(Advance::Stay),

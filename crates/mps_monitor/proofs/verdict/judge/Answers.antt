@@ -3,7 +3,7 @@ use Rattle.std.specs.Option.{option_copied}
 use Rattle.mps_base.specs.declared.action.Act.TheVariants.{Out, In}
 use Rattle.mps_base.specs.declared.action.Message.TheVariants.{Label}
 use Rattle.mps_local.specs.Actions.{Receives, Chooses, Picks}
-use Rattle.mps_monitor.proofs.Judged.{violated, allowed, goes_on, moves_on, no_branch}
+use Rattle.mps_monitor.proofs.Judged.{violated, allowed, goes_on, moves_on, value_offered}
 use Rattle.mps_monitor.proofs.verdict.judge.Goals as goal
 
 pub returns-in-Select-clause-violation : goal.returns-in-Select-clause-violation
@@ -35,9 +35,10 @@ returns-in-Recv-clause-stay c =
     rw c.in-Receive.is
     ((λ e. absurd (moves_on (Receives c.in-Recv.peer c.in-Recv.sort) (In c.in-Receive.from (Some c.in-Receive.slot)) (option_copied c.args.first) c.judge_receipt.result (c.judge_receipt.ensures c.in-Receive.slot) e)), λ e. absurd cc)
 
-pub returns-in-Recv-clause-place : goal.returns-in-Recv-clause-place
-returns-in-Recv-clause-place c =
-    λ k e. absurd (no_branch c.in-Recv.peer c.in-Recv.sort (In c.in-Receive.from (Some c.in-Receive.slot)) (option_copied c.args.first) c.judge_receipt.result (c.judge_receipt.ensures c.in-Receive.slot) k e)
+pub returns-in-Recv-clause-offered : goal.returns-in-Recv-clause-offered
+returns-in-Recv-clause-offered c =
+    rw c.in-Recv.is
+    (value_offered c.in-Recv.peer c.in-Recv.sort (In c.in-Receive.from (Some c.in-Receive.slot)) (option_copied c.args.first) c.judge_receipt.result (c.judge_receipt.ensures c.in-Receive.slot))
 
 pub returns-in-Branch-clause-violation : goal.returns-in-Branch-clause-violation
 returns-in-Branch-clause-violation c =
