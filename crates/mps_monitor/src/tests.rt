@@ -1,5 +1,5 @@
 use super::*;
-use mps_base::{Message, Name, Role, Sort, Value, VarName};
+use mps_base::{Message, Name, Role, Sort, Text, Value, VarName};
 use mps_local::{Branches, Local};
 use mps_table::{Expect, Table, compile};
 use std::alloc::Global;
@@ -156,6 +156,47 @@ fn takes_what_is_expected(rt: HostRuntime) -> Result<(), Fail> {
     Ok(())
 }
 
+// A text.
+fn text(alloc: Global) -> Result<Value, Fail> {
+    let mut bytes = Vec::new(alloc);
+    bytes.extend_from_slice(b"so be it")?;
+    Ok(Value::Text(Text::new(bytes).ok_or("a text")?))
+}
+
+#[test]
+fn passes_values_of_each_sort(rt: HostRuntime) -> Result<(), Fail> {
+    let passed = Ok(Advance::Next);
+    let alloc = rt.alloc();
+    let words = Some(Message::Value(text(alloc)?));
+    let sent = [
+        (Sort::Text, send(B, text(alloc)?), passed),
+        (Sort::Bool, send(B, Value::Bool(false)), passed),
+        (Sort::Int, send(B, text(alloc)?), Err(Violation::WrongSort)),
+        (Sort::Bool, send(B, text(alloc)?), Err(Violation::WrongSort)),
+        (
+            Sort::Text,
+            send(B, Value::Int(0)),
+            Err(Violation::WrongSort),
+        ),
+    ];
+    for (sort, command, answer) in sent {
+        assert_eq!(rt; judged(Kind::Gives(sort), &[], &command, None), answer);
+    }
+    let taken = [
+        (Sort::Text, words.as_ref(), passed),
+        (Sort::Bool, words.as_ref(), Err(Violation::Mismatch)),
+        (Sort::Int, words.as_ref(), Err(Violation::Mismatch)),
+    ];
+    for (sort, first, answer) in taken {
+        assert_eq!(rt; judged(Kind::Takes(sort), &[], &receive(B)?, first), answer);
+    }
+    assert_eq!(rt;
+        judged(Kind::Takes(Sort::Bool), &[], &receive(B)?, truth().as_ref()),
+        passed
+    );
+    Ok(())
+}
+
 #[test]
 fn chooses_among_labels(rt: HostRuntime) -> Result<(), Fail> {
     let labels = labels()?;
@@ -231,6 +272,22 @@ fn in_turns(alloc: Global) -> Result<Table, Fail> {
     Ok(compile(alloc, &Local::rec(alloc, x, body)?)?)
 }
 
+// `pick c { ok : send b int . end, no : send c bool . end }`.
+fn answered(alloc: Global) -> Result<Table, Fail> {
+    let [ok, no, _] = labels()?;
+    let first = Local::send(alloc, Role::new(B), Sort::Int, Local::End)?;
+    let second = Local::send(alloc, Role::new(C), Sort::Bool, Local::End)?;
+    let last = Branches::more(alloc, no, second, Branches::NoMore)?;
+    let branches = Branches::more(alloc, ok, first, last)?;
+    Ok(compile(
+        alloc,
+        &Local::Branch {
+            peer: Role::new(C),
+            branches,
+        },
+    )?)
+}
+
 // A command, the message that waits first, and why it is not allowed.
 type Asked = (Forward, Option<Message>, Option<Violation>);
 
@@ -262,5 +319,22 @@ fn goes_on_in_a_loop(rt: HostRuntime) -> Result<(), Fail> {
             Err(violation) => assert_eq!(rt; fault, Some(violation)),
         }
     }
+    Ok(())
+}
+
+#[test]
+fn goes_into_the_branch_of_the_label(rt: HostRuntime) -> Result<(), Fail> {
+    let table = answered(rt.alloc())?;
+    let first = table.first();
+    let other = next_node(&table, first, &pick(C), label("more")?.as_ref());
+    assert_eq!(rt; other.err(), Some(Violation::Mismatch));
+    let picked = next_node(&table, first, &pick(C), label("no")?.as_ref());
+    let node = picked.ok().ok_or("a node")?;
+    let wrong = next_node(&table, node, &send(B, Value::Bool(true)), None);
+    assert_eq!(rt; wrong.err(), Some(Violation::WrongPeer));
+    let sent = next_node(&table, node, &send(C, Value::Bool(true)), None);
+    let last = sent.ok().ok_or("a node")?;
+    let more = next_node(&table, last, &pick(C), label("no")?.as_ref());
+    assert_eq!(rt; more.err(), Some(Violation::Ended));
     Ok(())
 }

@@ -347,3 +347,36 @@ fn refuses_what_has_a_fault(rt: HostRuntime) -> Result<(), Fail> {
     );
     Ok(())
 }
+
+#[test]
+fn names_the_fault_of_a_choice(rt: HostRuntime) -> Result<(), Fail> {
+    let alloc = rt.alloc();
+    let peer = role(b'b');
+    let none = Local::Select {
+        peer,
+        branches: Branches::NoMore,
+    };
+    assert_eq!(rt; compile(alloc, &none).err(), Some(LocalFault::NoBranches));
+    // The choice comes before what is below it.
+    let branches = two(&rt, alloc, "l", var(&rt, "X"), "l", Local::End)?;
+    let double = Local::Branch { peer, branches };
+    assert_eq!(rt;
+        compile(alloc, &double).err(),
+        Some(LocalFault::DoubleLabel)
+    );
+    let letters = *b"abcdefghijklmnopq";
+    let mut branches = Branches::NoMore;
+    for k in 0..17usize {
+        let label = name(&rt, &letters[k..k + 1]);
+        branches = Branches::more(alloc, label, Local::End, branches)?;
+    }
+    let wide = Local::Branch { peer, branches };
+    assert_eq!(rt;
+        compile(alloc, &wide).err(),
+        Some(LocalFault::TooManyBranches)
+    );
+    let inner = Local::rec(alloc, variable(&rt, "X"), var(&rt, "X"))?;
+    let shadowed = Local::rec(alloc, variable(&rt, "X"), inner)?;
+    assert_eq!(rt; compile(alloc, &shadowed).err(), Some(LocalFault::Shadowed));
+    Ok(())
+}
