@@ -1,7 +1,7 @@
 -- The size of a tree, and the list of its nodes.
-use Rattle.std.proofs.Common.{◌≡◌, ◌+◌, ◌<◌, max, List, [], ◌∷◌, ◌++◌, length, map, length-append, refl, arith}
+use Rattle.std.proofs.Common.{◌≡◌, ℕ, ◌+◌, ◌<◌, max, List, [], ◌∷◌, ◌++◌, length, map, length-append, refl, arith}
 use Rattle.mps_global.specs.Global.{GlobalType, Branches, End, Var, Rec, Message, Choice, NoMore, More}
-use Rattle.mps_global.specs.Faults.{Place, node_count, branch_nodes, depth, branch_depth, places, branch_places, level, greatest}
+use Rattle.mps_global.specs.Faults.{node_count, branch_nodes, depth, branch_depth, places, branch_places, level, greatest}
 
 -- a tree has a node
 pub some_node : (tree : GlobalType) → 0 < node_count tree
@@ -35,9 +35,9 @@ mutual
       omega (arith, as_many above next, branches_as_many above others, length-append (places above next) (branch_places above others))
 
 -- the greatest of two lists is that of both
-greatest_of_both : (ps qs : List Place) → greatest (map level (ps ++ qs)) ≡ max (greatest (map level ps)) (greatest (map level qs))
-greatest_of_both [] qs = omega arith
-greatest_of_both (p ∷ ps) qs = omega (arith, greatest_of_both ps qs)
+pub greatest_of_both : {P : Type 0} (f : P → ℕ) (ps qs : List P) → greatest (map f (ps ++ qs)) ≡ max (greatest (map f ps)) (greatest (map f qs))
+greatest_of_both f [] qs = omega arith
+greatest_of_both f (p ∷ ps) qs = omega (arith, greatest_of_both f ps qs)
 
 mutual
   -- below so many nodes, the deepest node stands so much deeper
@@ -53,4 +53,4 @@ mutual
   branches_as_deep : (above : List GlobalType) (branches : Branches) → max (length above) (greatest (map level (branch_places above branches))) ≡ length above + branch_depth branches
   branches_as_deep above NoMore = omega arith
   branches_as_deep above (More label next others) =
-      omega (arith, as_deep above next, branches_as_deep above others, greatest_of_both (places above next) (branch_places above others))
+      omega (arith, as_deep above next, branches_as_deep above others, greatest_of_both level (places above next) (branch_places above others))

@@ -13,6 +13,7 @@ pub mod Merging
 pub mod Filling
 pub mod Sizes
 pub mod Faulty
+pub mod Told
 pub mod Silence
 pub mod Looping
 pub mod Faultless

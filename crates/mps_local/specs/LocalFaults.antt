@@ -1,5 +1,5 @@
 -- What is wrong with a local type. The limits and the order of faults are this project's.
-use Rattle.std.specs.Prelude.{ℕ, Bool, true, false, ◌==◌, not, List, [], ◌∷◌, ◌++◌, length, nat_lt, Option, flat_map, take_while}
+use Rattle.std.specs.Prelude.{ℕ, ◌+◌, Bool, true, false, ◌==◌, not, List, [], ◌∷◌, ◌++◌, length, nat_lt, Option, flat_map, take_while}
 use Rattle.std.specs.List.{list_any}
 use Rattle.std.specs.Str.{bytes_eq}
 use Rattle.mps_global.specs.Faults.{has_double, first_true}
@@ -32,6 +32,10 @@ abbrev mutual
   pub branch_places : List LocalType → Branches → List Place
   branch_places above NoMore = []
   branch_places above (More label next others) = places above next ++ branch_places above others
+
+-- how many nodes stand on the path from the root to a node, with both
+abbrev pub level : Place → ℕ
+level p = length p.above + 1
 
 -- whether the node is the `rec` of that variable
 abbrev pub binds : List ℕ → LocalType → Bool

@@ -1,15 +1,16 @@
 //! Which local types are well-formed.
-ghost use Rattle.std.specs.Prelude.{◌≡◌, ◌+◌, ◌<◌, ◌≤◌, ◌↔◌, ℕ, List, [], None, Some, true, IsTrue, MatchOption, length, nat_lt};
-ghost use Rattle.mps_global.specs.Faults.{is_among, has_double, first_true, fault_of};
+ghost use Rattle.std.specs.Prelude.{◌≡◌, ◌≢◌, ◌+◌, ◌<◌, ◌≤◌, ◌↔◌, ℕ, List, [], None, Some, true, IsTrue, MatchOption, length, map, nat_lt};
+ghost use Rattle.mps_global.specs.Faults.{is_among, has_double, greatest, first_true, fault_of};
 ghost use Rattle.mps_global.specs.Global.{GlobalType};
 ghost use Rattle.mps_local.specs.Local.{LocalType, plain, plain_branches};
 ghost use Rattle.mps_local.specs.Actions.{labels};
 ghost use Rattle.mps_local.specs.Loops.{is_closed, is_guarded, is_unshadowed, is_labelled};
 ghost use Rattle.mps_local.specs.Shape.{node_count, branch_nodes, depth, branch_depth};
 ghost use Rattle.mps_local.specs.Projection.{projection};
-ghost use Rattle.mps_local.specs.LocalFaults.{places, branch_places, binds, is_guard, is_bound, is_unguarded};
+ghost use Rattle.mps_local.specs.LocalFaults.{places, branch_places, level, binds, is_guard, is_bound, is_unguarded};
 ghost use Rattle.mps_local.specs.LocalFaults.{label_tests, variable_tests, rec_tests, node_tests, fault_at, local_fault_of};
 ghost use Rattle.mps_local.specs.Above.{nodes_above};
+ghost use Rattle.mps_local.specs.declared.faults.LocalFault.{LocalFault as Fault};
 
 use crate::{Branches, Local};
 use mps_base::{Name, VarName};
@@ -85,6 +86,16 @@ pub fn local_fault_laws()
     ensures no_other { (t : LocalType) → is_closed [] t ≡ true → is_guarded t ≡ true
         → is_unshadowed [] t ≡ true → is_labelled t ≡ true
         → node_count t ≤ 256 → depth t ≤ 64 → local_fault_of t ≡ None }
+
+    // Room for a type is no matter of the type.
+    ensures memory { (t : LocalType) → local_fault_of t ≢ Some Fault.Memory }
+{}
+
+/// The size of a type by the list of its nodes: it has as many nodes as stand there, and is as deep
+/// as the deepest of them stands.
+pub fn local_size_laws()
+    ensures nodes { (t : LocalType) → length (places [] t) ≡ node_count t }
+    ensures levels { (t : LocalType) → greatest (map level (places [] t)) ≡ depth t }
 {}
 
 /// What a role does in a protocol without faults has no fault.

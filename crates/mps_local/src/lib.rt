@@ -18,7 +18,9 @@ mod walking;
 mod writing;
 
 pub use examples::{worked_actions, worked_projections};
-pub use faults::{LocalFault, first_fault, local_fault_laws, projections_have_no_fault};
+pub use faults::{
+    LocalFault, first_fault, local_fault_laws, local_size_laws, projections_have_no_fault,
+};
 pub use laws::{labels_lead, merging_is_equality, same_is_equality, unmerged_is_named};
 use mps_base::{Name, Role, Sort, VarName};
 pub use projection::{ProjectFault, project, projection_laws};

@@ -1,4 +1,5 @@
 use Rattle.mps_local.proofs.Faultless.{fine_so, limits_so, faultless_so}
+use Rattle.mps_local.proofs.Told.{no_memory}
 use Rattle.mps_local.proofs.faults.local_fault_laws.Goals as goal
 
 pub returns-clause-closed : goal.returns-clause-closed
@@ -18,3 +19,6 @@ returns-clause-limits c = limits_so
 
 pub returns-clause-no_other : goal.returns-clause-no_other
 returns-clause-no_other c = faultless_so
+
+pub returns-clause-memory : goal.returns-clause-memory
+returns-clause-memory c = no_memory
