@@ -1,7 +1,9 @@
+use crate::tests::{name, variable};
 use crate::{
-    Branches, Local, LocalFault, first_fault, local_fault_laws, projections_have_no_fault,
+    Branches, Local, LocalFault, first_fault, local_fault_laws, local_size_laws,
+    projections_have_no_fault,
 };
-use mps_base::{Name, Role, Sort, VarName};
+use mps_base::{Role, Sort};
 use std::alloc;
 use std::process::Abort;
 use std::test::Fail;
@@ -16,16 +18,6 @@ enum Part<'a> {
     // the last of the labels goes on, each other one ends
     Chooses(&'a [&'a str]),
     Picks(&'a [&'a str]),
-}
-
-// The name of these letters.
-fn name(rt: &impl Abort, letters: &str) -> Name {
-    Name::read(letters.as_bytes()).expect(rt, "a name")
-}
-
-// The variable of these letters.
-fn variable(rt: &impl Abort, letters: &str) -> VarName {
-    VarName::read(letters.as_bytes()).expect(rt, "a variable")
 }
 
 // Branches of these labels, of which the last goes on with `next`.
@@ -82,13 +74,24 @@ fn chain(
     Ok(body)
 }
 
-// So many outputs in front of `next`.
-fn sends(rt: &impl Abort, alloc: alloc::Global, count: u32, next: Local) -> Result<Local, Fail> {
+// So many of the part in front of `next`.
+fn many(
+    rt: &impl Abort,
+    alloc: alloc::Global,
+    count: u32,
+    part: &Part<'_>,
+    next: Local,
+) -> Result<Local, Fail> {
     let mut body = next;
     for _ in 0..count {
-        body = in_front(rt, alloc, &Part::Sends, body)?;
+        body = in_front(rt, alloc, part, body)?;
     }
     Ok(body)
+}
+
+// So many outputs in front of `next`.
+fn sends(rt: &impl Abort, alloc: alloc::Global, count: u32, next: Local) -> Result<Local, Fail> {
+    many(rt, alloc, count, &Part::Sends, next)
 }
 
 const LABELS: [&str; 17] = [
@@ -165,14 +168,46 @@ fn names_the_first_fault_in_preorder(rt: HostRuntime) -> Result<(), Fail> {
             assert_eq!(rt; first_fault(&t), Some(fault));
         }
     }
-    // a choice with a label twice, in which a variable is unbound
-    let inner = chain(
-        &rt,
-        alloc,
-        &[Part::Chooses(&["l", "l"]), Part::Var("X")],
-        Local::End,
-    )?;
-    assert_eq!(rt; first_fault(&inner), Some(LocalFault::DoubleLabel));
+    // a `rec` or a choice with a fault, and another fault below it
+    let rows: [(&[Part<'_>], LocalFault); 7] = [
+        (
+            &[Part::Chooses(&["l", "l"]), Part::Var("X")],
+            LocalFault::DoubleLabel,
+        ),
+        (
+            &[Part::Picks(&["l", "l"]), Part::Var("X")],
+            LocalFault::DoubleLabel,
+        ),
+        (
+            &[Part::Picks(&LABELS), Part::Chooses(&["l", "l"])],
+            LocalFault::TooManyBranches,
+        ),
+        (
+            &[Part::Rec("X"), Part::Picks(&LABELS), Part::Rec("X")],
+            LocalFault::TooManyBranches,
+        ),
+        (
+            &[
+                Part::Rec("X"),
+                Part::Takes,
+                Part::Rec("X"),
+                Part::Chooses(&[]),
+            ],
+            LocalFault::Shadowed,
+        ),
+        (
+            &[Part::Rec("X"), Part::Rec("X"), Part::Var("X")],
+            LocalFault::Shadowed,
+        ),
+        (
+            &[Part::Rec("X"), Part::Sends, Part::Rec("X"), Part::Var("Y")],
+            LocalFault::Shadowed,
+        ),
+    ];
+    for (parts, fault) in rows {
+        let t = chain(&rt, alloc, parts, Local::End)?;
+        assert_eq!(rt; first_fault(&t), Some(fault));
+    }
     Ok(())
 }
 
@@ -195,6 +230,61 @@ fn names_the_limits_first(rt: HostRuntime) -> Result<(), Fail> {
         let t = sends(&rt, alloc, count, Local::End)?;
         assert_eq!(rt; first_fault(&t), answer);
     }
+    Ok(())
+}
+
+// A choice of three labels, of which the one in that place has so many outputs behind it, and each
+// other one ends.
+fn uneven(rt: &impl Abort, alloc: alloc::Global, place: usize, count: u32) -> Result<Local, Fail> {
+    let mut branches = Branches::NoMore;
+    for k in (0..3usize).rev() {
+        let below = if k == place { count } else { 0 };
+        let next = sends(rt, alloc, below, Local::End)?;
+        branches = Branches::more(alloc, name(rt, LABELS[k]), next, branches)?;
+    }
+    let peer = Role::new(1);
+    Ok(Local::Select { peer, branches })
+}
+
+// The choice and the end are two nodes of the path.
+#[test]
+fn goes_down_the_deepest_branch(rt: HostRuntime) -> Result<(), Fail> {
+    for place in 0..3usize {
+        let deep = uneven(&rt, rt.alloc(), place, 62)?;
+        assert_eq!(rt; first_fault(&deep), None);
+        let deeper = uneven(&rt, rt.alloc(), place, 63)?;
+        assert_eq!(rt; first_fault(&deeper), Some(LocalFault::TooDeep));
+    }
+    Ok(())
+}
+
+// A choice of 16 labels. Behind 15 of them stands a loop of 14 inputs, which has 16 nodes, and
+// behind the last one a loop of so many.
+fn loops(rt: &impl Abort, alloc: alloc::Global, last: u32) -> Result<Local, Fail> {
+    let mut branches = Branches::NoMore;
+    for k in (0..16usize).rev() {
+        let count = if k == 15 { last } else { 14 };
+        let body = many(
+            rt,
+            alloc,
+            count,
+            &Part::Takes,
+            Local::Var(variable(rt, "X")),
+        )?;
+        let next = Local::rec(alloc, variable(rt, "X"), body)?;
+        branches = Branches::more(alloc, name(rt, LABELS[k]), next, branches)?;
+    }
+    let peer = Role::new(1);
+    Ok(Local::Branch { peer, branches })
+}
+
+// With the choice and 15 loops, which have 241 nodes, a loop of 13 inputs makes 256.
+#[test]
+fn counts_each_node(rt: HostRuntime) -> Result<(), Fail> {
+    let alloc = rt.alloc();
+    assert_eq!(rt; first_fault(&loops(&rt, alloc, 13)?), None);
+    let more = first_fault(&loops(&rt, alloc, 14)?);
+    assert_eq!(rt; more, Some(LocalFault::TooManyNodes));
     Ok(())
 }
 
@@ -222,6 +312,7 @@ fn finds_no_fault(rt: HostRuntime) -> Result<(), Fail> {
         assert_eq!(rt; first_fault(&t), None);
     }
     local_fault_laws();
+    local_size_laws();
     projections_have_no_fault();
     Ok(())
 }
@@ -229,8 +320,10 @@ fn finds_no_fault(rt: HostRuntime) -> Result<(), Fail> {
 #[test]
 fn checks_types_of_any_size(rt: HostRuntime) -> Result<(), Fail> {
     let (alloc, peer, label) = (rt.alloc(), Role::new(9), name(&rt, "l"));
-    let long = sends(&rt, alloc, 1_000_000, Local::Var(variable(&rt, "X")))?;
-    assert_eq!(rt; first_fault(&long), Some(LocalFault::TooManyNodes));
+    for part in [Part::Sends, Part::Takes, Part::Rec("X")] {
+        let long = many(&rt, alloc, 1_000_000, &part, Local::Var(variable(&rt, "Y")))?;
+        assert_eq!(rt; first_fault(&long), Some(LocalFault::TooManyNodes));
+    }
     let mut branches = Branches::NoMore;
     for _ in 0..100_000 {
         branches = Branches::more(alloc, label, Local::End, branches)?;

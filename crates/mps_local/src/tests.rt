@@ -21,12 +21,12 @@ enum Part<'a> {
 }
 
 // The name of these letters.
-fn name(rt: &impl Abort, letters: &str) -> Name {
+pub(crate) fn name(rt: &impl Abort, letters: &str) -> Name {
     Name::read(letters.as_bytes()).expect(rt, "a name")
 }
 
 // The variable of these letters.
-fn variable(rt: &impl Abort, letters: &str) -> VarName {
+pub(crate) fn variable(rt: &impl Abort, letters: &str) -> VarName {
     VarName::read(letters.as_bytes()).expect(rt, "a variable")
 }
 
