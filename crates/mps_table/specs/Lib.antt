@@ -3,3 +3,4 @@ pub mod Standing
 pub mod Laying
 pub mod Drafts
 pub mod Expects
+pub mod Sizes

@@ -1,10 +1,11 @@
 //! Tables of local types.
-ghost use Rattle.std.specs.Prelude.{◌≡◌, ◌≤◌, true, [], None, Some, Err, IfOk, OnOk, IsOkUnless};
+ghost use Rattle.std.specs.Prelude.{◌≡◌, ◌≤◌, true, [], None, Some, Err, IfOk, OnOk, IsOkUnless, length};
 ghost use Rattle.mps_local.specs.Local.{plain};
 ghost use Rattle.mps_local.specs.Shape.{node_count};
 ghost use Rattle.mps_local.specs.Loops.{is_closed, is_guarded};
 ghost use Rattle.mps_local.specs.LocalFaults.{local_fault_of};
 ghost use Rattle.mps_local.specs.declared.faults.LocalFault.{LocalFault};
+ghost use Rattle.mps_table.specs.Sizes.{acts_and_ends, labels_of_choices};
 ghost use Rattle.mps_table.specs.Standing.{StandsFor};
 
 use crate::laying::{Draft, laid_out};
@@ -15,6 +16,10 @@ use std::alloc::{AllocError, Global};
 /// The table of a local type, or the type's first fault. The type may be of any size.
 pub fn compile(alloc: Global, tree: &Local) -> Result<Table, LocalFault>
     ensures table { IfOk result (λ table. StandsFor table table.first (plain tree.now)) }
+    ensures entries { IfOk result
+        (λ table. length table.entries ≡ length (acts_and_ends (plain tree.now))) }
+    ensures labels { IfOk result
+        (λ table. length table.labels ≡ length (labels_of_choices (plain tree.now))) }
     ensures ok { OnOk result (local_fault_of (plain tree.now) ≡ None) }
     ensures fault { (fault : LocalFault) → local_fault_of (plain tree.now) ≡ Some fault
         → result ≡ Err fault }
@@ -35,7 +40,11 @@ fn table_of(alloc: Global, tree: &Local) -> Result<Table, AllocError>
     requires few { node_count (plain tree.now) ≤ 256 }
     requires closed { is_closed [] (plain tree.now) ≡ true }
     requires guarded { is_guarded (plain tree.now) ≡ true }
-    ensures { IfOk result (λ table. StandsFor table table.first (plain tree.now)) }
+    ensures table { IfOk result (λ table. StandsFor table table.first (plain tree.now)) }
+    ensures entries { IfOk result
+        (λ table. length table.entries ≡ length (acts_and_ends (plain tree.now))) }
+    ensures labels { IfOk result
+        (λ table. length table.labels ≡ length (labels_of_choices (plain tree.now))) }
 {
     let (draft, first) = laid_out(alloc, tree)?;
     let Draft {

@@ -6,6 +6,7 @@ use mps_base::Sort::{self, Bool, Int, Text};
 use mps_base::{Name, Role, VarName};
 use mps_local::{Branches, Local, LocalFault};
 use std::alloc::{AllocError, Global};
+use std::mem;
 use std::process::Abort;
 use std::test::Fail;
 
@@ -308,6 +309,96 @@ fn shows_a_wide_choice(rt: HostRuntime) -> Result<(), Fail> {
         shown(alloc, &table, &[Some(16)])?.as_slice(),
         b"".as_slice()
     );
+    Ok(())
+}
+
+// Sixteen labels behind the eighth of sixteen; behind each other one an output.
+#[test]
+fn shows_a_wide_choice_below_another(rt: HostRuntime) -> Result<(), Fail> {
+    let alloc = rt.alloc();
+    let (mut inner, mut outer) = (Branches::NoMore, Branches::NoMore);
+    for k in (0..16usize).rev() {
+        let next = Local::recv(alloc, role(LETTERS[k % 8]), SORTS[k % 3], Local::End)?;
+        inner = Branches::more(alloc, name(&rt, &LETTERS[k..k + 1]), next, inner)?;
+    }
+    let mut below = Local::Branch {
+        peer: role(b'g'),
+        branches: inner,
+    };
+    for k in (0..16usize).rev() {
+        let mut next = Local::send(alloc, role(LETTERS[k % 8]), SORTS[k % 3], Local::End)?;
+        if k == 7 {
+            mem::swap(&mut next, &mut below);
+        }
+        outer = Branches::more(alloc, name(&rt, &LETTERS[k..k + 1]), next, outer)?;
+    }
+    let choice = Local::Select {
+        peer: role(b'h'),
+        branches: outer,
+    };
+    let table = compile(alloc, &choice)?;
+    let rows: [(&[Option<usize>], &[u8]); 12] = [
+        (&[], b"choose h a b c d e f g h i j k l m n o p"),
+        (&[Some(0)], b"send a int"),
+        (&[Some(6)], b"send g int"),
+        (&[Some(7)], b"pick g a b c d e f g h i j k l m n o p"),
+        (&[Some(8)], b"send a text"),
+        (&[Some(15)], b"send h int"),
+        (&[Some(16)], b""),
+        (&[Some(7), Some(0)], b"recv a int"),
+        (&[Some(7), Some(7)], b"recv h bool"),
+        (&[Some(7), Some(15)], b"recv h int"),
+        (&[Some(7), Some(15), None], b"end"),
+        (&[Some(7), Some(16)], b""),
+    ];
+    for (choices, text) in rows {
+        assert_eq!(rt; shown(alloc, &table, choices)?.as_slice(), text);
+    }
+    Ok(())
+}
+
+// A choice of five labels. Behind the last stand so many inputs and behind each other one 50, all
+// of one sort, and then the end.
+fn five_chains(rt: &impl Abort, alloc: Global, last: usize) -> Result<Local, AllocError> {
+    let mut branches = Branches::NoMore;
+    for k in (0..5usize).rev() {
+        let count = if k == 4 { last } else { 50 };
+        let mut next = Local::End;
+        for _ in 0..count {
+            next = Local::recv(alloc, role(LETTERS[k]), SORTS[k % 3], next)?;
+        }
+        branches = Branches::more(alloc, name(rt, &LETTERS[k..k + 1]), next, branches)?;
+    }
+    let peer = role(b'b');
+    Ok(Local::Select { peer, branches })
+}
+
+// The choice and five times 51 nodes make 256.
+#[test]
+fn walks_a_type_of_256_nodes_to_its_end(rt: HostRuntime) -> Result<(), Fail> {
+    let alloc = rt.alloc();
+    let table = compile(alloc, &five_chains(&rt, alloc, 50)?)?;
+    let texts: [&[u8]; 5] = [
+        b"recv a int",
+        b"recv b bool",
+        b"recv c text",
+        b"recv d int",
+        b"recv e bool",
+    ];
+    for (k, text) in texts.iter().enumerate() {
+        let mut way = [None; 51];
+        way[0] = Some(k);
+        for count in 1..51usize {
+            assert_eq!(rt; shown(alloc, &table, &way[..count])?.as_slice(), *text);
+        }
+        assert_eq!(rt; shown(alloc, &table, &way)?.as_slice(), b"end".as_slice());
+    }
+    assert_eq!(rt;
+        shown(alloc, &table, &[Some(5)])?.as_slice(),
+        b"".as_slice()
+    );
+    let more = compile(alloc, &five_chains(&rt, alloc, 51)?).err();
+    assert_eq!(rt; more, Some(LocalFault::TooManyNodes));
     Ok(())
 }
 
