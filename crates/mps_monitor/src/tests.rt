@@ -79,7 +79,17 @@ fn judged(
     command: &Forward,
     first: Option<&Message>,
 ) -> Result<Advance, Violation> {
-    let peer = Role::new(B);
+    judged_with(Role::new(B), kind, labels, command, first)
+}
+
+// The same of a type with that peer.
+fn judged_with(
+    peer: Role,
+    kind: Kind,
+    labels: &[Name],
+    command: &Forward,
+    first: Option<&Message>,
+) -> Result<Advance, Violation> {
     let expected = match kind {
         Kind::End => Expect::End,
         Kind::Gives(sort) => Expect::Send(peer, sort),
@@ -256,6 +266,119 @@ fn takes_the_first_of_labels_that_are_the_same(rt: HostRuntime) -> Result<(), Fa
     let answer = judged(Kind::Chooses, &[], &choose(B, "no")?, None);
     assert_eq!(rt; answer, Err(Violation::NoLabel));
     the_machine_moves_the_same();
+    Ok(())
+}
+
+// Whether the peers of a type and of a command are the same, or else a command with that peer is
+// refused for it.
+#[test]
+fn tells_eight_roles_apart(rt: HostRuntime) -> Result<(), Fail> {
+    let labels = labels()?;
+    for peer in 0..8u8 {
+        for other in 0..8u8 {
+            let rows: [(Kind, Forward, Option<Message>, Advance); 4] = [
+                (
+                    Kind::Gives(Sort::Int),
+                    send(other, Value::Int(1)),
+                    None,
+                    Advance::Next,
+                ),
+                (
+                    Kind::Takes(Sort::Int),
+                    receive(other)?,
+                    int(),
+                    Advance::Next,
+                ),
+                (Kind::Chooses, choose(other, "no")?, None, Advance::Into(1)),
+                (Kind::Picks, pick(other), label("no")?, Advance::Into(1)),
+            ];
+            for (kind, command, first, advance) in rows {
+                let answer = judged_with(Role::new(peer), kind, &labels, &command, first.as_ref());
+                let wanted = if peer == other {
+                    Ok(advance)
+                } else {
+                    Err(Violation::WrongPeer)
+                };
+                assert_eq!(rt; answer, wanted);
+            }
+        }
+    }
+    Ok(())
+}
+
+const SIXTEEN: [&str; 16] = [
+    "l1", "l2", "l3", "l4", "l5", "l6", "l7", "l8", "l9", "l10", "l11", "l12", "l13", "l14", "l15",
+    "l16",
+];
+
+// The names of these letters.
+fn names(alloc: Global, texts: &[&str]) -> Result<Vec<Name>, Fail> {
+    let mut names = Vec::new(alloc);
+    for text in texts {
+        names.push(name(text)?)?;
+    }
+    Ok(names)
+}
+
+#[test]
+fn judges_a_choice_of_sixteen_labels(rt: HostRuntime) -> Result<(), Fail> {
+    let labels = names(rt.alloc(), &SIXTEEN)?;
+    let rows: [(&str, Option<usize>); 6] = [
+        ("l1", Some(0)),
+        ("l2", Some(1)),
+        ("l15", Some(14)),
+        ("l16", Some(15)),
+        ("l17", None),
+        ("l", None),
+    ];
+    for (text, place) in rows {
+        let into = place.map(Advance::Into);
+        let chosen = judged(Kind::Chooses, &labels, &choose(B, text)?, None);
+        assert_eq!(rt; chosen, into.ok_or(Violation::NoLabel));
+        let picked = judged(Kind::Picks, &labels, &pick(B), label(text)?.as_ref());
+        assert_eq!(rt; picked, into.ok_or(Violation::Mismatch));
+    }
+    Ok(())
+}
+
+// Sixteen branches: behind each label an output to the role of its place, among eight.
+fn sixteen_branches(alloc: Global) -> Result<Branches, Fail> {
+    let mut branches = Branches::NoMore;
+    for k in (0..16u8).rev() {
+        let next = Local::send(alloc, Role::new(k % 8), Sort::Int, Local::End)?;
+        let label = name(SIXTEEN[usize::from(k)])?;
+        branches = Branches::more(alloc, label, next, branches)?;
+    }
+    Ok(branches)
+}
+
+#[test]
+fn goes_into_the_first_and_the_last_of_sixteen(rt: HostRuntime) -> Result<(), Fail> {
+    let alloc = rt.alloc();
+    let peer = Role::new(B);
+    let chooses = Local::Select {
+        peer,
+        branches: sixteen_branches(alloc)?,
+    };
+    let picks = Local::Branch {
+        peer,
+        branches: sixteen_branches(alloc)?,
+    };
+    let (chooses, picks) = (compile(alloc, &chooses)?, compile(alloc, &picks)?);
+    for (text, to) in [("l1", 0), ("l8", 7), ("l9", 0), ("l16", 7)] {
+        let chosen = next_node(&chooses, chooses.first(), &choose(B, text)?, None);
+        let node = chosen.ok().ok_or("a node")?;
+        let wrong = next_node(&chooses, node, &send(7 - to, Value::Int(1)), None);
+        assert_eq!(rt; wrong.err(), Some(Violation::WrongPeer));
+        let sent = next_node(&chooses, node, &send(to, Value::Int(1)), None);
+        assert_eq!(rt; sent.err(), None);
+        let picked = next_node(&picks, picks.first(), &pick(B), label(text)?.as_ref());
+        let node = picked.ok().ok_or("a node")?;
+        let wrong = next_node(&picks, node, &send(7 - to, Value::Int(1)), None);
+        assert_eq!(rt; wrong.err(), Some(Violation::WrongPeer));
+        let sent = next_node(&picks, node, &send(to, Value::Int(1)), None);
+        assert_eq!(rt; sent.err(), None);
+    }
     Ok(())
 }
 
