@@ -1,48 +1,54 @@
--- What a session keeps after an accepted send or receipt is what the view has then.
+-- What a session keeps after an accepted act is what the view has then.
 use Rattle.std.proofs.Common.{◌≡◌, ◌≢◌, ℕ, zero, suc, ◌+◌, ◌*◌, ◌<◌, ◌≤◌, Bool, true, false, List, [], ◌∷◌, ◌++◌, length, drop, get_or, set, replicate, Option, Some, None, refl, sym, ap, ◌∙◌, subst, arith, ⊎_elim, eq-eqb}
-use Rattle.std.specs.Prelude.{◌==◌, ◌&&◌, unwrap_or}
-use Rattle.std.specs.Option.{option_map}
+use Rattle.std.specs.Prelude.{◌==◌, ◌&&◌, unwrap_or, IsSome}
 use mathlib.Core.Path.{ap₂}
+use Rattle.std.proofs.Math.Nat.{mul-le-mul_right}
 use Rattle.std.proofs.lemmas.Bool.{cases_Bool, cases_eq, cases_lt, cond-true, cond-false, and_from, ne_eqb, eqb-true, eqb-false}
 use Rattle.std.proofs.lemmas.List.{get_or-set_same, get_or-set_other, length-set, length-replicate}
 use Rattle.std.proofs.lemmas.Nat.{mul-add-lt, same_from_place}
+use Rattle.mps_base.specs.RoleLists.{HasRoleCount}
 use Rattle.mps_base.specs.declared.action.Act.{Act}
 use Rattle.mps_base.specs.declared.action.Act.TheVariants.{Out, In, Mark}
 use Rattle.mps_base.specs.declared.action.Message.{Message}
-use Rattle.mps_base.specs.declared.action.Message.TheVariants.{Value as Plain, Label}
 use Rattle.mps_base.specs.declared.action.Step.{Step}
-use Rattle.mps_base.specs.declared.value.Value.{Value}
-use Rattle.mps_local.specs.Local.{LocalType, Send, Recv, rest_of}
 use Rattle.mps_history.specs.Steps.{sends, receives}
+use Rattle.mps_local.specs.Local.{LocalType}
 use Rattle.mps_local.specs.Unfolding.{unfolded}
-use Rattle.mps_machine.specs.View.{Store, Participant, View, bound, opening, type_at}
-use Rattle.mps_base.specs.Sorts.{fits}
-use Rattle.mps_machine.specs.Rule.{first_of, moved, type_after, advanced, participant_after, store_after, queue_after, view_after, replay}
-use Rattle.mps_machine.specs.Violations.{act_fault, violation}
-use Rattle.mps_machine.specs.Machine.{State, initial, view_of, accepted, IsSound}
-use Rattle.mps_machine.proofs.Stepping.{rule_from, replay_from, replay-append}
+use Rattle.mps_local.specs.Shape.{IsOtherRole}
+use Rattle.mps_machine.specs.View.{Store, Deed, Participant, View, opening, type_at}
+use Rattle.mps_machine.specs.Rule.{first_of, moved, type_after, advanced, participant_after, store_after, queue_after, view_after, rule, replay}
+use Rattle.mps_machine.specs.Violations.{violation}
+use Rattle.mps_machine.specs.Machine.{State, initial, most_numbers, view_of, accepted, IsSound}
+use Rattle.mps_machine.proofs.Defined.{allowed_step}
+use Rattle.mps_machine.proofs.Stepping.{map_some, rule_parts, rule_from, replay-append, replay_from, a_receipt_finds}
 use Rattle.mps_machine.proofs.Sound.{view_is, initial_sound, accepted_sound}
-use Rattle.mps_base.specs.RoleLists.{HasRoleCount}
-use Rattle.mps_session.specs.Peers.{HasPeers}
-use Rattle.mps_session.specs.Held.{Holds}
-use Rattle.mps_session.proofs.Types.{type_at-set_same, type_at-set_other}
+use Rattle.mps_table.specs.Standing.{StandsFor}
+use Rattle.mps_session.specs.Configurations.{Configuration, position_of, store_of, queue_of, state_of, IsWhole, moved_in, IsReady, queues_after, acted}
+use Rattle.mps_session.specs.Cursors.{Position, nowhere, went}
+use Rattle.mps_session.specs.Held.{IsOf, ArePositions, AreStores, AreQueues, Holds}
+use Rattle.mps_session.specs.Opening.{IsStart, AreStarts, IsOpening}
+use Rattle.mps_session.specs.Peers.{HasPeers, HavePeers}
+use Rattle.mps_session.proofs.Peers.{Speaks, after_peers}
 
--- the view after an allowed step
-pub accepted_view : (types : List LocalType) (st : State) (p : ℕ) (act : Act) (c : Participant) → IsSound types st → participant_after ((view_of types st.history).participant p) act (moved (view_of types st.history) p act) ≡ Some c → view_of types (accepted st p act).history ≡ view_after (view_of types st.history) (record { id = st.next; role = p; act = act }) c
-accepted_view types st p act c ok e =
-    let s : Step = record { id = st.next; role = p; act = act } in
-    let v = view_of types st.history in
-    let replayed : replay (opening types) st.history ≡ Some v = ok.replayed ∙ ap Some (sym (view_is types st ok)) in
-    ap (λ (o : Option View). unwrap_or o (opening types))
-    (replay-append (opening types) v st.history (s ∷ []) replayed ∙ replay_from v (view_after v s c) s [] (rule_from v s c e))
-
--- what is kept for each role after a step: new at the role of the step, and as it was at the others
+-- what stands for each role after a step: new at the role of the step, and as it was at the others
 by_role : {A : Type 0} (f : Participant → A) (v : View) (s : Step) (c : Participant) (new : ℕ → A) → new s.role ≡ f c → ((r : ℕ) → r ≢ s.role → new r ≡ f (v.participant r)) → (r : ℕ) → new r ≡ f ((view_after v s c).participant r)
 by_role f v s c new here others r =
     ⊎_elim
     (λ (y : (r == s.role) ≡ true). ap new (eqb-true r s.role y) ∙ here ∙ ap f (sym (cond-true (r == s.role) c (v.participant r) y)))
     (λ (n : (r == s.role) ≡ false). others r (eqb-false r s.role n) ∙ ap f (sym (cond-false (r == s.role) c (v.participant r) n)))
     (cases_Bool (r == s.role))
+
+-- the same of a fact
+fact_by_role : (P : ℕ → Participant → Type 0) (v : View) (s : Step) (c : Participant) (r : ℕ) → P s.role c → (r ≢ s.role → P r (v.participant r)) → P r ((view_after v s c).participant r)
+fact_by_role P v s c r here others =
+    ⊎_elim
+    (λ (y : (r == s.role) ≡ true). subst (P r) (sym (cond-true (r == s.role) c (v.participant r) y)) (subst (λ (k : ℕ). P k c) (sym (eqb-true r s.role y)) here))
+    (λ (n : (r == s.role) ≡ false). subst (P r) (sym (cond-false (r == s.role) c (v.participant r) n)) (others (eqb-false r s.role n)))
+    (cases_Bool (r == s.role))
+
+and_false : (b : Bool) → (b && false) ≡ false
+and_false true = refl
+and_false false = refl
 
 -- a queue that the step has nothing to do with
 untouched : (a b : ℕ) (s : Step) (q : List Message) → sends a b s ≡ false → receives a b s ≡ false → queue_after a b s q ≡ q
@@ -52,9 +58,15 @@ untouched a b s q no_send no_receipt = rw no_send (rw no_receipt refl)
 taken_here : (a b : ℕ) (s : Step) (q : List Message) → sends a b s ≡ false → receives a b s ≡ true → queue_after a b s q ≡ drop 1 q
 taken_here a b s q no_send receipt = rw no_send (rw receipt refl)
 
-and_false : (b : Bool) → (b && false) ≡ false
-and_false true = refl
-and_false false = refl
+-- one of two tests fails where not both numbers are the same
+not_this : (p q a b : ℕ) → ((a ≡ p) × (b ≡ q) → ⊥) → (p == a && q == b) ≡ false
+not_this p q a b apart =
+    ⊎_elim
+    (λ (y : (p == a) ≡ true).
+    let e : (q == b) ≡ false = ne_eqb q b (λ k. apart (sym (eqb-true p a y), sym k)) in
+    rw y e)
+    (λ (n : (p == a) ≡ false). rw n refl)
+    (cases_Bool (p == a))
 
 -- the queues that are kept, after one is written
 by_pair : (v : View) (s : Step) (waiting : List (List Message)) (n p q : ℕ) (new : List Message) → p < n → q < n → length waiting ≡ n * n → ((a b : ℕ) → a < n → b < n → get_or waiting (a * n + b) [] ≡ v.queue a b) → new ≡ queue_after p q s (v.queue p q) → ((a b : ℕ) → ((a ≡ p) × (b ≡ q) → ⊥) → (sends a b s ≡ false) × (receives a b s ≡ false)) → (a b : ℕ) → a < n → b < n → get_or (set waiting (p * n + q) new) (a * n + b) [] ≡ queue_after a b s (v.queue a b)
@@ -69,209 +81,179 @@ by_pair v s waiting n p q new hp hq long was here others a b ha hb =
     get_or-set_other waiting (p * n + q) (a * n + b) new [] ne ∙ was a b ha hb ∙ sym (untouched a b s (v.queue a b) off.0 off.1))
     (cases_eq (a * n + b) (p * n + q))
 
--- a queue between others than roles of the session, after a step from one of its roles to another
-still_empty : (n p q a b : ℕ) (v : View) (s : Step) → p < n → q < n → ((a b : ℕ) → ((a ≡ p) × (b ≡ q) → ⊥) → (sends a b s ≡ false) × (receives a b s ≡ false)) → (a < n → b < n → ⊥) → v.queue a b ≡ [] → queue_after a b s (v.queue a b) ≡ []
-still_empty n p q a b v s hp hq others apart empty =
-    let off = others a b (λ k. apart (subst (λ (x : ℕ). x < n) (sym k.0) hp) (subst (λ (x : ℕ). x < n) (sym k.1) hq)) in
-    untouched a b s (v.queue a b) off.0 off.1 ∙ empty
+-- the same, where one queue of roles of the session is written, and the step has to do with that alone
+written : (v : View) (s : Step) (c : Participant) (waiting : List (List Message)) (n p q : ℕ) (new : List Message) → p < n → q < n → AreQueues n waiting v → new ≡ queue_after p q s (v.queue p q) → ((a b : ℕ) → ((a ≡ p) × (b ≡ q) → ⊥) → (sends a b s ≡ false) × (receives a b s ≡ false)) → AreQueues n (set waiting (p * n + q) new) (view_after v s c)
+written v s c waiting n p q new hp hq was here others = record {
+  long = length-set waiting (p * n + q) new ∙ was.long;
+  each = by_pair v s waiting n p q new hp hq was.long was.each here others;
+  strangers = λ a b apart.
+      let off = others a b (λ k. apart (subst (λ (x : ℕ). x < n) (sym k.0) hp) (subst (λ (x : ℕ). x < n) (sym k.1) hq)) in
+      untouched a b s (v.queue a b) off.0 off.1 ∙ was.strangers a b apart;
+}
 
--- an allowed send goes to the peer that the type names
-pub send_allowed : (t : LocalType) (to : ℕ) (x : Value) (m : Option Message) (n p : ℕ) → HasPeers n p t → act_fault t (Out to (Plain x)) m ≡ None → (type_after t (Out to (Plain x)) m ≡ Some (rest_of t)) × (to < n) × HasPeers n p (rest_of t)
-send_allowed (Send peer sort t) to x m n p h e =
-    ⊎_elim
-    (λ (y : (to == peer) ≡ true).
-    ⊎_elim
-    (λ (z : fits x sort ≡ true).
-    let at : peer ≡ to = sym (eqb-true to peer y) in
-    (rw y (rw z refl), subst (λ (k : ℕ). k < n) at h.0.0, h.1))
-    (λ (z : fits x sort ≡ false). let e1 = rw y at e in let e2 = rw z at e1 in absurd cc)
-    (cases_Bool (fits x sort)))
-    (λ (f : (to == peer) ≡ false). let e1 = rw f at e in absurd cc)
-    (cases_Bool (to == peer))
-send_allowed t to x m n p h e = absurd cc
+-- a place past the last has nothing
+past_last : {A : Type 0} (xs : List A) (i : ℕ) (d : A) → length xs ≤ i → get_or xs i d ≡ d
+past_last [] i d h = refl
+past_last (x ∷ xs) zero d h = absurd (omega arith)
+past_last (x ∷ xs) (suc i) d h = past_last xs i d (omega arith)
 
--- one of two tests fails where not both numbers are the same
-pub not_this : (p q a b : ℕ) → ((a ≡ p) × (b ≡ q) → ⊥) → (p == a && q == b) ≡ false
-not_this p q a b apart =
-    ⊎_elim
-    (λ (y : (p == a) ≡ true).
-    let e : (q == b) ≡ false = ne_eqb q b (λ k. apart (sym (eqb-true p a y), sym k)) in
-    rw y e)
-    (λ (n : (p == a) ≡ false). rw n refl)
-    (cases_Bool (p == a))
+-- what stands at the place of an act's role, and in its store, after the act
+kept_after : (before after : Participant) (act : Act) (m : Option Message) → participant_after before act m ≡ Some after → (after.past ≡ before.past ++ record { act = act; moved = m } ∷ []) × (after.store ≡ store_after before.store act m)
+kept_after before after (Mark name) m e =
+    let is : advanced before (Mark name) m before.to_come ≡ after = cc in
+    (sym (ap (λ (x : Participant). x.past) is), sym (ap (λ (x : Participant). x.store) is))
+kept_after before after (Out to x) m e =
+    let k = map_some (advanced before (Out to x) m) (type_after (unfolded before.to_come) (Out to x) m) after e in
+    (sym (ap (λ (x : Participant). x.past) k.2), sym (ap (λ (x : Participant). x.store) k.2))
+kept_after before after (In from slot) m e =
+    let k = map_some (advanced before (In from slot) m) (type_after (unfolded before.to_come) (In from slot) m) after e in
+    (sym (ap (λ (x : Participant). x.past) k.2), sym (ap (λ (x : Participant). x.store) k.2))
 
--- an allowed receipt comes from the peer that the type names, and takes a value
-pub receipt_allowed : (t : LocalType) (from : ℕ) (slot : List ℕ) (m : Option Message) (n p : ℕ) → HasPeers n p t → act_fault t (In from (Some slot)) m ≡ None → (x : Value) × (m ≡ Some (Plain x)) × (type_after t (In from (Some slot)) m ≡ Some (rest_of t)) × (from < n) × HasPeers n p (rest_of t)
-receipt_allowed (Recv peer sort t) from slot None n p h e =
-    ⊎_elim (λ (y : (from == peer) ≡ true). let e1 = rw y at e in absurd cc) (λ (f : (from == peer) ≡ false). let e1 = rw f at e in absurd cc) (cases_Bool (from == peer))
-receipt_allowed (Recv peer sort t) from slot (Some (Label l)) n p h e =
-    ⊎_elim (λ (y : (from == peer) ≡ true). let e1 = rw y at e in absurd cc) (λ (f : (from == peer) ≡ false). let e1 = rw f at e in absurd cc) (cases_Bool (from == peer))
-receipt_allowed (Recv peer sort t) from slot (Some (Plain x)) n p h e =
-    ⊎_elim
-    (λ (y : (from == peer) ≡ true).
-    ⊎_elim
-    (λ (z : fits x sort ≡ true).
-    let at : peer ≡ from = sym (eqb-true from peer y) in
-    (x, refl, rw y (rw z refl), subst (λ (k : ℕ). k < n) at h.0.0, h.1))
-    (λ (z : fits x sort ≡ false). let e1 = rw y at e in let e2 = rw z at e1 in absurd cc)
-    (cases_Bool (fits x sort)))
-    (λ (f : (from == peer) ≡ false). let e1 = rw f at e in absurd cc)
-    (cases_Bool (from == peer))
-receipt_allowed t from slot m n p h e = absurd cc
+first_is_some : (queue : List Message) → 0 < length queue → IsSome (first_of queue)
+first_is_some [] h = absurd (omega arith)
+first_is_some (m ∷ queue) h = refl
 
--- what waits from a role that the type doesn't name says nothing
-pub stranger_fault : (t : LocalType) (from : ℕ) (slot : List ℕ) (m1 m2 : Option Message) (n p : ℕ) → HasPeers n p t → n ≤ from → act_fault t (In from (Some slot)) m1 ≡ act_fault t (In from (Some slot)) m2
-stranger_fault (Recv peer sort t) from slot m1 m2 n p h far =
-    let within : peer < n = h.0.0 in
-    let f : (from == peer) ≡ false = ne_eqb from peer (λ e. omega arith) in
-    rw f refl
-stranger_fault t from slot m1 m2 n p h far = refl
+-- an allowed act names a role of the session, and finds the message that it takes
+ready_act : (c : Configuration) (n p : ℕ) (before after : Participant) (act : Act) → length c.positions ≡ n → Speaks (IsOtherRole n p) act → participant_after before act (moved_in c p act) ≡ Some after → IsReady c p act
+ready_act c n p before after (Out to m) many s e = omega (arith, many, s.0)
+ready_act c n p before after (In from slot) many s e =
+    (omega (arith, many, s.0), first_is_some (queue_of c from p) (a_receipt_finds before after (queue_of c from p) from slot e))
+ready_act c n p before after (Mark name) many s e = tt
 
-module _ (types coming : List LocalType) (kept : List Store) (waiting : List (List Message)) (st : State) (holds : Holds types coming kept waiting st) where
-  -- the act that is looked at by the type kept for the role is looked at by the view
-  pub same_fault : (p : ℕ) (act : Act) → unfolded (type_at coming p) ≡ type_at coming p → violation (view_of types st.history) p act ≡ act_fault (type_at coming p) act (moved (view_of types st.history) p act)
-  same_fault p act plain_type =
-      ap (λ (t : LocalType). act_fault t act (moved (view_of types st.history) p act)) (ap unfolded (sym (holds.to_come.each p)) ∙ plain_type)
+-- the queues after an act
+queues_then : (c : Configuration) (n p id : ℕ) (v : View) (after : Participant) (act : Act) → length c.positions ≡ n → p < n → Speaks (IsOtherRole n p) act → AreQueues n c.queues v → AreQueues n (queues_after c p act) (view_after v (record { id = id; role = p; act = act }) after)
+queues_then c n p id v after (Out to m) many less k was =
+    let s : Step = record { id = id; role = p; act = Out to m } in
+    let here = ap (λ (l : List Message). l ++ m ∷ []) (was.each p to less k.0)
+    ∙ sym (cond-true (sends p to s) (v.queue p to ++ m ∷ []) _ (and_from (p == p) (to == to) (eq-eqb p p refl) (eq-eqb to to refl))) in
+    subst (λ (x : ℕ). AreQueues n (set c.queues (p * x + to) (get_or c.queues (p * x + to) [] ++ m ∷ [])) (view_after v s after)) (sym many)
+    (written v s after c.queues n p to (get_or c.queues (p * n + to) [] ++ m ∷ []) less k.0 was here (λ a b apart. (not_this p to a b apart, and_false (p == b))))
+queues_then c n p id v after (In from slot) many less k was =
+    let s : Step = record { id = id; role = p; act = In from slot } in
+    let here = ap (drop 1) (was.each from p k.0 less)
+    ∙ sym (taken_here from p s (v.queue from p) (and_false (p == from)) (and_from (p == p) (from == from) (eq-eqb p p refl) (eq-eqb from from refl))) in
+    subst (λ (x : ℕ). AreQueues n (set c.queues (from * x + p) (drop 1 (get_or c.queues (from * x + p) []))) (view_after v s after)) (sym many)
+    (written v s after c.queues n from p (drop 1 (get_or c.queues (from * n + p) [])) k.0 less was here (λ a b apart. (and_false (p == a), not_this p from b a (λ e. apart (e.1, e.0)))))
+queues_then c n p id v after (Mark name) many less k was =
+    let s : Step = record { id = id; role = p; act = Mark name } in
+    let elsewhere : (a b : ℕ) → queue_after a b s (v.queue a b) ≡ v.queue a b = λ a b. untouched a b s (v.queue a b) (and_false (p == a)) (and_false (p == b)) in
+    record {
+      long = was.long;
+      each = λ a b ha hb. was.each a b ha hb ∙ sym (elsewhere a b);
+      strangers = λ a b apart. elsewhere a b ∙ was.strangers a b apart;
+    }
 
-  -- a receipt is judged by the queue that is kept
-  pub receipt_fault : (q from : ℕ) (slot : List ℕ) → q < length types → unfolded (type_at coming q) ≡ type_at coming q → violation (view_of types st.history) q (In from (Some slot)) ≡ act_fault (type_at coming q) (In from (Some slot)) (first_of (get_or waiting (from * length types + q) []))
-  receipt_fault q from slot within plain_type =
-      same_fault q (In from (Some slot)) plain_type
+module _ (types : List LocalType) (c : Configuration) (holds : Holds types c) where
+  abbrev n : ℕ
+  n = length types
+
+  abbrev v : View
+  v = view_of types c.history
+
+  many : length c.positions ≡ n
+  many = holds.positions.long
+
+  pub whole : IsWhole c
+  whole = record {
+    few = omega (arith, many, holds.roles.few);
+    stores = holds.stores.long ∙ sym many;
+    queues = holds.queues.long ∙ ap₂ (λ (x y : ℕ). x * y) (sym many) (sym many);
+  }
+
+  -- what waits for a role is what is kept, whoever sent it
+  queue_is : (p q : ℕ) → q < n → queue_of c p q ≡ v.queue p q
+  queue_is p q less =
+      ap (λ (k : ℕ). get_or c.queues (p * k + q) []) many
       ∙ ⊎_elim
-      (λ (near : from < length types). ap (λ (l : List Message). act_fault (type_at coming q) (In from (Some slot)) (first_of l)) (sym (holds.queues.each from q near within)))
-      (λ (far : length types ≤ from). stranger_fault (type_at coming q) from slot _ _ (length types) q (holds.to_come.peers q within) far)
-      (cases_lt from (length types))
+      (λ (near : p < n). holds.queues.each p q near less)
+      (λ (far : n ≤ p).
+      let beyond : length c.queues ≤ p * n + q = omega (arith, holds.queues.long, mul-le-mul_right {m = n} {n = p} n far) in
+      past_last c.queues (p * n + q) [] beyond
+      ∙ sym (holds.queues.strangers p q (λ near other. absurd (omega (arith, near, far)))))
+      (cases_lt p n)
 
-  -- after a mark
-  pub marked_holds : (p : ℕ) (name : List ℕ) → Holds types coming kept waiting (accepted st p (Mark name))
-  marked_holds p name =
-      let act : Act = Mark name in
-      let s : Step = record { id = st.next; role = p; act = act } in
-      let v = view_of types st.history in
-      let c = advanced (v.participant p) act None (v.participant p).to_come in
-      let is = accepted_view types st p act c holds.sound refl in
-      let elsewhere : (a b : ℕ) → queue_after a b s (v.queue a b) ≡ v.queue a b = λ a b. untouched a b s (v.queue a b) (and_false (p == a)) (and_false (p == b)) in
-      record {
-        sound = accepted_sound types st p act holds.sound refl;
-        roles = holds.roles;
-        to_come = record {
-          long = holds.to_come.long;
-          peers = holds.to_come.peers;
-          each = λ r. by_role (λ k. k.to_come) v s c (type_at coming) (holds.to_come.each p) (λ k ne. holds.to_come.each k) r ∙ ap (λ (w : View). (w.participant r).to_come) (sym is);
-        };
-        stores = record {
-          long = holds.stores.long;
-          each = λ r. by_role (λ k. k.store) v s c (λ k. get_or kept k []) (holds.stores.each p) (λ k ne. holds.stores.each k) r ∙ ap (λ (w : View). (w.participant r).store) (sym is);
-        };
-        queues = record {
-          long = holds.queues.long;
-          each = λ a b ha hb. holds.queues.each a b ha hb ∙ sym (elsewhere a b) ∙ ap (λ (w : View). w.queue a b) (sym is);
-          strangers = λ a b apart. ap (λ (w : View). w.queue a b) is ∙ elsewhere a b ∙ holds.queues.strangers a b apart;
-        };
-      }
+  -- so an act moves the message that it moves in the view
+  pub moves_the_same : (p : ℕ) (act : Act) → p < n → moved_in c p act ≡ moved v p act
+  moves_the_same p (Out to m) less = refl
+  moves_the_same p (In from slot) less = ap first_of (queue_is from p less)
+  moves_the_same p (Mark name) less = refl
 
-  module _ (p : ℕ) (within : p < length types) (plain_type : unfolded (type_at coming p) ≡ type_at coming p) where
-    after_act : (act : Act) (m : Option Message) → moved (view_of types st.history) p act ≡ m → type_after (type_at coming p) act m ≡ Some (rest_of (type_at coming p)) → type_after (unfolded ((view_of types st.history).participant p).to_come) act (moved (view_of types st.history) p act) ≡ Some (rest_of (type_at coming p))
-    after_act act m is e =
-        ap (λ (t : LocalType). type_after t act (moved (view_of types st.history) p act)) (ap unfolded (sym (holds.to_come.each p)) ∙ plain_type)
-        ∙ ap (type_after (type_at coming p) act) is ∙ e
+  module _ (p : ℕ) (act : Act) (less : p < n) (fine : violation v p act ≡ None) where
+    abbrev step : Step
+    step = record { id = c.next; role = p; act = act }
 
-    still_peers : HasPeers (length types) p (rest_of (type_at coming p)) → (r : ℕ) → r < length types → HasPeers (length types) r (type_at (set coming p (rest_of (type_at coming p))) r)
-    still_peers h r less =
-        let long : p < length coming = omega (arith, holds.to_come.long) in
-        ⊎_elim
-        (λ (e : r ≡ p). subst (λ (k : ℕ). HasPeers (length types) k (type_at (set coming p (rest_of (type_at coming p))) k)) (sym e) (subst (HasPeers (length types) p) (sym (type_at-set_same coming p (rest_of (type_at coming p)) long)) h))
-        (λ (ne : r ≢ p). subst (HasPeers (length types) r) (sym (type_at-set_other coming p r (rest_of (type_at coming p)) ne)) (holds.to_come.peers r less))
-        (cases_eq r p)
+    -- the participant after the act
+    pub moves_on : (after : Participant) × (participant_after (v.participant p) act (moved_in c p act) ≡ Some after)
+    moves_on =
+        let k = allowed_step v step fine in
+        let parts = rule_parts v k.0 step k.1 in
+        (parts.0, subst (λ (m : Option Message). participant_after (v.participant p) act m ≡ Some parts.0) (sym (moves_the_same p act less)) parts.1)
 
-    -- after a send
-    pub sent_holds : (to : ℕ) (x : Value) → act_fault (type_at coming p) (Out to (Plain x)) (Some (Plain x)) ≡ None → Holds types (set coming p (rest_of (type_at coming p))) kept (set waiting (p * length types + to) (get_or waiting (p * length types + to) [] ++ Plain x ∷ [])) (accepted st p (Out to (Plain x)))
-    sent_holds to x fine =
-        let n = length types in
-        let act : Act = Out to (Plain x) in
-        let s : Step = record { id = st.next; role = p; act = act } in
-        let v = view_of types st.history in
-        let t = rest_of (type_at coming p) in
-        let allowed = send_allowed (type_at coming p) to x (Some (Plain x)) n p (holds.to_come.peers p within) fine in
-        let c = advanced (v.participant p) act (Some (Plain x)) t in
-        let step = ap (option_map (advanced (v.participant p) act (Some (Plain x)))) (after_act act (Some (Plain x)) refl allowed.0) in
-        let is = accepted_view types st p act c holds.sound step in
-        let long : p < length coming = omega (arith, holds.to_come.long) in
-        let place = mul-add-lt p n to n within allowed.1 in
-        let elsewhere : (a b : ℕ) → ((a ≡ p) × (b ≡ to) → ⊥) → (sends a b s ≡ false) × (receives a b s ≡ false) = λ a b apart. (not_this p to a b apart, and_false (p == b)) in
-        let inside : p * n + to < length waiting = omega (arith, holds.queues.long) in
-        record {
-          sound = accepted_sound types st p act holds.sound (same_fault p act plain_type ∙ fine);
-          roles = holds.roles;
-          to_come = record {
-            long = length-set {A = LocalType} coming p t ∙ holds.to_come.long;
-            peers = still_peers allowed.2;
-            each = λ r. by_role (λ k. k.to_come) v s c (type_at (set coming p t)) (type_at-set_same coming p t long) (λ k ne. type_at-set_other coming p k t ne ∙ holds.to_come.each k) r ∙ ap (λ (w : View). (w.participant r).to_come) (sym is);
-          };
-          stores = record {
-            long = holds.stores.long;
-            each = λ r. by_role (λ k. k.store) v s c (λ k. get_or kept k []) (holds.stores.each p) (λ k ne. holds.stores.each k) r ∙ ap (λ (w : View). (w.participant r).store) (sym is);
-          };
-          queues = record {
-            long = length-set waiting (p * n + to) (get_or waiting (p * n + to) [] ++ Plain x ∷ []) ∙ holds.queues.long;
-            each = λ a b ha hb.
-                by_pair v s waiting n p to (get_or waiting (p * n + to) [] ++ Plain x ∷ []) within allowed.1 holds.queues.long holds.queues.each
-                (ap (λ (l : List Message). l ++ Plain x ∷ []) (holds.queues.each p to within allowed.1)
-                ∙ sym (cond-true (sends p to s) _ _ (and_from (p == p) (to == to) (eq-eqb p p refl) (eq-eqb to to refl))))
-                elsewhere a b ha hb
-                ∙ ap (λ (w : View). w.queue a b) (sym is);
-            strangers = λ a b apart.
-                ap (λ (w : View). w.queue a b) is
-                ∙ still_empty n p to a b v s within allowed.1 elsewhere apart (holds.queues.strangers a b apart);
-          };
-        }
+  module _ (p : ℕ) (act : Act) (less : p < n) (fine : violation v p act ≡ None) (after : Participant) (moves : participant_after (v.participant p) act (moved_in c p act) ≡ Some after) where
+    abbrev then : Step
+    then = record { id = c.next; role = p; act = act }
 
-    -- after a receipt
-    pub received_holds : (from : ℕ) (slot : List ℕ) (x : Value) → act_fault (type_at coming p) (In from (Some slot)) (first_of (get_or waiting (from * length types + p) [])) ≡ None → first_of (get_or waiting (from * length types + p) []) ≡ Some (Plain x) → Holds types (set coming p (rest_of (type_at coming p))) (set kept p (bound slot x (get_or kept p []))) (set waiting (from * length types + p) (drop 1 (get_or waiting (from * length types + p) []))) (accepted st p (In from (Some slot)))
-    received_holds from slot x fine first =
-        let n = length types in
-        let act : Act = In from (Some slot) in
-        let s : Step = record { id = st.next; role = p; act = act } in
-        let v = view_of types st.history in
-        let t = rest_of (type_at coming p) in
-        let fine' : act_fault (type_at coming p) act (Some (Plain x)) ≡ None = ap (act_fault (type_at coming p) act) (sym first) ∙ fine in
-        let allowed = receipt_allowed (type_at coming p) from slot (Some (Plain x)) n p (holds.to_come.peers p within) fine' in
-        let waits = holds.queues.each from p allowed.3 within in
-        let is_moved : moved v p act ≡ Some (Plain x) = ap first_of (sym waits) ∙ first in
-        let c = advanced (v.participant p) act (moved v p act) t in
-        let step = ap (option_map (advanced (v.participant p) act (moved v p act))) (after_act act (Some (Plain x)) is_moved allowed.2) in
-        let is = accepted_view types st p act c holds.sound step in
-        let long : p < length coming = omega (arith, holds.to_come.long) in
-        let stored : p < length kept = omega (arith, holds.stores.long) in
-        let elsewhere : (a b : ℕ) → ((a ≡ from) × (b ≡ p) → ⊥) → (sends a b s ≡ false) × (receives a b s ≡ false) = λ a b apart. (and_false (p == a), not_this p from b a (λ k. apart (k.1, k.0))) in
-        record {
-          sound = accepted_sound types st p act holds.sound (receipt_fault p from slot within plain_type ∙ fine);
-          roles = holds.roles;
-          to_come = record {
-            long = length-set {A = LocalType} coming p t ∙ holds.to_come.long;
-            peers = still_peers allowed.4;
-            each = λ r. by_role (λ k. k.to_come) v s c (type_at (set coming p t)) (type_at-set_same coming p t long) (λ k ne. type_at-set_other coming p k t ne ∙ holds.to_come.each k) r ∙ ap (λ (w : View). (w.participant r).to_come) (sym is);
-          };
-          stores = record {
-            long = length-set {A = Store} kept p (bound slot x (get_or kept p [])) ∙ holds.stores.long;
+    stepped : participant_after (v.participant p) act (moved v p act) ≡ Some after
+    stepped = subst (λ (m : Option Message). participant_after (v.participant p) act m ≡ Some after) (moves_the_same p act less) moves
+
+    peers_then : Speaks (IsOtherRole n p) act × HasPeers n p after.to_come
+    peers_then = after_peers (IsOtherRole n p) (v.participant p) after act (moved v p act) (holds.positions.peers p less) stepped
+
+    pub ready : IsReady c p act
+    ready = ready_act c n p (v.participant p) after act many peers_then.0 moves
+
+    new_view : view_of types (c.history ++ then ∷ []) ≡ view_after v then after
+    new_view =
+        let replayed : replay (opening types) c.history ≡ Some v = holds.sound.replayed ∙ ap Some (sym (view_is types (state_of c) holds.sound)) in
+        ap (λ (o : Option View). unwrap_or o (opening types))
+        (replay-append (opening types) v c.history (then ∷ []) replayed ∙ replay_from v (view_after v then after) then [] (rule_from v then after stepped))
+
+    abbrev deed : Deed
+    deed = record { act = act; moved = moved_in c p act }
+
+    kept_then : (after.past ≡ (v.participant p).past ++ deed ∷ []) × (after.store ≡ store_after (v.participant p).store act (moved_in c p act))
+    kept_then = kept_after (v.participant p) after act (moved_in c p act) moves
+
+    module _ (node : ℕ) (stands : StandsFor (position_of c p).graph node after.to_come) where
+      abbrev new : Position
+      new = went node deed (position_of c p)
+
+      positions_then : ArePositions n (set c.positions p new) (view_after v then after)
+      positions_then =
+          let inside : p < length c.positions = omega (arith, many) in
+          let here : IsOf new after = record { stands = stands; past = ap (λ (l : List Deed). l ++ deed ∷ []) (holds.positions.each p less).past ∙ sym kept_then.0 } in
+          record {
+            long = length-set c.positions p new ∙ many;
+            peers = λ r within. fact_by_role (λ k part. HasPeers n k part.to_come) v then after r peers_then.1 (λ ne. holds.positions.peers r within);
+            each = λ r within.
+                fact_by_role (λ k part. IsOf (get_or (set c.positions p new) k nowhere) part) v then after r
+                (subst (λ (x : Position). IsOf x after) (sym (get_or-set_same c.positions p new nowhere inside)) here)
+                (λ ne. subst (λ (x : Position). IsOf x (v.participant r)) (sym (get_or-set_other c.positions p r new nowhere ne)) (holds.positions.each r within));
+          }
+
+      stores_then : AreStores n (set c.stores p (store_after (store_of c p) act (moved_in c p act))) (view_after v then after)
+      stores_then =
+          let inside : p < length c.stores = omega (arith, holds.stores.long) in
+          let kept = store_after (store_of c p) act (moved_in c p act) in
+          record {
+            long = length-set {A = Store} c.stores p kept ∙ holds.stores.long;
             each = λ r.
-                by_role (λ k. k.store) v s c (λ k. get_or (set kept p (bound slot x (get_or kept p []))) k [])
-                (get_or-set_same kept p (bound slot x (get_or kept p [])) [] stored ∙ ap (bound slot x) (holds.stores.each p) ∙ ap (store_after (v.participant p).store act) (sym is_moved))
-                (λ k ne. get_or-set_other kept p k (bound slot x (get_or kept p [])) [] ne ∙ holds.stores.each k) r
-                ∙ ap (λ (w : View). (w.participant r).store) (sym is);
-          };
-          queues = record {
-            long = length-set waiting (from * n + p) (drop 1 (get_or waiting (from * n + p) [])) ∙ holds.queues.long;
-            each = λ a b ha hb.
-                by_pair v s waiting n from p (drop 1 (get_or waiting (from * n + p) [])) allowed.3 within holds.queues.long holds.queues.each
-                (ap (drop 1) waits ∙ sym (taken_here from p s (v.queue from p) (and_false (p == from)) (and_from (p == p) (from == from) (eq-eqb p p refl) (eq-eqb from from refl))))
-                elsewhere a b ha hb
-                ∙ ap (λ (w : View). w.queue a b) (sym is);
-            strangers = λ a b apart.
-                ap (λ (w : View). w.queue a b) is
-                ∙ still_empty n from p a b v s allowed.3 within elsewhere apart (holds.queues.strangers a b apart);
-          };
-        }
+                by_role (λ part. part.store) v then after (λ k. get_or (set c.stores p kept) k [])
+                (get_or-set_same c.stores p kept [] inside ∙ ap (λ (l : Store). store_after l act (moved_in c p act)) (holds.stores.each p) ∙ sym kept_then.1)
+                (λ k ne. get_or-set_other c.stores p k kept [] ne ∙ holds.stores.each k) r;
+          }
+
+      -- what is kept after an allowed act is the view of the steps
+      pub acted_holds : c.next ≤ most_numbers → Holds types (acted p act node c)
+      acted_holds room = record {
+        sound = accepted_sound types (state_of c) p act holds.sound fine;
+        roles = holds.roles;
+        positions = subst (ArePositions n (set c.positions p new)) (sym new_view) positions_then;
+        stores = subst (AreStores n (set c.stores p (store_after (store_of c p) act (moved_in c p act)))) (sym new_view) stores_then;
+        queues = subst (AreQueues n (queues_after c p act)) (sym new_view) (queues_then c n p c.next v after act many less peers_then.0 holds.queues);
+        some = omega arith;
+        few = omega (arith, room);
+      }
 
 -- past the end of a list of one value there is that value too
 get_or-same : {A : Type 0} (n i : ℕ) (x : A) → get_or (replicate n x) i x ≡ x
@@ -279,16 +261,43 @@ get_or-same zero i x = refl
 get_or-same (suc n) zero x = refl
 get_or-same (suc n) (suc i) x = get_or-same n i x
 
+starts_long : (types : List LocalType) (positions : List Position) → AreStarts types positions → length positions ≡ length types
+starts_long [] [] a = refl
+starts_long [] (x ∷ positions) a = absurd a
+starts_long (t ∷ types) [] a = absurd a
+starts_long (t ∷ types) (x ∷ positions) a = ap suc (starts_long types positions a.1)
+
+start_at : (types : List LocalType) (positions : List Position) (p : ℕ) → AreStarts types positions → p < length types → IsStart (type_at types p) (get_or positions p nowhere)
+start_at [] positions p a h = absurd (omega arith)
+start_at (t ∷ types) [] p a h = absurd a
+start_at (t ∷ types) (x ∷ positions) zero a h = a.0
+start_at (t ∷ types) (x ∷ positions) (suc p) a h = start_at types positions p a.1 (omega arith)
+
 -- nothing was done yet
-pub opened_holds : (types : List LocalType) → HasRoleCount types → ((p : ℕ) → p < length types → HasPeers (length types) p (type_at types p)) → Holds types types (replicate (length types) []) (replicate (length types * length types) []) initial
-opened_holds types count peers = record {
-  sound = initial_sound types;
+pub opened_holds : (types : List LocalType) (c : Configuration) → HasRoleCount types → HavePeers types → IsOpening types c → Holds types c
+opened_holds types c count peers o = record {
+  sound = subst (IsSound types) (sym state) (initial_sound types);
   roles = count;
-  to_come = record { long = refl; peers = peers; each = λ p. refl };
-  stores = record { long = length-replicate (length types) []; each = λ p. get_or-same (length types) p [] };
-  queues = record {
-    long = length-replicate (length types * length types) [];
-    each = λ p q hp hq. get_or-same (length types * length types) (p * length types + q) [];
-    strangers = λ p q apart. refl;
-  };
+  positions = subst (λ (h : List Step). ArePositions (length types) c.positions (view_of types h)) (sym o.history)
+      (record {
+        long = starts_long types c.positions o.positions;
+        peers = peers;
+        each = λ p h. let s = start_at types c.positions p o.positions h in record { stands = s.stands; past = s.past };
+      });
+  stores = subst (λ (h : List Step). AreStores (length types) c.stores (view_of types h)) (sym o.history)
+      (record {
+        long = ap (λ (l : List Store). length l) o.stores ∙ length-replicate (length types) [];
+        each = λ p. ap (λ (l : List Store). get_or l p []) o.stores ∙ get_or-same (length types) p [];
+      });
+  queues = subst (λ (h : List Step). AreQueues (length types) c.queues (view_of types h)) (sym o.history)
+      (record {
+        long = ap (λ (l : List (List Message)). length l) o.queues ∙ length-replicate (length types * length types) [];
+        each = λ p q hp hq. ap (λ (l : List (List Message)). get_or l (p * length types + q) []) o.queues ∙ get_or-same (length types * length types) (p * length types + q) [];
+        strangers = λ p q apart. refl;
+      });
+  some = omega (arith, o.next);
+  few = omega (arith, o.next);
 }
+  where
+    state : state_of c ≡ initial
+    state = ap₂ (λ (h : List Step) (k : ℕ). let st : State = record { history = h; next = k } in st) o.history o.next

@@ -1,4 +1,9 @@
 pub mod Stores
 pub mod Types
+pub mod Peers
+pub mod Strangers
 pub mod Accepting
+pub mod Cursors
+pub mod Following
 pub mod Serving
+pub mod Starting

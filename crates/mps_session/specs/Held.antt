@@ -1,17 +1,25 @@
 -- How a session keeps the view that replaying its steps gives: each part against the view, of n roles.
-use Rattle.std.specs.Prelude.{◌≡◌, ℕ, ◌+◌, ◌*◌, ◌<◌, List, [], length, slice_index_or}
+use Rattle.std.specs.Prelude.{◌≡◌, ℕ, ◌+◌, ◌*◌, ◌<◌, ◌≤◌, List, [], length, slice_index_or}
+use Rattle.mps_base.specs.RoleLists.{HasRoleCount}
 use Rattle.mps_base.specs.declared.action.Message.{Message}
 use Rattle.mps_local.specs.Local.{LocalType}
-use Rattle.mps_machine.specs.View.{Store, View, type_at}
-use Rattle.mps_machine.specs.Machine.{State, view_of, IsSound}
-use Rattle.mps_base.specs.RoleLists.{HasRoleCount}
+use Rattle.mps_machine.specs.View.{Store, Participant, View}
+use Rattle.mps_machine.specs.Machine.{most_numbers, view_of, IsSound}
+use Rattle.mps_table.specs.Standing.{StandsFor}
+use Rattle.mps_session.specs.Configurations.{Configuration, state_of}
+use Rattle.mps_session.specs.Cursors.{Position, nowhere}
 use Rattle.mps_session.specs.Peers.{HasPeers}
 
--- a type for each role, whose peers are other roles: what the role may still do
-pub record AreToCome (n : ℕ) (coming : List LocalType) (v : View) : Type 0 where
-  pub long : length coming ≡ n
-  pub peers : (p : ℕ) → p < n → HasPeers n p (type_at coming p)
-  pub each : (p : ℕ) → type_at coming p ≡ (v.participant p).to_come
+-- the node stands for what the role may still do, and the past is what it did
+pub record IsOf (c : Position) (part : Participant) : Type 0 where
+  pub stands : StandsFor c.graph c.node part.to_come
+  pub past : c.past ≡ part.past
+
+-- a position for each role, whose peers are other roles
+pub record ArePositions (n : ℕ) (positions : List Position) (v : View) : Type 0 where
+  pub long : length positions ≡ n
+  pub peers : (p : ℕ) → p < n → HasPeers n p (v.participant p).to_come
+  pub each : (p : ℕ) → p < n → IsOf (slice_index_or positions p nowhere) (v.participant p)
 
 -- a store for each role: what the role keeps
 pub record AreStores (n : ℕ) (kept : List Store) (v : View) : Type 0 where
@@ -25,10 +33,12 @@ pub record AreQueues (n : ℕ) (waiting : List (List Message)) (v : View) : Type
   -- between others nothing waits
   pub strangers : (p q : ℕ) → (p < n → q < n → ⊥) → v.queue p q ≡ []
 
--- what the session keeps is the view of its steps
-pub record Holds (types coming : List LocalType) (kept : List Store) (waiting : List (List Message)) (st : State) : Type 0 where
-  pub sound : IsSound types st
+-- what the session keeps is the view of its steps, and numbers are still counted
+pub record Holds (types : List LocalType) (c : Configuration) : Type 0 where
+  pub sound : IsSound types (state_of c)
   pub roles : HasRoleCount types
-  pub to_come : AreToCome (length types) coming (view_of types st.history)
-  pub stores : AreStores (length types) kept (view_of types st.history)
-  pub queues : AreQueues (length types) waiting (view_of types st.history)
+  pub positions : ArePositions (length types) c.positions (view_of types c.history)
+  pub stores : AreStores (length types) c.stores (view_of types c.history)
+  pub queues : AreQueues (length types) c.queues (view_of types c.history)
+  pub some : 1 ≤ c.next
+  pub few : c.next ≤ most_numbers + 1

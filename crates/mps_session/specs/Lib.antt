@@ -1,7 +1,8 @@
 pub mod Places
 pub mod Seen
 pub mod Peers
+pub mod Cursors
+pub mod Configurations
 pub mod Held
-pub mod Kept
 pub mod Answers
-pub mod Rows
+pub mod Opening

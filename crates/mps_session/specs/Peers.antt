@@ -1,13 +1,23 @@
--- Which peers a type may name.
-use Rattle.std.specs.Prelude.{ℕ, ◌<◌, ◌≤◌, List, length}
+-- Which types a session can be opened with.
+use Rattle.std.specs.Prelude.{◌≡◌, ℕ, ◌<◌, List, length, Some, None}
 use Rattle.mps_base.specs.RoleLists.{HasRoleCount}
 use Rattle.mps_local.specs.Local.{LocalType}
+use Rattle.mps_local.specs.LocalFaults.{local_fault_of}
 use Rattle.mps_local.specs.Shape.{AllPeers, IsOtherRole}
+use Rattle.mps_local.specs.declared.faults.LocalFault.{LocalFault}
 use Rattle.mps_machine.specs.View.{type_at}
 
 -- each peer that the type of role p names is another of the n roles
 abbrev pub HasPeers : (n p : ℕ) → LocalType → Type 0
 HasPeers n p = AllPeers (IsOtherRole n p)
+
+-- each type does
+abbrev pub HavePeers : List LocalType → Type 0
+HavePeers types = (p : ℕ) → p < length types → HasPeers (length types) p (type_at types p)
+
+-- no type has a fault
+abbrev pub AreFaultless : List LocalType → Type 0
+AreFaultless types = (p : ℕ) → p < length types → local_fault_of (type_at types p) ≡ None
 
 -- p is the least role whose type names itself or no role of the session
 pub record IsFirstBad (types : List LocalType) (p : ℕ) : Type 0 where
@@ -15,7 +25,19 @@ pub record IsFirstBad (types : List LocalType) (p : ℕ) : Type 0 where
   pub bad : HasPeers (length types) p (type_at types p) → ⊥
   pub others : (q : ℕ) → q < p → HasPeers (length types) q (type_at types q)
 
+-- p is the least role whose type has a fault, which is its first
+pub record IsLeastFaulty (types : List LocalType) (p : ℕ) (fault : LocalFault) : Type 0 where
+  pub within : p < length types
+  pub faulty : local_fault_of (type_at types p) ≡ Some fault
+  pub others : (q : ℕ) → q < p → local_fault_of (type_at types q) ≡ None
+
+-- the same, where each type has the peers that it may
+pub record IsFirstFaulty (types : List LocalType) (p : ℕ) (fault : LocalFault) : Type 0 where
+  pub peers : HavePeers types
+  pub least : IsLeastFaulty types p fault
+
 -- types that a session can be opened with
 pub record CanOpen (types : List LocalType) : Type 0 where
   pub roles : HasRoleCount types
-  pub peers : (p : ℕ) → p < length types → HasPeers (length types) p (type_at types p)
+  pub peers : HavePeers types
+  pub faultless : AreFaultless types

@@ -1,18 +1,21 @@
 //! Sessions: what roles send and receive, each step remembered.
 #![tactic(auto)]
 
-mod judge;
+mod configuration;
+mod cursor;
 pub mod open;
 mod parts;
 mod queue;
-pub mod row;
 pub mod session;
 mod store;
 
 pub use mps_command::{Done, Forward, Refusal, Violation};
+pub use mps_local::LocalFault;
+pub use mps_table::Expect;
 pub use open::OpenFault;
-pub use row::are_message_only;
 pub use session::Session;
 
+#[cfg(test)]
+mod choice_tests;
 #[cfg(test)]
 mod tests;

@@ -1,19 +1,21 @@
 //! Which types a session can be opened with.
-ghost use Rattle.std.specs.Prelude.{◌≡◌, ◌↔◌, ◌<◌, ◌≤◌, ℕ, IsTrue, IfSome, IfNone, IfOk, length, map, List, [], replicate};
-ghost use Rattle.std.specs.List.{AllByRecursion};
-ghost use Rattle.mps_session.specs.declared.open.OpenFault.TheVariants.{Memory as OutOfMemory};
+ghost use Rattle.std.specs.Prelude.{◌≡◌, ◌↔◌, ◌≤◌, IsTrue, IfSome, IfNone, IfOk, IfErr, length, map, List, [], replicate, vec_len};
 ghost use Rattle.mps_local.specs.Local.{plain, plain_branches};
-ghost use Rattle.mps_machine.specs.View.{type_at};
 ghost use Rattle.mps_local.specs.Shape.{AllBranchPeers, IsOtherRole};
-ghost use Rattle.mps_session.specs.Peers.{HasPeers, IsFirstBad};
-ghost use Rattle.mps_session.specs.Rows.{IsMessageOnly, row_type};
+ghost use Rattle.mps_session.specs.Configurations.{lists_of};
+ghost use Rattle.mps_session.specs.Cursors.{position};
+ghost use Rattle.mps_session.specs.Opening.{IsOpening, AreStarts};
+ghost use Rattle.mps_session.specs.Peers.{HasPeers, HavePeers, IsFirstBad, IsLeastFaulty, AreFaultless};
+ghost use Rattle.mps_session.specs.declared.open.OpenFault.TheVariants.{Memory as OutOfMemory};
 
+use crate::configuration::Configuration;
+use crate::cursor::Cursor;
 use crate::queue::Queue;
-use crate::row::Row;
 use crate::store::Store;
 use mps_base::Role;
-use mps_local::{Branches, Local};
-use std::alloc::{AllocError, Global};
+use mps_local::{Branches, Local, LocalFault, first_fault};
+use mps_table::compile;
+use std::alloc::{AllocError, AllocFailed, Global};
 use thiserror::Error;
 
 /// Why a session can't be opened.
@@ -23,6 +25,8 @@ pub enum OpenFault {
     RoleCount,
     #[error("the type of role {} names itself or no role of the session", role.index())]
     BadPeer { role: Role },
+    #[error("the type of role {}: {fault}", role.index())]
+    Local { role: Role, fault: LocalFault },
     #[error("out of memory")]
     Memory,
 }
@@ -31,6 +35,14 @@ impl From<AllocError> for OpenFault {
     ghost from_gives = { λ _ e. e ≡ OutOfMemory };
 
     fn from(_e: AllocError) -> OpenFault {
+        OpenFault::Memory
+    }
+}
+
+impl<T: Drop> From<AllocFailed<T>> for OpenFault {
+    ghost from_gives = { λ _ e. e ≡ OutOfMemory };
+
+    fn from(_e: AllocFailed<T>) -> OpenFault {
         OpenFault::Memory
     }
 }
@@ -76,8 +88,7 @@ fn is_peer(n: usize, role: usize, peer: Role) -> bool
 pub(crate) fn first_bad(types: &[Local]) -> Option<Role>
     requires { length types.now ≤ 8 }
     ensures bad { IfSome result (IsFirstBad (map plain types.now)) }
-    ensures none { IfNone result ((p : ℕ) → p < length types.now
-        → HasPeers (length types.now) p (type_at (map plain types.now) p)) }
+    ensures none { IfNone result (HavePeers (map plain types.now)) }
 {
     let n = types.len();
     for (i, t) in types.iter().enumerate() {
@@ -88,14 +99,72 @@ pub(crate) fn first_bad(types: &[Local]) -> Option<Role>
     None
 }
 
-/// The rows of the types.
-pub(crate) fn rows(alloc: Global, types: &[Local]) -> Result<Vec<Row>, AllocError>
-    requires messages { AllByRecursion IsMessageOnly (map plain types.now) }
-    ensures { IfOk result (λ all. map row_type all.items ≡ map plain types.now) }
+/// The least role whose type names itself or no role of the session, whatever the types' size.
+pub(crate) fn first_stranger(mut types: Vec<Local>) -> Option<Role>
+    requires { vec_len types ≤ 8 }
+    ensures bad { IfSome result (IsFirstBad (map plain types.items)) }
+    ensures none { IfNone result (HavePeers (map plain types.items)) }
+{
+    let count = types.len();
+    let mut stranger = None;
+    while let Some(t) = types.pop() {
+        let role = types.len();
+        if !t.names_others(count, role) {
+            stranger = Some(Role::new(role as u8));
+        }
+    }
+    stranger
+}
+
+/// The least role whose type has a fault, and its first fault.
+pub(crate) fn first_faulty(types: &[Local]) -> Option<(Role, LocalFault)>
+    requires { length types.now ≤ 8 }
+    ensures faulty { IfSome result (λ r. IsLeastFaulty (map plain types.now) r.0 r.1) }
+    ensures none { IfNone result (AreFaultless (map plain types.now)) }
+{
+    for (i, t) in types.iter().enumerate() {
+        if let Some(fault) = first_fault(t) {
+            return Some((Role::new(i as u8), fault));
+        }
+    }
+    None
+}
+
+/// What a session keeps of roles that did nothing yet.
+pub(crate) fn opening(alloc: Global, types: &[Local]) -> Result<Configuration, OpenFault>
+    requires faultless { AreFaultless (map plain types.now) }
+    requires few { length types.now ≤ 8 }
+    ensures opened { IfOk result (λ c. IsOpening (map plain types.now) (lists_of c)) }
+    ensures memory { IfErr result (λ fault. fault ≡ OutOfMemory) }
+{
+    let n = types.len();
+    Ok(Configuration {
+        cursors: cursors(alloc, types)?,
+        stores: empty_stores(alloc, n)?,
+        queues: empty_queues(alloc, n * n)?,
+        history: Vec::new(alloc),
+        next: 1,
+        alloc,
+    })
+}
+
+// Cursors that stand where the types begin.
+fn cursors(alloc: Global, types: &[Local]) -> Result<Vec<Cursor>, OpenFault>
+    requires faultless { AreFaultless (map plain types.now) }
+    ensures cursors { IfOk result (λ all. AreStarts (map plain types.now) (map position all.items)) }
+    ensures memory { IfErr result (λ fault. fault ≡ OutOfMemory) }
 {
     let mut all = Vec::with_capacity(alloc, types.len())?;
     for t in types {
-        all.push(Row::of(alloc, t)?)?;
+        let Ok(table) = compile(alloc, t) else {
+            return Err(OpenFault::Memory);
+        };
+        let node = table.first();
+        all.push(Cursor {
+            table,
+            node,
+            past: Vec::new(alloc),
+        })?;
     }
     Ok(all)
 }

@@ -1,17 +1,13 @@
-//! What one step changes: a queue, a store, a type to come.
-ghost use Rattle.std.specs.Prelude.{◌≡◌, ◌<◌, List, [], ◌∷◌, ◌++◌, OnOk, OnErr, drop, map, vec_len, slice_index_or, slice_set};
+//! What one step changes: a queue and a store.
+ghost use Rattle.std.specs.Prelude.{◌≡◌, ◌<◌, ℕ, [], ◌∷◌, ◌++◌, OnOk, OnErr, Some, drop, vec_len, slice_index_or, slice_set};
 ghost use Rattle.std.specs.Option.{option_copied};
-ghost use Rattle.mps_local.specs.Local.{rest_of};
-ghost use Rattle.mps_machine.specs.Rule.{first_of};
-ghost use Rattle.mps_machine.specs.View.{bound, type_at};
-ghost use Rattle.mps_session.specs.Rows.{row_type};
+ghost use Rattle.mps_base.specs.declared.action.Act.TheVariants.{In};
+ghost use Rattle.mps_machine.specs.Rule.{first_of, store_after};
 
 use crate::queue::Queue;
-use crate::row::Row;
 use crate::store::Store;
-use mps_base::{Message, Name, Value};
-use std::alloc::AllocError;
-use std::mem;
+use mps_base::{Message, Name};
+use std::alloc::{AllocError, Global};
 
 /// Puts a message behind all others of the i-th queue.
 pub fn push_at(queues: &mut Vec<Queue>, i: usize, message: Message) -> Result<(), AllocError>
@@ -45,28 +41,19 @@ pub fn take_at(queues: &mut Vec<Queue>, i: usize) -> Option<Message>
     queue.take()
 }
 
-/// Binds the slot of the i-th store to the value.
-pub fn bind_at(
+/// Keeps in the i-th store what a receipt took: a value in its slot, and a label nowhere.
+pub fn keep_at(
+    alloc: Global,
     stores: &mut Vec<Store>,
     i: usize,
-    slot: Name,
-    value: Value,
+    slot: Option<Name>,
+    message: &Message,
 ) -> Result<(), AllocError>
     requires { i < vec_len stores.old }
-    ensures ok { OnOk result (stores.new.items
-        ≡ slice_set stores.old.items i (bound slot value (slice_index_or stores.old.items i []))) }
+    ensures ok { OnOk result ((from : ℕ) → stores.new.items ≡ slice_set stores.old.items i
+        (store_after (slice_index_or stores.old.items i []) (In from slot) (Some message.now))) }
     ensures err { OnErr result (stores.new.items ≡ stores.old.items) }
 {
     let store = &mut stores[i];
-    store.bind(slot, value)
-}
-
-/// Goes past the first act of the i-th type.
-pub fn advance_at(types: &mut Vec<Row>, i: usize)
-    requires { i < vec_len types.old }
-    ensures { map row_type types.new.items ≡ slice_set (map row_type types.old.items) i
-        (rest_of (type_at (map row_type types.old.items) i)) }
-{
-    let t = mem::replace(&mut types[i], Row::End);
-    types[i] = t.rest();
+    store.keep(alloc, slot, message)
 }

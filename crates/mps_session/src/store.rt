@@ -1,10 +1,12 @@
 //! Stores of received values.
-ghost use Rattle.std.specs.Prelude.{◌≡◌, List, [], ◌∷◌, ◌++◌, OnOk, OnErr};
+ghost use Rattle.std.specs.Prelude.{◌≡◌, List, [], ◌∷◌, ◌++◌, ℕ, Some, OnOk, OnErr};
 ghost use Rattle.std.specs.Option.{option_copied};
+ghost use Rattle.mps_base.specs.declared.action.Act.TheVariants.{In};
+ghost use Rattle.mps_machine.specs.Rule.{store_after};
 ghost use Rattle.mps_machine.specs.View.{bound, value_in};
 ghost use Rattle.mps_session.specs.Places.{place_in};
 
-use mps_base::{Name, Value};
+use mps_base::{Message, Name, Value};
 use std::alloc::{AllocError, Global};
 use std::marker::Model;
 
@@ -42,8 +44,28 @@ impl Store {
         }
     }
 
+    /// Keeps what a receipt took: a value in its slot, and a label nowhere.
+    pub fn keep(
+        &mut self,
+        alloc: Global,
+        slot: Option<Name>,
+        message: &Message,
+    ) -> Result<(), AllocError>
+        ensures ok { OnOk result ((from : ℕ) → self.new
+            ≡ store_after self.old (In from slot) (Some message.now)) }
+        ensures err { OnErr result (self.new ≡ self.old) }
+    {
+        match slot {
+            Some(slot) => match message {
+                Message::Value(value) => self.bind(slot, value.copy(alloc)?),
+                Message::Label(_) => Ok(()),
+            },
+            None => Ok(()),
+        }
+    }
+
     /// Binds the slot to the value: in its place where it is known, else last.
-    pub fn bind(&mut self, slot: Name, value: Value) -> Result<(), AllocError>
+    fn bind(&mut self, slot: Name, value: Value) -> Result<(), AllocError>
         ensures ok { OnOk result (self.new ≡ bound slot value self.old) }
         ensures err { OnErr result (self.new ≡ self.old) }
     {

@@ -34,25 +34,21 @@ fn types(alloc: Global, rows: &[&[Row]]) -> Result<Vec<Local>, Fail> {
 }
 
 fn session(alloc: Global, rows: &[&[Row]]) -> Result<Session, Fail> {
-    let types = types(alloc, rows)?;
-    if !are_message_only(&types) {
-        return Err(Fail::from("a choice or a loop"));
-    }
-    Ok(Session::open(alloc, types)?)
+    Ok(Session::open(alloc, types(alloc, rows)?)?)
 }
 
-fn name(text: &str) -> Result<Name, Fail> {
+pub(super) fn name(text: &str) -> Result<Name, Fail> {
     Ok(Name::read(text.as_bytes()).ok_or("a name")?)
 }
 
-fn send(to: u8, value: Value) -> Forward {
+pub(super) fn send(to: u8, value: Value) -> Forward {
     Forward::Send {
         to: Role::new(to),
         value,
     }
 }
 
-fn receive(from: u8, slot: Name) -> Forward {
+pub(super) fn receive(from: u8, slot: Name) -> Forward {
     Forward::Receive {
         from: Role::new(from),
         slot,
@@ -60,7 +56,7 @@ fn receive(from: u8, slot: Name) -> Forward {
 }
 
 // The role at this place, which the session has.
-fn role_of(session: &Session, place: u8) -> Result<Role, Fail>
+pub(super) fn role_of(session: &Session, place: u8) -> Result<Role, Fail>
     ensures { IfOk result (λ role. role < length session.now.types) }
 {
     let role = Role::new(place);
@@ -72,7 +68,7 @@ fn role_of(session: &Session, place: u8) -> Result<Role, Fail>
 }
 
 // The session's answer to the role at this place.
-fn answer(
+pub(super) fn answer(
     session: &mut Session,
     place: u8,
     command: Forward,
@@ -210,16 +206,17 @@ fn refuses_a_message_of_another_sort(rt: HostRuntime) -> Result<(), Fail> {
     Ok(())
 }
 
-// Why no session can be opened with the types of these rows.
-fn fault(alloc: Global, rows: &[&[Row]]) -> Result<Option<OpenFault>, Fail> {
-    let types = types(alloc, rows)?;
-    if !are_message_only(&types) {
-        return Err(Fail::from("a choice or a loop"));
-    }
+// Why no session can be opened with the types.
+pub(super) fn open_fault(alloc: Global, types: Vec<Local>) -> Result<Option<OpenFault>, Fail> {
     match Session::open(alloc, types) {
         Err(OpenFault::Memory) => Err(OpenFault::Memory.into()),
         opened => Ok(opened.err()),
     }
+}
+
+// Why no session can be opened with the types of these rows.
+fn fault(alloc: Global, rows: &[&[Row]]) -> Result<Option<OpenFault>, Fail> {
+    open_fault(alloc, types(alloc, rows)?)
 }
 
 #[test]
@@ -302,25 +299,5 @@ fn marks(rt: HostRuntime) -> Result<(), Fail> {
     assert_eq!(rt; id, StepId::new(3));
     assert_eq!(rt; role, Role::new(0));
     assert!(rt; matches!(act, Act::Mark(left) if left.is(&m)));
-    Ok(())
-}
-
-#[test]
-fn refuses_choices(rt: HostRuntime) -> Result<(), Fail> {
-    let mut session = session(rt.alloc(), A_TO_B_TO_C)?;
-    let label = name("ok")?;
-    let b = Role::new(1);
-    let wrong = Some(Refusal::Violation(Violation::WrongAct));
-    let ended = Some(Refusal::Violation(Violation::Ended));
-    for fault in [wrong, ended] {
-        let refusal = answer(&mut session, 0, Forward::Choose { to: b, label })?.err();
-        assert_eq!(rt; refusal, fault);
-        let refusal = answer(&mut session, 0, Forward::Pick { from: b })?.err();
-        assert_eq!(rt; refusal, fault);
-        if fault == wrong {
-            let _ = answer(&mut session, 0, send(1, Value::Int(5)))??;
-        }
-    }
-    assert_eq!(rt; session.len(), 1);
     Ok(())
 }

@@ -1,22 +1,55 @@
-use Rattle.std.proofs.Common.{◌≡◌, ℕ, get_or, sym, ap, ◌∙◌, subst, ⊎_elim, None, Err, Result}
-use Rattle.mps_base.specs.declared.action.Act.TheVariants.{Out, In}
-use Rattle.mps_base.specs.declared.action.Message.TheVariants.{Label}
+use Rattle.std.proofs.Common.{map, Result, Ok, sym, ap, ◌∙◌, subst}
 use Rattle.mps_command.specs.Acts.{act_of}
-use Rattle.mps_command.specs.declared.command.Forward.{Forward}
 use Rattle.mps_command.specs.declared.answer.Done.{Done}
 use Rattle.mps_command.specs.declared.answer.Refusal.{Refusal}
-use Rattle.mps_command.specs.declared.answer.Refusal.TheVariants.{Violation as Violates}
-use Rattle.mps_machine.specs.Machine.{forward}
-use Rattle.mps_session.proofs.Serving.{act_refused}
+use Rattle.mps_local.specs.Local.{plain}
+use Rattle.mps_machine.specs.Machine.{State}
+use Rattle.mps_session.specs.Configurations.{Configuration, lists_of, state_of}
+use Rattle.mps_session.specs.Held.{Holds}
+use Rattle.mps_session.proofs.Serving as serving
 use Rattle.mps_session.proofs.session.Session.forward.Goals as goal
 
-pub returns-in-Choose-clause-answer : goal.returns-in-Choose-clause-answer
-returns-in-Choose-clause-answer c =
-    let d = c.index.result.now in
-    let at = c.index.ensures ∙ ap (λ (k : ℕ). get_or c.self.inside.to_come.items k d) c.index-p.ensures.place in
-    let refused = act_refused c.self.inside c.args.self.now c.self.view_is c.self.invariant c.args.role c.requires d at in
-    let P : Forward → Type 0 = λ (command : Forward). let r : Result Done Refusal = Err (Violates c.no_choice.result) in r ≡ (forward c.args.self.now.types c.args.self.now.state c.args.role (act_of command)).0 in
-    ⊎_elim
-    (λ h. subst P (sym h.2) (refused (Out h.0 (Label h.1)) c.no_choice.result (c.no_choice.ensures.choice h.0 h.1)))
-    (λ h. subst P (sym h.1) (refused (In h.0 None) c.no_choice.result (c.no_choice.ensures.pick h.0)))
-    c.in-Choose.is
+pub verdict-requires-clause-node : goal.verdict-requires-clause-node
+verdict-requires-clause-node c =
+    let s = c.self.inside in
+    serving.is_node (map plain s.types.items) (lists_of s.configuration) c.self.invariant c.args.self.now c.self.view_is c.args.role c.requires
+
+pub returns-in-Err-clause-answer : goal.returns-in-Err-clause-answer
+returns-in-Err-clause-answer c =
+    let s = c.self.inside in
+    serving.refused (map plain s.types.items) (lists_of s.configuration) c.self.invariant c.args.self.now c.self.view_is c.args.role c.requires (act_of c.args.command) c.in-Err.fault c.in-Err.ensures.violation
+
+pub returns-then-self-gt-MAX_NUMBERS-clause-answer : goal.returns-then-self-gt-MAX_NUMBERS-clause-answer
+returns-then-self-gt-MAX_NUMBERS-clause-answer c =
+    let s = c.self.inside in
+    serving.full (map plain s.types.items) (lists_of s.configuration) c.self.invariant c.args.self.now c.self.view_is c.args.role c.requires (act_of c.args.command) c.in-Ok.ensures.allowed c.if-self-gt-MAX_NUMBERS.true
+
+pub act-requires-clause-ready : goal.act-requires-clause-ready
+act-requires-clause-ready c =
+    let s = c.self.inside in
+    serving.ready (map plain s.types.items) (lists_of s.configuration) c.self.invariant c.args.self.now c.self.view_is c.args.role c.requires (act_of c.args.command) c.in-Ok.ensures.allowed
+
+pub returns-in_err-act-clause-answer : goal.returns-in_err-act-clause-answer
+returns-in_err-act-clause-answer c =
+    let s = c.self.inside in
+    let done = serving.done (map plain s.types.items) (lists_of s.configuration) c.self.invariant c.args.self.now c.self.view_is c.args.role c.requires (act_of c.args.command) c.in-Ok.ensures.allowed c.if-self-gt-MAX_NUMBERS.false in
+    serving.out_of_memory c.from_residual.result _ _ _ done c.from_residual.ensures.1
+
+pub invariant_of-self-2 : goal.invariant_of-self-2
+invariant_of-self-2 c =
+    let s = c.self.inside in
+    subst (λ (k : Configuration). Holds (map plain s.types.items) k) (sym c.in_ok-act.ensures.acted)
+    (serving.holds_then (map plain s.types.items) (lists_of s.configuration) c.self.invariant c.args.self.now c.self.view_is c.args.role c.requires (act_of c.args.command) c.in-Ok.ensures.allowed c.in-Ok.next c.in-Ok.ensures.follows c.if-self-gt-MAX_NUMBERS.false)
+
+pub returns-clause-answer : goal.returns-clause-answer
+returns-clause-answer c =
+    let s = c.self.inside in
+    let done = serving.done (map plain s.types.items) (lists_of s.configuration) c.self.invariant c.args.self.now c.self.view_is c.args.role c.requires (act_of c.args.command) c.in-Ok.ensures.allowed c.if-self-gt-MAX_NUMBERS.false in
+    ap (λ (d : Done). let r : Result Done Refusal = Ok d in r) c.in_ok-act.ensures.done
+    ∙ ap (λ (r : Result Done Refusal × State). r.0) (sym done)
+
+pub returns-clause-state : goal.returns-clause-state
+returns-clause-state c =
+    let s = c.self.inside in
+    let done = serving.done (map plain s.types.items) (lists_of s.configuration) c.self.invariant c.args.self.now c.self.view_is c.args.role c.requires (act_of c.args.command) c.in-Ok.ensures.allowed c.if-self-gt-MAX_NUMBERS.false in
+    ap state_of c.in_ok-act.ensures.acted ∙ ap (λ (r : Result Done Refusal × State). r.1) (sym done)

@@ -1,0 +1,119 @@
+-- An allowed act names a peer of the type, and what is left of the type names no others.
+use Rattle.std.proofs.Common.{◌≡◌, ℕ, zero, suc, ◌<◌, Bool, true, false, List, Option, Some, None, refl, sym, ap, ◌∙◌, subst, ⊎_elim, cond}
+use Rattle.std.specs.Prelude.{◌==◌, ◌&&◌}
+use Rattle.std.specs.Option.{option_map}
+use Rattle.std.specs.Str.{bytes_eq}
+use Rattle.std.proofs.lemmas.Bool.{cases_Bool, eqb-true}
+use Rattle.mps_base.specs.Sorts.{fits}
+use Rattle.mps_base.specs.declared.action.Act.{Act}
+use Rattle.mps_base.specs.declared.action.Act.TheVariants.{Out, In, Mark}
+use Rattle.mps_base.specs.declared.action.Message.{Message}
+use Rattle.mps_base.specs.declared.action.Message.TheVariants.{Value as Plain, Label}
+use Rattle.mps_base.specs.declared.value.Sort.{Sort}
+use Rattle.mps_local.specs.Actions.{branch_at}
+use Rattle.mps_local.specs.Local.{LocalType, Branches, End, Var, Rec, Send, Recv, Select, Branch, NoMore, More}
+use Rattle.mps_local.specs.Shape.{AllPeers, AllBranchPeers}
+use Rattle.mps_local.specs.Unfolding.{replaced, replaced_in, opened, opened_times, leading, unfolded}
+use Rattle.mps_machine.specs.Rule.{type_after, advanced, participant_after}
+use Rattle.mps_machine.specs.View.{Participant}
+use Rattle.mps_machine.proofs.Stepping.{map_some}
+use Rattle.mps_session.specs.Peers.{HasPeers}
+
+module _ (P : ℕ → Type 0) (x : List ℕ) (t : LocalType) (fine : AllPeers P t) where
+  mutual
+    replaced_peers : (u : LocalType) → AllPeers P u → AllPeers P (replaced x t u)
+    replaced_peers End a = tt
+    replaced_peers (Var y) a =
+        ⊎_elim
+        (λ (e : bytes_eq y x ≡ true). rw e fine)
+        (λ (e : bytes_eq y x ≡ false). rw e tt)
+        (cases_Bool (bytes_eq y x))
+    replaced_peers (Rec y u) a =
+        ⊎_elim
+        (λ (e : bytes_eq y x ≡ true). rw e a)
+        (λ (e : bytes_eq y x ≡ false). let b = replaced_peers u a in rw e b)
+        (cases_Bool (bytes_eq y x))
+    replaced_peers (Send peer sort u) a = (a.0, replaced_peers u a.1)
+    replaced_peers (Recv peer sort u) a = (a.0, replaced_peers u a.1)
+    replaced_peers (Select peer branches) a = (a.0, replaced_branch_peers branches a.1)
+    replaced_peers (Branch peer branches) a = (a.0, replaced_branch_peers branches a.1)
+
+    replaced_branch_peers : (branches : Branches) → AllBranchPeers P branches → AllBranchPeers P (replaced_in x t branches)
+    replaced_branch_peers NoMore a = tt
+    replaced_branch_peers (More label u others) a = (replaced_peers u a.0, replaced_branch_peers others a.1)
+
+module _ (P : ℕ → Type 0) where
+  opened_peers : (t : LocalType) → AllPeers P t → AllPeers P (opened t)
+  opened_peers End a = a
+  opened_peers (Var y) a = a
+  opened_peers (Rec y u) a = replaced_peers P y (Rec y u) a u a
+  opened_peers (Send peer sort u) a = a
+  opened_peers (Recv peer sort u) a = a
+  opened_peers (Select peer branches) a = a
+  opened_peers (Branch peer branches) a = a
+
+  opened_times_peers : (n : ℕ) (t : LocalType) → AllPeers P t → AllPeers P (opened_times n t)
+  opened_times_peers zero t a = a
+  opened_times_peers (suc n) t a = opened_times_peers n (opened t) (opened_peers t a)
+
+  -- a type speaks with the same roles when it is unfolded
+  unfolded_peers : (t : LocalType) → AllPeers P t → AllPeers P (unfolded t)
+  unfolding unfolded
+  unfolded_peers t a = opened_times_peers (leading t) t a
+
+  branch_peers : (label : List ℕ) (branches : Branches) (t : LocalType) → AllBranchPeers P branches → branch_at label branches ≡ Some t → AllPeers P t
+  branch_peers label NoMore t a e = absurd cc
+  branch_peers label (More l u others) t a e =
+      ⊎_elim
+      (λ (y : bytes_eq l label ≡ true). let k = rw y at e in subst (AllPeers P) (let same : u ≡ t = cc in same) a.0)
+      (λ (n : bytes_eq l label ≡ false). let k = rw n at e in branch_peers label others t a.1 k)
+      (cases_Bool (bytes_eq l label))
+
+  -- the peer of an act is such a role
+  abbrev pub Speaks : Act → Type 0
+  Speaks (Out to m) = P to
+  Speaks (In from slot) = P from
+  Speaks (Mark name) = Unit {0}
+
+  guarded_value : (to peer : ℕ) (b : Bool) (next t : LocalType) → cond (to == peer && b) (Some next) None ≡ Some t → P peer → AllPeers P next → P to × AllPeers P t
+  guarded_value to peer b next t e p a =
+      ⊎_elim
+      (λ (y : (to == peer) ≡ true).
+      ⊎_elim
+      (λ (z : b ≡ true).
+      let e1 = rw y at e in
+      let e2 = rw z at e1 in
+      let is : next ≡ t = cc in
+      (subst P (sym (eqb-true to peer y)) p, subst (AllPeers P) is a))
+      (λ (z : b ≡ false). let e1 = rw y at e in let e2 = rw z at e1 in absurd cc)
+      (cases_Bool b))
+      (λ (n : (to == peer) ≡ false). let k = rw n at e in absurd cc)
+      (cases_Bool (to == peer))
+
+  guarded_label : (to peer : ℕ) (label : List ℕ) (branches : Branches) (t : LocalType) → cond (to == peer) (branch_at label branches) None ≡ Some t → P peer → AllBranchPeers P branches → P to × AllPeers P t
+  guarded_label to peer label branches t e p a =
+      ⊎_elim
+      (λ (y : (to == peer) ≡ true).
+      let k = rw y at e in
+      (subst P (sym (eqb-true to peer y)) p, branch_peers label branches t a k))
+      (λ (n : (to == peer) ≡ false). let k = rw n at e in absurd cc)
+      (cases_Bool (to == peer))
+
+  left_peers : (t : LocalType) (act : Act) (m : Option Message) (u : LocalType) → AllPeers P t → type_after t act m ≡ Some u → Speaks act × AllPeers P u
+  left_peers (Send peer sort next) (Out to (Plain v)) m u a e = guarded_value to peer (fits v sort) next u e a.0 a.1
+  left_peers (Select peer branches) (Out to (Label l)) m u a e = guarded_label to peer l branches u e a.0 a.1
+  left_peers (Recv peer sort next) (In from (Some slot)) (Some (Plain v)) u a e = guarded_value from peer (fits v sort) next u e a.0 a.1
+  left_peers (Branch peer branches) (In from None) (Some (Label l)) u a e = guarded_label from peer l branches u e a.0 a.1
+  left_peers t act m u a e = absurd cc
+
+  moved_peers : (before after : Participant) (act : Act) (m : Option Message) → AllPeers P before.to_come → option_map (advanced before act m) (type_after (unfolded before.to_come) act m) ≡ Some after → Speaks act × AllPeers P after.to_come
+  moved_peers before after act m a e =
+      let k = map_some (advanced before act m) (type_after (unfolded before.to_come) act m) after e in
+      let b = left_peers (unfolded before.to_come) act m k.0 (unfolded_peers before.to_come a) k.1 in
+      (b.0, subst (λ (c : Participant). AllPeers P c.to_come) k.2 b.1)
+
+  -- so it is with an act of a participant
+  pub after_peers : (before after : Participant) (act : Act) (m : Option Message) → AllPeers P before.to_come → participant_after before act m ≡ Some after → Speaks act × AllPeers P after.to_come
+  after_peers before after (Out to x) m a e = moved_peers before after (Out to x) m a e
+  after_peers before after (In from slot) m a e = moved_peers before after (In from slot) m a e
+  after_peers before after (Mark name) m a e = (tt, subst (λ (c : Participant). AllPeers P c.to_come) (let is : advanced before (Mark name) m before.to_come ≡ after = cc in is) a)

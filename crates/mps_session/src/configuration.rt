@@ -1,0 +1,217 @@
+//! What a session keeps of its roles, and how an act changes it.
+ghost use Rattle.std.specs.Prelude.{◌≡◌, ◌+◌, ◌<◌, ◌≤◌, [], ◌∷◌, ◌++◌, map, vec_len, slice_set, IfOk, OnOk, OnErr, IfErr};
+ghost use Rattle.std.specs.Option.{option_copied};
+ghost use Rattle.mps_base.specs.declared.action.Act.TheVariants.{Out, In, Mark};
+ghost use Rattle.mps_command.specs.Acts.{act_of};
+ghost use Rattle.mps_local.specs.Local.{LocalType};
+ghost use Rattle.mps_machine.specs.Machine.{most_numbers};
+ghost use Rattle.mps_monitor.specs.Verdicts.{moved_by};
+ghost use Rattle.mps_table.specs.Graph.{IsNode};
+ghost use Rattle.mps_session.specs.Configurations.{lists_of, IsWhole, IsReady, HasRoom, position_of, moved_in, StandsAt, fault_in, LeadsTo, acted, done_in};
+ghost use Rattle.mps_session.specs.Cursors.{deed_of, position, went};
+
+use crate::cursor::{Cursor, PastAct};
+use crate::parts::{first_at, keep_at, push_at, take_at};
+use crate::queue::Queue;
+use crate::store::Store;
+use mps_base::{Act, Message, Name, Role, Step, StepId};
+use mps_command::{Done, Forward, Violation};
+use mps_monitor::next_node;
+use mps_table::Node;
+use std::alloc::{AllocError, Global};
+
+/// Where each role stands and what it keeps, what waits between each two, and the steps that survive.
+#[derive(Drop)]
+pub(crate) struct Configuration {
+    pub(crate) cursors: Vec<Cursor>,
+    pub(crate) stores: Vec<Store>,
+    // the queue from p to q stands at p * n + q, of n roles
+    pub(crate) queues: Vec<Queue>,
+    pub(crate) history: Vec<Step>,
+    // the number of the next step
+    pub(crate) next: u64,
+    pub(crate) alloc: Global,
+}
+
+impl Configuration {
+    /// The node at which the role goes on after the command, or why its type doesn't allow it.
+    pub(crate) fn verdict(&self, role: Role, command: &Forward) -> Result<Node, Violation>
+        requires role { role < vec_len self.now.cursors }
+        requires whole { IsWhole (lists_of self.now) }
+        requires node { IsNode (position_of (lists_of self.now) role).graph
+            (position_of (lists_of self.now) role).node }
+        ensures violation { IfErr result (λ fault. (t : LocalType)
+            → StandsAt (lists_of self.now) role t
+            → fault_in (lists_of self.now) role (act_of command.now) t ≡ Some fault) }
+        ensures allowed { OnOk result ((t : LocalType)
+            → StandsAt (lists_of self.now) role t
+            → fault_in (lists_of self.now) role (act_of command.now) t ≡ None) }
+        ensures follows { IfOk result (LeadsTo (lists_of self.now) role (act_of command.now)) }
+    {
+        let first = self.first_for(role, command);
+        let cursor = &self.cursors[role.index()];
+        next_node(&cursor.table, cursor.node, command, first)
+    }
+
+    // The first message that waits for the role from the peer of whom the command would take one.
+    fn first_for(&self, role: Role, command: &Forward) -> Option<&Message>
+        requires whole { IsWhole (lists_of self.now) }
+        requires role { role < vec_len self.now.cursors }
+        ensures { moved_by command.now (option_copied result)
+            ≡ moved_in (lists_of self.now) role (act_of command.now) }
+    {
+        match command {
+            Forward::Receive { from, .. } | Forward::Pick { from } => {
+                let place = from.index() * self.cursors.len() + role.index();
+                first_at(self.queues.as_slice(), place)
+            }
+            Forward::Send { .. } | Forward::Choose { .. } | Forward::Mark { .. } => None,
+        }
+    }
+
+    /// Takes the step of the command, after which the role stands at the node. Nothing is changed
+    /// where memory runs out.
+    pub(crate) fn act(
+        &mut self,
+        role: Role,
+        command: Forward,
+        next: Node,
+    ) -> Result<Done, AllocError>
+        requires role { role < vec_len self.old.cursors }
+        requires whole { IsWhole (lists_of self.old) }
+        requires ready { IsReady (lists_of self.old) role (act_of command) }
+        requires room { self.old.next ≤ most_numbers }
+        ensures done { IfOk result (λ done. done ≡ done_in (lists_of self.old) role (act_of command)) }
+        ensures acted { OnOk result (lists_of self.new
+            ≡ acted role (act_of command) next (lists_of self.old)) }
+        ensures err { OnErr result (lists_of self.new ≡ lists_of self.old) }
+    {
+        match command {
+            Forward::Send { to, value } => self.give(role, to, Message::Value(value), next),
+            Forward::Choose { to, label } => self.give(role, to, Message::Label(label), next),
+            Forward::Receive { from, slot } => self.take(role, from, Some(&slot), next),
+            Forward::Pick { from } => self.take(role, from, None, next),
+            Forward::Mark { name } => self.mark(role, name, next),
+        }
+    }
+
+    // Puts the message behind all others of its queue.
+    fn give(
+        &mut self,
+        role: Role,
+        to: Role,
+        message: Message,
+        next: Node,
+    ) -> Result<Done, AllocError>
+        requires role { role < vec_len self.old.cursors }
+        requires whole { IsWhole (lists_of self.old) }
+        requires ready { IsReady (lists_of self.old) role (Out to message) }
+        requires room { self.old.next ≤ most_numbers }
+        ensures done { IfOk result (λ done. done ≡ done_in (lists_of self.old) role (Out to message)) }
+        ensures acted { OnOk result (lists_of self.new
+            ≡ acted role (Out to message) next (lists_of self.old)) }
+        ensures err { OnErr result (lists_of self.new ≡ lists_of self.old) }
+    {
+        let place = role.index() * self.cursors.len() + to.index();
+        let queued = message.copy(self.alloc)?;
+        let kept = message.copy(self.alloc)?;
+        self.reserve(role)?;
+        push_at(&mut self.queues, place, queued)?;
+        let past = PastAct::Gave { to, message: kept };
+        let id = self.remember(role, past, Act::Out { to, message }, next);
+        Ok(Done { id, got: None })
+    }
+
+    // Takes the message that came first from the peer, and keeps its value in the slot, if there is one.
+    fn take(
+        &mut self,
+        role: Role,
+        from: Role,
+        slot: Option<&Name>,
+        next: Node,
+    ) -> Result<Done, AllocError>
+        requires role { role < vec_len self.old.cursors }
+        requires whole { IsWhole (lists_of self.old) }
+        requires ready { IsReady (lists_of self.old) role (In from (option_copied slot)) }
+        requires room { self.old.next ≤ most_numbers }
+        ensures done { IfOk result (λ done. done ≡ done_in (lists_of self.old) role (In from (option_copied slot.entry))) }
+        ensures acted { OnOk result (lists_of self.new
+            ≡ acted role (In from (option_copied slot.entry)) next (lists_of self.old)) }
+        ensures err { OnErr result (lists_of self.new ≡ lists_of self.old) }
+    {
+        let place = from.index() * self.cursors.len() + role.index();
+        self.reserve(role)?;
+        let first = first_at(self.queues.as_slice(), place).unwrap();
+        let got = first.copy(self.alloc)?;
+        keep_at(
+            self.alloc,
+            &mut self.stores,
+            role.index(),
+            slot.copied(),
+            first,
+        )?;
+        let message = take_at(&mut self.queues, place).unwrap();
+        let id = self.remember(
+            role,
+            PastAct::Took {
+                from,
+                slot: slot.copied(),
+                message,
+            },
+            Act::In {
+                from,
+                slot: slot.copied(),
+            },
+            next,
+        );
+        Ok(Done { id, got: Some(got) })
+    }
+
+    // Leaves a mark.
+    fn mark(&mut self, role: Role, name: Name, next: Node) -> Result<Done, AllocError>
+        requires role { role < vec_len self.old.cursors }
+        requires whole { IsWhole (lists_of self.old) }
+        requires room { self.old.next ≤ most_numbers }
+        ensures done { IfOk result (λ done. done ≡ done_in (lists_of self.old) role (Mark name)) }
+        ensures acted { OnOk result (lists_of self.new
+            ≡ acted role (Mark name) next (lists_of self.old)) }
+        ensures err { OnErr result (lists_of self.new ≡ lists_of self.old) }
+    {
+        self.reserve(role)?;
+        let id = self.remember(role, PastAct::Marked { name }, Act::Mark(name), next);
+        Ok(Done { id, got: None })
+    }
+
+    // Makes room for one more step of the role.
+    fn reserve(&mut self, role: Role) -> Result<(), AllocError>
+        requires role { role < vec_len self.old.cursors }
+        ensures room { OnOk result (HasRoom self.new role) }
+        ensures same { lists_of self.new ≡ lists_of self.old }
+    {
+        self.history.reserve(1)?;
+        let cursor = &mut self.cursors[role.index()];
+        cursor.reserve()
+    }
+
+    // The step joins the role's past and the history.
+    fn remember(&mut self, role: Role, past: PastAct, act: Act, next: Node) -> StepId
+        requires role { role < vec_len self.old.cursors }
+        requires space { HasRoom self.old role }
+        requires room { self.old.next ≤ most_numbers }
+        ensures id { result ≡ self.old.next }
+        ensures positions { map position self.new.cursors.items
+            ≡ slice_set (map position self.old.cursors.items) role
+            (went next (deed_of past) (position_of (lists_of self.old) role)) }
+        ensures history { self.new.history.items ≡ self.old.history.items
+            ++ record { id = self.old.next; role = role; act = act } ∷ [] }
+        ensures next { self.new.next ≡ self.old.next + 1 }
+        ensures stores { self.new.stores.items ≡ self.old.stores.items }
+        ensures queues { self.new.queues.items ≡ self.old.queues.items }
+    {
+        let id = StepId::new(self.next);
+        self.cursors[role.index()].go(next, past);
+        self.history.push_reserved(Step { id, role, act });
+        self.next += 1;
+        id
+    }
+}
