@@ -1,13 +1,18 @@
 -- How the results of its parts are a run's.
 use Rattle.std.proofs.Common.{◌≡◌, ℕ, List, Bool, true, false, Result, Ok, Err, IsErrAnd, refl, sym, inl, inr, ⊎_elim, subst, arith}
 use Rattle.std.specs.Io.KnownBytes.{IsAtEnd}
+use Rattle.std.specs.Prelude.{◌↔◌, IsErrOf}
 use Rattle.mps_local.specs.Local.{LocalType}
 use Rattle.mps_machine.specs.Machine.{State, initial}
-use Rattle.mps_session.specs.Peers.{CanOpen}
+use Rattle.mps_base.specs.RoleLists.{HasRoleCount}
+use Rattle.mps_local.specs.declared.faults.LocalFault.{LocalFault}
+use Rattle.mps_session.specs.Peers.{IsFirstBad, IsFirstFaulty, CanOpen}
+use Rattle.mps_session.specs.declared.open.OpenFault.{OpenFault}
+use Rattle.mps_session.specs.declared.open.OpenFault.TheVariants.{RoleCount, BadPeer, Local, Memory as OutOfMemory}
 use Rattle.mps_wire.specs.declared.script.ReplayFault.{ReplayFault}
 use Rattle.mps_wire.specs.declared.script.ReplayFault.TheVariants.{Open, ReadFault, WriteFault, Turns, Memory}
 use Rattle.mps_wire.specs.Answers.{Answering}
-use Rattle.mps_wire.specs.Runs.{KeepsFromBeginning, Outcome, Finished, Going, GaveAtLeast, Turned}
+use Rattle.mps_wire.specs.Runs.{KeepsFromBeginning, of_opening, Outcome, Finished, Going, GaveAtLeast, Turned}
 use Rattle.mps_wire.specs.Script.{AnswersLine}
 use Rattle.mps_wire.specs.Streams.{Streams, Counts, CountsByEnd}
 use Rattle.mps_wire.proofs.Turning.{starved_first}
@@ -16,6 +21,18 @@ use Rattle.mps_wire.proofs.Turning.{starved_first}
 pub handed_on : {A : Type 0} (r : Result A ReplayFault) (e : ReplayFault) (P : Result A ReplayFault → Type 0) → IsErrAnd r (λ x. x ≡ e) → P (Err e) → P r
 handed_on (Ok x) e P is h = absurd is
 handed_on (Err x) e P is h = subst (λ (f : ReplayFault). P (Err f)) (sym is) h
+
+-- why a session isn't opened keeps a run from beginning
+pub shut : {S : Type 0} (types : List LocalType) (fault : OpenFault)
+    → (IsErrOf {T = S} (Err fault) RoleCount ↔ ¬ HasRoleCount types)
+    → ((role : ℕ) → IsErrOf {T = S} (Err fault) (BadPeer role) → IsFirstBad types role)
+    → ((role : ℕ) (found : LocalFault) → IsErrOf {T = S} (Err fault) (Local role found) → IsFirstFaulty types role found)
+    → (IsErrOf {T = S} (Err fault) OutOfMemory → CanOpen types)
+    → KeepsFromBeginning types (of_opening fault)
+shut types RoleCount count peer local memory = count.0 refl
+shut types (BadPeer role) count peer local memory = peer role refl
+shut types (Local role found) count peer local memory = local role found refl
+shut types OutOfMemory count peer local memory = memory refl
 
 pub same_counts : (s : Streams) → Counts s s 0 0 0
 same_counts s = record { reads_failed = omega arith; reads_ended = omega arith; writes_failed = omega arith }

@@ -4,10 +4,10 @@ use Rattle.std.specs.Io.KnownBytes.{Appends, Consumes, IsAtEnd}
 use Rattle.mps_local.specs.Local.{LocalType}
 use Rattle.mps_machine.specs.Machine.{initial}
 use Rattle.mps_base.specs.RoleLists.{HasRoleCount}
-use Rattle.mps_session.specs.Peers.{IsFirstBad, CanOpen}
+use Rattle.mps_session.specs.Peers.{IsFirstBad, IsFirstFaulty, CanOpen}
 use Rattle.mps_session.specs.Seen.{Machine}
 use Rattle.mps_session.specs.declared.open.OpenFault.{OpenFault}
-use Rattle.mps_session.specs.declared.open.OpenFault.TheVariants.{RoleCount, BadPeer, Memory as OutOfMemory}
+use Rattle.mps_session.specs.declared.open.OpenFault.TheVariants.{RoleCount, BadPeer, Local, Memory as OutOfMemory}
 use Rattle.mps_wire.specs.declared.script.ReplayFault.{ReplayFault}
 use Rattle.mps_wire.specs.declared.script.ReplayFault.TheVariants.{Open, ReadFault, WriteFault, Turns, Memory}
 use Rattle.mps_wire.specs.Answers.{Answering, Answered, AnsweredAll, AnsweredInPart}
@@ -90,6 +90,7 @@ module _ {S : Type 0} (answers : Answering S) (start : S) (before after : Stream
 abbrev pub KeepsShut : List LocalType → OpenFault → Type 0
 KeepsShut types RoleCount = ¬ (HasRoleCount types)
 KeepsShut types (BadPeer role) = IsFirstBad types role
+KeepsShut types (Local role fault) = IsFirstFaulty types role fault
 KeepsShut types OutOfMemory = ⊥
 
 -- how a session that can't be opened is reported
@@ -97,6 +98,7 @@ abbrev pub of_opening : OpenFault → ReplayFault
 of_opening OutOfMemory = Memory
 of_opening RoleCount = Open RoleCount
 of_opening (BadPeer role) = Open (BadPeer role)
+of_opening (Local role fault) = Open (Local role fault)
 
 -- why no run begins: the session isn't opened, or memory ran out
 abbrev pub KeepsFromBeginning : List LocalType → ReplayFault → Type 0

@@ -1,11 +1,9 @@
 //! A script over streams.
 ghost use Rattle.std.specs.Prelude.{◌≡◌, ◌+◌, ◌<◌, ◌≤◌, ◌^◌, ◌++◌, ℕ, List, [], length, map, OnOk, OnErr, IfOk, IfErr};
-ghost use Rattle.std.specs.List.{AllByRecursion};
 ghost use Rattle.std.specs.Io.KnownBytes.{Appends};
 ghost use Rattle.mps_local.specs.Local.{plain};
 ghost use Rattle.mps_machine.specs.Machine.{initial};
 ghost use Rattle.mps_session.specs.Peers.{CanOpen};
-ghost use Rattle.mps_session.specs.Rows.{IsMessageOnly};
 ghost use Rattle.mps_wire.specs.Answers.{TakesBytes, TakesEnd};
 ghost use Rattle.mps_wire.specs.Flow.{TookFront};
 ghost use Rattle.mps_wire.specs.Lines.{ended, most_kept};
@@ -239,7 +237,6 @@ fn turn<R: Source, W: Sink>(
 
 /// A script on a new session, of which nothing was read yet.
 fn begin(alloc: Global, roles: Roles, types: Vec<Local>) -> Result<Run, ReplayFault>
-    requires messages { AllByRecursion IsMessageOnly (map plain types.items) }
     ensures roles { IfOk result (λ run. run.roles ≡ roles) }
     ensures session { IfOk result (λ run. run.session ≡ record {
       types = map plain types.items;
@@ -272,7 +269,6 @@ pub fn run_script<R: Source, W: Sink>(
     types: Vec<Local>,
 ) -> Result<Session, ReplayFault>
     requires named { length roles ≡ length types.items }
-    requires messages { AllByRecursion IsMessageOnly (map plain types.items) }
     requires reads { R.calls reader.old < 2 ^ 62 }
     requires writes { W.failed_calls writer.old < 2 ^ 62 }
     ensures outcome { Outcome roles (map plain types.items)

@@ -1,8 +1,8 @@
 use crate::script::{BLOCK, MAX_LINE, ReplayFault, run_script};
-use mps_base::{Name, Role, Roles, Sort};
+use mps_base::{Name, Role, Roles, Sort, VarName};
 use mps_dev::{Pieces, Short, Source};
-use mps_local::Local;
-use mps_session::{OpenFault, are_message_only};
+use mps_local::{Branches, Local};
+use mps_session::{LocalFault, OpenFault};
 use std::alloc::Global;
 use std::test::Fail;
 
@@ -45,20 +45,19 @@ fn types(alloc: Global, rows: &[&[Row]]) -> Result<Vec<Local>, Fail> {
     Ok(types)
 }
 
-// Runs the pieces as a script of the roles a, b and so on, of a source that fails from a call on,
-// with room for so many bytes.
+// Runs the pieces as a script of the roles a, b and so on, with these types, of a source that fails
+// from a call on, with room for so many bytes.
 fn outcome(
     alloc: Global,
-    rows: &[&[Row]],
+    types: Vec<Local>,
     pieces: Vec<Vec<u8>>,
     fails_from: Option<u64>,
     room: usize,
 ) -> Result<Outcome, Fail> {
     let mut names = vec![in alloc; name("a")?, name("b")?, name("c")?]?;
-    names.truncate(rows.len());
+    names.truncate(types.len());
     let roles = Roles::of(alloc, &names)?;
-    let types = types(alloc, rows)?;
-    if roles.count() != types.len() || !are_message_only(&types) {
+    if roles.count() != types.len() {
         return Err("a type for each role".into());
     }
     let mut reader = Pieces::new(pieces, fails_from);
@@ -83,8 +82,8 @@ fn in_single_bytes(alloc: Global, text: &str) -> Result<Vec<Vec<u8>>, Fail> {
 }
 
 // The answers to a script that runs to its end.
-fn answers(alloc: Global, rows: &[&[Row]], pieces: Vec<Vec<u8>>) -> Result<Vec<u8>, Fail> {
-    let (written, fault) = outcome(alloc, rows, pieces, None, 200)?;
+fn answers(alloc: Global, types: Vec<Local>, pieces: Vec<Vec<u8>>) -> Result<Vec<u8>, Fail> {
+    let (written, fault) = outcome(alloc, types, pieces, None, 200)?;
     match fault {
         None => Ok(written),
         Some(fault) => Err(fault.into()),
@@ -92,8 +91,8 @@ fn answers(alloc: Global, rows: &[&[Row]], pieces: Vec<Vec<u8>>) -> Result<Vec<u
 }
 
 // The fault that ends the run of a script with these types, before anything is written.
-fn fault(alloc: Global, rows: &[&[Row]]) -> Result<Option<ReplayFault>, Fail> {
-    let (written, fault) = outcome(alloc, rows, in_one_piece(alloc, RELAY)?, None, 200)?;
+fn fault(alloc: Global, types: Vec<Local>) -> Result<Option<ReplayFault>, Fail> {
+    let (written, fault) = outcome(alloc, types, in_one_piece(alloc, RELAY)?, None, 200)?;
     if written.is_empty() {
         Ok(fault)
     } else {
@@ -103,6 +102,7 @@ fn fault(alloc: Global, rows: &[&[Row]]) -> Result<Option<ReplayFault>, Fail> {
 
 #[test]
 fn answers_each_line(rt: HostRuntime) -> Result<(), Fail> {
+    let alloc = rt.alloc();
     let rows = [
         (RELAY, RELAYED),
         ("", ""),
@@ -121,15 +121,100 @@ fn answers_each_line(rt: HostRuntime) -> Result<(), Fail> {
         ("a send b é\na send b 5\r\n", "refused line\nrefused line\n"),
     ];
     for (script, want) in rows {
-        let whole = answers(rt.alloc(), A_TO_B_TO_C, in_one_piece(rt.alloc(), script)?)?;
-        assert_eq!(rt; whole.as_slice(), want.as_bytes(), "whole: {script}");
-        let single = answers(
-            rt.alloc(),
-            A_TO_B_TO_C,
-            in_single_bytes(rt.alloc(), script)?,
-        )?;
-        assert_eq!(rt; single.as_slice(), want.as_bytes(), "in bytes: {script}");
+        let whole = in_one_piece(alloc, script)?;
+        let found = answers(alloc, types(alloc, A_TO_B_TO_C)?, whole)?;
+        assert_eq!(rt; found.as_slice(), want.as_bytes(), "whole: {script}");
+        let single = in_single_bytes(alloc, script)?;
+        let found = answers(alloc, types(alloc, A_TO_B_TO_C)?, single)?;
+        assert_eq!(rt; found.as_slice(), want.as_bytes(), "in bytes: {script}");
     }
+    Ok(())
+}
+
+fn go_or_stop(alloc: Global, go: Local) -> Result<Branches, Fail> {
+    let stop = Branches::more(alloc, name("stop")?, Local::End, Branches::NoMore)?;
+    Ok(Branches::more(alloc, name("go")?, go, stop)?)
+}
+
+fn variable() -> Result<VarName, Fail> {
+    Ok(VarName::read(b"X").ok_or("a variable")?)
+}
+
+// In a loop, a chooses go or stop; at go, b gives a a text.
+fn talk(alloc: Global) -> Result<Vec<Local>, Fail> {
+    let (a, b) = (Role::new(0), Role::new(1));
+    let hears = Local::recv(alloc, b, Sort::Text, Local::Var(variable()?))?;
+    let says = Local::send(alloc, a, Sort::Text, Local::Var(variable()?))?;
+    let chooses = Local::Select {
+        peer: b,
+        branches: go_or_stop(alloc, hears)?,
+    };
+    let picks = Local::Branch {
+        peer: a,
+        branches: go_or_stop(alloc, says)?,
+    };
+    Ok(vec![in alloc;
+        Local::rec(alloc, variable()?, chooses)?,
+        Local::rec(alloc, variable()?, picks)?,
+    ]?)
+}
+
+#[test]
+fn follows_loops_and_choices(rt: HostRuntime) -> Result<(), Fail> {
+    let rows = [
+        ("a mark m", "done 1"),
+        ("b pick a", "refused nothingqueued"),
+        ("b recv a x", "refused wrongact"),
+        ("b pick b", "refused wrongpeer"),
+        ("a choose b maybe", "refused nolabel"),
+        ("a choose b go", "done 2"),
+        ("a choose b go", "refused wrongact"),
+        ("b pick a", "done 3 go"),
+        ("b send a 5", "refused wrongsort"),
+        ("b send a \"good day\"", "done 4"),
+        ("a recv b w", "done 5 \"good day\""),
+        ("a choose b stop", "done 6"),
+        ("a choose b stop", "refused ended"),
+        ("b pick a now", "refused line"),
+        ("b pick a", "done 7 stop"),
+        ("b pick a", "refused ended"),
+        ("b mark m", "done 8"),
+    ];
+    let alloc = rt.alloc();
+    let (mut script, mut want) = (Vec::new(alloc), Vec::new(alloc));
+    for (line, answer) in rows {
+        script.extend_from_slice(line.as_bytes())?;
+        script.push(b'\n')?;
+        want.extend_from_slice(answer.as_bytes())?;
+        want.push(b'\n')?;
+    }
+    let pieces = vec![in alloc; script]?;
+    let (written, fault) = outcome(alloc, talk(alloc)?, pieces, None, 1000)?;
+    assert_eq!(rt; fault, None);
+    assert_eq!(rt; written.as_slice(), want.as_slice());
+    Ok(())
+}
+
+// A type that gives the peer numbers without end.
+fn counts(alloc: Global, peer: u8) -> Result<Local, Fail> {
+    let next = Local::Var(variable()?);
+    let body = Local::send(alloc, Role::new(peer), Sort::Int, next)?;
+    Ok(Local::rec(alloc, variable()?, body)?)
+}
+
+#[test]
+fn is_full_after_a_hundred_thousand_numbers(rt: HostRuntime) -> Result<(), Fail> {
+    let alloc = rt.alloc();
+    let mut script = Vec::new(alloc);
+    for _ in 0..100_001 {
+        script.extend_from_slice(b"a send b 1\n")?;
+    }
+    let types = vec![in alloc; counts(alloc, 1)?, Local::End]?;
+    let pieces = vec![in alloc; script]?;
+    let (written, fault) = outcome(alloc, types, pieces, None, 2_000_000)?;
+    assert_eq!(rt; fault, None);
+    assert!(rt; written.starts_with(b"done 1\ndone 2\n"));
+    assert!(rt; written.ends_with(b"done 99999\ndone 100000\nrefused full\n"));
     Ok(())
 }
 
@@ -139,7 +224,7 @@ fn answers_long_lines(rt: HostRuntime) -> Result<(), Fail> {
     for length in [MAX_LINE, MAX_LINE + 1, BLOCK, BLOCK + 1, 1_000_001] {
         let mut script = vec![in alloc; b'a'; length]?;
         script.extend_from_slice(b"\na send b 5\n")?;
-        let written = answers(alloc, A_TO_B_TO_C, vec![in alloc; script]?)?;
+        let written = answers(alloc, types(alloc, A_TO_B_TO_C)?, vec![in alloc; script]?)?;
         assert_eq!(rt;
             written.as_slice(),
             b"refused line\ndone 1\n".as_slice(),
@@ -153,7 +238,7 @@ fn answers_long_lines(rt: HostRuntime) -> Result<(), Fail> {
 fn ends_at_faults(rt: HostRuntime) -> Result<(), Fail> {
     let alloc = rt.alloc();
     let relay = in_one_piece(alloc, RELAY)?;
-    let (written, fault) = outcome(alloc, A_TO_B_TO_C, relay, Some(1), 200)?;
+    let (written, fault) = outcome(alloc, types(alloc, A_TO_B_TO_C)?, relay, Some(1), 200)?;
     assert_eq!(rt; fault, Some(ReplayFault::ReadFault));
     assert!(rt; written.is_empty());
 
@@ -161,12 +246,12 @@ fn ends_at_faults(rt: HostRuntime) -> Result<(), Fail> {
         Vec::from_slice(alloc, b"a send b 5\nb re")?,
         Vec::from_slice(alloc, b"cv a x\n")?,
     ]?;
-    let (written, fault) = outcome(alloc, A_TO_B_TO_C, halves, Some(2), 200)?;
+    let (written, fault) = outcome(alloc, types(alloc, A_TO_B_TO_C)?, halves, Some(2), 200)?;
     assert_eq!(rt; fault, Some(ReplayFault::ReadFault));
     assert_eq!(rt; written.as_slice(), b"done 1\n".as_slice());
 
     let relay = in_one_piece(alloc, RELAY)?;
-    let (written, fault) = outcome(alloc, A_TO_B_TO_C, relay, None, 3)?;
+    let (written, fault) = outcome(alloc, types(alloc, A_TO_B_TO_C)?, relay, None, 3)?;
     assert_eq!(rt; fault, Some(ReplayFault::WriteFault));
     assert_eq!(rt; written.as_slice(), b"don".as_slice());
     Ok(())
@@ -204,13 +289,13 @@ fn reads_a_block_at_a_time(rt: HostRuntime) -> Result<(), Fail> {
         answers.extend_from_slice(b"refused ended\n")?;
     }
     let script = vec![in alloc; piece.clone()?]?;
-    let (written, fault) = outcome(alloc, A_TO_B_TO_C, script, Some(2), 100_000)?;
+    let (written, fault) = outcome(alloc, types(alloc, A_TO_B_TO_C)?, script, Some(2), 100_000)?;
     assert_eq!(rt; fault, Some(ReplayFault::ReadFault));
     assert!(rt; written == answers, "the lines of the first block");
 
     answers.extend_from_slice(b"refused line\n")?;
     let script = vec![in alloc; piece]?;
-    let (written, fault) = outcome(alloc, A_TO_B_TO_C, script, None, 100_000)?;
+    let (written, fault) = outcome(alloc, types(alloc, A_TO_B_TO_C)?, script, None, 100_000)?;
     assert_eq!(rt; fault, None);
     assert!(rt; written == answers, "all lines");
     Ok(())
@@ -226,7 +311,13 @@ fn stops_after_a_million_reads(rt: HostRuntime) -> Result<(), Fail> {
     ];
     for (pieces, lines, want) in rows {
         let script = empty_lines(alloc, pieces)?;
-        let (written, fault) = outcome(alloc, A_TO_B_TO_C, script, None, 14_000_000)?;
+        let (written, fault) = outcome(
+            alloc,
+            types(alloc, A_TO_B_TO_C)?,
+            script,
+            None,
+            14_000_000,
+        )?;
         assert_eq!(rt; fault, want, "{pieces}");
         let answers = refused_lines(alloc, lines)?;
         assert!(rt; written == answers, "{pieces}");
@@ -243,7 +334,7 @@ fn answers_before_it_reads_on(rt: HostRuntime) -> Result<(), Fail> {
     ]?;
     let roles = Roles::of(alloc, &[name("a")?, name("b")?, name("c")?])?;
     let types = types(alloc, A_TO_B_TO_C)?;
-    if roles.count() != types.len() || !are_message_only(&types) {
+    if roles.count() != types.len() {
         return Err("a type for each role".into());
     }
     let mut reader = Pieces::new(lines, None);
@@ -257,14 +348,44 @@ fn answers_before_it_reads_on(rt: HostRuntime) -> Result<(), Fail> {
 }
 
 #[test]
-fn refuses_a_message_of_another_sort(rt: HostRuntime) -> Result<(), Fail> {
+fn refuses_a_message_of_another_kind(rt: HostRuntime) -> Result<(), Fail> {
+    let alloc = rt.alloc();
+    let (a, b) = (Role::new(0), Role::new(1));
     let rows: &[&[Row]] = &[&[(true, 1, Sort::Int)], &[(false, 0, Sort::Text)]];
-    let script = in_one_piece(rt.alloc(), "a send b 5\nb recv a x\n")?;
-    let written = answers(rt.alloc(), rows, script)?;
+    let script = in_one_piece(alloc, "a send b 5\nb recv a x\n")?;
+    let written = answers(alloc, types(alloc, rows)?, script)?;
     assert_eq!(rt;
         written.as_slice(),
         b"done 1\nrefused mismatch\n".as_slice()
     );
+
+    // a value where a label is expected, and a label that is none of those expected
+    for sends in [true, false] {
+        let first = if sends {
+            Local::send(alloc, b, Sort::Int, Local::End)?
+        } else {
+            let maybe = Branches::more(alloc, name("maybe")?, Local::End, Branches::NoMore)?;
+            Local::Select {
+                peer: b,
+                branches: maybe,
+            }
+        };
+        let picks = Local::Branch {
+            peer: a,
+            branches: go_or_stop(alloc, Local::End)?,
+        };
+        let line = if sends {
+            "a send b 5\nb pick a\n"
+        } else {
+            "a choose b maybe\nb pick a\n"
+        };
+        let script = in_one_piece(alloc, line)?;
+        let written = answers(alloc, vec![in alloc; first, picks]?, script)?;
+        assert_eq!(rt;
+            written.as_slice(),
+            b"done 1\nrefused mismatch\n".as_slice()
+        );
+    }
     Ok(())
 }
 
@@ -292,18 +413,57 @@ fn passes_values_of_each_sort(rt: HostRuntime) -> Result<(), Fail> {
     let want = "done 1\ndone 2 \"good day\"\ndone 3\ndone 4 true\n\
         done 5\ndone 6 \"\"\ndone 7\ndone 8 false\n\
         done 9\ndone 10 -9223372036854775808\n";
-    let whole = answers(rt.alloc(), rows, in_one_piece(rt.alloc(), script)?)?;
+    let alloc = rt.alloc();
+    let whole = answers(alloc, types(alloc, rows)?, in_one_piece(alloc, script)?)?;
     assert_eq!(rt; whole.as_slice(), want.as_bytes());
-    let single = answers(rt.alloc(), rows, in_single_bytes(rt.alloc(), script)?)?;
+    let single = answers(alloc, types(alloc, rows)?, in_single_bytes(alloc, script)?)?;
     assert_eq!(rt; single.as_slice(), want.as_bytes());
     Ok(())
 }
 
+// The end, and before it so many outputs to that peer.
+fn sends(alloc: Global, peer: u8, count: usize) -> Result<Local, Fail> {
+    let mut t = Local::End;
+    for _ in 0..count {
+        t = Local::send(alloc, Role::new(peer), Sort::Int, t)?;
+    }
+    Ok(t)
+}
+
 #[test]
 fn opens_no_session(rt: HostRuntime) -> Result<(), Fail> {
+    let alloc = rt.alloc();
+    let (a, b) = (Role::new(0), Role::new(1));
     let to_a: &[Row] = &[(true, 0, Sort::Int)];
-    let itself = OpenFault::BadPeer { role: Role::new(0) };
-    let found = fault(rt.alloc(), &[to_a, &[]])?;
+    let itself = OpenFault::BadPeer { role: a };
+    let found = fault(alloc, types(alloc, &[to_a, &[]])?)?;
     assert_eq!(rt; found, Some(ReplayFault::Open(itself)));
+
+    let idle = Local::rec(alloc, variable()?, Local::Var(variable()?))?;
+    let found = fault(alloc, vec![in alloc; Local::End, idle]?)?;
+    let unguarded = OpenFault::Local {
+        role: b,
+        fault: LocalFault::Unguarded,
+    };
+    assert_eq!(rt; found, Some(ReplayFault::Open(unguarded)));
+
+    // 64 levels are not too deep
+    let rows = [
+        (64, LocalFault::TooDeep),
+        (255, LocalFault::TooDeep),
+        (256, LocalFault::TooManyNodes),
+    ];
+    for (count, limit) in rows {
+        let found = fault(alloc, vec![in alloc; sends(alloc, 1, count)?, Local::End]?)?;
+        let fault = OpenFault::Local {
+            role: a,
+            fault: limit,
+        };
+        assert_eq!(rt; found, Some(ReplayFault::Open(fault)), "{count}");
+    }
+    let script = in_one_piece(alloc, "a send b 5\n")?;
+    let types = vec![in alloc; sends(alloc, 1, 63)?, Local::End]?;
+    let written = answers(alloc, types, script)?;
+    assert_eq!(rt; written.as_slice(), b"done 1\n".as_slice());
     Ok(())
 }
