@@ -3,9 +3,9 @@ use Rattle.std.proofs.Common.{◌≡◌, ℕ, ◌<◌, List, None, IsSome, Resul
 use Rattle.mps_global.specs.Global.{GlobalType}
 use Rattle.mps_global.specs.Faults.{fault_of}
 use Rattle.mps_local.specs.Projection.{projection}
-use Rattle.mps_tool.specs.Check.{IsProtocolText, IsUnprojected, GivesNoProjections, GivesNoProtocol, GivesNoTypes, GivesNoSession}
+use Rattle.mps_tool.specs.Check.{IsProtocolText, IsUnprojected, GivesNoProjections, GivesNoProtocol, GivesNoTypes}
 use Rattle.mps_tool.specs.declared.faults.ToolFault.{ToolFault}
-use Rattle.mps_tool.specs.declared.faults.ToolFault.TheVariants.{Text, Protocol, Projection, Unready, Memory}
+use Rattle.mps_tool.specs.declared.faults.ToolFault.TheVariants.{Text, Protocol, Projection, Memory}
 
 -- a role without a projection
 pub no_projections : (roles : List (List ℕ)) (tree : GlobalType) (place : ℕ) (fault : ToolFault) → ((p : ℕ) → p < place → IsSome (projection roles p tree)) → IsUnprojected roles tree place fault → GivesNoProjections roles tree fault
@@ -24,11 +24,6 @@ no_types text roles tree Memory read faultless h = read.limits.short
 no_types text roles tree (Text at kind) read faultless h = absurd h
 no_types text roles tree (Protocol fault) read faultless h = absurd h
 no_types text roles tree fault read faultless h = h
-
--- no session
-pub no_session : (text : List ℕ) (fault : ToolFault) → GivesNoTypes text fault → GivesNoSession text fault
-no_session text Unready h = absurd h
-no_session text fault h = h
 
 -- a fault that `?` hands on
 pub told : {A : Type 0} (r : Result A ToolFault) (P : ToolFault → Type 0) (e : ToolFault) → IsErrAnd r (λ x. x ≡ e) → P e → IfErr r P

@@ -1,20 +1,18 @@
 -- What the text of a protocol gives.
 use Rattle.std.specs.Prelude.{◌≡◌, ℕ, suc, ◌<◌, ◌≤◌, ⊤, List, [], ◌∷◌, ◌++◌, codes, length, slice_get, Some, None, IsSome}
-use Rattle.std.specs.List.{AllByRecursion}
 use Rattle.mps_global.specs.Global.{GlobalType}
 use Rattle.mps_global.specs.Faults.{fault_of}
 use Rattle.mps_local.specs.Local.{LocalType}
 use Rattle.mps_local.specs.Outcome.{AreProjections, CantMerge}
 use Rattle.mps_local.specs.Projection.{projection}
 use Rattle.mps_local.specs.Text.{name_at, local_text}
-use Rattle.mps_session.specs.Rows.{IsMessageOnly}
 use Rattle.mps_text.specs.Grammar.{SpellsText, IsWithinLimits}
 use Rattle.mps_text.specs.Faults.{IsFirstFault}
 use Rattle.mps_text.specs.declared.fault.TextKind.{TextKind}
 use Rattle.mps_text.specs.declared.fault.TextKind.TheVariants.{Memory as NoRoom}
 use Rattle.mps_tool.specs.Files.{longest}
 use Rattle.mps_tool.specs.declared.faults.ToolFault.{ToolFault}
-use Rattle.mps_tool.specs.declared.faults.ToolFault.TheVariants.{Text, Protocol, Projection, Unready, Memory}
+use Rattle.mps_tool.specs.declared.faults.ToolFault.TheVariants.{Text, Protocol, Projection, Memory}
 
 -- the text is a protocol of these roles, whose conversation is the tree
 pub record IsProtocolText (text : List ℕ) (roles : List (List ℕ)) (tree : GlobalType) : Type 0 where
@@ -65,12 +63,6 @@ abbrev pub GivesNoTypes : List ℕ → ToolFault → Type 0
 GivesNoTypes text (Projection name choice) =
     (roles : List (List ℕ)) × (tree : GlobalType) × IsProtocolText text roles tree × (fault_of roles tree ≡ None) × HasNoProjection roles tree name choice
 GivesNoTypes text fault = GivesNoProtocol text fault
-
--- why a text gives no types that a session can follow: it gives none, or one has a choice or a loop
-abbrev pub GivesNoSession : List ℕ → ToolFault → Type 0
-GivesNoSession text Unready =
-    (roles : List (List ℕ)) × (types : List LocalType) × AreTypesOf text roles types × ¬ AllByRecursion IsMessageOnly types
-GivesNoSession text fault = GivesNoTypes text fault
 
 -- the line of the role at that place: its name, ` : `, and its type
 abbrev pub role_line : (roles : List (List ℕ)) (place : ℕ) → LocalType → List ℕ

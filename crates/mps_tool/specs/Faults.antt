@@ -10,7 +10,7 @@ use Rattle.mps_wire.specs.declared.script.ReplayFault.{ReplayFault}
 use Rattle.mps_wire.specs.declared.script.ReplayFault.TheVariants.{Open as NotOpened, ReadFault, WriteFault, Turns as TooManyReads, Memory as OutOfMemory}
 use Rattle.mps_tool.specs.Streams.{CantLoad, CantShow}
 use Rattle.mps_tool.specs.declared.faults.ToolFault.{ToolFault}
-use Rattle.mps_tool.specs.declared.faults.ToolFault.TheVariants.{Usage, File, Text, Protocol, Projection, Unready, Open, Read, Write, Turns, Memory}
+use Rattle.mps_tool.specs.declared.faults.ToolFault.TheVariants.{Usage, File, Text, Protocol, Projection, Open, Read, Write, Turns, Memory}
 
 -- the word for a fault of a text
 abbrev pub text_word : TextKind → List ℕ
@@ -46,7 +46,6 @@ IsFaultLine line (Text at kind) =
 IsFaultLine line (Protocol fault) = line ≡ codes "refused protocol " ++ protocol_word fault
 IsFaultLine line (Projection role choice) =
     (number : List ℕ) × (line ≡ codes "refused projection " ++ role ++ codes " " ++ number) × IsNumberText number choice
-IsFaultLine line Unready = line ≡ codes "refused unready"
 IsFaultLine line Open = line ≡ codes "refused open"
 IsFaultLine line Read = line ≡ codes "refused read"
 IsFaultLine line Write = line ≡ codes "refused write"
@@ -60,7 +59,6 @@ status_of (File name) = 2
 status_of (Text at kind) = 3
 status_of (Protocol fault) = 3
 status_of (Projection role choice) = 3
-status_of Unready = 3
 status_of Open = 3
 status_of Read = 4
 status_of Write = 4
@@ -121,7 +119,7 @@ IsFileFault name fault = ⊥
 abbrev pub IsReplayFault : List ℕ → ToolFault → Type 0
 IsReplayFault script fault = IsFileFault script fault ⊎ ((end : ReplayFault) × (fault ≡ of_script end))
 
--- how a run of these two files may fail: the first can't be opened, or gives no types that a session can follow, or the script fails to be run
+-- how a run of these two files may fail: the first can't be opened, or gives no types, or the script fails to be run
 abbrev pub IsRunFault : List ℕ → List ℕ → ToolFault → Type 0
 IsRunFault file script fault =
     IsFileFault file fault ⊎ (((given : Option (List ℕ)) × (left : Option (List ℕ)) × CantLoad given left fault) ⊎ IsReplayFault script fault)

@@ -2,7 +2,7 @@
 use Rattle.std.specs.Prelude.{◌≡◌, ◌≤◌, ℕ, ⊤, List, Option, length}
 use Rattle.mps_local.specs.Local.{LocalType}
 use Rattle.std.specs.Io.KnownBytes.{Appends, Consumes, IsAtEnd}
-use Rattle.mps_tool.specs.Check.{AreTypesOf, AreLinesOf, GivesNoTypes, GivesNoSession}
+use Rattle.mps_tool.specs.Check.{AreTypesOf, AreLinesOf, GivesNoTypes}
 use Rattle.mps_tool.specs.Files.{longest, most_read}
 use Rattle.mps_tool.specs.declared.faults.ToolFault.{ToolFault}
 use Rattle.mps_tool.specs.declared.faults.ToolFault.TheVariants.{Read, Write, Memory}
@@ -30,11 +30,11 @@ pub record HasLoaded (given left : Option (List ℕ)) (roles : List (List ℕ)) 
   pub over : IsAtEnd left
   pub read : AreTypesOf text roles types
 
--- why no types were had that a session can follow: the text gives none, a read failed, or memory ran out
+-- why no types were had: the text gives none, a read failed, or memory ran out
 abbrev pub CantLoad : (given left : Option (List ℕ)) → ToolFault → Type 0
 CantLoad given left Read = ⊤
 CantLoad given left Memory = ⊤
-CantLoad given left fault = (text : List ℕ) × HasGiven given left text × GivesNoSession text fault
+CantLoad given left fault = (text : List ℕ) × HasGiven given left text × GivesNoTypes text fault
 
 -- the source gave a text that has this fault, and the sink took nothing
 pub record HasRefused (given left took taken : Option (List ℕ)) (fault : ToolFault) : Type 0 where

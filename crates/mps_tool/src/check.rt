@@ -6,10 +6,9 @@ ghost use Rattle.mps_global.specs.Faults.{fault_of};
 ghost use Rattle.mps_local.specs.Local.{plain};
 ghost use Rattle.mps_local.specs.Projection.{projection};
 ghost use Rattle.mps_local.specs.Shape.{AllPeers};
-ghost use Rattle.mps_session.specs.Rows.{IsMessageOnly};
 ghost use Rattle.mps_local.specs.Outcome.{AreProjections};
 ghost use Rattle.mps_tool.specs.Check.{AreTypesOf, IsProtocolText, role_line, role_lines, AreLinesOf};
-ghost use Rattle.mps_tool.specs.Check.{GivesNoProtocol, GivesNoProjections, GivesNoTypes, GivesNoSession, IsUnprojected};
+ghost use Rattle.mps_tool.specs.Check.{GivesNoProtocol, GivesNoProjections, GivesNoTypes, IsUnprojected};
 ghost use Rattle.mps_tool.specs.Faults.{after_reads, after_writes, IsCheckFault};
 ghost use Rattle.mps_tool.specs.Files.{HasReadAtMost, most_read};
 ghost use Rattle.mps_tool.specs.declared.faults.ToolFault.TheVariants.{Memory as OutOfMemory};
@@ -21,7 +20,6 @@ use mps_base::{Role, RoleFault, Roles};
 use mps_dev::{OverWrite, Sink, Source};
 use mps_global::{Protocol, check};
 use mps_local::{Local, ProjectFault, project, write_local};
-use mps_session::are_message_only;
 use mps_text::read_protocol;
 use mps_wire::flow::send_all;
 use std::alloc::{AllocError, Global};
@@ -95,23 +93,18 @@ fn roles_of<'a>(alloc: Global, protocol: &Protocol) -> Result<Roles, ToolFault<'
     }
 }
 
-/// The roles of the protocol that the text spells, and their local types, which have outputs and
-/// inputs alone.
+/// The roles of the protocol that the text spells, and the local type of each.
 pub fn roles_and_types<'a>(alloc: Global, text: &[u8]) -> Result<(Roles, Vec<Local>), ToolFault<'a>>
     ensures types { IfOk result (λ r. AreTypesOf text.now r.0 (map plain r.1.items)) }
-    ensures messages { IfOk result (λ r. AllByRecursion IsMessageOnly (map plain r.1.items)) }
-    ensures fault { IfErr result (GivesNoSession text.now) }
+    ensures fault { IfErr result (GivesNoTypes text.now) }
 {
     let protocol = protocol_of(alloc, text)?;
     let types = types_of(alloc, &protocol)?;
     let roles = roles_of(alloc, &protocol)?;
-    if !are_message_only(types.as_slice()) {
-        return Err(ToolFault::Unready);
-    }
     Ok((roles, types))
 }
 
-/// Reads a protocol, and gives its roles and their types, which have outputs and inputs alone.
+/// Reads a protocol, and gives its roles and the local type of each.
 ///
 /// The text is read to its end, or one byte further than a protocol may go.
 pub fn read_types<'a, R: Source>(
@@ -121,7 +114,6 @@ pub fn read_types<'a, R: Source>(
     requires { R.calls reader.old < 2 ^ 62 }
     ensures read { IfOk result (λ r. HasLoaded
         (R.remaining reader.old) (R.remaining reader.new) r.0 (map plain r.1.items)) }
-    ensures messages { IfOk result (λ r. AllByRecursion IsMessageOnly (map plain r.1.items)) }
     ensures fault { IfErr result (CantLoad (R.remaining reader.old) (R.remaining reader.new)) }
     ensures most { HasReadAtMost most_read (R.remaining reader.old) (R.remaining reader.new) }
     ensures reads { R.failed_calls reader.new ≡ after_reads result (R.failed_calls reader.old) }

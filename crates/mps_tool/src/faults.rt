@@ -30,9 +30,6 @@ pub enum ToolFault<'a> {
     /// The role does not do the same in each branch of that choice, counted in preorder from 0.
     #[error("refused projection {} {choice}", text_of(role))]
     Projection { role: Name, choice: usize },
-    /// A role's type has a choice or a loop, which sessions don't follow yet.
-    #[error("refused unready")]
-    Unready,
     /// No session can be opened with the types.
     #[error("refused open")]
     Open,
@@ -176,7 +173,6 @@ fn write_line(fault: &ToolFault<'_>, out: &mut Vec<u8>) -> Result<(), AllocError
             out.push(b' ')?;
             write_number(*choice as u64, out)
         }
-        ToolFault::Unready => out.extend_from_slice(b"refused unready"),
         ToolFault::Open => out.extend_from_slice(b"refused open"),
         ToolFault::Read => out.extend_from_slice(b"refused read"),
         ToolFault::Write => out.extend_from_slice(b"refused write"),
@@ -195,7 +191,6 @@ pub fn status(fault: &ToolFault<'_>) -> u8
         ToolFault::Text { .. }
         | ToolFault::Protocol { .. }
         | ToolFault::Projection { .. }
-        | ToolFault::Unready
         | ToolFault::Open => 3,
         ToolFault::Read | ToolFault::Write | ToolFault::Turns | ToolFault::Memory => 4,
     }

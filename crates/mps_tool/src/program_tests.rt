@@ -13,7 +13,29 @@ const GREETING: &str = "roles a b ; a -> b : text . b -> a : bool . end";
 
 const WORDS: &str = "a send b \"good day\"\nb recv a x\nb send a true\na recv b y\n";
 
+// In a loop, `a` chooses; at `go`, `b` answers a text.
+const TALK: &str = "roles a b ; rec X . a -> b { go : b -> a : text . X , stop : end }";
+
+const TALKED: &str = "a choose b go\nb pick a\nb send a \"good day\"\na choose b stop\n\
+    a recv b w\na choose b stop\nb pick a\nb pick a\n";
+
+// A number goes round, and then `c` chooses.
+const RING: &str = "roles a b c ; a -> b : int . b -> c : int . c -> a { ok : end , no : end }";
+
+const STRAY: &str = "b recv a x\na recv b x\na send c 5\na send b true\n";
+
+const ROUND: &str = "a send b 5\nb recv a x\nb send c 7\nc recv b y\nc choose a maybe\n\
+    a pick c\nc choose a ok\na pick c\na send b 1\n";
+
+const TWICE: &str = "a send b 1\na send b 2\nb recv a x\nb recv a x\n";
+
 const FILES: &[(&str, &str)] = &[
+    ("talk", TALK),
+    ("talked", TALKED),
+    ("ring", RING),
+    ("stray", STRAY),
+    ("round", ROUND),
+    ("twice", TWICE),
     ("greeting", GREETING),
     ("words", WORDS),
     ("relay", RELAY),
@@ -21,6 +43,10 @@ const FILES: &[(&str, &str)] = &[
     ("loop", "roles a b ; rec X . a -> b : int . X"),
     ("choice", "roles a b ; a -> b { l : end , r : end }"),
     ("unguarded", "roles a b ; rec X . X"),
+    (
+        "unmergeable",
+        "roles a b c ; a -> b { l : a -> c : int . end , r : end }",
+    ),
     ("empty", ""),
 ];
 
@@ -55,9 +81,37 @@ fn runs_scripts(rt: HostRuntime) -> Result<(), Fail> {
     let words = ["mps_tool", "run", "unguarded", "no script"];
     let told = "refused protocol unguarded\n";
     assert!(rt; does(alloc, &words, 1000, "", told, 3));
-    for file in ["loop", "choice"] {
-        let words = ["mps_tool", "run", file, "script"];
-        assert!(rt; does(alloc, &words, 1000, "", "refused unready\n", 3));
+    let words = ["mps_tool", "run", "unmergeable", "no script"];
+    let told = "refused projection c 0\n";
+    assert!(rt; does(alloc, &words, 1000, "", told, 3));
+    Ok(())
+}
+
+#[test]
+fn runs_loops_and_choices(rt: HostRuntime) -> Result<(), Fail> {
+    let rows = [
+        (
+            "talk",
+            "talked",
+            "done 1\ndone 2 go\ndone 3\nrefused wrongact\ndone 4 \"good day\"\n\
+             done 5\ndone 6 stop\nrefused ended\n",
+        ),
+        (
+            "ring",
+            "stray",
+            "refused nothingqueued\nrefused wrongact\nrefused wrongpeer\nrefused wrongsort\n",
+        ),
+        (
+            "ring",
+            "round",
+            "done 1\ndone 2 5\ndone 3\ndone 4 7\nrefused nolabel\nrefused nothingqueued\n\
+             done 5\ndone 6 ok\nrefused ended\n",
+        ),
+        ("loop", "twice", "done 1\ndone 2\ndone 3 1\ndone 4 2\n"),
+    ];
+    for (file, script, answers) in rows {
+        let words = ["mps_tool", "run", file, script];
+        assert!(rt; does(rt.alloc(), &words, 1000, answers, "", 0), "{script}");
     }
     Ok(())
 }

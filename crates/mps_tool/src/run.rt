@@ -1,9 +1,6 @@
 //! Running a script from files.
-ghost use Rattle.std.specs.Prelude.{◌≡◌, IfErr, length, map};
+ghost use Rattle.std.specs.Prelude.{◌≡◌, IfErr, length};
 ghost use Rattle.mps_tool.specs.Faults.{IsReplayFault, IsRunFault};
-ghost use Rattle.mps_local.specs.Local.{plain};
-ghost use Rattle.mps_session.specs.Rows.{IsMessageOnly};
-ghost use Rattle.std.specs.List.{AllByRecursion};
 
 use crate::check::read_types;
 use crate::faults::ToolFault;
@@ -23,7 +20,6 @@ fn replay<'a, R: Files + AllocGlobal + Print>(
     types: Vec<Local>,
 ) -> Result<(), ToolFault<'a>>
     requires count { length roles ≡ length types.items }
-    requires messages { AllByRecursion IsMessageOnly (map plain types.items) }
     ensures fault { IfErr result (IsReplayFault script.now) }
 {
     let mut reader = open_file(rt, script)?;

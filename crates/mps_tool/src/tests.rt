@@ -136,7 +136,6 @@ fn tells_faults(rt: HostRuntime) -> Result<(), Fail> {
         choice: 12,
     };
     assert!(rt; tells(alloc, fault, "refused projection c 12", 3)?);
-    assert!(rt; tells(alloc, ToolFault::Unready, "refused unready", 3)?);
     assert!(rt; tells(alloc, ToolFault::Open, "refused open", 3)?);
     assert!(rt; tells(alloc, ToolFault::Read, "refused read", 4)?);
     assert!(rt; tells(alloc, ToolFault::Write, "refused write", 4)?);
@@ -191,7 +190,6 @@ fn refuses_protocols(rt: HostRuntime) -> Result<(), Fail> {
         ("roles a b ; a -> Bc : int . end", "refused text word 17"),
         ("roles a b ; a -> b : int .", "refused text unexpected 26"),
         ("roles a end ; end", "refused text unexpected 8"),
-        ("roles a b ; rec X . a -> b : int . X", "refused unready"),
         (
             "roles a b c ; a -> b { l : a -> c : int . end , r : end }",
             "refused projection c 0",
@@ -250,8 +248,13 @@ fn loaded(alloc: Global, protocol: &str) -> Result<Result<(usize, usize), Vec<u8
 fn loads_types(rt: HostRuntime) -> Result<(), Fail> {
     let alloc = rt.alloc();
     assert!(rt; matches!(loaded(alloc, RELAY)?, Ok((3, 3))));
+    let loops = "roles a b ; rec X . a -> b { go : a -> b : int . X , stop : end }";
+    assert!(rt; matches!(loaded(alloc, loops)?, Ok((2, 2))));
     let rows = [
-        ("roles a b ; rec X . a -> b : int . X", "refused unready"),
+        (
+            "roles a b c ; a -> b { l : a -> c : int . end , r : end }",
+            "refused projection c 0",
+        ),
         ("roles a b ; end end", "refused text trailing 16"),
         ("roles a a ; end", "refused protocol doublerole"),
     ];
