@@ -52,7 +52,14 @@ impl Name {
     pub fn is(&self, other: &Name) -> bool
         ensures { IsTrue result ↔ (self.now ≡ other.now) }
     {
-        self.as_bytes() == other.as_bytes()
+        self.is_spelled(other.as_bytes())
+    }
+
+    /// Whether it is spelled so.
+    pub fn is_spelled(&self, bytes: &[u8]) -> bool
+        ensures { IsTrue result ↔ (self.now ≡ bytes.now) }
+    {
+        self.as_bytes() == bytes
     }
 }
 

@@ -1,5 +1,6 @@
 //! The roles of a session.
-ghost use Rattle.std.specs.Prelude.{◌≡◌, ◌≢◌, ℕ, ◌<◌, ◌≤◌, ◌↔◌, Option, Some, List, length, All, IsTrue, IsErrOf, IfOk, IfSome, IfNone, OnOk, slice_get};
+ghost use Rattle.std.specs.Prelude.{◌≡◌, ◌≢◌, ℕ, ◌<◌, ◌≤◌, ◌↔◌, Option, Some, List, length, All, IsTrue, IsSome, IsErrOf, IfOk, IfSome, IfNone, OnOk, slice_get};
+ghost use Rattle.mps_base.specs.Names.{IsName};
 ghost use Rattle.mps_base.specs.RoleLists.{HasRoleCount, AreDistinct, AreRoles};
 
 use crate::action::Role;
@@ -75,13 +76,24 @@ impl Roles {
     }
 
     /// The role of that name.
-    #[tactic(auto, using(crate::proofs::RoleLists::one_place, crate::proofs::RoleLists::no_place))]
     pub fn find(&self, name: &Name) -> Option<Role>
         ensures found { IfSome result (λ role. slice_get self.now role ≡ Some name.now) }
         ensures none { IfNone result (All (λ other. other ≢ name.now) self.now) }
         ensures only { (role : ℕ) → slice_get self.now role ≡ Some name.now → result ≡ Some role }
     {
-        let place = place_of(&self.names, name)?;
+        self.find_spelled(name.as_bytes())
+    }
+
+    /// The role whose name is spelled so. The bytes may be any, and are compared as they come.
+    #[tactic(auto, using(crate::proofs::RoleLists::one_place, crate::proofs::RoleLists::no_place))]
+    pub fn find_spelled(&self, bytes: &[u8]) -> Option<Role>
+        ensures name { IsSome result → IsName bytes.now }
+        ensures found { IfSome result (λ role. slice_get self.now role ≡ Some bytes.now) }
+        ensures none { IfNone result (All (λ other. other ≢ bytes.now) self.now) }
+        ensures only { (role : ℕ) → slice_get self.now role ≡ Some bytes.now → result ≡ Some role }
+    {
+        let place = place_of(&self.names, bytes)?;
+        let _name = self.names[place].as_bytes();
         Some(Role::new(place as u8))
     }
 
@@ -103,12 +115,12 @@ impl Roles {
     }
 }
 
-// Where the name stands, if it does.
-fn place_of(names: &[Name], name: &Name) -> Option<usize>
-    ensures found { IfSome result (λ place. slice_get names.now place ≡ Some name.now) }
-    ensures none { IfNone result (All (λ other. other ≢ name.now) names.now) }
+// Where the name that is spelled so stands, if it does.
+fn place_of(names: &[Name], bytes: &[u8]) -> Option<usize>
+    ensures found { IfSome result (λ place. slice_get names.now place ≡ Some bytes.now) }
+    ensures none { IfNone result (All (λ other. other ≢ bytes.now) names.now) }
 {
-    names.iter().position(|other| other.is(name))
+    names.iter().position(|name| name.is_spelled(bytes))
 }
 
 // Whether no name stands twice.
@@ -117,6 +129,6 @@ fn are_distinct(names: &[Name]) -> bool
 {
     match names {
         [] => true,
-        [first, rest @ ..] => place_of(rest, first).is_none() && are_distinct(rest),
+        [first, rest @ ..] => place_of(rest, first.as_bytes()).is_none() && are_distinct(rest),
     }
 }

@@ -173,6 +173,10 @@ fn role_lists(rt: HostRuntime) -> Result<(), Fail> {
     assert_eq!(rt; found.index(), 2);
     assert!(rt; roles.name(found).is(&names[2]));
     assert!(rt; roles.find(&names[3]).is_none());
+    assert_eq!(rt; roles.find_spelled(b"c"), Some(found));
+    for bytes in [b"".as_slice(), b"d", b"C", b"cc", b"end"] {
+        assert!(rt; roles.find_spelled(bytes).is_none());
+    }
     Ok(())
 }
 

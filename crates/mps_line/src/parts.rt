@@ -33,7 +33,7 @@ pub(crate) fn read_role(roles: &Roles, bytes: &[u8]) -> Option<Role>
     ensures read { IfSome result (SpellsRole roles.now bytes.now) }
     ensures none { IfNone result ((role : ℕ) → SpellsRole roles.now bytes.now role → ⊥) }
 {
-    roles.find(&Name::read(bytes)?)
+    roles.find_spelled(bytes)
 }
 
 // The role whose name stands before the first space, and what stands behind it.

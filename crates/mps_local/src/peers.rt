@@ -7,8 +7,8 @@ use crate::{Branches, Local};
 use mps_base::Role;
 use std::mem;
 
-// Whether the peer is another of so many roles.
-fn is_other(count: usize, role: usize, peer: Role) -> bool
+/// Whether the peer is another of so many roles than this one.
+pub fn is_other(count: usize, role: usize, peer: Role) -> bool
     ensures { IsTrue result ↔ IsOtherRole count role peer }
 {
     peer.index() < count && peer.index() != role

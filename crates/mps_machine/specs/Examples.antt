@@ -1,8 +1,8 @@
 -- Worked sessions: what the machine answers to short lists of requests, as answers were worked out by hand.
 use Rattle.std.specs.Prelude.{◌≡◌, ℕ, true, List, [], ◌∷◌, Some, None, codes, pos}
 use Rattle.mps_base.specs.declared.action.Message.TheVariants.{Value as Plain, Label}
-use Rattle.mps_base.specs.declared.value.Value.TheVariants.{Int, Bool as Truth}
-use Rattle.mps_base.specs.declared.value.Sort.TheVariants.{Int as IntSort, Bool as BoolSort}
+use Rattle.mps_base.specs.declared.value.Value.TheVariants.{Int, Bool as Truth, Text as Words}
+use Rattle.mps_base.specs.declared.value.Sort.TheVariants.{Int as IntSort, Bool as BoolSort, Text as TextSort}
 use Rattle.mps_local.specs.Local.{LocalType, End, Var, Rec, Send, Recv, Select, Branch, NoMore, More}
 use Rattle.mps_history.specs.Steps.{numbers}
 use Rattle.mps_command.specs.declared.command.Forward.TheVariants as steps
@@ -80,6 +80,13 @@ two_pairs = Send b IntSort End ∷ Recv a IntSort End ∷ Send d IntSort End ∷
 -- a gives b ints, without end
 abbrev pub stream : List LocalType
 stream = Rec (codes "X") (Send b IntSort (Var (codes "X"))) ∷ Rec (codes "X") (Recv a IntSort (Var (codes "X"))) ∷ []
+
+-- a tells b to go on, and b gives it a text, or to stop
+abbrev pub round : List LocalType
+round =
+    Rec (codes "X") (Select b (More (codes "go") (Recv b TextSort (Var (codes "X"))) (More (codes "stop") End NoMore)))
+    ∷ Rec (codes "X") (Branch a (More (codes "go") (Send a TextSort (Var (codes "X"))) (More (codes "stop") End NoMore)))
+    ∷ []
 
 -- the sender expects an int to be taken, the receiver a bool to come
 abbrev pub unfitting : List LocalType
@@ -187,6 +194,12 @@ abbrev pub AChoiceIsMadeAndPicked : Type 0
 AChoiceIsMadeAndPicked =
     answers verdict initial (relayed_then (chooses c a (codes "maybe") ∷ picks a c ∷ chooses c a (codes "ok") ∷ picks a c ∷ marks a (codes "e") ∷ sends_int a b 1 ∷ []))
     ≡ relay_done_then (violates NoLabel ∷ violates NothingQueued ∷ done 5 ∷ done_label 6 (codes "ok") ∷ done 7 ∷ violates Ended ∷ [])
+
+-- a loop with a choice is gone round to its end, each time by the branch that was chosen
+abbrev pub ALoopIsGoneRound : Type 0
+ALoopIsGoneRound =
+    answers round initial (chooses a b (codes "go") ∷ picks b a ∷ (b, Forward (steps.Send a (Words (codes "good day")))) ∷ chooses a b (codes "stop") ∷ receives_into a b (codes "w") ∷ chooses a b (codes "stop") ∷ picks b a ∷ picks b a ∷ [])
+    ≡ done 1 ∷ done_label 2 (codes "go") ∷ done 3 ∷ violates WrongAct ∷ Done (record { id = 4; got = Some (Plain (Words (codes "good day"))) }) ∷ done 5 ∷ done_label 6 (codes "stop") ∷ violates Ended ∷ []
 
 -- a message of another sort than the receiver expects stays
 abbrev pub AMessageOfAnotherSortIsAMismatch : Type 0

@@ -1,5 +1,5 @@
 //! Worked sessions, which show that the definitions say what they mean.
-ghost use Rattle.mps_machine.specs.Examples.{AnUndoWaitsForTheReceipt, ARollbackTakesAllThatDepends, ARollbackLeavesWhatCameBefore, ARollbackLeavesTheStrangers, AReceiptUndoneTakesTheSameMessageAgain, AnUndoneSendIsGone, AReceiptIntoAUsedSlotIsUndone, TheLeastDependentIsNamedASend, TheLeastDependentIsNamedAReceipt, AReturnToAMarkLeavesTheMark, NumbersAreNeverUsedAgain, RefusalsAreNamed, AChoiceIsMadeAndPicked, AMessageOfAnotherSortIsAMismatch, TheMessageWaitsAgain, TheSlotHasItsOldValue};
+ghost use Rattle.mps_machine.specs.Examples.{AnUndoWaitsForTheReceipt, ARollbackTakesAllThatDepends, ARollbackLeavesWhatCameBefore, ARollbackLeavesTheStrangers, AReceiptUndoneTakesTheSameMessageAgain, AnUndoneSendIsGone, AReceiptIntoAUsedSlotIsUndone, TheLeastDependentIsNamedASend, TheLeastDependentIsNamedAReceipt, AReturnToAMarkLeavesTheMark, NumbersAreNeverUsedAgain, RefusalsAreNamed, AChoiceIsMadeAndPicked, ALoopIsGoneRound, AMessageOfAnotherSortIsAMismatch, TheMessageWaitsAgain, TheSlotHasItsOldValue};
 ghost use Rattle.mps_machine.specs.Examples.{AHundredThousandNumbersAreGivenOut, AMarkMayHaveTheLastNumber, AReturnIsToTheLastMarkOfTheName, AnotherRolesStepIsNotYours, AChoiceIsOfOnePeer, AnUnexpectedMessageIsAMismatch, ASlotKeepsItsPlace};
 
 /// What the machine answers in short sessions, as worked out by hand.
@@ -17,6 +17,7 @@ pub fn worked_sessions()
     ensures numbers_are_never_used_again { NumbersAreNeverUsedAgain }
     ensures refusals_are_named { RefusalsAreNamed }
     ensures a_choice_is_made_and_picked { AChoiceIsMadeAndPicked }
+    ensures a_loop_is_gone_round { ALoopIsGoneRound }
     ensures a_message_of_another_sort_is_a_mismatch { AMessageOfAnotherSortIsAMismatch }
     ensures the_message_waits_again { TheMessageWaitsAgain }
     ensures the_slot_has_its_old_value { TheSlotHasItsOldValue }

@@ -269,38 +269,50 @@ fn takes_the_first_of_labels_that_are_the_same(rt: HostRuntime) -> Result<(), Fa
     Ok(())
 }
 
-// Whether the peers of a type and of a command are the same, or else a command with that peer is
-// refused for it.
+// Whether that is the answer where the peer is the type's, and else it is refused for its peer.
+fn is_told(answer: Result<Advance, Violation>, same: bool, advance: Advance) -> bool {
+    if same {
+        answer == Ok(advance)
+    } else {
+        answer == Err(Violation::WrongPeer)
+    }
+}
+
+// Whether types with that peer, one of each kind, tell commands with the other apart.
+fn are_told(labels: &[Name], peer: u8, other: u8) -> Result<bool, Fail> {
+    let (role, same) = (Role::new(peer), peer == other);
+    let int = int();
+    let no = label("no")?;
+    let given = judged_with(
+        role,
+        Kind::Gives(Sort::Int),
+        labels,
+        &send(other, Value::Int(1)),
+        None,
+    );
+    let taken = judged_with(
+        role,
+        Kind::Takes(Sort::Int),
+        labels,
+        &receive(other)?,
+        int.as_ref(),
+    );
+    let chosen = judged_with(role, Kind::Chooses, labels, &choose(other, "no")?, None);
+    let picked = judged_with(role, Kind::Picks, labels, &pick(other), no.as_ref());
+    Ok(
+        is_told(given, same, Advance::Next)
+            && is_told(taken, same, Advance::Next)
+            && is_told(chosen, same, Advance::Into(1))
+            && is_told(picked, same, Advance::Into(1)),
+    )
+}
+
 #[test]
 fn tells_eight_roles_apart(rt: HostRuntime) -> Result<(), Fail> {
     let labels = labels()?;
     for peer in 0..8u8 {
         for other in 0..8u8 {
-            let rows: [(Kind, Forward, Option<Message>, Advance); 4] = [
-                (
-                    Kind::Gives(Sort::Int),
-                    send(other, Value::Int(1)),
-                    None,
-                    Advance::Next,
-                ),
-                (
-                    Kind::Takes(Sort::Int),
-                    receive(other)?,
-                    int(),
-                    Advance::Next,
-                ),
-                (Kind::Chooses, choose(other, "no")?, None, Advance::Into(1)),
-                (Kind::Picks, pick(other), label("no")?, Advance::Into(1)),
-            ];
-            for (kind, command, first, advance) in rows {
-                let answer = judged_with(Role::new(peer), kind, &labels, &command, first.as_ref());
-                let wanted = if peer == other {
-                    Ok(advance)
-                } else {
-                    Err(Violation::WrongPeer)
-                };
-                assert_eq!(rt; answer, wanted);
-            }
+            assert!(rt; are_told(&labels, peer, other)?);
         }
     }
     Ok(())
@@ -352,32 +364,32 @@ fn sixteen_branches(alloc: Global) -> Result<Branches, Fail> {
     Ok(branches)
 }
 
+// Whether the command leads in the table to an output to that role, and to no other role.
+fn leads_to(
+    table: &Table,
+    command: &Forward,
+    first: Option<&Message>,
+    to: u8,
+) -> Result<bool, Fail> {
+    let node = next_node(table, table.first(), command, first)
+        .ok()
+        .ok_or("a node")?;
+    let wrong = next_node(table, node, &send(7 - to, Value::Int(1)), None).err();
+    let sent = next_node(table, node, &send(to, Value::Int(1)), None).err();
+    Ok(wrong == Some(Violation::WrongPeer) && sent.is_none())
+}
+
 #[test]
 fn goes_into_the_first_and_the_last_of_sixteen(rt: HostRuntime) -> Result<(), Fail> {
     let alloc = rt.alloc();
     let peer = Role::new(B);
-    let chooses = Local::Select {
-        peer,
-        branches: sixteen_branches(alloc)?,
-    };
-    let picks = Local::Branch {
-        peer,
-        branches: sixteen_branches(alloc)?,
-    };
-    let (chooses, picks) = (compile(alloc, &chooses)?, compile(alloc, &picks)?);
+    let branches = sixteen_branches(alloc)?;
+    let chooses = compile(alloc, &Local::Select { peer, branches })?;
+    let branches = sixteen_branches(alloc)?;
+    let picks = compile(alloc, &Local::Branch { peer, branches })?;
     for (text, to) in [("l1", 0), ("l8", 7), ("l9", 0), ("l16", 7)] {
-        let chosen = next_node(&chooses, chooses.first(), &choose(B, text)?, None);
-        let node = chosen.ok().ok_or("a node")?;
-        let wrong = next_node(&chooses, node, &send(7 - to, Value::Int(1)), None);
-        assert_eq!(rt; wrong.err(), Some(Violation::WrongPeer));
-        let sent = next_node(&chooses, node, &send(to, Value::Int(1)), None);
-        assert_eq!(rt; sent.err(), None);
-        let picked = next_node(&picks, picks.first(), &pick(B), label(text)?.as_ref());
-        let node = picked.ok().ok_or("a node")?;
-        let wrong = next_node(&picks, node, &send(7 - to, Value::Int(1)), None);
-        assert_eq!(rt; wrong.err(), Some(Violation::WrongPeer));
-        let sent = next_node(&picks, node, &send(to, Value::Int(1)), None);
-        assert_eq!(rt; sent.err(), None);
+        assert!(rt; leads_to(&chooses, &choose(B, text)?, None, to)?);
+        assert!(rt; leads_to(&picks, &pick(B), label(text)?.as_ref(), to)?);
     }
     Ok(())
 }

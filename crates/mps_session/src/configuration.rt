@@ -38,7 +38,7 @@ impl Configuration {
     pub(crate) fn verdict(&self, role: Role, command: &Forward) -> Result<Node, Violation>
         requires role { role < vec_len self.now.cursors }
         requires whole { IsWhole (lists_of self.now) }
-        requires node { IsNode (position_of (lists_of self.now) role).graph
+        requires stands { IsNode (position_of (lists_of self.now) role).graph
             (position_of (lists_of self.now) role).node }
         ensures violation { IfErr result (λ fault. (t : LocalType)
             → StandsAt (lists_of self.now) role t
@@ -75,7 +75,7 @@ impl Configuration {
         &mut self,
         role: Role,
         command: Forward,
-        next: Node,
+        node: Node,
     ) -> Result<Done, AllocError>
         requires role { role < vec_len self.old.cursors }
         requires whole { IsWhole (lists_of self.old) }
@@ -83,15 +83,15 @@ impl Configuration {
         requires room { self.old.next ≤ most_numbers }
         ensures done { IfOk result (λ done. done ≡ done_in (lists_of self.old) role (act_of command)) }
         ensures acted { OnOk result (lists_of self.new
-            ≡ acted role (act_of command) next (lists_of self.old)) }
+            ≡ acted role (act_of command) node (lists_of self.old)) }
         ensures err { OnErr result (lists_of self.new ≡ lists_of self.old) }
     {
         match command {
-            Forward::Send { to, value } => self.give(role, to, Message::Value(value), next),
-            Forward::Choose { to, label } => self.give(role, to, Message::Label(label), next),
-            Forward::Receive { from, slot } => self.take(role, from, Some(&slot), next),
-            Forward::Pick { from } => self.take(role, from, None, next),
-            Forward::Mark { name } => self.mark(role, name, next),
+            Forward::Send { to, value } => self.give(role, to, Message::Value(value), node),
+            Forward::Choose { to, label } => self.give(role, to, Message::Label(label), node),
+            Forward::Receive { from, slot } => self.take(role, from, Some(&slot), node),
+            Forward::Pick { from } => self.take(role, from, None, node),
+            Forward::Mark { name } => self.mark(role, name, node),
         }
     }
 
@@ -101,7 +101,7 @@ impl Configuration {
         role: Role,
         to: Role,
         message: Message,
-        next: Node,
+        node: Node,
     ) -> Result<Done, AllocError>
         requires role { role < vec_len self.old.cursors }
         requires whole { IsWhole (lists_of self.old) }
@@ -109,7 +109,7 @@ impl Configuration {
         requires room { self.old.next ≤ most_numbers }
         ensures done { IfOk result (λ done. done ≡ done_in (lists_of self.old) role (Out to message)) }
         ensures acted { OnOk result (lists_of self.new
-            ≡ acted role (Out to message) next (lists_of self.old)) }
+            ≡ acted role (Out to message) node (lists_of self.old)) }
         ensures err { OnErr result (lists_of self.new ≡ lists_of self.old) }
     {
         let place = role.index() * self.cursors.len() + to.index();
@@ -118,7 +118,7 @@ impl Configuration {
         self.reserve(role)?;
         push_at(&mut self.queues, place, queued)?;
         let past = PastAct::Gave { to, message: kept };
-        let id = self.remember(role, past, Act::Out { to, message }, next);
+        let id = self.remember(role, past, Act::Out { to, message }, node);
         Ok(Done { id, got: None })
     }
 
@@ -128,7 +128,7 @@ impl Configuration {
         role: Role,
         from: Role,
         slot: Option<&Name>,
-        next: Node,
+        node: Node,
     ) -> Result<Done, AllocError>
         requires role { role < vec_len self.old.cursors }
         requires whole { IsWhole (lists_of self.old) }
@@ -136,7 +136,7 @@ impl Configuration {
         requires room { self.old.next ≤ most_numbers }
         ensures done { IfOk result (λ done. done ≡ done_in (lists_of self.old) role (In from (option_copied slot.entry))) }
         ensures acted { OnOk result (lists_of self.new
-            ≡ acted role (In from (option_copied slot.entry)) next (lists_of self.old)) }
+            ≡ acted role (In from (option_copied slot.entry)) node (lists_of self.old)) }
         ensures err { OnErr result (lists_of self.new ≡ lists_of self.old) }
     {
         let place = from.index() * self.cursors.len() + role.index();
@@ -162,23 +162,23 @@ impl Configuration {
                 from,
                 slot: slot.copied(),
             },
-            next,
+            node,
         );
         Ok(Done { id, got: Some(got) })
     }
 
     // Leaves a mark.
-    fn mark(&mut self, role: Role, name: Name, next: Node) -> Result<Done, AllocError>
+    fn mark(&mut self, role: Role, name: Name, node: Node) -> Result<Done, AllocError>
         requires role { role < vec_len self.old.cursors }
         requires whole { IsWhole (lists_of self.old) }
         requires room { self.old.next ≤ most_numbers }
         ensures done { IfOk result (λ done. done ≡ done_in (lists_of self.old) role (Mark name)) }
         ensures acted { OnOk result (lists_of self.new
-            ≡ acted role (Mark name) next (lists_of self.old)) }
+            ≡ acted role (Mark name) node (lists_of self.old)) }
         ensures err { OnErr result (lists_of self.new ≡ lists_of self.old) }
     {
         self.reserve(role)?;
-        let id = self.remember(role, PastAct::Marked { name }, Act::Mark(name), next);
+        let id = self.remember(role, PastAct::Marked { name }, Act::Mark(name), node);
         Ok(Done { id, got: None })
     }
 
@@ -194,14 +194,14 @@ impl Configuration {
     }
 
     // The step joins the role's past and the history.
-    fn remember(&mut self, role: Role, past: PastAct, act: Act, next: Node) -> StepId
+    fn remember(&mut self, role: Role, past: PastAct, act: Act, node: Node) -> StepId
         requires role { role < vec_len self.old.cursors }
         requires space { HasRoom self.old role }
         requires room { self.old.next ≤ most_numbers }
         ensures id { result ≡ self.old.next }
         ensures positions { map position self.new.cursors.items
             ≡ slice_set (map position self.old.cursors.items) role
-            (went next (deed_of past) (position_of (lists_of self.old) role)) }
+            (went node (deed_of past) (position_of (lists_of self.old) role)) }
         ensures history { self.new.history.items ≡ self.old.history.items
             ++ record { id = self.old.next; role = role; act = act } ∷ [] }
         ensures next { self.new.next ≡ self.old.next + 1 }
@@ -209,7 +209,7 @@ impl Configuration {
         ensures queues { self.new.queues.items ≡ self.old.queues.items }
     {
         let id = StepId::new(self.next);
-        self.cursors[role.index()].go(next, past);
+        self.cursors[role.index()].go(node, past);
         self.history.push_reserved(Step { id, role, act });
         self.next += 1;
         id

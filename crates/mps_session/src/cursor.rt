@@ -28,6 +28,7 @@ pub(crate) enum PastAct {
 pub(crate) struct Cursor {
     pub(crate) table: Table,
     pub(crate) node: Node,
+    // so far it is only kept: two sessions are to be compared by it, and steps to be taken back
     pub(crate) past: Vec<PastAct>,
 }
 
@@ -41,11 +42,11 @@ impl Cursor {
     }
 
     /// Goes on at the node after the act.
-    pub(crate) fn go(&mut self, next: Node, act: PastAct)
+    pub(crate) fn go(&mut self, node: Node, act: PastAct)
         requires { vec_len self.old.past < vec_capacity self.old.past }
-        ensures { position self.new ≡ went next (deed_of act) (position self.old) }
+        ensures { position self.new ≡ went node (deed_of act) (position self.old) }
     {
         self.past.push_reserved(act);
-        self.node = next;
+        self.node = node;
     }
 }

@@ -13,7 +13,7 @@ pub use mps_command::{Done, Forward, Refusal, Violation};
 pub use mps_local::LocalFault;
 pub use mps_table::Expect;
 pub use open::OpenFault;
-pub use session::Session;
+pub use session::{MAX_NUMBERS, Session};
 
 #[cfg(test)]
 mod choice_tests;

@@ -1,5 +1,5 @@
 //! Which types a session can be opened with.
-ghost use Rattle.std.specs.Prelude.{◌≡◌, ◌↔◌, ◌≤◌, IsTrue, IfSome, IfNone, IfOk, IfErr, length, map, List, [], replicate, vec_len};
+ghost use Rattle.std.specs.Prelude.{◌≡◌, ◌↔◌, ◌≤◌, IsTrue, IfSome, IfNone, IfOk, length, map, List, [], replicate, vec_len};
 ghost use Rattle.mps_local.specs.Local.{plain, plain_branches};
 ghost use Rattle.mps_local.specs.Shape.{AllBranchPeers, IsOtherRole};
 ghost use Rattle.mps_session.specs.Configurations.{lists_of};
@@ -13,9 +13,10 @@ use crate::cursor::Cursor;
 use crate::queue::Queue;
 use crate::store::Store;
 use mps_base::Role;
+use mps_local::peers::is_other;
 use mps_local::{Branches, Local, LocalFault, first_fault};
 use mps_table::compile;
-use std::alloc::{AllocError, AllocFailed, Global};
+use std::alloc::{AllocError, Global};
 use thiserror::Error;
 
 /// Why a session can't be opened.
@@ -39,14 +40,6 @@ impl From<AllocError> for OpenFault {
     }
 }
 
-impl<T: Drop> From<AllocFailed<T>> for OpenFault {
-    ghost from_gives = { λ _ e. e ≡ OutOfMemory };
-
-    fn from(_e: AllocFailed<T>) -> OpenFault {
-        OpenFault::Memory
-    }
-}
-
 // Whether each peer that the type of this role names is another of the n roles.
 #[cycle(peers)]
 fn has_peers(n: usize, role: usize, t: &Local) -> bool
@@ -56,10 +49,10 @@ fn has_peers(n: usize, role: usize, t: &Local) -> bool
         Local::End | Local::Var(_) => true,
         Local::Rec(_, body) => has_peers(n, role, body),
         Local::Send { peer, next, .. } | Local::Recv { peer, next, .. } => {
-            is_peer(n, role, *peer) && has_peers(n, role, next)
+            is_other(n, role, *peer) && has_peers(n, role, next)
         }
         Local::Select { peer, branches } | Local::Branch { peer, branches } => {
-            is_peer(n, role, *peer) && have_peers(n, role, branches)
+            is_other(n, role, *peer) && have_peers(n, role, branches)
         }
     }
 }
@@ -77,16 +70,11 @@ fn have_peers(n: usize, role: usize, branches: &Branches) -> bool
     }
 }
 
-// Whether the peer is another of the n roles.
-fn is_peer(n: usize, role: usize, peer: Role) -> bool
-    ensures { IsTrue result ↔ IsOtherRole n role peer }
-{
-    peer.index() < n && peer.index() != role
-}
-
-/// The least role whose type names itself or no role of the session.
-pub(crate) fn first_bad(types: &[Local]) -> Option<Role>
-    requires { length types.now ≤ 8 }
+/// The least role whose type names itself or no role of the session. Types without a fault are at
+/// most 64 levels deep, and so is the recursion.
+pub(crate) fn first_bad_peer(types: &[Local]) -> Option<Role>
+    requires few { length types.now ≤ 8 }
+    requires faultless { AreFaultless (map plain types.now) }
     ensures bad { IfSome result (IsFirstBad (map plain types.now)) }
     ensures none { IfNone result (HavePeers (map plain types.now)) }
 {
@@ -99,21 +87,21 @@ pub(crate) fn first_bad(types: &[Local]) -> Option<Role>
     None
 }
 
-/// The least role whose type names itself or no role of the session, whatever the types' size.
-pub(crate) fn first_stranger(mut types: Vec<Local>) -> Option<Role>
+/// The same of types of any size, which are taken apart for it.
+pub(crate) fn first_bad_peer_of_any_size(mut types: Vec<Local>) -> Option<Role>
     requires { vec_len types ≤ 8 }
     ensures bad { IfSome result (IsFirstBad (map plain types.items)) }
     ensures none { IfNone result (HavePeers (map plain types.items)) }
 {
     let count = types.len();
-    let mut stranger = None;
+    let mut found = None;
     while let Some(t) = types.pop() {
         let role = types.len();
         if !t.names_others(count, role) {
-            stranger = Some(Role::new(role as u8));
+            found = Some(Role::new(role as u8));
         }
     }
-    stranger
+    found
 }
 
 /// The least role whose type has a fault, and its first fault.
@@ -131,11 +119,10 @@ pub(crate) fn first_faulty(types: &[Local]) -> Option<(Role, LocalFault)>
 }
 
 /// What a session keeps of roles that did nothing yet.
-pub(crate) fn opening(alloc: Global, types: &[Local]) -> Result<Configuration, OpenFault>
+pub(crate) fn opening(alloc: Global, types: &[Local]) -> Result<Configuration, AllocError>
     requires faultless { AreFaultless (map plain types.now) }
     requires few { length types.now ≤ 8 }
-    ensures opened { IfOk result (λ c. IsOpening (map plain types.now) (lists_of c)) }
-    ensures memory { IfErr result (λ fault. fault ≡ OutOfMemory) }
+    ensures { IfOk result (λ c. IsOpening (map plain types.now) (lists_of c)) }
 {
     let n = types.len();
     Ok(Configuration {
@@ -149,15 +136,14 @@ pub(crate) fn opening(alloc: Global, types: &[Local]) -> Result<Configuration, O
 }
 
 // Cursors that stand where the types begin.
-fn cursors(alloc: Global, types: &[Local]) -> Result<Vec<Cursor>, OpenFault>
+fn cursors(alloc: Global, types: &[Local]) -> Result<Vec<Cursor>, AllocError>
     requires faultless { AreFaultless (map plain types.now) }
-    ensures cursors { IfOk result (λ all. AreStarts (map plain types.now) (map position all.items)) }
-    ensures memory { IfErr result (λ fault. fault ≡ OutOfMemory) }
+    ensures { IfOk result (λ all. AreStarts (map plain types.now) (map position all.items)) }
 {
     let mut all = Vec::with_capacity(alloc, types.len())?;
     for t in types {
         let Ok(table) = compile(alloc, t) else {
-            return Err(OpenFault::Memory);
+            return Err(AllocError);
         };
         let node = table.first();
         all.push(Cursor {
@@ -169,8 +155,8 @@ fn cursors(alloc: Global, types: &[Local]) -> Result<Vec<Cursor>, OpenFault>
     Ok(all)
 }
 
-/// As many empty stores.
-pub(crate) fn empty_stores(alloc: Global, count: usize) -> Result<Vec<Store>, AllocError>
+// So many empty stores.
+fn empty_stores(alloc: Global, count: usize) -> Result<Vec<Store>, AllocError>
     ensures { IfOk result (λ stores. stores.items ≡ replicate count []) }
 {
     let mut stores = Vec::with_capacity(alloc, count)?;
@@ -180,8 +166,8 @@ pub(crate) fn empty_stores(alloc: Global, count: usize) -> Result<Vec<Store>, Al
     Ok(stores)
 }
 
-/// As many empty queues.
-pub(crate) fn empty_queues(alloc: Global, count: usize) -> Result<Vec<Queue>, AllocError>
+// So many empty queues.
+fn empty_queues(alloc: Global, count: usize) -> Result<Vec<Queue>, AllocError>
     ensures { IfOk result (λ queues. queues.items ≡ replicate count []) }
 {
     let mut queues = Vec::with_capacity(alloc, count)?;

@@ -10,7 +10,7 @@ use mps_base::{Message, Name};
 use std::alloc::{AllocError, Global};
 
 /// Puts a message behind all others of the i-th queue.
-pub fn push_at(queues: &mut Vec<Queue>, i: usize, message: Message) -> Result<(), AllocError>
+pub(crate) fn push_at(queues: &mut Vec<Queue>, i: usize, message: Message) -> Result<(), AllocError>
     requires { i < vec_len queues.old }
     ensures ok { OnOk result (queues.new.items
         ≡ slice_set queues.old.items i (slice_index_or queues.old.items i [] ++ message ∷ [])) }
@@ -21,7 +21,7 @@ pub fn push_at(queues: &mut Vec<Queue>, i: usize, message: Message) -> Result<()
 }
 
 /// The message that came first in the i-th queue, and nothing where there is no such queue.
-pub fn first_at(queues: &[Queue], i: usize) -> Option<&Message>
+pub(crate) fn first_at(queues: &[Queue], i: usize) -> Option<&Message>
     ensures { option_copied result ≡ first_of (slice_index_or queues.now i []) }
 {
     match queues.get(i) {
@@ -31,7 +31,7 @@ pub fn first_at(queues: &[Queue], i: usize) -> Option<&Message>
 }
 
 /// Takes the message that came first from the i-th queue.
-pub fn take_at(queues: &mut Vec<Queue>, i: usize) -> Option<Message>
+pub(crate) fn take_at(queues: &mut Vec<Queue>, i: usize) -> Option<Message>
     requires { i < vec_len queues.old }
     ensures first { result ≡ first_of (slice_index_or queues.old.items i []) }
     ensures others { queues.new.items
@@ -42,7 +42,7 @@ pub fn take_at(queues: &mut Vec<Queue>, i: usize) -> Option<Message>
 }
 
 /// Keeps in the i-th store what a receipt took: a value in its slot, and a label nowhere.
-pub fn keep_at(
+pub(crate) fn keep_at(
     alloc: Global,
     stores: &mut Vec<Store>,
     i: usize,

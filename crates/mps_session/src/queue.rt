@@ -10,7 +10,7 @@ use std::marker::Model;
 
 /// The messages from one role to another that aren't received yet, the oldest first.
 #[derive(Drop)]
-pub struct Queue {
+pub(crate) struct Queue {
     messages: VecDeque<Message>,
 }
 
@@ -25,7 +25,7 @@ impl Model for Queue {
 
 impl Queue {
     /// A queue in which nothing waits.
-    pub fn new(alloc: Global) -> Queue
+    pub(crate) fn new(alloc: Global) -> Queue
         ensures { result ≡ [] }
     {
         Queue {
@@ -34,7 +34,7 @@ impl Queue {
     }
 
     /// Puts a message behind all others.
-    pub fn push(&mut self, message: Message) -> Result<(), AllocError>
+    pub(crate) fn push(&mut self, message: Message) -> Result<(), AllocError>
         ensures ok { OnOk result (self.new ≡ self.old ++ message ∷ []) }
         ensures err { OnErr result (self.new ≡ self.old) }
     {
@@ -43,7 +43,7 @@ impl Queue {
     }
 
     /// Takes the message that came first.
-    pub fn take(&mut self) -> Option<Message>
+    pub(crate) fn take(&mut self) -> Option<Message>
         ensures first { result ≡ first_of self.old }
         ensures others { self.new ≡ drop 1 self.old }
     {
@@ -51,14 +51,14 @@ impl Queue {
     }
 
     /// The message that came first.
-    pub fn first(&self) -> Option<&Message>
+    pub(crate) fn first(&self) -> Option<&Message>
         ensures { option_copied result ≡ first_of self.now }
     {
         self.messages.front()
     }
 
     /// The k-th message that waits, from 0.
-    pub fn get(&self, k: usize) -> Option<&Message>
+    pub(crate) fn get(&self, k: usize) -> Option<&Message>
         ensures { option_copied result ≡ slice_get self.now k }
     {
         self.messages.get(k)

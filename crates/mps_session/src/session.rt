@@ -14,7 +14,7 @@ ghost use Rattle.mps_session.specs.Seen.{view_of};
 ghost use Rattle.mps_table.specs.Expects.{head_of};
 
 use crate::configuration::Configuration;
-use crate::open::{OpenFault, first_bad, first_faulty, first_stranger, opening};
+use crate::open::{OpenFault, first_bad_peer, first_bad_peer_of_any_size, first_faulty, opening};
 use mps_base::{Act, MAX_ROLES, MIN_ROLES, Message, Name, Role, Sort, Step, StepId, Value};
 use mps_command::{Done, Forward, Refusal};
 use mps_local::Local;
@@ -71,12 +71,13 @@ impl Session {
             return Err(OpenFault::RoleCount);
         }
         if let Some((role, fault)) = first_faulty(types.as_slice()) {
-            return Err(match first_stranger(types) {
+            // no session comes of these types, so they may be taken apart
+            return Err(match first_bad_peer_of_any_size(types) {
                 Some(role) => OpenFault::BadPeer { role },
                 None => OpenFault::Local { role, fault },
             });
         }
-        if let Some(role) = first_bad(types.as_slice()) {
+        if let Some(role) = first_bad_peer(types.as_slice()) {
             return Err(OpenFault::BadPeer { role });
         }
         let configuration = opening(alloc, types.as_slice())?;

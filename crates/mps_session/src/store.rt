@@ -12,7 +12,7 @@ use std::marker::Model;
 
 /// Slots and the values that were received into them, in the order in which the slots were first bound.
 #[derive(Drop)]
-pub struct Store {
+pub(crate) struct Store {
     bindings: Vec<(Name, Value)>,
 }
 
@@ -26,7 +26,7 @@ impl Model for Store {
 
 impl Store {
     /// A store in which no slot is bound.
-    pub fn new(alloc: Global) -> Store
+    pub(crate) fn new(alloc: Global) -> Store
         ensures { result ≡ [] }
     {
         Store {
@@ -35,7 +35,7 @@ impl Store {
     }
 
     /// The value in the slot.
-    pub fn get(&self, slot: &Name) -> Option<&Value>
+    pub(crate) fn get(&self, slot: &Name) -> Option<&Value>
         ensures { option_copied result ≡ value_in slot.now self.now }
     {
         match place_of(self.bindings.as_slice(), slot) {
@@ -45,7 +45,7 @@ impl Store {
     }
 
     /// Keeps what a receipt took: a value in its slot, and a label nowhere.
-    pub fn keep(
+    pub(crate) fn keep(
         &mut self,
         alloc: Global,
         slot: Option<Name>,

@@ -8,7 +8,7 @@ pub(crate) enum Entry {
     End,
     Send { peer: Role, sort: Sort, next: Node },
     Recv { peer: Role, sort: Sort, next: Node },
-    /// The place of the first label, and how many there are.
+    // of a choice the place of its first label, and how many there are
     Select { peer: Role, first: u16, count: u16 },
     Branch { peer: Role, first: u16, count: u16 },
 }

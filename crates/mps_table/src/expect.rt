@@ -4,7 +4,7 @@ ghost use Rattle.std.specs.Prelude.{◌≡◌, ◌<◌, ◌^◌};
 use mps_base::{Name, Role, Sort};
 use std::marker::Model;
 
-/// A place in the part of a role, of the table that gave it.
+/// A node of the table that gave it: a place in the part of a role.
 #[derive(Clone, Copy, Debug, PartialEq, Eq)]
 pub struct Node(u16);
 

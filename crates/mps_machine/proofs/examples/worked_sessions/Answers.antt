@@ -93,3 +93,7 @@ returns-clause-an_unexpected_message_is_a_mismatch c = (refl, refl, refl)
 pub returns-clause-a_slot_keeps_its_place : goal.returns-clause-a_slot_keeps_its_place
 unfolding unfolded
 returns-clause-a_slot_keeps_its_place c = refl
+
+pub returns-clause-a_loop_is_gone_round : goal.returns-clause-a_loop_is_gone_round
+unfolding unfolded
+returns-clause-a_loop_is_gone_round c = refl

@@ -9,4 +9,4 @@ returns-clause-positions c =
     let was = c.index_mut.result.now in
     let at = c.index_mut.ensures.value ∙ ap (λ (k : ℕ). get_or all k was) c.index.ensures.place in
     ap (λ (k : ℕ). map position (set all k c.go.new.self)) c.index.ensures.place
-    ∙ gone_on all c.args.role c.args.next (deed_of c.args.past) was c.go.new.self (omega (arith, c.requires.role, c.args.self.now.cursors.ok.0)) at c.go.ensures
+    ∙ gone_on all c.args.role c.args.node (deed_of c.args.past) was c.go.new.self (omega (arith, c.requires.role, c.args.self.now.cursors.ok.0)) at c.go.ensures

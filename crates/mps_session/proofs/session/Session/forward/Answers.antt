@@ -9,8 +9,8 @@ use Rattle.mps_session.specs.Held.{Holds}
 use Rattle.mps_session.proofs.Serving as serving
 use Rattle.mps_session.proofs.session.Session.forward.Goals as goal
 
-pub verdict-requires-clause-node : goal.verdict-requires-clause-node
-verdict-requires-clause-node c =
+pub verdict-requires-clause-stands : goal.verdict-requires-clause-stands
+verdict-requires-clause-stands c =
     let s = c.self.inside in
     serving.is_node (map plain s.types.items) (lists_of s.configuration) c.self.invariant c.args.self.now c.self.view_is c.args.role c.requires
 

@@ -16,6 +16,6 @@ invariant_of-result c =
     let kept = lists_of c.in_ok-configuration.configuration in
     let n : c.len-n.result ≡ length types = omega (arith, c.len-n.ensures, c.args.types.ok.0, length_map plain items) in
     let count : HasRoleCount types = record { some = omega (arith, n, c.if-n-lt-MIN_ROLES.false); few = omega (arith, n, c.if-n-gt-MAX_ROLES.false) } in
-    let peers = subst (λ (l : List Local). HavePeers (map plain l)) c.as_slice-2.ensures.value c.in_default-first_bad.ensures.none in
-    let opened = subst (λ (l : List Local). IsOpening (map plain l) kept) c.as_slice-3.ensures.value c.in_ok-configuration.ensures.opened in
+    let peers = subst (λ (l : List Local). HavePeers (map plain l)) c.as_slice-2.ensures.value c.in_default-first_bad_peer.ensures.none in
+    let opened = subst (λ (l : List Local). IsOpening (map plain l) kept) c.as_slice-3.ensures.value c.in_ok-configuration.ensures in
     opened_holds types kept count peers opened

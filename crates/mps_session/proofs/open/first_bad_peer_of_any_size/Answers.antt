@@ -7,8 +7,8 @@ use Rattle.mps_local.specs.Local.{plain}
 use Rattle.mps_session.specs.Peers.{HasPeers}
 use Rattle.mps_session.proofs.Strangers.{AreFrom, IsFirstBadFrom, bad_here, fine_from, fine_all}
 use Rattle.mps_session.proofs.Types.{length_map}
-use Rattle.mps_session.proofs.open.first_stranger.Goals as goal
-use Rattle.mps_session.proofs.open.first_stranger.Goals.{After-names_others}
+use Rattle.mps_session.proofs.open.first_bad_peer_of_any_size.Goals as goal
+use Rattle.mps_session.proofs.open.first_bad_peer_of_any_size.Goals.{After-names_others}
 
 -- the types are those that are left, this one, and those that were looked at
 split : (c : After-names_others) → c.args.types.items ≡ c.pop.new.self.items ++ c.in-Some.t ∷ c.loop-t.invariant.0.0
@@ -39,9 +39,9 @@ pub loop-t-preserved : goal.loop-t-preserved
 loop-t-preserved c =
     let l = (goal.at.loop-t-preserved c).After-names_others in
     let fine = subst (λ (T : Type 0). T) (asked l) (c.names_others.ensures.0 c.if-not-names_others.false) in
-    let some = subst (λ (n : ℕ). IfSome c.loop-t.stranger (IsFirstBadFrom (map plain c.args.types.items) n)) (left l) c.loop-t.invariant.1 in
-    let none = subst (λ (n : ℕ). IfNone c.loop-t.stranger (AreFrom (map plain c.args.types.items) n)) (left l) c.loop-t.invariant.2 in (
+    let some = subst (λ (n : ℕ). IfSome c.loop-t.found (IsFirstBadFrom (map plain c.args.types.items) n)) (left l) c.loop-t.invariant.1 in
+    let none = subst (λ (n : ℕ). IfNone c.loop-t.found (AreFrom (map plain c.args.types.items) n)) (left l) c.loop-t.invariant.2 in (
       (c.in-Some.t ∷ c.loop-t.invariant.0.0, split l),
-      fine_from plain c.args.types.items c.pop.new.self.items c.loop-t.invariant.0.0 c.in-Some.t (split l) fine c.loop-t.stranger some,
-      fine_all plain c.args.types.items c.pop.new.self.items c.loop-t.invariant.0.0 c.in-Some.t (split l) fine c.loop-t.stranger none,
+      fine_from plain c.args.types.items c.pop.new.self.items c.loop-t.invariant.0.0 c.in-Some.t (split l) fine c.loop-t.found some,
+      fine_all plain c.args.types.items c.pop.new.self.items c.loop-t.invariant.0.0 c.in-Some.t (split l) fine c.loop-t.found none,
     )
