@@ -364,7 +364,7 @@ fn sixteen_branches(alloc: Global) -> Result<Branches, Fail> {
     Ok(branches)
 }
 
-// Whether the command leads in the table to an output to that role, and to no other role.
+// Whether the command leads in the table to an output to that role, and to none to the sixth.
 fn leads_to(
     table: &Table,
     command: &Forward,
@@ -374,7 +374,7 @@ fn leads_to(
     let node = next_node(table, table.first(), command, first)
         .ok()
         .ok_or("a node")?;
-    let wrong = next_node(table, node, &send(7 - to, Value::Int(1)), None).err();
+    let wrong = next_node(table, node, &send(5, Value::Int(1)), None).err();
     let sent = next_node(table, node, &send(to, Value::Int(1)), None).err();
     Ok(wrong == Some(Violation::WrongPeer) && sent.is_none())
 }

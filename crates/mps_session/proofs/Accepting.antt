@@ -16,9 +16,9 @@ use Rattle.mps_local.specs.Local.{LocalType}
 use Rattle.mps_local.specs.Unfolding.{unfolded}
 use Rattle.mps_local.specs.Shape.{IsOtherRole}
 use Rattle.mps_machine.specs.View.{Store, Deed, Participant, View, opening, type_at}
-use Rattle.mps_machine.specs.Rule.{first_of, moved, type_after, advanced, participant_after, store_after, queue_after, view_after, rule, replay}
+use Rattle.mps_machine.specs.Rule.{first_of, moved, type_after, advanced, participant_after, store_after, queue_after, view_after, replay}
 use Rattle.mps_machine.specs.Violations.{violation}
-use Rattle.mps_machine.specs.Machine.{State, initial, most_numbers, view_of, accepted, IsSound}
+use Rattle.mps_machine.specs.Machine.{State, initial, most_numbers, view_of, IsSound}
 use Rattle.mps_machine.proofs.Defined.{allowed_step}
 use Rattle.mps_machine.proofs.Stepping.{map_some, rule_parts, rule_from, replay-append, replay_from, a_receipt_finds}
 use Rattle.mps_machine.proofs.Sound.{view_is, initial_sound, accepted_sound}

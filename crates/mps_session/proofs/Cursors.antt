@@ -1,8 +1,8 @@
 -- A cursor by its place.
-use Rattle.std.proofs.Common.{◌≡◌, ℕ, zero, suc, ◌<◌, List, [], ◌∷◌, length, get_or, set, map, refl, sym, ap, ◌∙◌, subst, arith}
+use Rattle.std.proofs.Common.{◌≡◌, ℕ, zero, suc, ◌<◌, List, [], ◌∷◌, length, get_or, set, map, refl, sym, ap, ◌∙◌, arith}
 use Rattle.std.proofs.Math.Seq.{map-set_same}
 use Rattle.mps_machine.specs.View.{Deed}
-use Rattle.mps_session.specs.Cursors.{Position, position, nowhere, went}
+use Rattle.mps_session.specs.Cursors.{position, nowhere, went}
 use Rattle.mps_session.specs.declared.cursor.Cursor.{Cursor}
 
 pub position_at : (cursors : List Cursor) (p : ℕ) (c : Cursor) → p < length cursors → c ≡ get_or cursors p c → get_or (map position cursors) p nowhere ≡ position c

@@ -1,5 +1,5 @@
 -- The node of a verdict stands for what the participant may do after the act.
-use Rattle.std.proofs.Common.{◌≡◌, ℕ, List, Option, Some, Result, Ok, Err, refl, sym, ap, ◌∙◌, subst}
+use Rattle.std.proofs.Common.{◌≡◌, ℕ, List, Option, Some, Result, Ok, Err, refl, sym, subst}
 use Rattle.std.specs.Prelude.{IsTrue, IfOk}
 use Rattle.std.specs.Option.{option_map}
 use Rattle.mps_base.specs.declared.action.Act.{Act}

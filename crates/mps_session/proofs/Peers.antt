@@ -1,5 +1,5 @@
 -- An allowed act names a peer of the type, and what is left of the type names no others.
-use Rattle.std.proofs.Common.{◌≡◌, ℕ, zero, suc, ◌<◌, Bool, true, false, List, Option, Some, None, refl, sym, ap, ◌∙◌, subst, ⊎_elim, cond}
+use Rattle.std.proofs.Common.{◌≡◌, ℕ, zero, suc, Bool, true, false, List, Option, Some, None, sym, subst, ⊎_elim, cond}
 use Rattle.std.specs.Prelude.{◌==◌, ◌&&◌}
 use Rattle.std.specs.Option.{option_map}
 use Rattle.std.specs.Str.{bytes_eq}
@@ -9,7 +9,6 @@ use Rattle.mps_base.specs.declared.action.Act.{Act}
 use Rattle.mps_base.specs.declared.action.Act.TheVariants.{Out, In, Mark}
 use Rattle.mps_base.specs.declared.action.Message.{Message}
 use Rattle.mps_base.specs.declared.action.Message.TheVariants.{Value as Plain, Label}
-use Rattle.mps_base.specs.declared.value.Sort.{Sort}
 use Rattle.mps_local.specs.Actions.{branch_at}
 use Rattle.mps_local.specs.Local.{LocalType, Branches, End, Var, Rec, Send, Recv, Select, Branch, NoMore, More}
 use Rattle.mps_local.specs.Shape.{AllPeers, AllBranchPeers}
@@ -17,7 +16,6 @@ use Rattle.mps_local.specs.Unfolding.{replaced, replaced_in, opened, opened_time
 use Rattle.mps_machine.specs.Rule.{type_after, advanced, participant_after}
 use Rattle.mps_machine.specs.View.{Participant}
 use Rattle.mps_machine.proofs.Stepping.{map_some}
-use Rattle.mps_session.specs.Peers.{HasPeers}
 
 module _ (P : ℕ → Type 0) (x : List ℕ) (t : LocalType) (fine : AllPeers P t) where
   mutual

@@ -1,5 +1,5 @@
 -- What the machine answers, from what a session keeps.
-use Rattle.std.proofs.Common.{◌≡◌, ℕ, ◌+◌, ◌<◌, ◌≤◌, List, length, map, Option, Some, None, Result, Ok, Err, refl, sym, ap, ◌∙◌, subst, arith}
+use Rattle.std.proofs.Common.{◌≡◌, ℕ, ◌<◌, ◌≤◌, List, length, Option, Some, None, Result, Ok, Err, sym, ap, ◌∙◌, arith}
 use Rattle.std.specs.Prelude.{nat_lt, is_ok, IsErrAnd}
 use Rattle.std.specs.Option.{option_map}
 use Rattle.std.proofs.lemmas.Result.{err_from_is_err_and}
@@ -13,11 +13,10 @@ use Rattle.mps_command.specs.declared.answer.Violation.{Violation}
 use Rattle.mps_local.specs.Local.{LocalType}
 use Rattle.mps_local.specs.Unfolding.{unfolded}
 use Rattle.mps_machine.specs.Machine.{State, most_numbers, view_of, accepted, taken, unless, full_fault, done_by, forward}
-use Rattle.mps_machine.specs.Rule.{moved, participant_after}
-use Rattle.mps_machine.specs.View.{Participant, View}
+use Rattle.mps_machine.specs.View.{View}
 use Rattle.mps_machine.specs.Violations.{act_fault, violation}
 use Rattle.mps_table.proofs.Standing.{node_stands}
-use Rattle.mps_table.specs.Graph.{Graph, IsNode}
+use Rattle.mps_table.specs.Graph.{IsNode}
 use Rattle.mps_table.specs.Standing.{StandsFor}
 use Rattle.mps_session.specs.Answers.{IsAnswer}
 use Rattle.mps_session.specs.Configurations.{Configuration, position_of, state_of, moved_in, StandsAt, fault_in, LeadsTo, IsReady, acted, done_in}

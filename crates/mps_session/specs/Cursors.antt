@@ -1,8 +1,6 @@
 -- Where a role stands in its part.
-use Rattle.std.specs.Prelude.{ℕ, List, [], ◌∷◌, ◌++◌, map, Option, Some, None}
-use Rattle.mps_base.specs.declared.action.Act.{Act}
+use Rattle.std.specs.Prelude.{ℕ, List, [], ◌∷◌, ◌++◌, map, Some, None}
 use Rattle.mps_base.specs.declared.action.Act.TheVariants.{Out, In, Mark}
-use Rattle.mps_base.specs.declared.action.Message.{Message}
 use Rattle.mps_machine.specs.View.{Deed}
 use Rattle.mps_table.specs.Graph.{Graph}
 use Rattle.mps_session.specs.declared.cursor.Cursor.{Cursor}

@@ -1,5 +1,5 @@
 -- What a session keeps of roles that did nothing yet.
-use Rattle.std.specs.Prelude.{◌≡◌, ℕ, ◌*◌, ⊤, List, [], ◌∷◌, length, replicate}
+use Rattle.std.specs.Prelude.{◌≡◌, ◌*◌, ⊤, List, [], ◌∷◌, length, replicate}
 use Rattle.mps_local.specs.Local.{LocalType}
 use Rattle.mps_table.specs.Standing.{StandsFor}
 use Rattle.mps_session.specs.Configurations.{Configuration}

@@ -1,4 +1,4 @@
-use Rattle.std.proofs.Common.{◌≡◌, ℕ, ◌<◌, length, map, Option, None, Some, sym, ap, ◌∙◌, subst, below_more}
+use Rattle.std.proofs.Common.{◌≡◌, ℕ, ◌<◌, map, None, sym, ap, ◌∙◌, subst, below_more}
 use Rattle.mps_local.specs.Local.{plain}
 use Rattle.mps_local.specs.LocalFaults.{local_fault_of}
 use Rattle.mps_machine.specs.View.{type_at}

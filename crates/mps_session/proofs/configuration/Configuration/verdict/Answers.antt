@@ -1,4 +1,4 @@
-use Rattle.std.proofs.Common.{◌≡◌, ℕ, Option, Some, map, get_or, sym, ap, ◌∙◌, subst, arith}
+use Rattle.std.proofs.Common.{◌≡◌, ℕ, Option, Some, get_or, sym, ap, ◌∙◌, subst, arith}
 use Rattle.std.specs.Prelude.{IfOk}
 use Rattle.mps_base.specs.declared.action.Message.{Message}
 use Rattle.mps_command.specs.Acts.{act_of}
@@ -8,7 +8,7 @@ use Rattle.mps_machine.specs.Rule.{type_after, participant_after}
 use Rattle.mps_machine.specs.View.{Participant}
 use Rattle.mps_table.specs.Standing.{StandsFor}
 use Rattle.mps_session.specs.Configurations.{lists_of, moved_in}
-use Rattle.mps_session.specs.Cursors.{Position, position}
+use Rattle.mps_session.specs.Cursors.{Position}
 use Rattle.mps_session.proofs.Cursors.{position_at}
 use Rattle.mps_session.proofs.Following.{follows_all}
 use Rattle.mps_session.proofs.configuration.Configuration.verdict.Goals as goal

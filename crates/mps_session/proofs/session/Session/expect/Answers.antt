@@ -1,13 +1,10 @@
-use Rattle.std.proofs.Common.{ℕ, arith, map, get_or, sym, ap, ◌∙◌, subst}
+use Rattle.std.proofs.Common.{ℕ, arith, map, get_or, ap, ◌∙◌, subst}
 use Rattle.mps_local.specs.Local.{plain}
-use Rattle.mps_local.specs.Unfolding.{unfolded}
-use Rattle.mps_table.proofs.Standing.{head_begins}
 use Rattle.mps_table.specs.Graph.{IsNode}
-use Rattle.mps_table.specs.Standing.{StandsFor}
 use Rattle.mps_session.specs.Configurations.{lists_of}
 use Rattle.mps_session.specs.Cursors.{Position, position}
 use Rattle.mps_session.proofs.Cursors.{position_at}
-use Rattle.mps_session.proofs.Serving.{in_positions, stands, is_node}
+use Rattle.mps_session.proofs.Serving.{in_positions, is_node}
 use Rattle.mps_session.proofs.Types.{length_map}
 use Rattle.mps_session.proofs.session.Session.expect.Goals as goal
 

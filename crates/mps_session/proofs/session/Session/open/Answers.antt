@@ -1,4 +1,4 @@
-use Rattle.std.proofs.Common.{◌≡◌, ℕ, List, length, map, subst, arith}
+use Rattle.std.proofs.Common.{◌≡◌, List, length, map, subst, arith}
 use Rattle.mps_base.specs.RoleLists.{HasRoleCount}
 use Rattle.mps_local.specs.declared.Local.{Local}
 use Rattle.mps_local.specs.Local.{plain}
