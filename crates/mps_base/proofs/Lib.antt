@@ -3,3 +3,4 @@ pub mod Numbers
 pub mod Values
 pub mod RoleLists
 pub mod Spaced
+mod Digits

@@ -3,11 +3,9 @@ use Rattle.std.proofs.Common.{◌≡◌, ℕ, suc, zero, ◌^◌, ◌<◌, List,
 use Rattle.std.specs.Prelude.{FitsSigned, Result, Ok, Err, is_ok, OnOk, if◌then◌else◌}
 use Rattle.std.specs.Int.{w64}
 use Rattle.std.specs.Fmt.{decimal, signed_decimal}
-use Rattle.std.specs.Str.{IsUtf8}
 use Rattle.std.specs.Str.Parse.{AllDigits, digits_value}
-use Rattle.std.proofs.lemmas.Str.{IsUtf8-from_ascii}
 use Rattle.std.proofs.lemmas.Str.Parse.{IsNumeralModel, numerals_by_value, tells_digits}
-use Rattle.std.proofs.lemmas.Fmt.{decimal_is_IsNumeral, decimal_nonempty, decimal_digit, first_decimal, decimal-digits_value, IsAscii-from_digits}
+use Rattle.std.proofs.lemmas.Fmt.{decimal_is_IsNumeral, decimal_nonempty, decimal_digit, first_decimal, decimal-digits_value}
 use Rattle.mps_base.specs.Appends.{Appends}
 use Rattle.mps_base.specs.Numbers.{IsNumberText, IsIntText}
 
@@ -33,9 +31,6 @@ number_is_decimal bytes n small h =
 
 pub same_number_text : (a b : List ℕ) (n : ℕ) → n < 2 ^ 64 → IsNumberText a n → IsNumberText b n → a ≡ b
 same_number_text a b n small p q = number_is_decimal a n small p ∙ sym (number_is_decimal b n small q)
-
-pub number_is_utf8 : (bytes : List ℕ) (n : ℕ) → IsNumberText bytes n → IsUtf8 bytes
-number_is_utf8 bytes n h = IsUtf8-from_ascii bytes (IsAscii-from_digits bytes h.digits)
 
 pub signed_is_int : (z : ℤ) → FitsSigned w64 z → IsIntText (signed_decimal z) z
 signed_is_int (pos n) fits =

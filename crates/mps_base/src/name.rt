@@ -1,9 +1,16 @@
 //! Names, kept inline.
 ghost use Rattle.std.specs.Prelude.{◌≡◌, ◌↔◌, IsTrue, IsSome, IfSome};
 ghost use Rattle.std.specs.List.{AllByRecursion};
+ghost use Rattle.std.specs.Str.{bytes_eq};
+ghost use Rattle.std.specs.Cmp.{partial_equiv_from_equiv};
+ghost use Rattle.std.specs.Cmp.Lexicographic.{nat_list_eq_equiv};
+ghost use Rattle.std.specs.Cmp.Rules.{hashing};
+ghost use Rattle.std.specs.Hash as fed;
+ghost use Rattle.std.proofs.Common.{rules};
 ghost use Rattle.mps_base.specs.Names.{IsName, IsNoneOf, is_name_byte, structure_words, sort_words, bool_words, reserved_words};
 
 use crate::inline::{Inline, MAX_WORD};
+use std::hash::{Hash, Hasher};
 use std::marker::Model;
 
 /// How many bytes a name may have.
@@ -11,7 +18,7 @@ pub const MAX_NAME: usize = MAX_WORD;
 
 /// The name of a role, a label, a slot or a mark: 1 to 32 small letters, digits and `_`, the first
 /// a letter, and no reserved word.
-#[derive(Clone, Copy, Debug, PartialEq, Eq)]
+#[derive(Clone, Copy, Debug)]
 pub struct Name(Inline);
 
 impl Model for Name {
@@ -25,6 +32,32 @@ impl Model for Name {
     ghost invariant = { λ n. IsName n.0 };
 
     ghost inverse = { λ l. record { 0 = l } };
+}
+
+impl PartialEq for Name {
+    ghost eq = { bytes_eq };
+
+    ghost laws = { partial_equiv_from_equiv nat_list_eq_equiv };
+
+    fn eq(&self, other: &Name) -> bool {
+        self.as_bytes() == other.as_bytes()
+    }
+}
+
+impl Eq for Name {
+    ghost laws = { nat_list_eq_equiv };
+}
+
+// As a text is hashed: its bytes, and then one that none has.
+impl Hash for Name {
+    ghost hash_input = { fed.str };
+
+    ghost respects_eq = { Prim.search (hashing, rules) };
+
+    fn hash<H: Hasher>(&self, state: &mut H) {
+        state.write(self.as_bytes());
+        state.write_u8(0xff);
+    }
 }
 
 impl Name {

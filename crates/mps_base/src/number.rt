@@ -1,11 +1,11 @@
 //! Whole numbers as text.
-ghost use Rattle.std.specs.Prelude.{◌≡◌, ℕ, ◌<◌, ◌^◌, ℤ, List, IfSome, IfNone, OnOk, OnErr};
+ghost use Rattle.std.specs.Prelude.{◌≡◌, ℕ, ◌<◌, ◌≤◌, ◌^◌, ℤ, List, IfSome, IfNone, OnOk, OnErr};
+ghost use Rattle.std.specs.Str.Parse.{AllDigits, digits_value};
 ghost use Rattle.mps_base.specs.Appends.{Appends};
 ghost use Rattle.mps_base.specs.Numbers.{IsNumberText, IsIntText};
 
 use itoa::Buffer;
 use std::alloc::AllocError;
-use std::str;
 
 /// Reads the number of a step: decimal digits, with no `0` in front of others.
 pub fn read_number(bytes: &[u8]) -> Option<u64>
@@ -13,17 +13,29 @@ pub fn read_number(bytes: &[u8]) -> Option<u64>
     ensures none { IfNone result ((n : ℕ) → n < 2 ^ 64 → IsNumberText bytes.now n → ⊥) }
 {
     match bytes {
-        // `parse` would take these
-        [b'+', ..] | [b'0', _, ..] => None,
-        _ => match str::from_utf8(bytes) {
-            Ok(text) => text.parse().ok(),
-            Err(_) => None,
-        },
+        [] | [b'0', _, ..] => None,
+        digits => read_digits(digits),
     }
+}
+
+// The number that these digits stand for, with any `0` in front.
+fn read_digits(digits: &[u8]) -> Option<u64>
+    ensures read { IfSome result (λ n. AllDigits 10 digits.now × (digits_value 10 digits.now ≡ n)) }
+    ensures none { IfNone result (AllDigits 10 digits.now → 2 ^ 64 ≤ digits_value 10 digits.now) }
+{
+    let mut n = 0u64;
+    for byte in digits {
+        if !byte.is_ascii_digit() {
+            return None;
+        }
+        n = n.checked_mul(10)?.checked_add(u64::from(byte - b'0'))?;
+    }
+    Some(n)
 }
 
 /// Writes the number of a step at the end.
 #[tactic(auto, using(crate::proofs::Numbers::decimal_is_number))]
+#[inline(always)]
 pub fn write_number(n: u64, out: &mut Vec<u8>) -> Result<(), AllocError>
     ensures ok { OnOk result (Appends (λ text. IsNumberText text n) out.old.items out.new.items) }
     ensures err { OnErr result (out.new.items ≡ out.old.items) }

@@ -33,11 +33,11 @@ impl Value {
         ensures memory { IsErrOf result ValueFault.Memory
             → (text : List ℕ) × SpellsValue bytes.now (values.Text text) }
     {
-        if let Some(b) = read_bool(bytes) {
-            return Ok(Value::Bool(b));
-        }
         if let Some(n) = read_int(bytes) {
             return Ok(Value::Int(n));
+        }
+        if let Some(b) = read_bool(bytes) {
+            return Ok(Value::Bool(b));
         }
         match unquoted(bytes) {
             Some(inside) => read_text(alloc, inside),

@@ -1,8 +1,13 @@
 -- A line is split in one place.
-use Rattle.std.proofs.Common.{arith, ◌≡◌, ◌≢◌, ℕ, List, [], ◌∷◌, refl, sym, ◌∙◌}
+use Rattle.std.proofs.Common.{arith, ◌≡◌, ◌≢◌, ℕ, true, false, List, [], ◌∷◌, ◌++◌, length, take, drop, refl, sym, ap, ◌∙◌}
+use mathlib.Core.Path.{ap₂}
 use Rattle.std.specs.Prelude.{All, IsTrue, Option, Some, None, IfNone}
 use Rattle.std.specs.List.{AllByRecursion}
+use Rattle.std.specs.Str.{bytes_eq}
 use Rattle.std.specs.Str.Parse.{AllDigits}
+use Rattle.std.proofs.Math.Seq.{take-append_seam}
+use Rattle.std.proofs.lemmas.List.{take-append-drop}
+use Rattle.std.proofs.lemmas.Slice.Eq.{bytes_eq-Decides}
 use Rattle.std.proofs.lemmas.List.Elements.{recursion_from_All}
 use Rattle.std.proofs.lemmas.Str.Parse.{digit_from_value}
 use Rattle.mps_base.specs.Names.{IsName, is_name_byte}
@@ -104,3 +109,13 @@ alone names bytes t h = by_spellings h.spellings h.joined h.each
 
 pub line_of_one : (names : List (List ℕ)) (bytes : List ℕ) (t : Token) → SpellsToken names bytes t → SpellsLine names bytes (t ∷ [])
 line_of_one names bytes t h = record { spellings = bytes ∷ []; joined = refl; each = (h, tt) }
+
+-- a word in front of bytes, as their front is compared with it
+pub in_front : (bytes word rest : List ℕ) → bytes_eq (take (length word) bytes) word ≡ true → rest ≡ drop (length word) bytes → bytes ≡ word ++ rest
+in_front bytes word rest same behind =
+    sym (take-append-drop (length word) bytes) ∙ ap₂ (λ (a b : List ℕ). a ++ b) ((bytes_eq-Decides (take (length word) bytes) word).0 same) (sym behind)
+
+pub not_in_front : (bytes word rest : List ℕ) → bytes_eq (take (length word) bytes) word ≡ false → bytes ≢ word ++ rest
+not_in_front bytes word rest other is =
+    let yes = (bytes_eq-Decides (take (length word) bytes) word).1 (ap (take (length word)) is ∙ take-append_seam word rest) in
+    absurd (let bad : true ≡ false = sym yes ∙ other in cc)

@@ -28,6 +28,15 @@ pub(crate) fn split_at_space(bytes: &[u8]) -> Option<(&[u8], &[u8])>
     Some((&bytes[..place], &bytes[place + 1..]))
 }
 
+// What stands behind the word and a space.
+pub(crate) fn behind<'a>(bytes: &'a [u8], word: &[u8]) -> Option<&'a [u8]>
+    ensures read { IfSome result (λ rest. bytes.now ≡ spaced (word.now ∷ rest.now ∷ [])) }
+    ensures none { IfNone result ((rest : List ℕ) → bytes.now ≢ spaced (word.now ∷ rest ∷ [])) }
+{
+    let (first, rest) = bytes.strip_prefix(word)?.split_first()?;
+    if *first == b' ' { Some(rest) } else { None }
+}
+
 // The role of that name.
 pub(crate) fn read_role(roles: &Roles, bytes: &[u8]) -> Option<Role>
     ensures read { IfSome result (SpellsRole roles.now bytes.now) }
@@ -38,6 +47,7 @@ pub(crate) fn read_role(roles: &Roles, bytes: &[u8]) -> Option<Role>
 
 // The role whose name stands before the first space, and what stands behind it.
 #[tactic(auto, using(crate::proofs::Splitting::no_role_alone))]
+#[inline(always)]
 pub(crate) fn split_role<'a>(roles: &Roles, bytes: &'a [u8]) -> Option<(Role, &'a [u8])>
     ensures read { IfSome result (λ r. BeginsWith roles.now bytes.now (RoleAt r.0) r.1.now) }
     ensures rest { IfSome result (λ r. (role : ℕ) (rest : List ℕ)

@@ -9,7 +9,7 @@ ghost use Rattle.mps_line.specs.declared.script.Verb.{Verb};
 ghost use Rattle.mps_line.specs.Tokens.{RoleAt, Worth, SpellsLine};
 ghost use Rattle.mps_line.specs.Commands.{verb_word, verb_of, arguments, SpellsCommand, SpellsScriptLine};
 
-use crate::parts::{read_role, read_role_and_name, split_at_space, split_role};
+use crate::parts::{behind, read_role, read_role_and_name, split_role};
 use mps_base::{Name, Role, Roles, Value, ValueFault};
 use mps_command::Forward;
 use std::alloc::Global;
@@ -78,23 +78,19 @@ fn split_verb(bytes: &[u8]) -> Option<(Verb, &[u8])>
     ensures none { IfNone result ((verb : Verb) (rest : List ℕ)
         → bytes.now ≢ spaced (verb_word verb ∷ rest ∷ [])) }
 {
-    let (word, rest) = split_at_space(bytes)?;
-    Some((read_verb(word)?, rest))
-}
-
-// The verb of that word.
-fn read_verb(word: &[u8]) -> Option<Verb>
-    ensures read { IfSome result (λ verb. word.now ≡ verb_word verb) }
-    ensures none { IfNone result ((verb : Verb) → word.now ≢ verb_word verb) }
-{
-    match word {
-        b"send" => Some(Verb::Send),
-        b"choose" => Some(Verb::Choose),
-        b"recv" => Some(Verb::Receive),
-        b"pick" => Some(Verb::Pick),
-        b"mark" => Some(Verb::Mark),
-        _ => None,
+    if let Some(rest) = behind(bytes, b"send") {
+        return Some((Verb::Send, rest));
     }
+    if let Some(rest) = behind(bytes, b"recv") {
+        return Some((Verb::Receive, rest));
+    }
+    if let Some(rest) = behind(bytes, b"choose") {
+        return Some((Verb::Choose, rest));
+    }
+    if let Some(rest) = behind(bytes, b"pick") {
+        return Some((Verb::Pick, rest));
+    }
+    Some((Verb::Mark, behind(bytes, b"mark")?))
 }
 
 // The command of that verb with these arguments.

@@ -15,7 +15,7 @@ use Rattle.mps_history.specs.Steps.{sends, receives}
 use Rattle.mps_local.specs.Local.{LocalType}
 use Rattle.mps_local.specs.Unfolding.{unfolded}
 use Rattle.mps_local.specs.Shape.{IsOtherRole}
-use Rattle.mps_machine.specs.View.{Store, Deed, Participant, View, opening, type_at}
+use Rattle.mps_machine.specs.View.{Store, Participant, View, opening, type_at}
 use Rattle.mps_machine.specs.Rule.{first_of, moved, type_after, advanced, participant_after, store_after, queue_after, view_after, replay}
 use Rattle.mps_machine.specs.Violations.{violation}
 use Rattle.mps_machine.specs.Machine.{State, initial, most_numbers, view_of, IsSound}
@@ -23,10 +23,11 @@ use Rattle.mps_machine.proofs.Defined.{allowed_step}
 use Rattle.mps_machine.proofs.Stepping.{map_some, rule_parts, rule_from, replay-append, replay_from, a_receipt_finds}
 use Rattle.mps_machine.proofs.Sound.{view_is, initial_sound, accepted_sound}
 use Rattle.mps_table.specs.Standing.{StandsFor}
-use Rattle.mps_session.specs.Configurations.{Configuration, position_of, store_of, queue_of, state_of, IsWhole, moved_in, IsReady, queues_after, acted}
-use Rattle.mps_session.specs.Cursors.{Position, nowhere, went}
-use Rattle.mps_session.specs.Held.{IsOf, ArePositions, AreStores, AreQueues, Holds}
-use Rattle.mps_session.specs.Opening.{IsStart, AreStarts, IsOpening}
+use Rattle.mps_session.specs.Configurations.{Configuration, cursor_of, store_of, queue_of, state_of, IsWhole, moved_in, IsReady, queues_after, acted}
+use Rattle.mps_session.specs.Cursors.{IsFor, nowhere, went}
+use Rattle.mps_session.specs.declared.cursor.Cursor.{Cursor}
+use Rattle.mps_session.specs.Held.{AreCursors, AreStores, AreQueues, Holds}
+use Rattle.mps_session.specs.Opening.{AreStarts, IsOpening}
 use Rattle.mps_session.specs.Peers.{HasPeers, HavePeers}
 use Rattle.mps_session.proofs.Peers.{Speaks, after_peers}
 
@@ -97,31 +98,27 @@ past_last [] i d h = refl
 past_last (x ∷ xs) zero d h = absurd (omega arith)
 past_last (x ∷ xs) (suc i) d h = past_last xs i d (omega arith)
 
--- what stands at the place of an act's role, and in its store, after the act
-kept_after : (before after : Participant) (act : Act) (m : Option Message) → participant_after before act m ≡ Some after → (after.past ≡ before.past ++ record { act = act; moved = m } ∷ []) × (after.store ≡ store_after before.store act m)
-kept_after before after (Mark name) m e =
+-- the store of an act's role after the act
+store_then : (before after : Participant) (act : Act) (m : Option Message) → participant_after before act m ≡ Some after → after.store ≡ store_after before.store act m
+store_then before after (Mark name) m e =
     let is : advanced before (Mark name) m before.to_come ≡ after = cc in
-    (sym (ap (λ (x : Participant). x.past) is), sym (ap (λ (x : Participant). x.store) is))
-kept_after before after (Out to x) m e =
-    let k = map_some (advanced before (Out to x) m) (type_after (unfolded before.to_come) (Out to x) m) after e in
-    (sym (ap (λ (x : Participant). x.past) k.2), sym (ap (λ (x : Participant). x.store) k.2))
-kept_after before after (In from slot) m e =
-    let k = map_some (advanced before (In from slot) m) (type_after (unfolded before.to_come) (In from slot) m) after e in
-    (sym (ap (λ (x : Participant). x.past) k.2), sym (ap (λ (x : Participant). x.store) k.2))
+    sym (ap (λ (x : Participant). x.store) is)
+store_then before after (Out to x) m e = sym (ap (λ (x : Participant). x.store) (map_some (advanced before (Out to x) m) (type_after (unfolded before.to_come) (Out to x) m) after e).2)
+store_then before after (In from slot) m e = sym (ap (λ (x : Participant). x.store) (map_some (advanced before (In from slot) m) (type_after (unfolded before.to_come) (In from slot) m) after e).2)
 
 first_is_some : (queue : List Message) → 0 < length queue → IsSome (first_of queue)
 first_is_some [] h = absurd (omega arith)
 first_is_some (m ∷ queue) h = refl
 
 -- an allowed act names a role of the session, and finds the message that it takes
-ready_act : (c : Configuration) (n p : ℕ) (before after : Participant) (act : Act) → length c.positions ≡ n → Speaks (IsOtherRole n p) act → participant_after before act (moved_in c p act) ≡ Some after → IsReady c p act
+ready_act : (c : Configuration) (n p : ℕ) (before after : Participant) (act : Act) → length c.cursors ≡ n → Speaks (IsOtherRole n p) act → participant_after before act (moved_in c p act) ≡ Some after → IsReady c p act
 ready_act c n p before after (Out to m) many s e = omega (arith, many, s.0)
 ready_act c n p before after (In from slot) many s e =
     (omega (arith, many, s.0), first_is_some (queue_of c from p) (a_receipt_finds before after (queue_of c from p) from slot e))
 ready_act c n p before after (Mark name) many s e = tt
 
 -- the queues after an act
-queues_then : (c : Configuration) (n p id : ℕ) (v : View) (after : Participant) (act : Act) → length c.positions ≡ n → p < n → Speaks (IsOtherRole n p) act → AreQueues n c.queues v → AreQueues n (queues_after c p act) (view_after v (record { id = id; role = p; act = act }) after)
+queues_then : (c : Configuration) (n p id : ℕ) (v : View) (after : Participant) (act : Act) → length c.cursors ≡ n → p < n → Speaks (IsOtherRole n p) act → AreQueues n c.queues v → AreQueues n (queues_after c p act) (view_after v (record { id = id; role = p; act = act }) after)
 queues_then c n p id v after (Out to m) many less k was =
     let s : Step = record { id = id; role = p; act = Out to m } in
     let here = ap (λ (l : List Message). l ++ m ∷ []) (was.each p to less k.0)
@@ -150,8 +147,8 @@ module _ (types : List LocalType) (c : Configuration) (holds : Holds types c) wh
   abbrev v : View
   v = view_of types c.history
 
-  many : length c.positions ≡ n
-  many = holds.positions.long
+  many : length c.cursors ≡ n
+  many = holds.cursors.long
 
   pub whole : IsWhole c
   whole = record {
@@ -197,7 +194,7 @@ module _ (types : List LocalType) (c : Configuration) (holds : Holds types c) wh
     stepped = subst (λ (m : Option Message). participant_after (v.participant p) act m ≡ Some after) (moves_the_same p act less) moves
 
     peers_then : Speaks (IsOtherRole n p) act × HasPeers n p after.to_come
-    peers_then = after_peers (IsOtherRole n p) (v.participant p) after act (moved v p act) (holds.positions.peers p less) stepped
+    peers_then = after_peers (IsOtherRole n p) (v.participant p) after act (moved v p act) (holds.cursors.peers p less) stepped
 
     pub ready : IsReady c p act
     ready = ready_act c n p (v.participant p) after act many peers_then.0 moves
@@ -208,27 +205,20 @@ module _ (types : List LocalType) (c : Configuration) (holds : Holds types c) wh
         ap (λ (o : Option View). unwrap_or o (opening types))
         (replay-append (opening types) v c.history (then ∷ []) replayed ∙ replay_from v (view_after v then after) then [] (rule_from v then after stepped))
 
-    abbrev deed : Deed
-    deed = record { act = act; moved = moved_in c p act }
+    module _ (node : ℕ) (stands : StandsFor (cursor_of c p).table node after.to_come) where
+      abbrev new : Cursor
+      new = went node (cursor_of c p)
 
-    kept_then : (after.past ≡ (v.participant p).past ++ deed ∷ []) × (after.store ≡ store_after (v.participant p).store act (moved_in c p act))
-    kept_then = kept_after (v.participant p) after act (moved_in c p act) moves
-
-    module _ (node : ℕ) (stands : StandsFor (position_of c p).graph node after.to_come) where
-      abbrev new : Position
-      new = went node deed (position_of c p)
-
-      positions_then : ArePositions n (set c.positions p new) (view_after v then after)
-      positions_then =
-          let inside : p < length c.positions = omega (arith, many) in
-          let here : IsOf new after = record { stands = stands; past = ap (λ (l : List Deed). l ++ deed ∷ []) (holds.positions.each p less).past ∙ sym kept_then.0 } in
+      cursors_then : AreCursors n (set c.cursors p new) (view_after v then after)
+      cursors_then =
+          let inside : p < length c.cursors = omega (arith, many) in
           record {
-            long = length-set c.positions p new ∙ many;
-            peers = λ r within. fact_by_role (λ k part. HasPeers n k part.to_come) v then after r peers_then.1 (λ ne. holds.positions.peers r within);
+            long = length-set c.cursors p new ∙ many;
+            peers = λ r within. fact_by_role (λ k part. HasPeers n k part.to_come) v then after r peers_then.1 (λ ne. holds.cursors.peers r within);
             each = λ r within.
-                fact_by_role (λ k part. IsOf (get_or (set c.positions p new) k nowhere) part) v then after r
-                (subst (λ (x : Position). IsOf x after) (sym (get_or-set_same c.positions p new nowhere inside)) here)
-                (λ ne. subst (λ (x : Position). IsOf x (v.participant r)) (sym (get_or-set_other c.positions p r new nowhere ne)) (holds.positions.each r within));
+                fact_by_role (λ k part. IsFor (get_or (set c.cursors p new) k nowhere) part.to_come) v then after r
+                (subst (λ (x : Cursor). IsFor x after.to_come) (sym (get_or-set_same c.cursors p new nowhere inside)) stands)
+                (λ ne. subst (λ (x : Cursor). IsFor x (v.participant r).to_come) (sym (get_or-set_other c.cursors p r new nowhere ne)) (holds.cursors.each r within));
           }
 
       stores_then : AreStores n (set c.stores p (store_after (store_of c p) act (moved_in c p act))) (view_after v then after)
@@ -239,7 +229,7 @@ module _ (types : List LocalType) (c : Configuration) (holds : Holds types c) wh
             long = length-set {A = Store} c.stores p kept ∙ holds.stores.long;
             each = λ r.
                 by_role (λ part. part.store) v then after (λ k. get_or (set c.stores p kept) k [])
-                (get_or-set_same c.stores p kept [] inside ∙ ap (λ (l : Store). store_after l act (moved_in c p act)) (holds.stores.each p) ∙ sym kept_then.1)
+                (get_or-set_same c.stores p kept [] inside ∙ ap (λ (l : Store). store_after l act (moved_in c p act)) (holds.stores.each p) ∙ sym (store_then (v.participant p) after act (moved_in c p act) moves))
                 (λ k ne. get_or-set_other c.stores p k kept [] ne ∙ holds.stores.each k) r;
           }
 
@@ -248,7 +238,7 @@ module _ (types : List LocalType) (c : Configuration) (holds : Holds types c) wh
       acted_holds room = record {
         sound = accepted_sound types (state_of c) p act holds.sound fine;
         roles = holds.roles;
-        positions = subst (ArePositions n (set c.positions p new)) (sym new_view) positions_then;
+        cursors = subst (AreCursors n (set c.cursors p new)) (sym new_view) cursors_then;
         stores = subst (AreStores n (set c.stores p (store_after (store_of c p) act (moved_in c p act)))) (sym new_view) stores_then;
         queues = subst (AreQueues n (queues_after c p act)) (sym new_view) (queues_then c n p c.next v after act many less peers_then.0 holds.queues);
         some = omega arith;
@@ -261,28 +251,28 @@ get_or-same zero i x = refl
 get_or-same (suc n) zero x = refl
 get_or-same (suc n) (suc i) x = get_or-same n i x
 
-starts_long : (types : List LocalType) (positions : List Position) → AreStarts types positions → length positions ≡ length types
+starts_long : (types : List LocalType) (cursors : List Cursor) → AreStarts types cursors → length cursors ≡ length types
 starts_long [] [] a = refl
-starts_long [] (x ∷ positions) a = absurd a
+starts_long [] (x ∷ cursors) a = absurd a
 starts_long (t ∷ types) [] a = absurd a
-starts_long (t ∷ types) (x ∷ positions) a = ap suc (starts_long types positions a.1)
+starts_long (t ∷ types) (x ∷ cursors) a = ap suc (starts_long types cursors a.1)
 
-start_at : (types : List LocalType) (positions : List Position) (p : ℕ) → AreStarts types positions → p < length types → IsStart (type_at types p) (get_or positions p nowhere)
-start_at [] positions p a h = absurd (omega arith)
+start_at : (types : List LocalType) (cursors : List Cursor) (p : ℕ) → AreStarts types cursors → p < length types → IsFor (get_or cursors p nowhere) (type_at types p)
+start_at [] cursors p a h = absurd (omega arith)
 start_at (t ∷ types) [] p a h = absurd a
-start_at (t ∷ types) (x ∷ positions) zero a h = a.0
-start_at (t ∷ types) (x ∷ positions) (suc p) a h = start_at types positions p a.1 (omega arith)
+start_at (t ∷ types) (x ∷ cursors) zero a h = a.0
+start_at (t ∷ types) (x ∷ cursors) (suc p) a h = start_at types cursors p a.1 (omega arith)
 
 -- nothing was done yet
 pub opened_holds : (types : List LocalType) (c : Configuration) → HasRoleCount types → HavePeers types → IsOpening types c → Holds types c
 opened_holds types c count peers o = record {
   sound = subst (IsSound types) (sym state) (initial_sound types);
   roles = count;
-  positions = subst (λ (h : List Step). ArePositions (length types) c.positions (view_of types h)) (sym o.history)
+  cursors = subst (λ (h : List Step). AreCursors (length types) c.cursors (view_of types h)) (sym o.history)
       (record {
-        long = starts_long types c.positions o.positions;
+        long = starts_long types c.cursors o.cursors;
         peers = peers;
-        each = λ p h. let s = start_at types c.positions p o.positions h in record { stands = s.stands; past = s.past };
+        each = λ p h. start_at types c.cursors p o.cursors h;
       });
   stores = subst (λ (h : List Step). AreStores (length types) c.stores (view_of types h)) (sym o.history)
       (record {

@@ -19,7 +19,7 @@ use Rattle.mps_table.proofs.Standing.{node_stands}
 use Rattle.mps_table.specs.Graph.{IsNode}
 use Rattle.mps_table.specs.Standing.{StandsFor}
 use Rattle.mps_session.specs.Answers.{IsAnswer}
-use Rattle.mps_session.specs.Configurations.{Configuration, position_of, state_of, moved_in, StandsAt, fault_in, LeadsTo, IsReady, acted, done_in}
+use Rattle.mps_session.specs.Configurations.{Configuration, cursor_of, state_of, moved_in, StandsAt, fault_in, LeadsTo, IsReady, acted, done_in}
 use Rattle.mps_session.specs.Held.{Holds}
 use Rattle.mps_session.specs.Seen.{Machine}
 use Rattle.mps_session.proofs.Accepting as accepting
@@ -49,17 +49,17 @@ module _ (types : List LocalType) (c : Configuration) (holds : Holds types c) (n
   pub in_types : p < length types
   in_types = omega (arith, within, ap (λ (m : Machine). length m.types) is)
 
-  pub in_positions : p < length c.positions
-  in_positions = omega (arith, in_types, holds.positions.long)
+  pub in_cursors : p < length c.cursors
+  in_cursors = omega (arith, in_types, holds.cursors.long)
 
   abbrev v : View
   v = view_of types c.history
 
   pub stands : StandsAt c p (v.participant p).to_come
-  stands = (holds.positions.each p in_types).stands
+  stands = holds.cursors.each p in_types
 
-  pub is_node : IsNode (position_of c p).graph (position_of c p).node
-  is_node = node_stands (position_of c p).graph (position_of c p).node (v.participant p).to_come stands
+  pub is_node : IsNode (cursor_of c p).table (cursor_of c p).node
+  is_node = node_stands (cursor_of c p).table (cursor_of c p).node (v.participant p).to_come stands
 
   module _ (act : Act) where
     machine_is : forward types (state_of c) p act ≡ forward now.types now.state p act
@@ -75,7 +75,7 @@ module _ (types : List LocalType) (c : Configuration) (holds : Holds types c) (n
     refused fault each =
         ap (λ (r : Result Done Refusal × State). r.0) (sym (answers_fault types (state_of c) p act fault (found (Some fault) each)) ∙ machine_is)
 
-    module _ (each : (t : LocalType) → StandsFor (position_of c p).graph (position_of c p).node t → act_fault (unfolded t) act (moved_in c p act) ≡ None) where
+    module _ (each : (t : LocalType) → StandsFor (cursor_of c p).table (cursor_of c p).node t → act_fault (unfolded t) act (moved_in c p act) ≡ None) where
       pub fine : violation v p act ≡ None
       fine = found None each
 

@@ -1,11 +1,12 @@
--- Positions at which nothing was done yet, one more each time.
+-- Cursors at the beginnings of types, one more each time.
 use Rattle.std.proofs.Common.{List, [], ◌∷◌, ◌++◌}
 use Rattle.mps_local.specs.Local.{LocalType}
-use Rattle.mps_session.specs.Cursors.{Position}
-use Rattle.mps_session.specs.Opening.{IsStart, AreStarts}
+use Rattle.mps_session.specs.Cursors.{IsFor}
+use Rattle.mps_session.specs.declared.cursor.Cursor.{Cursor}
+use Rattle.mps_session.specs.Opening.{AreStarts}
 
-pub starts_push : (types : List LocalType) (positions : List Position) (t : LocalType) (c : Position) → AreStarts types positions → IsStart t c → AreStarts (types ++ t ∷ []) (positions ++ c ∷ [])
+pub starts_push : (types : List LocalType) (cursors : List Cursor) (t : LocalType) (c : Cursor) → AreStarts types cursors → IsFor c t → AreStarts (types ++ t ∷ []) (cursors ++ c ∷ [])
 starts_push [] [] t c a s = (s, tt)
-starts_push [] (x ∷ positions) t c a s = absurd a
+starts_push [] (x ∷ cursors) t c a s = absurd a
 starts_push (u ∷ types) [] t c a s = absurd a
-starts_push (u ∷ types) (x ∷ positions) t c a s = (a.0, starts_push types positions t c a.1 s)
+starts_push (u ∷ types) (x ∷ cursors) t c a s = (a.0, starts_push types cursors t c a.1 s)

@@ -3,23 +3,18 @@ use Rattle.std.specs.Prelude.{◌≡◌, ℕ, ◌+◌, ◌*◌, ◌<◌, ◌≤�
 use Rattle.mps_base.specs.RoleLists.{HasRoleCount}
 use Rattle.mps_base.specs.declared.action.Message.{Message}
 use Rattle.mps_local.specs.Local.{LocalType}
-use Rattle.mps_machine.specs.View.{Store, Participant, View}
+use Rattle.mps_machine.specs.View.{Store, View}
 use Rattle.mps_machine.specs.Machine.{most_numbers, view_of, IsSound}
-use Rattle.mps_table.specs.Standing.{StandsFor}
 use Rattle.mps_session.specs.Configurations.{Configuration, state_of}
-use Rattle.mps_session.specs.Cursors.{Position, nowhere}
+use Rattle.mps_session.specs.Cursors.{IsFor, nowhere}
+use Rattle.mps_session.specs.declared.cursor.Cursor.{Cursor}
 use Rattle.mps_session.specs.Peers.{HasPeers}
 
--- the node stands for what the role may still do, and the past is what it did
-pub record IsOf (c : Position) (part : Participant) : Type 0 where
-  pub stands : StandsFor c.graph c.node part.to_come
-  pub past : c.past ≡ part.past
-
--- a position for each role, whose peers are other roles
-pub record ArePositions (n : ℕ) (positions : List Position) (v : View) : Type 0 where
-  pub long : length positions ≡ n
+-- a cursor for each role, for what it may still do; its peers are other roles
+pub record AreCursors (n : ℕ) (cursors : List Cursor) (v : View) : Type 0 where
+  pub long : length cursors ≡ n
   pub peers : (p : ℕ) → p < n → HasPeers n p (v.participant p).to_come
-  pub each : (p : ℕ) → p < n → IsOf (slice_index_or positions p nowhere) (v.participant p)
+  pub each : (p : ℕ) → p < n → IsFor (slice_index_or cursors p nowhere) (v.participant p).to_come
 
 -- a store for each role: what the role keeps
 pub record AreStores (n : ℕ) (kept : List Store) (v : View) : Type 0 where
@@ -37,7 +32,7 @@ pub record AreQueues (n : ℕ) (waiting : List (List Message)) (v : View) : Type
 pub record Holds (types : List LocalType) (c : Configuration) : Type 0 where
   pub sound : IsSound types (state_of c)
   pub roles : HasRoleCount types
-  pub positions : ArePositions (length types) c.positions (view_of types c.history)
+  pub cursors : AreCursors (length types) c.cursors (view_of types c.history)
   pub stores : AreStores (length types) c.stores (view_of types c.history)
   pub queues : AreQueues (length types) c.queues (view_of types c.history)
   pub some : 1 ≤ c.next

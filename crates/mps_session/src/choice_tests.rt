@@ -1,49 +1,14 @@
 use super::*;
-use crate::tests::{answer, name, open_fault, receive, role_of, send};
-use mps_base::{Message, Name, Role, Sort, StepId, Text, Value, VarName};
+use crate::tests::Line::{Asks, Count, Keeps, Step, Waits};
+use crate::tests::{A, Ask, B, C, Line, Opening, answer, name, outcome_of_opening, play, role_of};
+use mps_base::{Name, Role, Sort, Value, VarName};
 use mps_local::{Branches, Local};
 use std::alloc::Global;
 use std::test::Fail;
 
-// The roles by their places.
-const A: u8 = 0;
-
-const B: u8 = 1;
-
-const C: u8 = 2;
-
 fn variable(text: &str) -> Result<VarName, Fail> {
     Ok(VarName::read(text.as_bytes()).ok_or("a variable")?)
 }
-
-// What a role asks for, with the peer's place.
-#[derive(Clone, Copy)]
-enum Ask {
-    Send(u8, &'static str),
-    Choose(u8, &'static str),
-    Receive(u8, &'static str),
-    Pick(u8),
-    Mark(&'static str),
-}
-
-// The command that is asked for.
-fn command(alloc: Global, ask: Ask) -> Result<Forward, Fail> {
-    Ok(match ask {
-        Ask::Send(to, value) => send(to, Value::read(alloc, value.as_bytes())?),
-        Ask::Choose(to, label) => Forward::Choose {
-            to: Role::new(to),
-            label: name(label)?,
-        },
-        Ask::Receive(from, slot) => receive(from, name(slot)?),
-        Ask::Pick(from) => Forward::Pick {
-            from: Role::new(from),
-        },
-        Ask::Mark(mark) => Forward::Mark { name: name(mark)? },
-    })
-}
-
-// The role at that place, what it asks for, and what it is answered.
-type Row = (u8, Ask, &'static str);
 
 // A choice of these labels, each with the type behind it, that is made or taken.
 fn choice(
@@ -93,46 +58,6 @@ fn looping(alloc: Global) -> Result<Vec<Local>, Fail> {
     Ok(vec![in alloc; a, b]?)
 }
 
-// What a message says, as it is written.
-fn written(alloc: Global, message: &Message) -> Result<String, Fail> {
-    let mut bytes = Vec::new(alloc);
-    match message {
-        Message::Value(value) => value.write(&mut bytes)?,
-        Message::Label(label) => bytes.extend_from_slice(label.as_bytes())?,
-    }
-    Ok(String::from_utf8(bytes)?)
-}
-
-// What a role is answered: the step's number and what it took, or the refusal.
-fn told(alloc: Global, answer: Result<Done, Refusal>) -> Result<String, Fail> {
-    let done = match answer {
-        Err(Refusal::Violation(fault)) => return Ok(format!(in alloc; "{fault:?}")?),
-        Err(refusal) => return Ok(format!(in alloc; "{refusal:?}")?),
-        Ok(done) => done,
-    };
-    let number = done.id.number();
-    match done.got {
-        None => Ok(format!(in alloc; "{number}")?),
-        Some(message) => {
-            let message = written(alloc, &message)?;
-            Ok(format!(in alloc; "{number} {message}")?)
-        }
-    }
-}
-
-// Gives the commands to the session, each of the role at its place, and looks at the answers.
-fn converse(alloc: Global, session: &mut Session, rows: &[Row]) -> Result<(), Fail> {
-    for (place, ask, wanted) in rows {
-        let command = command(alloc, *ask)?;
-        let answer = answer(session, *place, command)?;
-        let told = told(alloc, answer)?;
-        if told.as_str() != *wanted {
-            return Err(Fail::from(format!(in alloc; "{told} for {wanted}")?));
-        }
-    }
-    Ok(())
-}
-
 // What a role is expected to do: the word for it, the peer, the sort and the labels.
 type Shown<'a> = (&'a str, u8, Option<Sort>, &'a [&'a str]);
 
@@ -161,66 +86,59 @@ fn shows(session: &Session, place: u8, wanted: &Shown<'_>) -> Result<bool, Fail>
     )
 }
 
-const ROUND: &[Row] = &[
-    (A, Ask::Choose(B, "go"), "1"),
-    (B, Ask::Pick(A), "2 go"),
-    (B, Ask::Send(A, "\"good day\""), "3"),
-    (A, Ask::Choose(B, "stop"), "WrongAct"),
-    (A, Ask::Receive(B, "w"), "4 \"good day\""),
-    (A, Ask::Choose(B, "stop"), "5"),
-    (B, Ask::Pick(A), "6 stop"),
-    (B, Ask::Pick(A), "Ended"),
+const ROUND: &[Line] = &[
+    Asks(A, Ask::Choose(B, "go"), "1 -"),
+    Asks(B, Ask::Pick(A), "2 go"),
+    Asks(B, Ask::Send(A, "\"good day\""), "3 -"),
+    Asks(A, Ask::Choose(B, "stop"), "WrongAct"),
+    Asks(A, Ask::Receive(B, "w"), "4 \"good day\""),
+    Asks(A, Ask::Choose(B, "stop"), "5 -"),
+    Asks(B, Ask::Pick(A), "6 stop"),
+    Asks(B, Ask::Pick(A), "Ended"),
+    Count(6, 6),
+    Keeps(A, "w", "\"good day\""),
 ];
 
 #[test]
 fn goes_round_a_loop_to_its_end(rt: HostRuntime) -> Result<(), Fail> {
-    let alloc = rt.alloc();
-    let mut session = Session::open(alloc, looping(alloc)?)?;
-    converse(alloc, &mut session, ROUND)?;
-    assert_eq!(rt; session.len(), 6);
-    let a = role_of(&session, A)?;
-    assert!(rt; matches!(session.slot(a, &name("w")?), Some(Value::Text(_))));
-    Ok(())
+    let mut session = Session::open(rt.alloc(), looping(rt.alloc())?)?;
+    play(rt.alloc(), &mut session, ROUND)
 }
 
-const RELAY: &[Row] = &[
-    (A, Ask::Send(B, "5"), "1"),
-    (B, Ask::Receive(A, "x"), "2 5"),
-    (B, Ask::Send(C, "7"), "3"),
-    (C, Ask::Receive(B, "y"), "4 7"),
+const RELAY: &[Line] = &[
+    Asks(A, Ask::Send(B, "5"), "1 -"),
+    Asks(B, Ask::Receive(A, "x"), "2 5"),
+    Asks(B, Ask::Send(C, "7"), "3 -"),
+    Asks(C, Ask::Receive(B, "y"), "4 7"),
 ];
 
-const BEFORE: &[Row] = &[
-    (B, Ask::Receive(A, "x"), "NothingQueued"),
-    (A, Ask::Receive(B, "x"), "WrongAct"),
-    (A, Ask::Send(C, "5"), "WrongPeer"),
-    (A, Ask::Send(B, "true"), "WrongSort"),
-];
-
-const BEHIND: &[Row] = &[
-    (C, Ask::Choose(A, "maybe"), "NoLabel"),
-    (C, Ask::Choose(B, "maybe"), "WrongPeer"),
-    (C, Ask::Send(A, "1"), "WrongAct"),
-    (A, Ask::Pick(C), "NothingQueued"),
-    (A, Ask::Pick(B), "WrongPeer"),
-    (C, Ask::Choose(A, "ok"), "5"),
-    (A, Ask::Pick(C), "6 ok"),
-    (A, Ask::Mark("e"), "7"),
-    (A, Ask::Send(B, "1"), "Ended"),
-    (C, Ask::Choose(A, "ok"), "Ended"),
+const NAMED: &[Line] = &[
+    Asks(B, Ask::Receive(A, "x"), "NothingQueued"),
+    Asks(A, Ask::Receive(B, "x"), "WrongAct"),
+    Asks(A, Ask::Send(C, "5"), "WrongPeer"),
+    Asks(A, Ask::Send(B, "true"), "WrongSort"),
+    Count(0, 0),
+    Asks(A, Ask::Send(B, "5"), "1 -"),
+    Asks(B, Ask::Receive(A, "x"), "2 5"),
+    Asks(B, Ask::Send(C, "7"), "3 -"),
+    Asks(C, Ask::Receive(B, "y"), "4 7"),
+    Asks(C, Ask::Choose(A, "maybe"), "NoLabel"),
+    Asks(C, Ask::Choose(B, "maybe"), "WrongPeer"),
+    Asks(C, Ask::Send(A, "1"), "WrongAct"),
+    Asks(A, Ask::Pick(C), "NothingQueued"),
+    Asks(A, Ask::Pick(B), "WrongPeer"),
+    Asks(C, Ask::Choose(A, "ok"), "5 -"),
+    Asks(A, Ask::Pick(C), "6 ok"),
+    Asks(A, Ask::Mark("e"), "7 -"),
+    Asks(A, Ask::Send(B, "1"), "Ended"),
+    Asks(C, Ask::Choose(A, "ok"), "Ended"),
+    Count(7, 7),
 ];
 
 #[test]
 fn refuses_by_name(rt: HostRuntime) -> Result<(), Fail> {
-    let alloc = rt.alloc();
-    let mut session = Session::open(alloc, verdict(alloc)?)?;
-    converse(alloc, &mut session, BEFORE)?;
-    assert_eq!(rt; session.issued(), 0);
-    converse(alloc, &mut session, RELAY)?;
-    converse(alloc, &mut session, BEHIND)?;
-    assert_eq!(rt; session.len(), 7);
-    assert_eq!(rt; session.issued(), 7);
-    Ok(())
+    let mut session = Session::open(rt.alloc(), verdict(rt.alloc())?)?;
+    play(rt.alloc(), &mut session, NAMED)
 }
 
 const FIRST: &[(u8, Shown<'static>)] = &[
@@ -234,43 +152,62 @@ const LAST: &[(u8, Shown<'static>)] = &[
     (C, ("choose", A, None, &["ok", "no"])),
 ];
 
+// Whether the session shows each of these.
+fn shows_each(session: &Session, wanted: &[(u8, Shown<'_>)]) -> Result<bool, Fail> {
+    for (place, shown) in wanted {
+        if !shows(session, *place, shown)? {
+            return Ok(false);
+        }
+    }
+    Ok(true)
+}
+
 #[test]
 fn shows_what_a_role_may_do(rt: HostRuntime) -> Result<(), Fail> {
-    let alloc = rt.alloc();
-    let mut session = Session::open(alloc, verdict(alloc)?)?;
-    for (place, wanted) in FIRST {
-        assert!(rt; shows(&session, *place, wanted)?);
-    }
-    converse(alloc, &mut session, RELAY)?;
-    for (place, wanted) in LAST {
-        assert!(rt; shows(&session, *place, wanted)?);
-    }
-    // a loop shows what its body begins with
-    let looping = Session::open(alloc, looping(alloc)?)?;
-    assert!(rt; shows(&looping, A, &("choose", B, None, &["go", "stop"]))?);
+    let mut session = Session::open(rt.alloc(), verdict(rt.alloc())?)?;
+    assert!(rt; shows_each(&session, FIRST)?);
+    play(rt.alloc(), &mut session, RELAY)?;
+    assert!(rt; shows_each(&session, LAST)?);
     Ok(())
 }
 
-// What b answers to what a gave, where the two have these types.
-fn unfitting(alloc: Global, a: Local, b: Local, gives: Ask, takes: Ask) -> Result<(), Fail> {
-    let mut session = Session::open(alloc, vec![in alloc; a, b]?)?;
-    converse(
-        alloc,
-        &mut session,
-        &[(A, gives, "1"), (B, takes, "Mismatch")],
-    )?;
-    if session.message(Role::new(A), Role::new(B), 0).is_none() {
-        return Err("a message".into());
-    }
+#[test]
+fn shows_what_the_body_of_a_loop_begins_with(rt: HostRuntime) -> Result<(), Fail> {
+    let session = Session::open(rt.alloc(), looping(rt.alloc())?)?;
+    assert!(rt; shows(&session, A, &("choose", B, None, &["go", "stop"]))?);
     Ok(())
 }
+
+// What b is answered for what a gave, where the two have these types.
+fn unfitting(alloc: Global, a: Local, b: Local, lines: &[Line]) -> Result<(), Fail> {
+    let mut session = Session::open(alloc, vec![in alloc; a, b]?)?;
+    play(alloc, &mut session, lines)
+}
+
+const VALUE_FOR_A_LABEL: &[Line] = &[
+    Asks(A, Ask::Send(B, "5"), "1 -"),
+    Asks(B, Ask::Pick(A), "Mismatch"),
+    Waits(A, B, 0, "5"),
+];
+
+const UNKNOWN_LABEL: &[Line] = &[
+    Asks(A, Ask::Choose(B, "maybe"), "1 -"),
+    Asks(B, Ask::Pick(A), "Mismatch"),
+    Waits(A, B, 0, "maybe"),
+];
+
+const LABEL_FOR_A_VALUE: &[Line] = &[
+    Asks(A, Ask::Choose(B, "ok"), "1 -"),
+    Asks(B, Ask::Receive(A, "s"), "Mismatch"),
+    Waits(A, B, 0, "ok"),
+];
 
 #[test]
 fn leaves_a_value_for_a_label(rt: HostRuntime) -> Result<(), Fail> {
     let alloc = rt.alloc();
     let a = Local::send(alloc, Role::new(B), Sort::Int, Local::End)?;
     let b = choice(alloc, false, A, ok_or_no(alloc)?)?;
-    unfitting(alloc, a, b, Ask::Send(B, "5"), Ask::Pick(A))
+    unfitting(alloc, a, b, VALUE_FOR_A_LABEL)
 }
 
 #[test]
@@ -278,7 +215,7 @@ fn leaves_an_unknown_label(rt: HostRuntime) -> Result<(), Fail> {
     let alloc = rt.alloc();
     let a = choice(alloc, true, B, vec![in alloc; ("maybe", Local::End)]?)?;
     let b = choice(alloc, false, A, ok_or_no(alloc)?)?;
-    unfitting(alloc, a, b, Ask::Choose(B, "maybe"), Ask::Pick(A))
+    unfitting(alloc, a, b, UNKNOWN_LABEL)
 }
 
 #[test]
@@ -286,7 +223,7 @@ fn leaves_a_label_for_a_value(rt: HostRuntime) -> Result<(), Fail> {
     let alloc = rt.alloc();
     let a = choice(alloc, true, B, ok_or_no(alloc)?)?;
     let b = Local::recv(alloc, Role::new(A), Sort::Int, Local::End)?;
-    unfitting(alloc, a, b, Ask::Choose(B, "ok"), Ask::Receive(A, "s"))
+    unfitting(alloc, a, b, LABEL_FOR_A_VALUE)
 }
 
 const LETTERS: [&str; 16] = [
@@ -312,38 +249,93 @@ fn wide(alloc: Global) -> Result<Vec<Local>, Fail> {
     Ok(types)
 }
 
+// What the last of eight roles chooses, and what the first picks.
+const SIXTEEN: &[&[Line]] = &[
+    &[
+        Asks(7, Ask::Choose(A, "a"), "1 -"),
+        Asks(A, Ask::Pick(7), "2 a"),
+    ],
+    &[
+        Asks(7, Ask::Choose(A, "h"), "1 -"),
+        Asks(A, Ask::Pick(7), "2 h"),
+    ],
+    &[
+        Asks(7, Ask::Choose(A, "p"), "1 -"),
+        Asks(A, Ask::Pick(7), "2 p"),
+    ],
+];
+
 #[test]
 fn chooses_among_sixteen_labels(rt: HostRuntime) -> Result<(), Fail> {
-    let alloc = rt.alloc();
-    for (label, picked) in [("a", "2 a"), ("h", "2 h"), ("p", "2 p")] {
-        let mut session = Session::open(alloc, wide(alloc)?)?;
+    for lines in SIXTEEN {
+        let mut session = Session::open(rt.alloc(), wide(rt.alloc())?)?;
         assert_eq!(rt; session.roles(), 8);
-        let rows = [(7, Ask::Choose(A, label), "1"), (A, Ask::Pick(7), picked)];
-        converse(alloc, &mut session, &rows)?;
+        play(rt.alloc(), &mut session, lines)?;
     }
     Ok(())
 }
 
-const FULL: &[Row] = &[
-    (A, Ask::Send(B, "1"), "WrongAct"),
-    (A, Ask::Choose(B, "go"), "Full"),
-    (B, Ask::Mark("m"), "Full"),
+const FULL: &[Line] = &[
+    Asks(A, Ask::Send(B, "1"), "WrongAct"),
+    Asks(A, Ask::Choose(B, "go"), "Full"),
+    Asks(B, Ask::Mark("m"), "Full"),
+    Count(100_000, 100_000),
+    Step(99_999, "100000 0 left 0 m"),
 ];
 
 #[test]
 fn gives_out_a_hundred_thousand_numbers(rt: HostRuntime) -> Result<(), Fail> {
-    let alloc = rt.alloc();
-    let mut session = Session::open(alloc, looping(alloc)?)?;
+    let mut session = Session::open(rt.alloc(), looping(rt.alloc())?)?;
     for _ in 0..100_000 {
-        let mark = command(alloc, Ask::Mark("m"))?;
-        let _ = answer(&mut session, A, mark)??;
+        let _ = answer(rt.alloc(), &mut session, A, Ask::Mark("m"))?;
     }
-    converse(alloc, &mut session, FULL)?;
-    assert_eq!(rt; session.issued(), 100_000);
-    let Some((last, _, _)) = session.step(99_999) else {
-        return Err("a step".into());
-    };
-    assert_eq!(rt; last, StepId::new(100_000));
+    play(rt.alloc(), &mut session, FULL)
+}
+
+// b keeps what a gives it, in a loop.
+fn giving(alloc: Global) -> Result<Vec<Local>, Fail> {
+    let x = variable("X")?;
+    let gives = Local::send(alloc, Role::new(B), Sort::Int, Local::Var(x))?;
+    let takes = Local::recv(alloc, Role::new(A), Sort::Int, Local::Var(x))?;
+    let (gives, takes) = (Local::rec(alloc, x, gives)?, Local::rec(alloc, x, takes)?);
+    Ok(vec![in alloc; gives, takes]?)
+}
+
+// The k-th of many slots, and the value that is given into it.
+fn slot_and_value(alloc: Global, k: usize) -> Result<(Name, Value), Fail> {
+    let slot = name(format!(in alloc; "s{k}")?.as_str())?;
+    Ok((slot, Value::Int(i64::try_from(k)?)))
+}
+
+// Gives b the value of that place, and keeps it in its slot.
+fn fill(alloc: Global, session: &mut Session, k: usize) -> Result<(), Fail> {
+    let (slot, value) = slot_and_value(alloc, k)?;
+    let (to, from) = (role_of(session, B)?, role_of(session, A)?);
+    let _ = session.forward(from, Forward::Send { to, value })?;
+    let _ = session.forward(to, Forward::Receive { from, slot })?;
+    Ok(())
+}
+
+// Whether the slot of that place has its value.
+fn is_filled(alloc: Global, session: &Session, k: usize) -> Result<bool, Fail> {
+    let (slot, value) = slot_and_value(alloc, k)?;
+    let role = role_of(session, B)?;
+    match (session.slot(role, &slot), value) {
+        (Some(Value::Int(kept)), Value::Int(given)) => Ok(*kept == given),
+        _ => Ok(false),
+    }
+}
+
+#[test]
+fn finds_each_of_many_slots(rt: HostRuntime) -> Result<(), Fail> {
+    let mut session = Session::open(rt.alloc(), giving(rt.alloc())?)?;
+    for k in 0..1000usize {
+        fill(rt.alloc(), &mut session, k)?;
+    }
+    for k in 0..1000usize {
+        assert!(rt; is_filled(rt.alloc(), &session, k)?, "{k}");
+    }
+    assert!(rt; !is_filled(rt.alloc(), &session, 1000)?);
     Ok(())
 }
 
@@ -368,61 +360,95 @@ fn broad(alloc: Global, count: usize, last: u8) -> Result<Local, Fail> {
     Ok(Local::Select { peer, branches })
 }
 
+// Why no session can be opened with the type and an end.
+fn opening_with_an_end(alloc: Global, t: Local) -> Result<(Opening, usize), Fail> {
+    outcome_of_opening(alloc, vec![in alloc; t, Local::End]?)
+}
+
+// At the end stands a peer of the session, the role itself, or no role of the session.
+const PEERS: &[(u8, Opening)] = &[
+    (B, Opening::Fault(LocalFault::TooManyNodes)),
+    (A, Opening::BadPeer),
+    (C, Opening::BadPeer),
+];
+
 #[test]
 fn refuses_types_over_the_limits(rt: HostRuntime) -> Result<(), Fail> {
-    let alloc = rt.alloc();
-    let role = Role::new(A);
-    let stranger = Some(OpenFault::BadPeer { role });
-    let fault = LocalFault::TooManyNodes;
-    let many = Some(OpenFault::Local { role, fault });
-    // at the end stands a peer of the session, the role itself, or no role of the session
-    for (last, fault) in [(B, many), (A, stranger), (C, stranger)] {
-        let types = vec![in alloc; long(alloc, 1_000_000, B, last)?, Local::End]?;
-        assert_eq!(rt; open_fault(alloc, types)?, fault);
-        let types = vec![in alloc; broad(alloc, 100_000, last)?, Local::End]?;
-        assert_eq!(rt; open_fault(alloc, types)?, fault);
+    for (last, found) in PEERS {
+        let t = long(rt.alloc(), 1_000_000, B, *last)?;
+        assert!(rt; opening_with_an_end(rt.alloc(), t)? == (*found, 0));
+        let t = broad(rt.alloc(), 100_000, *last)?;
+        assert!(rt; opening_with_an_end(rt.alloc(), t)? == (*found, 0));
     }
     Ok(())
 }
 
-// Whether a session of these types and an end is refused for this fault of that role's type.
-fn is_faulty(
-    alloc: Global,
-    a: Local,
-    b: Local,
-    place: u8,
-    fault: LocalFault,
-) -> Result<bool, Fail> {
-    let role = Role::new(place);
-    let found = open_fault(alloc, vec![in alloc; a, b, Local::End]?)?;
-    Ok(found == Some(OpenFault::Local { role, fault }))
+// A choice of so many nodes in all, with at most 61 of them in a branch.
+fn with_nodes(alloc: Global, count: usize) -> Result<Local, Fail> {
+    let mut branches = Branches::NoMore;
+    let mut left = count - 1;
+    for label in LETTERS {
+        let nodes = left.min(61);
+        let next = if nodes < 2 {
+            Local::End
+        } else {
+            long(alloc, nodes - 2, B, B)?
+        };
+        left -= nodes.max(1);
+        branches = Branches::more(alloc, name(label)?, next, branches)?;
+        if left == 0 {
+            break;
+        }
+    }
+    let peer = Role::new(B);
+    Ok(Local::Select { peer, branches })
+}
+
+#[test]
+fn opens_types_of_256_nodes(rt: HostRuntime) -> Result<(), Fail> {
+    let most = with_nodes(rt.alloc(), 256)?;
+    assert!(rt; opening_with_an_end(rt.alloc(), most)? == (Opening::Opened, 0));
+    let more = with_nodes(rt.alloc(), 257)?;
+    let found = Opening::Fault(LocalFault::TooManyNodes);
+    assert!(rt; opening_with_an_end(rt.alloc(), more)? == (found, 0));
+    Ok(())
+}
+
+// What comes of opening a session with these two types and an end.
+fn opening_of(alloc: Global, a: Local, b: Local) -> Result<(Opening, usize), Fail> {
+    outcome_of_opening(alloc, vec![in alloc; a, b, Local::End]?)
 }
 
 #[test]
 fn refuses_faulty_types(rt: HostRuntime) -> Result<(), Fail> {
-    let alloc = rt.alloc();
     let x = variable("X")?;
-    let silent = Local::rec(alloc, x, Local::Var(x))?;
-    assert!(rt; is_faulty(alloc, Local::End, silent, B, LocalFault::Unguarded)?);
-    let none = choice(alloc, true, A, Vec::new(alloc))?;
-    assert!(rt; is_faulty(alloc, Local::End, none, B, LocalFault::NoBranches)?);
-    // of two the least role's is told
-    let deep = long(alloc, 63, B, B)?;
-    assert!(rt; is_faulty(alloc, deep, Local::Var(x), A, LocalFault::TooDeep)?);
-    let short = long(alloc, 62, B, B)?;
-    assert!(rt; is_faulty(alloc, short, Local::Var(x), B, LocalFault::Unbound)?);
+    let silent = Local::rec(rt.alloc(), x, Local::Var(x))?;
+    let unguarded = opening_of(rt.alloc(), Local::End, silent)?;
+    assert!(rt; unguarded == (Opening::Fault(LocalFault::Unguarded), 1));
+    let branches = Branches::NoMore;
+    let peer = Role::new(A);
+    let empty = opening_of(rt.alloc(), Local::End, Local::Select { peer, branches })?;
+    assert!(rt; empty == (Opening::Fault(LocalFault::NoBranches), 1));
+    Ok(())
+}
+
+// Of two faults the least role's is told.
+#[test]
+fn names_the_least_role(rt: HostRuntime) -> Result<(), Fail> {
+    let x = variable("X")?;
+    let deep = long(rt.alloc(), 63, B, B)?;
+    let first = opening_of(rt.alloc(), deep, Local::Var(x))?;
+    assert!(rt; first == (Opening::Fault(LocalFault::TooDeep), 0));
+    let short = long(rt.alloc(), 62, B, B)?;
+    let second = opening_of(rt.alloc(), short, Local::Var(x))?;
+    assert!(rt; second == (Opening::Fault(LocalFault::Unbound), 1));
     Ok(())
 }
 
 #[test]
 fn tells_strangers_before_faults(rt: HostRuntime) -> Result<(), Fail> {
-    let alloc = rt.alloc();
     let faulty = Local::Var(variable("X")?);
-    let types = vec![in alloc; faulty, long(alloc, 0, A, 3)?, Local::End]?;
-    let role = Role::new(B);
-    assert_eq!(rt;
-        open_fault(alloc, types)?,
-        Some(OpenFault::BadPeer { role })
-    );
+    let stranger = long(rt.alloc(), 0, A, 3)?;
+    assert!(rt; opening_of(rt.alloc(), faulty, stranger)? == (Opening::BadPeer, 1));
     Ok(())
 }

@@ -1,5 +1,5 @@
 //! What a session keeps of its roles, and how an act changes it.
-ghost use Rattle.std.specs.Prelude.{◌≡◌, ◌+◌, ◌<◌, ◌≤◌, [], ◌∷◌, ◌++◌, map, vec_len, slice_set, IfOk, OnOk, OnErr, IfErr};
+ghost use Rattle.std.specs.Prelude.{◌≡◌, ◌+◌, ◌<◌, ◌≤◌, [], ◌∷◌, ◌++◌, Some, None, vec_len, vec_capacity, slice_set, IfOk, OnOk, OnErr, IfErr};
 ghost use Rattle.std.specs.Option.{option_copied};
 ghost use Rattle.mps_base.specs.declared.action.Act.TheVariants.{Out, In, Mark};
 ghost use Rattle.mps_command.specs.Acts.{act_of};
@@ -7,10 +7,10 @@ ghost use Rattle.mps_local.specs.Local.{LocalType};
 ghost use Rattle.mps_machine.specs.Machine.{most_numbers};
 ghost use Rattle.mps_monitor.specs.Verdicts.{moved_by};
 ghost use Rattle.mps_table.specs.Graph.{IsNode};
-ghost use Rattle.mps_session.specs.Configurations.{lists_of, IsWhole, IsReady, HasRoom, position_of, moved_in, StandsAt, fault_in, LeadsTo, acted, done_in};
-ghost use Rattle.mps_session.specs.Cursors.{deed_of, position, went};
+ghost use Rattle.mps_session.specs.Configurations.{lists_of, IsWhole, IsReady, cursor_of, moved_in, StandsAt, fault_in, LeadsTo, acted, done_in};
+ghost use Rattle.mps_session.specs.Cursors.{went};
 
-use crate::cursor::{Cursor, PastAct};
+use crate::cursor::Cursor;
 use crate::parts::{first_at, keep_at, push_at, take_at};
 use crate::queue::Queue;
 use crate::store::Store;
@@ -38,8 +38,8 @@ impl Configuration {
     pub(crate) fn verdict(&self, role: Role, command: &Forward) -> Result<Node, Violation>
         requires role { role < vec_len self.now.cursors }
         requires whole { IsWhole (lists_of self.now) }
-        requires stands { IsNode (position_of (lists_of self.now) role).graph
-            (position_of (lists_of self.now) role).node }
+        requires stands { IsNode (cursor_of (lists_of self.now) role).table
+            (cursor_of (lists_of self.now) role).node }
         ensures violation { IfErr result (λ fault. (t : LocalType)
             → StandsAt (lists_of self.now) role t
             → fault_in (lists_of self.now) role (act_of command.now) t ≡ Some fault) }
@@ -89,8 +89,8 @@ impl Configuration {
         match command {
             Forward::Send { to, value } => self.give(role, to, Message::Value(value), node),
             Forward::Choose { to, label } => self.give(role, to, Message::Label(label), node),
-            Forward::Receive { from, slot } => self.take(role, from, Some(&slot), node),
-            Forward::Pick { from } => self.take(role, from, None, node),
+            Forward::Receive { from, slot } => self.receive(role, from, slot, node),
+            Forward::Pick { from } => self.pick(role, from, node),
             Forward::Mark { name } => self.mark(role, name, node),
         }
     }
@@ -114,57 +114,57 @@ impl Configuration {
     {
         let place = role.index() * self.cursors.len() + to.index();
         let queued = message.copy(self.alloc)?;
-        let kept = message.copy(self.alloc)?;
-        self.reserve(role)?;
+        self.history.reserve(1)?;
         push_at(&mut self.queues, place, queued)?;
-        let past = PastAct::Gave { to, message: kept };
-        let id = self.remember(role, past, Act::Out { to, message }, node);
+        let id = self.remember(role, Act::Out { to, message }, node);
         Ok(Done { id, got: None })
     }
 
-    // Takes the message that came first from the peer, and keeps its value in the slot, if there is one.
-    fn take(
+    // Takes the message that came first from the peer, and keeps its value in the slot.
+    fn receive(
         &mut self,
         role: Role,
         from: Role,
-        slot: Option<&Name>,
+        slot: Name,
         node: Node,
     ) -> Result<Done, AllocError>
         requires role { role < vec_len self.old.cursors }
         requires whole { IsWhole (lists_of self.old) }
-        requires ready { IsReady (lists_of self.old) role (In from (option_copied slot)) }
+        requires ready { IsReady (lists_of self.old) role (In from (Some slot)) }
         requires room { self.old.next ≤ most_numbers }
-        ensures done { IfOk result (λ done. done ≡ done_in (lists_of self.old) role (In from (option_copied slot.entry))) }
+        ensures done { IfOk result (λ done. done
+            ≡ done_in (lists_of self.old) role (In from (Some slot))) }
         ensures acted { OnOk result (lists_of self.new
-            ≡ acted role (In from (option_copied slot.entry)) node (lists_of self.old)) }
+            ≡ acted role (In from (Some slot)) node (lists_of self.old)) }
         ensures err { OnErr result (lists_of self.new ≡ lists_of self.old) }
     {
         let place = from.index() * self.cursors.len() + role.index();
-        self.reserve(role)?;
+        self.history.reserve(1)?;
         let first = first_at(self.queues.as_slice(), place).unwrap();
-        let got = first.copy(self.alloc)?;
-        keep_at(
-            self.alloc,
-            &mut self.stores,
-            role.index(),
-            slot.copied(),
-            first,
-        )?;
-        let message = take_at(&mut self.queues, place).unwrap();
-        let id = self.remember(
-            role,
-            PastAct::Took {
-                from,
-                slot: slot.copied(),
-                message,
-            },
-            Act::In {
-                from,
-                slot: slot.copied(),
-            },
-            node,
-        );
-        Ok(Done { id, got: Some(got) })
+        keep_at(self.alloc, &mut self.stores, role.index(), slot, first)?;
+        let got = take_at(&mut self.queues, place);
+        let slot = Some(slot);
+        let id = self.remember(role, Act::In { from, slot }, node);
+        Ok(Done { id, got })
+    }
+
+    // Takes the label that came first from the peer.
+    fn pick(&mut self, role: Role, from: Role, node: Node) -> Result<Done, AllocError>
+        requires role { role < vec_len self.old.cursors }
+        requires whole { IsWhole (lists_of self.old) }
+        requires ready { IsReady (lists_of self.old) role (In from None) }
+        requires room { self.old.next ≤ most_numbers }
+        ensures done { IfOk result (λ done. done
+            ≡ done_in (lists_of self.old) role (In from None)) }
+        ensures acted { OnOk result (lists_of self.new
+            ≡ acted role (In from None) node (lists_of self.old)) }
+        ensures err { OnErr result (lists_of self.new ≡ lists_of self.old) }
+    {
+        let place = from.index() * self.cursors.len() + role.index();
+        self.history.reserve(1)?;
+        let got = take_at(&mut self.queues, place);
+        let id = self.remember(role, Act::In { from, slot: None }, node);
+        Ok(Done { id, got })
     }
 
     // Leaves a mark.
@@ -177,31 +177,19 @@ impl Configuration {
             ≡ acted role (Mark name) node (lists_of self.old)) }
         ensures err { OnErr result (lists_of self.new ≡ lists_of self.old) }
     {
-        self.reserve(role)?;
-        let id = self.remember(role, PastAct::Marked { name }, Act::Mark(name), node);
+        self.history.reserve(1)?;
+        let id = self.remember(role, Act::Mark(name), node);
         Ok(Done { id, got: None })
     }
 
-    // Makes room for one more step of the role.
-    fn reserve(&mut self, role: Role) -> Result<(), AllocError>
+    // The step joins the history, and its role goes on at the node.
+    fn remember(&mut self, role: Role, act: Act, node: Node) -> StepId
         requires role { role < vec_len self.old.cursors }
-        ensures room { OnOk result (HasRoom self.new role) }
-        ensures same { lists_of self.new ≡ lists_of self.old }
-    {
-        self.history.reserve(1)?;
-        let cursor = &mut self.cursors[role.index()];
-        cursor.reserve()
-    }
-
-    // The step joins the role's past and the history.
-    fn remember(&mut self, role: Role, past: PastAct, act: Act, node: Node) -> StepId
-        requires role { role < vec_len self.old.cursors }
-        requires space { HasRoom self.old role }
+        requires space { vec_len self.old.history < vec_capacity self.old.history }
         requires room { self.old.next ≤ most_numbers }
         ensures id { result ≡ self.old.next }
-        ensures positions { map position self.new.cursors.items
-            ≡ slice_set (map position self.old.cursors.items) role
-            (went node (deed_of past) (position_of (lists_of self.old) role)) }
+        ensures cursors { self.new.cursors.items ≡ slice_set self.old.cursors.items role
+            (went node (cursor_of (lists_of self.old) role)) }
         ensures history { self.new.history.items ≡ self.old.history.items
             ++ record { id = self.old.next; role = role; act = act } ∷ [] }
         ensures next { self.new.next ≡ self.old.next + 1 }
@@ -209,7 +197,7 @@ impl Configuration {
         ensures queues { self.new.queues.items ≡ self.old.queues.items }
     {
         let id = StepId::new(self.next);
-        self.cursors[role.index()].go(node, past);
+        self.cursors[role.index()].node = node;
         self.history.push_reserved(Step { id, role, act });
         self.next += 1;
         id

@@ -3,7 +3,6 @@ ghost use Rattle.std.specs.Prelude.{◌≡◌, ◌↔◌, ◌≤◌, IsTrue, IfS
 ghost use Rattle.mps_local.specs.Local.{plain, plain_branches};
 ghost use Rattle.mps_local.specs.Shape.{AllBranchPeers, IsOtherRole};
 ghost use Rattle.mps_session.specs.Configurations.{lists_of};
-ghost use Rattle.mps_session.specs.Cursors.{position};
 ghost use Rattle.mps_session.specs.Opening.{IsOpening, AreStarts};
 ghost use Rattle.mps_session.specs.Peers.{HasPeers, HavePeers, IsFirstBad, IsLeastFaulty, AreFaultless};
 ghost use Rattle.mps_session.specs.declared.open.OpenFault.TheVariants.{Memory as OutOfMemory};
@@ -138,7 +137,7 @@ pub(crate) fn opening(alloc: Global, types: &[Local]) -> Result<Configuration, A
 // Cursors that stand where the types begin.
 fn cursors(alloc: Global, types: &[Local]) -> Result<Vec<Cursor>, AllocError>
     requires faultless { AreFaultless (map plain types.now) }
-    ensures { IfOk result (λ all. AreStarts (map plain types.now) (map position all.items)) }
+    ensures { IfOk result (λ all. AreStarts (map plain types.now) all.items) }
 {
     let mut all = Vec::with_capacity(alloc, types.len())?;
     for t in types {
@@ -146,11 +145,7 @@ fn cursors(alloc: Global, types: &[Local]) -> Result<Vec<Cursor>, AllocError>
             return Err(AllocError);
         };
         let node = table.first();
-        all.push(Cursor {
-            table,
-            node,
-            past: Vec::new(alloc),
-        })?;
+        all.push(Cursor { table, node })?;
     }
     Ok(all)
 }

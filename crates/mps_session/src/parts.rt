@@ -46,12 +46,12 @@ pub(crate) fn keep_at(
     alloc: Global,
     stores: &mut Vec<Store>,
     i: usize,
-    slot: Option<Name>,
+    slot: Name,
     message: &Message,
 ) -> Result<(), AllocError>
     requires { i < vec_len stores.old }
     ensures ok { OnOk result ((from : ℕ) → stores.new.items ≡ slice_set stores.old.items i
-        (store_after (slice_index_or stores.old.items i []) (In from slot) (Some message.now))) }
+        (store_after (slice_index_or stores.old.items i []) (In from (Some slot)) (Some message.now))) }
     ensures err { OnErr result (stores.new.items ≡ stores.old.items) }
 {
     let store = &mut stores[i];

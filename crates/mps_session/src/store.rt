@@ -1,11 +1,11 @@
 //! Stores of received values.
-ghost use Rattle.std.specs.Prelude.{◌≡◌, List, [], ◌∷◌, ◌++◌, ℕ, Some, OnOk, OnErr};
+ghost use Rattle.std.specs.Prelude.{◌≡◌, [], ℕ, Some, OnOk, OnErr};
 ghost use Rattle.std.specs.Option.{option_copied};
 ghost use Rattle.mps_base.specs.declared.action.Act.TheVariants.{In};
 ghost use Rattle.mps_machine.specs.Rule.{store_after};
 ghost use Rattle.mps_machine.specs.View.{bound, value_in};
-ghost use Rattle.mps_session.specs.Places.{place_in};
 
+use indexmap::IndexMap;
 use mps_base::{Message, Name, Value};
 use std::alloc::{AllocError, Global};
 use std::marker::Model;
@@ -13,7 +13,7 @@ use std::marker::Model;
 /// Slots and the values that were received into them, in the order in which the slots were first bound.
 #[derive(Drop)]
 pub(crate) struct Store {
-    bindings: Vec<(Name, Value)>,
+    bindings: IndexMap<Name, Value>,
 }
 
 impl Model for Store {
@@ -21,7 +21,7 @@ impl Model for Store {
 
     ghost Value = { Bindings };
 
-    ghost view = { λ s. s.bindings.items };
+    ghost view = { λ s. s.bindings.entries };
 }
 
 impl Store {
@@ -30,7 +30,7 @@ impl Store {
         ensures { result ≡ [] }
     {
         Store {
-            bindings: Vec::new(alloc),
+            bindings: IndexMap::new(alloc),
         }
     }
 
@@ -38,29 +38,23 @@ impl Store {
     pub(crate) fn get(&self, slot: &Name) -> Option<&Value>
         ensures { option_copied result ≡ value_in slot.now self.now }
     {
-        match place_of(self.bindings.as_slice(), slot) {
-            Some(k) => Some(&self.bindings[k].1),
-            None => None,
-        }
+        self.bindings.get(slot)
     }
 
     /// Keeps what a receipt took: a value in its slot, and a label nowhere.
     pub(crate) fn keep(
         &mut self,
         alloc: Global,
-        slot: Option<Name>,
+        slot: Name,
         message: &Message,
     ) -> Result<(), AllocError>
         ensures ok { OnOk result ((from : ℕ) → self.new
-            ≡ store_after self.old (In from slot) (Some message.now)) }
+            ≡ store_after self.old (In from (Some slot)) (Some message.now)) }
         ensures err { OnErr result (self.new ≡ self.old) }
     {
-        match slot {
-            Some(slot) => match message {
-                Message::Value(value) => self.bind(slot, value.copy(alloc)?),
-                Message::Label(_) => Ok(()),
-            },
-            None => Ok(()),
+        match message {
+            Message::Value(value) => self.bind(slot, value.copy(alloc)?),
+            Message::Label(_) => Ok(()),
         }
     }
 
@@ -69,19 +63,7 @@ impl Store {
         ensures ok { OnOk result (self.new ≡ bound slot value self.old) }
         ensures err { OnErr result (self.new ≡ self.old) }
     {
-        match place_of(self.bindings.as_slice(), &slot) {
-            Some(k) => {
-                self.bindings[k] = (slot, value);
-            }
-            None => self.bindings.push((slot, value))?,
-        }
+        self.bindings.insert(slot, value)?;
         Ok(())
     }
-}
-
-/// The place of the slot among the bindings.
-fn place_of(bindings: &[(Name, Value)], slot: &Name) -> Option<usize>
-    ensures { result ≡ place_in slot.now bindings.now }
-{
-    bindings.iter().position(|binding| binding.0.is(slot))
 }

@@ -1,19 +1,185 @@
 ghost use Rattle.std.specs.Prelude.{◌<◌, length, IfOk};
 
 use super::*;
-use mps_base::{Act, Message, Name, Role, Sort, StepId, Text, Value};
+use mps_base::{Act, Message, Name, Role, Sort, Value};
 use mps_local::Local;
 use std::alloc::Global;
 use std::test::Fail;
 
+// The roles by their places.
+pub(super) const A: u8 = 0;
+
+pub(super) const B: u8 = 1;
+
+pub(super) const C: u8 = 2;
+
+pub(super) fn name(text: &str) -> Result<Name, Fail> {
+    Ok(Name::read(text.as_bytes()).ok_or("a name")?)
+}
+
+// What a role asks for, with the peer's place.
+#[derive(Clone, Copy)]
+pub(super) enum Ask {
+    Send(u8, &'static str),
+    Choose(u8, &'static str),
+    Receive(u8, &'static str),
+    Pick(u8),
+    Mark(&'static str),
+}
+
+// The command that is asked for.
+fn command(alloc: Global, ask: Ask) -> Result<Forward, Fail> {
+    Ok(match ask {
+        Ask::Send(to, value) => Forward::Send {
+            to: Role::new(to),
+            value: Value::read(alloc, value.as_bytes())?,
+        },
+        Ask::Choose(to, label) => Forward::Choose {
+            to: Role::new(to),
+            label: name(label)?,
+        },
+        Ask::Receive(from, slot) => Forward::Receive {
+            from: Role::new(from),
+            slot: name(slot)?,
+        },
+        Ask::Pick(from) => Forward::Pick {
+            from: Role::new(from),
+        },
+        Ask::Mark(mark) => Forward::Mark { name: name(mark)? },
+    })
+}
+
+// The role at this place, which the session has.
+pub(super) fn role_of(session: &Session, place: u8) -> Result<Role, Fail>
+    ensures { IfOk result (λ role. role < length session.now.types) }
+{
+    let role = Role::new(place);
+    if role.index() < session.roles() {
+        Ok(role)
+    } else {
+        Err("a role".into())
+    }
+}
+
+// What a message says, as it is written, and a dash where there is none.
+fn written(alloc: Global, message: Option<&Message>) -> Result<String, Fail> {
+    let mut bytes = Vec::new(alloc);
+    match message {
+        Some(Message::Value(value)) => value.write(&mut bytes)?,
+        Some(Message::Label(label)) => bytes.extend_from_slice(label.as_bytes())?,
+        None => bytes.push(b'-')?,
+    }
+    Ok(String::from_utf8(bytes)?)
+}
+
+// What a role is answered: the step's number and what it took, or the refusal.
+fn told(alloc: Global, answer: Result<Done, Refusal>) -> Result<String, Fail> {
+    match answer {
+        Err(Refusal::Violation(fault)) => Ok(format!(in alloc; "{fault:?}")?),
+        Err(refusal) => Ok(format!(in alloc; "{refusal:?}")?),
+        Ok(done) => {
+            let number = done.id.number();
+            let got = written(alloc, done.got.as_ref())?;
+            Ok(format!(in alloc; "{number} {got}")?)
+        }
+    }
+}
+
+// What the role at this place is answered.
+pub(super) fn answer(
+    alloc: Global,
+    session: &mut Session,
+    place: u8,
+    ask: Ask,
+) -> Result<String, Fail> {
+    let command = command(alloc, ask)?;
+    let role = role_of(session, place)?;
+    told(alloc, session.forward(role, command))
+}
+
+// The value that the role keeps in the slot, and a dash where the slot is empty.
+fn kept(alloc: Global, session: &Session, place: u8, slot: &str) -> Result<String, Fail> {
+    let role = role_of(session, place)?;
+    let mut bytes = Vec::new(alloc);
+    match session.slot(role, &name(slot)?) {
+        Some(value) => value.write(&mut bytes)?,
+        None => bytes.push(b'-')?,
+    }
+    Ok(String::from_utf8(bytes)?)
+}
+
+// The k-th step that survives: its number, its role, what it did and the peer, and what it gave,
+// the slot, or the mark.
+fn step(alloc: Global, session: &Session, k: usize) -> Result<String, Fail> {
+    let Some((id, role, act)) = session.step(k) else {
+        return Ok(format!(in alloc; "-")?);
+    };
+    let (did, peer, what) = match act {
+        Act::Out { to, message } => ("gave", to.index(), written(alloc, Some(message))?),
+        Act::In { from, slot } => {
+            let slot = slot.map(Message::Label);
+            ("took", from.index(), written(alloc, slot.as_ref())?)
+        }
+        Act::Mark(name) => {
+            let name = Message::Label(*name);
+            ("left", role.index(), written(alloc, Some(&name))?)
+        }
+    };
+    let (id, role) = (id.number(), role.index());
+    Ok(format!(in alloc; "{id} {role} {did} {peer} {what}")?)
+}
+
+// What is done to a session or looked up in it, with what comes of it.
+#[derive(Clone, Copy)]
+pub(super) enum Line {
+    // a role asks, and is answered
+    Asks(u8, Ask, &'static str),
+    // the message of that place that waits from one role to another
+    Waits(u8, u8, usize, &'static str),
+    // what a role keeps in a slot
+    Keeps(u8, &'static str, &'static str),
+    // the step of that place
+    Step(usize, &'static str),
+    // how many steps survive, and how many numbers were given out
+    Count(usize, u64),
+}
+
+use Line::{Asks, Count, Keeps, Step, Waits};
+
+// What comes of the line, and what is wanted.
+fn outcome(
+    alloc: Global,
+    session: &mut Session,
+    line: Line,
+) -> Result<(String, &'static str), Fail> {
+    Ok(match line {
+        Asks(place, ask, wanted) => (answer(alloc, session, place, ask)?, wanted),
+        Waits(from, to, k, wanted) => {
+            let message = session.message(Role::new(from), Role::new(to), k);
+            (written(alloc, message)?, wanted)
+        }
+        Keeps(place, slot, wanted) => (kept(alloc, session, place, slot)?, wanted),
+        Step(k, wanted) => (step(alloc, session, k)?, wanted),
+        Count(steps, numbers) => {
+            let same = session.len() == steps && session.issued() == numbers;
+            (format!(in alloc; "{same}")?, "true")
+        }
+    })
+}
+
+// Whether each line comes out as it is wanted.
+pub(super) fn play(alloc: Global, session: &mut Session, lines: &[Line]) -> Result<(), Fail> {
+    for line in lines {
+        let (found, wanted) = outcome(alloc, session, *line)?;
+        if found.as_str() != wanted {
+            return Err(Fail::from(format!(in alloc; "{found} for {wanted}")?));
+        }
+    }
+    Ok(())
+}
+
 // An output (at true) or an input of a type, with the peer and the sort.
 type Row = (bool, u8, Sort);
-
-const A_TO_B_TO_C: &[&[Row]] = &[
-    &[(true, 1, Sort::Int)],
-    &[(false, 0, Sort::Int), (true, 2, Sort::Int)],
-    &[(false, 1, Sort::Int)],
-];
 
 // The types of these rows, the first role's first.
 fn types(alloc: Global, rows: &[&[Row]]) -> Result<Vec<Local>, Fail> {
@@ -33,271 +199,215 @@ fn types(alloc: Global, rows: &[&[Row]]) -> Result<Vec<Local>, Fail> {
     Ok(types)
 }
 
-fn session(alloc: Global, rows: &[&[Row]]) -> Result<Session, Fail> {
-    Ok(Session::open(alloc, types(alloc, rows)?)?)
+// Plays the lines on a new session of the types of these rows.
+fn play_anew(alloc: Global, rows: &[&[Row]], lines: &[Line]) -> Result<(), Fail> {
+    let mut session = Session::open(alloc, types(alloc, rows)?)?;
+    play(alloc, &mut session, lines)
 }
 
-pub(super) fn name(text: &str) -> Result<Name, Fail> {
-    Ok(Name::read(text.as_bytes()).ok_or("a name")?)
-}
+const A_TO_B_TO_C: &[&[Row]] = &[
+    &[(true, B, Sort::Int)],
+    &[(false, A, Sort::Int), (true, C, Sort::Int)],
+    &[(false, B, Sort::Int)],
+];
 
-pub(super) fn send(to: u8, value: Value) -> Forward {
-    Forward::Send {
-        to: Role::new(to),
-        value,
-    }
-}
-
-pub(super) fn receive(from: u8, slot: Name) -> Forward {
-    Forward::Receive {
-        from: Role::new(from),
-        slot,
-    }
-}
-
-// The role at this place, which the session has.
-pub(super) fn role_of(session: &Session, place: u8) -> Result<Role, Fail>
-    ensures { IfOk result (λ role. role < length session.now.types) }
-{
-    let role = Role::new(place);
-    if role.index() < session.roles() {
-        Ok(role)
-    } else {
-        Err("a role".into())
-    }
-}
-
-// The session's answer to the role at this place.
-pub(super) fn answer(
-    session: &mut Session,
-    place: u8,
-    command: Forward,
-) -> Result<Result<Done, Refusal>, Fail> {
-    let role = role_of(session, place)?;
-    Ok(session.forward(role, command))
-}
-
-// The number that the message carries, where there is a message.
-fn number(message: Option<&Message>) -> Result<Option<i64>, Fail> {
-    match message {
-        None => Ok(None),
-        Some(Message::Value(Value::Int(n))) => Ok(Some(*n)),
-        Some(_) => Err("a number".into()),
-    }
-}
-
-// The number that the k-th message from one role to another carries.
-fn queued(session: &Session, from: u8, to: u8, k: usize) -> Result<Option<i64>, Fail> {
-    number(session.message(Role::new(from), Role::new(to), k))
-}
-
-// The number that the role keeps in the slot.
-fn kept(session: &Session, place: u8, slot: Name) -> Result<Option<i64>, Fail> {
-    let role = role_of(session, place)?;
-    match session.slot(role, &slot) {
-        None => Ok(None),
-        Some(Value::Int(n)) => Ok(Some(*n)),
-        Some(_) => Err("a number".into()),
-    }
-}
-
-// Whether the act gives this number to the peer (at true), or takes one from it into the slot.
-fn is_act(act: &Act, sends: bool, peer: u8, n: i64, into: Name) -> bool {
-    match act {
-        Act::Out {
-            to,
-            message: Message::Value(Value::Int(m)),
-        } => sends && to.is(Role::new(peer)) && *m == n,
-        Act::In {
-            from,
-            slot: Some(slot),
-        } => !sends && from.is(Role::new(peer)) && slot.is(&into),
-        _ => false,
-    }
-}
+const RELAY: &[Line] = &[
+    Waits(A, B, 0, "-"),
+    Asks(A, Ask::Send(B, "5"), "1 -"),
+    Waits(A, B, 0, "5"),
+    Waits(A, B, 1, "-"),
+    Waits(B, C, 0, "-"),
+    Keeps(B, "x", "-"),
+    Asks(B, Ask::Receive(A, "x"), "2 5"),
+    Waits(A, B, 0, "-"),
+    Keeps(B, "x", "5"),
+    Asks(B, Ask::Send(C, "7"), "3 -"),
+    Waits(B, C, 0, "7"),
+    Waits(A, B, 0, "-"),
+    Asks(C, Ask::Receive(B, "y"), "4 7"),
+    Waits(B, C, 0, "-"),
+    Count(4, 4),
+    Step(0, "1 0 gave 1 5"),
+    Step(1, "2 1 took 0 x"),
+    Step(2, "3 1 gave 2 7"),
+    Step(3, "4 2 took 1 y"),
+    Step(4, "-"),
+    Keeps(B, "x", "5"),
+    Keeps(C, "y", "7"),
+    Keeps(B, "y", "-"),
+    // between others nothing waits
+    Waits(0, 3, 0, "-"),
+    Waits(3, 1, 0, "-"),
+    Waits(255, 255, 0, "-"),
+];
 
 #[test]
 fn relays(rt: HostRuntime) -> Result<(), Fail> {
-    let (x, y) = (name("x")?, name("y")?);
-    // the step's number, the role, whether it sends, its peer, the value, the slot of a receipt;
-    // then what waits from a to b and from b to c
-    let rows = vec![in rt.alloc();
-        (1, 0, true, 1, 5, x, Some(5), None),
-        (2, 1, false, 0, 5, x, None, None),
-        (3, 1, true, 2, 7, x, None, Some(7)),
-        (4, 2, false, 1, 7, y, None, None),
-    ]?;
-    let mut session = session(rt.alloc(), A_TO_B_TO_C)?;
-    assert_eq!(rt; session.roles(), 3);
-    for (id, role, sends, peer, n, slot, to_b, to_c) in &rows {
-        let command = if *sends {
-            send(*peer, Value::Int(*n))
-        } else {
-            receive(*peer, *slot)
-        };
-        let done = answer(&mut session, *role, command)??;
-        assert_eq!(rt; done.id, StepId::new(*id));
-        let got = if *sends { None } else { Some(*n) };
-        assert_eq!(rt; number(done.got.as_ref())?, got);
-        assert_eq!(rt; queued(&session, 0, 1, 0)?, *to_b);
-        assert_eq!(rt; queued(&session, 0, 1, 1)?, None);
-        assert_eq!(rt; queued(&session, 1, 2, 0)?, *to_c);
-        for (from, to) in [(0, 3), (3, 1), (255, 255)] {
-            assert_eq!(rt; queued(&session, from, to, 0)?, None);
-        }
-    }
-    assert_eq!(rt; session.len(), 4);
-    assert_eq!(rt; session.issued(), 4);
-    for (k, (id, role, sends, peer, n, slot, _, _)) in rows.iter().enumerate() {
-        let Some((number, by, act)) = session.step(k) else {
-            return Err("a step".into());
-        };
-        assert_eq!(rt; number, StepId::new(*id));
-        assert_eq!(rt; by, Role::new(*role));
-        assert!(rt; is_act(act, *sends, *peer, *n, *slot), "at {k}");
-    }
-    assert!(rt; session.step(4).is_none());
-    for (role, slot, n) in [(1, x, Some(5)), (2, y, Some(7)), (1, y, None)] {
-        assert_eq!(rt; kept(&session, role, slot)?, n);
-    }
-    Ok(())
+    play_anew(rt.alloc(), A_TO_B_TO_C, RELAY)
 }
+
+const REFUSALS: &[Line] = &[
+    Asks(B, Ask::Receive(A, "x"), "NothingQueued"),
+    Asks(B, Ask::Receive(C, "x"), "WrongPeer"),
+    Asks(B, Ask::Send(C, "1"), "WrongAct"),
+    Asks(A, Ask::Send(C, "5"), "WrongPeer"),
+    Asks(A, Ask::Send(C, "true"), "WrongPeer"),
+    Asks(A, Ask::Send(B, "true"), "WrongSort"),
+    Asks(A, Ask::Receive(B, "x"), "WrongAct"),
+    Count(0, 0),
+    Waits(A, B, 0, "-"),
+    Asks(A, Ask::Send(B, "5"), "1 -"),
+    Asks(A, Ask::Send(B, "5"), "Ended"),
+    Asks(A, Ask::Receive(B, "x"), "Ended"),
+    Count(1, 1),
+    Waits(A, B, 0, "5"),
+    Waits(A, B, 1, "-"),
+];
 
 #[test]
 fn refuses(rt: HostRuntime) -> Result<(), Fail> {
-    let x = name("x")?;
-    let rows = [
-        (1, receive(0, x), Violation::NothingQueued),
-        (1, receive(2, x), Violation::WrongPeer),
-        (1, send(2, Value::Int(1)), Violation::WrongAct),
-        (0, send(2, Value::Int(5)), Violation::WrongPeer),
-        (0, send(2, Value::Bool(true)), Violation::WrongPeer),
-        (0, send(1, Value::Bool(true)), Violation::WrongSort),
-        (0, receive(1, x), Violation::WrongAct),
-    ];
-    let mut session = session(rt.alloc(), A_TO_B_TO_C)?;
-    for (role, command, fault) in rows {
-        let refusal = answer(&mut session, role, command)?.err();
-        assert_eq!(rt; refusal, Some(Refusal::Violation(fault)));
-        assert_eq!(rt; session.len(), 0);
-        assert_eq!(rt; session.issued(), 0);
-    }
-    let _ = answer(&mut session, 0, send(1, Value::Int(5)))??;
-    for command in [send(1, Value::Int(5)), receive(1, x)] {
-        let refusal = answer(&mut session, 0, command)?.err();
-        assert_eq!(rt; refusal, Some(Refusal::Violation(Violation::Ended)));
-        assert_eq!(rt; session.len(), 1);
-        assert_eq!(rt; session.issued(), 1);
-        assert_eq!(rt; queued(&session, 0, 1, 0)?, Some(5));
-        assert_eq!(rt; queued(&session, 0, 1, 1)?, None);
-    }
-    Ok(())
+    play_anew(rt.alloc(), A_TO_B_TO_C, REFUSALS)
 }
+
+const UNFITTING: &[&[Row]] = &[&[(true, B, Sort::Int)], &[(false, A, Sort::Bool)]];
+
+const MISMATCH: &[Line] = &[
+    Asks(A, Ask::Send(B, "5"), "1 -"),
+    Asks(B, Ask::Receive(A, "x"), "Mismatch"),
+    Waits(A, B, 0, "5"),
+    Keeps(B, "x", "-"),
+    Count(1, 1),
+];
 
 #[test]
 fn refuses_a_message_of_another_sort(rt: HostRuntime) -> Result<(), Fail> {
-    let rows: &[&[Row]] = &[&[(true, 1, Sort::Int)], &[(false, 0, Sort::Bool)]];
-    let mut session = session(rt.alloc(), rows)?;
-    let sent = answer(&mut session, 0, send(1, Value::Int(5)))??;
-    assert_eq!(rt; sent.id, StepId::new(1));
-    let refusal = answer(&mut session, 1, receive(0, name("x")?))?.err();
-    assert_eq!(rt; refusal, Some(Refusal::Violation(Violation::Mismatch)));
-    assert_eq!(rt; queued(&session, 0, 1, 0)?, Some(5));
-    Ok(())
+    play_anew(rt.alloc(), UNFITTING, MISMATCH)
 }
 
-// Why no session can be opened with the types.
-pub(super) fn open_fault(alloc: Global, types: Vec<Local>) -> Result<Option<OpenFault>, Fail> {
-    match Session::open(alloc, types) {
-        Err(OpenFault::Memory) => Err(OpenFault::Memory.into()),
-        opened => Ok(opened.err()),
-    }
-}
+const EACH_SORT: &[&[Row]] = &[
+    &[
+        (true, B, Sort::Text),
+        (true, B, Sort::Bool),
+        (true, B, Sort::Int),
+    ],
+    &[
+        (false, A, Sort::Text),
+        (false, A, Sort::Bool),
+        (false, A, Sort::Int),
+    ],
+];
 
-// Why no session can be opened with the types of these rows.
-fn fault(alloc: Global, rows: &[&[Row]]) -> Result<Option<OpenFault>, Fail> {
-    open_fault(alloc, types(alloc, rows)?)
-}
-
-#[test]
-fn opens(rt: HostRuntime) -> Result<(), Fail> {
-    let alloc = rt.alloc();
-    let end: &[Row] = &[];
-    let to_a: &[Row] = &[(true, 0, Sort::Int)];
-    let to_b: &[Row] = &[(true, 1, Sort::Int)];
-    let from_c: &[Row] = &[(true, 0, Sort::Int), (false, 2, Sort::Int)];
-    let count = Some(OpenFault::RoleCount);
-    let first = Some(OpenFault::BadPeer { role: Role::new(0) });
-    let second = Some(OpenFault::BadPeer { role: Role::new(1) });
-    assert_eq!(rt; fault(alloc, &[end])?, count);
-    assert_eq!(rt; fault(alloc, &[end; 2])?, None);
-    assert_eq!(rt; fault(alloc, &[end; 8])?, None);
-    assert_eq!(rt; fault(alloc, &[end; 9])?, count);
-    assert_eq!(rt; fault(alloc, &[to_a, to_a])?, first);
-    assert_eq!(rt; fault(alloc, &[to_b, from_c])?, second);
-    assert_eq!(rt; fault(alloc, &[to_a, from_c])?, first);
-    assert_eq!(rt; fault(alloc, &[to_b, from_c, end])?, None);
-    Ok(())
-}
+const VALUES: &[Line] = &[
+    Asks(A, Ask::Send(B, "\"good day\""), "1 -"),
+    Asks(A, Ask::Send(B, "true"), "2 -"),
+    Asks(A, Ask::Send(B, "-7"), "3 -"),
+    Waits(A, B, 0, "\"good day\""),
+    Waits(A, B, 1, "true"),
+    Waits(A, B, 2, "-7"),
+    Asks(B, Ask::Receive(A, "x"), "4 \"good day\""),
+    Asks(B, Ask::Receive(A, "y"), "5 true"),
+    Asks(B, Ask::Receive(A, "z"), "6 -7"),
+    Keeps(B, "x", "\"good day\""),
+    Keeps(B, "y", "true"),
+    Keeps(B, "z", "-7"),
+    Step(0, "1 0 gave 1 \"good day\""),
+];
 
 #[test]
-fn carries_texts(rt: HostRuntime) -> Result<(), Fail> {
-    let rows: &[&[Row]] = &[&[(true, 1, Sort::Text)], &[(false, 0, Sort::Text)]];
-    let mut session = session(rt.alloc(), rows)?;
-    let slot = name("x")?;
-    let text = Text::new(Vec::from_slice(rt.alloc(), b"good day")?).ok_or("a text")?;
-    let _ = answer(&mut session, 0, send(1, Value::Text(text)))??;
-    let done = answer(&mut session, 1, receive(0, slot))??;
-    let Some(Message::Value(Value::Text(got))) = done.got else {
-        return Err("a text".into());
-    };
-    assert_eq!(rt; got.as_bytes(), b"good day".as_slice());
-    let b = role_of(&session, 1)?;
-    let Some(Value::Text(stored)) = session.slot(b, &slot) else {
-        return Err("a text".into());
-    };
-    assert_eq!(rt; stored.as_bytes(), b"good day".as_slice());
-    Ok(())
+fn carries_values_of_each_sort(rt: HostRuntime) -> Result<(), Fail> {
+    play_anew(rt.alloc(), EACH_SORT, VALUES)
 }
+
+const TO_B: Row = (true, B, Sort::Int);
+
+const FROM_A: Row = (false, A, Sort::Int);
+
+const THREE: &[&[Row]] = &[&[TO_B, TO_B, TO_B], &[FROM_A, FROM_A, FROM_A]];
+
+const AGAIN: &[Line] = &[
+    Asks(A, Ask::Send(B, "1"), "1 -"),
+    Asks(A, Ask::Send(B, "2"), "2 -"),
+    Asks(A, Ask::Send(B, "3"), "3 -"),
+    Waits(A, B, 0, "1"),
+    Waits(A, B, 1, "2"),
+    Waits(A, B, 2, "3"),
+    Asks(B, Ask::Receive(A, "x"), "4 1"),
+    Keeps(B, "x", "1"),
+    Asks(B, Ask::Receive(A, "y"), "5 2"),
+    Keeps(B, "x", "1"),
+    Keeps(B, "y", "2"),
+    Asks(B, Ask::Receive(A, "x"), "6 3"),
+    Keeps(B, "x", "3"),
+    Keeps(B, "y", "2"),
+    Keeps(A, "x", "-"),
+];
 
 #[test]
 fn binds_a_slot_again(rt: HostRuntime) -> Result<(), Fail> {
-    let to_b = (true, 1, Sort::Int);
-    let from_a = (false, 0, Sort::Int);
-    let rows: &[&[Row]] = &[&[to_b, to_b, to_b], &[from_a, from_a, from_a]];
-    let mut session = session(rt.alloc(), rows)?;
-    for (k, n) in [1, 2, 3].iter().enumerate() {
-        let _ = answer(&mut session, 0, send(1, Value::Int(*n)))??;
-        assert_eq!(rt; queued(&session, 0, 1, k)?, Some(*n));
-    }
-    let (x, y) = (name("x")?, name("y")?);
-    for (slot, n) in [(x, 1), (y, 2), (x, 3)] {
-        let _ = answer(&mut session, 1, receive(0, slot))??;
-        assert_eq!(rt; kept(&session, 1, slot)?, Some(n));
-    }
-    assert_eq!(rt; kept(&session, 1, y)?, Some(2));
-    Ok(())
+    play_anew(rt.alloc(), THREE, AGAIN)
 }
+
+const MARKS: &[Line] = &[
+    Asks(A, Ask::Mark("m"), "1 -"),
+    Asks(A, Ask::Send(B, "5"), "2 -"),
+    // a mark is taken at the end of a part too
+    Asks(A, Ask::Mark("m"), "3 -"),
+    Count(3, 3),
+    Waits(A, B, 0, "5"),
+    Step(0, "1 0 left 0 m"),
+    Step(2, "3 0 left 0 m"),
+];
 
 #[test]
 fn marks(rt: HostRuntime) -> Result<(), Fail> {
-    let mut session = session(rt.alloc(), A_TO_B_TO_C)?;
-    let m = name("m")?;
-    let first = answer(&mut session, 0, Forward::Mark { name: m })??;
-    assert_eq!(rt; first.id, StepId::new(1));
-    assert!(rt; first.got.is_none());
-    let sent = answer(&mut session, 0, send(1, Value::Int(5)))??;
-    assert_eq!(rt; sent.id, StepId::new(2));
-    // a mark is taken at the end of a part too
-    let last = answer(&mut session, 0, Forward::Mark { name: m })??;
-    assert_eq!(rt; last.id, StepId::new(3));
-    assert_eq!(rt; session.len(), 3);
-    assert_eq!(rt; queued(&session, 0, 1, 0)?, Some(5));
-    let Some((id, role, act)) = session.step(2) else {
-        return Err("a step".into());
-    };
-    assert_eq!(rt; id, StepId::new(3));
-    assert_eq!(rt; role, Role::new(0));
-    assert!(rt; matches!(act, Act::Mark(left) if left.is(&m)));
+    play_anew(rt.alloc(), A_TO_B_TO_C, MARKS)
+}
+
+// Why no session can be opened with the types, or that one can be: the fault and its role.
+pub(super) fn outcome_of_opening(
+    alloc: Global,
+    types: Vec<Local>,
+) -> Result<(Opening, usize), Fail> {
+    match Session::open(alloc, types) {
+        Err(OpenFault::Memory) => Err(OpenFault::Memory.into()),
+        Err(OpenFault::RoleCount) => Ok((Opening::RoleCount, 0)),
+        Err(OpenFault::BadPeer { role }) => Ok((Opening::BadPeer, role.index())),
+        Err(OpenFault::Local { role, fault }) => Ok((Opening::Fault(fault), role.index())),
+        Ok(_) => Ok((Opening::Opened, 0)),
+    }
+}
+
+#[derive(Clone, Copy, PartialEq, Eq)]
+pub(super) enum Opening {
+    Opened,
+    RoleCount,
+    BadPeer,
+    Fault(LocalFault),
+}
+
+const END: &[Row] = &[];
+
+const TO_A: &[Row] = &[(true, A, Sort::Int)];
+
+const FROM_C: &[Row] = &[(true, A, Sort::Int), (false, C, Sort::Int)];
+
+// Rows of types, and what comes of opening a session with them.
+const OPENINGS: &[(&[&[Row]], Opening, usize)] = &[
+    (&[END], Opening::RoleCount, 0),
+    (&[END; 2], Opening::Opened, 0),
+    (&[END; 8], Opening::Opened, 0),
+    (&[END; 9], Opening::RoleCount, 0),
+    (&[TO_A, TO_A], Opening::BadPeer, 0),
+    (&[&[TO_B], FROM_C], Opening::BadPeer, 1),
+    (&[TO_A, FROM_C], Opening::BadPeer, 0),
+    (&[&[TO_B], FROM_C, END], Opening::Opened, 0),
+];
+
+#[test]
+fn opens(rt: HostRuntime) -> Result<(), Fail> {
+    for (rows, found, role) in OPENINGS {
+        let types = types(rt.alloc(), rows)?;
+        assert!(rt; outcome_of_opening(rt.alloc(), types)? == (*found, *role));
+    }
     Ok(())
 }

@@ -27,12 +27,33 @@ module _ (names : List (List ℕ)) (types : List LocalType) where
       o)
       r
 
+  -- a long line's front is not read either
+  long_front : (line : List ℕ) (st after : State) (reply : Reply) → most_kept < length line → RepliesTo names types line st reply after → RepliesTo names types (front line) st reply after
+  long_front line st after reply long r =
+      let n : length (front line) ≡ most_kept = length-take most_kept line ∙ (let m : min most_kept (length line) ≡ most_kept = omega arith in m) in
+      ⊎_elim
+      (λ (u : IsUnread names types line st reply after). inl (record { unreadable = λ role command readable. let s = readable.short in absurd (omega arith); bad = u.bad; unchanged = u.unchanged }))
+      (λ (o : IsServed names types line st reply after ⊎ IsStarved names types line st reply after).
+      ⊎_elim
+      (λ (s : IsServed names types line st reply after). let short = s.readable.short in absurd (omega arith))
+      (λ (s : IsStarved names types line st reply after). let short = s.readable.short in absurd (omega arith))
+      o)
+      r
+
   -- a script's lines go by their fronts
   pub by_front : GoesByFront (AnswersLine names types)
   by_front line st text after a =
       ⊎_elim
       (λ (long : most_kept < length line). record { reply = a.reply; replies = long_line line st after a.reply long a.replies; spelled = a.spelled })
       (λ (short : length line ≤ most_kept). subst (λ (l : List ℕ). AnswersLine names types l st text after) (front_short line short) a)
+      (cases_lt most_kept (length line))
+
+  -- what a line does, its front does
+  pub to_front : (line : List ℕ) (st : State) (text : List ℕ) (after : State) → AnswersLine names types line st text after → AnswersLine names types (front line) st text after
+  to_front line st text after a =
+      ⊎_elim
+      (λ (long : most_kept < length line). record { reply = a.reply; replies = long_front line st after a.reply long a.replies; spelled = a.spelled })
+      (λ (short : length line ≤ most_kept). subst (λ (l : List ℕ). AnswersLine names types l st text after) (sym (front_short line short)) a)
       (cases_lt most_kept (length line))
 
 -- Lines answered by a relation, from a state on.

@@ -1,8 +1,11 @@
 -- What a line is answered, from what the session answers.
-use Rattle.std.proofs.Common.{◌≡◌, ℕ, ◌<◌, List, [], ◌∷◌, length, Option, Some, None, Result, Ok, Err, refl, sym, ap, ◌∙◌, inl, inr}
+use Rattle.std.proofs.Common.{◌≡◌, ℕ, zero, suc, ◌<◌, arith, List, [], ◌∷◌, length, Option, Some, None, Result, Ok, Err, refl, sym, ap, ◌∙◌, inl, inr}
 use Rattle.std.specs.Prelude.{OnOk, OnErr}
+use Rattle.std.specs.List.{AllByRecursion}
 use Rattle.std.specs.Option.{option_map}
+use Rattle.std.specs.Str.{IsAscii}
 use Rattle.std.proofs.lemmas.Option.{slice_get_within}
+use Rattle.mps_base.specs.Values.{IsShown}
 use Rattle.mps_base.specs.declared.action.Act.{Act}
 use Rattle.mps_local.specs.Local.{LocalType}
 use Rattle.mps_command.specs.declared.command.Forward.{Forward}
@@ -17,6 +20,7 @@ use Rattle.mps_line.specs.declared.reply.Reply.{Reply}
 use Rattle.mps_line.specs.Commands.{SpellsScriptLine, command_tokens}
 use Rattle.mps_line.specs.Replies.{reply_to}
 use Rattle.mps_line.specs.Tokens.{RoleAt, SpellEach}
+use Rattle.mps_line.proofs.Shown.{shown_line}
 use Rattle.mps_wire.specs.Script.{IsReadable, RepliesTo}
 
 -- the role of a line is one of the names
@@ -26,6 +30,15 @@ role_within names line role command spelled = first spelled.spellings spelled.ea
     first : (spellings : List (List ℕ)) → SpellEach names spellings (RoleAt role ∷ command_tokens command) → role < length names
     first [] each = absurd each
     first (bytes ∷ others) each = slice_get_within names role bytes each.0.place
+
+shown_ascii : (bytes : List ℕ) → AllByRecursion IsShown bytes → IsAscii bytes
+shown_ascii [] h i = omega arith
+shown_ascii (c ∷ bytes) h zero = let high = h.0.high in omega arith
+shown_ascii (c ∷ bytes) h (suc i) = shown_ascii bytes h.1 i
+
+-- a line that spells a command has bytes below 128 alone
+pub spelled_ascii : (names : List (List ℕ)) (line : List ℕ) (role : ℕ) (command : Forward) → SpellsScriptLine names line role command → IsAscii line
+spelled_ascii names line role command spelled = shown_ascii line (shown_line names line role command spelled)
 
 -- a refusal that stands in the way changes nothing, whatever would follow
 keeps : {A : Type 0} (fault : Option Refusal) (st : State) (served : Result A Refusal × State) (e : Refusal) → (served.0 ≡ Err e → served.1 ≡ st) → (unless fault st served).0 ≡ Err e → (unless fault st served).1 ≡ st

@@ -4,6 +4,7 @@ ghost use Rattle.std.specs.Prelude.{slice_index};
 ghost use Rattle.mps_wire.specs.Lines.{HasNoBreak, front, most_kept};
 
 use crate::script::MAX_LINE;
+use memchr::memchr;
 use std::alloc::AllocError;
 
 /// How many bytes of a line are kept while it comes: one more than a line may have, which tells
@@ -17,7 +18,7 @@ pub(crate) fn line_end(bytes: &[u8]) -> Option<usize>
     ensures before { IfSome result (λ k. HasNoBreak (take k bytes.now)) }
     ensures none { IfNone result (HasNoBreak bytes.now) }
 {
-    bytes.iter().position(|&byte| byte == b'\n')
+    memchr(b'\n', bytes)
 }
 
 /// Adds to the front of a line what comes of it. More than `MOST_KEPT` bytes are dropped.

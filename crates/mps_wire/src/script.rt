@@ -6,7 +6,7 @@ ghost use Rattle.mps_machine.specs.Machine.{initial};
 ghost use Rattle.mps_session.specs.Peers.{CanOpen};
 ghost use Rattle.mps_wire.specs.Answers.{TakesBytes, TakesEnd};
 ghost use Rattle.mps_wire.specs.Flow.{TookFront};
-ghost use Rattle.mps_wire.specs.Lines.{ended, most_kept};
+ghost use Rattle.mps_wire.specs.Lines.{ended, front, most_kept};
 ghost use Rattle.mps_wire.specs.Runs.{Going, KeepsFromBeginning, Outcome, Turned, max_reads, of_opening};
 ghost use Rattle.mps_wire.specs.Script.{AnswersLine, RepliesTo, lines_of, place_of};
 ghost use Rattle.mps_wire.specs.Streams.{streams};
@@ -72,7 +72,7 @@ fn reply_to_line(alloc: Global, roles: &Roles, session: &mut Session, line: &[u8
     ensures reply { RepliesTo roles.now session.old.types line.now session.old.state
         result session.new.state }
 {
-    if line.len() > MAX_LINE || !line.is_ascii() {
+    if line.len() > MAX_LINE {
         return Reply::BadLine;
     }
     match read_script_line(alloc, roles, line) {
@@ -119,8 +119,8 @@ struct Run {
 }
 
 impl Run {
-    /// Answers the line that came, and begins the next.
-    fn end_line(&mut self) -> Result<(), AllocError>
+    /// Answers the line that is kept, and begins the next.
+    fn answer_kept(&mut self) -> Result<(), AllocError>
         requires { length self.old.roles ≡ length self.old.session.types }
         ensures roles { self.new.roles ≡ self.old.roles }
         ensures types { self.new.session.types ≡ self.old.session.types }
@@ -142,6 +142,32 @@ impl Run {
         Ok(())
     }
 
+    /// Answers the line that ends with these bytes, and begins the next.
+    fn end_line(&mut self, bytes: &[u8]) -> Result<(), AllocError>
+        requires named { length self.old.roles ≡ length self.old.session.types }
+        requires kept { length self.old.line.items ≤ most_kept }
+        ensures roles { self.new.roles ≡ self.old.roles }
+        ensures types { self.new.session.types ≡ self.old.session.types }
+        ensures next { OnOk result (self.new.line.items ≡ []) }
+        ensures answer { OnOk result ((text : List ℕ)
+            × (self.new.answers.items ≡ self.old.answers.items ++ ended text)
+            × lines_of self.old (front (self.old.line.items ++ bytes.now)) self.old.session.state
+            text self.new.session.state) }
+    {
+        if !self.line.is_empty() {
+            keep(&mut self.line, bytes)?;
+            return self.answer_kept();
+        }
+        // it came whole, and is answered where it stands
+        answer_line(
+            self.alloc,
+            &self.roles,
+            &mut self.session,
+            bytes,
+            &mut self.answers,
+        )
+    }
+
     /// Takes the next bytes, and answers each line that they end.
     fn feed(&mut self, bytes: &[u8]) -> Result<(), AllocError>
         requires named { length self.old.roles ≡ length self.old.session.types }
@@ -154,8 +180,7 @@ impl Run {
     {
         let mut rest = bytes;
         while let Some(k) = line_end(rest) {
-            keep(&mut self.line, &rest[..k])?;
-            self.end_line()?;
+            self.end_line(&rest[..k])?;
             rest = &rest[k + 1..];
         }
         keep(&mut self.line, rest)
@@ -173,7 +198,7 @@ impl Run {
         if self.line.is_empty() {
             return Ok(());
         }
-        self.end_line()
+        self.answer_kept()
     }
 }
 

@@ -4,7 +4,6 @@ use Rattle.std.proofs.lemmas.List.{map-append}
 use Rattle.mps_local.specs.declared.Local.{Local}
 use Rattle.mps_local.specs.Local.{LocalType, plain}
 use Rattle.mps_table.specs.Standing.{StandsFor}
-use Rattle.mps_session.specs.Cursors.{Position, position, deed_of}
 use Rattle.mps_session.specs.Opening.{AreStarts}
 use Rattle.mps_session.specs.declared.cursor.Cursor.{Cursor}
 use Rattle.mps_session.proofs.Starting.{starts_push}
@@ -17,13 +16,10 @@ loop-t-preserved c =
     let i = c.loop-t.t-index in
     let t = c.t-item.result in
     let all = c.loop-t.all.items in
-    let cursor : Cursor = record { table = c.in-Ok.table; node = c.first-node.result; past = c.new.result } in
+    let cursor : Cursor = record { table = c.in-Ok.table; node = c.first-node.result } in
     let taken : map plain (take (i + 1) types) ≡ map plain (take i types) ++ plain t ∷ [] =
     ap (λ (n : ℕ). map plain (take n types)) (plus_one i) ∙ ap (map plain) (take-suc types i t c.loop-t-test.true) ∙ map-append plain (take i types) (get_or types i t ∷ [])
     ∙ ap (λ (x : Local). map plain (take i types) ++ plain x ∷ []) (sym c.t-item.is) in
-    let pushed : map position c.push.new.self.items ≡ map position all ++ position cursor ∷ [] =
-    ap (map position) c.in_ok-push.ensures.items ∙ map-append position all (cursor ∷ []) in
     let stands = subst (λ (n : ℕ). StandsFor c.in-Ok.table n (plain t)) (sym c.first-node.ensures.first) c.in-Ok.ensures.table in
-    subst (λ (ps : List Position). AreStarts (map plain (take (i + 1) types)) ps) (sym pushed)
-    (subst (λ (ts : List LocalType). AreStarts ts (map position all ++ position cursor ∷ [])) (sym taken)
-    (starts_push (map plain (take i types)) (map position all) (plain t) (position cursor) c.loop-t.invariant (record { stands = stands; past = ap (map deed_of) c.new.ensures.items })))
+    subst (λ (cursors : List Cursor). AreStarts (map plain (take (i + 1) types)) cursors) (sym c.in_ok-push.ensures.items)
+    (subst (λ (ts : List LocalType). AreStarts ts (all ++ cursor ∷ [])) (sym taken) (starts_push (map plain (take i types)) all (plain t) cursor c.loop-t.invariant stands))

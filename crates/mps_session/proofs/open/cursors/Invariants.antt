@@ -1,8 +1,7 @@
 use Rattle.std.proofs.Common.{map, take}
 use Rattle.mps_local.specs.Local.{plain}
-use Rattle.mps_session.specs.Cursors.{position}
 use Rattle.mps_session.specs.Opening.{AreStarts}
 use Rattle.mps_session.proofs.open.cursors.Given as goal
 
 abbrev pub invariant-loop-t : goal.invariant-loop-t
-invariant-loop-t l = AreStarts (map plain (take l.t-index l.types)) (map position l.all.items)
+invariant-loop-t l = AreStarts (map plain (take l.t-index l.types)) l.all.items

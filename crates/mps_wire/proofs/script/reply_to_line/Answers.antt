@@ -1,13 +1,13 @@
-use Rattle.std.proofs.Common.{inl, inr, refl, rules, arith}
+use Rattle.std.proofs.Common.{inl, inr, refl, arith}
 use Rattle.mps_base.specs.declared.value.Value.TheVariants.{Text}
 use Rattle.mps_command.specs.declared.command.Forward.TheVariants.{Send}
-use Rattle.mps_wire.proofs.Serving.{role_within, replies}
+use Rattle.mps_wire.proofs.Serving.{role_within, spelled_ascii, replies}
 use Rattle.mps_wire.proofs.script.reply_to_line.Goals as goal
 
 pub returns-in-Ok-clause-reply : goal.returns-in-Ok-clause-reply
 returns-in-Ok-clause-reply c =
     replies c.args.roles.now c.args.session.now.types c.args.line.now c.args.session.now.state c.forward.new.self.state c.in-Ok.request.0 c.in-Ok.request.1
-    (record { short = c.if-line-gt-MAX_LINE.false; ascii = search rules; spelled = c.in-Ok.ensures.read })
+    (record { short = c.if-line-gt-MAX_LINE.false; ascii = spelled_ascii c.args.roles.now c.args.line.now c.in-Ok.request.0 c.in-Ok.request.1 c.in-Ok.ensures.read; spelled = c.in-Ok.ensures.read })
     c.of.result c.forward.result c.forward.ensures.answer c.forward.ensures.state c.forward.ensures.err c.of.ensures
 
 pub returns-in-Err-Bad-clause-reply : goal.returns-in-Err-Bad-clause-reply
@@ -23,7 +23,7 @@ returns-in-Err-Memory-clause-reply c =
     inr (inr (record {
       role = m.0;
       command = Send m.1 (Text m.2);
-      readable = record { short = c.if-line-gt-MAX_LINE.false; ascii = search rules; spelled = m.3 };
+      readable = record { short = c.if-line-gt-MAX_LINE.false; ascii = spelled_ascii c.args.roles.now c.args.line.now m.0 (Send m.1 (Text m.2)) m.3; spelled = m.3 };
       cause = inr (m.1, m.2, refl);
       answer = refl;
       unchanged = refl;

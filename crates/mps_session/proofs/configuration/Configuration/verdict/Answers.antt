@@ -8,8 +8,8 @@ use Rattle.mps_machine.specs.Rule.{type_after, participant_after}
 use Rattle.mps_machine.specs.View.{Participant}
 use Rattle.mps_table.specs.Standing.{StandsFor}
 use Rattle.mps_session.specs.Configurations.{lists_of, moved_in}
-use Rattle.mps_session.specs.Cursors.{Position}
-use Rattle.mps_session.proofs.Cursors.{position_at}
+use Rattle.mps_session.specs.declared.cursor.Cursor.{Cursor}
+use Rattle.mps_session.proofs.Cursors.{cursor_at}
 use Rattle.mps_session.proofs.Following.{follows_all}
 use Rattle.mps_session.proofs.configuration.Configuration.verdict.Goals as goal
 
@@ -18,8 +18,8 @@ returns-clause-follows c =
     let all = c.args.self.now.cursors.items in
     let cursor = c.index-cursor.result.now in
     let at = c.index-cursor.ensures ∙ ap (λ (k : ℕ). get_or all k cursor) c.index.ensures.place in
-    let here = position_at all c.args.role cursor (omega (arith, c.requires.role, c.args.self.now.cursors.ok.0)) at in
+    let here = cursor_at all c.args.role cursor (omega (arith, c.requires.role, c.args.self.now.cursors.ok.0)) at in
     let m = moved_in (lists_of c.args.self.now) c.args.role (act_of c.args.command.now) in
     let follows = subst (λ (x : Option Message). IfOk c.next_node.result (λ next. (t u : LocalType) → StandsFor cursor.table cursor.node t → type_after (unfolded t) (act_of c.args.command.now) x ≡ Some u → StandsFor cursor.table next u)) c.first_for-first.ensures c.next_node.ensures.follows in
-    subst (λ (p : Position). IfOk c.next_node.result (λ next. (before after : Participant) → StandsFor p.graph p.node before.to_come → participant_after before (act_of c.args.command.now) m ≡ Some after → StandsFor p.graph next after.to_come)) (sym here)
+    subst (λ (p : Cursor). IfOk c.next_node.result (λ next. (before after : Participant) → StandsFor p.table p.node before.to_come → participant_after before (act_of c.args.command.now) m ≡ Some after → StandsFor p.table next after.to_come)) (sym here)
     (follows_all cursor.table cursor.node m c.next_node.result c.args.command.now c.next_node.ensures.mark follows)

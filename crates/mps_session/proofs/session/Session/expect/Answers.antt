@@ -1,12 +1,24 @@
-use Rattle.std.proofs.Common.{ℕ, arith, map, get_or, ap, ◌∙◌, subst}
-use Rattle.mps_local.specs.Local.{plain}
+use Rattle.std.proofs.Common.{◌≡◌, ℕ, arith, map, get_or, sym, ap, ◌∙◌, subst}
+use Rattle.mps_local.specs.Actions.{Head, Ends, Sends, Receives, Chooses, Picks, Begins, first_action, head}
+use Rattle.mps_local.specs.Local.{LocalType, plain}
 use Rattle.mps_table.specs.Graph.{IsNode}
+use Rattle.mps_table.specs.Expects.{head_of}
+use Rattle.mps_machine.specs.Machine.{view_of}
 use Rattle.mps_session.specs.Configurations.{lists_of}
-use Rattle.mps_session.specs.Cursors.{Position, position}
-use Rattle.mps_session.proofs.Cursors.{position_at}
-use Rattle.mps_session.proofs.Serving.{in_positions, is_node}
-use Rattle.mps_session.proofs.Types.{length_map}
+use Rattle.mps_session.specs.Cursors.{IsFor}
+use Rattle.mps_session.specs.Seen.{Machine, view_of as seen}
+use Rattle.mps_session.specs.declared.cursor.Cursor.{Cursor}
+use Rattle.mps_session.proofs.Cursors.{cursor_at}
+use Rattle.mps_session.proofs.Serving.{in_cursors, is_node, stands}
 use Rattle.mps_session.proofs.session.Session.expect.Goals as goal
+
+-- a type that begins so has that head
+begins_first : (h : Head) (t : LocalType) → Begins h t → h ≡ first_action t
+begins_first Ends t b = sym (ap first_action b)
+begins_first (Sends peer sort) t b = sym (ap first_action b.1)
+begins_first (Receives peer sort) t b = sym (ap first_action b.1)
+begins_first (Chooses peer names) t b = ap (Chooses peer) b.2 ∙ sym (ap first_action b.1)
+begins_first (Picks peer names) t b = ap (Picks peer) b.2 ∙ sym (ap first_action b.1)
 
 pub expect-requires : goal.expect-requires
 expect-requires c =
@@ -16,5 +28,17 @@ expect-requires c =
     let all = s.configuration.cursors.items in
     let cursor = c.index-cursor.result.now in
     let at = c.index-cursor.ensures ∙ ap (λ (i : ℕ). get_or all i cursor) c.index.ensures.place in
-    let here = position_at all c.args.role cursor (omega (arith, in_positions types k c.self.invariant c.args.self.now c.self.view_is c.args.role c.requires, length_map position all)) at in
-    record { node = subst (λ (p : Position). IsNode p.graph p.node) here (is_node types k c.self.invariant c.args.self.now c.self.view_is c.args.role c.requires) }
+    let here = cursor_at all c.args.role cursor (omega (arith, in_cursors types k c.self.invariant c.args.self.now c.self.view_is c.args.role c.requires)) at in
+    record { node = subst (λ (p : Cursor). IsNode p.table p.node) here (is_node types k c.self.invariant c.args.self.now c.self.view_is c.args.role c.requires) }
+
+pub returns : goal.returns
+returns c =
+    let s = c.self.inside in
+    let k = lists_of s.configuration in
+    let types = map plain s.types.items in
+    let all = s.configuration.cursors.items in
+    let cursor = c.index-cursor.result.now in
+    let at = c.index-cursor.ensures ∙ ap (λ (i : ℕ). get_or all i cursor) c.index.ensures.place in
+    let here = cursor_at all c.args.role cursor (in_cursors types k c.self.invariant c.args.self.now c.self.view_is c.args.role c.requires) at in
+    let begins = c.expect.ensures.begins _ (subst (λ (x : Cursor). IsFor x ((view_of types k.history).participant c.args.role).to_come) here (stands types k c.self.invariant c.args.self.now c.self.view_is c.args.role c.requires)) in
+    begins_first (head_of c.expect.result) _ begins ∙ ap (λ (m : Machine). head ((seen m).participant c.args.role).to_come) c.self.view_is

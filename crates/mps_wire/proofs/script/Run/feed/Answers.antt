@@ -1,4 +1,4 @@
-use Rattle.std.proofs.Common.{◌≡◌, ℕ, ◌≤◌, List, length, refl, ap, ◌∙◌, arith, length-take}
+use Rattle.std.proofs.Common.{◌≡◌, ℕ, ◌≤◌, List, ◌++◌, length, take, refl, ap, ◌∙◌, arith, length-take}
 use Rattle.std.proofs.lemmas.Result.{on_ok_weaker}
 use Rattle.mps_machine.specs.Machine.{State, initial}
 use Rattle.mps_wire.specs.Answers.{Answering}
@@ -27,24 +27,24 @@ loop-k-preserved c =
     let answers = lines_of c.args.self.now in
     let line =
     carried _ _ _ _ i.roles i.types
-    (λ (answers : Answering State). answers c.keep.new.line.items c.loop-k.self.session.state a.0 c.end_line.new.self.session.state) a.2 in
+    (λ (answers : Answering State). answers (front (c.loop-k.self.line.items ++ take c.in-Some.k c.loop-k.rest.now)) c.loop-k.self.session.state a.0 c.end_line.new.self.session.state) a.2 in
     record {
       roles = c.in_ok-end_line.ensures.roles ∙ i.roles;
       types = c.in_ok-end_line.ensures.types ∙ i.types;
       short = omega (arith, ap length c.in_ok-end_line.ensures.next);
       feeding =
           feeds_on answers initial (place_of c.args.self.now) c.args.bytes.now (by_front c.args.self.now.roles c.args.self.now.session.types)
-          c.loop-k.rest.now c.keep.new.line.items a.0 c.in-Some.k (place_of c.loop-k.self) (place_of c.end_line.new.self) i.feeding
-          c.in-Some.ensures.within c.in-Some.ensures.end c.in-Some.ensures.before c.in_ok-keep.ensures.ok line a.1 c.in_ok-end_line.ensures.next;
+          c.loop-k.rest.now (front (c.loop-k.self.line.items ++ take c.in-Some.k c.loop-k.rest.now)) a.0 c.in-Some.k (place_of c.loop-k.self) (place_of c.end_line.new.self) i.feeding
+          c.in-Some.ensures.within c.in-Some.ensures.end c.in-Some.ensures.before refl line a.1 c.in_ok-end_line.ensures.next;
     }
 
 pub returns-clause-kept : goal.returns-clause-kept
-returns-clause-kept c = on_ok_weaker c.keep-2.result (λ e. front_short_enough _ _ e) c.keep-2.ensures.ok
+returns-clause-kept c = on_ok_weaker c.keep.result (λ e. front_short_enough _ _ e) c.keep.ensures.ok
 
 pub returns-clause-answered : goal.returns-clause-answered
 returns-clause-answered c =
-    on_ok_weaker c.keep-2.result
+    on_ok_weaker c.keep.result
     (λ e. feeding_ends (lines_of c.args.self.now) initial (place_of c.args.self.now) c.args.bytes.now c.loop-k.rest.now (place_of c.loop-k.self)
-    (record { kept = c.keep-2.new.line.items; state = c.loop-k.self.session.state; waiting = c.loop-k.self.answers.items })
+    (record { kept = c.keep.new.line.items; state = c.loop-k.self.session.state; waiting = c.loop-k.self.answers.items })
     c.loop-k.invariant.feeding c.in_default.ensures.none e refl refl)
-    c.keep-2.ensures.ok
+    c.keep.ensures.ok
