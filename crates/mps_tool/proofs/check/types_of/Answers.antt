@@ -5,7 +5,7 @@ use Rattle.mps_local.specs.Local.{plain}
 use Rattle.mps_local.specs.Projection.{projection}
 use Rattle.mps_local.specs.Shape.{AllPeers}
 use Rattle.mps_tool.proofs.Causes.{no_projections}
-use Rattle.mps_tool.proofs.Projected.{one_more, one_more_holds, each_some}
+use Rattle.mps_local.proofs.Each.{one_more, one_more_holds, each_some}
 use Rattle.mps_tool.proofs.check.types_of.Goals as goal
 
 pub loop-place-preserved : goal.loop-place-preserved
