@@ -16,6 +16,7 @@ use Rattle.mps_local.specs.Outcome.{AreProjections}
 use Rattle.mps_machine.specs.Examples.{a, b, c, verdict, unfitting, sends_int, receives_into, chooses, picks, rolls_back, done, done_with, done_label, violates, relayed_then, relay_done_then}
 use Rattle.mps_machine.specs.Machine.{Request, initial, view_of, answers, after}
 use Rattle.mps_machine.specs.View.{View}
+use Rattle.mps_fidelity.specs.Duality.{AreDual}
 use Rattle.mps_fidelity.specs.Fidelity.{IsFaithful, IsHalfDuplex}
 
 -- the tree has no fault, and these are what the three roles do in it
@@ -85,7 +86,11 @@ EitherBranchIsTaken =
 abbrev pub TypesHaveToFit : Type 0
 TypesHaveToFit = ¬ (IsFaithful (view_after unfitting (sends_int a b 5 ∷ [])))
 
--- nor where a third role has the type of the one branch, and the branches differ in what it does: a takes the other
+-- and these types aren't dual
+abbrev pub SortsHaveToAgree : Type 0
+SortsHaveToAgree = ¬ (AreDual a b (Send b IntSort End) (Recv a BoolSort End))
+
+-- nor is it where a third role has the type of the one branch, and the branches differ in what it does: a takes the other
 abbrev pub unmerged : GlobalType
 unmerged = chosen (int_to protocols.a protocols.c global.End) (bool_to protocols.a protocols.c global.End)
 

@@ -5,7 +5,7 @@ ghost use Rattle.mps_local.specs.Examples.{three, relay, loops};
 ghost use Rattle.mps_local.specs.Projection.{projection};
 ghost use Rattle.mps_machine.specs.Examples.{a, b, c, verdict};
 ghost use Rattle.mps_fidelity.specs.Examples.{DoInIt, loop_types, merging, merging_types, aside, aside_types, unmerged, first_branch_types};
-ghost use Rattle.mps_fidelity.specs.Examples.{AnotherAnswerIsGiven, RoundsGoOn, EitherBranchIsTaken, TypesHaveToFit, BranchesHaveToAgree, OneHasToReceiveFirst};
+ghost use Rattle.mps_fidelity.specs.Examples.{AnotherAnswerIsGiven, RoundsGoOn, EitherBranchIsTaken, TypesHaveToFit, SortsHaveToAgree, BranchesHaveToAgree, OneHasToReceiveFirst};
 
 /// What three roles do in protocols without faults, and what they are answered there.
 pub fn worked_protocols()
@@ -22,6 +22,7 @@ pub fn worked_protocols()
 /// both directions. So types have to fit each other, and branches to be compared.
 pub fn premises_are_needed()
     ensures types_have_to_fit { TypesHaveToFit }
+    ensures sorts_have_to_agree { SortsHaveToAgree }
     ensures no_type_without_comparing { projection three c unmerged ≡ None }
     ensures branches_have_to_agree { BranchesHaveToAgree }
     ensures one_has_to_receive_first { OneHasToReceiveFirst }
