@@ -15,9 +15,11 @@ use Rattle.mps_local.specs.Shape.{AllPeers, IsOtherRole}
 use Rattle.mps_local.specs.Unfolding.{unfolded}
 use Rattle.mps_local.proofs.Faultless.{faultless, fine_so}
 use Rattle.mps_local.proofs.Projected.{fitting}
+use Rattle.mps_machine.specs.Machine.{State, initial, view_of, Request, after, IsSound}
 use Rattle.mps_machine.specs.Rule.{moved, rule, replay}
 use Rattle.mps_machine.specs.View.{Participant, View, opening, type_at}
 use Rattle.mps_machine.proofs.Peers.{after_peers, fact_by_role, unfolded_peers}
+use Rattle.mps_machine.proofs.Sound.{initial_sound, view_is, after_sound}
 use Rattle.mps_machine.proofs.Stepping.{rule_parts, replay_parts}
 use Rattle.mps_fidelity.specs.Duality.{From, direction, after_message, Dual, AreDual}
 use Rattle.mps_fidelity.specs.Fidelity.{AreOfOneProtocol, Expects, IsFaithful, IsHalfDuplex}
@@ -125,3 +127,17 @@ faithful types h v own e p q m ms front =
 pub half_duplex : (types : List LocalType) (h : List Step) (v : View) (p q : ℕ) → AreOfOneProtocol types → replay (opening types) h ≡ Some v → p ≢ q → IsHalfDuplex v p q
 half_duplex types h v p q own e ne =
     one_empty zero p q (v.queue p q) (v.queue q p) (unfolded (v.participant p).to_come) (unfolded (v.participant q).to_come) (coherent types own h v e zero p q ne)
+
+-- the same of sound states, and so of those that requests lead to
+pub sound_faithful : (types : List LocalType) (st : State) → AreOfOneProtocol types → IsSound types st → IsFaithful (view_of types st.history)
+sound_faithful types st own ok = subst IsFaithful (sym (view_is types st ok)) (faithful types st.history ok.view own ok.replayed)
+
+pub always_faithful : (types : List LocalType) (rs : List Request) → AreOfOneProtocol types → IsFaithful (view_of types (after types initial rs).history)
+always_faithful types rs own = sound_faithful types (after types initial rs) own (after_sound types initial rs (initial_sound types))
+
+pub sound_half_duplex : (types : List LocalType) (st : State) (p q : ℕ) → AreOfOneProtocol types → IsSound types st → p ≢ q → IsHalfDuplex (view_of types st.history) p q
+sound_half_duplex types st p q own ok ne =
+    subst (λ (v : View). IsHalfDuplex v p q) (sym (view_is types st ok)) (half_duplex types st.history ok.view p q own ok.replayed ne)
+
+pub always_half_duplex : (types : List LocalType) (rs : List Request) (p q : ℕ) → AreOfOneProtocol types → p ≢ q → IsHalfDuplex (view_of types (after types initial rs).history) p q
+always_half_duplex types rs p q own ne = sound_half_duplex types (after types initial rs) p q own (after_sound types initial rs (initial_sound types)) ne

@@ -1,5 +1,5 @@
 -- A message that is expected is no mismatch.
-use Rattle.std.proofs.Common.{◌≡◌, ◌≢◌, ℕ, Bool, true, false, List, [], ◌∷◌, cond, Option, Some, None, Result, Ok, Err, refl, sym, ap, subst}
+use Rattle.std.proofs.Common.{◌≡◌, ◌≢◌, ℕ, Bool, true, false, List, [], ◌∷◌, cond, Option, Some, None, Result, Ok, Err, refl, sym, ap}
 use Rattle.std.specs.Prelude.{◌==◌, is_some, nat_lt}
 use Rattle.std.specs.List.{AllByRecursion}
 use Rattle.std.specs.Option.{option_map}
@@ -22,13 +22,13 @@ use Rattle.mps_history.specs.Steps.{step_of, steps_of}
 use Rattle.mps_local.specs.Actions.{branch_at}
 use Rattle.mps_local.specs.Local.{LocalType, Send, Recv, Select, Branch}
 use Rattle.mps_local.specs.Unfolding.{unfolded}
-use Rattle.mps_machine.specs.Machine.{State, initial, most_numbers, view_of, unless, full_fault, done_by, accepted, forward, least, owner_fault, dependents, undone, undo, rolled_back, rollback, since_mark, back_to, back, stepped, removed, Request, serve, answers, after, IsSound}
+use Rattle.mps_machine.specs.Machine.{State, initial, most_numbers, view_of, unless, full_fault, done_by, accepted, forward, least, owner_fault, dependents, undone, undo, rolled_back, rollback, since_mark, back_to, back, stepped, removed, Request, serve, answers, IsSound}
 use Rattle.mps_machine.specs.Rule.{first_of}
 use Rattle.mps_machine.specs.View.{View}
 use Rattle.mps_machine.specs.Violations.{is_value_of, is_label_of, waiting_fault, act_fault, violation}
-use Rattle.mps_machine.proofs.Sound.{initial_sound, view_is, serve_sound, after_sound}
+use Rattle.mps_machine.proofs.Sound.{initial_sound, serve_sound}
 use Rattle.mps_fidelity.specs.Fidelity.{AreOfOneProtocol, Expects, IsFaithful, mismatch}
-use Rattle.mps_fidelity.proofs.Faithful.{faithful}
+use Rattle.mps_fidelity.proofs.Faithful.{sound_faithful}
 
 two_faults : (a b : Bool) → cond a (cond b None (Some WrongSort)) (Some WrongPeer) ≡ Some Mismatch → ⊥
 two_faults true true e = cc
@@ -69,12 +69,6 @@ no_mismatch v f p (In from slot) e =
     in_faults (unfolded (v.participant p).to_come) from slot (first_of (v.queue from p))
     (λ m g. let k = front_of (v.queue from p) m g in f from p m k.0 k.1) e
 no_mismatch v f p (Mark name) e = cc
-
-pub sound_faithful : (types : List LocalType) (st : State) → AreOfOneProtocol types → IsSound types st → IsFaithful (view_of types st.history)
-sound_faithful types st own ok = subst IsFaithful (sym (view_is types st ok)) (faithful types st.history ok.view own ok.replayed)
-
-pub always_faithful : (types : List LocalType) (rs : List Request) → AreOfOneProtocol types → IsFaithful (view_of types (after types initial rs).history)
-always_faithful types rs own = sound_faithful types (after types initial rs) own (after_sound types initial rs (initial_sound types))
 
 -- not refused for the message that waits
 abbrev IsOther : {A : Type 0} → Result A Refusal → Type 0

@@ -23,16 +23,22 @@ pub fn projections_are_dual()
         → projection roles p tree ≡ Some t → projection roles q tree ≡ Some u → AreDual p q t u }
 {}
 
-/// Between two roles messages never wait in both directions.
+/// Between two roles messages never wait in both directions: after any history that has a replay, in
+/// each sound state, and so after any requests, undos, rollbacks and returns to marks among them.
 pub fn queues_are_half_duplex()
-    ensures { (types : List LocalType) (h : List Step) (v : View) (p q : ℕ)
+    ensures replayed { (types : List LocalType) (h : List Step) (v : View) (p q : ℕ)
         → AreOfOneProtocol types → replay (opening types) h ≡ Some v
         → p ≢ q → IsHalfDuplex v p q }
+    ensures sound { (types : List LocalType) (st : State) (p q : ℕ)
+        → AreOfOneProtocol types → IsSound types st
+        → p ≢ q → IsHalfDuplex (view_of types st.history) p q }
+    ensures always { (types : List LocalType) (requests : List Request) (p q : ℕ)
+        → AreOfOneProtocol types
+        → p ≢ q → IsHalfDuplex (view_of types (after types initial requests).history) p q }
 {}
 
 /// The first message that waits for a role is of the sort, or one of the labels, that the role
-/// expects from its sender: after any history that has a replay, in each sound state, and so after
-/// any requests, undos, rollbacks and returns to marks among them.
+/// expects from its sender, at the same times.
 pub fn sessions_are_faithful()
     ensures replayed { (types : List LocalType) (h : List Step) (v : View)
         → AreOfOneProtocol types → replay (opening types) h ≡ Some v → IsFaithful v }

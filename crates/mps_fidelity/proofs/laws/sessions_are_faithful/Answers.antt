@@ -1,5 +1,4 @@
-use Rattle.mps_fidelity.proofs.Faithful.{faithful}
-use Rattle.mps_fidelity.proofs.Refusals.{sound_faithful, always_faithful}
+use Rattle.mps_fidelity.proofs.Faithful.{faithful, sound_faithful, always_faithful}
 use Rattle.mps_fidelity.proofs.laws.sessions_are_faithful.Goals as goal
 
 pub returns-clause-replayed : goal.returns-clause-replayed
