@@ -44,7 +44,8 @@ pub data DualStep (p q : ℕ) (R : LocalType → LocalType → Type 0) (t u : Lo
   first_sends : direction t ≡ To q → direction u ≡ From p → ((m : Message) (x : LocalType) → after_message t m ≡ Some x → (y : LocalType) × (after_message u m ≡ Some y) × R (unfolded x) (unfolded y)) → DualStep p q R t u
   second_sends : direction u ≡ To p → direction t ≡ From q → ((m : Message) (y : LocalType) → after_message u m ≡ Some y → (x : LocalType) × (after_message t m ≡ Some x) × R (unfolded x) (unfolded y)) → DualStep p q R t u
 
--- and so on, for so many actions
+-- and so on, for so many actions. A role that has ended is dual to any: it is said what comes of messages that are
+-- received, and not that each is
 abbrev pub Dual : ℕ → (p q : ℕ) → LocalType → LocalType → Type 0
 Dual zero p q t u = ⊤
 Dual (suc n) p q t u = DualStep p q (Dual n p q) t u
