@@ -17,3 +17,4 @@ pub mod Told
 pub mod Silence
 pub mod Looping
 pub mod Faultless
+pub mod Each

@@ -1,5 +1,5 @@
 -- What projecting a tree gives.
-use Rattle.std.specs.Prelude.{◌≡◌, ℕ, ◌+◌, ◌<◌, ⊤, List, Some, None, length, slice_get}
+use Rattle.std.specs.Prelude.{◌≡◌, ℕ, ◌+◌, ◌<◌, ⊤, List, Some, None, IsSome, length, slice_get}
 use Rattle.mps_global.specs.Global as global
 use Rattle.mps_global.specs.Global.{GlobalType}
 use Rattle.mps_local.specs.Local.{LocalType, Branches}
@@ -45,3 +45,14 @@ AreUnmerged roles role number branches faults.Memory = ⊤
 pub record AreProjections (roles : List (List ℕ)) (tree : GlobalType) (types : List LocalType) : Type 0 where
   pub count : length types ≡ length roles
   pub each : (p : ℕ) → p < length roles → projection roles p tree ≡ slice_get types p
+
+-- the role is the first that has no projection, since it can't merge the branches of the choice of that number
+pub record IsFirstUnmerged (roles : List (List ℕ)) (tree : GlobalType) (role choice : ℕ) : Type 0 where
+  pub within : role < length roles
+  pub unmerged : CantMerge roles role 0 tree role choice
+  pub others : (p : ℕ) → p < role → IsSome (projection roles p tree)
+
+-- the fault says so, or that memory ran out
+abbrev pub AreNotAll : List (List ℕ) → GlobalType → ProjectFault → Type 0
+AreNotAll roles tree (faults.Unmergeable role choice) = IsFirstUnmerged roles tree role choice
+AreNotAll roles tree faults.Memory = ⊤

@@ -23,7 +23,7 @@ pub use faults::{
 };
 pub use laws::{labels_lead, merging_is_equality, same_is_equality, unmerged_is_named};
 use mps_base::{Name, Role, Sort, VarName};
-pub use projection::{ProjectFault, project, projection_laws};
+pub use projection::{ProjectFault, project, project_all, projection_laws};
 use std::mem;
 pub use walking::Arms;
 pub use writing::write_local;

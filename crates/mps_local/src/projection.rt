@@ -1,5 +1,6 @@
 //! What one role of a protocol does in it.
-ghost use Rattle.std.specs.Prelude.{◌≡◌, ◌+◌, ◌<◌, ◌≤◌, ◌∷◌, ℕ, suc, List, Option, Some, None, length, IsTrue, IfOk, IfErr, IsSome, MatchOption, position};
+ghost use Rattle.std.specs.Prelude.{◌≡◌, ◌+◌, ◌<◌, ◌≤◌, ◌∷◌, ℕ, suc, List, Option, Some, None, length, map, IsTrue, IfOk, IfErr, IsSome, MatchOption, position};
+ghost use Rattle.std.specs.List.{AllByRecursion};
 ghost use Rattle.std.specs.Str.{bytes_eq};
 ghost use Rattle.mps_global.specs.Global.{GlobalType, plain as global_type, plain_branches as global_branches};
 ghost use Rattle.mps_global.specs.Faults.{node_count as global_nodes, depth as global_depth, fault_of};
@@ -8,14 +9,14 @@ ghost use Rattle.mps_local.specs.Projection.{place_of, same};
 ghost use Rattle.mps_local.specs.Projection.{go_on_with, merged, with_message, with_choice, projection, projections};
 ghost use Rattle.mps_local.specs.Projection.{choice_count, branch_choices, examined, examined_in, first_unmerged};
 ghost use Rattle.mps_local.specs.Shape.{node_count, depth, AllPeers, IsOtherRole};
-ghost use Rattle.mps_local.specs.Outcome.{IsDone, AreDone, IsUnmerged, AreUnmerged};
+ghost use Rattle.mps_local.specs.Outcome.{IsDone, AreDone, IsUnmerged, AreUnmerged, AreProjections, AreNotAll};
 
 use crate::equality::same;
 use crate::loops::{choice_count, is_idle};
 use crate::{Branches, Local};
 use mps_base::{Name, Role, Sort};
 use mps_global::{Global, Protocol};
-use std::alloc::{self, AllocError};
+use std::alloc::{self, AllocError, AllocFailed};
 use thiserror::Error;
 
 /// Why a protocol is not projected.
@@ -39,6 +40,16 @@ impl From<AllocError> for ProjectFault {
     }
 }
 
+impl<T: Drop> From<AllocFailed<T>> for ProjectFault {
+    ghost use Rattle.mps_local.specs.declared.projection.ProjectFault.TheVariants.{Memory};
+
+    ghost from_gives = { λ _ fault. fault ≡ Memory };
+
+    fn from(_: AllocFailed<T>) -> ProjectFault {
+        ProjectFault::Memory
+    }
+}
+
 /// What the role does in the protocol. It takes stack for each level, of which there are at most
 /// 64.
 pub fn project(alloc: alloc::Global, protocol: &Protocol, role: Role) -> Result<Local, ProjectFault>
@@ -55,6 +66,24 @@ pub fn project(alloc: alloc::Global, protocol: &Protocol, role: Role) -> Result<
 {
     let (local, _) = project_tree(alloc, &protocol.roles, &protocol.body, role, 0)?;
     Ok(local)
+}
+
+/// What each role does in the protocol, in order. Where roles have no projection, the first is named.
+pub fn project_all(alloc: alloc::Global, protocol: &Protocol) -> Result<Vec<Local>, ProjectFault>
+    requires { fault_of protocol.now.roles.items (global_type protocol.now.body) ≡ None }
+    ensures ok { IfOk result (λ types. AreProjections
+        protocol.now.roles.items (global_type protocol.now.body) (map plain types.items)) }
+    ensures peers { IfOk result (λ types. AllByRecursion
+        (AllPeers (λ peer. peer < length protocol.now.roles.items)) (map plain types.items)) }
+    ensures fault { IfErr result
+        (AreNotAll protocol.now.roles.items (global_type protocol.now.body)) }
+{
+    let mut types = Vec::with_capacity(alloc, protocol.roles.len())?;
+    for place in 0..protocol.roles.len() {
+        let t = project(alloc, protocol, Role::new(place as u8))?;
+        types.push(t)?;
+    }
+    Ok(types)
 }
 
 /// What holds of the local types of a protocol without faults: their peers are other roles of the

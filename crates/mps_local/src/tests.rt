@@ -2,7 +2,7 @@ ghost use Rattle.std.specs.Prelude.{◌<◌, IfOk};
 ghost use Rattle.mps_local.specs.Local.{plain, plain_branches};
 ghost use Rattle.mps_local.specs.Shape.{AllPeers, AllBranchPeers};
 
-use crate::{Local, ProjectFault, project, projection_laws, write_local};
+use crate::{Local, ProjectFault, project, project_all, projection_laws, write_local};
 use mps_base::Sort::{self, Bool, Int, Text};
 use mps_base::{Name, Role, Roles, VarName};
 use mps_global::{Branches, Global, Protocol, check};
@@ -236,6 +236,43 @@ fn projects_each_role(rt: HostRuntime) -> Result<(), Fail> {
             "{text}"
         );
     }
+    Ok(())
+}
+
+// What `a`, `b` and `c` do, or the fault of the first that can't be projected.
+fn types_of(
+    rt: &impl Abort,
+    alloc: alloc::Global,
+    parts: &[Part<'_>],
+) -> Result<Result<Vec<Local>, ProjectFault>, Fail> {
+    let mut roles = Vec::new(alloc);
+    for letter in THREE {
+        roles.push(name(rt, letter))?;
+    }
+    let body = chain(rt, alloc, parts)?;
+    let protocol = Protocol { roles, body };
+    if check(&protocol).is_err() {
+        return Err(Fail::from("a fault of the protocol"));
+    }
+    Ok(project_all(alloc, &protocol))
+}
+
+#[test]
+fn projects_all_roles(rt: HostRuntime) -> Result<(), Fail> {
+    let Ok(types) = types_of(&rt, rt.alloc(), &RELAY)? else {
+        return Err(Fail::from("a role without a projection"));
+    };
+    let shown = match types.as_slice() {
+        [Local::Send { .. }, Local::Recv { .. }, Local::Recv { .. }] => "sends, and two receive",
+        _ => "something else",
+    };
+    assert_eq!(rt; shown, "sends, and two receive");
+    let fault = types_of(&rt, rt.alloc(), &ONE)?.err();
+    let first = ProjectFault::Unmergeable {
+        role: Role::new(2),
+        choice: 0,
+    };
+    assert_eq!(rt; fault, Some(first));
     Ok(())
 }
 

@@ -5,3 +5,4 @@ pub mod Defined
 pub mod Sound
 pub mod Lawful
 pub mod Swapping
+pub mod Peers

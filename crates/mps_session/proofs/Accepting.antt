@@ -21,6 +21,7 @@ use Rattle.mps_machine.specs.Violations.{violation}
 use Rattle.mps_machine.specs.Machine.{State, initial, most_numbers, view_of, IsSound}
 use Rattle.mps_machine.proofs.Defined.{allowed_step}
 use Rattle.mps_machine.proofs.Stepping.{map_some, rule_parts, rule_from, replay-append, replay_from, a_receipt_finds}
+use Rattle.mps_machine.proofs.Peers.{Speaks, after_peers, fact_by_role}
 use Rattle.mps_machine.proofs.Sound.{view_is, initial_sound, accepted_sound}
 use Rattle.mps_table.specs.Standing.{StandsFor}
 use Rattle.mps_session.specs.Configurations.{Configuration, cursor_of, store_of, queue_of, state_of, IsWhole, moved_in, IsReady, queues_after, acted}
@@ -29,7 +30,6 @@ use Rattle.mps_session.specs.declared.cursor.Cursor.{Cursor}
 use Rattle.mps_session.specs.Held.{AreCursors, AreStores, AreQueues, Holds}
 use Rattle.mps_session.specs.Opening.{AreStarts, IsOpening}
 use Rattle.mps_session.specs.Peers.{HasPeers, HavePeers}
-use Rattle.mps_session.proofs.Peers.{Speaks, after_peers}
 
 -- what stands for each role after a step: new at the role of the step, and as it was at the others
 by_role : {A : Type 0} (f : Participant → A) (v : View) (s : Step) (c : Participant) (new : ℕ → A) → new s.role ≡ f c → ((r : ℕ) → r ≢ s.role → new r ≡ f (v.participant r)) → (r : ℕ) → new r ≡ f ((view_after v s c).participant r)
@@ -37,14 +37,6 @@ by_role f v s c new here others r =
     ⊎_elim
     (λ (y : (r == s.role) ≡ true). ap new (eqb-true r s.role y) ∙ here ∙ ap f (sym (cond-true (r == s.role) c (v.participant r) y)))
     (λ (n : (r == s.role) ≡ false). others r (eqb-false r s.role n) ∙ ap f (sym (cond-false (r == s.role) c (v.participant r) n)))
-    (cases_Bool (r == s.role))
-
--- the same of a fact
-fact_by_role : (P : ℕ → Participant → Type 0) (v : View) (s : Step) (c : Participant) (r : ℕ) → P s.role c → (r ≢ s.role → P r (v.participant r)) → P r ((view_after v s c).participant r)
-fact_by_role P v s c r here others =
-    ⊎_elim
-    (λ (y : (r == s.role) ≡ true). subst (P r) (sym (cond-true (r == s.role) c (v.participant r) y)) (subst (λ (k : ℕ). P k c) (sym (eqb-true r s.role y)) here))
-    (λ (n : (r == s.role) ≡ false). subst (P r) (sym (cond-false (r == s.role) c (v.participant r) n)) (others (eqb-false r s.role n)))
     (cases_Bool (r == s.role))
 
 and_false : (b : Bool) → (b && false) ≡ false

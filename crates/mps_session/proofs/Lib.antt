@@ -1,6 +1,5 @@
 pub mod Stores
 pub mod Types
-pub mod Peers
 pub mod Strangers
 pub mod Accepting
 pub mod Cursors

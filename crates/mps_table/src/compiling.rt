@@ -1,6 +1,9 @@
 //! Tables of local types.
-ghost use Rattle.std.specs.Prelude.{◌≡◌, ◌≤◌, true, [], None, Some, Err, IfOk, OnOk, IsOkUnless, length};
+ghost use Rattle.std.specs.Prelude.{◌≡◌, ◌≤◌, ℕ, List, true, [], None, Some, Err, IfOk, OnOk, IsOkUnless, length};
+ghost use Rattle.mps_global.specs.Global.{GlobalType};
+ghost use Rattle.mps_global.specs.Faults.{fault_of};
 ghost use Rattle.mps_local.specs.Local.{plain};
+ghost use Rattle.mps_local.specs.Projection.{projection};
 ghost use Rattle.mps_local.specs.Shape.{node_count};
 ghost use Rattle.mps_local.specs.Loops.{is_closed, is_guarded};
 ghost use Rattle.mps_local.specs.LocalFaults.{local_fault_of};
@@ -26,6 +29,11 @@ pub fn compile(alloc: Global, tree: &Local) -> Result<Table, LocalFault>
 
     // Memory comes last.
     ensures memory { local_fault_of (plain tree.now) ≡ None
+        → IsOkUnless result LocalFault.Memory }
+
+    // What a role does in a protocol without faults has none.
+    ensures projected { (roles : List (List ℕ)) (role : ℕ) (protocol : GlobalType)
+        → fault_of roles protocol ≡ None → projection roles role protocol ≡ Some (plain tree.now)
         → IsOkUnless result LocalFault.Memory }
 {
     match first_fault(tree) {

@@ -1,16 +1,10 @@
 -- From the faults of one step to those of all.
-use Rattle.std.proofs.Common.{◌≡◌, ℕ, ◌<◌, List, None, IsSome, Result, Ok, Err, IsErrAnd, IfErr, sym, subst}
+use Rattle.std.proofs.Common.{◌≡◌, ℕ, List, None, Result, Ok, Err, IsErrAnd, IfErr, sym, subst}
 use Rattle.mps_global.specs.Global.{GlobalType}
 use Rattle.mps_global.specs.Faults.{fault_of}
-use Rattle.mps_local.specs.Projection.{projection}
-use Rattle.mps_tool.specs.Check.{IsProtocolText, IsUnprojected, GivesNoProjections, GivesNoProtocol, GivesNoTypes}
+use Rattle.mps_tool.specs.Check.{IsProtocolText, GivesNoProjections, GivesNoProtocol, GivesNoTypes}
 use Rattle.mps_tool.specs.declared.faults.ToolFault.{ToolFault}
 use Rattle.mps_tool.specs.declared.faults.ToolFault.TheVariants.{Text, Protocol, Projection, Memory}
-
--- a role without a projection
-pub no_projections : (roles : List (List ℕ)) (tree : GlobalType) (place : ℕ) (fault : ToolFault) → ((p : ℕ) → p < place → IsSome (projection roles p tree)) → IsUnprojected roles tree place fault → GivesNoProjections roles tree fault
-no_projections roles tree place (Projection name choice) before h = record { role = place; named = h.0; unmerged = h.1; first = before }
-no_projections roles tree place fault before h = h
 
 -- no protocol
 pub no_protocol : (text : List ℕ) (fault : ToolFault) → GivesNoProtocol text fault → GivesNoTypes text fault

@@ -1,4 +1,3 @@
-pub mod Projected
 pub mod Causes
 pub mod Lines
 pub mod Bounds

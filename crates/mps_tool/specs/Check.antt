@@ -1,10 +1,9 @@
 -- What the text of a protocol gives.
-use Rattle.std.specs.Prelude.{◌≡◌, ℕ, suc, ◌<◌, ◌≤◌, ⊤, List, [], ◌∷◌, ◌++◌, codes, length, slice_get, Some, None, IsSome}
+use Rattle.std.specs.Prelude.{◌≡◌, ℕ, suc, ◌≤◌, ⊤, List, [], ◌∷◌, ◌++◌, codes, length, slice_get, Some, None}
 use Rattle.mps_global.specs.Global.{GlobalType}
 use Rattle.mps_global.specs.Faults.{fault_of}
 use Rattle.mps_local.specs.Local.{LocalType}
-use Rattle.mps_local.specs.Outcome.{AreProjections, CantMerge}
-use Rattle.mps_local.specs.Projection.{projection}
+use Rattle.mps_local.specs.Outcome.{AreProjections, IsFirstUnmerged}
 use Rattle.mps_local.specs.Text.{name_at, local_text}
 use Rattle.mps_text.specs.Grammar.{SpellsText, IsWithinLimits}
 use Rattle.mps_text.specs.Faults.{IsFirstFault}
@@ -31,18 +30,11 @@ abbrev pub IsTextFault : List ℕ → ℕ → TextKind → Type 0
 IsTextFault text at NoRoom = ⊥
 IsTextFault text at kind = IsFirstFault text at kind
 
--- a role of the protocol has no projection, and each role before it has one
+-- the role of that name is the first of the protocol that has no projection
 pub record HasNoProjection (roles : List (List ℕ)) (tree : GlobalType) (name : List ℕ) (choice : ℕ) : Type 0 where
   pub role : ℕ
   pub named : slice_get roles role ≡ Some name
-  pub unmerged : CantMerge roles role 0 tree role choice
-  pub first : (p : ℕ) → p < role → IsSome (projection roles p tree)
-
--- why the role at that place has no type: it has no projection, or want of memory
-abbrev pub IsUnprojected : List (List ℕ) → GlobalType → ℕ → ToolFault → Type 0
-IsUnprojected roles tree place (Projection name choice) = (slice_get roles place ≡ Some name) × CantMerge roles place 0 tree place choice
-IsUnprojected roles tree place Memory = ⊤
-IsUnprojected roles tree place fault = ⊥
+  pub first : IsFirstUnmerged roles tree role choice
 
 -- why a protocol without faults gives no types: a role without a projection, or want of memory
 abbrev pub GivesNoProjections : List (List ℕ) → GlobalType → ToolFault → Type 0

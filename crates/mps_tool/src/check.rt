@@ -4,11 +4,10 @@ ghost use Rattle.std.specs.List.{AllByRecursion};
 ghost use Rattle.mps_global.specs.Global.{plain as global_type};
 ghost use Rattle.mps_global.specs.Faults.{fault_of};
 ghost use Rattle.mps_local.specs.Local.{plain};
-ghost use Rattle.mps_local.specs.Projection.{projection};
 ghost use Rattle.mps_local.specs.Shape.{AllPeers};
-ghost use Rattle.mps_local.specs.Outcome.{AreProjections};
+ghost use Rattle.mps_local.specs.Outcome.{AreProjections, AreNotAll};
 ghost use Rattle.mps_tool.specs.Check.{AreTypesOf, IsProtocolText, role_line, role_lines, AreLinesOf};
-ghost use Rattle.mps_tool.specs.Check.{GivesNoProtocol, GivesNoProjections, GivesNoTypes, IsUnprojected};
+ghost use Rattle.mps_tool.specs.Check.{GivesNoProtocol, GivesNoProjections, GivesNoTypes};
 ghost use Rattle.mps_tool.specs.Faults.{after_reads, after_writes, IsCheckFault};
 ghost use Rattle.mps_tool.specs.Files.{HasReadAtMost, most_read};
 ghost use Rattle.mps_tool.specs.declared.faults.ToolFault.TheVariants.{Memory as OutOfMemory};
@@ -19,7 +18,7 @@ use crate::files::{open_file, read_text};
 use mps_base::{Role, RoleFault, Roles};
 use mps_dev::{OverWrite, Sink, Source};
 use mps_global::{Protocol, check};
-use mps_local::{Local, ProjectFault, project, write_local};
+use mps_local::{Local, ProjectFault, project_all, write_local};
 use mps_text::read_protocol;
 use mps_wire::flow::send_all;
 use std::alloc::{AllocError, Global};
@@ -37,25 +36,17 @@ fn protocol_of<'a>(alloc: Global, text: &[u8]) -> Result<Protocol, ToolFault<'a>
     Ok(protocol)
 }
 
-/// The local type of the role at that place.
-fn type_of<'a>(alloc: Global, protocol: &Protocol, place: usize) -> Result<Local, ToolFault<'a>>
-    requires faultless { fault_of protocol.now.roles.items (global_type protocol.now.body) ≡ None }
-    requires in_session { place < length protocol.now.roles.items }
-    ensures ok { IfOk result (λ t.
-        projection protocol.now.roles.items place (global_type protocol.now.body)
-        ≡ Some (plain t)) }
-    ensures peers { IfOk result
-        (λ t. AllPeers (λ peer. peer < length protocol.now.roles.items) (plain t)) }
-    ensures fault { IfErr result
-        (IsUnprojected protocol.now.roles.items (global_type protocol.now.body) place) }
+/// Why the protocol gives no types, told by the name of the role.
+fn unprojected<'a>(protocol: &Protocol, fault: ProjectFault) -> ToolFault<'a>
+    requires { AreNotAll protocol.now.roles.items (global_type protocol.now.body) fault }
+    ensures { GivesNoProjections protocol.now.roles.items (global_type protocol.now.body) result }
 {
-    match project(alloc, protocol, Role::new(place as u8)) {
-        Ok(t) => Ok(t),
-        Err(ProjectFault::Memory) => Err(ToolFault::Memory),
-        Err(ProjectFault::Unmergeable { choice, .. }) => Err(ToolFault::Projection {
-            role: protocol.roles[place],
+    match fault {
+        ProjectFault::Memory => ToolFault::Memory,
+        ProjectFault::Unmergeable { role, choice } => ToolFault::Projection {
+            role: protocol.roles[role.index()],
             choice,
-        }),
+        },
     }
 }
 
@@ -69,14 +60,10 @@ fn types_of<'a>(alloc: Global, protocol: &Protocol) -> Result<Vec<Local>, ToolFa
     ensures fault { IfErr result
         (GivesNoProjections protocol.now.roles.items (global_type protocol.now.body)) }
 {
-    let mut types = Vec::with_capacity(alloc, protocol.roles.len())?;
-    for place in 0..protocol.roles.len() {
-        match type_of(alloc, protocol, place) {
-            Ok(t) => types.push(t)?,
-            Err(fault) => return Err(fault),
-        }
+    match project_all(alloc, protocol) {
+        Ok(types) => Ok(types),
+        Err(fault) => Err(unprojected(protocol, fault)),
     }
-    Ok(types)
 }
 
 /// The roles of a protocol without faults.

@@ -6,3 +6,4 @@ pub mod Feeding
 pub mod Turning
 pub mod Outcomes
 pub mod Carrying
+pub mod Faithful

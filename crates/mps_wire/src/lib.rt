@@ -2,6 +2,7 @@
 #![tactic(auto)]
 
 pub mod flow;
+pub mod laws;
 mod lines;
 pub mod script;
 #[cfg(test)]

@@ -1,20 +1,21 @@
 -- An allowed act names a peer of the type, and what is left of the type names no others.
-use Rattle.std.proofs.Common.{◌≡◌, ℕ, zero, suc, Bool, true, false, List, Option, Some, None, sym, subst, ⊎_elim, cond}
+use Rattle.std.proofs.Common.{◌≡◌, ◌≢◌, ℕ, zero, suc, Bool, true, false, List, Option, Some, None, sym, subst, ⊎_elim, cond}
 use Rattle.std.specs.Prelude.{◌==◌, ◌&&◌}
 use Rattle.std.specs.Option.{option_map}
 use Rattle.std.specs.Str.{bytes_eq}
-use Rattle.std.proofs.lemmas.Bool.{cases_Bool, eqb-true}
+use Rattle.std.proofs.lemmas.Bool.{cases_Bool, cond-true, cond-false, eqb-true, eqb-false}
 use Rattle.mps_base.specs.Sorts.{fits}
 use Rattle.mps_base.specs.declared.action.Act.{Act}
 use Rattle.mps_base.specs.declared.action.Act.TheVariants.{Out, In, Mark}
 use Rattle.mps_base.specs.declared.action.Message.{Message}
 use Rattle.mps_base.specs.declared.action.Message.TheVariants.{Value as Plain, Label}
+use Rattle.mps_base.specs.declared.action.Step.{Step}
 use Rattle.mps_local.specs.Actions.{branch_at}
 use Rattle.mps_local.specs.Local.{LocalType, Branches, End, Var, Rec, Send, Recv, Select, Branch, NoMore, More}
 use Rattle.mps_local.specs.Shape.{AllPeers, AllBranchPeers}
 use Rattle.mps_local.specs.Unfolding.{replaced, replaced_in, opened, opened_times, leading, unfolded}
-use Rattle.mps_machine.specs.Rule.{type_after, advanced, participant_after}
-use Rattle.mps_machine.specs.View.{Participant}
+use Rattle.mps_machine.specs.Rule.{type_after, advanced, participant_after, view_after}
+use Rattle.mps_machine.specs.View.{Participant, View}
 use Rattle.mps_machine.proofs.Stepping.{map_some}
 
 module _ (P : ℕ → Type 0) (x : List ℕ) (t : LocalType) (fine : AllPeers P t) where
@@ -55,7 +56,7 @@ module _ (P : ℕ → Type 0) where
   opened_times_peers (suc n) t a = opened_times_peers n (opened t) (opened_peers t a)
 
   -- a type speaks with the same roles when it is unfolded
-  unfolded_peers : (t : LocalType) → AllPeers P t → AllPeers P (unfolded t)
+  pub unfolded_peers : (t : LocalType) → AllPeers P t → AllPeers P (unfolded t)
   unfolding unfolded
   unfolded_peers t a = opened_times_peers (leading t) t a
 
@@ -115,3 +116,11 @@ module _ (P : ℕ → Type 0) where
   after_peers before after (Out to x) m a e = moved_peers before after (Out to x) m a e
   after_peers before after (In from slot) m a e = moved_peers before after (In from slot) m a e
   after_peers before after (Mark name) m a e = (tt, subst (λ (c : Participant). AllPeers P c.to_come) (let is : advanced before (Mark name) m before.to_come ≡ after = cc in is) a)
+
+-- what holds of the role of a step after it, and of the others before it, holds of each after it
+pub fact_by_role : (P : ℕ → Participant → Type 0) (v : View) (s : Step) (c : Participant) (r : ℕ) → P s.role c → (r ≢ s.role → P r (v.participant r)) → P r ((view_after v s c).participant r)
+fact_by_role P v s c r here others =
+    ⊎_elim
+    (λ (y : (r == s.role) ≡ true). subst (P r) (sym (cond-true (r == s.role) c (v.participant r) y)) (subst (λ (k : ℕ). P k c) (sym (eqb-true r s.role y)) here))
+    (λ (n : (r == s.role) ≡ false). subst (P r) (sym (cond-false (r == s.role) c (v.participant r) n)) (others (eqb-false r s.role n)))
+    (cases_Bool (r == s.role))

@@ -1,11 +1,14 @@
 -- The types of the first roles.
-use Rattle.std.proofs.Common.{◌≡◌, ℕ, zero, suc, ◌+◌, ◌<◌, List, [], ◌∷◌, ◌++◌, length, map, Some, Option, IsSome, slice_get, refl, sym, ◌∙◌, subst, arith, ⊎_elim, ◌≤◌}
+use Rattle.std.proofs.Common.{◌≡◌, ℕ, zero, suc, ◌+◌, ◌<◌, List, [], ◌∷◌, ◌++◌, length, map, Some, Option, IsSome, slice_get, Result, Ok, Err, IfErr, IsErrAnd, refl, sym, ◌∙◌, subst, arith, ⊎_elim, ◌≤◌}
+use Rattle.std.specs.List.{AllByRecursion}
 use Rattle.std.proofs.lemmas.Bool.{cases_lt}
 use Rattle.mps_global.specs.Global.{GlobalType}
 use Rattle.mps_local.specs.declared.Local.{Local}
-use Rattle.std.specs.List.{AllByRecursion}
 use Rattle.mps_local.specs.Local.{LocalType, plain}
+use Rattle.mps_local.specs.Outcome.{CantMerge, IsUnmerged, IsFirstUnmerged, AreNotAll}
 use Rattle.mps_local.specs.Projection.{projection}
+use Rattle.mps_local.specs.declared.projection.ProjectFault.{ProjectFault}
+use Rattle.mps_local.specs.declared.projection.ProjectFault.TheVariants as faults
 
 get_before : {A B : Type 0} (f : A → B) (xs : List A) (x : A) (p : ℕ) → p < length xs → slice_get (map f (xs ++ x ∷ [])) p ≡ slice_get (map f xs) p
 get_before f [] x p h = absurd (omega (arith, h))
@@ -45,3 +48,21 @@ each_some roles tree types each p h = subst (λ (o : Option LocalType). IsSome o
     there [] k h = absurd (omega (arith, h))
     there (u ∷ ts) zero h = refl
     there (u ∷ ts) (suc k) h = there ts k (omega (arith, h))
+
+-- the first role without a projection, where each before it has one
+pub not_all : (roles : List (List ℕ)) (tree : GlobalType) (types : List Local) (place : ℕ) (fault : ProjectFault) → place < length roles → length types ≡ place → ((p : ℕ) → p < place → projection roles p tree ≡ slice_get (map plain types) p) → IsUnmerged roles place 0 tree fault → AreNotAll roles tree fault
+not_all roles tree types place faults.Memory l n each h = tt
+not_all roles tree types place (faults.Unmergeable role choice) l n each h =
+    let named : role ≡ place = h.named in
+    let each' : (p : ℕ) → p < length types → projection roles p tree ≡ slice_get (map plain types) p = λ p i. each p (omega (arith, i, n)) in
+    let first : IsFirstUnmerged roles tree place choice = record {
+      within = l;
+      unmerged = subst (λ (r : ℕ). CantMerge roles place 0 tree r choice) named h;
+      others = λ p i. each_some roles tree types each' p (omega (arith, i, n));
+    } in
+    subst (λ (r : ℕ). IsFirstUnmerged roles tree r choice) (sym named) first
+
+-- a fault that `?` hands on
+pub handed_on : {A F : Type 0} (r : Result A F) (P : F → Type 0) (e : F) → IsErrAnd r (λ x. x ≡ e) → P e → IfErr r P
+handed_on (Ok x) P e is h = absurd is
+handed_on (Err x) P e is h = subst P (sym is) h

@@ -4,7 +4,7 @@ use Rattle.mps_global.specs.Global.{plain as global_type}
 use Rattle.mps_local.specs.Local.{plain}
 use Rattle.mps_local.specs.Projection.{projection}
 use Rattle.mps_local.specs.Shape.{AllPeers}
-use Rattle.mps_tool.proofs.check.types_of.Given as goal
+use Rattle.mps_local.proofs.projection.project_all.Given as goal
 
 abbrev pub invariant-loop-place : goal.invariant-loop-place
 invariant-loop-place l = record {

@@ -1,0 +1,3 @@
+pub mod Duality
+pub mod Fidelity
+pub mod Examples

@@ -1,0 +1,29 @@
+//! Worked protocols and sessions, which show that the definitions say what they mean, and that the
+//! premises of the laws are needed.
+ghost use Rattle.std.specs.Prelude.{◌≡◌, None};
+ghost use Rattle.mps_local.specs.Examples.{three, relay, loops};
+ghost use Rattle.mps_local.specs.Projection.{projection};
+ghost use Rattle.mps_machine.specs.Examples.{a, b, c, verdict};
+ghost use Rattle.mps_fidelity.specs.Examples.{DoInIt, loop_types, merging, merging_types, aside, aside_types, unmerged, first_branch_types};
+ghost use Rattle.mps_fidelity.specs.Examples.{AnotherAnswerIsGiven, RoundsGoOn, EitherBranchIsTaken, TypesHaveToFit, SortsHaveToAgree, BranchesHaveToAgree, OneHasToReceiveFirst};
+
+/// What three roles do in protocols without faults, and what they are answered there.
+pub fn worked_protocols()
+    ensures relay { DoInIt relay verdict }
+    ensures loop_in_a_loop { DoInIt loops loop_types }
+    ensures choice_in_a_loop { DoInIt merging merging_types }
+    ensures idle_loop { DoInIt aside aside_types }
+    ensures another_answer_is_given { AnotherAnswerIsGiven }
+    ensures rounds_go_on { RoundsGoOn }
+    ensures either_branch_is_taken { EitherBranchIsTaken }
+{}
+
+/// Where types aren't those of one protocol, a message may wait that isn't expected, or messages in
+/// both directions. So types have to fit each other, and branches to be compared.
+pub fn premises_are_needed()
+    ensures types_have_to_fit { TypesHaveToFit }
+    ensures sorts_have_to_agree { SortsHaveToAgree }
+    ensures no_type_without_comparing { projection three c unmerged ≡ None }
+    ensures branches_have_to_agree { BranchesHaveToAgree }
+    ensures one_has_to_receive_first { OneHasToReceiveFirst }
+{}

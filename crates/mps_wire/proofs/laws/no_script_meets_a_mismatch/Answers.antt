@@ -1,0 +1,12 @@
+use Rattle.std.proofs.Common.{[], sym, append-nil}
+use Rattle.mps_wire.specs.Lines.{with_last}
+use Rattle.mps_wire.proofs.Faithful.{written_fits}
+use Rattle.mps_wire.proofs.laws.no_script_meets_a_mismatch.Goals as goal
+
+pub returns-clause-whole : goal.returns-clause-whole
+returns-clause-whole c names types bytes out rest lines after own a split =
+    written_fits c.one_reply_line.ensures.reply names types own (with_last a.lines a.rest) lines out out [] rest after a.answers_lines (sym (append-nil out)) split
+
+pub returns-clause-part : goal.returns-clause-part
+returns-clause-part c names types bytes written rest lines own a split =
+    written_fits c.one_reply_line.ensures.reply names types own a.answered lines a.out written a.unwritten rest a.after a.answers_lines a.part split
