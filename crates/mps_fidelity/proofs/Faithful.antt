@@ -45,7 +45,7 @@ faultless_dual roles tree p q t u none ne e f = projections_dual roles p q tree 
 
 -- The types of one protocol.
 module _ (types : List LocalType) (own : AreOfOneProtocol types) where
-  type_is : (p : ℕ) → p < length types → projection own.roles p own.tree ≡ Some (type_at types p)
+  pub type_is : (p : ℕ) → p < length types → projection own.roles p own.tree ≡ Some (type_at types p)
   type_is p l = let k = own.projections.count in own.projections.each p (omega arith) ∙ at_place types p l
 
   -- each two of them are dual, a role that isn't there having ended
@@ -70,7 +70,7 @@ module _ (types : List LocalType) (own : AreOfOneProtocol types) where
   abbrev HavePeers : View → Type 0
   HavePeers v = (p : ℕ) → AllPeers (IsOtherRole (length own.roles) p) (v.participant p).to_come
 
-  opening_peers : HavePeers (opening types)
+  pub opening_peers : HavePeers (opening types)
   opening_peers p =
       ⊎_elim
       (λ (i : p < length types). (fitting own.roles p own.tree (type_at types p) own.faultless (type_is p i)).others)

@@ -36,8 +36,9 @@ pub record IsElsewhere (t : LocalType) (role : ℕ) : Type 0 where
   pub not_to : direction t ≢ To role
   pub not_from : direction t ≢ From role
 
--- p's type t and q's type u, both unfolded, go on to types that are so related: one of them has to do with a third role
--- first, whatever it sends or receives there, or one sends what the other receives
+-- p's type t and q's type u, both unfolded, go on to types that are so related: one of them has nothing to do with the
+-- other role first, since it has to do with a third role, whatever it sends or receives there, or has ended; or one sends
+-- what the other receives
 pub data DualStep (p q : ℕ) (R : LocalType → LocalType → Type 0) (t u : LocalType) : Type 0 where
   first_elsewhere : IsElsewhere t q → ((m : Message) (x : LocalType) → after_message t m ≡ Some x → R (unfolded x) u) → DualStep p q R t u
   second_elsewhere : IsElsewhere u p → ((m : Message) (y : LocalType) → after_message u m ≡ Some y → R t (unfolded y)) → DualStep p q R t u

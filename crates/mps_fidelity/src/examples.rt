@@ -1,5 +1,5 @@
-//! Worked protocols and sessions, which show that the definitions say what they mean, and that the
-//! premises of the laws are needed.
+//! Worked protocols and sessions, which show that the definitions say what they mean, and that
+//! types have to be those of one protocol.
 ghost use Rattle.std.specs.Prelude.{◌≡◌, None};
 ghost use Rattle.mps_local.specs.Examples.{three, relay, loops};
 ghost use Rattle.mps_local.specs.Projection.{projection};

@@ -16,7 +16,8 @@ ghost use Rattle.mps_machine.specs.Machine.{Request, State, IsSound, initial, vi
 ghost use Rattle.mps_fidelity.specs.Duality.{AreDual};
 ghost use Rattle.mps_fidelity.specs.Fidelity.{AreOfOneProtocol, IsFaithful, IsHalfDuplex, mismatch};
 
-/// What two roles do in a protocol without faults is dual, third roles aside.
+/// What two roles do in a protocol without faults is dual, third roles aside. A role that has ended
+/// is dual to any here.
 pub fn projections_are_dual()
     ensures { (roles : List (List ℕ)) (tree : GlobalType) (p q : ℕ) (t u : LocalType)
         → fault_of roles tree ≡ None → p ≢ q

@@ -1,5 +1,5 @@
 -- What can't be read.
-use Rattle.std.proofs.Common.{rules, ◌≡◌, ◌≢◌, ℕ, List, [], ◌∷◌, refl, sym, ap, ◌∙◌}
+use Rattle.std.proofs.Common.{rules, ◌≡◌, ℕ, List, [], ◌∷◌, refl, sym, ap, ◌∙◌}
 use Rattle.std.specs.Prelude.{Option, Some, None, Result, Ok, Err, IfOk, if◌then◌else◌, codes}
 use Rattle.std.specs.Str.{bytes_eq}
 use Rattle.std.proofs.lemmas.Option.{same_Some}
@@ -21,11 +21,6 @@ verb_has_no_space verbs.Choose = search rules
 verb_has_no_space verbs.Receive = search rules
 verb_has_no_space verbs.Pick = search rules
 verb_has_no_space verbs.Mark = search rules
-
--- the first word is no verb
-pub no_verb : (bytes word rest : List ℕ) → bytes ≡ spaced (word ∷ rest ∷ []) → HasNoSpace word → ((verb : Verb) → word ≢ verb_word verb) → (verb : Verb) (other : List ℕ) → bytes ≢ spaced (verb_word verb ∷ other ∷ [])
-no_verb bytes word rest e h none verb other f =
-    none verb (one_split word (verb_word verb) rest other h (verb_has_no_space verb) (sym e ∙ f)).0
 
 -- the verb that the word is for
 abbrev meant : List ℕ → Option Verb

@@ -111,6 +111,10 @@ fn bad_lines(rt: HostRuntime) -> Result<(), Fail> {
         "a mark end",
         "a mark b m",
         "a mark  m",
+        "a sendxb 5",
+        "a sender b 5",
+        "a sendb 5",
+        "a marksm",
     ];
     for line in bad {
         let found = read_script_line(rt.alloc(), &roles, line.as_bytes());

@@ -6,3 +6,4 @@ pub mod Cursors
 pub mod Following
 pub mod Serving
 pub mod Starting
+pub mod Opened

@@ -5,3 +5,4 @@ pub mod Configurations
 pub mod Held
 pub mod Answers
 pub mod Opening
+pub mod Protocols

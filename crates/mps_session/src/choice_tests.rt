@@ -1,6 +1,6 @@
 use super::*;
 use crate::tests::Line::{Asks, Count, Keeps, Step, Waits};
-use crate::tests::{A, Ask, B, C, Line, Opening, answer, name, outcome_of_opening, play, role_of};
+use crate::tests::{A, Ask, B, C, Line, Opening, answer, name, opens_so, play, role_of};
 use mps_base::{Name, Role, Sort, Value, VarName};
 use mps_local::{Branches, Local};
 use std::alloc::Global;
@@ -360,25 +360,25 @@ fn broad(alloc: Global, count: usize, last: u8) -> Result<Local, Fail> {
     Ok(Local::Select { peer, branches })
 }
 
-// Why no session can be opened with the type and an end.
-fn opening_with_an_end(alloc: Global, t: Local) -> Result<(Opening, usize), Fail> {
-    outcome_of_opening(alloc, vec![in alloc; t, Local::End]?)
+// Whether that comes of opening a session with the type and an end.
+fn opens_with_an_end(alloc: Global, t: Local, wanted: Opening) -> Result<bool, Fail> {
+    opens_so(alloc, vec![in alloc; t, Local::End]?, wanted)
 }
 
 // At the end stands a peer of the session, the role itself, or no role of the session.
 const PEERS: &[(u8, Opening)] = &[
-    (B, Opening::Fault(LocalFault::TooManyNodes)),
-    (A, Opening::BadPeer),
-    (C, Opening::BadPeer),
+    (B, Opening::Fault(A, LocalFault::TooManyNodes)),
+    (A, Opening::BadPeer(A)),
+    (C, Opening::BadPeer(A)),
 ];
 
 #[test]
 fn refuses_types_over_the_limits(rt: HostRuntime) -> Result<(), Fail> {
-    for (last, found) in PEERS {
+    for (last, wanted) in PEERS {
         let t = long(rt.alloc(), 1_000_000, B, *last)?;
-        assert!(rt; opening_with_an_end(rt.alloc(), t)? == (*found, 0));
+        assert!(rt; opens_with_an_end(rt.alloc(), t, *wanted)?);
         let t = broad(rt.alloc(), 100_000, *last)?;
-        assert!(rt; opening_with_an_end(rt.alloc(), t)? == (*found, 0));
+        assert!(rt; opens_with_an_end(rt.alloc(), t, *wanted)?);
     }
     Ok(())
 }
@@ -386,7 +386,7 @@ fn refuses_types_over_the_limits(rt: HostRuntime) -> Result<(), Fail> {
 // A choice of so many nodes in all, with at most 61 of them in a branch.
 fn with_nodes(alloc: Global, count: usize) -> Result<Local, Fail> {
     let mut branches = Branches::NoMore;
-    let mut left = count - 1;
+    let mut left = count.saturating_sub(1);
     for label in LETTERS {
         let nodes = left.min(61);
         let next = if nodes < 2 {
@@ -394,7 +394,7 @@ fn with_nodes(alloc: Global, count: usize) -> Result<Local, Fail> {
         } else {
             long(alloc, nodes - 2, B, B)?
         };
-        left -= nodes.max(1);
+        left = left.saturating_sub(nodes.max(1));
         branches = Branches::more(alloc, name(label)?, next, branches)?;
         if left == 0 {
             break;
@@ -407,28 +407,29 @@ fn with_nodes(alloc: Global, count: usize) -> Result<Local, Fail> {
 #[test]
 fn opens_types_of_256_nodes(rt: HostRuntime) -> Result<(), Fail> {
     let most = with_nodes(rt.alloc(), 256)?;
-    assert!(rt; opening_with_an_end(rt.alloc(), most)? == (Opening::Opened, 0));
+    assert!(rt; opens_with_an_end(rt.alloc(), most, Opening::Opened)?);
     let more = with_nodes(rt.alloc(), 257)?;
-    let found = Opening::Fault(LocalFault::TooManyNodes);
-    assert!(rt; opening_with_an_end(rt.alloc(), more)? == (found, 0));
+    let fault = Opening::Fault(A, LocalFault::TooManyNodes);
+    assert!(rt; opens_with_an_end(rt.alloc(), more, fault)?);
     Ok(())
 }
 
-// What comes of opening a session with these two types and an end.
-fn opening_of(alloc: Global, a: Local, b: Local) -> Result<(Opening, usize), Fail> {
-    outcome_of_opening(alloc, vec![in alloc; a, b, Local::End]?)
+// Whether that comes of opening a session with these two types and an end.
+fn opens_of(alloc: Global, a: Local, b: Local, wanted: Opening) -> Result<bool, Fail> {
+    opens_so(alloc, vec![in alloc; a, b, Local::End]?, wanted)
 }
 
 #[test]
 fn refuses_faulty_types(rt: HostRuntime) -> Result<(), Fail> {
     let x = variable("X")?;
     let silent = Local::rec(rt.alloc(), x, Local::Var(x))?;
-    let unguarded = opening_of(rt.alloc(), Local::End, silent)?;
-    assert!(rt; unguarded == (Opening::Fault(LocalFault::Unguarded), 1));
+    let fault = Opening::Fault(B, LocalFault::Unguarded);
+    assert!(rt; opens_of(rt.alloc(), Local::End, silent, fault)?);
     let branches = Branches::NoMore;
     let peer = Role::new(A);
-    let empty = opening_of(rt.alloc(), Local::End, Local::Select { peer, branches })?;
-    assert!(rt; empty == (Opening::Fault(LocalFault::NoBranches), 1));
+    let empty = Local::Select { peer, branches };
+    let fault = Opening::Fault(B, LocalFault::NoBranches);
+    assert!(rt; opens_of(rt.alloc(), Local::End, empty, fault)?);
     Ok(())
 }
 
@@ -437,11 +438,11 @@ fn refuses_faulty_types(rt: HostRuntime) -> Result<(), Fail> {
 fn names_the_least_role(rt: HostRuntime) -> Result<(), Fail> {
     let x = variable("X")?;
     let deep = long(rt.alloc(), 63, B, B)?;
-    let first = opening_of(rt.alloc(), deep, Local::Var(x))?;
-    assert!(rt; first == (Opening::Fault(LocalFault::TooDeep), 0));
+    let first = Opening::Fault(A, LocalFault::TooDeep);
+    assert!(rt; opens_of(rt.alloc(), deep, Local::Var(x), first)?);
     let short = long(rt.alloc(), 62, B, B)?;
-    let second = opening_of(rt.alloc(), short, Local::Var(x))?;
-    assert!(rt; second == (Opening::Fault(LocalFault::Unbound), 1));
+    let second = Opening::Fault(B, LocalFault::Unbound);
+    assert!(rt; opens_of(rt.alloc(), short, Local::Var(x), second)?);
     Ok(())
 }
 
@@ -449,6 +450,6 @@ fn names_the_least_role(rt: HostRuntime) -> Result<(), Fail> {
 fn tells_strangers_before_faults(rt: HostRuntime) -> Result<(), Fail> {
     let faulty = Local::Var(variable("X")?);
     let stranger = long(rt.alloc(), 0, A, 3)?;
-    assert!(rt; opening_of(rt.alloc(), faulty, stranger)? == (Opening::BadPeer, 1));
+    assert!(rt; opens_of(rt.alloc(), faulty, stranger, Opening::BadPeer(B))?);
     Ok(())
 }

@@ -5,6 +5,7 @@ mod configuration;
 mod cursor;
 pub mod open;
 mod parts;
+pub mod protocol;
 mod queue;
 pub mod session;
 mod store;
@@ -13,9 +14,12 @@ pub use mps_command::{Done, Forward, Refusal, Violation};
 pub use mps_local::LocalFault;
 pub use mps_table::Expect;
 pub use open::OpenFault;
+pub use protocol::{ProtocolFault, open_protocol};
 pub use session::{MAX_NUMBERS, Session};
 
 #[cfg(test)]
 mod choice_tests;
+#[cfg(test)]
+mod protocol_tests;
 #[cfg(test)]
 mod tests;

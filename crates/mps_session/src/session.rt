@@ -1,8 +1,11 @@
 //! The session.
-ghost use Rattle.std.specs.Prelude.{◌≡◌, ◌↔◌, ◌+◌, ◌<◌, ◌≤◌, ℕ, length, map, IfOk, IsErrOf, OnOk, OnErr, slice_get};
+ghost use Rattle.std.specs.Prelude.{◌≡◌, ◌≢◌, ◌↔◌, ◌+◌, ◌<◌, ◌≤◌, ℕ, length, map, IfOk, IsErrOf, OnOk, OnErr, Err, slice_get};
 ghost use Rattle.std.specs.Option.{option_copied, option_map};
 ghost use Rattle.mps_base.specs.RoleLists.{HasRoleCount};
 ghost use Rattle.mps_command.specs.Acts.{act_of};
+ghost use Rattle.mps_command.specs.declared.answer.Refusal.TheVariants.{Violation as Violates};
+ghost use Rattle.mps_command.specs.declared.answer.Violation.TheVariants.{Mismatch};
+ghost use Rattle.mps_fidelity.specs.Fidelity.{AreOfOneProtocol};
 ghost use Rattle.mps_local.specs.Actions.{head};
 ghost use Rattle.mps_local.specs.Local.{plain};
 ghost use Rattle.mps_local.specs.declared.faults.LocalFault.{LocalFault};
@@ -90,6 +93,8 @@ impl Session {
     /// Takes a step of the role, or says why not. A refusal changes nothing.
     pub fn forward(&mut self, role: Role, command: Forward) -> Result<Done, Refusal>
         requires { role < length self.old.types }
+        // In a session of one protocol the message that waits is never refused.
+        ensures never_mismatch { AreOfOneProtocol self.old.types → result ≢ Err (Violates Mismatch) }
         ensures answer { IsAnswer result
             (machine.forward self.old.types self.old.state role (act_of command)).0 }
         ensures state { OnOk result (self.new.state

@@ -363,26 +363,42 @@ fn marks(rt: HostRuntime) -> Result<(), Fail> {
     play_anew(rt.alloc(), A_TO_B_TO_C, MARKS)
 }
 
-// Why no session can be opened with the types, or that one can be: the fault and its role.
-pub(super) fn outcome_of_opening(
-    alloc: Global,
-    types: Vec<Local>,
-) -> Result<(Opening, usize), Fail> {
+// Why no session can be opened with the types.
+fn open_fault(alloc: Global, types: Vec<Local>) -> Result<Option<OpenFault>, Fail> {
     match Session::open(alloc, types) {
         Err(OpenFault::Memory) => Err(OpenFault::Memory.into()),
-        Err(OpenFault::RoleCount) => Ok((Opening::RoleCount, 0)),
-        Err(OpenFault::BadPeer { role }) => Ok((Opening::BadPeer, role.index())),
-        Err(OpenFault::Local { role, fault }) => Ok((Opening::Fault(fault), role.index())),
-        Ok(_) => Ok((Opening::Opened, 0)),
+        opened => Ok(opened.err()),
     }
 }
 
-#[derive(Clone, Copy, PartialEq, Eq)]
+// What comes of opening a session: a fault names the place of a role.
+#[derive(Clone, Copy)]
 pub(super) enum Opening {
     Opened,
     RoleCount,
-    BadPeer,
-    Fault(LocalFault),
+    BadPeer(u8),
+    Fault(u8, LocalFault),
+}
+
+// Whether that comes of opening a session with the types.
+pub(super) fn opens_so(alloc: Global, types: Vec<Local>, wanted: Opening) -> Result<bool, Fail> {
+    let fault = open_fault(alloc, types)?;
+    Ok(match wanted {
+        Opening::Opened => fault.is_none(),
+        Opening::RoleCount => fault == Some(OpenFault::RoleCount),
+        Opening::BadPeer(place) => {
+            let role = Role::new(place);
+            fault == Some(OpenFault::BadPeer { role })
+        }
+        Opening::Fault(place, fault_of_type) => {
+            let role = Role::new(place);
+            let fault_of_role = OpenFault::Local {
+                role,
+                fault: fault_of_type,
+            };
+            fault == Some(fault_of_role)
+        }
+    })
 }
 
 const END: &[Row] = &[];
@@ -392,22 +408,22 @@ const TO_A: &[Row] = &[(true, A, Sort::Int)];
 const FROM_C: &[Row] = &[(true, A, Sort::Int), (false, C, Sort::Int)];
 
 // Rows of types, and what comes of opening a session with them.
-const OPENINGS: &[(&[&[Row]], Opening, usize)] = &[
-    (&[END], Opening::RoleCount, 0),
-    (&[END; 2], Opening::Opened, 0),
-    (&[END; 8], Opening::Opened, 0),
-    (&[END; 9], Opening::RoleCount, 0),
-    (&[TO_A, TO_A], Opening::BadPeer, 0),
-    (&[&[TO_B], FROM_C], Opening::BadPeer, 1),
-    (&[TO_A, FROM_C], Opening::BadPeer, 0),
-    (&[&[TO_B], FROM_C, END], Opening::Opened, 0),
+const OPENINGS: &[(&[&[Row]], Opening)] = &[
+    (&[END], Opening::RoleCount),
+    (&[END; 2], Opening::Opened),
+    (&[END; 8], Opening::Opened),
+    (&[END; 9], Opening::RoleCount),
+    (&[TO_A, TO_A], Opening::BadPeer(A)),
+    (&[&[TO_B], FROM_C], Opening::BadPeer(B)),
+    (&[TO_A, FROM_C], Opening::BadPeer(A)),
+    (&[&[TO_B], FROM_C, END], Opening::Opened),
 ];
 
 #[test]
 fn opens(rt: HostRuntime) -> Result<(), Fail> {
-    for (rows, found, role) in OPENINGS {
+    for (rows, wanted) in OPENINGS {
         let types = types(rt.alloc(), rows)?;
-        assert!(rt; outcome_of_opening(rt.alloc(), types)? == (*found, *role));
+        assert!(rt; opens_so(rt.alloc(), types, *wanted)?);
     }
     Ok(())
 }

@@ -4,19 +4,25 @@ ghost use Rattle.std.specs.List.{AllByRecursion};
 ghost use Rattle.mps_fidelity.specs.Fidelity.{AreOfOneProtocol};
 ghost use Rattle.mps_local.specs.Local.{LocalType};
 ghost use Rattle.mps_machine.specs.Machine.{State, initial};
-ghost use Rattle.mps_wire.specs.Answers.{AnsweredAll, AnsweredInPart};
+ghost use Rattle.mps_wire.specs.Answers.{Answered, AnsweredAll, AnsweredInPart};
 ghost use Rattle.mps_wire.specs.Lines.{IsSplit};
 ghost use Rattle.mps_wire.specs.Script.{AnswersLine};
 
 use mps_line::laws::one_reply_line;
 
 /// Where the opening types are those of one protocol without faults, no line that answers a script
-/// is `refused mismatch`, whether the script was answered to its end or in part.
+/// is `refused mismatch`: where it is answered to its end, where no more of it is read, or where what
+/// was written breaks off.
 pub fn no_script_meets_a_mismatch()
     ensures whole { (names : List (List ℕ)) (types : List LocalType)
         (bytes out rest : List ℕ) (lines : List (List ℕ)) (after : State)
         → AreOfOneProtocol types
         → AnsweredAll (AnswersLine names types) initial bytes out after → IsSplit out lines rest
+        → AllByRecursion (λ line. line ≢ codes "refused mismatch") lines }
+    ensures stopped { (names : List (List ℕ)) (types : List LocalType)
+        (bytes kept out rest : List ℕ) (lines : List (List ℕ)) (after : State)
+        → AreOfOneProtocol types
+        → Answered (AnswersLine names types) initial bytes kept out after → IsSplit out lines rest
         → AllByRecursion (λ line. line ≢ codes "refused mismatch") lines }
     ensures part { (names : List (List ℕ)) (types : List LocalType)
         (bytes written rest : List ℕ) (lines : List (List ℕ))

@@ -1,5 +1,4 @@
 use Rattle.std.proofs.Common.{◌+◌, arith, subst, get_or, ⊎_elim}
-use Rattle.std.specs.Char.{digit_value}
 use Rattle.std.proofs.lemmas.Str.{digit_value_digit}
 use Rattle.std.proofs.lemmas.Str.Parse.{digit_at}
 use Rattle.mps_base.proofs.Digits.{IsRead, read_more, so_many}

@@ -1,4 +1,4 @@
-use Rattle.std.proofs.Common.{◌≡◌, ◌≢◌, List, ℕ, ◌∷◌, ◌++◌, ap, ◌∙◌}
+use Rattle.std.proofs.Common.{◌≢◌, List, ℕ, ◌∷◌, ◌++◌, ap, ◌∙◌}
 use Rattle.mps_line.proofs.Splitting.{if_none, in_front, not_in_front}
 use Rattle.mps_line.proofs.parts.behind.Goals as goal
 

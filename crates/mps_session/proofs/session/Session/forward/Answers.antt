@@ -1,11 +1,15 @@
-use Rattle.std.proofs.Common.{map, Result, Ok, sym, ap, ◌∙◌, subst}
+use Rattle.std.proofs.Common.{◌≡◌, map, Result, Ok, sym, ap, ◌∙◌, subst}
 use Rattle.mps_command.specs.Acts.{act_of}
 use Rattle.mps_command.specs.declared.answer.Done.{Done}
 use Rattle.mps_command.specs.declared.answer.Refusal.{Refusal}
+use Rattle.mps_command.specs.declared.answer.Refusal.TheVariants.{Violation as Violates}
+use Rattle.mps_command.specs.declared.answer.Violation.TheVariants.{Mismatch}
 use Rattle.mps_local.specs.Local.{plain}
-use Rattle.mps_machine.specs.Machine.{State}
+use Rattle.mps_machine.specs.Machine.{State, IsSound}
 use Rattle.mps_session.specs.Configurations.{Configuration, lists_of, state_of}
 use Rattle.mps_session.specs.Held.{Holds}
+use Rattle.mps_session.specs.Seen.{Machine}
+use Rattle.mps_session.proofs.Opened.{no_mismatch}
 use Rattle.mps_session.proofs.Serving as serving
 use Rattle.mps_session.proofs.session.Session.forward.Goals as goal
 
@@ -18,6 +22,15 @@ pub returns-in-Err-clause-answer : goal.returns-in-Err-clause-answer
 returns-in-Err-clause-answer c =
     let s = c.self.inside in
     serving.refused (map plain s.types.items) (lists_of s.configuration) c.self.invariant c.args.self.now c.self.view_is c.args.role c.requires (act_of c.args.command) c.in-Err.fault c.in-Err.ensures.violation
+
+pub returns-in-Err-clause-never_mismatch : goal.returns-in-Err-clause-never_mismatch
+returns-in-Err-clause-never_mismatch c own e =
+    let s = c.self.inside in
+    let types = map plain s.types.items in
+    let st = state_of (lists_of s.configuration) in
+    let answer = serving.refused types (lists_of s.configuration) c.self.invariant c.args.self.now c.self.view_is c.args.role c.requires (act_of c.args.command) c.in-Err.fault c.in-Err.ensures.violation in
+    no_mismatch c.args.self.now.types c.args.self.now.state c.args.role c.args.command (Violates c.in-Err.fault)
+    (subst (λ (m : Machine). IsSound m.types m.state) c.self.view_is c.self.invariant.sound) answer own (let same : Violates c.in-Err.fault ≡ Violates Mismatch = cc in same)
 
 pub returns-then-self-gt-MAX_NUMBERS-clause-answer : goal.returns-then-self-gt-MAX_NUMBERS-clause-answer
 returns-then-self-gt-MAX_NUMBERS-clause-answer c =

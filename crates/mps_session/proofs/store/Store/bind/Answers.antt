@@ -1,4 +1,4 @@
-use Rattle.std.proofs.Common.{◌≡◌, ◌∙◌, ap}
+use Rattle.std.proofs.Common.{◌∙◌, ap}
 use Rattle.mps_session.proofs.Stores.{insert_is_bound}
 use Rattle.mps_machine.specs.View.{bound}
 use Rattle.mps_session.proofs.store.Store.bind.Goals as goal

@@ -15,6 +15,10 @@ returns-clause-answer c =
     let self = c.args.self.now in
     let none : self.line.items ≡ [] = nothing self.line.items _ c.is_empty.result self.line.ok.0 c.is_empty.ensures c.if-not-is_empty.false in
     on_ok_weaker c.answer_line.result
-    (λ a. (a.0, a.1, subst (λ (l : List ℕ). lines_of self (front (l ++ c.args.bytes.now)) self.session.state a.0 c.answer_line.new.session.state) (sym none)
-    (to_front self.roles self.session.types c.args.bytes.now self.session.state a.0 c.answer_line.new.session.state a.2)))
+    (λ a. (
+      a.0,
+      a.1,
+      subst (λ (l : List ℕ). lines_of self (front (l ++ c.args.bytes.now)) self.session.state a.0 c.answer_line.new.session.state) (sym none)
+          (to_front self.roles self.session.types c.args.bytes.now self.session.state a.0 c.answer_line.new.session.state a.2),
+    ))
     c.answer_line.ensures.answer

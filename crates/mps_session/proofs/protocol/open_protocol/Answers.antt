@@ -1,0 +1,20 @@
+use Rattle.std.proofs.Common.{◌∙◌, Err, map, refl, ap}
+use Rattle.mps_global.specs.Global.{plain as global_type}
+use Rattle.mps_local.specs.Local.{plain}
+use Rattle.mps_fidelity.specs.Fidelity.{AreOfOneProtocol}
+use Rattle.mps_session.proofs.Opened.{no_bad_peer, no_fault}
+use Rattle.mps_session.proofs.protocol.open_protocol.Goals as goal
+
+pub unreachable-requires-in-Err-BadPeer : goal.unreachable-requires-in-Err-BadPeer
+unreachable-requires-in-Err-BadPeer c =
+    let roles = c.args.protocol.now.roles.items in
+    let tree = global_type c.args.protocol.now.body in
+    let own : AreOfOneProtocol (map plain c.in_ok-types.types.items) = record { roles = roles; tree = tree; faultless = c.in_ok-check.ensures.ok.0 refl; projections = c.in_ok-types.ensures.ok } in
+    no_bad_peer (map plain c.in_ok-types.types.items) own c.in-Err-BadPeer.field-0-0 (c.open.ensures.peer c.in-Err-BadPeer.field-0-0 (c.in-Err-BadPeer.is ∙ ap Err c.in-Err-BadPeer.field-0-is))
+
+pub unreachable-requires-in-Err-Local : goal.unreachable-requires-in-Err-Local
+unreachable-requires-in-Err-Local c =
+    let roles = c.args.protocol.now.roles.items in
+    let tree = global_type c.args.protocol.now.body in
+    let own : AreOfOneProtocol (map plain c.in_ok-types.types.items) = record { roles = roles; tree = tree; faultless = c.in_ok-check.ensures.ok.0 refl; projections = c.in_ok-types.ensures.ok } in
+    no_fault (map plain c.in_ok-types.types.items) own c.in-Err-Local.field-0-0 c.in-Err-Local.field-0-1 (c.open.ensures.local c.in-Err-Local.field-0-0 c.in-Err-Local.field-0-1 (c.in-Err-Local.is ∙ ap Err c.in-Err-Local.field-0-is))

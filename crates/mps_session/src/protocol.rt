@@ -1,0 +1,76 @@
+//! Sessions of protocols.
+ghost use Rattle.std.specs.Prelude.{◌≡◌, None, IfOk, IfErr, OnOk};
+ghost use Rattle.mps_fidelity.specs.Fidelity.{AreOfOneProtocol};
+ghost use Rattle.mps_global.specs.Global.{plain as global_type};
+ghost use Rattle.mps_global.specs.Faults.{fault_of};
+ghost use Rattle.mps_local.specs.Outcome.{AreProjections};
+ghost use Rattle.mps_machine.specs.Machine.{initial};
+ghost use Rattle.mps_session.specs.Protocols.{of_projection, HasNoSession};
+ghost use Rattle.mps_session.specs.declared.protocol.ProtocolFault.TheVariants.{Global as HasFault};
+
+use crate::open::OpenFault;
+use crate::session::Session;
+use mps_base::Role;
+use mps_global::{GlobalFault, Protocol, check};
+use mps_local::{ProjectFault, project_all};
+use std::alloc;
+use thiserror::Error;
+
+/// Why no session of a protocol is opened.
+#[derive(Clone, Copy, Debug, PartialEq, Eq, Error)]
+pub enum ProtocolFault {
+    /// The protocol isn't well-formed.
+    #[error("{0}")]
+    Global(GlobalFault),
+    /// The role, the first such, doesn't do the same in each branch of a choice of others. Choices
+    /// are counted in preorder, from 0.
+    #[error("the branches of choice {choice} differ for role {}, which takes no part in it", role.index())]
+    Unmergeable { role: Role, choice: usize },
+    #[error("out of memory")]
+    Memory,
+}
+
+impl From<GlobalFault> for ProtocolFault {
+    ghost from_gives = { λ e fault. fault ≡ HasFault e };
+
+    fn from(fault: GlobalFault) -> ProtocolFault {
+        ProtocolFault::Global(fault)
+    }
+}
+
+impl From<ProjectFault> for ProtocolFault {
+    ghost from_gives = { λ e fault. fault ≡ of_projection e };
+
+    fn from(fault: ProjectFault) -> ProtocolFault {
+        match fault {
+            ProjectFault::Unmergeable { role, choice } => ProtocolFault::Unmergeable {
+                role,
+                choice,
+            },
+            ProjectFault::Memory => ProtocolFault::Memory,
+        }
+    }
+}
+
+/// A session of the protocol, in which nothing was done yet: each role's type is its projection. No
+/// command is refused there with `Mismatch`, whatever the roles do.
+pub fn open_protocol(alloc: alloc::Global, protocol: &Protocol) -> Result<Session, ProtocolFault>
+    ensures faultless { OnOk result
+        (fault_of protocol.now.roles.items (global_type protocol.now.body) ≡ None) }
+    ensures types { IfOk result (λ session. AreProjections
+        protocol.now.roles.items (global_type protocol.now.body) session.types) }
+    ensures new { IfOk result (λ session. session.state ≡ initial) }
+    ensures of_one_protocol { IfOk result (λ session. AreOfOneProtocol session.types) }
+    ensures fault { IfErr result
+        (HasNoSession protocol.now.roles.items (global_type protocol.now.body)) }
+{
+    check(protocol)?;
+    let types = project_all(alloc, protocol)?;
+    match Session::open(alloc, types) {
+        Ok(session) => Ok(session),
+        Err(OpenFault::Memory) => Err(ProtocolFault::Memory),
+        Err(OpenFault::RoleCount) => unreachable!(),
+        Err(OpenFault::BadPeer { .. }) => unreachable!(),
+        Err(OpenFault::Local { .. }) => unreachable!(),
+    }
+}
