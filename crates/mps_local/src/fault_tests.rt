@@ -4,9 +4,8 @@ use crate::{
     projections_have_no_fault,
 };
 use mps_base::{Role, Sort};
-use std::alloc;
+use std::alloc::AllocGlobal;
 use std::process::Abort;
-use std::test::Fail;
 
 // A node, with what comes after it left out.
 #[derive(Clone, Copy)]
@@ -20,96 +19,105 @@ enum Part<'a> {
     Picks(&'a [&'a str]),
 }
 
+// The branch of these letters, and then the others.
+fn more(rt: &(impl Abort + AllocGlobal), letters: &str, next: Local, others: Branches) -> Branches {
+    Branches::more(rt.alloc(), name(rt, letters), next, others).expect(rt, "memory")
+}
+
 // Branches of these labels, of which the last goes on with `next`.
-fn branches(
-    rt: &impl Abort,
-    alloc: alloc::Global,
-    labels: &[&str],
-    next: Local,
-) -> Result<Branches, Fail> {
+fn branches(rt: &(impl Abort + AllocGlobal), labels: &[&str], next: Local) -> Branches {
     let mut branches = Branches::NoMore;
     let mut body = next;
-    for label in labels.iter().rev() {
-        branches = Branches::more(alloc, name(rt, label), body, branches)?;
+    for k in 0..labels.len() {
+        branches = more(rt, labels[labels.len() - 1 - k], body, branches);
         body = Local::End;
     }
-    Ok(branches)
+    branches
 }
 
 // The node in front of `next`.
-fn in_front(
-    rt: &impl Abort,
-    alloc: alloc::Global,
-    part: &Part<'_>,
-    next: Local,
-) -> Result<Local, Fail> {
+fn in_front(rt: &(impl Abort + AllocGlobal), part: &Part<'_>, next: Local) -> Local {
     let peer = Role::new(1);
-    Ok(match part {
-        Part::Var(letters) => Local::Var(variable(rt, letters)),
-        Part::Rec(letters) => Local::rec(alloc, variable(rt, letters), next)?,
-        Part::Sends => Local::send(alloc, peer, Sort::Int, next)?,
-        Part::Takes => Local::recv(alloc, peer, Sort::Text, next)?,
-        Part::Chooses(labels) => Local::Select {
-            peer,
-            branches: branches(rt, alloc, labels, next)?,
-        },
-        Part::Picks(labels) => Local::Branch {
-            peer,
-            branches: branches(rt, alloc, labels, next)?,
-        },
-    })
+    let made = match part {
+        Part::Var(letters) => return Local::Var(variable(rt, letters)),
+        Part::Rec(letters) => Local::rec(rt.alloc(), variable(rt, letters), next),
+        Part::Sends => Local::send(rt.alloc(), peer, Sort::Int, next),
+        Part::Takes => Local::recv(rt.alloc(), peer, Sort::Text, next),
+        Part::Chooses(labels) => {
+            return Local::Select {
+                peer,
+                branches: branches(rt, labels, next),
+            };
+        }
+        Part::Picks(labels) => {
+            return Local::Branch {
+                peer,
+                branches: branches(rt, labels, next),
+            };
+        }
+    };
+    made.expect(rt, "memory")
 }
 
-// The parts, one behind the other, in front of `next`.
-fn chain(
-    rt: &impl Abort,
-    alloc: alloc::Global,
-    parts: &[Part<'_>],
-    next: Local,
-) -> Result<Local, Fail> {
-    let mut body = next;
-    for part in parts.iter().rev() {
-        body = in_front(rt, alloc, part, body)?;
+// The parts, one behind the other, and then the end.
+fn chain(rt: &(impl Abort + AllocGlobal), parts: &[Part<'_>]) -> Local {
+    let mut body = Local::End;
+    for k in 0..parts.len() {
+        body = in_front(rt, &parts[parts.len() - 1 - k], body);
     }
-    Ok(body)
+    body
 }
 
 // So many of the part in front of `next`.
-fn many(
-    rt: &impl Abort,
-    alloc: alloc::Global,
-    count: u32,
-    part: &Part<'_>,
-    next: Local,
-) -> Result<Local, Fail> {
+fn many(rt: &(impl Abort + AllocGlobal), count: u32, part: &Part<'_>, next: Local) -> Local {
     let mut body = next;
     for _ in 0..count {
-        body = in_front(rt, alloc, part, body)?;
+        body = in_front(rt, part, body);
     }
-    Ok(body)
+    body
 }
 
-// So many outputs in front of `next`.
-fn sends(rt: &impl Abort, alloc: alloc::Global, count: u32, next: Local) -> Result<Local, Fail> {
-    many(rt, alloc, count, &Part::Sends, next)
+// The type has that first fault, or none.
+fn has_fault(rt: &impl Abort, t: Local, fault: Option<LocalFault>) {
+    assert_eq!(rt; first_fault(&t), fault);
 }
 
-const LABELS: [&str; 17] = [
+// So many outputs and then the parts have that first fault, or none.
+fn tells(
+    rt: &(impl Abort + AllocGlobal),
+    count: u32,
+    parts: &[Part<'_>],
+    fault: Option<LocalFault>,
+) {
+    has_fault(rt, many(rt, count, &Part::Sends, chain(rt, parts)), fault);
+}
+
+const LABELS: &[&str] = &[
     "l1", "l2", "l3", "l4", "l5", "l6", "l7", "l8", "l9", "l10", "l11", "l12", "l13", "l14", "l15",
     "l16", "l17",
 ];
 
+const FIRST_SIXTEEN: &[&str] = &[
+    "l1", "l2", "l3", "l4", "l5", "l6", "l7", "l8", "l9", "l10", "l11", "l12", "l13", "l14", "l15",
+    "l16",
+];
+
+const LAST_SIXTEEN: &[&str] = &[
+    "l2", "l3", "l4", "l5", "l6", "l7", "l8", "l9", "l10", "l11", "l12", "l13", "l14", "l15",
+    "l16", "l17",
+];
+
 // 17 labels, of which the last is the first once more.
-const FIRST_TWICE: [&str; 17] = [
+const FIRST_TWICE: &[&str] = &[
     "l1", "l2", "l3", "l4", "l5", "l6", "l7", "l8", "l9", "l10", "l11", "l12", "l13", "l14", "l15",
     "l16", "l1",
 ];
 
 // For each fault of a node, in their order, a type that has it.
-const FAULTY: [(&[Part<'static>], LocalFault); 8] = [
+const FAULTY: &[(&[Part<'static>], LocalFault)] = &[
     (&[Part::Chooses(&["l", "m", "l"])], LocalFault::DoubleLabel),
-    (&[Part::Picks(&FIRST_TWICE)], LocalFault::DoubleLabel),
-    (&[Part::Picks(&LABELS)], LocalFault::TooManyBranches),
+    (&[Part::Picks(FIRST_TWICE)], LocalFault::DoubleLabel),
+    (&[Part::Picks(LABELS)], LocalFault::TooManyBranches),
     (&[Part::Chooses(&[])], LocalFault::NoBranches),
     (
         &[Part::Rec("X"), Part::Takes, Part::Var("Y")],
@@ -139,202 +147,193 @@ const FAULTY: [(&[Part<'static>], LocalFault); 8] = [
 ];
 
 #[test]
-fn names_each_fault(rt: HostRuntime) -> Result<(), Fail> {
-    let alloc = rt.alloc();
-    for (parts, fault) in FAULTY {
-        let t = chain(&rt, alloc, parts, Local::End)?;
-        assert_eq!(rt; first_fault(&t), Some(fault));
-        // behind 50 acts
-        let t = sends(&rt, alloc, 50, t)?;
-        assert_eq!(rt; first_fault(&t), Some(fault));
+fn names_each_fault(rt: HostRuntime) {
+    for row in FAULTY {
+        tells(&rt, 0, row.0, Some(row.1));
+        tells(&rt, 50, row.0, Some(row.1));
     }
-    Ok(())
 }
 
+// A choice between the two has that first fault.
+fn tells_of_choice(
+    rt: &(impl Abort + AllocGlobal),
+    left: &[Part<'_>],
+    right: &[Part<'_>],
+    fault: LocalFault,
+) {
+    let others = more(rt, "m", chain(rt, right), Branches::NoMore);
+    let branches = more(rt, "l", chain(rt, left), others);
+    let peer = Role::new(0);
+    has_fault(rt, Local::Branch { peer, branches }, Some(fault));
+}
+
+// A `rec` or a choice with a fault, and another fault below it.
+const FAULT_BELOW: &[(&[Part<'static>], LocalFault)] = &[
+    (
+        &[Part::Chooses(&["l", "l"]), Part::Var("X")],
+        LocalFault::DoubleLabel,
+    ),
+    (
+        &[Part::Picks(&["l", "l"]), Part::Var("X")],
+        LocalFault::DoubleLabel,
+    ),
+    (
+        &[Part::Picks(LABELS), Part::Chooses(&["l", "l"])],
+        LocalFault::TooManyBranches,
+    ),
+    (
+        &[Part::Rec("X"), Part::Picks(LABELS), Part::Rec("X")],
+        LocalFault::TooManyBranches,
+    ),
+    (
+        &[
+            Part::Rec("X"),
+            Part::Takes,
+            Part::Rec("X"),
+            Part::Chooses(&[]),
+        ],
+        LocalFault::Shadowed,
+    ),
+    (
+        &[Part::Rec("X"), Part::Rec("X"), Part::Var("X")],
+        LocalFault::Shadowed,
+    ),
+    (
+        &[Part::Rec("X"), Part::Sends, Part::Rec("X"), Part::Var("Y")],
+        LocalFault::Shadowed,
+    ),
+];
+
 #[test]
-fn names_the_first_fault_in_preorder(rt: HostRuntime) -> Result<(), Fail> {
-    let alloc = rt.alloc();
-    let (l, m) = (name(&rt, "l"), name(&rt, "m"));
-    for (first, fault) in FAULTY {
-        for (second, _) in FAULTY {
-            let left = chain(&rt, alloc, first, Local::End)?;
-            let right = chain(&rt, alloc, second, Local::End)?;
-            let others = Branches::more(alloc, m, right, Branches::NoMore)?;
-            let branches = Branches::more(alloc, l, left, others)?;
-            let t = Local::Branch {
-                peer: Role::new(0),
-                branches,
-            };
-            assert_eq!(rt; first_fault(&t), Some(fault));
+fn names_the_first_fault_in_preorder(rt: HostRuntime) {
+    for first in FAULTY {
+        for second in FAULTY {
+            tells_of_choice(&rt, first.0, second.0, first.1);
         }
     }
-    // a `rec` or a choice with a fault, and another fault below it
-    let rows: [(&[Part<'_>], LocalFault); 7] = [
-        (
-            &[Part::Chooses(&["l", "l"]), Part::Var("X")],
-            LocalFault::DoubleLabel,
-        ),
-        (
-            &[Part::Picks(&["l", "l"]), Part::Var("X")],
-            LocalFault::DoubleLabel,
-        ),
-        (
-            &[Part::Picks(&LABELS), Part::Chooses(&["l", "l"])],
-            LocalFault::TooManyBranches,
-        ),
-        (
-            &[Part::Rec("X"), Part::Picks(&LABELS), Part::Rec("X")],
-            LocalFault::TooManyBranches,
-        ),
-        (
-            &[
-                Part::Rec("X"),
-                Part::Takes,
-                Part::Rec("X"),
-                Part::Chooses(&[]),
-            ],
-            LocalFault::Shadowed,
-        ),
-        (
-            &[Part::Rec("X"), Part::Rec("X"), Part::Var("X")],
-            LocalFault::Shadowed,
-        ),
-        (
-            &[Part::Rec("X"), Part::Sends, Part::Rec("X"), Part::Var("Y")],
-            LocalFault::Shadowed,
-        ),
-    ];
-    for (parts, fault) in rows {
-        let t = chain(&rt, alloc, parts, Local::End)?;
-        assert_eq!(rt; first_fault(&t), Some(fault));
+    for row in FAULT_BELOW {
+        tells(&rt, 0, row.0, Some(row.1));
     }
-    Ok(())
 }
 
+// How many outputs stand before the end, and the fault.
+const LENGTHS: &[(u32, Option<LocalFault>)] = &[
+    (63, None),
+    (64, Some(LocalFault::TooDeep)),
+    (255, Some(LocalFault::TooDeep)),
+    (256, Some(LocalFault::TooManyNodes)),
+];
+
 #[test]
-fn names_the_limits_first(rt: HostRuntime) -> Result<(), Fail> {
-    let alloc = rt.alloc();
-    for (parts, _) in FAULTY {
-        let deep = sends(&rt, alloc, 64, chain(&rt, alloc, parts, Local::End)?)?;
-        assert_eq!(rt; first_fault(&deep), Some(LocalFault::TooDeep));
-        let large = sends(&rt, alloc, 256, chain(&rt, alloc, parts, Local::End)?)?;
-        assert_eq!(rt; first_fault(&large), Some(LocalFault::TooManyNodes));
+fn names_the_limits_first(rt: HostRuntime) {
+    for row in FAULTY {
+        tells(&rt, 64, row.0, Some(LocalFault::TooDeep));
+        tells(&rt, 256, row.0, Some(LocalFault::TooManyNodes));
     }
-    let rows = [
-        (63, None),
-        (64, Some(LocalFault::TooDeep)),
-        (255, Some(LocalFault::TooDeep)),
-        (256, Some(LocalFault::TooManyNodes)),
-    ];
-    for (count, answer) in rows {
-        let t = sends(&rt, alloc, count, Local::End)?;
-        assert_eq!(rt; first_fault(&t), answer);
+    for row in LENGTHS {
+        tells(&rt, row.0, &[], row.1);
     }
-    Ok(())
 }
 
 // A choice of three labels, of which the one in that place has so many outputs behind it, and each
 // other one ends.
-fn uneven(rt: &impl Abort, alloc: alloc::Global, place: usize, count: u32) -> Result<Local, Fail> {
+fn uneven(rt: &(impl Abort + AllocGlobal), place: usize, count: u32) -> Local {
     let mut branches = Branches::NoMore;
-    for k in (0..3usize).rev() {
-        let below = if k == place { count } else { 0 };
-        let next = sends(rt, alloc, below, Local::End)?;
-        branches = Branches::more(alloc, name(rt, LABELS[k]), next, branches)?;
+    for k in 0..3usize {
+        let below = if 2 - k == place { count } else { 0 };
+        let next = many(rt, below, &Part::Sends, Local::End);
+        branches = more(rt, LABELS[2 - k], next, branches);
     }
     let peer = Role::new(1);
-    Ok(Local::Select { peer, branches })
+    Local::Select { peer, branches }
 }
 
 // The choice and the end are two nodes of the path.
 #[test]
-fn goes_down_the_deepest_branch(rt: HostRuntime) -> Result<(), Fail> {
+fn goes_down_the_deepest_branch(rt: HostRuntime) {
     for place in 0..3usize {
-        let deep = uneven(&rt, rt.alloc(), place, 62)?;
-        assert_eq!(rt; first_fault(&deep), None);
-        let deeper = uneven(&rt, rt.alloc(), place, 63)?;
-        assert_eq!(rt; first_fault(&deeper), Some(LocalFault::TooDeep));
+        has_fault(&rt, uneven(&rt, place, 62), None);
+        has_fault(&rt, uneven(&rt, place, 63), Some(LocalFault::TooDeep));
     }
-    Ok(())
+}
+
+// A loop of so many inputs.
+fn inputs(rt: &(impl Abort + AllocGlobal), count: u32) -> Local {
+    let last = Local::Var(variable(rt, "X"));
+    in_front(rt, &Part::Rec("X"), many(rt, count, &Part::Takes, last))
 }
 
 // A choice of 16 labels. Behind 15 of them stands a loop of 14 inputs, which has 16 nodes, and
 // behind the last one a loop of so many.
-fn loops(rt: &impl Abort, alloc: alloc::Global, last: u32) -> Result<Local, Fail> {
-    let mut branches = Branches::NoMore;
-    for k in (0..16usize).rev() {
-        let count = if k == 15 { last } else { 14 };
-        let body = many(
-            rt,
-            alloc,
-            count,
-            &Part::Takes,
-            Local::Var(variable(rt, "X")),
-        )?;
-        let next = Local::rec(alloc, variable(rt, "X"), body)?;
-        branches = Branches::more(alloc, name(rt, LABELS[k]), next, branches)?;
+fn loops(rt: &(impl Abort + AllocGlobal), last: u32) -> Local {
+    let mut branches = more(rt, "l16", inputs(rt, last), Branches::NoMore);
+    for k in 0..15usize {
+        branches = more(rt, LABELS[14 - k], inputs(rt, 14), branches);
     }
     let peer = Role::new(1);
-    Ok(Local::Branch { peer, branches })
+    Local::Branch { peer, branches }
 }
 
 // With the choice and 15 loops, which have 241 nodes, a loop of 13 inputs makes 256.
 #[test]
-fn counts_each_node(rt: HostRuntime) -> Result<(), Fail> {
-    let alloc = rt.alloc();
-    assert_eq!(rt; first_fault(&loops(&rt, alloc, 13)?), None);
-    let more = first_fault(&loops(&rt, alloc, 14)?);
-    assert_eq!(rt; more, Some(LocalFault::TooManyNodes));
-    Ok(())
+fn counts_each_node(rt: HostRuntime) {
+    has_fault(&rt, loops(&rt, 13), None);
+    has_fault(&rt, loops(&rt, 14), Some(LocalFault::TooManyNodes));
 }
 
+const FAULTLESS: &[&[Part<'static>]] = &[
+    &[],
+    &[Part::Rec("X"), Part::Sends, Part::Var("X")],
+    &[
+        Part::Rec("X"),
+        Part::Rec("Y"),
+        Part::Picks(&["l", "m"]),
+        Part::Var("X"),
+    ],
+    &[Part::Rec("X"), Part::Takes, Part::Rec("Y"), Part::Var("X")],
+    &[
+        Part::Chooses(FIRST_SIXTEEN),
+        Part::Picks(LAST_SIXTEEN),
+        Part::Sends,
+    ],
+    &[Part::Chooses(&["l", "m"]), Part::Chooses(&["l", "m"])],
+];
+
 #[test]
-fn finds_no_fault(rt: HostRuntime) -> Result<(), Fail> {
-    let rows: [&[Part<'_>]; 6] = [
-        &[],
-        &[Part::Rec("X"), Part::Sends, Part::Var("X")],
-        &[
-            Part::Rec("X"),
-            Part::Rec("Y"),
-            Part::Picks(&["l", "m"]),
-            Part::Var("X"),
-        ],
-        &[Part::Rec("X"), Part::Takes, Part::Rec("Y"), Part::Var("X")],
-        &[
-            Part::Chooses(&LABELS[..16]),
-            Part::Picks(&LABELS[1..]),
-            Part::Sends,
-        ],
-        &[Part::Chooses(&["l", "m"]), Part::Chooses(&["l", "m"])],
-    ];
-    for parts in rows {
-        let t = chain(&rt, rt.alloc(), parts, Local::End)?;
-        assert_eq!(rt; first_fault(&t), None);
+fn finds_no_fault(rt: HostRuntime) {
+    for parts in FAULTLESS {
+        tells(&rt, 0, parts, None);
     }
     local_fault_laws();
     local_size_laws();
     projections_have_no_fault();
-    Ok(())
+}
+
+// So many of the part and then a variable are too many nodes.
+fn is_too_long(rt: &(impl Abort + AllocGlobal), count: u32, part: &Part<'_>) {
+    let last = Local::Var(variable(rt, "Y"));
+    has_fault(
+        rt,
+        many(rt, count, part, last),
+        Some(LocalFault::TooManyNodes),
+    );
+}
+
+// A choice of so many labels, behind each of which the type ends.
+fn wide(rt: &(impl Abort + AllocGlobal), count: u32) -> Local {
+    let mut branches = Branches::NoMore;
+    for _ in 0..count {
+        branches = more(rt, "l", Local::End, branches);
+    }
+    let peer = Role::new(9);
+    Local::Select { peer, branches }
 }
 
 #[test]
-fn checks_types_of_any_size(rt: HostRuntime) -> Result<(), Fail> {
-    let (alloc, peer, label) = (rt.alloc(), Role::new(9), name(&rt, "l"));
-    for part in [Part::Sends, Part::Takes, Part::Rec("X")] {
-        let long = many(&rt, alloc, 1_000_000, &part, Local::Var(variable(&rt, "Y")))?;
-        assert_eq!(rt; first_fault(&long), Some(LocalFault::TooManyNodes));
-    }
-    let mut branches = Branches::NoMore;
-    for _ in 0..100_000 {
-        branches = Branches::more(alloc, label, Local::End, branches)?;
-    }
-    let wide = Local::Select { peer, branches };
-    assert_eq!(rt; first_fault(&wide), Some(LocalFault::TooManyNodes));
-    let mut nested = Local::End;
-    for _ in 0..100_000 {
-        let branches = Branches::more(alloc, label, nested, Branches::NoMore)?;
-        nested = Local::Branch { peer, branches };
-    }
-    assert_eq!(rt; first_fault(&nested), Some(LocalFault::TooManyNodes));
-    Ok(())
+fn checks_types_of_any_size(rt: HostRuntime) {
+    is_too_long(&rt, 1_000_000, &Part::Sends);
+    is_too_long(&rt, 1_000_000, &Part::Takes);
+    is_too_long(&rt, 1_000_000, &Part::Rec("X"));
+    is_too_long(&rt, 100_000, &Part::Picks(&["l"]));
+    has_fault(&rt, wide(&rt, 100_000), Some(LocalFault::TooManyNodes));
 }

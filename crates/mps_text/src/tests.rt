@@ -4,398 +4,409 @@ use crate::{
 };
 use mps_base::{Name, Sort, VarName};
 use mps_global::{Branches, Global, Protocol, check};
-use std::alloc;
-use std::test::Fail;
+use std::alloc::AllocGlobal;
+use std::process::Abort;
 
-// The fault of a text, None where a protocol is read.
-fn fault_of(alloc: alloc::Global, text: &[u8]) -> Option<(TextKind, usize)> {
-    match read_protocol(alloc, text) {
-        Ok(_) => None,
-        Err(TextFault { at, kind }) => Some((kind, at)),
+// The kind of a fault, and the byte at which it begins.
+type Fault = (TextKind, usize);
+
+// A text, and that byte of its fault.
+type Row = (&'static [u8], usize);
+
+// The text has that fault, or is read as a protocol where none is given.
+fn has_fault(rt: &(impl Abort + AllocGlobal), text: &[u8], wanted: Option<Fault>) {
+    let fault = read_protocol(rt.alloc(), text).err();
+    assert_eq!(rt; fault.map(|fault| (fault.kind, fault.at)), wanted);
+}
+
+// Each text has a fault of that kind, at its byte.
+fn have_faults(rt: &(impl Abort + AllocGlobal), kind: TextKind, rows: &[Row]) {
+    for row in rows {
+        has_fault(rt, row.0, Some((kind, row.1)));
     }
+}
+
+// The protocol that the text says.
+fn protocol(rt: &(impl Abort + AllocGlobal), text: &[u8]) -> Protocol {
+    read_protocol(rt.alloc(), text).expect(rt, "a protocol")
+}
+
+// The bytes behind those that are there.
+fn add(rt: &impl Abort, text: &mut Vec<u8>, bytes: &[u8]) {
+    text.extend_from_slice(bytes).expect(rt, "memory");
 }
 
 // So many times `a -> b : int . `, and the rest.
-fn add_messages(text: &mut Vec<u8>, messages: usize, rest: &[u8]) -> Result<(), Fail> {
+fn add_messages(rt: &impl Abort, text: &mut Vec<u8>, messages: usize, rest: &[u8]) {
     for _ in 0..messages {
-        text.extend_from_slice(b"a -> b : int . ")?;
+        add(rt, text, b"a -> b : int . ");
     }
-    Ok(text.extend_from_slice(rest)?)
+    add(rt, text, rest);
 }
 
 // `roles a b ; `, so many times `a -> b : int . `, and the rest.
-fn chain(alloc: alloc::Global, messages: usize, rest: &[u8]) -> Result<Vec<u8>, Fail> {
-    let mut text = Vec::from_slice(alloc, b"roles a b ; ")?;
-    add_messages(&mut text, messages, rest)?;
-    Ok(text)
+fn chain(rt: &(impl Abort + AllocGlobal), messages: usize, rest: &[u8]) -> Vec<u8> {
+    let mut text = Vec::new(rt.alloc());
+    add(rt, &mut text, b"roles a b ; ");
+    add_messages(rt, &mut text, messages, rest);
+    text
 }
+
+const LABELS: &[&[u8]] = &[
+    b"{ l1 : ",
+    b", l2 : ",
+    b", l3 : ",
+    b", l4 : ",
+    b", l5 : ",
+    b", l6 : ",
+    b", l7 : ",
+    b", l8 : ",
+    b", l9 : ",
+    b", l10 : ",
+    b", l11 : ",
+    b", l12 : ",
+    b", l13 : ",
+    b", l14 : ",
+    b", l15 : ",
+    b", l16 : ",
+    b", l17 : ",
+];
 
 // A choice of the labels `l1`, `l2` and so on, each with so many messages and then `end`.
-fn choice(alloc: alloc::Global, branches: &[usize]) -> Result<Vec<u8>, Fail> {
-    let mut text = Vec::from_slice(alloc, b"roles a b ; a -> b ")?;
-    let labels: [&[u8]; 17] = [
-        b"{ l1 : ",
-        b", l2 : ",
-        b", l3 : ",
-        b", l4 : ",
-        b", l5 : ",
-        b", l6 : ",
-        b", l7 : ",
-        b", l8 : ",
-        b", l9 : ",
-        b", l10 : ",
-        b", l11 : ",
-        b", l12 : ",
-        b", l13 : ",
-        b", l14 : ",
-        b", l15 : ",
-        b", l16 : ",
-        b", l17 : ",
-    ];
-    for (label, messages) in labels.iter().zip(branches) {
-        text.extend_from_slice(label)?;
-        add_messages(&mut text, *messages, b"end ")?;
+fn choice(rt: &(impl Abort + AllocGlobal), branches: &[usize]) -> Vec<u8> {
+    let mut text = Vec::new(rt.alloc());
+    add(rt, &mut text, b"roles a b ; a -> b ");
+    for (label, messages) in LABELS.iter().zip(branches) {
+        add(rt, &mut text, label);
+        add_messages(rt, &mut text, *messages, b"end ");
     }
-    text.extend_from_slice(b"}")?;
-    Ok(text)
+    add(rt, &mut text, b"}");
+    text
 }
 
-fn name(text: &[u8]) -> Result<Name, Fail> {
-    Ok(Name::read(text).ok_or("a name")?)
-}
-
-fn variable(text: &[u8]) -> Result<VarName, Fail> {
-    Ok(VarName::read(text).ok_or("a variable")?)
-}
+const PROTOCOLS: &[&[u8]] = &[
+    b"roles a b ; end",
+    b"roles a b;a->b:int.b->a:bool.a->b:text.end",
+    b"\troles\r\na\tb\n;\r end\n",
+    b"roles a b c d e f g h ; end",
+    b"roles abcdefghijklmnopqrstuvwxyz_01234 b ; end",
+    b"roles a b ; X",
+    b"roles a b;rec X.rec Y_2.X",
+    b"roles a b;a->b{l:end}",
+    b"roles a b;a->b\n{\tabcdefghijklmnopqrstuvwxyz_01234:X,m:b->a{n:end,o:end}\r}",
+    b"roles a b ; ABCDEFGHIJKLMNOPQRSTUVWXYZ_01234",
+];
 
 #[test]
-fn reads_protocols(rt: HostRuntime) -> Result<(), Fail> {
-    let texts = [
-        b"roles a b ; end".as_slice(),
-        b"roles a b;a->b:int.b->a:bool.a->b:text.end",
-        b"\troles\r\na\tb\n;\r end\n",
-        b"roles a b c d e f g h ; end",
-        b"roles abcdefghijklmnopqrstuvwxyz_01234 b ; end",
-        b"roles a b ; X",
-        b"roles a b;rec X.rec Y_2.X",
-        b"roles a b;a->b{l:end}",
-        b"roles a b;a->b\n{\tabcdefghijklmnopqrstuvwxyz_01234:X,m:b->a{n:end,o:end}\r}",
-        b"roles a b ; ABCDEFGHIJKLMNOPQRSTUVWXYZ_01234",
-    ];
-    for text in texts {
-        assert_eq!(rt; fault_of(rt.alloc(), text), None);
+fn reads_protocols(rt: HostRuntime) {
+    for text in PROTOCOLS {
+        has_fault(&rt, text, None);
     }
-    Ok(())
 }
 
-#[test]
-fn reads_messages(rt: HostRuntime) -> Result<(), Fail> {
-    let text = b"roles a b c ; a -> b : int . b -> c : text . end";
-    let protocol = read_protocol(rt.alloc(), text)?;
-    assert_eq!(rt; check(&protocol), Ok(()));
-    let roles = [name(b"a")?, name(b"b")?, name(b"c")?];
-    assert_eq!(rt; protocol.roles.as_slice(), roles.as_slice());
-    let mut node = &protocol.body;
-    let messages = [(b"a", b"b", Sort::Int), (b"b", b"c", Sort::Text)];
-    for (from, to, of) in messages {
-        match node {
-            Global::Message {
-                sender,
-                receiver,
-                sort,
-                next,
-            } => {
-                assert_eq!(rt; *sender, name(from)?);
-                assert_eq!(rt; *receiver, name(to)?);
-                assert_eq!(rt; *sort, of);
-                node = next;
-            }
-            _ => return Err(Fail::from("no message")),
-        }
+// What stands behind the message, if it is this one.
+fn behind_message<'a>(node: &'a Global, from: &[u8], to: &[u8], of: Sort) -> Option<&'a Global> {
+    match node {
+        Global::Message {
+            sender,
+            receiver,
+            sort,
+            next,
+        } if sender.is_spelled(from) && receiver.is_spelled(to) && sort.is(of) => Some(next),
+        _ => None,
     }
-    assert!(rt; matches!(node, Global::End));
-    Ok(())
+}
+
+fn name(rt: &impl Abort, letters: &[u8]) -> Name {
+    Name::read(letters).expect(rt, "a name")
 }
 
 #[test]
-fn reads_branches_and_recursion(rt: HostRuntime) -> Result<(), Fail> {
-    let text = b"roles a b ; rec X . a -> b { go : X , stop : end }";
-    let protocol = read_protocol(rt.alloc(), text)?;
-    assert_eq!(rt; check(&protocol), Ok(()));
-    let Global::Rec(bound, body) = &protocol.body else {
-        return Err(Fail::from("no rec"));
-    };
-    assert_eq!(rt; *bound, variable(b"X")?);
-    let Global::Choice {
-        sender,
-        receiver,
-        branches,
-    } = &**body
-    else {
-        return Err(Fail::from("no choice"));
-    };
-    assert_eq!(rt; *sender, name(b"a")?);
-    assert_eq!(rt; *receiver, name(b"b")?);
-    let Branches::More {
-        label,
-        next,
-        others,
-    } = branches
-    else {
-        return Err(Fail::from("no branch"));
-    };
-    assert_eq!(rt; *label, name(b"go")?);
-    assert!(rt; matches!(&**next, Global::Var(_)));
-    let Branches::More {
-        label,
-        next,
-        others,
-    } = &**others
-    else {
-        return Err(Fail::from("one branch"));
-    };
-    assert_eq!(rt; *label, name(b"stop")?);
-    assert!(rt; matches!(&**next, Global::End));
-    assert!(rt; matches!(&**others, Branches::NoMore));
-    Ok(())
+fn reads_messages(rt: HostRuntime) {
+    let protocol = protocol(&rt, b"roles a b c ; a -> b : int . b -> c : text . end");
+    assert!(rt; check(&protocol).is_ok());
+    let roles = [name(&rt, b"a"), name(&rt, b"b"), name(&rt, b"c")];
+    assert!(rt; protocol.roles.as_slice() == roles.as_slice());
+    let second = behind_message(&protocol.body, b"a", b"b", Sort::Int);
+    let last = behind_message(second.expect(&rt, "a message"), b"b", b"c", Sort::Text);
+    assert!(rt; matches!(last, Some(Global::End)));
 }
 
-#[test]
-fn names_missing_and_misplaced_tokens(rt: HostRuntime) -> Result<(), Fail> {
-    let faults = [
-        // the first token, and the heading
-        (b"".as_slice(), 0),
-        (b" \n\t\r ", 5),
-        (b"; end", 0),
-        (b"rolesa b ; end", 0),
-        (b"roles", 5),
-        (b"roles a", 7),
-        (b"roles a ; end", 8),
-        (b"roles a end ; end", 8),
-        (b"roles a true ; end", 8),
-        (b"roles int b ; end", 6),
-        (b"roles X b ; end", 6),
-        (b"roles a b c d e f g h i ; end", 22),
-        (b"roles a b , end", 10),
-        // where a global type begins
-        (b"roles a b ;", 11),
-        (b"roles a b ; ;", 12),
-        (b"roles a b ; int", 12),
-        (b"roles a b ; roles", 12),
-        (b"roles a b ; }", 12),
-        // recursion
-        (b"roles a b ; rec x . x", 16),
-        (b"roles a b ; rec rec . end", 16),
-        (b"roles a b ; rec X X", 18),
-        (b"roles a b ; rec X .", 19),
-        // messages
-        (b"roles a b ; end2x", 17),
-        (b"roles a b ; a : int . end", 14),
-        (b"roles a b ; a -> : int . end", 17),
-        (b"roles a b ; a -> X : int . end", 17),
-        (b"roles a b ; a -> int : int . end", 17),
-        (b"roles a b ; a -> b end", 19),
-        (b"roles a b ; a -> b : bot . end", 21),
-        (b"roles a b ; a -> b : X . end", 21),
-        (b"roles a b ; a -> b : int end", 25),
-        (b"roles a b ; a -> b : int .", 26),
-        (b"roles a b ; a -> b : int . \n", 28),
-        // branches
-        (b"roles a b ; a -> b {", 20),
-        (b"roles a b ; a -> b { }", 21),
-        (b"roles a b ; a -> b { , l : end }", 21),
-        (b"roles a b ; a -> b { end : end }", 21),
-        (b"roles a b ; a -> b { L : end }", 21),
-        (b"roles a b ; a -> b { l end }", 23),
-        (b"roles a b ; a -> b { l : }", 25),
-        (b"roles a b ; a -> b { l : end ; }", 29),
-        (b"roles a b ; a -> b { l : end m : end }", 29),
-        (b"roles a b ; a -> b { l : end , }", 31),
-        (b"roles a b ; a -> b { l : end , int : end }", 31),
-        (b"roles a b ; a -> b { l : a -> b : int }", 38),
-        (b"roles a b ; a -> b { l : end , m : end", 38),
-    ];
-    for (text, at) in faults {
-        let fault = fault_of(rt.alloc(), text);
-        assert_eq!(rt; fault, Some((TextKind::Unexpected, at)), "{at}");
+// The loop of the variable of these letters, if it is one.
+fn behind_rec<'a>(node: &'a Global, letters: &[u8]) -> Option<&'a Global> {
+    match node {
+        Global::Rec(bound, body) if bound.as_bytes() == letters => Some(body),
+        _ => None,
     }
-    Ok(())
 }
 
-#[test]
-fn names_malformed_words(rt: HostRuntime) -> Result<(), Fail> {
-    let faults = [
-        (b"\0roles a b ; end".as_slice(), 0),
-        (b"Roles a b ; end", 0),
-        (b"roles _a b ; end", 6),
-        (b"roles a \x80", 8),
-        (b"roles\ta\tb\t;\r\n9", 13),
-        (b"roles abcdefghijklmnopqrstuvwxyz_012345 b ; end", 6),
-        (b"roles ABCDEFGHIJKLMNOPQRSTUVWXYZ_012345 b ; end", 6),
-        (b"roles a b ; \"", 12),
-        (b"roles a b ; Xx", 12),
-        (b"roles a b ; a>b", 13),
-        (b"roles a b ; a - b : int . end", 14),
-        (b"roles a b ; a -", 14),
-        (b"roles a b ; rec Xy . Xy", 16),
-        (b"roles a b ; a -> Bc : int . end", 17),
-        (b"roles a b;a->b:int.enD", 19),
-        (b"roles a b ; a -> b { l-m : end }", 22),
-        (b"roles a b ; a -> b { l : end , 2 : end }", 31),
-        // behind a whole protocol
-        (b"roles a b ; end\x0b", 15),
-        (b"roles a b ; end\xff", 15),
-        (b"roles a b ; end 9x", 16),
-        (b"roles a b ; a -> b { l : end } -", 31),
-    ];
-    for (text, at) in faults {
-        let fault = fault_of(rt.alloc(), text);
-        assert_eq!(rt; fault, Some((TextKind::Word, at)), "{at}");
+// The branches of the choice, if it is one of these roles.
+fn branches_of<'a>(node: &'a Global, from: &[u8], to: &[u8]) -> Option<&'a Branches> {
+    match node {
+        Global::Choice {
+            sender,
+            receiver,
+            branches,
+        } if sender.is_spelled(from) && receiver.is_spelled(to) => Some(branches),
+        _ => None,
     }
-    Ok(())
 }
 
-#[test]
-fn names_what_stands_behind_a_protocol(rt: HostRuntime) -> Result<(), Fail> {
-    let faults = [
-        (b"roles a b ; end end".as_slice(), 16),
-        (b"roles a b ; end}", 15),
-        (b"roles a b ; end .", 16),
-        (b"roles a b ; end roles", 16),
-        (b"roles a b ; end X 9x", 16),
-        (b"roles a b ; X Y", 14),
-        (b"roles a b ; rec X . X ->", 22),
-        (b"roles a b ; a -> b { l : end } }", 31),
-    ];
-    for (text, at) in faults {
-        let fault = fault_of(rt.alloc(), text);
-        assert_eq!(rt; fault, Some((TextKind::Trailing, at)), "{at}");
+// What stands behind the first label, and the other branches, if it is this label.
+fn behind_label<'a>(branches: &'a Branches, letters: &[u8]) -> Option<(&'a Global, &'a Branches)> {
+    match branches {
+        Branches::More {
+            label,
+            next,
+            others,
+        } if label.is_spelled(letters) => Some((next, others)),
+        _ => None,
     }
-    Ok(())
 }
 
 #[test]
-fn keeps_the_limits(rt: HostRuntime) -> Result<(), Fail> {
-    let deepest = chain(rt.alloc(), 63, b"end")?;
-    assert_eq!(rt; fault_of(rt.alloc(), &deepest), None);
-    let too_deep = Some((TextKind::TooDeep, 972));
-    let deeper = chain(rt.alloc(), 64, b"end")?;
-    assert_eq!(rt; fault_of(rt.alloc(), &deeper), too_deep);
-    let deeper = chain(rt.alloc(), 300, b"end")?;
-    assert_eq!(rt; fault_of(rt.alloc(), &deeper), too_deep);
-    let unexpected = Some((TextKind::Unexpected, 972));
-    let deeper = chain(rt.alloc(), 64, b"}")?;
-    assert_eq!(rt; fault_of(rt.alloc(), &deeper), unexpected);
-    let blanks = vec![in rt.alloc(); b' '; MAX_TEXT_BYTES + 1]?;
-    assert_eq!(rt;
-        fault_of(rt.alloc(), &blanks),
-        Some((TextKind::TooLong, 65536))
-    );
-    assert_eq!(rt;
-        fault_of(rt.alloc(), &blanks[1..]),
-        Some((TextKind::Unexpected, 65536))
-    );
-    Ok(())
+fn reads_branches_and_recursion(rt: HostRuntime) {
+    let protocol = protocol(&rt, b"roles a b ; rec X . a -> b { go : X , stop : end }");
+    assert!(rt; check(&protocol).is_ok());
+    let body = behind_rec(&protocol.body, b"X").expect(&rt, "a loop");
+    let branches = branches_of(body, b"a", b"b").expect(&rt, "a choice");
+    let (go, others) = behind_label(branches, b"go").expect(&rt, "a branch");
+    assert!(rt; matches!(go, Global::Var(_)));
+    let (stop, others) = behind_label(others, b"stop").expect(&rt, "a branch");
+    assert!(rt; matches!((stop, others), (Global::End, Branches::NoMore)));
 }
 
-#[test]
-fn counts_the_nodes(rt: HostRuntime) -> Result<(), Fail> {
-    let most = choice(rt.alloc(), &[31, 31, 31, 31, 31, 31, 31, 30])?;
-    let protocol = read_protocol(rt.alloc(), &most)?;
-    assert_eq!(rt; check(&protocol), Ok(()));
-    let more = choice(rt.alloc(), &[31, 31, 31, 31, 31, 31, 31, 31])?;
-    assert_eq!(rt;
-        fault_of(rt.alloc(), &more),
-        Some((TextKind::TooManyNodes, 3823))
-    );
-    // node 257 at depth 65, and node 256
-    let both = choice(rt.alloc(), &[31, 31, 31, 31, 31, 31, 63])?;
-    assert_eq!(rt;
-        fault_of(rt.alloc(), &both),
-        Some((TextKind::TooManyNodes, 3827))
-    );
-    let deep = choice(rt.alloc(), &[30, 31, 31, 31, 31, 31, 63])?;
-    assert_eq!(rt;
-        fault_of(rt.alloc(), &deep),
-        Some((TextKind::TooDeep, 3812))
-    );
-    Ok(())
-}
+const UNEXPECTED: &[Row] = &[
+    // the first token, and the heading
+    (b"", 0),
+    (b" \n\t\r ", 5),
+    (b"; end", 0),
+    (b"rolesa b ; end", 0),
+    (b"roles", 5),
+    (b"roles a", 7),
+    (b"roles a ; end", 8),
+    (b"roles a end ; end", 8),
+    (b"roles a true ; end", 8),
+    (b"roles int b ; end", 6),
+    (b"roles X b ; end", 6),
+    (b"roles a b c d e f g h i ; end", 22),
+    (b"roles a b , end", 10),
+    // where a global type begins
+    (b"roles a b ;", 11),
+    (b"roles a b ; ;", 12),
+    (b"roles a b ; int", 12),
+    (b"roles a b ; roles", 12),
+    (b"roles a b ; }", 12),
+    // recursion
+    (b"roles a b ; rec x . x", 16),
+    (b"roles a b ; rec rec . end", 16),
+    (b"roles a b ; rec X X", 18),
+    (b"roles a b ; rec X .", 19),
+    // messages
+    (b"roles a b ; end2x", 17),
+    (b"roles a b ; a : int . end", 14),
+    (b"roles a b ; a -> : int . end", 17),
+    (b"roles a b ; a -> X : int . end", 17),
+    (b"roles a b ; a -> int : int . end", 17),
+    (b"roles a b ; a -> b end", 19),
+    (b"roles a b ; a -> b : bot . end", 21),
+    (b"roles a b ; a -> b : X . end", 21),
+    (b"roles a b ; a -> b : int end", 25),
+    (b"roles a b ; a -> b : int .", 26),
+    (b"roles a b ; a -> b : int . \n", 28),
+    // branches
+    (b"roles a b ; a -> b {", 20),
+    (b"roles a b ; a -> b { }", 21),
+    (b"roles a b ; a -> b { , l : end }", 21),
+    (b"roles a b ; a -> b { end : end }", 21),
+    (b"roles a b ; a -> b { L : end }", 21),
+    (b"roles a b ; a -> b { l end }", 23),
+    (b"roles a b ; a -> b { l : }", 25),
+    (b"roles a b ; a -> b { l : end ; }", 29),
+    (b"roles a b ; a -> b { l : end m : end }", 29),
+    (b"roles a b ; a -> b { l : end , }", 31),
+    (b"roles a b ; a -> b { l : end , int : end }", 31),
+    (b"roles a b ; a -> b { l : a -> b : int }", 38),
+    (b"roles a b ; a -> b { l : end , m : end", 38),
+];
 
 #[test]
-fn writes_what_it_read(rt: HostRuntime) -> Result<(), Fail> {
-    let texts = [
-        b"roles a b c ; a -> b : int . b -> c : int . end".as_slice(),
-        b"roles a b c ; a -> b : int . b -> c : int . c -> a { ok : end , no : end }",
-        b"roles a b c d ; a -> b : int . c -> d : int . end",
-        b"roles a b ; rec X . a -> b : int . X",
-        b"roles a b ; rec X . a -> b { go : b -> a : text . X , stop : end }",
-        b"roles a b ; a -> b { l : b -> a { m : X , n : end } }",
-        b"roles a b ; a -> b : bool . end",
-        b"roles a b c ; a -> b { l : a -> c : int . end , r : end }",
-        b"roles a b c ; a -> b { l : a -> c : int . end , r : a -> c : int . end }",
-        b"roles a b ; rec X . X",
-        b"roles a b c ; rec X . a -> b : int . X",
-        b"roles a b c ; rec X . a -> c : int . rec Y . a -> b : int . X",
-        b"roles a b ; a -> b { l : end , l : end }",
-        b"roles a b ; rec X . a -> b : int . rec X . a -> b : int . X",
-        b"roles a b ; rec X . rec Y . X",
-        b"roles a b ; z -> z : int . X",
-        b"roles a a ; end",
-        b"roles a b c ; a -> b : int . a -> b { l : a -> c : int . end , r : end }",
-        b"roles a b ; a -> z : int . end",
-        b"roles a b ; a -> a : int . end",
-        b"roles a b ; a -> b : int . X",
-    ];
-    for text in texts {
-        let protocol = read_protocol(rt.alloc(), text)?;
-        let written = write_protocol(rt.alloc(), &protocol)?;
-        assert_eq!(rt; written.as_slice(), text);
-        assert_eq!(rt; fault_of(rt.alloc(), &written), None);
+fn names_missing_and_misplaced_tokens(rt: HostRuntime) {
+    have_faults(&rt, TextKind::Unexpected, UNEXPECTED);
+}
+
+const MALFORMED: &[Row] = &[
+    (b"\0roles a b ; end", 0),
+    (b"Roles a b ; end", 0),
+    (b"roles _a b ; end", 6),
+    (b"roles a \x80", 8),
+    (b"roles\ta\tb\t;\r\n9", 13),
+    (b"roles abcdefghijklmnopqrstuvwxyz_012345 b ; end", 6),
+    (b"roles ABCDEFGHIJKLMNOPQRSTUVWXYZ_012345 b ; end", 6),
+    (b"roles a b ; \"", 12),
+    (b"roles a b ; Xx", 12),
+    (b"roles a b ; a>b", 13),
+    (b"roles a b ; a - b : int . end", 14),
+    (b"roles a b ; a -", 14),
+    (b"roles a b ; rec Xy . Xy", 16),
+    (b"roles a b ; a -> Bc : int . end", 17),
+    (b"roles a b;a->b:int.enD", 19),
+    (b"roles a b ; a -> b { l-m : end }", 22),
+    (b"roles a b ; a -> b { l : end , 2 : end }", 31),
+    // behind a whole protocol
+    (b"roles a b ; end\x0b", 15),
+    (b"roles a b ; end\xff", 15),
+    (b"roles a b ; end 9x", 16),
+    (b"roles a b ; a -> b { l : end } -", 31),
+];
+
+#[test]
+fn names_malformed_words(rt: HostRuntime) {
+    have_faults(&rt, TextKind::Word, MALFORMED);
+}
+
+const TRAILING: &[Row] = &[
+    (b"roles a b ; end end", 16),
+    (b"roles a b ; end}", 15),
+    (b"roles a b ; end .", 16),
+    (b"roles a b ; end roles", 16),
+    (b"roles a b ; end X 9x", 16),
+    (b"roles a b ; X Y", 14),
+    (b"roles a b ; rec X . X ->", 22),
+    (b"roles a b ; a -> b { l : end } }", 31),
+];
+
+#[test]
+fn names_what_stands_behind_a_protocol(rt: HostRuntime) {
+    have_faults(&rt, TextKind::Trailing, TRAILING);
+}
+
+// How many messages a chain has, what stands behind them, and the fault.
+const CHAINS: &[(usize, &[u8], Option<Fault>)] = &[
+    (63, b"end", None),
+    (64, b"end", Some((TextKind::TooDeep, 972))),
+    (300, b"end", Some((TextKind::TooDeep, 972))),
+    (64, b"}", Some((TextKind::Unexpected, 972))),
+];
+
+#[test]
+fn keeps_the_limits(rt: HostRuntime) {
+    for row in CHAINS {
+        has_fault(&rt, &chain(&rt, row.0, row.1), row.2);
     }
-    let loose = read_protocol(rt.alloc(), b"\nroles a\tb;a->b{l:end,m:X}\r")?;
-    let written = write_protocol(rt.alloc(), &loose)?;
-    assert_eq!(rt;
-        written.as_slice(),
-        b"roles a b ; a -> b { l : end , m : X }".as_slice()
-    );
+    let blanks = vec![in rt.alloc(); b' '; MAX_TEXT_BYTES + 1].expect(&rt, "memory");
+    has_fault(&rt, &blanks, Some((TextKind::TooLong, 65536)));
+    has_fault(&rt, &blanks[1..], Some((TextKind::Unexpected, 65536)));
+}
+
+// The most messages behind each label.
+const MOST: &[usize] = &[31, 31, 31, 31, 31, 31, 31, 30];
+
+// Too many nodes; node 257 at depth 65; and node 256 there.
+const CHOICES: &[(&[usize], Fault)] = &[
+    (
+        &[31, 31, 31, 31, 31, 31, 31, 31],
+        (TextKind::TooManyNodes, 3823),
+    ),
+    (
+        &[31, 31, 31, 31, 31, 31, 63],
+        (TextKind::TooManyNodes, 3827),
+    ),
+    (&[30, 31, 31, 31, 31, 31, 63], (TextKind::TooDeep, 3812)),
+];
+
+#[test]
+fn counts_the_nodes(rt: HostRuntime) {
+    let most = protocol(&rt, &choice(&rt, MOST));
+    assert!(rt; check(&most).is_ok());
+    for row in CHOICES {
+        has_fault(&rt, &choice(&rt, row.0), Some(row.1));
+    }
+}
+
+const WRITTEN: &[&[u8]] = &[
+    b"roles a b c ; a -> b : int . b -> c : int . end",
+    b"roles a b c ; a -> b : int . b -> c : int . c -> a { ok : end , no : end }",
+    b"roles a b c d ; a -> b : int . c -> d : int . end",
+    b"roles a b ; rec X . a -> b : int . X",
+    b"roles a b ; rec X . a -> b { go : b -> a : text . X , stop : end }",
+    b"roles a b ; a -> b { l : b -> a { m : X , n : end } }",
+    b"roles a b ; a -> b : bool . end",
+    b"roles a b c ; a -> b { l : a -> c : int . end , r : end }",
+    b"roles a b c ; a -> b { l : a -> c : int . end , r : a -> c : int . end }",
+    b"roles a b ; rec X . X",
+    b"roles a b c ; rec X . a -> b : int . X",
+    b"roles a b c ; rec X . a -> c : int . rec Y . a -> b : int . X",
+    b"roles a b ; a -> b { l : end , l : end }",
+    b"roles a b ; rec X . a -> b : int . rec X . a -> b : int . X",
+    b"roles a b ; rec X . rec Y . X",
+    b"roles a b ; z -> z : int . X",
+    b"roles a a ; end",
+    b"roles a b c ; a -> b : int . a -> b { l : a -> c : int . end , r : end }",
+    b"roles a b ; a -> z : int . end",
+    b"roles a b ; a -> a : int . end",
+    b"roles a b ; a -> b : int . X",
+];
+
+// The protocol that the text says is written so, and read again.
+fn is_written(rt: &(impl Abort + AllocGlobal), text: &[u8], wanted: &[u8]) {
+    let written = write_protocol(rt.alloc(), &protocol(rt, text)).expect(rt, "memory");
+    assert!(rt; written.as_slice() == wanted);
+    has_fault(rt, &written, None);
+}
+
+// The text of a protocol is written as it was read.
+fn stays(rt: &(impl Abort + AllocGlobal), text: &[u8]) {
+    is_written(rt, text, text);
+}
+
+#[test]
+fn writes_what_it_read(rt: HostRuntime) {
+    for text in WRITTEN {
+        stays(&rt, text);
+    }
+    let loose = b"\nroles a\tb;a->b{l:end,m:X}\r";
+    is_written(&rt, loose, b"roles a b ; a -> b { l : end , m : X }");
     // the most nodes, more branches than a choice may have, and the most levels
-    let most = choice(rt.alloc(), &[31, 31, 31, 31, 31, 31, 31, 30])?;
-    let wide = choice(rt.alloc(), &[0; 17])?;
-    let deep = chain(rt.alloc(), 63, b"end")?;
-    for text in [most.as_slice(), wide.as_slice(), deep.as_slice()] {
-        let written = write_protocol(rt.alloc(), &read_protocol(rt.alloc(), text)?)?;
-        assert_eq!(rt; written.as_slice(), text);
-    }
-    Ok(())
+    stays(&rt, &choice(&rt, MOST));
+    stays(&rt, &choice(&rt, &[0; 17]));
+    stays(&rt, &chain(&rt, 63, b"end"));
 }
 
-// far deeper than a text may be, and a choice without branches
-#[test]
-fn writes_any_tree(rt: HostRuntime) -> Result<(), Fail> {
-    let (sender, receiver) = (name(b"a")?, name(b"b")?);
+// So many messages, and then a choice without branches.
+fn deep(rt: &(impl Abort + AllocGlobal), count: usize) -> Global {
+    let (sender, receiver) = (name(rt, b"a"), name(rt, b"b"));
     let mut body = Global::Choice {
         sender,
         receiver,
         branches: Branches::NoMore,
     };
-    for _ in 0..20000 {
-        body = Global::message(rt.alloc(), sender, receiver, Sort::Int, body)?;
+    for _ in 0..count {
+        let made = Global::message(rt.alloc(), sender, receiver, Sort::Int, body);
+        body = made.expect(rt, "memory");
     }
-    let roles = vec![in rt.alloc(); sender, receiver]?;
-    let written = write_protocol(rt.alloc(), &Protocol { roles, body })?;
-    let text = chain(rt.alloc(), 20000, b"a -> b { }")?;
-    assert_eq!(rt; written.as_slice(), text.as_slice());
-    Ok(())
+    body
+}
+
+// far deeper than a text may be, and a choice without branches
+#[test]
+fn writes_any_tree(rt: HostRuntime) {
+    let roles = vec![in rt.alloc(); name(&rt, b"a"), name(&rt, b"b")].expect(&rt, "memory");
+    let protocol = Protocol {
+        roles,
+        body: deep(&rt, 20000),
+    };
+    let written = write_protocol(rt.alloc(), &protocol).expect(&rt, "memory");
+    assert!(rt; written.as_slice() == chain(&rt, 20000, b"a -> b { }").as_slice());
 }
 
 #[test]
-fn shows_a_fault(rt: HostRuntime) -> Result<(), Fail> {
+fn shows_a_fault(rt: HostRuntime) {
     let fault = TextFault {
         at: 25,
         kind: TextKind::Unexpected,
     };
-    let shown = format!(in rt.alloc(); "{fault}")?;
+    let shown = format!(in rt.alloc(); "{fault}").expect(&rt, "memory");
     assert_eq!(rt;
         shown.as_str(),
         "at byte 25: this token, or the end of the text, may not stand here"
@@ -405,5 +416,4 @@ fn shows_a_fault(rt: HostRuntime) -> Result<(), Fail> {
     protocol_or_fault();
     written_reads();
     first_tokens();
-    Ok(())
 }

@@ -4,4 +4,4 @@ use Rattle.mps_local.specs.Shape.{AllPeers}
 use Rattle.mps_local.proofs.tests.sends.Given as goal
 
 abbrev pub invariant-loop : goal.invariant-loop
-invariant-loop l = AllPeers (λ peer. peer < 2) (plain l.tree)
+invariant-loop g l = AllPeers (λ peer. peer < 2) (plain l.tree)
