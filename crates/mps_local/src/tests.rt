@@ -218,39 +218,27 @@ fn projects_each_role(rt: HostRuntime) {
 
 // What `a`, `b` and `c` do, or the fault of the first that can't be projected.
 fn types_of(
-    rt: &impl Abort,
-    alloc: alloc::Global,
+    rt: &(impl Abort + AllocGlobal),
     parts: &[Part<'_>],
-) -> Result<Result<Vec<Local>, ProjectFault>, Fail> {
-    let mut roles = Vec::new(alloc);
-    for letter in THREE {
-        roles.push(name(rt, letter))?;
-    }
-    let body = chain(rt, alloc, parts)?;
-    let protocol = Protocol { roles, body };
-    if check(&protocol).is_err() {
-        return Err(Fail::from("a fault of the protocol"));
-    }
-    Ok(project_all(alloc, &protocol))
+) -> Result<Vec<Local>, ProjectFault> {
+    let protocol = protocol(rt, &THREE, chain(rt, parts));
+    assert!(rt; check(&protocol).is_ok());
+    project_all(rt.alloc(), &protocol)
 }
 
 #[test]
-fn projects_all_roles(rt: HostRuntime) -> Result<(), Fail> {
-    let Ok(types) = types_of(&rt, rt.alloc(), &RELAY)? else {
-        return Err(Fail::from("a role without a projection"));
-    };
+fn projects_all_roles(rt: HostRuntime) {
+    let types = types_of(&rt, &RELAY).expect(&rt, "types");
     let shown = match types.as_slice() {
         [Local::Send { .. }, Local::Recv { .. }, Local::Recv { .. }] => "sends, and two receive",
         _ => "something else",
     };
     assert_eq!(rt; shown, "sends, and two receive");
-    let fault = types_of(&rt, rt.alloc(), &ONE)?.err();
     let first = ProjectFault::Unmergeable {
         role: Role::new(2),
         choice: 0,
     };
-    assert_eq!(rt; fault, Some(first));
-    Ok(())
+    assert!(rt; types_of(&rt, &ONE).err() == Some(first));
 }
 
 // A choice of `a` between these two, in a loop in a loop.
