@@ -22,7 +22,8 @@ use Rattle.mps_history.specs.Steps.{step_of, steps_of}
 use Rattle.mps_local.specs.Actions.{branch_at}
 use Rattle.mps_local.specs.Local.{LocalType, Send, Recv, Select, Branch}
 use Rattle.mps_local.specs.Unfolding.{unfolded}
-use Rattle.mps_machine.specs.Machine.{State, initial, most_numbers, view_of, unless, full_fault, done_by, accepted, forward, least, owner_fault, dependents, undone, undo, rolled_back, rollback, since_mark, back_to, back, stepped, removed, Request, serve, answers, IsSound}
+use Rattle.mps_history.specs.Dependence.{least, dependents}
+use Rattle.mps_machine.specs.Machine.{State, initial, most_numbers, view_of, unless, full_fault, done_by, accepted, forward, owner_fault, undone, undo, rolled_back, rollback, since_mark, back_to, back, stepped, removed, Request, serve, answers, IsSound}
 use Rattle.mps_machine.specs.Rule.{first_of}
 use Rattle.mps_machine.specs.View.{View}
 use Rattle.mps_machine.specs.Violations.{is_value_of, is_label_of, waiting_fault, act_fault, violation}

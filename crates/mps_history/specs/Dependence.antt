@@ -1,8 +1,8 @@
 -- Which steps depend on which: happened-before (Lamport 1978) over the steps of a history.
-use Rattle.std.specs.Prelude.{ℕ, Bool, ◌==◌, nat_lt, ◌&&◌, ◌||◌, if◌then◌else◌, List, [], ◌∷◌, length, IsTrue}
+use Rattle.std.specs.Prelude.{ℕ, Bool, ◌==◌, nat_lt, ◌&&◌, ◌||◌, not, min, if◌then◌else◌, List, [], ◌∷◌, length, Option, Some, None, unwrap_or, IsTrue}
 use Rattle.std.specs.List.{filter, list_any}
 use Rattle.mps_base.specs.declared.action.Step.{Step}
-use Rattle.mps_history.specs.Steps.{IsIn, sends, receives}
+use Rattle.mps_history.specs.Steps.{IsIn, numbers, sends, receives, within}
 
 -- how many of the steps before number n send from p to q
 abbrev pub sent_before : ℕ → ℕ → ℕ → List Step → ℕ
@@ -44,3 +44,12 @@ joined h set (t ∷ later) =
 -- the step of number n and all that depend on it
 abbrev pub consequences : List Step → ℕ → (ℕ → Bool)
 consequences h n = joined h (λ m. m == n) h
+
+-- the numbers of the other steps that depend on step n
+abbrev pub dependents : List Step → ℕ → List ℕ
+dependents h n = numbers (filter (λ s. not (s.id == n)) (within h (consequences h n)))
+
+-- the least of the numbers
+abbrev pub least : List ℕ → Option ℕ
+least [] = None
+least (n ∷ ns) = Some (min n (unwrap_or (least ns) n))

@@ -8,7 +8,7 @@ use Rattle.mps_base.specs.declared.action.Act.{Act}
 use Rattle.mps_base.specs.declared.action.Step.{Step}
 use Rattle.mps_local.specs.Local.{LocalType}
 use Rattle.mps_history.specs.Steps.{IsIn, IsRising, numbers, step_of, steps_of, without, within}
-use Rattle.mps_history.specs.Dependence.{IsClosed, consequences}
+use Rattle.mps_history.specs.Dependence.{IsClosed, consequences, least, dependents}
 use Rattle.mps_history.proofs.Order.{at_member, from_members, IsIn-filter, IsRising-filter, IsRising-push, AllByRecursion-filter}
 use Rattle.mps_history.proofs.Reaching.{consequences_closed, consequences_self}
 use Rattle.mps_command.specs.declared.answer.Done.{Done}
@@ -19,7 +19,7 @@ use Rattle.mps_machine.specs.Violations.{violation}
 use Rattle.mps_command.specs.Acts.{act_of}
 use Rattle.mps_command.specs.declared.command.Command.{Command}
 use Rattle.mps_command.specs.declared.command.Command.TheVariants.{Forward, Undo, Rollback, Back}
-use Rattle.mps_machine.specs.Machine.{State, initial, view_of, accepted, unless, full_fault, done_by, forward, least, owner_fault, dependents, undone, undo, rolled_back, rollback, since_mark, back_to, Request, serve, after, IsSound}
+use Rattle.mps_machine.specs.Machine.{State, initial, view_of, accepted, unless, full_fault, done_by, forward, owner_fault, undone, undo, rolled_back, rollback, since_mark, back_to, Request, serve, after, IsSound}
 use Rattle.mps_machine.proofs.Stepping.{replay-append, replay_from}
 use Rattle.mps_machine.proofs.Apart.{left_out}
 use Rattle.mps_machine.proofs.Defined.{allowed_step}

@@ -10,7 +10,7 @@ use Rattle.mps_base.specs.declared.action.Message.{Message}
 use Rattle.mps_base.specs.declared.action.Step.{Step}
 use Rattle.mps_local.specs.Local.{LocalType}
 use Rattle.mps_history.specs.Steps.{numbers, step_of, steps_of, within, without, IsRising}
-use Rattle.mps_history.specs.Dependence.{consequences}
+use Rattle.mps_history.specs.Dependence.{consequences, dependents, least}
 use Rattle.mps_command.specs.Acts.{act_of}
 use Rattle.mps_command.specs.declared.command.Command.{Command}
 use Rattle.mps_command.specs.declared.command.Command.TheVariants.{Forward, Undo, Rollback, Back}
@@ -68,19 +68,10 @@ forward types st p act =
     unless (option_map Violates (violation (view_of types st.history) p act)) st
     (unless (full_fault st) st (Ok (done_by types st p act), accepted st p act))
 
--- the least of the numbers
-abbrev pub least : List ℕ → Option ℕ
-least [] = None
-least (n ∷ ns) = Some (min n (unwrap_or (least ns) n))
-
 -- whether role p may take back the step: it survives and is p's
 abbrev pub owner_fault : ℕ → Option Step → Option Refusal
 owner_fault p None = Some NoStep
 owner_fault p (Some s) = if s.role == p then None else Some NotYours
-
--- the numbers of the other steps that depend on step n
-abbrev pub dependents : List Step → ℕ → List ℕ
-dependents h n = numbers (filter (λ s. not (s.id == n)) (within h (consequences h n)))
 
 -- step n is taken out
 abbrev pub undone : State → ℕ → Result (List ℕ) Refusal × State

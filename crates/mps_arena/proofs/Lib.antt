@@ -1,0 +1,10 @@
+pub mod KeyLists
+pub mod Chains
+pub mod Mates
+pub mod Nodes
+pub mod Updating
+pub mod Keeping
+pub mod Numbers
+pub mod Marking
+pub mod Histories
+pub mod Rising

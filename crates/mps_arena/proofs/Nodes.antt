@@ -1,0 +1,197 @@
+-- The nodes, as entries come and go.
+use Rattle.std.proofs.Common.{◌≡◌, ℕ, Bool, true, false, List, [], ◌∷◌, ◌++◌, length, cond, Option, Some, None, refl, sym, ap, ◌∙◌, subst, ⊎_elim, eq-eqb, append_assoc, ◌⊎◌, inl, inr}
+use Rattle.std.specs.Prelude.{◌==◌}
+use Rattle.std.specs.Option.{option_map}
+use Rattle.std.proofs.lemmas.Bool.{cases_Bool, eqb-true, false_from_ne_true, both_ways}
+use Rattle.mps_base.specs.declared.action.Step.{Step}
+use Rattle.mps_history.specs.Steps.{sends, receives}
+use Rattle.mps_arena.specs.declared.node.Node.{Node}
+use Rattle.mps_arena.specs.Keys.{is_at, has, AreDistinct, first_key, last_key, key_after}
+use Rattle.mps_arena.specs.Entries.{Entry, keys_of, any_step, of_role, entry_at}
+use Rattle.mps_arena.specs.Links.{node_of, node_at, AreNodes, joined, parted}
+use Rattle.mps_arena.specs.Sources.{mate_of}
+use Rattle.mps_arena.specs.Walks.{walk}
+use Rattle.mps_arena.proofs.KeyLists.{not_at, last_in, get_in, once, after_absent, AreDistinct-push, AreDistinct-without}
+use Rattle.mps_arena.proofs.Chains.{keys-append, keys_with, keys_without, distinct, chain_empty, keys_push, keys_around, absent, after_push, before_push, after_new, before_new, after_removal, before_removal, entry_key, entry_push, entry_middle, entry_without, entry_gone}
+use Rattle.mps_arena.proofs.Mates.{sends_like, own_role, sends_role, own, other, source_in, mate_push, mate_new, mate_removal, fed_push, fed_removal, role_alike, role_back, sends_alike, sends_back}
+
+-- a walk from the first key gives the entries
+walk_from : (look : ℕ → Option Node) (a b : List Entry) → AreNodes look (a ++ b) → walk look (length b) (first_key (keys_of any_step b)) ≡ b
+walk_from look a [] n = refl
+walk_from look a (x ∷ b) n =
+    let es = a ++ x ∷ b in
+    let here : look x.key ≡ Some (node_of es x) = n.nodes x.key ∙ ap (option_map (node_of es)) (entry_middle a b x n.distinct) in
+    let whole = keys_around any_step a b x refl in
+    let o = once x.key (keys_of any_step a) (keys_of any_step b) (subst AreDistinct whole n.distinct) in
+    let next : key_after x.key (keys_of any_step es) ≡ first_key (keys_of any_step b) =
+    ap (key_after x.key) whole ∙ after_absent x.key (keys_of any_step a) (x.key ∷ keys_of any_step b) o.0 ∙ rw (eq-eqb x.key x.key refl) refl in
+    let rest = walk_from look (a ++ x ∷ []) b (subst (AreNodes look) (sym (append_assoc a (x ∷ []) b)) n) in
+    rw (here, next) (ap (λ l. x ∷ l) rest)
+
+pub walk_is : (look : ℕ → Option Node) (es : List Entry) → AreNodes look es → walk look (length es) (first_key (keys_of any_step es)) ≡ es
+walk_is look es n = walk_from look [] es n
+
+pub same_node : (n m : Node) → n.step ≡ m.step → n.before ≡ m.before → n.next ≡ m.next → n.prev ≡ m.prev → n.next_of_role ≡ m.next_of_role → n.prev_of_role ≡ m.prev_of_role → n.next_send ≡ m.next_send → n.prev_send ≡ m.prev_send → n.mate ≡ m.mate → n.marked ≡ m.marked → n ≡ m
+same_node n m a j b c d e f g h i =
+    let t : ◌≡◌ {A = Node} (record { step = n.step; before = n.before; next = n.next; prev = n.prev; next_of_role = n.next_of_role; prev_of_role = n.prev_of_role; next_send = n.next_send; prev_send = n.prev_send; mate = n.mate; marked = n.marked }) (record { step = m.step; before = m.before; next = m.next; prev = m.prev; next_of_role = m.next_of_role; prev_of_role = m.prev_of_role; next_send = m.next_send; prev_send = m.prev_send; mate = m.mate; marked = m.marked }) = cc in
+    t
+
+pub cases_entry : (o : Option Entry) → (o ≡ None) ⊎ ((y : Entry) × (o ≡ Some y))
+cases_entry None = inl refl
+cases_entry (Some y) = inr (y, refl)
+
+-- the node of a new last entry
+abbrev pub newcomer : List Entry → Entry → Node
+newcomer es e = record {
+  step = e.step;
+  before = e.before;
+  next = None;
+  prev = last_key None (keys_of any_step es);
+  next_of_role = None;
+  prev_of_role = last_key None (keys_of (of_role e.step.role) es);
+  next_send = None;
+  prev_send = last_key None (keys_of (sends_like e.step) es);
+  mate = source_in es e.step;
+  marked = e.marked;
+}
+
+module _ (look after : ℕ → Option Node) (es : List Entry) (e : Entry) (n : AreNodes look es) (fresh : entry_at e.key es ≡ None) where
+  not_last : (p : Step → Bool) → is_at (last_key None (keys_of p es)) e.key ≡ false
+  not_last p = not_at (last_key None (keys_of p es)) e.key (λ t. both_ways (has e.key (keys_of p es)) (absent p e.key es fresh) (last_in (keys_of p es) e.key t))
+
+  new_node : joined (newcomer es e) e.key e.key (newcomer es e) ≡ node_of (es ++ e ∷ []) e
+  new_node =
+      let away : is_at (source_in es e.step) e.key ≡ false = not_at (source_in es e.step) e.key (λ t.
+      both_ways (has e.key (keys_of (other e.step) es)) (absent (other e.step) e.key es fresh) (get_in (keys_of (other e.step) es) (length (keys_of (own e.step) es)) e.key t)) in
+      same_node (joined (newcomer es e) e.key e.key (newcomer es e)) (node_of (es ++ e ∷ []) e)
+      refl
+      refl
+      (rw (not_last any_step) (sym (after_new (λ s. any_step) (λ s t e. refl) (λ s t e. refl) es e n.distinct fresh)))
+      (sym (before_new (λ s. any_step) (λ s t e. refl) (λ s t e. refl) es e n.distinct fresh))
+      (rw (not_last (of_role e.step.role)) (sym (after_new (λ s. of_role s.role) role_alike role_back es e n.distinct fresh)))
+      (sym (before_new (λ s. of_role s.role) role_alike role_back es e n.distinct fresh))
+      (rw (not_last (sends_like e.step)) (sym (after_new sends_like sends_alike sends_back es e n.distinct fresh)))
+      (sym (before_new sends_like sends_alike sends_back es e n.distinct fresh))
+      (rw away (sym (mate_new es e n.distinct fresh)))
+      refl
+
+  old_node : (y : Entry) → entry_at y.key es ≡ Some y → joined (newcomer es e) e.key y.key (node_of es y) ≡ node_of (es ++ e ∷ []) y
+  old_node y found =
+      same_node (joined (newcomer es e) e.key y.key (node_of es y)) (node_of (es ++ e ∷ []) y)
+      refl
+      refl
+      (sym (after_push (λ s. any_step) (λ s t e. refl) (λ s t e. refl) es e n.distinct fresh y.key y found))
+      (sym (before_push (λ s. any_step) (λ s t e. refl) (λ s t e. refl) es e n.distinct fresh y.key y found))
+      (sym (after_push (λ s. of_role s.role) role_alike role_back es e n.distinct fresh y.key y found))
+      (sym (before_push (λ s. of_role s.role) role_alike role_back es e n.distinct fresh y.key y found))
+      (sym (after_push sends_like sends_alike sends_back es e n.distinct fresh y.key y found))
+      (sym (before_push sends_like sends_alike sends_back es e n.distinct fresh y.key y found))
+      (sym (mate_push es e n.distinct fresh y.key y found))
+      refl
+
+  pub nodes_push : ((k : ℕ) → after k ≡ option_map (joined (newcomer es e) e.key k) (cond (e.key == k) (Some (newcomer es e)) (look k))) → ((p q : ℕ) → receives p q e.step ≡ true → (k : ℕ) × (source_in es e.step ≡ Some k)) → AreNodes after (es ++ e ∷ [])
+  nodes_push is sourced =
+      record {
+        nodes = at;
+        distinct = rw (keys_push any_step es e refl) (AreDistinct-push (keys_of any_step es) e.key n.distinct (absent any_step e.key es fresh));
+        fed = fed_push es e n.fed sourced;
+      }
+    where
+      at : (k : ℕ) → after k ≡ node_at (es ++ e ∷ []) k
+      at k =
+          ⊎_elim
+          (λ (t : (e.key == k) ≡ true).
+          let same : e.key ≡ k = eqb-true e.key k t in
+          subst (λ (i : ℕ). after i ≡ node_at (es ++ e ∷ []) i) same
+          (is e.key ∙ rw (eq-eqb e.key e.key refl, entry_push e.key es e, fresh, eq-eqb e.key e.key refl) (ap Some new_node)))
+          (λ (f : (e.key == k) ≡ false).
+          ⊎_elim
+          (λ (z : entry_at k es ≡ None). is k ∙ rw (f, n.nodes k, entry_push k es e, z, f) refl)
+          (λ (w : (y : Entry) × (entry_at k es ≡ Some y)).
+          let key : w.0.key ≡ k = entry_key k es w.0 w.1 in
+          let here : joined (newcomer es e) e.key k (node_of es w.0) ≡ node_of (es ++ e ∷ []) w.0 =
+          subst (λ (i : ℕ). joined (newcomer es e) e.key i (node_of es w.0) ≡ node_of (es ++ e ∷ []) w.0) key (old_node w.0 (subst (λ (i : ℕ). entry_at i es ≡ Some w.0) (sym key) w.1)) in
+          is k ∙ rw (f, n.nodes k, entry_push k es e, w.1) (ap Some here))
+          (cases_entry (entry_at k es)))
+          (cases_Bool (e.key == k))
+
+-- where no later step of a chain comes, none of a part of the chain does
+none_of : (p q : Step → Bool) (es : List Entry) → ((s : Step) → q s ≡ true → p s ≡ true) → keys_of p es ≡ [] → keys_of q es ≡ []
+none_of p q [] sub e = refl
+none_of p q (x ∷ es) sub e =
+    ⊎_elim
+    (λ (t : p x.step ≡ true). let no : x.key ∷ keys_of p es ≡ [] = sym (keys_with p x es t) ∙ e in absurd cc)
+    (λ (f : p x.step ≡ false).
+    let g : q x.step ≡ false = false_from_ne_true (q x.step) (λ t. both_ways (p x.step) f (sub x.step t)) in
+    keys_without q x es g ∙ none_of p q es sub (sym (keys_without p x es f) ∙ e))
+    (cases_Bool (p x.step))
+
+nothing_first : (c : List ℕ) → first_key c ≡ None → c ≡ []
+nothing_first [] e = refl
+nothing_first (k ∷ c) e = absurd cc
+
+module _ (look after : ℕ → Option Node) (a b : List Entry) (x : Entry) (n : AreNodes look (a ++ x ∷ b)) (final : key_after x.key (keys_of (of_role x.step.role) (a ++ x ∷ b)) ≡ None) where
+  abbrev whole : List Entry
+  whole = a ++ x ∷ b
+
+  -- no later step of the role
+  role_ends : keys_of (of_role x.step.role) b ≡ []
+  role_ends =
+      let p = of_role x.step.role in
+      let is = keys_around p a b x (eq-eqb x.step.role x.step.role refl) in
+      let o = once x.key (keys_of p a) (keys_of p b) (subst AreDistinct is (distinct p whole n.distinct)) in
+      let next : key_after x.key (keys_of p whole) ≡ first_key (keys_of p b) = ap (key_after x.key) is ∙ after_absent x.key (keys_of p a) (x.key ∷ keys_of p b) o.0 ∙ rw (eq-eqb x.key x.key refl) refl in
+      nothing_first (keys_of p b) (sym next ∙ final)
+
+  own_ends : keys_of (own x.step) b ≡ []
+  own_ends = none_of (of_role x.step.role) (own x.step) b (own_role x.step.role x.step.act) role_ends
+
+  pub sends_ends : key_after x.key (keys_of (sends_like x.step) whole) ≡ None
+  sends_ends =
+      let p = sends_like x.step in
+      let last : keys_of p b ≡ [] = none_of (of_role x.step.role) p b (sends_role x.step.role x.step.act) role_ends in
+      ⊎_elim
+      (λ (t : p x.step ≡ true).
+      let is = keys_around p a b x t in
+      let o = once x.key (keys_of p a) (keys_of p b) (subst AreDistinct is (distinct p whole n.distinct)) in
+      ap (key_after x.key) is ∙ after_absent x.key (keys_of p a) (x.key ∷ keys_of p b) o.0 ∙ rw (eq-eqb x.key x.key refl, last) refl)
+      (λ (f : p x.step ≡ false). ap (key_after x.key) (chain_empty sends_like sends_alike sends_back x.step whole f))
+      (cases_Bool (p x.step))
+
+  kept_node : (y : Entry) → entry_at y.key whole ≡ Some y → (x.key == y.key) ≡ false → parted (node_of whole x) y.key (node_of whole y) ≡ node_of (a ++ b) y
+  kept_node y found apart =
+      same_node (parted (node_of whole x) y.key (node_of whole y)) (node_of (a ++ b) y)
+      refl
+      refl
+      (sym (after_removal (λ s. any_step) (λ s t e. refl) (λ s t e. refl) a b x n.distinct y.key y found apart))
+      (sym (before_removal (λ s. any_step) (λ s t e. refl) (λ s t e. refl) a b x n.distinct y.key y found apart))
+      (sym (rw final at (after_removal (λ s. of_role s.role) role_alike role_back a b x n.distinct y.key y found apart)))
+      (sym (rw final at (before_removal (λ s. of_role s.role) role_alike role_back a b x n.distinct y.key y found apart)))
+      (sym (rw sends_ends at (after_removal sends_like sends_alike sends_back a b x n.distinct y.key y found apart)))
+      (sym (rw sends_ends at (before_removal sends_like sends_alike sends_back a b x n.distinct y.key y found apart)))
+      (sym (mate_removal a b x n.distinct own_ends y.key y found apart))
+      refl
+
+  pub nodes_without : ((k : ℕ) → after k ≡ option_map (parted (node_of whole x) k) (cond (x.key == k) None (look k))) → ((p q : ℕ) → sends p q x.step ≡ true → mate_of whole x ≡ None) → AreNodes after (a ++ b)
+  nodes_without is unreceived =
+      record {
+        nodes = at;
+        distinct = rw (keys-append any_step a b) (AreDistinct-without x.key (keys_of any_step a) (keys_of any_step b) (subst AreDistinct (keys_around any_step a b x refl) n.distinct));
+        fed = fed_removal a b x n.distinct own_ends n.fed unreceived;
+      }
+    where
+      at : (k : ℕ) → after k ≡ node_at (a ++ b) k
+      at k =
+          ⊎_elim
+          (λ (t : (x.key == k) ≡ true). is k ∙ rw (t, entry_gone k a b x n.distinct t) refl)
+          (λ (f : (x.key == k) ≡ false).
+          ⊎_elim
+          (λ (z : entry_at k whole ≡ None). is k ∙ rw (f, n.nodes k, entry_without k a b x f, z) refl)
+          (λ (w : (y : Entry) × (entry_at k whole ≡ Some y)).
+          let key : w.0.key ≡ k = entry_key k whole w.0 w.1 in
+          let here : parted (node_of whole x) k (node_of whole w.0) ≡ node_of (a ++ b) w.0 =
+          subst (λ (i : ℕ). parted (node_of whole x) i (node_of whole w.0) ≡ node_of (a ++ b) w.0) key
+          (kept_node w.0 (subst (λ (i : ℕ). entry_at i whole ≡ Some w.0) (sym key) w.1) (subst (λ (i : ℕ). (x.key == i) ≡ false) (sym key) f)) in
+          is k ∙ rw (f, n.nodes k, entry_without k a b x f, w.1) (ap Some here))
+          (cases_entry (entry_at k whole)))
+          (cases_Bool (x.key == k))

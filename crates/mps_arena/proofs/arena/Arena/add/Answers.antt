@@ -1,0 +1,38 @@
+use Rattle.std.proofs.Common.{◌≡◌, ℕ, ◌+◌, ◌∷◌, [], ◌++◌, Some, None, false, sym, ap, ◌∙◌, subst, cond}
+use Rattle.std.specs.Prelude.{◌==◌}
+use Rattle.std.specs.Option.{option_map}
+use Rattle.slab.specs.Slab.{get, slab_len}
+use Rattle.mps_arena.specs.declared.node.Node.{Node}
+use Rattle.mps_arena.specs.Entries.{Entries}
+use Rattle.mps_arena.specs.Kept.{IsKept}
+use Rattle.mps_arena.specs.Links.{joined}
+use Rattle.mps_arena.specs.Sources.{IsSource}
+use Rattle.mps_arena.specs.Views.{entries_of}
+use Rattle.mps_arena.proofs.Keeping.{kept_view, kept_whole, kept_add}
+use Rattle.mps_arena.proofs.arena.Arena.add.Goals as goal
+use Rattle.mps_arena.proofs.arena.Arena.add.Goals.{After-push_reserved}
+
+kept : (c : After-push_reserved) → IsKept (get c.join.new.nodes) (slab_len c.join.new.nodes) c.push.new.self.first c.push.new.self.last c.push.new.self.last_of c.push.new.self.last_send c.push_reserved.new.self.items (entries_of c.self.inside ++ record { key = c.small-key.result; step = c.args.step; before = c.args.before; marked = false } ∷ [])
+kept c =
+    let a = c.self.inside in
+    let key = c.small-key.result in
+    let node = c.node_behind-node.result in
+    let place : c.vacant_key.result ≡ key = sym c.small-key.ensures in
+    let same : c.join.result ≡ key = c.join.ensures.key ∙ sym c.vacant_key.ensures.value ∙ place in
+    let is : (i : ℕ) → get c.join.new.nodes i ≡ option_map (joined node key i) (cond (key == i) (Some node) (get a.nodes i)) =
+    subst (λ (j : ℕ). (i : ℕ) → get c.join.new.nodes i ≡ option_map (joined node j i) (cond (j == i) (Some node) (get a.nodes i))) same c.join.ensures.nodes in
+    rw (c.join.ensures.len, c.push.ensures.first, c.push.ensures.last, c.push.ensures.last_of, c.push.ensures.last_send, c.push_reserved.ensures.items, c.node_behind-node.ensures)
+    (kept_add (get a.nodes) (get c.join.new.nodes) (slab_len a.nodes) a.ends.first a.ends.last a.ends.last_of a.ends.last_send a.index.items (entries_of a) c.self.invariant c.args.step c.args.before c.args.source key
+    c.requires.small
+    (subst (λ (v : Entries). c.args.step.id ≡ v.issued + 1) (sym c.self.view_is) c.requires.number)
+    (subst (λ (v : Entries). IsSource v.entries c.args.step.role c.args.step.act c.args.source) (sym c.self.view_is) c.requires.source)
+    (subst (λ (i : ℕ). get a.nodes i ≡ None) place c.vacant_key.ensures.vacant)
+    (subst (λ (n : Node). (i : ℕ) → get c.join.new.nodes i ≡ option_map (joined n key i) (cond (key == i) (Some n) (get a.nodes i))) c.node_behind-node.ensures is))
+
+pub invariant_of-self : goal.invariant_of-self
+invariant_of-self c = kept_whole _ _ _ _ _ _ _ _ (kept c)
+
+pub returns-clause-entries : goal.returns-clause-entries
+returns-clause-entries c =
+    kept_view _ _ _ _ _ _ _ _ (kept ((goal.at.returns-clause-entries c).After-push_reserved))
+    ∙ ap (λ (v : Entries). v.entries ++ record { key = c.small-key.result; step = c.args.step; before = c.args.before; marked = false } ∷ []) c.self.view_is

@@ -1,0 +1,81 @@
+-- What a caller sees of an arena: the steps in order, each with its key and whether it is marked.
+use Rattle.std.specs.Prelude.{◌≡◌, ◌++◌, ℕ, Bool, true, false, ◌==◌, List, map, Option, ◌<◌, ◌≤◌, length, ⊤, if◌then◌else◌}
+use Rattle.std.specs.List.{filter, find, AllByRecursion}
+use Rattle.mps_base.specs.declared.action.Act.{Act}
+use Rattle.mps_base.specs.declared.action.Act.TheVariants.{Out, In, Mark}
+use Rattle.mps_base.specs.declared.action.Step.{Step}
+use Rattle.mps_history.specs.Steps.{sends, receives, IsRising}
+use Rattle.mps_arena.specs.declared.node.Before.{Before}
+use Rattle.mps_arena.specs.Keys.{AreDistinct}
+
+pub record Entry : Type 0 where
+  pub key : ℕ
+  pub step : Step
+  pub before : Before
+  pub marked : Bool
+
+-- the entries, the oldest first; how many numbers were given out; the key of the next entry; whether it needs no memory
+pub record Entries : Type 0 where
+  pub entries : List Entry
+  pub issued : ℕ
+  pub next_key : ℕ
+  pub is_ready : Bool
+
+abbrev pub steps : List Entry → List Step
+steps es = map (λ e. e.step) es
+
+-- the keys of the steps that pass, in order
+abbrev pub keys_of : (Step → Bool) → List Entry → List ℕ
+keys_of p es = map (λ e. e.key) (filter (λ e. p e.step) es)
+
+abbrev pub any_step : Step → Bool
+any_step s = true
+
+abbrev pub of_role : ℕ → Step → Bool
+of_role p s = s.role == p
+
+-- the sends of the pair, where the act of p is a send
+abbrev pub like_sends : ℕ → Act → Step → Bool
+like_sends p (Out to message) = sends p to
+like_sends p (In from slot) = λ s. false
+like_sends p (Mark name) = λ s. false
+
+-- the sends or the receipts of the pair, as the act of p is
+abbrev pub like : ℕ → Act → Step → Bool
+like p (Out to message) = sends p to
+like p (In from slot) = receives from p
+like p (Mark name) = λ s. false
+
+-- the other ends of what the act of p is: receipts of what it sends, sends of what it receives
+abbrev pub unlike : ℕ → Act → Step → Bool
+unlike p (Out to message) = receives p to
+unlike p (In from slot) = sends from p
+unlike p (Mark name) = λ s. false
+
+abbrev pub entry_at : ℕ → List Entry → Option Entry
+entry_at k es = find (λ e. e.key == k) es
+
+-- peers and roles are below 8
+abbrev pub IsSmallAct : Act → Type 0
+IsSmallAct (Out to message) = to < 8
+IsSmallAct (In from slot) = from < 8
+IsSmallAct (Mark name) = ⊤
+
+abbrev pub IsSmall : Step → Type 0
+IsSmall s = (s.role < 8) × IsSmallAct s.act
+
+-- the entry, marked or not where it has that key
+abbrev pub with_mark : ℕ → Bool → Entry → Entry
+with_mark k m e = record e { marked = if e.key == k then m else e.marked }
+
+-- at no point of the history a pair had more receipts than sends
+abbrev pub IsFed : List Entry → Type 0
+IsFed es = (c d : List Entry) → es ≡ c ++ d → (p q : ℕ) → length (keys_of (receives p q) c) ≤ length (keys_of (sends p q) c)
+
+-- what holds of the entries of each arena: no key stands twice, no pair ever had more receipts than sends, numbers rise,
+-- roles and peers are below 8
+pub record AreSound (es : List Entry) : Type 0 where
+  pub distinct : AreDistinct (keys_of any_step es)
+  pub fed : IsFed es
+  pub rising : IsRising (steps es)
+  pub small : AllByRecursion (λ e. IsSmall e.step) es

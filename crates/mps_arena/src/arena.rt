@@ -1,0 +1,278 @@
+//! The arena.
+ghost use Rattle.std.specs.Prelude.{◌≡◌, ◌+◌, [], ◌∷◌, ◌++◌, ◌==◌, not, false, None, IsTrue, OnOk, IfOk, IsSome, Some, map, length, ◌<◌};
+ghost use Rattle.std.specs.Option.{option_map};
+ghost use Rattle.std.specs.List.{filter, find};
+ghost use Rattle.mps_history.specs.Steps.{sends, without};
+ghost use Rattle.mps_arena.specs.Keys.{first_key, last_key};
+ghost use Rattle.mps_arena.specs.Entries.{steps, any_step, of_role, keys_of, entry_at, with_mark, IsSmall, AreSound};
+ghost use Rattle.mps_arena.specs.Sources.{IsSource, CanGo, next_in, prev_in, next_of_role_in, prev_of_role_in, next_send_in, prev_send_in, receipt_in, source_in, id_in};
+
+use crate::ends::Ends;
+use crate::links::{join, key_of, part, set_marked};
+use crate::node::{Before, Key, Node, receipt_at, source_at};
+use mps_base::{Role, Step, StepId};
+use slab::Slab;
+use std::alloc::{AllocError, Global};
+use std::marker::Model;
+
+/// Steps in order, the oldest first, each under a key and with its neighbours.
+#[derive(Drop)]
+pub struct Arena {
+    nodes: Slab<Node>,
+    ends: Ends,
+    // the key that number n + 1 had, at n
+    index: Vec<Key>,
+}
+
+impl Model for Arena {
+    ghost use Rattle.mps_arena.specs.Entries.{Entries};
+
+    ghost Value = { Entries };
+
+    ghost use Rattle.mps_arena.specs.Views.{view_of, IsArena};
+
+    ghost view = { view_of };
+
+    ghost invariant = { IsArena };
+}
+
+impl Arena {
+    /// An arena with no steps. The allocator is kept for later growth.
+    pub fn new(alloc: Global) -> Arena
+        ensures entries { result.entries ≡ [] }
+        ensures issued { result.issued ≡ 0 }
+    {
+        Arena {
+            nodes: Slab::new(alloc),
+            ends: Ends::new(),
+            index: Vec::new(alloc),
+        }
+    }
+
+    /// Makes room for one step more, and tells the key that it will have. Where 2^32 keys are in use, there is no
+    /// room. Nothing else asks for memory.
+    pub fn reserve_one(&mut self) -> Result<Key, AllocError>
+        ensures ready { OnOk result (IsTrue self.new.is_ready) }
+        ensures key { IfOk result (λ key. key ≡ self.new.next_key) }
+        ensures entries { self.new.entries ≡ self.old.entries }
+        ensures issued { self.new.issued ≡ self.old.issued }
+    {
+        self.nodes.reserve(1)?;
+        self.index.reserve(1)?;
+        Key::of(self.nodes.vacant_key())
+    }
+
+    /// Puts a step behind all others, unmarked. A receipt or a pick comes with its source: the first send of its pair
+    /// that isn't received.
+    pub fn add(&mut self, step: Step, before: Before, source: Option<Key>) -> Key
+        requires ready { IsTrue self.old.is_ready }
+        requires number { step.id ≡ self.old.issued + 1 }
+        requires small { IsSmall step }
+        requires source { IsSource self.old.entries step.role step.act source }
+        ensures key { result ≡ self.old.next_key }
+        ensures fresh { entry_at result self.old.entries ≡ None }
+        ensures entries { self.new.entries ≡ self.old.entries
+            ++ record { key = result; step = step; before = before; marked = false } ∷ [] }
+        ensures issued { self.new.issued ≡ self.old.issued + 1 }
+    {
+        let node = self.ends.node_behind(step, before, source);
+        let key = Key::small(self.nodes.vacant_key());
+        self.ends.push(&node.step, key);
+        join(&mut self.nodes, node);
+        self.index.push_reserved(key);
+        key
+    }
+
+    /// Takes a step out that is the last of its role and, if it is a send or a choice, isn't received.
+    pub fn remove(&mut self, key: Key) -> Step
+        requires { CanGo self.old.entries key }
+        ensures step { option_map (λ e. e.step) (entry_at key self.old.entries) ≡ Some result }
+        ensures entries { self.new.entries ≡ filter (λ e. not (e.key == key)) self.old.entries }
+        ensures history { steps self.new.entries
+            ≡ without (steps self.old.entries) (λ m. m == result.id) }
+        ensures issued { self.new.issued ≡ self.old.issued }
+    {
+        let node = part(&mut self.nodes, key);
+        self.ends.part(&node);
+        node.step
+    }
+
+    /// How many steps there are.
+    pub fn len(&self) -> usize
+        ensures count { result ≡ length self.now.entries }
+        // numbers rise, no key stands twice, and no receipt comes before its send
+        ensures sound { AreSound self.now.entries }
+    {
+        self.nodes.len()
+    }
+
+    /// How many numbers were given out.
+    pub fn issued(&self) -> usize
+        ensures { result ≡ self.now.issued }
+    {
+        self.index.len()
+    }
+
+    /// The step right behind this one; none where no step has the key.
+    pub fn next(&self, key: Key) -> Option<Key>
+        ensures { result ≡ next_in self.now.entries key }
+    {
+        match self.nodes.get(key.place()) {
+            Some(node) => node.next,
+            None => None,
+        }
+    }
+
+    /// The step right before this one; none where no step has the key.
+    pub fn prev(&self, key: Key) -> Option<Key>
+        ensures { result ≡ prev_in self.now.entries key }
+    {
+        match self.nodes.get(key.place()) {
+            Some(node) => node.prev,
+            None => None,
+        }
+    }
+
+    /// The role's next step; none where no step has the key.
+    pub fn next_of_role(&self, key: Key) -> Option<Key>
+        ensures { result ≡ next_of_role_in self.now.entries key }
+    {
+        match self.nodes.get(key.place()) {
+            Some(node) => node.next_of_role,
+            None => None,
+        }
+    }
+
+    /// The role's step before; none where no step has the key.
+    pub fn prev_of_role(&self, key: Key) -> Option<Key>
+        ensures { result ≡ prev_of_role_in self.now.entries key }
+    {
+        match self.nodes.get(key.place()) {
+            Some(node) => node.prev_of_role,
+            None => None,
+        }
+    }
+
+    /// The pair's next send; none where the key is no send's.
+    pub fn next_send(&self, key: Key) -> Option<Key>
+        ensures { result ≡ next_send_in self.now.entries key }
+    {
+        match self.nodes.get(key.place()) {
+            Some(node) => node.next_send,
+            None => None,
+        }
+    }
+
+    /// The pair's send before; none where the key is no send's.
+    pub fn prev_send(&self, key: Key) -> Option<Key>
+        ensures { result ≡ prev_send_in self.now.entries key }
+    {
+        match self.nodes.get(key.place()) {
+            Some(node) => node.prev_send,
+            None => None,
+        }
+    }
+
+    /// The receipt of a send, if it was received; none where the key is no send's.
+    pub fn receipt(&self, key: Key) -> Option<Key>
+        ensures { result ≡ receipt_in self.now.entries key }
+    {
+        match self.nodes.get(key.place()) {
+            Some(node) => receipt_at(&node.step.act, node.mate),
+            None => None,
+        }
+    }
+
+    /// The send of a receipt; none where the key is no receipt's.
+    pub fn source(&self, key: Key) -> Option<Key>
+        ensures { result ≡ source_in self.now.entries key }
+    {
+        match self.nodes.get(key.place()) {
+            Some(node) => source_at(&node.step.act, node.mate),
+            None => None,
+        }
+    }
+
+    /// The step's number; none where no step has the key.
+    pub fn id(&self, key: Key) -> Option<StepId>
+        ensures { result ≡ id_in self.now.entries key }
+    {
+        match self.nodes.get(key.place()) {
+            Some(node) => Some(node.step.id),
+            None => None,
+        }
+    }
+
+    /// The step of the key.
+    pub fn get(&self, key: Key) -> &Step
+        requires { IsSome (entry_at key self.now.entries) }
+        ensures { option_map (λ e. e.step) (entry_at key self.now.entries) ≡ Some result.now }
+    {
+        &self.nodes[key.place()].step
+    }
+
+    /// What was there before the step of the key.
+    pub fn before(&self, key: Key) -> Before
+        requires { IsSome (entry_at key self.now.entries) }
+        ensures { option_map (λ e. e.before) (entry_at key self.now.entries) ≡ Some result }
+    {
+        self.nodes[key.place()].before
+    }
+
+    /// Whether the step of the key is marked.
+    pub fn marked(&self, key: Key) -> bool
+        requires { IsSome (entry_at key self.now.entries) }
+        ensures { option_map (λ e. e.marked) (entry_at key self.now.entries) ≡ Some result }
+    {
+        self.nodes[key.place()].marked
+    }
+
+    /// Marks the step of the key, or takes its mark off. Where no step has the key, nothing changes.
+    pub fn set_mark(&mut self, key: Key, marked: bool)
+        ensures entries { self.new.entries ≡ map (with_mark key marked) self.old.entries }
+        ensures issued { self.new.issued ≡ self.old.issued }
+        ensures ready { self.new.is_ready ≡ self.old.is_ready }
+        ensures key { self.new.next_key ≡ self.old.next_key }
+    {
+        set_marked(&mut self.nodes, key, marked);
+    }
+
+    /// The key of the step that has the number.
+    pub fn by_id(&self, id: StepId) -> Option<Key>
+        ensures { result
+            ≡ option_map (λ e. e.key) (find (λ e. e.step.id == id) self.now.entries) }
+    {
+        key_of(&self.nodes, self.index.as_slice(), id)
+    }
+
+    /// The oldest step.
+    pub fn first(&self) -> Option<Key>
+        ensures { result ≡ first_key (keys_of any_step self.now.entries) }
+    {
+        self.ends.first
+    }
+
+    /// The newest step.
+    pub fn last(&self) -> Option<Key>
+        ensures { result ≡ last_key None (keys_of any_step self.now.entries) }
+    {
+        self.ends.last
+    }
+
+    /// The newest step of the role.
+    pub fn last_of(&self, role: Role) -> Option<Key>
+        requires { role < 8 }
+        ensures { result ≡ last_key None (keys_of (of_role role) self.now.entries) }
+    {
+        self.ends.last_of[role.index()]
+    }
+
+    /// The newest send of the pair.
+    pub fn last_send(&self, from: Role, to: Role) -> Option<Key>
+        requires from { from < 8 }
+        requires to { to < 8 }
+        ensures { result ≡ last_key None (keys_of (sends from to) self.now.entries) }
+    {
+        self.ends.last_send[from.index() * 8 + to.index()]
+    }
+}

@@ -1,0 +1,114 @@
+//! The first and the last steps: of all, of each role, of each pair.
+ghost use Rattle.std.specs.Prelude.{◌≡◌, ℕ, ◌<◌, ◌+◌, ◌*◌, None, Some, false, length, slice_index_or, slice_set, is_none, if◌then◌else◌};
+ghost use Rattle.std.specs.Option.{option_or};
+ghost use Rattle.mps_arena.specs.Ends.{receiver, end_at, with_end};
+ghost use Rattle.mps_arena.specs.Entries.{IsSmall};
+
+use crate::node::{Before, Key, Node};
+use mps_base::{Act, Step};
+
+/// The first and the last steps: of all, of each role, of each pair.
+#[derive(Drop)]
+pub(crate) struct Ends {
+    pub(crate) first: Option<Key>,
+    pub(crate) last: Option<Key>,
+    pub(crate) last_of: [Option<Key>; 8],
+    // the last send from p to q at p * 8 + q
+    pub(crate) last_send: [Option<Key>; 64],
+}
+
+impl Ends {
+    /// Where there are no steps.
+    pub(crate) fn new() -> Ends
+        ensures first { result.first ≡ None }
+        ensures last { result.last ≡ None }
+        ensures roles { (k : ℕ) → slice_index_or result.last_of k None ≡ None }
+        ensures pairs { (k : ℕ) → slice_index_or result.last_send k None ≡ None }
+        ensures role_count { length result.last_of ≡ 8 }
+        ensures pair_count { length result.last_send ≡ 64 }
+    {
+        Ends {
+            first: None,
+            last: None,
+            last_of: [None; 8],
+            last_send: [None; 64],
+        }
+    }
+
+    /// The node of a step that comes behind all others.
+    pub(crate) fn node_behind(&self, step: Step, before: Before, source: Option<Key>) -> Node
+        requires small { IsSmall step }
+        requires role_count { length self.now.last_of ≡ 8 }
+        requires pair_count { length self.now.last_send ≡ 64 }
+        ensures { result ≡ record {
+          step = step;
+          before = before;
+          next = None;
+          prev = self.now.last;
+          next_of_role = None;
+          prev_of_role = slice_index_or self.now.last_of step.role None;
+          next_send = None;
+          prev_send = end_at self.now.last_send step.role (receiver step.act);
+          mate = source;
+          marked = false;
+        } }
+    {
+        let role = step.role.index();
+        let prev_send = match &step.act {
+            Act::Out { to, .. } => self.last_send[role * 8 + to.index()],
+            _ => None,
+        };
+        Node {
+            step,
+            before,
+            next: None,
+            prev: self.last,
+            next_of_role: None,
+            prev_of_role: self.last_of[role],
+            next_send: None,
+            prev_send,
+            mate: source,
+            marked: false,
+        }
+    }
+
+    /// Notes that the step stands behind all others under that key.
+    pub(crate) fn push(&mut self, step: &Step, key: Key)
+        requires { IsSmall step.now }
+        ensures first { self.new.first ≡ option_or self.old.first (Some key) }
+        ensures last { self.new.last ≡ Some key }
+        ensures last_of { self.new.last_of ≡ slice_set self.old.last_of step.now.role (Some key) }
+        ensures last_send { self.new.last_send ≡ with_end self.old.last_send step.now.role (receiver step.now.act) (Some key) }
+    {
+        let role = step.role.index();
+        if self.first.is_none() {
+            self.first = Some(key);
+        }
+        self.last = Some(key);
+        self.last_of[role] = Some(key);
+        if let Act::Out { to, .. } = &step.act {
+            self.last_send[role * 8 + to.index()] = Some(key);
+        }
+    }
+
+    /// Notes that a node, the last of its role, goes.
+    pub(crate) fn part(&mut self, node: &Node)
+        requires { IsSmall node.now.step }
+        ensures first { self.new.first ≡ (if is_none node.now.prev then node.now.next else self.old.first) }
+        ensures last { self.new.last ≡ (if is_none node.now.next then node.now.prev else self.old.last) }
+        ensures last_of { self.new.last_of ≡ slice_set self.old.last_of node.now.step.role node.now.prev_of_role }
+        ensures last_send { self.new.last_send ≡ with_end self.old.last_send node.now.step.role (receiver node.now.step.act) node.now.prev_send }
+    {
+        let role = node.step.role.index();
+        if node.prev.is_none() {
+            self.first = node.next;
+        }
+        if node.next.is_none() {
+            self.last = node.prev;
+        }
+        self.last_of[role] = node.prev_of_role;
+        if let Act::Out { to, .. } = &node.step.act {
+            self.last_send[role * 8 + to.index()] = node.prev_send;
+        }
+    }
+}

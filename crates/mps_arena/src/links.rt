@@ -1,0 +1,133 @@
+//! Writes of links, one at a time, and of all that a step joins or leaves.
+ghost use Rattle.std.specs.Prelude.{◌≡◌, ℕ, ◌+◌, ◌<◌, ◌^◌, ◌==◌, if◌then◌else◌, Some, None};
+ghost use Rattle.std.specs.Option.{option_map};
+ghost use Rattle.slab.specs.Slab.{get, slab_len, HasRoomFor, ContainsKey};
+ghost use Rattle.mps_arena.specs.Links.{joined, parted, indexed_key};
+ghost use Rattle.mps_arena.specs.Keys.{is_at};
+ghost use Rattle.mps_arena.specs.Rewrites.{Rewrites};
+
+use crate::node::{Key, Node};
+use mps_base::StepId;
+use slab::Slab;
+
+/// Writes what stands behind that node, if there is one.
+pub(crate) fn set_next(nodes: &mut Slab<Node>, at: Option<Key>, to: Option<Key>)
+    ensures { Rewrites nodes.old nodes.new (λ k n.
+        record n { next = if is_at at k then to else n.next }) }
+{
+    if let Some(key) = at {
+        if let Some(node) = nodes.get_mut(key.place()) {
+            node.next = to;
+        }
+    }
+}
+
+/// Writes what stands before that node, if there is one.
+pub(crate) fn set_prev(nodes: &mut Slab<Node>, at: Option<Key>, to: Option<Key>)
+    ensures { Rewrites nodes.old nodes.new (λ k n.
+        record n { prev = if is_at at k then to else n.prev }) }
+{
+    if let Some(key) = at {
+        if let Some(node) = nodes.get_mut(key.place()) {
+            node.prev = to;
+        }
+    }
+}
+
+/// Writes the next step of the role behind that node, if there is one.
+pub(crate) fn set_next_of_role(nodes: &mut Slab<Node>, at: Option<Key>, to: Option<Key>)
+    ensures { Rewrites nodes.old nodes.new (λ k n.
+        record n { next_of_role = if is_at at k then to else n.next_of_role }) }
+{
+    if let Some(key) = at {
+        if let Some(node) = nodes.get_mut(key.place()) {
+            node.next_of_role = to;
+        }
+    }
+}
+
+/// Writes the next send of the pair behind that node, if there is one.
+pub(crate) fn set_next_send(nodes: &mut Slab<Node>, at: Option<Key>, to: Option<Key>)
+    ensures { Rewrites nodes.old nodes.new (λ k n.
+        record n { next_send = if is_at at k then to else n.next_send }) }
+{
+    if let Some(key) = at {
+        if let Some(node) = nodes.get_mut(key.place()) {
+            node.next_send = to;
+        }
+    }
+}
+
+/// Writes the other end of that node, if there is one.
+pub(crate) fn set_mate(nodes: &mut Slab<Node>, at: Option<Key>, to: Option<Key>)
+    ensures { Rewrites nodes.old nodes.new (λ k n.
+        record n { mate = if is_at at k then to else n.mate }) }
+{
+    if let Some(key) = at {
+        if let Some(node) = nodes.get_mut(key.place()) {
+            node.mate = to;
+        }
+    }
+}
+
+/// Marks that node, if there is one, or takes its mark off.
+pub(crate) fn set_marked(nodes: &mut Slab<Node>, key: Key, marked: bool)
+    ensures { Rewrites nodes.old nodes.new (λ k n.
+        record n { marked = if k == key then marked else n.marked }) }
+{
+    if let Some(node) = nodes.get_mut(key.place()) {
+        node.marked = marked;
+    }
+}
+
+/// Takes a node in, behind the last of each of its chains and against its source, and tells its key.
+pub(crate) fn join(nodes: &mut Slab<Node>, node: Node) -> Key
+    requires room { HasRoomFor nodes.old 1 }
+    requires small { nodes.old.vacant_key < 2 ^ 32 }
+    ensures key { result ≡ nodes.old.vacant_key }
+    ensures vacant { get nodes.old result ≡ None }
+    ensures nodes { (k : ℕ) → get nodes.new k
+        ≡ option_map (joined node result k) (if result == k then Some node else get nodes.old k) }
+    ensures len { slab_len nodes.new ≡ slab_len nodes.old + 1 }
+{
+    let prev = node.prev;
+    let prev_of_role = node.prev_of_role;
+    let prev_send = node.prev_send;
+    let mate = node.mate;
+    let key = Key::small(nodes.insert_reserved(node));
+    set_next(nodes, prev, Some(key));
+    set_next_of_role(nodes, prev_of_role, Some(key));
+    set_next_send(nodes, prev_send, Some(key));
+    set_mate(nodes, mate, Some(key));
+    key
+}
+
+/// Takes out a node that is the last of its role, and joins its neighbours.
+pub(crate) fn part(nodes: &mut Slab<Node>, key: Key) -> Node
+    requires { ContainsKey nodes.old key }
+    ensures node { get nodes.old key ≡ Some result }
+    ensures nodes { (k : ℕ) → get nodes.new k
+        ≡ option_map (parted result k) (if key == k then None else get nodes.old k) }
+    ensures len { slab_len nodes.new + 1 ≡ slab_len nodes.old }
+{
+    let node = nodes.remove(key.place());
+    set_next(nodes, node.prev, node.next);
+    set_prev(nodes, node.next, node.prev);
+    set_next_of_role(nodes, node.prev_of_role, None);
+    set_next_send(nodes, node.prev_send, None);
+    set_mate(nodes, node.mate, None);
+    node
+}
+
+/// The key to which the number leads, if the node there has the number.
+pub(crate) fn key_of(nodes: &Slab<Node>, index: &[Key], id: StepId) -> Option<Key>
+    ensures { result ≡ indexed_key (get nodes.now) index.now id }
+{
+    let number = id.number();
+    if number == 0 {
+        return None;
+    }
+    let key = *index.get(number as usize - 1)?;
+    let node = nodes.get(key.place())?;
+    if node.step.id.is(id) { Some(key) } else { None }
+}
