@@ -9,12 +9,12 @@ use Rattle.mps_base.specs.declared.action.Act.TheVariants.{Out, In, Mark}
 use Rattle.mps_base.specs.declared.action.Message.{Message}
 use Rattle.mps_base.specs.declared.action.Message.TheVariants.{Value as Plain, Label}
 use Rattle.mps_base.specs.declared.action.Step.{Step}
-use Rattle.mps_history.specs.Steps.{goes_to, comes_from}
+use Rattle.mps_history.specs.Steps.{goes_to, comes_from, given}
 use Rattle.mps_local.specs.Actions.{branch_at}
 use Rattle.mps_local.specs.Local.{LocalType, Send, Recv, Select, Branch}
 use Rattle.mps_local.specs.Unfolding.{unfolded}
 use Rattle.mps_machine.specs.View.{Participant, View}
-use Rattle.mps_machine.specs.Rule.{first_of, moved, type_after, advanced, participant_after, given, view_after, rule, replay}
+use Rattle.mps_machine.specs.Rule.{first_of, moved, type_after, advanced, participant_after, view_after, rule, replay}
 use Rattle.mps_machine.proofs.Stepping.{map_some, rule_parts, replay_parts}
 use Rattle.mps_fidelity.specs.Duality.{To, From, direction, after_message}
 use Rattle.mps_fidelity.proofs.Coherence.{Coherent, coherent_turned, coherent_less, coherent_moves, coherent_sends, coherent_receives}

@@ -1,9 +1,10 @@
 -- Histories: lists of numbered steps, the oldest first.
 -- Order in one role and a send before its receipt are Lamport's happened-before (1978), which `Dependence` defines from the words here.
-use Rattle.std.specs.Prelude.{◌≡◌, ℕ, ◌<◌, ◌⊎◌, Bool, false, ◌==◌, ◌&&◌, not, List, [], ◌∷◌, map, Option, ⊤}
+use Rattle.std.specs.Prelude.{◌≡◌, ℕ, ◌<◌, ◌⊎◌, Bool, false, ◌==◌, ◌&&◌, not, List, [], ◌∷◌, ◌++◌, map, length, drop, Option, ⊤}
 use Rattle.std.specs.List.{filter, find, AllByRecursion}
 use Rattle.mps_base.specs.declared.action.Act.{Act}
 use Rattle.mps_base.specs.declared.action.Act.TheVariants.{Out, In, Mark}
+use Rattle.mps_base.specs.declared.action.Message.{Message}
 use Rattle.mps_base.specs.declared.action.Step.{Step}
 
 -- the act gives q a value or a label
@@ -55,3 +56,17 @@ within h set = filter (λ s. set s.id) h
 -- the steps of one role, in order
 abbrev pub steps_of : ℕ → List Step → List Step
 steps_of p h = filter (λ s. s.role == p) h
+
+-- the messages that an act gives
+abbrev pub given : Act → List Message
+given (Out to m) = m ∷ []
+given act = []
+
+-- the messages that the steps give, in order
+abbrev pub all_given : List Step → List Message
+all_given [] = []
+all_given (s ∷ h) = given s.act ++ all_given h
+
+-- the messages from p to q that wait: all that were sent but the first, as many as were received
+abbrev pub unreceived : ℕ → ℕ → List Step → List Message
+unreceived p q h = drop (length (filter (receives p q) h)) (all_given (filter (sends p q) h))

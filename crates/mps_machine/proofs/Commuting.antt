@@ -7,9 +7,9 @@ use Rattle.mps_base.specs.declared.action.Act.{Act}
 use Rattle.mps_base.specs.declared.action.Act.TheVariants.{Out, In, Mark}
 use Rattle.mps_base.specs.declared.action.Message.{Message}
 use Rattle.mps_base.specs.declared.action.Step.{Step}
-use Rattle.mps_history.specs.Steps.{comes_from, sends, receives}
+use Rattle.mps_history.specs.Steps.{comes_from, sends, receives, given}
 use Rattle.mps_machine.specs.View.{Participant, View}
-use Rattle.mps_machine.specs.Rule.{first_of, moved, participant_after, given, queue_after, view_after, rule}
+use Rattle.mps_machine.specs.Rule.{first_of, moved, participant_after, queue_after, view_after, rule}
 use Rattle.mps_machine.proofs.Stepping.{rule_parts, rule_from, first_of-append, a_receipt_finds, a_receipt_waits}
 
 -- t doesn't take what s sends: where s sends to t's role and t receives from it, something older waits

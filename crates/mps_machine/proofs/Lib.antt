@@ -6,3 +6,4 @@ pub mod Sound
 pub mod Lawful
 pub mod Swapping
 pub mod Peers
+pub mod Unreceived

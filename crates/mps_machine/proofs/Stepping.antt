@@ -9,10 +9,10 @@ use Rattle.mps_base.specs.declared.action.Act.TheVariants.{Out, In, Mark}
 use Rattle.mps_base.specs.declared.action.Message.{Message}
 use Rattle.mps_base.specs.declared.action.Step.{Step}
 use Rattle.mps_local.specs.Local.{LocalType, End, Var, Rec, Send, Recv, Select, Branch}
-use Rattle.mps_history.specs.Steps.{sends, receives}
+use Rattle.mps_history.specs.Steps.{sends, receives, given}
 use Rattle.mps_local.specs.Unfolding.{unfolded}
 use Rattle.mps_machine.specs.View.{Participant, View}
-use Rattle.mps_machine.specs.Rule.{first_of, moved, type_after, advanced, participant_after, given, view_after, rule, replay}
+use Rattle.mps_machine.specs.Rule.{first_of, moved, type_after, advanced, participant_after, view_after, rule, replay}
 
 -- what `map` gives came from a value
 pub map_some : {A B : Type 0} (f : A → B) (o : Option A) (y : B) → option_map f o ≡ Some y → (x : A) × (o ≡ Some x) × (f x ≡ y)

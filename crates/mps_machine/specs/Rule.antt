@@ -13,7 +13,7 @@ use Rattle.mps_base.specs.Sorts.{fits}
 use Rattle.mps_local.specs.Local.{LocalType, Send, Recv, Select, Branch}
 use Rattle.mps_local.specs.Actions.{branch_at}
 use Rattle.mps_local.specs.Unfolding.{unfolded}
-use Rattle.mps_history.specs.Steps.{sends, receives}
+use Rattle.mps_history.specs.Steps.{sends, receives, given}
 use Rattle.mps_machine.specs.View.{Store, Participant, View, bound}
 
 -- the first message that waits
@@ -48,11 +48,6 @@ advanced c act m t = record { past = c.past ++ record { act = act; moved = m } �
 abbrev pub participant_after : Participant → Act → Option Message → Option Participant
 participant_after c (Mark name) m = Some (advanced c (Mark name) m c.to_come)
 participant_after c act m = option_map (advanced c act m) (type_after (unfolded c.to_come) act m)
-
--- the messages that an act gives
-abbrev pub given : Act → List Message
-given (Out to m) = m ∷ []
-given act = []
 
 -- the queue from p to q after the step: what p sends goes last, what q receives is taken from the front
 abbrev pub queue_after : ℕ → ℕ → Step → List Message → List Message

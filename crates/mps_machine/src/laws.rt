@@ -5,7 +5,7 @@ ghost use Rattle.mps_base.specs.declared.action.Act.{Act};
 ghost use Rattle.mps_base.specs.declared.action.Step.{Step};
 ghost use Rattle.mps_command.specs.declared.command.Command.{Command};
 ghost use Rattle.mps_local.specs.Local.{LocalType};
-ghost use Rattle.mps_history.specs.Steps.{IsIn, IsRising, sends, receives, within, without};
+ghost use Rattle.mps_history.specs.Steps.{IsIn, IsRising, sends, receives, unreceived, within, without};
 ghost use Rattle.mps_history.specs.Dependence.{depends_on, is_matched, consequences, IsClosed};
 ghost use Rattle.mps_history.specs.Swaps.{Swaps, is_matched_after};
 ghost use Rattle.mps_machine.specs.View.{View, opening};
@@ -23,6 +23,12 @@ pub fn queues_count()
     ensures { (types : List LocalType) (h : List Step) (v : View) (p q : ℕ)
         → replay (opening types) h ≡ Some v
         → length (v.queue p q) + length (filter (receives p q) h) ≡ length (filter (sends p q) h) }
+{}
+
+/// What waits between two roles is what the one sent and the other hasn't received, in order.
+pub fn queues_are_what_is_unreceived()
+    ensures { (types : List LocalType) (h : List Step) (v : View) (p q : ℕ)
+        → replay (opening types) h ≡ Some v → v.queue p q ≡ unreceived p q h }
 {}
 
 /// Neighbours of different roles may be exchanged, unless the second receives what the first sends.

@@ -1,0 +1,267 @@
+-- The front of a queue, as sends and receipts come and go.
+use Rattle.std.proofs.Common.{◌≡◌, ◌≢◌, ℕ, zero, suc, ◌+◌, ◌*◌, ◌<◌, ◌≤◌, ◌⊎◌, Bool, true, false, List, [], ◌∷◌, ◌++◌, length, drop, not, Option, Some, None, refl, sym, ap, ◌∙◌, subst, arith, ⊎_elim, inl, inr, eq-eqb, append-nil, length-append}
+use mathlib.Core.Path.{ap₂}
+use Rattle.std.specs.Prelude.{◌==◌, ◌&&◌, slice_get, slice_index_or, slice_set}
+use Rattle.std.specs.List.{filter}
+use Rattle.std.specs.Option.{option_and_then}
+use Rattle.std.proofs.lemmas.Bool.{cases_Bool, cond-true, cond-false, eqb-true, and_parts, and_from, and_right, or_left, false_from_ne_true, both_ways}
+use Rattle.std.proofs.lemmas.List.{get_or-set_same, get_or-set_other, get_or_default}
+use Rattle.std.proofs.lemmas.Option.{slice_get_past}
+use Rattle.mps_base.specs.declared.action.Step.{Step}
+use Rattle.mps_history.specs.Steps.{sends, receives, goes_to, comes_from}
+use Rattle.mps_arena.specs.Keys.{is_at, has, AreDistinct, first_key, last_key, key_after, key_before}
+use Rattle.mps_arena.specs.Entries.{Entry, keys_of, any_step, like_sends, entry_at, AreSound}
+use Rattle.mps_arena.specs.Sources.{waiting, next_send_in, prev_send_in}
+use Rattle.mps_arena.proofs.KeyLists.{get_in, get_none, has-append_right}
+use Rattle.mps_arena.proofs.Chains.{keys-append, keys_with, keys_without, keys_push, keys_kept, keys_around, keys_beside, distinct, absent, passes, entry_key}
+use Rattle.mps_arena.proofs.Mates.{matched_of, sends_pair, receives_pair, sends_chain}
+use Rattle.mps_arena.proofs.Nodes.{cases_entry}
+use Rattle.mps_arena.proofs.Keeping.{others_are}
+use Rattle.mps_queues.specs.Fronts.{front_at, waiting_keys, AreFronts, pushed, taken, returned, dropped}
+
+-- lists of keys
+get_push : (c : List ℕ) (n k : ℕ) → n ≤ length c → slice_get (c ++ k ∷ []) n ≡ pushed k (slice_get c n)
+get_push [] zero k h = refl
+get_push [] (suc n) k h = absurd (omega (arith, h))
+get_push (j ∷ c) zero k h = refl
+get_push (j ∷ c) (suc n) k h = get_push c n k (omega (arith, h))
+
+get_after : (c : List ℕ) (n k : ℕ) → AreDistinct c → slice_get c n ≡ Some k → key_after k c ≡ slice_get c (suc n)
+get_after [] n k d e = absurd cc
+get_after (j ∷ c) zero k d e = let same : j ≡ k = cc in cond-true (j == k) _ (key_after k c) (eq-eqb j k same) ∙ first_is c
+  where
+    first_is : (c : List ℕ) → first_key c ≡ slice_get c zero
+    first_is [] = refl
+    first_is (i ∷ c) = refl
+get_after (j ∷ c) (suc n) k d e =
+    let n' : (j == k) ≡ false = false_from_ne_true (j == k) (λ t. both_ways (has k c) (subst (λ (i : ℕ). has i c ≡ false) (eqb-true j k t) d.0) (get_in c n k (ap (λ (o : Option ℕ). is_at o k) e ∙ eq-eqb k k refl))) in
+    cond-false (j == k) _ (key_after k c) n' ∙ get_after c n k d.1 e
+
+get_before : (before : Option ℕ) (c : List ℕ) (n k : ℕ) → AreDistinct c → slice_get c (suc n) ≡ Some k → key_before before k c ≡ slice_get c n
+get_before before [] n k d e = absurd cc
+get_before before (j ∷ []) n k d e = absurd cc
+get_before before (j ∷ i ∷ c) zero k d e =
+    let same : i ≡ k = cc in
+    let n' : (j == k) ≡ false = false_from_ne_true (j == k) (λ t. both_ways (has k (i ∷ c)) (subst (λ (m : ℕ). has m (i ∷ c) ≡ false) (eqb-true j k t) d.0) (or_left (i == k) (has k c) (eq-eqb i k same))) in
+    rw (n', eq-eqb i k same) refl
+get_before before (j ∷ i ∷ c) (suc n) k d e =
+    let n' : (j == k) ≡ false = false_from_ne_true (j == k) (λ t. both_ways (has k (i ∷ c)) (subst (λ (m : ℕ). has m (i ∷ c) ≡ false) (eqb-true j k t) d.0) (get_in (i ∷ c) (suc n) k (ap (λ (o : Option ℕ). is_at o k) e ∙ eq-eqb k k refl))) in
+    cond-false (j == k) before (key_before (Some j) k (i ∷ c)) n' ∙ get_before (Some j) (i ∷ c) n k d.1 e
+
+last_get : (before : Option ℕ) (c : List ℕ) (n : ℕ) → length c ≡ suc n → last_key before c ≡ slice_get c n
+last_get before [] n e = absurd (omega (arith, e))
+last_get before (j ∷ []) zero e = refl
+last_get before (j ∷ []) (suc n) e = absurd (omega (arith, e))
+last_get before (j ∷ i ∷ c) zero e = absurd (omega (arith, e))
+last_get before (j ∷ i ∷ c) (suc n) e = last_get (Some j) (i ∷ c) n (omega (arith, e))
+
+get_drop : (c : List ℕ) (k n : ℕ) → AreDistinct (c ++ k ∷ []) → dropped (Some k) (slice_get (c ++ k ∷ []) n) ≡ slice_get c n
+get_drop [] k zero d = rw (eq-eqb k k refl) refl
+get_drop [] k (suc n) d = refl
+get_drop (j ∷ c) k zero d =
+    let n' : (k == j) ≡ false = false_from_ne_true (k == j) (λ t. both_ways (has j (c ++ k ∷ [])) d.0 (has-append_right j c (k ∷ []) (or_left (k == j) false t))) in
+    rw n' refl
+get_drop (j ∷ c) k (suc n) d = get_drop c k n d.1
+
+-- pairs of steps
+sends_at : (p q i j : ℕ) (s : Step) → sends p q s ≡ true → sends i j s ≡ (p == i && q == j)
+sends_at p q i j s e = let w = sends_pair p q s e in ap₂ (λ (r : ℕ) (a : _). r == i && goes_to j a) w.1 w.2
+
+sends_takes : (p q i j : ℕ) (s : Step) → sends p q s ≡ true → receives i j s ≡ false
+sends_takes p q i j s e = let w = sends_pair p q s e in ap (λ (a : _). s.role == j && comes_from i a) w.2 ∙ and_right (s.role == j) false refl
+
+receives_at : (p q i j : ℕ) (s : Step) → receives p q s ≡ true → receives i j s ≡ (q == j && p == i)
+receives_at p q i j s e = let w = receives_pair p q s e in ap₂ (λ (r : ℕ) (a : _). r == j && comes_from i a) w.1 w.2
+
+receives_gives : (p q i j : ℕ) (s : Step) → receives p q s ≡ true → sends i j s ≡ false
+receives_gives p q i j s e = let w = receives_pair p q s e in ap (λ (a : _). s.role == i && goes_to j a) w.2 ∙ and_right (s.role == i) false refl
+
+other_pair : (p q i j : ℕ) → (i ≡ p → j ≡ q → ⊥) → (p == i && q == j) ≡ false
+other_pair p q i j n = false_from_ne_true (p == i && q == j) (λ t. let w = and_parts (p == i) (q == j) t in n (sym (eqb-true p i w.0)) (sym (eqb-true q j w.1)))
+
+other_pair_turned : (p q i j : ℕ) → (i ≡ p → j ≡ q → ⊥) → (q == j && p == i) ≡ false
+other_pair_turned p q i j n = false_from_ne_true (q == j && p == i) (λ t. let w = and_parts (q == j) (p == i) t in n (sym (eqb-true p i w.1)) (sym (eqb-true q j w.0)))
+
+-- one front changes
+pub front_set : (fronts : List (Option ℕ)) (es now : List Entry) (p q at : ℕ) (v : Option ℕ) → length fronts ≡ 64 → p < 8 → q < 8 → at ≡ p * 8 + q → AreFronts es fronts → waiting now p q ≡ v → ((i j : ℕ) → (i ≡ p → j ≡ q → ⊥) → waiting now i j ≡ waiting es i j) → AreFronts now (slice_set fronts at v)
+front_set fronts es now p q at v long hp hq place f here others = record { each = each }
+  where
+    each : (i j : ℕ) → i < 8 → j < 8 → front_at (slice_set fronts at v) i j ≡ waiting now i j
+    each i j hi hj =
+        ⊎_elim
+        (λ (t : (p == i && q == j) ≡ true).
+        let w = and_parts (p == i) (q == j) t in
+        let e1 = eqb-true p i w.0 in
+        let e2 = eqb-true q j w.1 in
+        let same : at ≡ i * 8 + j = omega arith in
+        let within : i * 8 + j < length fronts = omega arith in
+        ap (λ (k : ℕ). slice_index_or (slice_set fronts k v) (i * 8 + j) None) same ∙ get_or-set_same fronts (i * 8 + j) v None within ∙ sym here ∙ ap₂ (waiting now) e1 e2)
+        (λ (n : (p == i && q == j) ≡ false).
+        let differ : i ≡ p → j ≡ q → ⊥ = λ a b. both_ways (p == i && q == j) n (and_from (p == i) (q == j) (eq-eqb p i (sym a)) (eq-eqb q j (sym b))) in
+        let away : i * 8 + j ≢ at = λ z. differ (omega arith) (omega arith) in
+        get_or-set_other fronts at (i * 8 + j) v None away ∙ f.each i j hi hj ∙ sym (others i j differ))
+        (cases_Bool (p == i && q == j))
+
+module _ (es : List Entry) (sound : AreSound es) (p q : ℕ) where
+  abbrev sent : List ℕ
+  sent = keys_of (sends p q) es
+
+  abbrev got : List ℕ
+  got = keys_of (receives p q) es
+
+  pub waiting_push : (e : Entry) → sends p q e.step ≡ true → waiting (es ++ e ∷ []) p q ≡ pushed e.key (waiting es p q)
+  waiting_push e t = rw (keys_push (sends p q) es e t, keys_kept (receives p q) es e (sends_takes p q p q e.step t)) (get_push sent (length got) e.key (matched_of es sound.fed p q))
+
+  pub others_push : (e : Entry) → sends p q e.step ≡ true → (i j : ℕ) → (i ≡ p → j ≡ q → ⊥) → waiting (es ++ e ∷ []) i j ≡ waiting es i j
+  others_push e t i j n = rw (keys_kept (sends i j) es e (sends_at p q i j e.step t ∙ other_pair p q i j n), keys_kept (receives i j) es e (sends_takes p q i j e.step t)) refl
+
+  -- a send's neighbours in its chain
+  send_links : (k : ℕ) → has k sent ≡ true → (next_send_in es k ≡ key_after k sent) × (prev_send_in es k ≡ key_before None k sent)
+  send_links k h =
+      ⊎_elim
+      (λ (z : entry_at k es ≡ None). absurd (both_ways (has k sent) (absent (sends p q) k es z) h))
+      (λ (w : (y : Entry) × (entry_at k es ≡ Some y)).
+      let y = w.0 in
+      let key = entry_key k es y w.1 in
+      let chain = sends_chain p q y.step (passes (sends p q) k es y sound.distinct w.1 h) in (
+        ap (option_and_then (λ (e : Entry). key_after e.key (keys_of (like_sends e.step.role e.step.act) es))) w.1 ∙ ap₂ (λ (i : ℕ) (g : Step → Bool). key_after i (keys_of g es)) key chain,
+        ap (option_and_then (λ (e : Entry). key_before None e.key (keys_of (like_sends e.step.role e.step.act) es))) w.1 ∙ ap₂ (λ (i : ℕ) (g : Step → Bool). key_before None i (keys_of g es)) key chain,
+      ))
+      (cases_entry (entry_at k es))
+
+  at_place : (n k : ℕ) → slice_get sent n ≡ Some k → has k sent ≡ true
+  at_place n k e = get_in sent n k (ap (λ (o : Option ℕ). is_at o k) e ∙ eq-eqb k k refl)
+
+  cases_key : (o : Option ℕ) → (o ≡ None) ⊎ ((k : ℕ) × (o ≡ Some k))
+  cases_key None = inl refl
+  cases_key (Some k) = inr (k, refl)
+
+  pub waiting_take : (e : Entry) → receives p q e.step ≡ true → waiting (es ++ e ∷ []) p q ≡ taken es (waiting es p q)
+  waiting_take e t =
+      let n = length got in
+      let more : length (got ++ e.key ∷ []) ≡ suc n = omega (arith, length-append got (e.key ∷ [])) in
+      rw (keys_push (receives p q) es e t, keys_kept (sends p q) es e (receives_gives p q p q e.step t), more)
+      (⊎_elim
+      (λ (z : slice_get sent n ≡ None). rw z (slice_get_past sent (suc n) (let w = get_none sent n z in omega arith)))
+      (λ (w : (k : ℕ) × (slice_get sent n ≡ Some k)). rw w.1 (sym ((send_links w.0 (at_place n w.0 w.1)).0 ∙ get_after sent n w.0 (distinct (sends p q) es sound.distinct) w.1)))
+      (cases_key (slice_get sent n)))
+
+  pub others_take : (e : Entry) → receives p q e.step ≡ true → (i j : ℕ) → (i ≡ p → j ≡ q → ⊥) → waiting (es ++ e ∷ []) i j ≡ waiting es i j
+  others_take e t i j n = rw (keys_kept (sends i j) es e (receives_gives p q i j e.step t), keys_kept (receives i j) es e (receives_at p q i j e.step t ∙ other_pair_turned p q i j n)) refl
+
+-- a place behind the first ones
+get_drop_front : (c : List ℕ) (g n m : ℕ) → m ≡ g + n → slice_get (drop g c) n ≡ slice_get c m
+get_drop_front c zero n m e = let same : n ≡ m = omega (arith, e) in ap (slice_get c) same
+get_drop_front [] (suc g) n m e = refl
+get_drop_front (j ∷ c) (suc g) n zero e = absurd (omega (arith, e))
+get_drop_front (j ∷ c) (suc g) n (suc m) e = get_drop_front c g n m (omega (arith, e))
+
+module _ (es : List Entry) (sound : AreSound es) (p q : ℕ) where
+  abbrev left_in : List ℕ
+  left_in = waiting_keys es p q
+
+  -- the first of what waits, and what comes next in its chain
+  pub first_waiting : waiting es p q ≡ slice_get left_in 0
+  first_waiting = sym (get_drop_front (keys_of (sends p q) es) (length (keys_of (receives p q) es)) 0 (length (keys_of (receives p q) es)) (omega arith))
+
+  pub next_waiting : (n k : ℕ) → slice_get left_in n ≡ Some k → next_send_in es k ≡ slice_get left_in (suc n)
+  next_waiting n k e =
+      let c = keys_of (sends p q) es in
+      let g = length (keys_of (receives p q) es) in
+      let place : slice_get c (g + n) ≡ Some k = sym (get_drop_front c g n (g + n) refl) ∙ e in
+      (send_links es sound p q k (at_place es sound p q (g + n) k place)).0
+      ∙ get_after c (g + n) k (distinct (sends p q) es sound.distinct) place
+      ∙ sym (get_drop_front c g (suc n) (suc (g + n)) (omega arith))
+
+  pub none_waits : (n m : ℕ) → n ≤ m → slice_get left_in n ≡ None → slice_get left_in m ≡ None
+  none_waits n m h e = let few = get_none left_in n e in slice_get_past left_in m (omega (arith, few, h))
+
+-- the last step that passes a test
+pub record StandsLast (f : Step → Bool) (es : List Entry) (k : ℕ) : Type 0 where
+  pub before : List Entry
+  pub behind : List Entry
+  pub entry : Entry
+  pub parts : es ≡ before ++ entry ∷ behind
+  pub key : entry.key ≡ k
+  pub passes : f entry.step ≡ true
+  pub final : keys_of f behind ≡ []
+
+nil_or : (c : List ℕ) → (c ≡ []) ⊎ ((o : Option ℕ) → last_key o c ≡ last_key None c)
+nil_or [] = inl refl
+nil_or (j ∷ c) = inr (λ o. refl)
+
+pub stands_last : (f : Step → Bool) (es : List Entry) (k : ℕ) → last_key None (keys_of f es) ≡ Some k → StandsLast f es k
+stands_last f [] k e = absurd cc
+stands_last f (x ∷ es) k e =
+    let later = λ (h : last_key None (keys_of f es) ≡ Some k).
+    let s = stands_last f es k h in
+    let r : StandsLast f (x ∷ es) k = record { before = x ∷ s.before; behind = s.behind; entry = s.entry; parts = ap (λ l. x ∷ l) s.parts; key = s.key; passes = s.passes; final = s.final } in
+    r in
+    ⊎_elim
+    (λ (t : f x.step ≡ true).
+    let was : last_key (Some x.key) (keys_of f es) ≡ Some k = sym (ap (last_key None) (keys_with f x es t)) ∙ e in
+    ⊎_elim
+    (λ (z : keys_of f es ≡ []).
+    let one : Some x.key ≡ Some k = sym (ap (last_key (Some x.key)) z) ∙ was in
+    let same : x.key ≡ k = cc in
+    let r : StandsLast f (x ∷ es) k = record { before = []; behind = es; entry = x; parts = refl; key = same; passes = t; final = z } in
+    r)
+    (λ (g : (o : Option ℕ) → last_key o (keys_of f es) ≡ last_key None (keys_of f es)). later (sym (g (Some x.key)) ∙ was))
+    (nil_or (keys_of f es)))
+    (λ (n : f x.step ≡ false). later (sym (ap (last_key None) (keys_without f x es n)) ∙ e))
+    (cases_Bool (f x.step))
+
+module _ (es : List Entry) (sound : AreSound es) (p q k : ℕ) where
+  -- what is left of a chain without its last
+  front_part : (f : Step → Bool) (s : StandsLast f es k) → (keys_of f es ≡ keys_of f s.before ++ k ∷ []) × (keys_of f (s.before ++ s.behind) ≡ keys_of f s.before)
+  front_part f s = (
+    ap (keys_of f) s.parts ∙ keys_around f s.before s.behind s.entry s.passes ∙ ap₂ (λ (i : ℕ) (l : List ℕ). keys_of f s.before ++ i ∷ l) s.key s.final,
+    keys-append f s.before s.behind ∙ ap (λ l. keys_of f s.before ++ l) s.final ∙ append-nil (keys_of f s.before),
+  )
+
+  beside : (f g : Step → Bool) (s : StandsLast f es k) → g s.entry.step ≡ false → keys_of g (s.before ++ s.behind) ≡ keys_of g es
+  beside f g s n = sym (ap (keys_of g) s.parts ∙ keys_beside g s.before s.behind s.entry n)
+
+  left : (f : Step → Bool) (s : StandsLast f es k) → filter (λ e. not (e.key == k)) es ≡ s.before ++ s.behind
+  left f s = ap (filter (λ e. not (e.key == k))) s.parts ∙ others_are k s.before s.behind s.entry (subst (λ (l : List Entry). AreDistinct (keys_of any_step l)) s.parts sound.distinct) s.key
+
+  pub waiting_return : last_key None (keys_of (receives p q) es) ≡ Some k → waiting (filter (λ e. not (e.key == k)) es) p q ≡ returned es (last_key None (keys_of (sends p q) es)) (waiting es p q)
+  waiting_return e =
+      let f = receives p q in
+      let s = stands_last f es k e in
+      let c = keys_of f s.before in
+      let w = front_part f s in
+      let sent' = keys_of (sends p q) es in
+      let n = length c in
+      let more : length (keys_of f es) ≡ suc n = omega (arith, ap length w.0, length-append c (k ∷ [])) in
+      let room = matched_of es sound.fed p q in
+      rw (left f s, w.1, beside f (sends p q) s (receives_gives p q p q s.entry.step s.passes), more)
+      (⊎_elim
+      (λ (z : slice_get sent' (suc n) ≡ None). rw z (sym (last_get None sent' n (let few = get_none sent' (suc n) z in omega arith))))
+      (λ (v : (i : ℕ) × (slice_get sent' (suc n) ≡ Some i)). rw v.1 (sym ((send_links es sound p q v.0 (at_place es sound p q (suc n) v.0 v.1)).1 ∙ get_before None sent' n v.0 (distinct (sends p q) es sound.distinct) v.1)))
+      (cases_key es sound p q (slice_get sent' (suc n))))
+
+  pub others_return : last_key None (keys_of (receives p q) es) ≡ Some k → (i j : ℕ) → (i ≡ p → j ≡ q → ⊥) → waiting (filter (λ e. not (e.key == k)) es) i j ≡ waiting es i j
+  others_return e i j n =
+      let f = receives p q in
+      let s = stands_last f es k e in
+      rw (left f s, beside f (sends i j) s (receives_gives p q i j s.entry.step s.passes), beside f (receives i j) s (receives_at p q i j s.entry.step s.passes ∙ other_pair_turned p q i j n)) refl
+
+  pub waiting_drop : last_key None (keys_of (sends p q) es) ≡ Some k → waiting (filter (λ e. not (e.key == k)) es) p q ≡ dropped (last_key None (keys_of (sends p q) es)) (waiting es p q)
+  waiting_drop e =
+      let f = sends p q in
+      let s = stands_last f es k e in
+      let w = front_part f s in
+      rw (left f s, w.1, beside f (receives p q) s (sends_takes p q p q s.entry.step s.passes), e, w.0)
+      (sym (get_drop (keys_of f s.before) k (length (keys_of (receives p q) es)) (subst AreDistinct w.0 (distinct f es sound.distinct))))
+
+  pub others_drop : last_key None (keys_of (sends p q) es) ≡ Some k → (i j : ℕ) → (i ≡ p → j ≡ q → ⊥) → waiting (filter (λ e. not (e.key == k)) es) i j ≡ waiting es i j
+  others_drop e i j n =
+      let f = sends p q in
+      let s = stands_last f es k e in
+      rw (left f s, beside f (sends i j) s (sends_at p q i j s.entry.step s.passes ∙ other_pair p q i j n), beside f (receives i j) s (sends_takes p q i j s.entry.step s.passes)) refl
+
+-- the front that is read
+pub front_read : (fronts : List (Option ℕ)) (es : List Entry) (p q at : ℕ) (d : Option ℕ) → length fronts ≡ 64 → p < 8 → q < 8 → at ≡ p * 8 + q → AreFronts es fronts → slice_index_or fronts at d ≡ waiting es p q
+front_read fronts es p q at d long hp hq place f =
+    get_or_default fronts at d None (omega (arith, long, hp, hq, place)) ∙ ap (λ (k : ℕ). slice_index_or fronts k None) place ∙ f.each p q hp hq

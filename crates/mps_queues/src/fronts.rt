@@ -1,0 +1,157 @@
+//! The queues by their fronts.
+ghost use Rattle.std.specs.Prelude.{◌≡◌, ℕ, ◌<◌, ◌+◌, ◌*◌, ◌==◌, not, List, [], ◌∷◌, ◌++◌, Some, None, IsTrue, slice_get};
+ghost use Rattle.std.specs.List.{filter};
+ghost use Rattle.mps_history.specs.Steps.{sends, receives};
+ghost use Rattle.mps_arena.specs.Keys.{last_key};
+ghost use Rattle.mps_arena.specs.Entries.{Entry, keys_of, AreSound};
+ghost use Rattle.mps_arena.specs.Sources.{waiting};
+ghost use Rattle.mps_queues.specs.Fronts.{front_at, waiting_keys, AreFronts, pushed, taken, returned, dropped};
+
+use mps_arena::{Arena, Key};
+use mps_base::Role;
+use std::marker::Model;
+
+/// Of each pair of roles the first send that isn't received. With the chain of the pair's sends, which the arena keeps,
+/// it says the whole queue: that send and all behind it.
+#[derive(Drop)]
+pub struct Queues {
+    // that from p to q at p * 8 + q
+    fronts: [Option<Key>; 64],
+}
+
+impl Model for Queues {
+    ghost use Rattle.std.specs.Prelude.{◌≡◌, ℕ, List, Option, length};
+
+    ghost Value = { List (Option ℕ) };
+
+    ghost view = { λ q. q.fronts };
+
+    ghost invariant = { λ q. length q.fronts ≡ 64 };
+}
+
+// The front, where a send joins.
+fn pushed_front(key: Key, front: Option<Key>) -> Option<Key>
+    ensures { result ≡ pushed key front }
+{
+    if front.is_none() { Some(key) } else { front }
+}
+
+// The front, where the first send is received.
+fn taken_front(arena: &Arena, front: Option<Key>) -> Option<Key>
+    ensures { result ≡ taken arena.now.entries front }
+{
+    match front {
+        Some(front) => arena.next_send(front),
+        None => None,
+    }
+}
+
+// The front, where a receipt goes.
+fn returned_front(arena: &Arena, last: Option<Key>, front: Option<Key>) -> Option<Key>
+    ensures { result ≡ returned arena.now.entries last front }
+{
+    match front {
+        Some(front) => arena.prev_send(front),
+        None => last,
+    }
+}
+
+// The front, where the last send goes.
+fn dropped_front(last: Option<Key>, front: Option<Key>) -> Option<Key>
+    ensures { result ≡ dropped last front }
+{
+    match (last, front) {
+        (Some(last), Some(front)) => { if last.is(front) { None } else { Some(front) } }
+        (None, front) => front,
+        (Some(_), None) => None,
+    }
+}
+
+impl Queues {
+    /// Queues in which nothing waits.
+    pub fn new() -> Queues
+        ensures { AreFronts [] result }
+    {
+        Queues { fronts: [None; 64] }
+    }
+
+    /// The first send of the pair that isn't received.
+    pub fn front(&self, from: Role, to: Role) -> Option<Key>
+        requires from { from < 8 }
+        requires to { to < 8 }
+        ensures { (es : List Entry) → AreFronts es self.now → result ≡ waiting es from to }
+    {
+        self.fronts[from.index() * 8 + to.index()]
+    }
+
+    /// The k-th send of the pair that isn't received, from 0. It takes k looks.
+    pub fn nth(&self, arena: &Arena, from: Role, to: Role, k: usize) -> Option<Key>
+        requires from { from < 8 }
+        requires to { to < 8 }
+        requires fronts { AreFronts arena.now.entries self.now }
+        requires sound { AreSound arena.now.entries }
+        ensures { result ≡ slice_get (waiting_keys arena.now.entries from to) k }
+    {
+        let mut at = self.front(from, to)?;
+        for _ in 0..k {
+            at = arena.next_send(at)?;
+        }
+        Some(at)
+    }
+
+    /// Puts a send behind all others of its pair, before it is added or after.
+    pub fn push(&mut self, from: Role, to: Role, key: Key)
+        requires from { from < 8 }
+        requires to { to < 8 }
+        ensures { (es : List Entry) (e : Entry) → AreFronts es self.old → AreSound es
+            → IsTrue (sends from to e.step) → e.key ≡ key → AreFronts (es ++ e ∷ []) self.new }
+    {
+        let at = from.index() * 8 + to.index();
+        let front = self.fronts[at];
+        self.fronts[at] = pushed_front(key, front);
+    }
+
+    /// Takes the first send off, before its receipt is added.
+    pub fn take(&mut self, arena: &Arena, from: Role, to: Role)
+        requires from { from < 8 }
+        requires to { to < 8 }
+        requires fronts { AreFronts arena.now.entries self.old }
+        requires sound { AreSound arena.now.entries }
+        ensures { (e : Entry) → IsTrue (receives from to e.step)
+            → AreFronts (arena.now.entries ++ e ∷ []) self.new }
+    {
+        let at = from.index() * 8 + to.index();
+        let front = self.fronts[at];
+        self.fronts[at] = taken_front(arena, front);
+    }
+
+    /// Puts the send of the pair's last receipt back in front, before the receipt is removed.
+    pub fn put_back(&mut self, arena: &Arena, from: Role, to: Role)
+        requires from { from < 8 }
+        requires to { to < 8 }
+        requires fronts { AreFronts arena.now.entries self.old }
+        requires sound { AreSound arena.now.entries }
+        ensures { (k : ℕ) → last_key None (keys_of (receives from to) arena.now.entries) ≡ Some k
+            → AreFronts (filter (λ e. not (e.key == k)) arena.now.entries) self.new }
+    {
+        let at = from.index() * 8 + to.index();
+        let front = self.fronts[at];
+        let last = arena.last_send(from, to);
+        self.fronts[at] = returned_front(arena, last, front);
+    }
+
+    /// Takes the pair's last send off, before it is removed.
+    pub fn drop_last(&mut self, arena: &Arena, from: Role, to: Role)
+        requires from { from < 8 }
+        requires to { to < 8 }
+        requires fronts { AreFronts arena.now.entries self.old }
+        requires sound { AreSound arena.now.entries }
+        ensures { (k : ℕ) → last_key None (keys_of (sends from to) arena.now.entries) ≡ Some k
+            → AreFronts (filter (λ e. not (e.key == k)) arena.now.entries) self.new }
+    {
+        let at = from.index() * 8 + to.index();
+        let front = self.fronts[at];
+        let last = arena.last_send(from, to);
+        self.fronts[at] = dropped_front(last, front);
+    }
+}
