@@ -1,12 +1,12 @@
 -- Bindings, as entries come and go.
-use Rattle.std.proofs.Common.{◌≡◌, ◌≢◌, ℕ, ◌<◌, ◌⊎◌, Bool, true, false, List, [], ◌∷◌, ◌++◌, length, not, map, Option, Some, None, refl, sym, ap, ◌∙◌, subst, arith, ⊎_elim, inl, inr, eq-eqb, append-nil, append_assoc}
+use Rattle.std.proofs.Common.{◌≡◌, ◌≢◌, ℕ, ◌<◌, ◌⊎◌, Bool, true, false, List, [], ◌∷◌, ◌++◌, length, not, map, Option, Some, None, refl, sym, ap, ◌∙◌, subst, arith, ⊎_elim, inl, inr, eq-eqb, append-nil, append_assoc, get_or}
 use mathlib.Core.Path.{ap₂}
 use Rattle.std.specs.Prelude.{◌==◌, if◌then◌else◌, slice_set}
 use Rattle.std.specs.List.{filter}
 use Rattle.std.specs.Option.{option_map_or}
 use Rattle.std.specs.Str.{bytes_eq}
 use Rattle.std.proofs.lemmas.Bool.{cases_Bool, cond-true, cond-false, eqb-true, ne_eqb, both_ways, false_from_ne_true}
-use Rattle.std.proofs.lemmas.List.{get_or-set_same, get_or-set_other}
+use Rattle.std.proofs.lemmas.List.{get_or-set_same, get_or-set_other, get_or_default}
 use Rattle.mps_history.specs.Slots.{bound, unbound, value_in}
 use Rattle.mps_history.proofs.Slots.{same_slot, value_in-bound, unbound-bound}
 use Rattle.mps_arena.specs.Keys.{is_at, has, AreDistinct, last_key}
@@ -278,3 +278,7 @@ binding_is_receipt es p k slot sound h =
     (w.entry, found, w.receipt))
     (λ (z : value_in slot [] ≡ Some k). absurd cc)
     (bound_in p slot k [] es h)
+
+-- the store that is written
+pub store_is : (stores : List Keys) (p i : ℕ) (store : Keys) → i ≡ p → length stores ≡ 8 → p < 8 → store ≡ get_or stores i store → store ≡ store_at stores p
+store_is stores p i store same long small is = is ∙ ap (λ (k : ℕ). get_or stores k store) same ∙ get_or_default stores p store [] (omega (arith, long, small))
