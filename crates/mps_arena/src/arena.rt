@@ -1,5 +1,5 @@
 //! The arena.
-ghost use Rattle.std.specs.Prelude.{◌≡◌, ◌+◌, [], ◌∷◌, ◌++◌, ◌==◌, not, false, None, IsTrue, OnOk, IfOk, IsSome, Some, map, length, ◌<◌};
+ghost use Rattle.std.specs.Prelude.{◌≡◌, ◌+◌, ◌^◌, [], ◌∷◌, ◌++◌, ◌==◌, not, false, None, IsTrue, OnOk, IfOk, IsSome, Some, map, length, ◌<◌};
 ghost use Rattle.std.specs.Option.{option_map};
 ghost use Rattle.std.specs.List.{filter, find};
 ghost use Rattle.mps_history.specs.Steps.{sends, without};
@@ -56,6 +56,7 @@ impl Arena {
         ensures key { IfOk result (λ key. key ≡ self.new.next_key) }
         ensures entries { self.new.entries ≡ self.old.entries }
         ensures issued { self.new.issued ≡ self.old.issued }
+        ensures fits { OnOk result (self.new.issued + 1 < 2 ^ 64) }
     {
         self.nodes.reserve(1)?;
         self.index.reserve(1)?;
@@ -74,6 +75,7 @@ impl Arena {
         ensures entries { self.new.entries ≡ self.old.entries
             ++ record { key = result; step = step; before = before; marked = false } ∷ [] }
         ensures issued { self.new.issued ≡ self.old.issued + 1 }
+        ensures sound { AreSound self.new.entries }
     {
         let node = self.ends.node_behind(step, before, source);
         let key = Key::small(self.nodes.vacant_key());
@@ -91,6 +93,7 @@ impl Arena {
         ensures history { steps self.new.entries
             ≡ without (steps self.old.entries) (λ m. m == result.id) }
         ensures issued { self.new.issued ≡ self.old.issued }
+        ensures sound { AreSound self.new.entries }
     {
         let node = part(&mut self.nodes, key);
         self.ends.part(&node);

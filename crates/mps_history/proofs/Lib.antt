@@ -2,3 +2,4 @@ pub mod Order
 pub mod Reaching
 pub mod Removal
 pub mod Pairing
+pub mod Slots

@@ -1,3 +1,4 @@
 pub mod Steps
 pub mod Dependence
 pub mod Swaps
+pub mod Slots

@@ -13,8 +13,9 @@ use Rattle.mps_base.specs.Sorts.{fits}
 use Rattle.mps_local.specs.Local.{LocalType, Send, Recv, Select, Branch}
 use Rattle.mps_local.specs.Actions.{branch_at}
 use Rattle.mps_local.specs.Unfolding.{unfolded}
+use Rattle.mps_history.specs.Slots.{bound}
 use Rattle.mps_history.specs.Steps.{sends, receives, given}
-use Rattle.mps_machine.specs.View.{Store, Participant, View, bound}
+use Rattle.mps_machine.specs.View.{Store, Participant, View}
 
 -- the first message that waits
 abbrev pub first_of : List Message → Option Message

@@ -2,8 +2,7 @@
 -- Queues that keep order are those of Honda, Yoshida, Carbone (2008). That a monitor may serve as a memory for taking steps
 -- back is from Mezzina, Pérez (Causally consistent reversible choreographies, PPDP 2017). The form of participant, store and
 -- rule is this project's.
-use Rattle.std.specs.Prelude.{ℕ, suc, zero, if◌then◌else◌, List, [], ◌∷◌, Option, Some, None}
-use Rattle.std.specs.Str.{bytes_eq}
+use Rattle.std.specs.Prelude.{ℕ, suc, zero, List, [], ◌∷◌, Option}
 use Rattle.mps_base.specs.declared.action.Act.{Act}
 use Rattle.mps_base.specs.declared.action.Message.{Message}
 use Rattle.mps_base.specs.declared.value.Value.{Value}
@@ -41,14 +40,3 @@ opening types = record {
   participant = λ p. record { past = []; to_come = type_at types p; store = [] };
   queue = λ p q. [];
 }
-
--- the store with the value in the slot: in its place where the slot is known, else last
-abbrev pub bound : List ℕ → Value → Store → Store
-bound slot value [] = (slot, value) ∷ []
-bound slot value (entry ∷ entries) =
-    if bytes_eq entry.0 slot then (slot, value) ∷ entries else entry ∷ bound slot value entries
-
--- the value in the slot
-abbrev pub value_in : List ℕ → Store → Option Value
-value_in slot [] = None
-value_in slot (entry ∷ entries) = if bytes_eq entry.0 slot then Some entry.1 else value_in slot entries

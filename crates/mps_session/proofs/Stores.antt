@@ -7,7 +7,8 @@ use Rattle.std.proofs.lemmas.Bool.{cases_Bool, cond-true, cond-false}
 use Rattle.std.proofs.lemmas.Slice.Eq.{bytes_eq-Decides}
 use Rattle.indexmap.specs.IndexMap.{insert_entry}
 use Rattle.mps_base.specs.declared.value.Value.{Value}
-use Rattle.mps_machine.specs.View.{Store, bound, value_in}
+use Rattle.mps_history.specs.Slots.{bound, value_in}
+use Rattle.mps_machine.specs.View.{Store}
 
 turned : (a b : List ℕ) → bytes_eq a b ≡ bytes_eq b a
 turned a b =

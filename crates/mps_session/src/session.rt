@@ -10,7 +10,7 @@ ghost use Rattle.mps_local.specs.Actions.{head};
 ghost use Rattle.mps_local.specs.Local.{plain};
 ghost use Rattle.mps_local.specs.declared.faults.LocalFault.{LocalFault};
 ghost use Rattle.mps_machine.specs.Machine as machine;
-ghost use Rattle.mps_machine.specs.View.{value_in};
+ghost use Rattle.mps_history.specs.Slots.{value_in};
 ghost use Rattle.mps_session.specs.Answers.{IsAnswer, as_step};
 ghost use Rattle.mps_session.specs.Peers.{IsFirstBad, IsFirstFaulty, CanOpen};
 ghost use Rattle.mps_session.specs.Seen.{view_of};

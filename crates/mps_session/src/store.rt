@@ -3,7 +3,7 @@ ghost use Rattle.std.specs.Prelude.{◌≡◌, [], ℕ, Some, OnOk, OnErr};
 ghost use Rattle.std.specs.Option.{option_copied};
 ghost use Rattle.mps_base.specs.declared.action.Act.TheVariants.{In};
 ghost use Rattle.mps_machine.specs.Rule.{store_after};
-ghost use Rattle.mps_machine.specs.View.{bound, value_in};
+ghost use Rattle.mps_history.specs.Slots.{bound, value_in};
 
 use indexmap::IndexMap;
 use mps_base::{Message, Name, Value};

@@ -8,7 +8,7 @@ use Rattle.mps_arena.specs.Kept.{IsKept}
 use Rattle.mps_arena.specs.Links.{joined}
 use Rattle.mps_arena.specs.Sources.{IsSource}
 use Rattle.mps_arena.specs.Views.{entries_of}
-use Rattle.mps_arena.proofs.Keeping.{kept_view, kept_whole, kept_add}
+use Rattle.mps_arena.proofs.Keeping.{kept_view, kept_whole, kept_sound, kept_add}
 use Rattle.mps_arena.proofs.arena.Arena.add.Goals as goal
 use Rattle.mps_arena.proofs.arena.Arena.add.Goals.{After-push_reserved}
 
@@ -36,3 +36,7 @@ pub returns-clause-entries : goal.returns-clause-entries
 returns-clause-entries c =
     kept_view _ _ _ _ _ _ _ _ (kept ((goal.at.returns-clause-entries c).After-push_reserved))
     ∙ ap (λ (v : Entries). v.entries ++ record { key = c.small-key.result; step = c.args.step; before = c.args.before; marked = false } ∷ []) c.self.view_is
+
+pub returns-clause-sound : goal.returns-clause-sound
+returns-clause-sound c =
+    kept_sound _ _ _ _ _ _ _ _ (kept_whole _ _ _ _ _ _ _ _ (kept ((goal.at.returns-clause-sound c).After-push_reserved)))

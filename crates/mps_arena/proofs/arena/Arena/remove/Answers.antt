@@ -9,7 +9,7 @@ use Rattle.mps_arena.specs.declared.node.Node.{Node}
 use Rattle.mps_arena.specs.Kept.{IsKept}
 use Rattle.mps_arena.specs.Sources.{CanGo}
 use Rattle.mps_arena.specs.Views.{entries_of}
-use Rattle.mps_arena.proofs.Keeping.{stands, kept_view, kept_whole, kept_remove, small_of}
+use Rattle.mps_arena.proofs.Keeping.{stands, kept_view, kept_whole, kept_sound, kept_remove, small_of}
 use Rattle.mps_arena.proofs.Histories.{steps_without}
 use Rattle.mps_arena.proofs.arena.Arena.remove.Goals as goal
 use Rattle.mps_arena.proofs.arena.Arena.remove.Goals.{After-part}
@@ -46,3 +46,7 @@ returns-clause-history c =
     let now = kept_view _ _ _ _ _ _ _ _ (kept ((goal.at.returns-clause-history c).After-part)) in
     subst (λ (v : Entries). steps (entries_of (record { nodes = c.part-node.new.nodes; ends = c.part.new.self; index = a.index })) ≡ without (steps v.entries) (λ m. m == node.step.id)) c.self.view_is
     (ap steps now ∙ steps_without es c.args.key node.step c.self.invariant.linked.distinct c.self.invariant.rising step)
+
+pub returns-clause-sound : goal.returns-clause-sound
+returns-clause-sound c =
+    kept_sound _ _ _ _ _ _ _ _ (kept_whole _ _ _ _ _ _ _ _ (kept ((goal.at.returns-clause-sound c).After-part)))

@@ -1,6 +1,6 @@
 use Rattle.std.proofs.Common.{◌∙◌, ap}
 use Rattle.mps_session.proofs.Stores.{insert_is_bound}
-use Rattle.mps_machine.specs.View.{bound}
+use Rattle.mps_history.specs.Slots.{bound}
 use Rattle.mps_session.proofs.store.Store.bind.Goals as goal
 
 pub returns-clause-ok : goal.returns-clause-ok

@@ -1,6 +1,6 @@
 use Rattle.std.proofs.Common.{◌∙◌, ap}
 use Rattle.mps_session.proofs.Stores.{lookup_is_value}
-use Rattle.mps_machine.specs.View.{value_in}
+use Rattle.mps_history.specs.Slots.{value_in}
 use Rattle.mps_session.proofs.store.Store.get.Goals as goal
 
 pub returns : goal.returns

@@ -1,0 +1,62 @@
+-- A map that keeps its keys in the order in which they were first inserted is a list of slots.
+use Rattle.std.proofs.Common.{◌≡◌, ℕ, true, false, List, [], ◌∷◌, Option, Some, None, refl, sym, ap, ◌∙◌, ⊎_elim}
+use Rattle.std.specs.Prelude.{if◌then◌else◌}
+use Rattle.std.specs.Map.{lookup, set_value, remove_entry}
+use Rattle.std.specs.Str.{bytes_eq}
+use Rattle.std.proofs.lemmas.Bool.{cases_Bool}
+use Rattle.std.proofs.lemmas.Slice.Eq.{bytes_eq-Decides}
+use Rattle.indexmap.specs.IndexMap.{insert_entry}
+use Rattle.mps_history.specs.Slots.{bound, unbound, value_in}
+use Rattle.mps_history.proofs.Slots.{same_slot}
+use Rattle.mps_stores.specs.Stores.{Keys}
+
+turned : (a b : List ℕ) → bytes_eq a b ≡ bytes_eq b a
+turned a b =
+    ⊎_elim
+    (λ (yes : bytes_eq a b ≡ true). yes ∙ sym ((bytes_eq-Decides b a).1 (sym (same_slot a b yes))))
+    (λ (no : bytes_eq a b ≡ false). ⊎_elim
+    (λ (yes : bytes_eq b a ≡ true). (bytes_eq-Decides a b).1 (sym (same_slot b a yes)) ∙ sym yes)
+    (λ (other : bytes_eq b a ≡ false). no ∙ sym other)
+    (cases_Bool (bytes_eq b a)))
+    (cases_Bool (bytes_eq a b))
+
+module _ (slot : List ℕ) where
+  pub lookup_is_value : (store : Keys) → lookup (bytes_eq slot) store ≡ value_in slot store
+  lookup_is_value [] = refl
+  lookup_is_value (entry ∷ store) =
+      ap (λ b. if b then Some entry.1 else lookup (bytes_eq slot) store) (turned slot entry.0)
+      ∙ ap (λ (found : Option ℕ). if bytes_eq entry.0 slot then Some entry.1 else found) (lookup_is_value store)
+
+  module _ (v : ℕ) where
+    pub insert_is_bound : (store : Keys) → insert_entry bytes_eq store slot v ≡ bound slot v store
+    insert_is_bound [] = refl
+    insert_is_bound (entry ∷ store) =
+        ⊎_elim
+        (λ (yes : bytes_eq entry.0 slot ≡ true). rw (turned slot entry.0, yes) (ap (λ (name : List ℕ). (name, v) ∷ store) (same_slot entry.0 slot yes)))
+        (λ (no : bytes_eq entry.0 slot ≡ false). rw (turned slot entry.0, no) (ap (λ (l : Keys). entry ∷ l) (insert_is_bound store)))
+        (cases_Bool (bytes_eq entry.0 slot))
+
+    pub set_is_unbound : (store : Keys) → set_value (bytes_eq slot) store v ≡ unbound slot (Some v) store
+    set_is_unbound [] = refl
+    set_is_unbound (entry ∷ store) =
+        ⊎_elim
+        (λ (yes : bytes_eq entry.0 slot ≡ true). rw (turned slot entry.0, yes) (ap (λ (name : List ℕ). (name, v) ∷ store) (same_slot entry.0 slot yes)))
+        (λ (no : bytes_eq entry.0 slot ≡ false). rw (turned slot entry.0, no) (ap (λ (l : Keys). entry ∷ l) (set_is_unbound store)))
+        (cases_Bool (bytes_eq entry.0 slot))
+
+  pub remove_is_unbound : (store : Keys) → remove_entry (bytes_eq slot) store ≡ unbound slot None store
+  remove_is_unbound [] = refl
+  remove_is_unbound (entry ∷ store) =
+      ⊎_elim
+      (λ (yes : bytes_eq entry.0 slot ≡ true). rw (turned slot entry.0, yes) refl)
+      (λ (no : bytes_eq entry.0 slot ≡ false). rw (turned slot entry.0, no) (ap (λ (l : Keys). entry ∷ l) (remove_is_unbound store)))
+      (cases_Bool (bytes_eq entry.0 slot))
+
+  -- where the slot isn't bound, there is nothing to take back
+  pub unbound_stays : (older : Option ℕ) (store : Keys) → value_in slot store ≡ None → unbound slot older store ≡ store
+  unbound_stays older [] none = refl
+  unbound_stays older (entry ∷ store) none =
+      ⊎_elim
+      (λ (yes : bytes_eq entry.0 slot ≡ true). let is : Some entry.1 ≡ None = rw yes at none in absurd cc)
+      (λ (no : bytes_eq entry.0 slot ≡ false). let rest : value_in slot store ≡ None = rw no at none in rw no (ap (λ (l : Keys). entry ∷ l) (unbound_stays older store rest)))
+      (cases_Bool (bytes_eq entry.0 slot))

@@ -1,0 +1,5 @@
+use Rattle.mps_stores.proofs.Bindings.{stores_idle_push}
+use Rattle.mps_stores.proofs.laws.idle_steps_may_join.Goals as goal
+
+pub returns : goal.returns
+returns c = stores_idle_push

@@ -1,0 +1,19 @@
+use Rattle.std.proofs.Common.{◌≡◌, ℕ, zero, suc, [], ◌∷◌, ◌++◌, List, replicate, refl, ap, ◌∙◌}
+use Rattle.mps_arena.specs.Entries.{Entry}
+use Rattle.mps_stores.specs.Stores.{store_at}
+use Rattle.mps_stores.proofs.stores.Stores.new.Goals as goal
+
+nothing : (n p : ℕ) → store_at (replicate n []) p ≡ []
+nothing zero p = refl
+nothing (suc n) zero = refl
+nothing (suc n) (suc p) = nothing n p
+
+none_in : (a b : List Entry) (e : Entry) → [] ≡ a ++ e ∷ b → ⊥
+none_in [] b e whole = absurd cc
+none_in (x ∷ a) b e whole = absurd cc
+
+pub returns-clause-stores : goal.returns-clause-stores
+returns-clause-stores c = record {
+  each = λ p small. ap (λ s. store_at s p) c.loop.invariant ∙ nothing c.loop.counter p;
+  traced = λ p slot a b e whole is. absurd (none_in a b e whole);
+}
