@@ -11,7 +11,7 @@ use Rattle.mps_arena.specs.Entries.{Entry, keys_of, any_step, of_role, entry_at}
 use Rattle.mps_arena.specs.Links.{node_of, node_at, AreNodes, joined, parted}
 use Rattle.mps_arena.specs.Sources.{mate_of}
 use Rattle.mps_arena.specs.Walks.{walk}
-use Rattle.mps_arena.proofs.KeyLists.{not_at, last_in, get_in, once, after_absent, AreDistinct-push, AreDistinct-without}
+use Rattle.mps_arena.proofs.KeyLists.{not_at, last_in, last-append, get_in, once, after_absent, AreDistinct-push, AreDistinct-without}
 use Rattle.mps_arena.proofs.Chains.{keys-append, keys_with, keys_without, distinct, chain_empty, keys_push, keys_around, absent, after_push, before_push, after_new, before_new, after_removal, before_removal, entry_key, entry_push, entry_middle, entry_without, entry_gone}
 use Rattle.mps_arena.proofs.Mates.{sends_like, own_role, sends_role, own, other, source_in, mate_push, mate_new, mate_removal, fed_push, fed_removal, role_alike, role_back, sends_alike, sends_back}
 
@@ -130,26 +130,36 @@ nothing_first : (c : List ℕ) → first_key c ≡ None → c ≡ []
 nothing_first [] e = refl
 nothing_first (k ∷ c) e = absurd cc
 
+-- behind the last step of a role there is none of the role
+pub role_ends : (a b : List Entry) (x : Entry) → AreDistinct (keys_of any_step (a ++ x ∷ b)) → key_after x.key (keys_of (of_role x.step.role) (a ++ x ∷ b)) ≡ None → keys_of (of_role x.step.role) b ≡ []
+role_ends a b x d final =
+    let p = of_role x.step.role in
+    let is = keys_around p a b x (eq-eqb x.step.role x.step.role refl) in
+    let o = once x.key (keys_of p a) (keys_of p b) (subst AreDistinct is (distinct p (a ++ x ∷ b) d)) in
+    let next : key_after x.key (keys_of p (a ++ x ∷ b)) ≡ first_key (keys_of p b) = ap (key_after x.key) is ∙ after_absent x.key (keys_of p a) (x.key ∷ keys_of p b) o.0 ∙ rw (eq-eqb x.key x.key refl) refl in
+    nothing_first (keys_of p b) (sym next ∙ final)
+
+-- so it is the last of each chain of its role that it stands in
+pub last_of_chain : (f : Step → Bool) (a b : List Entry) (x : Entry) → AreDistinct (keys_of any_step (a ++ x ∷ b)) → key_after x.key (keys_of (of_role x.step.role) (a ++ x ∷ b)) ≡ None → ((s : Step) → f s ≡ true → of_role x.step.role s ≡ true) → f x.step ≡ true → last_key None (keys_of f (a ++ x ∷ b)) ≡ Some x.key
+last_of_chain f a b x d final sub t =
+    ap (last_key None) (keys_around f a b x t ∙ ap (λ (l : List ℕ). keys_of f a ++ x.key ∷ l) (none_of (of_role x.step.role) f b sub (role_ends a b x d final)))
+    ∙ last-append None (keys_of f a) (x.key ∷ [])
+
 module _ (look after : ℕ → Option Node) (a b : List Entry) (x : Entry) (n : AreNodes look (a ++ x ∷ b)) (final : key_after x.key (keys_of (of_role x.step.role) (a ++ x ∷ b)) ≡ None) where
   abbrev whole : List Entry
   whole = a ++ x ∷ b
 
   -- no later step of the role
-  role_ends : keys_of (of_role x.step.role) b ≡ []
-  role_ends =
-      let p = of_role x.step.role in
-      let is = keys_around p a b x (eq-eqb x.step.role x.step.role refl) in
-      let o = once x.key (keys_of p a) (keys_of p b) (subst AreDistinct is (distinct p whole n.distinct)) in
-      let next : key_after x.key (keys_of p whole) ≡ first_key (keys_of p b) = ap (key_after x.key) is ∙ after_absent x.key (keys_of p a) (x.key ∷ keys_of p b) o.0 ∙ rw (eq-eqb x.key x.key refl) refl in
-      nothing_first (keys_of p b) (sym next ∙ final)
+  none_later : keys_of (of_role x.step.role) b ≡ []
+  none_later = role_ends a b x n.distinct final
 
   own_ends : keys_of (own x.step) b ≡ []
-  own_ends = none_of (of_role x.step.role) (own x.step) b (own_role x.step.role x.step.act) role_ends
+  own_ends = none_of (of_role x.step.role) (own x.step) b (own_role x.step.role x.step.act) none_later
 
   pub sends_ends : key_after x.key (keys_of (sends_like x.step) whole) ≡ None
   sends_ends =
       let p = sends_like x.step in
-      let last : keys_of p b ≡ [] = none_of (of_role x.step.role) p b (sends_role x.step.role x.step.act) role_ends in
+      let last : keys_of p b ≡ [] = none_of (of_role x.step.role) p b (sends_role x.step.role x.step.act) none_later in
       ⊎_elim
       (λ (t : p x.step ≡ true).
       let is = keys_around p a b x t in

@@ -7,6 +7,8 @@ use Rattle.std.specs.Option.{option_and_then}
 use Rattle.std.proofs.lemmas.Bool.{cases_Bool, cond-true, cond-false, eqb-true, and_parts, and_from, and_right, or_left, false_from_ne_true, both_ways}
 use Rattle.std.proofs.lemmas.List.{get_or-set_same, get_or-set_other, get_or_default}
 use Rattle.std.proofs.lemmas.Option.{slice_get_past}
+use Rattle.mps_base.specs.declared.action.Act.{Act}
+use Rattle.mps_base.specs.declared.action.Act.TheVariants.{Mark}
 use Rattle.mps_base.specs.declared.action.Step.{Step}
 use Rattle.mps_history.specs.Steps.{sends, receives, goes_to, comes_from}
 use Rattle.mps_arena.specs.Keys.{is_at, has, AreDistinct, first_key, last_key, key_after, key_before}
@@ -16,7 +18,7 @@ use Rattle.mps_arena.proofs.KeyLists.{get_in, get_none, has-append_right}
 use Rattle.mps_arena.proofs.Chains.{keys-append, keys_with, keys_without, keys_push, keys_kept, keys_around, keys_beside, distinct, absent, passes, entry_key}
 use Rattle.mps_arena.proofs.Mates.{matched_of, sends_pair, receives_pair, sends_chain}
 use Rattle.mps_arena.proofs.Nodes.{cases_entry}
-use Rattle.mps_arena.proofs.Keeping.{others_are}
+use Rattle.mps_arena.proofs.Keeping.{others_are, entry_split}
 use Rattle.mps_queues.specs.Fronts.{front_at, waiting_keys, AreFronts, pushed, taken, returned, dropped}
 
 -- lists of keys
@@ -150,7 +152,7 @@ module _ (es : List Entry) (sound : AreSound es) (p q : ℕ) where
   others_take e t i j n = rw (keys_kept (sends i j) es e (receives_gives p q i j e.step t), keys_kept (receives i j) es e (receives_at p q i j e.step t ∙ other_pair_turned p q i j n)) refl
 
 -- a place behind the first ones
-get_drop_front : (c : List ℕ) (g n m : ℕ) → m ≡ g + n → slice_get (drop g c) n ≡ slice_get c m
+pub get_drop_front : {A : Type 0} (c : List A) (g n m : ℕ) → m ≡ g + n → slice_get (drop g c) n ≡ slice_get c m
 get_drop_front c zero n m e = let same : n ≡ m = omega (arith, e) in ap (slice_get c) same
 get_drop_front [] (suc g) n m e = refl
 get_drop_front (j ∷ c) (suc g) n zero e = absurd (omega (arith, e))
@@ -265,3 +267,29 @@ module _ (es : List Entry) (sound : AreSound es) (p q k : ℕ) where
 pub front_read : (fronts : List (Option ℕ)) (es : List Entry) (p q at : ℕ) (d : Option ℕ) → length fronts ≡ 64 → p < 8 → q < 8 → at ≡ p * 8 + q → AreFronts es fronts → slice_index_or fronts at d ≡ waiting es p q
 front_read fronts es p q at d long hp hq place f =
     get_or_default fronts at d None (omega (arith, long, hp, hq, place)) ∙ ap (λ (k : ℕ). slice_index_or fronts k None) place ∙ f.each p q hp hq
+
+-- what is neither a send nor a receipt leaves the fronts
+module _ (x : Entry) (name : List ℕ) (mark : x.step.act ≡ Mark name) where
+  no_send : (p q : ℕ) → sends p q x.step ≡ false
+  no_send p q = ap (λ (a : Act). x.step.role == p && goes_to q a) mark ∙ and_right (x.step.role == p) false refl
+
+  no_receipt : (p q : ℕ) → receives p q x.step ≡ false
+  no_receipt p q = ap (λ (a : Act). x.step.role == q && comes_from p a) mark ∙ and_right (x.step.role == q) false refl
+
+  pub mark_joins : (es : List Entry) (fronts : List (Option ℕ)) → AreFronts es fronts → AreFronts (es ++ x ∷ []) fronts
+  mark_joins es fronts f = record {
+    each = λ p q hp hq.
+        f.each p q hp hq ∙ sym (ap₂ (λ (c d : List ℕ). slice_get c (length d)) (keys_kept (sends p q) es x (no_send p q)) (keys_kept (receives p q) es x (no_receipt p q)));
+  }
+
+  pub mark_goes : (es : List Entry) (fronts : List (Option ℕ)) → AreSound es → entry_at x.key es ≡ Some x → AreFronts es fronts → AreFronts (filter (λ e. not (e.key == x.key)) es) fronts
+  mark_goes es fronts sound found f =
+      let w = entry_split x.key es x found in
+      let d = subst (λ (l : List Entry). AreDistinct (keys_of any_step l)) w.2 sound.distinct in
+      let left : filter (λ e. not (e.key == x.key)) es ≡ w.0 ++ w.1 = ap (filter (λ e. not (e.key == x.key))) w.2 ∙ others_are x.key w.0 w.1 x d refl in
+      let same : (g : Step → Bool) → g x.step ≡ false → keys_of g es ≡ keys_of g (filter (λ e. not (e.key == x.key)) es) =
+      λ g n. ap (keys_of g) w.2 ∙ keys_beside g w.0 w.1 x n ∙ ap (keys_of g) (sym left) in
+      record {
+        each = λ p q hp hq.
+            f.each p q hp hq ∙ ap₂ (λ (c d : List ℕ). slice_get c (length d)) (same (sends p q) (no_send p q)) (same (receives p q) (no_receipt p q));
+      }
