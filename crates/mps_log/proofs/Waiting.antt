@@ -1,0 +1,94 @@
+-- Messages that wait, by the keys of their sends.
+use Rattle.std.proofs.Common.{◌≡◌, ℕ, zero, suc, ◌+◌, Bool, true, false, List, [], ◌∷◌, ◌++◌, length, drop, Option, Some, None, refl, sym, ap, ◌∙◌, subst, ⊎_elim, eq-eqb, append_assoc}
+use Rattle.std.specs.Prelude.{slice_get, IsSome}
+use Rattle.std.specs.List.{filter}
+use Rattle.std.specs.Option.{option_and_then}
+use Rattle.std.proofs.lemmas.Bool.{cases_Bool, both_ways}
+use Rattle.mps_base.specs.declared.action.Act.{Act}
+use Rattle.mps_base.specs.declared.action.Act.TheVariants.{Out, In, Mark}
+use Rattle.mps_base.specs.declared.action.Step.{Step}
+use Rattle.mps_history.specs.Steps.{sends, receives, given, all_given, unreceived}
+use Rattle.mps_arena.specs.Keys.{is_at, has, AreDistinct}
+use Rattle.mps_arena.specs.Entries.{Entry, steps, keys_of, any_step, like, unlike, entry_at, AreSound}
+use Rattle.mps_arena.specs.Sources.{mate_of, source_in}
+use Rattle.mps_arena.specs.Receipts.{source_mate}
+use Rattle.mps_arena.proofs.KeyLists.{get_in, partner_in}
+use Rattle.mps_arena.proofs.Chains.{absent, entry_middle}
+use Rattle.mps_arena.proofs.Mates.{sends_pair}
+use Rattle.mps_arena.proofs.Nodes.{cases_entry}
+use Rattle.mps_queues.specs.Fronts.{waiting_keys}
+use Rattle.mps_queues.proofs.Moves.{get_drop_front}
+use Rattle.mps_log.specs.Values.{given_by, message_of}
+
+-- a key of a chain is an entry's
+pub has_entry : (p : Step → Bool) (es : List Entry) (k : ℕ) → has k (keys_of p es) ≡ true → IsSome (entry_at k es)
+has_entry p es k h =
+    ⊎_elim
+    (λ (z : entry_at k es ≡ None). absurd (both_ways (has k (keys_of p es)) (absent p k es z) h))
+    (λ (w : (y : Entry) × (entry_at k es ≡ Some y)). rw w.1 refl)
+    (cases_entry (entry_at k es))
+
+same_count : (p : Step → Bool) (es : List Entry) → length (filter p (steps es)) ≡ length (keys_of p es)
+same_count p [] = refl
+same_count p (y ∷ es) =
+    ⊎_elim
+    (λ (t : p y.step ≡ true). rw t (ap suc (same_count p es)))
+    (λ (f : p y.step ≡ false). rw f (same_count p es))
+    (cases_Bool (p y.step))
+
+module _ (es : List Entry) (sound : AreSound es) (p q : ℕ) where
+  -- the messages of a chain of sends are those of its keys, in order
+  messages_at : (a b : List Entry) → es ≡ a ++ b → (n : ℕ) → slice_get (all_given (filter (sends p q) (steps b))) n ≡ option_and_then (message_of es) (slice_get (keys_of (sends p q) b) n)
+  messages_at a [] e n = refl
+  messages_at a (y ∷ b) e n =
+      let shifted = e ∙ sym (append_assoc a (y ∷ []) b) in
+      ⊎_elim
+      (λ (t : sends p q y.step ≡ true). rw t (with_message t (messages_at (a ++ y ∷ []) b shifted) n))
+      (λ (f : sends p q y.step ≡ false). rw f (messages_at (a ++ y ∷ []) b shifted n))
+      (cases_Bool (sends p q y.step))
+    where
+      found : entry_at y.key es ≡ Some y
+      found = subst (λ (l : List Entry). entry_at y.key l ≡ Some y) (sym e) (entry_middle a b y (subst (λ (l : List Entry). AreDistinct (keys_of any_step l)) e sound.distinct))
+
+      with_message : sends p q y.step ≡ true → ((n : ℕ) → slice_get (all_given (filter (sends p q) (steps b))) n ≡ option_and_then (message_of es) (slice_get (keys_of (sends p q) b) n)) → (n : ℕ) → slice_get (given y.step.act ++ all_given (filter (sends p q) (steps b))) n ≡ option_and_then (message_of es) (slice_get (y.key ∷ keys_of (sends p q) b) n)
+      with_message t rest zero =
+          let w = sends_pair p q y.step t in
+          ap (λ (c : Act). slice_get (given c ++ all_given (filter (sends p q) (steps b))) 0) w.2
+          ∙ sym (ap (option_and_then (λ (x : Entry). given_by x.step.act)) found ∙ ap given_by w.2)
+      with_message t rest (suc n) =
+          let w = sends_pair p q y.step t in
+          ap (λ (c : Act). slice_get (given c ++ all_given (filter (sends p q) (steps b))) (suc n)) w.2
+          ∙ rest n
+
+  -- so what waits is what the waiting sends gave
+  pub message_waits : (n : ℕ) → slice_get (unreceived p q (steps es)) n ≡ option_and_then (message_of es) (slice_get (waiting_keys es p q) n)
+  message_waits n =
+      let g = length (keys_of (receives p q) es) in
+      ap (λ (k : ℕ). slice_get (drop k (all_given (filter (sends p q) (steps es)))) n) (same_count (receives p q) es)
+      ∙ get_drop_front (all_given (filter (sends p q) (steps es))) g n (g + n) refl
+      ∙ messages_at [] es refl (g + n)
+      ∙ ap (option_and_then (message_of es)) (sym (get_drop_front (keys_of (sends p q) es) g n (g + n) refl))
+
+  pub waiting_entry : (n k : ℕ) → slice_get (waiting_keys es p q) n ≡ Some k → IsSome (entry_at k es)
+  waiting_entry n k e =
+      let g = length (keys_of (receives p q) es) in
+      let c = keys_of (sends p q) es in
+      let at : slice_get c (g + n) ≡ Some k = sym (get_drop_front c g n (g + n) refl) ∙ e in
+      has_entry (sends p q) es k (get_in c (g + n) k (ap (λ (o : Option ℕ). is_at o k) at ∙ eq-eqb k k refl))
+
+-- the source of a receipt is an entry's
+pub source_entry : (es : List Entry) (k j : ℕ) → source_in es k ≡ Some j → IsSome (entry_at j es)
+source_entry es k j e =
+    ⊎_elim
+    (λ (z : entry_at k es ≡ None). let no : None ≡ Some j = sym (ap (option_and_then (λ (x : Entry). source_mate x.step.act (mate_of es x))) z) ∙ e in absurd cc)
+    (λ (w : (y : Entry) × (entry_at k es ≡ Some y)).
+    of_act w.0 w.0.step.act (sym (ap (option_and_then (λ (x : Entry). source_mate x.step.act (mate_of es x))) w.1) ∙ e))
+    (cases_entry (entry_at k es))
+  where
+    of_act : (y : Entry) (c : Act) → source_mate c (mate_of es y) ≡ Some j → IsSome (entry_at j es)
+    of_act y (Out to message) h = absurd cc
+    of_act y (In from slot) h =
+        let own = keys_of (like y.step.role y.step.act) es in
+        let other = keys_of (unlike y.step.role y.step.act) es in
+        has_entry (unlike y.step.role y.step.act) es j (partner_in y.key j own other (ap (λ (o : Option ℕ). is_at o j) h ∙ eq-eqb j j refl))
+    of_act y (Mark name) h = absurd cc

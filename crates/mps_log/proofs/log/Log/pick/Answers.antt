@@ -1,0 +1,26 @@
+use Rattle.std.proofs.Common.{◌≡◌, [], ◌∷◌, ◌++◌, List, None, false, refl, sym, ap, ◌∙◌, subst, eq-eqb}
+use Rattle.std.specs.Prelude.{◌==◌}
+use Rattle.std.proofs.lemmas.Bool.{and_from}
+use Rattle.mps_base.specs.declared.action.Act.TheVariants.{In}
+use Rattle.mps_arena.specs.Entries.{Entry}
+use Rattle.mps_queues.specs.Fronts.{AreFronts}
+use Rattle.mps_stores.specs.Stores.{AreStores}
+use Rattle.mps_stores.proofs.Bindings.{stores_idle_push}
+use Rattle.mps_log.proofs.log.Log.pick.Goals as goal
+
+pub invariant_of-self-2 : goal.invariant_of-self-2
+invariant_of-self-2 c =
+    let l = c.self.inside in
+    let k = c.self.invariant in
+    let es = l.arena.entries in
+    let p = c.args.role in
+    let q = c.args.from in
+    let e : Entry = record { key = c.add.result; step = record { id = c.next_id-id.result; role = p; act = In q (None) }; before = record { at = c.args.at; bound = None }; marked = false } in
+    let same : c.reserve_one.new.self.entries ≡ es = c.reserve_one.ensures.entries in
+    let whole : c.add.new.self.entries ≡ es ++ e ∷ [] = c.add.ensures.entries ∙ ap (λ (o : List Entry). o ++ e ∷ []) same in
+    let got = and_from (p == p) (q == q) (eq-eqb p p refl) (eq-eqb q q refl) in
+    record {
+      sound = c.add.ensures.sound;
+      fronts = subst (λ (o : List Entry). AreFronts o c.take.new.self) (sym c.add.ensures.entries) (c.take.ensures e got);
+      stores = subst (λ (o : List Entry). AreStores o l.stores) (sym whole) (stores_idle_push es e l.stores k.stores refl);
+    }

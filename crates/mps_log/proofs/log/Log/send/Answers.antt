@@ -1,0 +1,25 @@
+use Rattle.std.proofs.Common.{◌≡◌, [], ◌∷◌, ◌++◌, List, None, false, refl, sym, ap, ◌∙◌, subst, eq-eqb}
+use Rattle.std.specs.Prelude.{◌==◌}
+use Rattle.std.proofs.lemmas.Bool.{and_from}
+use Rattle.mps_base.specs.declared.action.Act.TheVariants.{Out}
+use Rattle.mps_arena.specs.Entries.{Entry}
+use Rattle.mps_queues.specs.Fronts.{AreFronts}
+use Rattle.mps_stores.specs.Stores.{AreStores}
+use Rattle.mps_stores.proofs.Bindings.{stores_idle_push}
+use Rattle.mps_log.proofs.log.Log.send.Goals as goal
+
+pub invariant_of-self-2 : goal.invariant_of-self-2
+invariant_of-self-2 c =
+    let l = c.self.inside in
+    let k = c.self.invariant in
+    let es = l.arena.entries in
+    let p = c.args.role in
+    let q = c.args.to in
+    let e : Entry = record { key = c.add.result; step = record { id = c.next_id-id.result; role = p; act = Out q c.args.message }; before = record { at = c.args.at; bound = None }; marked = false } in
+    let whole : c.add.new.self.entries ≡ es ++ e ∷ [] = c.add.ensures.entries ∙ ap (λ (o : List Entry). o ++ e ∷ []) c.reserve_one.ensures.entries in
+    let sent = and_from (p == p) (q == q) (eq-eqb p p refl) (eq-eqb q q refl) in
+    record {
+      sound = c.add.ensures.sound;
+      fronts = subst (λ (o : List Entry). AreFronts o c.push.new.self) (sym whole) (c.push.ensures es e k.fronts k.sound sent (c.add.ensures.key ∙ sym c.in_ok-key.ensures.key));
+      stores = subst (λ (o : List Entry). AreStores o l.stores) (sym whole) (stores_idle_push es e l.stores k.stores refl);
+    }

@@ -1,0 +1,28 @@
+-- What a log is after a step has joined.
+use Rattle.std.specs.Prelude.{◌≡◌, ◌+◌, ◌++◌, ◌∷◌, [], ℕ, false, List, Option, None}
+use Rattle.std.specs.Option.{option_and_then}
+use Rattle.mps_base.specs.declared.action.Act.{Act}
+use Rattle.mps_history.specs.Slots.{value_in}
+use Rattle.mps_arena.specs.Entries.{Entry, entry_at}
+use Rattle.mps_stores.specs.Stores.{bindings, slot_of}
+use Rattle.mps_log.specs.Logged.{Logged}
+
+-- to what the slot of a receipt of role p is bound; nothing where the act is no receipt into a slot
+abbrev pub replaced : List Entry → ℕ → Act → Option ℕ
+replaced es p act = option_and_then (λ slot. value_in slot (bindings p es)) (slot_of act)
+
+-- the entry of an act of role p, which stood at that node
+abbrev pub joining : Logged → ℕ → Act → ℕ → ℕ → Entry
+joining l p act at key = record {
+  key = key;
+  step = record { id = l.issued + 1; role = p; act = act };
+  before = record { at = at; bound = replaced l.entries p act };
+  marked = false;
+}
+
+-- the act of role p is the newest step, with the next number and under a key that was free
+pub record HasJoined (old new : Logged) (p : ℕ) (act : Act) (at : ℕ) : Type 0 where
+  pub key : ℕ
+  pub fresh : entry_at key old.entries ≡ None
+  pub entries : new.entries ≡ old.entries ++ joining old p act at key ∷ []
+  pub issued : new.issued ≡ old.issued + 1

@@ -1,0 +1,39 @@
+-- The messages that steps give, and the values that receipts took.
+use Rattle.std.specs.Prelude.{ℕ, List, Option, Some, None}
+use Rattle.std.specs.Option.{option_and_then}
+use Rattle.mps_base.specs.declared.action.Act.{Act}
+use Rattle.mps_base.specs.declared.action.Act.TheVariants.{Out, In, Mark}
+use Rattle.mps_base.specs.declared.action.Message.{Message}
+use Rattle.mps_base.specs.declared.action.Message.TheVariants.{Value as Plain, Label}
+use Rattle.mps_base.specs.declared.value.Value.{Value}
+use Rattle.mps_history.specs.Slots.{value_in}
+use Rattle.mps_arena.specs.Entries.{Entry, entry_at}
+use Rattle.mps_arena.specs.Sources.{source_in}
+use Rattle.mps_stores.specs.Stores.{bindings}
+
+-- the message that an act gives
+abbrev pub given_by : Act → Option Message
+given_by (Out to message) = Some message
+given_by (In from slot) = None
+given_by (Mark name) = None
+
+-- the value of a message
+abbrev pub value_of : Message → Option Value
+value_of (Plain value) = Some value
+value_of (Label label) = None
+
+-- the message that the step of the key gave
+abbrev pub message_of : List Entry → ℕ → Option Message
+message_of es k = option_and_then (λ e. given_by e.step.act) (entry_at k es)
+
+-- the message that the receipt of the key took: its source's
+abbrev pub message_taken : List Entry → ℕ → Option Message
+message_taken es k = option_and_then (message_of es) (source_in es k)
+
+-- the value that it took
+abbrev pub value_taken : List Entry → ℕ → Option Value
+value_taken es k = option_and_then value_of (message_taken es k)
+
+-- what role p keeps in the slot: the value that the receipt took to which the slot is bound
+abbrev pub kept_in : List Entry → ℕ → List ℕ → Option Value
+kept_in es p slot = option_and_then (value_taken es) (value_in slot (bindings p es))

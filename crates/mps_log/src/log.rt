@@ -1,0 +1,243 @@
+//! The log.
+ghost use Rattle.std.specs.Prelude.{◌≡◌, ◌<◌, ◌+◌, ◌^◌, ◌==◌, List, [], ◌∷◌, ◌++◌, not, Some, None, IfOk, OnOk, OnErr, IsSome, slice_get};
+ghost use Rattle.std.specs.List.{filter};
+ghost use Rattle.std.specs.Option.{option_copied, option_map, option_and_then};
+ghost use Rattle.mps_base.specs.declared.action.Act.TheVariants.{Out, In, Mark};
+ghost use Rattle.mps_history.specs.Steps.{without, unreceived};
+ghost use Rattle.mps_arena.specs.Entries.{Entry, steps, entry_at, AreSound};
+ghost use Rattle.mps_arena.specs.Sources.{waiting, CanGo};
+ghost use Rattle.mps_queues.specs.Fronts.{AreFronts};
+ghost use Rattle.mps_stores.specs.Stores.{slot_of, AreStores};
+ghost use Rattle.mps_log.specs.Joins.{HasJoined};
+ghost use Rattle.mps_log.specs.Values.{message_of, kept_in};
+
+use mps_arena::{Arena, Before, Key};
+use mps_base::{Act, Message, Name, Role, Step, StepId, Value};
+use mps_queues::Queues;
+use mps_stores::Stores;
+use std::alloc::{AllocError, Global};
+use std::marker::Model;
+
+/// The surviving steps, the oldest first, with the queues and the slots that they lead to. Each message is kept
+/// once, in the step that gave it.
+#[derive(Drop)]
+pub struct Log {
+    arena: Arena,
+    queues: Queues,
+    stores: Stores,
+}
+
+impl Model for Log {
+    ghost use Rattle.mps_log.specs.Logged.{Logged, view_of, IsLog};
+
+    ghost Value = { Logged };
+
+    ghost view = { view_of };
+
+    ghost invariant = { IsLog };
+}
+
+// The number of the next step.
+fn next_id(arena: &Arena) -> StepId
+    requires { arena.now.issued + 1 < 2 ^ 64 }
+    ensures { result ≡ arena.now.issued + 1 }
+{
+    StepId::new(arena.issued() as u64 + 1)
+}
+
+// The queues without the step of the key: a send's message leaves them, a receipt's comes back to the front.
+fn give_back(queues: &mut Queues, arena: &Arena, key: Key)
+    requires can { CanGo arena.now.entries key }
+    requires sound { AreSound arena.now.entries }
+    requires fronts { AreFronts arena.now.entries queues.old }
+    ensures { AreFronts (filter (λ e. not (e.key == key)) arena.now.entries) queues.new }
+{
+    let step = arena.get(key);
+    match &step.act {
+        Act::Out { to, .. } => queues.drop_last(arena, step.role, *to),
+        Act::In { from, .. } => queues.put_back(arena, *from, step.role),
+        Act::Mark(_) => {}
+    }
+}
+
+// The slots without the step of the key: a receipt's gets back what it was bound to.
+fn unbind(stores: &mut Stores, arena: &Arena, key: Key)
+    requires can { CanGo arena.now.entries key }
+    requires sound { AreSound arena.now.entries }
+    requires stores { AreStores arena.now.entries stores.old }
+    ensures { AreStores (filter (λ e. not (e.key == key)) arena.now.entries) stores.new }
+{
+    let step = arena.get(key);
+    if let Some(slot) = slot_in(&step.act) {
+        stores.unbind(step.role, slot, arena.before(key).bound);
+    }
+}
+
+// The slot into which the act receives a value.
+fn slot_in(act: &Act) -> Option<&Name>
+    ensures { option_copied result ≡ slot_of act.now }
+{
+    match act {
+        Act::In { slot, .. } => slot.as_ref(),
+        Act::Out { .. } | Act::Mark(_) => None,
+    }
+}
+
+// The message that the step of the key gave, if it gave one.
+fn message_at(arena: &Arena, key: Key) -> Option<&Message>
+    requires { IsSome (entry_at key arena.now.entries) }
+    ensures { option_copied result ≡ message_of arena.now.entries key }
+{
+    match &arena.get(key).act {
+        Act::Out { message, .. } => Some(message),
+        _ => None,
+    }
+}
+
+impl Log {
+    /// A log without steps. The allocator is kept for later growth.
+    pub fn new(alloc: Global) -> Result<Log, AllocError>
+        ensures entries { IfOk result (λ log. log.entries ≡ []) }
+        ensures issued { IfOk result (λ log. log.issued ≡ 0) }
+    {
+        Ok(Log {
+            arena: Arena::new(alloc),
+            queues: Queues::new(),
+            stores: Stores::new(alloc)?,
+        })
+    }
+
+    /// The steps with their links.
+    pub fn steps(&self) -> &Arena
+        ensures entries { result.now.entries ≡ self.now.entries }
+        ensures issued { result.now.issued ≡ self.now.issued }
+        ensures sound { AreSound self.now.entries }
+    {
+        &self.arena
+    }
+
+    /// The k-th message that waits, from 0, of those that one role sent to another. It takes k looks.
+    pub fn message(&self, from: Role, to: Role, k: usize) -> Option<&Message>
+        requires from { from < 8 }
+        requires to { to < 8 }
+        ensures { option_copied result
+            ≡ slice_get (unreceived from to (steps self.now.entries)) k }
+    {
+        let key = self.queues.nth(&self.arena, from, to, k)?;
+        message_at(&self.arena, key)
+    }
+
+    /// What the role keeps in the slot: the value that the newest receipt into it took.
+    pub fn value(&self, role: Role, slot: &Name) -> Option<&Value>
+        requires { role < 8 }
+        ensures { option_copied result ≡ kept_in self.now.entries role slot.now }
+    {
+        let receipt = self.stores.get(role, slot)?;
+        let source = self.arena.source(receipt)?;
+        match message_at(&self.arena, source) {
+            Some(Message::Value(value)) => Some(value),
+            _ => None,
+        }
+    }
+
+    /// Puts a send or a choice behind all other steps, with the next number. The role stood at the node `at`.
+    pub fn send(
+        &mut self,
+        role: Role,
+        to: Role,
+        message: Message,
+        at: u16,
+    ) -> Result<StepId, AllocError>
+        requires role { role < 8 }
+        requires to { to < 8 }
+        ensures id { IfOk result (λ id. id ≡ self.old.issued + 1) }
+        ensures joined { OnOk result (HasJoined self.old self.new role (Out to message) at) }
+        ensures err { OnErr result (self.new ≡ self.old) }
+    {
+        let key = self.arena.reserve_one()?;
+        self.queues.push(role, to, key);
+        let id = next_id(&self.arena);
+        let act = Act::Out { to, message };
+        self.arena
+            .add(Step { id, role, act }, Before { at, bound: None }, None);
+        Ok(id)
+    }
+
+    /// Puts a receipt behind all other steps, with the next number. It takes the first message that waits, to which
+    /// its slot is bound. The role stood at the node `at`.
+    pub fn receive(
+        &mut self,
+        role: Role,
+        from: Role,
+        slot: Name,
+        at: u16,
+    ) -> Result<StepId, AllocError>
+        requires role { role < 8 }
+        requires from { from < 8 }
+        requires waits { IsSome (waiting self.old.entries from role) }
+        ensures id { IfOk result (λ id. id ≡ self.old.issued + 1) }
+        ensures joined { OnOk result (HasJoined self.old self.new role (In from (Some slot)) at) }
+        ensures err { OnErr result (self.new ≡ self.old) }
+    {
+        let key = self.arena.reserve_one()?;
+        let bound = self.stores.bind(role, slot, key)?;
+        let source = self.queues.front(from, role);
+        self.queues.take(&self.arena, from, role);
+        let id = next_id(&self.arena);
+        let slot = Some(slot);
+        let act = Act::In { from, slot };
+        self.arena
+            .add(Step { id, role, act }, Before { at, bound }, source);
+        Ok(id)
+    }
+
+    /// Puts a pick behind all other steps, with the next number. It takes the first message that waits. The role
+    /// stood at the node `at`.
+    pub fn pick(&mut self, role: Role, from: Role, at: u16) -> Result<StepId, AllocError>
+        requires role { role < 8 }
+        requires from { from < 8 }
+        requires waits { IsSome (waiting self.old.entries from role) }
+        ensures id { IfOk result (λ id. id ≡ self.old.issued + 1) }
+        ensures joined { OnOk result (HasJoined self.old self.new role (In from None) at) }
+        ensures err { OnErr result (self.new ≡ self.old) }
+    {
+        self.arena.reserve_one()?;
+        let source = self.queues.front(from, role);
+        self.queues.take(&self.arena, from, role);
+        let id = next_id(&self.arena);
+        let act = Act::In { from, slot: None };
+        self.arena
+            .add(Step { id, role, act }, Before { at, bound: None }, source);
+        Ok(id)
+    }
+
+    /// Puts a mark behind all other steps, with the next number. The role stood at the node `at`.
+    pub fn mark(&mut self, role: Role, name: Name, at: u16) -> Result<StepId, AllocError>
+        requires { role < 8 }
+        ensures id { IfOk result (λ id. id ≡ self.old.issued + 1) }
+        ensures joined { OnOk result (HasJoined self.old self.new role (Mark name) at) }
+        ensures err { OnErr result (self.new ≡ self.old) }
+    {
+        self.arena.reserve_one()?;
+        let id = next_id(&self.arena);
+        let act = Act::Mark(name);
+        self.arena
+            .add(Step { id, role, act }, Before { at, bound: None }, None);
+        Ok(id)
+    }
+
+    /// Takes a step out that is the last of its role and, if it is a send or a choice, isn't received. Its message
+    /// leaves the queue, or comes back to its front; its slot gets back what it was bound to.
+    pub fn take_out(&mut self, key: Key) -> Step
+        requires { CanGo self.old.entries key }
+        ensures step { option_map (λ e. e.step) (entry_at key self.old.entries) ≡ Some result }
+        ensures entries { self.new.entries ≡ filter (λ e. not (e.key == key)) self.old.entries }
+        ensures history { steps self.new.entries
+            ≡ without (steps self.old.entries) (λ m. m == result.id) }
+        ensures issued { self.new.issued ≡ self.old.issued }
+    {
+        give_back(&mut self.queues, &self.arena, key);
+        unbind(&mut self.stores, &self.arena, key);
+        self.arena.remove(key)
+    }
+}
