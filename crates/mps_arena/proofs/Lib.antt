@@ -8,3 +8,4 @@ pub mod Numbers
 pub mod Marking
 pub mod Histories
 pub mod Rising
+pub mod Walking

@@ -1,5 +1,5 @@
 //! The arena.
-ghost use Rattle.std.specs.Prelude.{◌≡◌, ◌+◌, ◌^◌, [], ◌∷◌, ◌++◌, ◌==◌, not, false, None, IsTrue, OnOk, IfOk, IsSome, Some, map, length, ◌<◌};
+ghost use Rattle.std.specs.Prelude.{◌≡◌, ◌+◌, ◌^◌, [], ◌∷◌, ◌++◌, ◌==◌, not, false, None, IsTrue, OnOk, IfOk, IsSome, Some, map, length, slice_get, ◌<◌};
 ghost use Rattle.std.specs.Option.{option_map};
 ghost use Rattle.std.specs.List.{filter, find};
 ghost use Rattle.mps_history.specs.Steps.{sends, without};
@@ -107,6 +107,20 @@ impl Arena {
         ensures sound { AreSound self.now.entries }
     {
         self.nodes.len()
+    }
+
+    /// The key of the k-th step, from 0. It takes k looks.
+    pub fn nth(&self, k: usize) -> Option<Key>
+        ensures { result ≡ slice_get (keys_of any_step self.now.entries) k }
+    {
+        if k >= self.len() {
+            return None;
+        }
+        let mut at = self.first()?;
+        for _ in 0..k {
+            at = self.next(at)?;
+        }
+        Some(at)
     }
 
     /// How many numbers were given out.

@@ -1,7 +1,7 @@
 -- Messages that wait, by the keys of their sends.
-use Rattle.std.proofs.Common.{◌≡◌, ℕ, zero, suc, ◌+◌, Bool, true, false, List, [], ◌∷◌, ◌++◌, length, drop, Option, Some, None, refl, sym, ap, ◌∙◌, subst, ⊎_elim, eq-eqb, append_assoc}
+use Rattle.std.proofs.Common.{◌≡◌, ℕ, zero, suc, ◌+◌, ◌<◌, Bool, true, false, List, [], ◌∷◌, ◌++◌, length, drop, Option, Some, None, refl, sym, ap, ◌∙◌, subst, ⊎_elim, eq-eqb, append_assoc}
 use Rattle.std.specs.Prelude.{slice_get, IsSome}
-use Rattle.std.specs.List.{filter}
+use Rattle.std.specs.List.{filter, AllByRecursion}
 use Rattle.std.specs.Option.{option_and_then}
 use Rattle.std.proofs.lemmas.Bool.{cases_Bool, both_ways}
 use Rattle.mps_base.specs.declared.action.Act.{Act}
@@ -9,7 +9,7 @@ use Rattle.mps_base.specs.declared.action.Act.TheVariants.{Out, In, Mark}
 use Rattle.mps_base.specs.declared.action.Step.{Step}
 use Rattle.mps_history.specs.Steps.{sends, receives, given, all_given, unreceived}
 use Rattle.mps_arena.specs.Keys.{is_at, has, AreDistinct}
-use Rattle.mps_arena.specs.Entries.{Entry, steps, keys_of, any_step, like, unlike, entry_at, AreSound}
+use Rattle.mps_arena.specs.Entries.{Entry, steps, keys_of, any_step, like, unlike, entry_at, IsSmall, IsSmallAct, AreSound}
 use Rattle.mps_arena.specs.Sources.{mate_of, source_in}
 use Rattle.mps_arena.specs.Receipts.{source_mate}
 use Rattle.mps_arena.proofs.KeyLists.{get_in, partner_in}
@@ -75,6 +75,24 @@ module _ (es : List Entry) (sound : AreSound es) (p q : ℕ) where
       let c = keys_of (sends p q) es in
       let at : slice_get c (g + n) ≡ Some k = sym (get_drop_front c g n (g + n) refl) ∙ e in
       has_entry (sends p q) es k (get_in c (g + n) k (ap (λ (o : Option ℕ). is_at o k) at ∙ eq-eqb k k refl))
+
+  -- roles past the eighth have no chains
+  no_stranger : (p < 8 → q < 8 → ⊥) → (b : List Entry) → AllByRecursion (λ e. IsSmall e.step) b → keys_of (sends p q) b ≡ []
+  no_stranger far [] small = refl
+  no_stranger far (y ∷ b) small =
+      ⊎_elim
+      (λ (t : sends p q y.step ≡ true).
+      let w = sends_pair p q y.step t in
+      absurd (far (subst (λ (r : ℕ). r < 8) w.1 small.0.0) (subst IsSmallAct w.2 small.0.1)))
+      (λ (f : sends p q y.step ≡ false). keys_without (sends p q) y b f ∙ no_stranger far b small.1)
+      (cases_Bool (sends p q y.step))
+
+  pub nothing_waits : (p < 8 → q < 8 → ⊥) → (n : ℕ) → slice_get (unreceived p q (steps es)) n ≡ None
+  nothing_waits far n =
+      let g = length (keys_of (receives p q) es) in
+      let c = keys_of (sends p q) es in
+      message_waits n
+      ∙ ap (option_and_then (message_of es)) (get_drop_front c g n (g + n) refl ∙ ap (λ (l : List ℕ). slice_get l (g + n)) (no_stranger far es sound.small))
 
 -- the source of a receipt is an entry's
 pub source_entry : (es : List Entry) (k j : ℕ) → source_in es k ≡ Some j → IsSome (entry_at j es)

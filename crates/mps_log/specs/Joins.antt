@@ -3,7 +3,7 @@ use Rattle.std.specs.Prelude.{◌≡◌, ◌+◌, ◌++◌, ◌∷◌, [], ℕ, 
 use Rattle.std.specs.Option.{option_and_then}
 use Rattle.mps_base.specs.declared.action.Act.{Act}
 use Rattle.mps_history.specs.Slots.{value_in}
-use Rattle.mps_arena.specs.Entries.{Entry, entry_at}
+use Rattle.mps_arena.specs.Entries.{Entry, entry_at, AreSound}
 use Rattle.mps_stores.specs.Stores.{bindings, slot_of}
 use Rattle.mps_log.specs.Logged.{Logged}
 
@@ -26,3 +26,4 @@ pub record HasJoined (old new : Logged) (p : ℕ) (act : Act) (at : ℕ) : Type 
   pub fresh : entry_at key old.entries ≡ None
   pub entries : new.entries ≡ old.entries ++ joining old p act at key ∷ []
   pub issued : new.issued ≡ old.issued + 1
+  pub sound : AreSound new.entries

@@ -107,6 +107,14 @@ impl Log {
         })
     }
 
+    /// The k-th step, from 0. It takes k looks.
+    pub fn step(&self, k: usize) -> Option<&Step>
+        ensures { option_copied result ≡ slice_get (steps self.now.entries) k }
+    {
+        let key = self.arena.nth(k)?;
+        Some(self.arena.get(key))
+    }
+
     /// The steps with their links.
     pub fn steps(&self) -> &Arena
         ensures entries { result.now.entries ≡ self.now.entries }
@@ -116,13 +124,15 @@ impl Log {
         &self.arena
     }
 
-    /// The k-th message that waits, from 0, of those that one role sent to another. It takes k looks.
+    /// The k-th message that waits, from 0, of those that one role sent to another. It takes k looks. Any roles may be
+    /// named.
     pub fn message(&self, from: Role, to: Role, k: usize) -> Option<&Message>
-        requires from { from < 8 }
-        requires to { to < 8 }
         ensures { option_copied result
             ≡ slice_get (unreceived from to (steps self.now.entries)) k }
     {
+        if from.index() >= 8 || to.index() >= 8 {
+            return None;
+        }
         let key = self.queues.nth(&self.arena, from, to, k)?;
         message_at(&self.arena, key)
     }

@@ -14,7 +14,7 @@ use Rattle.mps_history.specs.Steps.{sends, receives, goes_to, comes_from}
 use Rattle.mps_arena.specs.Keys.{is_at, has, AreDistinct, first_key, last_key, key_after, key_before}
 use Rattle.mps_arena.specs.Entries.{Entry, keys_of, any_step, like_sends, entry_at, AreSound}
 use Rattle.mps_arena.specs.Sources.{waiting, next_send_in, prev_send_in}
-use Rattle.mps_arena.proofs.KeyLists.{get_in, get_none, has-append_right}
+use Rattle.mps_arena.proofs.KeyLists.{get_after, get_in, get_none, has-append_right}
 use Rattle.mps_arena.proofs.Chains.{keys-append, keys_with, keys_without, keys_push, keys_kept, keys_around, keys_beside, distinct, absent, passes, entry_key}
 use Rattle.mps_arena.proofs.Mates.{matched_of, sends_pair, receives_pair, sends_chain}
 use Rattle.mps_arena.proofs.Nodes.{cases_entry}
@@ -27,17 +27,6 @@ get_push [] zero k h = refl
 get_push [] (suc n) k h = absurd (omega (arith, h))
 get_push (j ∷ c) zero k h = refl
 get_push (j ∷ c) (suc n) k h = get_push c n k (omega (arith, h))
-
-get_after : (c : List ℕ) (n k : ℕ) → AreDistinct c → slice_get c n ≡ Some k → key_after k c ≡ slice_get c (suc n)
-get_after [] n k d e = absurd cc
-get_after (j ∷ c) zero k d e = let same : j ≡ k = cc in cond-true (j == k) _ (key_after k c) (eq-eqb j k same) ∙ first_is c
-  where
-    first_is : (c : List ℕ) → first_key c ≡ slice_get c zero
-    first_is [] = refl
-    first_is (i ∷ c) = refl
-get_after (j ∷ c) (suc n) k d e =
-    let n' : (j == k) ≡ false = false_from_ne_true (j == k) (λ t. both_ways (has k c) (subst (λ (i : ℕ). has i c ≡ false) (eqb-true j k t) d.0) (get_in c n k (ap (λ (o : Option ℕ). is_at o k) e ∙ eq-eqb k k refl))) in
-    cond-false (j == k) _ (key_after k c) n' ∙ get_after c n k d.1 e
 
 get_before : (before : Option ℕ) (c : List ℕ) (n k : ℕ) → AreDistinct c → slice_get c (suc n) ≡ Some k → key_before before k c ≡ slice_get c n
 get_before before [] n k d e = absurd cc

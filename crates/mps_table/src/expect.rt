@@ -20,10 +20,17 @@ impl Model for Node {
 
 impl Node {
     /// The node at this place; a table may have no such node.
-    pub(crate) const fn new(index: u16) -> Node
+    pub const fn new(index: u16) -> Node
         ensures { result ≡ index }
     {
         Node(index)
+    }
+
+    /// The number of its place, of which `Node::new` makes it again.
+    pub fn number(self) -> u16
+        ensures { result ≡ self }
+    {
+        self.0
     }
 
     /// Its place in the table.
