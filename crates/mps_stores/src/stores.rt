@@ -1,13 +1,14 @@
 //! The stores of all roles.
-ghost use Rattle.std.specs.Prelude.{◌≡◌, ℕ, ◌<◌, ◌==◌, not, List, [], ◌∷◌, ◌++◌, Some, None, IfOk, OnOk, OnErr, replicate, slice_get, slice_set};
+ghost use Rattle.std.specs.Prelude.{◌≡◌, ℕ, ◌<◌, ◌==◌, not, List, [], ◌∷◌, ◌++◌, Some, None, IfOk, OnOk, OnErr, replicate, slice_set};
 ghost use Rattle.std.specs.List.{filter};
-ghost use Rattle.std.specs.Option.{option_map};
+ghost use Rattle.std.specs.Map.Iter.{ShowsInOrder, deref_pair};
 ghost use Rattle.mps_history.specs.Slots.{bound, unbound, value_in};
 ghost use Rattle.mps_arena.specs.Keys.{last_key};
 ghost use Rattle.mps_arena.specs.Entries.{Entry, keys_of, of_role, entry_at, AreSound};
 ghost use Rattle.mps_stores.specs.Stores.{store_at, IsReceiptInto, AreStores};
 
 use crate::store::Store;
+use indexmap::map::Iter;
 use mps_arena::Key;
 use mps_base::{Name, Role};
 use std::alloc::{AllocError, Global};
@@ -51,23 +52,18 @@ impl Stores {
         self.stores[role.index()].get(slot)
     }
 
-    /// The k-th of the role's slots, from 0, in the order in which they were first bound.
-    pub fn entry(&self, role: Role, k: usize) -> Option<(&Name, Key)>
+    /// The role's slots and the receipts to which they are bound, in the order in which they were first bound.
+    pub fn entries(&self, role: Role) -> Iter<'_, Name, Key>
         requires { role < 8 }
-        ensures { option_map (λ entry. (entry.0.now, entry.1)) result
-            ≡ slice_get (store_at self.now role) k }
+        ensures rest { result ≡ store_at self.now role }
+        ensures runs { ShowsInOrder (deref_pair {K = List ℕ} {X = ℕ}) }
     {
-        self.stores[role.index()].entry(k)
+        self.stores[role.index()].entries()
     }
 
     /// Binds the role's slot to a receipt, and tells to which it was bound: what the receipt's entry keeps as
     /// `before.bound`. A known slot keeps its place, and needs no memory.
-    pub fn bind(
-        &mut self,
-        role: Role,
-        slot: Name,
-        key: Key,
-    ) -> Result<Option<Key>, AllocError>
+    pub fn bind(&mut self, role: Role, slot: Name, key: Key) -> Result<Option<Key>, AllocError>
         requires { role < 8 }
         ensures replaced { IfOk result (λ older. older ≡ value_in slot (store_at self.old role)) }
         ensures bound { OnOk result (self.new
@@ -76,6 +72,7 @@ impl Stores {
             AreStores es self.old → IsReceiptInto role slot e → e.key ≡ key → e.before.bound ≡ older →
             AreStores (es ++ e ∷ []) self.new) }
         ensures err { OnErr result (self.new ≡ self.old) }
+        ensures absent { OnErr result (value_in slot (store_at self.old role) ≡ None) }
     {
         let store = &mut self.stores[role.index()];
         store.bind(slot, key)
