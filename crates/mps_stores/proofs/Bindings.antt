@@ -12,7 +12,7 @@ use Rattle.mps_history.proofs.Slots.{same_slot, value_in-bound, unbound-bound}
 use Rattle.mps_arena.specs.Keys.{is_at, has, AreDistinct, last_key}
 use Rattle.mps_arena.specs.Entries.{Entry, keys_of, any_step, of_role, entry_at, with_mark, AreSound}
 use Rattle.mps_arena.proofs.KeyLists.{last-append, last_in, once}
-use Rattle.mps_arena.proofs.Chains.{keys-append, keys_with, keys_without, keys_around, distinct, entry_middle}
+use Rattle.mps_arena.proofs.Chains.{keys_with, keys_without, keys_around, distinct, entry_middle}
 use Rattle.mps_arena.proofs.Keeping.{entry_split, others_are}
 use Rattle.mps_stores.specs.Stores.{Keys, store_at, slot_of, IsReceiptInto, store_after, rebound, bindings, AreTraced, AreStores}
 
@@ -199,15 +199,22 @@ module _ (k : ℕ) (m : Bool) where
   rebound_marked p store [] = refl
   rebound_marked p store (x ∷ es) = rebound_marked p (store_after p store x) es
 
-  marks_place : (es c d : List Entry) (y : Entry) → marks es ≡ c ++ y ∷ d → (a : List Entry) × (b : List Entry) × (x : Entry) × ((es ≡ a ++ x ∷ b) × (c ≡ marks a) × (y ≡ with_mark k m x))
+  -- where an entry of the marked list stands in the other
+  abbrev Place : List Entry → List Entry → Entry → Type 0
+  Place es c y = (a : List Entry) × (b : List Entry) × (x : Entry) × ((es ≡ a ++ x ∷ b) × (c ≡ marks a) × (y ≡ with_mark k m x))
+
+  behind : (x z : Entry) (es c : List Entry) (y : Entry) → z ≡ with_mark k m x → Place es c y → Place (x ∷ es) (z ∷ c) y
+  behind x z es c y head w =
+      (x ∷ w.0, w.1, w.2, (ap (λ (l : List Entry). x ∷ l) w.3.0, ap₂ (λ (v : Entry) (l : List Entry). v ∷ l) head w.3.1, w.3.2))
+
+  marks_place : (es c d : List Entry) (y : Entry) → marks es ≡ c ++ y ∷ d → Place es c y
   marks_place [] [] d y e = absurd cc
   marks_place [] (z ∷ c) d y e = absurd cc
   marks_place (x ∷ es) [] d y e = let head : y ≡ with_mark k m x = cc in ([], es, x, (refl, refl, head))
   marks_place (x ∷ es) (z ∷ c) d y e =
       let head : z ≡ with_mark k m x = cc in
       let tail : marks es ≡ c ++ y ∷ d = cc in
-      let w = marks_place es c d y tail in
-      (x ∷ w.0, w.1, w.2, (ap (λ (l : List Entry). x ∷ l) w.3.0, ap₂ (λ (v : Entry) (l : List Entry). v ∷ l) head w.3.1, w.3.2))
+      behind x z es c y head (marks_place es c d y tail)
 
   pub stores_marked : (es : List Entry) (stores : List Keys) → AreStores es stores → AreStores (marks es) stores
   stores_marked es stores s = record {

@@ -14,7 +14,8 @@ use mps_base::{Name, Role};
 use std::alloc::{AllocError, Global};
 use std::marker::Model;
 
-/// For each of 8 roles its slots, each bound to the key of a receipt, in the order in which they were first bound.
+/// For each of 8 roles its slots, each bound to the key of a receipt, in the order in which they were
+/// first bound.
 #[derive(Drop)]
 pub struct Stores {
     stores: Vec<Store>,
@@ -52,7 +53,8 @@ impl Stores {
         self.stores[role.index()].get(slot)
     }
 
-    /// The role's slots and the receipts to which they are bound, in the order in which they were first bound.
+    /// The role's slots, in the order in which they were first bound, and the receipts to which they are
+    /// bound.
     pub fn entries(&self, role: Role) -> Iter<'_, Name, Key>
         requires { role < 8 }
         ensures rest { result ≡ store_at self.now role }
@@ -61,16 +63,16 @@ impl Stores {
         self.stores[role.index()].entries()
     }
 
-    /// Binds the role's slot to a receipt, and tells to which it was bound: what the receipt's entry keeps as
-    /// `before.bound`. A known slot keeps its place, and needs no memory.
+    /// Binds the role's slot to a receipt, and tells to which one it was bound: what the entry of the
+    /// receipt keeps as `before.bound`. A known slot keeps its place, and needs no memory.
     pub fn bind(&mut self, role: Role, slot: Name, key: Key) -> Result<Option<Key>, AllocError>
         requires { role < 8 }
         ensures replaced { IfOk result (λ older. older ≡ value_in slot (store_at self.old role)) }
         ensures bound { OnOk result (self.new
             ≡ slice_set self.old role (bound slot key (store_at self.old role))) }
         ensures follows { IfOk result (λ older. (es : List Entry) (e : Entry) →
-            AreStores es self.old → IsReceiptInto role slot e → e.key ≡ key → e.before.bound ≡ older →
-            AreStores (es ++ e ∷ []) self.new) }
+            AreStores es self.old → IsReceiptInto role slot e →
+            e.key ≡ key → e.before.bound ≡ older → AreStores (es ++ e ∷ []) self.new) }
         ensures err { OnErr result (self.new ≡ self.old) }
         ensures absent { OnErr result (value_in slot (store_at self.old role) ≡ None) }
     {
@@ -78,8 +80,8 @@ impl Stores {
         store.bind(slot, key)
     }
 
-    /// Takes the binding of a slot back: it is bound to the older receipt, in its place, or taken out where there is
-    /// none. Where the slot isn't bound, nothing changes.
+    /// Takes the binding of a slot back: it is bound to the older receipt, in its place, or taken out
+    /// where there is none. Where the slot isn't bound, nothing changes.
     pub fn unbind(&mut self, role: Role, slot: &Name, older: Option<Key>)
         requires { role < 8 }
         ensures unbound { self.new
