@@ -14,8 +14,8 @@ use mps_base::{Name, Role};
 use std::alloc::{AllocError, Global};
 use std::marker::Model;
 
-/// For each of 8 roles its slots, each bound to the key of a receipt, in the order in which they were
-/// first bound.
+/// For each of 8 roles its slots, in the order in which they were first bound, each bound to the key
+/// of a receipt.
 #[derive(Drop)]
 pub struct Stores {
     stores: Vec<Store>,
@@ -53,8 +53,7 @@ impl Stores {
         self.stores[role.index()].get(slot)
     }
 
-    /// The role's slots, in the order in which they were first bound, and the receipts to which they are
-    /// bound.
+    /// The role's slots, in the order in which they were first bound, each with its receipt.
     pub fn entries(&self, role: Role) -> Iter<'_, Name, Key>
         requires { role < 8 }
         ensures rest { result ≡ store_at self.now role }
@@ -63,8 +62,8 @@ impl Stores {
         self.stores[role.index()].entries()
     }
 
-    /// Binds the role's slot to a receipt, and tells to which one it was bound: what the entry of the
-    /// receipt keeps as `before.bound`. A known slot keeps its place, and needs no memory.
+    /// Binds the role's slot to a receipt, and tells to which one it was bound: what the receipt's
+    /// entry keeps as `before.bound`. A known slot keeps its place, and needs no memory.
     pub fn bind(&mut self, role: Role, slot: Name, key: Key) -> Result<Option<Key>, AllocError>
         requires { role < 8 }
         ensures replaced { IfOk result (λ older. older ≡ value_in slot (store_at self.old role)) }
@@ -80,8 +79,8 @@ impl Stores {
         store.bind(slot, key)
     }
 
-    /// Takes the binding of a slot back: it is bound to the older receipt, in its place, or taken out
-    /// where there is none. Where the slot isn't bound, nothing changes.
+    /// Takes the binding of a slot back: it is bound to the older receipt, in its place, or taken
+    /// out where there is none. Where the slot isn't bound, nothing changes.
     pub fn unbind(&mut self, role: Role, slot: &Name, older: Option<Key>)
         requires { role < 8 }
         ensures unbound { self.new
