@@ -14,7 +14,7 @@ use mps_base::{Name, Role};
 use std::alloc::{AllocError, Global};
 use std::marker::Model;
 
-/// For each of 8 roles its slots, in the order in which they were first bound, each bound to the key
+/// For each of 8 roles its slots, in the order in which they were first bound, each with the key
 /// of a receipt.
 #[derive(Drop)]
 pub struct Stores {
