@@ -12,7 +12,7 @@ use Rattle.mps_history.proofs.Slots.{same_slot, value_in-bound, unbound-bound}
 use Rattle.mps_arena.specs.Keys.{is_at, has, AreDistinct, last_key}
 use Rattle.mps_arena.specs.Entries.{Entry, keys_of, any_step, of_role, entry_at, with_mark, AreSound}
 use Rattle.mps_arena.proofs.KeyLists.{last-append, last_in, once}
-use Rattle.mps_arena.proofs.Chains.{keys-append, keys_with, keys_without, keys_around, distinct, entry_middle}
+use Rattle.mps_arena.proofs.Chains.{keys_with, keys_without, keys_around, distinct, entry_middle}
 use Rattle.mps_arena.proofs.Keeping.{entry_split, others_are}
 use Rattle.mps_stores.specs.Stores.{Keys, store_at, slot_of, IsReceiptInto, store_after, rebound, bindings, AreTraced, AreStores}
 
@@ -120,6 +120,7 @@ stores_bind es e p slot stores long small s is kept = record { each = each; trac
         let one : Some slot ≡ Some x = sym is.1 ∙ h.1 in
         let same : slot ≡ x = cc in
         kept ∙ ap (value_in slot) (s.each p small) ∙ ap₂ (λ (y : List ℕ) (r : ℕ). value_in y (bindings r es)) same role
+
     each : (q : ℕ) → q < 8 → store_at (slice_set stores p (bound slot e.key (store_at stores p))) q ≡ bindings q (es ++ e ∷ [])
     each q low =
         ⊎_elim
@@ -174,18 +175,18 @@ stores_unbind es e p slot older stores long small s sound found last is kept =
     ap₂ (unbound slot) older_is was ∙ unbound-bound slot e.key (bindings p a) ∙ sym (rebound-append p [] a b ∙ rebound_others p (bindings p a) b final) in
     let r : AreStores (a ++ b) now = record {
       each = λ q low.
-      ⊎_elim
-      (λ (y : (p == q) ≡ true).
-      subst (λ (i : ℕ). store_at now i ≡ bindings i (a ++ b)) (eqb-true p q y)
-      (get_or-set_same stores p (unbound slot older (store_at stores p)) [] (omega (arith, long, small)) ∙ back))
-      (λ (n : (p == q) ≡ false).
-      let away : q ≢ p = λ z. both_ways (p == q) n (eq-eqb p q (sym z)) in
-      get_or-set_other stores p q (unbound slot older (store_at stores p)) [] away ∙ s.each q low ∙ ap (bindings q) w.2
-      ∙ bindings_beside q a b e (λ store. after_other q store e (ap (λ (i : ℕ). i == q) is.0 ∙ n)))
-      (cases_Bool (p == q));
+          ⊎_elim
+          (λ (y : (p == q) ≡ true).
+          subst (λ (i : ℕ). store_at now i ≡ bindings i (a ++ b)) (eqb-true p q y)
+          (get_or-set_same stores p (unbound slot older (store_at stores p)) [] (omega (arith, long, small)) ∙ back))
+          (λ (n : (p == q) ≡ false).
+          let away : q ≢ p = λ z. both_ways (p == q) n (eq-eqb p q (sym z)) in
+          get_or-set_other stores p q (unbound slot older (store_at stores p)) [] away ∙ s.each q low ∙ ap (bindings q) w.2
+          ∙ bindings_beside q a b e (λ store. after_other q store e (ap (λ (i : ℕ). i == q) is.0 ∙ n)))
+          (cases_Bool (p == q));
       traced = traced_without a b e t (λ c l y parts store.
-      let other = not_of p c l y (ap (keys_of (of_role p)) (sym parts) ∙ final) in
-      after_other y.step.role store e (ap (λ (i : ℕ). i == y.step.role) is.0 ∙ ne_eqb p y.step.role (λ z. both_ways (y.step.role == p) other (eq-eqb y.step.role p (sym z)))));
+          let other = not_of p c l y (ap (keys_of (of_role p)) (sym parts) ∙ final) in
+          after_other y.step.role store e (ap (λ (i : ℕ). i == y.step.role) is.0 ∙ ne_eqb p y.step.role (λ z. both_ways (y.step.role == p) other (eq-eqb y.step.role p (sym z)))));
     } in
     subst (λ (l : List Entry). AreStores l now) (sym left) r
 
@@ -198,24 +199,31 @@ module _ (k : ℕ) (m : Bool) where
   rebound_marked p store [] = refl
   rebound_marked p store (x ∷ es) = rebound_marked p (store_after p store x) es
 
-  marks_place : (es c d : List Entry) (y : Entry) → marks es ≡ c ++ y ∷ d → (a : List Entry) × (b : List Entry) × (x : Entry) × ((es ≡ a ++ x ∷ b) × (c ≡ marks a) × (y ≡ with_mark k m x))
+  -- where an entry of the marked list stands in the other
+  abbrev Place : List Entry → List Entry → Entry → Type 0
+  Place es c y = (a : List Entry) × (b : List Entry) × (x : Entry) × ((es ≡ a ++ x ∷ b) × (c ≡ marks a) × (y ≡ with_mark k m x))
+
+  behind : (x z : Entry) (es c : List Entry) (y : Entry) → z ≡ with_mark k m x → Place es c y → Place (x ∷ es) (z ∷ c) y
+  behind x z es c y head w =
+      (x ∷ w.0, w.1, w.2, (ap (λ (l : List Entry). x ∷ l) w.3.0, ap₂ (λ (v : Entry) (l : List Entry). v ∷ l) head w.3.1, w.3.2))
+
+  marks_place : (es c d : List Entry) (y : Entry) → marks es ≡ c ++ y ∷ d → Place es c y
   marks_place [] [] d y e = absurd cc
   marks_place [] (z ∷ c) d y e = absurd cc
   marks_place (x ∷ es) [] d y e = let head : y ≡ with_mark k m x = cc in ([], es, x, (refl, refl, head))
   marks_place (x ∷ es) (z ∷ c) d y e =
       let head : z ≡ with_mark k m x = cc in
       let tail : marks es ≡ c ++ y ∷ d = cc in
-      let w = marks_place es c d y tail in
-      (x ∷ w.0, w.1, w.2, (ap (λ (l : List Entry). x ∷ l) w.3.0, ap₂ (λ (v : Entry) (l : List Entry). v ∷ l) head w.3.1, w.3.2))
+      behind x z es c y head (marks_place es c d y tail)
 
   pub stores_marked : (es : List Entry) (stores : List Keys) → AreStores es stores → AreStores (marks es) stores
   stores_marked es stores s = record {
     each = λ p small. s.each p small ∙ sym (rebound_marked p [] es);
     traced = λ p slot a b e whole is.
-    let w = marks_place es a b e whole in
-    let unmarked : IsReceiptInto p slot w.2 = subst (IsReceiptInto p slot) w.3.2 is in
-    ap (λ (z : Entry). z.before.bound) w.3.2 ∙ s.traced p slot w.0 w.1 w.2 w.3.0 unmarked
-    ∙ ap (value_in slot) (sym (rebound_marked p [] w.0)) ∙ ap (λ (l : List Entry). value_in slot (bindings p l)) (sym w.3.1);
+        let w = marks_place es a b e whole in
+        let unmarked : IsReceiptInto p slot w.2 = subst (IsReceiptInto p slot) w.3.2 is in
+        ap (λ (z : Entry). z.before.bound) w.3.2 ∙ s.traced p slot w.0 w.1 w.2 w.3.0 unmarked
+        ∙ ap (value_in slot) (sym (rebound_marked p [] w.0)) ∙ ap (λ (l : List Entry). value_in slot (bindings p l)) (sym w.3.1);
   }
 
 -- what a slot is bound to

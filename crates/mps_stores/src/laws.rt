@@ -1,9 +1,15 @@
 //! What holds of the definitions that the contracts cite.
 ghost use Rattle.std.specs.Prelude.{◌≡◌, ℕ, Bool, ◌==◌, not, List, [], ◌∷◌, ◌++◌, map, Some, None};
 ghost use Rattle.std.specs.List.{filter};
-ghost use Rattle.mps_history.specs.Slots.{value_in};
+ghost use Rattle.mps_history.specs.Slots.{bound, unbound, value_in};
 ghost use Rattle.mps_arena.specs.Entries.{Entry, entry_at, with_mark, AreSound};
 ghost use Rattle.mps_stores.specs.Stores.{Keys, slot_of, bindings, IsReceiptInto, AreStores};
+
+/// A binding that is taken back leaves the store as it was, in the same order.
+pub fn bindings_come_back()
+    ensures { (slot : List ℕ) (key : ℕ) (store : Keys) →
+        unbound slot (value_in slot store) (bound slot key store) ≡ store }
+{}
 
 /// A step that binds no slot, as a send, a choice, a pick or a mark, may join: the stores stay.
 pub fn idle_steps_may_join()

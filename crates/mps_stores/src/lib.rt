@@ -6,6 +6,10 @@ mod store;
 mod stores;
 
 pub use laws::{
-    bindings_are_receipts, idle_steps_may_go, idle_steps_may_join, marks_leave_stores,
+    bindings_are_receipts, bindings_come_back, idle_steps_may_go, idle_steps_may_join,
+    marks_leave_stores,
 };
 pub use stores::Stores;
+
+#[cfg(test)]
+mod tests;

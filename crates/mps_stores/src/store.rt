@@ -1,9 +1,10 @@
 //! The store of one role.
-ghost use Rattle.std.specs.Prelude.{◌≡◌, [], IfOk, OnOk, OnErr, slice_get};
-ghost use Rattle.std.specs.Option.{option_map};
+ghost use Rattle.std.specs.Prelude.{◌≡◌, ℕ, List, [], None, IfOk, OnOk, OnErr};
+ghost use Rattle.std.specs.Map.Iter.{ShowsInOrder, deref_pair};
 ghost use Rattle.mps_history.specs.Slots.{bound, unbound, value_in};
 
 use indexmap::IndexMap;
+use indexmap::map::Iter;
 use mps_arena::Key;
 use mps_base::Name;
 use std::alloc::{AllocError, Global};
@@ -40,12 +41,12 @@ impl Store {
         self.keys.get(slot).copied()
     }
 
-    /// The k-th slot, from 0, with its key.
-    pub(crate) fn entry(&self, k: usize) -> Option<(&Name, Key)>
-        ensures { option_map (λ entry. (entry.0.now, entry.1)) result ≡ slice_get self.now k }
+    /// The slots and their keys.
+    pub(crate) fn entries(&self) -> Iter<'_, Name, Key>
+        ensures rest { result ≡ self.now }
+        ensures runs { ShowsInOrder (deref_pair {K = List ℕ} {X = ℕ}) }
     {
-        let (slot, key) = self.keys.get_index(k)?;
-        Some((slot, *key))
+        self.keys.iter()
     }
 
     /// Binds the slot, and tells the key to which it was bound.
@@ -53,6 +54,7 @@ impl Store {
         ensures replaced { IfOk result (λ older. older ≡ value_in slot self.old) }
         ensures bound { OnOk result (self.new ≡ bound slot key self.old) }
         ensures err { OnErr result (self.new ≡ self.old) }
+        ensures absent { OnErr result (value_in slot self.old ≡ None) }
     {
         Ok(self.keys.insert(slot, key)?)
     }

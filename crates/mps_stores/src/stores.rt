@@ -1,19 +1,21 @@
 //! The stores of all roles.
-ghost use Rattle.std.specs.Prelude.{◌≡◌, ℕ, ◌<◌, ◌==◌, not, List, [], ◌∷◌, ◌++◌, Some, None, IfOk, OnOk, OnErr, replicate, slice_get, slice_set};
+ghost use Rattle.std.specs.Prelude.{◌≡◌, ℕ, ◌<◌, ◌==◌, not, List, [], ◌∷◌, ◌++◌, Some, None, IfOk, OnOk, OnErr, replicate, slice_set};
 ghost use Rattle.std.specs.List.{filter};
-ghost use Rattle.std.specs.Option.{option_map};
+ghost use Rattle.std.specs.Map.Iter.{ShowsInOrder, deref_pair};
 ghost use Rattle.mps_history.specs.Slots.{bound, unbound, value_in};
 ghost use Rattle.mps_arena.specs.Keys.{last_key};
 ghost use Rattle.mps_arena.specs.Entries.{Entry, keys_of, of_role, entry_at, AreSound};
 ghost use Rattle.mps_stores.specs.Stores.{store_at, IsReceiptInto, AreStores};
 
 use crate::store::Store;
+use indexmap::map::Iter;
 use mps_arena::Key;
 use mps_base::{Name, Role};
 use std::alloc::{AllocError, Global};
 use std::marker::Model;
 
-/// For each of 8 roles its slots, each bound to the key of a receipt, in the order in which they were first bound.
+/// For each of 8 roles its slots, in the order in which they were first bound, each with the key
+/// of a receipt.
 #[derive(Drop)]
 pub struct Stores {
     stores: Vec<Store>,
@@ -51,38 +53,34 @@ impl Stores {
         self.stores[role.index()].get(slot)
     }
 
-    /// The k-th of the role's slots, from 0, in the order in which they were first bound.
-    pub fn entry(&self, role: Role, k: usize) -> Option<(&Name, Key)>
+    /// The role's slots, in the order in which they were first bound, each with its receipt.
+    pub fn entries(&self, role: Role) -> Iter<'_, Name, Key>
         requires { role < 8 }
-        ensures { option_map (λ entry. (entry.0.now, entry.1)) result
-            ≡ slice_get (store_at self.now role) k }
+        ensures rest { result ≡ store_at self.now role }
+        ensures runs { ShowsInOrder (deref_pair {K = List ℕ} {X = ℕ}) }
     {
-        self.stores[role.index()].entry(k)
+        self.stores[role.index()].entries()
     }
 
-    /// Binds the role's slot to a receipt, and tells to which it was bound: what the receipt's entry keeps as
-    /// `before.bound`. A known slot keeps its place, and needs no memory.
-    pub fn bind(
-        &mut self,
-        role: Role,
-        slot: Name,
-        key: Key,
-    ) -> Result<Option<Key>, AllocError>
+    /// Binds the role's slot to a receipt, and tells to which one it was bound: what the receipt's
+    /// entry keeps as `before.bound`. A known slot keeps its place, and needs no memory.
+    pub fn bind(&mut self, role: Role, slot: Name, key: Key) -> Result<Option<Key>, AllocError>
         requires { role < 8 }
         ensures replaced { IfOk result (λ older. older ≡ value_in slot (store_at self.old role)) }
         ensures bound { OnOk result (self.new
             ≡ slice_set self.old role (bound slot key (store_at self.old role))) }
         ensures follows { IfOk result (λ older. (es : List Entry) (e : Entry) →
-            AreStores es self.old → IsReceiptInto role slot e → e.key ≡ key → e.before.bound ≡ older →
-            AreStores (es ++ e ∷ []) self.new) }
+            AreStores es self.old → IsReceiptInto role slot e →
+            e.key ≡ key → e.before.bound ≡ older → AreStores (es ++ e ∷ []) self.new) }
         ensures err { OnErr result (self.new ≡ self.old) }
+        ensures absent { OnErr result (value_in slot (store_at self.old role) ≡ None) }
     {
         let store = &mut self.stores[role.index()];
         store.bind(slot, key)
     }
 
-    /// Takes the binding of a slot back: it is bound to the older receipt, in its place, or taken out where there is
-    /// none. Where the slot isn't bound, nothing changes.
+    /// Takes the binding of a slot back: it is bound to the older receipt, in its place, or taken
+    /// out where there is none. Where the slot isn't bound, nothing changes.
     pub fn unbind(&mut self, role: Role, slot: &Name, older: Option<Key>)
         requires { role < 8 }
         ensures unbound { self.new

@@ -1,7 +1,12 @@
-use Rattle.std.proofs.Common.{◌∙◌, ap}
+use Rattle.std.proofs.Common.{◌≡◌, None, ◌∙◌, sym, ap}
+use Rattle.std.specs.Prelude.{Result, Ok, Err, OnErr}
 use Rattle.mps_history.specs.Slots.{bound, value_in}
 use Rattle.mps_stores.proofs.Maps.{insert_is_bound, lookup_is_value}
 use Rattle.mps_stores.proofs.store.Store.bind.Goals as goal
+
+on_err : {T E P : Type 0} (r : Result T E) → P → OnErr r P
+on_err (Ok x) p = tt
+on_err (Err e) p = p
 
 pub returns-clause-replaced : goal.returns-clause-replaced
 returns-clause-replaced c =
@@ -10,3 +15,9 @@ returns-clause-replaced c =
 pub returns-clause-bound : goal.returns-clause-bound
 returns-clause-bound c =
     c.in_ok-insert.ensures.entries ∙ insert_is_bound c.args.slot c.args.key c.self.inside.keys.entries ∙ ap (bound c.args.slot c.args.key) c.self.view_is
+
+pub returns-in_err-insert-clause-absent : goal.returns-in_err-insert-clause-absent
+returns-in_err-insert-clause-absent c =
+    let before = c.self.inside.keys.entries in
+    let none : value_in c.args.slot c.args.self.now ≡ None = ap (value_in c.args.slot) (sym c.self.view_is) ∙ sym (lookup_is_value c.args.slot before) ∙ c.in_err-insert.ensures.absent in
+    on_err c.from_residual.result none

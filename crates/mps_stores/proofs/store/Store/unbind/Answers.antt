@@ -1,4 +1,4 @@
-use Rattle.std.proofs.Common.{◌≡◌, ℕ, Option, Some, None, sym, ap, ◌∙◌}
+use Rattle.std.proofs.Common.{◌≡◌, ℕ, Option, None, sym, ap, ◌∙◌}
 use mathlib.Core.Path.{ap₂}
 use Rattle.mps_history.specs.Slots.{unbound, value_in}
 use Rattle.mps_stores.specs.Stores.{Keys}
