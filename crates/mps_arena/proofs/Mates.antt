@@ -2,15 +2,16 @@
 use Rattle.std.proofs.Common.{◌≡◌, ℕ, ◌≤◌, ◌<◌, Bool, true, false, List, [], ◌∷◌, ◌++◌, length, cond, Option, Some, None, refl, sym, ap, ◌∙◌, subst, ⊎_elim, eq-eqb, arith, length-append, append-nil, append_assoc, ◌⊎◌, inl, inr}
 use mathlib.Core.Path.{ap₂}
 use Rattle.std.specs.Prelude.{◌==◌, ◌||◌, slice_get}
-use Rattle.std.proofs.lemmas.Bool.{cases_Bool, eqb-true, and_parts, and_from, or_cases, false_from_ne_true, false≢true, both_ways}
+use Rattle.std.specs.List.{AllByRecursion}
+use Rattle.std.proofs.lemmas.Bool.{cond-false, or_parts, cases_Bool, eqb-true, and_parts, and_from, or_cases, false_from_ne_true, false≢true, both_ways}
 use Rattle.mps_base.specs.declared.action.Act.{Act}
 use Rattle.mps_base.specs.declared.action.Act.TheVariants.{Out, In, Mark}
 use Rattle.mps_base.specs.declared.action.Message.{Message}
 use Rattle.mps_base.specs.declared.action.Step.{Step}
-use Rattle.mps_history.specs.Steps.{goes_to, comes_from, sends, receives}
+use Rattle.mps_history.specs.Steps.{goes_to, comes_from, sends, receives, IsRising}
 use Rattle.mps_arena.specs.Keys.{is_at, has, AreDistinct, partner}
-use Rattle.mps_arena.specs.Entries.{Entry, keys_of, any_step, of_role, like_sends, like, unlike, entry_at, IsFed}
-use Rattle.mps_arena.proofs.KeyLists.{not_at, partner_present, partner_more, partner_waits, partner_last, partner_in, get_in, get_none, get_some, has-append_cases, once}
+use Rattle.mps_arena.specs.Entries.{Entry, keys_of, any_step, of_role, like_sends, like, unlike, entry_at, steps, IsFed, IsSmall, AreSound}
+use Rattle.mps_arena.proofs.KeyLists.{AreDistinct-left, not_at, partner_present, partner_more, partner_waits, partner_last, partner_in, get_in, get_none, get_some, has-append_cases, once}
 use Rattle.mps_arena.proofs.Chains.{keys-append, keys_without, keys_push, keys_kept, keys_around, keys_beside, absent, present, distinct, passes}
 
 -- chains of a role
@@ -363,3 +364,38 @@ module _ (a b : List Entry) (x : Entry) (d : AreDistinct (keys_of any_step (a ++
 pub fed_nil : IsFed []
 fed_nil [] d s p q = omega arith
 fed_nil (y ∷ c) d s p q = absurd cc
+
+-- without entries all holds
+pub sound_nil : AreSound []
+sound_nil = record { distinct = tt; fed = fed_nil; rising = tt; small = tt }
+
+-- what holds of all holds of the first ones
+pub sound_left : (a b : List Entry) → AreSound (a ++ b) → AreSound a
+sound_left a b s = record {
+  distinct = AreDistinct-left (keys_of any_step a) (keys_of any_step b) (subst AreDistinct (keys-append any_step a b) s.distinct);
+  fed = λ c d e p q. s.fed c (d ++ b) (ap (λ l. l ++ b) e ∙ append_assoc c d b) p q;
+  rising = rising_left a b s.rising;
+  small = small_left a b s.small;
+}
+  where
+    all_left : (P : Step → Type 0) (a b : List Entry) → AllByRecursion P (steps (a ++ b)) → AllByRecursion P (steps a)
+    all_left P [] b h = tt
+    all_left P (x ∷ a) b h = (h.0, all_left P a b h.1)
+
+    rising_left : (a b : List Entry) → IsRising (steps (a ++ b)) → IsRising (steps a)
+    rising_left [] b h = tt
+    rising_left (x ∷ a) b h = (all_left (λ t. x.step.id < t.id) a b h.0, rising_left a b h.1)
+
+    small_left : (a b : List Entry) → AllByRecursion (λ e. IsSmall e.step) (a ++ b) → AllByRecursion (λ e. IsSmall e.step) a
+    small_left [] b h = tt
+    small_left (x ∷ a) b h = (h.0, small_left a b h.1)
+
+-- no earlier entry has the key of a later one
+pub last_fresh : (a b : List Entry) (e : Entry) → AreSound (a ++ e ∷ b) → entry_at e.key a ≡ None
+last_fresh a b e s = nowhere a (once e.key (keys_of any_step a) (keys_of any_step b) (subst AreDistinct (keys_around any_step a b e refl) s.distinct)).0
+  where
+    nowhere : (c : List Entry) → has e.key (keys_of any_step c) ≡ false → entry_at e.key c ≡ None
+    nowhere [] h = refl
+    nowhere (y ∷ c) h =
+        let p = or_parts (y.key == e.key) (has e.key (keys_of any_step c)) h in
+        cond-false (y.key == e.key) (Some y) (entry_at e.key c) p.0 ∙ nowhere c p.1

@@ -2,22 +2,23 @@
 use Rattle.std.proofs.Common.{◌≡◌, ℕ, zero, suc, ◌+◌, ◌<◌, Bool, true, false, List, [], ◌∷◌, ◌++◌, length, drop, Option, Some, None, refl, sym, ap, ◌∙◌, subst, ⊎_elim, eq-eqb, append_assoc}
 use Rattle.std.specs.Prelude.{slice_get, IsSome}
 use Rattle.std.specs.List.{filter, AllByRecursion}
-use Rattle.std.specs.Option.{option_and_then}
+use Rattle.std.specs.Option.{option_and_then, option_map}
 use Rattle.std.proofs.lemmas.Bool.{cases_Bool, both_ways}
 use Rattle.mps_base.specs.declared.action.Act.{Act}
 use Rattle.mps_base.specs.declared.action.Act.TheVariants.{Out, In, Mark}
+use Rattle.mps_base.specs.declared.action.Message.{Message}
 use Rattle.mps_base.specs.declared.action.Step.{Step}
 use Rattle.mps_history.specs.Steps.{sends, receives, given, all_given, unreceived}
 use Rattle.mps_arena.specs.Keys.{is_at, has, AreDistinct}
 use Rattle.mps_arena.specs.Entries.{Entry, steps, keys_of, any_step, like, unlike, entry_at, IsSmall, IsSmallAct, AreSound}
-use Rattle.mps_arena.specs.Sources.{mate_of, source_in}
+use Rattle.mps_arena.specs.Sources.{mate_of, source_in, waiting}
 use Rattle.mps_arena.specs.Receipts.{source_mate}
 use Rattle.mps_arena.proofs.KeyLists.{get_in, partner_in}
-use Rattle.mps_arena.proofs.Chains.{absent, entry_middle}
+use Rattle.mps_arena.proofs.Chains.{keys_without, absent, entry_middle}
 use Rattle.mps_arena.proofs.Mates.{sends_pair}
 use Rattle.mps_arena.proofs.Nodes.{cases_entry}
 use Rattle.mps_queues.specs.Fronts.{waiting_keys}
-use Rattle.mps_queues.proofs.Moves.{get_drop_front}
+use Rattle.mps_queues.proofs.Moves.{get_drop_front, first_waiting}
 use Rattle.mps_log.specs.Values.{given_by, message_of}
 
 -- a key of a chain is an entry's
@@ -93,6 +94,27 @@ module _ (es : List Entry) (sound : AreSound es) (p q : ℕ) where
       let c = keys_of (sends p q) es in
       message_waits n
       ∙ ap (option_and_then (message_of es)) (get_drop_front c g n (g + n) refl ∙ ap (λ (l : List ℕ). slice_get l (g + n)) (no_stranger far es sound.small))
+
+  -- the first message is what the first waiting send gave
+  pub first_message : option_and_then (message_of es) (waiting es p q) ≡ slice_get (unreceived p q (steps es)) 0
+  first_message = ap (option_and_then (message_of es)) (first_waiting es sound p q) ∙ sym (message_waits 0)
+
+  -- where a message waits, there is a send that isn't received
+  pub first_waits : IsSome (slice_get (unreceived p q (steps es)) 0) → IsSome (waiting es p q)
+  first_waits h =
+      subst (λ (o : Option ℕ). IsSome o) (sym (first_waiting es sound p q))
+      (was_some (slice_get (waiting_keys es p q) 0) (subst (λ (o : Option Message). IsSome o) (message_waits 0) h))
+    where
+      was_some : (o : Option ℕ) → IsSome (option_and_then (message_of es) o) → IsSome o
+      was_some None k = k
+      was_some (Some x) k = refl
+
+-- the k-th step is that of the k-th key
+pub steps_at : (es : List Entry) → AreSound es → (a b : List Entry) → es ≡ a ++ b → (n : ℕ) → slice_get (steps b) n ≡ option_and_then (λ k. option_map (λ (e : Entry). e.step) (entry_at k es)) (slice_get (keys_of any_step b) n)
+steps_at es sound a [] e n = refl
+steps_at es sound a (y ∷ b) e zero =
+    sym (ap (option_map (λ (x : Entry). x.step)) (subst (λ (l : List Entry). entry_at y.key l ≡ Some y) (sym e) (entry_middle a b y (subst (λ (l : List Entry). AreDistinct (keys_of any_step l)) e sound.distinct))))
+steps_at es sound a (y ∷ b) e (suc n) = steps_at es sound (a ++ y ∷ []) b (e ∙ sym (append_assoc a (y ∷ []) b)) n
 
 -- the source of a receipt is an entry's
 pub source_entry : (es : List Entry) (k j : ℕ) → source_in es k ≡ Some j → IsSome (entry_at j es)

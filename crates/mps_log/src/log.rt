@@ -130,11 +130,12 @@ impl Log {
         ensures { option_copied result
             ≡ slice_get (unreceived from to (steps self.now.entries)) k }
     {
+        let arena = &self.arena;
         if from.index() >= 8 || to.index() >= 8 {
             return None;
         }
-        let key = self.queues.nth(&self.arena, from, to, k)?;
-        message_at(&self.arena, key)
+        let key = self.queues.nth(arena, from, to, k)?;
+        message_at(arena, key)
     }
 
     /// What the role keeps in the slot: the value that the newest receipt into it took.

@@ -1,9 +1,9 @@
-pub mod Stores
 pub mod Types
 pub mod Strangers
 pub mod Accepting
 pub mod Cursors
 pub mod Following
+pub mod Slots
 pub mod Serving
 pub mod Starting
 pub mod Opened

@@ -1,5 +1,10 @@
 -- What the machine answers, from what a session keeps.
-use Rattle.std.proofs.Common.{◌≡◌, ℕ, ◌<◌, ◌≤◌, List, length, Option, Some, None, Result, Ok, Err, sym, ap, ◌∙◌, arith}
+use mathlib.Core.Path.{ap₂}
+use Rattle.std.proofs.lemmas.List.{map-append}
+use Rattle.mps_base.specs.declared.action.Step.{Step}
+use Rattle.mps_arena.specs.Entries.{Entry, steps}
+use Rattle.mps_log.specs.Joins.{joining}
+use Rattle.std.proofs.Common.{◌≡◌, [], ◌∷◌, ◌+◌, ℕ, ◌<◌, ◌≤◌, List, length, Option, Some, None, Result, Ok, Err, sym, ap, ◌∙◌, arith}
 use Rattle.std.specs.Prelude.{nat_lt, is_ok, IsErrAnd}
 use Rattle.std.specs.Option.{option_map}
 use Rattle.std.proofs.lemmas.Result.{err_from_is_err_and}
@@ -19,7 +24,7 @@ use Rattle.mps_table.proofs.Standing.{node_stands}
 use Rattle.mps_table.specs.Graph.{IsNode}
 use Rattle.mps_table.specs.Standing.{StandsFor}
 use Rattle.mps_session.specs.Answers.{IsAnswer}
-use Rattle.mps_session.specs.Configurations.{Configuration, cursor_of, state_of, moved_in, StandsAt, fault_in, LeadsTo, IsReady, acted, done_in}
+use Rattle.mps_session.specs.Configurations.{Configuration, cursor_of, state_of, moved_in, StandsAt, fault_in, LeadsTo, IsReady, HasActed, logged, done_in}
 use Rattle.mps_session.specs.Held.{Holds}
 use Rattle.mps_session.specs.Seen.{Machine}
 use Rattle.mps_session.proofs.Accepting as accepting
@@ -53,7 +58,7 @@ module _ (types : List LocalType) (c : Configuration) (holds : Holds types c) (n
   in_cursors = omega (arith, in_types, holds.cursors.long)
 
   abbrev v : View
-  v = view_of types c.history
+  v = view_of types (steps c.entries)
 
   pub stands : StandsAt c p (v.participant p).to_come
   stands = holds.cursors.each p in_types
@@ -68,7 +73,7 @@ module _ (types : List LocalType) (c : Configuration) (holds : Holds types c) (n
     -- what the definition says of the act, where it is said of each type for which the role's node stands
     found : (fault : Option Violation) → ((t : LocalType) → StandsAt c p t → fault_in c p act t ≡ fault) → violation v p act ≡ fault
     found fault each =
-        ap (act_fault (unfolded (v.participant p).to_come) act) (sym (accepting.moves_the_same types c holds p act in_types))
+        ap (act_fault (unfolded (v.participant p).to_come) act) (sym (accepting.moves_the_same types c holds p act))
         ∙ each (v.participant p).to_come stands
 
     pub refused : (fault : Violation) → ((t : LocalType) → StandsAt c p t → fault_in c p act t ≡ Some fault) → Err (Violates fault) ≡ (forward now.types now.state p act).0
@@ -79,24 +84,30 @@ module _ (types : List LocalType) (c : Configuration) (holds : Holds types c) (n
       pub fine : violation v p act ≡ None
       fine = found None each
 
-      pub full : most_numbers < c.next → Err Full ≡ (forward now.types now.state p act).0
+      pub full : most_numbers ≤ c.issued → Err Full ≡ (forward now.types now.state p act).0
       full past =
-          ap (λ (r : Result Done Refusal × State). r.0) (sym (answers_full types (state_of c) p act fine past) ∙ machine_is)
+          ap (λ (r : Result Done Refusal × State). r.0) (sym (answers_full types (state_of c) p act fine (omega (arith, past))) ∙ machine_is)
 
       pub ready : IsReady c p act
       ready =
-          let on = accepting.moves_on types c holds p act in_types fine in
+          let on = accepting.moves_on types c holds p act fine in
           accepting.ready types c holds p act in_types fine on.0 on.1
 
-      pub done : c.next ≤ most_numbers → forward now.types now.state p act ≡ (Ok (done_in c p act), accepted (state_of c) p act)
+      pub done : c.issued < most_numbers → forward now.types now.state p act ≡ (Ok (done_in c p act), accepted (state_of c) p act)
       done room =
-          sym machine_is ∙ answers_done types (state_of c) p act fine room
-          ∙ ap (λ (m : Option Message). let r : Result Done Refusal × State = (Ok (record { id = c.next; got = taken act m }), accepted (state_of c) p act) in r) (sym (accepting.moves_the_same types c holds p act in_types))
+          sym machine_is ∙ answers_done types (state_of c) p act fine (omega (arith, room))
+          ∙ ap (λ (m : Option Message). let r : Result Done Refusal × State = (Ok (record { id = c.issued + 1; got = taken act m }), accepted (state_of c) p act) in r) (sym (accepting.moves_the_same types c holds p act))
 
-      pub holds_then : (node : ℕ) → LeadsTo c p act node → c.next ≤ most_numbers → Holds types (acted p act node c)
-      holds_then node follows room =
-          let on = accepting.moves_on types c holds p act in_types fine in
-          accepting.acted_holds types c holds p act in_types fine on.0 on.1 node (follows (v.participant p) on.0 stands on.1) room
+      pub holds_then : (node : ℕ) (next : Configuration) → LeadsTo c p act node → HasActed p act node c next → c.issued < most_numbers → Holds types next
+      holds_then node next follows acted room =
+          let on = accepting.moves_on types c holds p act fine in
+          accepting.acted_holds types c holds p act in_types fine on.0 on.1 node (follows (v.participant p) on.0 stands on.1) next acted room
+
+      pub state_then : (node : ℕ) (next : Configuration) → HasActed p act node c next → state_of next ≡ accepted (state_of c) p act
+      state_then node next acted =
+          ap₂ (λ (l : List Step) (k : ℕ). let st : State = record { history = l; next = k + 1 } in st)
+          (ap steps acted.joined.entries ∙ map-append (λ (e : Entry). e.step) c.entries (joining (logged c) p act (cursor_of c p).node acted.joined.key ∷ []))
+          acted.joined.issued
 
 -- where the machine accepts, memory may run out
 pub out_of_memory : (r : Result Done Refusal) (a : Done) (st : State) (answer : Result Done Refusal × State) → answer ≡ (Ok a, st) → IsErrAnd r (λ e. e ≡ Memory) → IsAnswer r answer.0

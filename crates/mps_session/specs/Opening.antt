@@ -1,5 +1,5 @@
 -- What a session keeps of roles that did nothing yet.
-use Rattle.std.specs.Prelude.{◌≡◌, ◌*◌, ⊤, List, [], ◌∷◌, length, replicate}
+use Rattle.std.specs.Prelude.{◌≡◌, ⊤, List, [], ◌∷◌}
 use Rattle.mps_local.specs.Local.{LocalType}
 use Rattle.mps_session.specs.Configurations.{Configuration}
 use Rattle.mps_session.specs.Cursors.{IsFor}
@@ -11,10 +11,8 @@ AreStarts [] [] = ⊤
 AreStarts (t ∷ types) (c ∷ cursors) = IsFor c t × AreStarts types cursors
 AreStarts types cursors = ⊥
 
--- each role stands where its type begins, nothing is kept and nothing waits
+-- each role stands where its type begins, and nothing was done
 pub record IsOpening (types : List LocalType) (c : Configuration) : Type 0 where
   pub cursors : AreStarts types c.cursors
-  pub stores : c.stores ≡ replicate (length types) []
-  pub queues : c.queues ≡ replicate (length types * length types) []
-  pub history : c.history ≡ []
-  pub next : c.next ≡ 1
+  pub entries : c.entries ≡ []
+  pub issued : c.issued ≡ 0

@@ -4,11 +4,8 @@
 mod configuration;
 mod cursor;
 pub mod open;
-mod parts;
 pub mod protocol;
-mod queue;
 pub mod session;
-mod store;
 
 pub use mps_command::{Done, Forward, Refusal, Violation};
 pub use mps_local::LocalFault;

@@ -9,11 +9,10 @@ ghost use Rattle.mps_session.specs.declared.open.OpenFault.TheVariants.{Memory a
 
 use crate::configuration::Configuration;
 use crate::cursor::Cursor;
-use crate::queue::Queue;
-use crate::store::Store;
 use mps_base::Role;
 use mps_local::peers::is_other;
 use mps_local::{Branches, Local, LocalFault, first_fault};
+use mps_log::Log;
 use mps_table::compile;
 use std::alloc::{AllocError, Global};
 use thiserror::Error;
@@ -123,13 +122,9 @@ pub(crate) fn opening(alloc: Global, types: &[Local]) -> Result<Configuration, A
     requires few { length types.now ≤ 8 }
     ensures { IfOk result (λ c. IsOpening (map plain types.now) (lists_of c)) }
 {
-    let n = types.len();
     Ok(Configuration {
         cursors: cursors(alloc, types)?,
-        stores: empty_stores(alloc, n)?,
-        queues: empty_queues(alloc, n * n)?,
-        history: Vec::new(alloc),
-        next: 1,
+        log: Log::new(alloc)?,
         alloc,
     })
 }
@@ -148,26 +143,4 @@ fn cursors(alloc: Global, types: &[Local]) -> Result<Vec<Cursor>, AllocError>
         all.push(Cursor { table, node })?;
     }
     Ok(all)
-}
-
-// So many empty stores.
-fn empty_stores(alloc: Global, count: usize) -> Result<Vec<Store>, AllocError>
-    ensures { IfOk result (λ stores. stores.items ≡ replicate count []) }
-{
-    let mut stores = Vec::with_capacity(alloc, count)?;
-    for _ in 0..count {
-        stores.push(Store::new(alloc))?;
-    }
-    Ok(stores)
-}
-
-// So many empty queues.
-fn empty_queues(alloc: Global, count: usize) -> Result<Vec<Queue>, AllocError>
-    ensures { IfOk result (λ queues. queues.items ≡ replicate count []) }
-{
-    let mut queues = Vec::with_capacity(alloc, count)?;
-    for _ in 0..count {
-        queues.push(Queue::new(alloc))?;
-    }
-    Ok(queues)
 }

@@ -106,7 +106,7 @@ impl Session {
             Ok(next) => next,
             Err(fault) => return Err(Refusal::Violation(fault)),
         };
-        if self.configuration.next > MAX_NUMBERS {
+        if self.configuration.log.steps().issued() as u64 >= MAX_NUMBERS {
             return Err(Refusal::Full);
         }
         Ok(self.configuration.act(role, command, next)?)
@@ -136,7 +136,7 @@ impl Session {
     pub fn issued(&self) -> u64
         ensures { result + 1 ≡ self.now.state.next }
     {
-        self.configuration.next - 1
+        self.configuration.log.steps().issued() as u64
     }
 
     /// How many steps survive. Their numbers rise and were given out, and the view that is shown is their replay.
@@ -144,14 +144,14 @@ impl Session {
         ensures count { result ≡ length self.now.state.history }
         ensures sound { machine.IsSound self.now.types self.now.state }
     {
-        self.configuration.history.len()
+        self.configuration.log.steps().len()
     }
 
-    /// The k-th surviving step, from 0.
+    /// The k-th surviving step, from 0. It takes k looks.
     pub fn step(&self, k: usize) -> Option<(StepId, Role, &Act)>
         ensures { option_map as_step result ≡ slice_get self.now.state.history k }
     {
-        let step = self.configuration.history.get(k)?;
+        let step = self.configuration.log.step(k)?;
         Some((step.id, step.role, &step.act))
     }
 
@@ -161,21 +161,15 @@ impl Session {
         ensures { option_copied result
             ≡ value_in slot.now ((view_of self.now).participant role).store }
     {
-        let store = &self.configuration.stores[role.index()];
-        store.get(slot)
+        self.configuration.log.value(role, slot)
     }
 
     /// The k-th message that waits, from 0, of those that one role sent to another; none where one of both is no role
-    /// of the session.
+    /// of the session. It takes k looks.
     pub fn message(&self, from: Role, to: Role, k: usize) -> Option<&Message>
         ensures { option_copied result
             ≡ slice_get ((view_of self.now).queue from to) k }
     {
-        let count = self.types.len();
-        if from.index() >= count || to.index() >= count {
-            return None;
-        }
-        let queue = &self.configuration.queues[from.index() * count + to.index()];
-        queue.get(k)
+        self.configuration.log.message(from, to, k)
     }
 }

@@ -7,7 +7,7 @@ use Rattle.mps_arena.proofs.arena.Arena.nth.Goals as goal
 pub returns-then-k-len : goal.returns-then-k-len
 returns-then-k-len c =
     let es = c.args.self.now.entries in
-    let past : length (keys_of any_step es) ≤ c.args.k = omega (arith, all_keys es, c.len.ensures.count, c.if-k-ge-len.true) in
+    let past : length (keys_of any_step es) ≤ c.args.k = omega (arith, all_keys es, c.len.ensures.count, c.if-k-len.true) in
     sym (slice_get_past (keys_of any_step es) c.args.k past)
 
 pub loop-init : goal.loop-init

@@ -1,12 +1,24 @@
-use Rattle.std.proofs.Common.{sym, ap, ◌∙◌}
+use Rattle.std.proofs.Common.{◌≡◌, ◌<◌, arith, Option, Some, None, sym, ap, ◌∙◌}
 use Rattle.std.specs.Prelude.{slice_get}
 use Rattle.std.specs.Option.{option_and_then}
 use Rattle.mps_history.specs.Steps.{unreceived}
 use Rattle.mps_arena.specs.Entries.{steps}
 use Rattle.mps_log.specs.Logged.{Logged}
 use Rattle.mps_log.specs.Values.{message_of}
-use Rattle.mps_log.proofs.Waiting.{message_waits, waiting_entry}
+use Rattle.mps_log.proofs.Waiting.{message_waits, nothing_waits, waiting_entry}
 use Rattle.mps_log.proofs.log.Log.message.Goals as goal
+use Rattle.mps_log.proofs.log.Log.message.Goals.{then-index-ge8-via-then-index-ge8, then-index-ge8-via-else-index-ge8+then-index-ge8-2}
+
+pub returns-then-index-ge8 : goal.returns-then-index-ge8
+returns-then-index-ge8 c =
+    let es = c.self.inside.arena.entries in
+    let far : c.args.from < 8 → c.args.to < 8 → ⊥ =
+    elim c.then-index-ge8.branch [
+      | then-index-ge8-via-then-index-ge8 w ↦ λ p q. omega (arith, c.index.ensures.place, w.if-index-ge8.true)
+      | then-index-ge8-via-else-index-ge8+then-index-ge8-2 w ↦ λ p q. omega (arith, w.index-else-index-ge8.ensures.place, w.if-index-ge8-2.true)
+    ] in
+    sym (nothing_waits es c.self.invariant.sound c.args.from c.args.to far c.args.k)
+    ∙ ap (λ (l : Logged). slice_get (unreceived c.args.from c.args.to (steps l.entries)) c.args.k) c.self.view_is
 
 pub returns-in_err-key : goal.returns-in_err-key
 returns-in_err-key c =

@@ -3,6 +3,7 @@ use Rattle.mps_local.specs.Actions.{Head, Ends, Sends, Receives, Chooses, Picks,
 use Rattle.mps_local.specs.Local.{LocalType, plain}
 use Rattle.mps_table.specs.Graph.{IsNode}
 use Rattle.mps_table.specs.Expects.{head_of}
+use Rattle.mps_arena.specs.Entries.{steps}
 use Rattle.mps_machine.specs.Machine.{view_of}
 use Rattle.mps_session.specs.Configurations.{lists_of}
 use Rattle.mps_session.specs.Cursors.{IsFor}
@@ -40,5 +41,5 @@ returns c =
     let cursor = c.index-cursor.result.now in
     let at = c.index-cursor.ensures ∙ ap (λ (i : ℕ). get_or all i cursor) c.index.ensures.place in
     let here = cursor_at all c.args.role cursor (in_cursors types k c.self.invariant c.args.self.now c.self.view_is c.args.role c.requires) at in
-    let begins = c.expect.ensures.begins _ (subst (λ (x : Cursor). IsFor x ((view_of types k.history).participant c.args.role).to_come) here (stands types k c.self.invariant c.args.self.now c.self.view_is c.args.role c.requires)) in
+    let begins = c.expect.ensures.begins _ (subst (λ (x : Cursor). IsFor x ((view_of types (steps k.entries)).participant c.args.role).to_come) here (stands types k c.self.invariant c.args.self.now c.self.view_is c.args.role c.requires)) in
     begins_first (head_of c.expect.result) _ begins ∙ ap (λ (m : Machine). head ((seen m).participant c.args.role).to_come) c.self.view_is

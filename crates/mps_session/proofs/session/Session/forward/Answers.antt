@@ -1,4 +1,4 @@
-use Rattle.std.proofs.Common.{◌≡◌, map, Result, Ok, sym, ap, ◌∙◌, subst}
+use Rattle.std.proofs.Common.{◌≡◌, arith, map, Result, Ok, sym, ap, ◌∙◌, subst}
 use Rattle.mps_command.specs.Acts.{act_of}
 use Rattle.mps_command.specs.declared.answer.Done.{Done}
 use Rattle.mps_command.specs.declared.answer.Refusal.{Refusal}
@@ -6,8 +6,7 @@ use Rattle.mps_command.specs.declared.answer.Refusal.TheVariants.{Violation as V
 use Rattle.mps_command.specs.declared.answer.Violation.TheVariants.{Mismatch}
 use Rattle.mps_local.specs.Local.{plain}
 use Rattle.mps_machine.specs.Machine.{State, IsSound}
-use Rattle.mps_session.specs.Configurations.{Configuration, lists_of, state_of}
-use Rattle.mps_session.specs.Held.{Holds}
+use Rattle.mps_session.specs.Configurations.{lists_of, state_of}
 use Rattle.mps_session.specs.Seen.{Machine}
 use Rattle.mps_session.proofs.Opened.{no_mismatch}
 use Rattle.mps_session.proofs.Serving as serving
@@ -32,10 +31,10 @@ returns-in-Err-clause-never_mismatch c own e =
     no_mismatch c.args.self.now.types c.args.self.now.state c.args.role c.args.command (Violates c.in-Err.fault)
     (subst (λ (m : Machine). IsSound m.types m.state) c.self.view_is c.self.invariant.sound) answer own (let same : Violates c.in-Err.fault ≡ Violates Mismatch = cc in same)
 
-pub returns-then-self-gt-MAX_NUMBERS-clause-answer : goal.returns-then-self-gt-MAX_NUMBERS-clause-answer
-returns-then-self-gt-MAX_NUMBERS-clause-answer c =
+pub returns-then-issued-ge-MAX_NUMBERS-clause-answer : goal.returns-then-issued-ge-MAX_NUMBERS-clause-answer
+returns-then-issued-ge-MAX_NUMBERS-clause-answer c =
     let s = c.self.inside in
-    serving.full (map plain s.types.items) (lists_of s.configuration) c.self.invariant c.args.self.now c.self.view_is c.args.role c.requires (act_of c.args.command) c.in-Ok.ensures.allowed c.if-self-gt-MAX_NUMBERS.true
+    serving.full (map plain s.types.items) (lists_of s.configuration) c.self.invariant c.args.self.now c.self.view_is c.args.role c.requires (act_of c.args.command) c.in-Ok.ensures.allowed (omega (arith, c.if-issued-ge-MAX_NUMBERS.true, c.issued.ensures, c.steps.ensures.issued))
 
 pub act-requires-clause-ready : goal.act-requires-clause-ready
 act-requires-clause-ready c =
@@ -45,24 +44,23 @@ act-requires-clause-ready c =
 pub returns-in_err-act-clause-answer : goal.returns-in_err-act-clause-answer
 returns-in_err-act-clause-answer c =
     let s = c.self.inside in
-    let done = serving.done (map plain s.types.items) (lists_of s.configuration) c.self.invariant c.args.self.now c.self.view_is c.args.role c.requires (act_of c.args.command) c.in-Ok.ensures.allowed c.if-self-gt-MAX_NUMBERS.false in
+    let done = serving.done (map plain s.types.items) (lists_of s.configuration) c.self.invariant c.args.self.now c.self.view_is c.args.role c.requires (act_of c.args.command) c.in-Ok.ensures.allowed (omega (arith, c.if-issued-ge-MAX_NUMBERS.false, c.issued.ensures, c.steps.ensures.issued)) in
     serving.out_of_memory c.from_residual.result _ _ _ done c.from_residual.ensures.1
 
 pub invariant_of-self-2 : goal.invariant_of-self-2
 invariant_of-self-2 c =
     let s = c.self.inside in
-    subst (λ (k : Configuration). Holds (map plain s.types.items) k) (sym c.in_ok-act.ensures.acted)
-    (serving.holds_then (map plain s.types.items) (lists_of s.configuration) c.self.invariant c.args.self.now c.self.view_is c.args.role c.requires (act_of c.args.command) c.in-Ok.ensures.allowed c.in-Ok.next c.in-Ok.ensures.follows c.if-self-gt-MAX_NUMBERS.false)
+    serving.holds_then (map plain s.types.items) (lists_of s.configuration) c.self.invariant c.args.self.now c.self.view_is c.args.role c.requires (act_of c.args.command) c.in-Ok.ensures.allowed c.in-Ok.next (lists_of c.act.new.self) c.in-Ok.ensures.follows c.in_ok-act.ensures.acted (omega (arith, c.if-issued-ge-MAX_NUMBERS.false, c.issued.ensures, c.steps.ensures.issued))
 
 pub returns-clause-answer : goal.returns-clause-answer
 returns-clause-answer c =
     let s = c.self.inside in
-    let done = serving.done (map plain s.types.items) (lists_of s.configuration) c.self.invariant c.args.self.now c.self.view_is c.args.role c.requires (act_of c.args.command) c.in-Ok.ensures.allowed c.if-self-gt-MAX_NUMBERS.false in
+    let done = serving.done (map plain s.types.items) (lists_of s.configuration) c.self.invariant c.args.self.now c.self.view_is c.args.role c.requires (act_of c.args.command) c.in-Ok.ensures.allowed (omega (arith, c.if-issued-ge-MAX_NUMBERS.false, c.issued.ensures, c.steps.ensures.issued)) in
     ap (λ (d : Done). let r : Result Done Refusal = Ok d in r) c.in_ok-act.ensures.done
     ∙ ap (λ (r : Result Done Refusal × State). r.0) (sym done)
 
 pub returns-clause-state : goal.returns-clause-state
 returns-clause-state c =
     let s = c.self.inside in
-    let done = serving.done (map plain s.types.items) (lists_of s.configuration) c.self.invariant c.args.self.now c.self.view_is c.args.role c.requires (act_of c.args.command) c.in-Ok.ensures.allowed c.if-self-gt-MAX_NUMBERS.false in
-    ap state_of c.in_ok-act.ensures.acted ∙ ap (λ (r : Result Done Refusal × State). r.1) (sym done)
+    let done = serving.done (map plain s.types.items) (lists_of s.configuration) c.self.invariant c.args.self.now c.self.view_is c.args.role c.requires (act_of c.args.command) c.in-Ok.ensures.allowed (omega (arith, c.if-issued-ge-MAX_NUMBERS.false, c.issued.ensures, c.steps.ensures.issued)) in
+    serving.state_then (map plain s.types.items) (lists_of s.configuration) c.self.invariant c.args.self.now c.self.view_is c.args.role c.requires (act_of c.args.command) c.in-Ok.ensures.allowed c.in-Ok.next (lists_of c.act.new.self) c.in_ok-act.ensures.acted ∙ ap (λ (r : Result Done Refusal × State). r.1) (sym done)

@@ -4,7 +4,7 @@ use Rattle.mps_local.specs.declared.Local.{Local}
 use Rattle.mps_local.specs.Local.{plain}
 use Rattle.mps_session.specs.Configurations.{lists_of}
 use Rattle.mps_session.specs.Opening.{IsOpening}
-use Rattle.mps_session.specs.Peers.{HavePeers}
+use Rattle.mps_session.specs.Peers.{HavePeers, AreFaultless}
 use Rattle.mps_session.proofs.Accepting.{opened_holds}
 use Rattle.mps_session.proofs.Types.{length_map}
 use Rattle.mps_session.proofs.session.Session.open.Goals as goal
@@ -19,3 +19,14 @@ invariant_of-result c =
     let peers = subst (λ (l : List Local). HavePeers (map plain l)) c.as_slice-2.ensures.value c.in_default-first_bad_peer.ensures.none in
     let opened = subst (λ (l : List Local). IsOpening (map plain l) kept) c.as_slice-3.ensures.value c.in_ok-configuration.ensures in
     opened_holds types kept count peers opened
+
+pub returns-clause-can : goal.returns-clause-can
+returns-clause-can c =
+    let items = c.args.types.items in
+    let types = map plain items in
+    let n : c.len-n.result ≡ length types = omega (arith, c.len-n.ensures, c.args.types.ok.0, length_map plain items) in
+    record {
+      roles = record { some = omega (arith, n, c.if-n-lt-MIN_ROLES.false); few = omega (arith, n, c.if-n-gt-MAX_ROLES.false) };
+      peers = subst (λ (l : List Local). HavePeers (map plain l)) c.as_slice-2.ensures.value c.in_default-first_bad_peer.ensures.none;
+      faultless = subst (λ (l : List Local). AreFaultless (map plain l)) c.as_slice.ensures.value c.in_default.ensures.none;
+    }

@@ -1,0 +1,158 @@
+-- What the slots of a role are bound to is what the view keeps.
+use Rattle.std.proofs.Common.{◌≡◌, ℕ, true, false, List, [], ◌∷◌, ◌++◌, Option, Some, None, refl, sym, ap, ◌∙◌, subst, ⊎_elim, append_assoc, append-nil}
+use Rattle.std.specs.Prelude.{⊤, slice_get}
+use Rattle.std.specs.Option.{option_and_then, option_map}
+use Rattle.std.specs.Str.{bytes_eq}
+use Rattle.std.proofs.lemmas.Bool.{cases_Bool, ne_eqb}
+use Rattle.std.proofs.lemmas.List.{map-append}
+use Rattle.mps_base.specs.declared.action.Act.{Act}
+use Rattle.mps_base.specs.declared.action.Act.TheVariants.{Out, In, Mark}
+use Rattle.mps_base.specs.declared.action.Message.{Message}
+use Rattle.mps_base.specs.declared.action.Message.TheVariants.{Value as Plain, Label}
+use Rattle.mps_base.specs.declared.value.Value.{Value}
+use Rattle.mps_history.specs.Slots.{bound, value_in}
+use Rattle.mps_history.specs.Steps.{unreceived}
+use Rattle.mps_local.specs.Local.{LocalType, End, Var, Rec, Send, Recv, Select, Branch}
+use Rattle.mps_local.specs.Unfolding.{unfolded}
+use Rattle.mps_machine.specs.View.{Store, Participant, View, opening}
+use Rattle.mps_machine.specs.Rule.{first_of, moved, type_after, advanced, participant_after, store_after, rule, replay}
+use Rattle.mps_machine.proofs.Stepping.{map_some, rule_parts, replay_parts, replay-append}
+use Rattle.mps_machine.proofs.Peers.{fact_by_role}
+use Rattle.mps_machine.proofs.Unreceived.{queue_is}
+use Rattle.mps_arena.specs.Entries.{Entry, steps, entry_at, AreSound}
+use Rattle.mps_arena.specs.Sources.{waiting}
+use Rattle.mps_arena.proofs.Mates.{sound_left, last_fresh}
+use Rattle.mps_stores.specs.Stores.{Keys, slot_of, bindings}
+use Rattle.mps_stores.proofs.Bindings.{bindings_push, after_receipt, after_other, after_idle}
+use Rattle.mps_log.specs.Values.{value_of, message_of, value_taken, kept_in}
+use Rattle.mps_log.proofs.Waiting.{first_message}
+use Rattle.mps_log.proofs.Taking.{value_stays, taken_new}
+
+-- the same slots in the same order, each bound to the key of its value
+abbrev AreBound : (ℕ → Option Value) → Store → Keys → Type 0
+AreBound f [] [] = ⊤
+AreBound f (s ∷ store) (b ∷ keys) = (s.0 ≡ b.0) × (f b.1 ≡ Some s.1) × AreBound f store keys
+AreBound f store keys = ⊥
+
+bound_both : (f : ℕ → Option Value) (store : Store) (keys : Keys) (slot : List ℕ) (v : Value) (k : ℕ) → AreBound f store keys → f k ≡ Some v → AreBound f (bound slot v store) (bound slot k keys)
+bound_both f [] [] slot v k h e = (refl, e, tt)
+bound_both f [] (b ∷ keys) slot v k h e = absurd h
+bound_both f (s ∷ store) [] slot v k h e = absurd h
+bound_both f (s ∷ store) (b ∷ keys) slot v k h e =
+    ⊎_elim
+    (λ (t : bytes_eq b.0 slot ≡ true). let u : bytes_eq s.0 slot ≡ true = ap (λ (x : List ℕ). bytes_eq x slot) h.0 ∙ t in rw (t, u) (refl, e, h.2))
+    (λ (n : bytes_eq b.0 slot ≡ false). let u : bytes_eq s.0 slot ≡ false = ap (λ (x : List ℕ). bytes_eq x slot) h.0 ∙ n in rw (n, u) (h.0, h.1, bound_both f store keys slot v k h.2 e))
+    (cases_Bool (bytes_eq b.0 slot))
+
+value_both : (f : ℕ → Option Value) (store : Store) (keys : Keys) (slot : List ℕ) → AreBound f store keys → value_in slot store ≡ option_and_then f (value_in slot keys)
+value_both f [] [] slot h = refl
+value_both f [] (b ∷ keys) slot h = absurd h
+value_both f (s ∷ store) [] slot h = absurd h
+value_both f (s ∷ store) (b ∷ keys) slot h =
+    ⊎_elim
+    (λ (t : bytes_eq b.0 slot ≡ true). let u : bytes_eq s.0 slot ≡ true = ap (λ (x : List ℕ). bytes_eq x slot) h.0 ∙ t in rw (t, u) (sym h.1))
+    (λ (n : bytes_eq b.0 slot ≡ false). let u : bytes_eq s.0 slot ≡ false = ap (λ (x : List ℕ). bytes_eq x slot) h.0 ∙ n in rw (n, u) (value_both f store keys slot h.2))
+    (cases_Bool (bytes_eq b.0 slot))
+
+bound_stays : (f g : ℕ → Option Value) (store : Store) (keys : Keys) → ((k : ℕ) (v : Value) → f k ≡ Some v → g k ≡ Some v) → AreBound f store keys → AreBound g store keys
+bound_stays f g [] [] m h = tt
+bound_stays f g [] (b ∷ keys) m h = absurd h
+bound_stays f g (s ∷ store) [] m h = absurd h
+bound_stays f g (s ∷ store) (b ∷ keys) m h = (h.0, m b.1 s.1 h.1, bound_stays f g store keys m h.2)
+
+-- the store of an act's role after the act
+store_then : (before after : Participant) (act : Act) (m : Option Message) → participant_after before act m ≡ Some after → after.store ≡ store_after before.store act m
+store_then before after (Mark name) m e =
+    let is : advanced before (Mark name) m before.to_come ≡ after = cc in
+    sym (ap (λ (x : Participant). x.store) is)
+store_then before after (Out to x) m e = sym (ap (λ (x : Participant). x.store) (map_some (advanced before (Out to x) m) (type_after (unfolded before.to_come) (Out to x) m) after e).2)
+store_then before after (In from slot) m e = sym (ap (λ (x : Participant). x.store) (map_some (advanced before (In from slot) m) (type_after (unfolded before.to_come) (In from slot) m) after e).2)
+
+-- a receipt into a slot takes a value
+takes_no_label : (t : LocalType) (from : ℕ) (slot : List ℕ) (l : List ℕ) → type_after t (In from (Some slot)) (Some (Label l)) ≡ None
+takes_no_label End from slot l = refl
+takes_no_label (Var x) from slot l = refl
+takes_no_label (Rec x t) from slot l = refl
+takes_no_label (Send p sort t) from slot l = refl
+takes_no_label (Recv p sort t) from slot l = refl
+takes_no_label (Select p bs) from slot l = refl
+takes_no_label (Branch p bs) from slot l = refl
+
+takes_something : (t : LocalType) (from : ℕ) (slot : List ℕ) → type_after t (In from (Some slot)) None ≡ None
+takes_something End from slot = refl
+takes_something (Var x) from slot = refl
+takes_something (Rec x t) from slot = refl
+takes_something (Send p sort t) from slot = refl
+takes_something (Recv p sort t) from slot = refl
+takes_something (Select p bs) from slot = refl
+takes_something (Branch p bs) from slot = refl
+
+took_value : (before after : Participant) (from : ℕ) (slot : List ℕ) (m : Option Message) → participant_after before (In from (Some slot)) m ≡ Some after → (v : Value) × (m ≡ Some (Plain v))
+took_value before after from slot None e =
+    let no : None ≡ Some after = sym (ap (option_map (advanced before (In from (Some slot)) None)) (takes_something (unfolded before.to_come) from slot)) ∙ e in absurd cc
+took_value before after from slot (Some (Plain v)) e = (v, refl)
+took_value before after from slot (Some (Label l)) e =
+    let no : None ≡ Some after = sym (ap (option_map (advanced before (In from (Some slot)) (Some (Label l)))) (takes_no_label (unfolded before.to_come) from slot l)) ∙ e in absurd cc
+
+module _ (types : List LocalType) where
+  -- the stores of the view are those of the entries
+  abbrev Bind : List Entry → View → Type 0
+  Bind es v = (p : ℕ) → AreBound (value_taken es) (v.participant p).store (bindings p es)
+
+  module _ (es : List Entry) (e : Entry) (v w : View) (sound : AreSound es) (fresh : entry_at e.key es ≡ None) (before : replay (opening types) (steps es) ≡ Some v) (next : rule v e.step ≡ Some w) (was : Bind es v) where
+    abbrev now : List Entry
+    now = es ++ e ∷ []
+
+    stays : (p : ℕ) → AreBound (value_taken now) (v.participant p).store (bindings p es)
+    stays p = bound_stays (value_taken es) (value_taken now) (v.participant p).store (bindings p es) (value_stays es e sound fresh) (was p)
+
+    -- of the role of the step
+    own_store : (act : Act) → e.step.act ≡ act → (after : Participant) → participant_after (v.participant e.step.role) act (moved v e.step.role act) ≡ Some after → AreBound (value_taken now) (store_after (v.participant e.step.role).store act (moved v e.step.role act)) (bindings e.step.role now)
+    own_store (Out to m) is after h =
+        rw (bindings_push e.step.role es e, after_idle e.step.role (bindings e.step.role es) e (ap slot_of is)) (stays e.step.role)
+    own_store (Mark name) is after h =
+        rw (bindings_push e.step.role es e, after_idle e.step.role (bindings e.step.role es) e (ap slot_of is)) (stays e.step.role)
+    own_store (In from None) is after h =
+        rw (bindings_push e.step.role es e, after_idle e.step.role (bindings e.step.role es) e (ap slot_of is)) (stays e.step.role)
+    own_store (In from (Some slot)) is after h =
+        let r = e.step.role in
+        let m = moved v r (In from (Some slot)) in
+        let took = took_value (v.participant r) after from slot m h in
+        let first : option_and_then (message_of es) (waiting es from r) ≡ Some (Plain took.0) =
+        first_message es sound from r ∙ get_first (unreceived from r (steps es)) ∙ ap first_of (sym (queue_is (opening types) v (steps es) from r before)) ∙ took.1 in
+        let taken : value_taken now e.key ≡ Some took.0 = ap (option_and_then value_of) (taken_new es e sound fresh from (Some slot) (Plain took.0) is first) in
+        rw (bindings_push r es e, after_receipt r slot (bindings r es) e (refl, ap slot_of is), took.1)
+        (bound_both (value_taken now) (v.participant r).store (bindings r es) slot took.0 e.key (stays r) taken)
+      where
+        get_first : (queue : List Message) → slice_get queue 0 ≡ first_of queue
+        get_first [] = refl
+        get_first (x ∷ queue) = refl
+
+    bind_step : Bind now w
+    bind_step p =
+        let parts = rule_parts v w e.step next in
+        let c = parts.0 in
+        subst (λ (u : View). AreBound (value_taken now) (u.participant p).store (bindings p now)) parts.2
+        (fact_by_role (λ k part. AreBound (value_taken now) part.store (bindings k now)) v e.step c p
+        (subst (λ (s : Store). AreBound (value_taken now) s (bindings e.step.role now)) (sym (store_then (v.participant e.step.role) c e.step.act (moved v e.step.role e.step.act) parts.1)) (own_store e.step.act refl c parts.1))
+        (λ ne. rw (bindings_push p es e, after_other p (bindings p es) e (ne_eqb e.step.role p (λ k. ne (sym k)))) (stays p)))
+
+  bind_from : (a b : List Entry) (v w : View) → AreSound (a ++ b) → replay (opening types) (steps a) ≡ Some v → replay v (steps b) ≡ Some w → Bind a v → Bind (a ++ b) w
+  bind_from a [] v w sound before rest was =
+      let same : v ≡ w = cc in
+      rw (append-nil a) (subst (Bind a) same was)
+  bind_from a (e ∷ b) v w sound before rest was =
+      let parts = replay_parts v w e.step (steps b) rest in
+      let whole = append_assoc a (e ∷ []) b in
+      let next : replay (opening types) (steps (a ++ e ∷ [])) ≡ Some parts.0 =
+      ap (replay (opening types)) (map-append (λ (x : Entry). x.step) a (e ∷ []))
+      ∙ replay-append (opening types) v (steps a) (e.step ∷ []) before
+      ∙ ap (λ (o : Option View). option_and_then (λ u. Some u) o) parts.1 in
+      rw (← whole)
+      (bind_from (a ++ e ∷ []) b parts.0 w (rw whole sound) next parts.2
+      (bind_step a e v parts.0 (sound_left a (e ∷ b) sound) (last_fresh a b e sound) before parts.1 was))
+
+  -- what a role keeps in a slot is what the entries say
+  pub slot_is : (es : List Entry) (v : View) (p : ℕ) (slot : List ℕ) → AreSound es → replay (opening types) (steps es) ≡ Some v → value_in slot (v.participant p).store ≡ kept_in es p slot
+  slot_is es v p slot sound h =
+      value_both (value_taken es) (v.participant p).store (bindings p es) slot (bind_from [] es (opening types) v sound refl h (λ q. tt) p)

@@ -1,8 +1,0 @@
-use Rattle.std.proofs.Common.{◌∙◌, ap}
-use Rattle.mps_session.proofs.Stores.{lookup_is_value}
-use Rattle.mps_history.specs.Slots.{value_in}
-use Rattle.mps_session.proofs.store.Store.get.Goals as goal
-
-pub returns : goal.returns
-returns c =
-    c.get.ensures.value ∙ lookup_is_value c.args.slot.now c.self.inside.bindings.entries ∙ ap (value_in c.args.slot.now) c.self.view_is
