@@ -1,0 +1,7 @@
+//! What depends on a step of an arena, by the links of steps: the least of it, and all of it marked.
+#![tactic(auto)]
+
+mod dependent;
+mod order;
+
+pub use dependent::least_dependent;
