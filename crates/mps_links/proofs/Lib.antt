@@ -1,6 +1,10 @@
 pub mod Tests
 pub mod Numbers
 pub mod Firsts
+pub mod Lasts
 pub mod Least
 pub mod Receipts
 pub mod Links
+pub mod Marked
+pub mod Newest
+pub mod Unmarking

@@ -11,11 +11,11 @@ use Rattle.mps_base.specs.declared.action.Step.{Step}
 use Rattle.mps_history.specs.Steps.{IsIn, IsRising}
 use Rattle.mps_history.specs.Dependence.{is_matched, depends_on, least, dependents}
 use Rattle.mps_history.proofs.Order.{rising_apart}
-use Rattle.mps_arena.specs.Keys.{AreDistinct, first_key, key_after}
+use Rattle.mps_arena.specs.Keys.{AreDistinct, first_key, last_key, key_after, key_before}
 use Rattle.mps_arena.specs.Entries.{Entry, steps, keys_of, of_role, entry_at, AreSound}
 use Rattle.mps_arena.specs.Receipts.{receipt_mate}
-use Rattle.mps_arena.specs.Sources.{id_in, next_of_role_in, receipt_in, mate_of, CanGo, IsFree, IsUnreceived}
-use Rattle.mps_arena.proofs.KeyLists.{once, after_absent}
+use Rattle.mps_arena.specs.Sources.{id_in, next_of_role_in, prev_of_role_in, receipt_in, mate_of, CanGo, IsFree, IsUnreceived}
+use Rattle.mps_arena.proofs.KeyLists.{once, after_absent, before_absent}
 use Rattle.mps_arena.proofs.Chains.{keys-append, keys_without, keys_around, distinct}
 use Rattle.mps_links.specs.Order.{earlier}
 use Rattle.mps_links.proofs.Tests.{eqb_turned, steps_around, in_middle, keys_agree, keys_none, none_passes, nothing_first}
@@ -42,6 +42,16 @@ module _ (es : List Entry) (sound : AreSound es) (a b : List Entry) (x : Entry) 
 
   pub next_is : next_of_role_in es x.key ≡ first_key (keys_of (of_role s.role) b)
   next_is = ap (option_and_then (λ (e : Entry). key_after e.key (keys_of (of_role e.step.role) es))) found ∙ next_after
+
+  pub prev_is : prev_of_role_in es x.key ≡ last_key None (keys_of (of_role s.role) a)
+  prev_is =
+      let p = of_role s.role in
+      let whole = ap (keys_of p) parts ∙ keys_around p a b x (eq-eqb s.role s.role refl) in
+      let o = once x.key (keys_of p a) (keys_of p b) (subst AreDistinct whole (distinct p es sound.distinct)) in
+      ap (option_and_then (λ (e : Entry). key_before None e.key (keys_of (of_role e.step.role) es))) found
+      ∙ ap (key_before None x.key) whole
+      ∙ before_absent None x.key (keys_of p a) (x.key ∷ keys_of p b) o.0
+      ∙ rw (eq-eqb x.key x.key refl) refl
 
   -- behind the step, what depends on it is of its role or its receipt
   pub on_later : (t : Step) → IsIn t (steps b) → on_s t ≡ (of_role s.role t || is_matched (steps es) s t)

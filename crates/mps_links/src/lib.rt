@@ -2,6 +2,8 @@
 #![tactic(auto)]
 
 mod dependent;
+mod marking;
 mod order;
 
 pub use dependent::least_dependent;
+pub use marking::{newest_marked, unmark};

@@ -1,7 +1,7 @@
 //! Of two steps the one that comes earlier, and the one that comes later.
 ghost use Rattle.std.specs.Prelude.{◌≡◌};
 ghost use Rattle.mps_arena.specs.Sources.{id_in};
-ghost use Rattle.mps_links.specs.Order.{earlier, is_before};
+ghost use Rattle.mps_links.specs.Order.{earlier, is_before, later};
 
 use mps_arena::{Arena, Key};
 
@@ -22,6 +22,19 @@ pub(crate) fn earlier(arena: &Arena, a: Option<Key>, b: Option<Key>) -> Option<K
     match (a, b) {
         (Some(first), Some(second)) => {
             if is_before(arena, first, second) { a } else { b }
+        }
+        (Some(_), None) => a,
+        (None, _) => b,
+    }
+}
+
+/// The key of the step with the larger number.
+pub(crate) fn later(arena: &Arena, a: Option<Key>, b: Option<Key>) -> Option<Key>
+    ensures { result ≡ later arena.now.entries a b }
+{
+    match (a, b) {
+        (Some(first), Some(second)) => {
+            if is_before(arena, first, second) { b } else { a }
         }
         (Some(_), None) => a,
         (None, _) => b,
