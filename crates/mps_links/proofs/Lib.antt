@@ -1,5 +1,6 @@
 pub mod Tests
 pub mod Numbers
+pub mod Present
 pub mod Firsts
 pub mod Lasts
 pub mod Least
@@ -8,3 +9,5 @@ pub mod Links
 pub mod Marked
 pub mod Newest
 pub mod Unmarking
+pub mod Passing
+pub mod Turns

@@ -14,6 +14,7 @@ use Rattle.mps_arena.proofs.KeyLists.{has-append_right}
 use Rattle.mps_arena.proofs.Chains.{keys_without, keys_around}
 use Rattle.mps_links.specs.Marks.{is_marked, AreMarksClosed, unmarked, unmarked_of, AreLastMarked}
 use Rattle.mps_links.proofs.Tests.{in_middle, none_passes}
+use Rattle.mps_links.proofs.Present.{at_middle}
 use Rattle.mps_links.proofs.Firsts.{entry_in, rising_behind}
 use Rattle.mps_links.proofs.Lasts.{IsLast, last_is, nothing_last}
 use Rattle.mps_links.proofs.Links.{prev_is}
@@ -39,10 +40,6 @@ mark_middle m (y ∷ a) b x d =
     both_ways (has y.key (keys_of any_step (a ++ x ∷ b))) d.0
     (rw (keys_around any_step a b x refl) (has-append_right y.key (keys_of any_step a) (x.key ∷ keys_of any_step b) (or_left (x.key == y.key) (has y.key (keys_of any_step b)) (eq-eqb x.key y.key (sym (eqb-true y.key x.key t))))))) in
     ap₂ (λ (z : Entry) (l : List Entry). z ∷ l) (ap (λ v. marked_as v y) (cond-false (y.key == x.key) m y.marked n)) (mark_middle m a b x d.1)
-
-at_middle : (P : Entry → Type 0) (a b : List Entry) (x : Entry) → AllByRecursion P (a ++ x ∷ b) → P x
-at_middle P [] b x h = h.0
-at_middle P (y ∷ a) b x h = at_middle P a b x h.1
 
 module _ (p : ℕ) where
   abbrev off : List Entry → List Entry

@@ -4,6 +4,7 @@
 mod dependent;
 mod marking;
 mod order;
+mod pending;
 
 pub use dependent::least_dependent;
-pub use marking::{newest_marked, unmark};
+pub use marking::{mark_from, newest_marked, unmark};

@@ -1,13 +1,46 @@
-//! Marked steps: the newest of them, and all marks taken off.
-ghost use Rattle.std.specs.Prelude.{◌≡◌, ◌<◌, ◌==◌, ◌&&◌, map, None, IfSome};
+//! Marked steps: a step and all that depends on it, the newest marked one, and all marks taken off.
+ghost use Rattle.std.specs.Prelude.{◌≡◌, ◌<◌, ◌==◌, ◌&&◌, map, length, [], None, IsSome, IfSome};
+ghost use Rattle.mps_history.specs.Steps.{step_of, within};
+ghost use Rattle.mps_history.specs.Dependence.{consequences};
 ghost use Rattle.mps_arena.specs.Keys.{last_key};
-ghost use Rattle.mps_arena.specs.Entries.{keys_of};
+ghost use Rattle.mps_arena.specs.Entries.{steps, keys_of};
 ghost use Rattle.mps_arena.specs.Sources.{CanGo};
-ghost use Rattle.mps_links.specs.Marks.{marked_keys, is_marked, AreMarksClosed, unmarked, unmarked_of, AreLastMarked};
+ghost use Rattle.mps_links.specs.Marks.{marked_keys, is_marked, AreMarksClosed, marked_by, unmarked, unmarked_of, AreLastMarked};
 
 use crate::order::later;
+use crate::pending::Pending;
 use mps_arena::{Arena, Key};
-use mps_base::Role;
+use mps_base::{Role, StepId};
+
+/// Marks the step of that number and all that depend on it, and tells how many they are. It goes from link to link,
+/// the oldest first, and looks at no step that isn't marked then.
+pub fn mark_from(arena: &mut Arena, id: StepId) -> usize
+    requires present { IsSome (step_of (steps arena.old.entries) id) }
+    requires unmarked { marked_keys arena.old.entries ≡ [] }
+    ensures marks { arena.new.entries
+        ≡ map (marked_by (consequences (steps arena.old.entries) id)) arena.old.entries }
+    ensures count { result ≡ length (within (steps arena.old.entries)
+        (consequences (steps arena.old.entries) id)) }
+    ensures closed { AreMarksClosed arena.new.entries }
+    ensures issued { arena.new.issued ≡ arena.old.issued }
+    ensures ready { arena.new.is_ready ≡ arena.old.is_ready }
+    ensures key { arena.new.next_key ≡ arena.old.next_key }
+{
+    let len = arena.len();
+    let first = arena.by_id(id).unwrap();
+    let mut pending = Pending::new();
+    pending.follow(arena, first);
+    arena.set_mark(first, true);
+    for count in 1..len {
+        prove!(arena.len() > 0);
+        let Some(key) = pending.earliest(arena) else {
+            return count;
+        };
+        pending.follow(arena, key);
+        arena.set_mark(key, true);
+    }
+    len
+}
 
 // the role's newest marked step: its last, or none
 fn newest_marked_of(arena: &Arena, role: Role) -> Option<Key>
