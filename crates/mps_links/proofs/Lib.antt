@@ -11,3 +11,4 @@ pub mod Newest
 pub mod Unmarking
 pub mod Passing
 pub mod Turns
+pub mod Going

@@ -1,6 +1,7 @@
 -- Entries by their marks.
-use Rattle.std.specs.Prelude.{◌≡◌, ◌==◌, ◌&&◌, ℕ, Bool, true, false, List, [], ◌∷◌, map, if◌then◌else◌, nat_lt, ⊤}
+use Rattle.std.specs.Prelude.{◌≡◌, ◌==◌, ◌&&◌, ℕ, Bool, true, false, List, [], ◌∷◌, map, if◌then◌else◌, not, ⊤}
 use Rattle.std.specs.List.{filter, list_any, AllByRecursion}
+use Rattle.mps_base.specs.declared.action.Step.{Step}
 use Rattle.mps_history.specs.Dependence.{IsClosed}
 use Rattle.mps_arena.specs.Entries.{Entry, steps}
 
@@ -32,3 +33,7 @@ unmarked_of p e = record e { marked = if e.step.role == p then false else e.mark
 abbrev pub AreLastMarked : ℕ → List Entry → Type 0
 AreLastMarked p [] = ⊤
 AreLastMarked p (e ∷ es) = (e.step.role ≡ p → e.marked ≡ true → AllByRecursion (λ f. f.step.role ≡ p → f.marked ≡ true) es) × AreLastMarked p es
+
+-- the steps that aren't marked, in order
+abbrev pub unmarked_steps : List Entry → List Step
+unmarked_steps es = steps (filter (λ e. not e.marked) es)

@@ -57,6 +57,7 @@ fn newest_marked_of(arena: &Arena, role: Role) -> Option<Key>
 pub fn newest_marked(arena: &Arena) -> Option<Key>
     requires closed { AreMarksClosed arena.now.entries }
     ensures newest { result ≡ last_key None (marked_keys arena.now.entries) }
+    ensures none { result ≡ None → marked_keys arena.now.entries ≡ [] }
     ensures free { IfSome result (λ key. CanGo arena.now.entries key) }
 {
     if arena.len() == 0 {
@@ -97,6 +98,7 @@ fn unmark_role(arena: &mut Arena, role: Role)
 pub fn unmark(arena: &mut Arena)
     requires closed { AreMarksClosed arena.old.entries }
     ensures entries { arena.new.entries ≡ map unmarked arena.old.entries }
+    ensures none { marked_keys arena.new.entries ≡ [] }
     ensures issued { arena.new.issued ≡ arena.old.issued }
     ensures ready { arena.new.is_ready ≡ arena.old.is_ready }
     ensures key { arena.new.next_key ≡ arena.old.next_key }

@@ -5,8 +5,9 @@ use Rattle.mps_arena.specs.Keys.{last_key}
 use Rattle.mps_arena.specs.Entries.{keys_of}
 use Rattle.mps_arena.specs.Sources.{CanGo}
 use Rattle.mps_links.specs.Order.{later}
-use Rattle.mps_links.specs.Marks.{is_marked}
+use Rattle.mps_links.specs.Marks.{marked_keys, is_marked}
 use Rattle.mps_links.proofs.Tests.{keys_none}
+use Rattle.mps_links.proofs.Lasts.{nothing_last}
 use Rattle.mps_links.proofs.Newest.{next_role, all_roles, newest_can_go}
 use Rattle.mps_links.proofs.marking.newest_marked.Goals as goal
 
@@ -41,3 +42,6 @@ returns-clause-free c =
     let es = c.args.arena.now.entries in
     if_some (CanGo es) c.loop-role.newest
     (λ k e. newest_can_go es c.len.ensures.sound c.requires.closed k (sym (returns-clause-newest c) ∙ e))
+
+pub returns-clause-none : goal.returns-clause-none
+returns-clause-none c none = nothing_last (marked_keys c.args.arena.now.entries) (sym (returns-clause-newest c) ∙ none)

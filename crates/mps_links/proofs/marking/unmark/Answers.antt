@@ -1,5 +1,6 @@
 use Rattle.std.proofs.Common.{◌≡◌, ℕ, map, refl, sym, ap, ◌∙◌, subst, arith}
-use Rattle.mps_links.specs.Marks.{unmarked_of, AreLastMarked}
+use Rattle.mps_links.specs.Marks.{marked_keys, unmarked_of, AreLastMarked}
+use Rattle.mps_links.proofs.Going.{none_unmarked}
 use Rattle.mps_links.proofs.Unmarking.{unmarked_below, below_none, below_more, below_all, last_marked_below}
 use Rattle.mps_links.proofs.marking.unmark.Goals as goal
 
@@ -31,3 +32,6 @@ returns-clause-entries c =
     let es = c.args.arena.now.entries in
     let end : c.loop-role.role ≡ 8 = omega arith in
     c.loop-role.invariant.entries ∙ ap (λ (r : ℕ). map (unmarked_below r) es) end ∙ below_all es c.len.ensures.sound.small
+
+pub returns-clause-none : goal.returns-clause-none
+returns-clause-none c = ap marked_keys (returns-clause-entries c) ∙ none_unmarked c.args.arena.now.entries
