@@ -1,9 +1,9 @@
 -- The first entry that passes a test.
-use Rattle.std.proofs.Common.{◌≡◌, ℕ, ◌<◌, Bool, true, false, List, [], ◌∷◌, ◌++◌, cond, Option, Some, None, refl, sym, ap, ◌∙◌, subst, arith, ⊎_elim, inl, append_assoc}
-use Rattle.std.specs.Prelude.{◌||◌, nat_lt}
+use Rattle.std.proofs.Common.{◌≡◌, ℕ, ◌<◌, Bool, true, false, List, [], ◌∷◌, ◌++◌, cond, Some, None, refl, sym, ap, ◌∙◌, subst, arith, ⊎_elim, append_assoc}
+use Rattle.std.specs.Prelude.{◌||◌}
 use Rattle.std.specs.List.{find}
 use Rattle.std.specs.Option.{option_map, option_and_then}
-use Rattle.std.proofs.lemmas.Bool.{cases_Bool, cond-true, cond-false, lt-ltb, le-ltb, or_left, or_right, or_from}
+use Rattle.std.proofs.lemmas.Bool.{cases_Bool, lt-ltb, le-ltb, or_left, or_right, or_from}
 use Rattle.mps_base.specs.declared.action.Step.{Step}
 use Rattle.mps_history.specs.Steps.{IsIn, IsRising}
 use Rattle.mps_history.proofs.Order.{at_member, IsRising-append_right}
@@ -12,7 +12,7 @@ use Rattle.mps_arena.specs.Entries.{Entry, steps, keys_of, any_step, entry_at}
 use Rattle.mps_arena.specs.Sources.{id_in}
 use Rattle.mps_arena.proofs.Chains.{keys_with, keys_without, entry_middle}
 use Rattle.mps_links.specs.Order.{is_before, earlier}
-use Rattle.mps_links.proofs.Tests.{cases_key, steps_around, in_middle}
+use Rattle.mps_links.proofs.StepKeys.{cases_key, steps_around, in_middle}
 
 -- the first entry of the list that passes, where it stands
 pub record IsFirst (p : Step → Bool) (b : List Entry) (k : ℕ) : Type 0 where

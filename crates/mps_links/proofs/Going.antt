@@ -1,9 +1,8 @@
 -- What is left of the marks, where the newest marked step goes.
-use Rattle.std.proofs.Common.{◌≡◌, ◌<◌, ◌+◌, zero, suc, ℕ, Bool, true, false, List, [], ◌∷◌, ◌++◌, length, map, cond, not, Option, Some, None, refl, sym, ap, ◌∙◌, subst, arith, ⊎_elim, ◌⊎◌, inl, inr, eq-eqb, length-append}
-use mathlib.Core.Path.{ap₂}
+use Rattle.std.proofs.Common.{◌≡◌, ◌+◌, suc, ℕ, Bool, true, false, List, [], ◌∷◌, ◌++◌, length, map, not, Some, None, refl, sym, ap, ◌∙◌, subst, arith, ⊎_elim, inl, inr, length-append}
 use Rattle.std.specs.Prelude.{◌==◌, ◌&&◌, ◌||◌, nat_lt}
 use Rattle.std.specs.List.{filter}
-use Rattle.std.proofs.lemmas.Bool.{cases_Bool, cond-true, cond-false, ne_eqb, eqb-true, ltb-true, and_parts, and_from, and_right, or_left, false_from_ne_true, both_ways}
+use Rattle.std.proofs.lemmas.Bool.{cases_Bool, cond-true, cond-false, ne_eqb, ltb-true, and_parts, and_from, and_right, or_left, false_from_ne_true, both_ways}
 use Rattle.std.proofs.lemmas.List.{map-append}
 use Rattle.std.proofs.lemmas.List.Elements.{filter-append}
 use Rattle.mps_base.specs.declared.action.Step.{Step}
@@ -14,7 +13,7 @@ use Rattle.mps_arena.specs.Keys.{AreDistinct, last_key}
 use Rattle.mps_arena.specs.Entries.{Entry, steps, keys_of, any_step, AreSound}
 use Rattle.mps_arena.proofs.Keeping.{others_are}
 use Rattle.mps_links.specs.Marks.{marked_keys, is_marked, AreMarksClosed, marked_by, unmarked, unmarked_steps}
-use Rattle.mps_links.proofs.Tests.{steps_around, in_middle, none_passes}
+use Rattle.mps_links.proofs.StepKeys.{steps_around, in_middle, none_passes}
 use Rattle.mps_links.proofs.Firsts.{rising_behind}
 use Rattle.mps_links.proofs.Lasts.{IsLast, last_is}
 use Rattle.mps_links.proofs.Marked.{marked_here, marked_with, marked_without, keys_marked}

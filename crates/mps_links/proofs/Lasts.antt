@@ -1,5 +1,5 @@
 -- The last entry that passes a test.
-use Rattle.std.proofs.Common.{◌≡◌, ℕ, ◌<◌, Bool, true, false, List, [], ◌∷◌, ◌++◌, Option, Some, None, refl, sym, ap, ◌∙◌, subst, arith, ⊎_elim, append_assoc}
+use Rattle.std.proofs.Common.{◌≡◌, ℕ, Bool, true, false, List, [], ◌∷◌, ◌++◌, Option, Some, None, refl, sym, ap, ◌∙◌, arith, ⊎_elim, append_assoc}
 use mathlib.Core.Path.{ap₂}
 use Rattle.std.specs.Prelude.{◌||◌}
 use Rattle.std.specs.Option.{option_or}
@@ -11,7 +11,7 @@ use Rattle.mps_arena.specs.Entries.{Entry, steps, keys_of, any_step}
 use Rattle.mps_arena.specs.Sources.{id_in}
 use Rattle.mps_arena.proofs.Chains.{keys_with, keys_without}
 use Rattle.mps_links.specs.Order.{is_before, later}
-use Rattle.mps_links.proofs.Tests.{cases_key, in_middle}
+use Rattle.mps_links.proofs.StepKeys.{cases_key, in_middle}
 use Rattle.mps_links.proofs.Firsts.{same_either, id_middle, rising_behind}
 
 some_last : (j : ℕ) (c : List ℕ) → last_key (Some j) c ≡ None → ⊥

@@ -1,4 +1,4 @@
-pub mod Tests
+pub mod StepKeys
 pub mod Numbers
 pub mod Present
 pub mod Firsts

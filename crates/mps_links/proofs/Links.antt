@@ -1,9 +1,8 @@
 -- What depends directly on a step: its role's next step and its receipt come first.
-use Rattle.std.proofs.Common.{◌≡◌, ◌<◌, ℕ, Bool, true, false, List, [], ◌∷◌, ◌++◌, Option, Some, None, refl, sym, ap, ◌∙◌, subst, arith, ⊎_elim, ◌⊎◌, inl, eq-eqb, append_assoc}
+use Rattle.std.proofs.Common.{◌≡◌, Bool, List, [], ◌∷◌, ◌++◌, Option, Some, None, refl, sym, ap, ◌∙◌, subst, arith, inl, eq-eqb, append_assoc}
 use mathlib.Core.Path.{ap₂}
 use Rattle.std.specs.Prelude.{◌==◌, ◌&&◌, ◌||◌, nat_lt, IsSomeAnd}
-use Rattle.std.specs.List.{find}
-use Rattle.std.specs.Option.{option_map, option_and_then}
+use Rattle.std.specs.Option.{option_and_then}
 use Rattle.std.proofs.lemmas.Bool.{lt-ltb, le-ltb, and_left, or_parts}
 use Rattle.mps_base.specs.declared.action.Act.{Act}
 use Rattle.mps_base.specs.declared.action.Act.TheVariants.{Out, In, Mark}
@@ -18,7 +17,7 @@ use Rattle.mps_arena.specs.Sources.{id_in, next_of_role_in, prev_of_role_in, rec
 use Rattle.mps_arena.proofs.KeyLists.{once, after_absent, before_absent}
 use Rattle.mps_arena.proofs.Chains.{keys-append, keys_without, keys_around, distinct}
 use Rattle.mps_links.specs.Order.{earlier}
-use Rattle.mps_links.proofs.Tests.{eqb_turned, steps_around, in_middle, keys_agree, keys_none, none_passes, nothing_first}
+use Rattle.mps_links.proofs.StepKeys.{eqb_turned, steps_around, in_middle, keys_agree, keys_none, none_passes, nothing_first}
 use Rattle.mps_links.proofs.Firsts.{entry_in, rising_behind, id_first, first_or}
 use Rattle.mps_links.proofs.Least.{least_is}
 use Rattle.mps_links.proofs.Receipts.{receipt_is}

@@ -1,15 +1,15 @@
 -- The marked steps, by their numbers and by their entries.
-use Rattle.std.proofs.Common.{◌≡◌, ◌<◌, ℕ, Bool, true, false, List, [], ◌∷◌, ◌++◌, map, refl, sym, ap, ◌∙◌, subst, arith, ⊎_elim, ◌⊎◌, inl, inr, eq-eqb, append_assoc}
-use Rattle.std.specs.Prelude.{◌==◌, ◌&&◌, ◌||◌}
+use Rattle.std.proofs.Common.{◌≡◌, ◌<◌, ℕ, true, false, List, [], ◌∷◌, ◌++◌, map, refl, sym, ap, ◌∙◌, subst, arith, ⊎_elim, inl, inr, eq-eqb, append_assoc}
+use Rattle.std.specs.Prelude.{◌==◌, ◌&&◌}
 use Rattle.std.specs.List.{filter}
 use Rattle.std.proofs.lemmas.Bool.{cases_Bool, cond-true, cond-false, ne_eqb, and_right, or_from}
 use Rattle.mps_base.specs.declared.action.Step.{Step}
 use Rattle.mps_history.specs.Steps.{IsIn, IsRising}
-use Rattle.mps_history.proofs.Order.{at_member, IsRising-append_right}
+use Rattle.mps_history.proofs.Order.{at_member}
 use Rattle.mps_arena.specs.Entries.{Entry, steps, keys_of}
 use Rattle.mps_arena.proofs.Chains.{keys_with, keys_without}
 use Rattle.mps_links.specs.Marks.{marked_keys, is_marked}
-use Rattle.mps_links.proofs.Tests.{in_middle}
+use Rattle.mps_links.proofs.StepKeys.{in_middle}
 
 none_marked : (b : List Entry) (n : ℕ) → ((t : Step) → IsIn t (steps b) → (t.id == n) ≡ false) → is_marked b n ≡ false
 none_marked [] n f = refl

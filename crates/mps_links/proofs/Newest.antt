@@ -2,7 +2,7 @@
 use Rattle.std.proofs.Common.{◌≡◌, ◌<◌, ◌+◌, ℕ, Bool, true, false, List, [], ◌∷◌, ◌++◌, Option, Some, None, refl, sym, ap, ◌∙◌, subst, arith, ⊎_elim, ◌⊎◌, inl, inr, eq-eqb}
 use Rattle.std.specs.Prelude.{◌==◌, ◌&&◌, ◌||◌, nat_lt}
 use Rattle.std.specs.List.{AllByRecursion}
-use Rattle.std.proofs.lemmas.Bool.{cases_Bool, ne_eqb, eqb-true, eqb-false, ltb-true, ltb-false, lt-ltb, le-ltb, and_from, and_left, and_parts, or_left, false_from_ne_true, both_ways}
+use Rattle.std.proofs.lemmas.Bool.{cases_Bool, eqb-true, eqb-false, ltb-true, ltb-false, lt-ltb, le-ltb, and_from, and_left, and_parts, or_left, false_from_ne_true, both_ways}
 use Rattle.mps_base.specs.declared.action.Step.{Step}
 use Rattle.mps_history.specs.Steps.{IsIn, IsRising}
 use Rattle.mps_history.specs.Dependence.{depends_on, is_matched}
@@ -14,7 +14,7 @@ use Rattle.mps_arena.proofs.KeyLists.{last-append}
 use Rattle.mps_arena.proofs.Chains.{keys_around}
 use Rattle.mps_links.specs.Order.{later}
 use Rattle.mps_links.specs.Marks.{marked_keys, is_marked, AreMarksClosed}
-use Rattle.mps_links.proofs.Tests.{steps_around, in_middle, keys_agree, keys_none, none_passes}
+use Rattle.mps_links.proofs.StepKeys.{steps_around, in_middle, keys_agree, keys_none, none_passes}
 use Rattle.mps_links.proofs.Lasts.{last_is, last_or}
 use Rattle.mps_links.proofs.Links.{alone_can_go}
 use Rattle.mps_links.proofs.Marked.{marked_here, keys_marked}

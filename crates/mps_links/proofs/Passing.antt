@@ -1,26 +1,26 @@
 -- The pass over the steps, the oldest first, from pending step to pending step.
-use Rattle.std.proofs.Common.{◌≡◌, ◌<◌, ◌≤◌, ◌+◌, zero, suc, ℕ, Bool, true, false, List, [], ◌∷◌, ◌++◌, length, map, cond, Option, Some, None, refl, sym, ap, ◌∙◌, subst, arith, ⊎_elim, ◌⊎◌, inl, inr, eq-eqb, append_assoc}
+use Rattle.std.proofs.Common.{◌≡◌, ◌<◌, ℕ, Bool, true, false, List, [], ◌∷◌, ◌++◌, length, map, cond, Option, Some, None, refl, sym, ap, ◌∙◌, subst, arith, ⊎_elim, inl, inr, eq-eqb, append_assoc}
 use mathlib.Core.Path.{ap₂}
-use Rattle.std.specs.Prelude.{◌==◌, ◌&&◌, ◌||◌, ◌≢◌, nat_lt, slice_index_or, slice_set}
-use Rattle.std.specs.List.{filter, list_any, fold, AllByRecursion}
+use Rattle.std.specs.Prelude.{◌==◌, ◌&&◌, ◌||◌, slice_index_or, slice_set}
+use Rattle.std.specs.List.{AllByRecursion}
 use Rattle.std.specs.Option.{option_map, unwrap_or}
-use Rattle.std.proofs.lemmas.Bool.{cases_Bool, cond-true, cond-false, ne_eqb, eqb-true, eqb-false, and_parts, and_from, and_left, and_right, or_cases, or_left, or_right, or_parts, or_from, false_from_ne_true, both_ways, false≢true, le-ltb, lt-ltb}
-use Rattle.std.proofs.lemmas.List.{map-append, get_or-set_same, get_or-set_other, length-set}
+use Rattle.std.proofs.lemmas.Bool.{cases_Bool, cond-true, cond-false, ne_eqb, eqb-true, eqb-false, and_parts, and_from, and_left, and_right, or_cases, or_left, or_right, or_from, false_from_ne_true, both_ways, false≢true}
+use Rattle.std.proofs.lemmas.List.{get_or-set_same, get_or-set_other, length-set}
 use Rattle.mps_base.specs.declared.action.Act.{Act}
 use Rattle.mps_base.specs.declared.action.Act.TheVariants.{Out, In, Mark}
 use Rattle.mps_base.specs.declared.action.Step.{Step}
-use Rattle.mps_history.specs.Steps.{IsIn, IsRising, within, sends, receives, goes_to}
+use Rattle.mps_history.specs.Steps.{IsIn, within, sends, receives, goes_to}
 use Rattle.mps_history.specs.Dependence.{depends_on, is_matched, with, joined, sent_before, received_before}
 use Rattle.mps_history.proofs.Order.{same_step}
 use Rattle.mps_history.proofs.Reaching.{joins, any_member, member_any}
 use Rattle.mps_arena.specs.Keys.{first_key}
-use Rattle.mps_arena.specs.Entries.{Entry, steps, keys_of, of_role, with_mark, entry_at, AreSound}
+use Rattle.mps_arena.specs.Entries.{Entry, steps, keys_of, of_role, entry_at, AreSound}
 use Rattle.mps_arena.specs.Sources.{next_of_role_in, receipt_in}
-use Rattle.mps_arena.proofs.Chains.{keys-append, keys_without}
+use Rattle.mps_arena.proofs.Chains.{keys_without}
 use Rattle.mps_links.specs.Order.{earlier}
 use Rattle.mps_links.specs.Marks.{unmarked}
 use Rattle.mps_links.specs.Pending.{at_role, with_pending, followed}
-use Rattle.mps_links.proofs.Tests.{cases_key, eqb_turned, keys_agree, keys_none, none_passes, nothing_first, in_middle}
+use Rattle.mps_links.proofs.StepKeys.{cases_key, eqb_turned, keys_agree, keys_none, none_passes, nothing_first, in_middle}
 use Rattle.mps_links.proofs.Firsts.{IsFirst, first_is, first_or, entry_in, rising_behind}
 use Rattle.mps_links.proofs.Links.{next_is, on_later}
 use Rattle.mps_links.proofs.Receipts.{receipt_is}

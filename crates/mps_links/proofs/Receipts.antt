@@ -1,5 +1,5 @@
 -- The receipt of a send is the first later step that is matched with it.
-use Rattle.std.proofs.Common.{◌≡◌, ℕ, zero, suc, ◌+◌, ◌-◌, ◌≤◌, ◌<◌, Bool, true, false, List, [], ◌∷◌, ◌++◌, length, Option, Some, None, refl, sym, ap, ◌∙◌, subst, arith, ⊎_elim, inl, eq-eqb, append_assoc, append-nil, length-append}
+use Rattle.std.proofs.Common.{◌≡◌, ℕ, zero, suc, ◌+◌, ◌-◌, ◌≤◌, ◌<◌, Bool, true, false, List, [], ◌∷◌, ◌++◌, length, None, refl, sym, ap, ◌∙◌, subst, arith, ⊎_elim, inl, eq-eqb, append_assoc, append-nil, length-append}
 use Rattle.std.specs.Prelude.{◌==◌, ◌&&◌, nat_lt, slice_get}
 use Rattle.std.specs.List.{filter}
 use Rattle.std.specs.Option.{option_and_then}
@@ -19,7 +19,7 @@ use Rattle.mps_arena.specs.Receipts.{receipt_mate}
 use Rattle.mps_arena.specs.Sources.{receipt_in, mate_of}
 use Rattle.mps_arena.proofs.KeyLists.{once, partner_middle}
 use Rattle.mps_arena.proofs.Chains.{keys-append, keys_with, keys_without, keys_push, keys_kept, keys_around, keys_beside, distinct}
-use Rattle.mps_links.proofs.Tests.{eqb_turned, steps_around, keys_agree, keys_none}
+use Rattle.mps_links.proofs.StepKeys.{eqb_turned, steps_around, keys_agree, keys_none}
 use Rattle.mps_links.proofs.Firsts.{entry_in}
 
 -- the steps before a number are those before its place

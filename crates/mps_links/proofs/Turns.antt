@@ -1,14 +1,14 @@
 -- The turns of the marking, from the first step to the last.
-use Rattle.std.proofs.Common.{◌≡◌, ◌<◌, ◌≤◌, ◌+◌, zero, suc, ℕ, Bool, true, false, List, [], ◌∷◌, ◌++◌, length, map, cond, Option, Some, None, refl, sym, ap, ◌∙◌, subst, arith, ⊎_elim, ◌⊎◌, inl, inr, eq-eqb, append_assoc, append-nil, length-append, replicate}
+use Rattle.std.proofs.Common.{◌≡◌, ◌<◌, ◌≤◌, ◌+◌, zero, suc, ℕ, Bool, true, false, List, [], ◌∷◌, ◌++◌, length, map, Option, Some, None, refl, sym, ap, ◌∙◌, subst, arith, ⊎_elim, ◌⊎◌, inl, inr, eq-eqb, append_assoc, append-nil, length-append, replicate}
 use mathlib.Core.Path.{ap₂}
 use Rattle.std.specs.Prelude.{◌==◌, ◌&&◌, ◌||◌, nat_lt, slice_index_or}
-use Rattle.std.specs.List.{filter, list_any, fold, AllByRecursion}
-use Rattle.std.proofs.lemmas.Bool.{cases_Bool, cond-true, cond-false, ne_eqb, eqb-true, and_left, and_right, and_parts, or_left, or_from, false_from_ne_true, both_ways, le-ltb, lt-ltb}
+use Rattle.std.specs.List.{list_any, fold, AllByRecursion}
+use Rattle.std.proofs.lemmas.Bool.{cases_Bool, cond-true, cond-false, ne_eqb, eqb-true, and_left, and_right, and_parts, or_left, false_from_ne_true, le-ltb, lt-ltb}
 use Rattle.std.proofs.lemmas.List.{map-append, length-map}
 use Rattle.std.proofs.lemmas.List.Elements.{filter-append}
 use Rattle.mps_base.specs.declared.action.Step.{Step}
 use Rattle.mps_history.specs.Steps.{IsIn, IsRising, within}
-use Rattle.mps_history.specs.Dependence.{IsClosed, with, joined, consequences, depends_on, is_matched}
+use Rattle.mps_history.specs.Dependence.{IsClosed, with, joined, consequences, depends_on}
 use Rattle.mps_history.proofs.Order.{at_member, from_members, rising_apart, IsRising-append_right, IsIn-append, IsIn-append_right}
 use Rattle.mps_history.proofs.Reaching.{joins, any_member, earlier as earlier_step, consequences_closed}
 use Rattle.mps_history.proofs.Removal.{filter-same}
@@ -18,8 +18,8 @@ use Rattle.mps_arena.proofs.Chains.{keys-append}
 use Rattle.mps_links.specs.Order.{earlier}
 use Rattle.mps_links.specs.Marks.{marked_keys, is_marked, AreMarksClosed, unmarked, marked_by}
 use Rattle.mps_links.specs.Pending.{followed, earliest}
-use Rattle.mps_links.proofs.Tests.{keys_agree, keys_none, none_passes, nothing_first, in_middle, steps_around}
-use Rattle.mps_links.proofs.Firsts.{IsFirst, first_is, first_or, rising_behind}
+use Rattle.mps_links.proofs.StepKeys.{keys_agree, keys_none, none_passes, nothing_first, in_middle, steps_around}
+use Rattle.mps_links.proofs.Firsts.{IsFirst, first_is, first_or}
 use Rattle.mps_links.proofs.Newest.{below_next, spread_left, small_in}
 use Rattle.mps_links.proofs.Present.{at_middle}
 use Rattle.mps_links.proofs.Marked.{marked_with, marked_without, marked_here}
@@ -207,22 +207,22 @@ module _ (es : List Entry) (sound : AreSound es) (none : marked_keys es ≡ []) 
         parts = now ∙ sym (append_assoc a (marked_as true y ∷ []) d);
         alike = ap (map unmarked) now ∙ map-append unmarked a (marked_as true y ∷ d) ∙ sym (ap (map unmarked) parts ∙ map-append unmarked a (y ∷ d));
         marks = subst (AllByRecursion (λ e. e.marked ≡ single e.step.id)) (sym now)
-        (marks_more empty single a d y grown (subst (λ (l : List Entry). IsRising (steps l)) parts sound.rising) (none_marked (a ++ y ∷ d) (ap marked_keys (sym parts) ∙ none)));
+            (marks_more empty single a d y grown (subst (λ (l : List Entry). IsRising (steps l)) parts sound.rising) (none_marked (a ++ y ∷ d) (ap marked_keys (sym parts) ∙ none)));
         pending = pending_more es sound empty single a d y parts grown (replicate 8 None) none_pending;
         fresh = fresh_more es sound empty single a d y parts grown (λ t i. refl);
         same =
-        sym
-        (ap (joined h single) (whole ∙ sym (append_assoc (steps a) (y.step ∷ []) (steps d)))
-        ∙ passed h single (steps a ++ y.step ∷ []) (steps d)
-        (λ t i.
-        none_before t
-        (⊎_elim
-        (λ (j : IsIn t (steps a)). let less = rising_apart (steps a) (y.step ∷ steps d) t y.step r j (inl refl) in omega arith)
-        (λ (k : (t ≡ y.step) ⊎ ⊥). ⊎_elim (λ (q : t ≡ y.step). let same : t.id ≡ y.step.id = ap (λ (s : Step). s.id) q in omega arith) (λ (z : ⊥). absurd z) k)
-        (IsIn-append t (steps a) (y.step ∷ []) i))));
+            sym
+            (ap (joined h single) (whole ∙ sym (append_assoc (steps a) (y.step ∷ []) (steps d)))
+            ∙ passed h single (steps a ++ y.step ∷ []) (steps d)
+            (λ t i.
+            none_before t
+            (⊎_elim
+            (λ (j : IsIn t (steps a)). let less = rising_apart (steps a) (y.step ∷ steps d) t y.step r j (inl refl) in omega arith)
+            (λ (k : (t ≡ y.step) ⊎ ⊥). ⊎_elim (λ (q : t ≡ y.step). let same : t.id ≡ y.step.id = ap (λ (s : Step). s.id) q in omega arith) (λ (z : ⊥). absurd z) k)
+            (IsIn-append t (steps a) (y.step ∷ []) i))));
         counted =
-        let more = count_more empty single (steps a) (steps d) y.step grown r refl in
-        omega (arith, more, ap length (ap (λ l. within l single) whole), no_one (steps a ++ y.step ∷ steps d));
+            let more = count_more empty single (steps a) (steps d) y.step grown r refl in
+            omega (arith, more, ap length (ap (λ l. within l single) whole), no_one (steps a ++ y.step ∷ steps d));
       }
     where
       no_one : (l : List Step) → length (within l empty) ≡ 0
@@ -295,21 +295,21 @@ module _ (es now : List Entry) (whole : ℕ → Bool) (firsts : List (Option ℕ
           parts = marked ∙ sym (append_assoc front (marked_as true y ∷ []) first.behind);
           alike = ap (map unmarked) marked ∙ map-append unmarked front (marked_as true y ∷ first.behind) ∙ sym (ap (map unmarked) split ∙ map-append unmarked front (y ∷ first.behind)) ∙ w.alike;
           marks = subst (AllByRecursion (λ e. e.marked ≡ more e.step.id)) (sym marked)
-          (marks_more w.set more front first.behind y (λ m. refl) (subst (λ (l : List Entry). IsRising (steps l)) split sound.rising) (subst (AllByRecursion (λ e. e.marked ≡ w.set e.step.id)) split w.marks));
+              (marks_more w.set more front first.behind y (λ m. refl) (subst (λ (l : List Entry). IsRising (steps l)) split sound.rising) (subst (AllByRecursion (λ e. e.marked ≡ w.set e.step.id)) split w.marks));
           pending =
-          subst (λ (j : ℕ). ArePending h more first.behind (followed now j firsts)) first.key
-          (subst (λ (l : List Step). ArePending l more first.behind (followed now y.key firsts)) steps_are
-          (pending_more now sound w.set more front first.behind y split (λ m. refl) firsts y_pending));
+              subst (λ (j : ℕ). ArePending h more first.behind (followed now j firsts)) first.key
+              (subst (λ (l : List Step). ArePending l more first.behind (followed now y.key firsts)) steps_are
+              (pending_more now sound w.set more front first.behind y split (λ m. refl) firsts y_pending));
           fresh = fresh_more now sound w.set more front first.behind y split (λ m. refl) fresh_behind;
           same =
-          sym
-          (ap (joined h w.set) rest_steps
-          ∙ passed h w.set (steps first.before) (y.step ∷ steps first.behind) (λ t i. none_passes (joins h w.set) first.before t first.none i)
-          ∙ ap (λ (f : ℕ → Bool). joined h f (steps first.behind)) (cond-true (joins h w.set y.step) more w.set first.passes))
-          ∙ w.same;
+              sym
+              (ap (joined h w.set) rest_steps
+              ∙ passed h w.set (steps first.before) (y.step ∷ steps first.behind) (λ t i. none_passes (joins h w.set) first.before t first.none i)
+              ∙ ap (λ (f : ℕ → Bool). joined h f (steps first.behind)) (cond-true (joins h w.set y.step) more w.set first.passes))
+              ∙ w.same;
           counted =
-          let one = count_more w.set more (steps front) (steps first.behind) y.step (λ m. refl) r fresh_y in
-          omega (arith, one, w.counted, ap length (ap (λ l. within l more) steps_split), ap length (ap (λ l. within l w.set) steps_split));
+              let one = count_more w.set more (steps front) (steps first.behind) y.step (λ m. refl) r fresh_y in
+              omega (arith, one, w.counted, ap length (ap (λ l. within l more) steps_split), ap length (ap (λ l. within l w.set) steps_split));
         }
 
   -- where no step that is left joins, the set is whole

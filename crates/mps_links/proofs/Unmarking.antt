@@ -1,19 +1,18 @@
 -- Marks taken off, role by role and from the last step back.
-use Rattle.std.proofs.Common.{◌≡◌, ◌≤◌, ◌<◌, ◌+◌, ℕ, Bool, true, false, List, [], ◌∷◌, ◌++◌, length, map, cond, Option, Some, None, refl, sym, ap, ◌∙◌, subst, arith, ⊎_elim, inl, eq-eqb, append_assoc, append-nil, length-append}
+use Rattle.std.proofs.Common.{◌≡◌, ◌≤◌, ◌+◌, ℕ, Bool, true, false, List, [], ◌∷◌, ◌++◌, length, map, cond, Option, Some, None, refl, sym, ap, ◌∙◌, subst, arith, ⊎_elim, inl, eq-eqb, append_assoc, append-nil, length-append}
 use mathlib.Core.Path.{ap₂}
 use Rattle.std.specs.Prelude.{◌==◌, ◌||◌, nat_lt, if◌then◌else◌}
 use Rattle.std.specs.List.{AllByRecursion}
 use Rattle.std.proofs.lemmas.Bool.{cases_Bool, cond-true, cond-false, eqb-true, lt-ltb, le-ltb, or_left, or_right, or_parts, and_from, false_from_ne_true, both_ways}
 use Rattle.std.proofs.lemmas.List.{map-append}
-use Rattle.mps_base.specs.declared.action.Step.{Step}
 use Rattle.mps_history.specs.Dependence.{depends_on, is_matched}
 use Rattle.mps_arena.specs.Keys.{has, AreDistinct, last_key}
 use Rattle.mps_arena.specs.Entries.{Entry, steps, keys_of, any_step, of_role, entry_at, with_mark, AreSound, IsSmall}
 use Rattle.mps_arena.specs.Sources.{prev_of_role_in}
 use Rattle.mps_arena.proofs.KeyLists.{has-append_right}
 use Rattle.mps_arena.proofs.Chains.{keys_without, keys_around}
-use Rattle.mps_links.specs.Marks.{is_marked, AreMarksClosed, unmarked, unmarked_of, AreLastMarked}
-use Rattle.mps_links.proofs.Tests.{in_middle, none_passes}
+use Rattle.mps_links.specs.Marks.{AreMarksClosed, unmarked, unmarked_of, AreLastMarked}
+use Rattle.mps_links.proofs.StepKeys.{in_middle, none_passes}
 use Rattle.mps_links.proofs.Present.{at_middle}
 use Rattle.mps_links.proofs.Firsts.{entry_in, rising_behind}
 use Rattle.mps_links.proofs.Lasts.{IsLast, last_is, nothing_last}
@@ -134,14 +133,14 @@ module _ (p : ℕ) where
             rest = x ∷ (last.behind ++ w.rest);
             parts = es_is;
             left =
-            ap₂ (λ (j : ℕ) (l : List Entry). map (with_mark j false) l) (sym last.key) now_is
-            ∙ mark_middle false last.before (last.behind ++ off w.rest) x (subst (λ (l : List Entry). AreDistinct (keys_of any_step l)) now_is sound.distinct)
-            ∙ ap (λ l. last.before ++ l)
-            (ap₂ (λ (z : Entry) (l : List Entry). z ∷ l) (sym (own_role x last.passes)) (ap (λ l. l ++ off w.rest) (sym (none_of_role last.behind last.none)) ∙ sym (map-append (unmarked_of p) last.behind w.rest)));
+                ap₂ (λ (j : ℕ) (l : List Entry). map (with_mark j false) l) (sym last.key) now_is
+                ∙ mark_middle false last.before (last.behind ++ off w.rest) x (subst (λ (l : List Entry). AreDistinct (keys_of any_step l)) now_is sound.distinct)
+                ∙ ap (λ l. last.before ++ l)
+                (ap₂ (λ (z : Entry) (l : List Entry). z ∷ l) (sym (own_role x last.passes)) (ap (λ l. l ++ off w.rest) (sym (none_of_role last.behind last.none)) ∙ sym (map-append (unmarked_of p) last.behind w.rest)));
             key =
-            ap (prev_of_role_in now) (sym last.key)
-            ∙ prev_is now sound last.before (last.behind ++ off w.rest) x now_is
-            ∙ ap (λ r. last_key None (keys_of (of_role r) last.before)) own;
+                ap (prev_of_role_in now) (sym last.key)
+                ∙ prev_is now sound last.before (last.behind ++ off w.rest) x now_is
+                ∙ ap (λ r. last_key None (keys_of (of_role r) last.before)) own;
             count = omega (arith, w.count, length-append last.behind w.rest);
           }
 

@@ -11,8 +11,8 @@ use crate::order::earlier;
 use mps_arena::Arena;
 use mps_base::StepId;
 
-/// The least number of another step that depends on this one. It is the number of its role's next step or of its
-/// receipt; no other step is looked at.
+/// The least number of another step that depends on this one. It is the number of its role's next
+/// step or of its receipt; no other step is looked at.
 pub fn least_dependent(arena: &Arena, id: StepId) -> Option<StepId>
     requires present { IsSome (step_of (steps arena.now.entries) id) }
     ensures least { result ≡ least (dependents (steps arena.now.entries) id) }

@@ -13,12 +13,14 @@ pub fn marks_stay_closed()
         → AreMarksClosed (filter (λ e. not (e.key == k)) es) }
 {}
 
-/// Where the newest marked step goes, the unmarked ones stay and one less is marked, so that in the end the history
-/// is left without the marked ones.
+/// Where the newest marked step goes, the unmarked ones stay and one less is marked. So in the end
+/// the history is left without the marked ones.
 pub fn marked_steps_go()
-    ensures stay { (es : List Entry) (k : ℕ) → AreSound es → last_key None (marked_keys es) ≡ Some k
+    ensures stay { (es : List Entry) (k : ℕ) → AreSound es
+        → last_key None (marked_keys es) ≡ Some k
         → unmarked_steps (filter (λ e. not (e.key == k)) es) ≡ unmarked_steps es }
-    ensures fewer { (es : List Entry) (k : ℕ) → AreSound es → last_key None (marked_keys es) ≡ Some k
+    ensures fewer { (es : List Entry) (k : ℕ) → AreSound es
+        → last_key None (marked_keys es) ≡ Some k
         → length (marked_keys (filter (λ e. not (e.key == k)) es)) + 1 ≡ length (marked_keys es) }
     ensures left { (es : List Entry) → last_key None (marked_keys es) ≡ None
         → unmarked_steps es ≡ steps es }

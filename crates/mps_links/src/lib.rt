@@ -1,4 +1,5 @@
-//! What depends on a step of an arena, by the links of steps: the least of it, and all of it marked.
+//! What depends on a step of an arena, found from link to link: the least of it, and all of it
+//! marked.
 #![tactic(auto)]
 
 mod dependent;

@@ -12,8 +12,8 @@ use crate::pending::Pending;
 use mps_arena::{Arena, Key};
 use mps_base::{Role, StepId};
 
-/// Marks the step of that number and all that depend on it, and tells how many they are. It goes from link to link,
-/// the oldest first, and looks at no step that isn't marked then.
+/// Marks the step of that number and all that depend on it, and tells how many they are. It goes
+/// from link to link, the oldest first, and never looks at a step that it doesn't mark.
 pub fn mark_from(arena: &mut Arena, id: StepId) -> usize
     requires present { IsSome (step_of (steps arena.old.entries) id) }
     requires unmarked { marked_keys arena.old.entries ≡ [] }
@@ -46,14 +46,16 @@ pub fn mark_from(arena: &mut Arena, id: StepId) -> usize
 fn newest_marked_of(arena: &Arena, role: Role) -> Option<Key>
     requires small { role < 8 }
     requires closed { AreMarksClosed arena.now.entries }
-    ensures { result ≡ last_key None (keys_of (λ s. s.role == role && is_marked arena.now.entries s.id) arena.now.entries) }
+    ensures { result ≡ last_key None (keys_of
+        (λ s. s.role == role && is_marked arena.now.entries s.id) arena.now.entries) }
 {
     let last = arena.last_of(role)?;
     prove!(arena.len() > 0);
     if arena.marked(last) { Some(last) } else { None }
 }
 
-/// The newest marked step, where each step that depends on a marked one is marked. It may be removed.
+/// The newest marked step, where each step that depends on a marked one is marked. So nothing
+/// depends on it, and it may be removed.
 pub fn newest_marked(arena: &Arena) -> Option<Key>
     requires closed { AreMarksClosed arena.now.entries }
     ensures newest { result ≡ last_key None (marked_keys arena.now.entries) }
@@ -93,8 +95,8 @@ fn unmark_role(arena: &mut Arena, role: Role)
     }
 }
 
-/// Takes all marks off, where each step that depends on a marked one is marked. No unmarked step is looked at but
-/// one of each role.
+/// Takes all marks off, where each step that depends on a marked one is marked. No unmarked step is
+/// looked at but one of each role.
 pub fn unmark(arena: &mut Arena)
     requires closed { AreMarksClosed arena.old.entries }
     ensures entries { arena.new.entries ≡ map unmarked arena.old.entries }

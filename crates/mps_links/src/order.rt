@@ -21,7 +21,11 @@ pub(crate) fn earlier(arena: &Arena, a: Option<Key>, b: Option<Key>) -> Option<K
 {
     match (a, b) {
         (Some(first), Some(second)) => {
-            if is_before(arena, first, second) { a } else { b }
+            if is_before(arena, first, second) {
+                a
+            } else {
+                b
+            }
         }
         (Some(_), None) => a,
         (None, _) => b,
@@ -34,7 +38,11 @@ pub(crate) fn later(arena: &Arena, a: Option<Key>, b: Option<Key>) -> Option<Key
 {
     match (a, b) {
         (Some(first), Some(second)) => {
-            if is_before(arena, first, second) { b } else { a }
+            if is_before(arena, first, second) {
+                b
+            } else {
+                a
+            }
         }
         (Some(_), None) => a,
         (None, _) => b,

@@ -1,4 +1,3 @@
-use Rattle.mps_arena.specs.Entries.{Entry}
 use Rattle.mps_links.specs.Marks.{marked_keys}
 use Rattle.mps_links.proofs.Lasts.{nothing_last}
 use Rattle.mps_links.proofs.Going.{unmarked_stay, one_fewer, none_go, unmarked_left, marked_count}

@@ -1,13 +1,11 @@
-use Rattle.std.proofs.Common.{◌≡◌, ◌≤◌, ℕ, Bool, true, List, Option, ◌∷◌, ◌++◌, [], length, length-append, map, replicate, Some, None, sym, ap, ◌∙◌, subst, arith}
-use mathlib.Core.Path.{ap₂}
+use Rattle.std.proofs.Common.{◌≡◌, ℕ, Bool, true, List, Option, ◌∷◌, ◌++◌, length, length-append, map, replicate, Some, None, sym, ap, ◌∙◌, subst, arith}
 use Rattle.std.specs.Prelude.{IsSome}
-use Rattle.std.proofs.lemmas.List.{length-map}
 use Rattle.mps_history.specs.Steps.{within}
 use Rattle.mps_history.specs.Dependence.{consequences}
 use Rattle.mps_arena.specs.Entries.{Entry, steps, with_mark, entry_at}
 use Rattle.mps_links.specs.Marks.{marked_by}
 use Rattle.mps_links.specs.Pending.{followed}
-use Rattle.mps_links.proofs.Numbers.{IsNumbered, numbered}
+use Rattle.mps_links.proofs.Numbers.{numbered}
 use Rattle.mps_links.proofs.Firsts.{entry_in}
 use Rattle.mps_links.proofs.Passing.{IsMarking}
 use Rattle.mps_links.proofs.Turns.{starts, first, split, turns, ends, ends_by_count, marked_from, marks_closed}

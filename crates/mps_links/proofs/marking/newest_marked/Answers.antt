@@ -6,7 +6,7 @@ use Rattle.mps_arena.specs.Entries.{keys_of}
 use Rattle.mps_arena.specs.Sources.{CanGo}
 use Rattle.mps_links.specs.Order.{later}
 use Rattle.mps_links.specs.Marks.{marked_keys, is_marked}
-use Rattle.mps_links.proofs.Tests.{keys_none}
+use Rattle.mps_links.proofs.StepKeys.{keys_none}
 use Rattle.mps_links.proofs.Lasts.{nothing_last}
 use Rattle.mps_links.proofs.Newest.{next_role, all_roles, newest_can_go}
 use Rattle.mps_links.proofs.marking.newest_marked.Goals as goal

@@ -1,4 +1,4 @@
-use Rattle.std.proofs.Common.{◌≡◌, ◌==◌, ◌&&◌, None, nat_lt}
+use Rattle.std.proofs.Common.{◌≡◌, ◌&&◌, None, nat_lt}
 use Rattle.mps_arena.specs.Keys.{last_key}
 use Rattle.mps_arena.specs.Entries.{keys_of}
 use Rattle.mps_links.specs.Marks.{is_marked}

@@ -1,11 +1,11 @@
-use Rattle.std.proofs.Common.{◌≡◌, ◌==◌, ◌&&◌, true, Some, None, sym, ap, ◌∙◌, subst}
+use Rattle.std.proofs.Common.{◌≡◌, ◌==◌, ◌&&◌, Some, None, sym, ap, ◌∙◌, subst}
 use Rattle.std.specs.Prelude.{IsSome}
 use Rattle.std.specs.Option.{option_map}
 use Rattle.std.proofs.lemmas.Bool.{and_left}
 use Rattle.mps_arena.specs.Keys.{last_key}
 use Rattle.mps_arena.specs.Entries.{Entry, of_role, entry_at, keys_of}
 use Rattle.mps_links.specs.Marks.{is_marked}
-use Rattle.mps_links.proofs.Tests.{keys_none, none_passes}
+use Rattle.mps_links.proofs.StepKeys.{keys_none, none_passes}
 use Rattle.mps_links.proofs.Firsts.{entry_in}
 use Rattle.mps_links.proofs.Lasts.{IsLast, last_is, nothing_last}
 use Rattle.mps_links.proofs.Newest.{last_marked, none_marked}

@@ -1,5 +1,5 @@
-use Rattle.std.proofs.Common.{◌≡◌, ℕ, map, refl, sym, ap, ◌∙◌, subst, arith}
-use Rattle.mps_links.specs.Marks.{marked_keys, unmarked_of, AreLastMarked}
+use Rattle.std.proofs.Common.{◌≡◌, ℕ, map, refl, sym, ap, ◌∙◌, arith}
+use Rattle.mps_links.specs.Marks.{marked_keys, unmarked_of}
 use Rattle.mps_links.proofs.Going.{none_unmarked}
 use Rattle.mps_links.proofs.Unmarking.{unmarked_below, below_none, below_more, below_all, last_marked_below}
 use Rattle.mps_links.proofs.marking.unmark.Goals as goal
@@ -18,10 +18,10 @@ loop-role-preserved c =
     let i = c.loop-role.invariant in
     record {
       entries =
-      c.unmark_role.ensures.entries
-      ∙ ap (λ (r : ℕ). map (unmarked_of r) c.loop-role.arena.entries) c.new.ensures
-      ∙ ap (map (unmarked_of c.loop-role.role)) i.entries
-      ∙ below_more c.loop-role.role es;
+          c.unmark_role.ensures.entries
+          ∙ ap (λ (r : ℕ). map (unmarked_of r) c.loop-role.arena.entries) c.new.ensures
+          ∙ ap (map (unmarked_of c.loop-role.role)) i.entries
+          ∙ below_more c.loop-role.role es;
       issued = c.unmark_role.ensures.issued ∙ i.issued;
       ready = c.unmark_role.ensures.ready ∙ i.ready;
       key = c.unmark_role.ensures.key ∙ i.key;

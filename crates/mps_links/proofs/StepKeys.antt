@@ -1,7 +1,7 @@
 -- The keys of the steps that pass a test, by the steps.
 use Rattle.std.proofs.Common.{◌≡◌, ℕ, Bool, true, false, List, [], ◌∷◌, ◌++◌, Option, Some, None, refl, sym, ap, ◌∙◌, subst, ⊎_elim, ◌⊎◌, inl, inr, eq-eqb}
 use Rattle.std.specs.Prelude.{◌==◌}
-use Rattle.std.proofs.lemmas.Bool.{cases_Bool, cond-false, ne_eqb, eqb-true, eqb-false}
+use Rattle.std.proofs.lemmas.Bool.{cases_Bool, ne_eqb, eqb-true, eqb-false}
 use Rattle.std.proofs.lemmas.List.{map-append}
 use Rattle.mps_base.specs.declared.action.Step.{Step}
 use Rattle.mps_history.specs.Steps.{IsIn}
