@@ -12,3 +12,4 @@ pub mod Unmarking
 pub mod Passing
 pub mod Turns
 pub mod Going
+pub mod Waiting

@@ -1,5 +1,5 @@
 -- The entry of a number.
-use Rattle.std.proofs.Common.{◌≡◌, ℕ, true, false, List, [], ◌∷◌, ◌++◌, Option, Some, ap, ◌∙◌, subst, ⊎_elim}
+use Rattle.std.proofs.Common.{◌≡◌, ℕ, true, false, List, [], ◌∷◌, ◌++◌, Option, Some, sym, ap, ◌∙◌, subst, ⊎_elim}
 use Rattle.std.specs.Prelude.{◌==◌, IsSome}
 use Rattle.std.specs.List.{find}
 use Rattle.std.specs.Option.{option_map}
@@ -33,3 +33,13 @@ numbered es n h =
     let w = found_by_number es n h in
     let s = find_split (λ e. e.step.id == n) es w.0 w.1 in
     record { before = s.1.0; entry = w.0; behind = s.1.1; parts = s.1.2; number = eqb-true w.0.step.id n s.0; key = ap (option_map (λ (e : Entry). e.key)) w.1 }
+
+-- a number that leads to a key is that of a step
+pub step_there : (es : List Entry) (n k : ℕ) → option_map (λ e. e.key) (find (λ e. e.step.id == n) es) ≡ Some k → IsSome (step_of (steps es) n)
+step_there [] n k e = absurd cc
+step_there (x ∷ es) n k e =
+    ⊎_elim
+    (λ (t : (x.step.id == n) ≡ true). rw t cc)
+    (λ (f : (x.step.id == n) ≡ false).
+    rw f (step_there es n k (sym (ap (option_map (λ (y : Entry). y.key)) (cond-false (x.step.id == n) (Some x) (find (λ e. e.step.id == n) es) f)) ∙ e)))
+    (cases_Bool (x.step.id == n))

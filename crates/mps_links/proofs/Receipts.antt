@@ -49,7 +49,7 @@ count_before p es a b x r parts =
     let e = ap steps parts ∙ steps_around a b x in
     ap (λ (l : List Step). length (filter (λ y. nat_lt y.id x.step.id && p y) l)) e ∙ ap length (before_place p (steps a) (steps b) x.step (subst IsRising e r)) ∙ count_steps p a
 
-get_behind : (c d : List ℕ) (j n : ℕ) → length c + j ≡ n → slice_get (c ++ d) n ≡ slice_get d j
+pub get_behind : (c d : List ℕ) (j n : ℕ) → length c + j ≡ n → slice_get (c ++ d) n ≡ slice_get d j
 get_behind [] d j n e = let same : n ≡ j = omega arith in ap (slice_get d) same
 get_behind (k ∷ c) d j zero e = absurd (omega arith)
 get_behind (k ∷ c) d j (suc n) e = get_behind c d j n (omega arith)
