@@ -1,14 +1,14 @@
 -- The first send of a pair that isn't received, from the last send back.
-use Rattle.std.proofs.Common.{◌≡◌, ◌<◌, ◌≤◌, ◌+◌, zero, suc, ℕ, Bool, true, false, List, [], ◌∷◌, ◌++◌, length, Option, Some, None, refl, sym, ap, ◌∙◌, subst, arith, ⊎_elim, eq-eqb, append_assoc, append-nil, length-append}
+use Rattle.std.proofs.Common.{◌≡◌, ◌≤◌, ◌+◌, ℕ, Bool, true, false, List, [], ◌∷◌, ◌++◌, length, Option, Some, None, refl, sym, ap, ◌∙◌, subst, arith, ⊎_elim, eq-eqb, append_assoc, append-nil, length-append}
 use mathlib.Core.Path.{ap₂}
-use Rattle.std.specs.Prelude.{◌==◌, slice_get}
+use Rattle.std.specs.Prelude.{slice_get}
 use Rattle.std.specs.Option.{option_and_then}
 use Rattle.std.proofs.lemmas.Bool.{cases_Bool}
 use Rattle.mps_base.specs.declared.action.Act.{Act}
 use Rattle.mps_base.specs.declared.action.Step.{Step}
 use Rattle.mps_history.specs.Steps.{sends, receives}
 use Rattle.mps_arena.specs.Keys.{AreDistinct, is_at, has, first_key, last_key, key_before, partner}
-use Rattle.mps_arena.specs.Entries.{Entry, keys_of, any_step, entry_at, like, unlike, like_sends, AreSound}
+use Rattle.mps_arena.specs.Entries.{Entry, keys_of, entry_at, like, unlike, like_sends, AreSound}
 use Rattle.mps_arena.specs.Receipts.{receipt_mate}
 use Rattle.mps_arena.specs.Sources.{waiting, receipt_in, prev_send_in, mate_of}
 use Rattle.mps_arena.proofs.KeyLists.{once, before_absent, partner_middle, get_none, get_some, last_in, has-append_left}

@@ -5,7 +5,8 @@ ghost use Rattle.mps_history.specs.Dependence.{consequences};
 ghost use Rattle.mps_arena.specs.Keys.{last_key};
 ghost use Rattle.mps_arena.specs.Entries.{steps, keys_of};
 ghost use Rattle.mps_arena.specs.Sources.{CanGo};
-ghost use Rattle.mps_links.specs.Marks.{marked_keys, is_marked, AreMarksClosed, marked_by, unmarked, unmarked_of, AreLastMarked};
+ghost use Rattle.mps_links.specs.Marks.{marked_keys, is_marked, AreMarksClosed, marked_by, unmarked};
+ghost use Rattle.mps_links.specs.RoleMarks.{unmarked_of, AreLastMarked};
 
 use crate::order::later;
 use crate::pending::Pending;

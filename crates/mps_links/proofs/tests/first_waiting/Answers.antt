@@ -1,7 +1,6 @@
-use Rattle.std.proofs.Common.{◌≡◌, ℕ, true, false, Option, Some, None, refl, sym, ◌∙◌, arith, ⊎_elim, subst}
+use Rattle.std.proofs.Common.{◌≡◌, ℕ, true, false, Option, Some, None, refl, sym, ◌∙◌, arith}
 use Rattle.std.specs.Prelude.{is_some}
-use Rattle.std.proofs.lemmas.Bool.{false≢true, both_ways}
-use Rattle.mps_links.proofs.StepKeys.{cases_key}
+use Rattle.std.proofs.lemmas.Bool.{false≢true}
 use Rattle.mps_links.proofs.Waiting.{sought, found_first, found_last, found_received, seeks}
 use Rattle.mps_links.proofs.tests.first_waiting.Goals as goal
 
