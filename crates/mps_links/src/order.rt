@@ -37,8 +37,8 @@ pub(crate) fn later(arena: &Arena, a: Option<Key>, b: Option<Key>) -> Option<Key
     ensures { result ≡ later arena.now.entries a b }
 {
     match (a, b) {
-        (Some(first), Some(second)) => {
-            if is_before(arena, first, second) {
+        (Some(one), Some(other)) => {
+            if is_before(arena, one, other) {
                 b
             } else {
                 a
