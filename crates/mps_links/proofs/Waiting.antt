@@ -1,4 +1,4 @@
--- The first send of a pair that isn't received, from the last send back.
+-- The first send of a pair that isn't received, from the last send back: for the tests, which make histories.
 use Rattle.std.proofs.Common.{◌≡◌, ◌≤◌, ◌+◌, ℕ, Bool, true, false, List, [], ◌∷◌, ◌++◌, length, Option, Some, None, refl, sym, ap, ◌∙◌, subst, arith, ⊎_elim, eq-eqb, append_assoc, append-nil, length-append}
 use mathlib.Core.Path.{ap₂}
 use Rattle.std.specs.Prelude.{slice_get}

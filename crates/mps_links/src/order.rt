@@ -37,13 +37,7 @@ pub(crate) fn later(arena: &Arena, a: Option<Key>, b: Option<Key>) -> Option<Key
     ensures { result ≡ later arena.now.entries a b }
 {
     match (a, b) {
-        (Some(one), Some(other)) => {
-            if is_before(arena, one, other) {
-                b
-            } else {
-                a
-            }
-        }
+        (Some(one), Some(other)) => { if is_before(arena, one, other) { b } else { a } }
         (Some(_), None) => a,
         (None, _) => b,
     }
