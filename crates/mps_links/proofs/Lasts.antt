@@ -1,0 +1,141 @@
+-- The last entry that passes a test.
+use Rattle.std.proofs.Common.{◌≡◌, ℕ, Bool, true, false, List, [], ◌∷◌, ◌++◌, Option, Some, None, refl, sym, ap, ◌∙◌, arith, ⊎_elim, append_assoc}
+use mathlib.Core.Path.{ap₂}
+use Rattle.std.specs.Prelude.{◌||◌}
+use Rattle.std.specs.Option.{option_or}
+use Rattle.std.proofs.lemmas.Bool.{cases_Bool, lt-ltb, le-ltb, or_left, or_right, or_from}
+use Rattle.mps_base.specs.declared.action.Step.{Step}
+use Rattle.mps_history.specs.Steps.{IsRising}
+use Rattle.mps_arena.specs.Keys.{AreDistinct, last_key}
+use Rattle.mps_arena.specs.Entries.{Entry, steps, keys_of, any_step}
+use Rattle.mps_arena.specs.Sources.{id_in}
+use Rattle.mps_arena.proofs.Chains.{keys_with, keys_without}
+use Rattle.mps_links.specs.Order.{is_before, later}
+use Rattle.mps_links.proofs.StepKeys.{cases_key, in_middle}
+use Rattle.mps_links.proofs.Firsts.{same_either, id_middle, rising_behind}
+
+some_last : (j : ℕ) (c : List ℕ) → last_key (Some j) c ≡ None → ⊥
+some_last j [] e = absurd cc
+some_last j (i ∷ c) e = some_last i c e
+
+pub nothing_last : (c : List ℕ) → last_key None c ≡ None → c ≡ []
+nothing_last [] e = refl
+nothing_last (j ∷ c) e = absurd (some_last j c e)
+
+last_from : (before : Option ℕ) (c : List ℕ) → last_key before c ≡ option_or (last_key None c) before
+last_from before [] = refl
+last_from before (j ∷ c) = last_from (Some j) c ∙ kept (last_key None c) ∙ sym (ap (λ o. option_or o before) (last_from (Some j) c))
+  where
+    kept : (o : Option ℕ) → option_or o (Some j) ≡ option_or (option_or o (Some j)) before
+    kept None = refl
+    kept (Some i) = refl
+
+-- the last entry of the list that passes, where it stands
+pub record IsLast (p : Step → Bool) (b : List Entry) (k : ℕ) : Type 0 where
+  pub before : List Entry
+  pub entry : Entry
+  pub behind : List Entry
+  pub parts : b ≡ before ++ entry ∷ behind
+  pub key : entry.key ≡ k
+  pub passes : p entry.step ≡ true
+  pub none : keys_of p behind ≡ []
+
+-- the last key, where one more stands before
+last_with : (p : Step → Bool) (y : Entry) (b : List Entry) → p y.step ≡ true → last_key None (keys_of p (y ∷ b)) ≡ option_or (last_key None (keys_of p b)) (Some y.key)
+last_with p y b t = ap (last_key None) (keys_with p y b t) ∙ last_from (Some y.key) (keys_of p b)
+
+last_without : (p : Step → Bool) (y : Entry) (b : List Entry) → p y.step ≡ false → last_key None (keys_of p (y ∷ b)) ≡ last_key None (keys_of p b)
+last_without p y b f = ap (last_key None) (keys_without p y b f)
+
+pub last_is : (p : Step → Bool) (b : List Entry) (k : ℕ) → last_key None (keys_of p b) ≡ Some k → IsLast p b k
+last_is p [] k e = absurd cc
+last_is p (y ∷ b) k e =
+    ⊎_elim
+    (λ (t : p y.step ≡ true).
+    ⊎_elim
+    (λ (z : last_key None (keys_of p b) ≡ None).
+    let one : Some y.key ≡ Some k = sym (last_with p y b t ∙ ap (λ o. option_or o (Some y.key)) z) ∙ e in
+    let same : y.key ≡ k = cc in
+    record { before = []; entry = y; behind = b; parts = refl; key = same; passes = t; none = nothing_last (keys_of p b) z })
+    (λ (w : (j : ℕ) × (last_key None (keys_of p b) ≡ Some j)).
+    let one : Some w.0 ≡ Some k = sym (last_with p y b t ∙ ap (λ o. option_or o (Some y.key)) w.1) ∙ e in
+    let r = last_is p b k (w.1 ∙ one) in
+    record { before = y ∷ r.before; entry = r.entry; behind = r.behind; parts = ap (λ l. y ∷ l) r.parts; key = r.key; passes = r.passes; none = r.none })
+    (cases_key (last_key None (keys_of p b))))
+    (λ (f : p y.step ≡ false).
+    let r = last_is p b k (sym (last_without p y b f) ∙ e) in
+    record { before = y ∷ r.before; entry = r.entry; behind = r.behind; parts = ap (λ l. y ∷ l) r.parts; key = r.key; passes = r.passes; none = r.none })
+    (cases_Bool (p y.step))
+
+module _ (es : List Entry) (d : AreDistinct (keys_of any_step es)) (rising : IsRising (steps es)) where
+  -- the key is that of a later step, if it is there
+  abbrev IsLater : ℕ → Option ℕ → Type 0
+  IsLater y o = (k : ℕ) → o ≡ Some k → (is_before (id_in es y) (id_in es k) ≡ true) × (is_before (id_in es k) (id_in es y) ≡ false)
+
+  last_later : (p : Step → Bool) (a b : List Entry) (y : Entry) → es ≡ a ++ y ∷ b → IsLater y.key (last_key None (keys_of p b))
+  last_later p a b y e k last =
+      let w = last_is p b k last in
+      let whole : es ≡ (a ++ y ∷ w.before) ++ w.entry ∷ w.behind = e ∙ ap (λ l. a ++ y ∷ l) w.parts ∙ sym (append_assoc a (y ∷ w.before) (w.entry ∷ w.behind)) in
+      let first = id_middle es d rising a b y e in
+      let second : id_in es k ≡ Some w.entry.step.id = ap (id_in es) (sym w.key) ∙ id_middle es d rising (a ++ y ∷ w.before) w.behind w.entry whole in
+      let less = rising_behind es d rising a b y w.entry.step e (in_middle b w.before w.behind w.entry w.parts) in
+      (ap₂ is_before first second ∙ lt-ltb y.step.id w.entry.step.id less, ap₂ is_before second first ∙ le-ltb w.entry.step.id y.step.id (omega arith))
+
+  some_kept : (j k y : ℕ) → option_or (later es (Some j) (Some k)) (Some y) ≡ later es (Some j) (Some k)
+  some_kept j k y =
+      ⊎_elim
+      (λ (t : is_before (id_in es j) (id_in es k) ≡ true). rw t refl)
+      (λ (f : is_before (id_in es j) (id_in es k) ≡ false). rw f refl)
+      (cases_Bool (is_before (id_in es j) (id_in es k)))
+
+  later_both : (y : ℕ) (o l : Option ℕ) → IsLater y o → IsLater y l → option_or (later es o l) (Some y) ≡ later es (option_or o (Some y)) (option_or l (Some y))
+  later_both y None None f g = same_either (is_before (id_in es y) (id_in es y)) (Some y)
+  later_both y None (Some k) f g = rw (g k refl).0 refl
+  later_both y (Some j) None f g = rw (f j refl).1 refl
+  later_both y (Some j) (Some k) f g = some_kept j k y
+
+  later_left : (y : ℕ) (o l : Option ℕ) → IsLater y l → option_or (later es o l) (Some y) ≡ later es (option_or o (Some y)) l
+  later_left y None None g = refl
+  later_left y None (Some k) g = rw (g k refl).0 refl
+  later_left y (Some j) None g = refl
+  later_left y (Some j) (Some k) g = some_kept j k y
+
+  later_right : (y : ℕ) (o l : Option ℕ) → IsLater y o → option_or (later es o l) (Some y) ≡ later es o (option_or l (Some y))
+  later_right y None None f = refl
+  later_right y None (Some k) f = refl
+  later_right y (Some j) None f = rw (f j refl).1 refl
+  later_right y (Some j) (Some k) f = some_kept j k y
+
+  -- the last entry that passes one of two tests is the later of the last that pass each
+  pub last_or : (f g : Step → Bool) (a b : List Entry) → es ≡ a ++ b → last_key None (keys_of (λ t. f t || g t) b) ≡ later es (last_key None (keys_of f b)) (last_key None (keys_of g b))
+  last_or f g a [] e = refl
+  last_or f g a (y ∷ b) e =
+      let both = λ (t : Step). f t || g t in
+      let o = last_key None (keys_of f b) in
+      let l = last_key None (keys_of g b) in
+      let rest = last_or f g (a ++ y ∷ []) b (e ∙ sym (append_assoc a (y ∷ []) b)) in
+      let more = λ (u : both y.step ≡ true). last_with both y b u ∙ ap (λ r. option_or r (Some y.key)) rest in
+      ⊎_elim
+      (λ (t : f y.step ≡ true).
+      ⊎_elim
+      (λ (u : g y.step ≡ true).
+      more (or_left (f y.step) (g y.step) t)
+      ∙ later_both y.key o l (last_later f a b y e) (last_later g a b y e)
+      ∙ ap₂ (later es) (sym (last_with f y b t)) (sym (last_with g y b u)))
+      (λ (v : g y.step ≡ false).
+      more (or_left (f y.step) (g y.step) t)
+      ∙ later_left y.key o l (last_later g a b y e)
+      ∙ ap₂ (later es) (sym (last_with f y b t)) (sym (last_without g y b v)))
+      (cases_Bool (g y.step)))
+      (λ (t : f y.step ≡ false).
+      ⊎_elim
+      (λ (u : g y.step ≡ true).
+      more (or_right (f y.step) (g y.step) u)
+      ∙ later_right y.key o l (last_later f a b y e)
+      ∙ ap₂ (later es) (sym (last_without f y b t)) (sym (last_with g y b u)))
+      (λ (v : g y.step ≡ false).
+      last_without both y b (or_from (f y.step) (g y.step) t v)
+      ∙ rest
+      ∙ ap₂ (later es) (sym (last_without f y b t)) (sym (last_without g y b v)))
+      (cases_Bool (g y.step)))
+      (cases_Bool (f y.step))

@@ -1,0 +1,15 @@
+pub mod StepKeys
+pub mod Numbers
+pub mod Present
+pub mod Firsts
+pub mod Lasts
+pub mod Least
+pub mod Receipts
+pub mod Links
+pub mod Marked
+pub mod Newest
+pub mod Unmarking
+pub mod Passing
+pub mod Turns
+pub mod Going
+pub mod Waiting

@@ -1,0 +1,157 @@
+-- The receipt of a send is the first later step that is matched with it.
+use Rattle.std.proofs.Common.{◌≡◌, ℕ, zero, suc, ◌+◌, ◌-◌, ◌≤◌, ◌<◌, Bool, true, false, List, [], ◌∷◌, ◌++◌, length, None, refl, sym, ap, ◌∙◌, subst, arith, ⊎_elim, inl, eq-eqb, append_assoc, append-nil, length-append}
+use Rattle.std.specs.Prelude.{◌==◌, ◌&&◌, nat_lt, slice_get}
+use Rattle.std.specs.List.{filter}
+use Rattle.std.specs.Option.{option_and_then}
+use Rattle.std.proofs.lemmas.Bool.{cases_Bool, ne_eqb, eqb-true, lt-ltb, le-ltb, and_left, and_right, and_from}
+use Rattle.std.proofs.lemmas.List.Elements.{filter-append}
+use Rattle.mps_base.specs.declared.action.Act.{Act}
+use Rattle.mps_base.specs.declared.action.Act.TheVariants.{Out, In, Mark}
+use Rattle.mps_base.specs.declared.action.Message.{Message}
+use Rattle.mps_base.specs.declared.action.Step.{Step}
+use Rattle.mps_history.specs.Steps.{IsRising, sends, receives, goes_to, comes_from}
+use Rattle.mps_history.specs.Dependence.{is_matched, sent_before, received_before}
+use Rattle.mps_history.proofs.Order.{at_member, from_members, rising_apart, IsRising-append_right}
+use Rattle.mps_history.proofs.Removal.{filter-none, filter-same}
+use Rattle.mps_arena.specs.Keys.{AreDistinct, first_key, partner}
+use Rattle.mps_arena.specs.Entries.{Entry, steps, keys_of, like, unlike, AreSound}
+use Rattle.mps_arena.specs.Receipts.{receipt_mate}
+use Rattle.mps_arena.specs.Sources.{receipt_in, mate_of}
+use Rattle.mps_arena.proofs.KeyLists.{once, partner_middle}
+use Rattle.mps_arena.proofs.Chains.{keys-append, keys_with, keys_without, keys_push, keys_kept, keys_around, keys_beside, distinct}
+use Rattle.mps_links.proofs.StepKeys.{eqb_turned, steps_around, keys_agree, keys_none}
+use Rattle.mps_links.proofs.Firsts.{entry_in}
+
+-- the steps before a number are those before its place
+before_place : (p : Step → Bool) (a l : List Step) (s : Step) → IsRising (a ++ s ∷ l) → filter (λ x. nat_lt x.id s.id && p x) (a ++ s ∷ l) ≡ filter p a
+before_place p a l s r =
+    let f = λ (x : Step). nat_lt x.id s.id && p x in
+    let rest = IsRising-append_right a (s ∷ l) r in
+    filter-append f a (s ∷ l)
+    ∙ ap (λ k. filter f a ++ k) (filter-none f (s ∷ l) (
+      and_left (nat_lt s.id s.id) (p s) (le-ltb s.id s.id (omega arith)),
+      from_members (λ x. f x ≡ false) l (λ x i. and_left (nat_lt x.id s.id) (p x) (let more = at_member (λ u. s.id < u.id) l x rest.0 i in le-ltb x.id s.id (omega arith))),
+    ))
+    ∙ append-nil (filter f a)
+    ∙ filter-same f p a (from_members (λ x. f x ≡ p x) a (λ x i. ap (λ k. k && p x) (lt-ltb x.id s.id (rising_apart a (s ∷ l) x s r i (inl refl)))))
+
+count_steps : (p : Step → Bool) (es : List Entry) → length (filter p (steps es)) ≡ length (keys_of p es)
+count_steps p [] = refl
+count_steps p (x ∷ es) =
+    ⊎_elim
+    (λ (t : p x.step ≡ true). rw (keys_with p x es t, t) (ap suc (count_steps p es)))
+    (λ (f : p x.step ≡ false). rw (keys_without p x es f, f) (count_steps p es))
+    (cases_Bool (p x.step))
+
+-- how many steps that pass stand before an entry
+count_before : (p : Step → Bool) (es a b : List Entry) (x : Entry) → IsRising (steps es) → es ≡ a ++ x ∷ b → length (filter (λ y. nat_lt y.id x.step.id && p y) (steps es)) ≡ length (keys_of p a)
+count_before p es a b x r parts =
+    let e = ap steps parts ∙ steps_around a b x in
+    ap (λ (l : List Step). length (filter (λ y. nat_lt y.id x.step.id && p y) l)) e ∙ ap length (before_place p (steps a) (steps b) x.step (subst IsRising e r)) ∙ count_steps p a
+
+pub get_behind : (c d : List ℕ) (j n : ℕ) → length c + j ≡ n → slice_get (c ++ d) n ≡ slice_get d j
+get_behind [] d j n e = let same : n ≡ j = omega arith in ap (slice_get d) same
+get_behind (k ∷ c) d j zero e = absurd (omega arith)
+get_behind (k ∷ c) d j (suc n) e = get_behind c d j n (omega arith)
+
+module _ (es : List Entry) (sound : AreSound es) (a b : List Entry) (x : Entry) (parts : es ≡ a ++ x ∷ b) where
+  abbrev s : Step
+  s = x.step
+
+  module _ (q : ℕ) where
+    abbrev got : Step → Bool
+    got = receives s.role q
+
+    -- how many sends of the pair stand before s
+    abbrev before : ℕ
+    before = sent_before s.role q s.id (steps es)
+
+    -- t is the receipt that stands at the place of s
+    abbrev fits : Step → Bool
+    fits t = got t && before == received_before s.role q t.id (steps es)
+
+    shift : (c e : List Entry) (y : Entry) → es ≡ c ++ y ∷ e → es ≡ (c ++ y ∷ []) ++ e
+    shift c e y is = is ∙ sym (append_assoc c (y ∷ []) e)
+
+    at_place : (c e : List Entry) (j : ℕ) → es ≡ c ++ e → length (keys_of got c) + j ≡ before → slice_get (keys_of got e) j ≡ first_key (keys_of fits e)
+    at_place c [] j is n = refl
+    at_place c (y ∷ e) zero is n =
+        let place : received_before s.role q y.step.id (steps es) ≡ length (keys_of got c) = count_before got es c e y sound.rising is in
+        ⊎_elim
+        (λ (t : got y.step ≡ true).
+        let same : (before == received_before s.role q y.step.id (steps es)) ≡ true = eq-eqb before (received_before s.role q y.step.id (steps es)) (omega (arith, n, place)) in
+        rw (keys_with got y e t) (sym (ap first_key (keys_with fits y e (and_from (got y.step) (before == received_before s.role q y.step.id (steps es)) t same)))))
+        (λ (f : got y.step ≡ false).
+        rw (keys_without got y e f, keys_without fits y e (and_left (got y.step) (before == received_before s.role q y.step.id (steps es)) f))
+        (at_place (c ++ y ∷ []) e zero (shift c e y is) (ap (λ l. length l + zero) (keys_kept got c y f) ∙ n)))
+        (cases_Bool (got y.step))
+    at_place c (y ∷ e) (suc j) is n =
+        let place : received_before s.role q y.step.id (steps es) ≡ length (keys_of got c) = count_before got es c e y sound.rising is in
+        ⊎_elim
+        (λ (t : got y.step ≡ true).
+        let other : (before == received_before s.role q y.step.id (steps es)) ≡ false = ne_eqb before (received_before s.role q y.step.id (steps es)) (λ z. omega (arith, n, place)) in
+        rw (keys_with got y e t, keys_without fits y e (and_right (got y.step) (before == received_before s.role q y.step.id (steps es)) other))
+        (at_place (c ++ y ∷ []) e j (shift c e y is) (omega (arith, n, ap length (keys_push got c y t), length-append (keys_of got c) (y.key ∷ [])))))
+        (λ (f : got y.step ≡ false).
+        rw (keys_without got y e f, keys_without fits y e (and_left (got y.step) (before == received_before s.role q y.step.id (steps es)) f))
+        (at_place (c ++ y ∷ []) e (suc j) (shift c e y is) (ap (λ l. length l + suc j) (keys_kept got c y f) ∙ n)))
+        (cases_Bool (got y.step))
+
+    module _ (m : Message) (act : s.act ≡ Out q m) where
+      sending : (t : Step) → sends s.role t.role s ≡ (q == t.role)
+      sending t = ap (λ k. k && goes_to t.role s.act) (eq-eqb s.role s.role refl) ∙ ap (goes_to t.role) act
+
+      match : (t : Step) → is_matched (steps es) s t ≡ fits t
+      match t =
+          let h = steps es in
+          ⊎_elim
+          (λ (y : (q == t.role) ≡ true).
+          let same : q ≡ t.role = eqb-true q t.role y in
+          ap (λ k. k && receives s.role t.role t && sent_before s.role t.role s.id h == received_before s.role t.role t.id h) (sending t ∙ y)
+          ∙ ap (λ r. receives s.role r t && sent_before s.role r s.id h == received_before s.role r t.id h) (sym same))
+          (λ (n : (q == t.role) ≡ false).
+          let apart : (t.role == q) ≡ false = sym (eqb_turned q t.role) ∙ n in
+          ap (λ k. k && receives s.role t.role t && sent_before s.role t.role s.id h == received_before s.role t.role t.id h) (sending t ∙ n)
+          ∙ sym (and_left (got t) (before == received_before s.role q t.id h) (and_left (t.role == q) (comes_from s.role t.act) apart)))
+          (cases_Bool (q == t.role))
+
+      pub receipt_of_send : receipt_in es x.key ≡ first_key (keys_of (is_matched (steps es) s) b)
+      receipt_of_send =
+          let p = sends s.role q in
+          let self : p s ≡ true = ap (λ k. k && goes_to q s.act) (eq-eqb s.role s.role refl) ∙ ap (goes_to q) act ∙ eq-eqb q q refl in
+          let quiet : got s ≡ false = and_right (s.role == q) (comes_from s.role s.act) (ap (comes_from s.role) act) in
+          let whole = ap (keys_of p) parts ∙ keys_around p a b x self in
+          let o = once x.key (keys_of p a) (keys_of p b) (subst AreDistinct whole (distinct p es sound.distinct)) in
+          let n : before ≡ length (keys_of p a) = count_before p es a b x sound.rising parts in
+          let front : length (keys_of got a) ≤ length (keys_of p a) = sound.fed a (x ∷ b) parts s.role q in
+          let j = length (keys_of p a) - length (keys_of got a) in
+          let at : length (keys_of got a) + j ≡ length (keys_of p a) = omega arith in
+          let receipts : keys_of got es ≡ keys_of got a ++ keys_of got b = ap (keys_of got) parts ∙ keys_beside got a b x quiet ∙ keys-append got a b in
+          let kept : keys_of got (a ++ x ∷ []) ≡ keys_of got a = keys_kept got a x quiet in
+          ap (option_and_then (λ (y : Entry). receipt_mate y.step.act (mate_of es y))) (entry_in es sound.distinct sound.rising a b x parts)
+          ∙ ap (λ (c : Act). receipt_mate c (mate_of es x)) act
+          ∙ ap (λ (c : Act). partner x.key (keys_of (like s.role c) es) (keys_of (unlike s.role c) es)) act
+          ∙ ap (λ c. partner x.key c (keys_of got es)) whole
+          ∙ partner_middle x.key (keys_of p a) (keys_of p b) (keys_of got es) o.0
+          ∙ ap (λ l. slice_get l (length (keys_of p a))) receipts
+          ∙ get_behind (keys_of got a) (keys_of got b) j (length (keys_of p a)) at
+          ∙ at_place (a ++ x ∷ []) b j (shift a b x parts) (ap (λ l. length l + j) kept ∙ at ∙ sym n)
+          ∙ ap first_key (keys_agree fits (is_matched (steps es) s) b (λ t i. sym (match t)))
+
+  -- what sends nothing has no receipt, and nothing is matched with it
+  silent : ((q : ℕ) → goes_to q s.act ≡ false) → receipt_mate s.act (mate_of es x) ≡ None → receipt_in es x.key ≡ first_key (keys_of (is_matched (steps es) s) b)
+  silent quiet none =
+      let h = steps es in
+      ap (option_and_then (λ (y : Entry). receipt_mate y.step.act (mate_of es y))) (entry_in es sound.distinct sound.rising a b x parts)
+      ∙ none
+      ∙ sym (ap first_key (keys_none (is_matched h s) b (λ t i.
+      and_left (sends s.role t.role s && receives s.role t.role t) (sent_before s.role t.role s.id h == received_before s.role t.role t.id h)
+      (and_left (sends s.role t.role s) (receives s.role t.role t) (and_right (s.role == s.role) (goes_to t.role s.act) (quiet t.role))))))
+
+  by_act : (c : Act) → s.act ≡ c → receipt_in es x.key ≡ first_key (keys_of (is_matched (steps es) s) b)
+  by_act (Out q m) e = receipt_of_send q m e
+  by_act (In from slot) e = silent (λ q. ap (goes_to q) e) (ap (λ (c : Act). receipt_mate c (mate_of es x)) e)
+  by_act (Mark name) e = silent (λ q. ap (goes_to q) e) (ap (λ (c : Act). receipt_mate c (mate_of es x)) e)
+
+  pub receipt_is : receipt_in es x.key ≡ first_key (keys_of (is_matched (steps es) s) b)
+  receipt_is = by_act s.act refl

@@ -1,0 +1,76 @@
+use Rattle.std.proofs.Common.{◌≡◌, ℕ, [], ◌∷◌, ◌++◌, append_assoc, Some, None, sym, ap, ◌∙◌, subst}
+use mathlib.Core.Path.{ap₂}
+use Rattle.std.specs.Prelude.{◌==◌}
+use Rattle.std.specs.List.{find}
+use Rattle.std.specs.Option.{option_map, option_and_then}
+use Rattle.mps_base.specs.declared.action.Step.{Step}
+use Rattle.mps_history.specs.Dependence.{depends_on, least, dependents}
+use Rattle.mps_arena.specs.Entries.{steps}
+use Rattle.mps_arena.specs.Sources.{id_in, next_of_role_in, receipt_in, CanGo}
+use Rattle.mps_links.specs.Order.{earlier}
+use Rattle.mps_links.proofs.Numbers.{IsNumbered, numbered}
+use Rattle.mps_links.proofs.Firsts.{first_numbered}
+use Rattle.mps_links.proofs.Links.{least_by_links, first_dependent, alone_can_go}
+use Rattle.mps_links.proofs.dependent.least_dependent.Goals as goal
+use Rattle.mps_links.proofs.dependent.least_dependent.Goals.{After-earlier}
+
+step : (c : After-earlier) → IsNumbered c.args.arena.now.entries c.args.id
+step c = numbered c.args.arena.now.entries c.args.id c.requires.present
+
+key : (c : After-earlier) → c.in_ok-key.key ≡ (step c).entry.key
+key c =
+    let one : Some c.in_ok-key.key ≡ Some (step c).entry.key = sym c.in_ok-key.was ∙ c.by_id.ensures ∙ (step c).key in
+    cc
+
+-- the first step that depends on this one
+first : (c : After-earlier) → c.earlier.result ≡ earlier c.args.arena.now.entries (next_of_role_in c.args.arena.now.entries (step c).entry.key) (receipt_in c.args.arena.now.entries (step c).entry.key)
+first c =
+    let es = c.args.arena.now.entries in
+    c.earlier.ensures
+    ∙ ap₂ (earlier es) (c.next_of_role.ensures ∙ ap (next_of_role_in es) (key c)) (c.receipt.ensures ∙ ap (receipt_in es) (key c))
+
+least_is : (c : After-earlier) → least (dependents (steps c.args.arena.now.entries) c.args.id) ≡ option_and_then (id_in c.args.arena.now.entries) c.earlier.result
+least_is c =
+    let es = c.args.arena.now.entries in
+    let s = step c in
+    ap (λ (n : ℕ). least (dependents (steps es) n)) (sym s.number)
+    ∙ least_by_links es c.len.ensures.sound s.before s.behind s.entry s.parts
+    ∙ ap (option_and_then (id_in es)) (sym (first c))
+
+alone : (c : After-earlier) → option_and_then (id_in c.args.arena.now.entries) c.earlier.result ≡ None → (k : ℕ) → option_map (λ e. e.key) (find (λ e. e.step.id == c.args.id) c.args.arena.now.entries) ≡ Some k → CanGo c.args.arena.now.entries k
+alone c none k at =
+    let es = c.args.arena.now.entries in
+    let s = step c in
+    let sound = c.len.ensures.sound in
+    let on = λ (t : Step). depends_on (steps es) t s.entry.step in
+    let whole : es ≡ (s.before ++ s.entry ∷ []) ++ s.behind = s.parts ∙ sym (append_assoc s.before (s.entry ∷ []) s.behind) in
+    let is = first_dependent es sound s.before s.behind s.entry s.parts ∙ sym (first c) in
+    let free = first_numbered es sound.distinct sound.rising on (s.before ++ s.entry ∷ []) s.behind whole (ap (option_and_then (id_in es)) is ∙ none) in
+    let same : Some s.entry.key ≡ Some k = sym s.key ∙ at in
+    let this : s.entry.key ≡ k = cc in
+    subst (CanGo es) this (alone_can_go es sound s.before s.behind s.entry s.parts free)
+
+-- the step is there
+pub returns-in_err-key-clause-least : goal.returns-in_err-key-clause-least
+returns-in_err-key-clause-least c =
+    let s = numbered c.args.arena.now.entries c.args.id c.requires.present in
+    let no : None ≡ Some s.entry.key = sym c.in_err-key.was ∙ c.by_id.ensures ∙ s.key in
+    absurd cc
+
+pub returns-in_err-first-clause-least : goal.returns-in_err-first-clause-least
+returns-in_err-first-clause-least c =
+    let is = least_is ((goal.at.returns-in_err-first-clause-least c).After-earlier) in
+    c.from_residual-in_err-first.ensures ∙ sym (is ∙ ap (option_and_then (id_in c.args.arena.now.entries)) c.in_err-first.was)
+
+pub returns-in_err-first-clause-free : goal.returns-in_err-first-clause-free
+returns-in_err-first-clause-free c none =
+    alone ((goal.at.returns-in_err-first-clause-free c).After-earlier) (ap (option_and_then (id_in c.args.arena.now.entries)) c.in_err-first.was)
+
+pub returns-clause-least : goal.returns-clause-least
+returns-clause-least c =
+    let is = least_is ((goal.at.returns-clause-least c).After-earlier) in
+    c.id.ensures ∙ sym (is ∙ ap (option_and_then (id_in c.args.arena.now.entries)) c.in_ok-first.was)
+
+pub returns-clause-free : goal.returns-clause-free
+returns-clause-free c none =
+    alone ((goal.at.returns-clause-free c).After-earlier) (ap (option_and_then (id_in c.args.arena.now.entries)) c.in_ok-first.was ∙ sym c.id.ensures ∙ none)

@@ -1,0 +1,19 @@
+use Rattle.mps_links.specs.Marks.{marked_keys}
+use Rattle.mps_links.proofs.Lasts.{nothing_last}
+use Rattle.mps_links.proofs.Going.{unmarked_stay, one_fewer, none_go, unmarked_left, marked_count}
+use Rattle.mps_links.proofs.laws.marked_steps_go.Goals as goal
+
+pub returns-clause-stay : goal.returns-clause-stay
+returns-clause-stay c = unmarked_stay
+
+pub returns-clause-fewer : goal.returns-clause-fewer
+returns-clause-fewer c = one_fewer
+
+pub returns-clause-left : goal.returns-clause-left
+returns-clause-left c es none = none_go es (nothing_last (marked_keys es) none)
+
+pub returns-clause-unmarked : goal.returns-clause-unmarked
+returns-clause-unmarked c = unmarked_left
+
+pub returns-clause-count : goal.returns-clause-count
+returns-clause-count c = marked_count

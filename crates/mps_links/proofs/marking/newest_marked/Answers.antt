@@ -1,0 +1,47 @@
+use Rattle.std.proofs.Common.{◌≡◌, ℕ, ◌==◌, ◌&&◌, nat_lt, Option, Some, None, refl, sym, ap, ◌∙◌, subst, arith}
+use Rattle.std.specs.Prelude.{IfSome}
+use Rattle.std.proofs.lemmas.Bool.{and_left, le-ltb}
+use Rattle.mps_arena.specs.Keys.{last_key}
+use Rattle.mps_arena.specs.Entries.{keys_of}
+use Rattle.mps_arena.specs.Sources.{CanGo}
+use Rattle.mps_links.specs.Order.{later}
+use Rattle.mps_links.specs.Marks.{marked_keys, is_marked}
+use Rattle.mps_links.proofs.StepKeys.{keys_none}
+use Rattle.mps_links.proofs.Lasts.{nothing_last}
+use Rattle.mps_links.proofs.Newest.{next_role, all_roles, newest_can_go}
+use Rattle.mps_links.proofs.marking.newest_marked.Goals as goal
+
+if_some : (P : ℕ → Type 0) (o : Option ℕ) → ((k : ℕ) → o ≡ Some k → P k) → IfSome o P
+if_some P None h = tt
+if_some P (Some k) h = h k refl
+
+pub loop-role-init : goal.loop-role-init
+loop-role-init c =
+    let es = c.args.arena.now.entries in
+    sym (ap (last_key None) (keys_none (λ s. nat_lt s.role 0 && is_marked es s.id) es (λ t i. and_left (nat_lt t.role 0) (is_marked es t.id) (le-ltb t.role 0 (omega arith)))))
+
+pub loop-role-preserved : goal.loop-role-preserved
+loop-role-preserved c =
+    let es = c.args.arena.now.entries in
+    let own : c.newest_marked_of.result ≡ last_key None (keys_of (λ s. s.role == c.loop-role.role && is_marked es s.id) es) =
+    subst (λ (r : ℕ). c.newest_marked_of.result ≡ last_key None (keys_of (λ s. s.role == r && is_marked es s.id) es)) c.new.ensures c.newest_marked_of.ensures in
+    c.later-newest.ensures
+    ∙ ap (later es c.loop-role.newest) own
+    ∙ next_role es c.len.ensures.sound c.requires.closed c.loop-role.newest c.loop-role.role c.loop-role.invariant
+
+pub returns-clause-newest : goal.returns-clause-newest
+returns-clause-newest c =
+    let es = c.args.arena.now.entries in
+    let end : c.loop-role.role ≡ 8 = omega arith in
+    c.loop-role.invariant
+    ∙ ap (λ (r : ℕ). last_key None (keys_of (λ s. nat_lt s.role r && is_marked es s.id) es)) end
+    ∙ all_roles es c.len.ensures.sound c.requires.closed
+
+pub returns-clause-free : goal.returns-clause-free
+returns-clause-free c =
+    let es = c.args.arena.now.entries in
+    if_some (CanGo es) c.loop-role.newest
+    (λ k e. newest_can_go es c.len.ensures.sound c.requires.closed k (sym (returns-clause-newest c) ∙ e))
+
+pub returns-clause-none : goal.returns-clause-none
+returns-clause-none c none = nothing_last (marked_keys c.args.arena.now.entries) (sym (returns-clause-newest c) ∙ none)

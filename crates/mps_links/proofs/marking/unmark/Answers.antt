@@ -1,0 +1,38 @@
+use Rattle.std.proofs.Common.{◌≡◌, ℕ, map, refl, sym, ap, ◌∙◌, arith}
+use Rattle.mps_links.specs.Marks.{marked_keys}
+use Rattle.mps_links.specs.RoleMarks.{unmarked_of}
+use Rattle.mps_links.proofs.Going.{none_unmarked}
+use Rattle.mps_links.proofs.Unmarking.{unmarked_below, below_none, below_more, below_all, last_marked_below}
+use Rattle.mps_links.proofs.marking.unmark.Goals as goal
+
+pub loop-role-init : goal.loop-role-init
+loop-role-init c = record { entries = sym (below_none c.args.arena.now.entries); issued = refl; ready = refl; key = refl }
+
+pub unmark_role-requires-clause-last : goal.unmark_role-requires-clause-last
+unmark_role-requires-clause-last c =
+    let es = c.args.arena.now.entries in
+    rw (c.new.ensures, c.loop-role.invariant.entries) (last_marked_below es c.len.ensures.sound c.requires.closed c.loop-role.role)
+
+pub loop-role-preserved : goal.loop-role-preserved
+loop-role-preserved c =
+    let es = c.args.arena.now.entries in
+    let i = c.loop-role.invariant in
+    record {
+      entries =
+          c.unmark_role.ensures.entries
+          ∙ ap (λ (r : ℕ). map (unmarked_of r) c.loop-role.arena.entries) c.new.ensures
+          ∙ ap (map (unmarked_of c.loop-role.role)) i.entries
+          ∙ below_more c.loop-role.role es;
+      issued = c.unmark_role.ensures.issued ∙ i.issued;
+      ready = c.unmark_role.ensures.ready ∙ i.ready;
+      key = c.unmark_role.ensures.key ∙ i.key;
+    }
+
+pub returns-clause-entries : goal.returns-clause-entries
+returns-clause-entries c =
+    let es = c.args.arena.now.entries in
+    let end : c.loop-role.role ≡ 8 = omega arith in
+    c.loop-role.invariant.entries ∙ ap (λ (r : ℕ). map (unmarked_below r) es) end ∙ below_all es c.len.ensures.sound.small
+
+pub returns-clause-none : goal.returns-clause-none
+returns-clause-none c = ap marked_keys (returns-clause-entries c) ∙ none_unmarked c.args.arena.now.entries

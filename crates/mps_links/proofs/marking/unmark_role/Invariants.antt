@@ -1,0 +1,12 @@
+use Rattle.std.proofs.Common.{◌≡◌, length}
+use Rattle.mps_links.proofs.Unmarking.{IsWalk}
+use Rattle.mps_links.proofs.marking.unmark_role.Given as goal
+
+abbrev pub invariant-loop : goal.invariant-loop
+invariant-loop l = record {
+  walk : IsWalk l.fn.role l.fn.arena.entries l.arena.entries l.at l.counter;
+  end : l.end ≡ length l.fn.arena.entries;
+  issued : l.arena.issued ≡ l.fn.arena.issued;
+  ready : l.arena.is_ready ≡ l.fn.arena.is_ready;
+  key : l.arena.next_key ≡ l.fn.arena.next_key;
+}

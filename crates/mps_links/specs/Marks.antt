@@ -1,0 +1,30 @@
+-- Entries by their marks.
+use Rattle.std.specs.Prelude.{◌==◌, ◌&&◌, ℕ, Bool, false, List, map, not}
+use Rattle.std.specs.List.{filter, list_any}
+use Rattle.mps_base.specs.declared.action.Step.{Step}
+use Rattle.mps_history.specs.Dependence.{IsClosed}
+use Rattle.mps_arena.specs.Entries.{Entry, steps}
+
+-- the keys of the marked steps, in order
+abbrev pub marked_keys : List Entry → List ℕ
+marked_keys es = map (λ e. e.key) (filter (λ e. e.marked) es)
+
+-- a step of that number is marked
+abbrev pub is_marked : List Entry → ℕ → Bool
+is_marked es n = list_any (λ e. e.marked && e.step.id == n) es
+
+-- where a step is marked, each that depends directly on it is marked
+abbrev pub AreMarksClosed : List Entry → Type 0
+AreMarksClosed es = IsClosed (steps es) (is_marked es)
+
+-- the entry, marked exactly where its number is in the set
+abbrev pub marked_by : (ℕ → Bool) → Entry → Entry
+marked_by set e = record e { marked = set e.step.id }
+
+-- the entry without a mark
+abbrev pub unmarked : Entry → Entry
+unmarked e = record e { marked = false }
+
+-- the steps that aren't marked, in order
+abbrev pub unmarked_steps : List Entry → List Step
+unmarked_steps es = steps (filter (λ e. not e.marked) es)

@@ -1,0 +1,28 @@
+//! The least step that depends on another.
+ghost use Rattle.std.specs.Prelude.{◌≡◌, ℕ, ◌==◌, IsSome, Some, None};
+ghost use Rattle.std.specs.List.{find};
+ghost use Rattle.std.specs.Option.{option_map};
+ghost use Rattle.mps_history.specs.Steps.{step_of};
+ghost use Rattle.mps_history.specs.Dependence.{least, dependents};
+ghost use Rattle.mps_arena.specs.Entries.{steps};
+ghost use Rattle.mps_arena.specs.Sources.{CanGo};
+
+use crate::order::earlier;
+use mps_arena::Arena;
+use mps_base::StepId;
+
+/// The least number of another step that depends on this one. It is the number of its role's next
+/// step or of its receipt; no other step is looked at.
+pub fn least_dependent(arena: &Arena, id: StepId) -> Option<StepId>
+    requires present { IsSome (step_of (steps arena.now.entries) id) }
+    ensures least { result ≡ least (dependents (steps arena.now.entries) id) }
+    // a step on which nothing depends may be removed
+    ensures free { result ≡ None → (k : ℕ)
+        → option_map (λ e. e.key) (find (λ e. e.step.id == id) arena.now.entries) ≡ Some k
+        → CanGo arena.now.entries k }
+{
+    prove!(arena.len() > 0);
+    let key = arena.by_id(id)?;
+    let first = earlier(arena, arena.next_of_role(key), arena.receipt(key))?;
+    arena.id(first)
+}

@@ -1,0 +1,115 @@
+//! Marked steps: a step and all that depends on it, the newest marked one, and all marks taken off.
+ghost use Rattle.std.specs.Prelude.{◌≡◌, ◌<◌, ◌==◌, ◌&&◌, map, length, [], None, IsSome, IfSome};
+ghost use Rattle.mps_history.specs.Steps.{step_of, within};
+ghost use Rattle.mps_history.specs.Dependence.{consequences};
+ghost use Rattle.mps_arena.specs.Keys.{last_key};
+ghost use Rattle.mps_arena.specs.Entries.{steps, keys_of};
+ghost use Rattle.mps_arena.specs.Sources.{CanGo};
+ghost use Rattle.mps_links.specs.Marks.{marked_keys, is_marked, AreMarksClosed, marked_by, unmarked};
+ghost use Rattle.mps_links.specs.RoleMarks.{unmarked_of, AreLastMarked};
+
+use crate::order::later;
+use crate::pending::Pending;
+use mps_arena::{Arena, Key};
+use mps_base::{Role, StepId};
+
+/// Marks the step of that number and all that depend on it, and tells how many they are. It goes
+/// from link to link, the oldest first, and never looks at a step that it doesn't mark.
+pub fn mark_from(arena: &mut Arena, id: StepId) -> usize
+    requires present { IsSome (step_of (steps arena.old.entries) id) }
+    requires unmarked { marked_keys arena.old.entries ≡ [] }
+    ensures marks { arena.new.entries
+        ≡ map (marked_by (consequences (steps arena.old.entries) id)) arena.old.entries }
+    ensures count { result ≡ length (within (steps arena.old.entries)
+        (consequences (steps arena.old.entries) id)) }
+    ensures closed { AreMarksClosed arena.new.entries }
+    ensures issued { arena.new.issued ≡ arena.old.issued }
+    ensures ready { arena.new.is_ready ≡ arena.old.is_ready }
+    ensures key { arena.new.next_key ≡ arena.old.next_key }
+{
+    let len = arena.len();
+    let first = arena.by_id(id).unwrap();
+    let mut pending = Pending::new();
+    pending.follow(arena, first);
+    arena.set_mark(first, true);
+    for count in 1..len {
+        prove!(arena.len() > 0);
+        let Some(key) = pending.earliest(arena) else {
+            return count;
+        };
+        pending.follow(arena, key);
+        arena.set_mark(key, true);
+    }
+    len
+}
+
+// the role's newest marked step: its last, or none
+fn newest_marked_of(arena: &Arena, role: Role) -> Option<Key>
+    requires small { role < 8 }
+    requires closed { AreMarksClosed arena.now.entries }
+    ensures { result ≡ last_key None (keys_of
+        (λ s. s.role == role && is_marked arena.now.entries s.id) arena.now.entries) }
+{
+    let last = arena.last_of(role)?;
+    prove!(arena.len() > 0);
+    if arena.marked(last) { Some(last) } else { None }
+}
+
+/// The newest marked step, where each step that depends on a marked one is marked. So nothing
+/// depends on it, and it may be removed.
+pub fn newest_marked(arena: &Arena) -> Option<Key>
+    requires closed { AreMarksClosed arena.now.entries }
+    ensures newest { result ≡ last_key None (marked_keys arena.now.entries) }
+    ensures none { result ≡ None → marked_keys arena.now.entries ≡ [] }
+    ensures free { IfSome result (λ key. CanGo arena.now.entries key) }
+{
+    if arena.len() == 0 {
+        return None;
+    }
+    let mut newest = None;
+    for role in 0..8 {
+        newest = later(arena, newest, newest_marked_of(arena, Role::new(role)));
+    }
+    newest
+}
+
+// takes the marks of a role off, from its last step back
+fn unmark_role(arena: &mut Arena, role: Role)
+    requires small { role < 8 }
+    requires last { AreLastMarked role arena.old.entries }
+    ensures entries { arena.new.entries ≡ map (unmarked_of role) arena.old.entries }
+    ensures issued { arena.new.issued ≡ arena.old.issued }
+    ensures ready { arena.new.is_ready ≡ arena.old.is_ready }
+    ensures key { arena.new.next_key ≡ arena.old.next_key }
+{
+    let mut at = arena.last_of(role);
+    for _ in 0..arena.len() {
+        let Some(key) = at else {
+            return;
+        };
+        prove!(arena.len() > 0);
+        if !arena.marked(key) {
+            return;
+        }
+        at = arena.prev_of_role(key);
+        arena.set_mark(key, false);
+    }
+}
+
+/// Takes all marks off, where each step that depends on a marked one is marked. No unmarked step is
+/// looked at but one of each role.
+pub fn unmark(arena: &mut Arena)
+    requires closed { AreMarksClosed arena.old.entries }
+    ensures entries { arena.new.entries ≡ map unmarked arena.old.entries }
+    ensures none { marked_keys arena.new.entries ≡ [] }
+    ensures issued { arena.new.issued ≡ arena.old.issued }
+    ensures ready { arena.new.is_ready ≡ arena.old.is_ready }
+    ensures key { arena.new.next_key ≡ arena.old.next_key }
+{
+    if arena.len() == 0 {
+        return;
+    }
+    for role in 0..8 {
+        unmark_role(arena, Role::new(role));
+    }
+}
