@@ -1,3 +1,4 @@
 pub mod Waiting
 pub mod Leaving
 pub mod Taking
+pub mod Walks

@@ -2,5 +2,7 @@
 #![tactic(auto)]
 
 mod log;
+mod moves;
 
 pub use log::Log;
+pub use moves::Moves;

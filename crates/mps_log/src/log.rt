@@ -9,8 +9,10 @@ ghost use Rattle.mps_arena.specs.Sources.{waiting, CanGo};
 ghost use Rattle.mps_queues.specs.Fronts.{AreFronts};
 ghost use Rattle.mps_stores.specs.Stores.{slot_of, AreStores};
 ghost use Rattle.mps_log.specs.Joins.{HasJoined};
+ghost use Rattle.mps_log.specs.Shown.{shown};
 ghost use Rattle.mps_log.specs.Values.{message_of, kept_in};
 
+use crate::moves::Moves;
 use mps_arena::{Arena, Before, Key};
 use mps_base::{Act, Message, Name, Role, Step, StepId, Value};
 use mps_queues::Queues;
@@ -84,7 +86,7 @@ fn slot_in(act: &Act) -> Option<&Name>
 }
 
 // The message that the step of the key gave, if it gave one.
-fn message_at(arena: &Arena, key: Key) -> Option<&Message>
+pub(crate) fn message_at(arena: &Arena, key: Key) -> Option<&Message>
     requires { IsSome (entry_at key arena.now.entries) }
     ensures { option_copied result ≡ message_of arena.now.entries key }
 {
@@ -113,6 +115,13 @@ impl Log {
     {
         let key = self.arena.nth(k)?;
         Some(self.arena.get(key))
+    }
+
+    /// The steps in order, each with the message that it gave or took.
+    pub fn moves(&self) -> Moves<'_>
+        ensures { result ≡ shown self.now.entries self.now.entries }
+    {
+        Moves::of(&self.arena)
     }
 
     /// The steps with their links.

@@ -1,0 +1,72 @@
+//! The steps of a log, one after the other.
+ghost use Rattle.std.specs.Prelude.{◌≡◌, IsSome, Some, List};
+ghost use Rattle.std.specs.Iterator.{YieldsFirstBy, item_count};
+ghost use Rattle.std.specs.Option.{option_copied, option_and_then};
+ghost use Rattle.mps_arena.specs.Entries.{entry_at, AreSound};
+ghost use Rattle.mps_log.specs.Shown.{moved_of, shown};
+
+use crate::log::message_at;
+use mps_arena::{Arena, Key};
+use mps_base::{Act, Message, Step};
+use std::marker::Model;
+
+/// The steps of a log that are left to show, the oldest first, each with the message that it gave or took. A mark
+/// moves none.
+#[derive(Drop)]
+pub struct Moves<'a> {
+    arena: &'a Arena,
+    // the first that is left
+    at: Option<Key>,
+}
+
+impl<'a> Model for Moves<'a> {
+    ghost use Rattle.std.specs.Prelude.{List};
+    ghost use Rattle.mps_log.specs.Shown.{Moved, left_of, IsWalk};
+
+    ghost Value = { List Moved };
+
+    ghost view = { left_of };
+
+    ghost invariant = { IsWalk };
+}
+
+impl<'a> Moves<'a> {
+    /// All steps of the arena of a log.
+    pub(crate) fn of(arena: &'a Arena) -> Moves<'a>
+        requires { AreSound arena.now.entries }
+        ensures { result ≡ shown arena.now.entries arena.now.entries }
+    {
+        Moves {
+            arena,
+            at: arena.first(),
+        }
+    }
+}
+
+impl<'a> Iterator for Moves<'a> {
+    type Item = (&'a Step, Option<&'a Message>);
+
+    ghost next_gives = { YieldsFirstBy (λ item. (item.0.now, option_copied item.1)) (λ left. left) };
+
+    ghost remaining = { item_count (λ left. left) };
+
+    fn next(&mut self) -> Option<(&'a Step, Option<&'a Message>)> {
+        let key = self.at?;
+        let arena = self.arena;
+        self.at = arena.next(key);
+        Some((arena.get(key), moved_at(arena, key)))
+    }
+}
+
+// The message that the step of the key gave or took, if there is one.
+fn moved_at(arena: &Arena, key: Key) -> Option<&Message>
+    requires { IsSome (entry_at key arena.now.entries) }
+    ensures { option_copied result
+        ≡ option_and_then (moved_of arena.now.entries) (entry_at key arena.now.entries) }
+{
+    match &arena.get(key).act {
+        Act::Out { message, .. } => Some(message),
+        Act::In { .. } => message_at(arena, arena.source(key)?),
+        Act::Mark(_) => None,
+    }
+}
