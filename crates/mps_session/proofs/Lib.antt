@@ -4,6 +4,7 @@ pub mod Accepting
 pub mod Cursors
 pub mod Following
 pub mod Slots
+pub mod Moved
 pub mod Serving
 pub mod Starting
 pub mod Opened

@@ -1,6 +1,9 @@
 -- A session as a plain machine.
-use Rattle.std.specs.Prelude.{List}
+use Rattle.std.specs.Prelude.{List, [], ◌∷◌, ◌++◌, Option}
+use Rattle.mps_base.specs.declared.action.Message.{Message}
+use Rattle.mps_base.specs.declared.action.Step.{Step}
 use Rattle.mps_local.specs.Local.{LocalType}
+use Rattle.mps_machine.specs.Rule.{moved}
 use Rattle.mps_machine.specs.View.{View}
 use Rattle.mps_machine.specs.Machine as machine
 use Rattle.mps_machine.specs.Machine.{State}
@@ -13,3 +16,12 @@ pub record Machine : Type 0 where
 -- what replaying the surviving steps gives
 abbrev pub view_of : Machine → View
 view_of m = machine.view_of m.types m.state.history
+
+-- steps, each with the message that it gives or takes where it is replayed behind those that are done
+abbrev pub moved_from : List LocalType → List Step → List Step → List (Step × Option Message)
+moved_from types done [] = []
+moved_from types done (s ∷ h) = (s, moved (machine.view_of types done) s.role s.act) ∷ moved_from types (done ++ s ∷ []) h
+
+-- the surviving steps, each with the message that it gave or took
+abbrev pub moves_of : Machine → List (Step × Option Message)
+moves_of m = moved_from m.types [] m.state.history

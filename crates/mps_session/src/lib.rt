@@ -9,6 +9,7 @@ pub mod session;
 
 pub use mps_command::{Done, Forward, Refusal, Violation};
 pub use mps_local::LocalFault;
+pub use mps_log::Moves;
 pub use mps_table::Expect;
 pub use open::OpenFault;
 pub use protocol::{ProtocolFault, open_protocol};

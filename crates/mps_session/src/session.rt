@@ -13,7 +13,7 @@ ghost use Rattle.mps_machine.specs.Machine as machine;
 ghost use Rattle.mps_history.specs.Slots.{value_in};
 ghost use Rattle.mps_session.specs.Answers.{IsAnswer, as_step};
 ghost use Rattle.mps_session.specs.Peers.{IsFirstBad, IsFirstFaulty, CanOpen};
-ghost use Rattle.mps_session.specs.Seen.{view_of};
+ghost use Rattle.mps_session.specs.Seen.{view_of, moves_of};
 ghost use Rattle.mps_table.specs.Expects.{head_of};
 
 use crate::configuration::Configuration;
@@ -21,6 +21,7 @@ use crate::open::{OpenFault, first_bad_peer, first_bad_peer_of_any_size, first_f
 use mps_base::{Act, MAX_ROLES, MIN_ROLES, Message, Name, Role, Sort, Step, StepId, Value};
 use mps_command::{Done, Forward, Refusal};
 use mps_local::Local;
+use mps_log::Moves;
 use mps_table::Expect;
 use std::alloc::Global;
 use std::marker::Model;
@@ -153,6 +154,13 @@ impl Session {
     {
         let step = self.configuration.log.step(k)?;
         Some((step.id, step.role, &step.act))
+    }
+
+    /// The surviving steps in order, each with the message that it gave or took.
+    pub fn moves(&self) -> Moves<'_>
+        ensures { result ≡ moves_of self.now }
+    {
+        self.configuration.log.moves()
     }
 
     /// What the role keeps in the slot.
