@@ -55,7 +55,7 @@ fn add(rt: &(impl Abort + AllocGlobal), arena: &mut Arena, deed: Deed)
     requires none { marked_keys arena.old.entries ≡ [] }
     ensures none { marked_keys arena.new.entries ≡ [] }
 {
-    assert!(rt; arena.issued() < 1000);
+    assert!(rt; arena.issued() < 1_000_000);
     arena.reserve_one().expect(rt, "memory");
     let id = StepId::new(arena.issued() as u64 + 1);
     let before = Before { at: 0, bound: None };
@@ -218,4 +218,49 @@ fn leaves_no_mark(rt: HostRuntime) {
             "from {second}"
         );
     }
+}
+
+// A history of that many steps: 500 messages from b to c, and then marks of a. Of the first 1,000 steps the last so
+// many depend on their first.
+fn marks_at(rt: &(impl Abort + AllocGlobal), marked: u64, steps: u64) {
+    let mut arena = Arena::new(rt.alloc());
+    for _ in 0..500_u64 {
+        add(rt, &mut arena, Gives(B, C));
+        add(rt, &mut arena, Takes(C, B));
+    }
+    for _ in 1000..steps {
+        add(rt, &mut arena, Marks(A));
+    }
+    let from = present(rt, &arena, 1001_u64.saturating_sub(marked));
+    assert_eq!(rt; mark_from(&mut arena, from) as u64, marked);
+}
+
+#[test]
+fn marks_10_of_10_000(rt: HostRuntime) {
+    marks_at(&rt, 10, 10_000);
+}
+
+#[test]
+fn marks_100_of_10_000(rt: HostRuntime) {
+    marks_at(&rt, 100, 10_000);
+}
+
+#[test]
+fn marks_1_000_of_10_000(rt: HostRuntime) {
+    marks_at(&rt, 1_000, 10_000);
+}
+
+#[test]
+fn marks_10_of_100_000(rt: HostRuntime) {
+    marks_at(&rt, 10, 100_000);
+}
+
+#[test]
+fn marks_100_of_100_000(rt: HostRuntime) {
+    marks_at(&rt, 100, 100_000);
+}
+
+#[test]
+fn marks_1_000_of_100_000(rt: HostRuntime) {
+    marks_at(&rt, 1_000, 100_000);
 }

@@ -1,5 +1,5 @@
 use super::*;
-use crate::tests::Line::{Asks, Count, Keeps, Step, Waits};
+use crate::tests::Line::{Asks, Count, Keeps, Moves, Step, Waits};
 use crate::tests::{A, Ask, B, C, Line, Opening, answer, name, opens_so, play, role_of};
 use mps_base::{Name, Role, Sort, Value, VarName};
 use mps_local::{Branches, Local};
@@ -133,6 +133,7 @@ const NAMED: &[Line] = &[
     Asks(A, Ask::Send(B, "1"), "Ended"),
     Asks(C, Ask::Choose(A, "ok"), "Ended"),
     Count(7, 7),
+    Moves("1 5; 2 5; 3 7; 4 7; 5 ok; 6 ok; 7 -; "),
 ];
 
 #[test]

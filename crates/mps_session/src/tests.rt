@@ -129,6 +129,17 @@ fn step(alloc: Global, session: &Session, k: usize) -> Result<String, Fail> {
     Ok(format!(in alloc; "{id} {role} {did} {peer} {what}")?)
 }
 
+// The number of each step, with the message that it moved.
+fn moved(alloc: Global, session: &Session) -> Result<String, Fail> {
+    let mut all = format!(in alloc; "")?;
+    for (step, message) in session.moves() {
+        let number = step.id.number();
+        let message = written(alloc, message)?;
+        all = format!(in alloc; "{all}{number} {message}; ")?;
+    }
+    Ok(all)
+}
+
 // What is done to a session or looked up in it, with what comes of it.
 #[derive(Clone, Copy)]
 pub(super) enum Line {
@@ -140,11 +151,13 @@ pub(super) enum Line {
     Keeps(u8, &'static str, &'static str),
     // the step of that place
     Step(usize, &'static str),
+    // all steps, each with the message that it moved
+    Moves(&'static str),
     // how many steps survive, and how many numbers were given out
     Count(usize, u64),
 }
 
-use Line::{Asks, Count, Keeps, Step, Waits};
+use Line::{Asks, Count, Keeps, Moves, Step, Waits};
 
 // What comes of the line, and what is wanted.
 fn outcome(
@@ -160,6 +173,7 @@ fn outcome(
         }
         Keeps(place, slot, wanted) => (kept(alloc, session, place, slot)?, wanted),
         Step(k, wanted) => (step(alloc, session, k)?, wanted),
+        Moves(wanted) => (moved(alloc, session)?, wanted),
         Count(steps, numbers) => {
             let same = session.len() == steps && session.issued() == numbers;
             (format!(in alloc; "{same}")?, "true")
@@ -232,6 +246,7 @@ const RELAY: &[Line] = &[
     Step(2, "3 1 gave 2 7"),
     Step(3, "4 2 took 1 y"),
     Step(4, "-"),
+    Moves("1 5; 2 5; 3 7; 4 7; "),
     Keeps(B, "x", "5"),
     Keeps(C, "y", "7"),
     Keeps(B, "y", "-"),
@@ -255,6 +270,7 @@ const REFUSALS: &[Line] = &[
     Asks(A, Ask::Send(B, "true"), "WrongSort"),
     Asks(A, Ask::Receive(B, "x"), "WrongAct"),
     Count(0, 0),
+    Moves(""),
     Waits(A, B, 0, "-"),
     Asks(A, Ask::Send(B, "5"), "1 -"),
     Asks(A, Ask::Send(B, "5"), "Ended"),
@@ -340,6 +356,7 @@ const AGAIN: &[Line] = &[
     Keeps(B, "x", "3"),
     Keeps(B, "y", "2"),
     Keeps(A, "x", "-"),
+    Moves("1 1; 2 2; 3 3; 4 1; 5 2; 6 3; "),
 ];
 
 #[test]
@@ -356,6 +373,7 @@ const MARKS: &[Line] = &[
     Waits(A, B, 0, "5"),
     Step(0, "1 0 left 0 m"),
     Step(2, "3 0 left 0 m"),
+    Moves("1 -; 2 5; 3 -; "),
 ];
 
 #[test]
