@@ -4,3 +4,6 @@
 mod log;
 
 pub use log::Log;
+
+#[cfg(test)]
+mod tests;
