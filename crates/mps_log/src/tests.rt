@@ -1,5 +1,4 @@
-ghost use Rattle.std.specs.Prelude.{◌<◌, ◌≡◌, IsTrue, IsSome};
-ghost use Rattle.mps_arena.specs.Entries.{entry_at};
+ghost use Rattle.std.specs.Prelude.{◌<◌, IsTrue, IsSome};
 ghost use Rattle.mps_arena.specs.Sources.{waiting, CanGo};
 
 use super::*;

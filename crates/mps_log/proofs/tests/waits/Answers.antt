@@ -4,7 +4,6 @@ use Rattle.std.specs.Option.{option_and_then, option_copied, is_some}
 use Rattle.mps_base.specs.declared.action.Message.{Message}
 use Rattle.mps_history.specs.Steps.{sends, receives}
 use Rattle.mps_arena.specs.Entries.{keys_of}
-use Rattle.mps_arena.specs.Sources.{waiting}
 use Rattle.mps_queues.proofs.Moves.{get_drop_front}
 use Rattle.mps_log.specs.Values.{message_of}
 use Rattle.mps_log.proofs.Waiting.{message_waits}
