@@ -6,3 +6,6 @@ mod moves;
 
 pub use log::Log;
 pub use moves::Moves;
+
+#[cfg(test)]
+mod tests;

@@ -1,0 +1,354 @@
+//! Operations at random: each look-up of a log gives what a walk over a plain list of steps does.
+use super::Deed::{self, Choose, Mark, Pick, Receive, Send, Tell};
+use super::*;
+
+// A step of the plain list: its key and number, what it is, and the key to which its slot was
+// bound.
+#[derive(Clone, Copy)]
+struct Plain {
+    key: Key,
+    id: StepId,
+    role: u8,
+    deed: Deed,
+    at: u16,
+    bound: Option<Key>,
+}
+
+// Some of the steps, in order: all, those of a role, the sends of a pair, its receipts, the
+// receipts of a role into a slot, none.
+#[derive(Clone, Copy)]
+enum Chain {
+    All,
+    Of(u8),
+    Sends(u8, u8),
+    Receipts(u8, u8),
+    Into(u8, Word),
+    Nothing,
+}
+
+// Whether the step is one of the chain.
+fn is_in(step: &Plain, chain: Chain) -> bool {
+    match (chain, step.deed) {
+        (Chain::All, _) => true,
+        (Chain::Of(role), _) => step.role == role,
+        (Chain::Sends(from, to), Send(peer, _) | Tell(peer, _) | Choose(peer, _)) => {
+            step.role == from && peer == to
+        }
+        (Chain::Receipts(from, to), Receive(peer, _) | Pick(peer)) => {
+            step.role == to && peer == from
+        }
+        (Chain::Into(role, slot), Receive(_, word)) => step.role == role && word == slot,
+        _ => false,
+    }
+}
+
+// How many steps the chain has.
+fn count(steps: &[Plain], chain: Chain) -> usize {
+    steps.iter().filter(|step| is_in(step, chain)).count()
+}
+
+// The n-th step of the chain, from 0.
+fn nth(steps: &[Plain], chain: Chain, n: usize) -> Option<&Plain> {
+    steps.iter().filter(|step| is_in(step, chain)).nth(n)
+}
+
+// The place of the key in the chain, from 0.
+fn place_in(steps: &[Plain], chain: Chain, key: Key) -> Option<usize> {
+    let mut passing = steps.iter().filter(|step| is_in(step, chain));
+    passing.position(|step| step.key.is(key))
+}
+
+// The key of the n-th step of the chain.
+fn nth_key(steps: &[Plain], chain: Chain, n: usize) -> Option<Key> {
+    let step = nth(steps, chain, n)?;
+    Some(step.key)
+}
+
+// The last step of the chain.
+fn last(steps: &[Plain], chain: Chain) -> Option<Key> {
+    nth_key(steps, chain, count(steps, chain).checked_sub(1)?)
+}
+
+// The step of the chain right behind that of the key.
+fn after(steps: &[Plain], chain: Chain, key: Key) -> Option<Key> {
+    let place = place_in(steps, chain, key)?;
+    nth_key(steps, chain, place.checked_add(1)?)
+}
+
+// The step of the chain right before that of the key.
+fn before(steps: &[Plain], chain: Chain, key: Key) -> Option<Key> {
+    let place = place_in(steps, chain, key)?;
+    nth_key(steps, chain, place.checked_sub(1)?)
+}
+
+// The step that stands in one chain where that of the key stands in another.
+fn across(steps: &[Plain], chain: Chain, key: Key, other: Chain) -> Option<Key> {
+    nth_key(steps, other, place_in(steps, chain, key)?)
+}
+
+// The sends and the receipts of the pair of the step, if it is one of its sends.
+fn as_send(step: &Plain) -> [Chain; 2] {
+    match step.deed {
+        Send(to, _) | Tell(to, _) | Choose(to, _) => {
+            [Chain::Sends(step.role, to), Chain::Receipts(step.role, to)]
+        }
+        _ => [Chain::Nothing, Chain::Nothing],
+    }
+}
+
+// The sends and the receipts of the pair of the step, if it is one of its receipts.
+fn as_receipt(step: &Plain) -> [Chain; 2] {
+    match step.deed {
+        Receive(from, _) | Pick(from) => {
+            [
+                Chain::Sends(from, step.role),
+                Chain::Receipts(from, step.role),
+            ]
+        }
+        _ => [Chain::Nothing, Chain::Nothing],
+    }
+}
+
+// What the step is linked to, by walks over the list.
+fn walked(steps: &[Plain], step: &Plain) -> [Option<Key>; 8] {
+    let key = step.key;
+    let of_role = Chain::Of(step.role);
+    let [sends, receipts] = as_send(step);
+    let [sources, own] = as_receipt(step);
+    [
+        after(steps, Chain::All, key),
+        before(steps, Chain::All, key),
+        after(steps, of_role, key),
+        before(steps, of_role, key),
+        after(steps, sends, key),
+        before(steps, sends, key),
+        across(steps, sends, key, receipts),
+        across(steps, own, key, sources),
+    ]
+}
+
+// Whether the arena has the step as it is, with its links.
+fn is_there(arena: &Arena, steps: &[Plain], plain: &Plain) -> bool {
+    let Some((step, before, marked)) = found(arena, plain.key) else {
+        return false;
+    };
+    arena.by_id(plain.id) == Some(plain.key)
+        && links(arena, plain.key) == walked(steps, plain)
+        && step.id.is(plain.id)
+        && step.role.is(Role::new(plain.role))
+        && is_act(&step.act, plain.deed)
+        && before.at == plain.at
+        && before.bound == plain.bound
+        && !marked
+}
+
+// Whether the key is no step's.
+fn is_unknown(arena: &Arena, key: Key) -> bool {
+    arena.id(key).is_none() && links(arena, key) == [None; 8]
+}
+
+// Each step is there, no number leads to another, and the ends are right.
+fn are_there(rt: &impl Abort, arena: &Arena, steps: &[Plain]) {
+    for step in steps {
+        assert!(rt; is_there(arena, steps, step), "step {}", step.id.number());
+    }
+    assert_eq!(rt; arena.first(), nth_key(steps, Chain::All, 0));
+    assert_eq!(rt; arena.last(), last(steps, Chain::All));
+    assert_eq!(rt; (arena.len(), known(arena)), (steps.len(), steps.len()));
+}
+
+// What the k-th message that waits gives.
+fn waiting_deed(steps: &[Plain], from: u8, to: u8, k: usize) -> Option<Deed> {
+    let received = count(steps, Chain::Receipts(from, to));
+    let send = nth(steps, Chain::Sends(from, to), received.checked_add(k)?)?;
+    Some(send.deed)
+}
+
+// How many messages wait.
+fn waiting_count(steps: &[Plain], from: u8, to: u8) -> usize {
+    let sent = count(steps, Chain::Sends(from, to));
+    sent.saturating_sub(count(steps, Chain::Receipts(from, to)))
+}
+
+// Whether the pair's last send and its queue are right.
+fn is_queue(log: &Log, steps: &[Plain], from: u8, to: u8) -> bool {
+    let (p, q) = (role(from), role(to));
+    let is_last = log.steps().last_send(p, q) == last(steps, Chain::Sends(from, to));
+    let mut places = 0..=waiting_count(steps, from, to);
+    is_last && places.all(|k| is_given(log.message(p, q, k), waiting_deed(steps, from, to, k)))
+}
+
+// What the role keeps in the slot.
+fn kept_deed(steps: &[Plain], place: u8, slot: Word) -> Option<Deed> {
+    let receipt = last(steps, Chain::Into(place, slot))?;
+    let step = steps.iter().find(|step| step.key.is(receipt))?;
+    let [sends, receipts] = as_receipt(step);
+    let send = nth(steps, sends, place_in(steps, receipts, receipt)?)?;
+    Some(send.deed)
+}
+
+// Whether the role's last step and its slots are right.
+fn is_role(rt: &impl Abort, log: &Log, steps: &[Plain], place: u8) -> bool {
+    let own = role(place);
+    let mut slots = [Word::X, Word::Y, Word::Z].iter();
+    log.steps().last_of(own) == last(steps, Chain::Of(place))
+        && slots.all(|slot| keeps(rt, log, place, *slot, kept_deed(steps, place, *slot)))
+}
+
+// Each look-up of the log gives what a walk over the list does.
+fn agrees(rt: &impl Abort, log: &Log, steps: &[Plain], roles: u8) {
+    are_there(rt, log.steps(), steps);
+    for from in 0..roles {
+        assert!(rt; is_role(rt, log, steps, from), "role {from}");
+        for to in 0..roles {
+            assert!(rt; is_queue(log, steps, from, to), "from {from} to {to}");
+        }
+    }
+}
+
+// A linear congruential generator: the same numbers in each run.
+#[derive(Drop)]
+struct Dice(u64);
+
+impl Dice {
+    // The next number below that.
+    fn roll(&mut self, sides: u8) -> u8 {
+        let product = self.0.wrapping_mul(6_364_136_223_846_793_005);
+        self.0 = product.wrapping_add(1_442_695_040_888_963_407);
+        let [top, ..] = self.0.to_be_bytes();
+        top.checked_rem(sides).unwrap_or(0)
+    }
+
+    // One of three names.
+    fn word(&mut self) -> Word {
+        match self.roll(3) {
+            0 => Word::X,
+            1 => Word::Y,
+            _ => Word::Z,
+        }
+    }
+
+    // Something to do with one of so many roles.
+    fn deed(&mut self, roles: u8, n: i64) -> Deed {
+        let peer = self.roll(roles);
+        match self.roll(10) {
+            0..=2 => Send(peer, n),
+            3 => Choose(peer, self.word()),
+            4..=7 => Receive(peer, self.word()),
+            8 => Pick(peer),
+            _ => Mark(self.word()),
+        }
+    }
+}
+
+// Whether the deed takes a message where none waits.
+fn is_idle(steps: &[Plain], place: u8, deed: Deed) -> bool {
+    match deed {
+        Receive(from, _) | Pick(from) => waiting_count(steps, from, place) == 0,
+        _ => false,
+    }
+}
+
+// The role does that, in the log and in the list, if it may.
+fn join(rt: &(impl Abort + AllocGlobal), log: &mut Log, steps: &mut Vec<Plain>, row: Row) {
+    let Row(place, deed, at, _) = row;
+    let Some(id) = play(rt, log, place, deed, at) else {
+        assert!(rt; is_idle(steps, place, deed), "a message waits");
+        return;
+    };
+    assert!(rt; !is_idle(steps, place, deed), "no message waits");
+    let bound = match deed {
+        Receive(_, slot) => last(steps, Chain::Into(place, slot)),
+        _ => None,
+    };
+    let key = log.steps().by_id(id).expect(rt, "its key");
+    let plain = Plain {
+        key,
+        id,
+        role: place,
+        deed,
+        at,
+        bound,
+    };
+    steps.push(plain).expect(rt, "memory");
+}
+
+// Whether the step may go, by walks over the list.
+fn is_free(steps: &[Plain], step: &Plain) -> bool {
+    let [_, _, next_of_role, _, _, _, receipt, _] = walked(steps, step);
+    next_of_role.is_none() && receipt.is_none()
+}
+
+// The place of the first step from there on that may go; the end where there is none.
+fn free_from(steps: &[Plain], place: usize) -> usize {
+    for at in place..steps.len() {
+        if is_free(steps, &steps[at]) {
+            return at;
+        }
+    }
+    steps.len()
+}
+
+// Whether by the log those may go that may by the list.
+fn are_free_alike(log: &Log, steps: &[Plain]) -> bool {
+    steps.iter().all(|step| may_go(log.steps(), step.key) == is_free(steps, step))
+}
+
+// Takes the first step from that place on that may go out of the log and of the list.
+fn leave(rt: &impl Abort, log: &mut Log, steps: &mut Vec<Plain>, from: usize) {
+    assert!(rt; are_free_alike(log, steps), "which may go");
+    let place = free_from(steps, from);
+    if place >= steps.len() {
+        return;
+    }
+    let step = steps[place];
+    let gone = take_out(log, step.key).expect(rt, "it goes");
+    assert_eq!(rt; gone, step.id);
+    steps.remove(place);
+    assert!(rt; is_unknown(log.steps(), step.key), "it is gone");
+    assert_eq!(rt; log.steps().by_id(step.id), None);
+}
+
+// One operation that the dice choose.
+fn operate(
+    rt: &(impl Abort + AllocGlobal),
+    log: &mut Log,
+    steps: &mut Vec<Plain>,
+    dice: &mut Dice,
+    roles: u8,
+) {
+    if dice.roll(2) == 0 {
+        leave(rt, log, steps, usize::from(dice.roll(40)));
+    } else {
+        let n = i64::try_from(log.steps().issued()).unwrap_or(0);
+        let place = dice.roll(roles);
+        let at = u16::from(dice.roll(255));
+        join(rt, log, steps, Row(place, dice.deed(roles, n), at, 0));
+    }
+}
+
+// So many operations by so many roles; after each the log agrees with the list.
+fn operations(rt: &(impl Abort + AllocGlobal), roles: u8, seed: u64, times: usize) {
+    let mut log = empty(rt);
+    let mut steps = Vec::new(rt.alloc());
+    let mut dice = Dice(seed);
+    for _ in 0..times {
+        operate(rt, &mut log, &mut steps, &mut dice, roles);
+        agrees(rt, &log, &steps, roles);
+    }
+}
+
+#[test]
+fn three_roles_at_random(rt: HostRuntime) {
+    operations(&rt, 3, 1, 4000);
+}
+
+#[test]
+fn five_roles_at_random(rt: HostRuntime) {
+    operations(&rt, 5, 2, 4000);
+}
+
+#[test]
+fn eight_roles_at_random(rt: HostRuntime) {
+    operations(&rt, 8, 3, 3000);
+}
