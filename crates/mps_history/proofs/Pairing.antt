@@ -14,7 +14,7 @@ use Rattle.mps_history.proofs.Order.{at_member, from_members, rising_apart, IsRi
 use Rattle.mps_history.proofs.Removal.{filter-none, filter-same}
 
 -- the steps before a number are those before its place
-before_place : (p : Step → Bool) (a l : List Step) (s : Step) → IsRising (a ++ s ∷ l) → filter (λ x. nat_lt x.id s.id && p x) (a ++ s ∷ l) ≡ filter p a
+pub before_place : (p : Step → Bool) (a l : List Step) (s : Step) → IsRising (a ++ s ∷ l) → filter (λ x. nat_lt x.id s.id && p x) (a ++ s ∷ l) ≡ filter p a
 before_place p a l s r =
     let f = λ (x : Step). nat_lt x.id s.id && p x in
     let rest = IsRising-append_right a (s ∷ l) r in

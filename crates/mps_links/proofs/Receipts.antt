@@ -1,47 +1,25 @@
 -- The receipt of a send is the first later step that is matched with it.
-use Rattle.std.proofs.Common.{◌≡◌, ℕ, zero, suc, ◌+◌, ◌-◌, ◌≤◌, ◌<◌, Bool, true, false, List, [], ◌∷◌, ◌++◌, length, None, refl, sym, ap, ◌∙◌, subst, arith, ⊎_elim, inl, eq-eqb, append_assoc, append-nil, length-append}
+use Rattle.std.proofs.Common.{◌≡◌, ℕ, zero, suc, ◌+◌, ◌-◌, ◌≤◌, Bool, true, false, List, [], ◌∷◌, ◌++◌, length, None, refl, sym, ap, ◌∙◌, subst, arith, ⊎_elim, eq-eqb, append_assoc, length-append}
 use Rattle.std.specs.Prelude.{◌==◌, ◌&&◌, nat_lt, slice_get}
 use Rattle.std.specs.List.{filter}
 use Rattle.std.specs.Option.{option_and_then}
-use Rattle.std.proofs.lemmas.Bool.{cases_Bool, ne_eqb, eqb-true, lt-ltb, le-ltb, and_left, and_right, and_from}
-use Rattle.std.proofs.lemmas.List.Elements.{filter-append}
+use Rattle.std.proofs.lemmas.Bool.{cases_Bool, ne_eqb, eqb-true, and_left, and_right, and_from}
 use Rattle.mps_base.specs.declared.action.Act.{Act}
 use Rattle.mps_base.specs.declared.action.Act.TheVariants.{Out, In, Mark}
 use Rattle.mps_base.specs.declared.action.Message.{Message}
 use Rattle.mps_base.specs.declared.action.Step.{Step}
 use Rattle.mps_history.specs.Steps.{IsRising, sends, receives, goes_to, comes_from}
 use Rattle.mps_history.specs.Dependence.{is_matched, sent_before, received_before}
-use Rattle.mps_history.proofs.Order.{at_member, from_members, rising_apart, IsRising-append_right}
-use Rattle.mps_history.proofs.Removal.{filter-none, filter-same}
 use Rattle.mps_arena.specs.Keys.{AreDistinct, first_key, partner}
 use Rattle.mps_arena.specs.Entries.{Entry, steps, keys_of, like, unlike, AreSound}
 use Rattle.mps_arena.specs.Receipts.{receipt_mate}
 use Rattle.mps_arena.specs.Sources.{receipt_in, mate_of}
 use Rattle.mps_arena.proofs.KeyLists.{once, partner_middle}
 use Rattle.mps_arena.proofs.Chains.{keys-append, keys_with, keys_without, keys_push, keys_kept, keys_around, keys_beside, distinct}
+use Rattle.mps_history.proofs.Pairing.{before_place}
+use Rattle.mps_arena.proofs.Histories.{count_steps}
 use Rattle.mps_links.proofs.StepKeys.{eqb_turned, steps_around, keys_agree, keys_none}
 use Rattle.mps_links.proofs.Firsts.{entry_in}
-
--- the steps before a number are those before its place
-before_place : (p : Step → Bool) (a l : List Step) (s : Step) → IsRising (a ++ s ∷ l) → filter (λ x. nat_lt x.id s.id && p x) (a ++ s ∷ l) ≡ filter p a
-before_place p a l s r =
-    let f = λ (x : Step). nat_lt x.id s.id && p x in
-    let rest = IsRising-append_right a (s ∷ l) r in
-    filter-append f a (s ∷ l)
-    ∙ ap (λ k. filter f a ++ k) (filter-none f (s ∷ l) (
-      and_left (nat_lt s.id s.id) (p s) (le-ltb s.id s.id (omega arith)),
-      from_members (λ x. f x ≡ false) l (λ x i. and_left (nat_lt x.id s.id) (p x) (let more = at_member (λ u. s.id < u.id) l x rest.0 i in le-ltb x.id s.id (omega arith))),
-    ))
-    ∙ append-nil (filter f a)
-    ∙ filter-same f p a (from_members (λ x. f x ≡ p x) a (λ x i. ap (λ k. k && p x) (lt-ltb x.id s.id (rising_apart a (s ∷ l) x s r i (inl refl)))))
-
-count_steps : (p : Step → Bool) (es : List Entry) → length (filter p (steps es)) ≡ length (keys_of p es)
-count_steps p [] = refl
-count_steps p (x ∷ es) =
-    ⊎_elim
-    (λ (t : p x.step ≡ true). rw (keys_with p x es t, t) (ap suc (count_steps p es)))
-    (λ (f : p x.step ≡ false). rw (keys_without p x es f, f) (count_steps p es))
-    (cases_Bool (p x.step))
 
 -- how many steps that pass stand before an entry
 count_before : (p : Step → Bool) (es a b : List Entry) (x : Entry) → IsRising (steps es) → es ≡ a ++ x ∷ b → length (filter (λ y. nat_lt y.id x.step.id && p y) (steps es)) ≡ length (keys_of p a)

@@ -15,6 +15,7 @@ use Rattle.mps_arena.specs.Sources.{mate_of, source_in, waiting}
 use Rattle.mps_arena.specs.Receipts.{source_mate}
 use Rattle.mps_arena.proofs.KeyLists.{get_in, partner_in}
 use Rattle.mps_arena.proofs.Chains.{keys_without, absent, entry_middle}
+use Rattle.mps_arena.proofs.Histories.{count_steps}
 use Rattle.mps_arena.proofs.Mates.{sends_pair}
 use Rattle.mps_arena.proofs.Nodes.{cases_entry}
 use Rattle.mps_queues.specs.Fronts.{waiting_keys}
@@ -28,14 +29,6 @@ has_entry p es k h =
     (λ (z : entry_at k es ≡ None). absurd (both_ways (has k (keys_of p es)) (absent p k es z) h))
     (λ (w : (y : Entry) × (entry_at k es ≡ Some y)). rw w.1 refl)
     (cases_entry (entry_at k es))
-
-same_count : (p : Step → Bool) (es : List Entry) → length (filter p (steps es)) ≡ length (keys_of p es)
-same_count p [] = refl
-same_count p (y ∷ es) =
-    ⊎_elim
-    (λ (t : p y.step ≡ true). rw t (ap suc (same_count p es)))
-    (λ (f : p y.step ≡ false). rw f (same_count p es))
-    (cases_Bool (p y.step))
 
 module _ (es : List Entry) (sound : AreSound es) (p q : ℕ) where
   -- the messages of a chain of sends are those of its keys, in order
@@ -65,7 +58,7 @@ module _ (es : List Entry) (sound : AreSound es) (p q : ℕ) where
   pub message_waits : (n : ℕ) → slice_get (unreceived p q (steps es)) n ≡ option_and_then (message_of es) (slice_get (waiting_keys es p q) n)
   message_waits n =
       let g = length (keys_of (receives p q) es) in
-      ap (λ (k : ℕ). slice_get (drop k (all_given (filter (sends p q) (steps es)))) n) (same_count (receives p q) es)
+      ap (λ (k : ℕ). slice_get (drop k (all_given (filter (sends p q) (steps es)))) n) (count_steps (receives p q) es)
       ∙ get_drop_front (all_given (filter (sends p q) (steps es))) g n (g + n) refl
       ∙ messages_at [] es refl (g + n)
       ∙ ap (option_and_then (message_of es)) (sym (get_drop_front (keys_of (sends p q) es) g n (g + n) refl))
