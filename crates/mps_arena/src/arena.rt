@@ -1,5 +1,5 @@
 //! The arena.
-ghost use Rattle.std.specs.Prelude.{◌≡◌, ◌+◌, ◌^◌, [], ◌∷◌, ◌++◌, ◌==◌, not, false, None, IsTrue, OnOk, IfOk, IsSome, Some, map, length, slice_get, ◌<◌};
+ghost use Rattle.std.specs.Prelude.{◌≡◌, ◌+◌, ◌^◌, [], ◌∷◌, ◌++◌, ◌==◌, not, false, None, IsTrue, IsOk, OnOk, IfOk, IsSome, Some, map, length, slice_get, ◌<◌};
 ghost use Rattle.std.specs.Option.{option_map};
 ghost use Rattle.std.specs.List.{filter, find};
 ghost use Rattle.mps_history.specs.Steps.{sends, without};
@@ -57,6 +57,8 @@ impl Arena {
         ensures entries { self.new.entries ≡ self.old.entries }
         ensures issued { self.new.issued ≡ self.old.issued }
         ensures fits { OnOk result (self.new.issued + 1 < 2 ^ 64) }
+        ensures next { self.new.next_key ≡ self.old.next_key }
+        ensures succeeds { IsTrue self.old.is_ready → IsOk result }
     {
         self.nodes.reserve(1)?;
         self.index.reserve(1)?;
@@ -94,6 +96,9 @@ impl Arena {
             ≡ without (steps self.old.entries) (λ m. m == result.id) }
         ensures issued { self.new.issued ≡ self.old.issued }
         ensures sound { AreSound self.new.entries }
+        // the place is the next to be used again, and what was reserved stays so
+        ensures key { self.new.next_key ≡ key }
+        ensures ready { IsTrue self.old.is_ready → IsTrue self.new.is_ready }
     {
         let node = part(&mut self.nodes, key);
         self.ends.part(&node);

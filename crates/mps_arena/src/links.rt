@@ -109,6 +109,9 @@ pub(crate) fn part(nodes: &mut Slab<Node>, key: Key) -> Node
     ensures nodes { (k : ℕ) → get nodes.new k
         ≡ option_map (parted result k) (if key == k then None else get nodes.old k) }
     ensures len { slab_len nodes.new + 1 ≡ slab_len nodes.old }
+    ensures next_key { nodes.new.vacant_key ≡ key }
+    ensures capacity { nodes.new.capacity ≡ nodes.old.capacity }
+    ensures small { key < 2 ^ 32 }
 {
     let node = nodes.remove(key.place());
     set_next(nodes, node.prev, node.next);

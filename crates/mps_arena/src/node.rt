@@ -1,5 +1,5 @@
 //! Nodes: steps with their neighbours.
-ghost use Rattle.std.specs.Prelude.{◌≡◌, ◌<◌, ◌^◌, ◌==◌, IfOk};
+ghost use Rattle.std.specs.Prelude.{◌≡◌, ◌<◌, ◌^◌, ◌==◌, IfOk, IsOk};
 ghost use Rattle.mps_arena.specs.Receipts.{receipt_mate, source_mate};
 
 use mps_base::{Act, Step};
@@ -25,6 +25,7 @@ impl Key {
     pub(crate) fn of(place: usize) -> Result<Key, AllocError>
         ensures key { IfOk result (λ key. key ≡ place) }
         ensures small { IfOk result (λ key. place < 2 ^ 32) }
+        ensures succeeds { place < 2 ^ 32 → IsOk result }
     {
         match u32::try_from(place) {
             Ok(number) => Ok(Key(number)),
@@ -49,7 +50,8 @@ impl Key {
 
     /// The place itself.
     pub(crate) fn place(self) -> usize
-        ensures { result ≡ self }
+        ensures place { result ≡ self }
+        ensures small { result < 2 ^ 32 }
     {
         self.0 as usize
     }

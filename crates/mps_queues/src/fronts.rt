@@ -1,5 +1,5 @@
 //! The queues by their fronts.
-ghost use Rattle.std.specs.Prelude.{◌≡◌, ℕ, ◌<◌, ◌+◌, ◌*◌, ◌==◌, not, List, [], ◌∷◌, ◌++◌, Some, None, IsTrue, slice_get};
+ghost use Rattle.std.specs.Prelude.{◌≡◌, ℕ, ◌<◌, ◌+◌, ◌*◌, ◌==◌, not, List, [], ◌∷◌, ◌++◌, Some, None, IsTrue, IsSome, slice_get};
 ghost use Rattle.std.specs.List.{filter};
 ghost use Rattle.mps_history.specs.Steps.{sends, receives};
 ghost use Rattle.mps_arena.specs.Keys.{last_key};
@@ -131,6 +131,7 @@ impl Queues {
         requires to { to < 8 }
         requires fronts { AreFronts arena.now.entries self.old }
         requires sound { AreSound arena.now.entries }
+        requires some { IsSome (last_key None (keys_of (receives from to) arena.now.entries)) }
         ensures { (k : ℕ) → last_key None (keys_of (receives from to) arena.now.entries) ≡ Some k
             → AreFronts (filter (λ e. not (e.key == k)) arena.now.entries) self.new }
     {
@@ -146,6 +147,7 @@ impl Queues {
         requires to { to < 8 }
         requires fronts { AreFronts arena.now.entries self.old }
         requires sound { AreSound arena.now.entries }
+        requires some { IsSome (last_key None (keys_of (sends from to) arena.now.entries)) }
         ensures { (k : ℕ) → last_key None (keys_of (sends from to) arena.now.entries) ≡ Some k
             → AreFronts (filter (λ e. not (e.key == k)) arena.now.entries) self.new }
     {

@@ -21,6 +21,23 @@ put_back-requires-clause-from c = subst IsSmallAct c.in-In.is (leaves c.args.are
 pub put_back-requires-clause-to : goal.put_back-requires-clause-to
 put_back-requires-clause-to c = (leaves c.args.arena.now.entries c.args.key c.get-step.result.now c.requires.sound c.requires.can c.get-step.ensures).small.0
 
+-- the step is the last of its pair
+pub drop_last-requires-clause-some : goal.drop_last-requires-clause-some
+drop_last-requires-clause-some c =
+    let s = c.get-step.result.now in
+    let q = c.in-Out.to in
+    let l = leaves c.args.arena.now.entries c.args.key s c.requires.sound c.requires.can c.get-step.ensures in
+    let sent = and_from (s.role == s.role) (goes_to q s.act) (eq-eqb s.role s.role refl) (ap (goes_to q) c.in-Out.is ∙ eq-eqb q q refl) in
+    rw (l.last (sends s.role q) (λ t h. (and_parts (t.role == s.role) (goes_to q t.act) h).0) sent) refl
+
+pub put_back-requires-clause-some : goal.put_back-requires-clause-some
+put_back-requires-clause-some c =
+    let s = c.get-step.result.now in
+    let q = c.in-In.from in
+    let l = leaves c.args.arena.now.entries c.args.key s c.requires.sound c.requires.can c.get-step.ensures in
+    let got = and_from (s.role == s.role) (comes_from q s.act) (eq-eqb s.role s.role refl) (ap (comes_from q) c.in-In.is ∙ eq-eqb q q refl) in
+    rw (l.last (receives q s.role) (λ t h. (and_parts (t.role == s.role) (comes_from q t.act) h).0) got) refl
+
 pub returns-in-Out : goal.returns-in-Out
 returns-in-Out c =
     let s = c.get-step.result.now in
