@@ -1,5 +1,5 @@
 use Rattle.std.proofs.Common.{arith, Bor, ◌≡◌, ℕ, length, true, Option, None, Some, refl, sym, ap, ◌∙◌}
-use Rattle.std.specs.Prelude.{IsSome, slice_get}
+use Rattle.std.specs.Prelude.{IsSome}
 use Rattle.std.specs.Option.{option_and_then, option_copied, is_some}
 use Rattle.mps_base.specs.declared.action.Message.{Message}
 use Rattle.mps_history.specs.Steps.{sends, receives}
