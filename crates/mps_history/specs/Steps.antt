@@ -67,6 +67,6 @@ abbrev pub all_given : List Step → List Message
 all_given [] = []
 all_given (s ∷ h) = given s.act ++ all_given h
 
--- the messages from p to q that wait: all that were sent but the first, as many as were received
+-- the messages from p to q that wait: those that were sent, without the first k, where k is how many were received
 abbrev pub unreceived : ℕ → ℕ → List Step → List Message
 unreceived p q h = drop (length (filter (receives p q) h)) (all_given (filter (sends p q) h))

@@ -183,8 +183,8 @@ impl Log {
         Ok(id)
     }
 
-    /// Puts a receipt behind all other steps, with the next number. It takes the first message that waits, to which
-    /// its slot is bound. The role stood at the node `at`.
+    /// Puts a receipt behind all other steps, with the next number. It takes the first message that waits, and its
+    /// slot is bound to it. The role stood at the node `at`.
     pub fn receive(
         &mut self,
         role: Role,

@@ -94,7 +94,7 @@ impl Session {
     /// Takes a step of the role, or says why not. A refusal changes nothing.
     pub fn forward(&mut self, role: Role, command: Forward) -> Result<Done, Refusal>
         requires { role < length self.old.types }
-        // In a session of one protocol the message that waits is never refused.
+        // In a session of one protocol no answer is Mismatch.
         ensures never_mismatch { AreOfOneProtocol self.old.types → result ≢ Err (Violates Mismatch) }
         ensures answer { IsAnswer result
             (machine.forward self.old.types self.old.state role (act_of command)).0 }
