@@ -97,8 +97,8 @@ fn unmark_role(arena: &mut Arena, role: Role)
     }
 }
 
-/// Takes all marks off, where each step that depends on a marked one is marked. No unmarked step is
-/// looked at but one of each role.
+/// Takes all marks off, where each step that depends on a marked one is marked. By the code no
+/// unmarked step is looked at but one of each role.
 pub fn unmark(arena: &mut Arena)
     requires closed { AreMarksClosed arena.old.entries }
     ensures entries { arena.new.entries ≡ map unmarked arena.old.entries }
