@@ -4,14 +4,14 @@ use mathlib.Core.Path.{ap₂}
 use Rattle.std.specs.Prelude.{◌==◌, ◌&&◌, slice_get, slice_index_or, slice_set}
 use Rattle.std.specs.List.{filter}
 use Rattle.std.specs.Option.{option_and_then}
-use Rattle.std.proofs.lemmas.Bool.{cases_Bool, cond-true, cond-false, eqb-true, and_parts, and_from, and_right, or_left, false_from_ne_true, both_ways}
+use Rattle.std.proofs.lemmas.Bool.{cases_Bool, cond-false, eqb-true, and_parts, and_from, and_right, or_left, false_from_ne_true, both_ways}
 use Rattle.std.proofs.lemmas.List.{get_or-set_same, get_or-set_other, get_or_default}
 use Rattle.std.proofs.lemmas.Option.{slice_get_past}
 use Rattle.mps_base.specs.declared.action.Act.{Act}
 use Rattle.mps_base.specs.declared.action.Act.TheVariants.{Mark}
 use Rattle.mps_base.specs.declared.action.Step.{Step}
 use Rattle.mps_history.specs.Steps.{sends, receives, goes_to, comes_from}
-use Rattle.mps_arena.specs.Keys.{is_at, has, AreDistinct, first_key, last_key, key_after, key_before}
+use Rattle.mps_arena.specs.Keys.{is_at, has, AreDistinct, last_key, key_after, key_before}
 use Rattle.mps_arena.specs.Entries.{Entry, keys_of, any_step, like_sends, entry_at, AreSound}
 use Rattle.mps_arena.specs.Sources.{waiting, next_send_in, prev_send_in}
 use Rattle.mps_arena.proofs.KeyLists.{get_after, get_in, get_none, has-append_right}

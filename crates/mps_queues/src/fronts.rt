@@ -67,6 +67,13 @@ fn dropped_front(last: Option<Key>, front: Option<Key>) -> Option<Key>
     }
 }
 
+// What holds of each arena, for the proofs.
+fn sound(arena: &Arena)
+    ensures { AreSound arena.now.entries }
+{
+    let _ = arena.len();
+}
+
 impl Queues {
     /// Queues in which nothing waits.
     pub fn new() -> Queues
@@ -89,9 +96,9 @@ impl Queues {
         requires from { from < 8 }
         requires to { to < 8 }
         requires fronts { AreFronts arena.now.entries self.now }
-        requires sound { AreSound arena.now.entries }
         ensures { result ≡ slice_get (waiting_keys arena.now.entries from to) k }
     {
+        sound(arena);
         let mut at = self.front(from, to)?;
         for _ in 0..k {
             at = arena.next_send(at)?;
@@ -116,10 +123,10 @@ impl Queues {
         requires from { from < 8 }
         requires to { to < 8 }
         requires fronts { AreFronts arena.now.entries self.old }
-        requires sound { AreSound arena.now.entries }
         ensures { (e : Entry) → IsTrue (receives from to e.step)
             → AreFronts (arena.now.entries ++ e ∷ []) self.new }
     {
+        sound(arena);
         let at = from.index() * 8 + to.index();
         let front = self.fronts[at];
         self.fronts[at] = taken_front(arena, front);
@@ -130,11 +137,11 @@ impl Queues {
         requires from { from < 8 }
         requires to { to < 8 }
         requires fronts { AreFronts arena.now.entries self.old }
-        requires sound { AreSound arena.now.entries }
         requires some { IsSome (last_key None (keys_of (receives from to) arena.now.entries)) }
         ensures { (k : ℕ) → last_key None (keys_of (receives from to) arena.now.entries) ≡ Some k
             → AreFronts (filter (λ e. not (e.key == k)) arena.now.entries) self.new }
     {
+        sound(arena);
         let at = from.index() * 8 + to.index();
         let front = self.fronts[at];
         let last = arena.last_send(from, to);
@@ -146,11 +153,11 @@ impl Queues {
         requires from { from < 8 }
         requires to { to < 8 }
         requires fronts { AreFronts arena.now.entries self.old }
-        requires sound { AreSound arena.now.entries }
         requires some { IsSome (last_key None (keys_of (sends from to) arena.now.entries)) }
         ensures { (k : ℕ) → last_key None (keys_of (sends from to) arena.now.entries) ≡ Some k
             → AreFronts (filter (λ e. not (e.key == k)) arena.now.entries) self.new }
     {
+        sound(arena);
         let at = from.index() * 8 + to.index();
         let front = self.fronts[at];
         let last = arena.last_send(from, to);
