@@ -1,5 +1,5 @@
 //! Short words, kept inline.
-ghost use Rattle.std.specs.Prelude.{◌≡◌, ◌≤◌, length};
+ghost use Rattle.std.specs.Prelude.{◌≡◌, ◌<◌, ◌≤◌, [], ◌∷◌, ◌++◌, length};
 
 use std::marker::Model;
 
@@ -43,6 +43,25 @@ impl Inline {
             len: bytes.len() as u8,
             bytes: kept,
         }
+    }
+
+    /// No bytes.
+    pub(crate) fn empty() -> Inline
+        ensures { result ≡ [] }
+    {
+        Inline {
+            len: 0,
+            bytes: [0; MAX_WORD],
+        }
+    }
+
+    /// Puts a byte behind the others.
+    pub(crate) fn push(&mut self, byte: u8)
+        requires { length self.old < 32 }
+        ensures { self.new ≡ self.old ++ byte ∷ [] }
+    {
+        self.bytes[usize::from(self.len)] = byte;
+        self.len += 1;
     }
 
     /// Them, from the first to the last.

@@ -1,5 +1,5 @@
 //! Names, kept inline.
-ghost use Rattle.std.specs.Prelude.{◌≡◌, ◌↔◌, IsTrue, IsSome, IfSome};
+ghost use Rattle.std.specs.Prelude.{◌≡◌, ◌↔◌, ◌<◌, ◌≤◌, length, slice_index, IsTrue, IsSome, IfSome};
 ghost use Rattle.std.specs.List.{AllByRecursion};
 ghost use Rattle.std.specs.Str.{bytes_eq};
 ghost use Rattle.std.specs.Cmp.{partial_equiv_from_equiv};
@@ -7,7 +7,7 @@ ghost use Rattle.std.specs.Cmp.Lexicographic.{nat_list_eq_equiv};
 ghost use Rattle.std.specs.Cmp.Rules.{hashing};
 ghost use Rattle.std.specs.Hash as fed;
 ghost use Rattle.std.proofs.Common.{rules};
-ghost use Rattle.mps_base.specs.Names.{IsName, IsNoneOf, is_name_byte, structure_words, sort_words, bool_words, reserved_words};
+ghost use Rattle.mps_base.specs.Names.{IsName, IsNoneOf, is_lower, is_name_byte, structure_words, sort_words, bool_words, reserved_words};
 
 use crate::inline::{Inline, MAX_WORD};
 use std::hash::{Hash, Hasher};
@@ -66,8 +66,12 @@ impl Name {
         ensures some { IsSome result ↔ IsName bytes.now }
         ensures name { IfSome result (λ name. name ≡ bytes.now) }
     {
-        if is_name(bytes) {
-            Some(Name(Inline::of(bytes)))
+        if !begins_as_name(bytes) {
+            return None;
+        }
+        let word = name_bytes(bytes)?;
+        if is_free(bytes) {
+            Some(Name(word))
         } else {
             None
         }
@@ -96,26 +100,31 @@ impl Name {
     }
 }
 
-// Whether the bytes are a name.
-fn is_name(bytes: &[u8]) -> bool
-    ensures { IsTrue result ↔ IsName bytes.now }
+// Whether a small letter comes first, of not too many bytes.
+fn begins_as_name(bytes: &[u8]) -> bool
+    ensures { IsTrue result ↔ ((0 < length bytes.now) × (length bytes.now ≤ 32)
+        × IsTrue (is_lower (slice_index bytes.now 0))) }
 {
     match bytes {
         [] => false,
-        [first, ..] => {
-            first.is_ascii_lowercase()
-                && bytes.len() <= MAX_NAME
-                && has_name_bytes(bytes)
-                && is_free(bytes)
-        }
+        [first, ..] => first.is_ascii_lowercase() && bytes.len() <= MAX_NAME,
     }
 }
 
-// Whether a name may contain each of the bytes.
-fn has_name_bytes(bytes: &[u8]) -> bool
-    ensures { IsTrue result ↔ AllByRecursion (λ c. IsTrue (is_name_byte c)) bytes.now }
+// The bytes, if a name may contain each of them: they are looked at and kept in one go.
+fn name_bytes(bytes: &[u8]) -> Option<Inline>
+    requires { length bytes.now ≤ 32 }
+    ensures some { IsSome result ↔ AllByRecursion (λ c. IsTrue (is_name_byte c)) bytes.now }
+    ensures word { IfSome result (λ word. word ≡ bytes.now) }
 {
-    bytes.iter().all(|byte| byte.is_ascii_lowercase() || byte.is_ascii_digit() || *byte == b'_')
+    let mut word = Inline::empty();
+    for byte in bytes {
+        if !(byte.is_ascii_lowercase() || byte.is_ascii_digit() || *byte == b'_') {
+            return None;
+        }
+        word.push(*byte);
+    }
+    Some(word)
 }
 
 // Whether the bytes are no reserved word.

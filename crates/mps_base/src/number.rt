@@ -1,5 +1,5 @@
 //! Whole numbers as text.
-ghost use Rattle.std.specs.Prelude.{◌≡◌, ℕ, ◌<◌, ◌≤◌, ◌^◌, ℤ, List, IfSome, IfNone, OnOk, OnErr};
+ghost use Rattle.std.specs.Prelude.{◌≡◌, ℕ, ◌<◌, ◌≤◌, ◌^◌, ℤ, List, length, IfSome, IfNone, OnOk, OnErr};
 ghost use Rattle.std.specs.Str.Parse.{AllDigits, digits_value};
 ghost use Rattle.mps_base.specs.Appends.{Appends};
 ghost use Rattle.mps_base.specs.Numbers.{IsNumberText, IsIntText};
@@ -18,8 +18,40 @@ pub fn read_number(bytes: &[u8]) -> Option<u64>
     }
 }
 
+// How many digits stand for a number below 2^64, whatever they are.
+const FEW: usize = 19;
+
 // The number that these digits stand for, with any `0` in front.
 fn read_digits(digits: &[u8]) -> Option<u64>
+    ensures read { IfSome result (λ n. AllDigits 10 digits.now × (digits_value 10 digits.now ≡ n)) }
+    ensures none { IfNone result (AllDigits 10 digits.now → 2 ^ 64 ≤ digits_value 10 digits.now) }
+{
+    if digits.len() <= FEW {
+        read_few(digits)
+    } else {
+        read_many(digits)
+    }
+}
+
+// The same of so few digits that no sum needs to be looked at.
+#[inline(never)]
+fn read_few(digits: &[u8]) -> Option<u64>
+    requires { length digits.now ≤ 19 }
+    ensures read { IfSome result (λ n. AllDigits 10 digits.now × (digits_value 10 digits.now ≡ n)) }
+    ensures none { IfNone result (¬ AllDigits 10 digits.now) }
+{
+    let mut n = 0u64;
+    for byte in digits {
+        if !byte.is_ascii_digit() {
+            return None;
+        }
+        n = n * 10 + u64::from(byte - b'0');
+    }
+    Some(n)
+}
+
+// The same of any digits.
+fn read_many(digits: &[u8]) -> Option<u64>
     ensures read { IfSome result (λ n. AllDigits 10 digits.now × (digits_value 10 digits.now ≡ n)) }
     ensures none { IfNone result (AllDigits 10 digits.now → 2 ^ 64 ≤ digits_value 10 digits.now) }
 {

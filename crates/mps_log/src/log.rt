@@ -201,8 +201,7 @@ impl Log {
     {
         let key = self.arena.reserve_one()?;
         let bound = self.stores.bind(role, slot, key)?;
-        let source = self.queues.front(from, role);
-        self.queues.take(&self.arena, from, role);
+        let source = self.queues.take(&self.arena, from, role);
         let id = next_id(&self.arena);
         let slot = Some(slot);
         let act = Act::In { from, slot };
@@ -222,8 +221,7 @@ impl Log {
         ensures err { OnErr result (self.new ≡ self.old) }
     {
         self.arena.reserve_one()?;
-        let source = self.queues.front(from, role);
-        self.queues.take(&self.arena, from, role);
+        let source = self.queues.take(&self.arena, from, role);
         let id = next_id(&self.arena);
         let act = Act::In { from, slot: None };
         self.arena

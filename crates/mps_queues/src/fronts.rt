@@ -118,18 +118,21 @@ impl Queues {
         self.fronts[at] = pushed_front(key, front);
     }
 
-    /// Takes the first send off, before its receipt is added.
-    pub fn take(&mut self, arena: &Arena, from: Role, to: Role)
+    /// Takes the first send off, before its receipt is added, and tells its key.
+    pub fn take(&mut self, arena: &Arena, from: Role, to: Role) -> Option<Key>
         requires from { from < 8 }
         requires to { to < 8 }
         requires fronts { AreFronts arena.now.entries self.old }
-        ensures { (e : Entry) → IsTrue (receives from to e.step)
+        ensures first { result ≡ waiting arena.now.entries from to }
+        ensures fronts { (e : Entry) → IsTrue (receives from to e.step)
             → AreFronts (arena.now.entries ++ e ∷ []) self.new }
     {
         sound(arena);
+        let first = self.front(from, to);
         let at = from.index() * 8 + to.index();
         let front = self.fronts[at];
         self.fronts[at] = taken_front(arena, front);
+        first
     }
 
     /// Puts the send of the pair's last receipt back in front, before the receipt is removed.

@@ -1,19 +1,18 @@
 //! What a session keeps of its roles and its steps, and how an act changes it.
-ghost use Rattle.std.specs.Prelude.{◌≡◌, ◌+◌, ◌<◌, Some, None, vec_len, slice_get, slice_set, IfOk, OnOk, OnErr, IfErr};
+ghost use Rattle.std.specs.Prelude.{◌≡◌, ◌+◌, ◌<◌, Some, None, vec_len, slice_set, IfOk, OnOk, OnErr, IfErr};
 ghost use Rattle.std.specs.Option.{option_copied};
 ghost use Rattle.mps_base.specs.declared.action.Act.TheVariants.{Out, In, Mark};
 ghost use Rattle.mps_command.specs.Acts.{act_of};
-ghost use Rattle.mps_history.specs.Steps.{unreceived};
-ghost use Rattle.mps_arena.specs.Entries.{steps};
 ghost use Rattle.mps_local.specs.Local.{LocalType};
+ghost use Rattle.mps_machine.specs.Machine.{taken};
 ghost use Rattle.mps_monitor.specs.Verdicts.{moved_by};
 ghost use Rattle.mps_table.specs.Graph.{IsNode};
-ghost use Rattle.mps_session.specs.Configurations.{lists_of, logged, IsReady, cursor_of, moved_in, StandsAt, fault_in, LeadsTo, HasActed, done_in};
+ghost use Rattle.mps_session.specs.Configurations.{lists_of, logged, IsReady, cursor_of, moved_in, StandsAt, fault_in, LeadsTo, HasActed};
 ghost use Rattle.mps_session.specs.Cursors.{went};
 
 use crate::cursor::Cursor;
 use mps_base::{Message, Name, Role, StepId};
-use mps_command::{Done, Forward, Violation};
+use mps_command::{Forward, Violation};
 use mps_log::Log;
 use mps_monitor::next_node;
 use mps_table::Node;
@@ -28,28 +27,12 @@ pub(crate) struct Configuration {
 }
 
 impl Configuration {
-    /// The node at which the role goes on after the command, or why its type doesn't allow it.
-    pub(crate) fn verdict(&self, role: Role, command: &Forward) -> Result<Node, Violation>
-        requires role { role < vec_len self.now.cursors }
-        requires stands { IsNode (cursor_of (lists_of self.now) role).table
-            (cursor_of (lists_of self.now) role).node }
-        ensures violation { IfErr result (λ fault. (t : LocalType)
-            → StandsAt (lists_of self.now) role t
-            → fault_in (lists_of self.now) role (act_of command.now) t ≡ Some fault) }
-        ensures allowed { OnOk result ((t : LocalType)
-            → StandsAt (lists_of self.now) role t
-            → fault_in (lists_of self.now) role (act_of command.now) t ≡ None) }
-        ensures follows { IfOk result (LeadsTo (lists_of self.now) role (act_of command.now)) }
-    {
-        let first = self.first_for(role, command);
-        let cursor = &self.cursors[role.index()];
-        next_node(&cursor.table, cursor.node, command, first)
-    }
-
-    // The first message that waits for the role from the peer of whom the command would take one.
-    fn first_for(&self, role: Role, command: &Forward) -> Option<&Message>
-        ensures { moved_by command.now (option_copied result)
+    /// The first message that waits for the role from the peer of whom the command would take one.
+    pub(crate) fn first_for(&self, role: Role, command: &Forward) -> Option<&Message>
+        ensures moved { moved_by command.now (option_copied result)
             ≡ moved_in (lists_of self.now) role (act_of command.now) }
+        ensures taken { option_copied result
+            ≡ taken (act_of command.now) (moved_in (lists_of self.now) role (act_of command.now)) }
     {
         match command {
             Forward::Receive { from, .. } | Forward::Pick { from } => {
@@ -59,6 +42,31 @@ impl Configuration {
         }
     }
 
+    /// The node at which the role goes on after the command, or why its type doesn't allow it. The message is the
+    /// first that waits for it, if it would take one.
+    pub(crate) fn verdict(
+        &self,
+        role: Role,
+        command: &Forward,
+        first: Option<&Message>,
+    ) -> Result<Node, Violation>
+        requires role { role < vec_len self.now.cursors }
+        requires stands { IsNode (cursor_of (lists_of self.now) role).table
+            (cursor_of (lists_of self.now) role).node }
+        requires first { moved_by command.now (option_copied first)
+            ≡ moved_in (lists_of self.now) role (act_of command.now) }
+        ensures violation { IfErr result (λ fault. (t : LocalType)
+            → StandsAt (lists_of self.now) role t
+            → fault_in (lists_of self.now) role (act_of command.now) t ≡ Some fault) }
+        ensures allowed { OnOk result ((t : LocalType)
+            → StandsAt (lists_of self.now) role t
+            → fault_in (lists_of self.now) role (act_of command.now) t ≡ None) }
+        ensures follows { IfOk result (LeadsTo (lists_of self.now) role (act_of command.now)) }
+    {
+        let cursor = &self.cursors[role.index()];
+        next_node(&cursor.table, cursor.node, command, first)
+    }
+
     /// Takes the step of the command, after which the role stands at the node. Nothing is changed
     /// where memory runs out.
     pub(crate) fn act(
@@ -66,10 +74,10 @@ impl Configuration {
         role: Role,
         command: Forward,
         node: Node,
-    ) -> Result<Done, AllocError>
+    ) -> Result<StepId, AllocError>
         requires role { role < vec_len self.old.cursors }
         requires ready { IsReady (lists_of self.old) role (act_of command) }
-        ensures done { IfOk result (λ done. done ≡ done_in (lists_of self.old) role (act_of command)) }
+        ensures id { IfOk result (λ id. id ≡ (lists_of self.old).issued + 1) }
         ensures acted { OnOk result (HasActed role (act_of command) node
             (lists_of self.old) (lists_of self.new)) }
         ensures err { OnErr result (lists_of self.new ≡ lists_of self.old) }
@@ -90,18 +98,18 @@ impl Configuration {
         to: Role,
         message: Message,
         node: Node,
-    ) -> Result<Done, AllocError>
+    ) -> Result<StepId, AllocError>
         requires role { role < vec_len self.old.cursors }
         requires ready { IsReady (lists_of self.old) role (Out to message) }
-        ensures done { IfOk result (λ done. done
-            ≡ done_in (lists_of self.old) role (Out to message)) }
+        ensures id { IfOk result (λ id. id ≡ (lists_of self.old).issued + 1) }
         ensures acted { OnOk result (HasActed role (Out to message) node
             (lists_of self.old) (lists_of self.new)) }
         ensures err { OnErr result (lists_of self.new ≡ lists_of self.old) }
     {
         let at = self.cursors[role.index()].node.number();
         let id = self.log.send(role, to, message, at)?;
-        Ok(self.went_on(role, node, id, None))
+        self.go_on(role, node);
+        Ok(id)
     }
 
     // Takes the message that came first from the peer, and binds the slot to its value.
@@ -111,69 +119,69 @@ impl Configuration {
         from: Role,
         slot: Name,
         node: Node,
-    ) -> Result<Done, AllocError>
+    ) -> Result<StepId, AllocError>
         requires role { role < vec_len self.old.cursors }
         requires ready { IsReady (lists_of self.old) role (In from (Some slot)) }
-        ensures done { IfOk result (λ done. done
-            ≡ done_in (lists_of self.old) role (In from (Some slot))) }
+        ensures id { IfOk result (λ id. id ≡ (lists_of self.old).issued + 1) }
         ensures acted { OnOk result (HasActed role (In from (Some slot)) node
             (lists_of self.old) (lists_of self.new)) }
         ensures err { OnErr result (lists_of self.new ≡ lists_of self.old) }
     {
         let at = self.cursors[role.index()].node.number();
-        let got = first_copy(self.alloc, &self.log, from, role)?;
         let id = self.log.receive(role, from, slot, at)?;
-        Ok(self.went_on(role, node, id, got))
+        self.go_on(role, node);
+        Ok(id)
     }
 
     // Takes the label that came first from the peer.
-    fn pick(&mut self, role: Role, from: Role, node: Node) -> Result<Done, AllocError>
+    fn pick(&mut self, role: Role, from: Role, node: Node) -> Result<StepId, AllocError>
         requires role { role < vec_len self.old.cursors }
         requires ready { IsReady (lists_of self.old) role (In from None) }
-        ensures done { IfOk result (λ done. done
-            ≡ done_in (lists_of self.old) role (In from None)) }
+        ensures id { IfOk result (λ id. id ≡ (lists_of self.old).issued + 1) }
         ensures acted { OnOk result (HasActed role (In from None) node
             (lists_of self.old) (lists_of self.new)) }
         ensures err { OnErr result (lists_of self.new ≡ lists_of self.old) }
     {
         let at = self.cursors[role.index()].node.number();
-        let got = first_copy(self.alloc, &self.log, from, role)?;
         let id = self.log.pick(role, from, at)?;
-        Ok(self.went_on(role, node, id, got))
+        self.go_on(role, node);
+        Ok(id)
     }
 
     // Leaves a mark.
-    fn mark(&mut self, role: Role, name: Name, node: Node) -> Result<Done, AllocError>
+    fn mark(&mut self, role: Role, name: Name, node: Node) -> Result<StepId, AllocError>
         requires role { role < vec_len self.old.cursors }
         requires ready { IsReady (lists_of self.old) role (Mark name) }
-        ensures done { IfOk result (λ done. done ≡ done_in (lists_of self.old) role (Mark name)) }
+        ensures id { IfOk result (λ id. id ≡ (lists_of self.old).issued + 1) }
         ensures acted { OnOk result (HasActed role (Mark name) node
             (lists_of self.old) (lists_of self.new)) }
         ensures err { OnErr result (lists_of self.new ≡ lists_of self.old) }
     {
         let at = self.cursors[role.index()].node.number();
         let id = self.log.mark(role, name, at)?;
-        Ok(self.went_on(role, node, id, None))
+        self.go_on(role, node);
+        Ok(id)
     }
 
     // The role goes on at the node after its new step.
-    fn went_on(&mut self, role: Role, node: Node, id: StepId, got: Option<Message>) -> Done
+    fn go_on(&mut self, role: Role, node: Node)
         requires role { role < vec_len self.old.cursors }
-        ensures done { result ≡ record { id = id; got = got } }
         ensures cursors { self.new.cursors.items ≡ slice_set self.old.cursors.items role
             (went node (cursor_of (lists_of self.old) role)) }
         ensures log { logged (lists_of self.new) ≡ logged (lists_of self.old) }
     {
         self.cursors[role.index()].node = node;
-        Done { id, got }
     }
 }
 
-// The first message that waits, once more.
-fn first_copy(alloc: Global, log: &Log, from: Role, to: Role) -> Result<Option<Message>, AllocError>
-    ensures { IfOk result (λ first. first ≡ slice_get (unreceived from to (steps log.now.entries)) 0) }
+/// The message once more, where there is one.
+pub(crate) fn once_more(
+    alloc: Global,
+    message: Option<&Message>,
+) -> Result<Option<Message>, AllocError>
+    ensures { IfOk result (λ copy. copy ≡ option_copied message.entry) }
 {
-    match log.message(from, to, 0) {
+    match message {
         Some(message) => Ok(Some(message.copy(alloc)?)),
         None => Ok(None),
     }

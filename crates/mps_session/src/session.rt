@@ -16,7 +16,7 @@ ghost use Rattle.mps_session.specs.Peers.{IsFirstBad, IsFirstFaulty, CanOpen};
 ghost use Rattle.mps_session.specs.Seen.{view_of, moves_of};
 ghost use Rattle.mps_table.specs.Expects.{head_of};
 
-use crate::configuration::Configuration;
+use crate::configuration::{Configuration, once_more};
 use crate::open::{OpenFault, first_bad_peer, first_bad_peer_of_any_size, first_faulty, opening};
 use mps_base::{Act, MAX_ROLES, MIN_ROLES, Message, Name, Role, Sort, Step, StepId, Value};
 use mps_command::{Done, Forward, Refusal};
@@ -103,14 +103,18 @@ impl Session {
         ensures types { self.new.types ≡ self.old.types }
         ensures err { OnErr result (self.new.state ≡ self.old.state) }
     {
-        let next = match self.configuration.verdict(role, &command) {
-            Ok(next) => next,
+        let kept = &self.configuration;
+        let first = kept.first_for(role, &command);
+        let node = match kept.verdict(role, &command, first) {
+            Ok(node) => node,
             Err(fault) => return Err(Refusal::Violation(fault)),
         };
-        if self.configuration.log.steps().issued() as u64 >= MAX_NUMBERS {
+        if kept.log.steps().issued() as u64 >= MAX_NUMBERS {
             return Err(Refusal::Full);
         }
-        Ok(self.configuration.act(role, command, next)?)
+        let got = once_more(kept.alloc, first)?;
+        let id = self.configuration.act(role, command, node)?;
+        Ok(Done { id, got })
     }
 
     /// What the role may do first; labels in the order of the branches. A mark it may leave always.

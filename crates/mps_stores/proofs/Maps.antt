@@ -1,11 +1,13 @@
 -- A map that keeps its keys in the order in which they were first inserted is a list of slots.
-use Rattle.std.proofs.Common.{◌≡◌, ℕ, true, false, List, [], ◌∷◌, Option, Some, None, refl, sym, ap, ◌∙◌, ⊎_elim}
-use Rattle.std.specs.Prelude.{if◌then◌else◌}
-use Rattle.std.specs.Map.{lookup, set_value, remove_entry}
+use Rattle.std.proofs.Common.{◌≡◌, ℕ, zero, suc, ◌<◌, true, false, List, [], ◌∷◌, length, Option, Some, None, refl, sym, ap, ◌∙◌, ⊎_elim, arith}
+use Rattle.std.specs.Prelude.{if◌then◌else◌, slice_get}
+use Rattle.std.specs.List.{position}
+use Rattle.std.specs.Map.{keys_of, values_of, lookup, set_value, remove_entry}
 use Rattle.std.specs.Str.{bytes_eq}
 use Rattle.std.proofs.lemmas.Bool.{cases_Bool}
 use Rattle.std.proofs.lemmas.Slice.Eq.{bytes_eq-Decides}
-use Rattle.indexmap.specs.IndexMap.{insert_entry}
+use Rattle.indexmap.specs.IndexMap.{insert_entry, set_value_at}
+use Rattle.indexmap.proofs.MapLemmas.{Found, Found-position, insert_entry-first}
 use Rattle.mps_history.specs.Slots.{bound, unbound, value_in}
 use Rattle.mps_history.proofs.Slots.{same_slot}
 use Rattle.mps_stores.specs.Stores.{Keys}
@@ -60,3 +62,20 @@ module _ (slot : List ℕ) where
       (λ (yes : bytes_eq entry.0 slot ≡ true). let is : Some entry.1 ≡ None = rw yes at none in absurd cc)
       (λ (no : bytes_eq entry.0 slot ≡ false). let rest : value_in slot store ≡ None = rw no at none in rw no (ap (λ (l : Keys). entry ∷ l) (unbound_stays older store rest)))
       (cases_Bool (bytes_eq entry.0 slot))
+
+  -- what stands at the slot's place is what it is bound to, and a write there binds it
+  module _ (store : Keys) (place : ℕ) (at : position (bytes_eq slot) (keys_of store) ≡ Some place) where
+    there : Found (bytes_eq slot) store place
+    there = Found-position (bytes_eq slot) store place at
+
+    pub value_there : slice_get (values_of store) place ≡ value_in slot store
+    value_there = sym there.value ∙ lookup_is_value store
+
+    pub bound_there : (v : ℕ) → set_value_at store place v ≡ bound slot v store
+    bound_there v = sym (insert_entry-first bytes_eq slot v store place there.first) ∙ insert_is_bound v store
+
+-- a write behind the last slot changes nothing
+pub nothing_behind : (v : ℕ) (store : Keys) (place : ℕ) → ¬ (place < length store) → store ≡ set_value_at store place v
+nothing_behind v [] place h = refl
+nothing_behind v (entry ∷ store) zero h = absurd (h (omega arith))
+nothing_behind v (entry ∷ store) (suc place) h = ap (λ (l : Keys). entry ∷ l) (nothing_behind v store place (λ less. h (omega (arith, less))))

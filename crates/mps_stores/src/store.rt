@@ -1,5 +1,9 @@
 //! The store of one role.
-ghost use Rattle.std.specs.Prelude.{◌≡◌, ℕ, List, [], None, IfOk, OnOk, OnErr};
+ghost use Rattle.std.specs.Prelude.{◌≡◌, ℕ, List, [], None, Some, IfOk, IfSome, OnOk, OnErr, slice_get};
+ghost use Rattle.indexmap.specs.IndexMap.{set_value_at};
+ghost use Rattle.std.specs.List.{position};
+ghost use Rattle.std.specs.Str.{bytes_eq};
+ghost use Rattle.std.specs.Map.{keys_of, values_of};
 ghost use Rattle.std.specs.Map.Iter.{ShowsInOrder, deref_pair};
 ghost use Rattle.mps_history.specs.Slots.{bound, unbound, value_in};
 
@@ -9,6 +13,10 @@ use mps_arena::Key;
 use mps_base::Name;
 use std::alloc::{AllocError, Global};
 use std::marker::Model;
+use std::mem;
+
+// How many slots are looked through one by one.
+const FEW: usize = 8;
 
 /// Slots and the keys to which they are bound, in the order in which the slots were first bound.
 #[derive(Drop)]
@@ -56,7 +64,30 @@ impl Store {
         ensures err { OnErr result (self.new ≡ self.old) }
         ensures absent { OnErr result (value_in slot self.old ≡ None) }
     {
+        if let Some(place) = self.place_among_few(&slot) {
+            return Ok(self.rebind(place, key));
+        }
         Ok(self.keys.insert(slot, key)?)
+    }
+
+    // The place of a known slot, where a role keeps few: it is found without its hash.
+    fn place_among_few(&self, slot: &Name) -> Option<usize>
+        ensures { IfSome result (λ place. position (bytes_eq slot.now) (keys_of self.now) ≡ Some place) }
+    {
+        if self.keys.len() > FEW {
+            return None;
+        }
+        let known = self.keys.keys();
+        place_in(known.as_slice(), slot)
+    }
+
+    // Binds the slot of that place, and tells the key to which it was bound.
+    fn rebind(&mut self, place: usize, key: Key) -> Option<Key>
+        ensures older { result ≡ slice_get (values_of self.old) place }
+        ensures rebound { self.new ≡ set_value_at self.old place key }
+    {
+        let bound = self.keys.get_index_mut(place)?;
+        Some(mem::replace(bound, key))
     }
 
     /// Takes the binding of a slot back. Where the slot isn't bound, nothing changes.
@@ -74,4 +105,11 @@ impl Store {
             }
         }
     }
+}
+
+// The first place at which the slot stands.
+fn place_in(slots: &[Name], slot: &Name) -> Option<usize>
+    ensures { result ≡ position (bytes_eq slot.now) slots.now }
+{
+    slots.iter().position(|other| slot.is(other))
 }

@@ -21,6 +21,6 @@ invariant_of-self-2 c =
     let got = and_from (p == p) (q == q) (eq-eqb p p refl) (eq-eqb q q refl) in
     record {
       sound = c.add.ensures.sound;
-      fronts = subst (λ (o : List Entry). AreFronts o c.take.new.self) (sym c.add.ensures.entries) (c.take.ensures e got);
+      fronts = subst (λ (o : List Entry). AreFronts o c.take-source.new.self) (sym c.add.ensures.entries) (c.take-source.ensures.fronts e got);
       stores = subst (λ (o : List Entry). AreStores o l.stores) (sym whole) (stores_idle_push es e l.stores k.stores refl);
     }

@@ -20,6 +20,6 @@ invariant_of-self-2 c =
     let got = and_from (p == p) (q == q) (eq-eqb p p refl) (eq-eqb q q refl) in
     record {
       sound = c.add.ensures.sound;
-      fronts = subst (λ (o : List Entry). AreFronts o c.take.new.self) (sym c.add.ensures.entries) (c.take.ensures e got);
+      fronts = subst (λ (o : List Entry). AreFronts o c.take-source.new.self) (sym c.add.ensures.entries) (c.take-source.ensures.fronts e got);
       stores = subst (λ (o : List Entry). AreStores o c.bind.new.self) (sym whole) (c.in_ok-bound.ensures.follows es e k.stores (refl, refl) (c.add.ensures.key ∙ sym c.in_ok-key.ensures.key) refl);
     }

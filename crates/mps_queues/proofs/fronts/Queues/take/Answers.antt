@@ -4,8 +4,8 @@ use Rattle.mps_queues.specs.Fronts.{AreFronts, taken}
 use Rattle.mps_queues.proofs.Moves.{front_set, front_read, waiting_take, others_take}
 use Rattle.mps_queues.proofs.fronts.Queues.take.Goals as goal
 
-pub returns : goal.returns
-returns c e t =
+pub returns-clause-fronts : goal.returns-clause-fronts
+returns-clause-fronts c e t =
     let p = c.args.from in
     let q = c.args.to in
     let es = c.args.arena.now.entries in

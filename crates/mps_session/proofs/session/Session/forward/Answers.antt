@@ -1,4 +1,6 @@
-use Rattle.std.proofs.Common.{◌≡◌, arith, map, Result, Ok, sym, ap, ◌∙◌, subst}
+use mathlib.Core.Path.{ap₂}
+use Rattle.mps_base.specs.declared.action.Message.{Message}
+use Rattle.std.proofs.Common.{ℕ, Option, ◌≡◌, arith, map, Result, Ok, sym, ap, ◌∙◌, subst}
 use Rattle.mps_command.specs.Acts.{act_of}
 use Rattle.mps_command.specs.declared.answer.Done.{Done}
 use Rattle.mps_command.specs.declared.answer.Refusal.{Refusal}
@@ -41,26 +43,32 @@ act-requires-clause-ready c =
     let s = c.self.inside in
     serving.ready (map plain s.types.items) (lists_of s.configuration) c.self.invariant c.args.self.now c.self.view_is c.args.role c.requires (act_of c.args.command) c.in-Ok.ensures.allowed
 
-pub returns-in_err-act-clause-answer : goal.returns-in_err-act-clause-answer
-returns-in_err-act-clause-answer c =
+pub returns-in_err-got-clause-answer : goal.returns-in_err-got-clause-answer
+returns-in_err-got-clause-answer c =
     let s = c.self.inside in
     let done = serving.done (map plain s.types.items) (lists_of s.configuration) c.self.invariant c.args.self.now c.self.view_is c.args.role c.requires (act_of c.args.command) c.in-Ok.ensures.allowed (omega (arith, c.if-issued-ge-MAX_NUMBERS.false, c.issued.ensures, c.steps.ensures.issued)) in
     serving.out_of_memory c.from_residual.result _ _ _ done c.from_residual.ensures.1
 
+pub returns-in_err-id-clause-answer : goal.returns-in_err-id-clause-answer
+returns-in_err-id-clause-answer c =
+    let s = c.self.inside in
+    let done = serving.done (map plain s.types.items) (lists_of s.configuration) c.self.invariant c.args.self.now c.self.view_is c.args.role c.requires (act_of c.args.command) c.in-Ok.ensures.allowed (omega (arith, c.if-issued-ge-MAX_NUMBERS.false, c.issued.ensures, c.steps.ensures.issued)) in
+    serving.out_of_memory c.from_residual-in_err-id.result _ _ _ done c.from_residual-in_err-id.ensures.1
+
 pub invariant_of-self-2 : goal.invariant_of-self-2
 invariant_of-self-2 c =
     let s = c.self.inside in
-    serving.holds_then (map plain s.types.items) (lists_of s.configuration) c.self.invariant c.args.self.now c.self.view_is c.args.role c.requires (act_of c.args.command) c.in-Ok.ensures.allowed c.in-Ok.next (lists_of c.act.new.self) c.in-Ok.ensures.follows c.in_ok-act.ensures.acted (omega (arith, c.if-issued-ge-MAX_NUMBERS.false, c.issued.ensures, c.steps.ensures.issued))
+    serving.holds_then (map plain s.types.items) (lists_of s.configuration) c.self.invariant c.args.self.now c.self.view_is c.args.role c.requires (act_of c.args.command) c.in-Ok.ensures.allowed c.in-Ok.node (lists_of c.act.new.self) c.in-Ok.ensures.follows c.in_ok-id.ensures.acted (omega (arith, c.if-issued-ge-MAX_NUMBERS.false, c.issued.ensures, c.steps.ensures.issued))
 
 pub returns-clause-answer : goal.returns-clause-answer
 returns-clause-answer c =
     let s = c.self.inside in
     let done = serving.done (map plain s.types.items) (lists_of s.configuration) c.self.invariant c.args.self.now c.self.view_is c.args.role c.requires (act_of c.args.command) c.in-Ok.ensures.allowed (omega (arith, c.if-issued-ge-MAX_NUMBERS.false, c.issued.ensures, c.steps.ensures.issued)) in
-    ap (λ (d : Done). let r : Result Done Refusal = Ok d in r) c.in_ok-act.ensures.done
+    ap₂ (λ (n : ℕ) (m : Option Message). let r : Result Done Refusal = Ok (record { id = n; got = m }) in r) c.in_ok-id.ensures.id (c.in_ok-got.ensures ∙ c.first_for-first.ensures.taken)
     ∙ ap (λ (r : Result Done Refusal × State). r.0) (sym done)
 
 pub returns-clause-state : goal.returns-clause-state
 returns-clause-state c =
     let s = c.self.inside in
     let done = serving.done (map plain s.types.items) (lists_of s.configuration) c.self.invariant c.args.self.now c.self.view_is c.args.role c.requires (act_of c.args.command) c.in-Ok.ensures.allowed (omega (arith, c.if-issued-ge-MAX_NUMBERS.false, c.issued.ensures, c.steps.ensures.issued)) in
-    serving.state_then (map plain s.types.items) (lists_of s.configuration) c.self.invariant c.args.self.now c.self.view_is c.args.role c.requires (act_of c.args.command) c.in-Ok.ensures.allowed c.in-Ok.next (lists_of c.act.new.self) c.in_ok-act.ensures.acted ∙ ap (λ (r : Result Done Refusal × State). r.1) (sym done)
+    serving.state_then (map plain s.types.items) (lists_of s.configuration) c.self.invariant c.args.self.now c.self.view_is c.args.role c.requires (act_of c.args.command) c.in-Ok.ensures.allowed c.in-Ok.node (lists_of c.act.new.self) c.in_ok-id.ensures.acted ∙ ap (λ (r : Result Done Refusal × State). r.1) (sym done)

@@ -1,7 +1,7 @@
 use Rattle.std.proofs.Common.{◌≡◌, None, ◌∙◌, sym, ap}
 use Rattle.std.specs.Prelude.{Result, Ok, Err, OnErr}
 use Rattle.mps_history.specs.Slots.{bound, value_in}
-use Rattle.mps_stores.proofs.Maps.{insert_is_bound, lookup_is_value}
+use Rattle.mps_stores.proofs.Maps.{insert_is_bound, lookup_is_value, value_there, bound_there}
 use Rattle.mps_stores.proofs.store.Store.bind.Goals as goal
 
 on_err : {T E P : Type 0} (r : Result T E) → P → OnErr r P
@@ -21,3 +21,11 @@ returns-in_err-insert-clause-absent c =
     let before = c.self.inside.keys.entries in
     let none : value_in c.args.slot c.args.self.now ≡ None = ap (value_in c.args.slot) (sym c.self.view_is) ∙ sym (lookup_is_value c.args.slot before) ∙ c.in_err-insert.ensures.absent in
     on_err c.from_residual.result none
+
+pub returns-in-Some-clause-replaced : goal.returns-in-Some-clause-replaced
+returns-in-Some-clause-replaced c =
+    c.rebind.ensures.older ∙ value_there c.args.slot c.args.self.now c.in-Some.place c.in-Some.ensures
+
+pub returns-in-Some-clause-bound : goal.returns-in-Some-clause-bound
+returns-in-Some-clause-bound c =
+    c.rebind.ensures.rebound ∙ bound_there c.args.slot c.args.self.now c.in-Some.place c.in-Some.ensures c.args.key

@@ -1,5 +1,5 @@
 use Rattle.mps_base.proofs.Digits.{IsRead}
-use Rattle.mps_base.proofs.number.read_digits.Given as goal
+use Rattle.mps_base.proofs.number.read_many.Given as goal
 
 abbrev pub invariant-loop-byte : goal.invariant-loop-byte
 invariant-loop-byte l = IsRead l.digits l.byte-index l.n

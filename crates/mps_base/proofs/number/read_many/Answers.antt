@@ -2,7 +2,7 @@ use Rattle.std.proofs.Common.{◌+◌, arith, subst, get_or, ⊎_elim}
 use Rattle.std.proofs.lemmas.Str.{digit_value_digit}
 use Rattle.std.proofs.lemmas.Str.Parse.{digit_at}
 use Rattle.mps_base.proofs.Digits.{IsRead, read_more, so_many}
-use Rattle.mps_base.proofs.number.read_digits.Goals as goal
+use Rattle.mps_base.proofs.number.read_many.Goals as goal
 
 pub returns-then-not-is_ascii_digit-clause-none : goal.returns-then-not-is_ascii_digit-clause-none
 returns-then-not-is_ascii_digit-clause-none c = λ all.

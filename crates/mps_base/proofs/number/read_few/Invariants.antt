@@ -1,0 +1,6 @@
+use Rattle.std.proofs.Common.{◌<◌, ◌^◌}
+use Rattle.mps_base.proofs.Digits.{IsRead}
+use Rattle.mps_base.proofs.number.read_few.Given as goal
+
+abbrev pub invariant-loop-byte : goal.invariant-loop-byte
+invariant-loop-byte l = IsRead l.digits l.byte-index l.n × (l.n < 10 ^ l.byte-index)
