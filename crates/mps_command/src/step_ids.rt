@@ -1,14 +1,22 @@
 //! Lists of numbers of steps.
-ghost use Rattle.std.specs.Prelude.{◌≡◌, IfOk};
+ghost use Rattle.std.specs.Prelude.{◌≡◌, [], ◌∷◌, IfOk};
 
 use mps_base::StepId;
 use std::alloc::{AllocError, Global};
 use std::marker::Model;
+use std::slice;
 
 /// The numbers of some steps, in order.
 #[derive(Debug, Drop)]
 pub struct StepIds {
-    ids: Vec<StepId>,
+    kept: Kept,
+}
+
+// One number takes no memory.
+#[derive(Debug, Drop)]
+enum Kept {
+    One(StepId),
+    Many(Vec<StepId>),
 }
 
 impl Model for StepIds {
@@ -16,7 +24,9 @@ impl Model for StepIds {
 
     ghost Value = { List ℕ };
 
-    ghost view = { λ s. s.ids.items };
+    ghost use Rattle.mps_command.specs.Kept.{numbers};
+
+    ghost view = { λ s. numbers s.kept };
 }
 
 impl StepIds {
@@ -24,30 +34,38 @@ impl StepIds {
     pub fn of(ids: Vec<StepId>) -> StepIds
         ensures { result ≡ ids.items }
     {
-        StepIds { ids }
+        StepIds {
+            kept: Kept::Many(ids),
+        }
+    }
+
+    /// The list of this number alone. It takes no memory.
+    pub fn one(id: StepId) -> StepIds
+        ensures { result ≡ id ∷ [] }
+    {
+        StepIds {
+            kept: Kept::One(id),
+        }
     }
 
     /// The numbers, from the first to the last.
     pub fn as_slice(&self) -> &[StepId]
         ensures { result.now ≡ self.now }
     {
-        self.ids.as_slice()
-    }
-
-    /// The numbers as a vector again. It takes no memory.
-    pub fn into_vec(self) -> Vec<StepId>
-        ensures { result.items ≡ self }
-    {
-        let StepIds { ids } = self;
-        ids
+        match &self.kept {
+            Kept::One(id) => slice::from_ref(id),
+            Kept::Many(ids) => ids.as_slice(),
+        }
     }
 
     /// The same list once more.
     pub fn copy(&self, alloc: Global) -> Result<StepIds, AllocError>
         ensures { IfOk result (λ ids. ids ≡ self.now) }
     {
-        Ok(StepIds {
-            ids: Vec::from_slice(alloc, self.ids.as_slice())?,
-        })
+        let kept = match &self.kept {
+            Kept::One(id) => Kept::One(*id),
+            Kept::Many(ids) => Kept::Many(Vec::from_slice(alloc, ids.as_slice())?),
+        };
+        Ok(StepIds { kept })
     }
 }

@@ -71,13 +71,18 @@ fn numbers(alloc: Global, ids: &StepIds) -> Result<Vec<u64>, Fail> {
 #[test]
 fn copies_lists_of_numbers(rt: HostRuntime) -> Result<(), Fail> {
     let alloc = rt.alloc();
-    let answer = Answer::Undone(listed(alloc, &[5, 3])?).copy(alloc)?;
-    let Answer::Undone(undone) = answer else {
-        return Err("no list of numbers")?;
-    };
-    assert_eq!(rt; numbers(alloc, &undone)?.as_slice(), [5, 3].as_slice());
-    let again = StepIds::of(undone.into_vec());
-    assert_eq!(rt; numbers(alloc, &again)?.as_slice(), [5, 3].as_slice());
+    let lists = [
+        (listed(alloc, &[])?, [].as_slice()),
+        (StepIds::one(StepId::new(7)), [7].as_slice()),
+        (listed(alloc, &[7])?, [7].as_slice()),
+        (listed(alloc, &[5, 3])?, [5, 3].as_slice()),
+    ];
+    for (ids, wanted) in lists {
+        let Answer::Undone(undone) = Answer::Undone(ids).copy(alloc)? else {
+            return Err("no list of numbers")?;
+        };
+        assert_eq!(rt; numbers(alloc, &undone)?.as_slice(), wanted);
+    }
     Ok(())
 }
 
@@ -101,6 +106,7 @@ fn copies_answers(rt: HostRuntime) -> Result<(), Fail> {
     answers.push(Answer::Done(Done { id, got: None }))?;
     answers.push(Answer::Undone(listed(alloc, &[5, 3])?))?;
     answers.push(Answer::Undone(listed(alloc, &[])?))?;
+    answers.push(Answer::Undone(StepIds::one(id)))?;
     answers.push(Answer::Refused(Refusal::Needed { by: id }))?;
     answers.push(Answer::Refused(Refusal::Violation(Violation::Ended)))?;
     for answer in &answers {

@@ -1,6 +1,6 @@
 -- What a reply's text means is unique.
 use Rattle.std.proofs.Common.{arith, rules, ◌≡◌, ◌≢◌, ℕ, List, [], ◌∷◌, Some, get_or, refl, sym, ap, ◌∙◌}
-use Rattle.std.specs.Prelude.{Option, None, if◌then◌else◌, codes}
+use Rattle.std.specs.Prelude.{◌<◌, Option, None, length, map, if◌then◌else◌, codes}
 use Rattle.std.specs.Str.{bytes_eq}
 use Rattle.std.proofs.lemmas.Option.{same_Some}
 use Rattle.mps_base.specs.Names.{IsName}
@@ -10,15 +10,18 @@ use Rattle.mps_base.specs.declared.value.Value.{Value}
 use Rattle.mps_base.specs.declared.action.Message.{Message}
 use Rattle.mps_base.specs.declared.action.Message.TheVariants.{Value as Plain, Label}
 use Rattle.mps_command.specs.declared.answer.Done.{Done}
+use Rattle.mps_command.specs.declared.answer.Answer.{Answer}
+use Rattle.mps_command.specs.declared.answer.Answer.TheVariants.{Done as Accepted, Undone, Refused}
 use Rattle.mps_command.specs.declared.answer.Violation.TheVariants.{Ended, WrongAct, WrongPeer, WrongSort, NoLabel, NothingQueued, Mismatch}
 use Rattle.mps_command.specs.declared.answer.Refusal.{Refusal}
 use Rattle.mps_command.specs.declared.answer.Refusal.TheVariants.{Violation as Violates, NoStep, NotYours, Needed, NoMark, Full, Memory}
 use Rattle.mps_line.specs.declared.reply.Reply.{Reply}
-use Rattle.mps_line.specs.declared.reply.Reply.TheVariants.{Done as Accepted, Refused, BadLine}
-use Rattle.mps_line.specs.Tokens.{Token, Word, Number, HasNoSpace, SpellsNumber, SpellsToken, SpellsLine}
-use Rattle.mps_line.specs.Replies.{word_of, message_token, done_tokens, refusal_tokens, SpellsReply}
+use Rattle.mps_line.specs.declared.reply.Reply.TheVariants.{Answered, BadLine}
+use Rattle.mps_line.specs.Tokens.{Token, Word, Number, HasNoSpace, SpellsToken, SpellEach, SpellsLine}
+use Rattle.mps_line.specs.Replies.{word_of, message_token, done_tokens, undone_tokens, refusal_tokens, answer_tokens, SpellsReply}
 use Rattle.mps_line.proofs.Splitting.{one_split, never_split, digits_have_no_space, behind, alone}
 use Rattle.mps_line.proofs.Reading.{word_behind}
+use Rattle.mps_line.proofs.Unique.{one_number}
 
 -- the refusal that the word is for, `needed` by step 0
 abbrev meant : List ℕ → Option Refusal
@@ -84,6 +87,9 @@ word_has_no_space Memory = search rules
 done_has_no_space : HasNoSpace (codes "done")
 done_has_no_space = search rules
 
+undone_has_no_space : HasNoSpace (codes "undone")
+undone_has_no_space = search rules
+
 refused_has_no_space : HasNoSpace (codes "refused")
 refused_has_no_space = search rules
 
@@ -101,9 +107,6 @@ never_both a letters t u us p h k =
     let b = behind [] a t u us k in
     never_split letters b.1.front b.0 p (sym (alone [] a (Word letters) h) ∙ b.1.parts)
 
-one_number : (a : List ℕ) (m n : ℕ) → SpellsNumber a m → SpellsNumber a n → m ≡ n
-one_number a m n h k = sym h.number.value ∙ k.number.value
-
 one_refusal : (a : List ℕ) (r s : Refusal) → SpellsLine [] a (refusal_tokens r) → SpellsLine [] a (refusal_tokens s) → r ≡ s
 one_refusal a (Needed m) (Needed n) h k =
     let b = one_word_first a (codes "needed") (Number m) [] (Number n) [] (word_has_no_space (Needed m)) h k in
@@ -120,29 +123,49 @@ no_line_refusal a (Needed n) h k = never_both a (codes "line") _ _ _ line_has_no
 no_line_refusal a r h k = no_line_word r (sym (alone [] a (Word (codes "line")) h) ∙ alone [] a (Word (word_of r)) k)
 
 -- what stands behind a number
-record SameNumber (m n : ℕ) (t u : Token) : Type 0 where
+record SameNumber (m n : ℕ) (t : Token) (ts : List Token) (u : Token) (us : List Token) : Type 0 where
   number : m ≡ n
   rest : List ℕ
-  one : SpellsToken [] rest t
-  other : SpellsToken [] rest u
+  one : SpellsLine [] rest (t ∷ ts)
+  other : SpellsLine [] rest (u ∷ us)
 
-same_number : (a : List ℕ) (m n : ℕ) (t u : Token) → SpellsLine [] a (Number m ∷ t ∷ []) → SpellsLine [] a (Number n ∷ u ∷ []) → SameNumber m n t u
-same_number a m n t u h k =
-    let b = behind [] a (Number m) t [] h in
-    let d = behind [] a (Number n) u [] k in
+same_number : (a : List ℕ) (m n : ℕ) (t : Token) (ts : List Token) (u : Token) (us : List Token) → SpellsLine [] a (Number m ∷ t ∷ ts) → SpellsLine [] a (Number n ∷ u ∷ us) → SameNumber m n t ts u us
+same_number a m n t ts u us h k =
+    let b = behind [] a (Number m) t ts h in
+    let d = behind [] a (Number n) u us k in
     let same = one_split b.1.front d.1.front b.0 d.0 (digits_have_no_space b.1.front b.1.spelled.number.digits) (digits_have_no_space d.1.front d.1.spelled.number.digits) (sym b.1.parts ∙ d.1.parts) in
     record {
       number = one_number b.1.front m n b.1.spelled (rw (sym same.0) at d.1.spelled);
       rest = b.0;
-      one = alone [] b.0 t b.2;
-      other = alone [] b.0 u (rw (sym same.1) at d.2);
+      one = b.2;
+      other = rw (sym same.1) at d.2;
     }
 
 -- no line is one number and two tokens
-number_or_two : (a : List ℕ) (m n : ℕ) (u : Token) → SpellsLine [] a (Number m ∷ []) → SpellsLine [] a (Number n ∷ u ∷ []) → ⊥
-number_or_two a m n u h k =
-    let b = behind [] a (Number n) u [] k in
+number_or_two : (a : List ℕ) (m n : ℕ) (u : Token) (us : List Token) → SpellsLine [] a (Number m ∷ []) → SpellsLine [] a (Number n ∷ u ∷ us) → ⊥
+number_or_two a m n u us h k =
+    let b = behind [] a (Number n) u us k in
     never_split a b.1.front b.0 (digits_have_no_space a (alone [] a (Number m) h).number.digits) b.1.parts
+
+-- numbers have one line
+one_list : (a : List ℕ) (m n : ℕ) (ms ns : List ℕ) → SpellsLine [] a (map Number (m ∷ ms)) → SpellsLine [] a (map Number (n ∷ ns)) → (m ∷ ms) ≡ (n ∷ ns)
+one_list a m n [] [] h k = ap (λ (id : ℕ). id ∷ []) (one_number a m n (alone [] a (Number m) h) (alone [] a (Number n) k))
+one_list a m n [] (j ∷ ns) h k = absurd (number_or_two a m n (Number j) (map Number ns) h k)
+one_list a m n (i ∷ ms) [] h k = absurd (number_or_two a n m (Number i) (map Number ms) k h)
+one_list a m n (i ∷ ms) (j ∷ ns) h k =
+    let s = same_number a m n (Number i) (map Number ms) (Number j) (map Number ns) h k in
+    let number : m ≡ n = s.number in
+    let others = one_list s.rest i j ms ns s.one s.other in
+    cc
+
+-- and so have the steps that were taken back
+one_undone : (a : List ℕ) (ms ns : List ℕ) → SpellsLine [] a (undone_tokens ms) → SpellsLine [] a (undone_tokens ns) → ms ≡ ns
+one_undone a [] [] h k = refl
+one_undone a [] (n ∷ ns) h k = absurd (never_both a (codes "undone") _ (Number n) (map Number ns) undone_has_no_space h k)
+one_undone a (m ∷ ms) [] h k = absurd (never_both a (codes "undone") _ (Number m) (map Number ms) undone_has_no_space k h)
+one_undone a (m ∷ ms) (n ∷ ns) h k =
+    let b = one_word_first a (codes "undone") (Number m) (map Number ms) (Number n) (map Number ns) undone_has_no_space h k in
+    one_list b.0 m n ms ns b.1 b.2
 
 -- what stands behind the first word of a reply
 done_behind : (a letters : List ℕ) (id : ℕ) (got : Option Message) → SpellsLine [] a (Word letters ∷ done_tokens id got) → (rest : List ℕ) × (a ≡ spaced (letters ∷ rest ∷ [])) × SpellsLine [] rest (done_tokens id got)
@@ -153,13 +176,37 @@ refusal_behind : (a letters : List ℕ) (r : Refusal) → SpellsLine [] a (Word 
 refusal_behind a letters (Needed by) h = word_behind [] a letters _ _ h
 refusal_behind a letters r h = word_behind [] a letters _ _ h
 
--- `done` is not `refused`
-done_or_refused : (a x y : List ℕ) → a ≡ spaced (codes "done" ∷ x ∷ []) → a ≡ spaced (codes "refused" ∷ y ∷ []) → ⊥
-done_or_refused a x y e f = absurd (omega (arith, ap (λ (word : List ℕ). get_or word 0 0) (sym e ∙ f)))
+-- a line begins with the first byte of its first word
+first_byte : (a letters : List ℕ) (ts : List Token) → 0 < length letters → SpellsLine [] a (Word letters ∷ ts) → get_or a 0 0 ≡ get_or letters 0 0
+first_byte a letters ts some h = by_spellings h.spellings h.joined h.each
+  where
+    front : (xs : List ℕ) (ss : List (List ℕ)) → 0 < length xs → get_or (spaced (xs ∷ ss)) 0 0 ≡ get_or xs 0 0
+    front [] ss k = absurd (omega (arith, k))
+    front (x ∷ xs) [] k = refl
+    front (x ∷ xs) (s ∷ ss) k = refl
 
--- no refusal is a bad line
-refused_or_bad : (a : List ℕ) (r : Refusal) → SpellsReply a (Refused r) → SpellsReply a BadLine → ⊥
-refused_or_bad a r h k =
+    by_spellings : (ss : List (List ℕ)) → a ≡ spaced ss → SpellEach [] ss (Word letters ∷ ts) → get_or a 0 0 ≡ get_or letters 0 0
+    by_spellings [] e k = absurd k
+    by_spellings (s ∷ ss) e k = ap (λ (l : List ℕ). get_or l 0 0) e ∙ front s ss (rw k.0 some) ∙ ap (λ (l : List ℕ). get_or l 0 0) k.0
+
+-- `done`, `undone` and `refused` are told apart by it
+done_or_undone : (a : List ℕ) (ts us : List Token) → SpellsLine [] a (Word (codes "done") ∷ ts) → SpellsLine [] a (Word (codes "undone") ∷ us) → ⊥
+done_or_undone a ts us h k =
+    absurd (omega (arith, first_byte a (codes "done") ts (omega arith) h, first_byte a (codes "undone") us (omega arith) k))
+
+done_or_refused : (a : List ℕ) (ts us : List Token) → SpellsLine [] a (Word (codes "done") ∷ ts) → SpellsLine [] a (Word (codes "refused") ∷ us) → ⊥
+done_or_refused a ts us h k =
+    absurd (omega (arith, first_byte a (codes "done") ts (omega arith) h, first_byte a (codes "refused") us (omega arith) k))
+
+undone_or_refused : (a : List ℕ) (ts us : List Token) → SpellsLine [] a (Word (codes "undone") ∷ ts) → SpellsLine [] a (Word (codes "refused") ∷ us) → ⊥
+undone_or_refused a ts us h k =
+    absurd (omega (arith, first_byte a (codes "undone") ts (omega arith) h, first_byte a (codes "refused") us (omega arith) k))
+
+-- no answer is a bad line
+answer_or_bad : (a : List ℕ) (r : Answer) → SpellsReply a (Answered r) → SpellsReply a BadLine → ⊥
+answer_or_bad a (Accepted done) h k = done_or_refused a _ _ h k
+answer_or_bad a (Undone ids) h k = undone_or_refused a _ _ h k
+answer_or_bad a (Refused r) h k =
     let b = refusal_behind a (codes "refused") r h in
     let d = word_behind [] a (codes "refused") (Word (codes "line")) [] k in
     let same = one_split (codes "refused") (codes "refused") b.0 d.0 refused_has_no_space refused_has_no_space (sym b.1 ∙ d.1) in
@@ -175,36 +222,38 @@ module _ (one_value : (a : List ℕ) (v w : Value) → SpellsValue a v → Spell
 
   one_done : (a : List ℕ) (m n : ℕ) (x y : Option Message) → SpellsLine [] a (done_tokens m x) → SpellsLine [] a (done_tokens n y) → (m ≡ n) × (x ≡ y)
   one_done a m n None None h k = (one_number a m n (alone [] a (Number m) h) (alone [] a (Number n) k), refl)
-  one_done a m n None (Some y) h k = absurd (number_or_two a m n (message_token y) h k)
-  one_done a m n (Some x) None h k = absurd (number_or_two a n m (message_token x) k h)
+  one_done a m n None (Some y) h k = absurd (number_or_two a m n (message_token y) [] h k)
+  one_done a m n (Some x) None h k = absurd (number_or_two a n m (message_token x) [] k h)
   one_done a m n (Some x) (Some y) h k =
-      let s = same_number a m n (message_token x) (message_token y) h k in
-      (s.number, ap Some (one_message s.rest x y s.one s.other))
+      let s = same_number a m n (message_token x) [] (message_token y) [] h k in
+      (s.number, ap Some (one_message s.rest x y (alone [] s.rest (message_token x) s.one) (alone [] s.rest (message_token y) s.other)))
 
   same_done : (d e : Done) → (d.id ≡ e.id) × (d.got ≡ e.got) → d ≡ e
   same_done d e h =
       ap (λ (id : ℕ). let done : Done = record { id = id; got = d.got } in done) h.0
       ∙ ap (λ (got : Option Message). let done : Done = record { id = e.id; got = got } in done) h.1
 
-  pub one_reply : (a : List ℕ) (r s : Reply) → SpellsReply a r → SpellsReply a s → r ≡ s
-  one_reply a (Accepted d) (Accepted e) h k =
+  one_answer : (a : List ℕ) (r s : Answer) → SpellsLine [] a (answer_tokens r) → SpellsLine [] a (answer_tokens s) → r ≡ s
+  one_answer a (Accepted d) (Accepted e) h k =
       let b = done_behind a (codes "done") d.id d.got h in
       let f = done_behind a (codes "done") e.id e.got k in
       let same = one_split (codes "done") (codes "done") b.0 f.0 done_has_no_space done_has_no_space (sym b.1 ∙ f.1) in
       ap Accepted (same_done d e (one_done b.0 d.id e.id d.got e.got b.2 (rw (sym same.1) at f.2)))
-  one_reply a (Accepted d) (Refused s) h k =
-      absurd (done_or_refused a _ _ (done_behind a (codes "done") d.id d.got h).1 (refusal_behind a (codes "refused") s k).1)
-  one_reply a (Accepted d) BadLine h k =
-      absurd (done_or_refused a _ _ (done_behind a (codes "done") d.id d.got h).1 (word_behind [] a (codes "refused") _ _ k).1)
-  one_reply a (Refused r) (Accepted e) h k =
-      absurd (done_or_refused a _ _ (done_behind a (codes "done") e.id e.got k).1 (refusal_behind a (codes "refused") r h).1)
-  one_reply a (Refused r) (Refused s) h k =
+  one_answer a (Undone ms) (Undone ns) h k = ap Undone (one_undone a ms ns h k)
+  one_answer a (Refused r) (Refused s) h k =
       let b = refusal_behind a (codes "refused") r h in
       let f = refusal_behind a (codes "refused") s k in
       let same = one_split (codes "refused") (codes "refused") b.0 f.0 refused_has_no_space refused_has_no_space (sym b.1 ∙ f.1) in
       ap Refused (one_refusal b.0 r s b.2 (rw (sym same.1) at f.2))
-  one_reply a (Refused r) BadLine h k = absurd (refused_or_bad a r h k)
-  one_reply a BadLine (Accepted e) h k =
-      absurd (done_or_refused a _ _ (done_behind a (codes "done") e.id e.got k).1 (word_behind [] a (codes "refused") _ _ h).1)
-  one_reply a BadLine (Refused s) h k = absurd (refused_or_bad a s k h)
+  one_answer a (Accepted d) (Undone ns) h k = absurd (done_or_undone a _ _ h k)
+  one_answer a (Accepted d) (Refused s) h k = absurd (done_or_refused a _ _ h k)
+  one_answer a (Undone ms) (Accepted e) h k = absurd (done_or_undone a _ _ k h)
+  one_answer a (Undone ms) (Refused s) h k = absurd (undone_or_refused a _ _ h k)
+  one_answer a (Refused r) (Accepted e) h k = absurd (done_or_refused a _ _ k h)
+  one_answer a (Refused r) (Undone ns) h k = absurd (undone_or_refused a _ _ k h)
+
+  pub one_reply : (a : List ℕ) (r s : Reply) → SpellsReply a r → SpellsReply a s → r ≡ s
+  one_reply a (Answered r) (Answered s) h k = ap Answered (one_answer a r s h k)
+  one_reply a (Answered r) BadLine h k = absurd (answer_or_bad a r h k)
+  one_reply a BadLine (Answered s) h k = absurd (answer_or_bad a s k h)
   one_reply a BadLine BadLine h k = refl

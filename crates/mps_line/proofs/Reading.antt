@@ -1,17 +1,18 @@
 -- What can't be read.
-use Rattle.std.proofs.Common.{rules, ◌≡◌, ℕ, List, [], ◌∷◌, refl, sym, ap, ◌∙◌}
+use Rattle.std.proofs.Common.{arith, rules, ◌≡◌, ℕ, ◌<◌, List, [], ◌∷◌, length, refl, sym, ap, ◌∙◌}
 use Rattle.std.specs.Prelude.{Option, Some, None, Result, Ok, Err, IfOk, if◌then◌else◌, codes}
 use Rattle.std.specs.Str.{bytes_eq}
 use Rattle.std.proofs.lemmas.Option.{same_Some}
 use Rattle.mps_base.specs.Names.{IsName}
 use Rattle.mps_base.specs.Spaced.{spaced}
 use Rattle.mps_base.specs.declared.value.Value.{Value}
-use Rattle.mps_command.specs.declared.command.Forward.{Forward}
+use Rattle.mps_command.specs.declared.command.Command.{Command}
+use Rattle.mps_command.specs.declared.command.Command.TheVariants.{Forward, Undo, Rollback, Back}
 use Rattle.mps_command.specs.declared.command.Forward.TheVariants.{Send, Choose, Receive, Pick, Mark}
 use Rattle.mps_line.specs.declared.script.LineFault.{LineFault}
 use Rattle.mps_line.specs.declared.script.Verb.{Verb}
 use Rattle.mps_line.specs.declared.script.Verb.TheVariants as verbs
-use Rattle.mps_line.specs.Tokens.{Token, Word, RoleAt, Called, Worth, HasNoSpace, SpellsRole, SpellsName, SpellsToken, SpellsLine, BeginsWith}
+use Rattle.mps_line.specs.Tokens.{Token, Word, RoleAt, Called, Number, Worth, HasNoSpace, SpellsRole, SpellsName, SpellsNumber, SpellsToken, SpellsLine, BeginsWith}
 use Rattle.mps_line.specs.Commands.{verb_word, verb_of, arguments, SpellsCommand}
 use Rattle.mps_line.proofs.Splitting.{one_split, behind, joined, alone, line_of_one}
 
@@ -21,6 +22,9 @@ verb_has_no_space verbs.Choose = search rules
 verb_has_no_space verbs.Receive = search rules
 verb_has_no_space verbs.Pick = search rules
 verb_has_no_space verbs.Mark = search rules
+verb_has_no_space verbs.Undo = search rules
+verb_has_no_space verbs.Rollback = search rules
+verb_has_no_space verbs.Back = search rules
 
 -- the verb that the word is for
 abbrev meant : List ℕ → Option Verb
@@ -30,6 +34,9 @@ meant word =
     else if bytes_eq word (codes "recv") then Some verbs.Receive
     else if bytes_eq word (codes "pick") then Some verbs.Pick
     else if bytes_eq word (codes "mark") then Some verbs.Mark
+    else if bytes_eq word (codes "undo") then Some verbs.Undo
+    else if bytes_eq word (codes "rollback") then Some verbs.Rollback
+    else if bytes_eq word (codes "back") then Some verbs.Back
     else None
 
 meant_word : (verb : Verb) → meant (verb_word verb) ≡ Some verb
@@ -38,6 +45,9 @@ meant_word verbs.Choose = refl
 meant_word verbs.Receive = refl
 meant_word verbs.Pick = refl
 meant_word verbs.Mark = refl
+meant_word verbs.Undo = refl
+meant_word verbs.Rollback = refl
+meant_word verbs.Back = refl
 
 same_verb : (v w : Verb) → verb_word v ≡ verb_word w → v ≡ w
 same_verb v w e = same_Some v w (sym (meant_word v) ∙ ap meant e ∙ meant_word w)
@@ -48,11 +58,14 @@ one_verb bytes v w x y e f =
     let same = one_split (verb_word v) (verb_word w) x y (verb_has_no_space v) (verb_has_no_space w) (sym e ∙ f) in
     (same_verb v w same.0, same.1)
 
--- the parts of a command: its verb, a space and its arguments
-pub record HasVerb (names : List (List ℕ)) (bytes : List ℕ) (command : Forward) : Type 0 where
+-- the parts of a command: its verb, a space and these tokens
+pub record HasArguments (names : List (List ℕ)) (bytes : List ℕ) (command : Command) (tokens : List Token) : Type 0 where
   pub rest : List ℕ
   pub parts : bytes ≡ spaced (verb_word (verb_of command) ∷ rest ∷ [])
-  pub spelled : SpellsLine names rest (arguments command)
+  pub spelled : SpellsLine names rest tokens
+
+abbrev pub HasVerb : (names : List (List ℕ)) → List ℕ → Command → Type 0
+HasVerb names bytes command = HasArguments names bytes command (arguments command)
 
 -- a word in front of others
 pub word_behind : (names : List (List ℕ)) (bytes letters : List ℕ) (u : Token) (ts : List Token) → SpellsLine names bytes (Word letters ∷ u ∷ ts) → (rest : List ℕ) × (bytes ≡ spaced (letters ∷ rest ∷ [])) × SpellsLine names rest (u ∷ ts)
@@ -60,51 +73,74 @@ word_behind names bytes letters u ts h =
     let b = behind names bytes (Word letters) u ts h in
     (b.0, rw b.1.spelled at b.1.parts, b.2)
 
-pub command_parts : (names : List (List ℕ)) (bytes : List ℕ) (command : Forward) → SpellsCommand names bytes command → HasVerb names bytes command
-command_parts names bytes (Send to value) h = let b = word_behind names bytes _ _ _ h in record { rest = b.0; parts = b.1; spelled = b.2 }
-command_parts names bytes (Choose to label) h = let b = word_behind names bytes _ _ _ h in record { rest = b.0; parts = b.1; spelled = b.2 }
-command_parts names bytes (Receive from slot) h = let b = word_behind names bytes _ _ _ h in record { rest = b.0; parts = b.1; spelled = b.2 }
-command_parts names bytes (Pick from) h = let b = word_behind names bytes _ _ _ h in record { rest = b.0; parts = b.1; spelled = b.2 }
-command_parts names bytes (Mark name) h = let b = word_behind names bytes _ _ _ h in record { rest = b.0; parts = b.1; spelled = b.2 }
+-- a command has an argument
+pub some_arguments : (command : Command) → 0 < length (arguments command)
+some_arguments (Forward (Send to value)) = omega arith
+some_arguments (Forward (Choose to label)) = omega arith
+some_arguments (Forward (Receive from slot)) = omega arith
+some_arguments (Forward (Pick from)) = omega arith
+some_arguments (Forward (Mark name)) = omega arith
+some_arguments (Undo id) = omega arith
+some_arguments (Rollback id) = omega arith
+some_arguments (Back name) = omega arith
+
+pub command_parts : (names : List (List ℕ)) (bytes : List ℕ) (command : Command) → SpellsCommand names bytes command → HasVerb names bytes command
+command_parts names bytes command h = by_arguments (arguments command) (some_arguments command) h
+  where
+    by_arguments : (ts : List Token) → 0 < length ts → SpellsLine names bytes (Word (verb_word (verb_of command)) ∷ ts) → HasArguments names bytes command ts
+    by_arguments [] some h = absurd (omega (arith, some))
+    by_arguments (u ∷ ts) some h = let b = word_behind names bytes _ u ts h in record { rest = b.0; parts = b.1; spelled = b.2 }
 
 -- a verb in front of arguments is a command
-verb_before : (names : List (List ℕ)) (bytes letters rest : List ℕ) (u : Token) (ts : List Token) → bytes ≡ spaced (letters ∷ rest ∷ []) → SpellsLine names rest (u ∷ ts) → SpellsLine names bytes (Word letters ∷ u ∷ ts)
-verb_before names bytes letters rest u ts e h = joined names bytes (Word letters) u ts rest (record { front = letters; parts = e; spelled = refl }) h
-
-pub command_of : (names : List (List ℕ)) (bytes rest : List ℕ) (command : Forward) → bytes ≡ spaced (verb_word (verb_of command) ∷ rest ∷ []) → SpellsLine names rest (arguments command) → SpellsCommand names bytes command
-command_of names bytes rest (Send to value) e h = verb_before names bytes _ rest _ _ e h
-command_of names bytes rest (Choose to label) e h = verb_before names bytes _ rest _ _ e h
-command_of names bytes rest (Receive from slot) e h = verb_before names bytes _ rest _ _ e h
-command_of names bytes rest (Pick from) e h = verb_before names bytes _ rest _ _ e h
-command_of names bytes rest (Mark name) e h = verb_before names bytes _ rest _ _ e h
+pub command_of : (names : List (List ℕ)) (bytes rest : List ℕ) (command : Command) → bytes ≡ spaced (verb_word (verb_of command) ∷ rest ∷ []) → SpellsLine names rest (arguments command) → SpellsCommand names bytes command
+command_of names bytes rest command e h = by_arguments (arguments command) (some_arguments command) h
+  where
+    by_arguments : (ts : List Token) → 0 < length ts → SpellsLine names rest ts → SpellsLine names bytes (Word (verb_word (verb_of command)) ∷ ts)
+    by_arguments [] some h = absurd (omega (arith, some))
+    by_arguments (u ∷ ts) some h = joined names bytes (Word (verb_word (verb_of command))) u ts rest (record { front = verb_word (verb_of command); parts = e; spelled = refl }) h
 
 -- a line of this verb with none of its arguments
-pub no_command : (names : List (List ℕ)) (bytes rest : List ℕ) (verb : Verb) → bytes ≡ spaced (verb_word verb ∷ rest ∷ []) → ((command : Forward) → verb_of command ≡ verb → SpellsLine names rest (arguments command) → ⊥) → (command : Forward) → SpellsCommand names bytes command → ⊥
+pub no_command : (names : List (List ℕ)) (bytes rest : List ℕ) (verb : Verb) → bytes ≡ spaced (verb_word verb ∷ rest ∷ []) → ((command : Command) → verb_of command ≡ verb → SpellsLine names rest (arguments command) → ⊥) → (command : Command) → SpellsCommand names bytes command → ⊥
 no_command names bytes rest verb e none command h =
     let k = command_parts names bytes command h in
     let same = one_verb bytes (verb_of command) verb k.rest rest k.parts e in
     none command same.0 (rw same.1 at k.spelled)
 
 -- none of the lines of this verb
-pub no_sending : (names : List (List ℕ)) (bytes : List ℕ) → ((to : ℕ) (value : Value) → SpellsLine names bytes (RoleAt to ∷ Worth value ∷ []) → ⊥) → (command : Forward) → verb_of command ≡ verbs.Send → SpellsLine names bytes (arguments command) → ⊥
-no_sending names bytes none (Send to value) e h = none to value h
+pub no_sending : (names : List (List ℕ)) (bytes : List ℕ) → ((to : ℕ) (value : Value) → SpellsLine names bytes (RoleAt to ∷ Worth value ∷ []) → ⊥) → (command : Command) → verb_of command ≡ verbs.Send → SpellsLine names bytes (arguments command) → ⊥
+no_sending names bytes none (Forward (Send to value)) e h = none to value h
 no_sending names bytes none command e h = absurd cc
 
-pub no_choosing : (names : List (List ℕ)) (bytes : List ℕ) → ((role : ℕ) (name : List ℕ) → SpellsLine names bytes (RoleAt role ∷ Called name ∷ []) → ⊥) → (command : Forward) → verb_of command ≡ verbs.Choose → SpellsLine names bytes (arguments command) → ⊥
-no_choosing names bytes none (Choose to label) e h = none to label h
+pub no_choosing : (names : List (List ℕ)) (bytes : List ℕ) → ((role : ℕ) (name : List ℕ) → SpellsLine names bytes (RoleAt role ∷ Called name ∷ []) → ⊥) → (command : Command) → verb_of command ≡ verbs.Choose → SpellsLine names bytes (arguments command) → ⊥
+no_choosing names bytes none (Forward (Choose to label)) e h = none to label h
 no_choosing names bytes none command e h = absurd cc
 
-pub no_receiving : (names : List (List ℕ)) (bytes : List ℕ) → ((role : ℕ) (name : List ℕ) → SpellsLine names bytes (RoleAt role ∷ Called name ∷ []) → ⊥) → (command : Forward) → verb_of command ≡ verbs.Receive → SpellsLine names bytes (arguments command) → ⊥
-no_receiving names bytes none (Receive from slot) e h = none from slot h
+pub no_receiving : (names : List (List ℕ)) (bytes : List ℕ) → ((role : ℕ) (name : List ℕ) → SpellsLine names bytes (RoleAt role ∷ Called name ∷ []) → ⊥) → (command : Command) → verb_of command ≡ verbs.Receive → SpellsLine names bytes (arguments command) → ⊥
+no_receiving names bytes none (Forward (Receive from slot)) e h = none from slot h
 no_receiving names bytes none command e h = absurd cc
 
-pub no_picking : (names : List (List ℕ)) (bytes : List ℕ) → ((role : ℕ) → SpellsRole names bytes role → ⊥) → (command : Forward) → verb_of command ≡ verbs.Pick → SpellsLine names bytes (arguments command) → ⊥
-no_picking names bytes none (Pick from) e h = none from (alone names bytes (RoleAt from) h)
+pub no_picking : (names : List (List ℕ)) (bytes : List ℕ) → ((role : ℕ) → SpellsRole names bytes role → ⊥) → (command : Command) → verb_of command ≡ verbs.Pick → SpellsLine names bytes (arguments command) → ⊥
+no_picking names bytes none (Forward (Pick from)) e h = none from (alone names bytes (RoleAt from) h)
 no_picking names bytes none command e h = absurd cc
 
-pub no_marking : (names : List (List ℕ)) (bytes : List ℕ) → (IsName bytes → ⊥) → (command : Forward) → verb_of command ≡ verbs.Mark → SpellsLine names bytes (arguments command) → ⊥
-no_marking names bytes none (Mark name) e h = none (alone names bytes (Called name) h).allowed
+pub no_marking : (names : List (List ℕ)) (bytes : List ℕ) → (IsName bytes → ⊥) → (command : Command) → verb_of command ≡ verbs.Mark → SpellsLine names bytes (arguments command) → ⊥
+no_marking names bytes none (Forward (Mark name)) e h = none (alone names bytes (Called name) h).allowed
 no_marking names bytes none command e h = absurd cc
+
+pub no_undoing : (names : List (List ℕ)) (bytes : List ℕ) → ((id : ℕ) → SpellsNumber bytes id → ⊥) → (command : Command) → verb_of command ≡ verbs.Undo → SpellsLine names bytes (arguments command) → ⊥
+no_undoing names bytes none (Undo id) e h = none id (alone names bytes (Number id) h)
+no_undoing names bytes none (Forward (Mark name)) e h = absurd cc
+no_undoing names bytes none command e h = absurd cc
+
+pub no_rolling_back : (names : List (List ℕ)) (bytes : List ℕ) → ((id : ℕ) → SpellsNumber bytes id → ⊥) → (command : Command) → verb_of command ≡ verbs.Rollback → SpellsLine names bytes (arguments command) → ⊥
+no_rolling_back names bytes none (Rollback id) e h = none id (alone names bytes (Number id) h)
+no_rolling_back names bytes none (Forward (Mark name)) e h = absurd cc
+no_rolling_back names bytes none command e h = absurd cc
+
+pub no_going_back : (names : List (List ℕ)) (bytes : List ℕ) → (IsName bytes → ⊥) → (command : Command) → verb_of command ≡ verbs.Back → SpellsLine names bytes (arguments command) → ⊥
+no_going_back names bytes none (Back name) e h = none (alone names bytes (Called name) h).allowed
+no_going_back names bytes none (Forward (Mark name)) e h = absurd cc
+no_going_back names bytes none command e h = absurd cc
 
 -- what stands behind the role's name is no such line
 pub none_behind : (names : List (List ℕ)) (bytes rest : List ℕ) (u : Token) (ts : List Token) → ((role : ℕ) (other : List ℕ) → BeginsWith names bytes (RoleAt role) other → other ≡ rest) → (SpellsLine names rest (u ∷ ts) → ⊥) → (role : ℕ) → SpellsLine names bytes (RoleAt role ∷ u ∷ ts) → ⊥
@@ -129,7 +165,7 @@ pub name_read : (bytes name : List ℕ) → IsName bytes → name ≡ bytes → 
 name_read bytes name h e = record { is = sym e; allowed = h }
 
 -- the arguments that were read make a command behind their verb
-pub command_read : (names : List (List ℕ)) (bytes rest : List ℕ) (verb : Verb) (r : Result Forward LineFault) → bytes ≡ spaced (verb_word verb ∷ rest ∷ []) → IfOk r (λ command. verb_of command ≡ verb) → IfOk r (λ command. SpellsLine names rest (arguments command)) → IfOk r (SpellsCommand names bytes)
+pub command_read : (names : List (List ℕ)) (bytes rest : List ℕ) (verb : Verb) (r : Result Command LineFault) → bytes ≡ spaced (verb_word verb ∷ rest ∷ []) → IfOk r (λ command. verb_of command ≡ verb) → IfOk r (λ command. SpellsLine names rest (arguments command)) → IfOk r (SpellsCommand names bytes)
 command_read names bytes rest verb (Err fault) e v h = tt
 command_read names bytes rest verb (Ok command) e v h = command_of names bytes rest command (rw v e) h
 

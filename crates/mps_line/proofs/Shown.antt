@@ -1,6 +1,6 @@
 -- What is spelled stands on one line.
 use Rattle.std.proofs.Common.{arith, rules, ◌≡◌, ◌≢◌, ℕ, ◌<◌, ◌≤◌, List, [], ◌∷◌, length, Some}
-use Rattle.std.specs.Prelude.{Option, None, IsTrue, ⊤, codes}
+use Rattle.std.specs.Prelude.{Option, None, IsTrue, ⊤, map, codes}
 use Rattle.std.specs.List.{AllByRecursion}
 use Rattle.std.specs.Str.Parse.{AllDigits}
 use Rattle.std.proofs.lemmas.Bool.Decides.{nat_tests}
@@ -14,15 +14,18 @@ use Rattle.mps_base.proofs.Values.{shown}
 use Rattle.mps_command.specs.declared.answer.Violation.TheVariants.{Ended, WrongAct, WrongPeer, WrongSort, NoLabel, NothingQueued, Mismatch}
 use Rattle.mps_command.specs.declared.answer.Refusal.{Refusal}
 use Rattle.mps_command.specs.declared.answer.Refusal.TheVariants.{Violation as Violates, NoStep, NotYours, Needed, NoMark, Full, Memory}
-use Rattle.mps_command.specs.declared.command.Forward.{Forward}
+use Rattle.mps_command.specs.declared.answer.Answer.{Answer}
+use Rattle.mps_command.specs.declared.answer.Answer.TheVariants.{Done, Undone, Refused}
+use Rattle.mps_command.specs.declared.command.Command.{Command}
+use Rattle.mps_command.specs.declared.command.Command.TheVariants.{Forward, Undo, Rollback, Back}
 use Rattle.mps_command.specs.declared.command.Forward.TheVariants.{Send, Choose, Receive, Pick, Mark}
 use Rattle.mps_line.specs.declared.reply.Reply.{Reply}
-use Rattle.mps_line.specs.declared.reply.Reply.TheVariants.{Done as Accepted, Refused, BadLine}
+use Rattle.mps_line.specs.declared.reply.Reply.TheVariants.{Answered, BadLine}
 use Rattle.mps_line.specs.declared.script.Verb.{Verb}
 use Rattle.mps_line.specs.declared.script.Verb.TheVariants as verbs
 use Rattle.mps_line.specs.Tokens.{Token, Word, RoleAt, Called, Number, Worth, SpellsToken, SpellEach, SpellsLine}
 use Rattle.mps_line.specs.Commands.{verb_word, verb_of, arguments, SpellsScriptLine}
-use Rattle.mps_line.specs.Replies.{word_of, message_token, done_tokens, refusal_tokens, reply_tokens, SpellsReply}
+use Rattle.mps_line.specs.Replies.{word_of, message_token, done_tokens, refusal_tokens, answer_tokens, reply_tokens, SpellsReply}
 
 abbrev AreShown : List ℕ → Type 0
 AreShown bytes = AllByRecursion IsShown bytes
@@ -78,15 +81,21 @@ shown_verb verbs.Choose = search rules
 shown_verb verbs.Receive = search rules
 shown_verb verbs.Pick = search rules
 shown_verb verbs.Mark = search rules
+shown_verb verbs.Undo = search rules
+shown_verb verbs.Rollback = search rules
+shown_verb verbs.Back = search rules
 
-plain_arguments : (c : Forward) → AllByRecursion IsPlain (arguments c)
-plain_arguments (Send to value) = (tt, (tt, tt))
-plain_arguments (Choose to label) = (tt, (tt, tt))
-plain_arguments (Receive from slot) = (tt, (tt, tt))
-plain_arguments (Pick from) = (tt, tt)
-plain_arguments (Mark name) = (tt, tt)
+plain_arguments : (c : Command) → AllByRecursion IsPlain (arguments c)
+plain_arguments (Forward (Send to value)) = (tt, (tt, tt))
+plain_arguments (Forward (Choose to label)) = (tt, (tt, tt))
+plain_arguments (Forward (Receive from slot)) = (tt, (tt, tt))
+plain_arguments (Forward (Pick from)) = (tt, tt)
+plain_arguments (Forward (Mark name)) = (tt, tt)
+plain_arguments (Undo id) = (tt, tt)
+plain_arguments (Rollback id) = (tt, tt)
+plain_arguments (Back name) = (tt, tt)
 
-pub shown_line : (names : List (List ℕ)) (a : List ℕ) (p : ℕ) (c : Forward) → SpellsScriptLine names a p c → AreShown a
+pub shown_line : (names : List (List ℕ)) (a : List ℕ) (p : ℕ) (c : Command) → SpellsScriptLine names a p c → AreShown a
 shown_line names a p c h = shown_tokens names a _ (tt, (shown_verb (verb_of c), plain_arguments c)) h
 
 -- ---- replies
@@ -109,6 +118,9 @@ shown_word Memory = search rules
 done_word : AreShown (codes "done")
 done_word = search rules
 
+undone_word : AreShown (codes "undone")
+undone_word = search rules
+
 refused_word : AreShown (codes "refused")
 refused_word = search rules
 
@@ -127,9 +139,17 @@ plain_refusal : (r : Refusal) → AllByRecursion IsPlain (refusal_tokens r)
 plain_refusal (Needed by) = (shown_word (Needed by), (tt, tt))
 plain_refusal r = (shown_word r, tt)
 
+plain_numbers : (ids : List ℕ) → AllByRecursion IsPlain (map Number ids)
+plain_numbers [] = tt
+plain_numbers (id ∷ ids) = (tt, plain_numbers ids)
+
+plain_answer : (answer : Answer) → AllByRecursion IsPlain (answer_tokens answer)
+plain_answer (Done done) = (done_word, plain_done done.id done.got)
+plain_answer (Undone ids) = (undone_word, plain_numbers ids)
+plain_answer (Refused refusal) = (refused_word, plain_refusal refusal)
+
 plain_reply : (r : Reply) → AllByRecursion IsPlain (reply_tokens r)
-plain_reply (Accepted done) = (done_word, plain_done done.id done.got)
-plain_reply (Refused refusal) = (refused_word, plain_refusal refusal)
+plain_reply (Answered answer) = plain_answer answer
 plain_reply BadLine = (refused_word, (line_word, tt))
 
 pub shown_reply : (a : List ℕ) (r : Reply) → SpellsReply a r → AreShown a
@@ -158,6 +178,7 @@ some_word a letters ts some h = by_spellings h.spellings h.joined h.each
     by_spellings (s ∷ ss) e k = rw e (longer s ss (rw k.0 some))
 
 pub some_reply : (a : List ℕ) (r : Reply) → SpellsReply a r → 0 < length a
-some_reply a (Accepted done) h = some_word a (codes "done") _ (omega arith) h
-some_reply a (Refused refusal) h = some_word a (codes "refused") _ (omega arith) h
+some_reply a (Answered (Done done)) h = some_word a (codes "done") _ (omega arith) h
+some_reply a (Answered (Undone ids)) h = some_word a (codes "undone") _ (omega arith) h
+some_reply a (Answered (Refused refusal)) h = some_word a (codes "refused") _ (omega arith) h
 some_reply a BadLine h = some_word a (codes "refused") _ (omega arith) h

@@ -1,5 +1,7 @@
 -- What is spelled, and by what, is unique.
-use Rattle.std.proofs.Common.{◌≡◌, ℕ, List, [], ◌∷◌, Some, refl, sym, ap, ◌∙◌}
+use Rattle.std.proofs.Common.{◌≡◌, ℕ, ◌<◌, List, [], ◌∷◌, length, Some, refl, sym, ap, ◌∙◌}
+use Rattle.std.proofs.lemmas.Option.{same_Some, slice_get_within}
+use Rattle.std.specs.Option.{ForSome}
 use Rattle.std.specs.Prelude.{slice_get}
 use Rattle.mps_base.specs.RoleLists.{AreDistinct}
 use Rattle.mps_base.specs.Spaced.{spaced}
@@ -8,10 +10,11 @@ use Rattle.mps_base.specs.declared.value.Value.{Value}
 use Rattle.mps_base.proofs.Numbers.{same_number_text}
 use Rattle.mps_base.proofs.RoleLists.{one_place}
 use Rattle.mps_base.proofs.Values.{same_spelling}
-use Rattle.mps_command.specs.declared.command.Forward.{Forward}
+use Rattle.mps_command.specs.declared.command.Command.{Command}
+use Rattle.mps_command.specs.declared.command.Command.TheVariants.{Forward, Undo, Rollback, Back}
 use Rattle.mps_command.specs.declared.command.Forward.TheVariants.{Send, Choose, Receive, Pick, Mark}
-use Rattle.mps_line.specs.Tokens.{Token, Word, RoleAt, Called, Number, Worth, SpellsToken, SpellEach, SpellsLine, BeginsWith}
-use Rattle.mps_line.specs.Commands.{verb_of, arguments, SpellsCommand, SpellsScriptLine}
+use Rattle.mps_line.specs.Tokens.{Token, Word, RoleAt, Called, Number, Worth, SpellsRole, SpellsNumber, SpellsToken, SpellEach, SpellsLine, BeginsWith}
+use Rattle.mps_line.specs.Commands.{verb_of, arguments, SpellsCommand, SpellsScriptLine, NamesRolesOf}
 use Rattle.mps_line.proofs.Splitting.{one_split, name_has_no_space, behind, alone}
 use Rattle.mps_line.proofs.Reading.{one_verb, command_parts}
 
@@ -64,37 +67,68 @@ same_role names a p q t ts u us distinct h k =
 one_name : (names : List (List ℕ)) (a x y : List ℕ) → SpellsLine names a (Called x ∷ []) → SpellsLine names a (Called y ∷ []) → x ≡ y
 one_name names a x y h k = sym (alone names a (Called x) h).is ∙ (alone names a (Called y) k).is
 
+pub one_number : (a : List ℕ) (m n : ℕ) → SpellsNumber a m → SpellsNumber a n → m ≡ n
+one_number a m n h k = sym h.number.value ∙ k.number.value
+
+one_step : (names : List (List ℕ)) (a : List ℕ) (m n : ℕ) → SpellsLine names a (Number m ∷ []) → SpellsLine names a (Number n ∷ []) → m ≡ n
+one_step names a m n h k = one_number a m n (alone names a (Number m) h) (alone names a (Number n) k)
+
 -- a text spells one value
 module _ (one_value : (a : List ℕ) (v w : Value) → SpellsValue a v → SpellsValue a w → v ≡ w) where
-  same_arguments : (names : List (List ℕ)) (a : List ℕ) (c d : Forward) → AreDistinct names → verb_of c ≡ verb_of d → SpellsLine names a (arguments c) → SpellsLine names a (arguments d) → c ≡ d
-  same_arguments names a (Send p v) (Send q w) distinct e h k =
+  same_arguments : (names : List (List ℕ)) (a : List ℕ) (c d : Command) → AreDistinct names → verb_of c ≡ verb_of d → SpellsLine names a (arguments c) → SpellsLine names a (arguments d) → c ≡ d
+  same_arguments names a (Forward (Send p v)) (Forward (Send q w)) distinct e h k =
       let s = same_role names a p q (Worth v) [] (Worth w) [] distinct h k in
       let role : p ≡ q = s.role in
       let value : v ≡ w = one_value s.rest v w (alone names s.rest (Worth v) s.one) (alone names s.rest (Worth w) s.other) in
       cc
-  same_arguments names a (Choose p x) (Choose q y) distinct e h k =
+  same_arguments names a (Forward (Choose p x)) (Forward (Choose q y)) distinct e h k =
       let s = same_role names a p q (Called x) [] (Called y) [] distinct h k in
       let role : p ≡ q = s.role in
       let name : x ≡ y = one_name names s.rest x y s.one s.other in
       cc
-  same_arguments names a (Receive p x) (Receive q y) distinct e h k =
+  same_arguments names a (Forward (Receive p x)) (Forward (Receive q y)) distinct e h k =
       let s = same_role names a p q (Called x) [] (Called y) [] distinct h k in
       let role : p ≡ q = s.role in
       let name : x ≡ y = one_name names s.rest x y s.one s.other in
       cc
-  same_arguments names a (Pick p) (Pick q) distinct e h k =
-      ap Pick (one_place names a p q distinct (alone names a (RoleAt p) h).place (alone names a (RoleAt q) k).place)
-  same_arguments names a (Mark x) (Mark y) distinct e h k = ap Mark (one_name names a x y h k)
+  same_arguments names a (Forward (Pick p)) (Forward (Pick q)) distinct e h k =
+      ap (λ (role : ℕ). Forward (Pick role)) (one_place names a p q distinct (alone names a (RoleAt p) h).place (alone names a (RoleAt q) k).place)
+  same_arguments names a (Forward (Mark x)) (Forward (Mark y)) distinct e h k = ap (λ (name : List ℕ). Forward (Mark name)) (one_name names a x y h k)
+  same_arguments names a (Undo m) (Undo n) distinct e h k = ap Undo (one_step names a m n h k)
+  same_arguments names a (Rollback m) (Rollback n) distinct e h k = ap Rollback (one_step names a m n h k)
+  same_arguments names a (Back x) (Back y) distinct e h k = ap Back (one_name names a x y h k)
+  same_arguments names a (Undo m) (Forward (Mark y)) distinct e h k = absurd cc
+  same_arguments names a (Rollback m) (Forward (Mark y)) distinct e h k = absurd cc
+  same_arguments names a (Back x) (Forward (Mark y)) distinct e h k = absurd cc
   same_arguments names a c d distinct e h k = absurd cc
 
-  pub same_command : (names : List (List ℕ)) (a : List ℕ) (c d : Forward) → AreDistinct names → SpellsCommand names a c → SpellsCommand names a d → c ≡ d
+  pub same_command : (names : List (List ℕ)) (a : List ℕ) (c d : Command) → AreDistinct names → SpellsCommand names a c → SpellsCommand names a d → c ≡ d
   same_command names a c d distinct h k =
       let b = command_parts names a c h in
       let f = command_parts names a d k in
       let same = one_verb a (verb_of c) (verb_of d) b.rest f.rest b.parts f.parts in
       same_arguments names b.rest c d distinct same.0 b.spelled (rw (sym same.1) at f.spelled)
 
-  pub same_line : (names : List (List ℕ)) (a : List ℕ) (p q : ℕ) (c d : Forward) → AreDistinct names → SpellsScriptLine names a p c → SpellsScriptLine names a q d → (p ≡ q) × (c ≡ d)
+  pub same_line : (names : List (List ℕ)) (a : List ℕ) (p q : ℕ) (c d : Command) → AreDistinct names → SpellsScriptLine names a p c → SpellsScriptLine names a q d → (p ≡ q) × (c ≡ d)
   same_line names a p q c d distinct h k =
       let s = same_role names a p q _ (arguments c) _ (arguments d) distinct h k in
       (s.role, same_command names s.rest c d distinct s.one s.other)
+
+-- ---- the role that is named
+
+place_within : (names : List (List ℕ)) (a : List ℕ) (role : ℕ) → SpellsRole names a role → ForSome (Some role) (λ peer. peer < length names)
+place_within names a role h peer e = rw (same_Some peer role (sym e)) (slice_get_within names role a h.place)
+
+-- it is one of these
+pub names_roles : (names : List (List ℕ)) (a : List ℕ) (c : Command) → SpellsCommand names a c → NamesRolesOf names c
+names_roles names a c h = let k = command_parts names a c h in by_arguments c k.rest k.spelled
+  where
+    first : (rest : List ℕ) (role : ℕ) (t : Token) → SpellsLine names rest (RoleAt role ∷ t ∷ []) → ForSome (Some role) (λ peer. peer < length names)
+    first rest role t k = let b = behind names rest (RoleAt role) t [] k in place_within names b.1.front role b.1.spelled
+
+    by_arguments : (c : Command) (rest : List ℕ) → SpellsLine names rest (arguments c) → NamesRolesOf names c
+    by_arguments (Forward (Send to value)) rest k = first rest to (Worth value) k
+    by_arguments (Forward (Choose to label)) rest k = first rest to (Called label) k
+    by_arguments (Forward (Receive from slot)) rest k = first rest from (Called slot) k
+    by_arguments (Forward (Pick from)) rest k = place_within names rest from (alone names rest (RoleAt from) k)
+    by_arguments c rest k = λ peer e. absurd cc

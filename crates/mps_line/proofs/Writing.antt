@@ -1,17 +1,17 @@
 -- What is written in several steps.
-use Rattle.std.proofs.Common.{arith, ◌≡◌, ℕ, List, [], ◌∷◌, ◌++◌, append_assoc, refl, sym, ap, ◌∙◌}
+use Rattle.std.proofs.Common.{arith, ◌≡◌, ℕ, ◌+◌, List, [], ◌∷◌, ◌++◌, get_or, append_assoc, refl, sym, ap, subst, ◌∙◌}
 use Rattle.std.proofs.Math.Seq.{take-append_seam}
-use Rattle.std.proofs.lemmas.List.{take-append-drop}
+use Rattle.std.proofs.lemmas.List.{take-append-drop, take_more, map-append}
 use Rattle.std.specs.Io.{StartsWith}
-use Rattle.std.specs.Prelude.{◌<◌, Result, Ok, Err, Option, Some, None, OnOk, OnErr, length, take, drop, codes}
+use Rattle.std.specs.Prelude.{◌<◌, Result, Ok, Err, Option, Some, None, OnOk, OnErr, length, take, drop, map, codes}
 use Rattle.mps_base.specs.Appends.{Appends}
 use Rattle.mps_base.specs.declared.action.Message.{Message}
 use Rattle.mps_command.specs.declared.answer.Refusal.{Refusal}
 use Rattle.mps_command.specs.declared.answer.Refusal.TheVariants.{Needed}
 use Rattle.mps_line.specs.declared.reply.Reply.TheVariants.{BadLine}
-use Rattle.mps_line.specs.Replies.{word_of, done_tokens, refusal_tokens, SpellsReply}
-use Rattle.mps_line.specs.Tokens.{Token, Word, SpellsToken, SpellsLine}
-use Rattle.mps_line.proofs.Splitting.{joined, line_of_one}
+use Rattle.mps_line.specs.Replies.{word_of, done_tokens, undone_tokens, refusal_tokens, SpellsReply}
+use Rattle.mps_line.specs.Tokens.{Token, Word, Number, SpellsNumber, SpellsToken, SpellsLine}
+use Rattle.mps_line.proofs.Splitting.{behind, joined, alone, line_of_one}
 
 -- what is written behind what was written
 pub written_more : {T E : Type 0} (P Q : List ℕ → Type 0) (r : Result T E) (old pushed new front : List ℕ) → pushed ≡ old ++ front → ((text : List ℕ) → P text → Q (front ++ text)) → OnOk r (Appends P pushed new) → OnOk r (Appends Q old new)
@@ -20,20 +20,25 @@ written_more P Q (Ok x) old pushed new front f g a =
     (front ++ a.0, a.1 ∙ ap (λ m. m ++ a.0) f ∙ append_assoc old front a.0, g a.0 a.2)
 
 -- a token and a space in front of a line
-pub token_before : {T E : Type 0} (r : Result T E) (old pushed new bytes : List ℕ) (t u : Token) (ts : List Token) → SpellsToken [] bytes t → pushed ≡ old ++ (bytes ++ 32 ∷ []) → OnOk r (Appends (λ text. SpellsLine [] text (u ∷ ts)) pushed new) → OnOk r (Appends (λ text. SpellsLine [] text (t ∷ u ∷ ts)) old new)
-token_before r old pushed new bytes t u ts h e =
-    written_more (λ text. SpellsLine [] text (u ∷ ts)) (λ text. SpellsLine [] text (t ∷ u ∷ ts)) r old pushed new (bytes ++ 32 ∷ []) e
-    (λ text k. joined [] ((bytes ++ 32 ∷ []) ++ text) t u ts text (record { front = bytes; parts = append_assoc bytes (32 ∷ []) text; spelled = h }) k)
+pub token_before : {T E : Type 0} (names : List (List ℕ)) (r : Result T E) (old pushed new bytes : List ℕ) (t u : Token) (ts : List Token) → SpellsToken names bytes t → pushed ≡ old ++ (bytes ++ 32 ∷ []) → OnOk r (Appends (λ text. SpellsLine names text (u ∷ ts)) pushed new) → OnOk r (Appends (λ text. SpellsLine names text (t ∷ u ∷ ts)) old new)
+token_before names r old pushed new bytes t u ts h e =
+    written_more (λ text. SpellsLine names text (u ∷ ts)) (λ text. SpellsLine names text (t ∷ u ∷ ts)) r old pushed new (bytes ++ 32 ∷ []) e
+    (λ text k. joined names ((bytes ++ 32 ∷ []) ++ text) t u ts text (record { front = bytes; parts = append_assoc bytes (32 ∷ []) text; spelled = h }) k)
 
 -- a token that was written, and a space behind it
-pub token_written : {T E : Type 0} (r : Result T E) (old mid pushed new : List ℕ) (t u : Token) (ts : List Token) → Appends (λ text. SpellsToken [] text t) old mid → pushed ≡ mid ++ 32 ∷ [] → OnOk r (Appends (λ text. SpellsLine [] text (u ∷ ts)) pushed new) → OnOk r (Appends (λ text. SpellsLine [] text (t ∷ u ∷ ts)) old new)
-token_written r old mid pushed new t u ts a p b =
-    token_before r old pushed new a.0 t u ts a.2 (p ∙ ap (λ m. m ++ 32 ∷ []) a.1 ∙ append_assoc old a.0 (32 ∷ [])) b
+pub token_written : {T E : Type 0} (names : List (List ℕ)) (r : Result T E) (old mid pushed new : List ℕ) (t u : Token) (ts : List Token) → Appends (λ text. SpellsToken names text t) old mid → pushed ≡ mid ++ 32 ∷ [] → OnOk r (Appends (λ text. SpellsLine names text (u ∷ ts)) pushed new) → OnOk r (Appends (λ text. SpellsLine names text (t ∷ u ∷ ts)) old new)
+token_written names r old mid pushed new t u ts a p b =
+    token_before names r old pushed new a.0 t u ts a.2 (p ∙ ap (λ m. m ++ 32 ∷ []) a.1 ∙ append_assoc old a.0 (32 ∷ [])) b
 
 -- a word and a space in front of some tokens
-word_before : {T E : Type 0} (r : Result T E) (old pushed new letters : List ℕ) (ts : List Token) → 0 < length ts → pushed ≡ old ++ (letters ++ 32 ∷ []) → OnOk r (Appends (λ text. SpellsLine [] text ts) pushed new) → OnOk r (Appends (λ text. SpellsLine [] text (Word letters ∷ ts)) old new)
-word_before r old pushed new letters [] some e b = absurd (omega (arith, some))
-word_before r old pushed new letters (u ∷ ts) some e b = token_before r old pushed new letters (Word letters) u ts refl e b
+pub word_before : {T E : Type 0} (names : List (List ℕ)) (r : Result T E) (old pushed new letters : List ℕ) (ts : List Token) → 0 < length ts → pushed ≡ old ++ (letters ++ 32 ∷ []) → OnOk r (Appends (λ text. SpellsLine names text ts) pushed new) → OnOk r (Appends (λ text. SpellsLine names text (Word letters ∷ ts)) old new)
+word_before names r old pushed new letters [] some e b = absurd (omega (arith, some))
+word_before names r old pushed new letters (u ∷ ts) some e b = token_before names r old pushed new letters (Word letters) u ts refl e b
+
+-- a word that was written, and a space behind it
+pub word_written : {T E : Type 0} (names : List (List ℕ)) (r : Result T E) (old mid pushed new letters : List ℕ) (ts : List Token) → 0 < length ts → mid ≡ old ++ letters → pushed ≡ mid ++ 32 ∷ [] → OnOk r (Appends (λ text. SpellsLine names text ts) pushed new) → OnOk r (Appends (λ text. SpellsLine names text (Word letters ∷ ts)) old new)
+word_written names r old mid pushed new letters ts some a p b =
+    word_before names r old pushed new letters ts some (p ∙ ap (λ m. m ++ 32 ∷ []) a ∙ append_assoc old letters (32 ∷ [])) b
 
 some_done : (id : ℕ) (got : Option Message) → 0 < length (done_tokens id got)
 some_done id None = omega arith
@@ -44,10 +49,10 @@ some_refusal (Needed by) = omega arith
 some_refusal r = omega arith
 
 pub done_before : {T E : Type 0} (r : Result T E) (old pushed new : List ℕ) (id : ℕ) (got : Option Message) → pushed ≡ old ++ codes "done " → OnOk r (Appends (λ text. SpellsLine [] text (done_tokens id got)) pushed new) → OnOk r (Appends (λ text. SpellsLine [] text (Word (codes "done") ∷ done_tokens id got)) old new)
-done_before r old pushed new id got e b = word_before r old pushed new (codes "done") (done_tokens id got) (some_done id got) e b
+done_before r old pushed new id got e b = word_before [] r old pushed new (codes "done") (done_tokens id got) (some_done id got) e b
 
 pub refused_before : {T E : Type 0} (r : Result T E) (old pushed new : List ℕ) (refusal : Refusal) → pushed ≡ old ++ codes "refused " → OnOk r (Appends (λ text. SpellsLine [] text (refusal_tokens refusal)) pushed new) → OnOk r (Appends (λ text. SpellsLine [] text (Word (codes "refused") ∷ refusal_tokens refusal)) old new)
-refused_before r old pushed new refusal e b = word_before r old pushed new (codes "refused") (refusal_tokens refusal) (some_refusal refusal) e b
+refused_before r old pushed new refusal e b = word_before [] r old pushed new (codes "refused") (refusal_tokens refusal) (some_refusal refusal) e b
 
 pub lone_word : (r : Refusal) (bytes : List ℕ) → ((by : ℕ) → r ≡ Needed by → ⊥) → bytes ≡ word_of r → SpellsLine [] bytes (refusal_tokens r)
 lone_word (Needed by) bytes other e = absurd (other by refl)
@@ -57,9 +62,31 @@ pub bad_line : SpellsReply (codes "refused line") BadLine
 bad_line = record { spellings = codes "refused" ∷ codes "line" ∷ []; joined = refl; each = (refl, (refl, tt)) }
 
 -- one token alone
-pub token_alone : {T E : Type 0} (r : Result T E) (old new : List ℕ) (t : Token) → OnOk r (Appends (λ text. SpellsToken [] text t) old new) → OnOk r (Appends (λ text. SpellsLine [] text (t ∷ [])) old new)
-token_alone (Err e) old new t a = tt
-token_alone (Ok x) old new t a = (a.0, a.1, line_of_one [] a.0 t a.2)
+pub token_alone : {T E : Type 0} (names : List (List ℕ)) (r : Result T E) (old new : List ℕ) (t : Token) → OnOk r (Appends (λ text. SpellsToken names text t) old new) → OnOk r (Appends (λ text. SpellsLine names text (t ∷ [])) old new)
+token_alone names (Err e) old new t a = tt
+token_alone names (Ok x) old new t a = (a.0, a.1, line_of_one names a.0 t a.2)
+
+-- a token behind a line
+token_behind : (names : List (List ℕ)) (a b : List ℕ) (t : Token) (ts : List Token) (u : Token) → SpellsLine names a (t ∷ ts) → SpellsToken names b u → SpellsLine names (a ++ 32 ∷ b) (t ∷ (ts ++ u ∷ []))
+token_behind names a b t [] u h k =
+    joined names (a ++ 32 ∷ b) t u [] b (record { front = a; parts = refl; spelled = alone names a t h }) (line_of_one names b u k)
+token_behind names a b t (v ∷ ts) u h k =
+    let s = behind names a t v ts h in
+    joined names (a ++ 32 ∷ b) t v (ts ++ u ∷ []) (s.0 ++ 32 ∷ b)
+    (record { front = s.1.front; parts = ap (λ l. l ++ 32 ∷ b) s.1.parts ∙ append_assoc s.1.front (32 ∷ s.0) (32 ∷ b); spelled = s.1.spelled })
+    (token_behind names s.0 b v ts u s.2 k)
+
+-- one more number behind those that were written
+pub number_written : (ids : List ℕ) (k d : ℕ) (old before pushed new : List ℕ) → k < length ids → Appends (λ text. SpellsLine [] text (undone_tokens (take k ids))) old before → pushed ≡ before ++ 32 ∷ [] → Appends (λ text. SpellsNumber text (get_or ids k d)) pushed new → Appends (λ text. SpellsLine [] text (undone_tokens (take (k + 1) ids))) old new
+number_written ids k d old before pushed new less a p b =
+    let more : map Number (take (k + 1) ids) ≡ map Number (take k ids) ++ Number (get_or ids k d) ∷ [] =
+    ap (map Number) (take_more ids k d less) ∙ map-append Number (take k ids) (get_or ids k d ∷ []) in (
+      a.0 ++ 32 ∷ b.0,
+      b.1 ∙ ap (λ (m : List ℕ). m ++ b.0) (p ∙ ap (λ (m : List ℕ). m ++ 32 ∷ []) a.1)
+          ∙ append_assoc (old ++ a.0) (32 ∷ []) b.0 ∙ append_assoc old a.0 (32 ∷ b.0),
+      subst (λ (ts : List Token). SpellsLine [] (a.0 ++ 32 ∷ b.0) (Word (codes "undone") ∷ ts)) (sym more)
+          (token_behind [] a.0 b.0 (Word (codes "undone")) (map Number (take k ids)) (Number (get_or ids k d)) a.2 b.2),
+    )
 
 -- what was there before stays in front
 pub still_in_front : {T E : Type 0} (r : Result T E) (old mid pushed new text end : List ℕ) → mid ≡ old ++ text → pushed ≡ mid ++ end → OnErr r (StartsWith new pushed) → OnErr r (StartsWith new old)

@@ -1,10 +1,12 @@
 -- How the commands of a script are spelled.
-use Rattle.std.specs.Prelude.{ℕ, List, [], ◌∷◌, codes}
-use Rattle.mps_command.specs.declared.command.Forward.{Forward}
+use Rattle.std.specs.Prelude.{ℕ, ◌<◌, List, [], ◌∷◌, length, codes, Option, Some, None}
+use Rattle.std.specs.Option.{ForSome}
+use Rattle.mps_command.specs.declared.command.Command.{Command}
+use Rattle.mps_command.specs.declared.command.Command.TheVariants.{Forward, Undo, Rollback, Back}
 use Rattle.mps_command.specs.declared.command.Forward.TheVariants.{Send, Choose, Receive, Pick, Mark}
 use Rattle.mps_line.specs.declared.script.Verb.{Verb}
 use Rattle.mps_line.specs.declared.script.Verb.TheVariants as verbs
-use Rattle.mps_line.specs.Tokens.{Token, Word, RoleAt, Called, Worth, SpellsLine}
+use Rattle.mps_line.specs.Tokens.{Token, Word, RoleAt, Called, Number, Worth, SpellsLine}
 
 -- the first word of a command
 abbrev pub verb_word : Verb → List ℕ
@@ -13,31 +15,52 @@ verb_word verbs.Choose = codes "choose"
 verb_word verbs.Receive = codes "recv"
 verb_word verbs.Pick = codes "pick"
 verb_word verbs.Mark = codes "mark"
+verb_word verbs.Undo = codes "undo"
+verb_word verbs.Rollback = codes "rollback"
+verb_word verbs.Back = codes "back"
 
 -- the verb of a command
-abbrev pub verb_of : Forward → Verb
-verb_of (Send to value) = verbs.Send
-verb_of (Choose to label) = verbs.Choose
-verb_of (Receive from slot) = verbs.Receive
-verb_of (Pick from) = verbs.Pick
-verb_of (Mark name) = verbs.Mark
+abbrev pub verb_of : Command → Verb
+verb_of (Forward (Send to value)) = verbs.Send
+verb_of (Forward (Choose to label)) = verbs.Choose
+verb_of (Forward (Receive from slot)) = verbs.Receive
+verb_of (Forward (Pick from)) = verbs.Pick
+verb_of (Forward (Mark name)) = verbs.Mark
+verb_of (Undo id) = verbs.Undo
+verb_of (Rollback id) = verbs.Rollback
+verb_of (Back name) = verbs.Back
 
 -- the tokens behind the verb
-abbrev pub arguments : Forward → List Token
-arguments (Send to value) = RoleAt to ∷ Worth value ∷ []
-arguments (Choose to label) = RoleAt to ∷ Called label ∷ []
-arguments (Receive from slot) = RoleAt from ∷ Called slot ∷ []
-arguments (Pick from) = RoleAt from ∷ []
-arguments (Mark name) = Called name ∷ []
+abbrev pub arguments : Command → List Token
+arguments (Forward (Send to value)) = RoleAt to ∷ Worth value ∷ []
+arguments (Forward (Choose to label)) = RoleAt to ∷ Called label ∷ []
+arguments (Forward (Receive from slot)) = RoleAt from ∷ Called slot ∷ []
+arguments (Forward (Pick from)) = RoleAt from ∷ []
+arguments (Forward (Mark name)) = Called name ∷ []
+arguments (Undo id) = Number id ∷ []
+arguments (Rollback id) = Number id ∷ []
+arguments (Back name) = Called name ∷ []
 
 -- the verb and its arguments
-abbrev pub command_tokens : Forward → List Token
+abbrev pub command_tokens : Command → List Token
 command_tokens command = Word (verb_word (verb_of command)) ∷ arguments command
 
--- `send PEER VALUE`, `choose PEER LABEL`, `recv PEER SLOT`, `pick PEER` or `mark NAME`
-abbrev pub SpellsCommand : (names : List (List ℕ)) → List ℕ → Forward → Type 0
+-- `send PEER VALUE`, `choose PEER LABEL`, `recv PEER SLOT`, `pick PEER`, `mark NAME`, `undo NUMBER`, `rollback NUMBER` or `back NAME`
+abbrev pub SpellsCommand : (names : List (List ℕ)) → List ℕ → Command → Type 0
 SpellsCommand names bytes command = SpellsLine names bytes (command_tokens command)
 
 -- a role's name in front of a command
-abbrev pub SpellsScriptLine : (names : List (List ℕ)) → List ℕ → (role : ℕ) → Forward → Type 0
+abbrev pub SpellsScriptLine : (names : List (List ℕ)) → List ℕ → (role : ℕ) → Command → Type 0
 SpellsScriptLine names bytes role command = SpellsLine names bytes (RoleAt role ∷ command_tokens command)
+
+-- the role that a command names, where it names one
+abbrev pub peer_of : Command → Option ℕ
+peer_of (Forward (Send to value)) = Some to
+peer_of (Forward (Choose to label)) = Some to
+peer_of (Forward (Receive from slot)) = Some from
+peer_of (Forward (Pick from)) = Some from
+peer_of command = None
+
+-- the command names no role but those that have these names
+abbrev pub NamesRolesOf : (names : List (List ℕ)) → Command → Type 0
+NamesRolesOf names command = ForSome (peer_of command) (λ peer. peer < length names)

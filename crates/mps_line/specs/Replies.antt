@@ -1,13 +1,14 @@
 -- How the answers to commands are spelled.
-use Rattle.std.specs.Prelude.{ℕ, List, [], ◌∷◌, codes, Option, Some, None, Result, Ok, Err}
+use Rattle.std.specs.Prelude.{ℕ, List, [], ◌∷◌, map, codes, Option, Some, None}
 use Rattle.mps_base.specs.declared.action.Message.{Message}
 use Rattle.mps_base.specs.declared.action.Message.TheVariants.{Value as Plain, Label}
 use Rattle.mps_command.specs.declared.answer.Violation.TheVariants.{Ended, WrongAct, WrongPeer, WrongSort, NoLabel, NothingQueued, Mismatch}
 use Rattle.mps_command.specs.declared.answer.Refusal.{Refusal}
 use Rattle.mps_command.specs.declared.answer.Refusal.TheVariants.{Violation as Violates, NoStep, NotYours, Needed, NoMark, Full, Memory}
-use Rattle.mps_command.specs.declared.answer.Done.{Done}
+use Rattle.mps_command.specs.declared.answer.Answer.{Answer}
+use Rattle.mps_command.specs.declared.answer.Answer.TheVariants.{Done, Undone, Refused}
 use Rattle.mps_line.specs.declared.reply.Reply.{Reply}
-use Rattle.mps_line.specs.declared.reply.Reply.TheVariants.{Done as Accepted, Refused, BadLine}
+use Rattle.mps_line.specs.declared.reply.Reply.TheVariants.{Answered, BadLine}
 use Rattle.mps_line.specs.Tokens.{Token, Word, Called, Number, Worth, SpellsLine}
 
 -- the word for a refusal
@@ -41,17 +42,21 @@ abbrev pub refusal_tokens : Refusal → List Token
 refusal_tokens (Needed by) = Word (word_of (Needed by)) ∷ Number by ∷ []
 refusal_tokens refusal = Word (word_of refusal) ∷ []
 
--- `done NUMBER`, `done NUMBER MESSAGE`, `refused WORD`, `refused needed NUMBER` or `refused line`
+-- the word, and behind it the number of each step
+abbrev pub undone_tokens : List ℕ → List Token
+undone_tokens ids = Word (codes "undone") ∷ map Number ids
+
+-- `done NUMBER`, `done NUMBER MESSAGE`, `undone NUMBER NUMBER ..`, `refused WORD` or `refused needed NUMBER`
+abbrev pub answer_tokens : Answer → List Token
+answer_tokens (Done done) = Word (codes "done") ∷ done_tokens done.id done.got
+answer_tokens (Undone ids) = undone_tokens ids
+answer_tokens (Refused refusal) = Word (codes "refused") ∷ refusal_tokens refusal
+
+-- those of the answer, or `refused line`
 abbrev pub reply_tokens : Reply → List Token
-reply_tokens (Accepted done) = Word (codes "done") ∷ done_tokens done.id done.got
-reply_tokens (Refused refusal) = Word (codes "refused") ∷ refusal_tokens refusal
+reply_tokens (Answered answer) = answer_tokens answer
 reply_tokens BadLine = Word (codes "refused") ∷ Word (codes "line") ∷ []
 
 -- a line of these tokens, none of which is a role's name
 abbrev pub SpellsReply : List ℕ → Reply → Type 0
 SpellsReply bytes reply = SpellsLine [] bytes (reply_tokens reply)
-
--- the reply to a step that was accepted or refused
-abbrev pub reply_to : Result Done Refusal → Reply
-reply_to (Ok done) = Accepted done
-reply_to (Err refusal) = Refused refusal

@@ -5,9 +5,11 @@ pub mod laws;
 pub mod parts;
 pub mod reply;
 pub mod script;
+pub mod spelling;
 
 pub use reply::Reply;
 pub use script::{LineFault, read_command, read_script_line};
+pub use spelling::write_command;
 
 #[cfg(test)]
 mod tests;

@@ -1,9 +1,13 @@
 //! The parts of a line.
-ghost use Rattle.std.specs.Prelude.{◌≡◌, ◌≢◌, ℕ, List, [], ◌∷◌, IfSome, IfNone, ◌<◌, All, length, slice_index, take};
+ghost use Rattle.std.specs.Prelude.{◌≡◌, ◌≢◌, ℕ, List, [], ◌∷◌, IfSome, IfNone, IfOk, OnOk, OnErr, IsOkUnless, ◌<◌, All, length, slice_index, take};
+ghost use Rattle.mps_base.specs.Appends.{Appends};
+ghost use Rattle.mps_base.specs.Names.{IsName};
 ghost use Rattle.mps_base.specs.Spaced.{spaced};
-ghost use Rattle.mps_line.specs.Tokens.{RoleAt, Called, HasNoSpace, SpellsRole, SpellsLine, BeginsWith};
+ghost use Rattle.mps_line.specs.Tokens.{RoleAt, Called, HasNoSpace, SpellsRole, SpellsName, SpellsNumber, SpellsLine, BeginsWith};
 
-use mps_base::{Name, Role, Roles};
+use crate::script::LineFault;
+use mps_base::{Name, Role, Roles, StepId, read_number, write_number};
+use std::alloc::AllocError;
 
 // Where the first space stands.
 fn first_space(bytes: &[u8]) -> Option<usize>
@@ -45,6 +49,30 @@ pub(crate) fn read_role(roles: &Roles, bytes: &[u8]) -> Option<Role>
     roles.find_spelled(bytes)
 }
 
+// The name.
+pub(crate) fn read_name(bytes: &[u8]) -> Result<Name, LineFault>
+    ensures read { IfOk result (SpellsName bytes.now) }
+    ensures bad { OnErr result (IsName bytes.now → ⊥) }
+    ensures only { IsOkUnless result LineFault.Bad }
+{
+    match Name::read(bytes) {
+        Some(name) => Ok(name),
+        None => Err(LineFault::Bad),
+    }
+}
+
+// The step of that number.
+pub(crate) fn read_step(bytes: &[u8]) -> Result<StepId, LineFault>
+    ensures read { IfOk result (SpellsNumber bytes.now) }
+    ensures bad { OnErr result ((id : ℕ) → SpellsNumber bytes.now id → ⊥) }
+    ensures only { IsOkUnless result LineFault.Bad }
+{
+    match read_number(bytes) {
+        Some(number) => Ok(StepId::new(number)),
+        None => Err(LineFault::Bad),
+    }
+}
+
 // The role whose name stands before the first space, and what stands behind it.
 #[tactic(auto, using(crate::proofs::Splitting::no_role_alone))]
 #[inline(always)]
@@ -60,15 +88,45 @@ pub(crate) fn split_role<'a>(roles: &Roles, bytes: &'a [u8]) -> Option<(Role, &'
 }
 
 // The role and the name behind it.
-pub(crate) fn read_role_and_name(roles: &Roles, bytes: &[u8]) -> Option<(Role, Name)>
-    ensures read { IfSome result
+pub(crate) fn read_role_and_name(roles: &Roles, bytes: &[u8]) -> Result<(Role, Name), LineFault>
+    ensures read { IfOk result
         (λ r. SpellsLine roles.now bytes.now (RoleAt r.0 ∷ Called r.1 ∷ [])) }
-    ensures none { IfNone result ((role : ℕ) (name : List ℕ)
+    ensures bad { OnErr result ((role : ℕ) (name : List ℕ)
         → SpellsLine roles.now bytes.now (RoleAt role ∷ Called name ∷ []) → ⊥) }
+    ensures only { IsOkUnless result LineFault.Bad }
 {
     let Some(parts) = split_role(roles, bytes) else {
-        return None;
+        return Err(LineFault::Bad);
     };
-    let (role, name) = parts;
-    Some((role, Name::read(name)?))
+    let (role, text) = parts;
+    let name = read_name(text)?;
+    Ok((role, name))
+}
+
+// Writes the role's name.
+pub(crate) fn write_role(roles: &Roles, role: Role, out: &mut Vec<u8>) -> Result<(), AllocError>
+    requires { role < length roles.now }
+    ensures ok { OnOk result
+        (Appends (λ text. SpellsRole roles.now text role) out.old.items out.new.items) }
+    ensures err { OnErr result (out.new.items ≡ out.old.items) }
+{
+    out.extend_from_slice(roles.name(role).as_bytes())
+}
+
+// Writes the name.
+pub(crate) fn write_name(name: &Name, out: &mut Vec<u8>) -> Result<(), AllocError>
+    ensures ok { OnOk result
+        (Appends (λ text. SpellsName text name.now) out.old.items out.new.items) }
+    ensures err { OnErr result (out.new.items ≡ out.old.items) }
+{
+    out.extend_from_slice(name.as_bytes())
+}
+
+// Writes the number of the step.
+pub(crate) fn write_step(id: StepId, out: &mut Vec<u8>) -> Result<(), AllocError>
+    ensures ok { OnOk result
+        (Appends (λ text. SpellsNumber text id) out.old.items out.new.items) }
+    ensures err { OnErr result (out.new.items ≡ out.old.items) }
+{
+    write_number(id.number(), out)
 }

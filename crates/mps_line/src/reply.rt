@@ -3,36 +3,25 @@ ghost use Rattle.std.specs.Prelude.{◌≡◌, [], OnOk, OnErr};
 ghost use Rattle.std.specs.Io.{StartsWith};
 ghost use Rattle.mps_base.specs.Appends.{Appends};
 ghost use Rattle.mps_command.specs.declared.answer.Refusal.TheVariants.{Violation as Violates};
-ghost use Rattle.mps_line.specs.Tokens.{SpellsNumber, SpellsToken, SpellsLine};
-ghost use Rattle.mps_line.specs.Replies.{message_token, done_tokens, refusal_tokens, word_of};
+ghost use Rattle.mps_line.specs.Tokens.{SpellsToken, SpellsLine};
+ghost use Rattle.mps_line.specs.Replies.{message_token, done_tokens, undone_tokens, refusal_tokens, answer_tokens, word_of};
 
-use mps_base::{Message, StepId, write_number};
-use mps_command::{Done, Refusal, Violation};
+use crate::parts::write_step;
+use mps_base::{Message, StepId};
+use mps_command::{Answer, Done, Refusal, Violation};
 use std::alloc::AllocError;
 
-/// The answer to a line of a script.
+/// The reply to a line of a script.
 #[derive(Drop)]
 pub enum Reply {
-    /// The step was accepted.
-    Done(Done),
-    /// The command was refused, and nothing has changed.
-    Refused(Refusal),
+    /// The answer to the command that the line spells.
+    Answered(Answer),
     /// The line is spelled like no command.
     BadLine,
 }
 
 impl Reply {
-    ghost use Rattle.mps_line.specs.Replies.{SpellsReply, reply_to};
-
-    /// The reply to a step that was accepted or refused.
-    pub fn of(answer: Result<Done, Refusal>) -> Reply
-        ensures { result ≡ reply_to answer }
-    {
-        match answer {
-            Ok(done) => Reply::Done(done),
-            Err(refusal) => Reply::Refused(refusal),
-        }
-    }
+    ghost use Rattle.mps_line.specs.Replies.{SpellsReply};
 
     /// Writes the reply at the end, without a line break.
     pub fn write(&self, out: &mut Vec<u8>) -> Result<(), AllocError>
@@ -55,15 +44,27 @@ impl Reply {
         ensures err { OnErr result (StartsWith out.new.items out.old.items) }
     {
         match self {
-            Reply::Done(done) => {
-                out.extend_from_slice(b"done ")?;
-                write_done(done, out)
-            }
-            Reply::Refused(refusal) => {
-                out.extend_from_slice(b"refused ")?;
-                write_refusal(refusal, out)
-            }
+            Reply::Answered(answer) => write_answer(answer, out),
             Reply::BadLine => out.extend_from_slice(b"refused line"),
+        }
+    }
+}
+
+// Writes the answer, or a part of it.
+fn write_answer(answer: &Answer, out: &mut Vec<u8>) -> Result<(), AllocError>
+    ensures ok { OnOk result (Appends
+        (λ text. SpellsLine [] text (answer_tokens answer.now)) out.old.items out.new.items) }
+    ensures err { OnErr result (StartsWith out.new.items out.old.items) }
+{
+    match answer {
+        Answer::Done(done) => {
+            out.extend_from_slice(b"done ")?;
+            write_done(done, out)
+        }
+        Answer::Undone(ids) => write_undone(ids.as_slice(), out),
+        Answer::Refused(refusal) => {
+            out.extend_from_slice(b"refused ")?;
+            write_refusal(refusal, out)
         }
     }
 }
@@ -97,6 +98,20 @@ fn write_message(message: &Message, out: &mut Vec<u8>) -> Result<(), AllocError>
     }
 }
 
+// Writes the word and the numbers of the steps, or a part of them.
+fn write_undone(ids: &[StepId], out: &mut Vec<u8>) -> Result<(), AllocError>
+    ensures ok { OnOk result (Appends
+        (λ text. SpellsLine [] text (undone_tokens ids.now)) out.old.items out.new.items) }
+    ensures err { OnErr result (StartsWith out.new.items out.old.items) }
+{
+    out.extend_from_slice(b"undone")?;
+    for id in ids {
+        out.push(b' ')?;
+        write_step(*id, out)?;
+    }
+    Ok(())
+}
+
 // Writes why the command was refused, or a part of it.
 fn write_refusal(refusal: &Refusal, out: &mut Vec<u8>) -> Result<(), AllocError>
     ensures ok { OnOk result (Appends
@@ -111,14 +126,6 @@ fn write_refusal(refusal: &Refusal, out: &mut Vec<u8>) -> Result<(), AllocError>
         }
         _ => Ok(()),
     }
-}
-
-// Writes the number of the step.
-fn write_step(id: StepId, out: &mut Vec<u8>) -> Result<(), AllocError>
-    ensures ok { OnOk result (Appends (λ text. SpellsNumber text id) out.old.items out.new.items) }
-    ensures err { OnErr result (StartsWith out.new.items out.old.items) }
-{
-    write_number(id.number(), out)
 }
 
 // The word for a refusal.

@@ -3,15 +3,16 @@ ghost use Rattle.std.specs.Prelude.{◌≡◌, ◌≢◌, ℕ, List, [], ◌∷�
 ghost use Rattle.mps_base.specs.Spaced.{spaced};
 ghost use Rattle.mps_base.specs.declared.value.Value.{Value};
 ghost use Rattle.mps_base.specs.declared.value.Value.TheVariants as values;
-ghost use Rattle.mps_command.specs.declared.command.Forward.{Forward};
-ghost use Rattle.mps_command.specs.declared.command.Forward.TheVariants as commands;
+ghost use Rattle.mps_command.specs.declared.command.Command.{Command};
+ghost use Rattle.mps_command.specs.declared.command.Command.TheVariants as commands;
+ghost use Rattle.mps_command.specs.declared.command.Forward.TheVariants as steps;
 ghost use Rattle.mps_line.specs.declared.script.Verb.{Verb};
 ghost use Rattle.mps_line.specs.Tokens.{RoleAt, Worth, SpellsLine};
 ghost use Rattle.mps_line.specs.Commands.{verb_word, verb_of, arguments, SpellsCommand, SpellsScriptLine};
 
-use crate::parts::{behind, read_role, read_role_and_name, split_role};
-use mps_base::{Name, Role, Roles, Value, ValueFault};
-use mps_command::Forward;
+use crate::parts::{behind, read_name, read_role, read_role_and_name, read_step, split_role};
+use mps_base::{Role, Roles, Value, ValueFault};
+use mps_command::{Command, Forward};
 use std::alloc::Global;
 use thiserror::Error;
 
@@ -32,6 +33,9 @@ pub enum Verb {
     Receive,
     Pick,
     Mark,
+    Undo,
+    Rollback,
+    Back,
 }
 
 /// Reads a line of a script: a role's name and its command.
@@ -39,14 +43,14 @@ pub fn read_script_line(
     alloc: Global,
     roles: &Roles,
     bytes: &[u8],
-) -> Result<(Role, Forward), LineFault>
+) -> Result<(Role, Command), LineFault>
     ensures read { IfOk result (λ r. SpellsScriptLine roles.now bytes.now r.0 r.1) }
-    ensures bad { IsErrOf result LineFault.Bad → (role : ℕ) (command : Forward)
+    ensures bad { IsErrOf result LineFault.Bad → (role : ℕ) (command : Command)
         → SpellsScriptLine roles.now bytes.now role command → ⊥ }
 
     // Only the sending of a text takes memory.
     ensures memory { IsErrOf result LineFault.Memory → (role : ℕ) × (to : ℕ) × (text : List ℕ)
-        × SpellsScriptLine roles.now bytes.now role (commands.Send to (values.Text text)) }
+        × SpellsScriptLine roles.now bytes.now role (commands.Forward (steps.Send to (values.Text text))) }
 {
     let Some(parts) = split_role(roles, bytes) else {
         return Err(LineFault::Bad);
@@ -57,14 +61,14 @@ pub fn read_script_line(
 }
 
 /// Reads a command that takes all of the bytes.
-pub fn read_command(alloc: Global, roles: &Roles, bytes: &[u8]) -> Result<Forward, LineFault>
+pub fn read_command(alloc: Global, roles: &Roles, bytes: &[u8]) -> Result<Command, LineFault>
     ensures read { IfOk result (SpellsCommand roles.now bytes.now) }
-    ensures bad { IsErrOf result LineFault.Bad → (command : Forward)
+    ensures bad { IsErrOf result LineFault.Bad → (command : Command)
         → SpellsCommand roles.now bytes.now command → ⊥ }
 
     // Only the sending of a text takes memory.
     ensures memory { IsErrOf result LineFault.Memory → (to : ℕ) × (text : List ℕ)
-        × SpellsCommand roles.now bytes.now (commands.Send to (values.Text text)) }
+        × SpellsCommand roles.now bytes.now (commands.Forward (steps.Send to (values.Text text))) }
 {
     let Some((verb, rest)) = split_verb(bytes) else {
         return Err(LineFault::Bad);
@@ -90,7 +94,16 @@ fn split_verb(bytes: &[u8]) -> Option<(Verb, &[u8])>
     if let Some(rest) = behind(bytes, b"pick") {
         return Some((Verb::Pick, rest));
     }
-    Some((Verb::Mark, behind(bytes, b"mark")?))
+    if let Some(rest) = behind(bytes, b"mark") {
+        return Some((Verb::Mark, rest));
+    }
+    if let Some(rest) = behind(bytes, b"undo") {
+        return Some((Verb::Undo, rest));
+    }
+    if let Some(rest) = behind(bytes, b"rollback") {
+        return Some((Verb::Rollback, rest));
+    }
+    Some((Verb::Back, behind(bytes, b"back")?))
 }
 
 // The command of that verb with these arguments.
@@ -99,10 +112,10 @@ fn read_arguments(
     roles: &Roles,
     verb: Verb,
     bytes: &[u8],
-) -> Result<Forward, LineFault>
+) -> Result<Command, LineFault>
     ensures verb { IfOk result (λ command. verb_of command ≡ verb) }
     ensures read { IfOk result (λ command. SpellsLine roles.now bytes.now (arguments command)) }
-    ensures bad { IsErrOf result LineFault.Bad → (command : Forward) → verb_of command ≡ verb
+    ensures bad { IsErrOf result LineFault.Bad → (command : Command) → verb_of command ≡ verb
         → SpellsLine roles.now bytes.now (arguments command) → ⊥ }
     ensures send { IsErrOf result LineFault.Memory → verb ≡ Verb.Send }
     ensures memory { IsErrOf result LineFault.Memory → (to : ℕ) × (text : List ℕ)
@@ -111,32 +124,29 @@ fn read_arguments(
     match verb {
         Verb::Send => {
             let (to, value) = read_role_and_value(alloc, roles, bytes)?;
-            Ok(Forward::Send { to, value })
+            Ok(Command::Forward(Forward::Send { to, value }))
         }
         Verb::Choose => {
-            let Some((to, label)) = read_role_and_name(roles, bytes) else {
-                return Err(LineFault::Bad);
-            };
-            Ok(Forward::Choose { to, label })
+            let (to, label) = read_role_and_name(roles, bytes)?;
+            Ok(Command::Forward(Forward::Choose { to, label }))
         }
         Verb::Receive => {
-            let Some((from, slot)) = read_role_and_name(roles, bytes) else {
-                return Err(LineFault::Bad);
-            };
-            Ok(Forward::Receive { from, slot })
+            let (from, slot) = read_role_and_name(roles, bytes)?;
+            Ok(Command::Forward(Forward::Receive { from, slot }))
         }
         Verb::Pick => {
             let Some(from) = read_role(roles, bytes) else {
                 return Err(LineFault::Bad);
             };
-            Ok(Forward::Pick { from })
+            Ok(Command::Forward(Forward::Pick { from }))
         }
         Verb::Mark => {
-            let Some(name) = Name::read(bytes) else {
-                return Err(LineFault::Bad);
-            };
-            Ok(Forward::Mark { name })
+            let name = read_name(bytes)?;
+            Ok(Command::Forward(Forward::Mark { name }))
         }
+        Verb::Undo => Ok(Command::Undo(read_step(bytes)?)),
+        Verb::Rollback => Ok(Command::Rollback(read_step(bytes)?)),
+        Verb::Back => Ok(Command::Back(read_name(bytes)?)),
     }
 }
 

@@ -1,6 +1,10 @@
+ghost use Rattle.std.specs.Prelude.{◌≡◌, IfOk};
+ghost use Rattle.mps_line.specs.Commands.{NamesRolesOf};
+
 use super::*;
+use crate::laws::one_command;
 use mps_base::{Message, Name, Role, Roles, StepId, Value};
-use mps_command::{Done, Forward, Refusal, Violation};
+use mps_command::{Answer, Command, Done, Forward, Refusal, StepIds, Violation};
 use std::alloc::Global;
 use std::test::Fail;
 
@@ -13,14 +17,30 @@ fn roles(alloc: Global) -> Result<Roles, Fail> {
     Ok(Roles::of(alloc, &[name(b"a")?, name(b"b")?, name(b"c")?])?)
 }
 
-// The role of the line, and its command as it was read: a word, the peer's place, and the value or the name.
+// The role of the line, and its command as it was read, in words: the peer is a place.
 fn read(alloc: Global, line: &[u8]) -> Result<(usize, String), Fail> {
     let (role, command) = read_script_line(alloc, &roles(alloc)?, line)?;
     Ok((role.index(), shown(alloc, &command)?))
 }
 
 // The command in words.
-fn shown(alloc: Global, command: &Forward) -> Result<String, Fail> {
+fn shown(alloc: Global, command: &Command) -> Result<String, Fail> {
+    match command {
+        Command::Forward(step) => shown_step(alloc, step),
+        Command::Undo(id) => numbered(alloc, "undoes", *id),
+        Command::Rollback(id) => numbered(alloc, "takes back", *id),
+        Command::Back(name) => worded(alloc, "goes back to", None, name.as_bytes()),
+    }
+}
+
+// A word and the number of a step.
+fn numbered(alloc: Global, word: &str, id: StepId) -> Result<String, Fail> {
+    let number = id.number();
+    Ok(format!(in alloc; "{word} {number}")?)
+}
+
+// The step that a role wants to take, in words.
+fn shown_step(alloc: Global, command: &Forward) -> Result<String, Fail> {
     let mut text = Vec::new(alloc);
     match command {
         Forward::Send { to, value } => {
@@ -65,6 +85,9 @@ fn good_lines(rt: HostRuntime) -> Result<(), Fail> {
         ("c pick a", 2, "picks 0 "),
         ("b mark m", 1, "mark m"),
         ("b mark send", 1, "mark send"),
+        ("b undo 3", 1, "undoes 3"),
+        ("c rollback 0", 2, "takes back 0"),
+        ("a back m", 0, "goes back to m"),
     ];
     for (line, role, text) in good {
         let found = read(rt.alloc(), line.as_bytes())?;
@@ -123,21 +146,104 @@ fn bad_lines(rt: HostRuntime) -> Result<(), Fail> {
     Ok(())
 }
 
+// The command as it is written, and what that is read as.
+fn again(alloc: Global, roles: &Roles, command: &Command) -> Result<(Vec<u8>, Command), Fail>
+    requires { NamesRolesOf roles.now command.now }
+    ensures { IfOk result (λ r. r.1 ≡ command.now) }
+{
+    let (_one, _distinct) = (one_command(), roles.count());
+    let mut line = Vec::new(alloc);
+    write_command(roles, command, &mut line)?;
+    let read = read_command(alloc, roles, &line)?;
+    Ok((line, read))
+}
+
 #[test]
 fn commands_alone(rt: HostRuntime) -> Result<(), Fail> {
     let (alloc, roles) = (rt.alloc(), roles(rt.alloc())?);
-    let found = read_command(alloc, &roles, b"a send b 5");
-    assert!(rt; matches!(found, Err(LineFault::Bad)));
     let good = [
         ("send b 5", "to 1 5"),
+        ("send c -9223372036854775808", "to 2 -9223372036854775808"),
+        ("send b false", "to 1 false"),
+        ("send b \"good day\"", "to 1 \"good day\""),
+        ("send b \" 5 \"", "to 1 \" 5 \""),
+        ("send b \"\"", "to 1 \"\""),
         ("choose b ok", "chooses 1 ok"),
         ("recv a x", "from 0 x"),
         ("pick a", "picks 0 "),
         ("mark m", "mark m"),
+        ("mark undo", "mark undo"),
+        ("undo 3", "undoes 3"),
+        ("undo 0", "undoes 0"),
+        ("undo 18446744073709551615", "undoes 18446744073709551615"),
+        ("rollback 1", "takes back 1"),
+        (
+            "rollback 18446744073709551615",
+            "takes back 18446744073709551615",
+        ),
+        ("back m", "goes back to m"),
+        ("back rollback", "goes back to rollback"),
     ];
     for (line, text) in good {
         let command = read_command(alloc, &roles, line.as_bytes())?;
         assert_eq!(rt; shown(alloc, &command)?.as_str(), text);
+        one_command();
+        let (written, read) = again(alloc, &roles, &command)?;
+        assert_eq!(rt; written.as_slice(), line.as_bytes());
+        assert_eq!(rt; shown(alloc, &read)?.as_str(), text);
+    }
+    Ok(())
+}
+
+#[test]
+fn bad_commands(rt: HostRuntime) -> Result<(), Fail> {
+    let roles = roles(rt.alloc())?;
+    let bad = [
+        "",
+        " ",
+        "a send b 5",
+        "send b  5",
+        "send z 5",
+        "send b 05",
+        "undo 03",
+        "undo",
+        "undo ",
+        "undo 3 ",
+        "undo  3",
+        " undo 3",
+        "Undo 3",
+        "undo +3",
+        "undo -1",
+        "undo 00",
+        "undo 3.0",
+        "undo x",
+        "undo 3 4",
+        "undo3",
+        "undo\t3",
+        "undo 18446744073709551616",
+        "undo 100000000000000000000",
+        "undone 3",
+        "rollback x",
+        "rollback",
+        "rollback 03",
+        "rollback 18446744073709551616",
+        "roll 3",
+        "back 3",
+        "back",
+        "back ",
+        "back end",
+        "back m ",
+        "back M",
+        "backm",
+        "mark end",
+        "show",
+        "news 0",
+        "done 1",
+        "refused line",
+    ];
+    for line in bad {
+        let found = read_command(rt.alloc(), &roles, line.as_bytes());
+        assert!(rt; matches!(found, Err(LineFault::Bad)), "{line}");
     }
     Ok(())
 }
@@ -147,15 +253,47 @@ fn done(rt: HostRuntime) -> Result<(), Fail> {
     let good_day = Value::read(rt.alloc(), b"\"good day\"")?;
     let replies = [
         (1, None, "#done 1"),
-        (2, Some(Message::Value(Value::Int(5))), "#done 2 5"),
+        (0, None, "#done 0"),
+        (
+            u64::MAX,
+            Some(Message::Value(Value::Bool(true))),
+            "#done 18446744073709551615 true",
+        ),
+        (2, Some(Message::Value(Value::Int(-5))), "#done 2 -5"),
         (6, Some(Message::Label(name(b"ok")?)), "#done 6 ok"),
         (4, Some(Message::Value(good_day)), "#done 4 \"good day\""),
     ];
     for (number, got, text) in replies {
         let id = StepId::new(number);
-        let out = written(rt.alloc(), &Reply::of(Ok(Done { id, got })))?;
+        let reply = Reply::Answered(Answer::Done(Done { id, got }));
+        let out = written(rt.alloc(), &reply)?;
         assert_eq!(rt; out.as_slice(), text.as_bytes());
     }
+    Ok(())
+}
+
+#[test]
+fn undone(rt: HostRuntime) -> Result<(), Fail> {
+    let lists = [
+        ([].as_slice(), "#undone"),
+        ([1].as_slice(), "#undone 1"),
+        ([4, 3, 2, 1].as_slice(), "#undone 4 3 2 1"),
+        ([0, u64::MAX].as_slice(), "#undone 0 18446744073709551615"),
+    ];
+    for (numbers, text) in lists {
+        let mut ids = Vec::new(rt.alloc());
+        for number in numbers {
+            ids.push(StepId::new(*number))?;
+        }
+        let reply = Reply::Answered(Answer::Undone(StepIds::of(ids)));
+        let out = written(rt.alloc(), &reply)?;
+        assert_eq!(rt; out.as_slice(), text.as_bytes());
+    }
+    let one = Reply::Answered(Answer::Undone(StepIds::one(StepId::new(7))));
+    assert_eq!(rt;
+        written(rt.alloc(), &one)?.as_slice(),
+        b"#undone 7".as_slice()
+    );
     Ok(())
 }
 
@@ -187,7 +325,7 @@ fn refused(rt: HostRuntime) -> Result<(), Fail> {
         (Refusal::Memory, "#refused memory"),
     ];
     for (refusal, text) in refusals {
-        let out = written(rt.alloc(), &Reply::of(Err(refusal)))?;
+        let out = written(rt.alloc(), &Reply::Answered(Answer::Refused(refusal)))?;
         assert_eq!(rt; out.as_slice(), text.as_bytes());
     }
     let out = written(rt.alloc(), &Reply::BadLine)?;

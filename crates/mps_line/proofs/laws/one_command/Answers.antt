@@ -1,5 +1,5 @@
 use Rattle.mps_line.specs.Commands.{command_tokens}
-use Rattle.mps_line.proofs.Unique.{same_command, line_spelling}
+use Rattle.mps_line.proofs.Unique.{same_command, line_spelling, names_roles}
 use Rattle.mps_line.proofs.laws.one_command.Goals as goal
 
 pub returns-clause-command : goal.returns-clause-command
@@ -7,3 +7,6 @@ returns-clause-command c = same_command c.one_spelling.ensures.value
 
 pub returns-clause-spelling : goal.returns-clause-spelling
 returns-clause-spelling c = λ names a b d. line_spelling names a b (command_tokens d)
+
+pub returns-clause-known : goal.returns-clause-known
+returns-clause-known c = names_roles

@@ -6,7 +6,7 @@ use Rattle.mps_line.proofs.reply.write_done.Goals as goal
 
 pub returns-in_ok-push-in-Some-clause-ok : goal.returns-in_ok-push-in-Some-clause-ok
 returns-in_ok-push-in-Some-clause-ok c =
-    rw c.in-Some.is (token_written _ _ _ _ _ (Number c.args.done.now.id) _ [] c.in_ok-write_step.ensures.ok c.in_ok-push-in-Some.ensures.items (token_alone _ _ _ _ c.write_message.ensures.ok))
+    rw c.in-Some.is (token_written [] _ _ _ _ _ (Number c.args.done.now.id) _ [] c.in_ok-write_step.ensures.ok c.in_ok-push-in-Some.ensures.items (token_alone [] _ _ _ _ c.write_message.ensures.ok))
 
 pub returns-in_ok-push-in-Some-clause-err : goal.returns-in_ok-push-in-Some-clause-err
 returns-in_ok-push-in-Some-clause-err c =

@@ -7,9 +7,9 @@ use Rattle.mps_line.proofs.reply.write_refusal.Goals as goal
 
 pub returns-in_ok-push-in-Needed-clause-ok : goal.returns-in_ok-push-in-Needed-clause-ok
 returns-in_ok-push-in-Needed-clause-ok c =
-    rw c.in-Needed.is (token_written _ _ _ _ _ (Word (word_of (Needed c.in-Needed.by))) (Number c.in-Needed.by) []
+    rw c.in-Needed.is (token_written [] _ _ _ _ _ (Word (word_of (Needed c.in-Needed.by))) (Number c.in-Needed.by) []
     (c.word_of.result.now, c.in_ok-extend_from_slice.ensures.items, rw c.in-Needed.is at c.word_of.ensures)
-    c.in_ok-push-in-Needed.ensures.items (token_alone _ _ _ _ c.write_step.ensures.ok))
+    c.in_ok-push-in-Needed.ensures.items (token_alone [] _ _ _ _ c.write_step.ensures.ok))
 
 pub returns-in_default : goal.returns-in_default
 returns-in_default c =

@@ -1,4 +1,5 @@
 use Rattle.mps_base.specs.declared.value.Value.TheVariants.{Text}
+use Rattle.mps_command.specs.declared.command.Command.TheVariants.{Forward}
 use Rattle.mps_command.specs.declared.command.Forward.TheVariants.{Send}
 use Rattle.mps_line.proofs.Reading.{no_command, command_of, command_parts, command_read}
 use Rattle.mps_line.proofs.script.read_command.Goals as goal
@@ -16,4 +17,4 @@ returns-clause-bad c = λ e. no_command _ _ _ _ c.in-Some.ensures.read (c.read_a
 pub returns-clause-memory : goal.returns-clause-memory
 returns-clause-memory c = λ e.
     let k = c.read_arguments.ensures.memory e in
-    (k.0, k.1, command_of _ _ _ (Send k.0 (Text k.1)) (rw (c.read_arguments.ensures.send e) at c.in-Some.ensures.read) k.2)
+    (k.0, k.1, command_of _ _ _ (Forward (Send k.0 (Text k.1))) (rw (c.read_arguments.ensures.send e) at c.in-Some.ensures.read) k.2)

@@ -1,18 +1,8 @@
 use Rattle.std.specs.Prelude.{codes}
 use Rattle.mps_base.proofs.Numbers.{appends_ok}
-use Rattle.mps_line.proofs.Writing.{done_before, refused_before, bad_line}
+use Rattle.mps_line.proofs.Writing.{bad_line}
 use Rattle.mps_line.proofs.reply.Reply.write_parts.Goals as goal
-
-pub returns-in_ok-extend_from_slice-in-Done-clause-ok :
-    goal.returns-in_ok-extend_from_slice-in-Done-clause-ok
-returns-in_ok-extend_from_slice-in-Done-clause-ok c =
-    rw c.in-Done.is (done_before _ _ _ _ _ _ c.in_ok-extend_from_slice-in-Done.ensures.items c.write_done.ensures.ok)
-
-pub returns-in_ok-extend_from_slice-in-Refused-clause-ok :
-    goal.returns-in_ok-extend_from_slice-in-Refused-clause-ok
-returns-in_ok-extend_from_slice-in-Refused-clause-ok c =
-    rw c.in-Refused.is (refused_before _ _ _ _ _ c.in_ok-extend_from_slice-in-Refused.ensures.items c.write_refusal.ensures.ok)
 
 pub returns-in-BadLine-clause-ok : goal.returns-in-BadLine-clause-ok
 returns-in-BadLine-clause-ok c =
-    rw c.in-BadLine.is (appends_ok _ _ _ (codes "refused line") _ c.extend_from_slice-in-BadLine.ensures.items bad_line)
+    rw c.in-BadLine.is (appends_ok _ _ _ (codes "refused line") _ c.extend_from_slice.ensures.items bad_line)

@@ -1,0 +1,12 @@
+use Rattle.mps_line.proofs.Writing.{done_before, refused_before}
+use Rattle.mps_line.proofs.reply.write_answer.Goals as goal
+
+pub returns-in_ok-extend_from_slice-in-Done-clause-ok :
+    goal.returns-in_ok-extend_from_slice-in-Done-clause-ok
+returns-in_ok-extend_from_slice-in-Done-clause-ok c =
+    rw c.in-Done.is (done_before _ _ _ _ _ _ c.in_ok-extend_from_slice-in-Done.ensures.items c.write_done.ensures.ok)
+
+pub returns-in_ok-extend_from_slice-in-Refused-clause-ok :
+    goal.returns-in_ok-extend_from_slice-in-Refused-clause-ok
+returns-in_ok-extend_from_slice-in-Refused-clause-ok c =
+    rw c.in-Refused.is (refused_before _ _ _ _ _ c.in_ok-extend_from_slice-in-Refused.ensures.items c.write_refusal.ensures.ok)

@@ -1,0 +1,12 @@
+use Rattle.mps_line.specs.Tokens.{Called, Number}
+use Rattle.mps_line.proofs.Writing.{token_alone}
+use Rattle.mps_line.proofs.spelling.write_arguments.Goals as goal
+
+pub returns-in-Undo-clause-ok : goal.returns-in-Undo-clause-ok
+returns-in-Undo-clause-ok c = rw c.in-Undo.is (token_alone _ _ _ _ (Number c.in-Undo.id) c.write_step.ensures.ok)
+
+pub returns-in-Rollback-clause-ok : goal.returns-in-Rollback-clause-ok
+returns-in-Rollback-clause-ok c = rw c.in-Rollback.is (token_alone _ _ _ _ (Number c.in-Rollback.id) c.write_step-in-Rollback.ensures.ok)
+
+pub returns-in-Back-clause-ok : goal.returns-in-Back-clause-ok
+returns-in-Back-clause-ok c = rw c.in-Back.is (token_alone _ _ _ _ (Called c.in-Back.name) c.write_name.ensures.ok)
