@@ -253,6 +253,7 @@ impl Log {
         ensures history { steps self.new.entries
             ≡ without (steps self.old.entries) (λ m. m == result.id) }
         ensures issued { self.new.issued ≡ self.old.issued }
+        ensures sound { AreSound self.new.entries }
     {
         give_back(&mut self.queues, &self.arena, key);
         unbind(&mut self.stores, &self.arena, key);

@@ -1,6 +1,7 @@
 -- What a session keeps after an accepted act is what the view has then.
 use Rattle.std.proofs.Common.{◌≡◌, ◌≢◌, ℕ, zero, suc, ◌+◌, ◌<◌, List, [], ◌∷◌, ◌++◌, length, get_or, set, Option, Some, None, refl, sym, ap, ◌∙◌, subst, arith, ⊎_elim, ◌⊎◌, inl, inr}
 use Rattle.std.specs.Prelude.{slice_get, unwrap_or, IsSome}
+use Rattle.std.specs.List.{AllByRecursion}
 use mathlib.Core.Path.{ap₂}
 use Rattle.std.proofs.lemmas.Bool.{cases_eq}
 use Rattle.std.proofs.lemmas.List.{get_or-set_same, get_or-set_other, length-set, map-append}
@@ -55,8 +56,12 @@ split_push (x ∷ es) (z ∷ a) b e y h =
     (λ (w : (a ≡ es) × (y ≡ e)). inr (ap₂ (λ (k : Entry) (l : List Entry). k ∷ l) (sym head) w.0, w.1))
     (split_push es a b e y tail)
 
+all_push : (P : Entry → Type 0) (es : List Entry) (e : Entry) → AllByRecursion P es → P e → AllByRecursion P (es ++ e ∷ [])
+all_push P [] e a p = (p, tt)
+all_push P (x ∷ es) e a p = (a.0, all_push P es e a.1 p)
+
 -- each role keeps its table
-same_table : (cursors : List Cursor) (p r : ℕ) (node : ℕ) → p < length cursors → (get_or (set cursors p (went node (get_or cursors p nowhere))) r nowhere).table ≡ (get_or cursors r nowhere).table
+pub same_table : (cursors : List Cursor) (p r : ℕ) (node : ℕ) → p < length cursors → (get_or (set cursors p (went node (get_or cursors p nowhere))) r nowhere).table ≡ (get_or cursors r nowhere).table
 same_table cursors p r node inside =
     ⊎_elim
     (λ (e : r ≡ p). ap (λ (k : ℕ). (get_or (set cursors p (went node (get_or cursors p nowhere))) k nowhere).table) e
@@ -174,6 +179,8 @@ module _ (types : List LocalType) (c : Configuration) (holds : Holds types c) wh
       acted_holds room = record {
         sound = subst (IsSound types) (sym state_then) (accepted_sound types (state_of c) p act holds.sound fine);
         roles = holds.roles;
+        peers = holds.peers;
+        members = subst (AllByRecursion (λ (y : Entry). y.step.role < n)) (sym acted.joined.entries) (all_push (λ y. y.step.role < n) c.entries last holds.members less);
         kept = acted.joined.sound;
         cursors = rw (acted.cursors, steps_then, new_view) cursors_then;
         placed = placed_then;
@@ -197,6 +204,8 @@ pub opened_holds : (types : List LocalType) (c : Configuration) → HasRoleCount
 opened_holds types c count peers o = record {
   sound = subst (IsSound types) (sym state) (initial_sound types);
   roles = count;
+  peers = peers;
+  members = subst (AllByRecursion (λ (y : Entry). y.step.role < length types)) (sym o.entries) tt;
   kept = subst AreSound (sym o.entries) sound_nil;
   cursors = subst (λ (l : List Entry). AreCursors (length types) c.cursors (view_of types (steps l))) (sym o.entries)
       (record {

@@ -8,3 +8,9 @@ pub mod Moved
 pub mod Serving
 pub mod Starting
 pub mod Opened
+pub mod Fronts
+pub mod Numbered
+pub mod Aside
+pub mod Returning
+pub mod Undoing
+pub mod Trying

@@ -1,5 +1,5 @@
 -- What a session answers, against the plain machine.
-use Rattle.std.specs.Prelude.{◌≡◌, ℕ, Result, Err, IsOk}
+use Rattle.std.specs.Prelude.{◌≡◌, ℕ, ⊤, List, [], ◌∷◌, Result, Ok, Err, IsOk}
 use Rattle.std.specs.Borrow.{Bor}
 use Rattle.mps_base.specs.declared.action.Act.{Act}
 use Rattle.mps_base.specs.declared.action.Step.{Step}
@@ -11,6 +11,11 @@ use Rattle.mps_command.specs.declared.answer.Refusal.TheVariants.{Memory}
 abbrev pub IsAnswer : Result Done Refusal → Result Done Refusal → Type 0
 IsAnswer (Err Memory) answer = IsOk answer
 IsAnswer result answer = result ≡ answer
+
+-- the answer to an undo of the step of that number, as the machine gives it: the number alone is told
+abbrev pub undo_answer : ℕ → Result ⊤ Refusal → Result (List ℕ) Refusal
+undo_answer id (Ok done) = Ok (id ∷ [])
+undo_answer id (Err refusal) = Err refusal
 
 -- a step, as it is shown
 abbrev pub as_step : ℕ × ℕ × Bor Act → Step

@@ -1,5 +1,6 @@
 -- How a session keeps the view that replaying its steps gives, of n roles.
 use Rattle.std.specs.Prelude.{◌≡◌, ℕ, ◌<◌, ◌≤◌, List, ◌∷◌, ◌++◌, length, slice_index_or}
+use Rattle.std.specs.List.{AllByRecursion}
 use Rattle.mps_base.specs.RoleLists.{HasRoleCount}
 use Rattle.mps_local.specs.Local.{LocalType}
 use Rattle.mps_machine.specs.View.{View}
@@ -9,7 +10,7 @@ use Rattle.mps_table.specs.Standing.{StandsFor}
 use Rattle.mps_session.specs.Configurations.{Configuration, cursor_of, state_of}
 use Rattle.mps_session.specs.Cursors.{IsFor, nowhere}
 use Rattle.mps_session.specs.declared.cursor.Cursor.{Cursor}
-use Rattle.mps_session.specs.Peers.{HasPeers}
+use Rattle.mps_session.specs.Peers.{HasPeers, HavePeers}
 
 -- a cursor for each role, for what it may still do; its peers are other roles
 pub record AreCursors (n : ℕ) (cursors : List Cursor) (v : View) : Type 0 where
@@ -22,10 +23,12 @@ abbrev pub ArePlaced : List LocalType → Configuration → Type 0
 ArePlaced types c =
     (a b : List Entry) (e : Entry) → c.entries ≡ a ++ e ∷ b → StandsFor (cursor_of c e.step.role).table e.before.at ((view_of types (steps a)).participant e.step.role).to_come
 
--- what the session keeps is the view of its steps, and numbers are still counted
+-- what the session keeps is the view of its steps, which its roles took, and numbers are still counted
 pub record Holds (types : List LocalType) (c : Configuration) : Type 0 where
   pub sound : IsSound types (state_of c)
   pub roles : HasRoleCount types
+  pub peers : HavePeers types
+  pub members : AllByRecursion (λ e. e.step.role < length types) c.entries
   pub kept : AreSound c.entries
   pub cursors : AreCursors (length types) c.cursors (view_of types (steps c.entries))
   pub placed : ArePlaced types c

@@ -6,3 +6,4 @@ pub mod Held
 pub mod Answers
 pub mod Opening
 pub mod Protocols
+pub mod Leaving

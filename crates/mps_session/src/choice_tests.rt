@@ -47,7 +47,7 @@ fn verdict(alloc: Global) -> Result<Vec<Local>, Fail> {
 }
 
 // a tells b to go on, and gets a text from it, or to stop.
-fn looping(alloc: Global) -> Result<Vec<Local>, Fail> {
+pub(super) fn looping(alloc: Global) -> Result<Vec<Local>, Fail> {
     let x = variable("X")?;
     let told = Local::recv(alloc, Role::new(B), Sort::Text, Local::Var(x))?;
     let tells = Local::send(alloc, Role::new(A), Sort::Text, Local::Var(x))?;
@@ -294,7 +294,7 @@ fn gives_out_a_hundred_thousand_numbers(rt: HostRuntime) -> Result<(), Fail> {
 }
 
 // b keeps what a gives it, in a loop.
-fn giving(alloc: Global) -> Result<Vec<Local>, Fail> {
+pub(super) fn giving(alloc: Global) -> Result<Vec<Local>, Fail> {
     let x = variable("X")?;
     let gives = Local::send(alloc, Role::new(B), Sort::Int, Local::Var(x))?;
     let takes = Local::recv(alloc, Role::new(A), Sort::Int, Local::Var(x))?;

@@ -6,6 +6,7 @@ mod cursor;
 pub mod open;
 pub mod protocol;
 pub mod session;
+mod undo;
 
 pub use mps_command::{Done, Forward, Refusal, Violation};
 pub use mps_local::LocalFault;
@@ -21,3 +22,5 @@ mod choice_tests;
 mod protocol_tests;
 #[cfg(test)]
 mod tests;
+#[cfg(test)]
+mod undo_tests;

@@ -32,8 +32,8 @@ pub const MAX_NUMBERS: u64 = 100_000;
 /// One conversation of 2 to 8 roles: their types, and the steps that they took.
 #[derive(Drop)]
 pub struct Session {
-    types: Vec<Local>,
-    configuration: Configuration,
+    pub(crate) types: Vec<Local>,
+    pub(crate) configuration: Configuration,
 }
 
 impl Model for Session {

@@ -1,7 +1,7 @@
 ghost use Rattle.std.specs.Prelude.{◌<◌, length, IfOk};
 
 use super::*;
-use mps_base::{Act, Message, Name, Role, Sort, Value};
+use mps_base::{Act, Message, Name, Role, Sort, StepId, Value};
 use mps_local::Local;
 use std::alloc::Global;
 use std::test::Fail;
@@ -97,6 +97,38 @@ pub(super) fn answer(
     told(alloc, session.forward(role, command))
 }
 
+// What the role at this place would be answered.
+fn tried(alloc: Global, session: &mut Session, place: u8, ask: Ask) -> Result<String, Fail> {
+    let command = command(alloc, ask)?;
+    let role = role_of(session, place)?;
+    told(alloc, session.dry_run(role, command))
+}
+
+// The refusal of an undo, and the step that is in its way.
+fn refused(alloc: Global, refusal: Refusal) -> Result<String, Fail> {
+    match refusal {
+        Refusal::Needed { by } => {
+            let by = by.number();
+            Ok(format!(in alloc; "Needed {by}")?)
+        }
+        _ => Ok(format!(in alloc; "{refusal:?}")?),
+    }
+}
+
+// What the role at this place is answered where it takes the step of that number back.
+pub(super) fn undone(
+    alloc: Global,
+    session: &mut Session,
+    place: u8,
+    number: u64,
+) -> Result<String, Fail> {
+    let role = role_of(session, place)?;
+    match session.undo(role, StepId::new(number)).err() {
+        Some(refusal) => refused(alloc, refusal),
+        None => Ok(format!(in alloc; "Ok")?),
+    }
+}
+
 // The value that the role keeps in the slot, and a dash where the slot is empty.
 fn kept(alloc: Global, session: &Session, place: u8, slot: &str) -> Result<String, Fail> {
     let role = role_of(session, place)?;
@@ -145,6 +177,10 @@ fn moved(alloc: Global, session: &Session) -> Result<String, Fail> {
 pub(super) enum Line {
     // a role asks, and is answered
     Asks(u8, Ask, &'static str),
+    // a role would ask, and would be answered
+    Tries(u8, Ask, &'static str),
+    // a role takes the step of that number back
+    Undoes(u8, u64, &'static str),
     // the message of that place that waits from one role to another
     Waits(u8, u8, usize, &'static str),
     // what a role keeps in a slot
@@ -157,7 +193,7 @@ pub(super) enum Line {
     Count(usize, u64),
 }
 
-use Line::{Asks, Count, Keeps, Moves, Step, Waits};
+use Line::{Asks, Count, Keeps, Moves, Step, Tries, Undoes, Waits};
 
 // What comes of the line, and what is wanted.
 fn outcome(
@@ -167,6 +203,8 @@ fn outcome(
 ) -> Result<(String, &'static str), Fail> {
     Ok(match line {
         Asks(place, ask, wanted) => (answer(alloc, session, place, ask)?, wanted),
+        Tries(place, ask, wanted) => (tried(alloc, session, place, ask)?, wanted),
+        Undoes(place, number, wanted) => (undone(alloc, session, place, number)?, wanted),
         Waits(from, to, k, wanted) => {
             let message = session.message(Role::new(from), Role::new(to), k);
             (written(alloc, message)?, wanted)
@@ -193,7 +231,7 @@ pub(super) fn play(alloc: Global, session: &mut Session, lines: &[Line]) -> Resu
 }
 
 // An output (at true) or an input of a type, with the peer and the sort.
-type Row = (bool, u8, Sort);
+pub(super) type Row = (bool, u8, Sort);
 
 // The types of these rows, the first role's first.
 fn types(alloc: Global, rows: &[&[Row]]) -> Result<Vec<Local>, Fail> {
@@ -214,12 +252,12 @@ fn types(alloc: Global, rows: &[&[Row]]) -> Result<Vec<Local>, Fail> {
 }
 
 // Plays the lines on a new session of the types of these rows.
-fn play_anew(alloc: Global, rows: &[&[Row]], lines: &[Line]) -> Result<(), Fail> {
+pub(super) fn play_anew(alloc: Global, rows: &[&[Row]], lines: &[Line]) -> Result<(), Fail> {
     let mut session = Session::open(alloc, types(alloc, rows)?)?;
     play(alloc, &mut session, lines)
 }
 
-const A_TO_B_TO_C: &[&[Row]] = &[
+pub(super) const A_TO_B_TO_C: &[&[Row]] = &[
     &[(true, B, Sort::Int)],
     &[(false, A, Sort::Int), (true, C, Sort::Int)],
     &[(false, B, Sort::Int)],
@@ -334,9 +372,9 @@ fn carries_values_of_each_sort(rt: HostRuntime) -> Result<(), Fail> {
     play_anew(rt.alloc(), EACH_SORT, VALUES)
 }
 
-const TO_B: Row = (true, B, Sort::Int);
+pub(super) const TO_B: Row = (true, B, Sort::Int);
 
-const FROM_A: Row = (false, A, Sort::Int);
+pub(super) const FROM_A: Row = (false, A, Sort::Int);
 
 const THREE: &[&[Row]] = &[&[TO_B, TO_B, TO_B], &[FROM_A, FROM_A, FROM_A]];
 

@@ -1,0 +1,67 @@
+-- What the machine answers to an undo, from what a session keeps.
+use Rattle.std.proofs.Common.{◌≡◌, ◌+◌, ℕ, ◌<◌, List, length, Option, Some, None, Result, Err, sym, ap, ◌∙◌, subst, arith}
+use Rattle.std.specs.Prelude.{◌==◌, IfSome}
+use Rattle.std.specs.Option.{option_map}
+use mathlib.Core.Path.{ap₂}
+use Rattle.mps_base.specs.declared.action.Step.{Step}
+use Rattle.mps_command.specs.declared.answer.Refusal.{Refusal}
+use Rattle.mps_command.specs.declared.answer.Refusal.TheVariants.{Needed}
+use Rattle.mps_history.specs.Steps.{step_of, without}
+use Rattle.mps_history.specs.Dependence.{dependents, least}
+use Rattle.mps_local.specs.Local.{LocalType}
+use Rattle.mps_machine.specs.Rule.{rule}
+use Rattle.mps_machine.specs.Machine.{State, unless, owner_fault, undone, undo}
+use Rattle.mps_arena.specs.Entries.{Entry, steps, entry_at}
+use Rattle.mps_arena.specs.Sources.{CanGo}
+use Rattle.mps_session.specs.Configurations.{Configuration, state_of}
+use Rattle.mps_session.specs.Held.{Holds}
+use Rattle.mps_session.specs.Leaving.{HasLeft}
+use Rattle.mps_session.specs.Seen.{Machine, view_of}
+use Rattle.mps_session.proofs.Numbered as numbered
+use Rattle.mps_session.proofs.Numbered.{key_of}
+use Rattle.mps_session.proofs.Returning as returning
+
+-- what is told where that is wrong with the owner, and then that depends on the step
+abbrev answered : State → ℕ → Option Refusal → Option ℕ → Result (List ℕ) Refusal × State
+answered st n fault by = unless fault st (unless (option_map Needed by) st (undone st n))
+
+pub undo_is : (st : State) (p n : ℕ) (fault : Option Refusal) (by : Option ℕ) → owner_fault p (step_of st.history n) ≡ fault → least (dependents st.history n) ≡ by → undo st p n ≡ answered st n fault by
+undo_is st p n fault by owner needed = ap₂ (answered st n) owner needed
+
+pub undo_refused : (st : State) (p n : ℕ) (refusal : Refusal) → owner_fault p (step_of st.history n) ≡ Some refusal → undo st p n ≡ (Err refusal, st)
+undo_refused st p n refusal owner = ap (λ (fault : Option Refusal). answered st n fault (least (dependents st.history n))) owner
+
+module _ (types : List LocalType) (c : Configuration) (holds : Holds types c) (now : Machine) (is : ◌≡◌ {A = Machine} (record { types = types; state = state_of c }) now) (p n k : ℕ) (at : key_of c.entries n ≡ Some k) (own : owner_fault p (step_of (steps c.entries) n) ≡ None) where
+  abbrev x : Entry
+  x = numbered.entry c.entries holds.kept n k at
+
+  pub found : entry_at k c.entries ≡ Some x
+  found = numbered.found c.entries holds.kept n k at
+
+  -- the role of the step is one of the session's
+  pub role_inside : (len : ℕ) → len ≡ length c.cursors → p < length now.types → IfSome (entry_at k c.entries) (λ e. e.step.role < len)
+  role_inside len count within =
+      let owner = numbered.owner c.entries holds.kept n k at p own in
+      rw found (omega (arith, count, within, owner, ap (λ (m : Machine). length m.types) is, holds.cursors.long))
+
+  module _ (can : CanGo c.entries k) (next : Configuration) (gone : IfSome (entry_at k c.entries) (λ e. HasLeft e c next)) where
+    left : HasLeft x c next
+    left = subst (λ (o : Option Entry). IfSome o (λ e. HasLeft e c next)) found gone
+
+    pub holds_then : Holds types next
+    holds_then = returning.returned_holds types c next k x holds found can left
+
+    pub state_then : least (dependents (steps c.entries) n) ≡ None → state_of next ≡ (undo now.state p n).1
+    state_then none =
+        let done = undo_is (state_of c) p n None None own none in
+        let history : steps next.entries ≡ without (steps c.entries) (λ m. m == n) =
+        returning.history_then types c next k x holds found can left ∙ ap (λ (i : ℕ). without (steps c.entries) (λ m. m == i)) (numbered.number c.entries holds.kept n k at) in
+        ap₂ (λ (h : List Step) (i : ℕ). let st : State = record { history = h; next = i + 1 } in st) history left.issued
+        ∙ ap (λ (r : Result (List ℕ) Refusal × State). r.1) (sym done)
+        ∙ ap (λ (m : Machine). (undo m.state p n).1) is
+
+    pub back_then : (s : Step) → step_of now.state.history n ≡ Some s → rule (view_of (record { types = types; state = state_of next })) s ≡ Some (view_of now)
+    back_then s e =
+        let same : Some x.step ≡ Some s = sym (numbered.step_found c.entries holds.kept n k at) ∙ ap (λ (m : Machine). step_of m.state.history n) is ∙ e in
+        let step_is : x.step ≡ s = cc in
+        rw (← step_is) (returning.rule_back types c next k x holds found can left ∙ ap (λ (m : Machine). Some (view_of m)) is)

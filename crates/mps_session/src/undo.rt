@@ -1,0 +1,115 @@
+//! Steps taken back.
+ghost use Rattle.std.specs.Prelude.{◌≡◌, ◌==◌, ◌+◌, ◌<◌, Some, None, length, vec_len, slice_set, IfOk, IfErr, IfSome, OnOk, OnErr};
+ghost use Rattle.std.specs.List.{find};
+ghost use Rattle.std.specs.Option.{option_map};
+ghost use Rattle.mps_base.specs.declared.action.Step.{Step};
+ghost use Rattle.mps_command.specs.Acts.{act_of};
+ghost use Rattle.mps_history.specs.Steps.{step_of};
+ghost use Rattle.mps_machine.specs.Machine as machine;
+ghost use Rattle.mps_machine.specs.Machine.{owner_fault};
+ghost use Rattle.mps_machine.specs.Rule.{rule};
+ghost use Rattle.mps_arena.specs.Entries.{steps, entry_at};
+ghost use Rattle.mps_arena.specs.Sources.{CanGo};
+ghost use Rattle.mps_session.specs.Answers.{IsAnswer, undo_answer};
+ghost use Rattle.mps_session.specs.Configurations.{lists_of, cursor_of};
+ghost use Rattle.mps_session.specs.Cursors.{went};
+ghost use Rattle.mps_session.specs.Leaving.{HasLeft};
+ghost use Rattle.mps_session.specs.Seen.{view_of};
+
+use crate::configuration::Configuration;
+use crate::session::Session;
+use mps_arena::Key;
+use mps_base::{Role, StepId};
+use mps_command::{Done, Forward, Refusal};
+use mps_links::least_dependent;
+use mps_table::Node;
+
+impl Configuration {
+    /// The key of the role's own step of that number, or why the role may not take it back.
+    pub(crate) fn own_step(&self, role: Role, id: StepId) -> Result<Key, Refusal>
+        ensures own { OnOk result (owner_fault role
+            (step_of (steps (lists_of self.now).entries) id) ≡ None) }
+        ensures key { IfOk result (λ key.
+            option_map (λ e. e.key) (find (λ e. e.step.id == id) (lists_of self.now).entries)
+            ≡ Some key) }
+        ensures fault { IfErr result (λ refusal. owner_fault role
+            (step_of (steps (lists_of self.now).entries) id) ≡ Some refusal) }
+    {
+        let arena = self.log.steps();
+        let Some(key) = arena.by_id(id) else {
+            return Err(Refusal::NoStep);
+        };
+        if arena.get(key).role == role {
+            Ok(key)
+        } else {
+            Err(Refusal::NotYours)
+        }
+    }
+
+    /// Takes a step out that is the last of its role and, if it is a send or a choice, isn't received. Its role stands
+    /// again where it stood before the step. Tells the step's number.
+    pub(crate) fn take_out(&mut self, key: Key) -> StepId
+        requires can { CanGo (lists_of self.old).entries key }
+        requires role { IfSome (entry_at key (lists_of self.old).entries)
+            (λ e. e.step.role < vec_len self.old.cursors) }
+        ensures id { IfSome (entry_at key (lists_of self.old).entries)
+            (λ e. result ≡ e.step.id) }
+        ensures left { IfSome (entry_at key (lists_of self.old).entries)
+            (λ e. HasLeft e (lists_of self.old) (lists_of self.new)) }
+    {
+        let arena = self.log.steps();
+        let role = arena.get(key).role;
+        let node = Node::new(arena.before(key).at);
+        self.stand_at(role, node);
+        self.log.take_out(key).id
+    }
+
+    // The role stands at the node.
+    fn stand_at(&mut self, role: Role, node: Node)
+        requires { role < vec_len self.old.cursors }
+        ensures cursors { self.new.cursors.items ≡ slice_set self.old.cursors.items role
+            (went node (cursor_of (lists_of self.old) role)) }
+        ensures log { self.new.log ≡ self.old.log }
+    {
+        self.cursors[role.index()].node = node;
+    }
+}
+
+impl Session {
+    /// Takes back the role's own step of that number, on which no other step depends. It asks for no memory, and the
+    /// number isn't given out again.
+    pub fn undo(&mut self, role: Role, id: StepId) -> Result<(), Refusal>
+        requires { role < length self.old.types }
+        ensures answer { undo_answer id result ≡ (machine.undo self.old.state role id).0 }
+        ensures state { self.new.state ≡ (machine.undo self.old.state role id).1 }
+        ensures types { self.new.types ≡ self.old.types }
+        // the undone act is allowed in the view that is left, and leads back to the view from before
+        ensures back { OnOk result ((s : Step) → step_of self.old.state.history id ≡ Some s
+            → rule (view_of self.new) s ≡ Some (view_of self.old)) }
+    {
+        let key = self.configuration.own_step(role, id)?;
+        if let Some(by) = least_dependent(self.configuration.log.steps(), id) {
+            return Err(Refusal::Needed { by });
+        }
+        self.configuration.take_out(key);
+        Ok(())
+    }
+
+    /// What `forward` would answer: the step is taken and taken back. Its number is used up.
+    pub fn dry_run(&mut self, role: Role, command: Forward) -> Result<Done, Refusal>
+        requires { role < length self.old.types }
+        ensures answer { IsAnswer result
+            (machine.forward self.old.types self.old.state role (act_of command)).0 }
+        ensures history { self.new.state.history ≡ self.old.state.history }
+        ensures view { view_of self.new ≡ view_of self.old }
+        ensures next { OnOk result (self.new.state.next ≡ self.old.state.next + 1) }
+        ensures types { self.new.types ≡ self.old.types }
+        ensures err { OnErr result (self.new.state ≡ self.old.state) }
+    {
+        // the proof looks at what the session keeps
+        let _ = &self.types;
+        let done = self.forward(role, command)?;
+        self.undo(role, done.id)?;
+        Ok(done)
+    }
+}
