@@ -3,12 +3,15 @@ use Rattle.std.specs.Prelude.{◌≡◌, ℕ, ⊤, List, [], ◌∷◌, Result, 
 use Rattle.std.specs.Borrow.{Bor}
 use Rattle.mps_base.specs.declared.action.Act.{Act}
 use Rattle.mps_base.specs.declared.action.Step.{Step}
-use Rattle.mps_command.specs.declared.answer.Done.{Done}
+use Rattle.mps_command.specs.declared.answer.Answer.{Answer}
+use Rattle.mps_command.specs.declared.answer.Answer.TheVariants.{Done, Undone, Refused}
+use Rattle.mps_command.specs.declared.answer.Done.{Done as NewStep}
 use Rattle.mps_command.specs.declared.answer.Refusal.{Refusal}
 use Rattle.mps_command.specs.declared.answer.Refusal.TheVariants.{Memory}
+use Rattle.mps_machine.specs.Machine.{State}
 
 -- the answer is the machine's, but memory may run out where the machine accepts
-abbrev pub IsAnswer : Result Done Refusal → Result Done Refusal → Type 0
+abbrev pub IsAnswer : Result NewStep Refusal → Result NewStep Refusal → Type 0
 IsAnswer (Err Memory) answer = IsOk answer
 IsAnswer result answer = result ≡ answer
 
@@ -16,6 +19,18 @@ IsAnswer result answer = result ≡ answer
 abbrev pub undo_answer : ℕ → Result ⊤ Refusal → Result (List ℕ) Refusal
 undo_answer id (Ok done) = Ok (id ∷ [])
 undo_answer id (Err refusal) = Err refusal
+
+-- the answer refuses nothing
+abbrev pub IsAccepting : Answer → Type 0
+IsAccepting (Done done) = ⊤
+IsAccepting (Undone ids) = ⊤
+IsAccepting (Refused refusal) = ⊥
+
+-- the answer and the state after it are the machine's, but memory may run out where the machine accepts, and then
+-- nothing changes
+abbrev pub IsServed : Answer → (old new : State) → Answer × State → Type 0
+IsServed (Refused Memory) old new served = IsAccepting served.0 × (new ≡ old)
+IsServed answer old new served = (answer ≡ served.0) × (new ≡ served.1)
 
 -- a step, as it is shown
 abbrev pub as_step : ℕ × ℕ × Bor Act → Step

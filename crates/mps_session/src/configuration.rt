@@ -7,7 +7,7 @@ ghost use Rattle.mps_local.specs.Local.{LocalType};
 ghost use Rattle.mps_machine.specs.Machine.{taken};
 ghost use Rattle.mps_monitor.specs.Verdicts.{moved_by};
 ghost use Rattle.mps_table.specs.Graph.{IsNode};
-ghost use Rattle.mps_session.specs.Configurations.{lists_of, logged, IsReady, cursor_of, moved_in, StandsAt, fault_in, LeadsTo, HasActed};
+ghost use Rattle.mps_session.specs.Configurations.{lists_of, IsReady, cursor_of, moved_in, StandsAt, fault_in, LeadsTo, HasActed};
 ghost use Rattle.mps_session.specs.Cursors.{went};
 
 use crate::cursor::Cursor;
@@ -108,7 +108,7 @@ impl Configuration {
     {
         let at = self.cursors[role.index()].node.number();
         let id = self.log.send(role, to, message, at)?;
-        self.go_on(role, node);
+        self.stand_at(role, node);
         Ok(id)
     }
 
@@ -129,7 +129,7 @@ impl Configuration {
     {
         let at = self.cursors[role.index()].node.number();
         let id = self.log.receive(role, from, slot, at)?;
-        self.go_on(role, node);
+        self.stand_at(role, node);
         Ok(id)
     }
 
@@ -144,7 +144,7 @@ impl Configuration {
     {
         let at = self.cursors[role.index()].node.number();
         let id = self.log.pick(role, from, at)?;
-        self.go_on(role, node);
+        self.stand_at(role, node);
         Ok(id)
     }
 
@@ -159,16 +159,16 @@ impl Configuration {
     {
         let at = self.cursors[role.index()].node.number();
         let id = self.log.mark(role, name, at)?;
-        self.go_on(role, node);
+        self.stand_at(role, node);
         Ok(id)
     }
 
-    // The role goes on at the node after its new step.
-    fn go_on(&mut self, role: Role, node: Node)
-        requires role { role < vec_len self.old.cursors }
+    /// The role stands at the node.
+    pub(crate) fn stand_at(&mut self, role: Role, node: Node)
+        requires { role < vec_len self.old.cursors }
         ensures cursors { self.new.cursors.items ≡ slice_set self.old.cursors.items role
             (went node (cursor_of (lists_of self.old) role)) }
-        ensures log { logged (lists_of self.new) ≡ logged (lists_of self.old) }
+        ensures log { self.new.log ≡ self.old.log }
     {
         self.cursors[role.index()].node = node;
     }

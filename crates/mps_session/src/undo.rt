@@ -63,16 +63,6 @@ impl Configuration {
         self.stand_at(role, node);
         self.log.take_out(key).id
     }
-
-    // The role stands at the node.
-    fn stand_at(&mut self, role: Role, node: Node)
-        requires { role < vec_len self.old.cursors }
-        ensures cursors { self.new.cursors.items ≡ slice_set self.old.cursors.items role
-            (went node (cursor_of (lists_of self.old) role)) }
-        ensures log { self.new.log ≡ self.old.log }
-    {
-        self.cursors[role.index()].node = node;
-    }
 }
 
 impl Session {
