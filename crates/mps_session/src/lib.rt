@@ -5,6 +5,7 @@ mod configuration;
 mod cursor;
 pub mod open;
 pub mod protocol;
+mod serve;
 pub mod session;
 mod undo;
 

@@ -29,6 +29,8 @@ mod fake;
 #[cfg(test)]
 mod program_tests;
 #[cfg(test)]
+mod reversal_tests;
+#[cfg(test)]
 mod tests;
 
 /// Does what the words say, of which the first is the program's name.

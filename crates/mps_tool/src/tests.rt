@@ -12,7 +12,7 @@ use std::test::Fail;
 const RELAY: &str = "roles a b c ; a -> b : int . b -> c : int . end";
 
 // The answers to the script on a new session of the protocol.
-fn answers(alloc: Global, protocol: &str, script: &str) -> Result<Vec<u8>, Fail> {
+pub(crate) fn answers(alloc: Global, protocol: &str, script: &str) -> Result<Vec<u8>, Fail> {
     let Ok((roles, types)) = roles_and_types(alloc, protocol.as_bytes()) else {
         return Err("a protocol".into());
     };

@@ -1,19 +1,16 @@
 -- What lines answer a script in a session of one protocol.
-use Rattle.std.proofs.Common.{◌≡◌, ◌≢◌, ℕ, inl, inr, List, [], ◌∷◌, ◌++◌, Result, Ok, Err, refl, sym, ap, ◌∙◌, subst, append_assoc}
+use Rattle.std.proofs.Common.{◌≡◌, ◌≢◌, ℕ, inl, inr, List, [], ◌∷◌, ◌++◌, refl, sym, ap, ◌∙◌, subst, append_assoc}
 use Rattle.std.specs.Prelude.{codes}
 use Rattle.std.specs.List.{AllByRecursion, flat_map}
-use Rattle.mps_command.specs.Acts.{act_of}
-use Rattle.mps_command.specs.declared.answer.Done.{Done}
-use Rattle.mps_command.specs.declared.answer.Refusal.{Refusal}
+use Rattle.mps_command.specs.declared.answer.Answer.TheVariants.{Refused}
 use Rattle.mps_command.specs.declared.answer.Refusal.TheVariants.{Violation as Violates}
 use Rattle.mps_command.specs.declared.answer.Violation.TheVariants.{Mismatch}
-use Rattle.mps_command.specs.declared.command.Command.TheVariants.{Forward}
-use Rattle.mps_line.specs.Replies.{SpellsReply, reply_to}
+use Rattle.mps_line.specs.Replies.{SpellsReply}
 use Rattle.mps_line.specs.declared.reply.Reply.{Reply}
-use Rattle.mps_line.specs.declared.reply.Reply.TheVariants.{Refused}
+use Rattle.mps_line.specs.declared.reply.Reply.TheVariants.{Answered}
 use Rattle.mps_line.proofs.Shown.{no_line_feed}
 use Rattle.mps_local.specs.Local.{LocalType}
-use Rattle.mps_machine.specs.Machine.{State, initial, forward, stepped, IsSound}
+use Rattle.mps_machine.specs.Machine.{State, initial, IsSound}
 use Rattle.mps_machine.proofs.Sound.{initial_sound, serve_sound}
 use Rattle.mps_fidelity.specs.Fidelity.{AreOfOneProtocol}
 use Rattle.mps_fidelity.proofs.Refusals.{sound_other}
@@ -49,24 +46,19 @@ each_line P (x ∷ texts) (y ∷ lines) more n m e a =
     (subst P k.0 a.0, each_line P texts lines more n.1 m.1 k.1 a.1)
 
 abbrev mismatched : Reply
-mismatched = Refused (Violates Mismatch)
+mismatched = Answered (Refused (Violates Mismatch))
 
 -- the refusal's line
 spelled : SpellsReply (codes "refused mismatch") mismatched
 spelled = record { spellings = codes "refused" ∷ codes "mismatch" ∷ []; joined = refl; each = (refl, (refl, tt)) }
 
-not_refused : (result : Result Done Refusal) → reply_to result ≡ mismatched → result ≡ Err (Violates Mismatch)
-not_refused (Ok done) e = absurd cc
-not_refused (Err r) e = let k : r ≡ Violates Mismatch = cc in ap (λ (x : Refusal). Err x) k
-
 module _ (one_reply : (a : List ℕ) (r s : Reply) → SpellsReply a r → SpellsReply a s → r ≡ s) (names : List (List ℕ)) (types : List LocalType) (own : AreOfOneProtocol types) where
   reply_fits : (line : List ℕ) (st after : State) (reply : Reply) → RepliesTo names types line st reply after → IsSound types st → (reply ≢ mismatched) × IsSound types after
   reply_fits line st after reply (inl u) ok = ((λ e. let b = u.bad in cc), subst (IsSound types) (sym u.unchanged) ok)
-  reply_fits line st after reply (inr (inl s)) ok =
-      let r = forward types st s.role (act_of s.command) in (
-        (λ e. sound_other types st s.role (Forward s.command) own ok (ap stepped (not_refused r.0 (sym s.answer ∙ e)))),
-        subst (IsSound types) (sym s.state) (serve_sound types st s.role (Forward s.command) ok),
-      )
+  reply_fits line st after reply (inr (inl s)) ok = (
+    (λ e. sound_other types st s.role s.command own ok (let whole = sym s.answer ∙ e in cc)),
+    subst (IsSound types) (sym s.state) (serve_sound types st s.role s.command ok),
+  )
   reply_fits line st after reply (inr (inr s)) ok = ((λ e. let b = s.answer in cc), subst (IsSound types) (sym s.unchanged) ok)
 
   abbrev Fits : List ℕ → Type 0

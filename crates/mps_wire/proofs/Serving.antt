@@ -1,30 +1,24 @@
 -- What a line is answered, from what the session answers.
-use Rattle.std.proofs.Common.{◌≡◌, ℕ, zero, suc, ◌<◌, arith, List, [], ◌∷◌, length, Option, Some, None, Result, Ok, Err, refl, sym, ap, ◌∙◌, inl, inr}
-use Rattle.std.specs.Prelude.{OnOk, OnErr}
+use Rattle.std.proofs.Common.{◌≡◌, ℕ, zero, suc, ◌<◌, arith, List, [], ◌∷◌, length, refl, ap, inl, inr}
 use Rattle.std.specs.List.{AllByRecursion}
-use Rattle.std.specs.Option.{option_map}
 use Rattle.std.specs.Str.{IsAscii}
 use Rattle.std.proofs.lemmas.Option.{slice_get_within}
 use Rattle.mps_base.specs.Values.{IsShown}
-use Rattle.mps_base.specs.declared.action.Act.{Act}
 use Rattle.mps_local.specs.Local.{LocalType}
-use Rattle.mps_command.specs.declared.command.Forward.{Forward}
-use Rattle.mps_command.specs.Acts.{act_of}
-use Rattle.mps_command.specs.declared.answer.Done.{Done}
-use Rattle.mps_command.specs.declared.answer.Refusal.{Refusal}
+use Rattle.mps_command.specs.declared.command.Command.{Command}
+use Rattle.mps_command.specs.declared.answer.Answer.{Answer}
+use Rattle.mps_command.specs.declared.answer.Answer.TheVariants.{Done, Undone, Refused}
 use Rattle.mps_command.specs.declared.answer.Refusal.TheVariants.{Violation as Violates, NoStep, NotYours, Needed, NoMark, Full, Memory}
-use Rattle.mps_machine.specs.Machine.{State, view_of, unless, full_fault, done_by, accepted, forward}
-use Rattle.mps_machine.specs.Violations.{violation}
-use Rattle.mps_session.specs.Answers.{IsAnswer}
-use Rattle.mps_line.specs.declared.reply.Reply.{Reply}
+use Rattle.mps_machine.specs.Machine.{State, serve}
+use Rattle.mps_session.specs.Answers.{IsServed}
+use Rattle.mps_line.specs.declared.reply.Reply.TheVariants.{Answered}
 use Rattle.mps_line.specs.Commands.{SpellsScriptLine, command_tokens}
-use Rattle.mps_line.specs.Replies.{reply_to}
 use Rattle.mps_line.specs.Tokens.{RoleAt, SpellEach}
 use Rattle.mps_line.proofs.Shown.{shown_line}
 use Rattle.mps_wire.specs.Script.{IsReadable, RepliesTo}
 
 -- the role of a line is one of the names
-pub role_within : (names : List (List ℕ)) (line : List ℕ) (role : ℕ) (command : Forward) → SpellsScriptLine names line role command → role < length names
+pub role_within : (names : List (List ℕ)) (line : List ℕ) (role : ℕ) (command : Command) → SpellsScriptLine names line role command → role < length names
 role_within names line role command spelled = first spelled.spellings spelled.each
   where
     first : (spellings : List (List ℕ)) → SpellEach names spellings (RoleAt role ∷ command_tokens command) → role < length names
@@ -37,40 +31,21 @@ shown_ascii (c ∷ bytes) h zero = let high = h.0.high in omega arith
 shown_ascii (c ∷ bytes) h (suc i) = shown_ascii bytes h.1 i
 
 -- a line that spells a command has bytes below 128 alone
-pub spelled_ascii : (names : List (List ℕ)) (line : List ℕ) (role : ℕ) (command : Forward) → SpellsScriptLine names line role command → IsAscii line
+pub spelled_ascii : (names : List (List ℕ)) (line : List ℕ) (role : ℕ) (command : Command) → SpellsScriptLine names line role command → IsAscii line
 spelled_ascii names line role command spelled = shown_ascii line (shown_line names line role command spelled)
 
--- a refusal that stands in the way changes nothing, whatever would follow
-keeps : {A : Type 0} (fault : Option Refusal) (st : State) (served : Result A Refusal × State) (e : Refusal) → (served.0 ≡ Err e → served.1 ≡ st) → (unless fault st served).0 ≡ Err e → (unless fault st served).1 ≡ st
-keeps (Some refusal) st served e next h = refl
-keeps None st served e next h = next h
+module _ (names : List (List ℕ)) (types : List LocalType) (line : List ℕ) (st after : State) (role : ℕ) (command : Command) (readable : IsReadable names line role command) where
+  as_the_machine : (answer : Answer) → answer ≡ (serve types st role command).0 → after ≡ (serve types st role command).1 → RepliesTo names types line st (Answered answer) after
+  as_the_machine answer same state = inr (inl (record { role = role; command = command; readable = readable; answer = ap Answered same; state = state }))
 
--- the machine's refusals change nothing
-refusal_keeps : (types : List LocalType) (st : State) (p : ℕ) (act : Act) (e : Refusal) → (forward types st p act).0 ≡ Err e → (forward types st p act).1 ≡ st
-refusal_keeps types st p act e =
-    let new : Result Done Refusal × State = (Ok (done_by types st p act), accepted st p act) in
-    keeps (option_map Violates (violation (view_of types st.history) p act)) st (unless (full_fault st) st new) e
-    (keeps (full_fault st) st new e (λ h. absurd cc))
-
-module _ (names : List (List ℕ)) (types : List LocalType) (line : List ℕ) (st after : State) (role : ℕ) (command : Forward) (readable : IsReadable names line role command) (reply : Reply) where
-  refused : (e : Refusal) → Err e ≡ (forward types st role (act_of command)).0 → after ≡ st → reply ≡ reply_to (Err e) → RepliesTo names types line st reply after
-  refused e answer same is =
-      inr (inl (record {
-        role = role;
-        command = command;
-        readable = readable;
-        answer = is ∙ ap reply_to answer;
-        state = same ∙ sym (refusal_keeps types st role (act_of command) e (sym answer));
-      }))
-
-  pub replies : (result : Result Done Refusal) → IsAnswer result (forward types st role (act_of command)).0 → OnOk result (after ≡ (forward types st role (act_of command)).1) → OnErr result (after ≡ st) → reply ≡ reply_to result → RepliesTo names types line st reply after
-  replies (Ok done) answer state same is =
-      inr (inl (record { role = role; command = command; readable = readable; answer = is ∙ ap reply_to answer; state = state }))
-  replies (Err Memory) answer state same is =
-      inr (inr (record { role = role; command = command; readable = readable; cause = inl answer; answer = is; unchanged = same }))
-  replies (Err (Violates v)) answer state same is = refused (Violates v) answer same is
-  replies (Err NoStep) answer state same is = refused NoStep answer same is
-  replies (Err NotYours) answer state same is = refused NotYours answer same is
-  replies (Err (Needed by)) answer state same is = refused (Needed by) answer same is
-  replies (Err NoMark) answer state same is = refused NoMark answer same is
-  replies (Err Full) answer state same is = refused Full answer same is
+  pub replies : (answer : Answer) → IsServed answer st after (serve types st role command) → RepliesTo names types line st (Answered answer) after
+  replies (Done done) h = as_the_machine (Done done) h.0 h.1
+  replies (Undone ids) h = as_the_machine (Undone ids) h.0 h.1
+  replies (Refused Memory) h =
+      inr (inr (record { role = role; command = command; readable = readable; cause = inl h.0; answer = refl; unchanged = h.1 }))
+  replies (Refused (Violates v)) h = as_the_machine (Refused (Violates v)) h.0 h.1
+  replies (Refused NoStep) h = as_the_machine (Refused NoStep) h.0 h.1
+  replies (Refused NotYours) h = as_the_machine (Refused NotYours) h.0 h.1
+  replies (Refused (Needed by)) h = as_the_machine (Refused (Needed by)) h.0 h.1
+  replies (Refused NoMark) h = as_the_machine (Refused NoMark) h.0 h.1
+  replies (Refused Full) h = as_the_machine (Refused Full) h.0 h.1

@@ -1,24 +1,26 @@
 -- What a script does to a session, and what it is answered.
-use Rattle.std.specs.Prelude.{◌≡◌, ℕ, ◌≤◌, ◌⊎◌, List, length, IsOk}
+use Rattle.std.specs.Prelude.{◌≡◌, ℕ, ◌≤◌, ◌⊎◌, List, length}
 use Rattle.std.specs.Str.{IsAscii}
 use Rattle.mps_base.specs.declared.value.Value.TheVariants.{Text}
 use Rattle.mps_local.specs.Local.{LocalType}
-use Rattle.mps_command.specs.declared.command.Forward.{Forward}
+use Rattle.mps_command.specs.declared.command.Command.{Command}
+use Rattle.mps_command.specs.declared.command.Command.TheVariants.{Forward}
 use Rattle.mps_command.specs.declared.command.Forward.TheVariants.{Send}
+use Rattle.mps_command.specs.declared.answer.Answer.TheVariants.{Refused}
 use Rattle.mps_command.specs.declared.answer.Refusal.TheVariants.{Memory}
-use Rattle.mps_command.specs.Acts.{act_of}
-use Rattle.mps_machine.specs.Machine.{State, forward}
+use Rattle.mps_machine.specs.Machine.{State, serve}
+use Rattle.mps_session.specs.Answers.{IsAccepting}
 use Rattle.mps_line.specs.Commands.{SpellsScriptLine}
-use Rattle.mps_line.specs.Replies.{SpellsReply, reply_to}
+use Rattle.mps_line.specs.Replies.{SpellsReply}
 use Rattle.mps_line.specs.declared.reply.Reply.{Reply}
-use Rattle.mps_line.specs.declared.reply.Reply.TheVariants.{Refused, BadLine}
+use Rattle.mps_line.specs.declared.reply.Reply.TheVariants.{Answered, BadLine}
 use Rattle.mps_wire.specs.Answers.{Answering, Place}
 use Rattle.mps_wire.specs.Lines.{max_line}
 use Rattle.mps_wire.specs.declared.script.Run.{Run}
 
 -- a line that isn't too long, of bytes below 128, that spells a role's command
 pub record IsReadable (names : List (List ℕ)) (line : List ℕ) (role : ℕ)
-    (command : Forward) : Type 0 where
+    (command : Command) : Type 0 where
   pub short : length line ≤ max_line
   pub ascii : IsAscii line
   pub spelled : SpellsScriptLine names line role command
@@ -27,26 +29,26 @@ pub record IsReadable (names : List (List ℕ)) (line : List ℕ) (role : ℕ)
 module _ (names : List (List ℕ)) (types : List LocalType) (line : List ℕ) (st : State) where
   -- no command can be read: the line is called bad, and nothing changes
   pub record IsUnread (reply : Reply) (after : State) : Type 0 where
-    pub unreadable : (role : ℕ) (command : Forward) → IsReadable names line role command → ⊥
+    pub unreadable : (role : ℕ) (command : Command) → IsReadable names line role command → ⊥
     pub bad : reply ≡ BadLine
     pub unchanged : after ≡ st
 
   -- the role's command is answered as the machine answers it, and does what it does
   pub record IsServed (reply : Reply) (after : State) : Type 0 where
     pub role : ℕ
-    pub command : Forward
+    pub command : Command
     pub readable : IsReadable names line role command
-    pub answer : reply ≡ reply_to (forward types st role (act_of command)).0
-    pub state : after ≡ (forward types st role (act_of command)).1
+    pub answer : reply ≡ Answered (serve types st role command).0
+    pub state : after ≡ (serve types st role command).1
 
   -- memory ran out where the machine accepts the command or its value is a text; nothing changes
   pub record IsStarved (reply : Reply) (after : State) : Type 0 where
     pub role : ℕ
-    pub command : Forward
+    pub command : Command
     pub readable : IsReadable names line role command
-    pub cause : IsOk (forward types st role (act_of command)).0
-        ⊎ ((to : ℕ) × (value : List ℕ) × (command ≡ Send to (Text value)))
-    pub answer : reply ≡ Refused Memory
+    pub cause : IsAccepting (serve types st role command).0
+        ⊎ ((to : ℕ) × (value : List ℕ) × (command ≡ Forward (Send to (Text value))))
+    pub answer : reply ≡ Answered (Refused Memory)
     pub unchanged : after ≡ st
 
   -- the reply to the line, and the state after it

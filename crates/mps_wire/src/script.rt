@@ -18,7 +18,8 @@ use mps_base::Roles;
 use mps_dev::{Failed, Sink, Source};
 use mps_line::{LineFault, Reply, read_script_line};
 use mps_local::Local;
-use mps_session::{OpenFault, Refusal, Session};
+use mps_command::{Answer, Refusal};
+use mps_session::{OpenFault, Session};
 use std::alloc::{AllocError, Global};
 use thiserror::Error;
 
@@ -78,10 +79,10 @@ fn reply_to_line(alloc: Global, roles: &Roles, session: &mut Session, line: &[u8
     match read_script_line(alloc, roles, line) {
         Ok(request) => {
             let (role, command) = request;
-            Reply::of(session.forward(role, command))
+            Reply::Answered(session.serve(role, command))
         }
         Err(LineFault::Bad) => Reply::BadLine,
-        Err(LineFault::Memory) => Reply::Refused(Refusal::Memory),
+        Err(LineFault::Memory) => Reply::Answered(Answer::Refused(Refusal::Memory)),
     }
 }
 
