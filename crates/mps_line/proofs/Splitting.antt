@@ -1,7 +1,7 @@
 -- A line is split in one place.
 use Rattle.std.proofs.Common.{arith, ◌≡◌, ◌≢◌, ℕ, true, false, List, [], ◌∷◌, ◌++◌, length, take, drop, refl, sym, ap, ◌∙◌}
 use mathlib.Core.Path.{ap₂}
-use Rattle.std.specs.Prelude.{All, IsTrue, Option, Some, None, IfNone, Result, Ok, Err, OnErr}
+use Rattle.std.specs.Prelude.{All, IsTrue, Option, Some, None, IfNone}
 use Rattle.std.specs.List.{AllByRecursion}
 use Rattle.std.specs.Str.{bytes_eq}
 use Rattle.std.specs.Str.Parse.{AllDigits}
@@ -18,10 +18,6 @@ use Rattle.mps_line.specs.Tokens.{Token, RoleAt, HasNoSpace, SpellsRole, SpellsT
 pub if_none : {T P : Type 0} (r : Option T) → P → IfNone r P
 if_none None p = p
 if_none (Some x) p = tt
-
-pub on_err : {T E P : Type 0} (r : Result T E) → P → OnErr r P
-on_err (Ok x) p = tt
-on_err (Err e) p = p
 
 pub no_space : (bytes : List ℕ) → All (λ c. c ≢ 32) bytes → HasNoSpace bytes
 no_space bytes h = recursion_from_All _ bytes h

@@ -1,11 +1,9 @@
 //! The parts of a line.
-ghost use Rattle.std.specs.Prelude.{◌≡◌, ◌≢◌, ℕ, List, [], ◌∷◌, IfSome, IfNone, IfOk, OnOk, OnErr, IsOkUnless, ◌<◌, All, length, slice_index, take};
+ghost use Rattle.std.specs.Prelude.{◌≡◌, ◌≢◌, ℕ, List, [], ◌∷◌, IfSome, IfNone, OnOk, OnErr, ◌<◌, All, length, slice_index, take};
 ghost use Rattle.mps_base.specs.Appends.{Appends};
-ghost use Rattle.mps_base.specs.Names.{IsName};
 ghost use Rattle.mps_base.specs.Spaced.{spaced};
 ghost use Rattle.mps_line.specs.Tokens.{RoleAt, Called, HasNoSpace, SpellsRole, SpellsName, SpellsNumber, SpellsLine, BeginsWith};
 
-use crate::script::LineFault;
 use mps_base::{Name, Role, Roles, StepId, read_number, write_number};
 use std::alloc::AllocError;
 
@@ -49,28 +47,12 @@ pub(crate) fn read_role(roles: &Roles, bytes: &[u8]) -> Option<Role>
     roles.find_spelled(bytes)
 }
 
-// The name.
-pub(crate) fn read_name(bytes: &[u8]) -> Result<Name, LineFault>
-    ensures read { IfOk result (SpellsName bytes.now) }
-    ensures bad { OnErr result (IsName bytes.now → ⊥) }
-    ensures only { IsOkUnless result LineFault.Bad }
-{
-    match Name::read(bytes) {
-        Some(name) => Ok(name),
-        None => Err(LineFault::Bad),
-    }
-}
-
 // The step of that number.
-pub(crate) fn read_step(bytes: &[u8]) -> Result<StepId, LineFault>
-    ensures read { IfOk result (SpellsNumber bytes.now) }
-    ensures bad { OnErr result ((id : ℕ) → SpellsNumber bytes.now id → ⊥) }
-    ensures only { IsOkUnless result LineFault.Bad }
+pub(crate) fn read_step(bytes: &[u8]) -> Option<StepId>
+    ensures read { IfSome result (SpellsNumber bytes.now) }
+    ensures none { IfNone result ((id : ℕ) → SpellsNumber bytes.now id → ⊥) }
 {
-    match read_number(bytes) {
-        Some(number) => Ok(StepId::new(number)),
-        None => Err(LineFault::Bad),
-    }
+    Some(StepId::new(read_number(bytes)?))
 }
 
 // The role whose name stands before the first space, and what stands behind it.
@@ -88,19 +70,18 @@ pub(crate) fn split_role<'a>(roles: &Roles, bytes: &'a [u8]) -> Option<(Role, &'
 }
 
 // The role and the name behind it.
-pub(crate) fn read_role_and_name(roles: &Roles, bytes: &[u8]) -> Result<(Role, Name), LineFault>
-    ensures read { IfOk result
+#[inline(always)]
+pub(crate) fn read_role_and_name(roles: &Roles, bytes: &[u8]) -> Option<(Role, Name)>
+    ensures read { IfSome result
         (λ r. SpellsLine roles.now bytes.now (RoleAt r.0 ∷ Called r.1 ∷ [])) }
-    ensures bad { OnErr result ((role : ℕ) (name : List ℕ)
+    ensures none { IfNone result ((role : ℕ) (name : List ℕ)
         → SpellsLine roles.now bytes.now (RoleAt role ∷ Called name ∷ []) → ⊥) }
-    ensures only { IsOkUnless result LineFault.Bad }
 {
     let Some(parts) = split_role(roles, bytes) else {
-        return Err(LineFault::Bad);
+        return None;
     };
-    let (role, text) = parts;
-    let name = read_name(text)?;
-    Ok((role, name))
+    let (role, name) = parts;
+    Some((role, Name::read(name)?))
 }
 
 // Writes the role's name.

@@ -10,8 +10,8 @@ ghost use Rattle.mps_line.specs.declared.script.Verb.{Verb};
 ghost use Rattle.mps_line.specs.Tokens.{RoleAt, Worth, SpellsLine};
 ghost use Rattle.mps_line.specs.Commands.{verb_word, verb_of, arguments, SpellsCommand, SpellsScriptLine};
 
-use crate::parts::{behind, read_name, read_role, read_role_and_name, read_step, split_role};
-use mps_base::{Role, Roles, Value, ValueFault};
+use crate::parts::{behind, read_role, read_role_and_name, read_step, split_role};
+use mps_base::{Name, Role, Roles, Value, ValueFault};
 use mps_command::{Command, Forward};
 use std::alloc::Global;
 use thiserror::Error;
@@ -126,27 +126,34 @@ fn read_arguments(
             let (to, value) = read_role_and_value(alloc, roles, bytes)?;
             Ok(Command::Forward(Forward::Send { to, value }))
         }
-        Verb::Choose => {
-            let (to, label) = read_role_and_name(roles, bytes)?;
-            Ok(Command::Forward(Forward::Choose { to, label }))
-        }
-        Verb::Receive => {
-            let (from, slot) = read_role_and_name(roles, bytes)?;
-            Ok(Command::Forward(Forward::Receive { from, slot }))
-        }
-        Verb::Pick => {
-            let Some(from) = read_role(roles, bytes) else {
-                return Err(LineFault::Bad);
-            };
-            Ok(Command::Forward(Forward::Pick { from }))
-        }
-        Verb::Mark => {
-            let name = read_name(bytes)?;
-            Ok(Command::Forward(Forward::Mark { name }))
-        }
-        Verb::Undo => Ok(Command::Undo(read_step(bytes)?)),
-        Verb::Rollback => Ok(Command::Rollback(read_step(bytes)?)),
-        Verb::Back => Ok(Command::Back(read_name(bytes)?)),
+        Verb::Choose => match read_role_and_name(roles, bytes) {
+            Some((to, label)) => Ok(Command::Forward(Forward::Choose { to, label })),
+            None => Err(LineFault::Bad),
+        },
+        Verb::Receive => match read_role_and_name(roles, bytes) {
+            Some((from, slot)) => Ok(Command::Forward(Forward::Receive { from, slot })),
+            None => Err(LineFault::Bad),
+        },
+        Verb::Pick => match read_role(roles, bytes) {
+            Some(from) => Ok(Command::Forward(Forward::Pick { from })),
+            None => Err(LineFault::Bad),
+        },
+        Verb::Mark => match Name::read(bytes) {
+            Some(name) => Ok(Command::Forward(Forward::Mark { name })),
+            None => Err(LineFault::Bad),
+        },
+        Verb::Undo => match read_step(bytes) {
+            Some(id) => Ok(Command::Undo(id)),
+            None => Err(LineFault::Bad),
+        },
+        Verb::Rollback => match read_step(bytes) {
+            Some(id) => Ok(Command::Rollback(id)),
+            None => Err(LineFault::Bad),
+        },
+        Verb::Back => match Name::read(bytes) {
+            Some(name) => Ok(Command::Back(name)),
+            None => Err(LineFault::Bad),
+        },
     }
 }
 

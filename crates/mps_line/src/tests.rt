@@ -154,8 +154,9 @@ fn again(alloc: Global, roles: &Roles, command: &Command) -> Result<(Vec<u8>, Co
     let (_one, _distinct) = (one_command(), roles.count());
     let mut line = Vec::new(alloc);
     write_command(roles, command, &mut line)?;
-    let read = read_command(alloc, roles, &line)?;
-    Ok((line, read))
+    let read = read_command(alloc, roles, &line);
+    prove!(!matches!(&read, Err(LineFault::Bad)));
+    Ok((line, read?))
 }
 
 #[test]

@@ -1,9 +1,15 @@
-use Rattle.mps_line.proofs.Splitting.{on_err}
-use Rattle.mps_line.proofs.Reading.{none_of_names, no_role_in_front}
+use Rattle.std.proofs.lemmas.Bool.{false≢true}
+use Rattle.std.proofs.Common.{refl}
+use Rattle.mps_line.proofs.Splitting.{if_none}
+use Rattle.mps_line.proofs.Reading.{role_in_front, none_of_names, no_role_in_front, name_read}
 use Rattle.mps_line.proofs.parts.read_role_and_name.Goals as goal
 
-pub returns-in_default-clause-bad : goal.returns-in_default-clause-bad
-returns-in_default-clause-bad c = λ role name h. no_role_in_front _ _ _ _ c.in_default.ensures.none role h
+pub returns-in_default-clause-none : goal.returns-in_default-clause-none
+returns-in_default-clause-none c = λ role name h. no_role_in_front _ _ _ _ c.in_default.ensures.none role h
 
-pub returns-in_err-name-clause-bad : goal.returns-in_err-name-clause-bad
-returns-in_err-name-clause-bad c = on_err _ (none_of_names _ _ _ c.in-Some.ensures.rest c.in_err-name.ensures.bad)
+pub returns-in_err-read-clause-none : goal.returns-in_err-read-clause-none
+returns-in_err-read-clause-none c =
+    if_none _ (none_of_names _ _ _ c.in-Some.ensures.rest (λ h. false≢true (c.in_err-read.ensures.some.1 h)))
+
+pub returns-clause-read : goal.returns-clause-read
+returns-clause-read c = role_in_front _ _ _ _ _ c.in-Some.ensures.read (name_read _ _ (c.in_ok-read.ensures.some.0 refl) c.in_ok-read.ensures.name)
