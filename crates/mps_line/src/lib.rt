@@ -7,7 +7,7 @@ pub mod reply;
 pub mod script;
 pub mod spelling;
 
-pub use reply::Reply;
+pub use reply::{Reply, write_answer, write_bad_line};
 pub use script::{LineFault, read_command, read_script_line};
 pub use spelling::write_command;
 

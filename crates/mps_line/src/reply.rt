@@ -4,7 +4,8 @@ ghost use Rattle.std.specs.Io.{StartsWith};
 ghost use Rattle.mps_base.specs.Appends.{Appends};
 ghost use Rattle.mps_command.specs.declared.answer.Refusal.TheVariants.{Violation as Violates};
 ghost use Rattle.mps_line.specs.Tokens.{SpellsToken, SpellsLine};
-ghost use Rattle.mps_line.specs.Replies.{message_token, done_tokens, undone_tokens, refusal_tokens, answer_tokens, word_of};
+ghost use Rattle.mps_line.specs.Replies.{SpellsReply, message_token, done_tokens, undone_tokens, refusal_tokens, word_of};
+ghost use Rattle.mps_line.specs.declared.reply.Reply.TheVariants.{Answered, BadLine};
 
 use crate::parts::write_step;
 use mps_base::{Message, StepId};
@@ -21,8 +22,6 @@ pub enum Reply {
 }
 
 impl Reply {
-    ghost use Rattle.mps_line.specs.Replies.{SpellsReply};
-
     /// Writes the reply at the end, without a line break.
     pub fn write(&self, out: &mut Vec<u8>) -> Result<(), AllocError>
         ensures ok { OnOk result
@@ -45,15 +44,24 @@ impl Reply {
     {
         match self {
             Reply::Answered(answer) => write_answer(answer, out),
-            Reply::BadLine => out.extend_from_slice(b"refused line"),
+            Reply::BadLine => write_bad_line(out),
         }
     }
 }
 
-// Writes the answer, or a part of it.
-fn write_answer(answer: &Answer, out: &mut Vec<u8>) -> Result<(), AllocError>
+/// Writes that a line is spelled like no command, at the end, without a line break.
+pub fn write_bad_line(out: &mut Vec<u8>) -> Result<(), AllocError>
+    ensures ok { OnOk result
+        (Appends (λ text. SpellsReply text BadLine) out.old.items out.new.items) }
+    ensures err { OnErr result (out.new.items ≡ out.old.items) }
+{
+    out.extend_from_slice(b"refused line")
+}
+
+/// Writes the answer at the end, without a line break. Where memory runs out, a part of it may stand there.
+pub fn write_answer(answer: &Answer, out: &mut Vec<u8>) -> Result<(), AllocError>
     ensures ok { OnOk result (Appends
-        (λ text. SpellsLine [] text (answer_tokens answer.now)) out.old.items out.new.items) }
+        (λ text. SpellsReply text (Answered answer.now)) out.old.items out.new.items) }
     ensures err { OnErr result (StartsWith out.new.items out.old.items) }
 {
     match answer {

@@ -1,5 +1,6 @@
 -- What a line is answered, from what the session answers.
-use Rattle.std.proofs.Common.{◌≡◌, ℕ, zero, suc, ◌<◌, arith, List, [], ◌∷◌, length, refl, ap, inl, inr}
+use Rattle.std.proofs.Common.{◌≡◌, ℕ, zero, suc, ◌<◌, arith, List, [], ◌∷◌, length, Result, Ok, Err, refl, ap, inl, inr}
+use Rattle.std.specs.Prelude.{OnOk}
 use Rattle.std.specs.List.{AllByRecursion}
 use Rattle.std.specs.Str.{IsAscii}
 use Rattle.std.proofs.lemmas.Option.{slice_get_within}
@@ -11,11 +12,14 @@ use Rattle.mps_command.specs.declared.answer.Answer.TheVariants.{Done, Undone, R
 use Rattle.mps_command.specs.declared.answer.Refusal.TheVariants.{Violation as Violates, NoStep, NotYours, Needed, NoMark, Full, Memory}
 use Rattle.mps_machine.specs.Machine.{State, serve}
 use Rattle.mps_session.specs.Answers.{IsServed}
+use Rattle.mps_line.specs.declared.reply.Reply.{Reply}
 use Rattle.mps_line.specs.declared.reply.Reply.TheVariants.{Answered}
+use Rattle.mps_line.specs.Replies.{SpellsReply}
+use Rattle.mps_base.specs.Appends.{Appends}
 use Rattle.mps_line.specs.Commands.{SpellsScriptLine, command_tokens}
 use Rattle.mps_line.specs.Tokens.{RoleAt, SpellEach}
 use Rattle.mps_line.proofs.Shown.{shown_line}
-use Rattle.mps_wire.specs.Script.{IsReadable, RepliesTo}
+use Rattle.mps_wire.specs.Script.{IsReadable, RepliesTo, AnswersLine}
 
 -- the role of a line is one of the names
 pub role_within : (names : List (List ℕ)) (line : List ℕ) (role : ℕ) (command : Command) → SpellsScriptLine names line role command → role < length names
@@ -49,3 +53,8 @@ module _ (names : List (List ℕ)) (types : List LocalType) (line : List ℕ) (s
   replies (Refused (Needed by)) h = as_the_machine (Refused (Needed by)) h.0 h.1
   replies (Refused NoMark) h = as_the_machine (Refused NoMark) h.0 h.1
   replies (Refused Full) h = as_the_machine (Refused Full) h.0 h.1
+
+-- the text of the reply answers the line
+pub answers_line : {T E : Type 0} (names : List (List ℕ)) (types : List LocalType) (line : List ℕ) (st after : State) (reply : Reply) (written : Result T E) (old new : List ℕ) → RepliesTo names types line st reply after → OnOk written (Appends (λ text. SpellsReply text reply) old new) → OnOk written (Appends (λ text. AnswersLine names types line st text after) old new)
+answers_line names types line st after reply (Ok x) old new replies a = (a.0, a.1, record { reply = reply; replies = replies; spelled = a.2 })
+answers_line names types line st after reply (Err e) old new replies a = tt

@@ -1,6 +1,7 @@
 //! A script over streams.
 ghost use Rattle.std.specs.Prelude.{◌≡◌, ◌+◌, ◌<◌, ◌≤◌, ◌^◌, ◌++◌, ℕ, List, [], length, map, OnOk, OnErr, IfOk, IfErr};
-ghost use Rattle.std.specs.Io.KnownBytes.{Appends};
+ghost use Rattle.std.specs.Io.KnownBytes.{Appends as Takes};
+ghost use Rattle.mps_base.specs.Appends.{Appends};
 ghost use Rattle.mps_local.specs.Local.{plain};
 ghost use Rattle.mps_machine.specs.Machine.{initial};
 ghost use Rattle.mps_session.specs.Peers.{CanOpen};
@@ -8,17 +9,17 @@ ghost use Rattle.mps_wire.specs.Answers.{TakesBytes, TakesEnd};
 ghost use Rattle.mps_wire.specs.Flow.{TookFront};
 ghost use Rattle.mps_wire.specs.Lines.{ended, front, most_kept};
 ghost use Rattle.mps_wire.specs.Runs.{Going, KeepsFromBeginning, Outcome, Turned, max_reads, of_opening};
-ghost use Rattle.mps_wire.specs.Script.{AnswersLine, RepliesTo, lines_of, place_of};
+ghost use Rattle.mps_wire.specs.Script.{AnswersLine, lines_of, place_of};
 ghost use Rattle.mps_wire.specs.Streams.{streams};
 ghost use Rattle.mps_wire.specs.declared.script.ReplayFault.TheVariants.{Memory as OutOfMemory};
 
 use crate::flow::send_all;
 use crate::lines::{MOST_KEPT, keep, line_end};
 use mps_base::Roles;
-use mps_dev::{Failed, Sink, Source};
-use mps_line::{LineFault, Reply, read_script_line};
-use mps_local::Local;
 use mps_command::{Answer, Refusal};
+use mps_dev::{Failed, Sink, Source};
+use mps_line::{LineFault, read_script_line, write_answer, write_bad_line};
+use mps_local::Local;
 use mps_session::{OpenFault, Session};
 use std::alloc::{AllocError, Global};
 use thiserror::Error;
@@ -66,23 +67,31 @@ impl From<OpenFault> for ReplayFault {
     }
 }
 
-/// Replies to a line: runs its command, if it has one.
-fn reply_to_line(alloc: Global, roles: &Roles, session: &mut Session, line: &[u8]) -> Reply
+/// Runs the command of a line, if it has one, and writes the reply behind the others.
+fn reply_to_line(
+    alloc: Global,
+    roles: &Roles,
+    session: &mut Session,
+    line: &[u8],
+    answers: &mut Vec<u8>,
+) -> Result<(), AllocError>
     requires { length roles.now ≡ length session.old.types }
     ensures types { session.new.types ≡ session.old.types }
-    ensures reply { RepliesTo roles.now session.old.types line.now session.old.state
-        result session.new.state }
+    ensures reply { OnOk result (Appends (λ text. AnswersLine roles.now session.old.types
+        line.now session.old.state text session.new.state)
+        answers.old.items answers.new.items) }
 {
     if line.len() > MAX_LINE {
-        return Reply::BadLine;
+        return write_bad_line(answers);
     }
     match read_script_line(alloc, roles, line) {
         Ok(request) => {
             let (role, command) = request;
-            Reply::Answered(session.serve(role, command))
+            let answer = session.serve(role, command);
+            write_answer(&answer, answers)
         }
-        Err(LineFault::Bad) => Reply::BadLine,
-        Err(LineFault::Memory) => Reply::Answered(Answer::Refused(Refusal::Memory)),
+        Err(LineFault::Bad) => write_bad_line(answers),
+        Err(LineFault::Memory) => write_answer(&Answer::Refused(Refusal::Memory), answers),
     }
 }
 
@@ -101,8 +110,7 @@ fn answer_line(
         × AnswersLine roles.now session.old.types line.now session.old.state
         text session.new.state) }
 {
-    let reply = reply_to_line(alloc, roles, session, line);
-    reply.write(answers)?;
+    reply_to_line(alloc, roles, session, line, answers)?;
     answers.push(b'\n')?;
     Ok(())
 }
@@ -206,7 +214,7 @@ impl Run {
 /// Writes the answers that wait.
 fn send_answers<W: Sink>(writer: &mut W, answers: &mut Vec<u8>) -> Result<(), Failed>
     requires { W.failed_calls writer.old < 2 ^ 63 }
-    ensures sent { OnOk result (Appends (W.taken writer.old) (W.taken writer.new)
+    ensures sent { OnOk result (Takes (W.taken writer.old) (W.taken writer.new)
         answers.old.items) }
     ensures none_wait { OnOk result (answers.new.items ≡ []) }
     ensures counted { OnOk result (W.failed_calls writer.new ≡ W.failed_calls writer.old) }

@@ -1,31 +1,53 @@
 use Rattle.std.proofs.Common.{inl, inr, refl, arith}
 use Rattle.mps_base.specs.declared.value.Value.TheVariants.{Text}
+use Rattle.mps_command.specs.declared.answer.Answer.TheVariants.{Refused}
+use Rattle.mps_command.specs.declared.answer.Refusal.TheVariants.{Memory}
 use Rattle.mps_command.specs.declared.command.Command.TheVariants.{Forward}
 use Rattle.mps_command.specs.declared.command.Forward.TheVariants.{Send}
-use Rattle.mps_wire.proofs.Serving.{role_within, spelled_ascii, replies}
+use Rattle.mps_line.specs.declared.reply.Reply.TheVariants.{Answered, BadLine}
+use Rattle.mps_wire.proofs.Serving.{role_within, spelled_ascii, replies, answers_line}
 use Rattle.mps_wire.proofs.script.reply_to_line.Goals as goal
+
+pub returns-then-line-gt-MAX_LINE-clause-reply : goal.returns-then-line-gt-MAX_LINE-clause-reply
+returns-then-line-gt-MAX_LINE-clause-reply c =
+    let m = c.args.session.now in
+    answers_line c.args.roles.now m.types c.args.line.now m.state m.state BadLine c.write_bad_line.result c.args.answers.now.items c.write_bad_line.new.out.items
+    (inl (record { unreadable = λ role command r. let short = r.short in absurd (omega (arith, c.if-line-gt-MAX_LINE.true)); bad = refl; unchanged = refl }))
+    c.write_bad_line.ensures.ok
+
+pub serve-answer-requires : goal.serve-answer-requires
+serve-answer-requires c = omega (arith, role_within c.args.roles.now c.args.line.now c.in-Ok.request.0 c.in-Ok.request.1 c.in-Ok.ensures.read)
 
 pub returns-in-Ok-clause-reply : goal.returns-in-Ok-clause-reply
 returns-in-Ok-clause-reply c =
-    replies c.args.roles.now c.args.session.now.types c.args.line.now c.args.session.now.state c.serve.new.self.state c.in-Ok.request.0 c.in-Ok.request.1
-    (record { short = c.if-line-gt-MAX_LINE.false; ascii = spelled_ascii c.args.roles.now c.args.line.now c.in-Ok.request.0 c.in-Ok.request.1 c.in-Ok.ensures.read; spelled = c.in-Ok.ensures.read })
-    c.serve.result c.serve.ensures.served
+    let m = c.args.session.now in
+    let line = c.args.line.now in
+    let role = c.in-Ok.request.0 in
+    let command = c.in-Ok.request.1 in
+    answers_line c.args.roles.now m.types line m.state c.serve-answer.new.self.state (Answered c.serve-answer.result) c.write_answer.result c.args.answers.now.items c.write_answer.new.out.items
+    (replies c.args.roles.now m.types line m.state c.serve-answer.new.self.state role command
+    (record { short = c.if-line-gt-MAX_LINE.false; ascii = spelled_ascii c.args.roles.now line role command c.in-Ok.ensures.read; spelled = c.in-Ok.ensures.read })
+    c.serve-answer.result c.serve-answer.ensures.served)
+    c.write_answer.ensures.ok
 
 pub returns-in-Err-Bad-clause-reply : goal.returns-in-Err-Bad-clause-reply
 returns-in-Err-Bad-clause-reply c =
-    inl (record { unreadable = λ role command r. c.in-Err-Bad.ensures.bad (cc) role command r.spelled; bad = refl; unchanged = refl })
-
-pub serve-requires : goal.serve-requires
-serve-requires c = omega (arith, role_within c.args.roles.now c.args.line.now c.in-Ok.request.0 c.in-Ok.request.1 c.in-Ok.ensures.read)
+    let m = c.args.session.now in
+    answers_line c.args.roles.now m.types c.args.line.now m.state m.state BadLine c.write_bad_line-in-Err-Bad.result c.args.answers.now.items c.write_bad_line-in-Err-Bad.new.out.items
+    (inl (record { unreadable = λ role command r. c.in-Err-Bad.ensures.bad (cc) role command r.spelled; bad = refl; unchanged = refl }))
+    c.write_bad_line-in-Err-Bad.ensures.ok
 
 pub returns-in-Err-Memory-clause-reply : goal.returns-in-Err-Memory-clause-reply
 returns-in-Err-Memory-clause-reply c =
-    let m = c.in-Err-Memory.ensures.memory (cc) in
-    inr (inr (record {
-      role = m.0;
-      command = Forward (Send m.1 (Text m.2));
-      readable = record { short = c.if-line-gt-MAX_LINE.false; ascii = spelled_ascii c.args.roles.now c.args.line.now m.0 (Forward (Send m.1 (Text m.2))) m.3; spelled = m.3 };
-      cause = inr (m.1, m.2, refl);
+    let m = c.args.session.now in
+    let text = c.in-Err-Memory.ensures.memory (cc) in
+    answers_line c.args.roles.now m.types c.args.line.now m.state m.state (Answered (Refused Memory)) c.write_answer-in-Err-Memory.result c.args.answers.now.items c.write_answer-in-Err-Memory.new.out.items
+    (inr (inr (record {
+      role = text.0;
+      command = Forward (Send text.1 (Text text.2));
+      readable = record { short = c.if-line-gt-MAX_LINE.false; ascii = spelled_ascii c.args.roles.now c.args.line.now text.0 (Forward (Send text.1 (Text text.2))) text.3; spelled = text.3 };
+      cause = inr (text.1, text.2, refl);
       answer = refl;
       unchanged = refl;
-    }))
+    })))
+    c.write_answer-in-Err-Memory.ensures.ok
