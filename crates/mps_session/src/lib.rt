@@ -5,7 +5,6 @@ mod configuration;
 mod cursor;
 pub mod open;
 pub mod protocol;
-mod serve;
 pub mod session;
 mod undo;
 
