@@ -1,14 +1,13 @@
 -- What a session answers, against the plain machine.
-use Rattle.std.specs.Prelude.{◌≡◌, ℕ, ⊤, List, [], ◌∷◌, Result, Ok, Err, IsOk}
+use Rattle.std.specs.Prelude.{◌≡◌, ℕ, ⊤, List, [], ◌∷◌, Option, Some, None, Result, Ok, Err, IsOk}
 use Rattle.std.specs.Borrow.{Bor}
 use Rattle.mps_base.specs.declared.action.Act.{Act}
 use Rattle.mps_base.specs.declared.action.Step.{Step}
-use Rattle.mps_command.specs.declared.answer.Done.{Done}
 use Rattle.mps_command.specs.declared.answer.Refusal.{Refusal}
 use Rattle.mps_command.specs.declared.answer.Refusal.TheVariants.{Memory}
 
 -- the answer is the machine's, but memory may run out where the machine accepts
-abbrev pub IsAnswer : Result Done Refusal → Result Done Refusal → Type 0
+abbrev pub IsAnswer : {A : Type 0} → Result A Refusal → Result A Refusal → Type 0
 IsAnswer (Err Memory) answer = IsOk answer
 IsAnswer result answer = result ≡ answer
 
@@ -16,6 +15,11 @@ IsAnswer result answer = result ≡ answer
 abbrev pub undo_answer : ℕ → Result ⊤ Refusal → Result (List ℕ) Refusal
 undo_answer id (Ok done) = Ok (id ∷ [])
 undo_answer id (Err refusal) = Err refusal
+
+-- the number of the first of the steps
+abbrev pub first_number : List Step → Option ℕ
+first_number [] = None
+first_number (s ∷ h) = Some s.id
 
 -- a step, as it is shown
 abbrev pub as_step : ℕ × ℕ × Bor Act → Step

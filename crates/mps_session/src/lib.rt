@@ -5,6 +5,7 @@ mod configuration;
 mod cursor;
 pub mod open;
 pub mod protocol;
+mod rollback;
 pub mod session;
 mod undo;
 
