@@ -1,5 +1,6 @@
 -- What is left of the marks, where the newest marked step goes.
-use Rattle.std.proofs.Common.{◌≡◌, ◌+◌, suc, ℕ, Bool, true, false, List, [], ◌∷◌, ◌++◌, length, map, not, Some, None, refl, sym, ap, ◌∙◌, subst, arith, ⊎_elim, inl, inr, length-append}
+use Rattle.std.proofs.Common.{◌≡◌, ◌+◌, suc, ℕ, Bool, true, false, List, [], ◌∷◌, ◌++◌, length, map, not, Some, None, refl, sym, ap, ◌∙◌, subst, arith, ⊎_elim, inl, inr, length-append, append_assoc, append-nil}
+use mathlib.Core.Path.{ap₂}
 use Rattle.std.specs.Prelude.{◌==◌, ◌&&◌, ◌||◌, nat_lt}
 use Rattle.std.specs.List.{filter}
 use Rattle.std.proofs.lemmas.Bool.{cases_Bool, cond-true, cond-false, ne_eqb, ltb-true, and_parts, and_from, and_right, or_left, false_from_ne_true, both_ways}
@@ -10,13 +11,13 @@ use Rattle.mps_history.specs.Steps.{IsIn, IsRising, within, without, sends, rece
 use Rattle.mps_history.specs.Dependence.{depends_on, is_matched, sent_before, received_before}
 use Rattle.mps_history.proofs.Order.{rising_apart, IsIn-append, IsIn-append_left, IsIn-append_right}
 use Rattle.mps_arena.specs.Keys.{AreDistinct, last_key}
-use Rattle.mps_arena.specs.Entries.{Entry, steps, keys_of, any_step, AreSound}
+use Rattle.mps_arena.specs.Entries.{Entry, steps, keys_of, any_step, entry_at, AreSound}
 use Rattle.mps_arena.proofs.Keeping.{others_are}
-use Rattle.mps_links.specs.Marks.{marked_keys, is_marked, AreMarksClosed, marked_by, unmarked, unmarked_steps}
+use Rattle.mps_links.specs.Marks.{marked_keys, marked_steps, is_marked, AreMarksClosed, marked_by, unmarked, unmarked_steps}
 use Rattle.mps_links.proofs.StepKeys.{steps_around, in_middle, none_passes}
-use Rattle.mps_links.proofs.Firsts.{rising_behind}
+use Rattle.mps_links.proofs.Firsts.{entry_in, rising_behind}
 use Rattle.mps_links.proofs.Lasts.{IsLast, last_is}
-use Rattle.mps_links.proofs.Marked.{marked_here, marked_with, marked_without, keys_marked}
+use Rattle.mps_links.proofs.Marked.{marked_here, marked_with, marked_without, keys_marked, keys_from}
 
 filter_beside : (p : Step → Bool) (a b : List Step) (x : Step) → p x ≡ false → filter p (a ++ x ∷ b) ≡ filter p (a ++ b)
 filter_beside p a b x f = filter-append p a (x ∷ b) ∙ ap (λ l. filter p a ++ l) (cond-false (p x) (x ∷ filter p b) (filter p b) f) ∙ sym (filter-append p a b)
@@ -67,6 +68,25 @@ module _ (es : List Entry) (k : ℕ) (sound : AreSound es) (newest : last_key No
     where
       marked-append : (l m : List Entry) → marked_keys (l ++ m) ≡ marked_keys l ++ marked_keys m
       marked-append l m = ap (map (λ e. e.key)) (filter-append (λ e. e.marked) l m) ∙ map-append (λ e. e.key) (filter (λ e. e.marked) l) (filter (λ e. e.marked) m)
+
+  -- the step of that key is the last of the marked ones
+  pub last_marked : (y : Entry) → entry_at k es ≡ Some y → marked_steps es ≡ marked_steps (filter (λ e. not (e.key == k)) es) ++ y.step ∷ []
+  last_marked y found =
+      let p = λ (e : Entry). e.marked in
+      let here : entry_at x.key es ≡ Some x = entry_in es sound.distinct sound.rising a b x last.parts in
+      let one : Some x ≡ Some y = sym here ∙ ap (λ j. entry_at j es) last.key ∙ found in
+      let same : x ≡ y = cc in
+      let around : es ≡ (a ++ x ∷ []) ++ b = last.parts ∙ sym (append_assoc a (x ∷ []) b) in
+      let none : filter p b ≡ [] = none_in (filter p b) (sym (keys_from es sound.rising (a ++ x ∷ []) b around) ∙ last.none) in
+      let front : marked_steps (a ++ b) ≡ steps (filter p a) = ap steps (filter-append p a b ∙ ap (λ l. filter p a ++ l) none ∙ append-nil (filter p a)) in
+      ap marked_steps last.parts
+      ∙ ap steps (filter-append p a (x ∷ b) ∙ ap (λ l. filter p a ++ l) (cond-true x.marked (x ∷ filter p b) (filter p b) x_marked ∙ ap (λ l. x ∷ l) none))
+      ∙ map-append (λ (e : Entry). e.step) (filter p a) (x ∷ [])
+      ∙ ap₂ (λ (l : List Step) (e : Entry). l ++ e.step ∷ []) (sym (ap marked_steps left ∙ front)) same
+    where
+      none_in : (l : List Entry) → map (λ e. e.key) l ≡ [] → l ≡ []
+      none_in [] e = refl
+      none_in (z ∷ l) e = absurd cc
 
   module _ (closed : AreMarksClosed es) where
     new_steps : steps (a ++ b) ≡ steps a ++ steps b
@@ -133,6 +153,11 @@ pub unmarked_left : (es : List Entry) (set : ℕ → Bool) → unmarked_steps (m
 unmarked_left [] set = refl
 unmarked_left (y ∷ es) set =
     ⊎_elim (λ (t : set y.step.id ≡ true). rw t (unmarked_left es set)) (λ (f : set y.step.id ≡ false). rw f (ap (λ l. y.step ∷ l) (unmarked_left es set))) (cases_Bool (set y.step.id))
+
+pub marked_within : (es : List Entry) (set : ℕ → Bool) → marked_steps (map (marked_by set) es) ≡ within (steps es) set
+marked_within [] set = refl
+marked_within (y ∷ es) set =
+    ⊎_elim (λ (t : set y.step.id ≡ true). rw t (ap (λ l. y.step ∷ l) (marked_within es set))) (λ (f : set y.step.id ≡ false). rw f (marked_within es set)) (cases_Bool (set y.step.id))
 
 pub marked_count : (es : List Entry) (set : ℕ → Bool) → length (marked_keys (map (marked_by set) es)) ≡ length (within (steps es) set)
 marked_count [] set = refl

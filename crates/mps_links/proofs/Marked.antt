@@ -37,7 +37,7 @@ pub marked_without : (y : Entry) (b : List Entry) → y.marked ≡ false → mar
 marked_without y b f = ap (map (λ e. e.key)) (cond-false y.marked (y ∷ filter (λ e. e.marked) b) (filter (λ e. e.marked) b) f)
 
 -- the keys of the marked entries are those of the marked steps
-keys_from : (es : List Entry) → IsRising (steps es) → (a b : List Entry) → es ≡ a ++ b → keys_of (λ s. is_marked es s.id) b ≡ marked_keys b
+pub keys_from : (es : List Entry) → IsRising (steps es) → (a b : List Entry) → es ≡ a ++ b → keys_of (λ s. is_marked es s.id) b ≡ marked_keys b
 keys_from es r a [] e = refl
 keys_from es r a (y ∷ b) e =
     let p = λ (s : Step). is_marked es s.id in

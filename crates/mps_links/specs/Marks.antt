@@ -28,3 +28,7 @@ unmarked e = record e { marked = false }
 -- the steps that aren't marked, in order
 abbrev pub unmarked_steps : List Entry → List Step
 unmarked_steps es = steps (filter (λ e. not e.marked) es)
+
+-- the steps that are marked, in order
+abbrev pub marked_steps : List Entry → List Step
+marked_steps es = steps (filter (λ e. e.marked) es)

@@ -1,10 +1,10 @@
 //! Laws of marks, for whoever takes the marked steps out, the newest first.
-ghost use Rattle.std.specs.Prelude.{◌≡◌, ◌==◌, ◌+◌, ℕ, Bool, List, Some, None, not, map, length};
+ghost use Rattle.std.specs.Prelude.{◌≡◌, ◌==◌, ◌+◌, ◌++◌, ◌∷◌, [], ℕ, Bool, List, Some, None, not, map, length};
 ghost use Rattle.std.specs.List.{filter};
 ghost use Rattle.mps_history.specs.Steps.{within, without};
 ghost use Rattle.mps_arena.specs.Keys.{last_key};
-ghost use Rattle.mps_arena.specs.Entries.{Entry, steps, AreSound};
-ghost use Rattle.mps_links.specs.Marks.{marked_keys, AreMarksClosed, marked_by, unmarked_steps};
+ghost use Rattle.mps_arena.specs.Entries.{Entry, steps, entry_at, AreSound};
+ghost use Rattle.mps_links.specs.Marks.{marked_keys, marked_steps, AreMarksClosed, marked_by, unmarked_steps};
 
 /// Where the newest marked step goes, each step that depends on a marked one is still marked.
 pub fn marks_stay_closed()
@@ -13,8 +13,8 @@ pub fn marks_stay_closed()
         → AreMarksClosed (filter (λ e. not (e.key == k)) es) }
 {}
 
-/// Where the newest marked step goes, the unmarked ones stay and one less is marked. So in the end
-/// the history is left without the marked ones.
+/// Where the newest marked step goes, the unmarked ones stay, and of the marked ones all but the
+/// last. So in the end the history is left without the marked ones.
 pub fn marked_steps_go()
     ensures stay { (es : List Entry) (k : ℕ) → AreSound es
         → last_key None (marked_keys es) ≡ Some k
@@ -22,10 +22,15 @@ pub fn marked_steps_go()
     ensures fewer { (es : List Entry) (k : ℕ) → AreSound es
         → last_key None (marked_keys es) ≡ Some k
         → length (marked_keys (filter (λ e. not (e.key == k)) es)) + 1 ≡ length (marked_keys es) }
+    ensures last { (es : List Entry) (k : ℕ) (e : Entry) → AreSound es
+        → last_key None (marked_keys es) ≡ Some k → entry_at k es ≡ Some e
+        → marked_steps es ≡ marked_steps (filter (λ e. not (e.key == k)) es) ++ e.step ∷ [] }
     ensures left { (es : List Entry) → last_key None (marked_keys es) ≡ None
         → unmarked_steps es ≡ steps es }
     ensures unmarked { (es : List Entry) (set : ℕ → Bool)
         → unmarked_steps (map (marked_by set) es) ≡ without (steps es) set }
+    ensures marked { (es : List Entry) (set : ℕ → Bool)
+        → marked_steps (map (marked_by set) es) ≡ within (steps es) set }
     ensures count { (es : List Entry) (set : ℕ → Bool)
         → length (marked_keys (map (marked_by set) es)) ≡ length (within (steps es) set) }
 {}

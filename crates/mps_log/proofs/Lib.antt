@@ -2,3 +2,4 @@ pub mod Waiting
 pub mod Leaving
 pub mod Taking
 pub mod Walks
+pub mod Remarked

@@ -2,6 +2,7 @@
 #![tactic(auto)]
 
 mod log;
+mod marks;
 mod moves;
 
 pub use log::Log;

@@ -24,7 +24,7 @@ use std::marker::Model;
 /// once, in the step that gave it.
 #[derive(Drop)]
 pub struct Log {
-    arena: Arena,
+    pub(crate) arena: Arena,
     queues: Queues,
     stores: Stores,
 }

@@ -14,3 +14,6 @@ pub mod Aside
 pub mod Returning
 pub mod Undoing
 pub mod Trying
+pub mod Rolling
+pub mod Behind
+pub mod Served

@@ -1,5 +1,5 @@
 -- What the machine answers to an undo, from what a session keeps.
-use Rattle.std.proofs.Common.{◌≡◌, ◌+◌, ℕ, ◌<◌, List, length, Option, Some, None, Result, Err, sym, ap, ◌∙◌, subst, arith}
+use Rattle.std.proofs.Common.{◌≡◌, [], ◌+◌, ℕ, ◌<◌, List, length, not, Option, Some, None, Result, Err, sym, ap, ◌∙◌, subst, arith}
 use Rattle.std.specs.Prelude.{◌==◌, IfSome}
 use Rattle.std.specs.Option.{option_map}
 use mathlib.Core.Path.{ap₂}
@@ -13,6 +13,7 @@ use Rattle.mps_machine.specs.Rule.{rule}
 use Rattle.mps_machine.specs.Machine.{State, unless, owner_fault, undone, undo}
 use Rattle.mps_arena.specs.Entries.{Entry, steps, entry_at}
 use Rattle.mps_arena.specs.Sources.{CanGo}
+use Rattle.mps_links.specs.Marks.{marked_keys}
 use Rattle.mps_session.specs.Configurations.{Configuration, state_of}
 use Rattle.mps_session.specs.Held.{Holds}
 use Rattle.mps_session.specs.Leaving.{HasLeft}
@@ -20,6 +21,7 @@ use Rattle.mps_session.specs.Seen.{Machine, view_of}
 use Rattle.mps_session.proofs.Numbered as numbered
 use Rattle.mps_session.proofs.Numbered.{key_of}
 use Rattle.mps_session.proofs.Returning as returning
+use Rattle.mps_session.proofs.Rolling.{filter_unmarked}
 
 -- what is told where that is wrong with the owner, and then that depends on the step
 abbrev answered : State → ℕ → Option Refusal → Option ℕ → Result (List ℕ) Refusal × State
@@ -50,6 +52,9 @@ module _ (types : List LocalType) (c : Configuration) (holds : Holds types c) (n
 
     pub holds_then : Holds types next
     holds_then = returning.returned_holds types c next k x holds found can left
+
+    pub unmarked_then : marked_keys c.entries ≡ [] → marked_keys next.entries ≡ []
+    unmarked_then none = ap marked_keys left.entries ∙ filter_unmarked (λ e. not (e.key == x.key)) c.entries none
 
     pub state_then : least (dependents (steps c.entries) n) ≡ None → state_of next ≡ (undo now.state p n).1
     state_then none =

@@ -1,17 +1,16 @@
 -- What a session answers, against the plain machine.
-use Rattle.std.specs.Prelude.{◌≡◌, ℕ, ⊤, List, [], ◌∷◌, Result, Ok, Err, IsOk}
+use Rattle.std.specs.Prelude.{◌≡◌, ℕ, ⊤, List, [], ◌∷◌, Option, Some, None, Result, Ok, Err, IsOk}
 use Rattle.std.specs.Borrow.{Bor}
 use Rattle.mps_base.specs.declared.action.Act.{Act}
 use Rattle.mps_base.specs.declared.action.Step.{Step}
 use Rattle.mps_command.specs.declared.answer.Answer.{Answer}
 use Rattle.mps_command.specs.declared.answer.Answer.TheVariants.{Done, Undone, Refused}
-use Rattle.mps_command.specs.declared.answer.Done.{Done as NewStep}
 use Rattle.mps_command.specs.declared.answer.Refusal.{Refusal}
 use Rattle.mps_command.specs.declared.answer.Refusal.TheVariants.{Memory}
 use Rattle.mps_machine.specs.Machine.{State}
 
 -- the answer is the machine's, but memory may run out where the machine accepts
-abbrev pub IsAnswer : Result NewStep Refusal → Result NewStep Refusal → Type 0
+abbrev pub IsAnswer : {A : Type 0} → Result A Refusal → Result A Refusal → Type 0
 IsAnswer (Err Memory) answer = IsOk answer
 IsAnswer result answer = result ≡ answer
 
@@ -31,6 +30,11 @@ IsAccepting (Refused refusal) = ⊥
 abbrev pub IsServed : Answer → (old new : State) → Answer × State → Type 0
 IsServed (Refused Memory) old new served = IsAccepting served.0 × (new ≡ old)
 IsServed answer old new served = (answer ≡ served.0) × (new ≡ served.1)
+
+-- the number of the first of the steps
+abbrev pub first_number : List Step → Option ℕ
+first_number [] = None
+first_number (s ∷ h) = Some s.id
 
 -- a step, as it is shown
 abbrev pub as_step : ℕ × ℕ × Bor Act → Step

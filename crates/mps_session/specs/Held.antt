@@ -1,11 +1,12 @@
 -- How a session keeps the view that replaying its steps gives, of n roles.
-use Rattle.std.specs.Prelude.{◌≡◌, ℕ, ◌<◌, ◌≤◌, List, ◌∷◌, ◌++◌, length, slice_index_or}
+use Rattle.std.specs.Prelude.{◌≡◌, ℕ, ◌<◌, ◌≤◌, List, [], ◌∷◌, ◌++◌, length, slice_index_or}
 use Rattle.std.specs.List.{AllByRecursion}
 use Rattle.mps_base.specs.RoleLists.{HasRoleCount}
 use Rattle.mps_local.specs.Local.{LocalType}
 use Rattle.mps_machine.specs.View.{View}
 use Rattle.mps_machine.specs.Machine.{most_numbers, view_of, IsSound}
 use Rattle.mps_arena.specs.Entries.{Entry, steps, AreSound}
+use Rattle.mps_links.specs.Marks.{marked_keys}
 use Rattle.mps_table.specs.Standing.{StandsFor}
 use Rattle.mps_session.specs.Configurations.{Configuration, cursor_of, state_of}
 use Rattle.mps_session.specs.Cursors.{IsFor, nowhere}
@@ -33,3 +34,8 @@ pub record Holds (types : List LocalType) (c : Configuration) : Type 0 where
   pub cursors : AreCursors (length types) c.cursors (view_of types (steps c.entries))
   pub placed : ArePlaced types c
   pub few : c.issued ≤ most_numbers
+
+-- the same, and no step is marked: so it is between two commands
+pub record IsAtRest (types : List LocalType) (c : Configuration) : Type 0 where
+  pub holds : Holds types c
+  pub unmarked : marked_keys c.entries ≡ []

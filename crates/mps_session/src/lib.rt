@@ -5,6 +5,8 @@ mod configuration;
 mod cursor;
 pub mod open;
 pub mod protocol;
+mod rollback;
+mod serve;
 pub mod session;
 mod undo;
 

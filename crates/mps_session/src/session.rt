@@ -48,11 +48,11 @@ impl Model for Session {
     ghost coded = { Prim.hlevel (codes, coded_local) };
 
     ghost use Rattle.mps_session.specs.Configurations.{lists_of, state_of};
-    ghost use Rattle.mps_session.specs.Held.{Holds};
+    ghost use Rattle.mps_session.specs.Held.{IsAtRest};
 
     ghost view = { λ s. record { types = map plain s.types.items; state = state_of (lists_of s.configuration) } };
 
-    ghost invariant = { λ s. Holds (map plain s.types.items) (lists_of s.configuration) };
+    ghost invariant = { λ s. IsAtRest (map plain s.types.items) (lists_of s.configuration) };
 }
 
 impl Session {

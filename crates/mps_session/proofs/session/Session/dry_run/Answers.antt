@@ -10,7 +10,7 @@ use Rattle.mps_session.proofs.session.Session.dry_run.Goals as goal
 use Rattle.mps_session.proofs.session.Session.dry_run.Goals.{After-undo}
 
 sound : (c : After-undo) → IsSound c.args.self.now.types c.args.self.now.state
-sound c = subst (λ (m : Machine). IsSound m.types m.state) c.self.view_is c.self.invariant.sound
+sound c = subst (λ (m : Machine). IsSound m.types m.state) c.self.view_is c.self.invariant.holds.sound
 
 taken_back : (c : After-undo) → undo c.forward.new.self.state c.args.role c.in_ok-done.done.id ≡ (Ok (c.in_ok-done.done.id ∷ []), record c.args.self.now.state { next = c.args.self.now.state.next + 1 })
 taken_back c =

@@ -29,8 +29,8 @@ expect-requires c =
     let all = s.configuration.cursors.items in
     let cursor = c.index-cursor.result.now in
     let at = c.index-cursor.ensures ∙ ap (λ (i : ℕ). get_or all i cursor) c.index.ensures.place in
-    let here = cursor_at all c.args.role cursor (omega (arith, in_cursors types k c.self.invariant c.args.self.now c.self.view_is c.args.role c.requires)) at in
-    record { node = subst (λ (p : Cursor). IsNode p.table p.node) here (is_node types k c.self.invariant c.args.self.now c.self.view_is c.args.role c.requires) }
+    let here = cursor_at all c.args.role cursor (omega (arith, in_cursors types k c.self.invariant.holds c.args.self.now c.self.view_is c.args.role c.requires)) at in
+    record { node = subst (λ (p : Cursor). IsNode p.table p.node) here (is_node types k c.self.invariant.holds c.args.self.now c.self.view_is c.args.role c.requires) }
 
 pub returns : goal.returns
 returns c =
@@ -40,6 +40,6 @@ returns c =
     let all = s.configuration.cursors.items in
     let cursor = c.index-cursor.result.now in
     let at = c.index-cursor.ensures ∙ ap (λ (i : ℕ). get_or all i cursor) c.index.ensures.place in
-    let here = cursor_at all c.args.role cursor (in_cursors types k c.self.invariant c.args.self.now c.self.view_is c.args.role c.requires) at in
-    let begins = c.expect.ensures.begins _ (subst (λ (x : Cursor). IsFor x ((view_of types (steps k.entries)).participant c.args.role).to_come) here (stands types k c.self.invariant c.args.self.now c.self.view_is c.args.role c.requires)) in
+    let here = cursor_at all c.args.role cursor (in_cursors types k c.self.invariant.holds c.args.self.now c.self.view_is c.args.role c.requires) at in
+    let begins = c.expect.ensures.begins _ (subst (λ (x : Cursor). IsFor x ((view_of types (steps k.entries)).participant c.args.role).to_come) here (stands types k c.self.invariant.holds c.args.self.now c.self.view_is c.args.role c.requires)) in
     begins_first (head_of c.expect.result) _ begins ∙ ap (λ (m : Machine). head ((seen m).participant c.args.role).to_come) c.self.view_is

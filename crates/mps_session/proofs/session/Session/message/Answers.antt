@@ -11,5 +11,5 @@ pub returns : goal.returns
 returns c =
     let s = c.self.inside in
     c.message.ensures
-    ∙ ap (λ (queue : List Message). slice_get queue c.args.k) (sym (waits_there (map plain s.types.items) (lists_of s.configuration) c.self.invariant c.args.from c.args.to))
+    ∙ ap (λ (queue : List Message). slice_get queue c.args.k) (sym (waits_there (map plain s.types.items) (lists_of s.configuration) c.self.invariant.holds c.args.from c.args.to))
     ∙ ap (λ (m : Machine). slice_get ((view_of m).queue c.args.from c.args.to) c.args.k) c.self.view_is

@@ -12,5 +12,5 @@ returns c =
     let types = map plain s.types.items in
     let kept = lists_of s.configuration in
     c.moves.ensures
-    ∙ moved_is types kept.entries (v types kept c.self.invariant) c.self.invariant.kept (replayed types kept c.self.invariant)
+    ∙ moved_is types kept.entries (v types kept c.self.invariant.holds) c.self.invariant.holds.kept (replayed types kept c.self.invariant.holds)
     ∙ ap moves_of c.self.view_is

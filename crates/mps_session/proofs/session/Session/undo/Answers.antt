@@ -24,20 +24,23 @@ take_out-requires-clause-can c = can ((goal.at.take_out-requires-clause-can c).A
 pub take_out-requires-clause-role : goal.take_out-requires-clause-role
 take_out-requires-clause-role c =
     let s = c.self.inside in
-    undoing.role_inside (map plain s.types.items) (lists_of s.configuration) c.self.invariant c.args.self.now c.self.view_is c.args.role c.args.id c.in_ok-key.key c.in_ok-key.ensures.key c.in_ok-key.ensures.own _ s.configuration.cursors.ok.0 c.requires
+    undoing.role_inside (map plain s.types.items) (lists_of s.configuration) c.self.invariant.holds c.args.self.now c.self.view_is c.args.role c.args.id c.in_ok-key.key c.in_ok-key.ensures.key c.in_ok-key.ensures.own _ s.configuration.cursors.ok.0 c.requires
 
 pub invariant_of-self : goal.invariant_of-self
 invariant_of-self c =
     let s = c.self.inside in
-    undoing.holds_then (map plain s.types.items) (lists_of s.configuration) c.self.invariant c.args.self.now c.self.view_is c.args.role c.args.id c.in_ok-key.key c.in_ok-key.ensures.key c.in_ok-key.ensures.own (can ((goal.at.invariant_of-self c).After-least_dependent) c.in_default.is) (lists_of c.take_out.new.self) c.take_out.ensures.left
+    record {
+      holds = undoing.holds_then (map plain s.types.items) (lists_of s.configuration) c.self.invariant.holds c.args.self.now c.self.view_is c.args.role c.args.id c.in_ok-key.key c.in_ok-key.ensures.key c.in_ok-key.ensures.own (can ((goal.at.invariant_of-self c).After-least_dependent) c.in_default.is) (lists_of c.take_out.new.self) c.take_out.ensures.left;
+      unmarked = undoing.unmarked_then (map plain s.types.items) (lists_of s.configuration) c.self.invariant.holds c.args.self.now c.self.view_is c.args.role c.args.id c.in_ok-key.key c.in_ok-key.ensures.key c.in_ok-key.ensures.own (can ((goal.at.invariant_of-self c).After-least_dependent) c.in_default.is) (lists_of c.take_out.new.self) c.take_out.ensures.left c.self.invariant.unmarked;
+    }
 
 pub returns-clause-state : goal.returns-clause-state
 returns-clause-state c =
     let s = c.self.inside in
     let before = (goal.at.returns-clause-state c).After-least_dependent in
-    undoing.state_then (map plain s.types.items) (lists_of s.configuration) c.self.invariant c.args.self.now c.self.view_is c.args.role c.args.id c.in_ok-key.key c.in_ok-key.ensures.key c.in_ok-key.ensures.own (can before c.in_default.is) (lists_of c.take_out.new.self) c.take_out.ensures.left (none before c.in_default.is)
+    undoing.state_then (map plain s.types.items) (lists_of s.configuration) c.self.invariant.holds c.args.self.now c.self.view_is c.args.role c.args.id c.in_ok-key.key c.in_ok-key.ensures.key c.in_ok-key.ensures.own (can before c.in_default.is) (lists_of c.take_out.new.self) c.take_out.ensures.left (none before c.in_default.is)
 
 pub returns-clause-back : goal.returns-clause-back
 returns-clause-back c =
     let s = c.self.inside in
-    undoing.back_then (map plain s.types.items) (lists_of s.configuration) c.self.invariant c.args.self.now c.self.view_is c.args.role c.args.id c.in_ok-key.key c.in_ok-key.ensures.key c.in_ok-key.ensures.own (can ((goal.at.returns-clause-back c).After-least_dependent) c.in_default.is) (lists_of c.take_out.new.self) c.take_out.ensures.left
+    undoing.back_then (map plain s.types.items) (lists_of s.configuration) c.self.invariant.holds c.args.self.now c.self.view_is c.args.role c.args.id c.in_ok-key.key c.in_ok-key.ensures.key c.in_ok-key.ensures.own (can ((goal.at.returns-clause-back c).After-least_dependent) c.in_default.is) (lists_of c.take_out.new.self) c.take_out.ensures.left

@@ -1,0 +1,102 @@
+-- Entries whose marks change: queues, slots and steps stay.
+use Rattle.std.proofs.Common.{◌≡◌, ℕ, Bool, true, false, List, [], ◌∷◌, ◌++◌, map, length, Option, refl, sym, ap, ◌∙◌, subst, ⊎_elim}
+use mathlib.Core.Path.{ap₂}
+use Rattle.std.specs.Prelude.{slice_get}
+use Rattle.std.specs.List.{AllByRecursion}
+use Rattle.std.proofs.lemmas.Bool.{cases_Bool}
+use Rattle.mps_base.specs.declared.action.Step.{Step}
+use Rattle.mps_history.specs.Slots.{value_in}
+use Rattle.mps_history.specs.Steps.{IsRising, sends, receives}
+use Rattle.mps_arena.specs.Keys.{AreDistinct}
+use Rattle.mps_arena.specs.Entries.{Entry, steps, keys_of, any_step, IsSmall, AreSound}
+use Rattle.mps_arena.proofs.Chains.{keys_with, keys_without}
+use Rattle.mps_queues.specs.Fronts.{AreFronts}
+use Rattle.mps_stores.specs.Stores.{Keys, IsReceiptInto, bindings, rebound, store_after, AreStores}
+
+module _ (m : Entry → Bool) where
+  abbrev pub remarked : Entry → Entry
+  remarked e = record e { marked = m e }
+
+  abbrev pub again : List Entry → List Entry
+  again es = map remarked es
+
+  pub keys_again : (p : Step → Bool) (es : List Entry) → keys_of p (again es) ≡ keys_of p es
+  keys_again p [] = refl
+  keys_again p (x ∷ es) =
+      ⊎_elim
+      (λ (t : p x.step ≡ true). keys_with p (remarked x) (again es) t ∙ ap (λ l. x.key ∷ l) (keys_again p es) ∙ sym (keys_with p x es t))
+      (λ (f : p x.step ≡ false). keys_without p (remarked x) (again es) f ∙ keys_again p es ∙ sym (keys_without p x es f))
+      (cases_Bool (p x.step))
+
+  pub steps_again : (es : List Entry) → steps (again es) ≡ steps es
+  steps_again [] = refl
+  steps_again (x ∷ es) = ap (λ l. x.step ∷ l) (steps_again es)
+
+  pub all_again : (P : Step → Type 0) (es : List Entry) → AllByRecursion (λ e. P e.step) es → AllByRecursion (λ e. P e.step) (again es)
+  all_again P [] a = tt
+  all_again P (x ∷ es) a = (a.0, all_again P es a.1)
+
+  parts_again : (es c d : List Entry) → again es ≡ c ++ d → (a : List Entry) × (b : List Entry) × ((es ≡ a ++ b) × (c ≡ again a))
+  parts_again es [] d e = ([], es, (refl, refl))
+  parts_again [] (y ∷ c) d e = absurd cc
+  parts_again (x ∷ es) (y ∷ c) d e =
+      let head : remarked x ≡ y = cc in
+      let tail : again es ≡ c ++ d = cc in
+      let w = parts_again es c d tail in
+      (x ∷ w.0, w.1, (ap (λ l. x ∷ l) w.2.0, ap₂ (λ (z : Entry) (l : List Entry). z ∷ l) (sym head) w.2.1))
+
+  pub sound_again : (es : List Entry) → AreSound es → AreSound (again es)
+  sound_again es s = record {
+    distinct = subst AreDistinct (sym (keys_again any_step es)) s.distinct;
+    fed = λ c d e a b. let w = parts_again es c d e in rw (w.2.1, keys_again (receives a b) w.0, keys_again (sends a b) w.0) (s.fed w.0 w.1 w.2.0 a b);
+    rising = subst IsRising (sym (steps_again es)) s.rising;
+    small = all_again IsSmall es s.small;
+  }
+
+  pub fronts_again : (es : List Entry) (fronts : List (Option ℕ)) → AreFronts es fronts → AreFronts (again es) fronts
+  fronts_again es fronts f = record {
+    each = λ p q small little.
+        f.each p q small little ∙ sym (ap₂ (λ (l r : List ℕ). slice_get l (length r)) (keys_again (sends p q) es) (keys_again (receives p q) es));
+  }
+
+  rebound_again : (p : ℕ) (store : Keys) (es : List Entry) → rebound p store (again es) ≡ rebound p store es
+  rebound_again p store [] = refl
+  rebound_again p store (x ∷ es) = rebound_again p (store_after p store x) es
+
+  -- where an entry of the list stands in the one before
+  pub record IsPlace (es c : List Entry) (y : Entry) : Type 0 where
+    pub before : List Entry
+    pub entry : Entry
+    pub behind : List Entry
+    pub parts : es ≡ before ++ entry ∷ behind
+    pub front : c ≡ again before
+    pub same : y ≡ remarked entry
+
+  pub place_again : (es c d : List Entry) (y : Entry) → again es ≡ c ++ y ∷ d → IsPlace es c y
+  place_again [] [] d y e = absurd cc
+  place_again [] (z ∷ c) d y e = absurd cc
+  place_again (x ∷ es) [] d y e =
+      let head : y ≡ remarked x = cc in
+      record { before = []; entry = x; behind = es; parts = refl; front = refl; same = head }
+  place_again (x ∷ es) (z ∷ c) d y e =
+      let head : z ≡ remarked x = cc in
+      let tail : again es ≡ c ++ y ∷ d = cc in
+      let w = place_again es c d y tail in
+      record {
+        before = x ∷ w.before;
+        entry = w.entry;
+        behind = w.behind;
+        parts = ap (λ l. x ∷ l) w.parts;
+        front = ap₂ (λ (v : Entry) (l : List Entry). v ∷ l) head w.front;
+        same = w.same;
+      }
+
+  pub stores_again : (es : List Entry) (stores : List Keys) → AreStores es stores → AreStores (again es) stores
+  stores_again es stores s = record {
+    each = λ p small. s.each p small ∙ sym (rebound_again p [] es);
+    traced = λ p slot a b e whole is.
+        let w = place_again es a b e whole in
+        let receipt : IsReceiptInto p slot w.entry = subst (IsReceiptInto p slot) w.same is in
+        ap (λ (z : Entry). z.before.bound) w.same ∙ s.traced p slot w.before w.behind w.entry w.parts receipt
+        ∙ ap (value_in slot) (sym (rebound_again p [] w.before)) ∙ ap (λ (l : List Entry). value_in slot (bindings p l)) (sym w.front);
+  }

@@ -1,0 +1,28 @@
+use Rattle.std.proofs.Common.{List, Bool, sym, subst}
+use Rattle.mps_history.specs.Dependence.{consequences}
+use Rattle.mps_arena.specs.Entries.{Entry, steps, AreSound}
+use Rattle.mps_queues.specs.Fronts.{AreFronts}
+use Rattle.mps_stores.specs.Stores.{AreStores}
+use Rattle.mps_log.proofs.Remarked.{sound_again, fronts_again, stores_again}
+use Rattle.mps_log.proofs.log.Log.mark_from.Goals as goal
+use Rattle.mps_log.proofs.log.Log.mark_from.Goals.{After-mark_from}
+
+-- which entries are marked
+abbrev marks : After-mark_from → Entry → Bool
+marks c e = consequences (steps c.self.inside.arena.entries) c.args.id e.step.id
+
+sound : (c : After-mark_from) → AreSound c.mark_from.new.arena.entries
+sound c = subst AreSound (sym c.mark_from.ensures.marks) (sound_again (marks c) c.self.inside.arena.entries c.self.invariant.sound)
+
+pub invariant_of-self : goal.invariant_of-self
+invariant_of-self c =
+    let k = (goal.at.invariant_of-self c).After-mark_from in
+    let l = c.self.inside in
+    record {
+      sound = sound k;
+      fronts = subst (λ (es : List Entry). AreFronts es l.queues) (sym c.mark_from.ensures.marks) (fronts_again (marks k) l.arena.entries l.queues c.self.invariant.fronts);
+      stores = subst (λ (es : List Entry). AreStores es l.stores) (sym c.mark_from.ensures.marks) (stores_again (marks k) l.arena.entries l.stores c.self.invariant.stores);
+    }
+
+pub returns-clause-sound : goal.returns-clause-sound
+returns-clause-sound c = sound ((goal.at.returns-clause-sound c).After-mark_from)

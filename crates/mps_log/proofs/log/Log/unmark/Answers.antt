@@ -1,0 +1,25 @@
+use Rattle.std.proofs.Common.{List, Bool, false, sym, subst}
+use Rattle.mps_arena.specs.Entries.{Entry, AreSound}
+use Rattle.mps_queues.specs.Fronts.{AreFronts}
+use Rattle.mps_stores.specs.Stores.{AreStores}
+use Rattle.mps_log.proofs.Remarked.{sound_again, fronts_again, stores_again}
+use Rattle.mps_log.proofs.log.Log.unmark.Goals as goal
+use Rattle.mps_log.proofs.log.Log.unmark.Goals.{After-unmark}
+
+abbrev nowhere : Entry → Bool
+nowhere e = false
+
+sound : (c : After-unmark) → AreSound c.unmark.new.arena.entries
+sound c = subst AreSound (sym c.unmark.ensures.entries) (sound_again nowhere c.self.inside.arena.entries c.self.invariant.sound)
+
+pub invariant_of-self : goal.invariant_of-self
+invariant_of-self c =
+    let l = c.self.inside in
+    record {
+      sound = sound ((goal.at.invariant_of-self c).After-unmark);
+      fronts = subst (λ (es : List Entry). AreFronts es l.queues) (sym c.unmark.ensures.entries) (fronts_again nowhere l.arena.entries l.queues c.self.invariant.fronts);
+      stores = subst (λ (es : List Entry). AreStores es l.stores) (sym c.unmark.ensures.entries) (stores_again nowhere l.arena.entries l.stores c.self.invariant.stores);
+    }
+
+pub returns-clause-sound : goal.returns-clause-sound
+returns-clause-sound c = sound ((goal.at.returns-clause-sound c).After-unmark)

@@ -1,0 +1,37 @@
+//! Marks on the steps of a log.
+ghost use Rattle.std.specs.Prelude.{◌≡◌, [], map, length, IsSome};
+ghost use Rattle.mps_history.specs.Steps.{step_of, within};
+ghost use Rattle.mps_history.specs.Dependence.{consequences};
+ghost use Rattle.mps_arena.specs.Entries.{steps, AreSound};
+ghost use Rattle.mps_links.specs.Marks.{marked_keys, AreMarksClosed, marked_by, unmarked};
+
+use crate::log::Log;
+use mps_base::StepId;
+use mps_links::{mark_from, unmark};
+
+impl Log {
+    /// Marks the step of that number and all that depend on it, and tells how many they are.
+    pub fn mark_from(&mut self, id: StepId) -> usize
+        requires present { IsSome (step_of (steps self.old.entries) id) }
+        requires unmarked { marked_keys self.old.entries ≡ [] }
+        ensures marks { self.new.entries
+            ≡ map (marked_by (consequences (steps self.old.entries) id)) self.old.entries }
+        ensures count { result ≡ length (within (steps self.old.entries)
+            (consequences (steps self.old.entries) id)) }
+        ensures closed { AreMarksClosed self.new.entries }
+        ensures issued { self.new.issued ≡ self.old.issued }
+        ensures sound { AreSound self.new.entries }
+    {
+        mark_from(&mut self.arena, id)
+    }
+
+    /// Takes all marks off, where each step that depends on a marked one is marked.
+    pub fn unmark(&mut self)
+        requires closed { AreMarksClosed self.old.entries }
+        ensures entries { self.new.entries ≡ map unmarked self.old.entries }
+        ensures issued { self.new.issued ≡ self.old.issued }
+        ensures sound { AreSound self.new.entries }
+    {
+        unmark(&mut self.arena);
+    }
+}

@@ -1,0 +1,144 @@
+//! Steps taken back with all that depend on them.
+ghost use Rattle.std.specs.Prelude.{◌≡◌, ◌+◌, ◌<◌, ◌≤◌, ◌++◌, [], List, reverse, length, vec_len, vec_capacity, IsSome, IfOk, OnOk, OnErr};
+ghost use Rattle.std.specs.List.{AllByRecursion};
+ghost use Rattle.std.specs.Option.{option_map};
+ghost use Rattle.mps_history.specs.Steps.{numbers, step_of, steps_of, within, without};
+ghost use Rattle.mps_history.specs.Dependence.{consequences};
+ghost use Rattle.mps_local.specs.Local.{LocalType};
+ghost use Rattle.mps_machine.specs.Machine as machine;
+ghost use Rattle.mps_machine.specs.Machine.{is_mark, since_mark};
+ghost use Rattle.mps_arena.specs.Entries.{steps};
+ghost use Rattle.mps_links.specs.Marks.{marked_keys, marked_steps, unmarked_steps, AreMarksClosed};
+ghost use Rattle.mps_session.specs.Answers.{IsAnswer, first_number};
+ghost use Rattle.mps_session.specs.Configurations.{lists_of};
+ghost use Rattle.mps_session.specs.Held.{Holds};
+
+use crate::configuration::Configuration;
+use crate::session::Session;
+use mps_base::{Act, Name, Role, StepId};
+use mps_command::{Refusal, StepIds};
+use mps_links::newest_marked;
+use std::alloc::AllocError;
+
+// Whether the act is a mark of that name.
+fn is_mark(act: &Act, name: &Name) -> bool
+    ensures { result ≡ is_mark name.now act.now }
+{
+    match act {
+        Act::Mark(mark) => mark == name,
+        Act::Out { .. } | Act::In { .. } => false,
+    }
+}
+
+impl Configuration {
+    /// Takes the step of that number out, and all that depend on it, the newest first, and tells their numbers.
+    /// Nothing is changed where memory runs out.
+    pub(crate) fn roll_back(&mut self, id: StepId) -> Result<StepIds, AllocError>
+        requires present { IsSome (step_of (steps (lists_of self.old).entries) id) }
+        requires unmarked { marked_keys (lists_of self.old).entries ≡ [] }
+        requires members { AllByRecursion
+            (λ e. e.step.role < length (lists_of self.old).cursors) (lists_of self.old).entries }
+        ensures numbers { IfOk result (λ ids. ids ≡ reverse (numbers
+            (within (steps (lists_of self.old).entries)
+            (consequences (steps (lists_of self.old).entries) id)))) }
+        ensures history { OnOk result (steps (lists_of self.new).entries
+            ≡ without (steps (lists_of self.old).entries)
+            (consequences (steps (lists_of self.old).entries) id)) }
+        ensures issued { (lists_of self.new).issued ≡ (lists_of self.old).issued }
+        ensures unmarked { marked_keys (lists_of self.new).entries ≡ [] }
+        ensures holds { (types : List LocalType) → Holds types (lists_of self.old)
+            → Holds types (lists_of self.new) }
+        ensures err { OnErr result (lists_of self.new ≡ lists_of self.old) }
+    {
+        let count = self.log.mark_from(id);
+        match Vec::with_capacity(self.alloc, count) {
+            Ok(mut ids) => {
+                self.take_marked(&mut ids);
+                Ok(StepIds::of(ids))
+            }
+            Err(error) => {
+                self.log.unmark();
+                Err(error)
+            }
+        }
+    }
+
+    // Takes the marked steps out, the newest first, and adds their numbers to the others.
+    fn take_marked(&mut self, ids: &mut Vec<StepId>)
+        requires closed { AreMarksClosed (lists_of self.old).entries }
+        requires members { AllByRecursion
+            (λ e. e.step.role < length (lists_of self.old).cursors) (lists_of self.old).entries }
+        requires room { vec_len ids.old + length (marked_keys (lists_of self.old).entries)
+            ≤ vec_capacity ids.old }
+        ensures numbers { ids.new.items ≡ ids.old.items
+            ++ reverse (numbers (marked_steps (lists_of self.old).entries)) }
+        ensures history { steps (lists_of self.new).entries
+            ≡ unmarked_steps (lists_of self.old).entries }
+        ensures issued { (lists_of self.new).issued ≡ (lists_of self.old).issued }
+        ensures unmarked { marked_keys (lists_of self.new).entries ≡ [] }
+        ensures holds { (types : List LocalType) → Holds types (lists_of self.old)
+            → Holds types (lists_of self.new) }
+    {
+        while let Some(key) = newest_marked(self.log.steps()) {
+            let id = self.take_out(key);
+            ids.push_reserved(id);
+        }
+    }
+
+    /// The number of the role's first step behind its last mark of the name; none where there is no such step, and
+    /// none of that where there is no such mark.
+    pub(crate) fn first_behind(&self, role: Role, name: &Name) -> Option<Option<StepId>>
+        requires { role < 8 }
+        ensures { result ≡ option_map first_number
+            (since_mark name.now (steps_of role (steps (lists_of self.now).entries))) }
+    {
+        let arena = self.log.steps();
+        let mut at = arena.last_of(role);
+        let mut behind = None;
+        for _ in 0..arena.len() {
+            let Some(key) = at else {
+                return None;
+            };
+            let step = arena.get(key);
+            if is_mark(&step.act, name) {
+                return Some(behind);
+            }
+            behind = Some(step.id);
+            at = arena.prev_of_role(key);
+        }
+        None
+    }
+}
+
+impl Session {
+    /// Takes back the role's own step of that number and all that depend on it, and tells their numbers, the newest
+    /// first. A refusal changes nothing.
+    pub fn rollback(&mut self, role: Role, id: StepId) -> Result<StepIds, Refusal>
+        requires { role < length self.old.types }
+        ensures answer { IsAnswer result (machine.rollback self.old.state role id).0 }
+        ensures state { OnOk result (self.new.state
+            ≡ (machine.rollback self.old.state role id).1) }
+        ensures types { self.new.types ≡ self.old.types }
+        ensures err { OnErr result (self.new.state ≡ self.old.state) }
+    {
+        self.configuration.own_step(role, id)?;
+        Ok(self.configuration.roll_back(id)?)
+    }
+
+    /// Takes the role back to its last mark of the name: its first step behind the mark is taken back, and all that
+    /// depend on it. The mark stays. A refusal changes nothing.
+    pub fn back(&mut self, role: Role, name: &Name) -> Result<StepIds, Refusal>
+        requires { role < length self.old.types }
+        ensures answer { IsAnswer result (machine.back self.old.state role name.now).0 }
+        ensures state { OnOk result (self.new.state
+            ≡ (machine.back self.old.state role name.now).1) }
+        ensures types { self.new.types ≡ self.old.types }
+        ensures err { OnErr result (self.new.state ≡ self.old.state) }
+    {
+        match self.configuration.first_behind(role, name) {
+            None => Err(Refusal::NoMark),
+            Some(None) => Ok(StepIds::of(Vec::new(self.configuration.alloc))),
+            Some(Some(id)) => Ok(self.configuration.roll_back(id)?),
+        }
+    }
+}
