@@ -10,7 +10,7 @@ mod serve;
 pub mod session;
 mod undo;
 
-pub use mps_command::{Done, Forward, Refusal, Violation};
+pub use mps_command::{Done, Forward, Refusal, StepIds, Violation};
 pub use mps_local::LocalFault;
 pub use mps_log::Moves;
 pub use mps_table::Expect;
@@ -22,6 +22,8 @@ pub use session::{MAX_NUMBERS, Session};
 mod choice_tests;
 #[cfg(test)]
 mod protocol_tests;
+#[cfg(test)]
+mod rollback_tests;
 #[cfg(test)]
 mod tests;
 #[cfg(test)]

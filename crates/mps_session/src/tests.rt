@@ -129,6 +129,39 @@ pub(super) fn undone(
     }
 }
 
+// The numbers of the steps that were taken back, or the refusal.
+fn gone(alloc: Global, answer: Result<StepIds, Refusal>) -> Result<String, Fail> {
+    let mut all = format!(in alloc; "")?;
+    match answer {
+        Ok(ids) => {
+            for id in ids.as_slice() {
+                let number = id.number();
+                all = format!(in alloc; "{all}{number} ")?;
+            }
+            Ok(all)
+        }
+        Err(refusal) => refused(alloc, refusal),
+    }
+}
+
+// What the role at this place is answered where it takes the step of that number back with all that
+// depend on it.
+fn rolled_back(
+    alloc: Global,
+    session: &mut Session,
+    place: u8,
+    number: u64,
+) -> Result<String, Fail> {
+    let role = role_of(session, place)?;
+    gone(alloc, session.rollback(role, StepId::new(number)))
+}
+
+// What the role at this place is answered where it goes back to the mark.
+fn went_back(alloc: Global, session: &mut Session, place: u8, mark: &str) -> Result<String, Fail> {
+    let role = role_of(session, place)?;
+    gone(alloc, session.back(role, &name(mark)?))
+}
+
 // The value that the role keeps in the slot, and a dash where the slot is empty.
 fn kept(alloc: Global, session: &Session, place: u8, slot: &str) -> Result<String, Fail> {
     let role = role_of(session, place)?;
@@ -181,6 +214,10 @@ pub(super) enum Line {
     Tries(u8, Ask, &'static str),
     // a role takes the step of that number back
     Undoes(u8, u64, &'static str),
+    // a role takes the step of that number back, and all that depend on it
+    RollsBack(u8, u64, &'static str),
+    // a role goes back to a mark
+    GoesBack(u8, &'static str, &'static str),
     // the message of that place that waits from one role to another
     Waits(u8, u8, usize, &'static str),
     // what a role keeps in a slot
@@ -193,7 +230,7 @@ pub(super) enum Line {
     Count(usize, u64),
 }
 
-use Line::{Asks, Count, Keeps, Moves, Step, Tries, Undoes, Waits};
+use Line::{Asks, Count, GoesBack, Keeps, Moves, RollsBack, Step, Tries, Undoes, Waits};
 
 // What comes of the line, and what is wanted.
 fn outcome(
@@ -205,6 +242,8 @@ fn outcome(
         Asks(place, ask, wanted) => (answer(alloc, session, place, ask)?, wanted),
         Tries(place, ask, wanted) => (tried(alloc, session, place, ask)?, wanted),
         Undoes(place, number, wanted) => (undone(alloc, session, place, number)?, wanted),
+        RollsBack(place, number, wanted) => (rolled_back(alloc, session, place, number)?, wanted),
+        GoesBack(place, mark, wanted) => (went_back(alloc, session, place, mark)?, wanted),
         Waits(from, to, k, wanted) => {
             let message = session.message(Role::new(from), Role::new(to), k);
             (written(alloc, message)?, wanted)
