@@ -1,15 +1,19 @@
 -- Marked steps taken out, the newest first.
 use Rattle.std.proofs.Common.{◌≡◌, ℕ, ◌+◌, ◌<◌, Bool, true, false, List, [], ◌∷◌, ◌++◌, length, map, not, Option, Some, None, refl, sym, ap, ◌∙◌, subst, arith, ⊎_elim, append_assoc, append-nil}
 use mathlib.Core.Path.{ap₂}
-use Rattle.std.specs.Prelude.{◌==◌, reverse, IfSome, IsSomeAnd}
+use Rattle.std.specs.Prelude.{◌==◌, reverse, unwrap_or, IfSome, IsSomeAnd}
 use Rattle.std.specs.List.{filter, AllByRecursion}
-use Rattle.std.proofs.lemmas.Bool.{cases_Bool, cond-true, cond-false}
+use Rattle.std.proofs.lemmas.Bool.{cases_Bool}
 use Rattle.std.proofs.lemmas.List.{map-append, length-set, reverse-append}
 use Rattle.mps_base.specs.declared.action.Step.{Step}
 use Rattle.mps_history.specs.Steps.{numbers, within, without}
 use Rattle.mps_history.specs.Dependence.{consequences}
 use Rattle.mps_local.specs.Local.{LocalType}
-use Rattle.mps_machine.specs.View.{View}
+use Rattle.mps_history.proofs.Reaching.{consequences_closed}
+use Rattle.mps_machine.specs.View.{View, opening}
+use Rattle.mps_machine.specs.Rule.{replay}
+use Rattle.mps_machine.proofs.Apart.{left_out}
+use Rattle.mps_machine.proofs.Sound.{view_is}
 use Rattle.mps_machine.specs.Machine.{State, view_of, IsSound}
 use Rattle.mps_arena.specs.Entries.{Entry, steps, entry_at, AreSound}
 use Rattle.mps_arena.specs.Keys.{last_key}
@@ -17,11 +21,11 @@ use Rattle.mps_arena.specs.Sources.{CanGo, IsFree}
 use Rattle.mps_arena.proofs.Chains.{entry_key}
 use Rattle.mps_arena.proofs.Keeping.{all_at, entry_split}
 use Rattle.mps_links.specs.Marks.{marked_keys, marked_steps, unmarked_steps, AreMarksClosed, marked_by, unmarked}
-use Rattle.mps_links.proofs.Going.{unmarked_stay, one_fewer, last_marked, still_closed, none_go, unmarked_left, marked_within}
+use Rattle.mps_links.proofs.Going.{unmarked_stay, one_fewer, last_marked, still_closed, none_go}
 use Rattle.mps_links.proofs.Marked.{marked_with, marked_without}
 use Rattle.mps_log.proofs.Remarked as remarking
 use Rattle.mps_table.specs.Standing.{StandsFor}
-use Rattle.mps_session.specs.Configurations.{Configuration, cursor_of, state_of}
+use Rattle.mps_session.specs.Configurations.{Configuration, cursor_of}
 use Rattle.mps_session.specs.Held.{AreCursors, ArePlaced, Holds}
 use Rattle.mps_session.specs.Leaving.{HasLeft}
 use Rattle.mps_session.proofs.Returning.{returned_holds}
@@ -169,6 +173,13 @@ role_there es k n len same all = by_cases (entry_at k es) refl
         let w = entry_split k es x e in
         let here = all_at (λ y. y.step.role < n) w.0 w.1 x (subst (AllByRecursion (λ (y : Entry). y.step.role < n)) w.2 all) in
         omega (arith, same, here)
+
+-- what was taken out leads on from the view that is left
+pub leads_back : (types : List LocalType) (st : State) (h : List Step) (n : ℕ) → IsSound types st → h ≡ without st.history (consequences st.history n) → replay (view_of types h) (within st.history (consequences st.history n)) ≡ Some (view_of types st.history)
+leads_back types st h n ok is =
+    let out = left_out (consequences st.history n) types st.history ok.view ok.rising (consequences_closed st.history n ok.rising) ok.replayed in
+    let there : view_of types h ≡ out.0 = ap (view_of types) is ∙ ap (λ (o : Option View). unwrap_or o (opening types)) out.1 in
+    rw (there, view_is types st ok) out.2
 
 -- each step is of a role that has a cursor
 pub members_there : (types : List LocalType) (c : Configuration) → Holds types c → AllByRecursion (λ e. e.step.role < length c.cursors) c.entries

@@ -1,5 +1,5 @@
 //! Steps taken back with all that depend on them.
-ghost use Rattle.std.specs.Prelude.{◌≡◌, ◌+◌, ◌<◌, ◌≤◌, ◌++◌, [], List, reverse, length, vec_len, vec_capacity, IsSome, IfOk, OnOk, OnErr};
+ghost use Rattle.std.specs.Prelude.{◌≡◌, ◌+◌, ◌<◌, ◌≤◌, ◌++◌, [], List, reverse, length, Some, vec_len, vec_capacity, IsSome, IfOk, OnOk, OnErr};
 ghost use Rattle.std.specs.List.{AllByRecursion};
 ghost use Rattle.std.specs.Option.{option_map};
 ghost use Rattle.mps_history.specs.Steps.{numbers, step_of, steps_of, within, without};
@@ -7,11 +7,13 @@ ghost use Rattle.mps_history.specs.Dependence.{consequences};
 ghost use Rattle.mps_local.specs.Local.{LocalType};
 ghost use Rattle.mps_machine.specs.Machine as machine;
 ghost use Rattle.mps_machine.specs.Machine.{is_mark, since_mark};
+ghost use Rattle.mps_machine.specs.Rule.{replay};
 ghost use Rattle.mps_arena.specs.Entries.{steps};
 ghost use Rattle.mps_links.specs.Marks.{marked_keys, marked_steps, unmarked_steps, AreMarksClosed};
 ghost use Rattle.mps_session.specs.Answers.{IsAnswer, first_number};
 ghost use Rattle.mps_session.specs.Configurations.{lists_of};
 ghost use Rattle.mps_session.specs.Held.{Holds};
+ghost use Rattle.mps_session.specs.Seen.{view_of};
 
 use crate::configuration::Configuration;
 use crate::session::Session;
@@ -119,6 +121,10 @@ impl Session {
         ensures state { OnOk result (self.new.state
             ≡ (machine.rollback self.old.state role id).1) }
         ensures types { self.new.types ≡ self.old.types }
+        // the steps that were taken back are allowed in the view that is left, and lead back to the view from before
+        ensures back { OnOk result (replay (view_of self.new)
+            (within self.old.state.history (consequences self.old.state.history id))
+            ≡ Some (view_of self.old)) }
         ensures err { OnErr result (self.new.state ≡ self.old.state) }
     {
         self.configuration.own_step(role, id)?;

@@ -66,8 +66,8 @@ impl Configuration {
 }
 
 impl Session {
-    /// Takes back the role's own step of that number, on which no other step depends. It asks for no memory, and the
-    /// number isn't given out again.
+    /// Takes back the role's own step of that number, on which no other step depends, or says why not. It asks for no
+    /// memory, and the number isn't given out again. A refusal changes nothing.
     pub fn undo(&mut self, role: Role, id: StepId) -> Result<(), Refusal>
         requires { role < length self.old.types }
         ensures answer { undo_answer id result ≡ (machine.undo self.old.state role id).0 }
@@ -76,6 +76,7 @@ impl Session {
         // the undone act is allowed in the view that is left, and leads back to the view from before
         ensures back { OnOk result ((s : Step) → step_of self.old.state.history id ≡ Some s
             → rule (view_of self.new) s ≡ Some (view_of self.old)) }
+        ensures err { OnErr result (self.new.state ≡ self.old.state) }
     {
         let key = self.configuration.own_step(role, id)?;
         if let Some(by) = least_dependent(self.configuration.log.steps(), id) {

@@ -1,0 +1,19 @@
+use Rattle.std.proofs.Common.{◌≡◌, Some, map, subst}
+use Rattle.mps_history.specs.Steps.{within}
+use Rattle.mps_history.specs.Dependence.{consequences}
+use Rattle.mps_local.specs.Local.{plain}
+use Rattle.mps_machine.specs.Machine as machine
+use Rattle.mps_machine.specs.Rule.{replay}
+use Rattle.mps_arena.specs.Entries.{steps}
+use Rattle.mps_session.specs.Configurations.{lists_of, state_of}
+use Rattle.mps_session.specs.Seen.{Machine, view_of}
+use Rattle.mps_session.proofs.Rolling.{leads_back}
+use Rattle.mps_session.proofs.session.Session.rollback.Goals as goal
+
+pub returns-clause-back : goal.returns-clause-back
+returns-clause-back c =
+    let s = c.self.inside in
+    let types = map plain s.types.items in
+    let left = steps c.roll_back.new.self.log.entries in
+    subst (λ (m : Machine). replay (machine.view_of types left) (within m.state.history (consequences m.state.history c.args.id)) ≡ Some (view_of m)) c.self.view_is
+    (leads_back types (state_of (lists_of s.configuration)) left c.args.id c.self.invariant.holds.sound c.in_ok-roll_back.ensures.history)
