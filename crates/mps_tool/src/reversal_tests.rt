@@ -16,100 +16,136 @@ const PAIRS: &str = "roles a b c d ; a -> b : int . c -> d : int . end";
 const TWICE: &str = "roles a b ; a -> b : int . a -> b : int . end";
 
 const UNDOS: &[Row] = &[
-    Row(RELAY, &[
-        ("a send b 5", "done 1"),
-        ("b recv a x", "done 2 5"),
-        ("a undo 1", "refused needed 2"),
-        ("b undo 2", "undone 2"),
-        ("a undo 1", "undone 1"),
-    ]),
-    Row(TWICE, &[
-        ("a send b 1", "done 1"),
-        ("a send b 2", "done 2"),
-        ("b recv a x", "done 3 1"),
-        ("b undo 3", "undone 3"),
-        ("b recv a x", "done 4 1"),
-    ]),
-    Row(TWICE, &[
-        ("a send b 1", "done 1"),
-        ("b recv a x", "done 2 1"),
-        ("b undo 2", "undone 2"),
-        ("a undo 1", "undone 1"),
-        ("a send b 9", "done 3"),
-        ("b recv a x", "done 4 9"),
-    ]),
-    Row(TWICE, &[
-        ("a send b 1", "done 1"),
-        ("a send b 2", "done 2"),
-        ("b recv a x", "done 3 1"),
-        ("b recv a x", "done 4 2"),
-        ("b undo 4", "undone 4"),
-        ("b recv a x", "done 5 2"),
-    ]),
-    Row(TWICE, &[
-        ("a send b 1", "done 1"),
-        ("a send b 2", "done 2"),
-        ("b recv a x", "done 3 1"),
-        ("a undo 1", "refused needed 2"),
-    ]),
-    Row(TWICE, &[
-        ("a send b 1", "done 1"),
-        ("b recv a x", "done 2 1"),
-        ("a send b 2", "done 3"),
-        ("a undo 1", "refused needed 2"),
-    ]),
-    Row(TWICE, &[
-        ("a send b 1", "done 1"),
-        ("a undo 1", "undone 1"),
-        ("a send b 2", "done 2"),
-        ("a undo 1", "refused nostep"),
-    ]),
-    Row(RELAY, &[
-        ("b recv a x", "refused nothingqueued"),
-        ("a recv b x", "refused wrongact"),
-        ("a send c 5", "refused wrongpeer"),
-        ("a send b true", "refused wrongsort"),
-        ("b undo 7", "refused nostep"),
-        ("a send b 5", "done 1"),
-        ("b undo 1", "refused notyours"),
-        ("a undo 01", "refused line"),
-        ("a undo 1", "undone 1"),
-    ]),
+    Row(
+        RELAY,
+        &[
+            ("a send b 5", "done 1"),
+            ("b recv a x", "done 2 5"),
+            ("a undo 1", "refused needed 2"),
+            ("b undo 2", "undone 2"),
+            ("a undo 1", "undone 1"),
+        ],
+    ),
+    Row(
+        TWICE,
+        &[
+            ("a send b 1", "done 1"),
+            ("a send b 2", "done 2"),
+            ("b recv a x", "done 3 1"),
+            ("b undo 3", "undone 3"),
+            ("b recv a x", "done 4 1"),
+        ],
+    ),
+    Row(
+        TWICE,
+        &[
+            ("a send b 1", "done 1"),
+            ("b recv a x", "done 2 1"),
+            ("b undo 2", "undone 2"),
+            ("a undo 1", "undone 1"),
+            ("a send b 9", "done 3"),
+            ("b recv a x", "done 4 9"),
+        ],
+    ),
+    Row(
+        TWICE,
+        &[
+            ("a send b 1", "done 1"),
+            ("a send b 2", "done 2"),
+            ("b recv a x", "done 3 1"),
+            ("b recv a x", "done 4 2"),
+            ("b undo 4", "undone 4"),
+            ("b recv a x", "done 5 2"),
+        ],
+    ),
+    Row(
+        TWICE,
+        &[
+            ("a send b 1", "done 1"),
+            ("a send b 2", "done 2"),
+            ("b recv a x", "done 3 1"),
+            ("a undo 1", "refused needed 2"),
+        ],
+    ),
+    Row(
+        TWICE,
+        &[
+            ("a send b 1", "done 1"),
+            ("b recv a x", "done 2 1"),
+            ("a send b 2", "done 3"),
+            ("a undo 1", "refused needed 2"),
+        ],
+    ),
+    Row(
+        TWICE,
+        &[
+            ("a send b 1", "done 1"),
+            ("a undo 1", "undone 1"),
+            ("a send b 2", "done 2"),
+            ("a undo 1", "refused nostep"),
+        ],
+    ),
+    Row(
+        RELAY,
+        &[
+            ("b recv a x", "refused nothingqueued"),
+            ("a recv b x", "refused wrongact"),
+            ("a send c 5", "refused wrongpeer"),
+            ("a send b true", "refused wrongsort"),
+            ("b undo 7", "refused nostep"),
+            ("a send b 5", "done 1"),
+            ("b undo 1", "refused notyours"),
+            ("a undo 01", "refused line"),
+            ("a undo 1", "undone 1"),
+        ],
+    ),
 ];
 
 const ROLLBACKS: &[Row] = &[
-    Row(RELAY, &[
-        ("a send b 5", "done 1"),
-        ("b recv a x", "done 2 5"),
-        ("b send c 7", "done 3"),
-        ("c recv b y", "done 4 7"),
-        ("a rollback 1", "undone 4 3 2 1"),
-    ]),
-    Row(RELAY, &[
-        ("a send b 5", "done 1"),
-        ("b recv a x", "done 2 5"),
-        ("b send c 7", "done 3"),
-        ("c recv b y", "done 4 7"),
-        ("c rollback 2", "refused notyours"),
-        ("b rollback 2", "undone 4 3 2"),
-        ("b rollback 2", "refused nostep"),
-        ("b recv a x", "done 5 5"),
-    ]),
-    Row(PAIRS, &[
-        ("a send b 1", "done 1"),
-        ("c send d 2", "done 2"),
-        ("a rollback 1", "undone 1"),
-        ("d recv c x", "done 3 2"),
-    ]),
-    Row(TWICE, &[
-        ("a mark m", "done 1"),
-        ("a send b 1", "done 2"),
-        ("b recv a x", "done 3 1"),
-        ("a back m", "undone 3 2"),
-        ("a back m", "undone"),
-        ("a undo 1", "undone 1"),
-        ("a back m", "refused nomark"),
-    ]),
+    Row(
+        RELAY,
+        &[
+            ("a send b 5", "done 1"),
+            ("b recv a x", "done 2 5"),
+            ("b send c 7", "done 3"),
+            ("c recv b y", "done 4 7"),
+            ("a rollback 1", "undone 4 3 2 1"),
+        ],
+    ),
+    Row(
+        RELAY,
+        &[
+            ("a send b 5", "done 1"),
+            ("b recv a x", "done 2 5"),
+            ("b send c 7", "done 3"),
+            ("c recv b y", "done 4 7"),
+            ("c rollback 2", "refused notyours"),
+            ("b rollback 2", "undone 4 3 2"),
+            ("b rollback 2", "refused nostep"),
+            ("b recv a x", "done 5 5"),
+        ],
+    ),
+    Row(
+        PAIRS,
+        &[
+            ("a send b 1", "done 1"),
+            ("c send d 2", "done 2"),
+            ("a rollback 1", "undone 1"),
+            ("d recv c x", "done 3 2"),
+        ],
+    ),
+    Row(
+        TWICE,
+        &[
+            ("a mark m", "done 1"),
+            ("a send b 1", "done 2"),
+            ("b recv a x", "done 3 1"),
+            ("a back m", "undone 3 2"),
+            ("a back m", "undone"),
+            ("a undo 1", "undone 1"),
+            ("a back m", "refused nomark"),
+        ],
+    ),
 ];
 
 // Each row's script is answered so.
