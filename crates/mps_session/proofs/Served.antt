@@ -4,6 +4,7 @@ use Rattle.std.specs.Prelude.{IsOk, OnOk, OnErr}
 use Rattle.std.specs.Option.{option_map}
 use Rattle.mps_base.specs.declared.action.Act.{Act}
 use Rattle.mps_base.specs.declared.action.Step.{Step}
+use Rattle.mps_command.specs.declared.command.Command.{Command}
 use Rattle.mps_command.specs.declared.answer.Answer.{Answer}
 use Rattle.mps_command.specs.declared.answer.Answer.TheVariants.{Refused}
 use Rattle.mps_command.specs.declared.answer.Done.{Done}
@@ -14,7 +15,7 @@ use Rattle.mps_history.specs.Steps.{step_of, steps_of}
 use Rattle.mps_local.specs.Local.{LocalType}
 use Rattle.mps_machine.specs.Machine.{State, unless, owner_fault, full_fault, view_of, done_by, accepted, undone, rolled_back, since_mark, back_to, forward, undo, rollback, back, stepped, removed}
 use Rattle.mps_machine.specs.Violations.{violation}
-use Rattle.mps_session.specs.Answers.{IsAnswer, IsAccepting, IsServed}
+use Rattle.mps_session.specs.Answers.{IsAnswer, IsAccepting, MayStarve, IsServed}
 
 -- a refusal changes nothing
 abbrev Keeps : {A : Type 0} → State → Result A Refusal × State → Type 0
@@ -51,14 +52,14 @@ module _ {A : Type 0} (as_answer : Result A Refusal → Answer) (refuses : (e : 
   accepts_all (Ok a) h = accepts a
   accepts_all (Err e) h = absurd cc
 
-  module _ (old new : State) (served : Result A Refusal × State) (kept : Keeps old served) where
+  module _ (command : Command) (may : MayStarve command) (old new : State) (served : Result A Refusal × State) (kept : Keeps old served) where
     as_refused : (e : Refusal) → Err e ≡ served.0 → new ≡ old → (Refused e ≡ as_answer served.0) × (new ≡ served.1)
     as_refused e is same =
         let stays : served.1 ≡ old = rw (sym is) at kept in
         (sym (refuses e) ∙ ap as_answer is, same ∙ sym stays)
 
-    pub refused : (e : Refusal) → IsAnswer {A = A} (Err e) served.0 → new ≡ old → IsServed (Refused e) old new (as_answer served.0, served.1)
-    refused Memory is same = (accepts_all served.0 is, same)
+    pub refused : (e : Refusal) → IsAnswer {A = A} (Err e) served.0 → new ≡ old → IsServed command (Refused e) old new (as_answer served.0, served.1)
+    refused Memory is same = (may, accepts_all served.0 is, same)
     refused (Violates v) is same = as_refused (Violates v) is same
     refused NoStep is same = as_refused NoStep is same
     refused NotYours is same = as_refused NotYours is same

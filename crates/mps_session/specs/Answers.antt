@@ -3,6 +3,8 @@ use Rattle.std.specs.Prelude.{◌≡◌, ℕ, ⊤, List, [], ◌∷◌, Option, 
 use Rattle.std.specs.Borrow.{Bor}
 use Rattle.mps_base.specs.declared.action.Act.{Act}
 use Rattle.mps_base.specs.declared.action.Step.{Step}
+use Rattle.mps_command.specs.declared.command.Command.{Command}
+use Rattle.mps_command.specs.declared.command.Command.TheVariants.{Undo}
 use Rattle.mps_command.specs.declared.answer.Answer.{Answer}
 use Rattle.mps_command.specs.declared.answer.Answer.TheVariants.{Done, Undone, Refused}
 use Rattle.mps_command.specs.declared.answer.Refusal.{Refusal}
@@ -25,11 +27,16 @@ IsAccepting (Done done) = ⊤
 IsAccepting (Undone ids) = ⊤
 IsAccepting (Refused refusal) = ⊥
 
--- the answer and the state after it are the machine's, but memory may run out where the machine accepts, and then
--- nothing changes
-abbrev pub IsServed : Answer → (old new : State) → Answer × State → Type 0
-IsServed (Refused Memory) old new served = IsAccepting served.0 × (new ≡ old)
-IsServed answer old new served = (answer ≡ served.0) × (new ≡ served.1)
+-- whether memory may be wanting for the command: never for an undo
+abbrev pub MayStarve : Command → Type 0
+MayStarve (Undo id) = ⊥
+MayStarve command = ⊤
+
+-- the command's answer and the state after it are the machine's, but memory may run out where the machine accepts, and
+-- then nothing changes
+abbrev pub IsServed : Command → Answer → (old new : State) → Answer × State → Type 0
+IsServed command (Refused Memory) old new served = MayStarve command × IsAccepting served.0 × (new ≡ old)
+IsServed command answer old new served = (answer ≡ served.0) × (new ≡ served.1)
 
 -- the number of the first of the steps
 abbrev pub first_number : List Step → Option ℕ

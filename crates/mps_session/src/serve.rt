@@ -21,7 +21,7 @@ impl Session {
     /// Answers a command of the role. A single undo is answered like a rollback of one step. A refusal changes nothing.
     pub fn serve(&mut self, role: Role, command: Command) -> Answer
         requires { role < length self.old.types }
-        ensures served { IsServed result self.old.state self.new.state
+        ensures served { IsServed command result self.old.state self.new.state
             (machine.serve self.old.types self.old.state role command) }
         ensures types { self.new.types ≡ self.old.types }
     {

@@ -1,5 +1,5 @@
 //! The session.
-ghost use Rattle.std.specs.Prelude.{◌≡◌, ◌≢◌, ◌↔◌, ◌+◌, ◌<◌, ◌≤◌, ℕ, length, map, IfOk, IsErrOf, OnOk, OnErr, Err, slice_get};
+ghost use Rattle.std.specs.Prelude.{◌≡◌, ◌≢◌, ◌↔◌, ◌+◌, ◌<◌, ◌≤◌, ℕ, length, map, IfOk, IsErrOf, OnOk, OnErr, Err, slice_get, [], ◌∷◌, Ok};
 ghost use Rattle.std.specs.Option.{option_copied, option_map};
 ghost use Rattle.mps_base.specs.RoleLists.{HasRoleCount};
 ghost use Rattle.mps_command.specs.Acts.{act_of};
@@ -101,6 +101,9 @@ impl Session {
         ensures state { OnOk result (self.new.state
             ≡ (machine.forward self.old.types self.old.state role (act_of command)).1) }
         ensures types { self.new.types ≡ self.old.types }
+        // A step and then its undo change nothing, but that the number isn't given out again.
+        ensures undone { IfOk result (λ done. machine.undo self.new.state role done.id
+            ≡ (Ok (done.id ∷ []), record self.old.state { next = self.old.state.next + 1 })) }
         ensures err { OnErr result (self.new.state ≡ self.old.state) }
     {
         let kept = &self.configuration;

@@ -97,13 +97,6 @@ pub(super) fn answer(
     told(alloc, session.forward(role, command))
 }
 
-// What the role at this place would be answered.
-fn tried(alloc: Global, session: &mut Session, place: u8, ask: Ask) -> Result<String, Fail> {
-    let command = command(alloc, ask)?;
-    let role = role_of(session, place)?;
-    told(alloc, session.dry_run(role, command))
-}
-
 // The refusal of an undo, and the step that is in its way.
 fn refused(alloc: Global, refusal: Refusal) -> Result<String, Fail> {
     match refusal {
@@ -210,8 +203,6 @@ fn moved(alloc: Global, session: &Session) -> Result<String, Fail> {
 pub(super) enum Line {
     // a role asks, and is answered
     Asks(u8, Ask, &'static str),
-    // a role would ask, and would be answered
-    Tries(u8, Ask, &'static str),
     // a role takes the step of that number back
     Undoes(u8, u64, &'static str),
     // a role takes the step of that number back, and all that depend on it
@@ -230,7 +221,7 @@ pub(super) enum Line {
     Count(usize, u64),
 }
 
-use Line::{Asks, Count, GoesBack, Keeps, Moves, RollsBack, Step, Tries, Undoes, Waits};
+use Line::{Asks, Count, GoesBack, Keeps, Moves, RollsBack, Step, Undoes, Waits};
 
 // What comes of the line, and what is wanted.
 fn outcome(
@@ -240,7 +231,6 @@ fn outcome(
 ) -> Result<(String, &'static str), Fail> {
     Ok(match line {
         Asks(place, ask, wanted) => (answer(alloc, session, place, ask)?, wanted),
-        Tries(place, ask, wanted) => (tried(alloc, session, place, ask)?, wanted),
         Undoes(place, number, wanted) => (undone(alloc, session, place, number)?, wanted),
         RollsBack(place, number, wanted) => (rolled_back(alloc, session, place, number)?, wanted),
         GoesBack(place, mark, wanted) => (went_back(alloc, session, place, mark)?, wanted),

@@ -85,22 +85,4 @@ impl Session {
         self.configuration.take_out(key);
         Ok(())
     }
-
-    /// What `forward` would answer: the step is taken and taken back. Its number is used up.
-    pub fn dry_run(&mut self, role: Role, command: Forward) -> Result<Done, Refusal>
-        requires { role < length self.old.types }
-        ensures answer { IsAnswer result
-            (machine.forward self.old.types self.old.state role (act_of command)).0 }
-        ensures history { self.new.state.history ≡ self.old.state.history }
-        ensures view { view_of self.new ≡ view_of self.old }
-        ensures next { OnOk result (self.new.state.next ≡ self.old.state.next + 1) }
-        ensures types { self.new.types ≡ self.old.types }
-        ensures err { OnErr result (self.new.state ≡ self.old.state) }
-    {
-        // the proof looks at what the session keeps
-        let _ = &self.types;
-        let done = self.forward(role, command)?;
-        self.undo(role, done.id)?;
-        Ok(done)
-    }
 }

@@ -1,6 +1,6 @@
 use super::*;
 use crate::choice_tests::{giving, looping};
-use crate::tests::Line::{Asks, Count, Keeps, Moves, Tries, Undoes, Waits};
+use crate::tests::Line::{Asks, Count, Keeps, Moves, Undoes, Waits};
 use crate::tests::{
     A, A_TO_B_TO_C, Ask, B, C, FROM_A, Line, Row, TO_B, answer, play, play_anew, undone,
 };
@@ -38,23 +38,8 @@ const BY_NAME: &[Line] = &[
     Count(2, 2),
 ];
 
-const TRIED: &[Line] = &[
-    Tries(A, Ask::Send(C, "5"), "WrongPeer"),
-    Count(0, 0),
-    Tries(A, Ask::Send(B, "5"), "1 -"),
-    Waits(A, B, 0, "-"),
-    Count(0, 1),
-    Asks(A, Ask::Send(B, "5"), "2 -"),
-    Tries(B, Ask::Receive(A, "x"), "3 5"),
-    Keeps(B, "x", "-"),
-    Asks(B, Ask::Receive(A, "x"), "4 5"),
-    Tries(A, Ask::Send(B, "5"), "Ended"),
-    Moves("2 5; 4 5; "),
-    Count(2, 4),
-];
-
 // What is played where a gives b an int, and b one to c.
-const RELAYED: &[&[Line]] = &[WAITS_FOR_THE_RECEIPT, BY_NAME, TRIED];
+const RELAYED: &[&[Line]] = &[WAITS_FOR_THE_RECEIPT, BY_NAME];
 
 #[test]
 fn undoes_in_a_relay(rt: HostRuntime) -> Result<(), Fail> {

@@ -6,14 +6,14 @@ use std::test::Fail;
 // A protocol, the lines of a script, and the answer to each.
 struct Row(&'static str, &'static [(&'static str, &'static str)]);
 
-// a gives b a number, and then b gives c one.
-const RELAY: &str = "roles a b c ; a -> b : int . b -> c : int . end";
+// a gives b a number, and then b gives c one, who tells a that it is fine or not.
+const RELAY: &str = "roles a b c ; a -> b : int . b -> c : int . c -> a { ok : end , no : end }";
 
 // Two pairs that have nothing to do with each other.
 const PAIRS: &str = "roles a b c d ; a -> b : int . c -> d : int . end";
 
-// a gives b two numbers.
-const TWICE: &str = "roles a b ; a -> b : int . a -> b : int . end";
+// a gives b numbers without end.
+const LOOP: &str = "roles a b ; rec X . a -> b : int . X";
 
 const UNDOS: &[Row] = &[
     Row(

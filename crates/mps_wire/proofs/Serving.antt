@@ -42,11 +42,11 @@ module _ (names : List (List ℕ)) (types : List LocalType) (line : List ℕ) (s
   as_the_machine : (answer : Answer) → answer ≡ (serve types st role command).0 → after ≡ (serve types st role command).1 → RepliesTo names types line st (Answered answer) after
   as_the_machine answer same state = inr (inl (record { role = role; command = command; readable = readable; answer = ap Answered same; state = state }))
 
-  pub replies : (answer : Answer) → IsServed answer st after (serve types st role command) → RepliesTo names types line st (Answered answer) after
+  pub replies : (answer : Answer) → IsServed command answer st after (serve types st role command) → RepliesTo names types line st (Answered answer) after
   replies (Done done) h = as_the_machine (Done done) h.0 h.1
   replies (Undone ids) h = as_the_machine (Undone ids) h.0 h.1
   replies (Refused Memory) h =
-      inr (inr (record { role = role; command = command; readable = readable; cause = inl h.0; answer = refl; unchanged = h.1 }))
+      inr (inr (record { role = role; command = command; readable = readable; cause = inl (h.0, h.1); answer = refl; unchanged = h.2 }))
   replies (Refused (Violates v)) h = as_the_machine (Refused (Violates v)) h.0 h.1
   replies (Refused NoStep) h = as_the_machine (Refused NoStep) h.0 h.1
   replies (Refused NotYours) h = as_the_machine (Refused NotYours) h.0 h.1

@@ -9,7 +9,7 @@ use Rattle.mps_command.specs.declared.command.Forward.TheVariants.{Send}
 use Rattle.mps_command.specs.declared.answer.Answer.TheVariants.{Refused}
 use Rattle.mps_command.specs.declared.answer.Refusal.TheVariants.{Memory}
 use Rattle.mps_machine.specs.Machine.{State, serve}
-use Rattle.mps_session.specs.Answers.{IsAccepting}
+use Rattle.mps_session.specs.Answers.{IsAccepting, MayStarve}
 use Rattle.mps_line.specs.Commands.{SpellsScriptLine}
 use Rattle.mps_line.specs.Replies.{SpellsReply}
 use Rattle.mps_line.specs.declared.reply.Reply.{Reply}
@@ -41,12 +41,12 @@ module _ (names : List (List ℕ)) (types : List LocalType) (line : List ℕ) (s
     pub answer : reply ≡ Answered (serve types st role command).0
     pub state : after ≡ (serve types st role command).1
 
-  -- memory ran out where the machine accepts the command or its value is a text; nothing changes
+  -- memory ran out where the machine accepts the command, which is no undo, or its value is a text; nothing changes
   pub record IsStarved (reply : Reply) (after : State) : Type 0 where
     pub role : ℕ
     pub command : Command
     pub readable : IsReadable names line role command
-    pub cause : IsAccepting (serve types st role command).0
+    pub cause : (MayStarve command × IsAccepting (serve types st role command).0)
         ⊎ ((to : ℕ) × (value : List ℕ) × (command ≡ Forward (Send to (Text value))))
     pub answer : reply ≡ Answered (Refused Memory)
     pub unchanged : after ≡ st

@@ -13,6 +13,7 @@ use Rattle.mps_session.specs.Configurations.{lists_of, state_of}
 use Rattle.mps_session.specs.Seen.{Machine}
 use Rattle.mps_session.proofs.Opened.{no_mismatch}
 use Rattle.mps_session.proofs.Rolling.{push_unmarked}
+use Rattle.mps_session.proofs.Newest.{taken_back}
 use Rattle.mps_session.proofs.Serving as serving
 use Rattle.mps_session.proofs.session.Session.forward.Goals as goal
 
@@ -78,3 +79,17 @@ returns-clause-state c =
     let s = c.self.inside in
     let done = serving.done (map plain s.types.items) (lists_of s.configuration) c.self.invariant.holds c.args.self.now c.self.view_is c.args.role c.requires (act_of c.args.command) c.in-Ok.ensures.allowed (omega (arith, c.if-issued-ge-MAX_NUMBERS.false, c.issued.ensures, c.steps.ensures.issued)) in
     serving.state_then (map plain s.types.items) (lists_of s.configuration) c.self.invariant.holds c.args.self.now c.self.view_is c.args.role c.requires (act_of c.args.command) c.in-Ok.ensures.allowed c.in-Ok.node (lists_of c.act.new.self) c.in_ok-id.ensures.acted ∙ ap (λ (r : Result Done Refusal × State). r.1) (sym done)
+
+pub returns-clause-undone : goal.returns-clause-undone
+returns-clause-undone c =
+    let s = c.self.inside in
+    let m = c.args.self.now in
+    let act = act_of c.args.command in
+    let new : Done = record { id = c.in_ok-id.id; got = c.in_ok-got.got } in
+    let done = serving.done (map plain s.types.items) (lists_of s.configuration) c.self.invariant.holds m c.self.view_is c.args.role c.requires act c.in-Ok.ensures.allowed (omega (arith, c.if-issued-ge-MAX_NUMBERS.false, c.issued.ensures, c.steps.ensures.issued)) in
+    let answer =
+    ap₂ (λ (n : ℕ) (o : Option Message). let r : Result Done Refusal = Ok (record { id = n; got = o }) in r) c.in_ok-id.ensures.id (c.in_ok-got.ensures ∙ c.first_for-first.ensures.taken)
+    ∙ ap (λ (r : Result Done Refusal × State). r.0) (sym done) in
+    let state =
+    serving.state_then (map plain s.types.items) (lists_of s.configuration) c.self.invariant.holds m c.self.view_is c.args.role c.requires act c.in-Ok.ensures.allowed c.in-Ok.node (lists_of c.act.new.self) c.in_ok-id.ensures.acted ∙ ap (λ (r : Result Done Refusal × State). r.1) (sym done) in
+    taken_back m.types m.state (state_of (lists_of c.act.new.self)) c.args.role act new (subst (λ (k : Machine). IsSound k.types k.state) c.self.view_is c.self.invariant.holds.sound) answer state

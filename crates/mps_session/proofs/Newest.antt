@@ -1,4 +1,4 @@
--- A step that was just taken can be taken back, and nothing is changed.
+-- The newest step can be taken back, and then nothing is changed.
 use Rattle.std.proofs.Common.{◌≡◌, ℕ, ◌+◌, List, [], ◌∷◌, ◌++◌, Option, Some, None, Result, Ok, Err, not, refl, ap, ◌∙◌, subst, inl, eq-eqb}
 use Rattle.std.specs.Prelude.{◌==◌}
 use Rattle.std.specs.List.{filter}
@@ -17,7 +17,6 @@ use Rattle.mps_local.specs.Local.{LocalType}
 use Rattle.mps_machine.specs.Machine.{State, view_of, accepted, unless, full_fault, done_by, forward, owner_fault, undo, IsSound}
 use Rattle.mps_machine.specs.Violations.{violation}
 use Rattle.mps_machine.proofs.Sound.{forward_sound}
-use Rattle.mps_session.specs.Answers.{undo_answer}
 use Rattle.mps_session.proofs.Undoing.{undo_is}
 
 -- where what follows a refusal is told, there is none
@@ -75,8 +74,3 @@ module _ (types : List LocalType) (st next : State) (p : ℕ) (act : Act) (done 
 
   pub taken_back : undo next p done.id ≡ (Ok (done.id ∷ []), record st { next = st.next + 1 })
   taken_back = rw (next_is, number) (undo_newest st p act rising)
-
-  pub not_refused : (refusal : Refusal) → undo_answer done.id (Err refusal) ≡ (undo next p done.id).0 → ⊥
-  not_refused refusal e =
-      let no : Err refusal ≡ Ok (done.id ∷ []) = e ∙ ap (λ (r : Result (List ℕ) Refusal × State). r.0) taken_back in
-      cc
