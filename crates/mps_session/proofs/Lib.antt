@@ -17,3 +17,4 @@ pub mod Trying
 pub mod Rolling
 pub mod Behind
 pub mod Served
+pub mod Runs

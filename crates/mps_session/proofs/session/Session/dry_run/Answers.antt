@@ -4,6 +4,7 @@ use Rattle.mps_local.specs.Local.{LocalType}
 use Rattle.mps_command.specs.Acts.{act_of}
 use Rattle.mps_command.specs.declared.answer.Refusal.{Refusal}
 use Rattle.mps_machine.specs.Machine.{State, IsSound, undo}
+use Rattle.mps_machine.proofs.TakingBack as back
 use Rattle.mps_session.specs.Seen.{Machine, view_of}
 use Rattle.mps_session.proofs.Trying as trying
 use Rattle.mps_session.proofs.session.Session.dry_run.Goals as goal
@@ -14,7 +15,7 @@ sound c = subst (λ (m : Machine). IsSound m.types m.state) c.self.view_is c.sel
 
 taken_back : (c : After-undo) → undo c.forward.new.self.state c.args.role c.in_ok-done.done.id ≡ (Ok (c.in_ok-done.done.id ∷ []), record c.args.self.now.state { next = c.args.self.now.state.next + 1 })
 taken_back c =
-    trying.taken_back c.args.self.now.types c.args.self.now.state c.forward.new.self.state c.args.role (act_of c.args.command) c.in_ok-done.done (sound c) c.in_ok-done.ensures.answer c.in_ok-done.ensures.state
+    back.taken_back c.args.self.now.types c.args.self.now.state c.forward.new.self.state c.args.role (act_of c.args.command) c.in_ok-done.done (sound c) c.in_ok-done.ensures.answer c.in_ok-done.ensures.state
 
 state : (c : After-undo) → c.undo.new.self.state ≡ record c.args.self.now.state { next = c.args.self.now.state.next + 1 }
 state c = c.undo.ensures.state ∙ ap (λ (r : Result (List ℕ) Refusal × State). r.1) (taken_back c)
