@@ -7,3 +7,4 @@ pub mod Lawful
 pub mod Swapping
 pub mod Peers
 pub mod Unreceived
+pub mod TakingBack

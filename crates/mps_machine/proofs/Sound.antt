@@ -81,7 +81,7 @@ pub least_none : (ns : List ℕ) → least ns ≡ None → ns ≡ []
 least_none [] e = refl
 least_none (n ∷ ns) e = absurd cc
 
-no_member : (h : List Step) → numbers h ≡ [] → (s : Step) → IsIn s h → ⊥
+pub no_member : (h : List Step) → numbers h ≡ [] → (s : Step) → IsIn s h → ⊥
 no_member [] e s i = i
 no_member (x ∷ h) e s i = absurd cc
 

@@ -3,3 +3,4 @@ pub mod Rule
 pub mod Violations
 pub mod Machine
 pub mod Examples
+pub mod TakingBack

@@ -11,7 +11,8 @@ ghost use Rattle.mps_history.specs.Swaps.{Swaps, is_matched_after};
 ghost use Rattle.mps_machine.specs.View.{View, opening};
 ghost use Rattle.mps_machine.specs.Rule.{rule, replay};
 ghost use Rattle.mps_machine.specs.Violations.{violation};
-ghost use Rattle.mps_machine.specs.Machine.{State, initial, Request, serve, after, IsSound};
+ghost use Rattle.mps_machine.specs.Machine.{State, initial, Request, serve, after, view_of, IsSound};
+ghost use Rattle.mps_machine.specs.TakingBack.{UndoesSteps, RefusesNeeded, TakesFutures};
 
 /// The rule allows an act exactly where it has no violation.
 pub fn the_rule_is_defined()
@@ -71,4 +72,27 @@ pub fn every_state_is_sound()
         → IsSound types st → IsSound types (serve types st p command).1 }
     ensures always { (types : List LocalType) (requests : List Request)
         → IsSound types (after types initial requests) }
+{}
+
+/// A sound state is what replaying its surviving steps gives.
+pub fn a_state_is_its_replay()
+    ensures { (types : List LocalType) (st : State) → IsSound types st
+        → replay (opening types) st.history ≡ Some (view_of types st.history) }
+{}
+
+/// A step that was just taken can be undone by its role, and then the history is the one from before. The number isn't
+/// given out again.
+pub fn an_undo_gives_the_old_history()
+    ensures { (types : List LocalType) (st : State) → IsSound types st → UndoesSteps types st }
+{}
+
+/// An undo of a role's own surviving step is refused exactly where another surviving step depends on it, through any
+/// number of direct dependences. The least of these is named.
+pub fn an_undo_is_refused_where_needed()
+    ensures { (types : List LocalType) (st : State) → IsSound types st → RefusesNeeded st }
+{}
+
+/// A rollback takes exactly the chosen step and all that depend on it.
+pub fn a_rollback_takes_the_causal_future()
+    ensures { (types : List LocalType) (st : State) → IsSound types st → TakesFutures st }
 {}

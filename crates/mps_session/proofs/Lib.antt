@@ -13,7 +13,7 @@ pub mod Numbered
 pub mod Aside
 pub mod Returning
 pub mod Undoing
-pub mod Newest
 pub mod Rolling
 pub mod Behind
 pub mod Served
+pub mod Runs

@@ -1,16 +1,15 @@
 -- What the machine answers to an undo, from what a session keeps.
-use Rattle.std.proofs.Common.{◌≡◌, [], ◌+◌, ℕ, ◌<◌, List, length, not, Option, Some, None, Result, Err, sym, ap, ◌∙◌, subst, arith}
+use Rattle.std.proofs.Common.{◌≡◌, [], ◌+◌, ℕ, ◌<◌, List, length, not, Option, Some, None, Result, sym, ap, ◌∙◌, subst, arith}
 use Rattle.std.specs.Prelude.{◌==◌, IfSome}
-use Rattle.std.specs.Option.{option_map}
 use mathlib.Core.Path.{ap₂}
 use Rattle.mps_base.specs.declared.action.Step.{Step}
 use Rattle.mps_command.specs.declared.answer.Refusal.{Refusal}
-use Rattle.mps_command.specs.declared.answer.Refusal.TheVariants.{Needed}
 use Rattle.mps_history.specs.Steps.{step_of, without}
 use Rattle.mps_history.specs.Dependence.{dependents, least}
 use Rattle.mps_local.specs.Local.{LocalType}
 use Rattle.mps_machine.specs.Rule.{rule}
-use Rattle.mps_machine.specs.Machine.{State, unless, owner_fault, undone, undo}
+use Rattle.mps_machine.specs.Machine.{State, owner_fault, undo}
+use Rattle.mps_machine.proofs.TakingBack.{undo_is}
 use Rattle.mps_arena.specs.Entries.{Entry, steps, entry_at}
 use Rattle.mps_arena.specs.Sources.{CanGo}
 use Rattle.mps_links.specs.Marks.{marked_keys}
@@ -22,16 +21,6 @@ use Rattle.mps_session.proofs.Numbered as numbered
 use Rattle.mps_session.proofs.Numbered.{key_of}
 use Rattle.mps_session.proofs.Returning as returning
 use Rattle.mps_session.proofs.Rolling.{filter_unmarked}
-
--- what is told where that is wrong with the owner, and then that depends on the step
-abbrev answered : State → ℕ → Option Refusal → Option ℕ → Result (List ℕ) Refusal × State
-answered st n fault by = unless fault st (unless (option_map Needed by) st (undone st n))
-
-pub undo_is : (st : State) (p n : ℕ) (fault : Option Refusal) (by : Option ℕ) → owner_fault p (step_of st.history n) ≡ fault → least (dependents st.history n) ≡ by → undo st p n ≡ answered st n fault by
-undo_is st p n fault by owner needed = ap₂ (answered st n) owner needed
-
-pub undo_refused : (st : State) (p n : ℕ) (refusal : Refusal) → owner_fault p (step_of st.history n) ≡ Some refusal → undo st p n ≡ (Err refusal, st)
-undo_refused st p n refusal owner = ap (λ (fault : Option Refusal). answered st n fault (least (dependents st.history n))) owner
 
 module _ (types : List LocalType) (c : Configuration) (holds : Holds types c) (now : Machine) (is : ◌≡◌ {A = Machine} (record { types = types; state = state_of c }) now) (p n k : ℕ) (at : key_of c.entries n ≡ Some k) (own : owner_fault p (step_of (steps c.entries) n) ≡ None) where
   abbrev x : Entry

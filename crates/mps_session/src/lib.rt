@@ -7,6 +7,7 @@ pub mod open;
 pub mod protocol;
 mod rollback;
 mod serve;
+mod serve_all;
 pub mod session;
 mod undo;
 

@@ -13,7 +13,7 @@ use Rattle.mps_session.specs.Configurations.{lists_of, state_of}
 use Rattle.mps_session.specs.Seen.{Machine}
 use Rattle.mps_session.proofs.Opened.{no_mismatch}
 use Rattle.mps_session.proofs.Rolling.{push_unmarked}
-use Rattle.mps_session.proofs.Newest.{taken_back}
+use Rattle.mps_machine.proofs.TakingBack.{taken_back}
 use Rattle.mps_session.proofs.Serving as serving
 use Rattle.mps_session.proofs.session.Session.forward.Goals as goal
 

@@ -1,0 +1,5 @@
+use Rattle.mps_machine.proofs.TakingBack.{refuses_needed}
+use Rattle.mps_machine.proofs.laws.an_undo_is_refused_where_needed.Goals as goal
+
+pub returns : goal.returns
+returns c = refuses_needed

@@ -1,0 +1,60 @@
+-- What is promised of steps that are taken back. A step may be undone only when its consequences are (Danos, Krivine,
+-- CONCUR 2004).
+use Rattle.std.specs.Prelude.{◌≡◌, ◌↔◌, ◌⊎◌, ℕ, ◌+◌, ◌≤◌, Bool, IsTrue, List, [], ◌∷◌, reverse, Ok, Err}
+use Rattle.mps_base.specs.declared.action.Act.{Act}
+use Rattle.mps_base.specs.declared.action.Step.{Step}
+use Rattle.mps_local.specs.Local.{LocalType}
+use Rattle.mps_history.specs.Steps.{IsIn, numbers, within, without}
+use Rattle.mps_history.specs.Dependence.{DependsOn}
+use Rattle.mps_command.specs.declared.answer.Done.{Done}
+use Rattle.mps_command.specs.declared.answer.Refusal.TheVariants.{Needed}
+use Rattle.mps_machine.specs.Machine.{State, forward, undo, undone, rollback}
+
+-- a step and then its undo change nothing but the next number
+abbrev pub UndoesSteps : List LocalType → State → Type 0
+UndoesSteps types st =
+    (p : ℕ) (act : Act) (done : Done) → (forward types st p act).0 ≡ Ok done
+    → undo (forward types st p act).1 p done.id ≡ (Ok (done.id ∷ []), record st { next = st.next + 1 })
+
+-- s survives, is role p's own and has number n
+pub record IsOwn (h : List Step) (p n : ℕ) (s : Step) : Type 0 where
+  pub survives : IsIn s h
+  pub role : s.role ≡ p
+  pub number : s.id ≡ n
+
+-- t survives and depends on s, and no such step has a lesser number
+pub record IsLeastDependent (h : List Step) (s t : Step) : Type 0 where
+  pub survives : IsIn t h
+  pub depends : DependsOn h t s
+  pub least : (u : Step) → IsIn u h → DependsOn h u s → t.id ≤ u.id
+
+-- no surviving step depends on s
+abbrev pub IsFree : List Step → Step → Type 0
+IsFree h s = (t : Step) → IsIn t h → ¬ DependsOn h t s
+
+-- an undo is refused as needed exactly where another surviving step depends on the role's own surviving step
+pub record RefusesNeeded (st : State) : Type 0 where
+  -- where one depends on it, the undo is refused so
+  pub needed : (p n : ℕ) (s t : Step) → IsOwn st.history p n s → IsIn t st.history → DependsOn st.history t s
+      → (by : ℕ) × ((undo st p n).0 ≡ Err (Needed by))
+  -- where it is refused so, one does, and the least of these is named
+  pub named : (p n by : ℕ) → (undo st p n).0 ≡ Err (Needed by)
+      → (s : Step) × (t : Step) × IsOwn st.history p n s × IsLeastDependent st.history s t × (t.id ≡ by)
+  -- where none does, the step is taken out
+  pub free : (p n : ℕ) (s : Step) → IsOwn st.history p n s → IsFree st.history s → undo st p n ≡ undone st n
+
+-- role p's step n and all that depend on it are gone, and no other step; the others are left in order, and the numbers
+-- of those that went are told, the newest first
+pub record TookFuture (p n : ℕ) (ids : List ℕ) (old new : State) : Type 0 where
+  pub step : Step
+  pub own : IsOwn old.history p n step
+  pub gone : ℕ → Bool
+  pub exactly : (t : Step) → IsIn t old.history → (IsTrue (gone t.id) ↔ ((t ≡ step) ⊎ DependsOn old.history t step))
+  pub left : new.history ≡ without old.history gone
+  pub told : ids ≡ reverse (numbers (within old.history gone))
+  pub next : new.next ≡ old.next
+
+-- a rollback of a role's own surviving step is accepted, and one that is accepted takes its causal future
+pub record TakesFutures (st : State) : Type 0 where
+  pub accepted : (p n : ℕ) (s : Step) → IsOwn st.history p n s → (ids : List ℕ) × ((rollback st p n).0 ≡ Ok ids)
+  pub exactly : (p n : ℕ) (ids : List ℕ) → (rollback st p n).0 ≡ Ok ids → TookFuture p n ids st (rollback st p n).1

@@ -1,0 +1,13 @@
+-- Lists of requests and their answers.
+use Rattle.std.specs.Prelude.{◌≡◌, List, [], ◌∷◌}
+use Rattle.mps_command.specs.declared.answer.Answer.{Answer}
+use Rattle.mps_local.specs.Local.{LocalType}
+use Rattle.mps_machine.specs.Machine.{State, Request, serve}
+use Rattle.mps_session.specs.Answers.{IsServed}
+
+-- as many answers as requests: each is served as the machine serves it, in the state that the one before it left
+abbrev pub AreServed : List LocalType → List Request → List Answer → (old new : State) → Type 0
+AreServed types [] [] old new = new ≡ old
+AreServed types (r ∷ requests) (a ∷ answers) old new =
+    (next : State) × IsServed r.1 a old next (serve types old r.0 r.1) × AreServed types requests answers next new
+AreServed types requests answers old new = ⊥

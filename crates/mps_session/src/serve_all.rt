@@ -1,0 +1,41 @@
+//! Lists of commands.
+ghost use Rattle.std.specs.Prelude.{◌≡◌, ◌<◌, Some, length, IfOk, OnErr, vec_len};
+ghost use Rattle.std.specs.List.{AllByRecursion};
+ghost use Rattle.mps_machine.specs.Rule.{replay};
+ghost use Rattle.mps_machine.specs.TakingBack.{UndoesSteps, RefusesNeeded, TakesFutures};
+ghost use Rattle.mps_machine.specs.View.{opening};
+ghost use Rattle.mps_session.specs.Runs.{AreServed};
+ghost use Rattle.mps_session.specs.Seen.{view_of};
+
+use crate::session::Session;
+use mps_base::Role;
+use mps_command::{Answer, Command};
+use std::alloc::AllocError;
+
+impl Session {
+    /// Answers commands, each of its role, in turn. Room for the answers is asked for before the first is served.
+    pub fn serve_all(&mut self, requests: Vec<(Role, Command)>) -> Result<Vec<Answer>, AllocError>
+        requires { AllByRecursion (λ request. request.0 < length self.old.types) requests.items }
+        // each is answered as the machine answers it, in the state that the one before it left
+        ensures served { IfOk result (λ answers. AreServed self.old.types
+            requests.items answers.items self.old.state self.new.state) }
+        ensures count { IfOk result (λ answers. vec_len answers ≡ vec_len requests) }
+        ensures types { self.new.types ≡ self.old.types }
+        // after them the session is what replaying its surviving steps gives
+        ensures replayed { replay (opening self.new.types) self.new.state.history
+            ≡ Some (view_of self.new) }
+        // a step and then its undo change nothing but the next number
+        ensures undone { UndoesSteps self.new.types self.new.state }
+        // an undo is refused as needed exactly where another surviving step depends on the step
+        ensures refused { RefusesNeeded self.new.state }
+        // a rollback takes exactly the chosen step and all that depend on it
+        ensures taken { TakesFutures self.new.state }
+        ensures err { OnErr result (self.new.state ≡ self.old.state) }
+    {
+        let mut answers = Vec::with_capacity(self.configuration.alloc, requests.len())?;
+        for (role, command) in requests {
+            answers.push_reserved(self.serve(role, command));
+        }
+        Ok(answers)
+    }
+}
