@@ -27,7 +27,7 @@ const UNDOS: &[Row] = &[
         ],
     ),
     Row(
-        TWICE,
+        LOOP,
         &[
             ("a send b 1", "done 1"),
             ("a send b 2", "done 2"),
@@ -37,7 +37,7 @@ const UNDOS: &[Row] = &[
         ],
     ),
     Row(
-        TWICE,
+        LOOP,
         &[
             ("a send b 1", "done 1"),
             ("b recv a x", "done 2 1"),
@@ -48,7 +48,7 @@ const UNDOS: &[Row] = &[
         ],
     ),
     Row(
-        TWICE,
+        LOOP,
         &[
             ("a send b 1", "done 1"),
             ("a send b 2", "done 2"),
@@ -59,7 +59,7 @@ const UNDOS: &[Row] = &[
         ],
     ),
     Row(
-        TWICE,
+        LOOP,
         &[
             ("a send b 1", "done 1"),
             ("a send b 2", "done 2"),
@@ -68,7 +68,7 @@ const UNDOS: &[Row] = &[
         ],
     ),
     Row(
-        TWICE,
+        LOOP,
         &[
             ("a send b 1", "done 1"),
             ("b recv a x", "done 2 1"),
@@ -77,7 +77,7 @@ const UNDOS: &[Row] = &[
         ],
     ),
     Row(
-        TWICE,
+        LOOP,
         &[
             ("a send b 1", "done 1"),
             ("a undo 1", "undone 1"),
@@ -135,7 +135,7 @@ const ROLLBACKS: &[Row] = &[
         ],
     ),
     Row(
-        TWICE,
+        LOOP,
         &[
             ("a mark m", "done 1"),
             ("a send b 1", "done 2"),
