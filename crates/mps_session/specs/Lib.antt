@@ -7,3 +7,4 @@ pub mod Answers
 pub mod Opening
 pub mod Protocols
 pub mod Leaving
+pub mod Pasts
