@@ -59,21 +59,21 @@ past_grows c d (Out to message) m e = let p = map_some (advanced c (Out to messa
 past_grows c d (In from slot) m e = let p = map_some (advanced c (In from slot) m) (type_after (unfolded c.to_come) (In from slot) m) d e in sym (ap (λ (x : Participant). x.past) p.2)
 past_grows c d (Mark name) m e = let same : advanced c (Mark name) m c.to_come ≡ d = cc in sym (ap (λ (x : Participant). x.past) same)
 
-abbrev past_of : View → ℕ → List Deed
+abbrev pub past_of : View → ℕ → List Deed
 past_of v p = (v.participant p).past
 
 -- what the step adds to the past of its role
-abbrev deed_of : View → Step → Deed
+abbrev pub deed_of : View → Step → Deed
 deed_of v s = record { act = s.act; moved = moved v s.role s.act }
 
-past_step : (v w : View) (s : Step) → rule v s ≡ Some w → past_of w s.role ≡ past_of v s.role ++ deed_of v s ∷ []
+pub past_step : (v w : View) (s : Step) → rule v s ≡ Some w → past_of w s.role ≡ past_of v s.role ++ deed_of v s ∷ []
 past_step v w s e =
     let parts = rule_parts v w s e in
     let c = parts.0 in
     let own : (view_after v s c).participant s.role ≡ c = cond-true (s.role == s.role) c (v.participant s.role) (eq-eqb s.role s.role refl) in
     ap (λ (u : View). past_of u s.role) (sym parts.2) ∙ ap (λ (x : Participant). x.past) own ∙ past_grows (v.participant s.role) c s.act (moved v s.role s.act) parts.1
 
-past_stays : (v w : View) (s : Step) (p : ℕ) → rule v s ≡ Some w → (p == s.role) ≡ false → past_of w p ≡ past_of v p
+pub past_stays : (v w : View) (s : Step) (p : ℕ) → rule v s ≡ Some w → (p == s.role) ≡ false → past_of w p ≡ past_of v p
 past_stays v w s p e other =
     let parts = rule_parts v w s e in
     let c = parts.0 in
@@ -214,6 +214,14 @@ bring types (s ∷ h) k ak ah v wk wh ea ek eh same d =
     (subst (λ (l : List Step). Swaps ((ak ++ t ∷ []) ++ (b ++ c)) l) (append_assoc ah (s ∷ []) h) swaps) in
     subst (λ (l : List Step). Swaps (ak ++ l) (ah ++ s ∷ h)) (sym found.3) (front.1 swaps')
 
--- histories that lead to one view are joined by swaps
+-- histories in which each role did the same are joined by swaps
+pub one_past_by_swaps : (types : List LocalType) (k h : List Step) (v w : View) → replay (opening types) k ≡ Some v → replay (opening types) h ≡ Some w → ((p : ℕ) → past_of v p ≡ past_of w p) → Swaps k h
+one_past_by_swaps types k h v w ek eh same = bring types h k [] [] (opening types) v w refl ek eh same refl
+
+-- histories that lead to one view are
 pub one_view_by_swaps : (types : List LocalType) (k h : List Step) (v w : View) → replay (opening types) k ≡ Some v → replay (opening types) h ≡ Some w → v ≡ w → Swaps k h
-one_view_by_swaps types k h v w ek eh same = bring types h k [] [] (opening types) v w refl ek eh (λ p. ap (λ (u : View). past_of u p) same) refl
+one_view_by_swaps types k h v w ek eh same = one_past_by_swaps types k h v w ek eh (λ p. ap (λ (u : View). past_of u p) same)
+
+-- so they lead to one view
+pub one_past_is_one_view : (types : List LocalType) (k h : List Step) (v w : View) → replay (opening types) k ≡ Some v → replay (opening types) h ≡ Some w → ((p : ℕ) → past_of v p ≡ past_of w p) → v ≡ w
+one_past_is_one_view types k h v w ek eh same = swaps_lead_to_one_view types k h v w ek eh (one_past_by_swaps types k h v w ek eh same)

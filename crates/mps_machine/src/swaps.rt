@@ -1,5 +1,5 @@
 //! When two histories lead to the same view.
-ghost use Rattle.std.specs.Prelude.{◌≡◌, List, Some};
+ghost use Rattle.std.specs.Prelude.{◌≡◌, ℕ, List, Some};
 ghost use Rattle.mps_base.specs.declared.action.Step.{Step};
 ghost use Rattle.mps_local.specs.Local.{LocalType};
 ghost use Rattle.mps_history.specs.Swaps.{Swaps};
@@ -16,4 +16,14 @@ pub fn equal_views_are_swaps()
         replay (opening types) k ≡ Some v → replay (opening types) h ≡ Some w → Swaps k h → v ≡ w }
     ensures kept { (types : List LocalType) (k h : List Step) (v : View) →
         replay (opening types) k ≡ Some v → Swaps k h → replay (opening types) h ≡ Some v }
+{}
+
+/// Two histories that have a replay lead to the same view exactly where each role did the same in both: what a role may
+/// do next and keeps, and what waits, follow from what all roles did.
+pub fn equal_pasts_are_equal_views()
+    ensures views { (types : List LocalType) (k h : List Step) (v w : View) →
+        replay (opening types) k ≡ Some v → replay (opening types) h ≡ Some w →
+        ((p : ℕ) → (v.participant p).past ≡ (w.participant p).past) → v ≡ w }
+    ensures pasts { (v w : View) (p : ℕ) → v ≡ w
+        → (v.participant p).past ≡ (w.participant p).past }
 {}

@@ -17,3 +17,5 @@ pub mod Rolling
 pub mod Behind
 pub mod Served
 pub mod Runs
+pub mod Pasts
+pub mod Compared

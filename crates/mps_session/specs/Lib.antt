@@ -8,3 +8,4 @@ pub mod Opening
 pub mod Protocols
 pub mod Leaving
 pub mod Runs
+pub mod Pasts

@@ -1,6 +1,7 @@
 //! Sessions: what roles send and receive, each step remembered.
 #![tactic(auto)]
 
+mod alike;
 mod configuration;
 mod cursor;
 pub mod open;
@@ -11,6 +12,7 @@ mod serve_all;
 pub mod session;
 mod undo;
 
+pub use alike::same;
 pub use mps_command::{Done, Forward, Refusal, StepIds, Violation};
 pub use mps_local::LocalFault;
 pub use mps_log::Moves;

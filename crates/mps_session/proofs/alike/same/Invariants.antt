@@ -1,0 +1,6 @@
+use Rattle.std.proofs.Common.{◌≡◌, ◌<◌, ℕ}
+use Rattle.mps_session.specs.Pasts.{past_in}
+use Rattle.mps_session.proofs.alike.same.Given as goal
+
+abbrev pub invariant-loop-role : goal.invariant-loop-role
+invariant-loop-role l = (p : ℕ) → p < l.role → past_in p l.ours.entries ≡ past_in p l.theirs.entries

@@ -1,0 +1,143 @@
+//! When two sessions are causally the same.
+ghost use Rattle.std.specs.Prelude.{◌≡◌, ◌<◌, ◌↔◌, IsTrue, IsSome};
+ghost use Rattle.std.specs.Option.{option_copied};
+ghost use Rattle.mps_history.specs.Swaps.{Swaps};
+ghost use Rattle.mps_arena.specs.Entries.{entry_at, AreSound};
+ghost use Rattle.mps_log.specs.Values.{message_taken};
+ghost use Rattle.mps_session.specs.Pasts.{deed_in, past_in};
+ghost use Rattle.mps_session.specs.Seen.{view_of};
+
+use crate::session::Session;
+use mps_arena::{Arena, Key};
+use mps_base::{Act, Message, Name, Role, Value};
+
+// Whether the values are the same.
+fn same_value(a: &Value, b: &Value) -> bool
+    ensures { IsTrue result ↔ (a.now ≡ b.now) }
+{
+    match (a, b) {
+        (Value::Int(m), Value::Int(n)) => m == n,
+        (Value::Bool(m), Value::Bool(n)) => m == n,
+        (Value::Text(m), Value::Text(n)) => m.as_bytes() == n.as_bytes(),
+        _ => false,
+    }
+}
+
+// Whether the messages are the same.
+fn same_message(a: &Message, b: &Message) -> bool
+    ensures { IsTrue result ↔ (a.now ≡ b.now) }
+{
+    match (a, b) {
+        (Message::Value(v), Message::Value(w)) => same_value(v, w),
+        (Message::Label(l), Message::Label(m)) => l.is(m),
+        _ => false,
+    }
+}
+
+// Whether the slots are the same, or there is none.
+fn same_slot(a: &Option<Name>, b: &Option<Name>) -> bool
+    ensures { IsTrue result ↔ (a.now ≡ b.now) }
+{
+    match (a, b) {
+        (Some(x), Some(y)) => x.is(y),
+        (None, None) => true,
+        _ => false,
+    }
+}
+
+// Whether the acts are the same.
+fn same_act(a: &Act, b: &Act) -> bool
+    ensures { IsTrue result ↔ (a.now ≡ b.now) }
+{
+    match (a, b) {
+        (
+            Act::Out { to, message },
+            Act::Out {
+                to: other,
+                message: said,
+            },
+        ) => { to.is(*other) && same_message(message, said) }
+        (
+            Act::In { from, slot },
+            Act::In {
+                from: other,
+                slot: place,
+            },
+        ) => { from.is(*other) && same_slot(slot, place) }
+        (Act::Mark(m), Act::Mark(n)) => m.is(n),
+        _ => false,
+    }
+}
+
+// The message that the receipt of the key took: its source's; none where the key is no receipt's.
+fn taken(arena: &Arena, key: Key) -> Option<&Message>
+    ensures { option_copied result ≡ message_taken arena.now.entries key }
+{
+    let source = arena.source(key)?;
+    match &arena.get(source).act {
+        Act::Out { message, .. } => Some(message),
+        Act::In { .. } | Act::Mark(_) => None,
+    }
+}
+
+// Whether the same was taken, or nothing.
+fn same_taken(a: Option<&Message>, b: Option<&Message>) -> bool
+    ensures { IsTrue result ↔ (option_copied a.entry ≡ option_copied b.entry) }
+{
+    match (a, b) {
+        (Some(m), Some(n)) => same_message(m, n),
+        (None, None) => true,
+        _ => false,
+    }
+}
+
+// Whether the steps of the keys did the same.
+fn same_deed(a: &Arena, x: Key, b: &Arena, y: Key) -> bool
+    requires first { IsSome (entry_at x a.now.entries) }
+    requires second { IsSome (entry_at y b.now.entries) }
+    ensures { IsTrue result ↔ (deed_in a.now.entries x ≡ deed_in b.now.entries y) }
+{
+    same_act(&a.get(x).act, &b.get(y).act) && same_taken(taken(a, x), taken(b, y))
+}
+
+// Whether the role did the same in both, looked at from its last step back.
+fn same_past(a: &Arena, b: &Arena, role: Role) -> bool
+    requires role { role < 8 }
+    requires first { AreSound a.now.entries }
+    requires second { AreSound b.now.entries }
+    ensures { IsTrue result ↔ (past_in role a.now.entries ≡ past_in role b.now.entries) }
+{
+    let mut last = a.last_of(role);
+    let mut other = b.last_of(role);
+    for _ in 0..a.len() {
+        let Some(x) = last else {
+            return other.is_none();
+        };
+        let Some(y) = other else {
+            return false;
+        };
+        if !same_deed(a, x, b, y) {
+            return false;
+        }
+        last = a.prev_of_role(x);
+        other = b.prev_of_role(y);
+    }
+    other.is_none()
+}
+
+/// Whether two sessions of the same types are causally the same: each role did the same in both, whatever
+/// the order across roles and the numbers. By the code each role's steps are compared, and nothing else.
+pub fn same(a: &Session, b: &Session) -> bool
+    requires types { a.now.types ≡ b.now.types }
+    ensures views { IsTrue result ↔ (view_of a.now ≡ view_of b.now) }
+    ensures swaps { IsTrue result ↔ Swaps a.now.state.history b.now.state.history }
+{
+    let ours = a.configuration.log.steps();
+    let theirs = b.configuration.log.steps();
+    for role in 0..8 {
+        if !same_past(ours, theirs, Role::new(role)) {
+            return false;
+        }
+    }
+    true
+}
