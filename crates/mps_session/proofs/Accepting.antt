@@ -56,9 +56,9 @@ split_push (x ∷ es) (z ∷ a) b e y h =
     (λ (w : (a ≡ es) × (y ≡ e)). inr (ap₂ (λ (k : Entry) (l : List Entry). k ∷ l) (sym head) w.0, w.1))
     (split_push es a b e y tail)
 
-all_push : (P : Entry → Type 0) (es : List Entry) (e : Entry) → AllByRecursion P es → P e → AllByRecursion P (es ++ e ∷ [])
-all_push P [] e a p = (p, tt)
-all_push P (x ∷ es) e a p = (a.0, all_push P es e a.1 p)
+pub all_push : {A : Type 0} (P : A → Type 0) (xs : List A) (x : A) → AllByRecursion P xs → P x → AllByRecursion P (xs ++ x ∷ [])
+all_push P [] x a p = (p, tt)
+all_push P (y ∷ xs) x a p = (a.0, all_push P xs x a.1 p)
 
 -- each role keeps its table
 pub same_table : (cursors : List Cursor) (p r : ℕ) (node : ℕ) → p < length cursors → (get_or (set cursors p (went node (get_or cursors p nowhere))) r nowhere).table ≡ (get_or cursors r nowhere).table

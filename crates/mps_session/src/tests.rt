@@ -28,7 +28,7 @@ pub(super) enum Ask {
 }
 
 // The command that is asked for.
-fn command(alloc: Global, ask: Ask) -> Result<Forward, Fail> {
+pub(super) fn command(alloc: Global, ask: Ask) -> Result<Forward, Fail> {
     Ok(match ask {
         Ask::Send(to, value) => Forward::Send {
             to: Role::new(to),
@@ -73,7 +73,7 @@ fn written(alloc: Global, message: Option<&Message>) -> Result<String, Fail> {
 }
 
 // What a role is answered: the step's number and what it took, or the refusal.
-fn told(alloc: Global, answer: Result<Done, Refusal>) -> Result<String, Fail> {
+pub(super) fn told(alloc: Global, answer: Result<Done, Refusal>) -> Result<String, Fail> {
     match answer {
         Err(Refusal::Violation(fault)) => Ok(format!(in alloc; "{fault:?}")?),
         Err(refusal) => Ok(format!(in alloc; "{refusal:?}")?),
@@ -123,7 +123,7 @@ pub(super) fn undone(
 }
 
 // The numbers of the steps that were taken back, or the refusal.
-fn gone(alloc: Global, answer: Result<StepIds, Refusal>) -> Result<String, Fail> {
+pub(super) fn gone(alloc: Global, answer: Result<StepIds, Refusal>) -> Result<String, Fail> {
     let mut all = format!(in alloc; "")?;
     match answer {
         Ok(ids) => {
@@ -263,7 +263,7 @@ pub(super) fn play(alloc: Global, session: &mut Session, lines: &[Line]) -> Resu
 pub(super) type Row = (bool, u8, Sort);
 
 // The types of these rows, the first role's first.
-fn types(alloc: Global, rows: &[&[Row]]) -> Result<Vec<Local>, Fail> {
+pub(super) fn types(alloc: Global, rows: &[&[Row]]) -> Result<Vec<Local>, Fail> {
     let mut types = Vec::new(alloc);
     for row in rows {
         let mut t = Local::End;
