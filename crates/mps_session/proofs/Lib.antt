@@ -19,3 +19,4 @@ pub mod Behind
 pub mod Served
 pub mod Pasts
 pub mod Compared
+pub mod Projected

@@ -27,6 +27,8 @@ mod protocol_tests;
 #[cfg(test)]
 mod rollback_tests;
 #[cfg(test)]
+mod same_tests;
+#[cfg(test)]
 mod tests;
 #[cfg(test)]
 mod undo_tests;

@@ -28,7 +28,7 @@ pub(super) enum Ask {
 }
 
 // The command that is asked for.
-fn command(alloc: Global, ask: Ask) -> Result<Forward, Fail> {
+pub(super) fn command(alloc: Global, ask: Ask) -> Result<Forward, Fail> {
     Ok(match ask {
         Ask::Send(to, value) => Forward::Send {
             to: Role::new(to),
