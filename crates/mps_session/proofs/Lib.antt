@@ -19,3 +19,4 @@ pub mod Served
 pub mod Runs
 pub mod Pasts
 pub mod Compared
+pub mod Projected

@@ -126,7 +126,8 @@ fn same_past(a: &Arena, b: &Arena, role: Role) -> bool
 }
 
 /// Whether two sessions of the same types are causally the same: each role did the same in both, whatever
-/// the order across roles and the numbers. By the code each role's steps are compared, and nothing else.
+/// the order across roles and the numbers. By the code each role's acts are compared, with what its receipts took,
+/// and nothing else.
 pub fn same(a: &Session, b: &Session) -> bool
     requires types { a.now.types ≡ b.now.types }
     ensures views { IsTrue result ↔ (view_of a.now ≡ view_of b.now) }

@@ -28,6 +28,8 @@ mod protocol_tests;
 #[cfg(test)]
 mod rollback_tests;
 #[cfg(test)]
+mod same_tests;
+#[cfg(test)]
 mod serve_all_tests;
 #[cfg(test)]
 mod tests;

@@ -11,7 +11,12 @@ fn variable(text: &str) -> Result<VarName, Fail> {
 }
 
 // One role gives another an int.
-fn int(alloc: alloc::Global, from: &str, to: &str, next: Global) -> Result<Global, Fail> {
+pub(super) fn int(
+    alloc: alloc::Global,
+    from: &str,
+    to: &str,
+    next: Global,
+) -> Result<Global, Fail> {
     let (from, to) = (name(from)?, name(to)?);
     Ok(Global::message(alloc, from, to, Sort::Int, next)?)
 }
@@ -21,7 +26,7 @@ fn looped(alloc: alloc::Global, text: &str, body: Global) -> Result<Global, Fail
 }
 
 // One role chooses one of the labels. Behind the last comes `last`, behind each other the end.
-fn choice(
+pub(super) fn choice(
     alloc: alloc::Global,
     from: &str,
     to: &str,
@@ -43,7 +48,7 @@ fn choice(
 }
 
 // The names of these letters.
-fn names(alloc: alloc::Global, letters: &[&str]) -> Result<Vec<Name>, Fail> {
+pub(super) fn names(alloc: alloc::Global, letters: &[&str]) -> Result<Vec<Name>, Fail> {
     let mut names = Vec::new(alloc);
     for text in letters {
         names.push(name(text)?)?;
