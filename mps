@@ -75,7 +75,7 @@ class Proof:
     def __init__(self, name):
         words = ["lib"]
         if name == "mps_tool":  # which is linked too, and run once
-            words = ["run", "--", "run", "data/loop.protocol", "data/loop.script"]
+            words = ["run", "--", "run", "data/relay.protocol", "data/rollback.script"]
         self.name = name
         self.log = tempfile.TemporaryFile()
         self.process = subprocess.Popen(
