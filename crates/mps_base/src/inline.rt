@@ -9,7 +9,8 @@ pub(crate) const MAX_WORD: usize = 32;
 /// At most 32 bytes.
 #[derive(Clone, Copy, Debug, PartialEq, Eq)]
 pub(crate) struct Inline {
-    len: u8,
+    // as wide as a word: a byte would leave gaps in each value that holds a name, and each move would carry them
+    len: usize,
     // zeros behind the word
     bytes: [u8; 32],
 }
@@ -40,7 +41,7 @@ impl Inline {
         let mut kept = [0; MAX_WORD];
         kept[..bytes.len()].copy_from_slice(bytes);
         Inline {
-            len: bytes.len() as u8,
+            len: bytes.len(),
             bytes: kept,
         }
     }
@@ -60,7 +61,7 @@ impl Inline {
         requires { length self.old < 32 }
         ensures { self.new ≡ self.old ++ byte ∷ [] }
     {
-        self.bytes[usize::from(self.len)] = byte;
+        self.bytes[self.len] = byte;
         self.len += 1;
     }
 
@@ -68,7 +69,6 @@ impl Inline {
     pub(crate) fn as_bytes(&self) -> &[u8]
         ensures { result.now ≡ self.now }
     {
-        let len = usize::from(self.len);
-        &self.bytes[..len]
+        &self.bytes[..self.len]
     }
 }
