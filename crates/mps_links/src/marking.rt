@@ -6,9 +6,10 @@ ghost use Rattle.mps_arena.specs.Keys.{last_key};
 ghost use Rattle.mps_arena.specs.Entries.{steps, keys_of};
 ghost use Rattle.mps_arena.specs.Sources.{CanGo};
 ghost use Rattle.mps_links.specs.Marks.{marked_keys, is_marked, AreMarksClosed, marked_by, unmarked};
+ghost use Rattle.mps_links.specs.Numbered.{key_of, HasNumber};
 ghost use Rattle.mps_links.specs.RoleMarks.{unmarked_of, AreLastMarked};
 
-use crate::order::later;
+use crate::order::{Numbered, key_of, later};
 use crate::pending::Pending;
 use mps_arena::{Arena, Key};
 use mps_base::{Role, StepId};
@@ -45,15 +46,20 @@ pub fn mark_from(arena: &mut Arena, id: StepId) -> usize
 }
 
 // the role's newest marked step: its last, or none
-fn newest_marked_of(arena: &Arena, role: Role) -> Option<Key>
+fn newest_marked_of(arena: &Arena, role: Role) -> Option<Numbered>
     requires small { role < 8 }
     requires closed { AreMarksClosed arena.now.entries }
-    ensures { result ≡ last_key None (keys_of
+    ensures newest { key_of result ≡ last_key None (keys_of
         (λ s. s.role == role && is_marked arena.now.entries s.id) arena.now.entries) }
+    ensures number { HasNumber arena.now.entries result }
 {
-    let last = arena.last_of(role)?;
+    let key = arena.last_of(role)?;
     prove!(arena.len() > 0);
-    if arena.marked(last) { Some(last) } else { None }
+    if !arena.marked(key) {
+        return None;
+    }
+    let id = arena.get(key).id;
+    Some(Numbered { key, id })
 }
 
 /// The newest marked step, where each step that depends on a marked one is marked. So nothing
@@ -69,9 +75,9 @@ pub fn newest_marked(arena: &Arena) -> Option<Key>
     }
     let mut newest = None;
     for role in 0..8 {
-        newest = later(arena, newest, newest_marked_of(arena, Role::new(role)));
+        newest = later(newest, newest_marked_of(arena, Role::new(role)));
     }
-    newest
+    key_of(newest)
 }
 
 // takes the marks of a role off, from its last step back

@@ -1,9 +1,12 @@
 //! Of two steps the one that comes earlier, and the one that comes later.
-ghost use Rattle.std.specs.Prelude.{◌≡◌};
+ghost use Rattle.std.specs.Prelude.{◌≡◌, List};
+ghost use Rattle.mps_arena.specs.Entries.{Entry};
 ghost use Rattle.mps_arena.specs.Sources.{id_in};
+ghost use Rattle.mps_links.specs.Numbered.{key_of, HasNumber};
 ghost use Rattle.mps_links.specs.Order.{earlier, is_before, later};
 
 use mps_arena::{Arena, Key};
+use mps_base::StepId;
 
 // whether both steps are there and the first has the smaller number
 fn is_before(arena: &Arena, a: Key, b: Key) -> bool
@@ -32,12 +35,27 @@ pub(crate) fn earlier(arena: &Arena, a: Option<Key>, b: Option<Key>) -> Option<K
     }
 }
 
-/// The key of the step with the larger number.
-pub(crate) fn later(arena: &Arena, a: Option<Key>, b: Option<Key>) -> Option<Key>
-    ensures { result ≡ later arena.now.entries a b }
+/// A step's key, with its number.
+#[derive(Clone, Copy, Debug, PartialEq, Eq)]
+pub(crate) struct Numbered {
+    pub(crate) key: Key,
+    pub(crate) id: StepId,
+}
+
+/// The key alone.
+pub(crate) fn key_of(newest: Option<Numbered>) -> Option<Key>
+    ensures { result ≡ key_of newest }
+{
+    Some(newest?.key)
+}
+
+/// Of two steps the one with the larger number.
+pub(crate) fn later(a: Option<Numbered>, b: Option<Numbered>) -> Option<Numbered>
+    ensures { (es : List Entry) → HasNumber es a → HasNumber es b
+        → (key_of result ≡ later es (key_of a) (key_of b)) × HasNumber es result }
 {
     match (a, b) {
-        (Some(one), Some(other)) => { if is_before(arena, one, other) { b } else { a } }
+        (Some(one), Some(other)) => { if one.id.is_before(other.id) { b } else { a } }
         (Some(_), None) => a,
         (None, _) => b,
     }

@@ -4,6 +4,7 @@ use Rattle.std.proofs.lemmas.Bool.{and_left, le-ltb}
 use Rattle.mps_arena.specs.Keys.{last_key}
 use Rattle.mps_arena.specs.Entries.{keys_of}
 use Rattle.mps_arena.specs.Sources.{CanGo}
+use Rattle.mps_links.specs.Numbered.{key_of}
 use Rattle.mps_links.specs.Order.{later}
 use Rattle.mps_links.specs.Marks.{marked_keys, is_marked}
 use Rattle.mps_links.proofs.StepKeys.{keys_none}
@@ -18,29 +19,33 @@ if_some P (Some k) h = h k refl
 pub loop-role-init : goal.loop-role-init
 loop-role-init c =
     let es = c.args.arena.now.entries in
-    sym (ap (last_key None) (keys_none (λ s. nat_lt s.role 0 && is_marked es s.id) es (λ t i. and_left (nat_lt t.role 0) (is_marked es t.id) (le-ltb t.role 0 (omega arith)))))
+    (sym (ap (last_key None) (keys_none (λ s. nat_lt s.role 0 && is_marked es s.id) es (λ t i. and_left (nat_lt t.role 0) (is_marked es t.id) (le-ltb t.role 0 (omega arith))))), tt)
 
 pub loop-role-preserved : goal.loop-role-preserved
 loop-role-preserved c =
     let es = c.args.arena.now.entries in
-    let own : c.newest_marked_of.result ≡ last_key None (keys_of (λ s. s.role == c.loop-role.role && is_marked es s.id) es) =
-    subst (λ (r : ℕ). c.newest_marked_of.result ≡ last_key None (keys_of (λ s. s.role == r && is_marked es s.id) es)) c.new.ensures c.newest_marked_of.ensures in
-    c.later-newest.ensures
-    ∙ ap (later es c.loop-role.newest) own
-    ∙ next_role es c.len.ensures.sound c.requires.closed c.loop-role.newest c.loop-role.role c.loop-role.invariant
+    let own : key_of c.newest_marked_of.result ≡ last_key None (keys_of (λ s. s.role == c.loop-role.role && is_marked es s.id) es) =
+    subst (λ (r : ℕ). key_of c.newest_marked_of.result ≡ last_key None (keys_of (λ s. s.role == r && is_marked es s.id) es)) c.new.ensures c.newest_marked_of.ensures.newest in
+    let both = c.later-newest.ensures es c.loop-role.invariant.1 c.newest_marked_of.ensures.number in (
+      both.0
+          ∙ ap (later es (key_of c.loop-role.newest)) own
+          ∙ next_role es c.len.ensures.sound c.requires.closed (key_of c.loop-role.newest) c.loop-role.role c.loop-role.invariant.0,
+      both.1,
+    )
 
 pub returns-clause-newest : goal.returns-clause-newest
 returns-clause-newest c =
     let es = c.args.arena.now.entries in
     let end : c.loop-role.role ≡ 8 = omega arith in
-    c.loop-role.invariant
+    c.key_of.ensures
+    ∙ c.loop-role.invariant.0
     ∙ ap (λ (r : ℕ). last_key None (keys_of (λ s. nat_lt s.role r && is_marked es s.id) es)) end
     ∙ all_roles es c.len.ensures.sound c.requires.closed
 
 pub returns-clause-free : goal.returns-clause-free
 returns-clause-free c =
     let es = c.args.arena.now.entries in
-    if_some (CanGo es) c.loop-role.newest
+    if_some (CanGo es) c.key_of.result
     (λ k e. newest_can_go es c.len.ensures.sound c.requires.closed k (sym (returns-clause-newest c) ∙ e))
 
 pub returns-clause-none : goal.returns-clause-none

@@ -4,6 +4,7 @@ use Rattle.std.specs.Option.{option_map}
 use Rattle.std.proofs.lemmas.Bool.{and_left}
 use Rattle.mps_arena.specs.Keys.{last_key}
 use Rattle.mps_arena.specs.Entries.{Entry, of_role, entry_at, keys_of}
+use Rattle.mps_links.specs.Numbered.{key_of}
 use Rattle.mps_links.specs.Marks.{is_marked}
 use Rattle.mps_links.proofs.StepKeys.{keys_none, none_passes}
 use Rattle.mps_links.proofs.Firsts.{entry_in}
@@ -12,39 +13,39 @@ use Rattle.mps_links.proofs.Newest.{last_marked, none_marked}
 use Rattle.mps_links.proofs.marking.newest_marked_of.Goals as goal
 use Rattle.mps_links.proofs.marking.newest_marked_of.Goals.{After-len}
 
-last : (c : After-len) → IsLast (of_role c.args.role) c.args.arena.now.entries c.in_ok-last.last
-last c = last_is (of_role c.args.role) c.args.arena.now.entries c.in_ok-last.last (sym c.last_of.ensures ∙ c.in_ok-last.was)
+last : (c : After-len) → IsLast (of_role c.args.role) c.args.arena.now.entries c.in_ok-key.key
+last c = last_is (of_role c.args.role) c.args.arena.now.entries c.in_ok-key.key (sym c.last_of.ensures ∙ c.in_ok-key.was)
 
-found : (c : After-len) → entry_at c.in_ok-last.last c.args.arena.now.entries ≡ Some (last c).entry
+found : (c : After-len) → entry_at c.in_ok-key.key c.args.arena.now.entries ≡ Some (last c).entry
 found c =
     let es = c.args.arena.now.entries in
     let w = last c in
     ap (λ k. entry_at k es) (sym w.key) ∙ entry_in es c.len.ensures.sound.distinct c.len.ensures.sound.rising w.before w.behind w.entry w.parts
 
-pub returns-in_err-last : goal.returns-in_err-last
-returns-in_err-last c =
+pub returns-in_err-key-clause-newest : goal.returns-in_err-key-clause-newest
+returns-in_err-key-clause-newest c =
     let es = c.args.arena.now.entries in
     let p = c.args.role in
-    let none = nothing_last (keys_of (of_role p) es) (sym c.last_of.ensures ∙ c.in_err-last.was) in
-    c.from_residual.ensures
+    let none = nothing_last (keys_of (of_role p) es) (sym c.last_of.ensures ∙ c.in_err-key.was) in
+    ap key_of c.from_residual.ensures
     ∙ sym (ap (last_key None) (keys_none (λ s. s.role == p && is_marked es s.id) es (λ t i. and_left (t.role == p) (is_marked es t.id) (none_passes (of_role p) es t none i))))
 
 pub marked-requires : goal.marked-requires
 marked-requires c = subst IsSome (sym (found ((goal.at.marked-requires c).After-len))) cc
 
-pub returns-then-marked : goal.returns-then-marked
-returns-then-marked c =
+pub returns-clause-newest : goal.returns-clause-newest
+returns-clause-newest c =
     let es = c.args.arena.now.entries in
-    let w = last ((goal.at.returns-then-marked c).After-len) in
-    let is : Some w.entry.marked ≡ Some c.marked.result = ap (option_map (λ (e : Entry). e.marked)) (sym (found ((goal.at.returns-then-marked c).After-len))) ∙ c.marked.ensures in
+    let w = last ((goal.at.returns-clause-newest c).After-len) in
+    let is : Some w.entry.marked ≡ Some c.marked.result = ap (option_map (λ (e : Entry). e.marked)) (sym (found ((goal.at.returns-clause-newest c).After-len))) ∙ c.marked.ensures in
     let m : w.entry.marked ≡ c.marked.result = cc in
     ap Some (sym w.key)
-    ∙ sym (last_marked es c.len.ensures.sound c.requires.closed c.args.role w.before w.behind w.entry w.parts w.passes w.none (m ∙ c.if-marked.true))
+    ∙ sym (last_marked es c.len.ensures.sound c.requires.closed c.args.role w.before w.behind w.entry w.parts w.passes w.none (m ∙ c.if-not-marked.false))
 
-pub returns-else-marked : goal.returns-else-marked
-returns-else-marked c =
+pub returns-then-not-marked-clause-newest : goal.returns-then-not-marked-clause-newest
+returns-then-not-marked-clause-newest c =
     let es = c.args.arena.now.entries in
-    let w = last ((goal.at.returns-else-marked c).After-len) in
-    let is : Some w.entry.marked ≡ Some c.marked.result = ap (option_map (λ (e : Entry). e.marked)) (sym (found ((goal.at.returns-else-marked c).After-len))) ∙ c.marked.ensures in
+    let w = last ((goal.at.returns-then-not-marked-clause-newest c).After-len) in
+    let is : Some w.entry.marked ≡ Some c.marked.result = ap (option_map (λ (e : Entry). e.marked)) (sym (found ((goal.at.returns-then-not-marked-clause-newest c).After-len))) ∙ c.marked.ensures in
     let m : w.entry.marked ≡ c.marked.result = cc in
-    sym (ap (last_key None) (none_marked es c.len.ensures.sound c.requires.closed c.args.role w.before w.behind w.entry w.parts w.passes w.none (m ∙ c.if-marked.false)))
+    sym (ap (last_key None) (none_marked es c.len.ensures.sound c.requires.closed c.args.role w.before w.behind w.entry w.parts w.passes w.none (m ∙ c.if-not-marked.true)))

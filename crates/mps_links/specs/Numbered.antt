@@ -1,0 +1,14 @@
+-- A step's key with its number, where there is one.
+use Rattle.std.specs.Prelude.{◌≡◌, ℕ, List, Option, Some, IfSome}
+use Rattle.std.specs.Option.{option_map}
+use Rattle.mps_arena.specs.Entries.{Entry}
+use Rattle.mps_arena.specs.Sources.{id_in}
+use Rattle.mps_links.specs.declared.order.Numbered.{Numbered}
+
+-- the key alone
+abbrev pub key_of : Option Numbered → Option ℕ
+key_of o = option_map (λ n. n.key) o
+
+-- the step of the key has that number
+abbrev pub HasNumber : List Entry → Option Numbered → Type 0
+HasNumber es o = IfSome o (λ n. id_in es n.key ≡ Some n.id)
