@@ -43,7 +43,34 @@ impl Forward {
     }
 }
 
-/// What a role asks for.
+/// What a role asks for that may change the session.
+#[derive(Debug, Drop)]
+pub enum Change {
+    /// Take a step.
+    Forward(Forward),
+    /// Take back the role's own step of that number, on which no other depends.
+    Undo(StepId),
+    /// Take back the role's own step of that number, and all that depend on it.
+    Rollback(StepId),
+    /// Take back all that the role did after its last mark of that name, and all that depends on it.
+    Back(Name),
+}
+
+impl Change {
+    /// The same change once more.
+    pub fn copy(&self, alloc: Global) -> Result<Change, AllocError>
+        ensures { IfOk result (λ change. change ≡ self.now) }
+    {
+        Ok(match self {
+            Change::Forward(step) => Change::Forward(step.copy(alloc)?),
+            Change::Undo(id) => Change::Undo(*id),
+            Change::Rollback(id) => Change::Rollback(*id),
+            Change::Back(mark) => Change::Back(*mark),
+        })
+    }
+}
+
+/// What a role asks of a room.
 #[derive(Debug, Drop)]
 pub enum Command {
     /// Take a step.
@@ -54,6 +81,10 @@ pub enum Command {
     Rollback(StepId),
     /// Take back all that the role did after its last mark of that name, and all that depends on it.
     Back(Name),
+    /// Tell which of the role's steps others took back after that many entries of the journal.
+    News(u64),
+    /// Show the session.
+    Show,
 }
 
 impl Command {
@@ -66,6 +97,8 @@ impl Command {
             Command::Undo(id) => Command::Undo(*id),
             Command::Rollback(id) => Command::Rollback(*id),
             Command::Back(mark) => Command::Back(*mark),
+            Command::News(known) => Command::News(*known),
+            Command::Show => Command::Show,
         })
     }
 }

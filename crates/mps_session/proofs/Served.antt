@@ -4,7 +4,7 @@ use Rattle.std.specs.Prelude.{IsOk, OnOk, OnErr}
 use Rattle.std.specs.Option.{option_map}
 use Rattle.mps_base.specs.declared.action.Act.{Act}
 use Rattle.mps_base.specs.declared.action.Step.{Step}
-use Rattle.mps_command.specs.declared.command.Command.{Command}
+use Rattle.mps_command.specs.declared.command.Change.{Change}
 use Rattle.mps_command.specs.declared.answer.Answer.{Answer}
 use Rattle.mps_command.specs.declared.answer.Answer.TheVariants.{Refused}
 use Rattle.mps_command.specs.declared.answer.Done.{Done}
@@ -52,7 +52,7 @@ module _ {A : Type 0} (as_answer : Result A Refusal → Answer) (refuses : (e : 
   accepts_all (Ok a) h = accepts a
   accepts_all (Err e) h = absurd cc
 
-  module _ (command : Command) (may : MayStarve command) (old new : State) (served : Result A Refusal × State) (kept : Keeps old served) where
+  module _ (command : Change) (may : MayStarve command) (old new : State) (served : Result A Refusal × State) (kept : Keeps old served) where
     as_refused : (e : Refusal) → Err e ≡ served.0 → new ≡ old → (Refused e ≡ as_answer served.0) × (new ≡ served.1)
     as_refused e is same =
         let stays : served.1 ≡ old = rw (sym is) at kept in
