@@ -1,5 +1,6 @@
 //! What participants ask for.
 ghost use Rattle.std.specs.Prelude.{◌≡◌, IfOk};
+ghost use Rattle.mps_command.specs.Changes.{command_of};
 
 use mps_base::{Name, Role, StepId, Value};
 use std::alloc::{AllocError, Global};
@@ -100,5 +101,18 @@ impl Command {
             Command::News(known) => Command::News(*known),
             Command::Show => Command::Show,
         })
+    }
+}
+
+impl From<Change> for Command {
+    ghost from_gives = { λ change command. command ≡ command_of change };
+
+    fn from(change: Change) -> Command {
+        match change {
+            Change::Forward(step) => Command::Forward(step),
+            Change::Undo(id) => Command::Undo(id),
+            Change::Rollback(id) => Command::Rollback(id),
+            Change::Back(mark) => Command::Back(mark),
+        }
     }
 }
