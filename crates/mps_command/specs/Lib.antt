@@ -1,2 +1,4 @@
 pub mod Acts
 pub mod Kept
+pub mod Shown
+pub mod Changes

@@ -2,6 +2,7 @@
 ghost use Rattle.std.specs.Prelude.{◌≡◌, IfOk};
 ghost use Rattle.mps_command.specs.declared.answer.Refusal.TheVariants.{Memory as OutOfMemory};
 
+use crate::shown_text::ShownText;
 use crate::step_ids::StepIds;
 use mps_base::{Message, StepId};
 use std::alloc::{AllocError, AllocFailed, Global};
@@ -88,6 +89,10 @@ pub enum Answer {
     Done(Done),
     /// The numbers of the steps that were taken back, the newest first.
     Undone(StepIds),
+    /// How many entries the journal has, and the numbers of the role's steps that others took back.
+    News { length: u64, ids: StepIds },
+    /// The session, as it is shown.
+    Shown(ShownText),
     /// Nothing has changed.
     Refused(Refusal),
 }
@@ -100,6 +105,11 @@ impl Answer {
         Ok(match self {
             Answer::Done(done) => Answer::Done(done.copy(alloc)?),
             Answer::Undone(ids) => Answer::Undone(ids.copy(alloc)?),
+            Answer::News { length, ids } => Answer::News {
+                length: *length,
+                ids: ids.copy(alloc)?,
+            },
+            Answer::Shown(text) => Answer::Shown(text.copy(alloc)?),
             Answer::Refused(refusal) => Answer::Refused(*refusal),
         })
     }

@@ -1,5 +1,6 @@
 //! What participants ask for.
 ghost use Rattle.std.specs.Prelude.{◌≡◌, IfOk};
+ghost use Rattle.mps_command.specs.Changes.{command_of};
 
 use mps_base::{Name, Role, StepId, Value};
 use std::alloc::{AllocError, Global};
@@ -43,7 +44,34 @@ impl Forward {
     }
 }
 
-/// What a role asks for.
+/// What a role asks for that may change the session.
+#[derive(Debug, Drop)]
+pub enum Change {
+    /// Take a step.
+    Forward(Forward),
+    /// Take back the role's own step of that number, on which no other depends.
+    Undo(StepId),
+    /// Take back the role's own step of that number, and all that depend on it.
+    Rollback(StepId),
+    /// Take back all that the role did after its last mark of that name, and all that depends on it.
+    Back(Name),
+}
+
+impl Change {
+    /// The same change once more.
+    pub fn copy(&self, alloc: Global) -> Result<Change, AllocError>
+        ensures { IfOk result (λ change. change ≡ self.now) }
+    {
+        Ok(match self {
+            Change::Forward(step) => Change::Forward(step.copy(alloc)?),
+            Change::Undo(id) => Change::Undo(*id),
+            Change::Rollback(id) => Change::Rollback(*id),
+            Change::Back(mark) => Change::Back(*mark),
+        })
+    }
+}
+
+/// What a role asks of a room.
 #[derive(Debug, Drop)]
 pub enum Command {
     /// Take a step.
@@ -54,6 +82,10 @@ pub enum Command {
     Rollback(StepId),
     /// Take back all that the role did after its last mark of that name, and all that depends on it.
     Back(Name),
+    /// Tell which of the role's steps others took back after that many entries of the journal.
+    News(u64),
+    /// Show the session.
+    Show,
 }
 
 impl Command {
@@ -66,6 +98,21 @@ impl Command {
             Command::Undo(id) => Command::Undo(*id),
             Command::Rollback(id) => Command::Rollback(*id),
             Command::Back(mark) => Command::Back(*mark),
+            Command::News(known) => Command::News(*known),
+            Command::Show => Command::Show,
         })
+    }
+}
+
+impl From<Change> for Command {
+    ghost from_gives = { λ change command. command ≡ command_of change };
+
+    fn from(change: Change) -> Command {
+        match change {
+            Change::Forward(step) => Command::Forward(step),
+            Change::Undo(id) => Command::Undo(id),
+            Change::Rollback(id) => Command::Rollback(id),
+            Change::Back(mark) => Command::Back(mark),
+        }
     }
 }

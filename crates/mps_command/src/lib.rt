@@ -3,10 +3,12 @@
 
 pub mod answer;
 pub mod command;
+pub mod shown_text;
 pub mod step_ids;
 
 pub use answer::{Answer, Done, Refusal, Violation};
-pub use command::{Command, Forward};
+pub use command::{Change, Command, Forward};
+pub use shown_text::ShownText;
 pub use step_ids::StepIds;
 
 #[cfg(test)]

@@ -7,7 +7,7 @@ fn name(bytes: &[u8]) -> Result<Name, Fail> {
     Ok(Name::read(bytes).ok_or("a name")?)
 }
 
-// How a command, its copy, and the copy of its copy are shown.
+// How a command and its copy are shown.
 fn shown(alloc: Global, command: &Command) -> Result<(String, String), Fail> {
     let copied = command.copy(alloc)?;
     let before = format!(in alloc; "{command:?}")?;
@@ -43,10 +43,42 @@ fn copies_commands(rt: HostRuntime) -> Result<(), Fail> {
     commands.push(Command::Undo(StepId::new(3)))?;
     commands.push(Command::Rollback(StepId::new(4)))?;
     commands.push(Command::Back(name(b"m")?))?;
+    commands.push(Command::News(9))?;
+    commands.push(Command::Show)?;
     for command in &commands {
         let (before, after) = shown(alloc, command)?;
         assert_eq!(rt; before.as_str(), after.as_str());
     }
+    Ok(())
+}
+
+#[test]
+fn copies_changes(rt: HostRuntime) -> Result<(), Fail> {
+    let alloc = rt.alloc();
+    let b = Role::new(1);
+    let mut changes = Vec::new(alloc);
+    changes.push(Change::Forward(Forward::Pick { from: b }))?;
+    changes.push(Change::Undo(StepId::new(3)))?;
+    changes.push(Change::Rollback(StepId::new(4)))?;
+    changes.push(Change::Back(name(b"m")?))?;
+    for change in &changes {
+        let copied = change.copy(alloc)?;
+        let before = format!(in alloc; "{change:?}")?;
+        let after = format!(in alloc; "{copied:?}")?;
+        assert_eq!(rt; before.as_str(), after.as_str());
+    }
+    Ok(())
+}
+
+#[test]
+fn copies_shown_texts(rt: HostRuntime) -> Result<(), Fail> {
+    let alloc = rt.alloc();
+    let text = ShownText::of(Vec::from_slice(alloc, b"{1 ~}")?);
+    assert_eq!(rt; text.as_bytes(), b"{1 ~}".as_slice());
+    let Answer::Shown(again) = Answer::Shown(text).copy(alloc)? else {
+        return Err("no text")?;
+    };
+    assert_eq!(rt; again.as_bytes(), b"{1 ~}".as_slice());
     Ok(())
 }
 
@@ -107,6 +139,10 @@ fn copies_answers(rt: HostRuntime) -> Result<(), Fail> {
     answers.push(Answer::Undone(listed(alloc, &[5, 3])?))?;
     answers.push(Answer::Undone(listed(alloc, &[])?))?;
     answers.push(Answer::Undone(StepIds::one(id)))?;
+    answers.push(Answer::News {
+        length: 9,
+        ids: listed(alloc, &[5, 3])?,
+    })?;
     answers.push(Answer::Refused(Refusal::Needed { by: id }))?;
     answers.push(Answer::Refused(Refusal::Violation(Violation::Ended)))?;
     for answer in &answers {

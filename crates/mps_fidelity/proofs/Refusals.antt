@@ -16,8 +16,8 @@ use Rattle.mps_command.specs.declared.answer.Refusal.{Refusal}
 use Rattle.mps_command.specs.declared.answer.Refusal.TheVariants.{Violation as Violates, Needed, Full, NotYours}
 use Rattle.mps_command.specs.declared.answer.Violation.{Violation}
 use Rattle.mps_command.specs.declared.answer.Violation.TheVariants.{WrongPeer, WrongSort, NoLabel, Mismatch}
-use Rattle.mps_command.specs.declared.command.Command.{Command}
-use Rattle.mps_command.specs.declared.command.Command.TheVariants.{Forward, Undo, Rollback, Back}
+use Rattle.mps_command.specs.declared.command.Change.{Change}
+use Rattle.mps_command.specs.declared.command.Change.TheVariants.{Forward, Undo, Rollback, Back}
 use Rattle.mps_history.specs.Steps.{step_of, steps_of}
 use Rattle.mps_local.specs.Actions.{branch_at}
 use Rattle.mps_local.specs.Local.{LocalType, Send, Recv, Select, Branch}
@@ -113,7 +113,7 @@ removed_other (Ok ids) f e = cc
 removed_other (Err refusal) f e = f (let same : refusal ≡ Violates Mismatch = cc in ap (λ (x : Refusal). Err x) same)
 
 -- an answer in a view that is faithful
-serve_other : (types : List LocalType) (st : State) (p : ℕ) (command : Command) → IsFaithful (view_of types st.history) → (serve types st p command).0 ≢ mismatch
+serve_other : (types : List LocalType) (st : State) (p : ℕ) (command : Change) → IsFaithful (view_of types st.history) → (serve types st p command).0 ≢ mismatch
 serve_other types st p (Forward step) f =
     let act = act_of step in
     let v = view_of types st.history in
@@ -132,7 +132,7 @@ serve_other types st p (Rollback n) f =
 serve_other types st p (Back name) f =
     removed_other (back st p name).0 (back_other (since_mark name (steps_of p st.history)) st)
 
-pub sound_other : (types : List LocalType) (st : State) (p : ℕ) (command : Command) → AreOfOneProtocol types → IsSound types st → (serve types st p command).0 ≢ mismatch
+pub sound_other : (types : List LocalType) (st : State) (p : ℕ) (command : Change) → AreOfOneProtocol types → IsSound types st → (serve types st p command).0 ≢ mismatch
 sound_other types st p command own ok = serve_other types st p command (sound_faithful types st own ok)
 
 answers_from : (types : List LocalType) (st : State) (rs : List Request) → AreOfOneProtocol types → IsSound types st → AllByRecursion (λ a. a ≢ mismatch) (answers types st rs)

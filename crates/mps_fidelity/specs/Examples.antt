@@ -5,7 +5,7 @@ use Rattle.mps_base.specs.declared.value.Sort.TheVariants.{Int as IntSort, Bool 
 use Rattle.mps_command.specs.declared.answer.Answer.TheVariants.{Undone}
 use Rattle.mps_command.specs.declared.answer.Violation.TheVariants.{WrongPeer, NothingQueued}
 use Rattle.mps_command.specs.declared.command.Forward.TheVariants as steps
-use Rattle.mps_command.specs.declared.command.Command.TheVariants.{Forward}
+use Rattle.mps_command.specs.declared.command.Change.TheVariants.{Forward}
 use Rattle.mps_global.specs.Global as global
 use Rattle.mps_global.specs.Global.{GlobalType}
 use Rattle.mps_global.specs.Faults.{fault_of}

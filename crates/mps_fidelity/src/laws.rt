@@ -4,7 +4,7 @@ ghost use Rattle.std.specs.List.{AllByRecursion};
 ghost use Rattle.mps_base.specs.declared.action.Act.{Act};
 ghost use Rattle.mps_base.specs.declared.action.Step.{Step};
 ghost use Rattle.mps_command.specs.declared.answer.Violation.TheVariants.{Mismatch};
-ghost use Rattle.mps_command.specs.declared.command.Command.{Command};
+ghost use Rattle.mps_command.specs.declared.command.Change.{Change};
 ghost use Rattle.mps_global.specs.Global.{GlobalType};
 ghost use Rattle.mps_global.specs.Faults.{fault_of};
 ghost use Rattle.mps_local.specs.Local.{LocalType};
@@ -56,7 +56,7 @@ pub fn nothing_is_a_mismatch()
     ensures violation { (types : List LocalType) (h : List Step) (v : View) (p : ℕ) (act : Act)
         → AreOfOneProtocol types → replay (opening types) h ≡ Some v
         → violation v p act ≢ Some Mismatch }
-    ensures served { (types : List LocalType) (st : State) (p : ℕ) (command : Command)
+    ensures served { (types : List LocalType) (st : State) (p : ℕ) (command : Change)
         → AreOfOneProtocol types → IsSound types st → (serve types st p command).0 ≢ mismatch }
     ensures always { (types : List LocalType) (requests : List Request)
         → AreOfOneProtocol types

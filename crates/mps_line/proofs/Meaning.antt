@@ -11,14 +11,14 @@ use Rattle.mps_base.specs.declared.action.Message.{Message}
 use Rattle.mps_base.specs.declared.action.Message.TheVariants.{Value as Plain, Label}
 use Rattle.mps_command.specs.declared.answer.Done.{Done}
 use Rattle.mps_command.specs.declared.answer.Answer.{Answer}
-use Rattle.mps_command.specs.declared.answer.Answer.TheVariants.{Done as Accepted, Undone, Refused}
+use Rattle.mps_command.specs.declared.answer.Answer.TheVariants.{Done as Accepted, Undone, News, Shown, Refused}
 use Rattle.mps_command.specs.declared.answer.Violation.TheVariants.{Ended, WrongAct, WrongPeer, WrongSort, NoLabel, NothingQueued, Mismatch}
 use Rattle.mps_command.specs.declared.answer.Refusal.{Refusal}
 use Rattle.mps_command.specs.declared.answer.Refusal.TheVariants.{Violation as Violates, NoStep, NotYours, Needed, NoMark, Full, Memory}
 use Rattle.mps_line.specs.declared.reply.Reply.{Reply}
 use Rattle.mps_line.specs.declared.reply.Reply.TheVariants.{Answered, BadLine}
-use Rattle.mps_line.specs.Tokens.{Token, Word, Number, HasNoSpace, SpellsToken, SpellEach, SpellsLine}
-use Rattle.mps_line.specs.Replies.{word_of, message_token, done_tokens, undone_tokens, refusal_tokens, answer_tokens, SpellsReply}
+use Rattle.mps_line.specs.Tokens.{Token, Word, Number, Show, HasNoSpace, SpellsShow, SpellsToken, SpellEach, SpellsLine}
+use Rattle.mps_line.specs.Replies.{word_of, message_token, done_tokens, undone_tokens, news_tokens, refusal_tokens, answer_tokens, SpellsReply}
 use Rattle.mps_line.proofs.Splitting.{one_split, never_split, digits_have_no_space, behind, alone}
 use Rattle.mps_line.proofs.Reading.{word_behind}
 use Rattle.mps_line.proofs.Unique.{one_number}
@@ -89,6 +89,9 @@ done_has_no_space = search rules
 
 undone_has_no_space : HasNoSpace (codes "undone")
 undone_has_no_space = search rules
+
+news_has_no_space : HasNoSpace (codes "news")
+news_has_no_space = search rules
 
 refused_has_no_space : HasNoSpace (codes "refused")
 refused_has_no_space = search rules
@@ -167,6 +170,13 @@ one_undone a (m ∷ ms) (n ∷ ns) h k =
     let b = one_word_first a (codes "undone") (Number m) (map Number ms) (Number n) (map Number ns) undone_has_no_space h k in
     one_list b.0 m n ms ns b.1 b.2
 
+-- and so has the news
+one_news : (a : List ℕ) (m n : ℕ) (ms ns : List ℕ) → SpellsLine [] a (news_tokens m ms) → SpellsLine [] a (news_tokens n ns) → (m ≡ n) × (ms ≡ ns)
+one_news a m n ms ns h k =
+    let b = one_word_first a (codes "news") (Number m) (map Number ms) (Number n) (map Number ns) news_has_no_space h k in
+    let same = one_list b.0 m n ms ns b.1 b.2 in
+    (cc, cc)
+
 -- what stands behind the first word of a reply
 done_behind : (a letters : List ℕ) (id : ℕ) (got : Option Message) → SpellsLine [] a (Word letters ∷ done_tokens id got) → (rest : List ℕ) × (a ≡ spaced (letters ∷ rest ∷ [])) × SpellsLine [] rest (done_tokens id got)
 done_behind a letters id None h = word_behind [] a letters _ _ h
@@ -189,23 +199,38 @@ first_byte a letters ts some h = by_spellings h.spellings h.joined h.each
     by_spellings [] e k = absurd k
     by_spellings (s ∷ ss) e k = ap (λ (l : List ℕ). get_or l 0 0) e ∙ front s ss (rw k.0 some) ∙ ap (λ (l : List ℕ). get_or l 0 0) k.0
 
--- `done`, `undone` and `refused` are told apart by it
-done_or_undone : (a : List ℕ) (ts us : List Token) → SpellsLine [] a (Word (codes "done") ∷ ts) → SpellsLine [] a (Word (codes "undone") ∷ us) → ⊥
-done_or_undone a ts us h k =
-    absurd (omega (arith, first_byte a (codes "done") ts (omega arith) h, first_byte a (codes "undone") us (omega arith) k))
+-- answers of different kinds are told apart by it
+abbrev letter : Answer → ℕ
+letter (Accepted done) = 100
+letter (Undone ids) = 117
+letter (News n ids) = 110
+letter (Shown text) = 123
+letter (Refused refusal) = 114
 
-done_or_refused : (a : List ℕ) (ts us : List Token) → SpellsLine [] a (Word (codes "done") ∷ ts) → SpellsLine [] a (Word (codes "refused") ∷ us) → ⊥
-done_or_refused a ts us h k =
-    absurd (omega (arith, first_byte a (codes "done") ts (omega arith) h, first_byte a (codes "refused") us (omega arith) k))
+show_letter : (a text : List ℕ) → SpellsShow a text → get_or a 0 0 ≡ 123
+show_letter [] text h = absurd (let none : None ≡ Some 123 = h.allowed.brace in cc)
+show_letter (c ∷ a) text h = same_Some c 123 h.allowed.brace
 
-undone_or_refused : (a : List ℕ) (ts us : List Token) → SpellsLine [] a (Word (codes "undone") ∷ ts) → SpellsLine [] a (Word (codes "refused") ∷ us) → ⊥
-undone_or_refused a ts us h k =
-    absurd (omega (arith, first_byte a (codes "undone") ts (omega arith) h, first_byte a (codes "refused") us (omega arith) k))
+begins : (a : List ℕ) (r : Answer) → SpellsLine [] a (answer_tokens r) → get_or a 0 0 ≡ letter r
+begins a (Accepted done) h = first_byte a (codes "done") _ (omega arith) h
+begins a (Undone ids) h = first_byte a (codes "undone") _ (omega arith) h
+begins a (News n ids) h = first_byte a (codes "news") _ (omega arith) h
+begins a (Shown text) h = show_letter a text (alone [] a (Show text) h)
+begins a (Refused r) h = first_byte a (codes "refused") _ (omega arith) h
+
+one_letter : (a : List ℕ) (r s : Answer) → SpellsLine [] a (answer_tokens r) → SpellsLine [] a (answer_tokens s) → letter r ≡ letter s
+one_letter a r s h k = sym (begins a r h) ∙ begins a s k
+
+-- a bad line begins as a refusal does
+bad_letter : (a : List ℕ) (r : Answer) → SpellsReply a (Answered r) → SpellsReply a BadLine → letter r ≡ 114
+bad_letter a r h k = sym (begins a r h) ∙ first_byte a (codes "refused") _ (omega arith) k
 
 -- no answer is a bad line
 answer_or_bad : (a : List ℕ) (r : Answer) → SpellsReply a (Answered r) → SpellsReply a BadLine → ⊥
-answer_or_bad a (Accepted done) h k = done_or_refused a _ _ h k
-answer_or_bad a (Undone ids) h k = undone_or_refused a _ _ h k
+answer_or_bad a (Accepted done) h k = absurd (omega (arith, bad_letter a (Accepted done) h k))
+answer_or_bad a (Undone ids) h k = absurd (omega (arith, bad_letter a (Undone ids) h k))
+answer_or_bad a (News n ids) h k = absurd (omega (arith, bad_letter a (News n ids) h k))
+answer_or_bad a (Shown text) h k = absurd (omega (arith, bad_letter a (Shown text) h k))
 answer_or_bad a (Refused r) h k =
     let b = refusal_behind a (codes "refused") r h in
     let d = word_behind [] a (codes "refused") (Word (codes "line")) [] k in
@@ -240,17 +265,37 @@ module _ (one_value : (a : List ℕ) (v w : Value) → SpellsValue a v → Spell
       let same = one_split (codes "done") (codes "done") b.0 f.0 done_has_no_space done_has_no_space (sym b.1 ∙ f.1) in
       ap Accepted (same_done d e (one_done b.0 d.id e.id d.got e.got b.2 (rw (sym same.1) at f.2)))
   one_answer a (Undone ms) (Undone ns) h k = ap Undone (one_undone a ms ns h k)
+  one_answer a (News m ms) (News n ns) h k =
+      let one = one_news a m n ms ns h k in
+      let length : m ≡ n = one.0 in
+      let ids : ms ≡ ns = one.1 in
+      cc
+  one_answer a (Shown x) (Shown y) h k = ap Shown (sym (alone [] a (Show x) h).is ∙ (alone [] a (Show y) k).is)
   one_answer a (Refused r) (Refused s) h k =
       let b = refusal_behind a (codes "refused") r h in
       let f = refusal_behind a (codes "refused") s k in
       let same = one_split (codes "refused") (codes "refused") b.0 f.0 refused_has_no_space refused_has_no_space (sym b.1 ∙ f.1) in
       ap Refused (one_refusal b.0 r s b.2 (rw (sym same.1) at f.2))
-  one_answer a (Accepted d) (Undone ns) h k = absurd (done_or_undone a _ _ h k)
-  one_answer a (Accepted d) (Refused s) h k = absurd (done_or_refused a _ _ h k)
-  one_answer a (Undone ms) (Accepted e) h k = absurd (done_or_undone a _ _ k h)
-  one_answer a (Undone ms) (Refused s) h k = absurd (undone_or_refused a _ _ h k)
-  one_answer a (Refused r) (Accepted e) h k = absurd (done_or_refused a _ _ k h)
-  one_answer a (Refused r) (Undone ns) h k = absurd (undone_or_refused a _ _ k h)
+  one_answer a (Accepted d) (Undone ns) h k = absurd (omega (arith, one_letter a (Accepted d) (Undone ns) h k))
+  one_answer a (Accepted d) (News n ns) h k = absurd (omega (arith, one_letter a (Accepted d) (News n ns) h k))
+  one_answer a (Accepted d) (Shown y) h k = absurd (omega (arith, one_letter a (Accepted d) (Shown y) h k))
+  one_answer a (Accepted d) (Refused s) h k = absurd (omega (arith, one_letter a (Accepted d) (Refused s) h k))
+  one_answer a (Undone ms) (Accepted e) h k = absurd (omega (arith, one_letter a (Undone ms) (Accepted e) h k))
+  one_answer a (Undone ms) (News n ns) h k = absurd (omega (arith, one_letter a (Undone ms) (News n ns) h k))
+  one_answer a (Undone ms) (Shown y) h k = absurd (omega (arith, one_letter a (Undone ms) (Shown y) h k))
+  one_answer a (Undone ms) (Refused s) h k = absurd (omega (arith, one_letter a (Undone ms) (Refused s) h k))
+  one_answer a (News m ms) (Accepted e) h k = absurd (omega (arith, one_letter a (News m ms) (Accepted e) h k))
+  one_answer a (News m ms) (Undone ns) h k = absurd (omega (arith, one_letter a (News m ms) (Undone ns) h k))
+  one_answer a (News m ms) (Shown y) h k = absurd (omega (arith, one_letter a (News m ms) (Shown y) h k))
+  one_answer a (News m ms) (Refused s) h k = absurd (omega (arith, one_letter a (News m ms) (Refused s) h k))
+  one_answer a (Shown x) (Accepted e) h k = absurd (omega (arith, one_letter a (Shown x) (Accepted e) h k))
+  one_answer a (Shown x) (Undone ns) h k = absurd (omega (arith, one_letter a (Shown x) (Undone ns) h k))
+  one_answer a (Shown x) (News n ns) h k = absurd (omega (arith, one_letter a (Shown x) (News n ns) h k))
+  one_answer a (Shown x) (Refused s) h k = absurd (omega (arith, one_letter a (Shown x) (Refused s) h k))
+  one_answer a (Refused r) (Accepted e) h k = absurd (omega (arith, one_letter a (Refused r) (Accepted e) h k))
+  one_answer a (Refused r) (Undone ns) h k = absurd (omega (arith, one_letter a (Refused r) (Undone ns) h k))
+  one_answer a (Refused r) (News n ns) h k = absurd (omega (arith, one_letter a (Refused r) (News n ns) h k))
+  one_answer a (Refused r) (Shown y) h k = absurd (omega (arith, one_letter a (Refused r) (Shown y) h k))
 
   pub one_reply : (a : List ℕ) (r s : Reply) → SpellsReply a r → SpellsReply a s → r ≡ s
   one_reply a (Answered r) (Answered s) h k = ap Answered (one_answer a r s h k)

@@ -6,8 +6,8 @@ use Rattle.std.proofs.lemmas.Option.{same_Some}
 use Rattle.mps_base.specs.Names.{IsName}
 use Rattle.mps_base.specs.Spaced.{spaced}
 use Rattle.mps_base.specs.declared.value.Value.{Value}
-use Rattle.mps_command.specs.declared.command.Command.{Command}
-use Rattle.mps_command.specs.declared.command.Command.TheVariants.{Forward, Undo, Rollback, Back}
+use Rattle.mps_command.specs.declared.command.Change.{Change}
+use Rattle.mps_command.specs.declared.command.Change.TheVariants.{Forward, Undo, Rollback, Back}
 use Rattle.mps_command.specs.declared.command.Forward.TheVariants.{Send, Choose, Receive, Pick, Mark}
 use Rattle.mps_line.specs.declared.script.LineFault.{LineFault}
 use Rattle.mps_line.specs.declared.script.Verb.{Verb}
@@ -59,12 +59,12 @@ one_verb bytes v w x y e f =
     (same_verb v w same.0, same.1)
 
 -- the parts of a command: its verb, a space and these tokens
-pub record HasArguments (names : List (List ℕ)) (bytes : List ℕ) (command : Command) (tokens : List Token) : Type 0 where
+pub record HasArguments (names : List (List ℕ)) (bytes : List ℕ) (command : Change) (tokens : List Token) : Type 0 where
   pub rest : List ℕ
   pub parts : bytes ≡ spaced (verb_word (verb_of command) ∷ rest ∷ [])
   pub spelled : SpellsLine names rest tokens
 
-abbrev pub HasVerb : (names : List (List ℕ)) → List ℕ → Command → Type 0
+abbrev pub HasVerb : (names : List (List ℕ)) → List ℕ → Change → Type 0
 HasVerb names bytes command = HasArguments names bytes command (arguments command)
 
 -- a word in front of others
@@ -74,7 +74,7 @@ word_behind names bytes letters u ts h =
     (b.0, rw b.1.spelled at b.1.parts, b.2)
 
 -- a command has an argument
-pub some_arguments : (command : Command) → 0 < length (arguments command)
+pub some_arguments : (command : Change) → 0 < length (arguments command)
 some_arguments (Forward (Send to value)) = omega arith
 some_arguments (Forward (Choose to label)) = omega arith
 some_arguments (Forward (Receive from slot)) = omega arith
@@ -84,7 +84,7 @@ some_arguments (Undo id) = omega arith
 some_arguments (Rollback id) = omega arith
 some_arguments (Back name) = omega arith
 
-pub command_parts : (names : List (List ℕ)) (bytes : List ℕ) (command : Command) → SpellsCommand names bytes command → HasVerb names bytes command
+pub command_parts : (names : List (List ℕ)) (bytes : List ℕ) (command : Change) → SpellsCommand names bytes command → HasVerb names bytes command
 command_parts names bytes command h = by_arguments (arguments command) (some_arguments command) h
   where
     by_arguments : (ts : List Token) → 0 < length ts → SpellsLine names bytes (Word (verb_word (verb_of command)) ∷ ts) → HasArguments names bytes command ts
@@ -92,7 +92,7 @@ command_parts names bytes command h = by_arguments (arguments command) (some_arg
     by_arguments (u ∷ ts) some h = let b = word_behind names bytes _ u ts h in record { rest = b.0; parts = b.1; spelled = b.2 }
 
 -- a verb in front of arguments is a command
-pub command_of : (names : List (List ℕ)) (bytes rest : List ℕ) (command : Command) → bytes ≡ spaced (verb_word (verb_of command) ∷ rest ∷ []) → SpellsLine names rest (arguments command) → SpellsCommand names bytes command
+pub command_of : (names : List (List ℕ)) (bytes rest : List ℕ) (command : Change) → bytes ≡ spaced (verb_word (verb_of command) ∷ rest ∷ []) → SpellsLine names rest (arguments command) → SpellsCommand names bytes command
 command_of names bytes rest command e h = by_arguments (arguments command) (some_arguments command) h
   where
     by_arguments : (ts : List Token) → 0 < length ts → SpellsLine names rest ts → SpellsLine names bytes (Word (verb_word (verb_of command)) ∷ ts)
@@ -100,44 +100,44 @@ command_of names bytes rest command e h = by_arguments (arguments command) (some
     by_arguments (u ∷ ts) some h = joined names bytes (Word (verb_word (verb_of command))) u ts rest (record { front = verb_word (verb_of command); parts = e; spelled = refl }) h
 
 -- a line of this verb with none of its arguments
-pub no_command : (names : List (List ℕ)) (bytes rest : List ℕ) (verb : Verb) → bytes ≡ spaced (verb_word verb ∷ rest ∷ []) → ((command : Command) → verb_of command ≡ verb → SpellsLine names rest (arguments command) → ⊥) → (command : Command) → SpellsCommand names bytes command → ⊥
+pub no_command : (names : List (List ℕ)) (bytes rest : List ℕ) (verb : Verb) → bytes ≡ spaced (verb_word verb ∷ rest ∷ []) → ((command : Change) → verb_of command ≡ verb → SpellsLine names rest (arguments command) → ⊥) → (command : Change) → SpellsCommand names bytes command → ⊥
 no_command names bytes rest verb e none command h =
     let k = command_parts names bytes command h in
     let same = one_verb bytes (verb_of command) verb k.rest rest k.parts e in
     none command same.0 (rw same.1 at k.spelled)
 
 -- none of the lines of this verb
-pub no_sending : (names : List (List ℕ)) (bytes : List ℕ) → ((to : ℕ) (value : Value) → SpellsLine names bytes (RoleAt to ∷ Worth value ∷ []) → ⊥) → (command : Command) → verb_of command ≡ verbs.Send → SpellsLine names bytes (arguments command) → ⊥
+pub no_sending : (names : List (List ℕ)) (bytes : List ℕ) → ((to : ℕ) (value : Value) → SpellsLine names bytes (RoleAt to ∷ Worth value ∷ []) → ⊥) → (command : Change) → verb_of command ≡ verbs.Send → SpellsLine names bytes (arguments command) → ⊥
 no_sending names bytes none (Forward (Send to value)) e h = none to value h
 no_sending names bytes none command e h = absurd cc
 
-pub no_choosing : (names : List (List ℕ)) (bytes : List ℕ) → ((role : ℕ) (name : List ℕ) → SpellsLine names bytes (RoleAt role ∷ Called name ∷ []) → ⊥) → (command : Command) → verb_of command ≡ verbs.Choose → SpellsLine names bytes (arguments command) → ⊥
+pub no_choosing : (names : List (List ℕ)) (bytes : List ℕ) → ((role : ℕ) (name : List ℕ) → SpellsLine names bytes (RoleAt role ∷ Called name ∷ []) → ⊥) → (command : Change) → verb_of command ≡ verbs.Choose → SpellsLine names bytes (arguments command) → ⊥
 no_choosing names bytes none (Forward (Choose to label)) e h = none to label h
 no_choosing names bytes none command e h = absurd cc
 
-pub no_receiving : (names : List (List ℕ)) (bytes : List ℕ) → ((role : ℕ) (name : List ℕ) → SpellsLine names bytes (RoleAt role ∷ Called name ∷ []) → ⊥) → (command : Command) → verb_of command ≡ verbs.Receive → SpellsLine names bytes (arguments command) → ⊥
+pub no_receiving : (names : List (List ℕ)) (bytes : List ℕ) → ((role : ℕ) (name : List ℕ) → SpellsLine names bytes (RoleAt role ∷ Called name ∷ []) → ⊥) → (command : Change) → verb_of command ≡ verbs.Receive → SpellsLine names bytes (arguments command) → ⊥
 no_receiving names bytes none (Forward (Receive from slot)) e h = none from slot h
 no_receiving names bytes none command e h = absurd cc
 
-pub no_picking : (names : List (List ℕ)) (bytes : List ℕ) → ((role : ℕ) → SpellsRole names bytes role → ⊥) → (command : Command) → verb_of command ≡ verbs.Pick → SpellsLine names bytes (arguments command) → ⊥
+pub no_picking : (names : List (List ℕ)) (bytes : List ℕ) → ((role : ℕ) → SpellsRole names bytes role → ⊥) → (command : Change) → verb_of command ≡ verbs.Pick → SpellsLine names bytes (arguments command) → ⊥
 no_picking names bytes none (Forward (Pick from)) e h = none from (alone names bytes (RoleAt from) h)
 no_picking names bytes none command e h = absurd cc
 
-pub no_marking : (names : List (List ℕ)) (bytes : List ℕ) → (IsName bytes → ⊥) → (command : Command) → verb_of command ≡ verbs.Mark → SpellsLine names bytes (arguments command) → ⊥
+pub no_marking : (names : List (List ℕ)) (bytes : List ℕ) → (IsName bytes → ⊥) → (command : Change) → verb_of command ≡ verbs.Mark → SpellsLine names bytes (arguments command) → ⊥
 no_marking names bytes none (Forward (Mark name)) e h = none (alone names bytes (Called name) h).allowed
 no_marking names bytes none command e h = absurd cc
 
-pub no_undoing : (names : List (List ℕ)) (bytes : List ℕ) → ((id : ℕ) → SpellsNumber bytes id → ⊥) → (command : Command) → verb_of command ≡ verbs.Undo → SpellsLine names bytes (arguments command) → ⊥
+pub no_undoing : (names : List (List ℕ)) (bytes : List ℕ) → ((id : ℕ) → SpellsNumber bytes id → ⊥) → (command : Change) → verb_of command ≡ verbs.Undo → SpellsLine names bytes (arguments command) → ⊥
 no_undoing names bytes none (Undo id) e h = none id (alone names bytes (Number id) h)
 no_undoing names bytes none (Forward (Mark name)) e h = absurd cc
 no_undoing names bytes none command e h = absurd cc
 
-pub no_rolling_back : (names : List (List ℕ)) (bytes : List ℕ) → ((id : ℕ) → SpellsNumber bytes id → ⊥) → (command : Command) → verb_of command ≡ verbs.Rollback → SpellsLine names bytes (arguments command) → ⊥
+pub no_rolling_back : (names : List (List ℕ)) (bytes : List ℕ) → ((id : ℕ) → SpellsNumber bytes id → ⊥) → (command : Change) → verb_of command ≡ verbs.Rollback → SpellsLine names bytes (arguments command) → ⊥
 no_rolling_back names bytes none (Rollback id) e h = none id (alone names bytes (Number id) h)
 no_rolling_back names bytes none (Forward (Mark name)) e h = absurd cc
 no_rolling_back names bytes none command e h = absurd cc
 
-pub no_going_back : (names : List (List ℕ)) (bytes : List ℕ) → (IsName bytes → ⊥) → (command : Command) → verb_of command ≡ verbs.Back → SpellsLine names bytes (arguments command) → ⊥
+pub no_going_back : (names : List (List ℕ)) (bytes : List ℕ) → (IsName bytes → ⊥) → (command : Change) → verb_of command ≡ verbs.Back → SpellsLine names bytes (arguments command) → ⊥
 no_going_back names bytes none (Back name) e h = none (alone names bytes (Called name) h).allowed
 no_going_back names bytes none (Forward (Mark name)) e h = absurd cc
 no_going_back names bytes none command e h = absurd cc
@@ -165,7 +165,7 @@ pub name_read : (bytes name : List ℕ) → IsName bytes → name ≡ bytes → 
 name_read bytes name h e = record { is = sym e; allowed = h }
 
 -- the arguments that were read make a command behind their verb
-pub command_read : (names : List (List ℕ)) (bytes rest : List ℕ) (verb : Verb) (r : Result Command LineFault) → bytes ≡ spaced (verb_word verb ∷ rest ∷ []) → IfOk r (λ command. verb_of command ≡ verb) → IfOk r (λ command. SpellsLine names rest (arguments command)) → IfOk r (SpellsCommand names bytes)
+pub command_read : (names : List (List ℕ)) (bytes rest : List ℕ) (verb : Verb) (r : Result Change LineFault) → bytes ≡ spaced (verb_word verb ∷ rest ∷ []) → IfOk r (λ command. verb_of command ≡ verb) → IfOk r (λ command. SpellsLine names rest (arguments command)) → IfOk r (SpellsCommand names bytes)
 command_read names bytes rest verb (Err fault) e v h = tt
 command_read names bytes rest verb (Ok command) e v h = command_of names bytes rest command (rw v e) h
 

@@ -15,15 +15,16 @@ use Rattle.mps_command.specs.declared.answer.Violation.TheVariants.{Ended, Wrong
 use Rattle.mps_command.specs.declared.answer.Refusal.{Refusal}
 use Rattle.mps_command.specs.declared.answer.Refusal.TheVariants.{Violation as Violates, NoStep, NotYours, Needed, NoMark, Full, Memory}
 use Rattle.mps_command.specs.declared.answer.Answer.{Answer}
-use Rattle.mps_command.specs.declared.answer.Answer.TheVariants.{Done, Undone, Refused}
-use Rattle.mps_command.specs.declared.command.Command.{Command}
-use Rattle.mps_command.specs.declared.command.Command.TheVariants.{Forward, Undo, Rollback, Back}
+use Rattle.mps_command.specs.declared.answer.Answer.TheVariants.{Done, Undone, News, Shown, Refused}
+use Rattle.mps_command.specs.declared.command.Change.{Change}
+use Rattle.mps_command.specs.declared.command.Change.TheVariants.{Forward, Undo, Rollback, Back}
 use Rattle.mps_command.specs.declared.command.Forward.TheVariants.{Send, Choose, Receive, Pick, Mark}
 use Rattle.mps_line.specs.declared.reply.Reply.{Reply}
 use Rattle.mps_line.specs.declared.reply.Reply.TheVariants.{Answered, BadLine}
 use Rattle.mps_line.specs.declared.script.Verb.{Verb}
 use Rattle.mps_line.specs.declared.script.Verb.TheVariants as verbs
-use Rattle.mps_line.specs.Tokens.{Token, Word, RoleAt, Called, Number, Worth, SpellsToken, SpellEach, SpellsLine}
+use Rattle.mps_line.specs.Tokens.{Token, Word, RoleAt, Called, Number, Worth, Show, SpellsShow, SpellsToken, SpellEach, SpellsLine}
+use Rattle.mps_line.proofs.Splitting.{alone}
 use Rattle.mps_line.specs.Commands.{verb_word, verb_of, arguments, SpellsScriptLine}
 use Rattle.mps_line.specs.Replies.{word_of, message_token, done_tokens, refusal_tokens, answer_tokens, reply_tokens, SpellsReply}
 
@@ -57,6 +58,7 @@ shown_token names a (RoleAt place) p h = shown_name a h.name.each
 shown_token names a (Called name) p h = shown_name a h.allowed.each
 shown_token names a (Number n) p h = shown_digits a h.number.digits
 shown_token names a (Worth value) p h = shown a value h
+shown_token names a (Show text) p h = h.allowed.shown
 
 -- a token in front of others
 shown_more : (xs : List ℕ) (ss : List (List ℕ)) → AreShown xs → AreShown (spaced ss) → AreShown (spaced (xs ∷ ss))
@@ -85,7 +87,7 @@ shown_verb verbs.Undo = search rules
 shown_verb verbs.Rollback = search rules
 shown_verb verbs.Back = search rules
 
-plain_arguments : (c : Command) → AllByRecursion IsPlain (arguments c)
+plain_arguments : (c : Change) → AllByRecursion IsPlain (arguments c)
 plain_arguments (Forward (Send to value)) = (tt, (tt, tt))
 plain_arguments (Forward (Choose to label)) = (tt, (tt, tt))
 plain_arguments (Forward (Receive from slot)) = (tt, (tt, tt))
@@ -95,7 +97,7 @@ plain_arguments (Undo id) = (tt, tt)
 plain_arguments (Rollback id) = (tt, tt)
 plain_arguments (Back name) = (tt, tt)
 
-pub shown_line : (names : List (List ℕ)) (a : List ℕ) (p : ℕ) (c : Command) → SpellsScriptLine names a p c → AreShown a
+pub shown_line : (names : List (List ℕ)) (a : List ℕ) (p : ℕ) (c : Change) → SpellsScriptLine names a p c → AreShown a
 shown_line names a p c h = shown_tokens names a _ (tt, (shown_verb (verb_of c), plain_arguments c)) h
 
 -- ---- replies
@@ -120,6 +122,9 @@ done_word = search rules
 
 undone_word : AreShown (codes "undone")
 undone_word = search rules
+
+news_word : AreShown (codes "news")
+news_word = search rules
 
 refused_word : AreShown (codes "refused")
 refused_word = search rules
@@ -146,6 +151,8 @@ plain_numbers (id ∷ ids) = (tt, plain_numbers ids)
 plain_answer : (answer : Answer) → AllByRecursion IsPlain (answer_tokens answer)
 plain_answer (Done done) = (done_word, plain_done done.id done.got)
 plain_answer (Undone ids) = (undone_word, plain_numbers ids)
+plain_answer (News n ids) = (news_word, (tt, plain_numbers ids))
+plain_answer (Shown text) = (tt, tt)
 plain_answer (Refused refusal) = (refused_word, plain_refusal refusal)
 
 plain_reply : (r : Reply) → AllByRecursion IsPlain (reply_tokens r)
@@ -177,8 +184,15 @@ some_word a letters ts some h = by_spellings h.spellings h.joined h.each
     by_spellings [] e k = absurd k
     by_spellings (s ∷ ss) e k = rw e (longer s ss (rw k.0 some))
 
+-- nor is a shown session
+some_show : (a text : List ℕ) → SpellsShow a text → 0 < length a
+some_show [] text h = absurd (let none : None ≡ Some 123 = h.allowed.brace in cc)
+some_show (c ∷ a) text h = omega arith
+
 pub some_reply : (a : List ℕ) (r : Reply) → SpellsReply a r → 0 < length a
 some_reply a (Answered (Done done)) h = some_word a (codes "done") _ (omega arith) h
 some_reply a (Answered (Undone ids)) h = some_word a (codes "undone") _ (omega arith) h
+some_reply a (Answered (News n ids)) h = some_word a (codes "news") _ (omega arith) h
+some_reply a (Answered (Shown text)) h = some_show a text (alone [] a (Show text) h)
 some_reply a (Answered (Refused refusal)) h = some_word a (codes "refused") _ (omega arith) h
 some_reply a BadLine h = some_word a (codes "refused") _ (omega arith) h

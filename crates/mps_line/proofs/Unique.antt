@@ -10,10 +10,10 @@ use Rattle.mps_base.specs.declared.value.Value.{Value}
 use Rattle.mps_base.proofs.Numbers.{same_number_text}
 use Rattle.mps_base.proofs.RoleLists.{one_place}
 use Rattle.mps_base.proofs.Values.{same_spelling}
-use Rattle.mps_command.specs.declared.command.Command.{Command}
-use Rattle.mps_command.specs.declared.command.Command.TheVariants.{Forward, Undo, Rollback, Back}
+use Rattle.mps_command.specs.declared.command.Change.{Change}
+use Rattle.mps_command.specs.declared.command.Change.TheVariants.{Forward, Undo, Rollback, Back}
 use Rattle.mps_command.specs.declared.command.Forward.TheVariants.{Send, Choose, Receive, Pick, Mark}
-use Rattle.mps_line.specs.Tokens.{Token, Word, RoleAt, Called, Number, Worth, SpellsRole, SpellsNumber, SpellsToken, SpellEach, SpellsLine, BeginsWith}
+use Rattle.mps_line.specs.Tokens.{Token, Word, RoleAt, Called, Number, Worth, Show, SpellsRole, SpellsNumber, SpellsToken, SpellEach, SpellsLine, BeginsWith}
 use Rattle.mps_line.specs.Commands.{verb_of, arguments, SpellsCommand, SpellsScriptLine, NamesRolesOf}
 use Rattle.mps_line.proofs.Splitting.{one_split, name_has_no_space, behind, alone}
 use Rattle.mps_line.proofs.Reading.{one_verb, command_parts}
@@ -26,6 +26,7 @@ token_spelling names a b (RoleAt place) h k = cc (h.place, k.place)
 token_spelling names a b (Called name) h k = h.is ∙ sym k.is
 token_spelling names a b (Number n) h k = same_number_text a b n h.small h.number k.number
 token_spelling names a b (Worth value) h k = same_spelling a b value h k
+token_spelling names a b (Show text) h k = h.is ∙ sym k.is
 
 each_alike : (names : List (List ℕ)) (ss rs : List (List ℕ)) (ts : List Token) → SpellEach names ss ts → SpellEach names rs ts → ss ≡ rs
 each_alike names [] [] [] h k = refl
@@ -75,7 +76,7 @@ one_step names a m n h k = one_number a m n (alone names a (Number m) h) (alone 
 
 -- a text spells one value
 module _ (one_value : (a : List ℕ) (v w : Value) → SpellsValue a v → SpellsValue a w → v ≡ w) where
-  same_arguments : (names : List (List ℕ)) (a : List ℕ) (c d : Command) → AreDistinct names → verb_of c ≡ verb_of d → SpellsLine names a (arguments c) → SpellsLine names a (arguments d) → c ≡ d
+  same_arguments : (names : List (List ℕ)) (a : List ℕ) (c d : Change) → AreDistinct names → verb_of c ≡ verb_of d → SpellsLine names a (arguments c) → SpellsLine names a (arguments d) → c ≡ d
   same_arguments names a (Forward (Send p v)) (Forward (Send q w)) distinct e h k =
       let s = same_role names a p q (Worth v) [] (Worth w) [] distinct h k in
       let role : p ≡ q = s.role in
@@ -102,14 +103,14 @@ module _ (one_value : (a : List ℕ) (v w : Value) → SpellsValue a v → Spell
   same_arguments names a (Back x) (Forward (Mark y)) distinct e h k = absurd cc
   same_arguments names a c d distinct e h k = absurd cc
 
-  pub same_command : (names : List (List ℕ)) (a : List ℕ) (c d : Command) → AreDistinct names → SpellsCommand names a c → SpellsCommand names a d → c ≡ d
+  pub same_command : (names : List (List ℕ)) (a : List ℕ) (c d : Change) → AreDistinct names → SpellsCommand names a c → SpellsCommand names a d → c ≡ d
   same_command names a c d distinct h k =
       let b = command_parts names a c h in
       let f = command_parts names a d k in
       let same = one_verb a (verb_of c) (verb_of d) b.rest f.rest b.parts f.parts in
       same_arguments names b.rest c d distinct same.0 b.spelled (rw (sym same.1) at f.spelled)
 
-  pub same_line : (names : List (List ℕ)) (a : List ℕ) (p q : ℕ) (c d : Command) → AreDistinct names → SpellsScriptLine names a p c → SpellsScriptLine names a q d → (p ≡ q) × (c ≡ d)
+  pub same_line : (names : List (List ℕ)) (a : List ℕ) (p q : ℕ) (c d : Change) → AreDistinct names → SpellsScriptLine names a p c → SpellsScriptLine names a q d → (p ≡ q) × (c ≡ d)
   same_line names a p q c d distinct h k =
       let s = same_role names a p q _ (arguments c) _ (arguments d) distinct h k in
       (s.role, same_command names s.rest c d distinct s.one s.other)
@@ -120,13 +121,13 @@ place_within : (names : List (List ℕ)) (a : List ℕ) (role : ℕ) → SpellsR
 place_within names a role h peer e = rw (same_Some peer role (sym e)) (slice_get_within names role a h.place)
 
 -- it is one of these
-pub names_roles : (names : List (List ℕ)) (a : List ℕ) (c : Command) → SpellsCommand names a c → NamesRolesOf names c
+pub names_roles : (names : List (List ℕ)) (a : List ℕ) (c : Change) → SpellsCommand names a c → NamesRolesOf names c
 names_roles names a c h = let k = command_parts names a c h in by_arguments c k.rest k.spelled
   where
     first : (rest : List ℕ) (role : ℕ) (t : Token) → SpellsLine names rest (RoleAt role ∷ t ∷ []) → ForSome (Some role) (λ peer. peer < length names)
     first rest role t k = let b = behind names rest (RoleAt role) t [] k in place_within names b.1.front role b.1.spelled
 
-    by_arguments : (c : Command) (rest : List ℕ) → SpellsLine names rest (arguments c) → NamesRolesOf names c
+    by_arguments : (c : Change) (rest : List ℕ) → SpellsLine names rest (arguments c) → NamesRolesOf names c
     by_arguments (Forward (Send to value)) rest k = first rest to (Worth value) k
     by_arguments (Forward (Choose to label)) rest k = first rest to (Called label) k
     by_arguments (Forward (Receive from slot)) rest k = first rest from (Called slot) k

@@ -3,14 +3,15 @@ use Rattle.std.proofs.Common.{arith, ◌≡◌, ℕ, ◌+◌, List, [], ◌∷�
 use Rattle.std.proofs.Math.Seq.{take-append_seam}
 use Rattle.std.proofs.lemmas.List.{take-append-drop, take_more, map-append}
 use Rattle.std.specs.Io.{StartsWith}
-use Rattle.std.specs.Prelude.{◌<◌, Result, Ok, Err, Option, Some, None, OnOk, OnErr, length, take, drop, map, codes}
+use Rattle.std.specs.Prelude.{◌<◌, Result, Ok, Err, is_ok, if◌then◌else◌, Option, Some, None, OnOk, OnErr, length, take, drop, map, codes}
 use Rattle.mps_base.specs.Appends.{Appends}
 use Rattle.mps_base.specs.declared.action.Message.{Message}
+use Rattle.mps_command.specs.Shown.{IsShownText}
 use Rattle.mps_command.specs.declared.answer.Refusal.{Refusal}
 use Rattle.mps_command.specs.declared.answer.Refusal.TheVariants.{Needed}
 use Rattle.mps_line.specs.declared.reply.Reply.TheVariants.{BadLine}
-use Rattle.mps_line.specs.Replies.{word_of, done_tokens, undone_tokens, refusal_tokens, SpellsReply}
-use Rattle.mps_line.specs.Tokens.{Token, Word, Number, SpellsNumber, SpellsToken, SpellsLine}
+use Rattle.mps_line.specs.Replies.{word_of, done_tokens, news_tokens, refusal_tokens, SpellsReply}
+use Rattle.mps_line.specs.Tokens.{Token, Word, Number, Show, SpellsNumber, SpellsToken, SpellsLine}
 use Rattle.mps_line.proofs.Splitting.{behind, joined, alone, line_of_one}
 
 -- what is written behind what was written
@@ -51,6 +52,20 @@ some_refusal r = omega arith
 pub done_before : {T E : Type 0} (r : Result T E) (old pushed new : List ℕ) (id : ℕ) (got : Option Message) → pushed ≡ old ++ codes "done " → OnOk r (Appends (λ text. SpellsLine [] text (done_tokens id got)) pushed new) → OnOk r (Appends (λ text. SpellsLine [] text (Word (codes "done") ∷ done_tokens id got)) old new)
 done_before r old pushed new id got e b = word_before [] r old pushed new (codes "done") (done_tokens id got) (some_done id got) e b
 
+-- the length of the journal behind its word
+pub news_before : (old pushed new : List ℕ) (n : ℕ) → pushed ≡ old ++ codes "news " → Appends (λ text. SpellsNumber text n) pushed new → Appends (λ text. SpellsLine [] text (news_tokens n [])) old new
+news_before old pushed new n e a = (
+  codes "news " ++ a.0,
+  a.1 ∙ ap (λ (m : List ℕ). m ++ a.0) e ∙ append_assoc old (codes "news ") a.0,
+  joined [] (codes "news " ++ a.0) (Word (codes "news")) (Number n) [] a.0 (record { front = codes "news"; parts = refl; spelled = refl }) (line_of_one [] a.0 (Number n) a.2),
+)
+
+-- a shown session alone
+pub show_written : {T E : Type 0} (r : Result T E) (old new bytes text : List ℕ) → new ≡ (if is_ok r then old ++ bytes else old) → bytes ≡ text → IsShownText text → OnOk r (Appends (λ t. SpellsLine [] t (Show text ∷ [])) old new)
+show_written (Err e) old new bytes text h is shown = tt
+show_written (Ok x) old new bytes text h is shown =
+    (bytes, h, line_of_one [] bytes (Show text) (record { is = is; allowed = rw is shown }))
+
 pub refused_before : {T E : Type 0} (r : Result T E) (old pushed new : List ℕ) (refusal : Refusal) → pushed ≡ old ++ codes "refused " → OnOk r (Appends (λ text. SpellsLine [] text (refusal_tokens refusal)) pushed new) → OnOk r (Appends (λ text. SpellsLine [] text (Word (codes "refused") ∷ refusal_tokens refusal)) old new)
 refused_before r old pushed new refusal e b = word_before [] r old pushed new (codes "refused") (refusal_tokens refusal) (some_refusal refusal) e b
 
@@ -76,16 +91,17 @@ token_behind names a b t (v ∷ ts) u h k =
     (record { front = s.1.front; parts = ap (λ l. l ++ 32 ∷ b) s.1.parts ∙ append_assoc s.1.front (32 ∷ s.0) (32 ∷ b); spelled = s.1.spelled })
     (token_behind names s.0 b v ts u s.2 k)
 
--- one more number behind those that were written
-pub number_written : (ids : List ℕ) (k d : ℕ) (old before pushed new : List ℕ) → k < length ids → Appends (λ text. SpellsLine [] text (undone_tokens (take k ids))) old before → pushed ≡ before ++ 32 ∷ [] → Appends (λ text. SpellsNumber text (get_or ids k d)) pushed new → Appends (λ text. SpellsLine [] text (undone_tokens (take (k + 1) ids))) old new
-number_written ids k d old before pushed new less a p b =
-    let more : map Number (take (k + 1) ids) ≡ map Number (take k ids) ++ Number (get_or ids k d) ∷ [] =
-    ap (map Number) (take_more ids k d less) ∙ map-append Number (take k ids) (get_or ids k d ∷ []) in (
+-- one more number behind the tokens and the numbers that were written
+pub number_written : (t : Token) (ts : List Token) (ids : List ℕ) (k d : ℕ) (old before pushed new : List ℕ) → k < length ids → Appends (λ text. SpellsLine [] text (t ∷ (ts ++ map Number (take k ids)))) old before → pushed ≡ before ++ 32 ∷ [] → Appends (λ text. SpellsNumber text (get_or ids k d)) pushed new → Appends (λ text. SpellsLine [] text (t ∷ (ts ++ map Number (take (k + 1) ids)))) old new
+number_written t ts ids k d old before pushed new less a p b =
+    let more : ts ++ map Number (take (k + 1) ids) ≡ (ts ++ map Number (take k ids)) ++ Number (get_or ids k d) ∷ [] =
+    ap (λ (l : List Token). ts ++ l) (ap (map Number) (take_more ids k d less) ∙ map-append Number (take k ids) (get_or ids k d ∷ []))
+    ∙ sym (append_assoc ts (map Number (take k ids)) (Number (get_or ids k d) ∷ [])) in (
       a.0 ++ 32 ∷ b.0,
       b.1 ∙ ap (λ (m : List ℕ). m ++ b.0) (p ∙ ap (λ (m : List ℕ). m ++ 32 ∷ []) a.1)
           ∙ append_assoc (old ++ a.0) (32 ∷ []) b.0 ∙ append_assoc old a.0 (32 ∷ b.0),
-      subst (λ (ts : List Token). SpellsLine [] (a.0 ++ 32 ∷ b.0) (Word (codes "undone") ∷ ts)) (sym more)
-          (token_behind [] a.0 b.0 (Word (codes "undone")) (map Number (take k ids)) (Number (get_or ids k d)) a.2 b.2),
+      subst (λ (l : List Token). SpellsLine [] (a.0 ++ 32 ∷ b.0) (t ∷ l)) (sym more)
+          (token_behind [] a.0 b.0 t (ts ++ map Number (take k ids)) (Number (get_or ids k d)) a.2 b.2),
     )
 
 -- what was there before stays in front

@@ -1,8 +1,8 @@
 -- How the commands of a script are spelled.
 use Rattle.std.specs.Prelude.{ℕ, ◌<◌, List, [], ◌∷◌, length, codes, Option, Some, None}
 use Rattle.std.specs.Option.{ForSome}
-use Rattle.mps_command.specs.declared.command.Command.{Command}
-use Rattle.mps_command.specs.declared.command.Command.TheVariants.{Forward, Undo, Rollback, Back}
+use Rattle.mps_command.specs.declared.command.Change.{Change}
+use Rattle.mps_command.specs.declared.command.Change.TheVariants.{Forward, Undo, Rollback, Back}
 use Rattle.mps_command.specs.declared.command.Forward.TheVariants.{Send, Choose, Receive, Pick, Mark}
 use Rattle.mps_line.specs.declared.script.Verb.{Verb}
 use Rattle.mps_line.specs.declared.script.Verb.TheVariants as verbs
@@ -20,7 +20,7 @@ verb_word verbs.Rollback = codes "rollback"
 verb_word verbs.Back = codes "back"
 
 -- the verb of a command
-abbrev pub verb_of : Command → Verb
+abbrev pub verb_of : Change → Verb
 verb_of (Forward (Send to value)) = verbs.Send
 verb_of (Forward (Choose to label)) = verbs.Choose
 verb_of (Forward (Receive from slot)) = verbs.Receive
@@ -31,7 +31,7 @@ verb_of (Rollback id) = verbs.Rollback
 verb_of (Back name) = verbs.Back
 
 -- the tokens behind the verb
-abbrev pub arguments : Command → List Token
+abbrev pub arguments : Change → List Token
 arguments (Forward (Send to value)) = RoleAt to ∷ Worth value ∷ []
 arguments (Forward (Choose to label)) = RoleAt to ∷ Called label ∷ []
 arguments (Forward (Receive from slot)) = RoleAt from ∷ Called slot ∷ []
@@ -42,19 +42,19 @@ arguments (Rollback id) = Number id ∷ []
 arguments (Back name) = Called name ∷ []
 
 -- the verb and its arguments
-abbrev pub command_tokens : Command → List Token
+abbrev pub command_tokens : Change → List Token
 command_tokens command = Word (verb_word (verb_of command)) ∷ arguments command
 
 -- `send PEER VALUE`, `choose PEER LABEL`, `recv PEER SLOT`, `pick PEER`, `mark NAME`, `undo NUMBER`, `rollback NUMBER` or `back NAME`
-abbrev pub SpellsCommand : (names : List (List ℕ)) → List ℕ → Command → Type 0
+abbrev pub SpellsCommand : (names : List (List ℕ)) → List ℕ → Change → Type 0
 SpellsCommand names bytes command = SpellsLine names bytes (command_tokens command)
 
 -- a role's name in front of a command
-abbrev pub SpellsScriptLine : (names : List (List ℕ)) → List ℕ → (role : ℕ) → Command → Type 0
+abbrev pub SpellsScriptLine : (names : List (List ℕ)) → List ℕ → (role : ℕ) → Change → Type 0
 SpellsScriptLine names bytes role command = SpellsLine names bytes (RoleAt role ∷ command_tokens command)
 
 -- the role that a command names, where it names one
-abbrev pub peer_of : Command → Option ℕ
+abbrev pub peer_of : Change → Option ℕ
 peer_of (Forward (Send to value)) = Some to
 peer_of (Forward (Choose to label)) = Some to
 peer_of (Forward (Receive from slot)) = Some from
@@ -62,5 +62,5 @@ peer_of (Forward (Pick from)) = Some from
 peer_of command = None
 
 -- the command names no role but those that have these names
-abbrev pub NamesRolesOf : (names : List (List ℕ)) → Command → Type 0
+abbrev pub NamesRolesOf : (names : List (List ℕ)) → Change → Type 0
 NamesRolesOf names command = ForSome (peer_of command) (λ peer. peer < length names)

@@ -6,10 +6,10 @@ use Rattle.mps_command.specs.declared.answer.Violation.TheVariants.{Ended, Wrong
 use Rattle.mps_command.specs.declared.answer.Refusal.{Refusal}
 use Rattle.mps_command.specs.declared.answer.Refusal.TheVariants.{Violation as Violates, NoStep, NotYours, Needed, NoMark, Full, Memory}
 use Rattle.mps_command.specs.declared.answer.Answer.{Answer}
-use Rattle.mps_command.specs.declared.answer.Answer.TheVariants.{Done, Undone, Refused}
+use Rattle.mps_command.specs.declared.answer.Answer.TheVariants.{Done, Undone, News, Shown, Refused}
 use Rattle.mps_line.specs.declared.reply.Reply.{Reply}
 use Rattle.mps_line.specs.declared.reply.Reply.TheVariants.{Answered, BadLine}
-use Rattle.mps_line.specs.Tokens.{Token, Word, Called, Number, Worth, SpellsLine}
+use Rattle.mps_line.specs.Tokens.{Token, Word, Called, Number, Worth, Show, SpellsLine}
 
 -- the word for a refusal
 abbrev pub word_of : Refusal → List ℕ
@@ -46,10 +46,17 @@ refusal_tokens refusal = Word (word_of refusal) ∷ []
 abbrev pub undone_tokens : List ℕ → List Token
 undone_tokens ids = Word (codes "undone") ∷ map Number ids
 
--- `done NUMBER`, `done NUMBER MESSAGE`, `undone NUMBER NUMBER ..`, `refused WORD` or `refused needed NUMBER`
+-- the word, the length of the journal, and behind it the number of each step
+abbrev pub news_tokens : ℕ → List ℕ → List Token
+news_tokens n ids = Word (codes "news") ∷ Number n ∷ map Number ids
+
+-- `done NUMBER`, `done NUMBER MESSAGE`, `undone NUMBER NUMBER ..`, `news NUMBER NUMBER ..`, a shown session,
+-- `refused WORD` or `refused needed NUMBER`
 abbrev pub answer_tokens : Answer → List Token
 answer_tokens (Done done) = Word (codes "done") ∷ done_tokens done.id done.got
 answer_tokens (Undone ids) = undone_tokens ids
+answer_tokens (News n ids) = news_tokens n ids
+answer_tokens (Shown text) = Show text ∷ []
 answer_tokens (Refused refusal) = Word (codes "refused") ∷ refusal_tokens refusal
 
 -- those of the answer, or `refused line`

@@ -6,14 +6,16 @@ use Rattle.mps_base.specs.Numbers.{IsNumberText}
 use Rattle.mps_base.specs.Spaced.{spaced}
 use Rattle.mps_base.specs.Values.{SpellsValue}
 use Rattle.mps_base.specs.declared.value.Value.{Value}
+use Rattle.mps_command.specs.Shown.{IsShownText}
 
--- a token of a line: a fixed word, the name of the role at that place, another name, a number or a value
+-- a token of a line: a fixed word, the name of the role at that place, another name, a number, a value or a shown session
 pub data Token : Type 0 where
   Word : (letters : List ℕ) → Token
   RoleAt : (place : ℕ) → Token
   Called : (name : List ℕ) → Token
   Number : (n : ℕ) → Token
   Worth : (value : Value) → Token
+  Show : (text : List ℕ) → Token
 
 -- no byte is a space
 abbrev pub HasNoSpace : List ℕ → Type 0
@@ -34,6 +36,11 @@ pub record SpellsNumber (bytes : List ℕ) (n : ℕ) : Type 0 where
   pub small : n < 2 ^ 64
   pub number : IsNumberText bytes n
 
+-- these bytes are the text of a shown session
+pub record SpellsShow (bytes text : List ℕ) : Type 0 where
+  pub is : bytes ≡ text
+  pub allowed : IsShownText bytes
+
 -- the bytes spell the token; the roles have these names
 abbrev pub SpellsToken : (names : List (List ℕ)) → List ℕ → Token → Type 0
 SpellsToken names bytes (Word letters) = bytes ≡ letters
@@ -41,6 +48,7 @@ SpellsToken names bytes (RoleAt place) = SpellsRole names bytes place
 SpellsToken names bytes (Called name) = SpellsName bytes name
 SpellsToken names bytes (Number n) = SpellsNumber bytes n
 SpellsToken names bytes (Worth value) = SpellsValue bytes value
+SpellsToken names bytes (Show text) = SpellsShow bytes text
 
 -- each spells the token in its place, and there are as many of both
 abbrev pub SpellEach : (names : List (List ℕ)) → List (List ℕ) → List Token → Type 0

@@ -109,5 +109,14 @@ pub(crate) fn write_step(id: StepId, out: &mut Vec<u8>) -> Result<(), AllocError
         (Appends (λ text. SpellsNumber text id) out.old.items out.new.items) }
     ensures err { OnErr result (out.new.items ≡ out.old.items) }
 {
-    write_number(id.number(), out)
+    write_count(id.number(), out)
+}
+
+// Writes the number.
+pub(crate) fn write_count(n: u64, out: &mut Vec<u8>) -> Result<(), AllocError>
+    ensures ok { OnOk result
+        (Appends (λ text. SpellsNumber text n) out.old.items out.new.items) }
+    ensures err { OnErr result (out.new.items ≡ out.old.items) }
+{
+    write_number(n, out)
 }

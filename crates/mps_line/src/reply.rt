@@ -4,10 +4,10 @@ ghost use Rattle.std.specs.Io.{StartsWith};
 ghost use Rattle.mps_base.specs.Appends.{Appends};
 ghost use Rattle.mps_command.specs.declared.answer.Refusal.TheVariants.{Violation as Violates};
 ghost use Rattle.mps_line.specs.Tokens.{SpellsToken, SpellsLine};
-ghost use Rattle.mps_line.specs.Replies.{SpellsReply, message_token, done_tokens, undone_tokens, refusal_tokens, word_of};
+ghost use Rattle.mps_line.specs.Replies.{SpellsReply, message_token, done_tokens, undone_tokens, news_tokens, refusal_tokens, word_of};
 ghost use Rattle.mps_line.specs.declared.reply.Reply.TheVariants.{Answered, BadLine};
 
-use crate::parts::write_step;
+use crate::parts::{write_count, write_step};
 use mps_base::{Message, StepId};
 use mps_command::{Answer, Done, Refusal, Violation};
 use std::alloc::AllocError;
@@ -70,6 +70,8 @@ pub fn write_answer(answer: &Answer, out: &mut Vec<u8>) -> Result<(), AllocError
             write_done(done, out)
         }
         Answer::Undone(ids) => write_undone(ids.as_slice(), out),
+        Answer::News { length, ids } => write_news(*length, ids.as_slice(), out),
+        Answer::Shown(text) => out.extend_from_slice(text.as_bytes()),
         Answer::Refused(refusal) => {
             out.extend_from_slice(b"refused ")?;
             write_refusal(refusal, out)
@@ -116,6 +118,21 @@ fn write_undone(ids: &[StepId], out: &mut Vec<u8>) -> Result<(), AllocError>
     for id in ids {
         out.push(b' ')?;
         write_step(*id, out)?;
+    }
+    Ok(())
+}
+
+// Writes the word, the length of the journal and the numbers of the steps, or a part of them.
+fn write_news(length: u64, ids: &[StepId], out: &mut Vec<u8>) -> Result<(), AllocError>
+    ensures ok { OnOk result (Appends
+        (λ text. SpellsLine [] text (news_tokens length ids.now)) out.old.items out.new.items) }
+    ensures err { OnErr result (StartsWith out.new.items out.old.items) }
+{
+    out.extend_from_slice(b"news ")?;
+    write_count(length, out)?;
+    for step in ids {
+        out.push(b' ')?;
+        write_step(*step, out)?;
     }
     Ok(())
 }

@@ -3,8 +3,8 @@ ghost use Rattle.std.specs.Prelude.{◌≡◌, ◌≢◌, ℕ, List, [], ◌∷�
 ghost use Rattle.mps_base.specs.Spaced.{spaced};
 ghost use Rattle.mps_base.specs.declared.value.Value.{Value};
 ghost use Rattle.mps_base.specs.declared.value.Value.TheVariants as values;
-ghost use Rattle.mps_command.specs.declared.command.Command.{Command};
-ghost use Rattle.mps_command.specs.declared.command.Command.TheVariants as commands;
+ghost use Rattle.mps_command.specs.declared.command.Change.{Change};
+ghost use Rattle.mps_command.specs.declared.command.Change.TheVariants as commands;
 ghost use Rattle.mps_command.specs.declared.command.Forward.TheVariants as steps;
 ghost use Rattle.mps_line.specs.declared.script.Verb.{Verb};
 ghost use Rattle.mps_line.specs.Tokens.{RoleAt, Worth, SpellsLine};
@@ -12,7 +12,7 @@ ghost use Rattle.mps_line.specs.Commands.{verb_word, verb_of, arguments, SpellsC
 
 use crate::parts::{behind, read_role, read_role_and_name, read_step, split_role};
 use mps_base::{Name, Role, Roles, Value, ValueFault};
-use mps_command::{Command, Forward};
+use mps_command::{Change, Forward};
 use std::alloc::Global;
 use thiserror::Error;
 
@@ -43,9 +43,9 @@ pub fn read_script_line(
     alloc: Global,
     roles: &Roles,
     bytes: &[u8],
-) -> Result<(Role, Command), LineFault>
+) -> Result<(Role, Change), LineFault>
     ensures read { IfOk result (λ r. SpellsScriptLine roles.now bytes.now r.0 r.1) }
-    ensures bad { IsErrOf result LineFault.Bad → (role : ℕ) (command : Command)
+    ensures bad { IsErrOf result LineFault.Bad → (role : ℕ) (command : Change)
         → SpellsScriptLine roles.now bytes.now role command → ⊥ }
 
     // Only the sending of a text takes memory.
@@ -61,9 +61,9 @@ pub fn read_script_line(
 }
 
 /// Reads a command that takes all of the bytes.
-pub fn read_command(alloc: Global, roles: &Roles, bytes: &[u8]) -> Result<Command, LineFault>
+pub fn read_command(alloc: Global, roles: &Roles, bytes: &[u8]) -> Result<Change, LineFault>
     ensures read { IfOk result (SpellsCommand roles.now bytes.now) }
-    ensures bad { IsErrOf result LineFault.Bad → (command : Command)
+    ensures bad { IsErrOf result LineFault.Bad → (command : Change)
         → SpellsCommand roles.now bytes.now command → ⊥ }
 
     // Only the sending of a text takes memory.
@@ -112,10 +112,10 @@ fn read_arguments(
     roles: &Roles,
     verb: Verb,
     bytes: &[u8],
-) -> Result<Command, LineFault>
+) -> Result<Change, LineFault>
     ensures verb { IfOk result (λ command. verb_of command ≡ verb) }
     ensures read { IfOk result (λ command. SpellsLine roles.now bytes.now (arguments command)) }
-    ensures bad { IsErrOf result LineFault.Bad → (command : Command) → verb_of command ≡ verb
+    ensures bad { IsErrOf result LineFault.Bad → (command : Change) → verb_of command ≡ verb
         → SpellsLine roles.now bytes.now (arguments command) → ⊥ }
     ensures send { IsErrOf result LineFault.Memory → verb ≡ Verb.Send }
     ensures memory { IsErrOf result LineFault.Memory → (to : ℕ) × (text : List ℕ)
@@ -124,34 +124,34 @@ fn read_arguments(
     match verb {
         Verb::Send => {
             let (to, value) = read_role_and_value(alloc, roles, bytes)?;
-            Ok(Command::Forward(Forward::Send { to, value }))
+            Ok(Change::Forward(Forward::Send { to, value }))
         }
         Verb::Choose => match read_role_and_name(roles, bytes) {
-            Some((to, label)) => Ok(Command::Forward(Forward::Choose { to, label })),
+            Some((to, label)) => Ok(Change::Forward(Forward::Choose { to, label })),
             None => Err(LineFault::Bad),
         },
         Verb::Receive => match read_role_and_name(roles, bytes) {
-            Some((from, slot)) => Ok(Command::Forward(Forward::Receive { from, slot })),
+            Some((from, slot)) => Ok(Change::Forward(Forward::Receive { from, slot })),
             None => Err(LineFault::Bad),
         },
         Verb::Pick => match read_role(roles, bytes) {
-            Some(from) => Ok(Command::Forward(Forward::Pick { from })),
+            Some(from) => Ok(Change::Forward(Forward::Pick { from })),
             None => Err(LineFault::Bad),
         },
         Verb::Mark => match Name::read(bytes) {
-            Some(name) => Ok(Command::Forward(Forward::Mark { name })),
+            Some(name) => Ok(Change::Forward(Forward::Mark { name })),
             None => Err(LineFault::Bad),
         },
         Verb::Undo => match read_step(bytes) {
-            Some(id) => Ok(Command::Undo(id)),
+            Some(id) => Ok(Change::Undo(id)),
             None => Err(LineFault::Bad),
         },
         Verb::Rollback => match read_step(bytes) {
-            Some(id) => Ok(Command::Rollback(id)),
+            Some(id) => Ok(Change::Rollback(id)),
             None => Err(LineFault::Bad),
         },
         Verb::Back => match Name::read(bytes) {
-            Some(name) => Ok(Command::Back(name)),
+            Some(name) => Ok(Change::Back(name)),
             None => Err(LineFault::Bad),
         },
     }

@@ -4,7 +4,7 @@ ghost use Rattle.mps_line.specs.Commands.{NamesRolesOf};
 use super::*;
 use crate::laws::one_command;
 use mps_base::{Message, Name, Role, Roles, StepId, Value};
-use mps_command::{Answer, Command, Done, Forward, Refusal, StepIds, Violation};
+use mps_command::{Answer, Change, Done, Forward, Refusal, ShownText, StepIds, Violation};
 use std::alloc::Global;
 use std::test::Fail;
 
@@ -24,12 +24,12 @@ fn read(alloc: Global, line: &[u8]) -> Result<(usize, String), Fail> {
 }
 
 // The command in words.
-fn shown(alloc: Global, command: &Command) -> Result<String, Fail> {
+fn shown(alloc: Global, command: &Change) -> Result<String, Fail> {
     match command {
-        Command::Forward(step) => shown_step(alloc, step),
-        Command::Undo(id) => numbered(alloc, "undoes", *id),
-        Command::Rollback(id) => numbered(alloc, "takes back", *id),
-        Command::Back(name) => worded(alloc, "goes back to", None, name.as_bytes()),
+        Change::Forward(step) => shown_step(alloc, step),
+        Change::Undo(id) => numbered(alloc, "undoes", *id),
+        Change::Rollback(id) => numbered(alloc, "takes back", *id),
+        Change::Back(name) => worded(alloc, "goes back to", None, name.as_bytes()),
     }
 }
 
@@ -147,7 +147,7 @@ fn bad_lines(rt: HostRuntime) -> Result<(), Fail> {
 }
 
 // The command as it is written, and what that is read as.
-fn again(alloc: Global, roles: &Roles, command: &Command) -> Result<(Vec<u8>, Command), Fail>
+fn again(alloc: Global, roles: &Roles, command: &Change) -> Result<(Vec<u8>, Change), Fail>
     requires { NamesRolesOf roles.now command.now }
     ensures { IfOk result (λ r. r.1 ≡ command.now) }
 {
@@ -273,6 +273,15 @@ fn done(rt: HostRuntime) -> Result<(), Fail> {
     Ok(())
 }
 
+// The list of these numbers.
+fn listed(alloc: Global, numbers: &[u64]) -> Result<StepIds, Fail> {
+    let mut ids = Vec::new(alloc);
+    for number in numbers {
+        ids.push(StepId::new(*number))?;
+    }
+    Ok(StepIds::of(ids))
+}
+
 #[test]
 fn undone(rt: HostRuntime) -> Result<(), Fail> {
     let lists = [
@@ -282,11 +291,8 @@ fn undone(rt: HostRuntime) -> Result<(), Fail> {
         ([0, u64::MAX].as_slice(), "#undone 0 18446744073709551615"),
     ];
     for (numbers, text) in lists {
-        let mut ids = Vec::new(rt.alloc());
-        for number in numbers {
-            ids.push(StepId::new(*number))?;
-        }
-        let reply = Reply::Answered(Answer::Undone(StepIds::of(ids)));
+        let ids = listed(rt.alloc(), numbers)?;
+        let reply = Reply::Answered(Answer::Undone(ids));
         let out = written(rt.alloc(), &reply)?;
         assert_eq!(rt; out.as_slice(), text.as_bytes());
     }
@@ -295,6 +301,36 @@ fn undone(rt: HostRuntime) -> Result<(), Fail> {
         written(rt.alloc(), &one)?.as_slice(),
         b"#undone 7".as_slice()
     );
+    Ok(())
+}
+
+#[test]
+fn news(rt: HostRuntime) -> Result<(), Fail> {
+    let lists = [
+        (0, [].as_slice(), "#news 0"),
+        (5, [].as_slice(), "#news 5"),
+        (5, [4].as_slice(), "#news 5 4"),
+        (
+            100_000,
+            [3, 2, u64::MAX].as_slice(),
+            "#news 100000 3 2 18446744073709551615",
+        ),
+    ];
+    for (length, numbers, text) in lists {
+        let ids = listed(rt.alloc(), numbers)?;
+        let reply = Reply::Answered(Answer::News { length, ids });
+        let out = written(rt.alloc(), &reply)?;
+        assert_eq!(rt; out.as_slice(), text.as_bytes());
+    }
+    Ok(())
+}
+
+#[test]
+fn shown_sessions(rt: HostRuntime) -> Result<(), Fail> {
+    let text = Vec::from_slice(rt.alloc(), b"{\"history\":[]}")?;
+    let reply = Reply::Answered(Answer::Shown(ShownText::of(text)));
+    let out = written(rt.alloc(), &reply)?;
+    assert_eq!(rt; out.as_slice(), b"#{\"history\":[]}".as_slice());
     Ok(())
 }
 

@@ -8,3 +8,4 @@ pub mod Swapping
 pub mod Peers
 pub mod Unreceived
 pub mod TakingBack
+pub mod Faults

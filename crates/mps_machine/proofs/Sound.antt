@@ -17,8 +17,8 @@ use Rattle.mps_command.specs.declared.answer.Refusal.TheVariants.{Violation as V
 use Rattle.mps_machine.specs.View.{View, opening}
 use Rattle.mps_machine.specs.Violations.{violation}
 use Rattle.mps_command.specs.Acts.{act_of}
-use Rattle.mps_command.specs.declared.command.Command.{Command}
-use Rattle.mps_command.specs.declared.command.Command.TheVariants.{Forward, Undo, Rollback, Back}
+use Rattle.mps_command.specs.declared.command.Change.{Change}
+use Rattle.mps_command.specs.declared.command.Change.TheVariants.{Forward, Undo, Rollback, Back}
 use Rattle.mps_machine.specs.Machine.{State, initial, view_of, accepted, unless, full_fault, done_by, forward, owner_fault, undone, undo, rolled_back, rollback, since_mark, back_to, Request, serve, after, IsSound}
 use Rattle.mps_machine.proofs.Stepping.{replay-append, replay_from}
 use Rattle.mps_machine.proofs.Apart.{left_out}
@@ -116,7 +116,7 @@ back_sound types st None ok = ok
 back_sound types st (Some []) ok = ok
 back_sound types st (Some (s ∷ h)) ok = rolled_back_sound types st s.id ok
 
-pub serve_sound : (types : List LocalType) (st : State) (p : ℕ) (command : Command) → IsSound types st → IsSound types (serve types st p command).1
+pub serve_sound : (types : List LocalType) (st : State) (p : ℕ) (command : Change) → IsSound types st → IsSound types (serve types st p command).1
 serve_sound types st p (Forward step) ok = forward_sound types st p (act_of step) ok
 serve_sound types st p (Undo n) ok = undo_sound types st p n ok
 serve_sound types st p (Rollback n) ok = rollback_sound types st p n ok

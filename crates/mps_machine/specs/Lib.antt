@@ -4,3 +4,4 @@ pub mod Violations
 pub mod Machine
 pub mod Examples
 pub mod TakingBack
+pub mod Faults

@@ -12,8 +12,8 @@ use Rattle.mps_local.specs.Local.{LocalType}
 use Rattle.mps_history.specs.Steps.{numbers, step_of, steps_of, within, without, IsRising}
 use Rattle.mps_history.specs.Dependence.{consequences, dependents, least}
 use Rattle.mps_command.specs.Acts.{act_of}
-use Rattle.mps_command.specs.declared.command.Command.{Command}
-use Rattle.mps_command.specs.declared.command.Command.TheVariants.{Forward, Undo, Rollback, Back}
+use Rattle.mps_command.specs.declared.command.Change.{Change}
+use Rattle.mps_command.specs.declared.command.Change.TheVariants.{Forward, Undo, Rollback, Back}
 use Rattle.mps_command.specs.declared.answer.Refusal.{Refusal}
 use Rattle.mps_command.specs.declared.answer.Refusal.TheVariants.{Violation as Violates, NoStep, NotYours, Needed, NoMark, Full}
 use Rattle.mps_command.specs.declared.answer.Done.{Done}
@@ -122,7 +122,7 @@ removed (Ok ids) = Undone ids
 removed (Err refusal) = Refused refusal
 
 -- the answer to a command of role p, and the state after it
-abbrev pub serve : List LocalType → State → ℕ → Command → Answer × State
+abbrev pub serve : List LocalType → State → ℕ → Change → Answer × State
 serve types st p (Forward step) = let r = forward types st p (act_of step) in (stepped r.0, r.1)
 serve types st p (Undo n) = let r = undo st p n in (removed r.0, r.1)
 serve types st p (Rollback n) = let r = rollback st p n in (removed r.0, r.1)
@@ -130,7 +130,7 @@ serve types st p (Back name) = let r = back st p name in (removed r.0, r.1)
 
 -- a role and what it asks for
 abbrev pub Request : Type 0
-Request = ℕ × Command
+Request = ℕ × Change
 
 -- the answers to requests, in order
 abbrev pub answers : List LocalType → State → List Request → List Answer

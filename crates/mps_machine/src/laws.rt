@@ -3,7 +3,7 @@ ghost use Rattle.std.specs.Prelude.{◌≡◌, ◌≢◌, ◌↔◌, ℕ, ◌+�
 ghost use Rattle.std.specs.List.{filter};
 ghost use Rattle.mps_base.specs.declared.action.Act.{Act};
 ghost use Rattle.mps_base.specs.declared.action.Step.{Step};
-ghost use Rattle.mps_command.specs.declared.command.Command.{Command};
+ghost use Rattle.mps_command.specs.declared.command.Change.{Change};
 ghost use Rattle.mps_local.specs.Local.{LocalType};
 ghost use Rattle.mps_history.specs.Steps.{IsIn, IsRising, sends, receives, unreceived, within, without};
 ghost use Rattle.mps_history.specs.Dependence.{depends_on, is_matched, consequences, IsClosed};
@@ -68,7 +68,7 @@ pub fn a_receipt_follows_its_send()
 /// After any commands of any roles the numbers of the surviving steps rise below the next number, and these steps have
 /// a replay. Each command keeps this.
 pub fn every_state_is_sound()
-    ensures served { (types : List LocalType) (st : State) (p : ℕ) (command : Command)
+    ensures served { (types : List LocalType) (st : State) (p : ℕ) (command : Change)
         → IsSound types st → IsSound types (serve types st p command).1 }
     ensures always { (types : List LocalType) (requests : List Request)
         → IsSound types (after types initial requests) }

@@ -16,6 +16,7 @@ pub mod Undoing
 pub mod Rolling
 pub mod Behind
 pub mod Served
+pub mod Accepted
 pub mod Runs
 pub mod Pasts
 pub mod Compared

@@ -4,7 +4,7 @@ use Rattle.mps_command.specs.Acts.{act_of}
 use Rattle.mps_command.specs.declared.answer.Refusal.{Refusal}
 use Rattle.mps_command.specs.declared.answer.Refusal.TheVariants.{Violation as Violates}
 use Rattle.mps_command.specs.declared.answer.Violation.TheVariants.{Mismatch}
-use Rattle.mps_command.specs.declared.command.Command.TheVariants.{Forward as Commanded}
+use Rattle.mps_command.specs.declared.command.Change.TheVariants.{Forward as Commanded}
 use Rattle.mps_command.specs.declared.command.Forward.{Forward}
 use Rattle.mps_global.proofs.Sound.{sound_protocol}
 use Rattle.mps_local.specs.Local.{LocalType}

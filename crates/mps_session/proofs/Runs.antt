@@ -1,6 +1,6 @@
 -- Requests that were served, and one more.
 use Rattle.std.proofs.Common.{◌≡◌, List, [], ◌∷◌, ◌++◌, length, refl, sym, subst, arith}
-use Rattle.mps_command.specs.declared.command.Command.{Command}
+use Rattle.mps_command.specs.declared.command.Change.{Change}
 use Rattle.mps_command.specs.declared.answer.Answer.{Answer}
 use Rattle.mps_command.specs.declared.answer.Answer.TheVariants.{Refused}
 use Rattle.mps_command.specs.declared.answer.Refusal.TheVariants.{Memory}
@@ -22,6 +22,6 @@ as_many types (q ∷ requests) [] old new all = absurd all
 as_many types (q ∷ requests) (b ∷ answers) old new all = omega (arith, as_many types requests answers all.0 new all.2)
 
 -- where memory runs out the state stays sound as it is
-pub still_sound : (types : List LocalType) (command : Command) (a : Answer) (old new : State) (served : Answer × State) → IsSound types old → IsSound types served.1 → IsServed command a old new served → IsSound types new
+pub still_sound : (types : List LocalType) (command : Change) (a : Answer) (old new : State) (served : Answer × State) → IsSound types old → IsSound types served.1 → IsServed command a old new served → IsSound types new
 still_sound types command (Refused Memory) old new served before after is = subst (IsSound types) (sym is.2) before
 still_sound types command a old new served before after is = subst (IsSound types) (sym is.1) after

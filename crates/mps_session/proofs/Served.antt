@@ -1,10 +1,10 @@
 -- What a command is answered, from what its call answers.
 use Rattle.std.proofs.Common.{◌≡◌, List, [], ◌∷◌, Option, Some, None, Result, Ok, Err, refl, sym, ap, ◌∙◌, ℕ}
-use Rattle.std.specs.Prelude.{IsOk, OnOk, OnErr}
+use Rattle.std.specs.Prelude.{IsOk, OnErr}
 use Rattle.std.specs.Option.{option_map}
 use Rattle.mps_base.specs.declared.action.Act.{Act}
 use Rattle.mps_base.specs.declared.action.Step.{Step}
-use Rattle.mps_command.specs.declared.command.Command.{Command}
+use Rattle.mps_command.specs.declared.command.Change.{Change}
 use Rattle.mps_command.specs.declared.answer.Answer.{Answer}
 use Rattle.mps_command.specs.declared.answer.Answer.TheVariants.{Refused}
 use Rattle.mps_command.specs.declared.answer.Done.{Done}
@@ -13,7 +13,7 @@ use Rattle.mps_command.specs.declared.answer.Refusal.TheVariants.{Violation as V
 use Rattle.mps_history.specs.Dependence.{dependents, least}
 use Rattle.mps_history.specs.Steps.{step_of, steps_of}
 use Rattle.mps_local.specs.Local.{LocalType}
-use Rattle.mps_machine.specs.Machine.{State, unless, owner_fault, full_fault, view_of, done_by, accepted, undone, rolled_back, since_mark, back_to, forward, undo, rollback, back, stepped, removed}
+use Rattle.mps_machine.specs.Machine.{State, unless, owner_fault, full_fault, view_of, done_by, accepted, undone, rolled_back, since_mark, back_to, forward, undo, rollback, back}
 use Rattle.mps_machine.specs.Violations.{violation}
 use Rattle.mps_session.specs.Answers.{IsAnswer, IsAccepting, MayStarve, IsServed}
 
@@ -52,7 +52,7 @@ module _ {A : Type 0} (as_answer : Result A Refusal → Answer) (refuses : (e : 
   accepts_all (Ok a) h = accepts a
   accepts_all (Err e) h = absurd cc
 
-  module _ (command : Command) (may : MayStarve command) (old new : State) (served : Result A Refusal × State) (kept : Keeps old served) where
+  module _ (command : Change) (may : MayStarve command) (old new : State) (served : Result A Refusal × State) (kept : Keeps old served) where
     as_refused : (e : Refusal) → Err e ≡ served.0 → new ≡ old → (Refused e ≡ as_answer served.0) × (new ≡ served.1)
     as_refused e is same =
         let stays : served.1 ≡ old = rw (sym is) at kept in

@@ -71,7 +71,7 @@ module _ (types : List LocalType) (c : Configuration) (holds : Holds types c) (n
     machine_is = ap (λ (m : Machine). forward m.types m.state p act) is
 
     -- what the definition says of the act, where it is said of each type for which the role's node stands
-    found : (fault : Option Violation) → ((t : LocalType) → StandsAt c p t → fault_in c p act t ≡ fault) → violation v p act ≡ fault
+    pub found : (fault : Option Violation) → ((t : LocalType) → StandsAt c p t → fault_in c p act t ≡ fault) → violation v p act ≡ fault
     found fault each =
         ap (act_fault (unfolded (v.participant p).to_come) act) (sym (accepting.moves_the_same types c holds p act))
         ∙ each (v.participant p).to_come stands

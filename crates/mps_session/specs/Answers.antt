@@ -3,10 +3,10 @@ use Rattle.std.specs.Prelude.{◌≡◌, ℕ, ⊤, List, [], ◌∷◌, Option, 
 use Rattle.std.specs.Borrow.{Bor}
 use Rattle.mps_base.specs.declared.action.Act.{Act}
 use Rattle.mps_base.specs.declared.action.Step.{Step}
-use Rattle.mps_command.specs.declared.command.Command.{Command}
-use Rattle.mps_command.specs.declared.command.Command.TheVariants.{Undo}
+use Rattle.mps_command.specs.declared.command.Change.{Change}
+use Rattle.mps_command.specs.declared.command.Change.TheVariants.{Undo}
 use Rattle.mps_command.specs.declared.answer.Answer.{Answer}
-use Rattle.mps_command.specs.declared.answer.Answer.TheVariants.{Done, Undone, Refused}
+use Rattle.mps_command.specs.declared.answer.Answer.TheVariants.{Refused}
 use Rattle.mps_command.specs.declared.answer.Refusal.{Refusal}
 use Rattle.mps_command.specs.declared.answer.Refusal.TheVariants.{Memory}
 use Rattle.mps_machine.specs.Machine.{State}
@@ -23,20 +23,24 @@ undo_answer id (Err refusal) = Err refusal
 
 -- the answer refuses nothing
 abbrev pub IsAccepting : Answer → Type 0
-IsAccepting (Done done) = ⊤
-IsAccepting (Undone ids) = ⊤
 IsAccepting (Refused refusal) = ⊥
+IsAccepting answer = ⊤
 
 -- whether memory may be wanting for the command: never for an undo
-abbrev pub MayStarve : Command → Type 0
+abbrev pub MayStarve : Change → Type 0
 MayStarve (Undo id) = ⊥
 MayStarve command = ⊤
 
 -- the command's answer and the state after it are the machine's, but memory may run out where the machine accepts, and
 -- then nothing changes
-abbrev pub IsServed : Command → Answer → (old new : State) → Answer × State → Type 0
+abbrev pub IsServed : Change → Answer → (old new : State) → Answer × State → Type 0
 IsServed command (Refused Memory) old new served = MayStarve command × IsAccepting served.0 × (new ≡ old)
 IsServed command answer old new served = (answer ≡ served.0) × (new ≡ served.1)
+
+-- the change was accepted, and its answer is told twice; or memory ran out, and nothing changed
+abbrev pub IsAccepted : Result (Answer × Answer) Refusal → (old new : State) → Answer × State → Type 0
+IsAccepted (Ok told) old new served = (told.0 ≡ served.0) × (told.1 ≡ served.0) × (new ≡ served.1)
+IsAccepted (Err refusal) old new served = (refusal ≡ Memory) × (new ≡ old)
 
 -- the number of the first of the steps
 abbrev pub first_number : List Step → Option ℕ

@@ -1,6 +1,7 @@
 //! Sessions: what roles send and receive, each step remembered.
 #![tactic(auto)]
 
+mod accept;
 mod alike;
 mod configuration;
 mod cursor;
@@ -11,6 +12,7 @@ mod serve;
 mod serve_all;
 pub mod session;
 mod undo;
+mod would;
 
 pub use alike::same;
 pub use mps_command::{Done, Forward, Refusal, StepIds, Violation};

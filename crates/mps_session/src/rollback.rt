@@ -65,8 +65,8 @@ impl Configuration {
         }
     }
 
-    // Takes the marked steps out, the newest first, and adds their numbers to the others.
-    fn take_marked(&mut self, ids: &mut Vec<StepId>)
+    /// Takes the marked steps out, the newest first, and adds their numbers to the others.
+    pub(crate) fn take_marked(&mut self, ids: &mut Vec<StepId>)
         requires closed { AreMarksClosed (lists_of self.old).entries }
         requires members { AllByRecursion
             (λ e. e.step.role < length (lists_of self.old).cursors) (lists_of self.old).entries }

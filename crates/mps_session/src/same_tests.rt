@@ -4,7 +4,7 @@ use super::*;
 use crate::protocol_tests::{choice, int, names};
 use crate::tests::{A, Ask, B, C, command, name, role_of};
 use mps_base::{Sort, StepId};
-use mps_command::{Answer, Command};
+use mps_command::{Answer, Change};
 use mps_global::{Global, Protocol};
 use std::alloc;
 use std::test::Fail;
@@ -32,10 +32,10 @@ fn two_pairs(alloc: alloc::Global) -> Result<Protocol, Fail> {
 }
 
 // The role that takes the turn, and its command.
-fn asked(alloc: alloc::Global, turn: Turn) -> Result<(u8, Command), Fail> {
+fn asked(alloc: alloc::Global, turn: Turn) -> Result<(u8, Change), Fail> {
     Ok(match turn {
-        Does(place, ask) => (place, Command::Forward(command(alloc, ask)?)),
-        Undoes(place, number) => (place, Command::Undo(StepId::new(number))),
+        Does(place, ask) => (place, Change::Forward(command(alloc, ask)?)),
+        Undoes(place, number) => (place, Change::Undo(StepId::new(number))),
     })
 }
 
@@ -48,7 +48,9 @@ fn take(alloc: alloc::Global, session: &mut Session, turn: Turn) -> Result<(), F
     let role = role_of(session, place)?;
     match session.serve(role, command) {
         Answer::Done(_) | Answer::Undone(_) => Ok(()),
-        Answer::Refused(_) => Err("it is refused".into()),
+        Answer::News { .. } | Answer::Shown(_) | Answer::Refused(_) => {
+            Err("it is refused".into())
+        }
     }
 }
 

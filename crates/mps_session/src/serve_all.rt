@@ -9,12 +9,12 @@ ghost use Rattle.mps_session.specs.Seen.{view_of};
 
 use crate::session::Session;
 use mps_base::Role;
-use mps_command::{Answer, Command};
+use mps_command::{Answer, Change};
 use std::alloc::AllocError;
 
 impl Session {
     /// Answers commands, each of its role, in turn. Room for the answers is asked for before the first is served.
-    pub fn serve_all(&mut self, requests: Vec<(Role, Command)>) -> Result<Vec<Answer>, AllocError>
+    pub fn serve_all(&mut self, requests: Vec<(Role, Change)>) -> Result<Vec<Answer>, AllocError>
         requires { AllByRecursion (λ request. request.0 < length self.old.types) requests.items }
         // each is answered as the machine answers it, in the state that the one before it left
         ensures served { IfOk result (λ answers. AreServed self.old.types

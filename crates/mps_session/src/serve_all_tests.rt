@@ -7,7 +7,7 @@ use crate::tests::{
     A, A_TO_B_TO_C, Ask, B, C, Line, command, gone, name, play, role_of, told, types,
 };
 use mps_base::{Role, StepId};
-use mps_command::{Answer, Command};
+use mps_command::{Answer, Change};
 use std::alloc::Global;
 use std::test::Fail;
 
@@ -24,17 +24,17 @@ enum Wish {
 type Row = (u8, Wish, &'static str);
 
 // The command that is asked for.
-fn asked(alloc: Global, wish: Wish) -> Result<Command, Fail> {
+fn asked(alloc: Global, wish: Wish) -> Result<Change, Fail> {
     Ok(match wish {
-        Wish::Step(ask) => Command::Forward(command(alloc, ask)?),
-        Wish::Undo(number) => Command::Undo(StepId::new(number)),
-        Wish::Rollback(number) => Command::Rollback(StepId::new(number)),
-        Wish::Back(mark) => Command::Back(name(mark)?),
+        Wish::Step(ask) => Change::Forward(command(alloc, ask)?),
+        Wish::Undo(number) => Change::Undo(StepId::new(number)),
+        Wish::Rollback(number) => Change::Rollback(StepId::new(number)),
+        Wish::Back(mark) => Change::Back(name(mark)?),
     })
 }
 
 // The requests of the rows, in order.
-fn requests(alloc: Global, session: &Session, rows: &[Row]) -> Result<Vec<(Role, Command)>, Fail>
+fn requests(alloc: Global, session: &Session, rows: &[Row]) -> Result<Vec<(Role, Change)>, Fail>
     ensures { IfOk result (λ all. AllByRecursion (λ request. request.0 < length session.now.types) all.items) }
 {
     let mut all = Vec::new(alloc);
@@ -52,6 +52,7 @@ fn shown(alloc: Global, answer: Answer) -> Result<String, Fail> {
         Answer::Done(done) => told(alloc, Ok(done)),
         Answer::Undone(ids) => gone(alloc, Ok(ids)),
         Answer::Refused(refusal) => gone(alloc, Err(refusal)),
+        Answer::News { .. } | Answer::Shown(_) => Err("no answer of a session".into()),
     }
 }
 

@@ -6,9 +6,9 @@ use Rattle.std.specs.Str.{IsAscii}
 use Rattle.std.proofs.lemmas.Option.{slice_get_within}
 use Rattle.mps_base.specs.Values.{IsShown}
 use Rattle.mps_local.specs.Local.{LocalType}
-use Rattle.mps_command.specs.declared.command.Command.{Command}
+use Rattle.mps_command.specs.declared.command.Change.{Change}
 use Rattle.mps_command.specs.declared.answer.Answer.{Answer}
-use Rattle.mps_command.specs.declared.answer.Answer.TheVariants.{Done, Undone, Refused}
+use Rattle.mps_command.specs.declared.answer.Answer.TheVariants.{Done, Undone, News, Shown, Refused}
 use Rattle.mps_command.specs.declared.answer.Refusal.TheVariants.{Violation as Violates, NoStep, NotYours, Needed, NoMark, Full, Memory}
 use Rattle.mps_machine.specs.Machine.{State, serve}
 use Rattle.mps_session.specs.Answers.{IsServed}
@@ -22,7 +22,7 @@ use Rattle.mps_line.proofs.Shown.{shown_line}
 use Rattle.mps_wire.specs.Script.{IsReadable, RepliesTo, AnswersLine}
 
 -- the role of a line is one of the names
-pub role_within : (names : List (List ℕ)) (line : List ℕ) (role : ℕ) (command : Command) → SpellsScriptLine names line role command → role < length names
+pub role_within : (names : List (List ℕ)) (line : List ℕ) (role : ℕ) (command : Change) → SpellsScriptLine names line role command → role < length names
 role_within names line role command spelled = first spelled.spellings spelled.each
   where
     first : (spellings : List (List ℕ)) → SpellEach names spellings (RoleAt role ∷ command_tokens command) → role < length names
@@ -35,16 +35,18 @@ shown_ascii (c ∷ bytes) h zero = let high = h.0.high in omega arith
 shown_ascii (c ∷ bytes) h (suc i) = shown_ascii bytes h.1 i
 
 -- a line that spells a command has bytes below 128 alone
-pub spelled_ascii : (names : List (List ℕ)) (line : List ℕ) (role : ℕ) (command : Command) → SpellsScriptLine names line role command → IsAscii line
+pub spelled_ascii : (names : List (List ℕ)) (line : List ℕ) (role : ℕ) (command : Change) → SpellsScriptLine names line role command → IsAscii line
 spelled_ascii names line role command spelled = shown_ascii line (shown_line names line role command spelled)
 
-module _ (names : List (List ℕ)) (types : List LocalType) (line : List ℕ) (st after : State) (role : ℕ) (command : Command) (readable : IsReadable names line role command) where
+module _ (names : List (List ℕ)) (types : List LocalType) (line : List ℕ) (st after : State) (role : ℕ) (command : Change) (readable : IsReadable names line role command) where
   as_the_machine : (answer : Answer) → answer ≡ (serve types st role command).0 → after ≡ (serve types st role command).1 → RepliesTo names types line st (Answered answer) after
   as_the_machine answer same state = inr (inl (record { role = role; command = command; readable = readable; answer = ap Answered same; state = state }))
 
   pub replies : (answer : Answer) → IsServed command answer st after (serve types st role command) → RepliesTo names types line st (Answered answer) after
   replies (Done done) h = as_the_machine (Done done) h.0 h.1
   replies (Undone ids) h = as_the_machine (Undone ids) h.0 h.1
+  replies (News length ids) h = as_the_machine (News length ids) h.0 h.1
+  replies (Shown text) h = as_the_machine (Shown text) h.0 h.1
   replies (Refused Memory) h =
       inr (inr (record { role = role; command = command; readable = readable; cause = inl (h.0, h.1); answer = refl; unchanged = h.2 }))
   replies (Refused (Violates v)) h = as_the_machine (Refused (Violates v)) h.0 h.1

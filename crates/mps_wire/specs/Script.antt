@@ -3,8 +3,8 @@ use Rattle.std.specs.Prelude.{◌≡◌, ℕ, ◌≤◌, ◌⊎◌, List, length
 use Rattle.std.specs.Str.{IsAscii}
 use Rattle.mps_base.specs.declared.value.Value.TheVariants.{Text}
 use Rattle.mps_local.specs.Local.{LocalType}
-use Rattle.mps_command.specs.declared.command.Command.{Command}
-use Rattle.mps_command.specs.declared.command.Command.TheVariants.{Forward}
+use Rattle.mps_command.specs.declared.command.Change.{Change}
+use Rattle.mps_command.specs.declared.command.Change.TheVariants.{Forward}
 use Rattle.mps_command.specs.declared.command.Forward.TheVariants.{Send}
 use Rattle.mps_command.specs.declared.answer.Answer.TheVariants.{Refused}
 use Rattle.mps_command.specs.declared.answer.Refusal.TheVariants.{Memory}
@@ -20,7 +20,7 @@ use Rattle.mps_wire.specs.declared.script.Run.{Run}
 
 -- a line that isn't too long, of bytes below 128, that spells a role's command
 pub record IsReadable (names : List (List ℕ)) (line : List ℕ) (role : ℕ)
-    (command : Command) : Type 0 where
+    (command : Change) : Type 0 where
   pub short : length line ≤ max_line
   pub ascii : IsAscii line
   pub spelled : SpellsScriptLine names line role command
@@ -29,14 +29,14 @@ pub record IsReadable (names : List (List ℕ)) (line : List ℕ) (role : ℕ)
 module _ (names : List (List ℕ)) (types : List LocalType) (line : List ℕ) (st : State) where
   -- no command can be read: the line is called bad, and nothing changes
   pub record IsUnread (reply : Reply) (after : State) : Type 0 where
-    pub unreadable : (role : ℕ) (command : Command) → IsReadable names line role command → ⊥
+    pub unreadable : (role : ℕ) (command : Change) → IsReadable names line role command → ⊥
     pub bad : reply ≡ BadLine
     pub unchanged : after ≡ st
 
   -- the role's command is answered as the machine answers it, and does what it does
   pub record IsServed (reply : Reply) (after : State) : Type 0 where
     pub role : ℕ
-    pub command : Command
+    pub command : Change
     pub readable : IsReadable names line role command
     pub answer : reply ≡ Answered (serve types st role command).0
     pub state : after ≡ (serve types st role command).1
@@ -44,7 +44,7 @@ module _ (names : List (List ℕ)) (types : List LocalType) (line : List ℕ) (s
   -- memory ran out where the machine accepts the command, which is no undo, or its value is a text; nothing changes
   pub record IsStarved (reply : Reply) (after : State) : Type 0 where
     pub role : ℕ
-    pub command : Command
+    pub command : Change
     pub readable : IsReadable names line role command
     pub cause : (MayStarve command × IsAccepting (serve types st role command).0)
         ⊎ ((to : ℕ) × (value : List ℕ) × (command ≡ Forward (Send to (Text value))))

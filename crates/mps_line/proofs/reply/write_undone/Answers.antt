@@ -11,4 +11,4 @@ loop-id-init c =
 
 pub loop-id-preserved : goal.loop-id-preserved
 loop-id-preserved c =
-    number_written c.args.ids.now c.loop-id.id-index _ _ _ _ _ (omega arith) c.loop-id.invariant c.in_ok-push.ensures.items (rw c.id-item.is at c.in_ok-write_step.ensures.ok)
+    number_written (Word (codes "undone")) [] c.args.ids.now c.loop-id.id-index _ _ _ _ _ (omega arith) c.loop-id.invariant c.in_ok-push.ensures.items (rw c.id-item.is at c.in_ok-write_step.ensures.ok)

@@ -1,5 +1,5 @@
 use Rattle.mps_base.specs.declared.value.Value.TheVariants.{Text}
-use Rattle.mps_command.specs.declared.command.Command.TheVariants.{Forward}
+use Rattle.mps_command.specs.declared.command.Change.TheVariants.{Forward}
 use Rattle.mps_command.specs.declared.command.Forward.TheVariants.{Send}
 use Rattle.mps_line.proofs.Reading.{no_command, command_of, command_parts, command_read}
 use Rattle.mps_line.proofs.script.read_command.Goals as goal

@@ -2,7 +2,7 @@ use Rattle.std.proofs.Common.{inl, inr, refl, arith}
 use Rattle.mps_base.specs.declared.value.Value.TheVariants.{Text}
 use Rattle.mps_command.specs.declared.answer.Answer.TheVariants.{Refused}
 use Rattle.mps_command.specs.declared.answer.Refusal.TheVariants.{Memory}
-use Rattle.mps_command.specs.declared.command.Command.TheVariants.{Forward}
+use Rattle.mps_command.specs.declared.command.Change.TheVariants.{Forward}
 use Rattle.mps_command.specs.declared.command.Forward.TheVariants.{Send}
 use Rattle.mps_line.specs.declared.reply.Reply.TheVariants.{Answered, BadLine}
 use Rattle.mps_wire.proofs.Serving.{role_within, spelled_ascii, replies, answers_line}

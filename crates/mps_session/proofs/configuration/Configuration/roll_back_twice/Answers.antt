@@ -1,0 +1,84 @@
+use Rattle.std.proofs.Common.{◌≡◌, ◌++◌, ◌<◌, ℕ, Bool, List, length, map, sym, ap, ◌∙◌, subst, arith}
+use mathlib.Core.Path.{ap₂}
+use Rattle.std.specs.Prelude.{reverse}
+use Rattle.std.specs.List.{AllByRecursion}
+use Rattle.mps_base.specs.declared.action.Step.{Step}
+use Rattle.mps_history.specs.Dependence.{consequences}
+use Rattle.mps_history.specs.Steps.{numbers, within}
+use Rattle.mps_arena.specs.Entries.{Entry, steps}
+use Rattle.mps_links.specs.Marks.{marked_keys, marked_steps, unmarked_steps, unmarked}
+use Rattle.mps_links.proofs.Going.{unmarked_left, marked_count, marked_within}
+use Rattle.mps_log.proofs.Remarked.{all_again}
+use Rattle.mps_session.specs.Configurations.{Configuration, lists_of}
+use Rattle.mps_session.specs.Held.{Holds}
+use Rattle.std.proofs.lemmas.List.{length-reverse}
+use Rattle.mps_session.proofs.Types.{length_map}
+use Rattle.mps_session.proofs.Rolling as rolling
+use Rattle.mps_session.proofs.configuration.Configuration.roll_back_twice.Goals as goal
+use Rattle.mps_session.proofs.configuration.Configuration.roll_back_twice.Goals.{After-mark_from-count, After-take_marked, After-unmark}
+
+-- what is marked
+abbrev set : After-mark_from-count → ℕ → Bool
+set c = consequences (steps c.args.self.now.log.entries) c.args.id
+
+abbrev marks : After-mark_from-count → Entry → Bool
+marks c e = set c e.step.id
+
+pub take_marked-requires-clause-members : goal.take_marked-requires-clause-members
+take_marked-requires-clause-members c =
+    let k = (goal.at.take_marked-requires-clause-members c).After-mark_from-count in
+    let n = length c.args.self.now.cursors.items in
+    subst (AllByRecursion (λ (e : Entry). e.step.role < n)) (sym c.mark_from-count.ensures.marks) (all_again (marks k) (λ s. s.role < n) c.args.self.now.log.entries c.requires.members)
+
+pub take_marked-requires-clause-room : goal.take_marked-requires-clause-room
+take_marked-requires-clause-room c =
+    let k = (goal.at.take_marked-requires-clause-room c).After-mark_from-count in
+    let marked = ap (λ (l : List Entry). length (marked_keys l)) c.mark_from-count.ensures.marks ∙ marked_count c.args.self.now.log.entries (set k) in
+    omega (arith, marked, c.mark_from-count.ensures.count, c.in-Ok.ensures.none, c.in-Ok.ensures.first_room)
+
+-- the numbers that were told
+told : (c : After-take_marked) → c.take_marked.new.ids.items ≡ reverse (numbers (within (steps c.args.self.now.log.entries) (consequences (steps c.args.self.now.log.entries) c.args.id)))
+told c =
+    c.take_marked.ensures.numbers
+    ∙ ap₂ (λ (ids : List ℕ) (h : List Step). ids ++ reverse (numbers h)) c.in-Ok.ensures.first
+    (ap marked_steps c.mark_from-count.ensures.marks ∙ marked_within c.args.self.now.log.entries (consequences (steps c.args.self.now.log.entries) c.args.id))
+
+pub twice-requires-clause-space : goal.twice-requires-clause-space
+twice-requires-clause-space c =
+    let k = (goal.at.twice-requires-clause-space c).After-take_marked in
+    let gone = within (steps c.args.self.now.log.entries) (consequences (steps c.args.self.now.log.entries) c.args.id) in
+    let long = ap (λ (l : List ℕ). length l) (told k) ∙ length-reverse (numbers gone) ∙ length_map (λ (s : Step). s.id) gone in
+    omega (arith, long, c.take_marked.new.ids.ok.0, c.mark_from-count.ensures.count, c.in-Ok.ensures.room_again)
+
+pub returns-in-Ok-clause-numbers : goal.returns-in-Ok-clause-numbers
+returns-in-Ok-clause-numbers c = c.twice.ensures.first ∙ told ((goal.at.returns-in-Ok-clause-numbers c).After-take_marked)
+
+pub returns-in-Ok-clause-history : goal.returns-in-Ok-clause-history
+returns-in-Ok-clause-history c =
+    let k = (goal.at.returns-in-Ok-clause-history c).After-mark_from-count in
+    c.take_marked.ensures.history ∙ ap unmarked_steps c.mark_from-count.ensures.marks ∙ unmarked_left c.args.self.now.log.entries (set k)
+
+pub returns-in-Ok-clause-holds : goal.returns-in-Ok-clause-holds
+returns-in-Ok-clause-holds c types holds =
+    let k = (goal.at.returns-in-Ok-clause-holds c).After-mark_from-count in
+    c.take_marked.ensures.holds types
+    (rolling.again_holds_as types (lists_of c.args.self.now) (marks k) holds c.mark_from-count.new.self.entries c.mark_from-count.new.self.issued c.mark_from-count.ensures.marks c.mark_from-count.ensures.issued)
+
+-- where memory runs out all is as it was
+entries : (c : After-unmark) → c.unmark.new.self.entries ≡ c.args.self.now.log.entries
+entries c =
+    c.unmark.ensures.entries ∙ ap (map unmarked) c.mark_from-count.ensures.marks
+    ∙ rolling.unmarked_again c.args.self.now.log.entries (consequences (steps c.args.self.now.log.entries) c.args.id) c.requires.unmarked
+
+same : (c : After-unmark) → ◌≡◌ {A = Configuration} (record { cursors = c.args.self.now.cursors.items; entries = c.unmark.new.self.entries; issued = c.unmark.new.self.issued }) (lists_of c.args.self.now)
+same c =
+    ap₂ (λ (l : List Entry) (i : ℕ). let d : Configuration = record { cursors = c.args.self.now.cursors.items; entries = l; issued = i } in d) (entries c) (c.unmark.ensures.issued ∙ c.mark_from-count.ensures.issued)
+
+pub returns-in-Err-clause-unmarked : goal.returns-in-Err-clause-unmarked
+returns-in-Err-clause-unmarked c = ap marked_keys (entries ((goal.at.returns-in-Err-clause-unmarked c).After-unmark)) ∙ c.requires.unmarked
+
+pub returns-in-Err-clause-holds : goal.returns-in-Err-clause-holds
+returns-in-Err-clause-holds c types holds = subst (Holds types) (sym (same ((goal.at.returns-in-Err-clause-holds c).After-unmark))) holds
+
+pub returns-in-Err-clause-err : goal.returns-in-Err-clause-err
+returns-in-Err-clause-err c = same ((goal.at.returns-in-Err-clause-err c).After-unmark)

@@ -1,0 +1,77 @@
+//! Whether a command would be refused.
+ghost use Rattle.std.specs.Prelude.{◌≡◌, ◌<◌, length};
+ghost use Rattle.std.specs.Result.{result_err};
+ghost use Rattle.mps_command.specs.declared.command.Change.TheVariants as changes;
+ghost use Rattle.mps_machine.specs.Faults.{fault, refusal_in};
+ghost use Rattle.mps_machine.specs.Machine as machine;
+
+use crate::session::Session;
+use mps_base::{Name, Role, StepId};
+use mps_command::{Command, Forward, Refusal};
+use mps_links::least_dependent;
+
+impl Session {
+    /// Why the command of the role would be refused, before it is looked at whether there is room for what it brings.
+    /// How things stand may always be asked. It asks for no memory.
+    pub fn would(&self, role: Role, command: &Command) -> Result<(), Refusal>
+        requires { role < length self.now.types }
+        ensures { result_err result ≡ fault self.now.types self.now.state role command.now }
+    {
+        match command {
+            Command::Forward(step) => self.would_take(role, step),
+            Command::Undo(id) => self.would_undo(role, *id),
+            Command::Rollback(id) => self.would_roll_back(role, *id),
+            Command::Back(name) => self.would_go_back(role, name),
+            Command::News(_) | Command::Show => Ok(()),
+        }
+    }
+
+    // Why the step would be refused.
+    fn would_take(&self, role: Role, step: &Forward) -> Result<(), Refusal>
+        requires { role < length self.now.types }
+        ensures { result_err result ≡ refusal_in
+            (machine.serve self.now.types self.now.state role (changes.Forward step.now)).0 }
+    {
+        let kept = &self.configuration;
+        let first = kept.first_for(role, step);
+        match kept.verdict(role, step, first) {
+            Ok(_) => Ok(()),
+            Err(fault) => Err(Refusal::Violation(fault)),
+        }
+    }
+
+    // Why the undo of the step of that number would be refused.
+    fn would_undo(&self, role: Role, id: StepId) -> Result<(), Refusal>
+        requires { role < length self.now.types }
+        ensures { result_err result ≡ refusal_in
+            (machine.serve self.now.types self.now.state role (changes.Undo id)).0 }
+    {
+        self.configuration.own_step(role, id)?;
+        match least_dependent(self.configuration.log.steps(), id) {
+            Some(by) => Err(Refusal::Needed { by }),
+            None => Ok(()),
+        }
+    }
+
+    // Why the rollback of the step of that number would be refused.
+    fn would_roll_back(&self, role: Role, id: StepId) -> Result<(), Refusal>
+        requires { role < length self.now.types }
+        ensures { result_err result ≡ refusal_in
+            (machine.serve self.now.types self.now.state role (changes.Rollback id)).0 }
+    {
+        self.configuration.own_step(role, id)?;
+        Ok(())
+    }
+
+    // Why the return to the last mark of the name would be refused.
+    fn would_go_back(&self, role: Role, name: &Name) -> Result<(), Refusal>
+        requires { role < length self.now.types }
+        ensures { result_err result ≡ refusal_in
+            (machine.serve self.now.types self.now.state role (changes.Back name.now)).0 }
+    {
+        match self.configuration.first_behind(role, name) {
+            Some(_) => Ok(()),
+            None => Err(Refusal::NoMark),
+        }
+    }
+}
