@@ -20,3 +20,4 @@ pub mod Runs
 pub mod Pasts
 pub mod Compared
 pub mod Projected
+pub mod Known

@@ -1,6 +1,6 @@
 -- What a command is answered, from what its call answers.
 use Rattle.std.proofs.Common.{◌≡◌, List, [], ◌∷◌, Option, Some, None, Result, Ok, Err, refl, sym, ap, ◌∙◌, ℕ}
-use Rattle.std.specs.Prelude.{IsOk, OnOk, OnErr}
+use Rattle.std.specs.Prelude.{IsOk, OnErr}
 use Rattle.std.specs.Option.{option_map}
 use Rattle.mps_base.specs.declared.action.Act.{Act}
 use Rattle.mps_base.specs.declared.action.Step.{Step}
@@ -13,7 +13,7 @@ use Rattle.mps_command.specs.declared.answer.Refusal.TheVariants.{Violation as V
 use Rattle.mps_history.specs.Dependence.{dependents, least}
 use Rattle.mps_history.specs.Steps.{step_of, steps_of}
 use Rattle.mps_local.specs.Local.{LocalType}
-use Rattle.mps_machine.specs.Machine.{State, unless, owner_fault, full_fault, view_of, done_by, accepted, undone, rolled_back, since_mark, back_to, forward, undo, rollback, back, stepped, removed}
+use Rattle.mps_machine.specs.Machine.{State, unless, owner_fault, full_fault, view_of, done_by, accepted, undone, rolled_back, since_mark, back_to, forward, undo, rollback, back}
 use Rattle.mps_machine.specs.Violations.{violation}
 use Rattle.mps_session.specs.Answers.{IsAnswer, IsAccepting, MayStarve, IsServed}
 
