@@ -71,7 +71,7 @@ module _ (es : List Entry) (sound : AreSound es) (p q : ℕ) where
       has_entry (sends p q) es k (get_in c (g + n) k (ap (λ (o : Option ℕ). is_at o k) at ∙ eq-eqb k k refl))
 
   -- roles past the eighth have no chains
-  no_stranger : (p < 8 → q < 8 → ⊥) → (b : List Entry) → AllByRecursion (λ e. IsSmall e.step) b → keys_of (sends p q) b ≡ []
+  pub no_stranger : (p < 8 → q < 8 → ⊥) → (b : List Entry) → AllByRecursion (λ e. IsSmall e.step) b → keys_of (sends p q) b ≡ []
   no_stranger far [] small = refl
   no_stranger far (y ∷ b) small =
       ⊎_elim

@@ -1,6 +1,6 @@
 -- The messages that steps give, and the values that receipts took.
 use Rattle.std.specs.Prelude.{ℕ, List, Option, Some, None}
-use Rattle.std.specs.Option.{option_and_then}
+use Rattle.std.specs.Option.{option_and_then, option_map}
 use Rattle.mps_base.specs.declared.action.Act.{Act}
 use Rattle.mps_base.specs.declared.action.Act.TheVariants.{Out, In, Mark}
 use Rattle.mps_base.specs.declared.action.Message.{Message}
@@ -37,3 +37,7 @@ value_taken es k = option_and_then value_of (message_taken es k)
 -- what role p keeps in the slot: the value that the receipt took to which the slot is bound
 abbrev pub kept_in : List Entry → ℕ → List ℕ → Option Value
 kept_in es p slot = option_and_then (value_taken es) (value_in slot (bindings p es))
+
+-- a slot with the value that the receipt took to which it is bound
+abbrev pub kept_by : List Entry → List ℕ × ℕ → Option (List ℕ × Value)
+kept_by es binding = option_map (λ value. (binding.0, value)) (value_taken es binding.1)

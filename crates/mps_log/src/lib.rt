@@ -4,9 +4,11 @@
 mod log;
 mod marks;
 mod moves;
+mod queue;
 
 pub use log::Log;
 pub use moves::Moves;
+pub use queue::Queue;
 
 #[cfg(test)]
 mod tests;

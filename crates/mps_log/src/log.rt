@@ -1,5 +1,5 @@
 //! The log.
-ghost use Rattle.std.specs.Prelude.{◌≡◌, ◌<◌, ◌+◌, ◌^◌, ◌==◌, List, [], ◌∷◌, ◌++◌, not, Some, None, IfOk, OnOk, OnErr, IsSome, slice_get};
+ghost use Rattle.std.specs.Prelude.{◌≡◌, ◌<◌, ◌+◌, ◌^◌, ◌==◌, ℕ, List, [], ◌∷◌, ◌++◌, not, Some, None, IfOk, OnOk, OnErr, IsSome, length, slice_get};
 ghost use Rattle.std.specs.List.{filter};
 ghost use Rattle.std.specs.Option.{option_copied, option_map, option_and_then};
 ghost use Rattle.mps_base.specs.declared.action.Act.TheVariants.{Out, In, Mark};
@@ -7,12 +7,15 @@ ghost use Rattle.mps_history.specs.Steps.{without, unreceived};
 ghost use Rattle.mps_arena.specs.Entries.{Entry, steps, entry_at, AreSound};
 ghost use Rattle.mps_arena.specs.Sources.{waiting, CanGo};
 ghost use Rattle.mps_queues.specs.Fronts.{AreFronts};
-ghost use Rattle.mps_stores.specs.Stores.{slot_of, AreStores};
+ghost use Rattle.std.specs.Map.Iter.{deref_pair};
+ghost use Rattle.mps_base.specs.declared.value.Value.{Value};
+ghost use Rattle.mps_stores.specs.Stores.{slot_of, bindings, AreStores};
 ghost use Rattle.mps_log.specs.Joins.{HasJoined};
 ghost use Rattle.mps_log.specs.Shown.{shown};
-ghost use Rattle.mps_log.specs.Values.{message_of, kept_in};
+ghost use Rattle.mps_log.specs.Values.{message_of, value_taken, kept_in, kept_by};
 
 use crate::moves::Moves;
+use crate::queue::Queue;
 use mps_arena::{Arena, Before, Key};
 use mps_base::{Act, Message, Name, Role, Step, StepId, Value};
 use mps_queues::Queues;
@@ -96,6 +99,17 @@ pub(crate) fn message_at(arena: &Arena, key: Key) -> Option<&Message>
     }
 }
 
+// The value that the receipt of the key took; none where it took a label, or the key is no receipt's.
+fn value_at(arena: &Arena, receipt: Key) -> Option<&Value>
+    ensures { option_copied result ≡ value_taken arena.now.entries receipt }
+{
+    let source = arena.source(receipt)?;
+    match message_at(arena, source) {
+        Some(Message::Value(value)) => Some(value),
+        _ => None,
+    }
+}
+
 impl Log {
     /// A log without steps. The allocator is kept for later growth.
     pub fn new(alloc: Global) -> Result<Log, AllocError>
@@ -153,11 +167,38 @@ impl Log {
         ensures { option_copied result ≡ kept_in self.now.entries role slot.now }
     {
         let receipt = self.stores.get(role, slot)?;
-        let source = self.arena.source(receipt)?;
-        match message_at(&self.arena, source) {
-            Some(Message::Value(value)) => Some(value),
-            _ => None,
+        value_at(&self.arena, receipt)
+    }
+
+    /// How many slots of the role are bound.
+    pub fn slots(&self, role: Role) -> usize
+        requires { role < 8 }
+        ensures { result ≡ length (bindings role self.now.entries) }
+    {
+        self.stores.count(role)
+    }
+
+    /// The role's slot that was bound as the k-th, from 0, and the value that it keeps there.
+    pub fn binding(&self, role: Role, k: usize) -> Option<(&Name, &Value)>
+        requires { role < 8 }
+        ensures { option_map (deref_pair {K = List ℕ} {X = Value}) result
+            ≡ option_and_then (kept_by self.now.entries) (slice_get (bindings role self.now.entries) k) }
+    {
+        let bound = self.stores.nth(role, k)?;
+        let value = value_at(&self.arena, *bound.1)?;
+        Some((bound.0, value))
+    }
+
+    /// The messages that wait, in order, of those that one role sent to another. Any roles may be named.
+    pub fn waiting(&self, from: Role, to: Role) -> Queue<'_>
+        ensures { result ≡ unreceived from to (steps self.now.entries) }
+    {
+        let arena = &self.arena;
+        if from.index() >= 8 || to.index() >= 8 {
+            return Queue::of(arena, from, to, None);
         }
+        let first = self.queues.front(from, to);
+        Queue::of(arena, from, to, first)
     }
 
     /// Puts a send or a choice behind all other steps, with the next number. The role stood at the node `at`.

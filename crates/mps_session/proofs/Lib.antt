@@ -21,3 +21,4 @@ pub mod Runs
 pub mod Pasts
 pub mod Compared
 pub mod Projected
+pub mod Known

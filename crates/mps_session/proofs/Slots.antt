@@ -1,5 +1,5 @@
 -- What the slots of a role are bound to is what the view keeps.
-use Rattle.std.proofs.Common.{◌≡◌, ℕ, true, false, List, [], ◌∷◌, ◌++◌, Option, Some, None, refl, sym, ap, ◌∙◌, subst, ⊎_elim, append_assoc, append-nil}
+use Rattle.std.proofs.Common.{◌≡◌, ℕ, zero, suc, true, false, List, [], ◌∷◌, ◌++◌, length, Option, Some, None, refl, sym, ap, ◌∙◌, subst, ⊎_elim, append_assoc, append-nil}
 use Rattle.std.specs.Prelude.{⊤, slice_get}
 use Rattle.std.specs.Option.{option_and_then, option_map}
 use Rattle.std.specs.Str.{bytes_eq}
@@ -24,7 +24,7 @@ use Rattle.mps_arena.specs.Sources.{waiting}
 use Rattle.mps_arena.proofs.Mates.{sound_left, last_fresh}
 use Rattle.mps_stores.specs.Stores.{Keys, slot_of, bindings}
 use Rattle.mps_stores.proofs.Bindings.{bindings_push, after_receipt, after_other, after_idle}
-use Rattle.mps_log.specs.Values.{value_of, message_of, value_taken, kept_in}
+use Rattle.mps_log.specs.Values.{value_of, message_of, value_taken, kept_in, kept_by}
 use Rattle.mps_log.proofs.Waiting.{first_message}
 use Rattle.mps_log.proofs.Taking.{value_stays, taken_new}
 
@@ -53,6 +53,21 @@ value_both f (s ∷ store) (b ∷ keys) slot h =
     (λ (t : bytes_eq b.0 slot ≡ true). let u : bytes_eq s.0 slot ≡ true = ap (λ (x : List ℕ). bytes_eq x slot) h.0 ∙ t in rw (t, u) (sym h.1))
     (λ (n : bytes_eq b.0 slot ≡ false). let u : bytes_eq s.0 slot ≡ false = ap (λ (x : List ℕ). bytes_eq x slot) h.0 ∙ n in rw (n, u) (value_both f store keys slot h.2))
     (cases_Bool (bytes_eq b.0 slot))
+
+binding_both : (f : ℕ → Option Value) (store : Store) (keys : Keys) (k : ℕ) → AreBound f store keys → slice_get store k ≡ option_and_then (λ b. option_map (λ v. (b.0, v)) (f b.1)) (slice_get keys k)
+binding_both f [] [] k h = refl
+binding_both f [] (b ∷ keys) k h = absurd h
+binding_both f (s ∷ store) [] k h = absurd h
+binding_both f (s ∷ store) (b ∷ keys) zero h =
+    let pair : List ℕ → Value → List ℕ × Value = λ x v. (x, v) in
+    sym (ap (option_map (pair b.0)) h.1 ∙ ap (λ (x : List ℕ). Some (pair x s.1)) (sym h.0))
+binding_both f (s ∷ store) (b ∷ keys) (suc k) h = binding_both f store keys k h.2
+
+long_both : (f : ℕ → Option Value) (store : Store) (keys : Keys) → AreBound f store keys → length store ≡ length keys
+long_both f [] [] h = refl
+long_both f [] (b ∷ keys) h = absurd h
+long_both f (s ∷ store) [] h = absurd h
+long_both f (s ∷ store) (b ∷ keys) h = ap suc (long_both f store keys h.2)
 
 bound_stays : (f g : ℕ → Option Value) (store : Store) (keys : Keys) → ((k : ℕ) (v : Value) → f k ≡ Some v → g k ≡ Some v) → AreBound f store keys → AreBound g store keys
 bound_stays f g [] [] m h = tt
@@ -156,3 +171,13 @@ module _ (types : List LocalType) where
   pub slot_is : (es : List Entry) (v : View) (p : ℕ) (slot : List ℕ) → AreSound es → replay (opening types) (steps es) ≡ Some v → value_in slot (v.participant p).store ≡ kept_in es p slot
   slot_is es v p slot sound h =
       value_both (value_taken es) (v.participant p).store (bindings p es) slot (bind_from [] es (opening types) v sound refl h (λ q. tt) p)
+
+  -- so it is with the slots of each place
+  pub binding_is : (es : List Entry) (v : View) (p k : ℕ) → AreSound es → replay (opening types) (steps es) ≡ Some v → slice_get (v.participant p).store k ≡ option_and_then (kept_by es) (slice_get (bindings p es) k)
+  binding_is es v p k sound h =
+      binding_both (value_taken es) (v.participant p).store (bindings p es) k (bind_from [] es (opening types) v sound refl h (λ q. tt) p)
+
+  -- and with how many there are
+  pub slots_are : (es : List Entry) (v : View) (p : ℕ) → AreSound es → replay (opening types) (steps es) ≡ Some v → length (v.participant p).store ≡ length (bindings p es)
+  slots_are es v p sound h =
+      long_both (value_taken es) (v.participant p).store (bindings p es) (bind_from [] es (opening types) v sound refl h (λ q. tt) p)

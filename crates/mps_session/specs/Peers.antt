@@ -1,6 +1,10 @@
--- Which types a session can be opened with.
-use Rattle.std.specs.Prelude.{◌≡◌, ℕ, ◌<◌, List, length, Some, None}
+-- Which types a session can be opened with, and which roles its steps name.
+use Rattle.std.specs.Prelude.{◌≡◌, ℕ, ◌<◌, ⊤, List, length, Some, None}
 use Rattle.mps_base.specs.RoleLists.{HasRoleCount}
+use Rattle.mps_base.specs.declared.action.Act.{Act}
+use Rattle.mps_base.specs.declared.action.Act.TheVariants.{Out, In, Mark}
+use Rattle.mps_base.specs.declared.action.Step.{Step}
+use Rattle.mps_local.specs.Actions.{Head, Ends, Sends, Receives, Chooses, Picks}
 use Rattle.mps_local.specs.Local.{LocalType}
 use Rattle.mps_local.specs.LocalFaults.{local_fault_of}
 use Rattle.mps_local.specs.Shape.{AllPeers, IsOtherRole}
@@ -41,3 +45,21 @@ pub record CanOpen (types : List LocalType) : Type 0 where
   pub roles : HasRoleCount types
   pub peers : HavePeers types
   pub faultless : AreFaultless types
+
+-- the act's peer, if it has one, is one of n roles
+abbrev pub IsPeerKnown : ℕ → Act → Type 0
+IsPeerKnown n (Out to message) = to < n
+IsPeerKnown n (In from slot) = from < n
+IsPeerKnown n (Mark name) = ⊤
+
+-- the step is of one of n roles, and so is its peer
+abbrev pub IsKnown : ℕ → Step → Type 0
+IsKnown n s = (s.role < n) × IsPeerKnown n s.act
+
+-- the peer with whom a type begins is one of n roles
+abbrev pub IsHeadKnown : ℕ → Head → Type 0
+IsHeadKnown n Ends = ⊤
+IsHeadKnown n (Sends peer sort) = peer < n
+IsHeadKnown n (Receives peer sort) = peer < n
+IsHeadKnown n (Chooses peer labels) = peer < n
+IsHeadKnown n (Picks peer labels) = peer < n

@@ -1,5 +1,6 @@
 //! The session.
 ghost use Rattle.std.specs.Prelude.{◌≡◌, ◌≢◌, ◌↔◌, ◌+◌, ◌<◌, ◌≤◌, ℕ, length, map, IfOk, IsErrOf, OnOk, OnErr, Err, slice_get, [], ◌∷◌, Ok};
+ghost use Rattle.std.specs.List.{AllByRecursion};
 ghost use Rattle.std.specs.Option.{option_copied, option_map};
 ghost use Rattle.mps_base.specs.RoleLists.{HasRoleCount};
 ghost use Rattle.mps_command.specs.Acts.{act_of};
@@ -12,7 +13,7 @@ ghost use Rattle.mps_local.specs.declared.faults.LocalFault.{LocalFault};
 ghost use Rattle.mps_machine.specs.Machine as machine;
 ghost use Rattle.mps_history.specs.Slots.{value_in};
 ghost use Rattle.mps_session.specs.Answers.{IsAnswer, as_step};
-ghost use Rattle.mps_session.specs.Peers.{IsFirstBad, IsFirstFaulty, CanOpen};
+ghost use Rattle.mps_session.specs.Peers.{IsFirstBad, IsFirstFaulty, CanOpen, IsKnown, IsHeadKnown};
 ghost use Rattle.mps_session.specs.Seen.{view_of, moves_of};
 ghost use Rattle.mps_table.specs.Expects.{head_of};
 
@@ -123,7 +124,8 @@ impl Session {
     /// What the role may do first; labels in the order of the branches. A mark it may leave always.
     pub fn expect(&self, role: Role) -> Expect<'_>
         requires { role < length self.now.types }
-        ensures { head_of result ≡ head ((view_of self.now).participant role).to_come }
+        ensures head { head_of result ≡ head ((view_of self.now).participant role).to_come }
+        ensures known { IsHeadKnown (length self.now.types) (head_of result) }
     {
         // what an `Expect` may hold: the prover covers a function with one only where it names these
         let _held: Option<(Role, Sort, Name)> = None;
@@ -165,7 +167,8 @@ impl Session {
 
     /// The surviving steps in order, each with the message that it gave or took.
     pub fn moves(&self) -> Moves<'_>
-        ensures { result ≡ moves_of self.now }
+        ensures moves { result ≡ moves_of self.now }
+        ensures known { AllByRecursion (λ m. IsKnown (length self.now.types) m.0) result }
     {
         self.configuration.log.moves()
     }

@@ -1,7 +1,8 @@
 //! The store of one role.
-ghost use Rattle.std.specs.Prelude.{◌≡◌, ℕ, List, [], None, Some, IfOk, IfSome, OnOk, OnErr, slice_get};
+ghost use Rattle.std.specs.Prelude.{◌≡◌, ℕ, List, [], None, Some, IfOk, IfSome, OnOk, OnErr, length, slice_get};
 ghost use Rattle.indexmap.specs.IndexMap.{set_value_at};
 ghost use Rattle.std.specs.List.{position};
+ghost use Rattle.std.specs.Option.{option_map};
 ghost use Rattle.std.specs.Str.{bytes_eq};
 ghost use Rattle.std.specs.Map.{keys_of, values_of};
 ghost use Rattle.std.specs.Map.Iter.{ShowsInOrder, deref_pair};
@@ -55,6 +56,20 @@ impl Store {
         ensures runs { ShowsInOrder (deref_pair {K = List ℕ} {X = ℕ}) }
     {
         self.keys.iter()
+    }
+
+    /// How many slots are bound.
+    pub(crate) fn len(&self) -> usize
+        ensures { result ≡ length self.now }
+    {
+        self.keys.len()
+    }
+
+    /// The slot that was bound as the k-th, from 0, and its key.
+    pub(crate) fn nth(&self, k: usize) -> Option<(&Name, &Key)>
+        ensures { option_map (deref_pair {K = List ℕ} {X = ℕ}) result ≡ slice_get self.now k }
+    {
+        self.keys.get_index(k)
     }
 
     /// Binds the slot, and tells the key to which it was bound.

@@ -1,6 +1,7 @@
 //! The stores of all roles.
-ghost use Rattle.std.specs.Prelude.{◌≡◌, ℕ, ◌<◌, ◌==◌, not, List, [], ◌∷◌, ◌++◌, Some, None, IfOk, OnOk, OnErr, replicate, slice_set};
+ghost use Rattle.std.specs.Prelude.{◌≡◌, ℕ, ◌<◌, ◌==◌, not, List, [], ◌∷◌, ◌++◌, Some, None, IfOk, OnOk, OnErr, replicate, length, slice_get, slice_set};
 ghost use Rattle.std.specs.List.{filter};
+ghost use Rattle.std.specs.Option.{option_map};
 ghost use Rattle.std.specs.Map.Iter.{ShowsInOrder, deref_pair};
 ghost use Rattle.mps_history.specs.Slots.{bound, unbound, value_in};
 ghost use Rattle.mps_arena.specs.Keys.{last_key};
@@ -60,6 +61,23 @@ impl Stores {
         ensures runs { ShowsInOrder (deref_pair {K = List ℕ} {X = ℕ}) }
     {
         self.stores[role.index()].entries()
+    }
+
+    /// How many slots of the role are bound.
+    pub fn count(&self, role: Role) -> usize
+        requires { role < 8 }
+        ensures { result ≡ length (store_at self.now role) }
+    {
+        self.stores[role.index()].len()
+    }
+
+    /// The role's slot that was bound as the k-th, from 0, and its receipt.
+    pub fn nth(&self, role: Role, k: usize) -> Option<(&Name, &Key)>
+        requires { role < 8 }
+        ensures { option_map (deref_pair {K = List ℕ} {X = ℕ}) result
+            ≡ slice_get (store_at self.now role) k }
+    {
+        self.stores[role.index()].nth(k)
     }
 
     /// Binds the role's slot to a receipt, and tells to which one it was bound: what the receipt's

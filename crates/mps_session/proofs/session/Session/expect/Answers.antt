@@ -1,6 +1,8 @@
-use Rattle.std.proofs.Common.{◌≡◌, ℕ, arith, map, get_or, sym, ap, ◌∙◌, subst}
+use Rattle.std.proofs.Common.{◌≡◌, ℕ, ◌<◌, arith, length, map, get_or, sym, ap, ◌∙◌, subst}
 use Rattle.mps_local.specs.Actions.{Head, Ends, Sends, Receives, Chooses, Picks, Begins, first_action, head}
 use Rattle.mps_local.specs.Local.{LocalType, plain}
+use Rattle.mps_local.specs.Shape.{IsOtherRole}
+use Rattle.mps_machine.proofs.Peers.{unfolded_peers}
 use Rattle.mps_table.specs.Graph.{IsNode}
 use Rattle.mps_table.specs.Expects.{head_of}
 use Rattle.mps_arena.specs.Entries.{steps}
@@ -9,7 +11,9 @@ use Rattle.mps_session.specs.Configurations.{lists_of}
 use Rattle.mps_session.specs.Cursors.{IsFor}
 use Rattle.mps_session.specs.Seen.{Machine, view_of as seen}
 use Rattle.mps_session.specs.declared.cursor.Cursor.{Cursor}
+use Rattle.mps_session.specs.Peers.{IsHeadKnown}
 use Rattle.mps_session.proofs.Cursors.{cursor_at}
+use Rattle.mps_session.proofs.Known.{head_known}
 use Rattle.mps_session.proofs.Serving.{in_cursors, is_node, stands}
 use Rattle.mps_session.proofs.session.Session.expect.Goals as goal
 
@@ -32,8 +36,8 @@ expect-requires c =
     let here = cursor_at all c.args.role cursor (omega (arith, in_cursors types k c.self.invariant.holds c.args.self.now c.self.view_is c.args.role c.requires)) at in
     record { node = subst (λ (p : Cursor). IsNode p.table p.node) here (is_node types k c.self.invariant.holds c.args.self.now c.self.view_is c.args.role c.requires) }
 
-pub returns : goal.returns
-returns c =
+pub returns-clause-head : goal.returns-clause-head
+returns-clause-head c =
     let s = c.self.inside in
     let k = lists_of s.configuration in
     let types = map plain s.types.items in
@@ -43,3 +47,19 @@ returns c =
     let here = cursor_at all c.args.role cursor (in_cursors types k c.self.invariant.holds c.args.self.now c.self.view_is c.args.role c.requires) at in
     let begins = c.expect.ensures.begins _ (subst (λ (x : Cursor). IsFor x ((view_of types (steps k.entries)).participant c.args.role).to_come) here (stands types k c.self.invariant.holds c.args.self.now c.self.view_is c.args.role c.requires)) in
     begins_first (head_of c.expect.result) _ begins ∙ ap (λ (m : Machine). head ((seen m).participant c.args.role).to_come) c.self.view_is
+
+pub returns-clause-known : goal.returns-clause-known
+returns-clause-known c =
+    let s = c.self.inside in
+    let k = lists_of s.configuration in
+    let types = map plain s.types.items in
+    let all = s.configuration.cursors.items in
+    let cursor = c.index-cursor.result.now in
+    let at = c.index-cursor.ensures ∙ ap (λ (i : ℕ). get_or all i cursor) c.index.ensures.place in
+    let here = cursor_at all c.args.role cursor (in_cursors types k c.self.invariant.holds c.args.self.now c.self.view_is c.args.role c.requires) at in
+    let begins = c.expect.ensures.begins _ (subst (λ (x : Cursor). IsFor x ((view_of types (steps k.entries)).participant c.args.role).to_come) here (stands types k c.self.invariant.holds c.args.self.now c.self.view_is c.args.role c.requires)) in
+    let holds = c.self.invariant.holds in
+    let less : c.args.role < length types = omega (arith, holds.cursors.long, in_cursors types k holds c.args.self.now c.self.view_is c.args.role c.requires) in
+    let peers = unfolded_peers (IsOtherRole (length types) c.args.role) _ (holds.cursors.peers c.args.role less) in
+    subst (λ (m : Machine). IsHeadKnown (length m.types) (head_of c.expect.result)) c.self.view_is
+    (head_known (length types) c.args.role (head_of c.expect.result) _ begins peers)

@@ -1,7 +1,0 @@
-use Rattle.std.proofs.Common.{sym, ◌∙◌}
-use Rattle.mps_log.proofs.Waiting.{source_entry}
-use Rattle.mps_log.proofs.log.Log.value.Goals as goal
-
-pub message_at-requires : goal.message_at-requires
-message_at-requires c =
-    source_entry c.self.inside.arena.entries c.in_ok-receipt.receipt c.in_ok-source.source (sym c.source.ensures ∙ c.in_ok-source.was)

@@ -1,0 +1,17 @@
+use Rattle.std.proofs.Common.{map, sym, ap, ◌∙◌}
+use Rattle.std.specs.Prelude.{slice_get}
+use Rattle.mps_local.specs.Local.{plain}
+use Rattle.mps_session.specs.Configurations.{lists_of}
+use Rattle.mps_session.specs.Seen.{Machine, view_of}
+use Rattle.mps_session.proofs.Accepting.{replayed, v}
+use Rattle.mps_session.proofs.Slots.{binding_is}
+use Rattle.mps_session.proofs.session.Session.binding.Goals as goal
+
+pub returns : goal.returns
+returns c =
+    let s = c.self.inside in
+    let types = map plain s.types.items in
+    let kept = lists_of s.configuration in
+    c.binding.ensures
+    ∙ sym (binding_is types kept.entries (v types kept c.self.invariant.holds) c.args.role c.args.k c.self.invariant.holds.kept (replayed types kept c.self.invariant.holds))
+    ∙ ap (λ (m : Machine). slice_get ((view_of m).participant c.args.role).store c.args.k) c.self.view_is

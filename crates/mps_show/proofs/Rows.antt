@@ -1,0 +1,137 @@
+-- Arrays that are being written.
+use Rattle.std.proofs.Common.{◌≡◌, ℕ, suc, ◌+◌, ◌-◌, ◌<◌, Bool, true, false, List, [], ◌∷◌, ◌++◌, length, drop, drop-cons, add-one, map, Some, refl, sym, ap, ◌∙◌, arith, append_assoc, append-nil}
+use mathlib.Core.Path.{ap₂}
+use Rattle.std.specs.Prelude.{slice_get, OnOk, Result, Ok, Err}
+use Rattle.std.specs.List.{flat_map, range_with_len, AllByRecursion}
+use Rattle.std.proofs.lemmas.Option.{slice_get_within, get_or_from_slice_get}
+use Rattle.mps_base.specs.Spaced.{spaced}
+use Rattle.mps_base.specs.declared.action.Step.{Step}
+use Rattle.mps_local.specs.Local.{LocalType}
+use Rattle.mps_session.specs.Seen.{moved_from}
+use Rattle.serde_json.specs.Data.{Data}
+use Rattle.serde_json.specs.View.{items_of}
+use Rattle.serde_json.specs.Written.{comma_if, compact_text, items_text}
+use Rattle.mps_show.specs.Plain.{ArePlainItems}
+use Rattle.mps_show.specs.Shown.{row}
+use Rattle.mps_show.specs.Rows.{joined, behind, words_behind}
+
+-- the numbers from q on
+pub range_next : (q n : ℕ) → q < n → range_with_len q (n - q) ≡ q ∷ range_with_len (q + 1) (n - (q + 1))
+range_next q n h =
+    let e : n - q ≡ suc (n - (q + 1)) = omega arith in
+    ap (range_with_len q) e
+
+-- with the bracket an array is written
+pub closes : (later : Bool) (ds : List Data) → joined later ds ++ 93 ∷ [] ≡ items_text later (items_of ds)
+closes later [] = refl
+closes later (d ∷ ds) =
+    append_assoc (comma_if later) (compact_text d ++ joined true ds) (93 ∷ [])
+    ∙ ap (λ (l : List ℕ). comma_if later ++ l) (append_assoc (compact_text d) (joined true ds) (93 ∷ []) ∙ ap (λ (l : List ℕ). compact_text d ++ l) (closes true ds))
+
+pub joined-append : (later : Bool) (a b : List Data) → joined later (a ++ b) ≡ joined later a ++ joined (behind later a) b
+joined-append later [] b = refl
+joined-append later (d ∷ a) b =
+    ap (λ (l : List ℕ). comma_if later ++ (compact_text d ++ l)) (joined-append true a b ∙ ap (λ (x : Bool). joined true a ++ joined x b) (behind_true a))
+    ∙ ap (λ (l : List ℕ). comma_if later ++ l) (sym (append_assoc (compact_text d) (joined true a) (joined true b)))
+    ∙ sym (append_assoc (comma_if later) (compact_text d ++ joined true a) (joined true b))
+  where
+    behind_true : (ds : List Data) → behind true ds ≡ true
+    behind_true [] = refl
+    behind_true (x ∷ ds) = refl
+
+pub behind-append : (later : Bool) (a b : List Data) → behind later (a ++ b) ≡ behind (behind later a) b
+behind-append later [] b = refl
+behind-append later (d ∷ a) [] = refl
+behind-append later (d ∷ a) (x ∷ b) = refl
+
+-- in front of others
+pub items-append : (later : Bool) (a b : List Data) → items_text later (items_of (a ++ b)) ≡ joined later a ++ items_text (behind later a) (items_of b)
+items-append later a b =
+    sym (closes later (a ++ b)) ∙ ap (λ (l : List ℕ). l ++ 93 ∷ []) (joined-append later a b)
+    ∙ append_assoc (joined later a) (joined (behind later a) b) (93 ∷ [])
+    ∙ ap (λ (l : List ℕ). joined later a ++ l) (closes (behind later a) b)
+
+-- some more are written
+pub more_joined : (old new whole : List ℕ) (now next : Bool) (a rest : List Data) → new ≡ old ++ joined now a → next ≡ behind now a → old ++ joined now (a ++ rest) ≡ whole → new ++ joined next rest ≡ whole
+more_joined old new whole now next a rest e b h =
+    ap₂ (λ (l : List ℕ) (x : Bool). l ++ joined x rest) e b
+    ∙ append_assoc old (joined now a) (joined (behind now a) rest)
+    ∙ ap (λ (l : List ℕ). old ++ l) (sym (joined-append now a rest))
+    ∙ h
+
+pub more_items : (old new whole : List ℕ) (now next : Bool) (a rest : List Data) → new ≡ old ++ joined now a → next ≡ behind now a → old ++ items_text now (items_of (a ++ rest)) ≡ whole → new ++ items_text next (items_of rest) ≡ whole
+more_items old new whole now next a rest e b h =
+    ap₂ (λ (l : List ℕ) (x : Bool). l ++ items_text x (items_of rest)) e b
+    ∙ append_assoc old (joined now a) (items_text (behind now a) (items_of rest))
+    ∙ ap (λ (l : List ℕ). old ++ l) (sym (items-append now a rest))
+    ∙ h
+
+pub plain-append : (a b : List Data) → ArePlainItems (items_of a) → ArePlainItems (items_of b) → ArePlainItems (items_of (a ++ b))
+plain-append [] b ha hb = hb
+plain-append (d ∷ a) b ha hb = (ha.0, plain-append a b ha.1 hb)
+
+-- the rows of q, and those of the numbers behind it
+pub flat_next : (f : ℕ → List Data) (q n : ℕ) → q < n → flat_map f (range_with_len q (n - q)) ≡ f q ++ flat_map f (range_with_len (q + 1) (n - (q + 1)))
+flat_next f q n h = ap (flat_map f) (range_next q n h)
+
+pub map_next : (f : ℕ → Data) (q n : ℕ) → q < n → map f (range_with_len q (n - q)) ≡ f q ∷ map f (range_with_len (q + 1) (n - (q + 1)))
+map_next f q n h = ap (map f) (range_next q n h)
+
+-- what is left from a place on
+pub next_at : {A : Type 0} (xs : List A) (k : ℕ) (x : A) → slice_get xs k ≡ Some x → drop k xs ≡ x ∷ drop (k + 1) xs
+next_at xs k x at =
+    let within : k < length xs = slice_get_within xs k x at in
+    drop-cons xs k x within ∙ ap (λ y. y ∷ drop (suc k) xs) (get_or_from_slice_get xs k x x at) ∙ ap (λ (j : ℕ). x ∷ drop j xs) (sym (add-one k))
+
+-- a first word and those behind it
+pub spaced_words : (word : List ℕ) (words : List (List ℕ)) → spaced (word ∷ words) ≡ word ++ words_behind words
+spaced_words word [] = sym (append-nil word)
+spaced_words word (next ∷ words) = ap (λ (l : List ℕ). word ++ 32 ∷ l) (spaced_words next words)
+
+pub all-append : {A : Type 0} (P : A → Type 0) (a b : List A) → AllByRecursion P a → AllByRecursion P b → AllByRecursion P (a ++ b)
+all-append P [] b ha hb = hb
+all-append P (x ∷ a) b ha hb = (ha.0, all-append P a b ha.1 hb)
+
+pub on_ok : {T E P : Type 0} (r : Result T E) → P → OnOk r P
+on_ok (Ok x) p = p
+on_ok (Err e) p = tt
+
+-- a text in front of the rest
+pub then_more : (mid next new a rest : List ℕ) → next ≡ mid ++ a → new ≡ next ++ rest → new ≡ mid ++ (a ++ rest)
+then_more mid next new a rest e h = h ∙ ap (λ (l : List ℕ). l ++ rest) e ∙ append_assoc mid a rest
+
+-- a word and one behind it are written, and more words follow
+pub words_begin : (out word peer begun new bytes : List ℕ) (words : List (List ℕ)) → begun ≡ out ++ word → new ≡ begun ++ 32 ∷ bytes → bytes ≡ peer → new ++ words_behind words ≡ out ++ (word ++ 32 ∷ spaced (peer ∷ words))
+words_begin out word peer begun new bytes words a b e =
+    ap (λ (l : List ℕ). l ++ words_behind words) (b ∙ ap₂ (λ (l m : List ℕ). l ++ 32 ∷ m) a e)
+    ∙ append_assoc (out ++ word) (32 ∷ peer) (words_behind words)
+    ∙ append_assoc out word (32 ∷ (peer ++ words_behind words))
+    ∙ ap (λ (l : List ℕ). out ++ (word ++ 32 ∷ l)) (sym (spaced_words peer words))
+
+-- one word more is written
+pub word_more : (old new bytes word whole : List ℕ) (words rest : List (List ℕ)) → new ≡ old ++ 32 ∷ bytes → bytes ≡ word → words ≡ word ∷ rest → old ++ words_behind words ≡ whole → new ++ words_behind rest ≡ whole
+word_more old new bytes word whole words rest a e split h =
+    ap (λ (l : List ℕ). l ++ words_behind rest) (a ∙ ap (λ (l : List ℕ). old ++ 32 ∷ l) e)
+    ∙ append_assoc old (32 ∷ word) (words_behind rest)
+    ∙ ap (λ (l : List (List ℕ)). old ++ words_behind l) (sym split)
+    ∙ h
+
+-- one row more is written
+pub row_more : (old comma new whole : List ℕ) (later next : Bool) (d : Data) (rows rest : List Data) → comma ≡ old ++ comma_if later → new ≡ comma ++ compact_text d → next ≡ true → rows ≡ d ∷ rest → old ++ items_text later (items_of rows) ≡ whole → new ++ items_text next (items_of rest) ≡ whole
+row_more old comma new whole later next d rows rest a b t split h =
+    ap₂ (λ (l : List ℕ) (x : Bool). l ++ items_text x (items_of rest)) (b ∙ ap (λ (l : List ℕ). l ++ compact_text d) a) t
+    ∙ append_assoc (old ++ comma_if later) (compact_text d) (items_text true (items_of rest))
+    ∙ append_assoc old (comma_if later) (compact_text d ++ items_text true (items_of rest))
+    ∙ ap (λ (l : List Data). old ++ items_text later (items_of l)) (sym split)
+    ∙ h
+
+-- an array is begun
+pub begins_row : (old new : List ℕ) (left all : List Data) → new ≡ old ++ 91 ∷ [] → left ≡ all → new ++ items_text false (items_of left) ≡ old ++ compact_text (row all)
+begins_row old new left all e is =
+    ap₂ (λ (l : List ℕ) (ds : List Data). l ++ items_text false (items_of ds)) e is
+    ∙ append_assoc old (91 ∷ []) (items_text false (items_of all))
+
+-- the steps that moved these messages are the history
+pub steps_moved : (types : List LocalType) (done h : List Step) → map (λ m. m.0) (moved_from types done h) ≡ h
+steps_moved types done [] = refl
+steps_moved types done (s ∷ h) = ap (λ (l : List Step). s ∷ l) (steps_moved types (done ++ s ∷ []) h)

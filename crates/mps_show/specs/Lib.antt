@@ -1,0 +1,4 @@
+pub mod Shown
+pub mod Plain
+pub mod Rows
+pub mod Examples

@@ -1,0 +1,249 @@
+//! Parts of a shown state, written as text at once.
+ghost use Rattle.std.specs.Prelude.{◌≡◌, ◌<◌, ◌++◌, ◌∷◌, [], ℕ, List, Option, OnOk, length, codes, true};
+ghost use Rattle.std.specs.List.{AllByRecursion};
+ghost use Rattle.std.specs.Option.{option_copied};
+ghost use Rattle.mps_base.specs.Texts.{IsPlainByte};
+ghost use Rattle.mps_base.specs.declared.action.Message.TheVariants.{Label};
+ghost use Rattle.mps_session.specs.Peers.{IsPeerKnown, IsKnown};
+ghost use Rattle.mps_show.specs.Plain.{IsPlain, ArePlainItems};
+ghost use Rattle.mps_show.specs.Shown.{role_name, value_shown, moved_shown, waiting_shown, taken_shown, out_shown, in_shown, act_shown, step_shown, number_shown, binding_shown};
+ghost use Rattle.serde_json.specs.Data.{string, number};
+ghost use Rattle.serde_json.specs.Find.{of_integer};
+ghost use Rattle.serde_json.specs.View.{items_of};
+ghost use Rattle.serde_json.specs.Written.{comma_if, compact_text, items_text};
+
+use itoa::Buffer;
+use mps_base::{Act, Message, Name, Role, Roles, Step, StepId, Value};
+use std::alloc::AllocError;
+
+// Writes plain bytes between quotes.
+fn put_string(out: &mut Vec<u8>, bytes: &[u8]) -> Result<(), AllocError>
+    requires { AllByRecursion IsPlainByte bytes.now }
+    ensures text { OnOk result (out.new.items ≡ out.old.items ++ compact_text (string bytes.now)) }
+    ensures plain { OnOk result (IsPlain (string bytes.now)) }
+{
+    out.reserve(bytes.len() + 2)?;
+    out.push(b'"')?;
+    out.extend_from_slice(bytes)?;
+    Ok(out.push(b'"')?)
+}
+
+/// Writes a comma, where something stands before.
+pub(crate) fn put_comma(out: &mut Vec<u8>, later: bool) -> Result<(), AllocError>
+    ensures { OnOk result (out.new.items ≡ out.old.items ++ comma_if later) }
+{
+    if later {
+        out.push(b',')?;
+    }
+    Ok(())
+}
+
+// Writes a name.
+fn put_name(out: &mut Vec<u8>, name: &Name) -> Result<(), AllocError>
+    ensures text { OnOk result (out.new.items ≡ out.old.items ++ compact_text (string name.now)) }
+    ensures plain { OnOk result (IsPlain (string name.now)) }
+{
+    put_string(out, name.as_bytes())
+}
+
+/// Writes the name of a role.
+pub(crate) fn put_role(out: &mut Vec<u8>, names: &Roles, role: Role) -> Result<(), AllocError>
+    requires { role < length names.now }
+    ensures text { OnOk result (out.new.items ≡ out.old.items ++ compact_text (role_name names.now role)) }
+    ensures plain { OnOk result (IsPlain (role_name names.now role)) }
+{
+    put_name(out, &names.name(role))
+}
+
+/// Writes the number of a step.
+pub(crate) fn put_number(out: &mut Vec<u8>, id: StepId) -> Result<(), AllocError>
+    ensures { OnOk result (out.new.items ≡ out.old.items ++ compact_text (number_shown id)) }
+{
+    let mut digits = Buffer::new();
+    out.extend_from_slice(digits.format(id.number()).as_bytes())
+}
+
+// Writes an int.
+fn put_int(out: &mut Vec<u8>, n: i64) -> Result<(), AllocError>
+    ensures { OnOk result (out.new.items ≡ out.old.items ++ compact_text (number (of_integer n))) }
+{
+    let mut digits = Buffer::new();
+    out.extend_from_slice(digits.format(n).as_bytes())
+}
+
+// Writes a value.
+fn put_value(out: &mut Vec<u8>, value: &Value) -> Result<(), AllocError>
+    ensures text { OnOk result (out.new.items ≡ out.old.items ++ compact_text (value_shown value.now)) }
+    ensures plain { OnOk result (IsPlain (value_shown value.now)) }
+{
+    match value {
+        Value::Int(n) => put_int(out, *n),
+        Value::Bool(true) => out.extend_from_slice(b"true"),
+        Value::Bool(false) => out.extend_from_slice(b"false"),
+        Value::Text(text) => put_string(out, text.as_bytes()),
+    }
+}
+
+// Writes a message in a step.
+fn put_moved(out: &mut Vec<u8>, message: &Message) -> Result<(), AllocError>
+    ensures text { OnOk result (out.new.items ≡ out.old.items ++ compact_text (moved_shown message.now)) }
+    ensures plain { OnOk result (IsPlain (moved_shown message.now)) }
+{
+    match message {
+        Message::Value(value) => put_value(out, value),
+        Message::Label(label) => put_name(out, label),
+    }
+}
+
+/// Writes a message in a queue.
+pub(crate) fn put_waiting(out: &mut Vec<u8>, message: &Message) -> Result<(), AllocError>
+    ensures text { OnOk result (out.new.items ≡ out.old.items ++ compact_text (waiting_shown message.now)) }
+    ensures plain { OnOk result (IsPlain (waiting_shown message.now)) }
+{
+    match message {
+        Message::Value(value) => put_value(out, value),
+        Message::Label(label) => put_label(out, label),
+    }
+}
+
+// Writes a label in a queue.
+fn put_label(out: &mut Vec<u8>, label: &Name) -> Result<(), AllocError>
+    ensures text { OnOk result (out.new.items ≡ out.old.items ++ compact_text (waiting_shown (Label label.now))) }
+    ensures plain { OnOk result (IsPlain (waiting_shown (Label label.now))) }
+{
+    out.extend_from_slice(b"{\"label\":")?;
+    put_name(out, label)?;
+    Ok(out.push(b'}')?)
+}
+
+/// Writes a step, with the message that it gave or took.
+pub(crate) fn put_step(
+    out: &mut Vec<u8>,
+    names: &Roles,
+    step: &Step,
+    moved: Option<&Message>,
+) -> Result<(), AllocError>
+    requires { IsKnown (length names.now) step.now }
+    ensures text { OnOk result (out.new.items
+        ≡ out.old.items ++ compact_text (step_shown names.now (step.now, option_copied moved.entry))) }
+    ensures plain { OnOk result (IsPlain (step_shown names.now (step.now, option_copied moved.entry))) }
+{
+    out.push(b'[')?;
+    put_number(out, step.id)?;
+    out.push(b',')?;
+    put_role(out, names, step.role)?;
+    put_act(out, names, &step.act, moved)
+}
+
+// Writes what the act is and what it moved, behind a role, and the end of the step.
+fn put_act(
+    out: &mut Vec<u8>,
+    names: &Roles,
+    act: &Act,
+    moved: Option<&Message>,
+) -> Result<(), AllocError>
+    requires { IsPeerKnown (length names.now) act.now }
+    ensures text { OnOk result (out.new.items ≡ out.old.items
+        ++ items_text true (items_of (act_shown names.now act.now (option_copied moved.entry)))) }
+    ensures plain { OnOk result (ArePlainItems (items_of (act_shown names.now act.now (option_copied moved.entry)))) }
+{
+    match act {
+        Act::Out { to, message } => put_out(out, names, *to, message),
+        Act::In { from, slot } => put_in(out, names, *from, slot, moved),
+        Act::Mark(mark) => put_mark(out, mark),
+    }
+}
+
+// Writes a send or a choice, behind its role, and the end of the step.
+fn put_out(out: &mut Vec<u8>, names: &Roles, to: Role, message: &Message) -> Result<(), AllocError>
+    requires { to < length names.now }
+    ensures text { OnOk result (out.new.items
+        ≡ out.old.items ++ items_text true (items_of (out_shown names.now to message.now))) }
+    ensures plain { OnOk result (ArePlainItems (items_of (out_shown names.now to message.now))) }
+{
+    match message {
+        Message::Value(_) => put_word(out, b"send")?,
+        Message::Label(_) => put_word(out, b"choose")?,
+    }
+    put_role(out, names, to)?;
+    out.push(b',')?;
+    put_moved(out, message)?;
+    Ok(out.push(b']')?)
+}
+
+// Writes a receipt or a pick, behind its role, and the end of the step.
+fn put_in(
+    out: &mut Vec<u8>,
+    names: &Roles,
+    from: Role,
+    slot: &Option<Name>,
+    moved: Option<&Message>,
+) -> Result<(), AllocError>
+    requires { from < length names.now }
+    ensures text { OnOk result (out.new.items ≡ out.old.items
+        ++ items_text true (items_of (in_shown names.now from slot.now (option_copied moved.entry)))) }
+    ensures plain { OnOk result (ArePlainItems (items_of (in_shown names.now from slot.now (option_copied moved.entry)))) }
+{
+    match slot {
+        Some(slot) => {
+            put_word(out, b"recv")?;
+            put_role(out, names, from)?;
+            out.push(b',')?;
+            put_name(out, slot)?;
+        }
+        None => {
+            put_word(out, b"pick")?;
+            put_role(out, names, from)?;
+        }
+    }
+    put_taken(out, moved)
+}
+
+// Writes what was taken, and the end of the step.
+fn put_taken(out: &mut Vec<u8>, moved: Option<&Message>) -> Result<(), AllocError>
+    ensures text { OnOk result (out.new.items
+        ≡ out.old.items ++ items_text true (items_of (taken_shown (option_copied moved.entry)))) }
+    ensures plain { OnOk result (ArePlainItems (items_of (taken_shown (option_copied moved.entry)))) }
+{
+    if let Some(message) = moved {
+        out.push(b',')?;
+        put_moved(out, message)?;
+    }
+    Ok(out.push(b']')?)
+}
+
+// Writes a mark, behind its role, and the end of the step.
+fn put_mark(out: &mut Vec<u8>, mark: &Name) -> Result<(), AllocError>
+    ensures text { OnOk result (out.new.items
+        ≡ out.old.items ++ items_text true (items_of (string (codes "mark") ∷ string mark.now ∷ []))) }
+    ensures plain { OnOk result (ArePlainItems (items_of (string (codes "mark") ∷ string mark.now ∷ []))) }
+{
+    put_word(out, b"mark")?;
+    put_name(out, mark)?;
+    Ok(out.push(b']')?)
+}
+
+// Writes a word between commas.
+fn put_word(out: &mut Vec<u8>, word: &[u8]) -> Result<(), AllocError>
+    requires { AllByRecursion IsPlainByte word.now }
+    ensures text { OnOk result (out.new.items
+        ≡ out.old.items ++ 44 ∷ (compact_text (string word.now) ++ 44 ∷ [])) }
+    ensures plain { OnOk result (IsPlain (string word.now)) }
+{
+    out.push(b',')?;
+    put_string(out, word)?;
+    Ok(out.push(b',')?)
+}
+
+/// Writes a slot with its value.
+pub(crate) fn put_binding(out: &mut Vec<u8>, slot: &Name, value: &Value) -> Result<(), AllocError>
+    ensures text { OnOk result (out.new.items
+        ≡ out.old.items ++ compact_text (binding_shown (slot.now, value.now))) }
+    ensures plain { OnOk result (IsPlain (binding_shown (slot.now, value.now))) }
+{
+    out.push(b'[')?;
+    put_name(out, slot)?;
+    out.push(b',')?;
+    put_value(out, value)?;
+    Ok(out.push(b']')?)
+}
