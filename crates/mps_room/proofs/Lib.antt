@@ -1,0 +1,4 @@
+pub mod Growing
+pub mod Accepting
+pub mod Owning
+pub mod Refusing

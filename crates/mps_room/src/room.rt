@@ -1,0 +1,165 @@
+//! Rooms.
+ghost use Rattle.std.specs.Prelude.{◌≡◌, ◌<◌, ℕ, false, [], length, slice_get, IfOk};
+ghost use Rattle.std.specs.Option.{option_map};
+ghost use Rattle.mps_command.specs.declared.command.Command.TheVariants as commands;
+ghost use Rattle.mps_machine.specs.Machine.{initial};
+ghost use Rattle.mps_room.specs.Journal.{as_entry, grown, is_accepted, news, reply, run, IsLegal, IsReply};
+ghost use Rattle.mps_room.specs.Shown.{show_text};
+
+use crate::entry::Entry;
+use crate::news::news;
+use crate::shown::shown_text;
+use mps_base::{Role, Roles};
+use mps_command::{Answer, Change, Command, Refusal, ShownText, StepIds};
+use mps_session::Session;
+use std::alloc::{AllocError, Global};
+use std::marker::Model;
+
+/// How many entries a journal has at most.
+pub const MAX_ENTRIES: usize = 100_000;
+
+/// A session with the names of its roles, and a journal of what it accepted.
+#[derive(Drop)]
+pub struct Room {
+    pub(crate) names: Roles,
+    pub(crate) session: Session,
+    pub(crate) journal: Vec<Entry>,
+    // whose steps they are, in the order of their numbers
+    pub(crate) owners: Vec<Role>,
+    pub(crate) alloc: Global,
+}
+
+impl Model for Room {
+    ghost use Rattle.std.specs.Coded.{codes};
+    ghost use Rattle.mps_local.specs.Codes.{coded_local};
+    ghost use Rattle.mps_room.specs.Kept.{Record, IsRecorded};
+
+    ghost Value = { Record };
+
+    ghost coded = { Prim.hlevel (codes, coded_local) };
+
+    ghost view = { λ r. record { names = r.names; types = r.session.types; journal = r.journal.items } };
+
+    ghost invariant = { λ r. IsRecorded r.names r.session r.owners.items r.journal.items };
+}
+
+impl Room {
+    /// A room of a session in which nothing was done yet. It takes no memory.
+    pub fn open(alloc: Global, names: Roles, session: Session) -> Room
+        requires count { length names ≡ length session.types }
+        requires fresh { session.state ≡ initial }
+        ensures { result ≡ record { names = names; types = session.types; journal = [] } }
+    {
+        Room {
+            names,
+            session,
+            journal: Vec::new(alloc),
+            owners: Vec::new(alloc),
+            alloc,
+        }
+    }
+
+    /// The names of the roles.
+    pub fn names(&self) -> &Roles
+        ensures names { result.now ≡ self.now.names }
+        ensures count { length result.now ≡ length self.now.types }
+    {
+        &self.names
+    }
+
+    /// The session. It is as the commands of the journal leave it, each with the answer that it gets after those
+    /// before it.
+    pub fn session(&self) -> &Session
+        ensures types { result.now.types ≡ self.now.types }
+        ensures state { result.now.state ≡ run self.now.types self.now.journal }
+        ensures legal { IsLegal self.now.names self.now.types self.now.journal }
+    {
+        &self.session
+    }
+
+    /// How many entries the journal has.
+    pub fn entries(&self) -> u64
+        ensures { result ≡ length self.now.journal }
+    {
+        self.journal.len() as u64
+    }
+
+    /// The k-th entry, from 0.
+    pub fn entry(&self, k: u64) -> Option<(Role, &Command, &Answer)>
+        ensures { option_map as_entry result ≡ slice_get self.now.journal k }
+    {
+        let entry = self.journal.get(k as usize)?;
+        Some((entry.role, &entry.command, &entry.answer))
+    }
+
+    /// How many entries the journal has, and which of the role's steps the entries of others took back, after the
+    /// first few entries. It goes through the entries behind those.
+    pub fn news(&self, role: Role, known: u64) -> Result<(u64, StepIds), AllocError>
+        ensures length { IfOk result (λ told. told.0 ≡ length self.now.journal) }
+        ensures ids { IfOk result (λ told. told.1 ≡ news self.now.journal role known) }
+    {
+        let ids = news(
+            self.alloc,
+            self.journal.as_slice(),
+            self.owners.as_slice(),
+            role,
+            known,
+        )?;
+        Ok((self.journal.len() as u64, StepIds::of(ids)))
+    }
+
+    /// Answers the role's command. What is accepted joins the journal with its answer. All memory is asked for before
+    /// anything changes; a refusal changes nothing, and want of memory is none where the command is refused anyway.
+    pub fn apply(&mut self, role: Role, command: Command) -> Answer
+        requires { role < length self.old.types }
+        ensures answer { IsReply result
+            (reply self.old.names self.old.types self.old.journal role command) }
+        ensures journal { self.new.journal ≡ grown self.old.journal role command result }
+        ensures names { self.new.names ≡ self.old.names }
+        ensures types { self.new.types ≡ self.old.types }
+    {
+        if let Err(refusal) = self.session.would(role, &command) {
+            return Answer::Refused(refusal);
+        }
+        match command {
+            Command::Forward(step) => self.change(role, Change::Forward(step)),
+            Command::Undo(id) => self.change(role, Change::Undo(id)),
+            Command::Rollback(id) => self.change(role, Change::Rollback(id)),
+            Command::Back(name) => self.change(role, Change::Back(name)),
+            Command::News(known) => self.tell_news(role, known),
+            Command::Show => self.show(),
+        }
+    }
+
+    // Answers what others took back.
+    fn tell_news(&self, role: Role, known: u64) -> Answer
+        ensures answer { IsReply result
+            (reply self.now.names self.now.types self.now.journal role (commands.News known)) }
+        ensures asked { is_accepted result ≡ false }
+    {
+        match self.news(role, known) {
+            Ok((length, ids)) => Answer::News { length, ids },
+            Err(_) => Answer::Refused(Refusal::Memory),
+        }
+    }
+
+    // Answers how the session stands.
+    fn show(&self) -> Answer
+        ensures answer { (role : ℕ) → IsReply result
+            (reply self.now.names self.now.types self.now.journal role commands.Show) }
+        ensures asked { is_accepted result ≡ false }
+    {
+        match self.text() {
+            Ok(text) => Answer::Shown(text),
+            Err(_) => Answer::Refused(Refusal::Memory),
+        }
+    }
+
+    // The session as text.
+    fn text(&self) -> Result<ShownText, AllocError>
+        ensures { IfOk result (λ text. text ≡ show_text self.now.names self.now.types
+            (run self.now.types self.now.journal).history) }
+    {
+        shown_text(self.alloc, &self.names, &self.session)
+    }
+}
