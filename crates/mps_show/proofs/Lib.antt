@@ -1,3 +1,4 @@
 pub mod Rows
 pub mod Texts
 pub mod Plain
+pub mod Floats

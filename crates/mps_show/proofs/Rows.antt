@@ -1,15 +1,17 @@
 -- Arrays that are being written.
-use Rattle.std.proofs.Common.{◌≡◌, ℕ, suc, ◌+◌, ◌-◌, ◌<◌, Bool, true, false, List, [], ◌∷◌, ◌++◌, length, drop, drop-cons, add-one, map, Some, refl, sym, ap, ◌∙◌, arith, append_assoc, append-nil}
+use Rattle.std.proofs.Common.{◌≡◌, ℕ, suc, ◌+◌, ◌-◌, ◌<◌, Bool, true, false, List, [], ◌∷◌, ◌++◌, length, drop, drop-cons, add-one, map, Some, refl, sym, ap, ◌∙◌, arith, rules, append_assoc, append-nil, Vec, Global}
 use mathlib.Core.Path.{ap₂}
 use Rattle.std.specs.Prelude.{slice_get, OnOk, Result, Ok, Err}
 use Rattle.std.specs.List.{flat_map, range_with_len, AllByRecursion}
+use Rattle.std.proofs.lemmas.List.{map-append}
 use Rattle.std.proofs.lemmas.Option.{slice_get_within, get_or_from_slice_get}
 use Rattle.mps_base.specs.Spaced.{spaced}
 use Rattle.mps_base.specs.declared.action.Step.{Step}
 use Rattle.mps_local.specs.Local.{LocalType}
 use Rattle.mps_session.specs.Seen.{moved_from}
 use Rattle.serde_json.specs.Data.{Data}
-use Rattle.serde_json.specs.View.{items_of}
+use Rattle.serde_json.specs.View.{view, items_of}
+use Rattle.serde_json.specs.declared.value.Value.{Value, Array, the_lemmas}
 use Rattle.serde_json.specs.Written.{comma_if, compact_text, items_text}
 use Rattle.mps_show.specs.Plain.{ArePlainItems}
 use Rattle.mps_show.specs.Shown.{row}
@@ -130,6 +132,31 @@ pub begins_row : (old new : List ℕ) (left all : List Data) → new ≡ old ++ 
 begins_row old new left all e is =
     ap₂ (λ (l : List ℕ) (ds : List Data). l ++ items_text false (items_of ds)) e is
     ∙ append_assoc old (91 ∷ []) (items_text false (items_of all))
+
+-- an array shows its items
+pub view_array : (v : Vec Value Global) → view (Array v) ≡ row (map view v.items)
+view_array v = search (rules, the_lemmas)
+
+-- one more row is made
+pub one_more : (made new : List Value) (v : Value) (d : Data) (rows rest whole : List Data) → new ≡ made ++ v ∷ [] → view v ≡ d → rows ≡ d ∷ rest → map view made ++ rows ≡ whole → map view new ++ rest ≡ whole
+one_more made new v d rows rest whole a e split h =
+    ap (λ (l : List Value). map view l ++ rest) a
+    ∙ ap (λ (l : List Data). l ++ rest) (map-append view made (v ∷ []))
+    ∙ append_assoc (map view made) (view v ∷ []) rest
+    ∙ ap (λ (x : Data). map view made ++ x ∷ rest) e
+    ∙ ap (λ (l : List Data). map view made ++ l) (sym split)
+    ∙ h
+
+-- some more rows are made
+pub more_rows : (made new rows rest all whole : List Data) → new ≡ made ++ rows → all ≡ rows ++ rest → made ++ all ≡ whole → new ++ rest ≡ whole
+more_rows made new rows rest all whole a split h =
+    ap (λ (l : List Data). l ++ rest) a ∙ append_assoc made rows rest ∙ ap (λ (l : List Data). made ++ l) (sym split) ∙ h
+
+-- all rows are made
+pub all_made : (rows : Vec Value Global) (left whole : List Data) → left ≡ [] → map view rows.items ++ left ≡ whole → view (Array rows) ≡ row whole
+all_made rows left whole over h =
+    view_array rows
+    ∙ ap row (sym (append-nil (map view rows.items)) ∙ ap (λ (l : List Data). map view rows.items ++ l) (sym over) ∙ h)
 
 -- the steps that moved these messages are the history
 pub steps_moved : (types : List LocalType) (done h : List Step) → map (λ m. m.0) (moved_from types done h) ≡ h

@@ -1,8 +1,9 @@
 -- Names, words and texts stand in JSON as they are.
-use Rattle.std.proofs.Common.{◌≡◌, ℕ, List, [], ◌∷◌, ◌++◌, refl, arith, rules}
+use Rattle.std.proofs.Common.{◌≡◌, ℕ, zero, suc, List, [], ◌∷◌, ◌++◌, refl, arith, rules}
 use mathlib.Core.Path.{ap₂}
 use Rattle.std.specs.Prelude.{IsTrue, true}
 use Rattle.std.specs.List.{AllByRecursion}
+use Rattle.std.specs.Str.{IsAscii}
 use Rattle.std.proofs.lemmas.Bool.{ne_eqb, le-ltb}
 use Rattle.json.specs.Print.{escape, escape_byte}
 use Rattle.mps_base.specs.Names.{IsName, is_name_byte}
@@ -52,3 +53,9 @@ in_front word words h hs = all-append IsPlainByte word (32 ∷ words) h (space_i
 -- a word in front of plain ones that stand behind spaces
 pub one_behind : (word rest : List ℕ) → IsName word → AllByRecursion IsPlainByte rest → AllByRecursion IsPlainByte (32 ∷ (word ++ rest))
 one_behind word rest h hs = (space_is_plain, all-append IsPlainByte word rest (name_is_plain word h) hs)
+
+-- such bytes are below 128
+pub plain_is_ascii : (s : List ℕ) → AllByRecursion IsPlainByte s → IsAscii s
+plain_is_ascii [] h i = omega arith
+plain_is_ascii (c ∷ s) h zero = omega (arith, h.0.high)
+plain_is_ascii (c ∷ s) h (suc i) = plain_is_ascii s h.1 i

@@ -1,0 +1,193 @@
+//! Parts of a shown state, as JSON values.
+ghost use Rattle.std.specs.Prelude.{◌≡◌, ◌<◌, ◌++◌, ◌∷◌, [], List, Option, IfOk, OnOk, length, map, codes};
+ghost use Rattle.std.specs.Option.{option_copied};
+ghost use Rattle.std.specs.Str.{IsAscii};
+ghost use Rattle.mps_session.specs.Peers.{IsPeerKnown, IsKnown};
+ghost use Rattle.mps_show.specs.Shown.{role_name, value_shown, moved_shown, waiting_shown, taken_shown, out_shown, in_shown, act_shown, step_shown, binding_shown};
+ghost use Rattle.serde_json.specs.Data.{string};
+ghost use Rattle.serde_json.specs.View.{view};
+
+use mps_base::{Act, Message, Name, Role, Roles, Step, Value};
+use serde_json::{Value as Json, json};
+use std::alloc::{AllocError, Global};
+use std::str;
+
+// Bytes below 128 as a string.
+fn text(alloc: Global, bytes: &[u8]) -> Result<Json, AllocError>
+    requires { IsAscii bytes.now }
+    ensures { IfOk result (λ v. view v ≡ string bytes.now) }
+{
+    match str::from_utf8(bytes) {
+        Ok(text) => Json::try_from_str(alloc, text),
+        Err(_) => unreachable!(),
+    }
+}
+
+// A name.
+fn name(alloc: Global, name: &Name) -> Result<Json, AllocError>
+    ensures { IfOk result (λ v. view v ≡ string name.now) }
+{
+    text(alloc, name.as_bytes())
+}
+
+/// The name of a role.
+pub(crate) fn role(alloc: Global, names: &Roles, role: Role) -> Result<Json, AllocError>
+    requires { role < length names.now }
+    ensures { IfOk result (λ v. view v ≡ role_name names.now role) }
+{
+    name(alloc, &names.name(role))
+}
+
+// A value.
+fn value(alloc: Global, value: &Value) -> Result<Json, AllocError>
+    ensures { IfOk result (λ v. view v ≡ value_shown value.now) }
+{
+    match value {
+        Value::Int(n) => Ok(Json::from(*n)),
+        Value::Bool(b) => Ok(Json::Bool(*b)),
+        Value::Text(words) => text(alloc, words.as_bytes()),
+    }
+}
+
+// A message in a step.
+fn moved(alloc: Global, message: &Message) -> Result<Json, AllocError>
+    ensures { IfOk result (λ v. view v ≡ moved_shown message.now) }
+{
+    match message {
+        Message::Value(content) => value(alloc, content),
+        Message::Label(label) => name(alloc, label),
+    }
+}
+
+/// A message in a queue.
+pub(crate) fn waiting(alloc: Global, message: &Message) -> Result<Json, AllocError>
+    ensures { IfOk result (λ v. view v ≡ waiting_shown message.now) }
+{
+    match message {
+        Message::Value(content) => value(alloc, content),
+        Message::Label(label) => {
+            let label = name(alloc, label)?;
+            json!(in alloc; {"label": label})
+        }
+    }
+}
+
+/// A slot with its value.
+pub(crate) fn binding(alloc: Global, slot: &Name, kept: &Value) -> Result<Json, AllocError>
+    ensures { IfOk result (λ v. view v ≡ binding_shown (slot.now, kept.now)) }
+{
+    let mut parts = Vec::with_capacity(alloc, 2)?;
+    parts.push(name(alloc, slot)?)?;
+    parts.push(value(alloc, kept)?)?;
+    Ok(Json::Array(parts))
+}
+
+/// A step, with the message that it gave or took.
+pub(crate) fn step(
+    alloc: Global,
+    names: &Roles,
+    step: &Step,
+    moved: Option<&Message>,
+) -> Result<Json, AllocError>
+    requires { IsKnown (length names.now) step.now }
+    ensures { IfOk result (λ v. view v ≡ step_shown names.now (step.now, option_copied moved.entry)) }
+{
+    let mut parts = Vec::with_capacity(alloc, 6)?;
+    parts.push(Json::from(step.id.number()))?;
+    parts.push(role(alloc, names, step.role)?)?;
+    push_act(alloc, names, &step.act, moved, &mut parts)?;
+    Ok(Json::Array(parts))
+}
+
+// What the act is, and what it gave or took.
+fn push_act(
+    alloc: Global,
+    names: &Roles,
+    act: &Act,
+    moved: Option<&Message>,
+    parts: &mut Vec<Json>,
+) -> Result<(), AllocError>
+    requires { IsPeerKnown (length names.now) act.now }
+    ensures { OnOk result (map view parts.new.items
+        ≡ map view parts.old.items ++ act_shown names.now act.now (option_copied moved.entry)) }
+{
+    match act {
+        Act::Out { to, message } => push_out(alloc, names, *to, message, parts),
+        Act::In { from, slot } => push_in(alloc, names, *from, slot, moved, parts),
+        Act::Mark(mark) => push_mark(alloc, mark, parts),
+    }
+}
+
+// A send or a choice.
+fn push_out(
+    alloc: Global,
+    names: &Roles,
+    to: Role,
+    message: &Message,
+    parts: &mut Vec<Json>,
+) -> Result<(), AllocError>
+    requires { to < length names.now }
+    ensures { OnOk result (map view parts.new.items
+        ≡ map view parts.old.items ++ out_shown names.now to message.now) }
+{
+    let word = match message {
+        Message::Value(_) => "send",
+        Message::Label(_) => "choose",
+    };
+    parts.push(Json::try_from_str(alloc, word)?)?;
+    parts.push(role(alloc, names, to)?)?;
+    parts.push(moved(alloc, message)?)?;
+    Ok(())
+}
+
+// A receipt or a pick.
+fn push_in(
+    alloc: Global,
+    names: &Roles,
+    from: Role,
+    slot: &Option<Name>,
+    moved: Option<&Message>,
+    parts: &mut Vec<Json>,
+) -> Result<(), AllocError>
+    requires { from < length names.now }
+    ensures { OnOk result (map view parts.new.items
+        ≡ map view parts.old.items ++ in_shown names.now from slot.now (option_copied moved.entry)) }
+{
+    match slot {
+        Some(slot) => {
+            parts.push(Json::try_from_str(alloc, "recv")?)?;
+            parts.push(role(alloc, names, from)?)?;
+            parts.push(name(alloc, slot)?)?;
+        }
+        None => {
+            parts.push(Json::try_from_str(alloc, "pick")?)?;
+            parts.push(role(alloc, names, from)?)?;
+        }
+    }
+    push_taken(alloc, moved, parts)
+}
+
+// What was taken.
+fn push_taken(
+    alloc: Global,
+    taken: Option<&Message>,
+    parts: &mut Vec<Json>,
+) -> Result<(), AllocError>
+    ensures { OnOk result (map view parts.new.items
+        ≡ map view parts.old.items ++ taken_shown (option_copied taken.entry)) }
+{
+    if let Some(message) = taken {
+        parts.push(moved(alloc, message)?)?;
+    }
+    Ok(())
+}
+
+// A mark.
+fn push_mark(alloc: Global, mark: &Name, parts: &mut Vec<Json>) -> Result<(), AllocError>
+    ensures { OnOk result (map view parts.new.items
+        ≡ map view parts.old.items ++ string (codes "mark") ∷ string mark.now ∷ []) }
+{
+    parts.push(Json::try_from_str(alloc, "mark")?)?;
+    parts.push(name(alloc, mark)?)?;
+    Ok(())
+}
