@@ -12,7 +12,7 @@ use Rattle.mps_command.specs.declared.answer.Answer.{Answer}
 use Rattle.mps_command.specs.declared.answer.Answer.TheVariants.{Done, Undone, News, Shown, Refused}
 use Rattle.mps_command.specs.declared.answer.Refusal.TheVariants.{Full, Memory}
 use Rattle.mps_machine.specs.Machine.{State, initial, serve}
-use Rattle.mps_room.specs.Shown.{show_text}
+use Rattle.mps_show.specs.Shown.{show_text}
 use Rattle.mps_room.specs.declared.entry.Entry.{Entry}
 
 -- how many entries a journal has at most

@@ -4,7 +4,7 @@ ghost use Rattle.std.specs.Option.{option_map};
 ghost use Rattle.mps_command.specs.declared.command.Command.TheVariants as commands;
 ghost use Rattle.mps_machine.specs.Machine.{initial};
 ghost use Rattle.mps_room.specs.Journal.{as_entry, grown, is_accepted, news, reply, run, IsLegal, IsReply};
-ghost use Rattle.mps_room.specs.Shown.{show_text};
+ghost use Rattle.mps_show.specs.Shown.{show_text};
 
 use crate::entry::Entry;
 use crate::news::news;

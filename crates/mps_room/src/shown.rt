@@ -1,10 +1,11 @@
 //! The session as text.
 ghost use Rattle.std.specs.Prelude.{◌≡◌, IfOk, length};
-ghost use Rattle.mps_room.specs.Shown.{show_text};
+ghost use Rattle.mps_show.specs.Shown.{show_text};
 
 use mps_base::Roles;
 use mps_command::ShownText;
 use mps_session::Session;
+use mps_show::{a_shown_text_is_one_line, write_show};
 use std::alloc::{AllocError, Global};
 
 /// The text that shows the session.
@@ -17,8 +18,8 @@ pub(crate) fn shown_text(
     ensures { IfOk result (λ text. text
         ≡ show_text names.now session.now.types session.now.state.history) }
 {
-    let _names = names;
-    let _session = session;
-    let bytes = Vec::from_slice(alloc, b"{}")?;
+    let mut bytes = Vec::new(alloc);
+    write_show(names, session, &mut bytes)?;
+    a_shown_text_is_one_line();
     Ok(ShownText::of(bytes))
 }

@@ -297,9 +297,17 @@ const UNDONE: &[Row] = &[
     (B, Ask::News(0), "news 4"),
 ];
 
+const SENT: &str =
+    r#"{"history":[[1,"a","send","b",5]],"queues":[["a","b",[5]]],"roles":[{"expects":"pick c ok no","past":[1],"role":"a","store":[]},{"expects":"recv a int","past":[],"role":"b","store":[]},{"expects":"recv b int","past":[],"role":"c","store":[]}]}"#;
+
+const RECEIVED: &str =
+    r#"{"history":[[1,"a","send","b",5],[2,"b","recv","a","x",5]],"queues":[],"roles":[{"expects":"pick c ok no","past":[1],"role":"a","store":[]},{"expects":"send c int","past":[2],"role":"b","store":[["x",5]]},{"expects":"recv b int","past":[],"role":"c","store":[]}]}"#;
+
 const TOLD: &[Row] = &[
     (A, Ask::Send(B, "5"), "done 1"),
+    (A, Ask::Show, SENT),
     (B, Ask::Receive(A, "x"), "done 2 5"),
+    (C, Ask::Show, RECEIVED),
     (B, Ask::Send(C, "7"), "done 3"),
     (C, Ask::Receive(B, "y"), "done 4 7"),
     (C, Ask::Choose(A, "maybe"), "NoLabel"),
@@ -370,6 +378,9 @@ fn mark_and_undo(room: &mut Room, place: u8, times: u64) -> Result<(), Fail> {
     Ok(())
 }
 
+const MARKS_SHOWN: &str =
+    r#"{"history":[[50000,"a","mark","m"],[50001,"a","mark","m"]],"queues":[],"roles":[{"expects":"send b int","past":[50000,50001],"role":"a","store":[]},{"expects":"recv a int","past":[],"role":"b","store":[]},{"expects":"send d int","past":[],"role":"c","store":[]},{"expects":"recv c int","past":[],"role":"d","store":[]}]}"#;
+
 const FULL: &[Row] = &[
     (A, Ask::Mark("m"), "done 50000"),
     (A, Ask::Mark("m"), "done 50001"),
@@ -382,7 +393,7 @@ const FULL: &[Row] = &[
     (A, Ask::Undo(1), "NoStep"),
     (B, Ask::Receive(A, "x"), "NothingQueued"),
     (A, Ask::News(0), "news 100000"),
-    (A, Ask::Show, "{}"),
+    (A, Ask::Show, MARKS_SHOWN),
 ];
 
 #[test]
