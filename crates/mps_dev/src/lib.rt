@@ -6,7 +6,7 @@ mod memory;
 mod standard;
 mod traits;
 
-pub use memory::{Pieces, Short};
+pub use memory::{Discard, Pieces, Short};
 pub use standard::{OverRead, OverWrite};
 pub use traits::{Failed, Sink, Source};
 

@@ -1,4 +1,4 @@
-ghost use Rattle.std.specs.Prelude.{◌≡◌, ◌+◌, ◌^◌, ◌<◌, ◌↔◌, min, [], ◌++◌, length, take, drop, map, vec_items, IfOk, OnErr, IsErr, Some};
+ghost use Rattle.std.specs.Prelude.{◌≡◌, ◌+◌, ◌^◌, ◌<◌, ◌↔◌, min, [], ◌++◌, length, take, drop, map, vec_items, IfOk, OnErr, IsErr, Some, None, Ok};
 ghost use Rattle.std.specs.Io.{ReadsAtMost, WritesAtMost};
 ghost use Rattle.std.specs.Io.KnownBytes.{ReadConsumes, WriteAppends};
 ghost use Rattle.std.specs.List.{concat, flat_map, slice_index_or};
@@ -214,5 +214,26 @@ impl Sink for Short {
         };
         self.room -= n;
         Ok(n)
+    }
+}
+
+/// A sink that takes all bytes and keeps none. It never fails.
+#[derive(Clone, Copy, Debug)]
+pub struct Discard;
+
+impl Sink for Discard {
+    ghost taken = { λ _. None };
+
+    ghost failed_calls = { λ _. 0 };
+
+    fn write(&mut self, bytes: &[u8]) -> Result<usize, Failed>
+        ensures within { WritesAtMost result bytes.now }
+        ensures progress { TakesSome result bytes.now }
+        ensures failures { 0 ≡ failures_after result 0 }
+        ensures bytes { WriteAppends None None result bytes.now }
+
+        ensures all { result ≡ Ok (length bytes.now) }
+    {
+        Ok(bytes.len())
     }
 }

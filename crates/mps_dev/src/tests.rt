@@ -176,6 +176,13 @@ fn a_short_sink_fails_when_full(rt: HostRuntime) -> Result<(), Fail> {
 }
 
 #[test]
+fn a_sink_that_keeps_nothing_takes_all(rt: HostRuntime) {
+    assert_eq!(rt; Discard.write(&[5, 6, 7]), Ok(3));
+    assert_eq!(rt; Discard.write(&[]), Ok(0));
+    assert_eq!(rt; handed_over(&mut Discard, &[5, 6, 7, 8]), 4);
+}
+
+#[test]
 fn readers_of_std_are_sources(rt: HostRuntime) -> Result<(), Fail> {
     let text = [1u8, 2, 3, 4, 5];
     let mut source = OverRead::new(text.as_slice());

@@ -15,6 +15,7 @@ pub mod Returning
 pub mod Undoing
 pub mod Rolling
 pub mod Behind
+pub mod Told
 pub mod Served
 pub mod Accepted
 pub mod Runs

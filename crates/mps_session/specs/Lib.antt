@@ -9,3 +9,4 @@ pub mod Protocols
 pub mod Leaving
 pub mod Runs
 pub mod Pasts
+pub mod Told

@@ -14,6 +14,7 @@ ghost use Rattle.mps_session.specs.Answers.{IsAnswer, first_number};
 ghost use Rattle.mps_session.specs.Configurations.{lists_of};
 ghost use Rattle.mps_session.specs.Held.{Holds};
 ghost use Rattle.mps_session.specs.Seen.{view_of};
+ghost use Rattle.mps_session.specs.Told.{told};
 
 use crate::configuration::Configuration;
 use crate::session::Session;
@@ -139,6 +140,9 @@ impl Session {
         ensures state { OnOk result (self.new.state
             ≡ (machine.back self.old.state role name.now).1) }
         ensures types { self.new.types ≡ self.old.types }
+        // the steps that were taken back are allowed in the view that is left, and lead back to the view from before
+        ensures back { IfOk result (λ ids. replay (view_of self.new)
+            (within self.old.state.history (told ids)) ≡ Some (view_of self.old)) }
         ensures err { OnErr result (self.new.state ≡ self.old.state) }
     {
         match self.configuration.first_behind(role, name) {

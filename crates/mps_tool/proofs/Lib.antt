@@ -1,3 +1,4 @@
 pub mod Causes
+pub mod Comparing
 pub mod Lines
 pub mod Bounds

@@ -42,6 +42,13 @@ GivesNoProjections roles tree (Projection name choice) = HasNoProjection roles t
 GivesNoProjections roles tree Memory = ⊤
 GivesNoProjections roles tree fault = ⊥
 
+-- why a protocol has no session: its first fault; or it has none, and a role has no projection; or memory ran out
+abbrev pub GivesNoSession : List (List ℕ) → GlobalType → ToolFault → Type 0
+GivesNoSession roles tree (Protocol fault) = fault_of roles tree ≡ Some fault
+GivesNoSession roles tree (Projection name choice) = (fault_of roles tree ≡ None) × HasNoProjection roles tree name choice
+GivesNoSession roles tree Memory = ⊤
+GivesNoSession roles tree fault = ⊥
+
 -- why a text gives no protocol without faults: its first fault, the fault of the protocol that it spells, or want of memory, where it is short enough
 abbrev pub GivesNoProtocol : List ℕ → ToolFault → Type 0
 GivesNoProtocol text (Text at kind) = IsTextFault text at kind

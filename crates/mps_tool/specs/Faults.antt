@@ -119,10 +119,22 @@ IsFileFault name fault = ⊥
 abbrev pub IsReplayFault : List ℕ → ToolFault → Type 0
 IsReplayFault script fault = IsFileFault script fault ⊎ ((end : ReplayFault) × (fault ≡ of_script end))
 
--- how a run of these two files may fail: the first can't be opened, or gives no types, or the script fails to be run
+-- how a protocol may fail to be had from this file: it can't be opened, or gives no types
+abbrev pub IsLoadFault : List ℕ → ToolFault → Type 0
+IsLoadFault file fault =
+    IsFileFault file fault ⊎ ((given : Option (List ℕ)) × (left : Option (List ℕ)) × CantLoad given left fault)
+
+-- how a run of these two files may fail: the first gives no protocol, or the script fails to be run
 abbrev pub IsRunFault : List ℕ → List ℕ → ToolFault → Type 0
-IsRunFault file script fault =
-    IsFileFault file fault ⊎ (((given : Option (List ℕ)) × (left : Option (List ℕ)) × CantLoad given left fault) ⊎ IsReplayFault script fault)
+IsRunFault file script fault = IsLoadFault file fault ⊎ IsReplayFault script fault
+
+-- how the scripts of these two files may fail to be compared: one fails to be run, or what is said of them can't be written
+abbrev pub IsScriptsFault : List ℕ → List ℕ → ToolFault → Type 0
+IsScriptsFault script other fault = IsReplayFault script fault ⊎ (IsReplayFault other fault ⊎ (fault ≡ Write))
+
+-- how a comparison of the scripts of two files may fail: the protocol isn't had, or the scripts fail to be compared
+abbrev pub IsCompareFault : List ℕ → List ℕ → List ℕ → ToolFault → Type 0
+IsCompareFault file script other fault = IsLoadFault file fault ⊎ IsScriptsFault script other fault
 
 -- how a check of this file may fail: it can't be opened, or its types can't be shown
 abbrev pub IsCheckFault : List ℕ → ToolFault → Type 0

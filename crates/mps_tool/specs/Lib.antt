@@ -1,4 +1,5 @@
 pub mod Check
+pub mod Compared
 pub mod Faults
 pub mod Files
 pub mod Streams

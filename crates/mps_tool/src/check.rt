@@ -1,4 +1,4 @@
-//! From a protocol's text to the roles, their types and the lines that show them.
+//! From a protocol's text to the lines that show its roles' types.
 ghost use Rattle.std.specs.Prelude.{◌≡◌, ◌+◌, ◌<◌, ◌≤◌, ◌^◌, ◌++◌, ℕ, Option, length, map, IfOk, IfErr, OnOk, None, Some};
 ghost use Rattle.std.specs.List.{AllByRecursion};
 ghost use Rattle.mps_global.specs.Global.{plain as global_type};
@@ -6,12 +6,12 @@ ghost use Rattle.mps_global.specs.Faults.{fault_of};
 ghost use Rattle.mps_local.specs.Local.{plain};
 ghost use Rattle.mps_local.specs.Shape.{AllPeers};
 ghost use Rattle.mps_local.specs.Outcome.{AreProjections, AreNotAll};
-ghost use Rattle.mps_tool.specs.Check.{AreTypesOf, IsProtocolText, role_line, role_lines, AreLinesOf};
+ghost use Rattle.mps_tool.specs.Check.{IsProtocolText, role_line, role_lines, AreLinesOf};
 ghost use Rattle.mps_tool.specs.Check.{GivesNoProtocol, GivesNoProjections, GivesNoTypes};
 ghost use Rattle.mps_tool.specs.Faults.{after_reads, after_writes, IsCheckFault};
 ghost use Rattle.mps_tool.specs.Files.{HasReadAtMost, most_read};
 ghost use Rattle.mps_tool.specs.declared.faults.ToolFault.TheVariants.{Memory as OutOfMemory};
-ghost use Rattle.mps_tool.specs.Streams.{CantShow, HasShown, CantLoad, HasLoaded};
+ghost use Rattle.mps_tool.specs.Streams.{CantShow, HasShown};
 
 use crate::faults::ToolFault;
 use crate::files::{open_file, read_text};
@@ -67,7 +67,7 @@ fn types_of<'a>(alloc: Global, protocol: &Protocol) -> Result<Vec<Local>, ToolFa
 }
 
 /// The roles of a protocol without faults.
-fn roles_of<'a>(alloc: Global, protocol: &Protocol) -> Result<Roles, ToolFault<'a>>
+pub(crate) fn roles_of<'a>(alloc: Global, protocol: &Protocol) -> Result<Roles, ToolFault<'a>>
     requires { fault_of protocol.now.roles.items (global_type protocol.now.body) ≡ None }
     ensures ok { IfOk result (λ roles. roles ≡ protocol.now.roles.items) }
     ensures fault { IfErr result (λ fault. fault ≡ OutOfMemory) }
@@ -78,35 +78,6 @@ fn roles_of<'a>(alloc: Global, protocol: &Protocol) -> Result<Roles, ToolFault<'
         Err(RoleFault::RoleCount) => unreachable!(),
         Err(RoleFault::DoubleRole) => unreachable!(),
     }
-}
-
-/// The roles of the protocol that the text spells, and the local type of each.
-pub fn roles_and_types<'a>(alloc: Global, text: &[u8]) -> Result<(Roles, Vec<Local>), ToolFault<'a>>
-    ensures types { IfOk result (λ r. AreTypesOf text.now r.0 (map plain r.1.items)) }
-    ensures fault { IfErr result (GivesNoTypes text.now) }
-{
-    let protocol = protocol_of(alloc, text)?;
-    let types = types_of(alloc, &protocol)?;
-    let roles = roles_of(alloc, &protocol)?;
-    Ok((roles, types))
-}
-
-/// Reads a protocol, and gives its roles and the local type of each.
-///
-/// The text is read to its end, or one byte further than a protocol may go.
-pub fn read_types<'a, R: Source>(
-    alloc: Global,
-    reader: &mut R,
-) -> Result<(Roles, Vec<Local>), ToolFault<'a>>
-    requires { R.calls reader.old < 2 ^ 62 }
-    ensures read { IfOk result (λ r. HasLoaded
-        (R.remaining reader.old) (R.remaining reader.new) r.0 (map plain r.1.items)) }
-    ensures fault { IfErr result (CantLoad (R.remaining reader.old) (R.remaining reader.new)) }
-    ensures most { HasReadAtMost most_read (R.remaining reader.old) (R.remaining reader.new) }
-    ensures reads { R.failed_calls reader.new ≡ after_reads result (R.failed_calls reader.old) }
-{
-    let text = read_text(alloc, reader)?;
-    roles_and_types(alloc, text.as_slice())
 }
 
 /// A line for each role of the protocol that the text spells: its name, ` : `, and its local type.

@@ -4,9 +4,22 @@
 #[derive(Debug, Drop)]
 pub enum Order<'a> {
     /// Say how the program is used, or which version it is.
-    Help { text: String },
+    Help {
+        text: String,
+    },
     /// Show each role's local type of the protocol in the file.
-    Check { file: &'a str },
+    Check {
+        file: &'a str,
+    },
     /// Run the script on a session of the protocol in the file.
-    Run { file: &'a str, script: &'a str },
+    Run {
+        file: &'a str,
+        script: &'a str,
+    },
+    /// Say whether two scripts come to the same on sessions of the protocol in the file.
+    Same {
+        file: &'a str,
+        first: &'a str,
+        second: &'a str,
+    },
 }

@@ -9,7 +9,8 @@ use std::fs::{Metadata, OpenFile, OpenOptions};
 use std::io::{self, Cursor, Eprint, Error, ErrorKind, Print, Read, Seek, SeekFrom, Write};
 use std::rt::Files;
 
-/// Files by name with their texts, what was printed, and what was told on the standard error.
+/// Files by name with their texts, what was printed, and what was told on the standard error. The
+/// file `torn` opens and can't be read.
 #[derive(Drop)]
 pub struct Machine<'a> {
     alloc: Global,
@@ -42,14 +43,18 @@ fn unsupported() -> Error {
     Error::from(ErrorKind::Unsupported)
 }
 
-/// A file that is read.
+/// A file that is read. Of one that is torn each read fails.
 #[derive(Drop)]
 pub struct Text<'a> {
     bytes: Cursor<&'a [u8]>,
+    torn: bool,
 }
 
 impl Read for Text<'_> {
     fn read(&mut self, buf: &mut [u8]) -> io::Result<usize> {
+        if self.torn {
+            return Err(unsupported());
+        }
         self.bytes.read(buf)
     }
 }
@@ -97,7 +102,8 @@ impl<'a> Files for Machine<'a> {
         for (name, text) in self.files {
             if *name == path {
                 let bytes = Cursor::new(text.as_bytes());
-                return Ok(Text { bytes });
+                let torn = *name == "torn";
+                return Ok(Text { bytes, torn });
             }
         }
         Err(Error::from(ErrorKind::NotFound))

@@ -1,22 +1,26 @@
-//! Checks protocols, and runs scripts of commands on multiparty sessions.
+//! Checks protocols, and runs and compares scripts of commands on multiparty sessions.
 #![tactic(auto)]
 
-ghost use Rattle.std.specs.Prelude.{◌≡◌};
+ghost use Rattle.std.specs.Prelude.{◌≡◌, ◌≤◌, IfOk};
 ghost use Rattle.std.specs.Process.{exit_status};
 ghost use Rattle.mps_tool.specs.Faults.{status_of};
 
 mod check;
 mod command;
+mod comparison;
 mod faults;
 mod files;
+mod load;
 mod run;
 mod words;
 
-pub use check::{check_out, read_types, roles_and_types, show, write_types};
+pub use check::{check_out, show, write_types};
 pub use command::Order;
+pub use comparison::{compare, same_out};
 pub use faults::{ToolFault, fault_line, status};
 pub use files::{open_file, read_text};
-pub use mps_wire::script::{ReplayFault, run_script};
+pub use load::{read_session, read_sessions, roles_and_session, roles_and_sessions};
+pub use mps_wire::script::{ReplayFault, replay_session};
 pub use run::run;
 use std::io::ErrorKind;
 use std::process::ExitCode;
@@ -33,21 +37,29 @@ mod reversal_tests;
 #[cfg(test)]
 mod tests;
 
-/// Does what the words say, of which the first is the program's name.
+/// Does what the words say, of which the first is the program's name, and gives the exit status: 1
+/// where two scripts differ, else 0.
 fn obey<'a, R: Files + AllocGlobal + Print>(
     rt: &R,
     words: &'a [&'a str],
-) -> Result<(), ToolFault<'a>> {
+) -> Result<u8, ToolFault<'a>>
+    ensures { IfOk result (λ status. status ≤ 1) }
+{
     match order(rt.alloc(), words)? {
         Order::Help { text } => {
             if println!(rt; "{text}").is_err() {
                 return Err(ToolFault::Write);
             }
-            Ok(())
         }
-        Order::Check { file } => show(rt, file),
-        Order::Run { file, script } => run(rt, file, script),
+        Order::Check { file } => show(rt, file)?,
+        Order::Run { file, script } => run(rt, file, script)?,
+        Order::Same {
+            file,
+            first,
+            second,
+        } => return compare(rt, file, first, second),
     }
+    Ok(0)
 }
 
 /// The words that the program is called with.
@@ -90,7 +102,7 @@ fn main(rt: HostRuntime) -> ExitCode {
         Err(_) => return end(&rt, &ToolFault::Memory),
     };
     match obey(&rt, words.as_slice()) {
-        Ok(()) => ExitCode::SUCCESS,
+        Ok(status) => ExitCode::from(status),
         Err(fault) => end(&rt, &fault),
     }
 }

@@ -25,11 +25,19 @@ const RING: &str = "roles a b c ; a -> b : int . b -> c : int . c -> a { ok : en
 const STRAY: &str = "b recv a x\na recv b x\na send c 5\na send b true\n";
 
 const ROUND: &str = "a send b 5\nb recv a x\nb send c 7\nc recv b y\nc choose a maybe\n\
-    a pick c\nc choose a ok\na pick c\na send b 1\n";
+    a pick c\nc choose a ok\na pick c\na mark e\na send b 1\n";
 
 const TWICE: &str = "a send b 1\na send b 2\nb recv a x\nb recv a x\n";
 
+// Two numbers that have nothing to do with each other.
+const PAIRS: &str = "roles a b c d ; a -> b : int . c -> d : int . end";
+
 const FILES: &[(&str, &str)] = &[
+    ("pairs", PAIRS),
+    ("ab first", "a send b 1\nc send d 2\n"),
+    ("cd first", "c send d 2\na send b 1\n"),
+    ("another number", "c send d 2\na send b 3\n"),
+    ("torn", ""),
     ("talk", TALK),
     ("talked", TALKED),
     ("ring", RING),
@@ -55,7 +63,7 @@ const FILES: &[(&str, &str)] = &[
 fn does(alloc: Global, words: &[&str], room: usize, out: &str, told: &str, code: u8) -> bool {
     let machine = Machine::new(alloc, FILES, room);
     let status = match obey(&machine, words) {
-        Ok(()) => ExitCode::SUCCESS,
+        Ok(status) => ExitCode::from(status),
         Err(fault) => end(&machine, &fault),
     };
     let (printed, errors) = machine.output();
@@ -105,13 +113,78 @@ fn runs_loops_and_choices(rt: HostRuntime) -> Result<(), Fail> {
             "ring",
             "round",
             "done 1\ndone 2 5\ndone 3\ndone 4 7\nrefused nolabel\nrefused nothingqueued\n\
-             done 5\ndone 6 ok\nrefused ended\n",
+             done 5\ndone 6 ok\ndone 7\nrefused ended\n",
         ),
         ("loop", "twice", "done 1\ndone 2\ndone 3 1\ndone 4 2\n"),
     ];
     for (file, script, answers) in rows {
         let words = ["mps_tool", "run", file, script];
         assert!(rt; does(rt.alloc(), &words, 1000, answers, "", 0), "{script}");
+    }
+    Ok(())
+}
+
+#[test]
+fn compares_files(rt: HostRuntime) -> Result<(), Fail> {
+    let rows = [
+        (["pairs", "ab first", "cd first"], 1000, "same\n", "", 0),
+        (
+            ["pairs", "ab first", "another number"],
+            1000,
+            "different\n",
+            "",
+            1,
+        ),
+        (
+            ["pairs", "ab first", "ab first"],
+            4,
+            "",
+            "refused write\n",
+            4,
+        ),
+        (
+            ["no file", "no script", "none"],
+            1000,
+            "",
+            "refused file no file\n",
+            2,
+        ),
+        // the protocol is checked before a script is opened
+        (
+            ["unguarded", "no script", "none"],
+            1000,
+            "",
+            "refused protocol unguarded\n",
+            3,
+        ),
+        (
+            ["unmergeable", "no script", "none"],
+            1000,
+            "",
+            "refused projection c 0\n",
+            3,
+        ),
+        (
+            ["pairs", "no script", "none"],
+            1000,
+            "",
+            "refused file no script\n",
+            2,
+        ),
+        // both scripts are opened before one is read
+        (
+            ["pairs", "torn", "none"],
+            1000,
+            "",
+            "refused file none\n",
+            2,
+        ),
+        (["pairs", "torn", "ab first"], 1000, "", "refused read\n", 4),
+        (["pairs", "ab first", "torn"], 1000, "", "refused read\n", 4),
+    ];
+    for (files, room, out, told, code) in rows {
+        let words = ["mps_tool", "same", files[0], files[1], files[2]];
+        assert!(rt; does(rt.alloc(), &words, room, out, told, code), "{told}");
     }
     Ok(())
 }

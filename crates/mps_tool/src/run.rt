@@ -1,30 +1,32 @@
 //! Running a script from files.
 ghost use Rattle.std.specs.Prelude.{◌≡◌, IfErr, length};
+ghost use Rattle.mps_machine.specs.Machine.{initial};
 ghost use Rattle.mps_tool.specs.Faults.{IsReplayFault, IsRunFault};
 
-use crate::check::read_types;
 use crate::faults::ToolFault;
 use crate::files::open_file;
+use crate::load::read_session;
 use mps_base::Roles;
 use mps_dev::OverWrite;
-use mps_local::Local;
-use mps_wire::script::run_script;
+use mps_session::Session;
+use mps_wire::script::replay_session;
 use std::io;
 use std::rt::Files;
 
-/// Runs the script in the file on a new session of these roles and types, and prints the answers.
+/// Runs the script in the file on this session of these roles, and prints the answers.
 fn replay<'a, R: Files + AllocGlobal + Print>(
     rt: &R,
     script: &'a str,
     roles: Roles,
-    types: Vec<Local>,
+    session: Session,
 ) -> Result<(), ToolFault<'a>>
-    requires count { length roles ≡ length types.items }
+    requires new { session.state ≡ initial }
+    requires named { length roles ≡ length session.types }
     ensures fault { IfErr result (IsReplayFault script.now) }
 {
     let mut reader = open_file(rt, script)?;
     let mut writer = OverWrite::new(io::writer(rt));
-    run_script(rt.alloc(), &mut reader, &mut writer, roles, types)?;
+    replay_session(rt.alloc(), &mut reader, &mut writer, roles, session)?;
     Ok(())
 }
 
@@ -38,6 +40,6 @@ pub fn run<'a, R: Files + AllocGlobal + Print>(
 ) -> Result<(), ToolFault<'a>>
     ensures { IfErr result (IsRunFault file.now script.now) }
 {
-    let (roles, types) = read_types(rt.alloc(), &mut open_file(rt, file)?)?;
-    replay(rt, script, roles, types)
+    let (roles, session) = read_session(rt.alloc(), &mut open_file(rt, file)?)?;
+    replay(rt, script, roles, session)
 }

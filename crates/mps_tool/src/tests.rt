@@ -1,6 +1,7 @@
 use crate::{
-    Order, ToolFault, check_out, fault_line, open_file, order, read_text, read_types,
-    roles_and_types, run, run_script, show, status, write_types,
+    Order, ToolFault, check_out, compare, fault_line, open_file, order, read_session,
+    read_sessions, read_text, replay_session, roles_and_session, roles_and_sessions, run, same_out,
+    show, status, write_types,
 };
 use mps_base::Name;
 use mps_dev::{Pieces, Short};
@@ -13,20 +14,17 @@ const RELAY: &str = "roles a b c ; a -> b : int . b -> c : int . end";
 
 // The answers to the script on a new session of the protocol.
 pub(crate) fn answers(alloc: Global, protocol: &str, script: &str) -> Result<Vec<u8>, Fail> {
-    let Ok((roles, types)) = roles_and_types(alloc, protocol.as_bytes()) else {
+    let Ok((roles, session)) = roles_and_session(alloc, protocol.as_bytes()) else {
         return Err("a protocol".into());
     };
-    if roles.count() != types.len() {
-        return Err("a type for each role".into());
-    }
     let pieces = vec![in alloc; Vec::from_slice(alloc, script.as_bytes())?]?;
     let mut writer = Short::new(alloc, 1000)?;
-    run_script(
+    replay_session(
         alloc,
         &mut Pieces::new(pieces, None),
         &mut writer,
         roles,
-        types,
+        session,
     )?;
     Ok(Vec::from_slice(alloc, writer.bytes())?)
 }
@@ -40,7 +38,7 @@ fn tells(alloc: Global, fault: ToolFault<'static>, line: &str, code: u8) -> Resu
 
 // The line of the fault that the protocol has.
 fn refused(alloc: Global, protocol: &str) -> Result<Vec<u8>, Fail> {
-    match roles_and_types(alloc, protocol.as_bytes()) {
+    match roles_and_session(alloc, protocol.as_bytes()) {
         Ok(_) => Err("no fault".into()),
         Err(fault) => Ok(fault_line(alloc, &fault)?),
     }
@@ -87,6 +85,21 @@ fn takes_its_words(rt: HostRuntime) -> Result<(), Fail> {
         }
         _ => return Err("a run".into()),
     }
+    let words = ["mps_tool", "same", "a.protocol", "a.script", "b.script"];
+    match order(rt.alloc(), &words) {
+        Ok(
+            Order::Same {
+                file,
+                first,
+                second,
+            },
+        ) => {
+            assert_eq!(rt; file, "a.protocol");
+            assert_eq!(rt; first, "a.script");
+            assert_eq!(rt; second, "b.script");
+        }
+        _ => return Err("a comparison".into()),
+    }
     match order(rt.alloc(), &["mps_tool", "check", "a.protocol"]) {
         Ok(Order::Check { file }) => assert_eq!(rt; file, "a.protocol"),
         _ => return Err("a check".into()),
@@ -107,6 +120,15 @@ fn takes_its_words(rt: HostRuntime) -> Result<(), Fail> {
         &["mps_tool", "run"],
         &["mps_tool", "run", "a.protocol"],
         &["mps_tool", "run", "a.protocol", "a.script", "more"],
+        &["mps_tool", "same", "a.protocol", "a.script"],
+        &[
+            "mps_tool",
+            "same",
+            "a.protocol",
+            "a.script",
+            "b.script",
+            "more",
+        ],
     ];
     for words in wrong {
         match order(rt.alloc(), words) {
@@ -230,22 +252,22 @@ fn reads_texts(rt: HostRuntime) -> Result<(), Fail> {
     Ok(())
 }
 
-// What is had of the protocol, read in two pieces: how many roles and types, or the line of its
-// fault.
+// What is had of the protocol, read in two pieces: how many names and how many roles of its session,
+// or the line of its fault.
 fn loaded(alloc: Global, protocol: &str) -> Result<Result<(usize, usize), Vec<u8>>, Fail> {
     let (front, rest) = protocol.as_bytes().split_at(protocol.len() / 2);
     let pieces = vec![in alloc;
         Vec::from_slice(alloc, front)?,
         Vec::from_slice(alloc, rest)?,
     ]?;
-    match read_types(alloc, &mut Pieces::new(pieces, None)) {
-        Ok((roles, types)) => Ok(Ok((roles.count(), types.len()))),
+    match read_session(alloc, &mut Pieces::new(pieces, None)) {
+        Ok((roles, session)) => Ok(Ok((roles.count(), session.roles()))),
         Err(fault) => Ok(Err(fault_line(alloc, &fault)?)),
     }
 }
 
 #[test]
-fn loads_types(rt: HostRuntime) -> Result<(), Fail> {
+fn loads_sessions(rt: HostRuntime) -> Result<(), Fail> {
     let alloc = rt.alloc();
     assert!(rt; matches!(loaded(alloc, RELAY)?, Ok((3, 3))));
     let loops = "roles a b ; rec X . a -> b { go : a -> b : int . X , stop : end }";
@@ -270,16 +292,89 @@ fn loads_types(rt: HostRuntime) -> Result<(), Fail> {
         (70_000, "refused text toolong 65536"),
     ] {
         let pieces = vec![in alloc; vec![in alloc; b' '; bytes]?]?;
-        match read_types(alloc, &mut Pieces::new(pieces, None)) {
+        match read_session(alloc, &mut Pieces::new(pieces, None)) {
             Err(fault) => assert_eq!(rt; fault_line(alloc, &fault)?.as_slice(), line.as_bytes()),
             Ok(_) => return Err("a fault".into()),
         }
     }
     let pieces = vec![in alloc; Vec::from_slice(alloc, RELAY.as_bytes())?]?;
-    match read_types(alloc, &mut Pieces::new(pieces, Some(2))) {
+    match read_session(alloc, &mut Pieces::new(pieces, Some(2))) {
+        Err(ToolFault::Read) => {}
+        _ => return Err("a fault of the reader".into()),
+    }
+    let pieces = vec![in alloc; Vec::from_slice(alloc, RELAY.as_bytes())?]?;
+    match read_sessions(alloc, &mut Pieces::new(pieces, Some(2))) {
         Err(ToolFault::Read) => Ok(()),
         _ => Err("a fault of the reader".into()),
     }
+}
+
+// What is told of two scripts on sessions of the protocol, of which the second's reader fails from a
+// call on: the line and the status, or those of the fault.
+fn compared(
+    alloc: Global,
+    protocol: &str,
+    scripts: (&str, &str),
+    fails_from: (Option<u64>, Option<u64>),
+) -> Result<(Vec<u8>, u8), Fail> {
+    let Ok((roles, first, second)) = roles_and_sessions(alloc, protocol.as_bytes()) else {
+        return Err("a protocol".into());
+    };
+    let pieces = vec![in alloc; Vec::from_slice(alloc, scripts.0.as_bytes())?]?;
+    let mut reader = Pieces::new(pieces, fails_from.0);
+    let pieces = vec![in alloc; Vec::from_slice(alloc, scripts.1.as_bytes())?]?;
+    let mut other = Pieces::new(pieces, fails_from.1);
+    match same_out(alloc, &roles, first, second, &mut reader, &mut other) {
+        Ok(told) => Ok(told),
+        Err(fault) => Ok((fault_line(alloc, &fault)?, status(&fault))),
+    }
+}
+
+#[test]
+fn compares_scripts(rt: HostRuntime) -> Result<(), Fail> {
+    let alloc = rt.alloc();
+    let pairs = "roles a b c d ; a -> b : int . c -> d : int . end";
+    let (ab, cd) = ("a send b 1\nc send d 2", "c send d 2\na send b 1");
+    let other = "c send d 2\na send b 3";
+    let rows = [
+        (ab, cd, None, None, "same\n", 0),
+        (ab, other, None, None, "different\n", 1),
+        (
+            "a mark m\nc mark m",
+            "c mark m\na mark m",
+            None,
+            None,
+            "same\n",
+            0,
+        ),
+        (
+            "a mark m\na mark k",
+            "a mark k\na mark m",
+            None,
+            None,
+            "different\n",
+            1,
+        ),
+        // refusals, undone steps and numbers don't count
+        (
+            "a send b 3\na undo 1\nb send a 3\na send b 1\nc send d 2",
+            ab,
+            None,
+            None,
+            "same\n",
+            0,
+        ),
+        ("", "what is this", None, None, "same\n", 0),
+        (ab, "", None, None, "different\n", 1),
+        (ab, cd, Some(1), None, "refused read", 4),
+        (ab, cd, None, Some(1), "refused read", 4),
+    ];
+    for (first, second, fails, other_fails, line, code) in rows {
+        let (told, status) = compared(alloc, pairs, (first, second), (fails, other_fails))?;
+        assert_eq!(rt; told.as_slice(), line.as_bytes(), "{first}");
+        assert_eq!(rt; status, code, "{first}");
+    }
+    Ok(())
 }
 
 #[test]
@@ -291,6 +386,10 @@ fn names_files_that_do_not_open(rt: HostRuntime) -> Result<(), Fail> {
     match run(&rt, "no such file", "no such script") {
         Err(fault) => assert!(rt; tells(rt.alloc(), fault, "refused file no such file", 2)?),
         Ok(()) => return Err("no run".into()),
+    }
+    match compare(&rt, "no such file", "no such script", "nor this") {
+        Err(fault) => assert!(rt; tells(rt.alloc(), fault, "refused file no such file", 2)?),
+        Ok(_) => return Err("no comparison".into()),
     }
     match show(&rt, "no such file") {
         Err(fault) => assert!(rt; tells(rt.alloc(), fault, "refused file no such file", 2)?),

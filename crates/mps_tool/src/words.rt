@@ -25,12 +25,24 @@ fn commands<'a>(alloc: Global) -> Result<Command<'a>, AllocError> {
         .about("Runs a script and prints the answers")
         .arg(file)?
         .arg(script)?;
+    let first = Arg::new(alloc, "FIRST")
+        .help("A script, as for run")
+        .required(true);
+    let second = Arg::new(alloc, "SECOND")
+        .help("Another script")
+        .required(true);
+    let same = Command::new(alloc, "same")
+        .about("Says whether two scripts come to the same")
+        .arg(Arg::new(alloc, "FILE").help("The protocol").required(true))?
+        .arg(first)?
+        .arg(second)?;
     Command::new(alloc, "mps_tool")
         .about("A monitor for multiparty sessions")
         .version(VERSION)
         .subcommand_required(true)
         .subcommand(check)?
-        .subcommand(run)
+        .subcommand(run)?
+        .subcommand(same)
 }
 
 /// The order that stands in the words, as they matched the commands.
@@ -39,6 +51,15 @@ fn order_in<'a>(matches: &ArgMatches<'a>) -> Option<Order<'a>> {
     let file = found.get_str("FILE")?;
     if command == "check" {
         return Some(Order::Check { file });
+    }
+    if command == "same" {
+        let first = found.get_str("FIRST")?;
+        let second = found.get_str("SECOND")?;
+        return Some(Order::Same {
+            file,
+            first,
+            second,
+        });
     }
     let script = found.get_str("SCRIPT")?;
     Some(Order::Run { file, script })

@@ -3,16 +3,17 @@ use Rattle.std.proofs.Common.{◌≡◌, ℕ, List, Bool, true, false, Result, O
 use Rattle.std.specs.Io.KnownBytes.{IsAtEnd}
 use Rattle.std.specs.Prelude.{◌↔◌, IsErrOf}
 use Rattle.mps_local.specs.Local.{LocalType}
-use Rattle.mps_machine.specs.Machine.{State, initial}
+use Rattle.mps_machine.specs.Machine.{initial}
 use Rattle.mps_base.specs.RoleLists.{HasRoleCount}
 use Rattle.mps_local.specs.declared.faults.LocalFault.{LocalFault}
 use Rattle.mps_session.specs.Peers.{IsFirstBad, IsFirstFaulty, CanOpen}
+use Rattle.mps_session.specs.Seen.{Machine}
 use Rattle.mps_session.specs.declared.open.OpenFault.{OpenFault}
 use Rattle.mps_session.specs.declared.open.OpenFault.TheVariants.{RoleCount, BadPeer, Local, Memory as OutOfMemory}
 use Rattle.mps_wire.specs.declared.script.ReplayFault.{ReplayFault}
 use Rattle.mps_wire.specs.declared.script.ReplayFault.TheVariants.{Open, ReadFault, WriteFault, Turns, Memory}
 use Rattle.mps_wire.specs.Answers.{Answering}
-use Rattle.mps_wire.specs.Runs.{KeepsFromBeginning, of_opening, Outcome, Finished, Going, GaveAtLeast, Turned}
+use Rattle.mps_wire.specs.Runs.{KeepsFromBeginning, of_opening, Outcome, Replayed, Ran, Finished, Going, GaveAtLeast, Turned}
 use Rattle.mps_wire.specs.Script.{AnswersLine}
 use Rattle.mps_wire.specs.Streams.{Streams, Counts, CountsByEnd}
 use Rattle.mps_wire.proofs.Turning.{starved_first}
@@ -53,12 +54,12 @@ module _ (first old now : Streams) (none : Counts first old 0 0 0) where
       c
 
   -- a turn's fault is the run's
-  pub breaks : (names : List (List ℕ)) (types : List LocalType) (kept : List ℕ) (st : State) (fault : ReplayFault) → CanOpen types → Turned (AnswersLine names types) initial first old now kept st (Err fault) → Outcome names types first now (Err fault)
-  breaks names types kept st ReadFault can h = (can, (h.0, counts_more 1 0 0 h.1))
-  breaks names types kept st WriteFault can h = (can, (h.0, counts_by_end 1 h.1))
-  breaks names types kept st Memory can h = (can, (h.0, counts_by_end 0 h.1))
-  breaks names types kept st Turns can h = absurd h
-  breaks names types kept st (Open fault) can h = absurd h
+  pub breaks : {S : Type 0} (answers : Answering S) (start : S) (kept : List ℕ) (st : S) (fault : ReplayFault) → Turned answers start first old now kept st (Err fault) → Ran answers start first now (Err fault)
+  breaks answers start kept st ReadFault h = (h.0, counts_more 1 0 0 h.1)
+  breaks answers start kept st WriteFault h = (h.0, counts_by_end 1 h.1)
+  breaks answers start kept st Memory h = (h.0, counts_by_end 0 h.1)
+  breaks answers start kept st Turns h = absurd h
+  breaks answers start kept st (Open fault) h = absurd h
 
 module _ {S : Type 0} (answers : Answering S) (start : S) (first old now : Streams) (kept : List ℕ) (st : S) (over : Bool) (h : Turned answers start first old now kept st (Ok over)) where
   -- the turn that found the end
@@ -69,15 +70,24 @@ module _ {S : Type 0} (answers : Answering S) (start : S) (first old now : Strea
   pub before_end : over ≡ false → Going answers start first now kept st × Counts old now 0 0 0 × GaveAtLeast 1 old now
   before_end e = subst (λ (b : Bool). Turned answers start first old now kept st (Ok b)) e h
 
-module _ (names : List (List ℕ)) (types : List LocalType) (s : Streams) where
-  -- memory ran out before the first read
-  pub starts_starved : CanOpen types → Outcome names types s s (Err Memory)
-  starts_starved can = (can, (starved_first (AnswersLine names types) initial s, inl (same_counts s)))
+-- memory ran out before the first read
+pub starts_starved : {S : Type 0} (answers : Answering S) (start : S) (s : Streams) → Ran answers start s s (Err Memory)
+starts_starved answers start s = (starved_first answers start s, inl (same_counts s))
 
+module _ (names : List (List ℕ)) (types : List LocalType) where
   -- no run begins
-  pub not_begun : (fault : ReplayFault) → KeepsFromBeginning types fault → Outcome names types s s (Err fault)
-  not_begun (Open fault) h = (h, refl)
-  not_begun Memory h = starts_starved h
-  not_begun ReadFault h = absurd h
-  not_begun WriteFault h = absurd h
-  not_begun Turns h = absurd h
+  pub not_begun : (s : Streams) (fault : ReplayFault) → KeepsFromBeginning types fault → Outcome names types s s (Err fault)
+  not_begun s (Open fault) h = (h, refl)
+  not_begun s Memory h = (h, starts_starved (AnswersLine names types) initial s)
+  not_begun s ReadFault h = absurd h
+  not_begun s WriteFault h = absurd h
+  not_begun s Turns h = absurd h
+
+  -- the run is on a session that could be opened
+  pub opened_first : (before after : Streams) (r : Result Machine ReplayFault) → CanOpen types → Replayed names types before after r → Outcome names types before after r
+  opened_first before after (Ok session) can h = (can, h.0, h.1)
+  opened_first before after (Err ReadFault) can h = (can, h)
+  opened_first before after (Err WriteFault) can h = (can, h)
+  opened_first before after (Err Turns) can h = (can, h)
+  opened_first before after (Err Memory) can h = (can, h)
+  opened_first before after (Err (Open fault)) can h = absurd h

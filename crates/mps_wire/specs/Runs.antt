@@ -109,6 +109,12 @@ KeepsFromBeginning types WriteFault = ⊥
 KeepsFromBeginning types Turns = ⊥
 
 module _ (names : List (List ℕ)) (types : List LocalType) (before after : Streams) where
+  -- what the run of a script comes to on a session of these types, in which nothing was done
+  abbrev pub Replayed : Result Machine ReplayFault → Type 0
+  Replayed (Ok session) = Ran (AnswersLine names types) initial before after (Ok session.state)
+      × (session.types ≡ types)
+  Replayed (Err fault) = Ran (AnswersLine names types) initial before after (Err fault)
+
   -- what the run of a script on a new session comes to: the session is opened with the types and the
   -- script run; or it can't be opened, and nothing is read or written
   abbrev pub Outcome : Result Machine ReplayFault → Type 0

@@ -1,14 +1,13 @@
 //! A script over streams.
-ghost use Rattle.std.specs.Prelude.{◌≡◌, ◌+◌, ◌<◌, ◌≤◌, ◌^◌, ◌++◌, ℕ, List, [], length, map, OnOk, OnErr, IfOk, IfErr};
+ghost use Rattle.std.specs.Prelude.{◌≡◌, ◌+◌, ◌<◌, ◌≤◌, ◌^◌, ◌++◌, ℕ, List, [], length, map, OnOk, OnErr};
 ghost use Rattle.std.specs.Io.KnownBytes.{Appends as Takes};
 ghost use Rattle.mps_base.specs.Appends.{Appends};
 ghost use Rattle.mps_local.specs.Local.{plain};
 ghost use Rattle.mps_machine.specs.Machine.{initial};
-ghost use Rattle.mps_session.specs.Peers.{CanOpen};
 ghost use Rattle.mps_wire.specs.Answers.{TakesBytes, TakesEnd};
 ghost use Rattle.mps_wire.specs.Flow.{TookFront};
 ghost use Rattle.mps_wire.specs.Lines.{ended, front, most_kept};
-ghost use Rattle.mps_wire.specs.Runs.{Going, KeepsFromBeginning, Outcome, Turned, max_reads, of_opening};
+ghost use Rattle.mps_wire.specs.Runs.{Going, Outcome, Replayed, Turned, max_reads, of_opening};
 ghost use Rattle.mps_wire.specs.Script.{AnswersLine, lines_of, place_of};
 ghost use Rattle.mps_wire.specs.Streams.{streams};
 ghost use Rattle.mps_wire.specs.declared.script.ReplayFault.TheVariants.{Memory as OutOfMemory};
@@ -269,33 +268,56 @@ fn turn<R: Source, W: Sink>(
     Ok(false)
 }
 
-/// A script on a new session, of which nothing was read yet.
-fn begin(alloc: Global, roles: Roles, types: Vec<Local>) -> Result<Run, ReplayFault>
-    ensures roles { IfOk result (λ run. run.roles ≡ roles) }
-    ensures session { IfOk result (λ run. run.session ≡ record {
-      types = map plain types.items;
-      state = initial;
-    }) }
-    ensures line { IfOk result (λ run. run.line.items ≡ []) }
-    ensures answers { IfOk result (λ run. run.answers.items ≡ []) }
-    ensures can { OnOk result (CanOpen (map plain types.items)) }
-    ensures faults { IfErr result (KeepsFromBeginning (map plain types.items)) }
+/// A script on this session, of which nothing was read yet.
+fn begin(alloc: Global, roles: Roles, session: Session) -> Run
+    ensures roles { result.roles ≡ roles }
+    ensures session { result.session ≡ session }
+    ensures line { result.line.items ≡ [] }
+    ensures answers { result.answers.items ≡ [] }
 {
-    Ok(Run {
+    Run {
         roles,
-        session: Session::open(alloc, types)?,
+        session,
         line: Vec::new(alloc),
         answers: Vec::new(alloc),
         alloc,
-    })
+    }
 }
 
-/// Runs the script that the reader gives, on a new session of these roles and types, and writes an
-/// answer to each line.
+/// Runs the script that the reader gives, on a session in which nothing was done yet, and writes an
+/// answer to each line. Gives the session back.
 ///
 /// The answers to the lines of one read are written before the next read. A last line needs no LF.
 /// The reader is asked for `BLOCK` bytes at a time, `MAX_READS` times at most.
-pub fn run_script<R: Source, W: Sink>(
+pub fn replay_session<R: Source, W: Sink>(
+    alloc: Global,
+    reader: &mut R,
+    writer: &mut W,
+    roles: Roles,
+    session: Session,
+) -> Result<Session, ReplayFault>
+    requires new { session.state ≡ initial }
+    requires named { length roles ≡ length session.types }
+    requires reads { R.calls reader.old < 2 ^ 62 }
+    requires writes { W.failed_calls writer.old < 2 ^ 62 }
+    ensures outcome { Replayed roles session.types
+        (streams R.Source W.Sink reader.old writer.old)
+        (streams R.Source W.Sink reader.new writer.new) result }
+    ensures reads { R.calls reader.new ≤ R.calls reader.old + max_reads }
+{
+    let mut run = begin(alloc, roles, session);
+    let mut block = vec![in alloc; 0u8; BLOCK]?;
+    for _ in 0..MAX_READS {
+        if turn(reader, writer, &mut run, block.as_mut_slice())? {
+            return Ok(run.session);
+        }
+    }
+    Err(ReplayFault::Turns)
+}
+
+/// Opens a session with these types, and runs the script that the reader gives on it, as
+/// `replay_session` does.
+pub fn replay<R: Source, W: Sink>(
     alloc: Global,
     reader: &mut R,
     writer: &mut W,
@@ -310,12 +332,6 @@ pub fn run_script<R: Source, W: Sink>(
         (streams R.Source W.Sink reader.new writer.new) result }
     ensures reads { R.calls reader.new ≤ R.calls reader.old + max_reads }
 {
-    let mut run = begin(alloc, roles, types)?;
-    let mut block = vec![in alloc; 0u8; BLOCK]?;
-    for _ in 0..MAX_READS {
-        if turn(reader, writer, &mut run, block.as_mut_slice())? {
-            return Ok(run.session);
-        }
-    }
-    Err(ReplayFault::Turns)
+    let session = Session::open(alloc, types)?;
+    replay_session(alloc, reader, writer, roles, session)
 }

@@ -1,8 +1,8 @@
-use crate::script::{BLOCK, MAX_LINE, ReplayFault, run_script};
+use crate::script::{BLOCK, MAX_LINE, ReplayFault, replay, replay_session};
 use mps_base::{Name, Role, Roles, Sort, VarName};
 use mps_dev::{Pieces, Short, Source};
 use mps_local::{Branches, Local};
-use mps_session::{LocalFault, OpenFault};
+use mps_session::{LocalFault, OpenFault, Session};
 use std::alloc::Global;
 use std::test::Fail;
 
@@ -62,7 +62,7 @@ fn outcome(
     }
     let mut reader = Pieces::new(pieces, fails_from);
     let mut writer = Short::new(alloc, room)?;
-    let fault = run_script(alloc, &mut reader, &mut writer, roles, types).err();
+    let fault = replay(alloc, &mut reader, &mut writer, roles, types).err();
     if fault == Some(ReplayFault::Memory) {
         return Err(ReplayFault::Memory.into());
     }
@@ -339,11 +339,55 @@ fn answers_before_it_reads_on(rt: HostRuntime) -> Result<(), Fail> {
     }
     let mut reader = Pieces::new(lines, None);
     let mut writer = Short::new(alloc, 0)?;
-    let fault = run_script(alloc, &mut reader, &mut writer, roles, types).err();
+    let fault = replay(alloc, &mut reader, &mut writer, roles, types).err();
     assert_eq!(rt; fault, Some(ReplayFault::WriteFault));
     let mut rest = [0u8; 20];
     assert_eq!(rt; reader.read(&mut rest), Ok(11));
     assert_eq!(rt; &rest[..11], b"b recv a x\n".as_slice());
+    Ok(())
+}
+
+// The steps that survive and the numbers given out after the script, on a session that was opened
+// before, or the fault that ended its run; and what was written, to a writer with so much room.
+fn on_a_session(
+    alloc: Global,
+    script: &str,
+    fails_from: Option<u64>,
+    room: usize,
+) -> Result<(Vec<u8>, Result<(usize, u64), ReplayFault>), Fail> {
+    let roles = Roles::of(alloc, &[name("a")?, name("b")?, name("c")?])?;
+    let session = Session::open(alloc, types(alloc, A_TO_B_TO_C)?)?;
+    if roles.count() != session.roles() {
+        return Err("a type for each role".into());
+    }
+    let mut reader = Pieces::new(in_one_piece(alloc, script)?, fails_from);
+    let mut writer = Short::new(alloc, room)?;
+    let ended = replay_session(alloc, &mut reader, &mut writer, roles, session);
+    let left = ended.map(|session| (session.len(), session.issued()));
+    Ok((Vec::from_slice(alloc, writer.bytes())?, left))
+}
+
+#[test]
+fn runs_on_a_session_that_is_handed_in(rt: HostRuntime) -> Result<(), Fail> {
+    let rows = [
+        (RELAY, None, 200, RELAYED, Ok((4, 4))),
+        ("", None, 200, "", Ok((0, 0))),
+        (
+            "a send b 5\na undo 1\na send b 6",
+            None,
+            200,
+            "done 1\nundone 1\ndone 2\n",
+            Ok((1, 2)),
+        ),
+        (RELAY, Some(1), 200, "", Err(ReplayFault::ReadFault)),
+        (RELAY, Some(2), 200, RELAYED, Err(ReplayFault::ReadFault)),
+        (RELAY, None, 8, "done 1\nd", Err(ReplayFault::WriteFault)),
+    ];
+    for (script, fails_from, room, want, end) in rows {
+        let (written, left) = on_a_session(rt.alloc(), script, fails_from, room)?;
+        assert_eq!(rt; written.as_slice(), want.as_bytes(), "{script}");
+        assert_eq!(rt; left, end, "{script}");
+    }
     Ok(())
 }
 

@@ -1,9 +1,17 @@
-use Rattle.std.proofs.Common.{Some, map, sym, ap, ◌∙◌}
+use Rattle.std.proofs.Common.{◌≡◌, List, Some, map, sym, ap, subst, ◌∙◌}
+use Rattle.mps_base.specs.declared.action.Step.{Step}
+use Rattle.mps_history.specs.Steps.{within}
+use Rattle.mps_history.specs.Dependence.{consequences}
 use Rattle.mps_local.specs.Local.{plain}
+use Rattle.mps_machine.specs.Machine as machine
+use Rattle.mps_machine.specs.Rule.{replay}
 use Rattle.mps_arena.specs.Entries.{steps}
-use Rattle.mps_session.specs.Configurations.{lists_of}
+use Rattle.mps_session.specs.Configurations.{lists_of, state_of}
+use Rattle.mps_session.specs.Seen.{Machine, view_of}
+use Rattle.mps_session.specs.Told.{told}
 use Rattle.mps_session.proofs.Behind.{first_there}
-use Rattle.mps_session.proofs.Rolling.{members_there}
+use Rattle.mps_session.proofs.Rolling.{leads_back, members_there}
+use Rattle.mps_session.proofs.Told.{within_none, within_told}
 use Rattle.mps_session.proofs.session.Session.back.Goals as goal
 
 pub roll_back-requires-clause-present : goal.roll_back-requires-clause-present
@@ -15,3 +23,20 @@ pub roll_back-requires-clause-members : goal.roll_back-requires-clause-members
 roll_back-requires-clause-members c =
     let s = c.self.inside in
     members_there (map plain s.types.items) (lists_of s.configuration) c.self.invariant.holds
+
+pub returns-in-Some-None-clause-back : goal.returns-in-Some-None-clause-back
+returns-in-Some-None-clause-back c =
+    let m = c.args.self.now in
+    ap (λ (l : List Step). replay (view_of m) l) (within_none m.state.history c.of.result (c.of.ensures ∙ c.new.ensures.items))
+
+pub returns-in_ok-roll_back-in-Some-Some-clause-back : goal.returns-in_ok-roll_back-in-Some-Some-clause-back
+returns-in_ok-roll_back-in-Some-Some-clause-back c =
+    let s = c.self.inside in
+    let types = map plain s.types.items in
+    let h = steps s.configuration.log.entries in
+    let left = steps c.roll_back.new.self.log.entries in
+    let id = c.in-Some-Some.id in
+    let ids = c.in_ok-roll_back-in-Some-Some.field-0 in
+    subst (λ (m : Machine). replay (machine.view_of types left) (within m.state.history (told ids)) ≡ Some (view_of m)) c.self.view_is
+    (ap (λ (l : List Step). replay (machine.view_of types left) l) (within_told h (consequences h id) ids c.in_ok-roll_back-in-Some-Some.ensures.numbers)
+    ∙ leads_back types (state_of (lists_of s.configuration)) left id c.self.invariant.holds.sound c.in_ok-roll_back-in-Some-Some.ensures.history)

@@ -1,74 +1,64 @@
-use Rattle.std.proofs.Common.{length, map, Ok, Err, sym, ap, ◌∙◌, arith}
-use Rattle.std.proofs.lemmas.List.{length-map}
-use Rattle.mps_local.specs.Local.{plain}
+use Rattle.std.proofs.Common.{length, Ok, Err, sym, ap, ◌∙◌, arith}
 use Rattle.mps_machine.specs.Machine.{initial}
-use Rattle.mps_wire.specs.Runs.{Outcome, max_reads}
+use Rattle.mps_wire.specs.Runs.{Replayed, max_reads}
 use Rattle.mps_wire.specs.Script.{AnswersLine}
 use Rattle.mps_wire.specs.Streams.{streams}
 use Rattle.mps_wire.specs.declared.script.TheConstants.{BLOCK}
 use Rattle.mps_wire.proofs.Bytes.{same_room}
 use Rattle.mps_wire.proofs.Carrying.{turned}
-use Rattle.mps_wire.proofs.Outcomes.{handed_on, same_counts, counts_more, breaks, at_end, before_end, starts_starved, not_begun}
+use Rattle.mps_wire.proofs.Outcomes.{handed_on, same_counts, counts_more, breaks, at_end, before_end, starts_starved}
 use Rattle.mps_wire.proofs.Turning.{begun, gave_none, gave_more, gave_fewer}
-use Rattle.mps_wire.proofs.script.run_script.Goals as goal
-
-pub returns-in_err-run-clause-outcome : goal.returns-in_err-run-clause-outcome
-returns-in_err-run-clause-outcome g c =
-    let types = map plain c.args.types.items in
-    let first = streams g.R.Source g.W.Sink c.args.reader.now c.args.writer.now in
-    handed_on _ _ (Outcome c.args.roles types first first) c.from_residual.ensures.1 (not_begun c.args.roles types first _ c.in_err-run.ensures.faults)
+use Rattle.mps_wire.proofs.script.replay_session.Goals as goal
 
 pub returns-in_err-block-clause-outcome : goal.returns-in_err-block-clause-outcome
 returns-in_err-block-clause-outcome g c =
-    let types = map plain c.args.types.items in
+    let types = c.args.session.types in
     let first = streams g.R.Source g.W.Sink c.args.reader.now c.args.writer.now in
-    handed_on _ _ (Outcome c.args.roles types first first) c.from_residual-in_err-block.ensures.1 (starts_starved c.args.roles types first c.in_ok-run.ensures.can)
+    handed_on _ _ (Replayed c.args.roles types first first) c.from_residual.ensures.1 (starts_starved (AnswersLine c.args.roles types) initial first)
 
 pub loop-init : goal.loop-init
 loop-init g c =
     let first = streams g.R.Source g.W.Sink c.args.reader.now c.args.writer.now in
+    let types = c.args.session.types in
     record {
-      roles = c.in_ok-run.ensures.roles;
-      named = omega (arith, ap length c.in_ok-run.ensures.roles, c.requires.named, ap (λ s. length s.types) c.in_ok-run.ensures.session, length-map c.args.types.items plain);
-      types = ap (λ s. s.types) c.in_ok-run.ensures.session;
-      short = omega (arith, ap length c.in_ok-run.ensures.line);
-      none_waits = c.in_ok-run.ensures.answers;
+      roles = c.begin-run.ensures.roles;
+      named = ap length c.begin-run.ensures.roles ∙ c.requires.named ∙ sym (ap (λ s. length s.types) c.begin-run.ensures.session);
+      types = ap (λ s. s.types) c.begin-run.ensures.session;
+      short = omega (arith, ap length c.begin-run.ensures.line);
+      none_waits = c.begin-run.ensures.answers;
       room = omega (arith, c.in_ok-block.block.ok.0, c.in_ok-block.ensures.len);
       reads = omega arith;
       counts = same_counts first;
       gave = gave_none first;
-      going = begun (AnswersLine c.args.roles (map plain c.args.types.items)) initial first _ _ c.in_ok-run.ensures.line (ap (λ s. s.state) c.in_ok-run.ensures.session);
+      going = begun (AnswersLine c.args.roles types) initial first _ _ c.begin-run.ensures.line (ap (λ s. s.state) c.begin-run.ensures.session ∙ c.requires.new);
     }
 
 pub returns-in_err-turn-clause-outcome : goal.returns-in_err-turn-clause-outcome
 returns-in_err-turn-clause-outcome g c =
-    let types = map plain c.args.types.items in
+    let types = c.args.session.types in
     let first = streams g.R.Source g.W.Sink c.args.reader.now c.args.writer.now in
     let old = streams g.R.Source g.W.Sink c.loop.reader c.loop.writer in
     let now = streams g.R.Source g.W.Sink c.turn.new.reader c.turn.new.writer in
     let i = c.loop.invariant in
-    handed_on _ _ (Outcome c.args.roles types first now) c.from_residual-in_err-turn.ensures.1
-    (breaks first old now i.counts c.args.roles types c.turn.new.run.line.items c.turn.new.run.session.state c.in_err-turn.field-0.0 c.in_ok-run.ensures.can
+    handed_on _ _ (Replayed c.args.roles types first now) c.from_residual-in_err-turn.ensures.1
+    (breaks first old now i.counts (AnswersLine c.args.roles types) initial c.turn.new.run.line.items c.turn.new.run.session.state c.in_err-turn.field-0.0
     (turned c.args.roles c.loop.run.roles types c.loop.run.session.types i.roles i.types old now c.loop.run.line.items c.turn.new.run.line.items c.loop.run.session.state c.turn.new.run.session.state (Err c.in_err-turn.field-0.0) c.in_err-turn.ensures.step first i.going))
 
 pub returns-then-branch-clause-outcome : goal.returns-then-branch-clause-outcome
 returns-then-branch-clause-outcome g c =
-    let types = map plain c.args.types.items in
+    let types = c.args.session.types in
     let first = streams g.R.Source g.W.Sink c.args.reader.now c.args.writer.now in
     let old = streams g.R.Source g.W.Sink c.loop.reader c.loop.writer in
     let now = streams g.R.Source g.W.Sink c.turn.new.reader c.turn.new.writer in
     let i = c.loop.invariant in
     let done =
     at_end (AnswersLine c.args.roles types) initial first old now c.turn.new.run.line.items c.turn.new.run.session.state c.in_ok-turn.field-0
-    (turned c.args.roles c.loop.run.roles types c.loop.run.session.types i.roles i.types old now c.loop.run.line.items c.turn.new.run.line.items c.loop.run.session.state c.turn.new.run.session.state (Ok c.in_ok-turn.field-0) c.in_ok-turn.ensures.step first i.going) c.if-branch.true in (
-      c.in_ok-run.ensures.can,
-      (done.0, counts_more first old now i.counts 0 1 0 done.1),
-      c.in_ok-turn.ensures.types ∙ i.types,
-    )
+    (turned c.args.roles c.loop.run.roles types c.loop.run.session.types i.roles i.types old now c.loop.run.line.items c.turn.new.run.line.items c.loop.run.session.state c.turn.new.run.session.state (Ok c.in_ok-turn.field-0) c.in_ok-turn.ensures.step first i.going) c.if-branch.true in
+    ((done.0, counts_more first old now i.counts 0 1 0 done.1), c.in_ok-turn.ensures.types ∙ i.types)
 
 pub loop-preserved : goal.loop-preserved
 loop-preserved g c =
-    let types = map plain c.args.types.items in
+    let types = c.args.session.types in
     let first = streams g.R.Source g.W.Sink c.args.reader.now c.args.writer.now in
     let old = streams g.R.Source g.W.Sink c.loop.reader c.loop.writer in
     let now = streams g.R.Source g.W.Sink c.turn.new.reader c.turn.new.writer in
@@ -94,13 +84,10 @@ returns-clause-outcome g c =
     let i = c.loop.invariant in
     let first = streams g.R.Source g.W.Sink c.args.reader.now c.args.writer.now in
     let now = streams g.R.Source g.W.Sink c.loop.reader c.loop.writer in (
-      c.in_ok-run.ensures.can,
-      (
-        record { kept = c.loop.run.line.items; st = c.loop.run.session.state; going = i.going },
-        i.counts,
-        record {
-          reads = omega (arith, i.reads, c.loop.auto.counter-end, c.loop-test.false);
-          gave = gave_fewer first now c.loop.counter max_reads (omega (arith, c.loop.auto.counter-end, c.loop-test.false)) i.gave;
-        },
-      ),
+      record { kept = c.loop.run.line.items; st = c.loop.run.session.state; going = i.going },
+      i.counts,
+      record {
+        reads = omega (arith, i.reads, c.loop.auto.counter-end, c.loop-test.false);
+        gave = gave_fewer first now c.loop.counter max_reads (omega (arith, c.loop.auto.counter-end, c.loop-test.false)) i.gave;
+      },
     )

@@ -1,12 +1,11 @@
-use Rattle.std.proofs.Common.{◌≡◌, ◌+◌, ◌≤◌, [], length, map}
-use Rattle.mps_local.specs.Local.{plain}
+use Rattle.std.proofs.Common.{◌≡◌, ◌+◌, ◌≤◌, [], length}
 use Rattle.mps_machine.specs.Machine.{initial}
 use Rattle.mps_wire.specs.Lines.{most_kept}
 use Rattle.mps_wire.specs.Runs.{Going, GaveAtLeast}
 use Rattle.mps_wire.specs.Script.{AnswersLine}
 use Rattle.mps_wire.specs.Streams.{Counts, streams}
 use Rattle.mps_wire.specs.declared.script.TheConstants.{BLOCK}
-use Rattle.mps_wire.proofs.script.run_script.Given as goal
+use Rattle.mps_wire.proofs.script.replay_session.Given as goal
 
 abbrev pub invariant-loop : goal.invariant-loop
 invariant-loop g l =
@@ -15,12 +14,12 @@ invariant-loop g l =
     record {
       roles : l.run.roles ≡ l.fn.roles;
       named : length l.run.roles ≡ length l.run.session.types;
-      types : l.run.session.types ≡ map plain l.fn.types.items;
+      types : l.run.session.types ≡ l.fn.session.types;
       short : length l.run.line.items ≤ most_kept;
       none_waits : l.run.answers.items ≡ [];
       room : length l.block.items ≡ BLOCK;
       reads : now.reads ≡ first.reads + l.counter;
       counts : Counts first now 0 0 0;
       gave : GaveAtLeast l.counter first now;
-      going : Going (AnswersLine l.fn.roles (map plain l.fn.types.items)) initial first now l.run.line.items l.run.session.state;
+      going : Going (AnswersLine l.fn.roles l.fn.session.types) initial first now l.run.line.items l.run.session.state;
     }

@@ -1,0 +1,129 @@
+//! Two scripts compared.
+ghost use Rattle.std.specs.Prelude.{◌≡◌, ◌<◌, ◌≤◌, ◌^◌, length, IsTrue, IfOk, IfErr};
+ghost use Rattle.mps_machine.specs.Machine.{initial};
+ghost use Rattle.mps_tool.specs.Compared.{CantCompare, HasCompared, HasReplayed, HasStopped, Tells, unheard};
+ghost use Rattle.mps_tool.specs.Faults.{IsCompareFault, IsScriptsFault};
+
+use crate::faults::ToolFault;
+use crate::files::open_file;
+use crate::load::read_sessions;
+use mps_base::Roles;
+use mps_dev::{Discard, OverWrite, Source};
+use mps_session::{Session, same};
+use mps_wire::flow::send_all;
+use mps_wire::script::replay_session;
+use std::alloc::{AllocError, Global};
+use std::io;
+use std::rt::Files;
+
+/// Runs the script on the session, and gives it back. Nobody hears the answers.
+fn replay_unheard<'a, R: Source>(
+    alloc: Global,
+    reader: &mut R,
+    roles: Roles,
+    session: Session,
+) -> Result<Session, ToolFault<'a>>
+    requires new { session.state ≡ initial }
+    requires named { length roles ≡ length session.types }
+    requires reads { R.calls reader.old < 2 ^ 62 }
+    ensures replayed { IfOk result (λ left. HasReplayed roles session.types
+        (unheard R.Source reader.old) (unheard R.Source reader.new) left.state) }
+    ensures types { IfOk result (λ left. left.types ≡ session.types) }
+    ensures fault { IfErr result (HasStopped roles session.types
+        (unheard R.Source reader.old) (unheard R.Source reader.new)) }
+{
+    Ok(replay_session(alloc, reader, &mut Discard, roles, session)?)
+}
+
+/// The line and the status that say whether two sessions are the same.
+fn told(alloc: Global, alike: bool) -> Result<(Vec<u8>, u8), AllocError>
+    ensures { IfOk result (λ r. Tells (IsTrue alike) r.0.items r.1) }
+{
+    if alike {
+        Ok((Vec::from_slice(alloc, b"same\n")?, 0))
+    } else {
+        Ok((Vec::from_slice(alloc, b"different\n")?, 1))
+    }
+}
+
+/// Replays one script whole and then another, each on a new session of its own, and says whether
+/// the sessions are then causally the same, whatever the order across roles and the numbers: by the
+/// line `same` and the status 0, or the line `different` and the status 1.
+pub fn same_out<'a, R: Source, S: Source>(
+    alloc: Global,
+    roles: &Roles,
+    first: Session,
+    second: Session,
+    reader: &mut R,
+    other: &mut S,
+) -> Result<(Vec<u8>, u8), ToolFault<'a>>
+    requires types { second.types ≡ first.types }
+    requires named { length roles.now ≡ length first.types }
+    requires first_new { first.state ≡ initial }
+    requires second_new { second.state ≡ initial }
+    requires first_reads { R.calls reader.old < 2 ^ 62 }
+    requires second_reads { S.calls other.old < 2 ^ 62 }
+    ensures verdict { IfOk result (λ r. HasCompared roles.now first.types
+        (unheard R.Source reader.old) (unheard R.Source reader.new)
+        (unheard S.Source other.old) (unheard S.Source other.new) r.0.items r.1) }
+    ensures fault { IfErr result (CantCompare roles.now first.types
+        (unheard R.Source reader.old) (unheard R.Source reader.new)
+        (unheard S.Source other.old) (unheard S.Source other.new)) }
+{
+    let names = roles.copy(alloc)?;
+    let others = roles.copy(alloc)?;
+    let first = replay_unheard(alloc, reader, names, first)?;
+    let second = replay_unheard(alloc, other, others, second)?;
+    Ok(told(alloc, same(&first, &second))?)
+}
+
+/// Compares the scripts in two files, and prints what is said of them. Gives the status.
+fn compare_scripts<'a, R: Files + AllocGlobal + Print>(
+    rt: &R,
+    roles: &Roles,
+    first: Session,
+    second: Session,
+    script: &'a str,
+    other: &'a str,
+) -> Result<u8, ToolFault<'a>>
+    requires types { second.types ≡ first.types }
+    requires named { length roles.now ≡ length first.types }
+    requires first_new { first.state ≡ initial }
+    requires second_new { second.state ≡ initial }
+    ensures status { IfOk result (λ status. status ≤ 1) }
+    ensures fault { IfErr result (IsScriptsFault script.now other.now) }
+{
+    let mut reader = open_file(rt, script)?;
+    let mut second_reader = open_file(rt, other)?;
+    let (line, status) = same_out(
+        rt.alloc(),
+        roles,
+        first,
+        second,
+        &mut reader,
+        &mut second_reader,
+    )?;
+    let mut writer = OverWrite::new(io::writer(rt));
+    match send_all(&mut writer, line.as_slice()) {
+        Ok(()) => Ok(status),
+        Err(_) => Err(ToolFault::Write),
+    }
+}
+
+/// Replays the scripts in two files, each on a new session of the protocol in the file, and prints
+/// `same` or `different`. Gives the status, 0 or 1.
+///
+/// The protocol is read and checked before a script is opened, and both are opened before the first
+/// is read.
+pub fn compare<'a, R: Files + AllocGlobal + Print>(
+    rt: &R,
+    file: &'a str,
+    script: &'a str,
+    other: &'a str,
+) -> Result<u8, ToolFault<'a>>
+    ensures status { IfOk result (λ status. status ≤ 1) }
+    ensures fault { IfErr result (IsCompareFault file.now script.now other.now) }
+{
+    let (roles, first, second) = read_sessions(rt.alloc(), &mut open_file(rt, file)?)?;
+    compare_scripts(rt, &roles, first, second, script, other)
+}
