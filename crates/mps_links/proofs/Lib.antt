@@ -1,6 +1,7 @@
 pub mod StepKeys
 pub mod Numbers
 pub mod Present
+pub mod Kept
 pub mod Firsts
 pub mod Lasts
 pub mod Least

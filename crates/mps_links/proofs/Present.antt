@@ -1,17 +1,17 @@
 -- Entries that are there, by their keys.
 use Rattle.std.proofs.Common.{◌≡◌, ◌<◌, ◌++◌, ◌∷◌, ℕ, true, Bool, List, [], Option, Some, None, refl, sym, ap, ◌∙◌, subst, ⊎_elim, ◌⊎◌, inl, inr, eq-eqb}
-use Rattle.std.specs.Prelude.{◌==◌, IsSome}
+use Rattle.std.specs.Prelude.{◌==◌, IsSome, IfSome}
 use Rattle.std.specs.List.{AllByRecursion}
 use Rattle.std.specs.Option.{option_and_then}
 use Rattle.std.proofs.lemmas.Bool.{both_ways, false≢true}
 use Rattle.mps_base.specs.declared.action.Act.{Act}
 use Rattle.mps_base.specs.declared.action.Act.TheVariants.{Out, In, Mark}
 use Rattle.mps_base.specs.declared.action.Step.{Step}
-use Rattle.mps_arena.specs.Keys.{is_at, has}
-use Rattle.mps_arena.specs.Entries.{Entry, keys_of, like, unlike, entry_at, IsSmall}
+use Rattle.mps_arena.specs.Keys.{is_at, has, key_after}
+use Rattle.mps_arena.specs.Entries.{Entry, keys_of, of_role, like, unlike, entry_at, IsSmall}
 use Rattle.mps_arena.specs.Receipts.{receipt_mate}
-use Rattle.mps_arena.specs.Sources.{receipt_in, mate_of}
-use Rattle.mps_arena.proofs.KeyLists.{partner_in}
+use Rattle.mps_arena.specs.Sources.{receipt_in, next_of_role_in, mate_of}
+use Rattle.mps_arena.proofs.KeyLists.{partner_in, after_in}
 use Rattle.mps_arena.proofs.Chains.{absent}
 use Rattle.mps_arena.proofs.Numbers.{find_split}
 
@@ -56,3 +56,18 @@ receipt_there es k j e =
     chained_there (unlike y.step.role y.step.act) j es
     (partner_in y.key j (keys_of (like y.step.role y.step.act) es) (keys_of (unlike y.step.role y.step.act) es) (ap (λ o. is_at o j) is ∙ eq-eqb j j refl)))
     (cases_entry (entry_at k es))
+
+-- the next step of its role is there
+pub next_there : (es : List Entry) (k j : ℕ) → next_of_role_in es k ≡ Some j → IsSome (entry_at j es)
+next_there es k j e =
+    ⊎_elim
+    (λ (n : entry_at k es ≡ None). let no : None ≡ Some j = sym (ap (option_and_then (λ (y : Entry). key_after y.key (keys_of (of_role y.step.role) es))) n) ∙ e in absurd cc)
+    (λ (w : (y : Entry) × (entry_at k es ≡ Some y)).
+    let y = w.0 in
+    let is = sym (ap (option_and_then (λ (y : Entry). key_after y.key (keys_of (of_role y.step.role) es))) w.1) ∙ e in
+    chained_there (of_role y.step.role) j es (after_in y.key j (keys_of (of_role y.step.role) es) (ap (λ o. is_at o j) is ∙ eq-eqb j j refl)))
+    (cases_entry (entry_at k es))
+
+pub if_some : (P : ℕ → Type 0) (o : Option ℕ) → ((k : ℕ) → o ≡ Some k → P k) → IfSome o P
+if_some P None h = tt
+if_some P (Some k) h = h k refl

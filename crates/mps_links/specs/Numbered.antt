@@ -1,5 +1,6 @@
 -- A step's key with its number, where there is one.
-use Rattle.std.specs.Prelude.{◌≡◌, ℕ, List, Option, Some, IfSome}
+use Rattle.std.specs.Prelude.{◌≡◌, ℕ, List, map, Option, Some, IfSome}
+use Rattle.std.specs.List.{AllByRecursion}
 use Rattle.std.specs.Option.{option_map}
 use Rattle.mps_arena.specs.Entries.{Entry}
 use Rattle.mps_arena.specs.Sources.{id_in}
@@ -12,3 +13,11 @@ key_of o = option_map (λ n. n.key) o
 -- the step of the key has that number
 abbrev pub HasNumber : List Entry → Option Numbered → Type 0
 HasNumber es o = IfSome o (λ n. id_in es n.key ≡ Some n.id)
+
+-- the keys alone
+abbrev pub keys_alone : List (Option Numbered) → List (Option ℕ)
+keys_alone firsts = map key_of firsts
+
+-- each has its number
+abbrev pub HaveNumbers : List Entry → List (Option Numbered) → Type 0
+HaveNumbers es firsts = AllByRecursion (HasNumber es) firsts

@@ -7,7 +7,7 @@ ghost use Rattle.mps_history.specs.Dependence.{least, dependents};
 ghost use Rattle.mps_arena.specs.Entries.{steps};
 ghost use Rattle.mps_arena.specs.Sources.{CanGo};
 
-use crate::order::earlier;
+use crate::order::{earlier, with_number};
 use mps_arena::Arena;
 use mps_base::StepId;
 
@@ -23,6 +23,8 @@ pub fn least_dependent(arena: &Arena, id: StepId) -> Option<StepId>
 {
     prove!(arena.len() > 0);
     let key = arena.by_id(id)?;
-    let first = earlier(arena, arena.next_of_role(key), arena.receipt(key))?;
-    arena.id(first)
+    let next = with_number(arena, arena.next_of_role(key));
+    let receipt = with_number(arena, arena.receipt(key));
+    let first = earlier(next, receipt)?;
+    Some(first.id)
 }

@@ -9,7 +9,7 @@ ghost use Rattle.mps_links.specs.Marks.{marked_keys, is_marked, AreMarksClosed, 
 ghost use Rattle.mps_links.specs.Numbered.{key_of, HasNumber};
 ghost use Rattle.mps_links.specs.RoleMarks.{unmarked_of, AreLastMarked};
 
-use crate::order::{Numbered, key_of, later};
+use crate::order::{Numbered, key_of, later, with_number};
 use crate::pending::Pending;
 use mps_arena::{Arena, Key};
 use mps_base::{Role, StepId};
@@ -36,7 +36,7 @@ pub fn mark_from(arena: &mut Arena, id: StepId) -> usize
     arena.set_mark(first, true);
     for count in 1..len {
         prove!(arena.len() > 0);
-        let Some(key) = pending.earliest(arena) else {
+        let Some(key) = pending.earliest() else {
             return count;
         };
         pending.follow(arena, key);
@@ -58,8 +58,7 @@ fn newest_marked_of(arena: &Arena, role: Role) -> Option<Numbered>
     if !arena.marked(key) {
         return None;
     }
-    let id = arena.get(key).id;
-    Some(Numbered { key, id })
+    with_number(arena, Some(key))
 }
 
 /// The newest marked step, where each step that depends on a marked one is marked. So nothing

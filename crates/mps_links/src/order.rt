@@ -1,39 +1,11 @@
 //! Of two steps the one that comes earlier, and the one that comes later.
-ghost use Rattle.std.specs.Prelude.{◌≡◌, List};
-ghost use Rattle.mps_arena.specs.Entries.{Entry};
-ghost use Rattle.mps_arena.specs.Sources.{id_in};
+ghost use Rattle.std.specs.Prelude.{◌≡◌, List, IfSome, IsSome};
+ghost use Rattle.mps_arena.specs.Entries.{Entry, entry_at};
 ghost use Rattle.mps_links.specs.Numbered.{key_of, HasNumber};
-ghost use Rattle.mps_links.specs.Order.{earlier, is_before, later};
+ghost use Rattle.mps_links.specs.Order.{earlier, later};
 
 use mps_arena::{Arena, Key};
 use mps_base::StepId;
-
-// whether both steps are there and the first has the smaller number
-fn is_before(arena: &Arena, a: Key, b: Key) -> bool
-    ensures { result ≡ is_before (id_in arena.now.entries a) (id_in arena.now.entries b) }
-{
-    match (arena.id(a), arena.id(b)) {
-        (Some(a), Some(b)) => a.is_before(b),
-        _ => false,
-    }
-}
-
-/// The key of the step with the smaller number.
-pub(crate) fn earlier(arena: &Arena, a: Option<Key>, b: Option<Key>) -> Option<Key>
-    ensures { result ≡ earlier arena.now.entries a b }
-{
-    match (a, b) {
-        (Some(first), Some(second)) => {
-            if is_before(arena, first, second) {
-                a
-            } else {
-                b
-            }
-        }
-        (Some(_), None) => a,
-        (None, _) => b,
-    }
-}
 
 /// A step's key, with its number.
 #[derive(Clone, Copy, Debug, PartialEq, Eq)]
@@ -42,11 +14,35 @@ pub(crate) struct Numbered {
     pub(crate) id: StepId,
 }
 
+/// The step of the key with its number.
+pub(crate) fn with_number(arena: &Arena, key: Option<Key>) -> Option<Numbered>
+    requires { IfSome key (λ key. IsSome (entry_at key arena.now.entries)) }
+    ensures key { key_of result ≡ key }
+    ensures number { HasNumber arena.now.entries result }
+{
+    let key = key?;
+    prove!(arena.len() > 0);
+    let id = arena.get(key).id;
+    Some(Numbered { key, id })
+}
+
 /// The key alone.
 pub(crate) fn key_of(newest: Option<Numbered>) -> Option<Key>
     ensures { result ≡ key_of newest }
 {
     Some(newest?.key)
+}
+
+/// Of two steps the one with the smaller number.
+pub(crate) fn earlier(a: Option<Numbered>, b: Option<Numbered>) -> Option<Numbered>
+    ensures { (es : List Entry) → HasNumber es a → HasNumber es b
+        → (key_of result ≡ earlier es (key_of a) (key_of b)) × HasNumber es result }
+{
+    match (a, b) {
+        (Some(first), Some(second)) => { if first.id.is_before(second.id) { a } else { b } }
+        (Some(_), None) => a,
+        (None, _) => b,
+    }
 }
 
 /// Of two steps the one with the larger number.

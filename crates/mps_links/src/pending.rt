@@ -1,10 +1,11 @@
 //! What is still to be marked.
-ghost use Rattle.std.specs.Prelude.{◌≡◌, ◌<◌, IsSome, Some, None, length, replicate};
+ghost use Rattle.std.specs.Prelude.{◌≡◌, ◌<◌, List, IsSome, Some, None, length, replicate};
 ghost use Rattle.std.specs.Option.{option_map};
-ghost use Rattle.mps_arena.specs.Entries.{entry_at};
+ghost use Rattle.mps_arena.specs.Entries.{Entry, entry_at};
+ghost use Rattle.mps_links.specs.Numbered.{keys_alone, HaveNumbers};
 ghost use Rattle.mps_links.specs.Pending.{followed, earliest};
 
-use crate::order::earlier;
+use crate::order::{Numbered, earlier, key_of, with_number};
 use mps_arena::{Arena, Key};
 
 // the place of the step's role
@@ -20,40 +21,48 @@ fn role_at(arena: &Arena, key: Key) -> usize
 /// For each role its first step that isn't marked and depends directly on a marked one.
 #[derive(Drop)]
 pub(crate) struct Pending {
-    firsts: [Option<Key>; 8],
+    firsts: [Option<Numbered>; 8],
 }
 
 impl Pending {
     /// Where no step is marked.
     pub(crate) fn new() -> Pending
-        ensures { result.firsts ≡ replicate 8 None }
+        ensures size { length result.firsts ≡ 8 }
+        ensures keys { keys_alone result.firsts ≡ replicate 8 None }
+        ensures numbers { (es : List Entry) → HaveNumbers es result.firsts }
     {
         Pending { firsts: [None; 8] }
     }
 
     /// The earliest of all.
-    pub(crate) fn earliest(&self, arena: &Arena) -> Option<Key>
+    pub(crate) fn earliest(&self) -> Option<Key>
         requires size { length self.now.firsts ≡ 8 }
-        ensures { result ≡ earliest arena.now.entries self.now.firsts }
+        ensures { (es : List Entry) → HaveNumbers es self.now.firsts
+            → result ≡ earliest es (keys_alone self.now.firsts) }
     {
         let mut first = None;
-        for key in &self.firsts {
-            first = earlier(arena, first, *key);
+        for pending in &self.firsts {
+            first = earlier(first, *pending);
         }
-        first
+        key_of(first)
     }
 
     /// Where the step is marked too: its role's next step and its receipt depend on it.
     pub(crate) fn follow(&mut self, arena: &Arena, key: Key)
         requires size { length self.old.firsts ≡ 8 }
         requires present { IsSome (entry_at key arena.now.entries) }
-        ensures { self.new.firsts ≡ followed arena.now.entries key self.old.firsts }
+        requires numbers { HaveNumbers arena.now.entries self.old.firsts }
+        ensures size { length self.new.firsts ≡ 8 }
+        ensures keys { keys_alone self.new.firsts
+            ≡ followed arena.now.entries key (keys_alone self.old.firsts) }
+        ensures numbers { HaveNumbers arena.now.entries self.new.firsts }
     {
         let role = role_at(arena, key);
-        self.firsts[role] = arena.next_of_role(key);
+        self.firsts[role] = with_number(arena, arena.next_of_role(key));
         if let Some(receipt) = arena.receipt(key) {
             let role = role_at(arena, receipt);
-            self.firsts[role] = earlier(arena, self.firsts[role], Some(receipt));
+            let receipt = with_number(arena, Some(receipt));
+            self.firsts[role] = earlier(self.firsts[role], receipt);
         }
     }
 }

@@ -1,15 +1,17 @@
 use Rattle.std.proofs.Common.{◌≡◌, ℕ, [], ◌∷◌, ◌++◌, append_assoc, Some, None, sym, ap, ◌∙◌, subst}
 use mathlib.Core.Path.{ap₂}
-use Rattle.std.specs.Prelude.{◌==◌}
+use Rattle.std.specs.Prelude.{◌==◌, IsSome}
 use Rattle.std.specs.List.{find}
 use Rattle.std.specs.Option.{option_map, option_and_then}
 use Rattle.mps_base.specs.declared.action.Step.{Step}
 use Rattle.mps_history.specs.Dependence.{depends_on, least, dependents}
-use Rattle.mps_arena.specs.Entries.{steps}
+use Rattle.mps_arena.specs.Entries.{steps, entry_at}
 use Rattle.mps_arena.specs.Sources.{id_in, next_of_role_in, receipt_in, CanGo}
+use Rattle.mps_links.specs.Numbered.{key_of, HasNumber}
 use Rattle.mps_links.specs.Order.{earlier}
 use Rattle.mps_links.proofs.Numbers.{IsNumbered, numbered}
 use Rattle.mps_links.proofs.Firsts.{first_numbered}
+use Rattle.mps_links.proofs.Present.{if_some, next_there, receipt_there}
 use Rattle.mps_links.proofs.Links.{least_by_links, first_dependent, alone_can_go}
 use Rattle.mps_links.proofs.dependent.least_dependent.Goals as goal
 use Rattle.mps_links.proofs.dependent.least_dependent.Goals.{After-earlier}
@@ -23,13 +25,13 @@ key c =
     cc
 
 -- the first step that depends on this one
-first : (c : After-earlier) → c.earlier.result ≡ earlier c.args.arena.now.entries (next_of_role_in c.args.arena.now.entries (step c).entry.key) (receipt_in c.args.arena.now.entries (step c).entry.key)
+first : (c : After-earlier) → key_of c.earlier.result ≡ earlier c.args.arena.now.entries (next_of_role_in c.args.arena.now.entries (step c).entry.key) (receipt_in c.args.arena.now.entries (step c).entry.key)
 first c =
     let es = c.args.arena.now.entries in
-    c.earlier.ensures
-    ∙ ap₂ (earlier es) (c.next_of_role.ensures ∙ ap (next_of_role_in es) (key c)) (c.receipt.ensures ∙ ap (receipt_in es) (key c))
+    (c.earlier.ensures es c.with_number-next.ensures.number c.with_number-receipt.ensures.number).0
+    ∙ ap₂ (earlier es) (c.with_number-next.ensures.key ∙ c.next_of_role.ensures ∙ ap (next_of_role_in es) (key c)) (c.with_number-receipt.ensures.key ∙ c.receipt.ensures ∙ ap (receipt_in es) (key c))
 
-least_is : (c : After-earlier) → least (dependents (steps c.args.arena.now.entries) c.args.id) ≡ option_and_then (id_in c.args.arena.now.entries) c.earlier.result
+least_is : (c : After-earlier) → least (dependents (steps c.args.arena.now.entries) c.args.id) ≡ option_and_then (id_in c.args.arena.now.entries) (key_of c.earlier.result)
 least_is c =
     let es = c.args.arena.now.entries in
     let s = step c in
@@ -37,7 +39,7 @@ least_is c =
     ∙ least_by_links es c.len.ensures.sound s.before s.behind s.entry s.parts
     ∙ ap (option_and_then (id_in es)) (sym (first c))
 
-alone : (c : After-earlier) → option_and_then (id_in c.args.arena.now.entries) c.earlier.result ≡ None → (k : ℕ) → option_map (λ e. e.key) (find (λ e. e.step.id == c.args.id) c.args.arena.now.entries) ≡ Some k → CanGo c.args.arena.now.entries k
+alone : (c : After-earlier) → option_and_then (id_in c.args.arena.now.entries) (key_of c.earlier.result) ≡ None → (k : ℕ) → option_map (λ e. e.key) (find (λ e. e.step.id == c.args.id) c.args.arena.now.entries) ≡ Some k → CanGo c.args.arena.now.entries k
 alone c none k at =
     let es = c.args.arena.now.entries in
     let s = step c in
@@ -57,20 +59,32 @@ returns-in_err-key-clause-least c =
     let no : None ≡ Some s.entry.key = sym c.in_err-key.was ∙ c.by_id.ensures ∙ s.key in
     absurd cc
 
+pub with_number-next-requires : goal.with_number-next-requires
+with_number-next-requires c =
+    let es = c.args.arena.now.entries in
+    if_some (λ k. IsSome (entry_at k es)) c.next_of_role.result (λ j e. next_there es c.in_ok-key.key j (sym c.next_of_role.ensures ∙ e))
+
+pub with_number-receipt-requires : goal.with_number-receipt-requires
+with_number-receipt-requires c =
+    let es = c.args.arena.now.entries in
+    if_some (λ k. IsSome (entry_at k es)) c.receipt.result (λ j e. receipt_there es c.in_ok-key.key j (sym c.receipt.ensures ∙ e))
+
+-- the number of the first, if there is one
+told : (c : After-earlier) → HasNumber c.args.arena.now.entries c.earlier.result
+told c = (c.earlier.ensures c.args.arena.now.entries c.with_number-next.ensures.number c.with_number-receipt.ensures.number).1
+
 pub returns-in_err-first-clause-least : goal.returns-in_err-first-clause-least
 returns-in_err-first-clause-least c =
     let is = least_is ((goal.at.returns-in_err-first-clause-least c).After-earlier) in
-    c.from_residual-in_err-first.ensures ∙ sym (is ∙ ap (option_and_then (id_in c.args.arena.now.entries)) c.in_err-first.was)
+    c.from_residual-in_err-first.ensures ∙ sym (is ∙ ap (λ o. option_and_then (id_in c.args.arena.now.entries) (key_of o)) c.in_err-first.was)
 
 pub returns-in_err-first-clause-free : goal.returns-in_err-first-clause-free
 returns-in_err-first-clause-free c none =
-    alone ((goal.at.returns-in_err-first-clause-free c).After-earlier) (ap (option_and_then (id_in c.args.arena.now.entries)) c.in_err-first.was)
+    alone ((goal.at.returns-in_err-first-clause-free c).After-earlier) (ap (λ o. option_and_then (id_in c.args.arena.now.entries) (key_of o)) c.in_err-first.was)
 
 pub returns-clause-least : goal.returns-clause-least
 returns-clause-least c =
-    let is = least_is ((goal.at.returns-clause-least c).After-earlier) in
-    c.id.ensures ∙ sym (is ∙ ap (option_and_then (id_in c.args.arena.now.entries)) c.in_ok-first.was)
-
-pub returns-clause-free : goal.returns-clause-free
-returns-clause-free c none =
-    alone ((goal.at.returns-clause-free c).After-earlier) (ap (option_and_then (id_in c.args.arena.now.entries)) c.in_ok-first.was ∙ sym c.id.ensures ∙ none)
+    let at = (goal.at.returns-clause-least c).After-earlier in
+    let es = c.args.arena.now.entries in
+    let number : id_in es c.in_ok-first.first.key ≡ Some c.in_ok-first.first.id = subst (HasNumber es) c.in_ok-first.was (told at) in
+    sym (least_is at ∙ ap (λ o. option_and_then (id_in es) (key_of o)) c.in_ok-first.was ∙ number)

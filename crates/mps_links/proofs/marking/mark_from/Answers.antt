@@ -5,6 +5,8 @@ use Rattle.mps_history.specs.Dependence.{consequences}
 use Rattle.mps_arena.specs.Entries.{Entry, steps, with_mark, entry_at}
 use Rattle.mps_links.specs.Marks.{marked_by}
 use Rattle.mps_links.specs.Pending.{followed}
+use Rattle.mps_links.specs.Numbered.{HaveNumbers}
+use Rattle.mps_links.proofs.Kept.{numbers_marked}
 use Rattle.mps_links.proofs.Numbers.{numbered}
 use Rattle.mps_links.proofs.Firsts.{entry_in}
 use Rattle.mps_links.proofs.Passing.{IsMarking}
@@ -32,6 +34,9 @@ follow-requires-clause-present c =
     let same = key ((goal.at.follow-requires-clause-present c).After-by_id) c.unwrap-first.result c.unwrap-first.ensures in
     subst IsSome (sym (ap (λ k. entry_at k es) (sym same) ∙ entry_in es sound.distinct sound.rising s.before s.behind s.entry s.parts)) cc
 
+pub follow-requires-clause-numbers : goal.follow-requires-clause-numbers
+follow-requires-clause-numbers c = c.new-pending.ensures.numbers c.args.arena.now.entries
+
 pub loop-count-init : goal.loop-count-init
 loop-count-init c =
     let es = c.args.arena.now.entries in
@@ -41,7 +46,9 @@ loop-count-init c =
     let at_key = subst (λ (k : ℕ). IsMarking es (map (with_mark k true) es) (consequences (steps es) s.entry.step.id) (followed es k (replicate 8 None)) 1) same start in
     let at_number = subst (λ (n : ℕ). IsMarking es (map (with_mark c.unwrap-first.result true) es) (consequences (steps es) n) (followed es c.unwrap-first.result (replicate 8 None)) 1) s.number at_key in
     record {
-      marking = rw (c.set_mark.ensures.entries, c.follow.ensures, c.new-pending.ensures) at_number;
+      marking = rw (c.set_mark.ensures.entries, c.follow.ensures.keys, c.new-pending.ensures.keys) at_number;
+      size = c.follow.ensures.size;
+      numbers = subst (λ (now : List Entry). HaveNumbers now c.follow.new.self.firsts) (sym c.set_mark.ensures.entries) (numbers_marked c.unwrap-first.result true es c.follow.new.self.firsts c.follow.ensures.numbers);
       issued = c.set_mark.ensures.issued;
       ready = c.set_mark.ensures.ready;
       key = c.set_mark.ensures.key;
@@ -52,7 +59,7 @@ follow-requires-in-loop-count-clause-present c =
     let now = c.loop-count.arena.entries in
     let sound = c.len.ensures.sound in
     let w = c.loop-count.invariant.marking in
-    let is = sym c.earliest.ensures ∙ c.in-Some.is in
+    let is = sym (c.earliest.ensures c.loop-count.arena.entries c.loop-count.invariant.numbers) ∙ c.in-Some.is in
     let f = first _ _ _ _ _ w sound c.in-Some.key is in
     let at : entry_at c.in-Some.key now ≡ Some f.entry =
     ap (λ k. entry_at k now) (sym f.key) ∙ entry_in now sound.distinct sound.rising (w.past ++ f.before) f.behind f.entry (split _ _ _ _ _ w sound c.in-Some.key is) in
@@ -62,8 +69,11 @@ pub loop-count-preserved : goal.loop-count-preserved
 loop-count-preserved c =
     let i = c.loop-count.invariant in
     let set = c.set_mark-in-loop-count.ensures in
+    let follow = c.follow-in-loop-count in
     record {
-      marking = rw (set.entries, c.follow-in-loop-count.ensures) (turns _ _ _ _ _ i.marking c.len.ensures.sound c.in-Some.key (sym c.earliest.ensures ∙ c.in-Some.is));
+      marking = rw (set.entries, follow.ensures.keys) (turns _ _ _ _ _ i.marking c.len.ensures.sound c.in-Some.key (sym (c.earliest.ensures c.loop-count.arena.entries i.numbers) ∙ c.in-Some.is));
+      size = follow.ensures.size;
+      numbers = subst (λ (now : List Entry). HaveNumbers now follow.new.self.firsts) (sym set.entries) (numbers_marked c.in-Some.key true c.loop-count.arena.entries follow.new.self.firsts follow.ensures.numbers);
       issued = set.issued ∙ i.issued;
       ready = set.ready ∙ i.ready;
       key = set.key ∙ i.key;
@@ -78,17 +88,17 @@ count_is es now n firsts count w whole = w.counted ∙ ap (λ (f : ℕ → Bool)
 pub returns-in_default-clause-marks : goal.returns-in_default-clause-marks
 returns-in_default-clause-marks c =
     let w = c.loop-count.invariant.marking in
-    marks_are _ _ _ _ _ w (ends _ _ _ _ _ w c.len.ensures.sound (sym c.earliest.ensures ∙ c.in_default.is))
+    marks_are _ _ _ _ _ w (ends _ _ _ _ _ w c.len.ensures.sound (sym (c.earliest.ensures c.loop-count.arena.entries c.loop-count.invariant.numbers) ∙ c.in_default.is))
 
 pub returns-in_default-clause-count : goal.returns-in_default-clause-count
 returns-in_default-clause-count c =
     let w = c.loop-count.invariant.marking in
-    count_is _ _ _ _ _ w (ends _ _ _ _ _ w c.len.ensures.sound (sym c.earliest.ensures ∙ c.in_default.is))
+    count_is _ _ _ _ _ w (ends _ _ _ _ _ w c.len.ensures.sound (sym (c.earliest.ensures c.loop-count.arena.entries c.loop-count.invariant.numbers) ∙ c.in_default.is))
 
 pub returns-in_default-clause-closed : goal.returns-in_default-clause-closed
 returns-in_default-clause-closed c =
     let w = c.loop-count.invariant.marking in
-    marks_closed _ _ c.args.id w.set c.len-len.ensures.sound.rising w.alike w.marks (ends _ _ _ _ _ w c.len.ensures.sound (sym c.earliest.ensures ∙ c.in_default.is))
+    marks_closed _ _ c.args.id w.set c.len-len.ensures.sound.rising w.alike w.marks (ends _ _ _ _ _ w c.len.ensures.sound (sym (c.earliest.ensures c.loop-count.arena.entries c.loop-count.invariant.numbers) ∙ c.in_default.is))
 
 pub returns-clause-marks : goal.returns-clause-marks
 returns-clause-marks c =

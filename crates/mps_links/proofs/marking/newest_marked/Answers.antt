@@ -1,5 +1,4 @@
-use Rattle.std.proofs.Common.{◌≡◌, ℕ, ◌==◌, ◌&&◌, nat_lt, Option, Some, None, refl, sym, ap, ◌∙◌, subst, arith}
-use Rattle.std.specs.Prelude.{IfSome}
+use Rattle.std.proofs.Common.{◌≡◌, ℕ, ◌==◌, ◌&&◌, nat_lt, None, sym, ap, ◌∙◌, subst, arith}
 use Rattle.std.proofs.lemmas.Bool.{and_left, le-ltb}
 use Rattle.mps_arena.specs.Keys.{last_key}
 use Rattle.mps_arena.specs.Entries.{keys_of}
@@ -8,13 +7,10 @@ use Rattle.mps_links.specs.Numbered.{key_of}
 use Rattle.mps_links.specs.Order.{later}
 use Rattle.mps_links.specs.Marks.{marked_keys, is_marked}
 use Rattle.mps_links.proofs.StepKeys.{keys_none}
+use Rattle.mps_links.proofs.Present.{if_some}
 use Rattle.mps_links.proofs.Lasts.{nothing_last}
 use Rattle.mps_links.proofs.Newest.{next_role, all_roles, newest_can_go}
 use Rattle.mps_links.proofs.marking.newest_marked.Goals as goal
-
-if_some : (P : ℕ → Type 0) (o : Option ℕ) → ((k : ℕ) → o ≡ Some k → P k) → IfSome o P
-if_some P None h = tt
-if_some P (Some k) h = h k refl
 
 pub loop-role-init : goal.loop-role-init
 loop-role-init c =

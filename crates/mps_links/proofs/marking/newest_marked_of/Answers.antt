@@ -39,7 +39,8 @@ returns-clause-newest c =
     let w = last ((goal.at.returns-clause-newest c).After-len) in
     let is : Some w.entry.marked ≡ Some c.marked.result = ap (option_map (λ (e : Entry). e.marked)) (sym (found ((goal.at.returns-clause-newest c).After-len))) ∙ c.marked.ensures in
     let m : w.entry.marked ≡ c.marked.result = cc in
-    ap Some (sym w.key)
+    c.with_number.ensures.key
+    ∙ ap Some (sym w.key)
     ∙ sym (last_marked es c.len.ensures.sound c.requires.closed c.args.role w.before w.behind w.entry w.parts w.passes w.none (m ∙ c.if-not-marked.false))
 
 pub returns-then-not-marked-clause-newest : goal.returns-then-not-marked-clause-newest

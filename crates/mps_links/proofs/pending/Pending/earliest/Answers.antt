@@ -1,8 +1,25 @@
-use Rattle.std.proofs.Common.{ap, ◌∙◌, arith}
+use Rattle.std.proofs.Common.{◌<◌, List, length, sym, ap, ◌∙◌, arith}
+use Rattle.std.specs.Prelude.{slice_index_or}
 use Rattle.std.proofs.lemmas.List.{take_all}
+use Rattle.mps_arena.specs.Entries.{Entry}
+use Rattle.mps_links.specs.Numbered.{key_of, keys_alone}
+use Rattle.mps_links.specs.Order.{earlier}
 use Rattle.mps_links.specs.Pending.{earliest}
+use Rattle.mps_links.proofs.Kept.{number_at, one_more}
 use Rattle.mps_links.proofs.pending.Pending.earliest.Goals as goal
 
+pub loop-pending-preserved : goal.loop-pending-preserved
+loop-pending-preserved c = λ (es : List Entry) numbers.
+    let firsts = c.args.self.now.firsts in
+    let i = c.loop-pending.pending-index in
+    let d = c.pending-item.result in
+    let small : i < length firsts = omega (arith, c.type_inv.pending-items, c.loop-pending-test.true) in
+    let before = c.loop-pending.invariant es numbers in
+    let both = c.earlier-first.ensures es before.1 (number_at es firsts i d small numbers) in
+    (both.0 ∙ ap (λ o. earlier es o (key_of (slice_index_or firsts i d))) before.0 ∙ sym (one_more es firsts i d small), both.1)
+
 pub returns : goal.returns
-returns c =
-    c.loop-key.invariant ∙ ap (earliest c.args.arena.now.entries) (take_all c.loop-key.key-index c.args.self.now.firsts (omega arith))
+returns c = λ (es : List Entry) numbers.
+    c.key_of.ensures
+    ∙ (c.loop-pending.invariant es numbers).0
+    ∙ ap (λ l. earliest es (keys_alone l)) (take_all c.loop-pending.pending-index c.args.self.now.firsts (omega arith))
