@@ -216,7 +216,7 @@ fn answered_at_last(alloc: Global, room: &mut Room, place: u8, ask: Ask) -> Resu
         return Err("want of memory changes something".into());
     }
     let answer = answered(room, place, again)?;
-    if matches!(answer, Answer::Refused(Refusal::Violation(_))) {
+    if matches!(answer, Answer::Refused(_)) {
         return Err("memory for a refused command".into());
     }
     Ok(answer)
