@@ -181,7 +181,7 @@ fn rolled_back(alloc: alloc::Global, protocol: &Protocol, turns: &[Turn]) -> Res
     }
 }
 
-// `rt try --test --fail-alloc N` refuses the reservation, for some N.
+// `rt try --test --fail-alloc 105 -- rolls_back_after` refuses the room for the answer.
 #[test]
 fn rolls_back_after_a_refusal(rt: HostRuntime) -> Result<(), Fail> {
     let alloc = rt.alloc();
