@@ -1,5 +1,5 @@
 use super::*;
-use crate::tests::Line::{Asks, Count, Keeps, Moves, Step, Waits};
+use crate::tests::Line::{Asks, Count, Keeps, Moves, Step, Undoes, Waits};
 use crate::tests::{A, Ask, B, C, Line, Opening, answer, name, opens_so, play, role_of};
 use mps_base::{Name, Role, Sort, Value, VarName};
 use mps_local::{Branches, Local};
@@ -282,6 +282,10 @@ const FULL: &[Line] = &[
     Asks(B, Ask::Mark("m"), "Full"),
     Count(100_000, 100_000),
     Step(99_999, "100000 0 left 0 m"),
+    // a step that is taken back gives its number back to nobody
+    Undoes(A, 100_000, "Ok"),
+    Asks(A, Ask::Mark("m"), "Full"),
+    Count(99_999, 100_000),
 ];
 
 #[test]

@@ -4,7 +4,7 @@ use super::*;
 use crate::protocol_tests::{choice, int, names};
 use crate::tests::{A, Ask, B, C, command, name, role_of};
 use mps_base::{Sort, StepId};
-use mps_command::{Answer, Change};
+use mps_command::{Answer, Change, Refusal, StepIds};
 use mps_global::{Global, Protocol};
 use std::alloc;
 use std::test::Fail;
@@ -157,6 +157,42 @@ fn compares_what_each_role_did(rt: HostRuntime) -> Result<(), Fail> {
         if found != *wanted || turned != *wanted {
             return Err(Fail::from(format!(in alloc; "row {k}")?));
         }
+    }
+    Ok(())
+}
+
+// What a rolls back that takes its first step back. Where memory runs out for the answer, the session
+// is the same as one that never tried, and a second try takes the steps.
+fn rolled_back(alloc: alloc::Global, protocol: &Protocol, turns: &[Turn]) -> Result<StepIds, Fail> {
+    let mut session = open_protocol(alloc, protocol)?;
+    let mut untried = open_protocol(alloc, protocol)?;
+    take_all(alloc, &mut session, turns)?;
+    take_all(alloc, &mut untried, turns)?;
+    let role = role_of(&session, A)?;
+    match session.rollback(role, StepId::new(1)) {
+        Err(Refusal::Memory) => {}
+        Ok(ids) => return Ok(ids),
+        Err(_) => return Err("it is refused".into()),
+    }
+    if !same(&session, &untried) || session.issued() != untried.issued() {
+        return Err("a refusal changed something".into());
+    }
+    match session.rollback(role, StepId::new(1)) {
+        Ok(ids) => Ok(ids),
+        Err(_) => Err("it is refused again".into()),
+    }
+}
+
+// `rt try --test --fail-alloc 105 -- rolls_back_after` refuses the room for the answer.
+#[test]
+fn rolls_back_after_a_refusal(rt: HostRuntime) -> Result<(), Fail> {
+    let alloc = rt.alloc();
+    let turns = [SEND_5, BESIDE, TAKE, SAY_X, TAKE_BESIDE];
+    let ids = rolled_back(alloc, &two_pairs(alloc)?, &turns)?;
+    let numbers: [u64; 3] = [4, 3, 1];
+    assert_eq!(rt; ids.as_slice().len(), 3);
+    for (id, number) in ids.as_slice().iter().zip(numbers) {
+        assert_eq!(rt; id.number(), number);
     }
     Ok(())
 }
