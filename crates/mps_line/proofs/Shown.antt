@@ -16,8 +16,9 @@ use Rattle.mps_command.specs.declared.answer.Refusal.{Refusal}
 use Rattle.mps_command.specs.declared.answer.Refusal.TheVariants.{Violation as Violates, NoStep, NotYours, Needed, NoMark, Full, Memory}
 use Rattle.mps_command.specs.declared.answer.Answer.{Answer}
 use Rattle.mps_command.specs.declared.answer.Answer.TheVariants.{Done, Undone, News, Shown, Refused}
-use Rattle.mps_command.specs.declared.command.Change.{Change}
-use Rattle.mps_command.specs.declared.command.Change.TheVariants.{Forward, Undo, Rollback, Back}
+use Rattle.mps_command.specs.declared.command.Command.{Command}
+use Rattle.mps_command.specs.declared.command.Command.TheVariants.{Forward, Undo, Rollback, Back}
+use Rattle.mps_command.specs.declared.command.Command.TheVariants as commands
 use Rattle.mps_command.specs.declared.command.Forward.TheVariants.{Send, Choose, Receive, Pick, Mark}
 use Rattle.mps_line.specs.declared.reply.Reply.{Reply}
 use Rattle.mps_line.specs.declared.reply.Reply.TheVariants.{Answered, BadLine}
@@ -86,8 +87,10 @@ shown_verb verbs.Mark = search rules
 shown_verb verbs.Undo = search rules
 shown_verb verbs.Rollback = search rules
 shown_verb verbs.Back = search rules
+shown_verb verbs.News = search rules
+shown_verb verbs.Show = search rules
 
-plain_arguments : (c : Change) → AllByRecursion IsPlain (arguments c)
+plain_arguments : (c : Command) → AllByRecursion IsPlain (arguments c)
 plain_arguments (Forward (Send to value)) = (tt, (tt, tt))
 plain_arguments (Forward (Choose to label)) = (tt, (tt, tt))
 plain_arguments (Forward (Receive from slot)) = (tt, (tt, tt))
@@ -96,8 +99,10 @@ plain_arguments (Forward (Mark name)) = (tt, tt)
 plain_arguments (Undo id) = (tt, tt)
 plain_arguments (Rollback id) = (tt, tt)
 plain_arguments (Back name) = (tt, tt)
+plain_arguments (commands.News known) = (tt, tt)
+plain_arguments commands.Show = tt
 
-pub shown_line : (names : List (List ℕ)) (a : List ℕ) (p : ℕ) (c : Change) → SpellsScriptLine names a p c → AreShown a
+pub shown_line : (names : List (List ℕ)) (a : List ℕ) (p : ℕ) (c : Command) → SpellsScriptLine names a p c → AreShown a
 shown_line names a p c h = shown_tokens names a _ (tt, (shown_verb (verb_of c), plain_arguments c)) h
 
 -- ---- replies
