@@ -6,6 +6,7 @@ ghost use Rattle.mps_base.specs.declared.value.Value.TheVariants as values;
 ghost use Rattle.mps_command.specs.declared.command.Command.{Command};
 ghost use Rattle.mps_command.specs.declared.command.Command.TheVariants as commands;
 ghost use Rattle.mps_command.specs.declared.command.Forward.TheVariants as steps;
+ghost use Rattle.mps_line.specs.declared.script.LineFault.TheVariants.{Memory as OutOfMemory};
 ghost use Rattle.mps_line.specs.declared.script.Verb.{Verb};
 ghost use Rattle.mps_line.specs.Tokens.{RoleAt, Worth, SpellsLine};
 ghost use Rattle.mps_line.specs.Commands.{verb_word, verb_of, arguments, TakesArguments, SpellsCommand, SpellsScriptLine};
@@ -13,7 +14,7 @@ ghost use Rattle.mps_line.specs.Commands.{verb_word, verb_of, arguments, TakesAr
 use crate::parts::{behind, read_count, read_role, read_role_and_name, read_step, split_role};
 use mps_base::{Name, Role, Roles, Value, ValueFault};
 use mps_command::{Command, Forward};
-use std::alloc::Global;
+use std::alloc::{AllocError, AllocFailed, Global};
 use thiserror::Error;
 
 /// Why a line was not read.
@@ -23,6 +24,22 @@ pub enum LineFault {
     Bad,
     #[error("out of memory")]
     Memory,
+}
+
+impl From<AllocError> for LineFault {
+    ghost from_gives = { λ _ e. e ≡ OutOfMemory };
+
+    fn from(_e: AllocError) -> LineFault {
+        LineFault::Memory
+    }
+}
+
+impl<T: Drop> From<AllocFailed<T>> for LineFault {
+    ghost from_gives = { λ _ e. e ≡ OutOfMemory };
+
+    fn from(_e: AllocFailed<T>) -> LineFault {
+        LineFault::Memory
+    }
 }
 
 /// The first word of a command.
