@@ -4,3 +4,4 @@ pub mod Writing
 pub mod Unique
 pub mod Shown
 pub mod Meaning
+pub mod Replying

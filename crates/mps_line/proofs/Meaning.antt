@@ -1,5 +1,5 @@
 -- What a reply's text means is unique.
-use Rattle.std.proofs.Common.{arith, rules, ◌≡◌, ◌≢◌, ℕ, List, [], ◌∷◌, Some, get_or, refl, sym, ap, ◌∙◌}
+use Rattle.std.proofs.Common.{arith, rules, ◌≡◌, ◌≢◌, ℕ, ◌⊎◌, ⊎_elim, inl, inr, List, [], ◌∷◌, Some, get_or, refl, sym, ap, subst, ◌∙◌}
 use Rattle.std.specs.Prelude.{◌<◌, Option, None, length, map, if◌then◌else◌, codes}
 use Rattle.std.specs.Str.{bytes_eq}
 use Rattle.std.proofs.lemmas.Option.{same_Some}
@@ -16,60 +16,91 @@ use Rattle.mps_command.specs.declared.answer.Violation.TheVariants.{Ended, Wrong
 use Rattle.mps_command.specs.declared.answer.Refusal.{Refusal}
 use Rattle.mps_command.specs.declared.answer.Refusal.TheVariants.{Violation as Violates, NoStep, NotYours, Needed, NoMark, Full, Memory}
 use Rattle.mps_line.specs.declared.reply.Reply.{Reply}
-use Rattle.mps_line.specs.declared.reply.Reply.TheVariants.{Answered, BadLine}
-use Rattle.mps_line.specs.Tokens.{Token, Word, Number, Show, HasNoSpace, SpellsShow, SpellsToken, SpellEach, SpellsLine}
+use Rattle.mps_line.specs.declared.reply.Reply.TheVariants.{Answered, BadLine, Joined, NoSession, NoRole, Taken}
+use Rattle.mps_line.specs.Tokens.{Token, Word, Called, Number, Show, HasNoSpace, SpellsShow, SpellsToken, SpellEach, SpellsLine}
 use Rattle.mps_line.specs.Replies.{word_of, message_token, done_tokens, undone_tokens, news_tokens, refusal_tokens, answer_tokens, SpellsReply}
 use Rattle.mps_line.proofs.Splitting.{one_split, never_split, digits_have_no_space, behind, alone}
 use Rattle.mps_line.proofs.Reading.{word_behind}
 use Rattle.mps_line.proofs.Unique.{one_number}
 
--- the refusal that the word is for, `needed` by step 0
-abbrev meant : List ℕ → Option Refusal
+-- why a line is refused: by the machine's reason, or by one that no command has
+data Cause : Type 0 where
+  Because : (r : Refusal) → Cause
+  Unread : Cause
+  Nowhere : Cause
+  Nobody : Cause
+  Used : Cause
+
+-- the reply that says so
+abbrev reply_of : Cause → Reply
+reply_of (Because r) = Answered (Refused r)
+reply_of Unread = BadLine
+reply_of Nowhere = NoSession
+reply_of Nobody = NoRole
+reply_of Used = Taken
+
+-- its word, and the tokens behind `refused`
+abbrev cause_word : Cause → List ℕ
+cause_word (Because r) = word_of r
+cause_word Unread = codes "line"
+cause_word Nowhere = codes "nosession"
+cause_word Nobody = codes "norole"
+cause_word Used = codes "taken"
+
+abbrev cause_tokens : Cause → List Token
+cause_tokens (Because r) = refusal_tokens r
+cause_tokens cause = Word (cause_word cause) ∷ []
+
+-- the cause that the word is for, `needed` by step 0
+abbrev meant : List ℕ → Option Cause
 meant word =
-    if bytes_eq word (codes "ended") then Some (Violates Ended)
-    else if bytes_eq word (codes "wrongact") then Some (Violates WrongAct)
-    else if bytes_eq word (codes "wrongpeer") then Some (Violates WrongPeer)
-    else if bytes_eq word (codes "wrongsort") then Some (Violates WrongSort)
-    else if bytes_eq word (codes "nolabel") then Some (Violates NoLabel)
-    else if bytes_eq word (codes "nothingqueued") then Some (Violates NothingQueued)
-    else if bytes_eq word (codes "mismatch") then Some (Violates Mismatch)
-    else if bytes_eq word (codes "nostep") then Some NoStep
-    else if bytes_eq word (codes "notyours") then Some NotYours
-    else if bytes_eq word (codes "needed") then Some (Needed 0)
-    else if bytes_eq word (codes "nomark") then Some NoMark
-    else if bytes_eq word (codes "full") then Some Full
-    else if bytes_eq word (codes "memory") then Some Memory
+    if bytes_eq word (codes "ended") then Some (Because (Violates Ended))
+    else if bytes_eq word (codes "wrongact") then Some (Because (Violates WrongAct))
+    else if bytes_eq word (codes "wrongpeer") then Some (Because (Violates WrongPeer))
+    else if bytes_eq word (codes "wrongsort") then Some (Because (Violates WrongSort))
+    else if bytes_eq word (codes "nolabel") then Some (Because (Violates NoLabel))
+    else if bytes_eq word (codes "nothingqueued") then Some (Because (Violates NothingQueued))
+    else if bytes_eq word (codes "mismatch") then Some (Because (Violates Mismatch))
+    else if bytes_eq word (codes "nostep") then Some (Because NoStep)
+    else if bytes_eq word (codes "notyours") then Some (Because NotYours)
+    else if bytes_eq word (codes "needed") then Some (Because (Needed 0))
+    else if bytes_eq word (codes "nomark") then Some (Because NoMark)
+    else if bytes_eq word (codes "full") then Some (Because Full)
+    else if bytes_eq word (codes "memory") then Some (Because Memory)
+    else if bytes_eq word (codes "line") then Some Unread
+    else if bytes_eq word (codes "nosession") then Some Nowhere
+    else if bytes_eq word (codes "norole") then Some Nobody
+    else if bytes_eq word (codes "taken") then Some Used
     else None
 
--- the refusal without its step
-abbrev plain : Refusal → Refusal
-plain (Needed by) = Needed 0
-plain r = r
+-- the cause without its step
+abbrev plain : Cause → Cause
+plain (Because (Needed by)) = Because (Needed 0)
+plain c = c
 
-meant_word : (r : Refusal) → meant (word_of r) ≡ Some (plain r)
-meant_word (Violates Ended) = refl
-meant_word (Violates WrongAct) = refl
-meant_word (Violates WrongPeer) = refl
-meant_word (Violates WrongSort) = refl
-meant_word (Violates NoLabel) = refl
-meant_word (Violates NothingQueued) = refl
-meant_word (Violates Mismatch) = refl
-meant_word NoStep = refl
-meant_word NotYours = refl
-meant_word (Needed by) = refl
-meant_word NoMark = refl
-meant_word Full = refl
-meant_word Memory = refl
+meant_word : (c : Cause) → meant (cause_word c) ≡ Some (plain c)
+meant_word (Because (Violates Ended)) = refl
+meant_word (Because (Violates WrongAct)) = refl
+meant_word (Because (Violates WrongPeer)) = refl
+meant_word (Because (Violates WrongSort)) = refl
+meant_word (Because (Violates NoLabel)) = refl
+meant_word (Because (Violates NothingQueued)) = refl
+meant_word (Because (Violates Mismatch)) = refl
+meant_word (Because NoStep) = refl
+meant_word (Because NotYours) = refl
+meant_word (Because (Needed by)) = refl
+meant_word (Because NoMark) = refl
+meant_word (Because Full) = refl
+meant_word (Because Memory) = refl
+meant_word Unread = refl
+meant_word Nowhere = refl
+meant_word Nobody = refl
+meant_word Used = refl
 
-one_word : (r s : Refusal) → word_of r ≡ word_of s → plain r ≡ plain s
-one_word r s e = same_Some (plain r) (plain s) (sym (meant_word r) ∙ ap meant e ∙ meant_word s)
+one_word : (c d : Cause) → cause_word c ≡ cause_word d → plain c ≡ plain d
+one_word c d e = same_Some (plain c) (plain d) (sym (meant_word c) ∙ ap meant e ∙ meant_word d)
 
-no_line_word : (r : Refusal) → codes "line" ≢ word_of r
-no_line_word r e =
-    let none : None ≡ Some (plain r) = ap meant e ∙ meant_word r in
-    absurd cc
-
-word_has_no_space : (r : Refusal) → HasNoSpace (word_of r)
+pub word_has_no_space : (r : Refusal) → HasNoSpace (word_of r)
 word_has_no_space (Violates Ended) = search rules
 word_has_no_space (Violates WrongAct) = search rules
 word_has_no_space (Violates WrongPeer) = search rules
@@ -84,16 +115,29 @@ word_has_no_space NoMark = search rules
 word_has_no_space Full = search rules
 word_has_no_space Memory = search rules
 
-done_has_no_space : HasNoSpace (codes "done")
+cause_has_no_space : (c : Cause) → HasNoSpace (cause_word c)
+cause_has_no_space (Because r) = word_has_no_space r
+cause_has_no_space Unread = search rules
+cause_has_no_space Nowhere = search rules
+cause_has_no_space Nobody = search rules
+cause_has_no_space Used = search rules
+
+pub done_has_no_space : HasNoSpace (codes "done")
 done_has_no_space = search rules
 
-undone_has_no_space : HasNoSpace (codes "undone")
+pub undone_has_no_space : HasNoSpace (codes "undone")
 undone_has_no_space = search rules
 
-news_has_no_space : HasNoSpace (codes "news")
+pub news_has_no_space : HasNoSpace (codes "news")
 news_has_no_space = search rules
 
-refused_has_no_space : HasNoSpace (codes "refused")
+pub joined_has_no_space : HasNoSpace (codes "joined")
+joined_has_no_space = search rules
+
+pub join_has_no_space : HasNoSpace (codes "join")
+join_has_no_space = search rules
+
+pub refused_has_no_space : HasNoSpace (codes "refused")
 refused_has_no_space = search rules
 
 -- two lines that begin with this word
@@ -110,20 +154,59 @@ never_both a letters t u us p h k =
     let b = behind [] a t u us k in
     never_split letters b.1.front b.0 p (sym (alone [] a (Word letters) h) ∙ b.1.parts)
 
-one_refusal : (a : List ℕ) (r s : Refusal) → SpellsLine [] a (refusal_tokens r) → SpellsLine [] a (refusal_tokens s) → r ≡ s
-one_refusal a (Needed m) (Needed n) h k =
+-- a cause has its word alone, or it is `needed` by a step
+alone_or_needed : (c : Cause) → (cause_tokens c ≡ Word (cause_word c) ∷ []) ⊎ ((by : ℕ) × (c ≡ Because (Needed by)))
+alone_or_needed (Because (Needed by)) = inr (by, refl)
+alone_or_needed (Because (Violates v)) = inl refl
+alone_or_needed (Because NoStep) = inl refl
+alone_or_needed (Because NotYours) = inl refl
+alone_or_needed (Because NoMark) = inl refl
+alone_or_needed (Because Full) = inl refl
+alone_or_needed (Because Memory) = inl refl
+alone_or_needed Unread = inl refl
+alone_or_needed Nowhere = inl refl
+alone_or_needed Nobody = inl refl
+alone_or_needed Used = inl refl
+
+-- a cause that names no step is plain
+is_plain : (c : Cause) → cause_tokens c ≡ Word (cause_word c) ∷ [] → plain c ≡ c
+is_plain (Because (Needed by)) e = absurd cc
+is_plain (Because (Violates v)) e = refl
+is_plain (Because NoStep) e = refl
+is_plain (Because NotYours) e = refl
+is_plain (Because NoMark) e = refl
+is_plain (Because Full) e = refl
+is_plain (Because Memory) e = refl
+is_plain Unread e = refl
+is_plain Nowhere e = refl
+is_plain Nobody e = refl
+is_plain Used e = refl
+
+-- no line is such a word and `needed` with a step
+alone_nor_needed : (a : List ℕ) (c : Cause) (by : ℕ) → SpellsLine [] a (Word (cause_word c) ∷ []) → SpellsLine [] a (cause_tokens (Because (Needed by))) → ⊥
+alone_nor_needed a c by h k = never_both a (cause_word c) (Word (codes "needed")) (Number by) [] (cause_has_no_space c) h k
+
+one_step_needed : (a : List ℕ) (m n : ℕ) → SpellsLine [] a (cause_tokens (Because (Needed m))) → SpellsLine [] a (cause_tokens (Because (Needed n))) → m ≡ n
+one_step_needed a m n h k =
     let b = one_word_first a (codes "needed") (Number m) [] (Number n) [] (word_has_no_space (Needed m)) h k in
-    ap Needed (one_number b.0 m n (alone [] b.0 (Number m) b.1) (alone [] b.0 (Number n) b.2))
-one_refusal a (Needed m) s h k = absurd (never_both a (word_of s) _ _ _ (word_has_no_space s) k h)
-one_refusal a r (Needed n) h k = absurd (never_both a (word_of r) _ _ _ (word_has_no_space r) h k)
-one_refusal a r s h k = one_word r s (sym (alone [] a (Word (word_of r)) h) ∙ alone [] a (Word (word_of s)) k)
+    one_number b.0 m n (alone [] b.0 (Number m) b.1) (alone [] b.0 (Number n) b.2)
 
-line_has_no_space : HasNoSpace (codes "line")
-line_has_no_space = search rules
-
-no_line_refusal : (a : List ℕ) (r : Refusal) → SpellsLine [] a (Word (codes "line") ∷ []) → SpellsLine [] a (refusal_tokens r) → ⊥
-no_line_refusal a (Needed n) h k = never_both a (codes "line") _ _ _ line_has_no_space h k
-no_line_refusal a r h k = no_line_word r (sym (alone [] a (Word (codes "line")) h) ∙ alone [] a (Word (word_of r)) k)
+one_cause : (a : List ℕ) (c d : Cause) → SpellsLine [] a (cause_tokens c) → SpellsLine [] a (cause_tokens d) → c ≡ d
+one_cause a c d h k =
+    ⊎_elim
+    (λ (e : cause_tokens c ≡ Word (cause_word c) ∷ []).
+    ⊎_elim
+    (λ (f : cause_tokens d ≡ Word (cause_word d) ∷ []).
+    sym (is_plain c e) ∙ one_word c d (sym (alone [] a (Word (cause_word c)) (rw e at h)) ∙ alone [] a (Word (cause_word d)) (rw f at k)) ∙ is_plain d f)
+    (λ (n : (by : ℕ) × (d ≡ Because (Needed by))). absurd (alone_nor_needed a c n.0 (rw e at h) (subst (λ (x : Cause). SpellsLine [] a (cause_tokens x)) n.1 k)))
+    (alone_or_needed d))
+    (λ (m : (by : ℕ) × (c ≡ Because (Needed by))).
+    ⊎_elim
+    (λ (f : cause_tokens d ≡ Word (cause_word d) ∷ []). absurd (alone_nor_needed a d m.0 (rw f at k) (subst (λ (x : Cause). SpellsLine [] a (cause_tokens x)) m.1 h)))
+    (λ (n : (by : ℕ) × (d ≡ Because (Needed by))).
+    m.1 ∙ ap (λ (by : ℕ). Because (Needed by)) (one_step_needed a m.0 n.0 (subst (λ (x : Cause). SpellsLine [] a (cause_tokens x)) m.1 h) (subst (λ (x : Cause). SpellsLine [] a (cause_tokens x)) n.1 k)) ∙ sym n.1)
+    (alone_or_needed d))
+    (alone_or_needed c)
 
 -- what stands behind a number
 record SameNumber (m n : ℕ) (t : Token) (ts : List Token) (u : Token) (us : List Token) : Type 0 where
@@ -182,9 +265,26 @@ done_behind : (a letters : List ℕ) (id : ℕ) (got : Option Message) → Spell
 done_behind a letters id None h = word_behind [] a letters _ _ h
 done_behind a letters id (Some message) h = word_behind [] a letters _ _ h
 
-refusal_behind : (a letters : List ℕ) (r : Refusal) → SpellsLine [] a (Word letters ∷ refusal_tokens r) → (rest : List ℕ) × (a ≡ spaced (letters ∷ rest ∷ [])) × SpellsLine [] rest (refusal_tokens r)
-refusal_behind a letters (Needed by) h = word_behind [] a letters _ _ h
-refusal_behind a letters r h = word_behind [] a letters _ _ h
+cause_behind : (a : List ℕ) (c : Cause) → SpellsReply a (reply_of c) → (rest : List ℕ) × (a ≡ spaced (codes "refused" ∷ rest ∷ [])) × SpellsLine [] rest (cause_tokens c)
+cause_behind a (Because (Needed by)) h = word_behind [] a (codes "refused") _ _ h
+cause_behind a (Because (Violates v)) h = word_behind [] a (codes "refused") _ _ h
+cause_behind a (Because NoStep) h = word_behind [] a (codes "refused") _ _ h
+cause_behind a (Because NotYours) h = word_behind [] a (codes "refused") _ _ h
+cause_behind a (Because NoMark) h = word_behind [] a (codes "refused") _ _ h
+cause_behind a (Because Full) h = word_behind [] a (codes "refused") _ _ h
+cause_behind a (Because Memory) h = word_behind [] a (codes "refused") _ _ h
+cause_behind a Unread h = word_behind [] a (codes "refused") _ _ h
+cause_behind a Nowhere h = word_behind [] a (codes "refused") _ _ h
+cause_behind a Nobody h = word_behind [] a (codes "refused") _ _ h
+cause_behind a Used h = word_behind [] a (codes "refused") _ _ h
+
+-- a line has one cause
+same_cause : (a : List ℕ) (c d : Cause) → SpellsReply a (reply_of c) → SpellsReply a (reply_of d) → reply_of c ≡ reply_of d
+same_cause a c d h k =
+    let b = cause_behind a c h in
+    let f = cause_behind a d k in
+    let same = one_split (codes "refused") (codes "refused") b.0 f.0 refused_has_no_space refused_has_no_space (sym b.1 ∙ f.1) in
+    ap reply_of (one_cause b.0 c d b.2 (rw (sym same.1) at f.2))
 
 -- a line begins with the first byte of its first word
 first_byte : (a letters : List ℕ) (ts : List Token) → 0 < length letters → SpellsLine [] a (Word letters ∷ ts) → get_or a 0 0 ≡ get_or letters 0 0
@@ -199,43 +299,60 @@ first_byte a letters ts some h = by_spellings h.spellings h.joined h.each
     by_spellings [] e k = absurd k
     by_spellings (s ∷ ss) e k = ap (λ (l : List ℕ). get_or l 0 0) e ∙ front s ss (rw k.0 some) ∙ ap (λ (l : List ℕ). get_or l 0 0) k.0
 
--- answers of different kinds are told apart by it
-abbrev letter : Answer → ℕ
-letter (Accepted done) = 100
-letter (Undone ids) = 117
-letter (News n ids) = 110
-letter (Shown text) = 123
-letter (Refused refusal) = 114
+-- replies of different kinds are told apart by it
+abbrev pub letter : Reply → ℕ
+letter (Answered (Accepted done)) = 100
+letter (Answered (Undone ids)) = 117
+letter (Answered (News n ids)) = 110
+letter (Answered (Shown text)) = 123
+letter (Joined session name) = 106
+letter reply = 114
 
 show_letter : (a text : List ℕ) → SpellsShow a text → get_or a 0 0 ≡ 123
 show_letter [] text h = absurd (let none : None ≡ Some 123 = h.allowed.brace in cc)
 show_letter (c ∷ a) text h = same_Some c 123 h.allowed.brace
 
-begins : (a : List ℕ) (r : Answer) → SpellsLine [] a (answer_tokens r) → get_or a 0 0 ≡ letter r
-begins a (Accepted done) h = first_byte a (codes "done") _ (omega arith) h
-begins a (Undone ids) h = first_byte a (codes "undone") _ (omega arith) h
-begins a (News n ids) h = first_byte a (codes "news") _ (omega arith) h
-begins a (Shown text) h = show_letter a text (alone [] a (Show text) h)
-begins a (Refused r) h = first_byte a (codes "refused") _ (omega arith) h
+pub begins : (a : List ℕ) (r : Reply) → SpellsReply a r → get_or a 0 0 ≡ letter r
+begins a (Answered (Accepted done)) h = first_byte a (codes "done") _ (omega arith) h
+begins a (Answered (Undone ids)) h = first_byte a (codes "undone") _ (omega arith) h
+begins a (Answered (News n ids)) h = first_byte a (codes "news") _ (omega arith) h
+begins a (Answered (Shown text)) h = show_letter a text (alone [] a (Show text) h)
+begins a (Answered (Refused r)) h = first_byte a (codes "refused") _ (omega arith) h
+begins a BadLine h = first_byte a (codes "refused") _ (omega arith) h
+begins a (Joined session name) h = first_byte a (codes "joined") _ (omega arith) h
+begins a NoSession h = first_byte a (codes "refused") _ (omega arith) h
+begins a NoRole h = first_byte a (codes "refused") _ (omega arith) h
+begins a Taken h = first_byte a (codes "refused") _ (omega arith) h
 
-one_letter : (a : List ℕ) (r s : Answer) → SpellsLine [] a (answer_tokens r) → SpellsLine [] a (answer_tokens s) → letter r ≡ letter s
+one_letter : (a : List ℕ) (r s : Reply) → SpellsReply a r → SpellsReply a s → letter r ≡ letter s
 one_letter a r s h k = sym (begins a r h) ∙ begins a s k
 
--- a bad line begins as a refusal does
-bad_letter : (a : List ℕ) (r : Answer) → SpellsReply a (Answered r) → SpellsReply a BadLine → letter r ≡ 114
-bad_letter a r h k = sym (begins a r h) ∙ first_byte a (codes "refused") _ (omega arith) k
+-- a reply says why a line is refused, or it begins with another letter
+refused_or_not : (r : Reply) → ((c : Cause) × (r ≡ reply_of c)) ⊎ (letter r ≢ 114)
+refused_or_not (Answered (Accepted done)) = inr (λ e. absurd (omega (arith, e)))
+refused_or_not (Answered (Undone ids)) = inr (λ e. absurd (omega (arith, e)))
+refused_or_not (Answered (News n ids)) = inr (λ e. absurd (omega (arith, e)))
+refused_or_not (Answered (Shown text)) = inr (λ e. absurd (omega (arith, e)))
+refused_or_not (Answered (Refused r)) = inl (Because r, refl)
+refused_or_not BadLine = inl (Unread, refl)
+refused_or_not (Joined session name) = inr (λ e. absurd (omega (arith, e)))
+refused_or_not NoSession = inl (Nowhere, refl)
+refused_or_not NoRole = inl (Nobody, refl)
+refused_or_not Taken = inl (Used, refl)
 
--- no answer is a bad line
-answer_or_bad : (a : List ℕ) (r : Answer) → SpellsReply a (Answered r) → SpellsReply a BadLine → ⊥
-answer_or_bad a (Accepted done) h k = absurd (omega (arith, bad_letter a (Accepted done) h k))
-answer_or_bad a (Undone ids) h k = absurd (omega (arith, bad_letter a (Undone ids) h k))
-answer_or_bad a (News n ids) h k = absurd (omega (arith, bad_letter a (News n ids) h k))
-answer_or_bad a (Shown text) h k = absurd (omega (arith, bad_letter a (Shown text) h k))
-answer_or_bad a (Refused r) h k =
-    let b = refusal_behind a (codes "refused") r h in
-    let d = word_behind [] a (codes "refused") (Word (codes "line")) [] k in
-    let same = one_split (codes "refused") (codes "refused") b.0 d.0 refused_has_no_space refused_has_no_space (sym b.1 ∙ d.1) in
-    no_line_refusal b.0 r (rw (sym same.1) at d.2) b.2
+cause_letter : (c : Cause) → letter (reply_of c) ≡ 114
+cause_letter (Because r) = refl
+cause_letter Unread = refl
+cause_letter Nowhere = refl
+cause_letter Nobody = refl
+cause_letter Used = refl
+
+-- and so has the line that a role is joined to a connection
+one_pass : (a : List ℕ) (m n : ℕ) (x y : List ℕ) → SpellsReply a (Joined m x) → SpellsReply a (Joined n y) → (m ≡ n) × (x ≡ y)
+one_pass a m n x y h k =
+    let b = one_word_first a (codes "joined") (Number m) (Called x ∷ []) (Number n) (Called y ∷ []) joined_has_no_space h k in
+    let s = same_number b.0 m n (Called x) [] (Called y) [] b.1 b.2 in
+    (s.number, sym (alone [] s.rest (Called x) s.one).is ∙ (alone [] s.rest (Called y) s.other).is)
 
 -- a text spells one value, and a value no name
 module _ (one_value : (a : List ℕ) (v w : Value) → SpellsValue a v → SpellsValue a w → v ≡ w) (no_name : (a : List ℕ) (v : Value) → SpellsValue a v → IsName a → ⊥) where
@@ -258,47 +375,41 @@ module _ (one_value : (a : List ℕ) (v w : Value) → SpellsValue a v → Spell
       ap (λ (id : ℕ). let done : Done = record { id = id; got = d.got } in done) h.0
       ∙ ap (λ (got : Option Message). let done : Done = record { id = e.id; got = got } in done) h.1
 
-  one_answer : (a : List ℕ) (r s : Answer) → SpellsLine [] a (answer_tokens r) → SpellsLine [] a (answer_tokens s) → r ≡ s
-  one_answer a (Accepted d) (Accepted e) h k =
+  -- replies that refuse nothing
+  one_other : (a : List ℕ) (r s : Reply) → letter r ≡ letter s → letter r ≢ 114 → SpellsReply a r → SpellsReply a s → r ≡ s
+  one_other a (Answered (Accepted d)) (Answered (Accepted e)) l other h k =
       let b = done_behind a (codes "done") d.id d.got h in
       let f = done_behind a (codes "done") e.id e.got k in
       let same = one_split (codes "done") (codes "done") b.0 f.0 done_has_no_space done_has_no_space (sym b.1 ∙ f.1) in
-      ap Accepted (same_done d e (one_done b.0 d.id e.id d.got e.got b.2 (rw (sym same.1) at f.2)))
-  one_answer a (Undone ms) (Undone ns) h k = ap Undone (one_undone a ms ns h k)
-  one_answer a (News m ms) (News n ns) h k =
+      ap (λ (done : Done). Answered (Accepted done)) (same_done d e (one_done b.0 d.id e.id d.got e.got b.2 (rw (sym same.1) at f.2)))
+  one_other a (Answered (Undone ms)) (Answered (Undone ns)) l other h k = ap (λ (ids : List ℕ). Answered (Undone ids)) (one_undone a ms ns h k)
+  one_other a (Answered (News m ms)) (Answered (News n ns)) l other h k =
       let one = one_news a m n ms ns h k in
       let length : m ≡ n = one.0 in
       let ids : ms ≡ ns = one.1 in
       cc
-  one_answer a (Shown x) (Shown y) h k = ap Shown (sym (alone [] a (Show x) h).is ∙ (alone [] a (Show y) k).is)
-  one_answer a (Refused r) (Refused s) h k =
-      let b = refusal_behind a (codes "refused") r h in
-      let f = refusal_behind a (codes "refused") s k in
-      let same = one_split (codes "refused") (codes "refused") b.0 f.0 refused_has_no_space refused_has_no_space (sym b.1 ∙ f.1) in
-      ap Refused (one_refusal b.0 r s b.2 (rw (sym same.1) at f.2))
-  one_answer a (Accepted d) (Undone ns) h k = absurd (omega (arith, one_letter a (Accepted d) (Undone ns) h k))
-  one_answer a (Accepted d) (News n ns) h k = absurd (omega (arith, one_letter a (Accepted d) (News n ns) h k))
-  one_answer a (Accepted d) (Shown y) h k = absurd (omega (arith, one_letter a (Accepted d) (Shown y) h k))
-  one_answer a (Accepted d) (Refused s) h k = absurd (omega (arith, one_letter a (Accepted d) (Refused s) h k))
-  one_answer a (Undone ms) (Accepted e) h k = absurd (omega (arith, one_letter a (Undone ms) (Accepted e) h k))
-  one_answer a (Undone ms) (News n ns) h k = absurd (omega (arith, one_letter a (Undone ms) (News n ns) h k))
-  one_answer a (Undone ms) (Shown y) h k = absurd (omega (arith, one_letter a (Undone ms) (Shown y) h k))
-  one_answer a (Undone ms) (Refused s) h k = absurd (omega (arith, one_letter a (Undone ms) (Refused s) h k))
-  one_answer a (News m ms) (Accepted e) h k = absurd (omega (arith, one_letter a (News m ms) (Accepted e) h k))
-  one_answer a (News m ms) (Undone ns) h k = absurd (omega (arith, one_letter a (News m ms) (Undone ns) h k))
-  one_answer a (News m ms) (Shown y) h k = absurd (omega (arith, one_letter a (News m ms) (Shown y) h k))
-  one_answer a (News m ms) (Refused s) h k = absurd (omega (arith, one_letter a (News m ms) (Refused s) h k))
-  one_answer a (Shown x) (Accepted e) h k = absurd (omega (arith, one_letter a (Shown x) (Accepted e) h k))
-  one_answer a (Shown x) (Undone ns) h k = absurd (omega (arith, one_letter a (Shown x) (Undone ns) h k))
-  one_answer a (Shown x) (News n ns) h k = absurd (omega (arith, one_letter a (Shown x) (News n ns) h k))
-  one_answer a (Shown x) (Refused s) h k = absurd (omega (arith, one_letter a (Shown x) (Refused s) h k))
-  one_answer a (Refused r) (Accepted e) h k = absurd (omega (arith, one_letter a (Refused r) (Accepted e) h k))
-  one_answer a (Refused r) (Undone ns) h k = absurd (omega (arith, one_letter a (Refused r) (Undone ns) h k))
-  one_answer a (Refused r) (News n ns) h k = absurd (omega (arith, one_letter a (Refused r) (News n ns) h k))
-  one_answer a (Refused r) (Shown y) h k = absurd (omega (arith, one_letter a (Refused r) (Shown y) h k))
+  one_other a (Answered (Shown x)) (Answered (Shown y)) l other h k = ap (λ (text : List ℕ). Answered (Shown text)) (sym (alone [] a (Show x) h).is ∙ (alone [] a (Show y) k).is)
+  one_other a (Joined m x) (Joined n y) l other h k =
+      let one = one_pass a m n x y h k in
+      let session : m ≡ n = one.0 in
+      let name : x ≡ y = one.1 in
+      cc
+  one_other a (Answered (Refused r)) s l other h k = absurd (other refl)
+  one_other a BadLine s l other h k = absurd (other refl)
+  one_other a NoSession s l other h k = absurd (other refl)
+  one_other a NoRole s l other h k = absurd (other refl)
+  one_other a Taken s l other h k = absurd (other refl)
+  one_other a (Joined m x) (Answered (Shown y)) l other h k = absurd (omega (arith, l))
+  one_other a r s l other h k = absurd (omega (arith, l))
 
   pub one_reply : (a : List ℕ) (r s : Reply) → SpellsReply a r → SpellsReply a s → r ≡ s
-  one_reply a (Answered r) (Answered s) h k = ap Answered (one_answer a r s h k)
-  one_reply a (Answered r) BadLine h k = absurd (answer_or_bad a r h k)
-  one_reply a BadLine (Answered s) h k = absurd (answer_or_bad a s k h)
-  one_reply a BadLine BadLine h k = refl
+  one_reply a r s h k =
+      let l = one_letter a r s h k in
+      ⊎_elim
+      (λ (c : (c : Cause) × (r ≡ reply_of c)).
+      ⊎_elim
+      (λ (d : (d : Cause) × (s ≡ reply_of d)). c.1 ∙ same_cause a c.0 d.0 (subst (SpellsReply a) c.1 h) (subst (SpellsReply a) d.1 k) ∙ sym d.1)
+      (λ (other : letter s ≢ 114). absurd (other (sym l ∙ ap letter c.1 ∙ cause_letter c.0)))
+      (refused_or_not s))
+      (λ (other : letter r ≢ 114). one_other a r s l other h k)
+      (refused_or_not r)

@@ -1,22 +1,22 @@
 -- What can't be read.
-use Rattle.std.proofs.Common.{arith, rules, ◌≡◌, ℕ, ◌<◌, List, [], ◌∷◌, length, refl, sym, ap, ◌∙◌}
+use Rattle.std.proofs.Common.{arith, rules, ◌≡◌, ◌≢◌, ℕ, ◌<◌, ◌⊎◌, ⊎_elim, inl, inr, List, [], ◌∷◌, length, refl, sym, ap, ◌∙◌}
 use Rattle.std.specs.Prelude.{Option, Some, None, Result, Ok, Err, IfOk, if◌then◌else◌, codes}
 use Rattle.std.specs.Str.{bytes_eq}
 use Rattle.std.proofs.lemmas.Option.{same_Some}
 use Rattle.mps_base.specs.Names.{IsName}
 use Rattle.mps_base.specs.Spaced.{spaced}
 use Rattle.mps_base.specs.declared.value.Value.{Value}
-use Rattle.mps_command.specs.declared.command.Change.{Change}
-use Rattle.mps_command.specs.declared.command.Change.TheVariants.{Forward, Undo, Rollback, Back}
+use Rattle.mps_command.specs.declared.command.Command.{Command}
+use Rattle.mps_command.specs.declared.command.Command.TheVariants.{Forward, Undo, Rollback, Back, News, Show}
 use Rattle.mps_command.specs.declared.command.Forward.TheVariants.{Send, Choose, Receive, Pick, Mark}
 use Rattle.mps_line.specs.declared.script.LineFault.{LineFault}
 use Rattle.mps_line.specs.declared.script.Verb.{Verb}
 use Rattle.mps_line.specs.declared.script.Verb.TheVariants as verbs
 use Rattle.mps_line.specs.Tokens.{Token, Word, RoleAt, Called, Number, Worth, HasNoSpace, SpellsRole, SpellsName, SpellsNumber, SpellsToken, SpellsLine, BeginsWith}
-use Rattle.mps_line.specs.Commands.{verb_word, verb_of, arguments, SpellsCommand}
+use Rattle.mps_line.specs.Commands.{verb_word, verb_of, arguments, TakesArguments, SpellsCommand}
 use Rattle.mps_line.proofs.Splitting.{one_split, behind, joined, alone, line_of_one}
 
-verb_has_no_space : (verb : Verb) → HasNoSpace (verb_word verb)
+pub verb_has_no_space : (verb : Verb) → HasNoSpace (verb_word verb)
 verb_has_no_space verbs.Send = search rules
 verb_has_no_space verbs.Choose = search rules
 verb_has_no_space verbs.Receive = search rules
@@ -25,6 +25,8 @@ verb_has_no_space verbs.Mark = search rules
 verb_has_no_space verbs.Undo = search rules
 verb_has_no_space verbs.Rollback = search rules
 verb_has_no_space verbs.Back = search rules
+verb_has_no_space verbs.News = search rules
+verb_has_no_space verbs.Show = search rules
 
 -- the verb that the word is for
 abbrev meant : List ℕ → Option Verb
@@ -37,6 +39,8 @@ meant word =
     else if bytes_eq word (codes "undo") then Some verbs.Undo
     else if bytes_eq word (codes "rollback") then Some verbs.Rollback
     else if bytes_eq word (codes "back") then Some verbs.Back
+    else if bytes_eq word (codes "news") then Some verbs.News
+    else if bytes_eq word (codes "show") then Some verbs.Show
     else None
 
 meant_word : (verb : Verb) → meant (verb_word verb) ≡ Some verb
@@ -48,6 +52,8 @@ meant_word verbs.Mark = refl
 meant_word verbs.Undo = refl
 meant_word verbs.Rollback = refl
 meant_word verbs.Back = refl
+meant_word verbs.News = refl
+meant_word verbs.Show = refl
 
 same_verb : (v w : Verb) → verb_word v ≡ verb_word w → v ≡ w
 same_verb v w e = same_Some v w (sym (meant_word v) ∙ ap meant e ∙ meant_word w)
@@ -59,12 +65,12 @@ one_verb bytes v w x y e f =
     (same_verb v w same.0, same.1)
 
 -- the parts of a command: its verb, a space and these tokens
-pub record HasArguments (names : List (List ℕ)) (bytes : List ℕ) (command : Change) (tokens : List Token) : Type 0 where
+pub record HasArguments (names : List (List ℕ)) (bytes : List ℕ) (command : Command) (tokens : List Token) : Type 0 where
   pub rest : List ℕ
   pub parts : bytes ≡ spaced (verb_word (verb_of command) ∷ rest ∷ [])
   pub spelled : SpellsLine names rest tokens
 
-abbrev pub HasVerb : (names : List (List ℕ)) → List ℕ → Change → Type 0
+abbrev pub HasVerb : (names : List (List ℕ)) → List ℕ → Command → Type 0
 HasVerb names bytes command = HasArguments names bytes command (arguments command)
 
 -- a word in front of others
@@ -73,74 +79,112 @@ word_behind names bytes letters u ts h =
     let b = behind names bytes (Word letters) u ts h in
     (b.0, rw b.1.spelled at b.1.parts, b.2)
 
--- a command has an argument
-pub some_arguments : (command : Change) → 0 < length (arguments command)
-some_arguments (Forward (Send to value)) = omega arith
-some_arguments (Forward (Choose to label)) = omega arith
-some_arguments (Forward (Receive from slot)) = omega arith
-some_arguments (Forward (Pick from)) = omega arith
-some_arguments (Forward (Mark name)) = omega arith
-some_arguments (Undo id) = omega arith
-some_arguments (Rollback id) = omega arith
-some_arguments (Back name) = omega arith
+-- a command has an argument, or it is `show`
+pub shows_or_more : (command : Command) → (command ≡ Show) ⊎ TakesArguments command
+shows_or_more (Forward (Send to value)) = inr (omega arith)
+shows_or_more (Forward (Choose to label)) = inr (omega arith)
+shows_or_more (Forward (Receive from slot)) = inr (omega arith)
+shows_or_more (Forward (Pick from)) = inr (omega arith)
+shows_or_more (Forward (Mark name)) = inr (omega arith)
+shows_or_more (Undo id) = inr (omega arith)
+shows_or_more (Rollback id) = inr (omega arith)
+shows_or_more (Back name) = inr (omega arith)
+shows_or_more (News known) = inr (omega arith)
+shows_or_more Show = inl refl
 
-pub command_parts : (names : List (List ℕ)) (bytes : List ℕ) (command : Change) → SpellsCommand names bytes command → HasVerb names bytes command
-command_parts names bytes command h = by_arguments (arguments command) (some_arguments command) h
+pub more_than_show : (command : Command) → (command ≡ Show → ⊥) → TakesArguments command
+more_than_show command other =
+    ⊎_elim (λ (e : command ≡ Show). absurd (other e)) (λ (k : TakesArguments command). k) (shows_or_more command)
+
+-- the line of `show` is that word
+pub show_line : (names : List (List ℕ)) (bytes : List ℕ) → SpellsCommand names bytes Show → bytes ≡ codes "show"
+show_line names bytes h = alone names bytes (Word (codes "show")) h
+
+pub show_read : (names : List (List ℕ)) (bytes : List ℕ) → bytes ≡ codes "show" → SpellsCommand names bytes Show
+show_read names bytes e = line_of_one names bytes (Word (codes "show")) e
+
+-- another line has arguments
+pub some_arguments : (names : List (List ℕ)) (bytes : List ℕ) (command : Command) → bytes ≢ codes "show" → SpellsCommand names bytes command → TakesArguments command
+some_arguments names bytes command other h =
+    ⊎_elim
+    (λ (e : command ≡ Show). absurd (other (show_line names bytes (rw e at h))))
+    (λ (k : TakesArguments command). k)
+    (shows_or_more command)
+
+pub command_parts : (names : List (List ℕ)) (bytes : List ℕ) (command : Command) → TakesArguments command → SpellsCommand names bytes command → HasVerb names bytes command
+command_parts names bytes command takes h = by_arguments (arguments command) takes h
   where
     by_arguments : (ts : List Token) → 0 < length ts → SpellsLine names bytes (Word (verb_word (verb_of command)) ∷ ts) → HasArguments names bytes command ts
     by_arguments [] some h = absurd (omega (arith, some))
     by_arguments (u ∷ ts) some h = let b = word_behind names bytes _ u ts h in record { rest = b.0; parts = b.1; spelled = b.2 }
 
 -- a verb in front of arguments is a command
-pub command_of : (names : List (List ℕ)) (bytes rest : List ℕ) (command : Change) → bytes ≡ spaced (verb_word (verb_of command) ∷ rest ∷ []) → SpellsLine names rest (arguments command) → SpellsCommand names bytes command
-command_of names bytes rest command e h = by_arguments (arguments command) (some_arguments command) h
+pub command_of : (names : List (List ℕ)) (bytes rest : List ℕ) (command : Command) → bytes ≡ spaced (verb_word (verb_of command) ∷ rest ∷ []) → TakesArguments command → SpellsLine names rest (arguments command) → SpellsCommand names bytes command
+command_of names bytes rest command e takes h = by_arguments (arguments command) takes h
   where
     by_arguments : (ts : List Token) → 0 < length ts → SpellsLine names rest ts → SpellsLine names bytes (Word (verb_word (verb_of command)) ∷ ts)
     by_arguments [] some h = absurd (omega (arith, some))
     by_arguments (u ∷ ts) some h = joined names bytes (Word (verb_word (verb_of command))) u ts rest (record { front = verb_word (verb_of command); parts = e; spelled = refl }) h
 
 -- a line of this verb with none of its arguments
-pub no_command : (names : List (List ℕ)) (bytes rest : List ℕ) (verb : Verb) → bytes ≡ spaced (verb_word verb ∷ rest ∷ []) → ((command : Change) → verb_of command ≡ verb → SpellsLine names rest (arguments command) → ⊥) → (command : Change) → SpellsCommand names bytes command → ⊥
-no_command names bytes rest verb e none command h =
-    let k = command_parts names bytes command h in
+pub no_command : (names : List (List ℕ)) (bytes rest : List ℕ) (verb : Verb) → bytes ≡ spaced (verb_word verb ∷ rest ∷ []) → bytes ≢ codes "show" → ((command : Command) → verb_of command ≡ verb → TakesArguments command → SpellsLine names rest (arguments command) → ⊥) → (command : Command) → SpellsCommand names bytes command → ⊥
+no_command names bytes rest verb e other none command h =
+    let takes = some_arguments names bytes command other h in
+    let k = command_parts names bytes command takes h in
     let same = one_verb bytes (verb_of command) verb k.rest rest k.parts e in
-    none command same.0 (rw same.1 at k.spelled)
+    none command same.0 takes (rw same.1 at k.spelled)
+
+-- a line of no verb
+pub no_verb : (names : List (List ℕ)) (bytes : List ℕ) → ((verb : Verb) (rest : List ℕ) → bytes ≢ spaced (verb_word verb ∷ rest ∷ [])) → bytes ≢ codes "show" → (command : Command) → SpellsCommand names bytes command → ⊥
+no_verb names bytes none other command h =
+    let k = command_parts names bytes command (some_arguments names bytes command other h) h in
+    none (verb_of command) k.rest k.parts
 
 -- none of the lines of this verb
-pub no_sending : (names : List (List ℕ)) (bytes : List ℕ) → ((to : ℕ) (value : Value) → SpellsLine names bytes (RoleAt to ∷ Worth value ∷ []) → ⊥) → (command : Change) → verb_of command ≡ verbs.Send → SpellsLine names bytes (arguments command) → ⊥
+pub no_sending : (names : List (List ℕ)) (bytes : List ℕ) → ((to : ℕ) (value : Value) → SpellsLine names bytes (RoleAt to ∷ Worth value ∷ []) → ⊥) → (command : Command) → verb_of command ≡ verbs.Send → SpellsLine names bytes (arguments command) → ⊥
 no_sending names bytes none (Forward (Send to value)) e h = none to value h
 no_sending names bytes none command e h = absurd cc
 
-pub no_choosing : (names : List (List ℕ)) (bytes : List ℕ) → ((role : ℕ) (name : List ℕ) → SpellsLine names bytes (RoleAt role ∷ Called name ∷ []) → ⊥) → (command : Change) → verb_of command ≡ verbs.Choose → SpellsLine names bytes (arguments command) → ⊥
+pub no_choosing : (names : List (List ℕ)) (bytes : List ℕ) → ((role : ℕ) (name : List ℕ) → SpellsLine names bytes (RoleAt role ∷ Called name ∷ []) → ⊥) → (command : Command) → verb_of command ≡ verbs.Choose → SpellsLine names bytes (arguments command) → ⊥
 no_choosing names bytes none (Forward (Choose to label)) e h = none to label h
 no_choosing names bytes none command e h = absurd cc
 
-pub no_receiving : (names : List (List ℕ)) (bytes : List ℕ) → ((role : ℕ) (name : List ℕ) → SpellsLine names bytes (RoleAt role ∷ Called name ∷ []) → ⊥) → (command : Change) → verb_of command ≡ verbs.Receive → SpellsLine names bytes (arguments command) → ⊥
+pub no_receiving : (names : List (List ℕ)) (bytes : List ℕ) → ((role : ℕ) (name : List ℕ) → SpellsLine names bytes (RoleAt role ∷ Called name ∷ []) → ⊥) → (command : Command) → verb_of command ≡ verbs.Receive → SpellsLine names bytes (arguments command) → ⊥
 no_receiving names bytes none (Forward (Receive from slot)) e h = none from slot h
 no_receiving names bytes none command e h = absurd cc
 
-pub no_picking : (names : List (List ℕ)) (bytes : List ℕ) → ((role : ℕ) → SpellsRole names bytes role → ⊥) → (command : Change) → verb_of command ≡ verbs.Pick → SpellsLine names bytes (arguments command) → ⊥
+pub no_picking : (names : List (List ℕ)) (bytes : List ℕ) → ((role : ℕ) → SpellsRole names bytes role → ⊥) → (command : Command) → verb_of command ≡ verbs.Pick → SpellsLine names bytes (arguments command) → ⊥
 no_picking names bytes none (Forward (Pick from)) e h = none from (alone names bytes (RoleAt from) h)
 no_picking names bytes none command e h = absurd cc
 
-pub no_marking : (names : List (List ℕ)) (bytes : List ℕ) → (IsName bytes → ⊥) → (command : Change) → verb_of command ≡ verbs.Mark → SpellsLine names bytes (arguments command) → ⊥
+pub no_marking : (names : List (List ℕ)) (bytes : List ℕ) → (IsName bytes → ⊥) → (command : Command) → verb_of command ≡ verbs.Mark → SpellsLine names bytes (arguments command) → ⊥
 no_marking names bytes none (Forward (Mark name)) e h = none (alone names bytes (Called name) h).allowed
 no_marking names bytes none command e h = absurd cc
 
-pub no_undoing : (names : List (List ℕ)) (bytes : List ℕ) → ((id : ℕ) → SpellsNumber bytes id → ⊥) → (command : Change) → verb_of command ≡ verbs.Undo → SpellsLine names bytes (arguments command) → ⊥
+pub no_undoing : (names : List (List ℕ)) (bytes : List ℕ) → ((id : ℕ) → SpellsNumber bytes id → ⊥) → (command : Command) → verb_of command ≡ verbs.Undo → SpellsLine names bytes (arguments command) → ⊥
 no_undoing names bytes none (Undo id) e h = none id (alone names bytes (Number id) h)
 no_undoing names bytes none (Forward (Mark name)) e h = absurd cc
 no_undoing names bytes none command e h = absurd cc
 
-pub no_rolling_back : (names : List (List ℕ)) (bytes : List ℕ) → ((id : ℕ) → SpellsNumber bytes id → ⊥) → (command : Change) → verb_of command ≡ verbs.Rollback → SpellsLine names bytes (arguments command) → ⊥
+pub no_rolling_back : (names : List (List ℕ)) (bytes : List ℕ) → ((id : ℕ) → SpellsNumber bytes id → ⊥) → (command : Command) → verb_of command ≡ verbs.Rollback → SpellsLine names bytes (arguments command) → ⊥
 no_rolling_back names bytes none (Rollback id) e h = none id (alone names bytes (Number id) h)
 no_rolling_back names bytes none (Forward (Mark name)) e h = absurd cc
 no_rolling_back names bytes none command e h = absurd cc
 
-pub no_going_back : (names : List (List ℕ)) (bytes : List ℕ) → (IsName bytes → ⊥) → (command : Change) → verb_of command ≡ verbs.Back → SpellsLine names bytes (arguments command) → ⊥
+pub no_going_back : (names : List (List ℕ)) (bytes : List ℕ) → (IsName bytes → ⊥) → (command : Command) → verb_of command ≡ verbs.Back → SpellsLine names bytes (arguments command) → ⊥
 no_going_back names bytes none (Back name) e h = none (alone names bytes (Called name) h).allowed
 no_going_back names bytes none (Forward (Mark name)) e h = absurd cc
 no_going_back names bytes none command e h = absurd cc
+
+pub no_asking : (names : List (List ℕ)) (bytes : List ℕ) → ((n : ℕ) → SpellsNumber bytes n → ⊥) → (command : Command) → verb_of command ≡ verbs.News → SpellsLine names bytes (arguments command) → ⊥
+no_asking names bytes none (News known) e h = none known (alone names bytes (Number known) h)
+no_asking names bytes none (Forward (Mark name)) e h = absurd cc
+no_asking names bytes none command e h = absurd cc
+
+pub no_showing : (command : Command) → verb_of command ≡ verbs.Show → TakesArguments command → ⊥
+no_showing Show e takes = absurd (omega (arith, takes))
+no_showing (Forward (Mark name)) e takes = absurd cc
+no_showing command e takes = absurd cc
 
 -- what stands behind the role's name is no such line
 pub none_behind : (names : List (List ℕ)) (bytes rest : List ℕ) (u : Token) (ts : List Token) → ((role : ℕ) (other : List ℕ) → BeginsWith names bytes (RoleAt role) other → other ≡ rest) → (SpellsLine names rest (u ∷ ts) → ⊥) → (role : ℕ) → SpellsLine names bytes (RoleAt role ∷ u ∷ ts) → ⊥
@@ -165,9 +209,9 @@ pub name_read : (bytes name : List ℕ) → IsName bytes → name ≡ bytes → 
 name_read bytes name h e = record { is = sym e; allowed = h }
 
 -- the arguments that were read make a command behind their verb
-pub command_read : (names : List (List ℕ)) (bytes rest : List ℕ) (verb : Verb) (r : Result Change LineFault) → bytes ≡ spaced (verb_word verb ∷ rest ∷ []) → IfOk r (λ command. verb_of command ≡ verb) → IfOk r (λ command. SpellsLine names rest (arguments command)) → IfOk r (SpellsCommand names bytes)
-command_read names bytes rest verb (Err fault) e v h = tt
-command_read names bytes rest verb (Ok command) e v h = command_of names bytes rest command (rw v e) h
+pub command_read : (names : List (List ℕ)) (bytes rest : List ℕ) (verb : Verb) (r : Result Command LineFault) → bytes ≡ spaced (verb_word verb ∷ rest ∷ []) → IfOk r (λ command. verb_of command ≡ verb) → IfOk r TakesArguments → IfOk r (λ command. SpellsLine names rest (arguments command)) → IfOk r (SpellsCommand names bytes)
+command_read names bytes rest verb (Err fault) e v takes h = tt
+command_read names bytes rest verb (Ok command) e v takes h = command_of names bytes rest command (rw v e) takes h
 
 -- what stands behind the role's name is no name
 pub none_of_names : (names : List (List ℕ)) (bytes rest : List ℕ) → ((role : ℕ) (other : List ℕ) → BeginsWith names bytes (RoleAt role) other → other ≡ rest) → (IsName rest → ⊥) → (role : ℕ) (name : List ℕ) → SpellsLine names bytes (RoleAt role ∷ Called name ∷ []) → ⊥

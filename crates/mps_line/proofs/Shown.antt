@@ -16,11 +16,12 @@ use Rattle.mps_command.specs.declared.answer.Refusal.{Refusal}
 use Rattle.mps_command.specs.declared.answer.Refusal.TheVariants.{Violation as Violates, NoStep, NotYours, Needed, NoMark, Full, Memory}
 use Rattle.mps_command.specs.declared.answer.Answer.{Answer}
 use Rattle.mps_command.specs.declared.answer.Answer.TheVariants.{Done, Undone, News, Shown, Refused}
-use Rattle.mps_command.specs.declared.command.Change.{Change}
-use Rattle.mps_command.specs.declared.command.Change.TheVariants.{Forward, Undo, Rollback, Back}
+use Rattle.mps_command.specs.declared.command.Command.{Command}
+use Rattle.mps_command.specs.declared.command.Command.TheVariants.{Forward, Undo, Rollback, Back}
+use Rattle.mps_command.specs.declared.command.Command.TheVariants as commands
 use Rattle.mps_command.specs.declared.command.Forward.TheVariants.{Send, Choose, Receive, Pick, Mark}
 use Rattle.mps_line.specs.declared.reply.Reply.{Reply}
-use Rattle.mps_line.specs.declared.reply.Reply.TheVariants.{Answered, BadLine}
+use Rattle.mps_line.specs.declared.reply.Reply.TheVariants.{Answered, BadLine, Joined, NoSession, NoRole, Taken}
 use Rattle.mps_line.specs.declared.script.Verb.{Verb}
 use Rattle.mps_line.specs.declared.script.Verb.TheVariants as verbs
 use Rattle.mps_line.specs.Tokens.{Token, Word, RoleAt, Called, Number, Worth, Show, SpellsShow, SpellsToken, SpellEach, SpellsLine}
@@ -86,8 +87,10 @@ shown_verb verbs.Mark = search rules
 shown_verb verbs.Undo = search rules
 shown_verb verbs.Rollback = search rules
 shown_verb verbs.Back = search rules
+shown_verb verbs.News = search rules
+shown_verb verbs.Show = search rules
 
-plain_arguments : (c : Change) → AllByRecursion IsPlain (arguments c)
+plain_arguments : (c : Command) → AllByRecursion IsPlain (arguments c)
 plain_arguments (Forward (Send to value)) = (tt, (tt, tt))
 plain_arguments (Forward (Choose to label)) = (tt, (tt, tt))
 plain_arguments (Forward (Receive from slot)) = (tt, (tt, tt))
@@ -96,8 +99,10 @@ plain_arguments (Forward (Mark name)) = (tt, tt)
 plain_arguments (Undo id) = (tt, tt)
 plain_arguments (Rollback id) = (tt, tt)
 plain_arguments (Back name) = (tt, tt)
+plain_arguments (commands.News known) = (tt, tt)
+plain_arguments commands.Show = tt
 
-pub shown_line : (names : List (List ℕ)) (a : List ℕ) (p : ℕ) (c : Change) → SpellsScriptLine names a p c → AreShown a
+pub shown_line : (names : List (List ℕ)) (a : List ℕ) (p : ℕ) (c : Command) → SpellsScriptLine names a p c → AreShown a
 shown_line names a p c h = shown_tokens names a _ (tt, (shown_verb (verb_of c), plain_arguments c)) h
 
 -- ---- replies
@@ -132,6 +137,18 @@ refused_word = search rules
 line_word : AreShown (codes "line")
 line_word = search rules
 
+no_session_word : AreShown (codes "nosession")
+no_session_word = search rules
+
+no_role_word : AreShown (codes "norole")
+no_role_word = search rules
+
+taken_word : AreShown (codes "taken")
+taken_word = search rules
+
+joined_word : AreShown (codes "joined")
+joined_word = search rules
+
 plain_message : (m : Message) → IsPlain (message_token m)
 plain_message (Plain value) = tt
 plain_message (Label name) = tt
@@ -158,6 +175,10 @@ plain_answer (Refused refusal) = (refused_word, plain_refusal refusal)
 plain_reply : (r : Reply) → AllByRecursion IsPlain (reply_tokens r)
 plain_reply (Answered answer) = plain_answer answer
 plain_reply BadLine = (refused_word, (line_word, tt))
+plain_reply (Joined session name) = (joined_word, (tt, (tt, tt)))
+plain_reply NoSession = (refused_word, (no_session_word, tt))
+plain_reply NoRole = (refused_word, (no_role_word, tt))
+plain_reply Taken = (refused_word, (taken_word, tt))
 
 pub shown_reply : (a : List ℕ) (r : Reply) → SpellsReply a r → AreShown a
 shown_reply a r h = shown_tokens [] a (reply_tokens r) (plain_reply r) h
@@ -196,3 +217,7 @@ some_reply a (Answered (News n ids)) h = some_word a (codes "news") _ (omega ari
 some_reply a (Answered (Shown text)) h = some_show a text (alone [] a (Show text) h)
 some_reply a (Answered (Refused refusal)) h = some_word a (codes "refused") _ (omega arith) h
 some_reply a BadLine h = some_word a (codes "refused") _ (omega arith) h
+some_reply a (Joined session name) h = some_word a (codes "joined") _ (omega arith) h
+some_reply a NoSession h = some_word a (codes "refused") _ (omega arith) h
+some_reply a NoRole h = some_word a (codes "refused") _ (omega arith) h
+some_reply a Taken h = some_word a (codes "refused") _ (omega arith) h

@@ -1,5 +1,5 @@
 -- A line is split in one place.
-use Rattle.std.proofs.Common.{arith, ◌≡◌, ◌≢◌, ℕ, true, false, List, [], ◌∷◌, ◌++◌, length, take, drop, refl, sym, ap, ◌∙◌}
+use Rattle.std.proofs.Common.{arith, ◌≡◌, ◌≢◌, ℕ, Bool, true, false, List, [], ◌∷◌, ◌++◌, length, take, drop, refl, sym, ap, ◌∙◌}
 use mathlib.Core.Path.{ap₂}
 use Rattle.std.specs.Prelude.{All, IsTrue, Option, Some, None, IfNone}
 use Rattle.std.specs.List.{AllByRecursion}
@@ -119,3 +119,12 @@ pub not_in_front : (bytes word rest : List ℕ) → bytes_eq (take (length word)
 not_in_front bytes word rest other is =
     let yes = (bytes_eq-Decides (take (length word) bytes) word).1 (ap (take (length word)) is ∙ take-append_seam word rest) in
     absurd (let bad : true ≡ false = sym yes ∙ other in cc)
+
+-- bytes that were compared with a word
+pub is_word : (same : Bool) (bytes other word : List ℕ) → same ≡ bytes_eq bytes other → same ≡ true → other ≡ word → bytes ≡ word
+is_word same bytes other word e found is = (bytes_eq-Decides bytes other).0 (sym e ∙ found) ∙ is
+
+pub is_no_word : (same : Bool) (bytes other word : List ℕ) → same ≡ bytes_eq bytes other → same ≡ false → other ≡ word → bytes ≢ word
+is_no_word same bytes other word e missed is h =
+    let found : bytes_eq bytes other ≡ true = (bytes_eq-Decides bytes other).1 (h ∙ sym is) in
+    absurd (let bad : true ≡ false = sym found ∙ sym e ∙ missed in cc)

@@ -1,5 +1,5 @@
 -- What is spelled, and by what, is unique.
-use Rattle.std.proofs.Common.{◌≡◌, ℕ, ◌<◌, List, [], ◌∷◌, length, Some, refl, sym, ap, ◌∙◌}
+use Rattle.std.proofs.Common.{◌≡◌, ℕ, ◌<◌, ◌⊎◌, ⊎_elim, List, [], ◌∷◌, length, Some, refl, sym, ap, subst, ◌∙◌}
 use Rattle.std.proofs.lemmas.Option.{same_Some, slice_get_within}
 use Rattle.std.specs.Option.{ForSome}
 use Rattle.std.specs.Prelude.{slice_get}
@@ -10,13 +10,15 @@ use Rattle.mps_base.specs.declared.value.Value.{Value}
 use Rattle.mps_base.proofs.Numbers.{same_number_text}
 use Rattle.mps_base.proofs.RoleLists.{one_place}
 use Rattle.mps_base.proofs.Values.{same_spelling}
-use Rattle.mps_command.specs.declared.command.Change.{Change}
-use Rattle.mps_command.specs.declared.command.Change.TheVariants.{Forward, Undo, Rollback, Back}
+use Rattle.mps_command.specs.declared.command.Command.{Command}
+use Rattle.mps_command.specs.declared.command.Command.TheVariants.{Forward, Undo, Rollback, Back, News}
+use Rattle.mps_command.specs.declared.command.Command.TheVariants as commands
 use Rattle.mps_command.specs.declared.command.Forward.TheVariants.{Send, Choose, Receive, Pick, Mark}
 use Rattle.mps_line.specs.Tokens.{Token, Word, RoleAt, Called, Number, Worth, Show, SpellsRole, SpellsNumber, SpellsToken, SpellEach, SpellsLine, BeginsWith}
-use Rattle.mps_line.specs.Commands.{verb_of, arguments, SpellsCommand, SpellsScriptLine, NamesRolesOf}
-use Rattle.mps_line.proofs.Splitting.{one_split, name_has_no_space, behind, alone}
-use Rattle.mps_line.proofs.Reading.{one_verb, command_parts}
+use Rattle.mps_line.specs.Commands.{verb_word, verb_of, arguments, TakesArguments, SpellsCommand, SpellsScriptLine, NamesRolesOf}
+use Rattle.mps_line.proofs.Splitting.{one_split, never_split, name_has_no_space, behind, alone}
+use Rattle.mps_line.proofs.Reading.{verb_has_no_space, one_verb, shows_or_more, show_line, command_parts}
+use Rattle.mps_line.specs.declared.script.Verb.TheVariants as verbs
 
 -- ---- one spelling
 
@@ -76,7 +78,7 @@ one_step names a m n h k = one_number a m n (alone names a (Number m) h) (alone 
 
 -- a text spells one value
 module _ (one_value : (a : List ℕ) (v w : Value) → SpellsValue a v → SpellsValue a w → v ≡ w) where
-  same_arguments : (names : List (List ℕ)) (a : List ℕ) (c d : Change) → AreDistinct names → verb_of c ≡ verb_of d → SpellsLine names a (arguments c) → SpellsLine names a (arguments d) → c ≡ d
+  same_arguments : (names : List (List ℕ)) (a : List ℕ) (c d : Command) → AreDistinct names → verb_of c ≡ verb_of d → SpellsLine names a (arguments c) → SpellsLine names a (arguments d) → c ≡ d
   same_arguments names a (Forward (Send p v)) (Forward (Send q w)) distinct e h k =
       let s = same_role names a p q (Worth v) [] (Worth w) [] distinct h k in
       let role : p ≡ q = s.role in
@@ -98,19 +100,44 @@ module _ (one_value : (a : List ℕ) (v w : Value) → SpellsValue a v → Spell
   same_arguments names a (Undo m) (Undo n) distinct e h k = ap Undo (one_step names a m n h k)
   same_arguments names a (Rollback m) (Rollback n) distinct e h k = ap Rollback (one_step names a m n h k)
   same_arguments names a (Back x) (Back y) distinct e h k = ap Back (one_name names a x y h k)
+  same_arguments names a (News m) (News n) distinct e h k = ap News (one_step names a m n h k)
+  same_arguments names a commands.Show commands.Show distinct e h k = refl
   same_arguments names a (Undo m) (Forward (Mark y)) distinct e h k = absurd cc
   same_arguments names a (Rollback m) (Forward (Mark y)) distinct e h k = absurd cc
   same_arguments names a (Back x) (Forward (Mark y)) distinct e h k = absurd cc
+  same_arguments names a (News m) (Forward (Mark y)) distinct e h k = absurd cc
+  same_arguments names a commands.Show (Forward (Mark y)) distinct e h k = absurd cc
   same_arguments names a c d distinct e h k = absurd cc
 
-  pub same_command : (names : List (List ℕ)) (a : List ℕ) (c d : Change) → AreDistinct names → SpellsCommand names a c → SpellsCommand names a d → c ≡ d
-  same_command names a c d distinct h k =
-      let b = command_parts names a c h in
-      let f = command_parts names a d k in
+  same_command_of_more : (names : List (List ℕ)) (a : List ℕ) (c d : Command) → AreDistinct names → TakesArguments c → TakesArguments d → SpellsCommand names a c → SpellsCommand names a d → c ≡ d
+  same_command_of_more names a c d distinct more others h k =
+      let b = command_parts names a c more h in
+      let f = command_parts names a d others k in
       let same = one_verb a (verb_of c) (verb_of d) b.rest f.rest b.parts f.parts in
       same_arguments names b.rest c d distinct same.0 b.spelled (rw (sym same.1) at f.spelled)
 
-  pub same_line : (names : List (List ℕ)) (a : List ℕ) (p q : ℕ) (c d : Change) → AreDistinct names → SpellsScriptLine names a p c → SpellsScriptLine names a q d → (p ≡ q) × (c ≡ d)
+  -- no line is `show` and a command with arguments
+  never_shows : (names : List (List ℕ)) (a : List ℕ) (d : Command) → TakesArguments d → SpellsCommand names a commands.Show → SpellsCommand names a d → ⊥
+  never_shows names a d more h k =
+      let f = command_parts names a d more k in
+      never_split (verb_word verbs.Show) (verb_word (verb_of d)) f.rest (verb_has_no_space verbs.Show) (sym (show_line names a h) ∙ f.parts)
+
+  pub same_command : (names : List (List ℕ)) (a : List ℕ) (c d : Command) → AreDistinct names → SpellsCommand names a c → SpellsCommand names a d → c ≡ d
+  same_command names a c d distinct h k =
+      ⊎_elim
+      (λ (e : c ≡ commands.Show).
+      ⊎_elim
+      (λ (f : d ≡ commands.Show). e ∙ sym f)
+      (λ (more : TakesArguments d). absurd (never_shows names a d more (rw e at h) k))
+      (shows_or_more d))
+      (λ (more : TakesArguments c).
+      ⊎_elim
+      (λ (f : d ≡ commands.Show). absurd (never_shows names a c more (rw f at k) h))
+      (λ (others : TakesArguments d). same_command_of_more names a c d distinct more others h k)
+      (shows_or_more d))
+      (shows_or_more c)
+
+  pub same_line : (names : List (List ℕ)) (a : List ℕ) (p q : ℕ) (c d : Command) → AreDistinct names → SpellsScriptLine names a p c → SpellsScriptLine names a q d → (p ≡ q) × (c ≡ d)
   same_line names a p q c d distinct h k =
       let s = same_role names a p q _ (arguments c) _ (arguments d) distinct h k in
       (s.role, same_command names s.rest c d distinct s.one s.other)
@@ -121,13 +148,17 @@ place_within : (names : List (List ℕ)) (a : List ℕ) (role : ℕ) → SpellsR
 place_within names a role h peer e = rw (same_Some peer role (sym e)) (slice_get_within names role a h.place)
 
 -- it is one of these
-pub names_roles : (names : List (List ℕ)) (a : List ℕ) (c : Change) → SpellsCommand names a c → NamesRolesOf names c
-names_roles names a c h = let k = command_parts names a c h in by_arguments c k.rest k.spelled
+pub names_roles : (names : List (List ℕ)) (a : List ℕ) (c : Command) → SpellsCommand names a c → NamesRolesOf names c
+names_roles names a c h =
+    ⊎_elim
+    (λ (e : c ≡ commands.Show). subst (NamesRolesOf names) (sym e) (λ peer f. absurd cc))
+    (λ (more : TakesArguments c). let k = command_parts names a c more h in by_arguments c k.rest k.spelled)
+    (shows_or_more c)
   where
     first : (rest : List ℕ) (role : ℕ) (t : Token) → SpellsLine names rest (RoleAt role ∷ t ∷ []) → ForSome (Some role) (λ peer. peer < length names)
     first rest role t k = let b = behind names rest (RoleAt role) t [] k in place_within names b.1.front role b.1.spelled
 
-    by_arguments : (c : Change) (rest : List ℕ) → SpellsLine names rest (arguments c) → NamesRolesOf names c
+    by_arguments : (c : Command) (rest : List ℕ) → SpellsLine names rest (arguments c) → NamesRolesOf names c
     by_arguments (Forward (Send to value)) rest k = first rest to (Worth value) k
     by_arguments (Forward (Choose to label)) rest k = first rest to (Called label) k
     by_arguments (Forward (Receive from slot)) rest k = first rest from (Called slot) k

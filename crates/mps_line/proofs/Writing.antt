@@ -9,7 +9,7 @@ use Rattle.mps_base.specs.declared.action.Message.{Message}
 use Rattle.mps_command.specs.Shown.{IsShownText}
 use Rattle.mps_command.specs.declared.answer.Refusal.{Refusal}
 use Rattle.mps_command.specs.declared.answer.Refusal.TheVariants.{Needed}
-use Rattle.mps_line.specs.declared.reply.Reply.TheVariants.{BadLine}
+use Rattle.mps_line.specs.declared.reply.Reply.TheVariants.{BadLine, NoSession, NoRole, Taken}
 use Rattle.mps_line.specs.Replies.{word_of, done_tokens, news_tokens, refusal_tokens, SpellsReply}
 use Rattle.mps_line.specs.Tokens.{Token, Word, Number, Show, SpellsNumber, SpellsToken, SpellsLine}
 use Rattle.mps_line.proofs.Splitting.{behind, joined, alone, line_of_one}
@@ -75,6 +75,15 @@ lone_word r bytes other e = line_of_one [] bytes (Word (word_of r)) e
 
 pub bad_line : SpellsReply (codes "refused line") BadLine
 bad_line = record { spellings = codes "refused" ∷ codes "line" ∷ []; joined = refl; each = (refl, (refl, tt)) }
+
+pub no_session : SpellsReply (codes "refused nosession") NoSession
+no_session = record { spellings = codes "refused" ∷ codes "nosession" ∷ []; joined = refl; each = (refl, (refl, tt)) }
+
+pub no_role : SpellsReply (codes "refused norole") NoRole
+no_role = record { spellings = codes "refused" ∷ codes "norole" ∷ []; joined = refl; each = (refl, (refl, tt)) }
+
+pub taken : SpellsReply (codes "refused taken") Taken
+taken = record { spellings = codes "refused" ∷ codes "taken" ∷ []; joined = refl; each = (refl, (refl, tt)) }
 
 -- one token alone
 pub token_alone : {T E : Type 0} (names : List (List ℕ)) (r : Result T E) (old new : List ℕ) (t : Token) → OnOk r (Appends (λ text. SpellsToken names text t) old new) → OnOk r (Appends (λ text. SpellsLine names text (t ∷ [])) old new)

@@ -1,8 +1,8 @@
--- How the commands of a script are spelled.
+-- How commands are spelled.
 use Rattle.std.specs.Prelude.{ℕ, ◌<◌, List, [], ◌∷◌, length, codes, Option, Some, None}
 use Rattle.std.specs.Option.{ForSome}
-use Rattle.mps_command.specs.declared.command.Change.{Change}
-use Rattle.mps_command.specs.declared.command.Change.TheVariants.{Forward, Undo, Rollback, Back}
+use Rattle.mps_command.specs.declared.command.Command.{Command}
+use Rattle.mps_command.specs.declared.command.Command.TheVariants.{Forward, Undo, Rollback, Back, News, Show}
 use Rattle.mps_command.specs.declared.command.Forward.TheVariants.{Send, Choose, Receive, Pick, Mark}
 use Rattle.mps_line.specs.declared.script.Verb.{Verb}
 use Rattle.mps_line.specs.declared.script.Verb.TheVariants as verbs
@@ -18,9 +18,11 @@ verb_word verbs.Mark = codes "mark"
 verb_word verbs.Undo = codes "undo"
 verb_word verbs.Rollback = codes "rollback"
 verb_word verbs.Back = codes "back"
+verb_word verbs.News = codes "news"
+verb_word verbs.Show = codes "show"
 
 -- the verb of a command
-abbrev pub verb_of : Change → Verb
+abbrev pub verb_of : Command → Verb
 verb_of (Forward (Send to value)) = verbs.Send
 verb_of (Forward (Choose to label)) = verbs.Choose
 verb_of (Forward (Receive from slot)) = verbs.Receive
@@ -29,9 +31,11 @@ verb_of (Forward (Mark name)) = verbs.Mark
 verb_of (Undo id) = verbs.Undo
 verb_of (Rollback id) = verbs.Rollback
 verb_of (Back name) = verbs.Back
+verb_of (News known) = verbs.News
+verb_of Show = verbs.Show
 
 -- the tokens behind the verb
-abbrev pub arguments : Change → List Token
+abbrev pub arguments : Command → List Token
 arguments (Forward (Send to value)) = RoleAt to ∷ Worth value ∷ []
 arguments (Forward (Choose to label)) = RoleAt to ∷ Called label ∷ []
 arguments (Forward (Receive from slot)) = RoleAt from ∷ Called slot ∷ []
@@ -40,21 +44,27 @@ arguments (Forward (Mark name)) = Called name ∷ []
 arguments (Undo id) = Number id ∷ []
 arguments (Rollback id) = Number id ∷ []
 arguments (Back name) = Called name ∷ []
+arguments (News known) = Number known ∷ []
+arguments Show = []
+
+-- something stands behind the verb
+abbrev pub TakesArguments : Command → Type 0
+TakesArguments command = 0 < length (arguments command)
 
 -- the verb and its arguments
-abbrev pub command_tokens : Change → List Token
+abbrev pub command_tokens : Command → List Token
 command_tokens command = Word (verb_word (verb_of command)) ∷ arguments command
 
--- `send PEER VALUE`, `choose PEER LABEL`, `recv PEER SLOT`, `pick PEER`, `mark NAME`, `undo NUMBER`, `rollback NUMBER` or `back NAME`
-abbrev pub SpellsCommand : (names : List (List ℕ)) → List ℕ → Change → Type 0
+-- `send PEER VALUE`, `choose PEER LABEL`, `recv PEER SLOT`, `pick PEER`, `mark NAME`, `undo NUMBER`, `rollback NUMBER`, `back NAME`, `news NUMBER` or `show`
+abbrev pub SpellsCommand : (names : List (List ℕ)) → List ℕ → Command → Type 0
 SpellsCommand names bytes command = SpellsLine names bytes (command_tokens command)
 
 -- a role's name in front of a command
-abbrev pub SpellsScriptLine : (names : List (List ℕ)) → List ℕ → (role : ℕ) → Change → Type 0
+abbrev pub SpellsScriptLine : (names : List (List ℕ)) → List ℕ → (role : ℕ) → Command → Type 0
 SpellsScriptLine names bytes role command = SpellsLine names bytes (RoleAt role ∷ command_tokens command)
 
 -- the role that a command names, where it names one
-abbrev pub peer_of : Change → Option ℕ
+abbrev pub peer_of : Command → Option ℕ
 peer_of (Forward (Send to value)) = Some to
 peer_of (Forward (Choose to label)) = Some to
 peer_of (Forward (Receive from slot)) = Some from
@@ -62,5 +72,5 @@ peer_of (Forward (Pick from)) = Some from
 peer_of command = None
 
 -- the command names no role but those that have these names
-abbrev pub NamesRolesOf : (names : List (List ℕ)) → Change → Type 0
+abbrev pub NamesRolesOf : (names : List (List ℕ)) → Command → Type 0
 NamesRolesOf names command = ForSome (peer_of command) (λ peer. peer < length names)

@@ -1,3 +1,4 @@
 pub mod Tokens
 pub mod Commands
 pub mod Replies
+pub mod Codes

@@ -1,5 +1,5 @@
--- How the answers to commands are spelled.
-use Rattle.std.specs.Prelude.{ℕ, List, [], ◌∷◌, map, codes, Option, Some, None}
+-- How replies are spelled.
+use Rattle.std.specs.Prelude.{ℕ, ◌<◌, List, [], ◌∷◌, length, map, codes, Option, Some, None}
 use Rattle.mps_base.specs.declared.action.Message.{Message}
 use Rattle.mps_base.specs.declared.action.Message.TheVariants.{Value as Plain, Label}
 use Rattle.mps_command.specs.declared.answer.Violation.TheVariants.{Ended, WrongAct, WrongPeer, WrongSort, NoLabel, NothingQueued, Mismatch}
@@ -8,7 +8,7 @@ use Rattle.mps_command.specs.declared.answer.Refusal.TheVariants.{Violation as V
 use Rattle.mps_command.specs.declared.answer.Answer.{Answer}
 use Rattle.mps_command.specs.declared.answer.Answer.TheVariants.{Done, Undone, News, Shown, Refused}
 use Rattle.mps_line.specs.declared.reply.Reply.{Reply}
-use Rattle.mps_line.specs.declared.reply.Reply.TheVariants.{Answered, BadLine}
+use Rattle.mps_line.specs.declared.reply.Reply.TheVariants.{Answered, BadLine, Joined, NoSession, NoRole, Taken}
 use Rattle.mps_line.specs.Tokens.{Token, Word, Called, Number, Worth, Show, SpellsLine}
 
 -- the word for a refusal
@@ -26,6 +26,22 @@ word_of (Needed by) = codes "needed"
 word_of NoMark = codes "nomark"
 word_of Full = codes "full"
 word_of Memory = codes "memory"
+
+-- the words of refusals that are neither violations nor name a step
+abbrev pub lone_words : List (List ℕ)
+lone_words = codes "nostep" ∷ codes "notyours" ∷ codes "nomark" ∷ codes "full" ∷ codes "memory" ∷ []
+
+-- the word behind `refused` of a reply that answers no command; any other has none
+abbrev pub own_word : Reply → List ℕ
+own_word BadLine = codes "line"
+own_word NoSession = codes "nosession"
+own_word NoRole = codes "norole"
+own_word Taken = codes "taken"
+own_word reply = []
+
+-- these words
+abbrev pub own_words : List (List ℕ)
+own_words = codes "line" ∷ codes "nosession" ∷ codes "norole" ∷ codes "taken" ∷ []
 
 -- a value or a label
 abbrev pub message_token : Message → Token
@@ -59,11 +75,24 @@ answer_tokens (News n ids) = news_tokens n ids
 answer_tokens (Shown text) = Show text ∷ []
 answer_tokens (Refused refusal) = Word (codes "refused") ∷ refusal_tokens refusal
 
--- those of the answer, or `refused line`
+-- those of the answer; `joined NUMBER NAME`; or `refused` and why no answer was asked for
 abbrev pub reply_tokens : Reply → List Token
 reply_tokens (Answered answer) = answer_tokens answer
 reply_tokens BadLine = Word (codes "refused") ∷ Word (codes "line") ∷ []
+reply_tokens (Joined session name) = Word (codes "joined") ∷ Number session ∷ Called name ∷ []
+reply_tokens NoSession = Word (codes "refused") ∷ Word (codes "nosession") ∷ []
+reply_tokens NoRole = Word (codes "refused") ∷ Word (codes "norole") ∷ []
+reply_tokens Taken = Word (codes "refused") ∷ Word (codes "taken") ∷ []
 
 -- a line of these tokens, none of which is a role's name
 abbrev pub SpellsReply : List ℕ → Reply → Type 0
 SpellsReply bytes reply = SpellsLine [] bytes (reply_tokens reply)
+
+-- `join NUMBER NAME`: the first line of a connection
+abbrev pub SpellsJoin : List ℕ → (session : ℕ) → (name : List ℕ) → Type 0
+SpellsJoin bytes session name = SpellsLine [] bytes (Word (codes "join") ∷ Number session ∷ Called name ∷ [])
+
+-- the numbers of some steps, one at least, with one space between two
+pub record SpellsSteps (bytes : List ℕ) (ids : List ℕ) : Type 0 where
+  pub some : 0 < length ids
+  pub line : SpellsLine [] bytes (map Number ids)

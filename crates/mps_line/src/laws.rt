@@ -3,7 +3,7 @@ ghost use Rattle.std.specs.Prelude.{◌≡◌, ◌≢◌, ℕ, ◌<◌, List, le
 ghost use Rattle.std.specs.List.{AllByRecursion};
 ghost use Rattle.mps_base.specs.RoleLists.{AreDistinct};
 ghost use Rattle.mps_base.specs.Values.{IsShown};
-ghost use Rattle.mps_command.specs.declared.command.Change.{Change};
+ghost use Rattle.mps_command.specs.declared.command.Command.{Command};
 ghost use Rattle.mps_line.specs.declared.reply.Reply.{Reply};
 ghost use Rattle.mps_line.specs.Commands.{SpellsCommand, SpellsScriptLine, NamesRolesOf};
 ghost use Rattle.mps_line.specs.Replies.{SpellsReply};
@@ -13,11 +13,11 @@ use mps_base::spelling::one_spelling;
 /// Bytes spell at most one command, where no two roles have one name, and each command has one
 /// spelling. It names no role but these.
 pub fn one_command()
-    ensures command { (names : List (List ℕ)) (a : List ℕ) (c d : Change) → AreDistinct names
+    ensures command { (names : List (List ℕ)) (a : List ℕ) (c d : Command) → AreDistinct names
         → SpellsCommand names a c → SpellsCommand names a d → c ≡ d }
-    ensures spelling { (names : List (List ℕ)) (a b : List ℕ) (c : Change)
+    ensures spelling { (names : List (List ℕ)) (a b : List ℕ) (c : Command)
         → SpellsCommand names a c → SpellsCommand names b c → a ≡ b }
-    ensures known { (names : List (List ℕ)) (a : List ℕ) (c : Change)
+    ensures known { (names : List (List ℕ)) (a : List ℕ) (c : Command)
         → SpellsCommand names a c → NamesRolesOf names c }
 {
     one_spelling();
@@ -26,13 +26,13 @@ pub fn one_command()
 /// A line has at most one role and one command, where no two roles have one name. These have one
 /// line, with no line break in it.
 pub fn one_script_line()
-    ensures role { (names : List (List ℕ)) (a : List ℕ) (p q : ℕ) (c d : Change)
+    ensures role { (names : List (List ℕ)) (a : List ℕ) (p q : ℕ) (c d : Command)
         → AreDistinct names → SpellsScriptLine names a p c → SpellsScriptLine names a q d → p ≡ q }
-    ensures command { (names : List (List ℕ)) (a : List ℕ) (p q : ℕ) (c d : Change)
+    ensures command { (names : List (List ℕ)) (a : List ℕ) (p q : ℕ) (c d : Command)
         → AreDistinct names → SpellsScriptLine names a p c → SpellsScriptLine names a q d → c ≡ d }
-    ensures spelling { (names : List (List ℕ)) (a b : List ℕ) (p : ℕ) (c : Change)
+    ensures spelling { (names : List (List ℕ)) (a b : List ℕ) (p : ℕ) (c : Command)
         → SpellsScriptLine names a p c → SpellsScriptLine names b p c → a ≡ b }
-    ensures shown { (names : List (List ℕ)) (a : List ℕ) (p : ℕ) (c : Change)
+    ensures shown { (names : List (List ℕ)) (a : List ℕ) (p : ℕ) (c : Command)
         → SpellsScriptLine names a p c → AllByRecursion IsShown a }
 {
     one_spelling();

@@ -3,13 +3,18 @@
 
 pub mod laws;
 pub mod parts;
+pub mod reader;
+pub mod refused;
 pub mod reply;
 pub mod script;
 pub mod spelling;
 
+pub use reader::{read_answer, read_join};
 pub use reply::{Reply, write_answer, write_bad_line};
 pub use script::{LineFault, read_command, read_script_line};
 pub use spelling::write_command;
 
+#[cfg(test)]
+mod reader_tests;
 #[cfg(test)]
 mod tests;

@@ -52,7 +52,15 @@ pub(crate) fn read_step(bytes: &[u8]) -> Option<StepId>
     ensures read { IfSome result (SpellsNumber bytes.now) }
     ensures none { IfNone result ((id : ℕ) → SpellsNumber bytes.now id → ⊥) }
 {
-    Some(StepId::new(read_number(bytes)?))
+    Some(StepId::new(read_count(bytes)?))
+}
+
+// The number.
+pub(crate) fn read_count(bytes: &[u8]) -> Option<u64>
+    ensures read { IfSome result (SpellsNumber bytes.now) }
+    ensures none { IfNone result ((n : ℕ) → SpellsNumber bytes.now n → ⊥) }
+{
+    read_number(bytes)
 }
 
 // The role whose name stands before the first space, and what stands behind it.

@@ -1,27 +1,50 @@
-//! The lines that answer commands.
+//! The lines that answer others.
 ghost use Rattle.std.specs.Prelude.{◌≡◌, [], OnOk, OnErr};
 ghost use Rattle.std.specs.Io.{StartsWith};
 ghost use Rattle.mps_base.specs.Appends.{Appends};
 ghost use Rattle.mps_command.specs.declared.answer.Refusal.TheVariants.{Violation as Violates};
 ghost use Rattle.mps_line.specs.Tokens.{SpellsToken, SpellsLine};
 ghost use Rattle.mps_line.specs.Replies.{SpellsReply, message_token, done_tokens, undone_tokens, news_tokens, refusal_tokens, word_of};
-ghost use Rattle.mps_line.specs.declared.reply.Reply.TheVariants.{Answered, BadLine};
+ghost use Rattle.mps_line.specs.declared.reply.Reply.TheVariants.{Answered, BadLine, Joined};
+ghost use Rattle.mps_line.specs.Codes.{code_of, refusal_code, violation_code};
 
-use crate::parts::{write_count, write_step};
-use mps_base::{Message, StepId};
+use crate::parts::{write_count, write_name, write_step};
+use mps_base::{Message, Name, StepId};
 use mps_command::{Answer, Done, Refusal, Violation};
 use std::alloc::AllocError;
 
-/// The reply to a line of a script.
-#[derive(Drop)]
+/// The reply to a line.
+#[derive(Debug, Drop)]
 pub enum Reply {
     /// The answer to the command that the line spells.
     Answered(Answer),
-    /// The line is spelled like no command.
+    /// The line is spelled like none that may come.
     BadLine,
+    /// The connection acts for the role of that name in that session from now on.
+    Joined { session: u64, name: Name },
+    /// No session has that number.
+    NoSession,
+    /// The session has no role of that name.
+    NoRole,
+    /// Another connection acts for the role.
+    Taken,
 }
 
 impl Reply {
+    /// The code of a refusal, 1 to 17; of any other reply 0.
+    pub fn code(&self) -> u8
+        ensures { result ≡ code_of self.now }
+    {
+        match self {
+            Reply::Answered(Answer::Refused(refusal)) => refusal_code(refusal),
+            Reply::BadLine => 14,
+            Reply::NoSession => 15,
+            Reply::NoRole => 16,
+            Reply::Taken => 17,
+            Reply::Answered(_) | Reply::Joined { .. } => 0,
+        }
+    }
+
     /// Writes the reply at the end, without a line break.
     pub fn write(&self, out: &mut Vec<u8>) -> Result<(), AllocError>
         ensures ok { OnOk result
@@ -45,17 +68,33 @@ impl Reply {
         match self {
             Reply::Answered(answer) => write_answer(answer, out),
             Reply::BadLine => write_bad_line(out),
+            Reply::Joined { session, name } => write_joined(*session, name, out),
+            Reply::NoSession => out.extend_from_slice(b"refused nosession"),
+            Reply::NoRole => out.extend_from_slice(b"refused norole"),
+            Reply::Taken => out.extend_from_slice(b"refused taken"),
         }
     }
 }
 
-/// Writes that a line is spelled like no command, at the end, without a line break.
+/// Writes that a line is spelled like none that may come, at the end, without a line break.
 pub fn write_bad_line(out: &mut Vec<u8>) -> Result<(), AllocError>
     ensures ok { OnOk result
         (Appends (λ text. SpellsReply text BadLine) out.old.items out.new.items) }
     ensures err { OnErr result (out.new.items ≡ out.old.items) }
 {
     out.extend_from_slice(b"refused line")
+}
+
+// Writes the session's number and the role's name, or a part of it.
+fn write_joined(session: u64, name: &Name, out: &mut Vec<u8>) -> Result<(), AllocError>
+    ensures ok { OnOk result (Appends
+        (λ text. SpellsReply text (Joined session name.now)) out.old.items out.new.items) }
+    ensures err { OnErr result (StartsWith out.new.items out.old.items) }
+{
+    out.extend_from_slice(b"joined ")?;
+    write_count(session, out)?;
+    out.push(b' ')?;
+    write_name(name, out)
 }
 
 /// Writes the answer at the end, without a line break. Where memory runs out, a part of it may stand there.
@@ -180,5 +219,35 @@ fn violation_word(violation: Violation) -> &'static [u8]
         Violation::NoLabel => b"nolabel",
         Violation::NothingQueued => b"nothingqueued",
         Violation::Mismatch => b"mismatch",
+    }
+}
+
+// The code of a refusal.
+fn refusal_code(refusal: &Refusal) -> u8
+    ensures { result ≡ refusal_code refusal.now }
+{
+    match refusal {
+        Refusal::Violation(violation) => violation_code(*violation),
+        Refusal::NoStep => 8,
+        Refusal::NotYours => 9,
+        Refusal::Needed { .. } => 10,
+        Refusal::NoMark => 11,
+        Refusal::Full => 12,
+        Refusal::Memory => 13,
+    }
+}
+
+// The code of what a role's type doesn't allow.
+fn violation_code(violation: Violation) -> u8
+    ensures { result ≡ violation_code violation }
+{
+    match violation {
+        Violation::Ended => 1,
+        Violation::WrongAct => 2,
+        Violation::WrongPeer => 3,
+        Violation::WrongSort => 4,
+        Violation::NoLabel => 5,
+        Violation::NothingQueued => 6,
+        Violation::Mismatch => 7,
     }
 }

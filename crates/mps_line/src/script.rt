@@ -3,17 +3,18 @@ ghost use Rattle.std.specs.Prelude.{◌≡◌, ◌≢◌, ℕ, List, [], ◌∷�
 ghost use Rattle.mps_base.specs.Spaced.{spaced};
 ghost use Rattle.mps_base.specs.declared.value.Value.{Value};
 ghost use Rattle.mps_base.specs.declared.value.Value.TheVariants as values;
-ghost use Rattle.mps_command.specs.declared.command.Change.{Change};
-ghost use Rattle.mps_command.specs.declared.command.Change.TheVariants as commands;
+ghost use Rattle.mps_command.specs.declared.command.Command.{Command};
+ghost use Rattle.mps_command.specs.declared.command.Command.TheVariants as commands;
 ghost use Rattle.mps_command.specs.declared.command.Forward.TheVariants as steps;
+ghost use Rattle.mps_line.specs.declared.script.LineFault.TheVariants.{Memory as OutOfMemory};
 ghost use Rattle.mps_line.specs.declared.script.Verb.{Verb};
 ghost use Rattle.mps_line.specs.Tokens.{RoleAt, Worth, SpellsLine};
-ghost use Rattle.mps_line.specs.Commands.{verb_word, verb_of, arguments, SpellsCommand, SpellsScriptLine};
+ghost use Rattle.mps_line.specs.Commands.{verb_word, verb_of, arguments, TakesArguments, SpellsCommand, SpellsScriptLine};
 
-use crate::parts::{behind, read_role, read_role_and_name, read_step, split_role};
+use crate::parts::{behind, read_count, read_role, read_role_and_name, read_step, split_role};
 use mps_base::{Name, Role, Roles, Value, ValueFault};
-use mps_command::{Change, Forward};
-use std::alloc::Global;
+use mps_command::{Command, Forward};
+use std::alloc::{AllocError, AllocFailed, Global};
 use thiserror::Error;
 
 /// Why a line was not read.
@@ -23,6 +24,22 @@ pub enum LineFault {
     Bad,
     #[error("out of memory")]
     Memory,
+}
+
+impl From<AllocError> for LineFault {
+    ghost from_gives = { λ _ e. e ≡ OutOfMemory };
+
+    fn from(_e: AllocError) -> LineFault {
+        LineFault::Memory
+    }
+}
+
+impl<T: Drop> From<AllocFailed<T>> for LineFault {
+    ghost from_gives = { λ _ e. e ≡ OutOfMemory };
+
+    fn from(_e: AllocFailed<T>) -> LineFault {
+        LineFault::Memory
+    }
 }
 
 /// The first word of a command.
@@ -36,6 +53,8 @@ pub enum Verb {
     Undo,
     Rollback,
     Back,
+    News,
+    Show,
 }
 
 /// Reads a line of a script: a role's name and its command.
@@ -43,9 +62,9 @@ pub fn read_script_line(
     alloc: Global,
     roles: &Roles,
     bytes: &[u8],
-) -> Result<(Role, Change), LineFault>
+) -> Result<(Role, Command), LineFault>
     ensures read { IfOk result (λ r. SpellsScriptLine roles.now bytes.now r.0 r.1) }
-    ensures bad { IsErrOf result LineFault.Bad → (role : ℕ) (command : Change)
+    ensures bad { IsErrOf result LineFault.Bad → (role : ℕ) (command : Command)
         → SpellsScriptLine roles.now bytes.now role command → ⊥ }
 
     // Only the sending of a text takes memory.
@@ -61,15 +80,18 @@ pub fn read_script_line(
 }
 
 /// Reads a command that takes all of the bytes.
-pub fn read_command(alloc: Global, roles: &Roles, bytes: &[u8]) -> Result<Change, LineFault>
+pub fn read_command(alloc: Global, roles: &Roles, bytes: &[u8]) -> Result<Command, LineFault>
     ensures read { IfOk result (SpellsCommand roles.now bytes.now) }
-    ensures bad { IsErrOf result LineFault.Bad → (command : Change)
+    ensures bad { IsErrOf result LineFault.Bad → (command : Command)
         → SpellsCommand roles.now bytes.now command → ⊥ }
 
     // Only the sending of a text takes memory.
     ensures memory { IsErrOf result LineFault.Memory → (to : ℕ) × (text : List ℕ)
         × SpellsCommand roles.now bytes.now (commands.Forward (steps.Send to (values.Text text))) }
 {
+    if bytes == b"show".as_slice() {
+        return Ok(Command::Show);
+    }
     let Some((verb, rest)) = split_verb(bytes) else {
         return Err(LineFault::Bad);
     };
@@ -103,20 +125,27 @@ fn split_verb(bytes: &[u8]) -> Option<(Verb, &[u8])>
     if let Some(rest) = behind(bytes, b"rollback") {
         return Some((Verb::Rollback, rest));
     }
-    Some((Verb::Back, behind(bytes, b"back")?))
+    if let Some(rest) = behind(bytes, b"back") {
+        return Some((Verb::Back, rest));
+    }
+    if let Some(rest) = behind(bytes, b"news") {
+        return Some((Verb::News, rest));
+    }
+    Some((Verb::Show, behind(bytes, b"show")?))
 }
 
-// The command of that verb with these arguments.
+// The command of that verb with these arguments, of which there is one at least.
 fn read_arguments(
     alloc: Global,
     roles: &Roles,
     verb: Verb,
     bytes: &[u8],
-) -> Result<Change, LineFault>
+) -> Result<Command, LineFault>
     ensures verb { IfOk result (λ command. verb_of command ≡ verb) }
+    ensures some { IfOk result TakesArguments }
     ensures read { IfOk result (λ command. SpellsLine roles.now bytes.now (arguments command)) }
-    ensures bad { IsErrOf result LineFault.Bad → (command : Change) → verb_of command ≡ verb
-        → SpellsLine roles.now bytes.now (arguments command) → ⊥ }
+    ensures bad { IsErrOf result LineFault.Bad → (command : Command) → verb_of command ≡ verb
+        → TakesArguments command → SpellsLine roles.now bytes.now (arguments command) → ⊥ }
     ensures send { IsErrOf result LineFault.Memory → verb ≡ Verb.Send }
     ensures memory { IsErrOf result LineFault.Memory → (to : ℕ) × (text : List ℕ)
         × SpellsLine roles.now bytes.now (RoleAt to ∷ Worth (values.Text text) ∷ []) }
@@ -124,36 +153,41 @@ fn read_arguments(
     match verb {
         Verb::Send => {
             let (to, value) = read_role_and_value(alloc, roles, bytes)?;
-            Ok(Change::Forward(Forward::Send { to, value }))
+            Ok(Command::Forward(Forward::Send { to, value }))
         }
         Verb::Choose => match read_role_and_name(roles, bytes) {
-            Some((to, label)) => Ok(Change::Forward(Forward::Choose { to, label })),
+            Some((to, label)) => Ok(Command::Forward(Forward::Choose { to, label })),
             None => Err(LineFault::Bad),
         },
         Verb::Receive => match read_role_and_name(roles, bytes) {
-            Some((from, slot)) => Ok(Change::Forward(Forward::Receive { from, slot })),
+            Some((from, slot)) => Ok(Command::Forward(Forward::Receive { from, slot })),
             None => Err(LineFault::Bad),
         },
         Verb::Pick => match read_role(roles, bytes) {
-            Some(from) => Ok(Change::Forward(Forward::Pick { from })),
+            Some(from) => Ok(Command::Forward(Forward::Pick { from })),
             None => Err(LineFault::Bad),
         },
         Verb::Mark => match Name::read(bytes) {
-            Some(name) => Ok(Change::Forward(Forward::Mark { name })),
+            Some(name) => Ok(Command::Forward(Forward::Mark { name })),
             None => Err(LineFault::Bad),
         },
         Verb::Undo => match read_step(bytes) {
-            Some(id) => Ok(Change::Undo(id)),
+            Some(id) => Ok(Command::Undo(id)),
             None => Err(LineFault::Bad),
         },
         Verb::Rollback => match read_step(bytes) {
-            Some(id) => Ok(Change::Rollback(id)),
+            Some(id) => Ok(Command::Rollback(id)),
             None => Err(LineFault::Bad),
         },
         Verb::Back => match Name::read(bytes) {
-            Some(name) => Ok(Change::Back(name)),
+            Some(name) => Ok(Command::Back(name)),
             None => Err(LineFault::Bad),
         },
+        Verb::News => match read_count(bytes) {
+            Some(known) => Ok(Command::News(known)),
+            None => Err(LineFault::Bad),
+        },
+        Verb::Show => Err(LineFault::Bad),
     }
 }
 

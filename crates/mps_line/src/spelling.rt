@@ -2,18 +2,18 @@
 ghost use Rattle.std.specs.Prelude.{◌≡◌, OnOk, OnErr};
 ghost use Rattle.std.specs.Io.{StartsWith};
 ghost use Rattle.mps_base.specs.Appends.{Appends};
-ghost use Rattle.mps_command.specs.declared.command.Change.TheVariants as commands;
+ghost use Rattle.mps_command.specs.declared.command.Command.TheVariants as commands;
 ghost use Rattle.mps_line.specs.Tokens.{SpellsLine};
 ghost use Rattle.mps_line.specs.Commands.{verb_word, verb_of, arguments, SpellsCommand, NamesRolesOf};
 
-use crate::parts::{write_name, write_role, write_step};
+use crate::parts::{write_count, write_name, write_role, write_step};
 use crate::script::Verb;
 use mps_base::Roles;
-use mps_command::{Change, Forward};
+use mps_command::{Command, Forward};
 use std::alloc::AllocError;
 
 /// Writes the command at the end, without a line break.
-pub fn write_command(roles: &Roles, command: &Change, out: &mut Vec<u8>) -> Result<(), AllocError>
+pub fn write_command(roles: &Roles, command: &Command, out: &mut Vec<u8>) -> Result<(), AllocError>
     requires known { NamesRolesOf roles.now command.now }
     ensures ok { OnOk result (Appends
         (λ text. SpellsCommand roles.now text command.now) out.old.items out.new.items) }
@@ -28,29 +28,34 @@ pub fn write_command(roles: &Roles, command: &Change, out: &mut Vec<u8>) -> Resu
 }
 
 // Writes the command, or a part of it.
-fn write_parts(roles: &Roles, command: &Change, out: &mut Vec<u8>) -> Result<(), AllocError>
+fn write_parts(roles: &Roles, command: &Command, out: &mut Vec<u8>) -> Result<(), AllocError>
     requires known { NamesRolesOf roles.now command.now }
     ensures ok { OnOk result (Appends
         (λ text. SpellsCommand roles.now text command.now) out.old.items out.new.items) }
     ensures err { OnErr result (StartsWith out.new.items out.old.items) }
 {
     out.extend_from_slice(verb_word(verb_of(command)))?;
+    if let Command::Show = command {
+        return Ok(());
+    }
     out.push(b' ')?;
     write_arguments(roles, command, out)
 }
 
 // Writes what stands behind the verb, or a part of it.
-fn write_arguments(roles: &Roles, command: &Change, out: &mut Vec<u8>) -> Result<(), AllocError>
+fn write_arguments(roles: &Roles, command: &Command, out: &mut Vec<u8>) -> Result<(), AllocError>
     requires known { NamesRolesOf roles.now command.now }
     ensures ok { OnOk result (Appends
         (λ text. SpellsLine roles.now text (arguments command.now)) out.old.items out.new.items) }
     ensures err { OnErr result (StartsWith out.new.items out.old.items) }
 {
     match command {
-        Change::Forward(step) => write_forward(roles, step, out),
-        Change::Undo(id) => write_step(*id, out),
-        Change::Rollback(id) => write_step(*id, out),
-        Change::Back(name) => write_name(name, out),
+        Command::Forward(step) => write_forward(roles, step, out),
+        Command::Undo(id) => write_step(*id, out),
+        Command::Rollback(id) => write_step(*id, out),
+        Command::Back(name) => write_name(name, out),
+        Command::News(known) => write_count(*known, out),
+        Command::Show => Ok(()),
     }
 }
 
@@ -84,14 +89,16 @@ fn write_forward(roles: &Roles, step: &Forward, out: &mut Vec<u8>) -> Result<(),
 }
 
 // The verb of the command.
-fn verb_of(command: &Change) -> Verb
+fn verb_of(command: &Command) -> Verb
     ensures { result ≡ verb_of command.now }
 {
     match command {
-        Change::Forward(step) => forward_verb(step),
-        Change::Undo(_) => Verb::Undo,
-        Change::Rollback(_) => Verb::Rollback,
-        Change::Back(_) => Verb::Back,
+        Command::Forward(step) => forward_verb(step),
+        Command::Undo(_) => Verb::Undo,
+        Command::Rollback(_) => Verb::Rollback,
+        Command::Back(_) => Verb::Back,
+        Command::News(_) => Verb::News,
+        Command::Show => Verb::Show,
     }
 }
 
@@ -121,5 +128,7 @@ fn verb_word(verb: Verb) -> &'static [u8]
         Verb::Undo => b"undo",
         Verb::Rollback => b"rollback",
         Verb::Back => b"back",
+        Verb::News => b"news",
+        Verb::Show => b"show",
     }
 }

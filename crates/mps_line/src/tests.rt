@@ -4,7 +4,7 @@ ghost use Rattle.mps_line.specs.Commands.{NamesRolesOf};
 use super::*;
 use crate::laws::one_command;
 use mps_base::{Message, Name, Role, Roles, StepId, Value};
-use mps_command::{Answer, Change, Done, Forward, Refusal, ShownText, StepIds, Violation};
+use mps_command::{Answer, Command, Done, Forward, Refusal, ShownText, StepIds, Violation};
 use std::alloc::Global;
 use std::test::Fail;
 
@@ -24,12 +24,14 @@ fn read(alloc: Global, line: &[u8]) -> Result<(usize, String), Fail> {
 }
 
 // The command in words.
-fn shown(alloc: Global, command: &Change) -> Result<String, Fail> {
+fn shown(alloc: Global, command: &Command) -> Result<String, Fail> {
     match command {
-        Change::Forward(step) => shown_step(alloc, step),
-        Change::Undo(id) => numbered(alloc, "undoes", *id),
-        Change::Rollback(id) => numbered(alloc, "takes back", *id),
-        Change::Back(name) => worded(alloc, "goes back to", None, name.as_bytes()),
+        Command::Forward(step) => shown_step(alloc, step),
+        Command::Undo(id) => numbered(alloc, "undoes", *id),
+        Command::Rollback(id) => numbered(alloc, "takes back", *id),
+        Command::Back(name) => worded(alloc, "goes back to", None, name.as_bytes()),
+        Command::News(known) => Ok(format!(in alloc; "asks what came after {known}")?),
+        Command::Show => Ok(format!(in alloc; "asks for the session")?),
     }
 }
 
@@ -88,6 +90,8 @@ fn good_lines(rt: HostRuntime) -> Result<(), Fail> {
         ("b undo 3", 1, "undoes 3"),
         ("c rollback 0", 2, "takes back 0"),
         ("a back m", 0, "goes back to m"),
+        ("c news 7", 2, "asks what came after 7"),
+        ("b show", 1, "asks for the session"),
     ];
     for (line, role, text) in good {
         let found = read(rt.alloc(), line.as_bytes())?;
@@ -138,6 +142,10 @@ fn bad_lines(rt: HostRuntime) -> Result<(), Fail> {
         "a sender b 5",
         "a sendb 5",
         "a marksm",
+        "a show ",
+        "a news 01",
+        "show",
+        "news 0",
     ];
     for line in bad {
         let found = read_script_line(rt.alloc(), &roles, line.as_bytes());
@@ -147,7 +155,7 @@ fn bad_lines(rt: HostRuntime) -> Result<(), Fail> {
 }
 
 // The command as it is written, and what that is read as.
-fn again(alloc: Global, roles: &Roles, command: &Change) -> Result<(Vec<u8>, Change), Fail>
+fn again(alloc: Global, roles: &Roles, command: &Command) -> Result<(Vec<u8>, Command), Fail>
     requires { NamesRolesOf roles.now command.now }
     ensures { IfOk result (λ r. r.1 ≡ command.now) }
 {
@@ -184,6 +192,12 @@ fn commands_alone(rt: HostRuntime) -> Result<(), Fail> {
         ),
         ("back m", "goes back to m"),
         ("back rollback", "goes back to rollback"),
+        ("news 0", "asks what came after 0"),
+        (
+            "news 18446744073709551615",
+            "asks what came after 18446744073709551615",
+        ),
+        ("show", "asks for the session"),
     ];
     for (line, text) in good {
         let command = read_command(alloc, &roles, line.as_bytes())?;
@@ -237,8 +251,18 @@ fn bad_commands(rt: HostRuntime) -> Result<(), Fail> {
         "back M",
         "backm",
         "mark end",
-        "show",
-        "news 0",
+        "show ",
+        "show 0",
+        "shows",
+        "Show",
+        "news",
+        "news ",
+        "news 00",
+        "news  0",
+        "news 0 ",
+        "news 0 1",
+        "news m",
+        "news 18446744073709551616",
         "done 1",
         "refused line",
     ];

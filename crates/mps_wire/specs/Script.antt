@@ -3,6 +3,7 @@ use Rattle.std.specs.Prelude.{◌≡◌, ℕ, ◌≤◌, ◌⊎◌, List, length
 use Rattle.std.specs.Str.{IsAscii}
 use Rattle.mps_base.specs.declared.value.Value.TheVariants.{Text}
 use Rattle.mps_local.specs.Local.{LocalType}
+use Rattle.mps_command.specs.Changes.{command_of}
 use Rattle.mps_command.specs.declared.command.Change.{Change}
 use Rattle.mps_command.specs.declared.command.Change.TheVariants.{Forward}
 use Rattle.mps_command.specs.declared.command.Forward.TheVariants.{Send}
@@ -18,12 +19,12 @@ use Rattle.mps_wire.specs.Answers.{Answering, Place}
 use Rattle.mps_wire.specs.Lines.{max_line}
 use Rattle.mps_wire.specs.declared.script.Run.{Run}
 
--- a line that isn't too long, of bytes below 128, that spells a role's command
+-- a line that isn't too long, of bytes below 128, that spells a role's command that asks for a change
 pub record IsReadable (names : List (List ℕ)) (line : List ℕ) (role : ℕ)
     (command : Change) : Type 0 where
   pub short : length line ≤ max_line
   pub ascii : IsAscii line
-  pub spelled : SpellsScriptLine names line role command
+  pub spelled : SpellsScriptLine names line role (command_of command)
 
 -- What one line does.
 module _ (names : List (List ℕ)) (types : List LocalType) (line : List ℕ) (st : State) where

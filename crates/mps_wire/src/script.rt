@@ -17,6 +17,7 @@ use crate::lines::{MOST_KEPT, keep, line_end};
 use mps_base::Roles;
 use mps_command::{Answer, Refusal};
 use mps_dev::{Failed, Sink, Source};
+use mps_line::laws::one_script_line;
 use mps_line::{LineFault, read_script_line, write_answer, write_bad_line};
 use mps_local::Local;
 use mps_session::{OpenFault, Session};
@@ -80,13 +81,17 @@ fn reply_to_line(
         line.now session.old.state text session.new.state)
         answers.old.items answers.new.items) }
 {
+    let (_one, _distinct) = (one_script_line(), roles.count());
     if line.len() > MAX_LINE {
         return write_bad_line(answers);
     }
     match read_script_line(alloc, roles, line) {
         Ok(request) => {
             let (role, command) = request;
-            let answer = session.serve(role, command);
+            let Some(change) = command.into_change() else {
+                return write_bad_line(answers);
+            };
+            let answer = session.serve(role, change);
             write_answer(&answer, answers)
         }
         Err(LineFault::Bad) => write_bad_line(answers),

@@ -1,20 +1,26 @@
+use Rattle.std.proofs.Common.{arith}
 use Rattle.mps_base.specs.declared.value.Value.TheVariants.{Text}
-use Rattle.mps_command.specs.declared.command.Change.TheVariants.{Forward}
+use Rattle.mps_command.specs.declared.command.Command.TheVariants.{Forward}
 use Rattle.mps_command.specs.declared.command.Forward.TheVariants.{Send}
-use Rattle.mps_line.proofs.Reading.{no_command, command_of, command_parts, command_read}
+use Rattle.mps_line.proofs.Reading.{show_read, no_command, no_verb, command_of, command_read}
+use Rattle.mps_line.proofs.Splitting.{is_word, is_no_word}
 use Rattle.mps_line.proofs.script.read_command.Goals as goal
+
+pub returns-then-eq-clause-read : goal.returns-then-eq-clause-read
+returns-then-eq-clause-read c = show_read _ _ (is_word _ _ _ _ c.eq.ensures c.if-eq.true c.as_slice.ensures)
 
 pub returns-in_default-clause-bad : goal.returns-in_default-clause-bad
 returns-in_default-clause-bad c = λ e command h.
-    let k = command_parts _ _ command h in c.in_default.ensures.none _ k.rest k.parts
+    no_verb _ _ c.in_default.ensures.none (is_no_word _ _ _ _ c.eq.ensures c.if-eq.false c.as_slice.ensures) command h
 
 pub returns-clause-read : goal.returns-clause-read
-returns-clause-read c = command_read _ _ _ _ _ c.in-Some.ensures.read c.read_arguments.ensures.verb c.read_arguments.ensures.read
+returns-clause-read c = command_read _ _ _ _ _ c.in-Some.ensures.read c.read_arguments.ensures.verb c.read_arguments.ensures.some c.read_arguments.ensures.read
 
 pub returns-clause-bad : goal.returns-clause-bad
-returns-clause-bad c = λ e. no_command _ _ _ _ c.in-Some.ensures.read (c.read_arguments.ensures.bad e)
+returns-clause-bad c = λ e.
+    no_command _ _ _ _ c.in-Some.ensures.read (is_no_word _ _ _ _ c.eq.ensures c.if-eq.false c.as_slice.ensures) (c.read_arguments.ensures.bad e)
 
 pub returns-clause-memory : goal.returns-clause-memory
 returns-clause-memory c = λ e.
     let k = c.read_arguments.ensures.memory e in
-    (k.0, k.1, command_of _ _ _ (Forward (Send k.0 (Text k.1))) (rw (c.read_arguments.ensures.send e) at c.in-Some.ensures.read) k.2)
+    (k.0, k.1, command_of _ _ _ (Forward (Send k.0 (Text k.1))) (rw (c.read_arguments.ensures.send e) at c.in-Some.ensures.read) (omega arith) k.2)

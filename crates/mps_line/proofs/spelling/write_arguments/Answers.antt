@@ -10,3 +10,6 @@ returns-in-Rollback-clause-ok c = rw c.in-Rollback.is (token_alone _ _ _ _ (Numb
 
 pub returns-in-Back-clause-ok : goal.returns-in-Back-clause-ok
 returns-in-Back-clause-ok c = rw c.in-Back.is (token_alone _ _ _ _ (Called c.in-Back.name) c.write_name.ensures.ok)
+
+pub returns-in-News-clause-ok : goal.returns-in-News-clause-ok
+returns-in-News-clause-ok c = rw c.in-News.is (token_alone _ _ _ _ (Number c.in-News.known) c.write_count.ensures.ok)

@@ -1,0 +1,190 @@
+ghost use Rattle.std.specs.Prelude.{◌≡◌, IfOk};
+
+use super::*;
+use crate::laws::one_reply_line;
+use std::alloc::Global;
+use std::test::Fail;
+
+// The reply as it is written, and what that is read as.
+fn again(alloc: Global, reply: &Reply) -> Result<(Vec<u8>, Reply), Fail>
+    ensures { IfOk result (λ r. r.1 ≡ reply.now) }
+{
+    one_reply_line();
+    let mut line = Vec::new(alloc);
+    reply.write(&mut line)?;
+    let read = read_answer(alloc, &line);
+    prove!(!matches!(&read, Err(LineFault::Bad)));
+    Ok((line, read?))
+}
+
+// What the line is read as, in words.
+fn shown(alloc: Global, reply: &Reply) -> Result<String, Fail> {
+    Ok(format!(in alloc; "{reply:?}")?)
+}
+
+#[test]
+fn reads_replies(rt: HostRuntime) -> Result<(), Fail> {
+    let alloc = rt.alloc();
+    let replies = [
+        ("done 1", 0),
+        ("done 0", 0),
+        ("done 18446744073709551615 true", 0),
+        ("done 2 -5", 0),
+        ("done 6 ok", 0),
+        ("done 3 \"good day\"", 0),
+        ("done 3 \" 5 \"", 0),
+        ("done 3 \"\"", 0),
+        ("undone", 0),
+        ("undone 3", 0),
+        ("undone 4 3 2 1", 0),
+        ("undone 0 18446744073709551615", 0),
+        ("news 0", 0),
+        ("news 5 4", 0),
+        ("news 100000 3 2 1", 0),
+        ("{}", 0),
+        ("{x", 0),
+        ("{\"a\": [1,  2], \"b ", 0),
+        ("joined 1 a", 0),
+        ("joined 18446744073709551615 role_2", 0),
+        ("refused ended", 1),
+        ("refused wrongact", 2),
+        ("refused wrongpeer", 3),
+        ("refused wrongsort", 4),
+        ("refused nolabel", 5),
+        ("refused nothingqueued", 6),
+        ("refused mismatch", 7),
+        ("refused nostep", 8),
+        ("refused notyours", 9),
+        ("refused needed 2", 10),
+        ("refused nomark", 11),
+        ("refused full", 12),
+        ("refused memory", 13),
+        ("refused line", 14),
+        ("refused nosession", 15),
+        ("refused norole", 16),
+        ("refused taken", 17),
+    ];
+    for (line, code) in replies {
+        let reply = read_answer(alloc, line.as_bytes())?;
+        assert_eq!(rt; reply.code(), code);
+        let (written, read) = again(alloc, &reply)?;
+        assert_eq!(rt; written.as_slice(), line.as_bytes());
+        assert_eq!(rt;
+            shown(alloc, &read)?.as_str(),
+            shown(alloc, &reply)?.as_str()
+        );
+    }
+    Ok(())
+}
+
+#[test]
+fn bad_replies(rt: HostRuntime) -> Result<(), Fail> {
+    let bad = [
+        "",
+        " ",
+        "done",
+        "done ",
+        "done 01",
+        "done 1 ",
+        "done  1",
+        "done 1  5",
+        "done 1 5 6",
+        "done 1 05",
+        "done 1 end",
+        "done 1 \"x",
+        "done x",
+        "Done 1",
+        "done 18446744073709551616",
+        "undone ",
+        "undone  3",
+        "undone 3 ",
+        "undone 3  2",
+        "undone 03",
+        "undone 3 x",
+        "undone 18446744073709551616",
+        "undone3",
+        "news",
+        "news ",
+        "news  3",
+        "news 3 ",
+        "news x",
+        "news 3 x",
+        "news 03",
+        "news 3 02",
+        "joined",
+        "joined 1",
+        "joined 1 ",
+        "joined 01 a",
+        "joined 1 A",
+        "joined 1 end",
+        "joined 1 a b",
+        "joined 18446744073709551616 a",
+        "refused",
+        "refused ",
+        "refused needed",
+        "refused needed ",
+        "refused needed 02",
+        "refused needed 2 ",
+        "refused needed x",
+        "refused  full",
+        "refused full ",
+        "refused full 3",
+        "refused Full",
+        "refused wrong",
+        "refused it",
+        " {x",
+        "{x\n",
+        "{\t}",
+        "{\x7f}",
+        "{é}",
+        "show",
+        "undo 3",
+        "join 1 a",
+    ];
+    for line in bad {
+        let found = read_answer(rt.alloc(), line.as_bytes());
+        assert!(rt; matches!(found, Err(LineFault::Bad)), "{line}");
+    }
+    Ok(())
+}
+
+#[test]
+fn reads_joins(rt: HostRuntime) -> Result<(), Fail> {
+    let good = [
+        ("join 1 a", 1, "a"),
+        ("join 0 role_2", 0, "role_2"),
+        ("join 18446744073709551615 join", u64::MAX, "join"),
+    ];
+    for (line, session, name) in good {
+        let pass = read_join(line.as_bytes())?;
+        assert_eq!(rt; pass.0, session);
+        assert_eq!(rt; pass.1.as_bytes(), name.as_bytes());
+    }
+    let bad = [
+        "",
+        "join",
+        "join ",
+        "join 1",
+        "join 1 ",
+        "join a",
+        "join 01 a",
+        "join 1 A",
+        "join 1 end",
+        "join 1  a",
+        "join  1 a",
+        "join 1 a ",
+        "join 1 a b",
+        " join 1 a",
+        "Join 1 a",
+        "joined 1 a",
+        "join 18446744073709551616 a",
+        "show",
+    ];
+    for line in bad {
+        assert!(rt;
+            matches!(read_join(line.as_bytes()), Err(LineFault::Bad)),
+            "{line}"
+        );
+    }
+    Ok(())
+}
