@@ -168,3 +168,56 @@ fn undoes_a_thousand_steps(rt: HostRuntime) -> Result<(), Fail> {
     undo_all(rt.alloc(), &mut session, 1000)?;
     play(rt.alloc(), &mut session, NONE_LEFT)
 }
+
+// Sends and takes the send back at once, so many times.
+fn send_and_undo(alloc: Global, session: &mut Session, times: u64) -> Result<(), Fail> {
+    for k in 0..times {
+        let _ = answer(alloc, session, A, Ask::Send(B, "1"))?;
+        if undone(alloc, session, A, k + 1)?.as_str() != "Ok" {
+            return Err("it stays".into());
+        }
+    }
+    Ok(())
+}
+
+const AFTER_THEM: &[Line] = &[
+    Asks(A, Ask::Send(B, "2"), "1001 -"),
+    Asks(B, Ask::Receive(A, "x"), "1002 2"),
+    Undoes(A, 1001, "Needed 1002"),
+    Undoes(A, 1000, "NoStep"),
+    Count(2, 1002),
+];
+
+#[test]
+fn undoes_a_thousand_sends_at_once(rt: HostRuntime) -> Result<(), Fail> {
+    let mut session = Session::open(rt.alloc(), giving(rt.alloc())?)?;
+    send_and_undo(rt.alloc(), &mut session, 1000)?;
+    play(rt.alloc(), &mut session, AFTER_THEM)
+}
+
+const BOUND_AGAIN: &[Line] = &[
+    Asks(A, Ask::Send(B, "1"), "1 -"),
+    Asks(A, Ask::Send(B, "2"), "2 -"),
+    Asks(A, Ask::Send(B, "3"), "3 -"),
+    Asks(B, Ask::Receive(A, "x"), "4 1"),
+    Asks(B, Ask::Receive(A, "y"), "5 2"),
+    Asks(B, Ask::Receive(A, "x"), "6 3"),
+    Keeps(B, "x", "3"),
+    Keeps(B, "y", "2"),
+    Undoes(B, 6, "Ok"),
+    Keeps(B, "x", "1"),
+    Keeps(B, "y", "2"),
+    Undoes(B, 5, "Ok"),
+    Keeps(B, "x", "1"),
+    Keeps(B, "y", "-"),
+    Undoes(B, 4, "Ok"),
+    Keeps(B, "x", "-"),
+    Asks(B, Ask::Receive(A, "y"), "7 1"),
+    Keeps(B, "y", "1"),
+];
+
+#[test]
+fn unbinds_slots(rt: HostRuntime) -> Result<(), Fail> {
+    let mut session = Session::open(rt.alloc(), giving(rt.alloc())?)?;
+    play(rt.alloc(), &mut session, BOUND_AGAIN)
+}
