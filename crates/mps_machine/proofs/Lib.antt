@@ -8,4 +8,5 @@ pub mod Swapping
 pub mod Peers
 pub mod Unreceived
 pub mod TakingBack
+pub mod Marks
 pub mod Faults

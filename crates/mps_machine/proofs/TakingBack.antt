@@ -132,7 +132,7 @@ least_member (x ∷ l) m e = by_rest (least (numbers l)) refl (least_member l)
     by_rest (Some k) r rest = let t = rest k r in least_of_two x t.0 l k m t.1 (first_is (Some k) r)
 
 -- a step is one's own exactly where nothing is wrong with its owner
-own_allowed : (h : List Step) (p n : ℕ) (s : Step) → IsRising h → IsOwn h p n s → owner_fault p (step_of h n) ≡ None
+pub own_allowed : (h : List Step) (p n : ℕ) (s : Step) → IsRising h → IsOwn h p n s → owner_fault p (step_of h n) ≡ None
 own_allowed h p n s rising own =
     ap (λ (m : ℕ). owner_fault p (step_of h m)) (sym own.number)
     ∙ ap (owner_fault p) (step_of_member h s rising own.survives)

@@ -1,14 +1,15 @@
 -- What is promised of steps that are taken back. A step may be undone only when its consequences are (Danos, Krivine,
 -- CONCUR 2004).
-use Rattle.std.specs.Prelude.{◌≡◌, ◌↔◌, ◌⊎◌, ℕ, ◌+◌, ◌≤◌, Bool, IsTrue, List, [], ◌∷◌, reverse, Ok, Err}
+use Rattle.std.specs.Prelude.{◌≡◌, ◌≢◌, ◌↔◌, ◌⊎◌, ℕ, ◌+◌, ◌≤◌, Bool, IsTrue, List, [], ◌∷◌, ◌++◌, reverse, Ok, Err}
 use Rattle.mps_base.specs.declared.action.Act.{Act}
+use Rattle.mps_base.specs.declared.action.Act.TheVariants.{Mark}
 use Rattle.mps_base.specs.declared.action.Step.{Step}
 use Rattle.mps_local.specs.Local.{LocalType}
-use Rattle.mps_history.specs.Steps.{IsIn, numbers, within, without}
+use Rattle.mps_history.specs.Steps.{IsIn, numbers, steps_of, within, without}
 use Rattle.mps_history.specs.Dependence.{DependsOn}
 use Rattle.mps_command.specs.declared.answer.Done.{Done}
-use Rattle.mps_command.specs.declared.answer.Refusal.TheVariants.{Needed}
-use Rattle.mps_machine.specs.Machine.{State, forward, undo, undone, rollback}
+use Rattle.mps_command.specs.declared.answer.Refusal.TheVariants.{Needed, NoMark}
+use Rattle.mps_machine.specs.Machine.{State, forward, undo, undone, rollback, back}
 
 -- a step and then its undo change nothing but the next number
 abbrev pub UndoesSteps : List LocalType → State → Type 0
@@ -58,3 +59,21 @@ pub record TookFuture (p n : ℕ) (ids : List ℕ) (old new : State) : Type 0 wh
 pub record TakesFutures (st : State) : Type 0 where
   pub accepted : (p n : ℕ) (s : Step) → IsOwn st.history p n s → (ids : List ℕ) × ((rollback st p n).0 ≡ Ok ids)
   pub exactly : (p n : ℕ) (ids : List ℕ) → (rollback st p n).0 ≡ Ok ids → TookFuture p n ids st (rollback st p n).1
+
+-- of role p's surviving steps this one is the last mark of the name, and those behind it are these, in order
+pub record IsLastMark (h : List Step) (p : ℕ) (name : List ℕ) (mark : Step) (behind : List Step) : Type 0 where
+  pub before : List Step
+  pub parts : steps_of p h ≡ before ++ mark ∷ behind
+  pub marks : mark.act ≡ Mark name
+  pub last : (t : Step) → IsIn t behind → t.act ≢ Mark name
+
+-- a return to a mark is a rollback of the role's first step behind its last mark of the name
+pub record ReturnsToMarks (st : State) : Type 0 where
+  -- it is refused as no mark exactly where no surviving step of the role marks the name
+  pub refused : (p : ℕ) (name : List ℕ)
+      → (((back st p name).0 ≡ Err NoMark) ↔ ((s : Step) → IsIn s st.history → s.role ≡ p → s.act ≢ Mark name))
+  -- where a step comes first behind the mark, it is the rollback of that step
+  pub first : (p : ℕ) (name : List ℕ) (mark s : Step) (behind : List Step) → IsLastMark st.history p name mark (s ∷ behind)
+      → back st p name ≡ rollback st p s.id
+  -- where none does, nothing is taken back
+  pub nothing : (p : ℕ) (name : List ℕ) (mark : Step) → IsLastMark st.history p name mark [] → back st p name ≡ (Ok [], st)

@@ -12,7 +12,7 @@ ghost use Rattle.mps_machine.specs.View.{View, opening};
 ghost use Rattle.mps_machine.specs.Rule.{rule, replay};
 ghost use Rattle.mps_machine.specs.Violations.{violation};
 ghost use Rattle.mps_machine.specs.Machine.{State, initial, Request, serve, after, view_of, IsSound};
-ghost use Rattle.mps_machine.specs.TakingBack.{UndoesSteps, RefusesNeeded, TakesFutures};
+ghost use Rattle.mps_machine.specs.TakingBack.{UndoesSteps, RefusesNeeded, TakesFutures, ReturnsToMarks};
 
 /// The rule allows an act exactly where it has no violation.
 pub fn the_rule_is_defined()
@@ -95,4 +95,10 @@ pub fn an_undo_is_refused_where_needed()
 /// A rollback takes exactly the chosen step and all that depend on it.
 pub fn a_rollback_takes_the_causal_future()
     ensures { (types : List LocalType) (st : State) → IsSound types st → TakesFutures st }
+{}
+
+/// A return to a mark is a rollback of the role's first step behind its last mark of the name, and takes nothing where
+/// there is none. It is refused exactly where no such mark survives.
+pub fn a_return_goes_to_the_last_mark()
+    ensures { (types : List LocalType) (st : State) → IsSound types st → ReturnsToMarks st }
 {}

@@ -9,6 +9,7 @@ use Rattle.mps_base.specs.declared.action.Step.{Step}
 use Rattle.mps_history.specs.Steps.{IsIn, IsRising, step_of, steps_of}
 use Rattle.mps_history.proofs.Order.{filter-IsIn, step_of_member}
 use Rattle.mps_machine.specs.Machine.{is_mark, since_mark}
+use Rattle.mps_machine.proofs.Marks.{since_append, since_at}
 use Rattle.mps_arena.specs.Keys.{last_key}
 use Rattle.mps_arena.specs.Entries.{Entry, steps, keys_of, of_role, entry_at, AreSound}
 use Rattle.mps_arena.specs.Sources.{prev_of_role_in}
@@ -18,16 +19,6 @@ use Rattle.mps_links.proofs.Lasts.{IsLast, last_is, nothing_last}
 use Rattle.mps_links.proofs.Links.{prev_is}
 use Rattle.mps_links.proofs.StepKeys.{none_passes}
 use Rattle.mps_session.specs.Answers.{first_number}
-
--- what comes behind the last mark of a part comes behind the last of the whole
-since_append : (name : List ℕ) (a b c : List Step) → since_mark name b ≡ Some c → since_mark name (a ++ b) ≡ Some c
-since_append name [] b c e = e
-since_append name (s ∷ a) b c e =
-    let rest = since_append name a b c e in
-    cond-true (is_some (since_mark name (a ++ b))) (since_mark name (a ++ b)) (if is_mark name s.act then Some (a ++ b) else None) (ap is_some rest) ∙ rest
-
-since_at : (name : List ℕ) (s : Step) (h : List Step) → since_mark name h ≡ None → since_mark name (s ∷ h) ≡ (if is_mark name s.act then Some h else None)
-since_at name s h e = cond-false (is_some (since_mark name h)) (since_mark name h) (if is_mark name s.act then Some h else None) (ap is_some e)
 
 -- what comes behind a mark is of the history
 since_in : (name : List ℕ) (h c : List Step) (s : Step) → since_mark name h ≡ Some c → IsIn s c → IsIn s h

@@ -2,7 +2,7 @@
 ghost use Rattle.std.specs.Prelude.{◌≡◌, ◌<◌, Some, length, IfOk, OnErr, vec_len};
 ghost use Rattle.std.specs.List.{AllByRecursion};
 ghost use Rattle.mps_machine.specs.Rule.{replay};
-ghost use Rattle.mps_machine.specs.TakingBack.{UndoesSteps, RefusesNeeded, TakesFutures};
+ghost use Rattle.mps_machine.specs.TakingBack.{UndoesSteps, RefusesNeeded, TakesFutures, ReturnsToMarks};
 ghost use Rattle.mps_machine.specs.View.{opening};
 ghost use Rattle.mps_session.specs.Runs.{AreServed};
 ghost use Rattle.mps_session.specs.Seen.{view_of};
@@ -30,6 +30,8 @@ impl Session {
         ensures refused { RefusesNeeded self.new.state }
         // a rollback takes exactly the chosen step and all that depend on it
         ensures taken { TakesFutures self.new.state }
+        // a return to a mark is a rollback of the role's first step behind its last mark of the name
+        ensures returned { ReturnsToMarks self.new.state }
         ensures err { OnErr result (self.new.state ≡ self.old.state) }
     {
         let mut answers = Vec::with_capacity(self.configuration.alloc, requests.len())?;

@@ -5,6 +5,7 @@ use Rattle.mps_local.specs.Local.{LocalType}
 use Rattle.mps_machine.specs.Machine.{Request, IsSound, serve}
 use Rattle.mps_machine.proofs.Sound.{serve_sound}
 use Rattle.mps_machine.proofs.TakingBack.{undoes_steps, refuses_needed, takes_futures}
+use Rattle.mps_machine.proofs.Marks.{returns_to_marks}
 use Rattle.mps_session.specs.Answers.{IsServed}
 use Rattle.mps_session.specs.Runs.{AreServed}
 use Rattle.mps_session.specs.Seen.{Machine}
@@ -23,6 +24,9 @@ returns-in_err-answers-clause-refused c = refuses_needed c.args.self.now.types c
 
 pub returns-in_err-answers-clause-taken : goal.returns-in_err-answers-clause-taken
 returns-in_err-answers-clause-taken c = takes_futures c.args.self.now.types c.args.self.now.state (sound ((goal.at.returns-in_err-answers-clause-taken c).After-drop-requests))
+
+pub returns-in_err-answers-clause-returned : goal.returns-in_err-answers-clause-returned
+returns-in_err-answers-clause-returned c = returns_to_marks c.args.self.now.types c.args.self.now.state (sound ((goal.at.returns-in_err-answers-clause-returned c).After-drop-requests))
 
 -- the request is served as the machine serves it
 served : (c : After-push_reserved) → IsServed c.in-Some.command c.serve.result c.loop-role.self.state c.serve.new.self.state (serve c.args.self.now.types c.loop-role.self.state c.in-Some.role c.in-Some.command)
@@ -65,3 +69,6 @@ returns-clause-refused c = refuses_needed c.loop-role.self.types c.loop-role.sel
 
 pub returns-clause-taken : goal.returns-clause-taken
 returns-clause-taken c = takes_futures c.loop-role.self.types c.loop-role.self.state (sound_after ((goal.at.returns-clause-taken c).After-drop-role-iterator))
+
+pub returns-clause-returned : goal.returns-clause-returned
+returns-clause-returned c = returns_to_marks c.loop-role.self.types c.loop-role.self.state (sound_after ((goal.at.returns-clause-returned c).After-drop-role-iterator))
