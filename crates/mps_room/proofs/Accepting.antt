@@ -16,8 +16,9 @@ use Rattle.mps_history.specs.Steps.{step_of, steps_of}
 use Rattle.mps_history.specs.Dependence.{dependents, least}
 use Rattle.mps_local.specs.Local.{LocalType}
 use Rattle.mps_machine.specs.Faults.{refusal_in}
-use Rattle.mps_machine.specs.Machine.{State, most_numbers, view_of, unless, done_by, accepted, owner_fault, undone, rolled_back, since_mark, back_to, stepped, removed, serve}
+use Rattle.mps_machine.specs.Machine.{State, most_numbers, view_of, unless, done_by, accepted, owner_fault, undone, rolled_back, since_mark, back_to, forward, undo, rollback, back, stepped, removed, serve}
 use Rattle.mps_machine.specs.Violations.{violation}
+use Rattle.mps_session.specs.Answers.{IsAccepting}
 use Rattle.mps_room.specs.Journal.{is_accepted}
 
 -- a step
@@ -53,6 +54,10 @@ fine_back st None e = absurd cc
 fine_back st (Some []) e = refl
 fine_back st (Some (s ∷ h)) e = refl
 
+of_removal : (r : Result (List ℕ) Refusal) → IsAccepting (removed r) → is_accepted (removed r) ≡ true
+of_removal (Ok ids) h = refl
+of_removal (Err refusal) h = absurd h
+
 pub fine : (types : List LocalType) (st : State) (p : ℕ) (change : Change) → st.next ≤ most_numbers → refusal_in (serve types st p change).0 ≡ None → is_accepted (serve types st p change).0 ≡ true
 fine types st p (Forward step) room e =
     fine_step types st p (act_of step) (violation (view_of types st.history) p (act_of step)) (nat_lt most_numbers st.next) (le-ltb most_numbers st.next room) e
@@ -62,3 +67,14 @@ fine types st p (Undo n) room e =
 fine types st p (Rollback n) room e =
     by_owner st p (λ (f : Option Refusal). unless f st (rolled_back st n)) (λ refusal. refl) (step_of st.history n) (λ e. refl) e
 fine types st p (Back name) room e = fine_back st (since_mark name (steps_of p st.history)) e
+
+-- an answer that refuses nothing accepts, if it answers a change
+pub accepting : (types : List LocalType) (st : State) (p : ℕ) (change : Change) → IsAccepting (serve types st p change).0 → is_accepted (serve types st p change).0 ≡ true
+accepting types st p (Forward step) h = of_step (forward types st p (act_of step)).0 h
+  where
+    of_step : (r : Result Done Refusal) → IsAccepting (stepped r) → is_accepted (stepped r) ≡ true
+    of_step (Ok done) h = refl
+    of_step (Err refusal) h = absurd h
+accepting types st p (Undo n) h = of_removal (undo st p n).0 h
+accepting types st p (Rollback n) h = of_removal (rollback st p n).0 h
+accepting types st p (Back name) h = of_removal (back st p name).0 h

@@ -1,8 +1,7 @@
 //! Changes of a room.
-ghost use Rattle.std.specs.Prelude.{◌≡◌, ◌+◌, true, ◌<◌, ◌≤◌, ◌++◌, [], ◌∷◌, None, length, vec_len, vec_capacity, IfOk, IfErr, OnErr};
+ghost use Rattle.std.specs.Prelude.{◌≡◌, ◌+◌, ◌⊎◌, false, ◌<◌, ◌≤◌, length, vec_len, vec_capacity};
 ghost use Rattle.mps_command.specs.Changes.{command_of};
-ghost use Rattle.mps_command.specs.declared.answer.Refusal.TheVariants.{Memory as OutOfMemory};
-ghost use Rattle.mps_machine.specs.Faults.{refusal_in};
+ghost use Rattle.mps_command.specs.declared.answer.Refusal.TheVariants.{Full as NoRoom, Memory as OutOfMemory};
 ghost use Rattle.mps_machine.specs.Machine.{serve};
 ghost use Rattle.mps_room.specs.Journal.{grown, is_accepted, limited, most_entries, run, IsReply};
 ghost use Rattle.mps_room.specs.Kept.{owners_after};
@@ -23,11 +22,9 @@ fn add_owner(owners: &mut Vec<Role>, role: Role, answer: &Answer)
 }
 
 impl Room {
-    /// Does the change, which nothing else than want of room may refuse.
+    /// Does the change, or says why not.
     pub(crate) fn change(&mut self, role: Role, change: Change) -> Answer
-        requires role { role < length self.old.types }
-        requires fine { refusal_in
-            (serve self.old.types (run self.old.types self.old.journal) role change).0 ≡ None }
+        requires { role < length self.old.types }
         ensures answer { IsReply result (limited (length self.old.journal)
             (serve self.old.types (run self.old.types self.old.journal) role change).0) }
         ensures journal { self.new.journal
@@ -36,40 +33,41 @@ impl Room {
         ensures types { self.new.types ≡ self.old.types }
     {
         if self.journal.len() >= MAX_ENTRIES {
-            return Answer::Refused(Refusal::Full);
+            return self.refused(role, change, Refusal::Full);
         }
-        match self.accept(role, change) {
-            Ok(answer) => answer,
+        let Ok(kept) = change.copy(self.alloc) else {
+            return self.refused(role, change, Refusal::Memory);
+        };
+        if self.journal.reserve(1).is_err() || self.owners.reserve(1).is_err() {
+            return self.refused(role, change, Refusal::Memory);
+        }
+        match self.session.accept(role, change) {
+            Ok(told) => {
+                add_owner(&mut self.owners, role, &told.1);
+                self.journal.push_reserved(Entry {
+                    role,
+                    command: Command::from(kept),
+                    answer: told.1,
+                });
+                told.0
+            }
             Err(refusal) => Answer::Refused(refusal),
         }
     }
 
-    // Does the change, for which the journal has room, and keeps it with its answer.
-    fn accept(&mut self, role: Role, change: Change) -> Result<Answer, Refusal>
-        requires role { role < length self.old.types }
-        requires space { length self.old.journal < most_entries }
-        requires fine { refusal_in
-            (serve self.old.types (run self.old.types self.old.journal) role change).0 ≡ None }
-        ensures answer { IfOk result (λ answer. answer
-            ≡ (serve self.old.types (run self.old.types self.old.journal) role change).0) }
-        ensures accepted { IfOk result (λ answer. is_accepted answer ≡ true) }
-        ensures journal { IfOk result (λ answer. self.new.journal
-            ≡ self.old.journal ++ record { role = role; command = command_of change; answer = answer } ∷ []) }
-        ensures memory { IfErr result (λ refusal. refusal ≡ OutOfMemory) }
-        ensures err { OnErr result (self.new.journal ≡ self.old.journal) }
-        ensures names { self.new.names ≡ self.old.names }
-        ensures types { self.new.types ≡ self.old.types }
+    // The refusal of a change for which there is no room in the journal or no memory: the machine's, if it refuses, else
+    // this one.
+    fn refused(&self, role: Role, change: Change, refusal: Refusal) -> Answer
+        requires role { role < length self.now.types }
+        requires cause { (refusal ≡ OutOfMemory × length self.now.journal < most_entries)
+            ⊎ (refusal ≡ NoRoom × most_entries ≤ length self.now.journal) }
+        ensures answer { IsReply result (limited (length self.now.journal)
+            (serve self.now.types (run self.now.types self.now.journal) role change).0) }
+        ensures refused { is_accepted result ≡ false }
     {
-        let command = Command::from(change.copy(self.alloc)?);
-        self.journal.reserve(1)?;
-        self.owners.reserve(1)?;
-        let told = self.session.accept(role, change)?;
-        add_owner(&mut self.owners, role, &told.1);
-        self.journal.push_reserved(Entry {
-            role,
-            command,
-            answer: told.1,
-        });
-        Ok(told.0)
+        match self.session.would(role, &Command::from(change)) {
+            Err(refusal) => Answer::Refused(refusal),
+            Ok(()) => Answer::Refused(refusal),
+        }
     }
 }

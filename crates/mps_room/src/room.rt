@@ -4,7 +4,9 @@ ghost use Rattle.std.specs.Option.{option_map};
 ghost use Rattle.mps_command.specs.declared.command.Command.TheVariants as commands;
 ghost use Rattle.mps_machine.specs.Machine.{initial};
 ghost use Rattle.mps_room.specs.Journal.{as_entry, grown, is_accepted, news, reply, run, IsLegal, IsReply};
-ghost use Rattle.mps_show.specs.Shown.{show_text};
+ghost use Rattle.mps_show.specs.Shown.{show_text, shown};
+ghost use Rattle.serde_json.specs.View.{view};
+ghost use Rattle.serde_json.specs.Written.{compact_text};
 
 use crate::entry::Entry;
 use crate::news::news;
@@ -12,6 +14,8 @@ use crate::shown::shown_text;
 use mps_base::{Role, Roles};
 use mps_command::{Answer, Change, Command, Refusal, ShownText, StepIds};
 use mps_session::Session;
+use mps_show::show;
+use serde_json::Value as Json;
 use std::alloc::{AllocError, Global};
 use std::marker::Model;
 
@@ -108,6 +112,16 @@ impl Room {
         Ok((self.journal.len() as u64, StepIds::of(ids)))
     }
 
+    /// How the session stands, as a JSON value: its history, its queues, and each role.
+    pub fn show(&self) -> Result<Json, AllocError>
+        ensures shown { IfOk result (λ v. view v
+            ≡ shown self.now.names self.now.types (run self.now.types self.now.journal).history) }
+        ensures text { IfOk result (λ v. compact_text (view v)
+            ≡ show_text self.now.names self.now.types (run self.now.types self.now.journal).history) }
+    {
+        show(self.alloc, &self.names, &self.session)
+    }
+
     /// Answers the role's command. What is accepted joins the journal with its answer. All memory is asked for before
     /// anything changes; a refusal changes nothing, and want of memory is none where the command is refused anyway.
     pub fn apply(&mut self, role: Role, command: Command) -> Answer
@@ -118,16 +132,13 @@ impl Room {
         ensures names { self.new.names ≡ self.old.names }
         ensures types { self.new.types ≡ self.old.types }
     {
-        if let Err(refusal) = self.session.would(role, &command) {
-            return Answer::Refused(refusal);
-        }
         match command {
             Command::Forward(step) => self.change(role, Change::Forward(step)),
             Command::Undo(id) => self.change(role, Change::Undo(id)),
             Command::Rollback(id) => self.change(role, Change::Rollback(id)),
             Command::Back(name) => self.change(role, Change::Back(name)),
             Command::News(known) => self.tell_news(role, known),
-            Command::Show => self.show(),
+            Command::Show => self.tell_show(),
         }
     }
 
@@ -144,7 +155,7 @@ impl Room {
     }
 
     // Answers how the session stands.
-    fn show(&self) -> Answer
+    fn tell_show(&self) -> Answer
         ensures answer { (role : ℕ) → IsReply result
             (reply self.now.names self.now.types self.now.journal role commands.Show) }
         ensures asked { is_accepted result ≡ false }

@@ -1,4 +1,4 @@
-//! The session as text.
+//! The session as it is shown.
 ghost use Rattle.std.specs.Prelude.{◌≡◌, IfOk, length};
 ghost use Rattle.mps_show.specs.Shown.{show_text};
 

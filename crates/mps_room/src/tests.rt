@@ -203,25 +203,6 @@ fn counts(room: &Room) -> (u64, usize, u64) {
     (room.entries(), session.len(), session.issued())
 }
 
-// The same, where memory runs out once: nothing has changed then, and the command is given again.
-fn answered_at_last(alloc: Global, room: &mut Room, place: u8, ask: Ask) -> Result<Answer, Fail> {
-    let before = counts(room);
-    let first = command(alloc, ask)?;
-    let again = command(alloc, ask)?;
-    let answer = answered(room, place, first)?;
-    if !matches!(answer, Answer::Refused(Refusal::Memory)) {
-        return Ok(answer);
-    }
-    if counts(room) != before {
-        return Err("want of memory changes something".into());
-    }
-    let answer = answered(room, place, again)?;
-    if matches!(answer, Answer::Refused(_)) {
-        return Err("memory for a refused command".into());
-    }
-    Ok(answer)
-}
-
 // Whether the last entry is that of the role's command and this answer.
 fn is_last(alloc: Global, room: &Room, row: Row, wanted: &str) -> Result<bool, Fail> {
     let Some(last) = room.entries().checked_sub(1) else {
@@ -243,12 +224,15 @@ fn is_last(alloc: Global, room: &Room, row: Row, wanted: &str) -> Result<bool, F
 // The row is played: its answer is as it says, and the journal has it where it was accepted.
 fn play_row(alloc: Global, room: &mut Room, row: Row) -> Result<(), Fail> {
     let before = room.entries();
-    let answer = answered_at_last(alloc, room, row.0, row.1)?;
+    let answer = answered(room, row.0, command(alloc, row.1)?)?;
     let text = shown(alloc, &answer)?;
     if text.as_str() != row.2 {
         let wanted = row.2;
         let said = format!(in alloc; "{text}, and not {wanted}")?;
         return Err(said.into());
+    }
+    if matches!(row.1, Ask::Show) && room.show()?.to_string(alloc)?.as_str() != row.2 {
+        return Err("another value".into());
     }
     let kept = match answer {
         Answer::Done(_) | Answer::Undone(_) => {
@@ -402,4 +386,33 @@ fn is_full_with_a_hundred_thousand_entries(rt: HostRuntime) -> Result<(), Fail> 
     mark_and_undo(&mut room, A, 49_999)?;
     assert_eq!(rt; room.entries(), 99_998);
     play(rt.alloc(), room, FULL)
+}
+
+// ---- want of memory
+
+// What the role at this place is answered, where memory may run out once: nothing has changed then, and the command is
+// given again.
+fn answered_at_last(alloc: Global, room: &mut Room, place: u8, ask: Ask) -> Result<Answer, Fail> {
+    let before = counts(room);
+    let first = command(alloc, ask)?;
+    let again = command(alloc, ask)?;
+    let answer = answered(room, place, first)?;
+    if !matches!(answer, Answer::Refused(Refusal::Memory)) {
+        return Ok(answer);
+    }
+    if counts(room) != before {
+        return Err("want of memory changes something".into());
+    }
+    answered(room, place, again)
+}
+
+// Under `rt try --test --fail-alloc` a request for memory is refused on the way.
+#[test]
+fn changes_nothing_for_want_of_memory(rt: HostRuntime) -> Result<(), Fail> {
+    let mut room = room(rt.alloc(), verdict(rt.alloc())?)?;
+    for row in ROLLED_BACK {
+        let answer = answered_at_last(rt.alloc(), &mut room, row.0, row.1)?;
+        assert_eq!(rt; shown(rt.alloc(), &answer)?.as_str(), row.2);
+    }
+    Ok(())
 }

@@ -37,10 +37,11 @@ abbrev pub IsServed : Change → Answer → (old new : State) → Answer × Stat
 IsServed command (Refused Memory) old new served = MayStarve command × IsAccepting served.0 × (new ≡ old)
 IsServed command answer old new served = (answer ≡ served.0) × (new ≡ served.1)
 
--- the change was accepted, and its answer is told twice; or memory ran out, and nothing changed
+-- the machine accepts, and its answer is told twice; or it refuses, or memory ran out where it accepts, and nothing changed
 abbrev pub IsAccepted : Result (Answer × Answer) Refusal → (old new : State) → Answer × State → Type 0
-IsAccepted (Ok told) old new served = (told.0 ≡ served.0) × (told.1 ≡ served.0) × (new ≡ served.1)
-IsAccepted (Err refusal) old new served = (refusal ≡ Memory) × (new ≡ old)
+IsAccepted (Ok told) old new served = IsAccepting served.0 × (told.0 ≡ served.0) × (told.1 ≡ served.0) × (new ≡ served.1)
+IsAccepted (Err Memory) old new served = IsAccepting served.0 × (new ≡ old)
+IsAccepted (Err refusal) old new served = (served.0 ≡ Refused refusal) × (new ≡ old)
 
 -- the number of the first of the steps
 abbrev pub first_number : List Step → Option ℕ

@@ -1,5 +1,5 @@
 //! Changes that are accepted, with their answers told twice.
-ghost use Rattle.std.specs.Prelude.{◌≡◌, ◌<◌, ◌≤◌, Ok, List, [], reverse, length, vec_len, vec_capacity, IsSome, IfOk, OnOk, OnErr};
+ghost use Rattle.std.specs.Prelude.{◌≡◌, ◌<◌, ◌≤◌, Ok, Err, List, [], reverse, length, vec_len, vec_capacity, IsSome, IfOk, OnOk, OnErr};
 ghost use Rattle.std.specs.List.{AllByRecursion};
 ghost use Rattle.mps_command.specs.declared.command.Change.TheVariants as changes;
 ghost use Rattle.mps_history.specs.Steps.{numbers, step_of, within, without};
@@ -8,12 +8,12 @@ ghost use Rattle.mps_local.specs.Local.{LocalType};
 ghost use Rattle.mps_machine.specs.Machine as machine;
 ghost use Rattle.mps_arena.specs.Entries.{steps};
 ghost use Rattle.mps_links.specs.Marks.{marked_keys};
-ghost use Rattle.mps_session.specs.Answers.{IsAccepted, IsAccepting};
+ghost use Rattle.mps_session.specs.Answers.{IsAccepted};
 ghost use Rattle.mps_session.specs.Configurations.{lists_of};
 ghost use Rattle.mps_session.specs.Held.{Holds};
 
 use crate::configuration::{Configuration, once_more};
-use crate::session::Session;
+use crate::session::{MAX_NUMBERS, Session};
 use mps_base::{Name, Role, StepId};
 use mps_command::{Answer, Change, Done, Forward, Refusal, StepIds};
 use std::alloc::{AllocError, Global};
@@ -99,12 +99,10 @@ impl Configuration {
 }
 
 impl Session {
-    /// Does what the role asks for, where the machine accepts it, and tells the answer twice: to answer with, and to
-    /// keep. Memory for both is asked for before anything changes, and want of it is the only refusal.
+    /// Does what the role asks for, and tells the answer twice: to answer with, and to keep. Memory for both is asked
+    /// for before anything changes. A refusal changes nothing.
     pub fn accept(&mut self, role: Role, change: Change) -> Result<(Answer, Answer), Refusal>
         requires role { role < length self.old.types }
-        requires accepts { IsAccepting
-            (machine.serve self.old.types self.old.state role change).0 }
         ensures accepted { IsAccepted result self.old.state self.new.state
             (machine.serve self.old.types self.old.state role change) }
         ensures types { self.new.types ≡ self.old.types }
@@ -120,24 +118,37 @@ impl Session {
     // Takes the step, and tells the answer twice.
     fn take_twice(&mut self, role: Role, step: Forward) -> Result<(Answer, Answer), Refusal>
         requires role { role < length self.old.types }
-        requires accepts { IsAccepting
-            (machine.serve self.old.types self.old.state role (changes.Forward step)).0 }
         ensures accepted { IsAccepted result self.old.state self.new.state
             (machine.serve self.old.types self.old.state role (changes.Forward step)) }
         ensures types { self.new.types ≡ self.old.types }
     {
         let first = self.configuration.first_for(role, &step);
-        let got = once_more(self.configuration.alloc, first)?;
+        let Ok(got) = once_more(self.configuration.alloc, first) else {
+            return Err(self.starved(role, &step));
+        };
         let done = self.forward(role, step)?;
         let again = Done { id: done.id, got };
         Ok((Answer::Done(done), Answer::Done(again)))
     }
 
+    // Why the step is refused where there is no memory for it.
+    fn starved(&self, role: Role, step: &Forward) -> Refusal
+        requires role { role < length self.now.types }
+        ensures { IsAccepted (Err result) self.now.state self.now.state
+            (machine.serve self.now.types self.now.state role (changes.Forward step.now)) }
+    {
+        if let Some(fault) = self.violation(role, step) {
+            return Refusal::Violation(fault);
+        }
+        if self.issued() >= MAX_NUMBERS {
+            return Refusal::Full;
+        }
+        Refusal::Memory
+    }
+
     // Takes the step of that number back, and tells the answer twice.
     fn undo_twice(&mut self, role: Role, id: StepId) -> Result<(Answer, Answer), Refusal>
         requires role { role < length self.old.types }
-        requires accepts { IsAccepting
-            (machine.serve self.old.types self.old.state role (changes.Undo id)).0 }
         ensures accepted { IsAccepted result self.old.state self.new.state
             (machine.serve self.old.types self.old.state role (changes.Undo id)) }
         ensures types { self.new.types ≡ self.old.types }
@@ -153,8 +164,6 @@ impl Session {
     // Takes the step of that number back and all that depend on it, and tells the answer twice.
     fn roll_back_twice(&mut self, role: Role, id: StepId) -> Result<(Answer, Answer), Refusal>
         requires role { role < length self.old.types }
-        requires accepts { IsAccepting
-            (machine.serve self.old.types self.old.state role (changes.Rollback id)).0 }
         ensures accepted { IsAccepted result self.old.state self.new.state
             (machine.serve self.old.types self.old.state role (changes.Rollback id)) }
         ensures types { self.new.types ≡ self.old.types }
@@ -166,8 +175,6 @@ impl Session {
     // Takes the role back to its last mark of the name, and tells the answer twice.
     fn go_back_twice(&mut self, role: Role, name: &Name) -> Result<(Answer, Answer), Refusal>
         requires role { role < length self.old.types }
-        requires accepts { IsAccepting
-            (machine.serve self.old.types self.old.state role (changes.Back name.now)).0 }
         ensures accepted { IsAccepted result self.old.state self.new.state
             (machine.serve self.old.types self.old.state role (changes.Back name.now)) }
         ensures types { self.new.types ≡ self.old.types }

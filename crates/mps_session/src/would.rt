@@ -4,10 +4,13 @@ ghost use Rattle.std.specs.Result.{result_err};
 ghost use Rattle.mps_command.specs.declared.command.Change.TheVariants as changes;
 ghost use Rattle.mps_machine.specs.Faults.{fault, refusal_in};
 ghost use Rattle.mps_machine.specs.Machine as machine;
+ghost use Rattle.mps_machine.specs.Violations.{violation};
+ghost use Rattle.mps_session.specs.Seen.{view_of};
+ghost use Rattle.mps_command.specs.Acts.{act_of};
 
 use crate::session::Session;
 use mps_base::{Name, Role, StepId};
-use mps_command::{Command, Forward, Refusal};
+use mps_command::{Command, Forward, Refusal, Violation};
 use mps_links::least_dependent;
 
 impl Session {
@@ -32,11 +35,22 @@ impl Session {
         ensures { result_err result ≡ refusal_in
             (machine.serve self.now.types self.now.state role (changes.Forward step.now)).0 }
     {
+        match self.violation(role, step) {
+            None => Ok(()),
+            Some(fault) => Err(Refusal::Violation(fault)),
+        }
+    }
+
+    /// Why the role's type doesn't allow the step, if it doesn't.
+    pub(crate) fn violation(&self, role: Role, step: &Forward) -> Option<Violation>
+        requires { role < length self.now.types }
+        ensures { result ≡ violation (view_of self.now) role (act_of step.now) }
+    {
         let kept = &self.configuration;
         let first = kept.first_for(role, step);
         match kept.verdict(role, step, first) {
-            Ok(_) => Ok(()),
-            Err(fault) => Err(Refusal::Violation(fault)),
+            Ok(_) => None,
+            Err(fault) => Some(fault),
         }
     }
 

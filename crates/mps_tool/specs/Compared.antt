@@ -1,9 +1,11 @@
--- Two scripts, each replayed on a session of its own, and what is told of them.
-use Rattle.std.specs.Prelude.{◌≡◌, ◌⊎◌, ℕ, List, None, Ok, Err, codes}
+-- Two scripts, each replayed in a room of its own, and what is told of them.
+use Rattle.std.specs.Prelude.{◌≡◌, ◌⊎◌, ℕ, List, [], None, Ok, Err, codes}
 use Rattle.mps_dev.specs.declared.traits.Source.{Ghosts as SourceGhosts}
 use Rattle.mps_history.specs.Swaps.{Swaps}
 use Rattle.mps_local.specs.Local.{LocalType}
-use Rattle.mps_machine.specs.Machine.{State, initial, view_of}
+use Rattle.mps_machine.specs.Machine.{view_of}
+use Rattle.mps_room.specs.Journal.{run}
+use Rattle.mps_room.specs.declared.entry.Entry.{Entry}
 use Rattle.mps_wire.specs.Lines.{ended}
 use Rattle.mps_wire.specs.Runs.{Ran}
 use Rattle.mps_wire.specs.Script.{AnswersLine}
@@ -30,31 +32,31 @@ Tells alike line status =
     (alike × (line ≡ ended (codes "same")) × (status ≡ 0))
     ⊎ ((¬ alike) × (line ≡ ended (codes "different")) × (status ≡ 1))
 
--- Scripts of roles with these names, on sessions of these types.
+-- Scripts of roles with these names and types.
 module _ (names : List (List ℕ)) (types : List LocalType) where
-  -- the script was replayed to its end, and left the session in that state
-  abbrev pub HasReplayed : (before after : Streams) → State → Type 0
-  HasReplayed before after st = Ran (AnswersLine names types) initial before after (Ok st)
+  -- the script was replayed to its end, and the room has that journal
+  abbrev pub HasReplayed : (before after : Streams) → List Entry → Type 0
+  HasReplayed before after journal = Ran (AnswersLine names types) [] before after (Ok journal)
 
   -- its run broke off, as the fault tells
   abbrev pub HasStopped : (before after : Streams) → ToolFault → Type 0
   HasStopped before after fault =
-      (end : ReplayFault) × (fault ≡ of_script end) × Ran (AnswersLine names types) initial before after (Err end)
+      (end : ReplayFault) × (fault ≡ of_script end) × Ran (AnswersLine names types) [] before after (Err end)
 
   -- Of the first script and then of the second.
   module _ (before after before' after' : Streams) where
     -- both were replayed to their ends, and this is told of the sessions that they left: whether their views are equal, and whether exchanges of independent neighbours turn one history into the other, numbers aside
     pub record HasCompared (line : List ℕ) (status : ℕ) : Type 0 where
-      pub first : State
-      pub second : State
+      pub first : List Entry
+      pub second : List Entry
       pub first_replayed : HasReplayed before after first
       pub second_replayed : HasReplayed before' after' second
-      pub views : Tells (view_of types first.history ≡ view_of types second.history) line status
-      pub swaps : Tells (Swaps first.history second.history) line status
+      pub views : Tells (view_of types (run types first).history ≡ view_of types (run types second).history) line status
+      pub swaps : Tells (Swaps (run types first).history (run types second).history) line status
 
     -- why nothing is told: the run of the first broke off, and nothing of the second was read; or the first was replayed, and the run of the second broke off; or both were replayed, and memory ran out
     abbrev pub CantCompare : ToolFault → Type 0
     CantCompare fault =
         (HasStopped before after fault × (after' ≡ before'))
-        ⊎ (((first : State) × HasReplayed before after first × HasStopped before' after' fault)
-        ⊎ ((first : State) × (second : State) × HasReplayed before after first × HasReplayed before' after' second × (fault ≡ Memory)))
+        ⊎ (((first : List Entry) × HasReplayed before after first × HasStopped before' after' fault)
+        ⊎ ((first : List Entry) × (second : List Entry) × HasReplayed before after first × HasReplayed before' after' second × (fault ≡ Memory)))

@@ -9,6 +9,7 @@ use crate::files::open_file;
 use crate::load::read_sessions;
 use mps_base::Roles;
 use mps_dev::{Discard, OverWrite, Source};
+use mps_room::Room;
 use mps_session::{Session, same};
 use mps_wire::flow::send_all;
 use mps_wire::script::replay_session;
@@ -16,19 +17,19 @@ use std::alloc::{AllocError, Global};
 use std::io;
 use std::rt::Files;
 
-/// Runs the script on the session, and gives it back. Nobody hears the answers.
+/// Runs the script in a room of the session, and gives the room. Nobody hears the answers.
 fn replay_unheard<'a, R: Source>(
     alloc: Global,
     reader: &mut R,
     roles: Roles,
     session: Session,
-) -> Result<Session, ToolFault<'a>>
+) -> Result<Room, ToolFault<'a>>
     requires new { session.state ≡ initial }
     requires named { length roles ≡ length session.types }
     requires reads { R.calls reader.old < 2 ^ 62 }
-    ensures replayed { IfOk result (λ left. HasReplayed roles session.types
-        (unheard R.Source reader.old) (unheard R.Source reader.new) left.state) }
-    ensures types { IfOk result (λ left. left.types ≡ session.types) }
+    ensures replayed { IfOk result (λ room. HasReplayed roles session.types
+        (unheard R.Source reader.old) (unheard R.Source reader.new) room.journal) }
+    ensures types { IfOk result (λ room. room.types ≡ session.types) }
     ensures fault { IfErr result (HasStopped roles session.types
         (unheard R.Source reader.old) (unheard R.Source reader.new)) }
 {
@@ -74,7 +75,7 @@ pub fn same_out<'a, R: Source, S: Source>(
     let others = roles.copy(alloc)?;
     let first = replay_unheard(alloc, reader, names, first)?;
     let second = replay_unheard(alloc, other, others, second)?;
-    Ok(told(alloc, same(&first, &second))?)
+    Ok(told(alloc, same(first.session(), second.session()))?)
 }
 
 /// Compares the scripts in two files, and prints what is said of them. Gives the status.

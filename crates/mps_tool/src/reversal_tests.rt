@@ -148,6 +148,68 @@ const ROLLBACKS: &[Row] = &[
     ),
 ];
 
+// a tells b something, b says whether it believes it, and a goes on or stops.
+const TALK: &str = "roles a b ; a -> b : text . b -> a : bool . a -> b { go : end , stop : end }";
+
+const QUESTIONS: &[Row] = &[
+    Row(
+        RELAY,
+        &[
+            ("a send b 5", "done 1"),
+            ("b recv a x", "done 2 5"),
+            ("b send c 7", "done 3"),
+            ("c recv b y", "done 4 7"),
+            ("a rollback 1", "undone 4 3 2 1"),
+            ("b news 0", "news 5 3 2"),
+            ("a news 0", "news 5"),
+            ("c news 0", "news 5 4"),
+            ("c news 9", "news 5"),
+        ],
+    ),
+    Row(
+        RELAY,
+        &[
+            ("a send b 5", "done 1"),
+            (
+                "a show",
+                r#"{"history":[[1,"a","send","b",5]],"queues":[["a","b",[5]]],"roles":[{"expects":"pick c ok no","past":[1],"role":"a","store":[]},{"expects":"recv a int","past":[],"role":"b","store":[]},{"expects":"recv b int","past":[],"role":"c","store":[]}]}"#,
+            ),
+            ("b recv a x", "done 2 5"),
+            (
+                "c show",
+                r#"{"history":[[1,"a","send","b",5],[2,"b","recv","a","x",5]],"queues":[],"roles":[{"expects":"pick c ok no","past":[1],"role":"a","store":[]},{"expects":"send c int","past":[2],"role":"b","store":[["x",5]]},{"expects":"recv b int","past":[],"role":"c","store":[]}]}"#,
+            ),
+            ("a news 00", "refused line"),
+            ("a show ", "refused line"),
+        ],
+    ),
+    Row(
+        TALK,
+        &[
+            ("a send b \"good day\"", "done 1"),
+            (
+                "a show",
+                r#"{"history":[[1,"a","send","b","good day"]],"queues":[["a","b",["good day"]]],"roles":[{"expects":"recv b bool","past":[1],"role":"a","store":[]},{"expects":"recv a text","past":[],"role":"b","store":[]}]}"#,
+            ),
+            ("b recv a x", "done 2 \"good day\""),
+            ("b send a true", "done 3"),
+            ("a recv b y", "done 4 true"),
+            ("a mark m", "done 5"),
+            ("a choose b go", "done 6"),
+            (
+                "b show",
+                r#"{"history":[[1,"a","send","b","good day"],[2,"b","recv","a","x","good day"],[3,"b","send","a",true],[4,"a","recv","b","y",true],[5,"a","mark","m"],[6,"a","choose","b","go"]],"queues":[["a","b",[{"label":"go"}]]],"roles":[{"expects":"end","past":[1,4,5,6],"role":"a","store":[["y",true]]},{"expects":"pick a go stop","past":[2,3],"role":"b","store":[["x","good day"]]}]}"#,
+            ),
+            ("b pick a", "done 7 go"),
+            ("a rollback 6", "undone 7 6"),
+            ("b news 0", "news 8 7"),
+            ("a back m", "undone"),
+            ("a undo 5", "undone 5"),
+            ("a news 0", "news 10"),
+        ],
+    ),
+];
+
 // Each row's script is answered so.
 fn run_rows(rt: &impl Abort, alloc: Global, rows: &[Row]) -> Result<(), Fail> {
     for row in rows {
@@ -167,6 +229,11 @@ fn run_rows(rt: &impl Abort, alloc: Global, rows: &[Row]) -> Result<(), Fail> {
 #[test]
 fn takes_single_steps_back(rt: HostRuntime) -> Result<(), Fail> {
     run_rows(&rt, rt.alloc(), UNDOS)
+}
+
+#[test]
+fn tells_news_and_shows_sessions(rt: HostRuntime) -> Result<(), Fail> {
+    run_rows(&rt, rt.alloc(), QUESTIONS)
 }
 
 #[test]

@@ -2,11 +2,11 @@
 use Rattle.std.proofs.Common.{◌≡◌, ℕ, ◌⊎◌, ◌<◌, ◌≤◌, List, [], ◌∷◌, ◌++◌, length, min, refl, sym, ap, ◌∙◌, subst, arith, ⊎_elim, inl, append_assoc, append-nil, length-take}
 use Rattle.std.proofs.lemmas.Bool.{cases_lt}
 use Rattle.mps_local.specs.Local.{LocalType}
-use Rattle.mps_machine.specs.Machine.{State}
 use Rattle.mps_line.specs.declared.reply.Reply.{Reply}
+use Rattle.mps_room.specs.declared.entry.Entry.{Entry}
 use Rattle.mps_wire.specs.Answers.{Answering, AnswersLines, Answered, AnsweredAll}
 use Rattle.mps_wire.specs.Lines.{HasNoBreak, ended, with_last, most_kept, front}
-use Rattle.mps_wire.specs.Script.{IsUnread, IsServed, IsStarved, RepliesTo, AnswersLine}
+use Rattle.mps_wire.specs.Script.{IsUnread, IsApplied, IsStarved, RepliesTo, AnswersLine}
 use Rattle.mps_wire.proofs.Splitting.{split_nothing, split_more, split_ended, front_front, front_short}
 
 -- what the front of a line does, the line does
@@ -15,27 +15,27 @@ GoesByFront {S} answers = (line : List ℕ) (st : S) (text : List ℕ) (after : 
 
 module _ (names : List (List ℕ)) (types : List LocalType) where
   -- of a line that is too long the front says enough
-  long_line : (line : List ℕ) (st after : State) (reply : Reply) → most_kept < length line → RepliesTo names types (front line) st reply after → RepliesTo names types line st reply after
+  long_line : (line : List ℕ) (st after : List Entry) (reply : Reply) → most_kept < length line → RepliesTo names types (front line) st reply after → RepliesTo names types line st reply after
   long_line line st after reply long r =
       let n : length (front line) ≡ most_kept = length-take most_kept line ∙ (let m : min most_kept (length line) ≡ most_kept = omega arith in m) in
       ⊎_elim
       (λ (u : IsUnread names types (front line) st reply after). inl (record { unreadable = λ role command readable. let s = readable.short in absurd (omega arith); bad = u.bad; unchanged = u.unchanged }))
-      (λ (o : IsServed names types (front line) st reply after ⊎ IsStarved names types (front line) st reply after).
+      (λ (o : IsApplied names types (front line) st reply after ⊎ IsStarved names types (front line) st reply after).
       ⊎_elim
-      (λ (s : IsServed names types (front line) st reply after). let short = s.readable.short in absurd (omega arith))
+      (λ (s : IsApplied names types (front line) st reply after). let short = s.readable.short in absurd (omega arith))
       (λ (s : IsStarved names types (front line) st reply after). let short = s.readable.short in absurd (omega arith))
       o)
       r
 
   -- a long line's front is not read either
-  long_front : (line : List ℕ) (st after : State) (reply : Reply) → most_kept < length line → RepliesTo names types line st reply after → RepliesTo names types (front line) st reply after
+  long_front : (line : List ℕ) (st after : List Entry) (reply : Reply) → most_kept < length line → RepliesTo names types line st reply after → RepliesTo names types (front line) st reply after
   long_front line st after reply long r =
       let n : length (front line) ≡ most_kept = length-take most_kept line ∙ (let m : min most_kept (length line) ≡ most_kept = omega arith in m) in
       ⊎_elim
       (λ (u : IsUnread names types line st reply after). inl (record { unreadable = λ role command readable. let s = readable.short in absurd (omega arith); bad = u.bad; unchanged = u.unchanged }))
-      (λ (o : IsServed names types line st reply after ⊎ IsStarved names types line st reply after).
+      (λ (o : IsApplied names types line st reply after ⊎ IsStarved names types line st reply after).
       ⊎_elim
-      (λ (s : IsServed names types line st reply after). let short = s.readable.short in absurd (omega arith))
+      (λ (s : IsApplied names types line st reply after). let short = s.readable.short in absurd (omega arith))
       (λ (s : IsStarved names types line st reply after). let short = s.readable.short in absurd (omega arith))
       o)
       r
@@ -49,7 +49,7 @@ module _ (names : List (List ℕ)) (types : List LocalType) where
       (cases_lt most_kept (length line))
 
   -- what a line does, its front does
-  pub to_front : (line : List ℕ) (st : State) (text : List ℕ) (after : State) → AnswersLine names types line st text after → AnswersLine names types (front line) st text after
+  pub to_front : (line : List ℕ) (st : List Entry) (text : List ℕ) (after : List Entry) → AnswersLine names types line st text after → AnswersLine names types (front line) st text after
   to_front line st text after a =
       ⊎_elim
       (λ (long : most_kept < length line). record { reply = a.reply; replies = long_front line st after a.reply long a.replies; spelled = a.spelled })

@@ -1,17 +1,24 @@
 -- What lines answer a script in a session of one protocol.
-use Rattle.std.proofs.Common.{◌≡◌, ◌≢◌, ℕ, inl, inr, List, [], ◌∷◌, ◌++◌, refl, sym, ap, ◌∙◌, subst, append_assoc}
-use Rattle.std.specs.Prelude.{codes}
+use Rattle.std.proofs.Common.{◌≡◌, ◌≢◌, ℕ, Bool, true, false, inl, inr, List, [], ◌∷◌, ◌++◌, length, refl, sym, ap, ◌∙◌, subst, append_assoc}
+use Rattle.std.specs.Prelude.{codes, nat_lt, if◌then◌else◌}
 use Rattle.std.specs.List.{AllByRecursion, flat_map}
-use Rattle.mps_command.specs.declared.answer.Answer.TheVariants.{Refused}
-use Rattle.mps_command.specs.declared.answer.Refusal.TheVariants.{Violation as Violates}
+use Rattle.mps_command.specs.declared.answer.Answer.{Answer}
+use Rattle.mps_command.specs.declared.answer.Answer.TheVariants.{Done, Undone, News as Told, Shown, Refused}
+use Rattle.mps_command.specs.declared.answer.Refusal.{Refusal}
+use Rattle.mps_command.specs.declared.answer.Refusal.TheVariants.{Violation as Violates, NoStep, NotYours, Needed, NoMark, Full, Memory}
+use Rattle.mps_command.specs.declared.command.Change.TheVariants as changes
+use Rattle.mps_command.specs.declared.command.Command.{Command}
+use Rattle.mps_command.specs.declared.command.Command.TheVariants.{Forward, Undo, Rollback, Back, News, Show}
 use Rattle.mps_command.specs.declared.answer.Violation.TheVariants.{Mismatch}
 use Rattle.mps_line.specs.Replies.{SpellsReply}
 use Rattle.mps_line.specs.declared.reply.Reply.{Reply}
 use Rattle.mps_line.specs.declared.reply.Reply.TheVariants.{Answered}
 use Rattle.mps_line.proofs.Shown.{no_line_feed}
 use Rattle.mps_local.specs.Local.{LocalType}
-use Rattle.mps_machine.specs.Machine.{State, initial, IsSound}
+use Rattle.mps_machine.specs.Machine.{State, initial, serve, IsSound}
 use Rattle.mps_machine.proofs.Sound.{initial_sound, serve_sound}
+use Rattle.mps_room.specs.Journal.{most_entries, after_command, run_from, run, limited, reply, IsReply}
+use Rattle.mps_room.specs.declared.entry.Entry.{Entry}
 use Rattle.mps_fidelity.specs.Fidelity.{AreOfOneProtocol}
 use Rattle.mps_fidelity.proofs.Refusals.{sound_other}
 use Rattle.mps_wire.specs.Answers.{AnswersLines}
@@ -48,37 +55,85 @@ each_line P (x ∷ texts) (y ∷ lines) more n m e a =
 abbrev mismatched : Reply
 mismatched = Answered (Refused (Violates Mismatch))
 
+-- the state after the commands of a journal is one that the machine comes to
+run_sound : (types : List LocalType) (st : State) (j : List Entry) → IsSound types st → IsSound types (run_from types st j)
+run_sound types st [] ok = ok
+run_sound types st (e ∷ j) ok = run_sound types (after_command types st e.role e.command) j (after_sound e.command)
+  where
+    after_sound : (c : Command) → IsSound types (after_command types st e.role c)
+    after_sound (Forward step) = serve_sound types st e.role (changes.Forward step) ok
+    after_sound (Undo n) = serve_sound types st e.role (changes.Undo n) ok
+    after_sound (Rollback n) = serve_sound types st e.role (changes.Rollback n) ok
+    after_sound (Back name) = serve_sound types st e.role (changes.Back name) ok
+    after_sound (News n) = ok
+    after_sound Show = ok
+
 -- the refusal's line
 spelled : SpellsReply (codes "refused mismatch") mismatched
 spelled = record { spellings = codes "refused" ∷ codes "mismatch" ∷ []; joined = refl; each = (refl, (refl, tt)) }
 
+abbrev mismatch : Answer
+mismatch = Refused (Violates Mismatch)
+
+-- want of room makes no mismatch
+full_other : (a : Answer) (room : Bool) → a ≢ mismatch → (if room then a else Refused Full) ≢ mismatch
+full_other a true other e = other e
+full_other a false other e = cc
+
+limited_other : (n : ℕ) (a : Answer) → a ≢ mismatch → limited n a ≢ mismatch
+limited_other n (Refused refusal) other = other
+limited_other n (Done done) other = full_other (Done done) (nat_lt n most_entries) other
+limited_other n (Undone ids) other = full_other (Undone ids) (nat_lt n most_entries) other
+limited_other n (Told length ids) other = full_other (Told length ids) (nat_lt n most_entries) other
+limited_other n (Shown text) other = full_other (Shown text) (nat_lt n most_entries) other
+
+-- a mismatch that is answered is the one that is wanted
+wanted_too : (wanted : Answer) → IsReply mismatch wanted → wanted ≡ mismatch
+wanted_too (Refused refusal) h = sym h
+wanted_too (Done done) h = sym h
+wanted_too (Undone ids) h = sym h
+wanted_too (Told length ids) h = sym h
+wanted_too (Shown text) h = sym h
+
 module _ (one_reply : (a : List ℕ) (r s : Reply) → SpellsReply a r → SpellsReply a s → r ≡ s) (names : List (List ℕ)) (types : List LocalType) (own : AreOfOneProtocol types) where
-  reply_fits : (line : List ℕ) (st after : State) (reply : Reply) → RepliesTo names types line st reply after → IsSound types st → (reply ≢ mismatched) × IsSound types after
-  reply_fits line st after reply (inl u) ok = ((λ e. let b = u.bad in cc), subst (IsSound types) (sym u.unchanged) ok)
-  reply_fits line st after reply (inr (inl s)) ok = (
-    (λ e. sound_other types st s.role s.command own ok (let whole = sym s.answer ∙ e in cc)),
-    subst (IsSound types) (sym s.state) (serve_sound types st s.role s.command ok),
-  )
-  reply_fits line st after reply (inr (inr s)) ok = ((λ e. let b = s.answer in cc), subst (IsSound types) (sym s.unchanged) ok)
+  -- what a room answers
+  sound : (j : List Entry) → IsSound types (run types j)
+  sound j = run_sound types initial j (initial_sound types)
+
+  reply_other : (j : List Entry) (p : ℕ) (c : Command) → reply names types j p c ≢ mismatch
+  reply_other j p (Forward step) = limited_other (length j) _ (sound_other types (run types j) p (changes.Forward step) own (sound j))
+  reply_other j p (Undo n) = limited_other (length j) _ (sound_other types (run types j) p (changes.Undo n) own (sound j))
+  reply_other j p (Rollback n) = limited_other (length j) _ (sound_other types (run types j) p (changes.Rollback n) own (sound j))
+  reply_other j p (Back name) = limited_other (length j) _ (sound_other types (run types j) p (changes.Back name) own (sound j))
+  reply_other j p (News n) = λ e. cc
+  reply_other j p Show = λ e. cc
+
+  reply_fits : (line : List ℕ) (j after : List Entry) (r : Reply) → RepliesTo names types line j r after → r ≢ mismatched
+  reply_fits line j after r (inl u) = λ e. let b = u.bad in cc
+  reply_fits line j after r (inr (inl s)) = λ e.
+      let same : Answered s.answer ≡ mismatched = sym s.told ∙ e in
+      let is : s.answer ≡ mismatch = cc in
+      reply_other j s.role s.command (wanted_too (reply names types j s.role s.command) (subst (λ (a : Answer). IsReply a (reply names types j s.role s.command)) is s.wanted))
+  reply_fits line j after r (inr (inr s)) = λ e. let b = s.told in cc
 
   abbrev Fits : List ℕ → Type 0
   Fits text = text ≢ codes "refused mismatch"
 
   -- the texts that make up the answers
-  texts_of : (lines : List (List ℕ)) (st after : State) (out : List ℕ) → AnswersLines (AnswersLine names types) lines st out after → IsSound types st → (texts : List (List ℕ)) × (out ≡ flat_map ended texts) × AllByRecursion HasNoBreak texts × AllByRecursion Fits texts
-  texts_of [] st after out a ok = ([], a.0, tt, tt)
-  texts_of (line ∷ lines) st after out (text, others, mid, whole, here, there) ok =
-      let r = reply_fits line st mid here.reply here.replies ok in
-      let t = texts_of lines mid after others there r.1 in (
+  texts_of : (lines : List (List ℕ)) (j after : List Entry) (out : List ℕ) → AnswersLines (AnswersLine names types) lines j out after → (texts : List (List ℕ)) × (out ≡ flat_map ended texts) × AllByRecursion HasNoBreak texts × AllByRecursion Fits texts
+  texts_of [] j after out a = ([], a.0, tt, tt)
+  texts_of (line ∷ lines) j after out (text, others, mid, whole, here, there) =
+      let fits = reply_fits line j mid here.reply here.replies in
+      let t = texts_of lines mid after others there in (
         text ∷ t.0,
         whole ∙ ap (λ (l : List ℕ). ended text ++ l) t.1,
         (no_line_feed text here.reply here.spelled, t.2),
-        ((λ e. r.0 (one_reply (codes "refused mismatch") here.reply mismatched (subst (λ (b : List ℕ). SpellsReply b here.reply) e here.spelled) spelled)), t.3),
+        ((λ e. fits (one_reply (codes "refused mismatch") here.reply mismatched (subst (λ (b : List ℕ). SpellsReply b here.reply) e here.spelled) spelled)), t.3),
       )
 
   -- the lines of what was written, where more may follow
-  pub written_fits : (asked lines : List (List ℕ)) (out written unwritten rest : List ℕ) (after : State) → AnswersLines (AnswersLine names types) asked initial out after → out ≡ written ++ unwritten → IsSplit written lines rest → AllByRecursion Fits lines
+  pub written_fits : (asked lines : List (List ℕ)) (out written unwritten rest : List ℕ) (after : List Entry) → AnswersLines (AnswersLine names types) asked [] out after → out ≡ written ++ unwritten → IsSplit written lines rest → AllByRecursion Fits lines
   written_fits asked lines out written unwritten rest after a e split =
-      let t = texts_of asked initial after out a (initial_sound types) in
+      let t = texts_of asked [] after out a in
       each_line Fits t.0 lines (rest ++ unwritten) t.2 split.each
       (sym t.1 ∙ e ∙ ap (λ (l : List ℕ). l ++ unwritten) split.whole ∙ append_assoc (flat_map ended lines) rest unwritten) t.3

@@ -1,14 +1,13 @@
 -- How the results of its parts are a run's.
-use Rattle.std.proofs.Common.{◌≡◌, ℕ, List, Bool, true, false, Result, Ok, Err, IsErrAnd, refl, sym, inl, inr, ⊎_elim, subst, arith}
+use Rattle.std.proofs.Common.{◌≡◌, ℕ, List, [], Bool, true, false, Result, Ok, Err, refl, inl, inr, ⊎_elim, subst, arith}
 use Rattle.std.specs.Io.KnownBytes.{IsAtEnd}
 use Rattle.std.specs.Prelude.{◌↔◌, IsErrOf}
 use Rattle.mps_local.specs.Local.{LocalType}
-use Rattle.mps_machine.specs.Machine.{initial}
 use Rattle.mps_base.specs.RoleLists.{HasRoleCount}
 use Rattle.mps_local.specs.declared.faults.LocalFault.{LocalFault}
 use Rattle.mps_session.specs.Peers.{IsFirstBad, IsFirstFaulty, CanOpen}
-use Rattle.mps_session.specs.Seen.{Machine}
 use Rattle.mps_session.specs.declared.open.OpenFault.{OpenFault}
+use Rattle.mps_room.specs.Kept.{Record}
 use Rattle.mps_session.specs.declared.open.OpenFault.TheVariants.{RoleCount, BadPeer, Local, Memory as OutOfMemory}
 use Rattle.mps_wire.specs.declared.script.ReplayFault.{ReplayFault}
 use Rattle.mps_wire.specs.declared.script.ReplayFault.TheVariants.{Open, ReadFault, WriteFault, Turns, Memory}
@@ -17,11 +16,6 @@ use Rattle.mps_wire.specs.Runs.{KeepsFromBeginning, of_opening, Outcome, Replaye
 use Rattle.mps_wire.specs.Script.{AnswersLine}
 use Rattle.mps_wire.specs.Streams.{Streams, Counts, CountsByEnd}
 use Rattle.mps_wire.proofs.Turning.{starved_first}
-
--- the fault that `?` hands on
-pub handed_on : {A : Type 0} (r : Result A ReplayFault) (e : ReplayFault) (P : Result A ReplayFault → Type 0) → IsErrAnd r (λ x. x ≡ e) → P (Err e) → P r
-handed_on (Ok x) e P is h = absurd is
-handed_on (Err x) e P is h = subst (λ (f : ReplayFault). P (Err f)) (sym is) h
 
 -- why a session isn't opened keeps a run from beginning
 pub shut : {S : Type 0} (types : List LocalType) (fault : OpenFault)
@@ -78,14 +72,14 @@ module _ (names : List (List ℕ)) (types : List LocalType) where
   -- no run begins
   pub not_begun : (s : Streams) (fault : ReplayFault) → KeepsFromBeginning types fault → Outcome names types s s (Err fault)
   not_begun s (Open fault) h = (h, refl)
-  not_begun s Memory h = (h, starts_starved (AnswersLine names types) initial s)
+  not_begun s Memory h = (h, starts_starved (AnswersLine names types) [] s)
   not_begun s ReadFault h = absurd h
   not_begun s WriteFault h = absurd h
   not_begun s Turns h = absurd h
 
   -- the run is on a session that could be opened
-  pub opened_first : (before after : Streams) (r : Result Machine ReplayFault) → CanOpen types → Replayed names types before after r → Outcome names types before after r
-  opened_first before after (Ok session) can h = (can, h.0, h.1)
+  pub opened_first : (before after : Streams) (r : Result Record ReplayFault) → CanOpen types → Replayed names types before after r → Outcome names types before after r
+  opened_first before after (Ok room) can h = (can, h)
   opened_first before after (Err ReadFault) can h = (can, h)
   opened_first before after (Err WriteFault) can h = (can, h)
   opened_first before after (Err Turns) can h = (can, h)

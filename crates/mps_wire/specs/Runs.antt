@@ -1,13 +1,12 @@
 -- What a run comes to, from the streams before it to those after.
-use Rattle.std.specs.Prelude.{◌≡◌, ℕ, ◌+◌, ◌≤◌, Bool, true, false, List, Result, Ok, Err, length}
+use Rattle.std.specs.Prelude.{◌≡◌, ℕ, ◌+◌, ◌≤◌, Bool, true, false, List, [], Result, Ok, Err, length}
 use Rattle.std.specs.Io.KnownBytes.{Appends, Consumes, IsAtEnd}
 use Rattle.mps_local.specs.Local.{LocalType}
-use Rattle.mps_machine.specs.Machine.{initial}
 use Rattle.mps_base.specs.RoleLists.{HasRoleCount}
 use Rattle.mps_session.specs.Peers.{IsFirstBad, IsFirstFaulty, CanOpen}
-use Rattle.mps_session.specs.Seen.{Machine}
 use Rattle.mps_session.specs.declared.open.OpenFault.{OpenFault}
 use Rattle.mps_session.specs.declared.open.OpenFault.TheVariants.{RoleCount, BadPeer, Local, Memory as OutOfMemory}
+use Rattle.mps_room.specs.Kept.{Record}
 use Rattle.mps_wire.specs.declared.script.ReplayFault.{ReplayFault}
 use Rattle.mps_wire.specs.declared.script.ReplayFault.TheVariants.{Open, ReadFault, WriteFault, Turns, Memory}
 use Rattle.mps_wire.specs.Answers.{Answering, Answered, AnsweredAll, AnsweredInPart}
@@ -109,18 +108,15 @@ KeepsFromBeginning types WriteFault = ⊥
 KeepsFromBeginning types Turns = ⊥
 
 module _ (names : List (List ℕ)) (types : List LocalType) (before after : Streams) where
-  -- what the run of a script comes to on a session of these types, in which nothing was done
-  abbrev pub Replayed : Result Machine ReplayFault → Type 0
-  Replayed (Ok session) = Ran (AnswersLine names types) initial before after (Ok session.state)
-      × (session.types ≡ types)
-  Replayed (Err fault) = Ran (AnswersLine names types) initial before after (Err fault)
+  -- what the run of a script comes to in a new room of these names and types
+  abbrev pub Replayed : Result Record ReplayFault → Type 0
+  Replayed (Ok room) = Ran (AnswersLine names types) [] before after (Ok room.journal)
+      × (room.names ≡ names) × (room.types ≡ types)
+  Replayed (Err fault) = Ran (AnswersLine names types) [] before after (Err fault)
 
-  -- what the run of a script on a new session comes to: the session is opened with the types and the
+  -- what the run of a script comes to where the session is opened first: it is opened with the types and the
   -- script run; or it can't be opened, and nothing is read or written
-  abbrev pub Outcome : Result Machine ReplayFault → Type 0
-  Outcome (Ok session) = CanOpen types
-      × Ran (AnswersLine names types) initial before after (Ok session.state)
-      × (session.types ≡ types)
+  abbrev pub Outcome : Result Record ReplayFault → Type 0
+  Outcome (Ok room) = CanOpen types × Replayed (Ok room)
   Outcome (Err (Open fault)) = KeepsShut types fault × (after ≡ before)
-  Outcome (Err fault) = CanOpen types
-      × Ran (AnswersLine names types) initial before after (Err fault)
+  Outcome (Err fault) = CanOpen types × Replayed (Err fault)

@@ -1,9 +1,9 @@
 //! What holds of the answers to whole scripts.
-ghost use Rattle.std.specs.Prelude.{◌≢◌, ℕ, List, codes};
+ghost use Rattle.std.specs.Prelude.{◌≢◌, ℕ, List, [], codes};
 ghost use Rattle.std.specs.List.{AllByRecursion};
 ghost use Rattle.mps_fidelity.specs.Fidelity.{AreOfOneProtocol};
 ghost use Rattle.mps_local.specs.Local.{LocalType};
-ghost use Rattle.mps_machine.specs.Machine.{State, initial};
+ghost use Rattle.mps_room.specs.declared.entry.Entry.{Entry};
 ghost use Rattle.mps_wire.specs.Answers.{Answered, AnsweredAll, AnsweredInPart};
 ghost use Rattle.mps_wire.specs.Lines.{IsSplit};
 ghost use Rattle.mps_wire.specs.Script.{AnswersLine};
@@ -15,19 +15,19 @@ use mps_line::laws::one_reply_line;
 /// was written breaks off.
 pub fn no_script_meets_a_mismatch()
     ensures whole { (names : List (List ℕ)) (types : List LocalType)
-        (bytes out rest : List ℕ) (lines : List (List ℕ)) (after : State)
+        (bytes out rest : List ℕ) (lines : List (List ℕ)) (after : List Entry)
         → AreOfOneProtocol types
-        → AnsweredAll (AnswersLine names types) initial bytes out after → IsSplit out lines rest
+        → AnsweredAll (AnswersLine names types) [] bytes out after → IsSplit out lines rest
         → AllByRecursion (λ line. line ≢ codes "refused mismatch") lines }
     ensures stopped { (names : List (List ℕ)) (types : List LocalType)
-        (bytes kept out rest : List ℕ) (lines : List (List ℕ)) (after : State)
+        (bytes kept out rest : List ℕ) (lines : List (List ℕ)) (after : List Entry)
         → AreOfOneProtocol types
-        → Answered (AnswersLine names types) initial bytes kept out after → IsSplit out lines rest
+        → Answered (AnswersLine names types) [] bytes kept out after → IsSplit out lines rest
         → AllByRecursion (λ line. line ≢ codes "refused mismatch") lines }
     ensures part { (names : List (List ℕ)) (types : List LocalType)
         (bytes written rest : List ℕ) (lines : List (List ℕ))
         → AreOfOneProtocol types
-        → AnsweredInPart (AnswersLine names types) initial bytes written
+        → AnsweredInPart (AnswersLine names types) [] bytes written
         → IsSplit written lines rest
         → AllByRecursion (λ line. line ≢ codes "refused mismatch") lines }
 {

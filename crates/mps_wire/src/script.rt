@@ -20,6 +20,7 @@ use mps_dev::{Failed, Sink, Source};
 use mps_line::laws::one_script_line;
 use mps_line::{LineFault, read_script_line, write_answer, write_bad_line};
 use mps_local::Local;
+use mps_room::Room;
 use mps_session::{OpenFault, Session};
 use std::alloc::{AllocError, Global};
 use thiserror::Error;
@@ -67,31 +68,27 @@ impl From<OpenFault> for ReplayFault {
     }
 }
 
-/// Runs the command of a line, if it has one, and writes the reply behind the others.
+/// Gives the command of a line to the room, if it has one, and writes the reply behind the others.
 fn reply_to_line(
     alloc: Global,
-    roles: &Roles,
-    session: &mut Session,
+    room: &mut Room,
     line: &[u8],
     answers: &mut Vec<u8>,
 ) -> Result<(), AllocError>
-    requires { length roles.now ≡ length session.old.types }
-    ensures types { session.new.types ≡ session.old.types }
-    ensures reply { OnOk result (Appends (λ text. AnswersLine roles.now session.old.types
-        line.now session.old.state text session.new.state)
+    ensures names { room.new.names ≡ room.old.names }
+    ensures types { room.new.types ≡ room.old.types }
+    ensures reply { OnOk result (Appends (λ text. AnswersLine room.old.names room.old.types
+        line.now room.old.journal text room.new.journal)
         answers.old.items answers.new.items) }
 {
-    let (_one, _distinct) = (one_script_line(), roles.count());
+    one_script_line();
     if line.len() > MAX_LINE {
         return write_bad_line(answers);
     }
-    match read_script_line(alloc, roles, line) {
+    match read_script_line(alloc, room.names(), line) {
         Ok(request) => {
             let (role, command) = request;
-            let Some(change) = command.into_change() else {
-                return write_bad_line(answers);
-            };
-            let answer = session.serve(role, change);
+            let answer = room.apply(role, command);
             write_answer(&answer, answers)
         }
         Err(LineFault::Bad) => write_bad_line(answers),
@@ -102,19 +99,18 @@ fn reply_to_line(
 /// Answers a line, whose answer goes behind the others.
 fn answer_line(
     alloc: Global,
-    roles: &Roles,
-    session: &mut Session,
+    room: &mut Room,
     line: &[u8],
     answers: &mut Vec<u8>,
 ) -> Result<(), AllocError>
-    requires { length roles.now ≡ length session.old.types }
-    ensures types { session.new.types ≡ session.old.types }
+    ensures names { room.new.names ≡ room.old.names }
+    ensures types { room.new.types ≡ room.old.types }
     ensures answer { OnOk result ((text : List ℕ)
         × (answers.new.items ≡ answers.old.items ++ ended text)
-        × AnswersLine roles.now session.old.types line.now session.old.state
-        text session.new.state) }
+        × AnswersLine room.old.names room.old.types line.now room.old.journal
+        text room.new.journal) }
 {
-    reply_to_line(alloc, roles, session, line, answers)?;
+    reply_to_line(alloc, room, line, answers)?;
     answers.push(b'\n')?;
     Ok(())
 }
@@ -122,8 +118,7 @@ fn answer_line(
 /// A script while it runs.
 #[derive(Drop)]
 struct Run {
-    roles: Roles,
-    session: Session,
+    room: Room,
     // the front of the line that comes
     line: Vec<u8>,
     // the answers that wait to be written
@@ -134,61 +129,46 @@ struct Run {
 impl Run {
     /// Answers the line that is kept, and begins the next.
     fn answer_kept(&mut self) -> Result<(), AllocError>
-        requires { length self.old.roles ≡ length self.old.session.types }
-        ensures roles { self.new.roles ≡ self.old.roles }
-        ensures types { self.new.session.types ≡ self.old.session.types }
+        ensures names { self.new.room.names ≡ self.old.room.names }
+        ensures types { self.new.room.types ≡ self.old.room.types }
         ensures next { OnOk result (self.new.line.items ≡ []) }
         ensures answer { OnOk result ((text : List ℕ)
             × (self.new.answers.items ≡ self.old.answers.items ++ ended text)
-            × lines_of self.old self.old.line.items self.old.session.state
-            text self.new.session.state) }
+            × lines_of self.old self.old.line.items self.old.room.journal
+            text self.new.room.journal) }
     {
         let line = self.line.as_slice();
-        answer_line(
-            self.alloc,
-            &self.roles,
-            &mut self.session,
-            line,
-            &mut self.answers,
-        )?;
+        answer_line(self.alloc, &mut self.room, line, &mut self.answers)?;
         self.line.clear();
         Ok(())
     }
 
     /// Answers the line that ends with these bytes, and begins the next.
     fn end_line(&mut self, bytes: &[u8]) -> Result<(), AllocError>
-        requires named { length self.old.roles ≡ length self.old.session.types }
-        requires kept { length self.old.line.items ≤ most_kept }
-        ensures roles { self.new.roles ≡ self.old.roles }
-        ensures types { self.new.session.types ≡ self.old.session.types }
+        requires { length self.old.line.items ≤ most_kept }
+        ensures names { self.new.room.names ≡ self.old.room.names }
+        ensures types { self.new.room.types ≡ self.old.room.types }
         ensures next { OnOk result (self.new.line.items ≡ []) }
         ensures answer { OnOk result ((text : List ℕ)
             × (self.new.answers.items ≡ self.old.answers.items ++ ended text)
-            × lines_of self.old (front (self.old.line.items ++ bytes.now)) self.old.session.state
-            text self.new.session.state) }
+            × lines_of self.old (front (self.old.line.items ++ bytes.now)) self.old.room.journal
+            text self.new.room.journal) }
     {
         if !self.line.is_empty() {
             keep(&mut self.line, bytes)?;
             return self.answer_kept();
         }
         // it came whole, and is answered where it stands
-        answer_line(
-            self.alloc,
-            &self.roles,
-            &mut self.session,
-            bytes,
-            &mut self.answers,
-        )
+        answer_line(self.alloc, &mut self.room, bytes, &mut self.answers)
     }
 
     /// Takes the next bytes, and answers each line that they end.
     fn feed(&mut self, bytes: &[u8]) -> Result<(), AllocError>
-        requires named { length self.old.roles ≡ length self.old.session.types }
-        requires kept { length self.old.line.items ≤ most_kept }
-        ensures roles { self.new.roles ≡ self.old.roles }
-        ensures types { self.new.session.types ≡ self.old.session.types }
+        requires { length self.old.line.items ≤ most_kept }
+        ensures names { self.new.room.names ≡ self.old.room.names }
+        ensures types { self.new.room.types ≡ self.old.room.types }
         ensures kept { OnOk result (length self.new.line.items ≤ most_kept) }
-        ensures answered { OnOk result (TakesBytes (lines_of self.old) initial bytes.now
+        ensures answered { OnOk result (TakesBytes (lines_of self.old) [] bytes.now
             (place_of self.old) (place_of self.new)) }
     {
         let mut rest = bytes;
@@ -201,10 +181,9 @@ impl Run {
 
     /// Answers a last line that no LF ends, if there is one.
     fn finish(&mut self) -> Result<(), AllocError>
-        requires { length self.old.roles ≡ length self.old.session.types }
-        ensures roles { self.new.roles ≡ self.old.roles }
-        ensures types { self.new.session.types ≡ self.old.session.types }
-        ensures answered { OnOk result (TakesEnd (lines_of self.old) initial
+        ensures names { self.new.room.names ≡ self.old.room.names }
+        ensures types { self.new.room.types ≡ self.old.room.types }
+        ensures answered { OnOk result (TakesEnd (lines_of self.old) []
             (place_of self.old) (place_of self.new)) }
         ensures kept { OnOk result (self.new.line.items ≡ []) }
     {
@@ -238,23 +217,22 @@ fn turn<R: Source, W: Sink>(
     run: &mut Run,
     block: &mut [u8],
 ) -> Result<bool, ReplayFault>
-    requires named { length run.old.roles ≡ length run.old.session.types }
     requires short { length run.old.line.items ≤ most_kept }
     requires none_wait { run.old.answers.items ≡ [] }
     requires room { 0 < length block.old }
     requires reads { R.calls reader.old < 2 ^ 63 }
     requires writes { W.failed_calls writer.old < 2 ^ 63 }
-    ensures roles { run.new.roles ≡ run.old.roles }
-    ensures types { run.new.session.types ≡ run.old.session.types }
+    ensures names { run.new.room.names ≡ run.old.room.names }
+    ensures types { run.new.room.types ≡ run.old.room.types }
     ensures short { OnOk result (length run.new.line.items ≤ most_kept) }
     ensures none_wait { OnOk result (run.new.answers.items ≡ []) }
     ensures reads { R.calls reader.new ≡ R.calls reader.old + 1 }
     ensures step { (first : _)
-        → Going (lines_of run.old) initial first (streams R.Source W.Sink reader.old writer.old)
-        run.old.line.items run.old.session.state
-        → Turned (lines_of run.old) initial first (streams R.Source W.Sink reader.old writer.old)
+        → Going (lines_of run.old) [] first (streams R.Source W.Sink reader.old writer.old)
+        run.old.line.items run.old.room.journal
+        → Turned (lines_of run.old) [] first (streams R.Source W.Sink reader.old writer.old)
         (streams R.Source W.Sink reader.new writer.new)
-        run.new.line.items run.new.session.state result }
+        run.new.line.items run.new.room.journal result }
 {
     let Ok(count) = reader.read(block) else {
         return Err(ReplayFault::ReadFault);
@@ -273,24 +251,22 @@ fn turn<R: Source, W: Sink>(
     Ok(false)
 }
 
-/// A script on this session, of which nothing was read yet.
-fn begin(alloc: Global, roles: Roles, session: Session) -> Run
-    ensures roles { result.roles ≡ roles }
-    ensures session { result.session ≡ session }
+/// A script in this room, of which nothing was read yet.
+fn begin(alloc: Global, room: Room) -> Run
+    ensures room { result.room ≡ room }
     ensures line { result.line.items ≡ [] }
     ensures answers { result.answers.items ≡ [] }
 {
     Run {
-        roles,
-        session,
+        room,
         line: Vec::new(alloc),
         answers: Vec::new(alloc),
         alloc,
     }
 }
 
-/// Runs the script that the reader gives, on a session in which nothing was done yet, and writes an
-/// answer to each line. Gives the session back.
+/// Runs the script that the reader gives, in a new room of a session in which nothing was done yet, and writes an
+/// answer to each line. Gives the room.
 ///
 /// The answers to the lines of one read are written before the next read. A last line needs no LF.
 /// The reader is asked for `BLOCK` bytes at a time, `MAX_READS` times at most.
@@ -300,7 +276,7 @@ pub fn replay_session<R: Source, W: Sink>(
     writer: &mut W,
     roles: Roles,
     session: Session,
-) -> Result<Session, ReplayFault>
+) -> Result<Room, ReplayFault>
     requires new { session.state ≡ initial }
     requires named { length roles ≡ length session.types }
     requires reads { R.calls reader.old < 2 ^ 62 }
@@ -310,11 +286,11 @@ pub fn replay_session<R: Source, W: Sink>(
         (streams R.Source W.Sink reader.new writer.new) result }
     ensures reads { R.calls reader.new ≤ R.calls reader.old + max_reads }
 {
-    let mut run = begin(alloc, roles, session);
+    let mut run = begin(alloc, Room::open(alloc, roles, session));
     let mut block = vec![in alloc; 0u8; BLOCK]?;
     for _ in 0..MAX_READS {
         if turn(reader, writer, &mut run, block.as_mut_slice())? {
-            return Ok(run.session);
+            return Ok(run.room);
         }
     }
     Err(ReplayFault::Turns)
@@ -328,7 +304,7 @@ pub fn replay<R: Source, W: Sink>(
     writer: &mut W,
     roles: Roles,
     types: Vec<Local>,
-) -> Result<Session, ReplayFault>
+) -> Result<Room, ReplayFault>
     requires named { length roles ≡ length types.items }
     requires reads { R.calls reader.old < 2 ^ 62 }
     requires writes { W.failed_calls writer.old < 2 ^ 62 }

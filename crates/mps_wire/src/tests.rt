@@ -131,6 +131,33 @@ fn answers_each_line(rt: HostRuntime) -> Result<(), Fail> {
     Ok(())
 }
 
+// A script with each kind of answer, and its answers.
+const ASKED: &str =
+    "a send b 5\nb recv a x\nb show\n\na undo 1\na rollback 1\nb news 0\nb send c 1\na send b 6";
+
+const TOLD: &str = concat!(
+    "done 1\ndone 2 5\n",
+    r#"{"history":[[1,"a","send","b",5],[2,"b","recv","a","x",5]],"queues":[],"roles":[{"expects":"end","past":[1],"role":"a","store":[]},{"expects":"send c int","past":[2],"role":"b","store":[["x",5]]},{"expects":"recv b int","past":[],"role":"c","store":[]}]}"#,
+    "\nrefused line\nrefused needed 2\nundone 2 1\nnews 3 2\nrefused wrongact\ndone 3\n"
+);
+
+#[test]
+fn answers_in_any_two_pieces(rt: HostRuntime) -> Result<(), Fail> {
+    let alloc = rt.alloc();
+    let script = ASKED.as_bytes();
+    for at in 0..script.len() + 1 {
+        let (front, rest) = script.split_at(at);
+        let pieces = vec![in alloc;
+            Vec::from_slice(alloc, front)?,
+            Vec::from_slice(alloc, rest)?,
+        ]?;
+        let (written, fault) = outcome(alloc, types(alloc, A_TO_B_TO_C)?, pieces, None, 1_000)?;
+        assert_eq!(rt; fault, None, "cut at {at}");
+        assert_eq!(rt; written.as_slice(), TOLD.as_bytes(), "cut at {at}");
+    }
+    Ok(())
+}
+
 fn go_or_stop(alloc: Global, go: Local) -> Result<Branches, Fail> {
     let stop = Branches::more(alloc, name("stop")?, Local::End, Branches::NoMore)?;
     Ok(Branches::more(alloc, name("go")?, go, stop)?)
@@ -347,14 +374,14 @@ fn answers_before_it_reads_on(rt: HostRuntime) -> Result<(), Fail> {
     Ok(())
 }
 
-// The steps that survive and the numbers given out after the script, on a session that was opened
+// The entries, the steps that survive and the numbers given out after the script, on a session that was opened
 // before, or the fault that ended its run; and what was written, to a writer with so much room.
 fn on_a_session(
     alloc: Global,
     script: &str,
     fails_from: Option<u64>,
     room: usize,
-) -> Result<(Vec<u8>, Result<(usize, u64), ReplayFault>), Fail> {
+) -> Result<(Vec<u8>, Result<(u64, usize, u64), ReplayFault>), Fail> {
     let roles = Roles::of(alloc, &[name("a")?, name("b")?, name("c")?])?;
     let session = Session::open(alloc, types(alloc, A_TO_B_TO_C)?)?;
     if roles.count() != session.roles() {
@@ -363,21 +390,25 @@ fn on_a_session(
     let mut reader = Pieces::new(in_one_piece(alloc, script)?, fails_from);
     let mut writer = Short::new(alloc, room)?;
     let ended = replay_session(alloc, &mut reader, &mut writer, roles, session);
-    let left = ended.map(|session| (session.len(), session.issued()));
+    let left = ended.map(|room| (
+        room.entries(),
+        room.session().len(),
+        room.session().issued(),
+    ));
     Ok((Vec::from_slice(alloc, writer.bytes())?, left))
 }
 
 #[test]
 fn runs_on_a_session_that_is_handed_in(rt: HostRuntime) -> Result<(), Fail> {
     let rows = [
-        (RELAY, None, 200, RELAYED, Ok((4, 4))),
-        ("", None, 200, "", Ok((0, 0))),
+        (RELAY, None, 200, RELAYED, Ok((4, 4, 4))),
+        ("", None, 200, "", Ok((0, 0, 0))),
         (
             "a send b 5\na undo 1\na send b 6",
             None,
             200,
             "done 1\nundone 1\ndone 2\n",
-            Ok((1, 2)),
+            Ok((3, 1, 2)),
         ),
         (RELAY, Some(1), 200, "", Err(ReplayFault::ReadFault)),
         (RELAY, Some(2), 200, RELAYED, Err(ReplayFault::ReadFault)),

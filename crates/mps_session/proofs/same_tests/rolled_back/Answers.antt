@@ -1,4 +1,4 @@
-use Rattle.std.proofs.Common.{◌≡◌, sym, ◌∙◌}
+use Rattle.std.proofs.Common.{sym, ◌∙◌}
 use Rattle.mps_global.specs.Global.{plain}
 use Rattle.mps_session.proofs.Projected.{one_projection}
 use Rattle.mps_session.proofs.same_tests.rolled_back.Goals as goal

@@ -4,7 +4,8 @@ use Rattle.mps_local.specs.Local.{plain}
 use Rattle.mps_session.specs.Seen.{Machine}
 use Rattle.mps_wire.specs.Runs.{Outcome, Replayed}
 use Rattle.mps_wire.specs.Streams.{streams}
-use Rattle.mps_wire.proofs.Outcomes.{handed_on, not_begun, opened_first, shut}
+use Rattle.mps_session.proofs.Accepted.{handed_on}
+use Rattle.mps_wire.proofs.Outcomes.{not_begun, opened_first, shut}
 use Rattle.mps_wire.proofs.script.replay.Goals as goal
 
 pub returns-in_err-session-clause-outcome : goal.returns-in_err-session-clause-outcome

@@ -1,12 +1,13 @@
-use Rattle.std.proofs.Common.{length, Ok, Err, sym, ap, ◌∙◌, arith}
-use Rattle.mps_machine.specs.Machine.{initial}
+use Rattle.std.proofs.Common.{◌≡◌, [], length, Ok, Err, sym, ap, ◌∙◌, arith}
+use Rattle.mps_room.specs.Kept.{Record}
 use Rattle.mps_wire.specs.Runs.{Replayed, max_reads}
 use Rattle.mps_wire.specs.Script.{AnswersLine}
 use Rattle.mps_wire.specs.Streams.{streams}
 use Rattle.mps_wire.specs.declared.script.TheConstants.{BLOCK}
 use Rattle.mps_wire.proofs.Bytes.{same_room}
 use Rattle.mps_wire.proofs.Carrying.{turned}
-use Rattle.mps_wire.proofs.Outcomes.{handed_on, same_counts, counts_more, breaks, at_end, before_end, starts_starved}
+use Rattle.mps_session.proofs.Accepted.{handed_on}
+use Rattle.mps_wire.proofs.Outcomes.{same_counts, counts_more, breaks, at_end, before_end, starts_starved}
 use Rattle.mps_wire.proofs.Turning.{begun, gave_none, gave_more, gave_fewer}
 use Rattle.mps_wire.proofs.script.replay_session.Goals as goal
 
@@ -14,23 +15,24 @@ pub returns-in_err-block-clause-outcome : goal.returns-in_err-block-clause-outco
 returns-in_err-block-clause-outcome g c =
     let types = c.args.session.types in
     let first = streams g.R.Source g.W.Sink c.args.reader.now c.args.writer.now in
-    handed_on _ _ (Replayed c.args.roles types first first) c.from_residual.ensures.1 (starts_starved (AnswersLine c.args.roles types) initial first)
+    handed_on _ _ (Replayed c.args.roles types first first) c.from_residual.ensures.1 (starts_starved (AnswersLine c.args.roles types) [] first)
 
 pub loop-init : goal.loop-init
 loop-init g c =
     let first = streams g.R.Source g.W.Sink c.args.reader.now c.args.writer.now in
     let types = c.args.session.types in
+    let new : Record = record { names = c.args.roles; types = types; journal = [] } in
+    let room : c.begin-run.result.room ≡ new = c.begin-run.ensures.room ∙ c.open.ensures in
     record {
-      roles = c.begin-run.ensures.roles;
-      named = ap length c.begin-run.ensures.roles ∙ c.requires.named ∙ sym (ap (λ s. length s.types) c.begin-run.ensures.session);
-      types = ap (λ s. s.types) c.begin-run.ensures.session;
+      names = ap (λ (r : Record). r.names) room;
+      types = ap (λ (r : Record). r.types) room;
       short = omega (arith, ap length c.begin-run.ensures.line);
       none_waits = c.begin-run.ensures.answers;
       room = omega (arith, c.in_ok-block.block.ok.0, c.in_ok-block.ensures.len);
       reads = omega arith;
       counts = same_counts first;
       gave = gave_none first;
-      going = begun (AnswersLine c.args.roles types) initial first _ _ c.begin-run.ensures.line (ap (λ s. s.state) c.begin-run.ensures.session ∙ c.requires.new);
+      going = begun (AnswersLine c.args.roles types) [] first _ _ c.begin-run.ensures.line (ap (λ (r : Record). r.journal) room);
     }
 
 pub returns-in_err-turn-clause-outcome : goal.returns-in_err-turn-clause-outcome
@@ -41,8 +43,8 @@ returns-in_err-turn-clause-outcome g c =
     let now = streams g.R.Source g.W.Sink c.turn.new.reader c.turn.new.writer in
     let i = c.loop.invariant in
     handed_on _ _ (Replayed c.args.roles types first now) c.from_residual-in_err-turn.ensures.1
-    (breaks first old now i.counts (AnswersLine c.args.roles types) initial c.turn.new.run.line.items c.turn.new.run.session.state c.in_err-turn.field-0.0
-    (turned c.args.roles c.loop.run.roles types c.loop.run.session.types i.roles i.types old now c.loop.run.line.items c.turn.new.run.line.items c.loop.run.session.state c.turn.new.run.session.state (Err c.in_err-turn.field-0.0) c.in_err-turn.ensures.step first i.going))
+    (breaks first old now i.counts (AnswersLine c.args.roles types) [] c.turn.new.run.line.items c.turn.new.run.room.journal c.in_err-turn.field-0.0
+    (turned c.args.roles c.loop.run.room.names types c.loop.run.room.types i.names i.types old now c.loop.run.line.items c.turn.new.run.line.items c.loop.run.room.journal c.turn.new.run.room.journal (Err c.in_err-turn.field-0.0) c.in_err-turn.ensures.step first i.going))
 
 pub returns-then-branch-clause-outcome : goal.returns-then-branch-clause-outcome
 returns-then-branch-clause-outcome g c =
@@ -52,9 +54,9 @@ returns-then-branch-clause-outcome g c =
     let now = streams g.R.Source g.W.Sink c.turn.new.reader c.turn.new.writer in
     let i = c.loop.invariant in
     let done =
-    at_end (AnswersLine c.args.roles types) initial first old now c.turn.new.run.line.items c.turn.new.run.session.state c.in_ok-turn.field-0
-    (turned c.args.roles c.loop.run.roles types c.loop.run.session.types i.roles i.types old now c.loop.run.line.items c.turn.new.run.line.items c.loop.run.session.state c.turn.new.run.session.state (Ok c.in_ok-turn.field-0) c.in_ok-turn.ensures.step first i.going) c.if-branch.true in
-    ((done.0, counts_more first old now i.counts 0 1 0 done.1), c.in_ok-turn.ensures.types ∙ i.types)
+    at_end (AnswersLine c.args.roles types) [] first old now c.turn.new.run.line.items c.turn.new.run.room.journal c.in_ok-turn.field-0
+    (turned c.args.roles c.loop.run.room.names types c.loop.run.room.types i.names i.types old now c.loop.run.line.items c.turn.new.run.line.items c.loop.run.room.journal c.turn.new.run.room.journal (Ok c.in_ok-turn.field-0) c.in_ok-turn.ensures.step first i.going) c.if-branch.true in
+    ((done.0, counts_more first old now i.counts 0 1 0 done.1), c.in_ok-turn.ensures.names ∙ i.names, c.in_ok-turn.ensures.types ∙ i.types)
 
 pub loop-preserved : goal.loop-preserved
 loop-preserved g c =
@@ -64,11 +66,10 @@ loop-preserved g c =
     let now = streams g.R.Source g.W.Sink c.turn.new.reader c.turn.new.writer in
     let i = c.loop.invariant in
     let on =
-    before_end (AnswersLine c.args.roles types) initial first old now c.turn.new.run.line.items c.turn.new.run.session.state c.in_ok-turn.field-0
-    (turned c.args.roles c.loop.run.roles types c.loop.run.session.types i.roles i.types old now c.loop.run.line.items c.turn.new.run.line.items c.loop.run.session.state c.turn.new.run.session.state (Ok c.in_ok-turn.field-0) c.in_ok-turn.ensures.step first i.going) c.if-branch.false in
+    before_end (AnswersLine c.args.roles types) [] first old now c.turn.new.run.line.items c.turn.new.run.room.journal c.in_ok-turn.field-0
+    (turned c.args.roles c.loop.run.room.names types c.loop.run.room.types i.names i.types old now c.loop.run.line.items c.turn.new.run.line.items c.loop.run.room.journal c.turn.new.run.room.journal (Ok c.in_ok-turn.field-0) c.in_ok-turn.ensures.step first i.going) c.if-branch.false in
     record {
-      roles = c.in_ok-turn.ensures.roles ∙ i.roles;
-      named = ap length c.in_ok-turn.ensures.roles ∙ i.named ∙ sym (ap length c.in_ok-turn.ensures.types);
+      names = c.in_ok-turn.ensures.names ∙ i.names;
       types = c.in_ok-turn.ensures.types ∙ i.types;
       short = c.in_ok-turn.ensures.short;
       none_waits = c.in_ok-turn.ensures.none_wait;
@@ -84,7 +85,7 @@ returns-clause-outcome g c =
     let i = c.loop.invariant in
     let first = streams g.R.Source g.W.Sink c.args.reader.now c.args.writer.now in
     let now = streams g.R.Source g.W.Sink c.loop.reader c.loop.writer in (
-      record { kept = c.loop.run.line.items; st = c.loop.run.session.state; going = i.going },
+      record { kept = c.loop.run.line.items; st = c.loop.run.room.journal; going = i.going },
       i.counts,
       record {
         reads = omega (arith, i.reads, c.loop.auto.counter-end, c.loop-test.false);

@@ -1,5 +1,4 @@
 use Rattle.std.proofs.Common.{◌≡◌, ◌+◌, ◌≤◌, [], length}
-use Rattle.mps_machine.specs.Machine.{initial}
 use Rattle.mps_wire.specs.Lines.{most_kept}
 use Rattle.mps_wire.specs.Runs.{Going, GaveAtLeast}
 use Rattle.mps_wire.specs.Script.{AnswersLine}
@@ -12,14 +11,13 @@ invariant-loop g l =
     let first = streams g.R.Source g.W.Sink l.fn.reader l.fn.writer in
     let now = streams g.R.Source g.W.Sink l.reader l.writer in
     record {
-      roles : l.run.roles ≡ l.fn.roles;
-      named : length l.run.roles ≡ length l.run.session.types;
-      types : l.run.session.types ≡ l.fn.session.types;
+      names : l.run.room.names ≡ l.fn.roles;
+      types : l.run.room.types ≡ l.fn.session.types;
       short : length l.run.line.items ≤ most_kept;
       none_waits : l.run.answers.items ≡ [];
       room : length l.block.items ≡ BLOCK;
       reads : now.reads ≡ first.reads + l.counter;
       counts : Counts first now 0 0 0;
       gave : GaveAtLeast l.counter first now;
-      going : Going (AnswersLine l.fn.roles l.fn.session.types) initial first now l.run.line.items l.run.session.state;
+      going : Going (AnswersLine l.fn.roles l.fn.session.types) [] first now l.run.line.items l.run.room.journal;
     }

@@ -1,20 +1,4 @@
-use Rattle.std.proofs.Common.{◌≡◌, Some, sym, ap, ◌∙◌}
-use Rattle.mps_machine.specs.Faults.{fault}
-use Rattle.mps_machine.specs.Machine.{State}
-use Rattle.mps_room.specs.Journal.{run}
-use Rattle.mps_room.specs.Kept.{Record}
-use Rattle.mps_room.proofs.Refusing.{refused}
 use Rattle.mps_room.proofs.room.Room.apply.Goals as goal
 
-pub returns-in-Err-clause-answer : goal.returns-in-Err-clause-answer
-returns-in-Err-clause-answer c =
-    let r = c.self.inside in
-    let m = c.args.self.now in
-    let told : fault r.session.types r.session.state c.args.role c.args.command ≡ Some c.in-Err.refusal = sym c.in-Err.ensures in
-    refused m.names m.types m.journal c.args.role c.args.command c.in-Err.refusal
-    (ap (λ (k : Record). fault k.types (run k.types k.journal) c.args.role c.args.command) (sym c.self.view_is)
-    ∙ ap (λ (st : State). fault r.session.types st c.args.role c.args.command) (sym c.self.invariant.state)
-    ∙ told)
-
 pub returns-in-Show-clause-answer : goal.returns-in-Show-clause-answer
-returns-in-Show-clause-answer c = rw c.in-Show.is (c.show.ensures.answer c.args.role)
+returns-in-Show-clause-answer c = rw c.in-Show.is (c.tell_show.ensures.answer c.args.role)

@@ -18,7 +18,7 @@ returns-clause-answer c =
     (λ a. (
       a.0,
       a.1,
-      subst (λ (l : List ℕ). lines_of self (front (l ++ c.args.bytes.now)) self.session.state a.0 c.answer_line.new.session.state) (sym none)
-          (to_front self.roles self.session.types c.args.bytes.now self.session.state a.0 c.answer_line.new.session.state a.2),
+      subst (λ (l : List ℕ). lines_of self (front (l ++ c.args.bytes.now)) self.room.journal a.0 c.answer_line.new.room.journal) (sym none)
+          (to_front self.room.names self.room.types c.args.bytes.now self.room.journal a.0 c.answer_line.new.room.journal a.2),
     ))
     c.answer_line.ensures.answer

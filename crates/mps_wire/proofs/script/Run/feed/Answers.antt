@@ -1,6 +1,6 @@
-use Rattle.std.proofs.Common.{◌≡◌, ℕ, ◌≤◌, List, ◌++◌, length, take, refl, ap, ◌∙◌, arith, length-take}
+use Rattle.std.proofs.Common.{◌≡◌, ℕ, ◌≤◌, List, [], ◌++◌, length, take, refl, ap, ◌∙◌, arith, length-take}
 use Rattle.std.proofs.lemmas.Result.{on_ok_weaker}
-use Rattle.mps_machine.specs.Machine.{State, initial}
+use Rattle.mps_room.specs.declared.entry.Entry.{Entry}
 use Rattle.mps_wire.specs.Answers.{Answering}
 use Rattle.mps_wire.specs.Lines.{most_kept, front}
 use Rattle.mps_wire.specs.Script.{lines_of, place_of}
@@ -14,10 +14,10 @@ front_short_enough line new e = omega (arith, ap length e, length-take most_kept
 
 pub loop-k-init : goal.loop-k-init
 loop-k-init c = record {
-  roles = refl;
+  names = refl;
   types = refl;
-  short = c.requires.kept;
-  feeding = feeding_begins (lines_of c.args.self.now) initial (place_of c.args.self.now) c.args.bytes.now;
+  short = c.requires;
+  feeding = feeding_begins (lines_of c.args.self.now) [] (place_of c.args.self.now) c.args.bytes.now;
 }
 
 pub loop-k-preserved : goal.loop-k-preserved
@@ -26,14 +26,14 @@ loop-k-preserved c =
     let a = c.in_ok-end_line.ensures.answer in
     let answers = lines_of c.args.self.now in
     let line =
-    carried _ _ _ _ i.roles i.types
-    (λ (answers : Answering State). answers (front (c.loop-k.self.line.items ++ take c.in-Some.k c.loop-k.rest.now)) c.loop-k.self.session.state a.0 c.end_line.new.self.session.state) a.2 in
+    carried _ _ _ _ i.names i.types
+    (λ (answers : Answering (List Entry)). answers (front (c.loop-k.self.line.items ++ take c.in-Some.k c.loop-k.rest.now)) c.loop-k.self.room.journal a.0 c.end_line.new.self.room.journal) a.2 in
     record {
-      roles = c.in_ok-end_line.ensures.roles ∙ i.roles;
+      names = c.in_ok-end_line.ensures.names ∙ i.names;
       types = c.in_ok-end_line.ensures.types ∙ i.types;
       short = omega (arith, ap length c.in_ok-end_line.ensures.next);
       feeding =
-          feeds_on answers initial (place_of c.args.self.now) c.args.bytes.now (by_front c.args.self.now.roles c.args.self.now.session.types)
+          feeds_on answers [] (place_of c.args.self.now) c.args.bytes.now (by_front c.args.self.now.room.names c.args.self.now.room.types)
           c.loop-k.rest.now (front (c.loop-k.self.line.items ++ take c.in-Some.k c.loop-k.rest.now)) a.0 c.in-Some.k (place_of c.loop-k.self) (place_of c.end_line.new.self) i.feeding
           c.in-Some.ensures.within c.in-Some.ensures.end c.in-Some.ensures.before refl line a.1 c.in_ok-end_line.ensures.next;
     }
@@ -44,7 +44,7 @@ returns-clause-kept c = on_ok_weaker c.keep.result (λ e. front_short_enough _ _
 pub returns-clause-answered : goal.returns-clause-answered
 returns-clause-answered c =
     on_ok_weaker c.keep.result
-    (λ e. feeding_ends (lines_of c.args.self.now) initial (place_of c.args.self.now) c.args.bytes.now c.loop-k.rest.now (place_of c.loop-k.self)
-    (record { kept = c.keep.new.line.items; state = c.loop-k.self.session.state; waiting = c.loop-k.self.answers.items })
+    (λ e. feeding_ends (lines_of c.args.self.now) [] (place_of c.args.self.now) c.args.bytes.now c.loop-k.rest.now (place_of c.loop-k.self)
+    (record { kept = c.keep.new.line.items; state = c.loop-k.self.room.journal; waiting = c.loop-k.self.answers.items })
     c.loop-k.invariant.feeding c.in_default.ensures.none e refl refl)
     c.keep.ensures.ok

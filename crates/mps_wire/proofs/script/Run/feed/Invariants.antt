@@ -1,5 +1,4 @@
-use Rattle.std.proofs.Common.{◌≡◌, ◌≤◌, length}
-use Rattle.mps_machine.specs.Machine.{initial}
+use Rattle.std.proofs.Common.{◌≡◌, ◌≤◌, [], length}
 use Rattle.mps_wire.specs.Lines.{most_kept}
 use Rattle.mps_wire.specs.Script.{lines_of, place_of}
 use Rattle.mps_wire.proofs.Feeding.{Feeding}
@@ -7,10 +6,10 @@ use Rattle.mps_wire.proofs.script.Run.feed.Given as goal
 
 abbrev pub invariant-loop-k : goal.invariant-loop-k
 invariant-loop-k l = record {
-  roles : l.self.roles ≡ l.fn.self.roles;
-  types : l.self.session.types ≡ l.fn.self.session.types;
+  names : l.self.room.names ≡ l.fn.self.room.names;
+  types : l.self.room.types ≡ l.fn.self.room.types;
   short : length l.self.line.items ≤ most_kept;
-  feeding : Feeding (lines_of l.fn.self) initial (place_of l.fn.self) l.bytes l.rest (place_of l.self);
+  feeding : Feeding (lines_of l.fn.self) [] (place_of l.fn.self) l.bytes l.rest (place_of l.self);
 }
 
 abbrev pub decreases-loop-k : goal.decreases-loop-k
