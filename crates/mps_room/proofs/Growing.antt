@@ -1,8 +1,10 @@
 -- Journals that grow by an entry.
-use Rattle.std.proofs.Common.{◌≡◌, ℕ, ◌<◌, true, List, [], ◌∷◌, ◌++◌, length, refl, sym, ap, ◌∙◌, subst, arith, append_assoc, append-nil, length-append}
-use Rattle.std.specs.Prelude.{nat_lt}
+use Rattle.std.proofs.Common.{◌≡◌, ℕ, ◌<◌, true, List, [], ◌∷◌, ◌++◌, Some, length, refl, sym, ap, ◌∙◌, subst, arith, append_assoc, append-nil, length-append}
+use Rattle.std.specs.Prelude.{nat_lt, IsSome}
 use Rattle.std.proofs.lemmas.Bool.{cond-true, lt-ltb}
-use Rattle.mps_command.specs.Changes.{command_of}
+use Rattle.mps_command.specs.Changes.{change_of, command_of}
+use Rattle.mps_command.specs.declared.command.Command.{Command}
+use Rattle.mps_command.specs.declared.command.Command.TheVariants as commands
 use Rattle.mps_command.specs.declared.answer.Answer.{Answer}
 use Rattle.mps_command.specs.declared.answer.Answer.TheVariants.{Done, Undone, News, Shown, Refused}
 use Rattle.mps_command.specs.declared.answer.Refusal.TheVariants.{Full}
@@ -25,7 +27,7 @@ follows-joined names types before (f ∷ j) e all one =
     (all.0, follows-joined names types (before ++ f ∷ []) j e all.1 (subst (λ (l : List Entry). IsEntryAfter names types l e) (sym (append_assoc before (f ∷ []) j)) one))
 
 -- what is accepted isn't limited where there is room
-room_for : (n : ℕ) (a : Answer) → is_accepted a ≡ true → n < most_entries → limited n a ≡ a
+pub room_for : (n : ℕ) (a : Answer) → is_accepted a ≡ true → n < most_entries → limited n a ≡ a
 room_for n (Done done) kept room = cond-true (nat_lt n most_entries) (Done done) (Refused Full) (lt-ltb n most_entries room)
 room_for n (Undone ids) kept room = cond-true (nat_lt n most_entries) (Undone ids) (Refused Full) (lt-ltb n most_entries room)
 room_for n (News m ids) kept room = absurd cc
@@ -47,11 +49,20 @@ after_change types st p (changes.Undo n) = refl
 after_change types st p (changes.Rollback n) = refl
 after_change types st p (changes.Back name) = refl
 
-reply_to_change : (names : List (List ℕ)) (types : List LocalType) (j : List Entry) (p : ℕ) (change : Change) → reply names types j p (command_of change) ≡ limited (length j) (serve types (run types j) p change).0
+pub reply_to_change : (names : List (List ℕ)) (types : List LocalType) (j : List Entry) (p : ℕ) (change : Change) → reply names types j p (command_of change) ≡ limited (length j) (serve types (run types j) p change).0
 reply_to_change names types j p (changes.Forward step) = refl
 reply_to_change names types j p (changes.Undo n) = refl
 reply_to_change names types j p (changes.Rollback n) = refl
 reply_to_change names types j p (changes.Back name) = refl
+
+-- a command that asks for a change is told by it
+pub asked : (command : Command) → IsSome (change_of command) → (change : Change) × (change_of command ≡ Some change) × (command ≡ command_of change)
+asked (commands.Forward step) h = (changes.Forward step, refl, refl)
+asked (commands.Undo n) h = (changes.Undo n, refl, refl)
+asked (commands.Rollback n) h = (changes.Rollback n, refl, refl)
+asked (commands.Back name) h = (changes.Back name, refl, refl)
+asked (commands.News n) h = absurd cc
+asked commands.Show h = absurd cc
 
 module _ (names : List (List ℕ)) (types : List LocalType) (j : List Entry) (p : ℕ) (change : Change) (a : Answer) (is : a ≡ (serve types (run types j) p change).0) where
   abbrev pub entry : Entry

@@ -1,18 +1,22 @@
 -- What a room refuses because its session does.
-use Rattle.std.proofs.Common.{◌≡◌, ℕ, List, Some, ap, refl}
+use Rattle.std.proofs.Common.{◌≡◌, ℕ, ◌<◌, true, List, Some, Err, ap, refl}
 use Rattle.std.specs.Prelude.{length}
 use Rattle.mps_command.specs.declared.answer.Answer.{Answer}
 use Rattle.mps_command.specs.declared.answer.Answer.TheVariants.{Done, Undone, News as Told, Shown, Refused}
 use Rattle.mps_command.specs.declared.answer.Refusal.{Refusal}
 use Rattle.mps_command.specs.declared.answer.Refusal.TheVariants.{Violation as Violates, NoStep, NotYours, Needed, NoMark, Full, Memory}
+use Rattle.mps_command.specs.declared.command.Change.{Change}
 use Rattle.mps_command.specs.declared.command.Change.TheVariants as changes
 use Rattle.mps_command.specs.declared.command.Command.{Command}
 use Rattle.mps_command.specs.declared.command.Command.TheVariants.{Forward, Undo, Rollback, Back, News, Show}
 use Rattle.mps_local.specs.Local.{LocalType}
 use Rattle.mps_machine.specs.Faults.{fault, refusal_in}
-use Rattle.mps_machine.specs.Machine.{serve}
-use Rattle.mps_room.specs.Journal.{run, limited, reply, IsReply}
+use Rattle.mps_machine.specs.Machine.{State, serve}
+use Rattle.mps_session.specs.Answers.{IsAccepted}
+use Rattle.mps_room.specs.Journal.{most_entries, run, limited, reply, is_accepted, IsReply}
 use Rattle.mps_room.specs.declared.entry.Entry.{Entry}
+use Rattle.mps_room.proofs.Accepting.{accepting}
+use Rattle.mps_room.proofs.Growing.{room_for}
 
 -- the refusal that is told is the one that is answered
 same_refusal : (a : Answer) (refusal : Refusal) → refusal_in a ≡ Some refusal → a ≡ Refused refusal
@@ -41,3 +45,31 @@ refused names types j p (Rollback n) refusal e = limited_refusal (length j) (ser
 refused names types j p (Back name) refusal e = limited_refusal (length j) (serve types (run types j) p (changes.Back name)).0 refusal e
 refused names types j p (News n) refusal e = absurd cc
 refused names types j p Show refusal e = absurd cc
+
+-- want of memory may stand for an answer that accepts
+starved : (a : Answer) → is_accepted a ≡ true → IsReply (Refused Memory) a
+starved (Done done) kept = tt
+starved (Undone ids) kept = tt
+starved (Told n ids) kept = absurd cc
+starved (Shown text) kept = absurd cc
+starved (Refused refusal) kept = absurd cc
+
+-- what a session refuses, a room does
+pub refused_too : (types : List LocalType) (st new : State) (p n : ℕ) (change : Change) (refusal : Refusal) → n < most_entries → IsAccepted (Err refusal) st new (serve types st p change) → IsReply (Refused refusal) (limited n (serve types st p change).0)
+refused_too types st new p n change Memory room h =
+    let kept = accepting types st p change h.0 in
+    rw (room_for n (serve types st p change).0 kept room) (starved (serve types st p change).0 kept)
+refused_too types st new p n change (Violates v) room h = rw h.0 refl
+refused_too types st new p n change NoStep room h = rw h.0 refl
+refused_too types st new p n change NotYours room h = rw h.0 refl
+refused_too types st new p n change (Needed by) room h = rw h.0 refl
+refused_too types st new p n change NoMark room h = rw h.0 refl
+refused_too types st new p n change Full room h = rw h.0 refl
+
+-- an answer that accepts is a reply to what wants it
+pub accepted_reply : (a : Answer) → is_accepted a ≡ true → IsReply a a
+accepted_reply (Done done) kept = refl
+accepted_reply (Undone ids) kept = refl
+accepted_reply (Told n ids) kept = absurd cc
+accepted_reply (Shown text) kept = absurd cc
+accepted_reply (Refused refusal) kept = absurd cc

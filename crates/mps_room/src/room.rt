@@ -12,7 +12,7 @@ use crate::entry::Entry;
 use crate::news::news;
 use crate::shown::shown_text;
 use mps_base::{Role, Roles};
-use mps_command::{Answer, Change, Command, Refusal, ShownText, StepIds};
+use mps_command::{Answer, Command, Refusal, ShownText, StepIds};
 use mps_session::Session;
 use mps_show::show;
 use serde_json::Value as Json;
@@ -133,12 +133,9 @@ impl Room {
         ensures types { self.new.types ≡ self.old.types }
     {
         match command {
-            Command::Forward(step) => self.change(role, Change::Forward(step)),
-            Command::Undo(id) => self.change(role, Change::Undo(id)),
-            Command::Rollback(id) => self.change(role, Change::Rollback(id)),
-            Command::Back(name) => self.change(role, Change::Back(name)),
             Command::News(known) => self.tell_news(role, known),
             Command::Show => self.tell_show(),
+            change => self.change(role, change),
         }
     }
 

@@ -1,6 +1,6 @@
 -- What an accepted step took, and why a step is refused.
 use Rattle.std.proofs.Common.{◌≡◌, ℕ, ◌<◌, ◌≤◌, Bool, true, false, List, Option, Some, None, Result, Ok, Err, IsErrAnd, refl, sym, ap, ◌∙◌, subst}
-use Rattle.std.specs.Prelude.{nat_lt, if◌then◌else◌}
+use Rattle.std.specs.Prelude.{nat_lt, if◌then◌else◌, OnErr}
 use Rattle.std.specs.Option.{option_map}
 use Rattle.std.proofs.lemmas.Bool.{lt-ltb, le-ltb}
 use Rattle.mps_base.specs.declared.action.Act.{Act}
@@ -71,3 +71,14 @@ step_refused types st new p act NotYours is same = (ap stepped (sym is), same)
 step_refused types st new p act (Needed by) is same = (ap stepped (sym is), same)
 step_refused types st new p act NoMark is same = (ap stepped (sym is), same)
 step_refused types st new p act Full is same = (ap stepped (sym is), same)
+
+-- a refusal changes nothing
+pub unchanged : (r : Result (Answer × Answer) Refusal) (old new : State) (served : Answer × State) → IsAccepted r old new served → OnErr r (new ≡ old)
+unchanged (Ok told) old new s h = tt
+unchanged (Err Memory) old new s h = h.1
+unchanged (Err (Violates v)) old new s h = h.1
+unchanged (Err NoStep) old new s h = h.1
+unchanged (Err NotYours) old new s h = h.1
+unchanged (Err (Needed by)) old new s h = h.1
+unchanged (Err NoMark) old new s h = h.1
+unchanged (Err Full) old new s h = h.1

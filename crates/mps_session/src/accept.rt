@@ -1,6 +1,8 @@
 //! Changes that are accepted, with their answers told twice.
-ghost use Rattle.std.specs.Prelude.{◌≡◌, ◌<◌, ◌≤◌, Ok, Err, List, [], reverse, length, vec_len, vec_capacity, IsSome, IfOk, OnOk, OnErr};
+ghost use Rattle.std.specs.Prelude.{◌≡◌, ◌<◌, ◌≤◌, Some, Ok, Err, List, [], reverse, length, vec_len, vec_capacity, IsSome, IfOk, OnOk, OnErr};
 ghost use Rattle.std.specs.List.{AllByRecursion};
+ghost use Rattle.mps_command.specs.Changes.{change_of};
+ghost use Rattle.mps_command.specs.declared.command.Change.{Change};
 ghost use Rattle.mps_command.specs.declared.command.Change.TheVariants as changes;
 ghost use Rattle.mps_history.specs.Steps.{numbers, step_of, within, without};
 ghost use Rattle.mps_history.specs.Dependence.{consequences};
@@ -15,7 +17,7 @@ ghost use Rattle.mps_session.specs.Held.{Holds};
 use crate::configuration::{Configuration, once_more};
 use crate::session::{MAX_NUMBERS, Session};
 use mps_base::{Name, Role, StepId};
-use mps_command::{Answer, Change, Done, Forward, Refusal, StepIds};
+use mps_command::{Answer, Command, Done, Forward, Refusal, StepIds};
 use std::alloc::{AllocError, Global};
 
 /// Two lists of the same numbers.
@@ -100,33 +102,41 @@ impl Configuration {
 
 impl Session {
     /// Does what the role asks for, and tells the answer twice: to answer with, and to keep. Memory for both is asked
-    /// for before anything changes. A refusal changes nothing.
-    pub fn accept(&mut self, role: Role, change: Change) -> Result<(Answer, Answer), Refusal>
+    /// for before anything changes. A refusal changes nothing. The command is none that asks how things stand.
+    pub fn accept(&mut self, role: Role, command: &Command) -> Result<(Answer, Answer), Refusal>
         requires role { role < length self.old.types }
-        ensures accepted { IsAccepted result self.old.state self.new.state
+        requires change { IsSome (change_of command.now) }
+        ensures accepted { (change : Change) → change_of command.now ≡ Some change
+            → IsAccepted result self.old.state self.new.state
             (machine.serve self.old.types self.old.state role change) }
         ensures types { self.new.types ≡ self.old.types }
+        ensures err { OnErr result (self.new.state ≡ self.old.state) }
     {
-        match change {
-            Change::Forward(step) => self.take_twice(role, step),
-            Change::Undo(id) => self.undo_twice(role, id),
-            Change::Rollback(id) => self.roll_back_twice(role, id),
-            Change::Back(name) => self.go_back_twice(role, &name),
+        match command {
+            Command::Forward(step) => self.take_twice(role, step),
+            Command::Undo(id) => self.undo_twice(role, *id),
+            Command::Rollback(id) => self.roll_back_twice(role, *id),
+            Command::Back(name) => self.go_back_twice(role, name),
+            Command::News(_) | Command::Show => unreachable!(),
         }
     }
 
     // Takes the step, and tells the answer twice.
-    fn take_twice(&mut self, role: Role, step: Forward) -> Result<(Answer, Answer), Refusal>
+    fn take_twice(&mut self, role: Role, step: &Forward) -> Result<(Answer, Answer), Refusal>
         requires role { role < length self.old.types }
         ensures accepted { IsAccepted result self.old.state self.new.state
-            (machine.serve self.old.types self.old.state role (changes.Forward step)) }
+            (machine.serve self.old.types self.old.state role (changes.Forward step.now)) }
         ensures types { self.new.types ≡ self.old.types }
     {
-        let first = self.configuration.first_for(role, &step);
-        let Ok(got) = once_more(self.configuration.alloc, first) else {
-            return Err(self.starved(role, &step));
+        let alloc = self.configuration.alloc;
+        let first = self.configuration.first_for(role, step);
+        let Ok(got) = once_more(alloc, first) else {
+            return Err(self.starved(role, step));
         };
-        let done = self.forward(role, step)?;
+        let Ok(copy) = step.copy(alloc) else {
+            return Err(self.starved(role, step));
+        };
+        let done = self.forward(role, copy)?;
         let again = Done { id: done.id, got };
         Ok((Answer::Done(done), Answer::Done(again)))
     }
