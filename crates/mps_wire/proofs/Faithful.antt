@@ -4,8 +4,7 @@ use Rattle.std.specs.Prelude.{codes, nat_lt, if◌then◌else◌}
 use Rattle.std.specs.List.{AllByRecursion, flat_map}
 use Rattle.mps_command.specs.declared.answer.Answer.{Answer}
 use Rattle.mps_command.specs.declared.answer.Answer.TheVariants.{Done, Undone, News as Told, Shown, Refused}
-use Rattle.mps_command.specs.declared.answer.Refusal.{Refusal}
-use Rattle.mps_command.specs.declared.answer.Refusal.TheVariants.{Violation as Violates, NoStep, NotYours, Needed, NoMark, Full, Memory}
+use Rattle.mps_command.specs.declared.answer.Refusal.TheVariants.{Violation as Violates, Full}
 use Rattle.mps_command.specs.declared.command.Change.TheVariants as changes
 use Rattle.mps_command.specs.declared.command.Command.{Command}
 use Rattle.mps_command.specs.declared.command.Command.TheVariants.{Forward, Undo, Rollback, Back, News, Show}
@@ -15,7 +14,7 @@ use Rattle.mps_line.specs.declared.reply.Reply.{Reply}
 use Rattle.mps_line.specs.declared.reply.Reply.TheVariants.{Answered}
 use Rattle.mps_line.proofs.Shown.{no_line_feed}
 use Rattle.mps_local.specs.Local.{LocalType}
-use Rattle.mps_machine.specs.Machine.{State, initial, serve, IsSound}
+use Rattle.mps_machine.specs.Machine.{State, initial, IsSound}
 use Rattle.mps_machine.proofs.Sound.{initial_sound, serve_sound}
 use Rattle.mps_room.specs.Journal.{most_entries, after_command, run_from, run, limited, reply, IsReply}
 use Rattle.mps_room.specs.declared.entry.Entry.{Entry}

@@ -1,4 +1,4 @@
-use Rattle.std.proofs.Common.{◌≡◌, [], length, Ok, Err, sym, ap, ◌∙◌, arith}
+use Rattle.std.proofs.Common.{◌≡◌, [], length, Ok, Err, ap, ◌∙◌, arith}
 use Rattle.mps_room.specs.Kept.{Record}
 use Rattle.mps_wire.specs.Runs.{Replayed, max_reads}
 use Rattle.mps_wire.specs.Script.{AnswersLine}
