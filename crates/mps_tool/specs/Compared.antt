@@ -4,7 +4,7 @@ use Rattle.mps_dev.specs.declared.traits.Source.{Ghosts as SourceGhosts}
 use Rattle.mps_history.specs.Swaps.{Swaps}
 use Rattle.mps_local.specs.Local.{LocalType}
 use Rattle.mps_machine.specs.Machine.{State, initial, view_of}
-use Rattle.mps_wire.specs.Lines.{ended}
+use Rattle.mps_lines.specs.Lines.{ended}
 use Rattle.mps_wire.specs.Runs.{Ran}
 use Rattle.mps_wire.specs.Script.{AnswersLine}
 use Rattle.mps_wire.specs.Streams.{Streams}

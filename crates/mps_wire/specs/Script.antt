@@ -16,7 +16,7 @@ use Rattle.mps_line.specs.Replies.{SpellsReply}
 use Rattle.mps_line.specs.declared.reply.Reply.{Reply}
 use Rattle.mps_line.specs.declared.reply.Reply.TheVariants.{Answered, BadLine}
 use Rattle.mps_wire.specs.Answers.{Answering, Place}
-use Rattle.mps_wire.specs.Lines.{max_line}
+use Rattle.mps_lines.specs.Lines.{max_line}
 use Rattle.mps_wire.specs.declared.script.Run.{Run}
 
 -- a line that isn't too long, of bytes below 128, that spells a role's command that asks for a change

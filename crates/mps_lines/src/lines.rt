@@ -1,0 +1,129 @@
+//! Lines that wait, and a rest.
+ghost use Rattle.std.specs.Prelude.{◌≡◌, ◌≤◌, [], length, take, drop, slice_get, IfOk, OnOk, OnErr};
+ghost use Rattle.std.specs.Char.{is_ascii};
+ghost use Rattle.std.specs.List.{list_all};
+ghost use Rattle.mps_lines.specs.Cuts.{cut, fed, last_of, line_of, nothing};
+
+use crate::line::Line;
+use crate::split::{MAX_LINE, MOST_KEPT, line_end};
+use bytes::BytesMut;
+use memchr::memrchr;
+use std::alloc::{AllocError, Global};
+use std::marker::Model;
+
+/// The lines of bytes that come in pieces. Of a rest `MOST_KEPT` bytes are kept at most.
+#[derive(Drop)]
+pub struct Lines {
+    // the lines that wait, each with its LF, and then the rest
+    bytes: BytesMut,
+    // how long the rest is
+    pending: usize,
+}
+
+impl Model for Lines {
+    ghost use Rattle.std.specs.Prelude.{◌≡◌, ◌≤◌, length, map};
+    ghost use Rattle.mps_lines.specs.Cuts.{Pending, cut, line_of};
+    ghost use Rattle.mps_lines.specs.Lines.{most_kept};
+
+    ghost Value = { Pending };
+
+    ghost view = { λ s. record {
+      waiting = map line_of (cut s.bytes.items).lines;
+      rest = (cut s.bytes.items).rest;
+    } };
+
+    ghost invariant = { λ s. (s.pending ≡ length (cut s.bytes.items).rest) × (s.pending ≤ most_kept) };
+}
+
+impl Lines {
+    /// No line and no rest.
+    pub fn new(alloc: Global) -> Lines
+        ensures { result ≡ nothing }
+    {
+        Lines {
+            bytes: BytesMut::new(alloc),
+            pending: 0,
+        }
+    }
+
+    /// Takes more bytes.
+    pub fn feed(&mut self, piece: &[u8]) -> Result<(), AllocError>
+        ensures ok { OnOk result (self.new ≡ fed self.old piece.now) }
+        ensures err { OnErr result (self.new ≡ self.old) }
+    {
+        let start = last_start(piece);
+        let had = if start == 0 { self.pending } else { 0 };
+        let count = (MOST_KEPT - had).min(piece.len() - start);
+        self.bytes.extend_from_slice(&piece[..start + count])?;
+        self.pending = had + count;
+        Ok(())
+    }
+
+    /// Takes the first line that waits.
+    pub fn next_line(&mut self) -> Result<Option<Line>, AllocError>
+        ensures first { IfOk result (λ line. line ≡ slice_get self.old.waiting 0) }
+        ensures others { OnOk result (self.new.waiting ≡ drop 1 self.old.waiting) }
+        ensures rest { self.new.rest ≡ self.old.rest }
+        ensures err { OnErr result (self.new ≡ self.old) }
+    {
+        let whole = self.bytes.len() - self.pending;
+        let Some(k) = line_end(&self.bytes.as_slice()[..whole]) else {
+            return Ok(None);
+        };
+        let line = take_line(&mut self.bytes, k)?;
+        self.bytes.advance(1);
+        Ok(Some(line))
+    }
+
+    /// Takes the rest as a last line, where it has a byte.
+    pub fn finish(&mut self) -> Result<Option<Line>, AllocError>
+        requires { self.old.waiting ≡ [] }
+        ensures last { IfOk result (λ line. line ≡ last_of self.old.rest) }
+        ensures ok { OnOk result (self.new ≡ nothing) }
+        ensures err { OnErr result (self.new ≡ self.old) }
+    {
+        let count = self.pending;
+        if count == 0 {
+            return Ok(None);
+        }
+        let line = take_line(&mut self.bytes, count)?;
+        self.pending = 0;
+        Ok(Some(line))
+    }
+}
+
+// Takes the first `count` bytes as a line.
+fn take_line(bytes: &mut BytesMut, count: usize) -> Result<Line, AllocError>
+    requires { count ≤ length bytes.old.items }
+    ensures line { IfOk result (λ line. line ≡ line_of (take count bytes.old.items)) }
+    ensures rest { OnOk result (bytes.new.items ≡ drop count bytes.old.items) }
+    ensures err { OnErr result (bytes.new.items ≡ bytes.old.items) }
+{
+    if count > MAX_LINE {
+        bytes.advance(count);
+        return Ok(Line::TooLong);
+    }
+    if !is_ascii(&bytes.as_slice()[..count]) {
+        bytes.advance(count);
+        return Ok(Line::NotAscii);
+    }
+    Ok(Line::Text(bytes.freeze_to(count)?))
+}
+
+// Whether each byte is below 128.
+fn is_ascii(bytes: &[u8]) -> bool
+    ensures { result ≡ list_all is_ascii bytes.now }
+{
+    bytes.iter().all(u8::is_ascii)
+}
+
+// Where the rest of a piece begins: behind its last LF.
+fn last_start(piece: &[u8]) -> usize
+    ensures within { result ≤ length piece.now }
+    ensures rest { drop result piece.now ≡ (cut piece.now).rest }
+{
+    match memrchr(b'\n', piece) {
+        Some(k) => k + 1,
+        None => 0,
+    }
+}
