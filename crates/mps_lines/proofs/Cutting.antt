@@ -32,6 +32,7 @@ cut_of (line ∷ lines) rest each h =
     ∙ cut_line line (flat_map ended lines ++ rest) each.0
     ∙ ap (λ (k : Cut). let r : Cut = record { lines = line ∷ k.lines; rest = k.rest } in r) (cut_of lines rest each.1 h)
 
+-- a split is how the bytes are cut
 pub cut_is : (bytes : List ℕ) (lines : List (List ℕ)) (rest : List ℕ) → IsSplit bytes lines rest → cut bytes ≡ record { lines = lines; rest = rest }
 cut_is bytes lines rest s = ap cut s.whole ∙ cut_of lines rest s.each s.unended
 
@@ -40,6 +41,7 @@ led_split : (c : ℕ) (bytes : List ℕ) (lines : List (List ℕ)) (rest : List 
 led_split c bytes [] rest h s = record { whole = ap (λ l. c ∷ l) s.whole; each = tt; unended = (h, s.unended) }
 led_split c bytes (line ∷ lines) rest h s = record { whole = ap (λ l. c ∷ l) s.whole; each = ((h, s.each.0), s.each.1); unended = s.unended }
 
+-- bytes are split as they are cut
 pub cut_splits : (bytes : List ℕ) → IsSplit bytes (cut bytes).lines (cut bytes).rest
 cut_splits [] = split_nothing
 cut_splits (c ∷ bytes) =
@@ -62,6 +64,7 @@ next_cut items k within end before =
     ap cut (sym (take-append-drop k items) ∙ ap (λ (l : List ℕ). take k items ++ l) (split ∙ ap (λ (l : List ℕ). 10 ∷ l) tail))
     ∙ cut_line (take k items) (drop 1 (drop k items)) before
 
+-- a front of a line has no break
 no_break-take : (n : ℕ) (xs : List ℕ) → HasNoBreak xs → HasNoBreak (take n xs)
 no_break-take zero xs h = tt
 no_break-take (suc n) [] h = tt
@@ -97,7 +100,7 @@ cut_after (line ∷ lines) bytes each =
 abbrev told : Cut → Pending
 told k = record { waiting = map line_of k.lines; rest = front k.rest }
 
--- of a rest the front does
+-- the front of a rest stands for it
 front_told : (r p : List ℕ) → HasNoBreak r → told (cut (front r ++ p)) ≡ told (cut (r ++ p))
 front_told r p h =
     let s = cut_splits p in
@@ -145,10 +148,11 @@ fed_pieces bytes (p ∷ pieces) =
     ∙ fed_pieces (bytes ++ p) pieces
     ∙ ap pending_of (append_assoc bytes p (concat pieces))
 
--- pieces from the beginning
+-- all pieces, from the beginning
 pub pieces_told : (pieces : List (List ℕ)) → fold fed nothing pieces ≡ pending_of (concat pieces)
 pieces_told pieces = fed_pieces [] pieces
 
+-- a rest with a byte is a last line
 pub last_is : (r : List ℕ) → 0 < length r → last_of r ≡ Some (line_of r)
 last_is [] h = absurd (omega arith)
 last_is (c ∷ r) h = refl

@@ -17,7 +17,7 @@ pub struct Lines {
     // the lines that wait, each with its LF, and then the rest
     bytes: BytesMut,
     // how long the rest is
-    pending: usize,
+    rest_len: usize,
 }
 
 impl Model for Lines {
@@ -32,7 +32,7 @@ impl Model for Lines {
       rest = (cut s.bytes.items).rest;
     } };
 
-    ghost invariant = { λ s. (s.pending ≡ length (cut s.bytes.items).rest) × (s.pending ≤ most_kept) };
+    ghost invariant = { λ s. (s.rest_len ≡ length (cut s.bytes.items).rest) × (s.rest_len ≤ most_kept) };
 }
 
 impl Lines {
@@ -42,7 +42,7 @@ impl Lines {
     {
         Lines {
             bytes: BytesMut::new(alloc),
-            pending: 0,
+            rest_len: 0,
         }
     }
 
@@ -52,10 +52,10 @@ impl Lines {
         ensures err { OnErr result (self.new ≡ self.old) }
     {
         let start = last_start(piece);
-        let had = if start == 0 { self.pending } else { 0 };
+        let had = if start == 0 { self.rest_len } else { 0 };
         let count = (MOST_KEPT - had).min(piece.len() - start);
         self.bytes.extend_from_slice(&piece[..start + count])?;
-        self.pending = had + count;
+        self.rest_len = had + count;
         Ok(())
     }
 
@@ -66,7 +66,7 @@ impl Lines {
         ensures rest { self.new.rest ≡ self.old.rest }
         ensures err { OnErr result (self.new ≡ self.old) }
     {
-        let whole = self.bytes.len() - self.pending;
+        let whole = self.bytes.len() - self.rest_len;
         let Some(k) = line_end(&self.bytes.as_slice()[..whole]) else {
             return Ok(None);
         };
@@ -82,12 +82,12 @@ impl Lines {
         ensures ok { OnOk result (self.new ≡ nothing) }
         ensures err { OnErr result (self.new ≡ self.old) }
     {
-        let count = self.pending;
+        let count = self.rest_len;
         if count == 0 {
             return Ok(None);
         }
         let line = take_line(&mut self.bytes, count)?;
-        self.pending = 0;
+        self.rest_len = 0;
         Ok(Some(line))
     }
 }

@@ -13,9 +13,9 @@ overflow_sub-whole c = omega (arith, rest_within c.self.inside.bytes.items, c.se
 none_waits : (c : In_default) → c.args.self.now.waiting ≡ []
 none_waits c =
     let items = c.self.inside.bytes.items in
-    let none = subst (λ (l : List ℕ). HasNoBreak (take (c.len.result - c.self.inside.pending) l)) c.as_slice.ensures c.in_default.ensures.none in
-    let before = subst (λ (n : ℕ). HasNoBreak (take (n - c.self.inside.pending) items)) c.len.ensures.value none in
-    ap (λ (s : Pending). s.waiting) (sym c.self.view_is) ∙ ap (map line_of) (no_line items c.self.inside.pending c.self.invariant.0 before)
+    let none = subst (λ (l : List ℕ). HasNoBreak (take (c.len.result - c.self.inside.rest_len) l)) c.as_slice.ensures c.in_default.ensures.none in
+    let before = subst (λ (n : ℕ). HasNoBreak (take (n - c.self.inside.rest_len) items)) c.len.ensures.value none in
+    ap (λ (s : Pending). s.waiting) (sym c.self.view_is) ∙ ap (map line_of) (no_line items c.self.inside.rest_len c.self.invariant.0 before)
 
 pub returns-in_default-clause-first : goal.returns-in_default-clause-first
 returns-in_default-clause-first c =
@@ -31,7 +31,7 @@ cut_now : (c : After-advance) → cut c.self.inside.bytes.items ≡ record { lin
 cut_now c =
     let items = c.self.inside.bytes.items in
     let k = c.in-Some.k in
-    let whole = c.len.result - c.self.inside.pending in
+    let whole = c.len.result - c.self.inside.rest_len in
     let seen = c.as_slice.ensures in
     let left = c.advance.ensures.items ∙ ap (drop 1) c.in_ok-line.ensures.rest in
     next_whole items whole k
