@@ -110,11 +110,16 @@ fn take_line(bytes: &mut BytesMut, count: usize) -> Result<Line, AllocError>
     Ok(Line::Text(bytes.freeze_to(count)?))
 }
 
-// Whether each byte is below 128.
+// Whether each byte is below 128. A loop that looks at all bytes is compiled to one that looks at
+// many at a time.
 fn is_ascii(bytes: &[u8]) -> bool
     ensures { result ≡ list_all is_ascii bytes.now }
 {
-    bytes.iter().all(u8::is_ascii)
+    let mut largest = 0;
+    for &byte in bytes {
+        largest = byte.max(largest);
+    }
+    largest < 128
 }
 
 // Where the rest of a piece begins: behind its last LF.
