@@ -6,7 +6,7 @@ use Rattle.mps_local.specs.Local.{LocalType}
 use Rattle.mps_machine.specs.Machine.{view_of}
 use Rattle.mps_room.specs.Journal.{run}
 use Rattle.mps_room.specs.declared.entry.Entry.{Entry}
-use Rattle.mps_wire.specs.Lines.{ended}
+use Rattle.mps_lines.specs.Lines.{ended}
 use Rattle.mps_wire.specs.Runs.{Ran}
 use Rattle.mps_wire.specs.Script.{AnswersLine}
 use Rattle.mps_wire.specs.Streams.{Streams}

@@ -5,9 +5,9 @@ use Rattle.mps_local.specs.Local.{LocalType}
 use Rattle.mps_line.specs.declared.reply.Reply.{Reply}
 use Rattle.mps_room.specs.declared.entry.Entry.{Entry}
 use Rattle.mps_wire.specs.Answers.{Answering, AnswersLines, Answered, AnsweredAll}
-use Rattle.mps_wire.specs.Lines.{HasNoBreak, ended, with_last, most_kept, front}
+use Rattle.mps_lines.specs.Lines.{HasNoBreak, ended, with_last, most_kept, front}
 use Rattle.mps_wire.specs.Script.{IsUnread, IsApplied, IsStarved, RepliesTo, AnswersLine}
-use Rattle.mps_wire.proofs.Splitting.{split_nothing, split_more, split_ended, front_front, front_short}
+use Rattle.mps_lines.proofs.Splitting.{split_nothing, split_more, split_ended, front_front, front_short}
 
 -- what the front of a line does, the line does
 abbrev pub GoesByFront : {S : Type 0} → Answering S → Type 0

@@ -21,7 +21,7 @@ use Rattle.mps_room.specs.declared.entry.Entry.{Entry}
 use Rattle.mps_fidelity.specs.Fidelity.{AreOfOneProtocol}
 use Rattle.mps_fidelity.proofs.Refusals.{sound_other}
 use Rattle.mps_wire.specs.Answers.{AnswersLines}
-use Rattle.mps_wire.specs.Lines.{HasNoBreak, ended, IsSplit}
+use Rattle.mps_lines.specs.Lines.{HasNoBreak, ended, IsSplit}
 use Rattle.mps_wire.specs.Script.{RepliesTo, AnswersLine}
 
 -- a line ends at its first break

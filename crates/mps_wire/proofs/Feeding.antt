@@ -3,7 +3,7 @@ use Rattle.std.proofs.Common.{◌≡◌, ℕ, ◌+◌, ◌-◌, ◌<◌, ◌≤�
 use Rattle.std.proofs.Math.Seq.{take-add}
 use Rattle.std.proofs.lemmas.List.{take_rest, take_more, drop-drop, take-append-drop}
 use Rattle.mps_wire.specs.Answers.{Answering, Answered, Place, TakesBytes}
-use Rattle.mps_wire.specs.Lines.{HasNoBreak, ended, front}
+use Rattle.mps_lines.specs.Lines.{HasNoBreak, ended, front}
 use Rattle.mps_wire.proofs.Answering.{GoesByFront, answered_more, answered_line}
 
 -- what was made of the bytes up to the rest

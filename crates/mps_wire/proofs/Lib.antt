@@ -1,5 +1,4 @@
 pub mod Bytes
-pub mod Splitting
 pub mod Serving
 pub mod Answering
 pub mod Feeding

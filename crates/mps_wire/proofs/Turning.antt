@@ -7,13 +7,13 @@ use Rattle.mps_dev.specs.Calls.{ends_after}
 use Rattle.mps_dev.specs.declared.traits.Failed.{Failed}
 use Rattle.mps_wire.specs.Answers.{Answering, Answered, AnsweredAll, AnsweredInPart, Place, TakesBytes, TakesEnd}
 use Rattle.mps_wire.specs.Flow.{TookFront}
-use Rattle.mps_wire.specs.Lines.{IsSplit, with_last}
+use Rattle.mps_lines.specs.Lines.{IsSplit, with_last}
 use Rattle.mps_wire.specs.Streams.{Streams, Counts, CountsByEnd}
 use Rattle.mps_wire.specs.declared.script.ReplayFault.{ReplayFault}
 use Rattle.mps_wire.specs.declared.script.ReplayFault.TheVariants.{Memory}
 use Rattle.mps_wire.specs.Runs.{Going, Finished, Cut, Turned, GaveAtLeast}
 use Rattle.mps_wire.proofs.Bytes.{Appends-trans, Appends-none, Consumes-trans, Consumes-none}
-use Rattle.mps_wire.proofs.Splitting.{split_more, split_ended}
+use Rattle.mps_lines.proofs.Splitting.{split_more, split_ended}
 use Rattle.mps_wire.proofs.Answering.{answered_nothing}
 
 -- whatever comes, the lines go on

@@ -1,6 +1,6 @@
 -- How lines are answered, whatever they do to what state.
 use Rattle.std.specs.Prelude.{◌≡◌, ℕ, List, [], ◌∷◌, ◌++◌}
-use Rattle.mps_wire.specs.Lines.{IsSplit, with_last, ended, front}
+use Rattle.mps_lines.specs.Lines.{IsSplit, with_last, ended, front}
 
 -- what a line does: the line, the state before it, the text that answers it, the state after it
 abbrev pub Answering : Type 0 → Type 1

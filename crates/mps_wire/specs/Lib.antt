@@ -1,4 +1,3 @@
-pub mod Lines
 pub mod Flow
 pub mod Streams
 pub mod Answers

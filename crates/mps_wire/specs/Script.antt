@@ -17,7 +17,7 @@ use Rattle.mps_room.specs.Journal as journals
 use Rattle.mps_room.specs.Journal.{grown, IsReply}
 use Rattle.mps_room.specs.declared.entry.Entry.{Entry}
 use Rattle.mps_wire.specs.Answers.{Answering, Place}
-use Rattle.mps_wire.specs.Lines.{max_line}
+use Rattle.mps_lines.specs.Lines.{max_line}
 use Rattle.mps_wire.specs.declared.script.Run.{Run}
 
 -- a line that isn't too long, of bytes below 128, that spells a role's command

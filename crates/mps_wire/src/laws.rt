@@ -5,7 +5,7 @@ ghost use Rattle.mps_fidelity.specs.Fidelity.{AreOfOneProtocol};
 ghost use Rattle.mps_local.specs.Local.{LocalType};
 ghost use Rattle.mps_room.specs.declared.entry.Entry.{Entry};
 ghost use Rattle.mps_wire.specs.Answers.{Answered, AnsweredAll, AnsweredInPart};
-ghost use Rattle.mps_wire.specs.Lines.{IsSplit};
+ghost use Rattle.mps_lines.specs.Lines.{IsSplit};
 ghost use Rattle.mps_wire.specs.Script.{AnswersLine};
 
 use mps_line::laws::one_reply_line;

@@ -3,7 +3,6 @@
 
 pub mod flow;
 pub mod laws;
-mod lines;
 pub mod script;
 #[cfg(test)]
 mod tests;

@@ -6,27 +6,24 @@ ghost use Rattle.mps_local.specs.Local.{plain};
 ghost use Rattle.mps_machine.specs.Machine.{initial};
 ghost use Rattle.mps_wire.specs.Answers.{TakesBytes, TakesEnd};
 ghost use Rattle.mps_wire.specs.Flow.{TookFront};
-ghost use Rattle.mps_wire.specs.Lines.{ended, front, most_kept};
+ghost use Rattle.mps_lines.specs.Lines.{ended, front, most_kept};
 ghost use Rattle.mps_wire.specs.Runs.{Going, Outcome, Replayed, Turned, max_reads, of_opening};
 ghost use Rattle.mps_wire.specs.Script.{AnswersLine, lines_of, place_of};
 ghost use Rattle.mps_wire.specs.Streams.{streams};
 ghost use Rattle.mps_wire.specs.declared.script.ReplayFault.TheVariants.{Memory as OutOfMemory};
 
 use crate::flow::send_all;
-use crate::lines::{MOST_KEPT, keep, line_end};
 use mps_base::Roles;
 use mps_command::{Answer, Refusal};
 use mps_dev::{Failed, Sink, Source};
 use mps_line::laws::one_script_line;
 use mps_line::{LineFault, read_script_line, write_answer, write_bad_line};
+use mps_lines::{MAX_LINE, MOST_KEPT, keep, line_end};
 use mps_local::Local;
 use mps_room::Room;
 use mps_session::{OpenFault, Session};
 use std::alloc::{AllocError, Global};
 use thiserror::Error;
-
-/// How many bytes a line may have, without the LF that ends it.
-pub const MAX_LINE: usize = 512;
 
 /// How often a script is read from at most.
 pub const MAX_READS: u64 = 1_000_000;

@@ -1,6 +1,7 @@
-use crate::script::{BLOCK, MAX_LINE, ReplayFault, replay, replay_session};
+use crate::script::{BLOCK, ReplayFault, replay, replay_session};
 use mps_base::{Name, Role, Roles, Sort, VarName};
 use mps_dev::{Pieces, Short, Source};
+use mps_lines::MAX_LINE;
 use mps_local::{Branches, Local};
 use mps_session::{LocalFault, OpenFault, Session};
 use std::alloc::Global;

@@ -1,5 +1,5 @@
 use Rattle.std.proofs.Common.{[], sym, append-nil}
-use Rattle.mps_wire.specs.Lines.{with_last}
+use Rattle.mps_lines.specs.Lines.{with_last}
 use Rattle.mps_wire.proofs.Faithful.{written_fits}
 use Rattle.mps_wire.proofs.laws.no_script_meets_a_mismatch.Goals as goal
 

@@ -2,7 +2,7 @@ use Rattle.std.proofs.Common.{◌≡◌, ℕ, ◌≤◌, List, [], ◌++◌, len
 use Rattle.std.proofs.lemmas.Result.{on_ok_weaker}
 use Rattle.mps_room.specs.declared.entry.Entry.{Entry}
 use Rattle.mps_wire.specs.Answers.{Answering}
-use Rattle.mps_wire.specs.Lines.{most_kept, front}
+use Rattle.mps_lines.specs.Lines.{most_kept, front}
 use Rattle.mps_wire.specs.Script.{lines_of, place_of}
 use Rattle.mps_wire.proofs.Answering.{by_front}
 use Rattle.mps_wire.proofs.Carrying.{carried}

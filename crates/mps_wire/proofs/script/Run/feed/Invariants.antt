@@ -1,5 +1,5 @@
 use Rattle.std.proofs.Common.{◌≡◌, ◌≤◌, [], length}
-use Rattle.mps_wire.specs.Lines.{most_kept}
+use Rattle.mps_lines.specs.Lines.{most_kept}
 use Rattle.mps_wire.specs.Script.{lines_of, place_of}
 use Rattle.mps_wire.proofs.Feeding.{Feeding}
 use Rattle.mps_wire.proofs.script.Run.feed.Given as goal

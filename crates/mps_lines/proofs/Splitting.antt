@@ -4,16 +4,13 @@ use Rattle.std.specs.Prelude.{is_ok, OnOk}
 use Rattle.std.proofs.lemmas.Bool.{cases_lt}
 use Rattle.std.specs.List.{AllByRecursion, flat_map}
 use Rattle.std.proofs.lemmas.List.{take_all}
+use Rattle.std.proofs.lemmas.List.Concat.{flat_map-append}
 use Rattle.std.proofs.Math.Seq.{take-append-add}
-use Rattle.mps_wire.specs.Lines.{HasNoBreak, ended, IsSplit, most_kept, front}
+use Rattle.mps_lines.specs.Lines.{HasNoBreak, ended, IsSplit, most_kept, front}
 
 pub AllByRecursion-append : {A : Type 0} (P : A → Type 0) (xs ys : List A) → AllByRecursion P xs → AllByRecursion P ys → AllByRecursion P (xs ++ ys)
 AllByRecursion-append P [] ys a b = b
 AllByRecursion-append P (x ∷ xs) ys a b = (a.0, AllByRecursion-append P xs ys a.1 b)
-
-pub flat_map-append : {A B : Type 0} (f : A → List B) (xs ys : List A) → flat_map f (xs ++ ys) ≡ flat_map f xs ++ flat_map f ys
-flat_map-append f [] ys = refl
-flat_map-append f (x ∷ xs) ys = ap (λ l. f x ++ l) (flat_map-append f xs ys) ∙ sym (append_assoc (f x) (flat_map f xs) (flat_map f ys))
 
 pub split_nothing : IsSplit [] [] []
 split_nothing = record { whole = refl; each = tt; unended = tt }
@@ -52,7 +49,8 @@ front_front line more = front_of most_kept line more
 pub front_short : (line : List ℕ) → length line ≤ most_kept → front line ≡ line
 front_short line h = take_all most_kept line h
 
-take_min : (n : ℕ) (xs : List ℕ) → take (min n (length xs)) xs ≡ take n xs
+-- no more than all can be taken
+pub take_min : (n : ℕ) (xs : List ℕ) → take (min n (length xs)) xs ≡ take n xs
 take_min n xs =
     ⊎_elim
     (λ (e : n < length xs). ap (λ k. take k xs) (let m : min n (length xs) ≡ n = omega arith in m))

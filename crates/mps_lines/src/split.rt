@@ -1,18 +1,20 @@
-//! Lines from blocks of bytes.
+//! Where lines end, and what is kept of one that comes.
 ghost use Rattle.std.specs.Prelude.{◌≡◌, ◌<◌, ◌≤◌, ◌++◌, OnOk, OnErr, IfSome, IfNone, length, take};
 ghost use Rattle.std.specs.Prelude.{slice_index};
-ghost use Rattle.mps_wire.specs.Lines.{HasNoBreak, front, most_kept};
+ghost use Rattle.mps_lines.specs.Lines.{HasNoBreak, front, most_kept};
 
-use crate::script::MAX_LINE;
 use memchr::memchr;
 use std::alloc::AllocError;
 
+/// How many bytes a line may have, without the LF that ends it.
+pub const MAX_LINE: usize = 512;
+
 /// How many bytes of a line are kept while it comes: one more than a line may have, which tells
 /// that it is too long.
-pub(crate) const MOST_KEPT: usize = MAX_LINE + 1;
+pub const MOST_KEPT: usize = MAX_LINE + 1;
 
 /// Where the first line ends.
-pub(crate) fn line_end(bytes: &[u8]) -> Option<usize>
+pub fn line_end(bytes: &[u8]) -> Option<usize>
     ensures within { IfSome result (λ k. k < length bytes.now) }
     ensures end { IfSome result (λ k. slice_index bytes.now k ≡ 10) }
     ensures before { IfSome result (λ k. HasNoBreak (take k bytes.now)) }
@@ -22,7 +24,7 @@ pub(crate) fn line_end(bytes: &[u8]) -> Option<usize>
 }
 
 /// Adds to the front of a line what comes of it. More than `MOST_KEPT` bytes are dropped.
-pub(crate) fn keep(line: &mut Vec<u8>, piece: &[u8]) -> Result<(), AllocError>
+pub fn keep(line: &mut Vec<u8>, piece: &[u8]) -> Result<(), AllocError>
     requires { length line.old.items ≤ most_kept }
     ensures ok { OnOk result (line.new.items ≡ front (line.old.items ++ piece.now)) }
     ensures err { OnErr result (line.new.items ≡ line.old.items) }

@@ -1,7 +1,7 @@
 use Rattle.std.proofs.Common.{◌≡◌, ℕ, ◌-◌, ◌++◌, length, take, min, ap, ◌∙◌, arith}
-use Rattle.mps_wire.specs.Lines.{most_kept}
-use Rattle.mps_wire.proofs.Splitting.{front_fits, on_ok_items}
-use Rattle.mps_wire.proofs.lines.keep.Goals as goal
+use Rattle.mps_lines.specs.Lines.{most_kept}
+use Rattle.mps_lines.proofs.Splitting.{front_fits, on_ok_items}
+use Rattle.mps_lines.proofs.split.keep.Goals as goal
 
 pub returns-clause-ok : goal.returns-clause-ok
 returns-clause-ok c =

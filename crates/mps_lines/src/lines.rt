@@ -1,0 +1,134 @@
+//! Lines that wait, and a rest.
+ghost use Rattle.std.specs.Prelude.{◌≡◌, ◌≤◌, [], length, take, drop, slice_get, IfOk, OnOk, OnErr};
+ghost use Rattle.std.specs.Char.{is_ascii};
+ghost use Rattle.std.specs.List.{list_all};
+ghost use Rattle.mps_lines.specs.Cuts.{cut, fed, last_of, line_of, nothing};
+
+use crate::line::Line;
+use crate::split::{MAX_LINE, MOST_KEPT, line_end};
+use bytes::BytesMut;
+use memchr::memrchr;
+use std::alloc::{AllocError, Global};
+use std::marker::Model;
+
+/// The lines of bytes that come in pieces. Of a rest `MOST_KEPT` bytes are kept at most.
+#[derive(Drop)]
+pub struct Lines {
+    // the lines that wait, each with its LF, and then the rest
+    bytes: BytesMut,
+    // how long the rest is
+    rest_len: usize,
+}
+
+impl Model for Lines {
+    ghost use Rattle.std.specs.Prelude.{◌≡◌, ◌≤◌, length, map};
+    ghost use Rattle.mps_lines.specs.Cuts.{Pending, cut, line_of};
+    ghost use Rattle.mps_lines.specs.Lines.{most_kept};
+
+    ghost Value = { Pending };
+
+    ghost view = { λ s. record {
+      waiting = map line_of (cut s.bytes.items).lines;
+      rest = (cut s.bytes.items).rest;
+    } };
+
+    ghost invariant = { λ s. (s.rest_len ≡ length (cut s.bytes.items).rest) × (s.rest_len ≤ most_kept) };
+}
+
+impl Lines {
+    /// No line and no rest.
+    pub fn new(alloc: Global) -> Lines
+        ensures { result ≡ nothing }
+    {
+        Lines {
+            bytes: BytesMut::new(alloc),
+            rest_len: 0,
+        }
+    }
+
+    /// Takes more bytes.
+    pub fn feed(&mut self, piece: &[u8]) -> Result<(), AllocError>
+        ensures ok { OnOk result (self.new ≡ fed self.old piece.now) }
+        ensures err { OnErr result (self.new ≡ self.old) }
+    {
+        let start = last_start(piece);
+        let had = if start == 0 { self.rest_len } else { 0 };
+        let count = (MOST_KEPT - had).min(piece.len() - start);
+        self.bytes.extend_from_slice(&piece[..start + count])?;
+        self.rest_len = had + count;
+        Ok(())
+    }
+
+    /// Takes the first line that waits.
+    pub fn next_line(&mut self) -> Result<Option<Line>, AllocError>
+        ensures first { IfOk result (λ line. line ≡ slice_get self.old.waiting 0) }
+        ensures others { OnOk result (self.new.waiting ≡ drop 1 self.old.waiting) }
+        ensures rest { self.new.rest ≡ self.old.rest }
+        ensures err { OnErr result (self.new ≡ self.old) }
+    {
+        let whole = self.bytes.len() - self.rest_len;
+        let Some(k) = line_end(&self.bytes.as_slice()[..whole]) else {
+            return Ok(None);
+        };
+        let line = take_line(&mut self.bytes, k)?;
+        self.bytes.advance(1);
+        Ok(Some(line))
+    }
+
+    /// Takes the rest as a last line, where it has a byte.
+    pub fn finish(&mut self) -> Result<Option<Line>, AllocError>
+        requires { self.old.waiting ≡ [] }
+        ensures last { IfOk result (λ line. line ≡ last_of self.old.rest) }
+        ensures ok { OnOk result (self.new ≡ nothing) }
+        ensures err { OnErr result (self.new ≡ self.old) }
+    {
+        let count = self.rest_len;
+        if count == 0 {
+            return Ok(None);
+        }
+        let line = take_line(&mut self.bytes, count)?;
+        self.rest_len = 0;
+        Ok(Some(line))
+    }
+}
+
+// Takes the first `count` bytes as a line.
+fn take_line(bytes: &mut BytesMut, count: usize) -> Result<Line, AllocError>
+    requires { count ≤ length bytes.old.items }
+    ensures line { IfOk result (λ line. line ≡ line_of (take count bytes.old.items)) }
+    ensures rest { OnOk result (bytes.new.items ≡ drop count bytes.old.items) }
+    ensures err { OnErr result (bytes.new.items ≡ bytes.old.items) }
+{
+    if count > MAX_LINE {
+        bytes.advance(count);
+        return Ok(Line::TooLong);
+    }
+    if !is_ascii(&bytes.as_slice()[..count]) {
+        bytes.advance(count);
+        return Ok(Line::NotAscii);
+    }
+    Ok(Line::Text(bytes.freeze_to(count)?))
+}
+
+// Whether each byte is below 128. A loop that looks at all bytes is compiled to one that looks at
+// many at a time.
+fn is_ascii(bytes: &[u8]) -> bool
+    ensures { result ≡ list_all is_ascii bytes.now }
+{
+    let mut largest = 0;
+    for &byte in bytes {
+        largest = byte.max(largest);
+    }
+    largest < 128
+}
+
+// Where the rest of a piece begins: behind its last LF.
+fn last_start(piece: &[u8]) -> usize
+    ensures within { result ≤ length piece.now }
+    ensures rest { drop result piece.now ≡ (cut piece.now).rest }
+{
+    match memrchr(b'\n', piece) {
+        Some(k) => k + 1,
+        None => 0,
+    }
+}
