@@ -133,10 +133,7 @@ impl Session {
         let Ok(got) = once_more(alloc, first) else {
             return Err(self.starved(role, step));
         };
-        let Ok(copy) = step.copy(alloc) else {
-            return Err(self.starved(role, step));
-        };
-        let done = self.forward(role, copy)?;
+        let done = self.take(role, step)?;
         let again = Done { id: done.id, got };
         Ok((Answer::Done(done), Answer::Done(again)))
     }

@@ -72,22 +72,25 @@ impl Configuration {
     pub(crate) fn act(
         &mut self,
         role: Role,
-        command: Forward,
+        command: &Forward,
         node: Node,
     ) -> Result<StepId, AllocError>
         requires role { role < vec_len self.old.cursors }
-        requires ready { IsReady (lists_of self.old) role (act_of command) }
+        requires ready { IsReady (lists_of self.old) role (act_of command.now) }
         ensures id { IfOk result (λ id. id ≡ (lists_of self.old).issued + 1) }
-        ensures acted { OnOk result (HasActed role (act_of command) node
+        ensures acted { OnOk result (HasActed role (act_of command.now) node
             (lists_of self.old) (lists_of self.new)) }
         ensures err { OnErr result (lists_of self.new ≡ lists_of self.old) }
     {
         match command {
-            Forward::Send { to, value } => self.send(role, to, Message::Value(value), node),
-            Forward::Choose { to, label } => self.send(role, to, Message::Label(label), node),
-            Forward::Receive { from, slot } => self.receive(role, from, slot, node),
-            Forward::Pick { from } => self.pick(role, from, node),
-            Forward::Mark { name } => self.mark(role, name, node),
+            Forward::Send { to, value } => {
+                let value = value.copy(self.alloc)?;
+                self.send(role, *to, Message::Value(value), node)
+            }
+            Forward::Choose { to, label } => self.send(role, *to, Message::Label(*label), node),
+            Forward::Receive { from, slot } => self.receive(role, *from, *slot, node),
+            Forward::Pick { from } => self.pick(role, *from, node),
+            Forward::Mark { name } => self.mark(role, *name, node),
         }
     }
 

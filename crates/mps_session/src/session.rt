@@ -107,9 +107,25 @@ impl Session {
             ≡ (Ok (done.id ∷ []), record self.old.state { next = self.old.state.next + 1 })) }
         ensures err { OnErr result (self.new.state ≡ self.old.state) }
     {
+        self.take(role, &command)
+    }
+
+    /// Takes a step of the role, as `forward` does.
+    pub(crate) fn take(&mut self, role: Role, command: &Forward) -> Result<Done, Refusal>
+        requires { role < length self.old.types }
+        ensures never_mismatch { AreOfOneProtocol self.old.types → result ≢ Err (Violates Mismatch) }
+        ensures answer { IsAnswer result
+            (machine.forward self.old.types self.old.state role (act_of command.now)).0 }
+        ensures state { OnOk result (self.new.state
+            ≡ (machine.forward self.old.types self.old.state role (act_of command.now)).1) }
+        ensures types { self.new.types ≡ self.old.types }
+        ensures undone { IfOk result (λ done. machine.undo self.new.state role done.id
+            ≡ (Ok (done.id ∷ []), record self.old.state { next = self.old.state.next + 1 })) }
+        ensures err { OnErr result (self.new.state ≡ self.old.state) }
+    {
         let kept = &self.configuration;
-        let first = kept.first_for(role, &command);
-        let node = match kept.verdict(role, &command, first) {
+        let first = kept.first_for(role, command);
+        let node = match kept.verdict(role, command, first) {
             Ok(node) => node,
             Err(fault) => return Err(Refusal::Violation(fault)),
         };

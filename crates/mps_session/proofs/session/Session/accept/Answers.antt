@@ -1,8 +1,8 @@
-use Rattle.std.proofs.Common.{◌≡◌, Some, sym, ap, ◌∙◌, subst}
+use Rattle.std.proofs.Common.{◌≡◌, sym, ap, ◌∙◌, subst}
 use Rattle.std.proofs.lemmas.Option.{same_Some}
 use Rattle.mps_command.specs.Changes.{change_of}
 use Rattle.mps_command.specs.declared.command.Change.{Change}
-use Rattle.mps_command.specs.declared.command.Change.TheVariants.{Forward, Undo, Rollback, Back}
+use Rattle.mps_command.specs.declared.command.Change.TheVariants.{Forward}
 use Rattle.mps_machine.specs.Machine.{serve}
 use Rattle.mps_session.specs.Answers.{IsAccepted}
 use Rattle.mps_session.proofs.Accepted.{unchanged}
