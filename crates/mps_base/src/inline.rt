@@ -1,5 +1,5 @@
 //! Short words, kept inline.
-ghost use Rattle.std.specs.Prelude.{◌≡◌, ◌<◌, ◌≤◌, [], ◌∷◌, ◌++◌, length};
+ghost use Rattle.std.specs.Prelude.{◌≡◌, ◌↔◌, ◌<◌, ◌≤◌, [], ◌∷◌, ◌++◌, length, IsTrue};
 
 use std::marker::Model;
 
@@ -63,6 +63,18 @@ impl Inline {
     {
         self.bytes[self.len] = byte;
         self.len += 1;
+    }
+
+    /// Whether it is these bytes. Most words are short, so each byte is compared where it stands.
+    pub(crate) fn is_spelled(&self, bytes: &[u8]) -> bool
+        ensures { IsTrue result ↔ (self.now ≡ bytes.now) }
+    {
+        self.len == bytes.len()
+            && self
+                .as_bytes()
+                .iter()
+                .zip(bytes)
+                .all(|pair| pair.0 == pair.1)
     }
 
     /// Them, from the first to the last.

@@ -40,7 +40,7 @@ impl PartialEq for Name {
     ghost laws = { partial_equiv_from_equiv nat_list_eq_equiv };
 
     fn eq(&self, other: &Name) -> bool {
-        self.as_bytes() == other.as_bytes()
+        self.is(other)
     }
 }
 
@@ -66,15 +66,10 @@ impl Name {
         ensures some { IsSome result ↔ IsName bytes.now }
         ensures name { IfSome result (λ name. name ≡ bytes.now) }
     {
-        if !begins_as_name(bytes) {
+        if !begins_as_name(bytes) || !is_free(bytes) {
             return None;
         }
-        let word = name_bytes(bytes)?;
-        if is_free(bytes) {
-            Some(Name(word))
-        } else {
-            None
-        }
+        Some(Name(name_bytes(bytes)?))
     }
 
     /// Its bytes, from the first to the last.
@@ -96,7 +91,7 @@ impl Name {
     pub fn is_spelled(&self, bytes: &[u8]) -> bool
         ensures { IsTrue result ↔ (self.now ≡ bytes.now) }
     {
-        self.as_bytes() == bytes
+        self.0.is_spelled(bytes)
     }
 }
 

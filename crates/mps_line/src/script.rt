@@ -104,34 +104,19 @@ fn split_verb(bytes: &[u8]) -> Option<(Verb, &[u8])>
     ensures none { IfNone result ((verb : Verb) (rest : List ℕ)
         → bytes.now ≢ spaced (verb_word verb ∷ rest ∷ [])) }
 {
-    if let Some(rest) = behind(bytes, b"send") {
-        return Some((Verb::Send, rest));
+    match bytes {
+        [b's', b'e', ..] => Some((Verb::Send, behind(bytes, b"send")?)),
+        [b'r', b'e', ..] => Some((Verb::Receive, behind(bytes, b"recv")?)),
+        [b'c', ..] => Some((Verb::Choose, behind(bytes, b"choose")?)),
+        [b'p', ..] => Some((Verb::Pick, behind(bytes, b"pick")?)),
+        [b'm', ..] => Some((Verb::Mark, behind(bytes, b"mark")?)),
+        [b'u', ..] => Some((Verb::Undo, behind(bytes, b"undo")?)),
+        [b'r', b'o', ..] => Some((Verb::Rollback, behind(bytes, b"rollback")?)),
+        [b'b', ..] => Some((Verb::Back, behind(bytes, b"back")?)),
+        [b'n', ..] => Some((Verb::News, behind(bytes, b"news")?)),
+        [b's', b'h', ..] => Some((Verb::Show, behind(bytes, b"show")?)),
+        _ => None,
     }
-    if let Some(rest) = behind(bytes, b"recv") {
-        return Some((Verb::Receive, rest));
-    }
-    if let Some(rest) = behind(bytes, b"choose") {
-        return Some((Verb::Choose, rest));
-    }
-    if let Some(rest) = behind(bytes, b"pick") {
-        return Some((Verb::Pick, rest));
-    }
-    if let Some(rest) = behind(bytes, b"mark") {
-        return Some((Verb::Mark, rest));
-    }
-    if let Some(rest) = behind(bytes, b"undo") {
-        return Some((Verb::Undo, rest));
-    }
-    if let Some(rest) = behind(bytes, b"rollback") {
-        return Some((Verb::Rollback, rest));
-    }
-    if let Some(rest) = behind(bytes, b"back") {
-        return Some((Verb::Back, rest));
-    }
-    if let Some(rest) = behind(bytes, b"news") {
-        return Some((Verb::News, rest));
-    }
-    Some((Verb::Show, behind(bytes, b"show")?))
 }
 
 // The command of that verb with these arguments, of which there is one at least.
@@ -163,31 +148,38 @@ fn read_arguments(
             Some((from, slot)) => Ok(Command::Forward(Forward::Receive { from, slot })),
             None => Err(LineFault::Bad),
         },
-        Verb::Pick => match read_role(roles, bytes) {
-            Some(from) => Ok(Command::Forward(Forward::Pick { from })),
+        verb => match read_argument(roles, verb, bytes) {
+            Some(command) => Ok(command),
             None => Err(LineFault::Bad),
         },
-        Verb::Mark => match Name::read(bytes) {
-            Some(name) => Ok(Command::Forward(Forward::Mark { name })),
-            None => Err(LineFault::Bad),
-        },
-        Verb::Undo => match read_step(bytes) {
-            Some(id) => Ok(Command::Undo(id)),
-            None => Err(LineFault::Bad),
-        },
-        Verb::Rollback => match read_step(bytes) {
-            Some(id) => Ok(Command::Rollback(id)),
-            None => Err(LineFault::Bad),
-        },
-        Verb::Back => match Name::read(bytes) {
-            Some(name) => Ok(Command::Back(name)),
-            None => Err(LineFault::Bad),
-        },
-        Verb::News => match read_count(bytes) {
-            Some(known) => Ok(Command::News(known)),
-            None => Err(LineFault::Bad),
-        },
-        Verb::Show => Err(LineFault::Bad),
+    }
+}
+
+// The command of any other verb, which takes one argument, or none. It stands apart, since the places for its names
+// would otherwise be cleared for each line.
+#[inline(never)]
+fn read_argument(roles: &Roles, verb: Verb, bytes: &[u8]) -> Option<Command>
+    requires send { verb ≢ Verb.Send }
+    requires choose { verb ≢ Verb.Choose }
+    requires receive { verb ≢ Verb.Receive }
+    ensures verb { IfSome result (λ command. verb_of command ≡ verb) }
+    ensures some { IfSome result TakesArguments }
+    ensures read { IfSome result (λ command. SpellsLine roles.now bytes.now (arguments command)) }
+    ensures none { IfNone result ((command : Command) → verb_of command ≡ verb
+        → TakesArguments command → SpellsLine roles.now bytes.now (arguments command) → ⊥) }
+{
+    match verb {
+        Verb::Pick => Some(Command::Forward(Forward::Pick {
+            from: read_role(roles, bytes)?,
+        })),
+        Verb::Mark => Some(Command::Forward(Forward::Mark {
+            name: Name::read(bytes)?,
+        })),
+        Verb::Undo => Some(Command::Undo(read_step(bytes)?)),
+        Verb::Rollback => Some(Command::Rollback(read_step(bytes)?)),
+        Verb::Back => Some(Command::Back(Name::read(bytes)?)),
+        Verb::News => Some(Command::News(read_count(bytes)?)),
+        _ => None,
     }
 }
 

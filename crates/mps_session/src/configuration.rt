@@ -95,6 +95,7 @@ impl Configuration {
     }
 
     // Sends the message, which then waits behind all others.
+    #[inline(always)]
     fn send(
         &mut self,
         role: Role,
