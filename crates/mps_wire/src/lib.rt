@@ -4,5 +4,9 @@
 pub mod flow;
 pub mod laws;
 pub mod script;
+
+pub use mps_lines::{Line, Lines};
+pub use script::{ReplayFault, replay, replay_session};
+
 #[cfg(test)]
 mod tests;
