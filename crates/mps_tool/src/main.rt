@@ -35,6 +35,8 @@ mod program_tests;
 #[cfg(test)]
 mod reversal_tests;
 #[cfg(test)]
+mod shown_tests;
+#[cfg(test)]
 mod tests;
 
 /// Does what the words say, of which the first is the program's name, and gives the exit status: 1

@@ -7,13 +7,14 @@ use std::test::Fail;
 struct Row(&'static str, &'static [(&'static str, &'static str)]);
 
 // a gives b a number, and then b gives c one, who tells a that it is fine or not.
-const RELAY: &str = "roles a b c ; a -> b : int . b -> c : int . c -> a { ok : end , no : end }";
+pub(crate) const RELAY: &str =
+    "roles a b c ; a -> b : int . b -> c : int . c -> a { ok : end , no : end }";
 
 // Two pairs that have nothing to do with each other.
-const PAIRS: &str = "roles a b c d ; a -> b : int . c -> d : int . end";
+pub(crate) const PAIRS: &str = "roles a b c d ; a -> b : int . c -> d : int . end";
 
 // a gives b numbers without end.
-const LOOP: &str = "roles a b ; rec X . a -> b : int . X";
+pub(crate) const LOOP: &str = "roles a b ; rec X . a -> b : int . X";
 
 const UNDOS: &[Row] = &[
     Row(

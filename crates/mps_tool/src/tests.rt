@@ -18,7 +18,7 @@ pub(crate) fn answers(alloc: Global, protocol: &str, script: &str) -> Result<Vec
         return Err("a protocol".into());
     };
     let pieces = vec![in alloc; Vec::from_slice(alloc, script.as_bytes())?]?;
-    let mut writer = Short::new(alloc, 2000)?;
+    let mut writer = Short::new(alloc, 2_000_000)?;
     replay_session(
         alloc,
         &mut Pieces::new(pieces, None),
