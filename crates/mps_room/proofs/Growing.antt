@@ -68,12 +68,12 @@ module _ (names : List (List ℕ)) (types : List LocalType) (j : List Entry) (p 
   abbrev pub entry : Entry
   entry = record { role = p; command = command_of change; answer = a }
 
-  pub legal_with : IsLegal names types j → length j < most_entries → is_accepted a ≡ true → IsLegal names types (j ++ entry ∷ [])
-  legal_with legal room kept =
+  pub legal_with : p < length types → IsLegal names types j → length j < most_entries → is_accepted a ≡ true → IsLegal names types (j ++ entry ∷ [])
+  legal_with known legal room kept =
       let answer = sym (room_for (length j) a kept room) ∙ ap (limited (length j)) is ∙ sym (reply_to_change names types j p change) in
       record {
         few = omega (arith, length-append j (entry ∷ []));
-        each = follows-joined names types [] j entry legal.each (record { accepted = kept; answer = answer });
+        each = follows-joined names types [] j entry legal.each (record { known = known; accepted = kept; answer = answer });
       }
 
   pub state_with : (st : State) → st ≡ (serve types (run types j) p change).1 → st ≡ run types (j ++ entry ∷ [])

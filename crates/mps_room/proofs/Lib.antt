@@ -2,3 +2,4 @@ pub mod Growing
 pub mod Accepting
 pub mod Owning
 pub mod Refusing
+pub mod Recording

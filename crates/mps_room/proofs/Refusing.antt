@@ -55,9 +55,9 @@ starved (Shown text) kept = absurd cc
 starved (Refused refusal) kept = absurd cc
 
 -- what a session refuses, a room does
-pub refused_too : (types : List LocalType) (st new : State) (p n : ℕ) (change : Change) (refusal : Refusal) → n < most_entries → IsAccepted (Err refusal) st new (serve types st p change) → IsReply (Refused refusal) (limited n (serve types st p change).0)
+pub refused_too : (types : List LocalType) (st new : State) (p n : ℕ) (change : Change) (refusal : Refusal) → n < most_entries → IsAccepted change (Err refusal) st new (serve types st p change) → IsReply (Refused refusal) (limited n (serve types st p change).0)
 refused_too types st new p n change Memory room h =
-    let kept = accepting types st p change h.0 in
+    let kept = accepting types st p change h.1 in
     rw (room_for n (serve types st p change).0 kept room) (starved (serve types st p change).0 kept)
 refused_too types st new p n change (Violates v) room h = rw h.0 refl
 refused_too types st new p n change NoStep room h = rw h.0 refl

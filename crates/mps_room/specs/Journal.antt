@@ -1,5 +1,5 @@
 -- Journals: what a session accepted, each command with its role and its answer.
-use Rattle.std.specs.Prelude.{◌≡◌, ℕ, ◌≤◌, ⊤, Bool, true, false, ◌==◌, ◌&&◌, nat_lt, if◌then◌else◌, List, [], ◌∷◌, ◌++◌, length, drop}
+use Rattle.std.specs.Prelude.{◌≡◌, ℕ, ◌<◌, ◌≤◌, ⊤, Bool, true, false, ◌==◌, ◌&&◌, nat_lt, if◌then◌else◌, List, [], ◌∷◌, ◌++◌, length, drop, Option, Some, None}
 use Rattle.std.specs.Borrow.{Bor}
 use Rattle.std.specs.List.{filter, flat_map, list_any}
 use Rattle.std.specs.Option.{option_map_or}
@@ -78,8 +78,9 @@ is_accepted answer = false
 abbrev pub grown : List Entry → ℕ → Command → Answer → List Entry
 grown j p c answer = if is_accepted answer then j ++ record { role = p; command = c; answer = answer } ∷ [] else j
 
--- the entry is of an accepted change, with the answer that it gets after the entries before it
+-- the entry is of an accepted change of one of the roles, with the answer that it gets after the entries before it
 pub record IsEntryAfter (names : List (List ℕ)) (types : List LocalType) (before : List Entry) (e : Entry) : Type 0 where
+  pub known : e.role < length types
   pub accepted : is_accepted e.answer ≡ true
   pub answer : e.answer ≡ reply names types before e.role e.command
 
@@ -98,6 +99,13 @@ abbrev pub IsReply : Answer → Answer → Type 0
 IsReply answer (Refused refusal) = answer ≡ Refused refusal
 IsReply (Refused Memory) wanted = ⊤
 IsReply answer wanted = answer ≡ wanted
+
+-- role p's command is answered as is wanted; an answer that accepts is told by the journal alone, any other by the call
+pub record HasEntered (names : List (List ℕ)) (types : List LocalType) (j : List Entry) (p : ℕ) (c : Command) (told : Option Answer) (after : List Entry) : Type 0 where
+  pub answer : Answer
+  pub wanted : IsReply answer (reply names types j p c)
+  pub joined : after ≡ grown j p c answer
+  pub handed_out : told ≡ (if is_accepted answer then None else Some answer)
 
 -- an entry, as it is shown
 abbrev pub as_entry : ℕ × Bor Command × Bor Answer → Entry

@@ -1,23 +1,43 @@
 //! Changes of a room.
-ghost use Rattle.std.specs.Prelude.{◌≡◌, ◌+◌, ◌⊎◌, false, ◌<◌, ◌≤◌, length, vec_len, vec_capacity, IsSome};
+ghost use Rattle.std.specs.Prelude.{◌≡◌, ◌+◌, ◌⊎◌, [], ◌∷◌, ◌++◌, false, ◌<◌, ◌≤◌, length, vec_len, vec_capacity, IsSome, IfErr, OnOk};
 ghost use Rattle.mps_command.specs.Changes.{change_of};
 ghost use Rattle.mps_command.specs.declared.answer.Refusal.TheVariants.{Full as NoRoom, Memory as OutOfMemory};
-ghost use Rattle.mps_room.specs.Journal.{grown, is_accepted, most_entries, reply, IsReply};
-ghost use Rattle.mps_room.specs.Kept.{owners_after};
+ghost use Rattle.mps_room.specs.Journal.{grown, is_accepted, most_entries, reply, HasEntered, IsReply};
+ghost use Rattle.mps_room.specs.Kept.{owners_after, IsShort};
 
 use crate::entry::Entry;
 use crate::room::{MAX_ENTRIES, Room};
 use mps_base::Role;
 use mps_command::{Answer, Command, Refusal};
 
-// Adds the owner of the step that the answer gives a number to, if it gives one.
-fn add_owner(owners: &mut Vec<Role>, role: Role, answer: &Answer)
-    requires { vec_len owners.old + 1 ≤ vec_capacity owners.old }
-    ensures { owners.new.items ≡ owners_after owners.old.items role answer.now }
+// Makes room for one entry more and for the owner of its step, or says what is wanting.
+fn make_room(journal: &mut Vec<Entry>, owners: &mut Vec<Role>) -> Result<(), Refusal>
+    ensures journal { journal.new.items ≡ journal.old.items }
+    ensures owners { owners.new.items ≡ owners.old.items }
+    ensures few { OnOk result (length journal.old.items < most_entries) }
+    ensures place { OnOk result (vec_len journal.new + 1 ≤ vec_capacity journal.new) }
+    ensures owner_place { OnOk result (vec_len owners.new + 1 ≤ vec_capacity owners.new) }
+    ensures short { IfErr result (IsShort journal.old.items) }
 {
-    if let Answer::Done(_) = answer {
-        owners.push_reserved(role);
+    if journal.len() >= MAX_ENTRIES {
+        return Err(Refusal::Full);
     }
+    journal.reserve(1)?;
+    owners.reserve(1)?;
+    Ok(())
+}
+
+// Adds the entry, and the owner of its step, if its answer gives one a number.
+fn keep(journal: &mut Vec<Entry>, owners: &mut Vec<Role>, entry: Entry)
+    requires place { vec_len journal.old + 1 ≤ vec_capacity journal.old }
+    requires owner_place { vec_len owners.old + 1 ≤ vec_capacity owners.old }
+    ensures journal { journal.new.items ≡ journal.old.items ++ entry ∷ [] }
+    ensures owners { owners.new.items ≡ owners_after owners.old.items entry.role entry.answer }
+{
+    if let Answer::Done(_) = &entry.answer {
+        owners.push_reserved(entry.role);
+    }
+    journal.push_reserved(entry);
 }
 
 impl Room {
@@ -31,23 +51,46 @@ impl Room {
         ensures names { self.new.names ≡ self.old.names }
         ensures types { self.new.types ≡ self.old.types }
     {
-        if self.journal.len() >= MAX_ENTRIES {
-            return self.refused(role, &command, Refusal::Full);
+        if let Err(refusal) = make_room(&mut self.journal, &mut self.owners) {
+            return self.refused(role, &command, refusal);
         }
-        if self.journal.reserve(1).is_err() || self.owners.reserve(1).is_err() {
-            return self.refused(role, &command, Refusal::Memory);
-        }
-        match self.session.accept(role, &command) {
-            Ok(told) => {
-                add_owner(&mut self.owners, role, &told.1);
-                self.journal.push_reserved(Entry {
+        match self.session.accept_twice(role, &command) {
+            Ok((told, answer)) => {
+                let entry = Entry {
                     role,
                     command,
-                    answer: told.1,
-                });
-                told.0
+                    answer,
+                };
+                keep(&mut self.journal, &mut self.owners, entry);
+                told
             }
             Err(refusal) => Answer::Refused(refusal),
+        }
+    }
+
+    /// Does the change that the command asks for, whose answer the journal tells, or says why not.
+    pub(crate) fn enter_change(&mut self, role: Role, command: Command) -> Option<Answer>
+        requires role { role < length self.old.types }
+        requires change { IsSome (change_of command) }
+        ensures entered { HasEntered self.old.names self.old.types self.old.journal role command
+            result self.new.journal }
+        ensures names { self.new.names ≡ self.old.names }
+        ensures types { self.new.types ≡ self.old.types }
+    {
+        if let Err(refusal) = make_room(&mut self.journal, &mut self.owners) {
+            return Some(self.refused(role, &command, refusal));
+        }
+        match self.session.accept(role, &command) {
+            Ok(answer) => {
+                let entry = Entry {
+                    role,
+                    command,
+                    answer,
+                };
+                keep(&mut self.journal, &mut self.owners, entry);
+                None
+            }
+            Err(refusal) => Some(Answer::Refused(refusal)),
         }
     }
 
@@ -56,8 +99,7 @@ impl Room {
     fn refused(&self, role: Role, command: &Command, refusal: Refusal) -> Answer
         requires role { role < length self.now.types }
         requires change { IsSome (change_of command.now) }
-        requires cause { (refusal ≡ OutOfMemory × length self.now.journal < most_entries)
-            ⊎ (refusal ≡ NoRoom × most_entries ≤ length self.now.journal) }
+        requires short { IsShort self.now.journal refusal }
         ensures answer { IsReply result
             (reply self.now.names self.now.types self.now.journal role command.now) }
         ensures refused { is_accepted result ≡ false }

@@ -1,9 +1,10 @@
 //! Rooms.
-ghost use Rattle.std.specs.Prelude.{◌≡◌, ◌<◌, ℕ, false, [], length, slice_get, IfOk};
+ghost use Rattle.std.specs.Prelude.{◌≡◌, ◌<◌, ◌++◌, ◌∷◌, ℕ, false, List, [], length, slice_get, IfOk};
 ghost use Rattle.std.specs.Option.{option_map};
 ghost use Rattle.mps_command.specs.declared.command.Command.TheVariants as commands;
 ghost use Rattle.mps_machine.specs.Machine.{initial};
-ghost use Rattle.mps_room.specs.Journal.{as_entry, grown, is_accepted, news, reply, run, IsLegal, IsReply};
+ghost use Rattle.mps_room.specs.Journal.{as_entry, grown, is_accepted, news, reply, run, HasEntered, IsLegal, IsReply};
+ghost use Rattle.mps_room.specs.declared.entry.Entry.{Entry};
 ghost use Rattle.mps_show.specs.Shown.{show_text, shown};
 ghost use Rattle.serde_json.specs.View.{view};
 ghost use Rattle.serde_json.specs.Written.{compact_text};
@@ -137,6 +138,31 @@ impl Room {
             Command::Show => self.tell_show(),
             change => self.change(role, change),
         }
+    }
+
+    /// Answers the role's command as `apply` does, but tells what is accepted by the journal alone: its newest entry has
+    /// the command and its answer, and none is handed out. So no answer is written twice.
+    pub fn enter(&mut self, role: Role, command: Command) -> Option<Answer>
+        requires { role < length self.old.types }
+        ensures entered { HasEntered self.old.names self.old.types self.old.journal role command
+            result self.new.journal }
+        ensures names { self.new.names ≡ self.old.names }
+        ensures types { self.new.types ≡ self.old.types }
+    {
+        match command {
+            Command::News(known) => Some(self.tell_news(role, known)),
+            Command::Show => Some(self.tell_show()),
+            change => self.enter_change(role, change),
+        }
+    }
+
+    /// The answer of the newest entry.
+    pub fn newest_answer(&self) -> &Answer
+        requires { 0 < length self.now.journal }
+        ensures { (older : List Entry) (e : Entry) → self.now.journal ≡ older ++ e ∷ []
+            → result.now ≡ e.answer }
+    {
+        &self.journal[self.journal.len() - 1].answer
     }
 
     // Answers what others took back.

@@ -37,11 +37,17 @@ abbrev pub IsServed : Change → Answer → (old new : State) → Answer × Stat
 IsServed command (Refused Memory) old new served = MayStarve command × IsAccepting served.0 × (new ≡ old)
 IsServed command answer old new served = (answer ≡ served.0) × (new ≡ served.1)
 
--- the machine accepts, and its answer is told twice; or it refuses, or memory ran out where it accepts, and nothing changed
-abbrev pub IsAccepted : Result (Answer × Answer) Refusal → (old new : State) → Answer × State → Type 0
-IsAccepted (Ok told) old new served = IsAccepting served.0 × (told.0 ≡ served.0) × (told.1 ≡ served.0) × (new ≡ served.1)
-IsAccepted (Err Memory) old new served = IsAccepting served.0 × (new ≡ old)
-IsAccepted (Err refusal) old new served = (served.0 ≡ Refused refusal) × (new ≡ old)
+-- the machine accepts, with its answer and the state after it; or it refuses, or memory ran out where it accepts, and
+-- nothing changed
+abbrev pub IsAccepted : Change → Result Answer Refusal → (old new : State) → Answer × State → Type 0
+IsAccepted command (Ok answer) old new served = IsAccepting served.0 × (answer ≡ served.0) × (new ≡ served.1)
+IsAccepted command (Err Memory) old new served = MayStarve command × IsAccepting served.0 × (new ≡ old)
+IsAccepted command (Err refusal) old new served = (served.0 ≡ Refused refusal) × (new ≡ old)
+
+-- the same, where the answer is told twice
+abbrev pub IsAcceptedTwice : Change → Result (Answer × Answer) Refusal → (old new : State) → Answer × State → Type 0
+IsAcceptedTwice command (Ok told) old new served = IsAccepted command (Ok told.0) old new served × (told.1 ≡ told.0)
+IsAcceptedTwice command (Err refusal) old new served = IsAccepted command (Err refusal) old new served
 
 -- the number of the first of the steps
 abbrev pub first_number : List Step → Option ℕ

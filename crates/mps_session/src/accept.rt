@@ -1,4 +1,4 @@
-//! Changes that are accepted, with their answers told twice.
+//! Changes that are accepted, with their answers told once or twice.
 ghost use Rattle.std.specs.Prelude.{◌≡◌, ◌<◌, ◌≤◌, Some, Ok, Err, List, [], reverse, length, vec_len, vec_capacity, IsSome, IfOk, OnOk, OnErr};
 ghost use Rattle.std.specs.List.{AllByRecursion};
 ghost use Rattle.mps_command.specs.Changes.{change_of};
@@ -10,7 +10,7 @@ ghost use Rattle.mps_local.specs.Local.{LocalType};
 ghost use Rattle.mps_machine.specs.Machine as machine;
 ghost use Rattle.mps_arena.specs.Entries.{steps};
 ghost use Rattle.mps_links.specs.Marks.{marked_keys};
-ghost use Rattle.mps_session.specs.Answers.{IsAccepted};
+ghost use Rattle.mps_session.specs.Answers.{IsAccepted, IsAcceptedTwice};
 ghost use Rattle.mps_session.specs.Configurations.{lists_of};
 ghost use Rattle.mps_session.specs.Held.{Holds};
 
@@ -101,13 +101,58 @@ impl Configuration {
 }
 
 impl Session {
-    /// Does what the role asks for, and tells the answer twice: to answer with, and to keep. Memory for both is asked
-    /// for before anything changes. A refusal changes nothing. The command is none that asks how things stand.
-    pub fn accept(&mut self, role: Role, command: &Command) -> Result<(Answer, Answer), Refusal>
+    /// Does what the role asks for, and tells the answer. All memory is asked for before anything changes. A refusal
+    /// changes nothing. The command is none that asks how things stand.
+    pub fn accept(&mut self, role: Role, command: &Command) -> Result<Answer, Refusal>
         requires role { role < length self.old.types }
         requires change { IsSome (change_of command.now) }
         ensures accepted { (change : Change) → change_of command.now ≡ Some change
-            → IsAccepted result self.old.state self.new.state
+            → IsAccepted change result self.old.state self.new.state
+            (machine.serve self.old.types self.old.state role change) }
+        ensures types { self.new.types ≡ self.old.types }
+        ensures err { OnErr result (self.new.state ≡ self.old.state) }
+    {
+        match command {
+            Command::Forward(step) => self.accept_step(role, step),
+            Command::Undo(id) => self.accept_undo(role, *id),
+            Command::Rollback(id) => Ok(Answer::Undone(self.rollback(role, *id)?)),
+            Command::Back(name) => Ok(Answer::Undone(self.back(role, name)?)),
+            Command::News(_) | Command::Show => unreachable!(),
+        }
+    }
+
+    // Takes the step, and tells the answer.
+    fn accept_step(&mut self, role: Role, step: &Forward) -> Result<Answer, Refusal>
+        requires role { role < length self.old.types }
+        ensures accepted { IsAccepted (changes.Forward step.now) result self.old.state self.new.state
+            (machine.serve self.old.types self.old.state role (changes.Forward step.now)) }
+        ensures types { self.new.types ≡ self.old.types }
+    {
+        Ok(Answer::Done(self.take(role, step)?))
+    }
+
+    // Takes the step of that number back, and tells the answer.
+    fn accept_undo(&mut self, role: Role, id: StepId) -> Result<Answer, Refusal>
+        requires role { role < length self.old.types }
+        ensures accepted { IsAccepted (changes.Undo id) result self.old.state self.new.state
+            (machine.serve self.old.types self.old.state role (changes.Undo id)) }
+        ensures types { self.new.types ≡ self.old.types }
+    {
+        self.undo(role, id)?;
+        Ok(Answer::Undone(StepIds::one(id)))
+    }
+
+    /// Does what the role asks for, as `accept` does, and tells the answer twice: to answer with, and to keep. Memory
+    /// for both is asked for before anything changes.
+    pub fn accept_twice(
+        &mut self,
+        role: Role,
+        command: &Command,
+    ) -> Result<(Answer, Answer), Refusal>
+        requires role { role < length self.old.types }
+        requires change { IsSome (change_of command.now) }
+        ensures accepted { (change : Change) → change_of command.now ≡ Some change
+            → IsAcceptedTwice change result self.old.state self.new.state
             (machine.serve self.old.types self.old.state role change) }
         ensures types { self.new.types ≡ self.old.types }
         ensures err { OnErr result (self.new.state ≡ self.old.state) }
@@ -124,7 +169,7 @@ impl Session {
     // Takes the step, and tells the answer twice.
     fn take_twice(&mut self, role: Role, step: &Forward) -> Result<(Answer, Answer), Refusal>
         requires role { role < length self.old.types }
-        ensures accepted { IsAccepted result self.old.state self.new.state
+        ensures accepted { IsAcceptedTwice (changes.Forward step.now) result self.old.state self.new.state
             (machine.serve self.old.types self.old.state role (changes.Forward step.now)) }
         ensures types { self.new.types ≡ self.old.types }
     {
@@ -141,7 +186,7 @@ impl Session {
     // Why the step is refused where there is no memory for it.
     fn starved(&self, role: Role, step: &Forward) -> Refusal
         requires role { role < length self.now.types }
-        ensures { IsAccepted (Err result) self.now.state self.now.state
+        ensures { IsAccepted (changes.Forward step.now) (Err result) self.now.state self.now.state
             (machine.serve self.now.types self.now.state role (changes.Forward step.now)) }
     {
         if let Some(fault) = self.violation(role, step) {
@@ -156,7 +201,7 @@ impl Session {
     // Takes the step of that number back, and tells the answer twice.
     fn undo_twice(&mut self, role: Role, id: StepId) -> Result<(Answer, Answer), Refusal>
         requires role { role < length self.old.types }
-        ensures accepted { IsAccepted result self.old.state self.new.state
+        ensures accepted { IsAcceptedTwice (changes.Undo id) result self.old.state self.new.state
             (machine.serve self.old.types self.old.state role (changes.Undo id)) }
         ensures types { self.new.types ≡ self.old.types }
     {
@@ -171,7 +216,7 @@ impl Session {
     // Takes the step of that number back and all that depend on it, and tells the answer twice.
     fn roll_back_twice(&mut self, role: Role, id: StepId) -> Result<(Answer, Answer), Refusal>
         requires role { role < length self.old.types }
-        ensures accepted { IsAccepted result self.old.state self.new.state
+        ensures accepted { IsAcceptedTwice (changes.Rollback id) result self.old.state self.new.state
             (machine.serve self.old.types self.old.state role (changes.Rollback id)) }
         ensures types { self.new.types ≡ self.old.types }
     {
@@ -182,7 +227,7 @@ impl Session {
     // Takes the role back to its last mark of the name, and tells the answer twice.
     fn go_back_twice(&mut self, role: Role, name: &Name) -> Result<(Answer, Answer), Refusal>
         requires role { role < length self.old.types }
-        ensures accepted { IsAccepted result self.old.state self.new.state
+        ensures accepted { IsAcceptedTwice (changes.Back name.now) result self.old.state self.new.state
             (machine.serve self.old.types self.old.state role (changes.Back name.now)) }
         ensures types { self.new.types ≡ self.old.types }
     {

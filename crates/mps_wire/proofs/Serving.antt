@@ -1,5 +1,5 @@
 -- What a line is answered, from what the room answers.
-use Rattle.std.proofs.Common.{ℕ, zero, suc, ◌<◌, arith, List, [], ◌∷◌, length, Result, Ok, Err}
+use Rattle.std.proofs.Common.{◌≡◌, ℕ, zero, suc, ◌<◌, arith, List, [], ◌∷◌, length, Result, Ok, Err, inl, inr, refl}
 use Rattle.std.specs.Prelude.{OnOk}
 use Rattle.std.specs.List.{AllByRecursion}
 use Rattle.std.specs.Str.{IsAscii}
@@ -14,7 +14,10 @@ use Rattle.mps_line.specs.Commands.{SpellsScriptLine, command_tokens}
 use Rattle.mps_line.specs.Tokens.{RoleAt, SpellEach}
 use Rattle.mps_line.proofs.Shown.{shown_line}
 use Rattle.mps_room.specs.declared.entry.Entry.{Entry}
-use Rattle.mps_wire.specs.Script.{RepliesTo, AnswersLine}
+use Rattle.mps_room.specs.Journal.{grown, reply, IsReply}
+use Rattle.mps_line.specs.declared.reply.Reply.TheVariants.{Answered}
+use Rattle.mps_command.specs.declared.answer.Answer.{Answer}
+use Rattle.mps_wire.specs.Script.{IsReadable, RepliesTo, AnswersLine}
 
 -- the role of a line is one of the names
 pub role_within : (names : List (List ℕ)) (line : List ℕ) (role : ℕ) (command : Command) → SpellsScriptLine names line role command → role < length names
@@ -37,3 +40,22 @@ spelled_ascii names line role command spelled = shown_ascii line (shown_line nam
 pub answers_line : {T E : Type 0} (names : List (List ℕ)) (types : List LocalType) (line : List ℕ) (journal after : List Entry) (reply : Reply) (written : Result T E) (old new : List ℕ) → RepliesTo names types line journal reply after → OnOk written (Appends (λ text. SpellsReply text reply) old new) → OnOk written (Appends (λ text. AnswersLine names types line journal text after) old new)
 answers_line names types line journal after reply (Ok x) old new replies a = (a.0, a.1, record { reply = reply; replies = replies; spelled = a.2 })
 answers_line names types line journal after reply (Err e) old new replies a = tt
+
+-- the text of the room's answer answers the line of its command
+pub answers_command : {T E : Type 0} (names : List (List ℕ)) (types : List LocalType) (line : List ℕ) (journal : List Entry) (role : ℕ) (command : Command) (after : List Entry) (written : Result T E) (old new : List ℕ)
+    → IsReadable names line role command
+    → OnOk written ((answer : Answer) × IsReply answer (reply names types journal role command) × (after ≡ grown journal role command answer) × Appends (λ text. SpellsReply text (Answered answer)) old new)
+    → OnOk written (Appends (λ text. AnswersLine names types line journal text after) old new)
+answers_command {T} {E} names types line journal role command after (Ok x) old new readable h =
+    answers_line {T = T} {E = E} names types line journal after (Answered h.0) (Ok x) old new
+    (inr (inl (record {
+      role = role;
+      command = command;
+      readable = readable;
+      answer = h.0;
+      told = refl;
+      wanted = h.1;
+      joined = h.2;
+    })))
+    h.3
+answers_command names types line journal role command after (Err e) old new readable h = tt

@@ -2,8 +2,12 @@
 ghost use Rattle.std.specs.Prelude.{◌≡◌, ◌+◌, ◌<◌, ◌≤◌, ◌^◌, ◌++◌, ℕ, List, [], length, map, OnOk, OnErr};
 ghost use Rattle.std.specs.Io.KnownBytes.{Appends as Takes};
 ghost use Rattle.mps_base.specs.Appends.{Appends};
+ghost use Rattle.mps_command.specs.declared.answer.Answer.{Answer as Said};
+ghost use Rattle.mps_line.specs.Replies.{SpellsReply};
+ghost use Rattle.mps_line.specs.declared.reply.Reply.TheVariants.{Answered};
 ghost use Rattle.mps_local.specs.Local.{plain};
 ghost use Rattle.mps_machine.specs.Machine.{initial};
+ghost use Rattle.mps_room.specs.Journal.{grown, reply, IsReply};
 ghost use Rattle.mps_wire.specs.Answers.{TakesBytes, TakesEnd};
 ghost use Rattle.mps_wire.specs.Flow.{TookFront};
 ghost use Rattle.mps_lines.specs.Lines.{ended, front, most_kept};
@@ -13,8 +17,8 @@ ghost use Rattle.mps_wire.specs.Streams.{streams};
 ghost use Rattle.mps_wire.specs.declared.script.ReplayFault.TheVariants.{Memory as OutOfMemory};
 
 use crate::flow::send_all;
-use mps_base::Roles;
-use mps_command::{Answer, Refusal};
+use mps_base::{Role, Roles};
+use mps_command::{Answer, Command, Refusal};
 use mps_dev::{Failed, Sink, Source};
 use mps_line::laws::one_script_line;
 use mps_line::{LineFault, read_script_line, write_answer, write_bad_line};
@@ -65,6 +69,28 @@ impl From<OpenFault> for ReplayFault {
     }
 }
 
+/// Gives the role's command to the room, and writes the answer behind the others. What is accepted is written as the
+/// journal keeps it.
+fn reply_to_command(
+    room: &mut Room,
+    role: Role,
+    command: Command,
+    answers: &mut Vec<u8>,
+) -> Result<(), AllocError>
+    requires { role < length room.old.types }
+    ensures names { room.new.names ≡ room.old.names }
+    ensures types { room.new.types ≡ room.old.types }
+    ensures answer { OnOk result ((answer : Said)
+        × IsReply answer (reply room.old.names room.old.types room.old.journal role command)
+        × (room.new.journal ≡ grown room.old.journal role command answer)
+        × Appends (λ text. SpellsReply text (Answered answer)) answers.old.items answers.new.items) }
+{
+    if let Some(answer) = room.enter(role, command) {
+        return write_answer(&answer, answers);
+    }
+    write_answer(room.newest_answer(), answers)
+}
+
 /// Gives the command of a line to the room, if it has one, and writes the reply behind the others.
 fn reply_to_line(
     alloc: Global,
@@ -85,8 +111,7 @@ fn reply_to_line(
     match read_script_line(alloc, room.names(), line) {
         Ok(request) => {
             let (role, command) = request;
-            let answer = room.apply(role, command);
-            write_answer(&answer, answers)
+            reply_to_command(room, role, command, answers)
         }
         Err(LineFault::Bad) => write_bad_line(answers),
         Err(LineFault::Memory) => write_answer(&Answer::Refused(Refusal::Memory), answers),

@@ -6,7 +6,7 @@ use Rattle.mps_command.specs.declared.command.Forward.TheVariants.{Send}
 use Rattle.mps_base.specs.declared.value.Value.TheVariants.{Text}
 use Rattle.mps_line.specs.Commands.{SpellsScriptLine}
 use Rattle.mps_line.specs.declared.reply.Reply.TheVariants.{Answered, BadLine}
-use Rattle.mps_wire.proofs.Serving.{role_within, spelled_ascii, answers_line}
+use Rattle.mps_wire.proofs.Serving.{role_within, spelled_ascii, answers_line, answers_command}
 use Rattle.mps_wire.proofs.script.reply_to_line.Goals as goal
 
 pub returns-then-line-gt-MAX_LINE-clause-reply : goal.returns-then-line-gt-MAX_LINE-clause-reply
@@ -16,8 +16,8 @@ returns-then-line-gt-MAX_LINE-clause-reply c =
     (inl (record { unreadable = λ role command r. let short = r.short in absurd (omega (arith, c.if-line-gt-MAX_LINE.true)); bad = refl; unchanged = refl }))
     c.write_bad_line.ensures.ok
 
-pub apply-answer-requires : goal.apply-answer-requires
-apply-answer-requires c =
+pub reply_to_command-requires : goal.reply_to_command-requires
+reply_to_command-requires c =
     let m = c.args.room.now in
     let at = role_within c.names.result.now c.args.line.now c.in-Ok.request.0 c.in-Ok.request.1 c.in-Ok.ensures.read in
     omega (arith, at, c.names.ensures.count)
@@ -29,17 +29,9 @@ returns-in-Ok-clause-reply c =
     let role = c.in-Ok.request.0 in
     let command = c.in-Ok.request.1 in
     let spelled : SpellsScriptLine m.names line role command = subst (λ (n : List (List ℕ)). SpellsScriptLine n line role command) c.names.ensures.names c.in-Ok.ensures.read in
-    answers_line m.names m.types line m.journal c.apply-answer.new.self.journal (Answered c.apply-answer.result) c.write_answer.result c.args.answers.now.items c.write_answer.new.out.items
-    (inr (inl (record {
-      role = role;
-      command = command;
-      readable = record { short = c.if-line-gt-MAX_LINE.false; ascii = spelled_ascii m.names line role command spelled; spelled = spelled };
-      answer = c.apply-answer.result;
-      told = refl;
-      wanted = c.apply-answer.ensures.answer;
-      joined = c.apply-answer.ensures.journal;
-    })))
-    c.write_answer.ensures.ok
+    answers_command m.names m.types line m.journal role command c.reply_to_command.new.room.journal c.reply_to_command.result c.args.answers.now.items c.reply_to_command.new.answers.items
+    (record { short = c.if-line-gt-MAX_LINE.false; ascii = spelled_ascii m.names line role command spelled; spelled = spelled })
+    c.reply_to_command.ensures.answer
 
 pub returns-in-Err-Bad-clause-reply : goal.returns-in-Err-Bad-clause-reply
 returns-in-Err-Bad-clause-reply c =
@@ -59,7 +51,7 @@ returns-in-Err-Memory-clause-reply c =
     let text = c.in-Err-Memory.ensures.memory (cc) in
     let sends = Forward (Send text.1 (Text text.2)) in
     let spelled : SpellsScriptLine m.names line text.0 sends = subst (λ (n : List (List ℕ)). SpellsScriptLine n line text.0 sends) c.names.ensures.names text.3 in
-    answers_line m.names m.types c.args.line.now m.journal m.journal (Answered (Refused Memory)) c.write_answer-in-Err-Memory.result c.args.answers.now.items c.write_answer-in-Err-Memory.new.out.items
+    answers_line m.names m.types c.args.line.now m.journal m.journal (Answered (Refused Memory)) c.write_answer.result c.args.answers.now.items c.write_answer.new.out.items
     (inr (inr (record {
       role = text.0;
       to = text.1;
@@ -68,4 +60,4 @@ returns-in-Err-Memory-clause-reply c =
       told = refl;
       unchanged = refl;
     })))
-    c.write_answer-in-Err-Memory.ensures.ok
+    c.write_answer.ensures.ok

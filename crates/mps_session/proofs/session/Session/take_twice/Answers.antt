@@ -8,7 +8,7 @@ use Rattle.mps_command.specs.declared.command.Change.TheVariants.{Forward}
 use Rattle.mps_local.specs.Local.{plain}
 use Rattle.mps_machine.specs.Machine.{view_of, taken, stepped, serve}
 use Rattle.mps_machine.specs.Rule.{moved}
-use Rattle.mps_session.specs.Answers.{IsAccepting, IsAccepted}
+use Rattle.mps_session.specs.Answers.{IsAccepting, IsAcceptedTwice}
 use Rattle.mps_session.specs.Configurations.{lists_of}
 use Rattle.mps_session.specs.Seen.{Machine}
 use Rattle.mps_session.proofs.Accepted.{done_took, handed_on, step_refused}
@@ -29,10 +29,10 @@ returns-clause-accepted c =
     ∙ ap (λ (k : Machine). taken act (moved (view_of k.types k.state.history) p act)) c.self.view_is
     ∙ sym (done_took m.types m.state p act c.in_ok-done.done answer) in
     let again = ap (λ (got : Option Message). let a : Answer = Stepped (record { id = c.in_ok-done.done.id; got = got }) in a) same in
-    (subst IsAccepting first tt, first, again ∙ first, c.in_ok-done.ensures.state)
+    ((subst IsAccepting first tt, first, c.in_ok-done.ensures.state), again)
 
 pub returns-in_err-done-clause-accepted : goal.returns-in_err-done-clause-accepted
 returns-in_err-done-clause-accepted c =
     let m = c.args.self.now in
-    handed_on _ _ (λ (r : Result (Answer × Answer) Refusal). IsAccepted r m.state c.take.new.self.state (serve m.types m.state c.args.role (Forward c.args.step.now))) c.from_residual.ensures.1
-    (step_refused m.types m.state c.take.new.self.state c.args.role (act_of c.args.step.now) c.in_err-done.field-0.0 c.in_err-done.ensures.answer c.in_err-done.ensures.err)
+    handed_on _ _ (λ (r : Result (Answer × Answer) Refusal). IsAcceptedTwice (Forward c.args.step.now) r m.state c.take.new.self.state (serve m.types m.state c.args.role (Forward c.args.step.now))) c.from_residual.ensures.1
+    (step_refused (Forward c.args.step.now) tt m.types m.state c.take.new.self.state c.args.role (act_of c.args.step.now) c.in_err-done.field-0.0 c.in_err-done.ensures.answer c.in_err-done.ensures.err)

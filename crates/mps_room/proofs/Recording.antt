@@ -1,0 +1,73 @@
+-- What a room keeps, one entry later.
+use Rattle.std.proofs.Common.{◌≡◌, ℕ, ◌<◌, true, List, [], ◌∷◌, ◌++◌, Err, sym, ap, ◌∙◌, subst}
+use Rattle.std.specs.Prelude.{length}
+use Rattle.mps_command.specs.Changes.{command_of}
+use Rattle.mps_command.specs.declared.answer.Answer.{Answer}
+use Rattle.mps_command.specs.declared.answer.Answer.TheVariants.{Refused}
+use Rattle.mps_command.specs.declared.answer.Refusal.{Refusal}
+use Rattle.mps_command.specs.declared.command.Change.{Change}
+use Rattle.mps_command.specs.declared.command.Command.{Command}
+use Rattle.mps_local.specs.Local.{LocalType}
+use Rattle.mps_machine.specs.Machine.{State, serve}
+use Rattle.mps_session.specs.Answers.{IsAccepted}
+use Rattle.mps_session.specs.Seen.{Machine}
+use Rattle.mps_room.specs.Journal.{most_entries, run, is_accepted, grown, limited, reply, IsLegal, IsReply}
+use Rattle.mps_room.specs.Kept.{AreOwners, owners_after, IsRecorded}
+use Rattle.mps_room.specs.declared.entry.Entry.{Entry}
+use Rattle.mps_room.proofs.Growing as growing
+use Rattle.mps_room.proofs.Refusing.{refused_too}
+use Rattle.mps_room.proofs.Owning.{owners_with}
+
+module _ (names : List (List ℕ)) (m : Machine) (owners : List ℕ) (j : List Entry) (old : IsRecorded names m owners j) (p : ℕ) (known : p < length m.types) (change : Change) (a : Answer) (is : a ≡ (serve m.types m.state p change).0) (kept : is_accepted a ≡ true) (space : length j < most_entries) where
+  abbrev pub one_more : List Entry
+  one_more = j ++ record { role = p; command = command_of change; answer = a } ∷ []
+
+  -- the session after the change is that of the journal with its entry
+  pub recorded_with : (now : Machine) → now.types ≡ m.types → now.state ≡ (serve m.types m.state p change).1 → IsRecorded names now (owners_after owners p a) one_more
+  recorded_with now types state =
+      let by_run = is ∙ ap (λ (st : State). (serve m.types st p change).0) old.state in
+      let legal = growing.legal_with names m.types j p change a by_run known old.legal space kept in
+      let ran = growing.state_with names m.types j p change a by_run now.state (state ∙ ap (λ (st : State). (serve m.types st p change).1) old.state) in
+      let owned = owners_with m.types m.state j p change owners old.owners a is kept in
+      record {
+        count = old.count ∙ ap (λ (t : List LocalType). length t) (sym types);
+        legal = subst (λ (t : List LocalType). IsLegal names t one_more) (sym types) legal;
+        state = subst (λ (t : List LocalType). now.state ≡ run t one_more) (sym types) ran;
+        owners = subst (λ (n : ℕ). AreOwners (owners_after owners p a) n one_more) (ap (λ (st : State). st.next) (sym state)) owned;
+      }
+
+  -- the answer is the one that is wanted
+  pub replied : reply names m.types j p (command_of change) ≡ a
+  replied =
+      growing.reply_to_change names m.types j p change
+      ∙ ap (λ (st : State). limited (length j) (serve m.types st p change).0) (sym old.state)
+      ∙ ap (limited (length j)) (sym is)
+      ∙ growing.room_for (length j) a kept space
+
+  -- the same, of a command that asks for the change
+  module _ (command : Command) (asks : command ≡ command_of change) where
+    abbrev pub entry : Entry
+    entry = record { role = p; command = command; answer = a }
+
+    entered : j ++ entry ∷ [] ≡ one_more
+    entered = ap (λ (k : Command). let e : Entry = record { role = p; command = k; answer = a } in j ++ e ∷ []) asks
+
+    pub recorded_as : (now : Machine) (o : List ℕ) (l : List Entry) → now.types ≡ m.types → now.state ≡ (serve m.types m.state p change).1 → o ≡ owners_after owners p a → l ≡ j ++ entry ∷ [] → IsRecorded names now o l
+    recorded_as now o l types state owned joined =
+        subst (λ (q : List ℕ). IsRecorded names now q l) (sym owned)
+        (subst (λ (q : List Entry). IsRecorded names now (owners_after owners p a) q) (sym (joined ∙ entered)) (recorded_with now types state))
+
+    pub grown_as : (l : List Entry) → l ≡ j ++ entry ∷ [] → l ≡ grown j p command a
+    grown_as l joined =
+        joined ∙ entered ∙ sym (growing.grown_by j p change a kept) ∙ ap (λ (k : Command). grown j p k a) (sym asks)
+
+    pub replied_as : reply names m.types j p command ≡ a
+    replied_as = ap (reply names m.types j p) asks ∙ replied
+
+-- a refusal of the session is the room's
+module _ (names : List (List ℕ)) (m : Machine) (owners : List ℕ) (j : List Entry) (old : IsRecorded names m owners j) (p : ℕ) (change : Change) (command : Command) (asks : command ≡ command_of change) (space : length j < most_entries) where
+  pub refused_as : (new : State) (refusal : Refusal) → IsAccepted change (Err refusal) m.state new (serve m.types m.state p change) → IsReply (Refused refusal) (reply names m.types j p command)
+  refused_as new refusal h =
+      subst (λ (w : Answer). IsReply (Refused refusal) w)
+      (sym (ap (reply names m.types j p) asks ∙ growing.reply_to_change names m.types j p change ∙ ap (λ (st : State). limited (length j) (serve m.types st p change).0) (sym old.state)))
+      (refused_too m.types m.state new p (length j) change refusal space h)
