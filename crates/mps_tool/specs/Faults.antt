@@ -115,9 +115,17 @@ abbrev pub IsFileFault : List ℕ → ToolFault → Type 0
 IsFileFault name (File file) = file.now ≡ name
 IsFileFault name fault = ⊥
 
--- how the script of this file may fail to be run: it can't be opened, or its run ends so
+-- how the run of a script in an open session may break off: a read or a write fails, it is read from too often, or memory runs out
+abbrev pub IsBreak : ToolFault → Type 0
+IsBreak Read = ⊤
+IsBreak Write = ⊤
+IsBreak Turns = ⊤
+IsBreak Memory = ⊤
+IsBreak fault = ⊥
+
+-- how the script of this file may fail to be run: the file can't be opened, or the run breaks off
 abbrev pub IsReplayFault : List ℕ → ToolFault → Type 0
-IsReplayFault script fault = IsFileFault script fault ⊎ ((end : ReplayFault) × (fault ≡ of_script end))
+IsReplayFault script fault = IsFileFault script fault ⊎ IsBreak fault
 
 -- how a protocol may fail to be had from this file: it can't be opened, or gives no types
 abbrev pub IsLoadFault : List ℕ → ToolFault → Type 0

@@ -1,8 +1,9 @@
 //! Two scripts compared.
-ghost use Rattle.std.specs.Prelude.{◌≡◌, ◌<◌, ◌≤◌, ◌^◌, length, IsTrue, IfOk, IfErr};
+ghost use Rattle.std.specs.Prelude.{◌≡◌, ◌+◌, ◌<◌, ◌≤◌, ◌^◌, length, IsTrue, IfOk, IfErr};
 ghost use Rattle.mps_machine.specs.Machine.{initial};
 ghost use Rattle.mps_tool.specs.Compared.{CantCompare, HasCompared, HasReplayed, HasStopped, Tells, unheard};
 ghost use Rattle.mps_tool.specs.Faults.{IsCompareFault, IsScriptsFault};
+ghost use Rattle.mps_wire.specs.Runs.{max_reads};
 
 use crate::faults::ToolFault;
 use crate::files::open_file;
@@ -32,6 +33,7 @@ fn replay_unheard<'a, R: Source>(
     ensures types { IfOk result (λ room. room.types ≡ session.types) }
     ensures fault { IfErr result (HasStopped roles session.types
         (unheard R.Source reader.old) (unheard R.Source reader.new)) }
+    ensures reads { R.calls reader.new ≤ R.calls reader.old + max_reads }
 {
     Ok(replay_session(alloc, reader, &mut Discard, roles, session)?)
 }
@@ -70,6 +72,8 @@ pub fn same_out<'a, R: Source, S: Source>(
     ensures fault { IfErr result (CantCompare roles.now first.types
         (unheard R.Source reader.old) (unheard R.Source reader.new)
         (unheard S.Source other.old) (unheard S.Source other.new)) }
+    ensures first_reads { R.calls reader.new ≤ R.calls reader.old + max_reads }
+    ensures second_reads { S.calls other.new ≤ S.calls other.old + max_reads }
 {
     let names = roles.copy(alloc)?;
     let others = roles.copy(alloc)?;

@@ -1,9 +1,10 @@
 //! Checks protocols, and runs and compares scripts of commands on multiparty sessions.
 #![tactic(auto)]
 
-ghost use Rattle.std.specs.Prelude.{◌≡◌, ◌≤◌, IfOk};
+ghost use Rattle.std.specs.Prelude.{◌≡◌, ◌≢◌, ◌≤◌, IfErr, IfOk};
 ghost use Rattle.std.specs.Process.{exit_status};
 ghost use Rattle.mps_tool.specs.Faults.{status_of};
+ghost use Rattle.mps_tool.specs.declared.faults.ToolFault.TheVariants.{Open as NotOpened};
 
 mod check;
 mod command;
@@ -45,7 +46,8 @@ fn obey<'a, R: Files + AllocGlobal + Print>(
     rt: &R,
     words: &'a [&'a str],
 ) -> Result<u8, ToolFault<'a>>
-    ensures { IfOk result (λ status. status ≤ 1) }
+    ensures status { IfOk result (λ status. status ≤ 1) }
+    ensures opened { IfErr result (λ fault. fault ≢ NotOpened) }
 {
     match order(rt.alloc(), words)? {
         Order::Help { text } => {

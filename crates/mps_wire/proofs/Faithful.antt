@@ -20,7 +20,7 @@ use Rattle.mps_room.specs.Journal.{most_entries, after_command, run_from, run, l
 use Rattle.mps_room.specs.declared.entry.Entry.{Entry}
 use Rattle.mps_fidelity.specs.Fidelity.{AreOfOneProtocol}
 use Rattle.mps_fidelity.proofs.Refusals.{sound_other}
-use Rattle.mps_wire.specs.Answers.{AnswersLines}
+use Rattle.mps_wire.specs.Answers.{AnswersLines, AnswersInPart}
 use Rattle.mps_lines.specs.Lines.{HasNoBreak, ended, IsSplit}
 use Rattle.mps_wire.specs.Script.{RepliesTo, AnswersLine}
 
@@ -136,3 +136,7 @@ module _ (one_reply : (a : List ℕ) (r s : Reply) → SpellsReply a r → Spell
       let t = texts_of asked [] after out a in
       each_line Fits t.0 lines (rest ++ unwritten) t.2 split.each
       (sym t.1 ∙ e ∙ ap (λ (l : List ℕ). l ++ unwritten) split.whole ∙ append_assoc (flat_map ended lines) rest unwritten) t.3
+
+  -- the same of answers up to some place in them
+  pub part_fits : (asked lines : List (List ℕ)) (written rest : List ℕ) → AnswersInPart (AnswersLine names types) [] asked written → IsSplit written lines rest → AllByRecursion Fits lines
+  part_fits asked lines written rest a split = written_fits a.answered lines a.out written a.unwritten rest a.after a.answers_lines a.part split

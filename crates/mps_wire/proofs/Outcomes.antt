@@ -1,6 +1,5 @@
 -- How the results of its parts are a run's.
-use Rattle.std.proofs.Common.{◌≡◌, ℕ, List, [], Bool, true, false, Result, Ok, Err, refl, inl, inr, ⊎_elim, subst, arith}
-use Rattle.std.specs.Io.KnownBytes.{IsAtEnd}
+use Rattle.std.proofs.Common.{◌≡◌, ℕ, List, [], Bool, true, false, Result, Ok, Err, refl, inl, inr, subst, arith}
 use Rattle.std.specs.Prelude.{◌↔◌, IsErrOf}
 use Rattle.mps_local.specs.Local.{LocalType}
 use Rattle.mps_base.specs.RoleLists.{HasRoleCount}
@@ -12,9 +11,9 @@ use Rattle.mps_session.specs.declared.open.OpenFault.TheVariants.{RoleCount, Bad
 use Rattle.mps_wire.specs.declared.script.ReplayFault.{ReplayFault}
 use Rattle.mps_wire.specs.declared.script.ReplayFault.TheVariants.{Open, ReadFault, WriteFault, Turns, Memory}
 use Rattle.mps_wire.specs.Answers.{Answering}
-use Rattle.mps_wire.specs.Runs.{KeepsFromBeginning, of_opening, Outcome, Replayed, Ran, Finished, Going, GaveAtLeast, Turned}
+use Rattle.mps_wire.specs.Runs.{KeepsFromBeginning, of_opening, Outcome, Replayed, Ran, BreaksOff, Finished, Going, GaveAtLeast, Turned}
 use Rattle.mps_wire.specs.Script.{AnswersLine}
-use Rattle.mps_wire.specs.Streams.{Streams, Counts, CountsByEnd}
+use Rattle.mps_wire.specs.Streams.{Streams, Counts}
 use Rattle.mps_wire.proofs.Turning.{starved_first}
 
 -- why a session isn't opened keeps a run from beginning
@@ -40,18 +39,16 @@ module _ (first old now : Streams) (none : Counts first old 0 0 0) where
     writes_failed = omega (arith, none.writes_failed, c.writes_failed);
   }
 
-  counts_by_end : (failed_writes : ℕ) → CountsByEnd old now failed_writes → CountsByEnd first now failed_writes
-  counts_by_end failed_writes c =
-      ⊎_elim
-      (λ (h : Counts old now 0 0 failed_writes). inl (counts_more 0 0 failed_writes h))
-      (λ (h : Counts old now 0 1 failed_writes × IsAtEnd now.left). inr (counts_more 0 1 failed_writes h.0, h.1))
-      c
+  -- the failed writes of a turn are the run's
+  breaks_off : {S : Type 0} (answers : Answering S) (start : S) (failed_writes : ℕ) → BreaksOff answers start first old now failed_writes → BreaksOff answers start first first now failed_writes
+  breaks_off answers start failed_writes (inl (cut, counts)) = inl (cut, counts_more 0 0 failed_writes counts)
+  breaks_off answers start failed_writes (inr (cut, counts)) = inr (cut, counts_more 0 1 failed_writes counts)
 
   -- a turn's fault is the run's
   pub breaks : {S : Type 0} (answers : Answering S) (start : S) (kept : List ℕ) (st : S) (fault : ReplayFault) → Turned answers start first old now kept st (Err fault) → Ran answers start first now (Err fault)
   breaks answers start kept st ReadFault h = (h.0, counts_more 1 0 0 h.1)
-  breaks answers start kept st WriteFault h = (h.0, counts_by_end 1 h.1)
-  breaks answers start kept st Memory h = (h.0, counts_by_end 0 h.1)
+  breaks answers start kept st WriteFault h = breaks_off answers start 1 h
+  breaks answers start kept st Memory h = breaks_off answers start 0 h
   breaks answers start kept st Turns h = absurd h
   breaks answers start kept st (Open fault) h = absurd h
 
@@ -66,7 +63,7 @@ module _ {S : Type 0} (answers : Answering S) (start : S) (first old now : Strea
 
 -- memory ran out before the first read
 pub starts_starved : {S : Type 0} (answers : Answering S) (start : S) (s : Streams) → Ran answers start s s (Err Memory)
-starts_starved answers start s = (starved_first answers start s, inl (same_counts s))
+starts_starved answers start s = inl (starved_first answers start s, same_counts s)
 
 module _ (names : List (List ℕ)) (types : List LocalType) where
   -- no run begins

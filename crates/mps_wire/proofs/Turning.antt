@@ -1,17 +1,17 @@
 -- What one read and its answers lead to.
-use Rattle.std.proofs.Common.{◌≡◌, ◌≢◌, ◌+◌, ◌<◌, ◌≤◌, ℕ, zero, suc, List, [], ◌∷◌, ◌++◌, take, drop, Bool, Option, Result, Ok, Err, IsErrAnd, refl, sym, ap, ◌∙◌, subst, ⊎_elim, append_assoc, append-nil, arith, length, length-take, length-append}
+use Rattle.std.proofs.Common.{◌≡◌, ◌≢◌, ◌+◌, ◌<◌, ◌≤◌, ℕ, zero, suc, List, [], ◌∷◌, ◌++◌, take, drop, Bool, Option, Result, Ok, Err, IsErrAnd, refl, sym, ap, ◌∙◌, subst, inl, inr, ⊎_elim, append_assoc, append-nil, arith, length, length-take, length-append}
 use Rattle.std.specs.Io.KnownBytes.{Appends, Consumes, IsAtEnd}
 use Rattle.std.proofs.lemmas.Bool.{cases_eq}
 use Rattle.std.proofs.lemmas.List.{take-append-drop}
 use Rattle.mps_dev.specs.Calls.{ends_after}
 use Rattle.mps_dev.specs.declared.traits.Failed.{Failed}
-use Rattle.mps_wire.specs.Answers.{Answering, Answered, AnsweredAll, AnsweredInPart, Place, TakesBytes, TakesEnd}
+use Rattle.mps_wire.specs.Answers.{Answering, AnswersLines, AnswersInPart, Answered, AnsweredAll, AnsweredInPart, AnsweredAllInPart, Place, TakesBytes, TakesEnd}
 use Rattle.mps_wire.specs.Flow.{TookFront}
 use Rattle.mps_lines.specs.Lines.{IsSplit, with_last}
-use Rattle.mps_wire.specs.Streams.{Streams, Counts, CountsByEnd}
+use Rattle.mps_wire.specs.Streams.{Streams, Counts}
 use Rattle.mps_wire.specs.declared.script.ReplayFault.{ReplayFault}
 use Rattle.mps_wire.specs.declared.script.ReplayFault.TheVariants.{Memory}
-use Rattle.mps_wire.specs.Runs.{Going, Finished, Cut, Turned, GaveAtLeast}
+use Rattle.mps_wire.specs.Runs.{Going, Finished, Cut, CutAtEnd, BreaksOff, Turned, GaveAtLeast}
 use Rattle.mps_wire.proofs.Bytes.{Appends-trans, Appends-none, Consumes-trans, Consumes-none}
 use Rattle.mps_lines.proofs.Splitting.{split_more, split_ended}
 use Rattle.mps_wire.proofs.Answering.{answered_nothing}
@@ -37,9 +37,10 @@ split_on (c ∷ more) bytes lines rest s =
     (next.0, next.1, subst (λ (b : List ℕ). IsSplit b (lines ++ next.0) next.1) (append_assoc bytes (c ∷ []) more) next.2))
     (cases_eq c 10)
 
-last_behind : (lines others : List (List ℕ)) (rest : List ℕ) → with_last (lines ++ others) rest ≡ lines ++ with_last others rest
-last_behind lines others [] = refl
-last_behind lines others (c ∷ rest) = append_assoc lines others ((c ∷ rest) ∷ [])
+-- a last line stands behind the whole ones
+last_behind : (lines : List (List ℕ)) (rest : List ℕ) → lines ++ with_last [] rest ≡ with_last lines rest
+last_behind lines [] = append-nil lines
+last_behind lines (c ∷ rest) = refl
 
 -- answers up to some place in them, and the others
 parts : (before answers : List ℕ) (count : ℕ) → before ++ answers ≡ (before ++ take count answers) ++ drop count answers
@@ -76,7 +77,20 @@ pub none_more : (old new : ℕ) → new ≡ old → new ≡ old + 0
 none_more old new e = omega arith
 
 module _ {S : Type 0} (answers : Answering S) (start : S) where
-  -- the answers so far are answers to the first lines of what was read, whatever else was read
+  -- answers to lines are answers to the first of these and others
+  first_part : (lines others : List (List ℕ)) (out written unwritten : List ℕ) (st : S) → AnswersLines answers lines start out st → out ≡ written ++ unwritten → AnswersInPart answers start (lines ++ others) written
+  first_part lines others out written unwritten st a e = record {
+    answered = lines;
+    others = others;
+    first = refl;
+    out = out;
+    after = st;
+    answers_lines = a;
+    unwritten = unwritten;
+    part = e;
+  }
+
+  -- the answers so far are answers to the first whole lines of what was read, whatever else was read
   part_of : (bytes more kept out written unwritten : List ℕ) (st : S) → Answered answers start bytes kept out st → out ≡ written ++ unwritten → AnsweredInPart answers start (bytes ++ more) written
   part_of bytes more kept out written unwritten st a e =
       let s = split_on more bytes a.lines a.rest a.split in
@@ -84,29 +98,28 @@ module _ {S : Type 0} (answers : Answering S) (start : S) where
         lines = a.lines ++ s.0;
         rest = s.1;
         split = s.2;
-        answered = a.lines;
-        others = with_last s.0 s.1;
-        first = last_behind a.lines s.0 s.1;
-        out = out;
-        after = st;
-        answers_lines = a.answers_lines;
-        unwritten = unwritten;
-        part = e;
+        in_part = first_part a.lines s.0 out written unwritten st a.answers_lines e;
       }
 
-  part_of_all : (bytes out written unwritten : List ℕ) (st : S) → AnsweredAll answers start bytes out st → out ≡ written ++ unwritten → AnsweredInPart answers start bytes written
+  -- at the end too
+  part_at_end : (bytes kept out written unwritten : List ℕ) (st : S) → Answered answers start bytes kept out st → out ≡ written ++ unwritten → AnsweredAllInPart answers start bytes written
+  part_at_end bytes kept out written unwritten st a e = record {
+    lines = a.lines;
+    rest = a.rest;
+    split = a.split;
+    in_part =
+        subst (λ (l : List (List ℕ)). AnswersInPart answers start l written) (last_behind a.lines a.rest)
+        (first_part a.lines (with_last [] a.rest) out written unwritten st a.answers_lines e);
+  }
+
+  part_of_all : (bytes out written unwritten : List ℕ) (st : S) → AnsweredAll answers start bytes out st → out ≡ written ++ unwritten → AnsweredAllInPart answers start bytes written
   part_of_all bytes out written unwritten st a e = record {
     lines = a.lines;
     rest = a.rest;
     split = a.split;
-    answered = with_last a.lines a.rest;
-    others = [];
-    first = sym (append-nil (with_last a.lines a.rest));
-    out = out;
-    after = st;
-    answers_lines = a.answers_lines;
-    unwritten = unwritten;
-    part = e;
+    in_part =
+        subst (λ (l : List (List ℕ)). AnswersInPart answers start l written) (append-nil (with_last a.lines a.rest))
+        (first_part (with_last a.lines a.rest) [] out written unwritten st a.answers_lines e);
   }
 
   -- nothing was read or written yet
@@ -144,10 +157,26 @@ module _ {S : Type 0} (answers : Answering S) (start : S) where
       answered = part_of going.read bytes at.kept going.out going.out [] at.state going.answered (sym (append-nil going.out));
     }
 
-    pub runs_out : (kept : List ℕ) (st : S) (r : Result Bool ReplayFault) → IsErrAnd r (λ e. e ≡ Memory) → (bytes : List ℕ) → Consumes old.left new.left bytes → new.taken ≡ old.taken → CountsByEnd old new 0 → Turned answers start first old new kept st r
-    runs_out kept st (Ok x) h bytes more same counts = absurd h
-    runs_out kept st (Err e) h bytes more same counts =
-        subst (λ (fault : ReplayFault). Turned answers start first old new kept st (Err fault)) (sym h) (starved bytes more same, counts)
+    -- memory ran out at the end
+    starved_at_end : Consumes old.left new.left [] → IsAtEnd new.left → new.taken ≡ old.taken → CutAtEnd answers start first new
+    starved_at_end none over same = record {
+      read = going.read;
+      written = going.out;
+      bytes = read_none none;
+      over = over;
+      sent = subst (λ (t : Option (List ℕ)). Appends first.taken t going.out) (sym same) going.sent;
+      answered = part_at_end going.read at.kept going.out going.out [] at.state going.answered (sym (append-nil going.out));
+    }
+
+    starves : (kept : List ℕ) (st : S) (r : Result Bool ReplayFault) → IsErrAnd r (λ e. e ≡ Memory) → BreaksOff answers start first old new 0 → Turned answers start first old new kept st r
+    starves kept st (Ok x) h b = absurd h
+    starves kept st (Err e) h b = subst (λ (fault : ReplayFault). Turned answers start first old new kept st (Err fault)) (sym h) b
+
+    pub runs_out : (kept : List ℕ) (st : S) (r : Result Bool ReplayFault) → IsErrAnd r (λ e. e ≡ Memory) → (bytes : List ℕ) → Consumes old.left new.left bytes → new.taken ≡ old.taken → Counts old new 0 0 0 → Turned answers start first old new kept st r
+    runs_out kept st r h bytes more same counts = starves kept st r h (inl (starved bytes more same, counts))
+
+    pub runs_out_at_end : (kept : List ℕ) (st : S) (r : Result Bool ReplayFault) → IsErrAnd r (λ e. e ≡ Memory) → Consumes old.left new.left [] → IsAtEnd new.left → new.taken ≡ old.taken → Counts old new 0 1 0 → Turned answers start first old new kept st r
+    runs_out_at_end kept st r h none over same counts = starves kept st r h (inr (starved_at_end none over same, counts))
 
     module _ (next : Place S) (bytes : List ℕ) (none_waits : at.waiting ≡ []) (more : Consumes old.left new.left bytes) (fed : TakesBytes answers start bytes at next) where
       pub goes_on : Appends old.taken new.taken next.waiting → Going answers start first new next.kept next.state
@@ -188,14 +217,15 @@ module _ {S : Type 0} (answers : Answering S) (start : S) where
             answered = f.2;
           }
 
-      pub end_breaks_off : TookFront old.taken new.taken next.waiting → Cut answers start first new
-      end_breaks_off front =
+      pub end_breaks_off : IsAtEnd new.left → TookFront old.taken new.taken next.waiting → CutAtEnd answers start first new
+      end_breaks_off over front =
           let f = done going.read going.out going.answered in
           let written = take front.count f.0 in
           record {
             read = going.read;
             written = going.out ++ written;
             bytes = read_none none;
+            over = over;
             sent = sent_on written (waited next f.0 (λ (l : List ℕ). Appends old.taken new.taken (take front.count l)) none_waits f.1 front.taken);
             answered = part_of_all going.read (going.out ++ f.0) (going.out ++ written) (drop front.count f.0) next.state f.2 (parts going.out f.0 front.count);
           }

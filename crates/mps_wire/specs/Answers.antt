@@ -36,19 +36,30 @@ module _ {S : Type 0} (answers : Answering S) (start : S) where
     pub split : IsSplit bytes lines rest
     pub answers_lines : AnswersLines answers (with_last lines rest) start out after
 
-  -- what is written are answers to the first lines of the bytes, up to some place in them
-  pub record AnsweredInPart (bytes written : List ℕ) : Type 0 where
-    pub lines : List (List ℕ)
-    pub rest : List ℕ
-    pub split : IsSplit bytes lines rest
+  -- what is written are answers to the first of the lines, up to some place in the answers
+  pub record AnswersInPart (lines : List (List ℕ)) (written : List ℕ) : Type 0 where
     pub answered : List (List ℕ)
     pub others : List (List ℕ)
-    pub first : with_last lines rest ≡ answered ++ others
+    pub first : lines ≡ answered ++ others
     pub out : List ℕ
     pub after : S
     pub answers_lines : AnswersLines answers answered start out after
     pub unwritten : List ℕ
     pub part : out ≡ written ++ unwritten
+
+  -- what is written are answers to the first whole lines of the bytes, up to some place in the answers
+  pub record AnsweredInPart (bytes written : List ℕ) : Type 0 where
+    pub lines : List (List ℕ)
+    pub rest : List ℕ
+    pub split : IsSplit bytes lines rest
+    pub in_part : AnswersInPart lines written
+
+  -- the same, where a rest that no LF ends is a line too
+  pub record AnsweredAllInPart (bytes written : List ℕ) : Type 0 where
+    pub lines : List (List ℕ)
+    pub rest : List ℕ
+    pub split : IsSplit bytes lines rest
+    pub in_part : AnswersInPart (with_last lines rest) written
 
   -- after these bytes too each whole line is answered: the answers to theirs wait behind the others
   abbrev pub TakesBytes : List ℕ → Place S → Place S → Type 0

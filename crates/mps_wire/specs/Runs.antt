@@ -1,5 +1,5 @@
 -- What a run comes to, from the streams before it to those after.
-use Rattle.std.specs.Prelude.{◌≡◌, ℕ, ◌+◌, ◌≤◌, Bool, true, false, List, [], Result, Ok, Err, length}
+use Rattle.std.specs.Prelude.{◌≡◌, ℕ, ◌+◌, ◌≤◌, ◌⊎◌, Bool, true, false, List, [], Result, Ok, Err, length}
 use Rattle.std.specs.Io.KnownBytes.{Appends, Consumes, IsAtEnd}
 use Rattle.mps_local.specs.Local.{LocalType}
 use Rattle.mps_base.specs.RoleLists.{HasRoleCount}
@@ -9,9 +9,9 @@ use Rattle.mps_session.specs.declared.open.OpenFault.TheVariants.{RoleCount, Bad
 use Rattle.mps_room.specs.Kept.{Record}
 use Rattle.mps_wire.specs.declared.script.ReplayFault.{ReplayFault}
 use Rattle.mps_wire.specs.declared.script.ReplayFault.TheVariants.{Open, ReadFault, WriteFault, Turns, Memory}
-use Rattle.mps_wire.specs.Answers.{Answering, Answered, AnsweredAll, AnsweredInPart}
+use Rattle.mps_wire.specs.Answers.{Answering, Answered, AnsweredAll, AnsweredInPart, AnsweredAllInPart}
 use Rattle.mps_wire.specs.Script.{AnswersLine}
-use Rattle.mps_wire.specs.Streams.{Streams, Counts, CountsByEnd}
+use Rattle.mps_wire.specs.Streams.{Streams, Counts}
 
 -- how often a stream is read from at most
 abbrev pub max_reads : ℕ
@@ -42,13 +42,22 @@ module _ {S : Type 0} (answers : Answering S) (start : S) (before after : Stream
     pub sent : Appends before.taken after.taken out
     pub answered : AnsweredAll answers start read out st
 
-  -- what was written are answers to the first lines of what was read, up to some place in them
+  -- before the end: what was written are answers to the first whole lines of what was read, up to some place in the answers
   pub record Cut : Type 0 where
     pub read : List ℕ
     pub written : List ℕ
     pub bytes : Consumes before.left after.left read
     pub sent : Appends before.taken after.taken written
     pub answered : AnsweredInPart answers start read written
+
+  -- at the end: the same, where a rest that no LF ends is a line too
+  pub record CutAtEnd : Type 0 where
+    pub read : List ℕ
+    pub written : List ℕ
+    pub bytes : Consumes before.left after.left read
+    pub over : IsAtEnd after.left
+    pub sent : Appends before.taken after.taken written
+    pub answered : AnsweredAllInPart answers start read written
 
 -- the source gave so many bytes, or more
 pub record GaveAtLeast (count : ℕ) (before after : Streams) : Type 0 where
@@ -62,14 +71,20 @@ pub record ReadMost (before after : Streams) : Type 0 where
   pub gave : GaveAtLeast max_reads before after
 
 module _ {S : Type 0} (answers : Answering S) (start : S) (first before after : Streams) where
-  -- what one read and its answers lead to, by their result; first are the streams before the run
+  -- the answers break off after so many failed writes, before the end was found or with it; first are the streams before the run
+  abbrev pub BreaksOff : ℕ → Type 0
+  BreaksOff failed_writes =
+      (Cut answers start first after × Counts before after 0 0 failed_writes)
+      ⊎ (CutAtEnd answers start first after × Counts before after 0 1 failed_writes)
+
+  -- what one read and its answers lead to, by their result
   abbrev pub Turned : List ℕ → S → Result Bool ReplayFault → Type 0
   Turned kept st (Ok true) = Finished answers start first after st × Counts before after 0 1 0
   Turned kept st (Ok false) = Going answers start first after kept st × Counts before after 0 0 0
       × GaveAtLeast 1 before after
   Turned kept st (Err ReadFault) = Stopped answers start first after × Counts before after 1 0 0
-  Turned kept st (Err WriteFault) = Cut answers start first after × CountsByEnd before after 1
-  Turned kept st (Err Memory) = Cut answers start first after × CountsByEnd before after 0
+  Turned kept st (Err WriteFault) = BreaksOff 1
+  Turned kept st (Err Memory) = BreaksOff 0
   Turned kept st (Err Turns) = ⊥
   Turned kept st (Err (Open fault)) = ⊥
 
@@ -81,8 +96,8 @@ module _ {S : Type 0} (answers : Answering S) (start : S) (before after : Stream
   Ran (Err ReadFault) = Stopped answers start before after × Counts before after 1 0 0
   Ran (Err Turns) = Stopped answers start before after × Counts before after 0 0 0
       × ReadMost before after
-  Ran (Err WriteFault) = Cut answers start before after × CountsByEnd before after 1
-  Ran (Err Memory) = Cut answers start before after × CountsByEnd before after 0
+  Ran (Err WriteFault) = BreaksOff answers start before before after 1
+  Ran (Err Memory) = BreaksOff answers start before before after 0
   Ran (Err (Open fault)) = ⊥
 
 -- why a session with these types isn't opened; want of memory is no fault of opening

@@ -1,6 +1,5 @@
 -- What a clause reads of a source and a sink.
-use Rattle.std.specs.Prelude.{◌≡◌, ℕ, ◌+◌, ◌⊎◌, List, Option}
-use Rattle.std.specs.Io.KnownBytes.{IsAtEnd}
+use Rattle.std.specs.Prelude.{◌≡◌, ℕ, ◌+◌, List, Option}
 use Rattle.mps_dev.specs.declared.traits.Source.{Ghosts as SourceGhosts}
 use Rattle.mps_dev.specs.declared.traits.Sink.{Ghosts as SinkGhosts}
 
@@ -30,9 +29,3 @@ pub record Counts (before after : Streams) (failed_reads ends failed_writes : �
   pub reads_failed : after.failed_reads ≡ before.failed_reads + failed_reads
   pub reads_ended : after.ends ≡ before.ends + ends
   pub writes_failed : after.failed_writes ≡ before.failed_writes + failed_writes
-
--- no read failed, so many writes did, and the end was not found yet, or once, with nothing left
-abbrev pub CountsByEnd : Streams → Streams → ℕ → Type 0
-CountsByEnd before after failed_writes =
-    Counts before after 0 0 failed_writes
-    ⊎ (Counts before after 0 1 failed_writes × IsAtEnd after.left)

@@ -1,6 +1,6 @@
 use Rattle.std.proofs.Common.{[], sym, append-nil}
 use Rattle.mps_lines.specs.Lines.{with_last}
-use Rattle.mps_wire.proofs.Faithful.{written_fits}
+use Rattle.mps_wire.proofs.Faithful.{written_fits, part_fits}
 use Rattle.mps_wire.proofs.laws.no_script_meets_a_mismatch.Goals as goal
 
 pub returns-clause-whole : goal.returns-clause-whole
@@ -13,4 +13,8 @@ returns-clause-stopped c names types bytes kept out rest lines after own a split
 
 pub returns-clause-part : goal.returns-clause-part
 returns-clause-part c names types bytes written rest lines own a split =
-    written_fits c.one_reply_line.ensures.reply names types own a.answered lines a.out written a.unwritten rest a.after a.answers_lines a.part split
+    part_fits c.one_reply_line.ensures.reply names types own a.lines lines written rest a.in_part split
+
+pub returns-clause-part_at_end : goal.returns-clause-part_at_end
+returns-clause-part_at_end c names types bytes written rest lines own a split =
+    part_fits c.one_reply_line.ensures.reply names types own (with_last a.lines a.rest) lines written rest a.in_part split
