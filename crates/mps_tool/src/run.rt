@@ -10,8 +10,8 @@ use mps_base::Roles;
 use mps_dev::OverWrite;
 use mps_session::Session;
 use mps_wire::script::replay_session;
-use std::io;
 use std::rt::Files;
+use std::{io, mem};
 
 /// Runs the script in the file on this session of these roles, and prints the answers.
 fn replay<'a, R: Files + AllocGlobal + Print>(
@@ -26,7 +26,9 @@ fn replay<'a, R: Files + AllocGlobal + Print>(
 {
     let mut reader = open_file(rt, script)?;
     let mut writer = OverWrite::new(io::writer(rt));
-    replay_session(rt.alloc(), &mut reader, &mut writer, roles, session)?;
+    let room = replay_session(rt.alloc(), &mut reader, &mut writer, roles, session)?;
+    // the program ends with the script, and its memory goes as a whole
+    mem::forget(room);
     Ok(())
 }
 
