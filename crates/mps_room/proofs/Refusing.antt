@@ -13,24 +13,11 @@ use Rattle.mps_local.specs.Local.{LocalType}
 use Rattle.mps_machine.specs.Faults.{fault, refusal_in}
 use Rattle.mps_machine.specs.Machine.{State, serve}
 use Rattle.mps_session.specs.Answers.{IsAccepted}
+use Rattle.mps_session.proofs.Refused.{same_refusal}
 use Rattle.mps_room.specs.Journal.{most_entries, run, limited, reply, is_accepted, IsReply}
 use Rattle.mps_room.specs.declared.entry.Entry.{Entry}
 use Rattle.mps_room.proofs.Accepting.{accepting}
 use Rattle.mps_room.proofs.Growing.{room_for}
-
--- the refusal that is told is the one that is answered
-same_refusal : (a : Answer) (refusal : Refusal) → refusal_in a ≡ Some refusal → a ≡ Refused refusal
-same_refusal (Refused (Violates v)) refusal e = let is : Violates v ≡ refusal = cc in ap Refused is
-same_refusal (Refused NoStep) refusal e = let is : NoStep ≡ refusal = cc in ap Refused is
-same_refusal (Refused NotYours) refusal e = let is : NotYours ≡ refusal = cc in ap Refused is
-same_refusal (Refused (Needed by)) refusal e = let is : Needed by ≡ refusal = cc in ap Refused is
-same_refusal (Refused NoMark) refusal e = let is : NoMark ≡ refusal = cc in ap Refused is
-same_refusal (Refused Memory) refusal e = let is : Memory ≡ refusal = cc in ap Refused is
-same_refusal (Refused Full) refusal e = absurd cc
-same_refusal (Done done) refusal e = absurd cc
-same_refusal (Undone ids) refusal e = absurd cc
-same_refusal (Told n ids) refusal e = absurd cc
-same_refusal (Shown text) refusal e = absurd cc
 
 -- a refusal is no matter of room
 limited_refusal : (n : ℕ) (a : Answer) (refusal : Refusal) → refusal_in a ≡ Some refusal → IsReply (Refused refusal) (limited n a)

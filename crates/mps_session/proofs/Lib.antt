@@ -23,3 +23,4 @@ pub mod Pasts
 pub mod Compared
 pub mod Projected
 pub mod Known
+pub mod Refused

@@ -1,7 +1,10 @@
 //! Whether a command would be refused.
-ghost use Rattle.std.specs.Prelude.{◌≡◌, ◌<◌, length};
+ghost use Rattle.std.specs.Prelude.{◌≡◌, ◌≢◌, ◌<◌, Err, length};
 ghost use Rattle.std.specs.Result.{result_err};
+ghost use Rattle.mps_command.specs.declared.answer.Refusal.TheVariants.{Violation as Violates};
+ghost use Rattle.mps_command.specs.declared.answer.Violation.TheVariants.{Mismatch};
 ghost use Rattle.mps_command.specs.declared.command.Change.TheVariants as changes;
+ghost use Rattle.mps_fidelity.specs.Fidelity.{AreOfOneProtocol};
 ghost use Rattle.mps_machine.specs.Faults.{fault, refusal_in};
 ghost use Rattle.mps_machine.specs.Machine as machine;
 ghost use Rattle.mps_machine.specs.Violations.{violation};
@@ -17,6 +20,17 @@ impl Session {
     /// Why the command of the role would be refused, before it is looked at whether there is room for what it brings.
     /// How things stand may always be asked. It asks for no memory.
     pub fn would(&self, role: Role, command: &Command) -> Result<(), Refusal>
+        requires { role < length self.now.types }
+        // In a session of one protocol no answer is Mismatch.
+        ensures never_mismatch { AreOfOneProtocol self.now.types → result ≢ Err (Violates Mismatch) }
+        ensures fault { result_err result ≡ fault self.now.types self.now.state role command.now }
+    {
+        let _ = &self.types;
+        self.wants(role, command)
+    }
+
+    // The same, by the kind of command.
+    fn wants(&self, role: Role, command: &Command) -> Result<(), Refusal>
         requires { role < length self.now.types }
         ensures { result_err result ≡ fault self.now.types self.now.state role command.now }
     {
