@@ -1,6 +1,5 @@
 //! What participants ask for.
 ghost use Rattle.std.specs.Prelude.{◌≡◌, IfOk};
-ghost use Rattle.mps_command.specs.Changes.{change_of, command_of};
 
 use mps_base::{Name, Role, StepId, Value};
 use std::alloc::{AllocError, Global};
@@ -101,31 +100,5 @@ impl Command {
             Command::News(known) => Command::News(*known),
             Command::Show => Command::Show,
         })
-    }
-
-    /// The change that is asked for; none, where the command is a question.
-    pub fn into_change(self) -> Option<Change>
-        ensures { result ≡ change_of self }
-    {
-        match self {
-            Command::Forward(step) => Some(Change::Forward(step)),
-            Command::Undo(id) => Some(Change::Undo(id)),
-            Command::Rollback(id) => Some(Change::Rollback(id)),
-            Command::Back(mark) => Some(Change::Back(mark)),
-            Command::News(_) | Command::Show => None,
-        }
-    }
-}
-
-impl From<Change> for Command {
-    ghost from_gives = { λ change command. command ≡ command_of change };
-
-    fn from(change: Change) -> Command {
-        match change {
-            Change::Forward(step) => Command::Forward(step),
-            Change::Undo(id) => Command::Undo(id),
-            Change::Rollback(id) => Command::Rollback(id),
-            Change::Back(mark) => Command::Back(mark),
-        }
     }
 }

@@ -71,27 +71,6 @@ fn copies_changes(rt: HostRuntime) -> Result<(), Fail> {
 }
 
 #[test]
-fn tells_changes(rt: HostRuntime) -> Result<(), Fail> {
-    let alloc = rt.alloc();
-    let b = Role::new(1);
-    let mut changes = Vec::new(alloc);
-    changes.push(Change::Forward(Forward::Pick { from: b }))?;
-    changes.push(Change::Undo(StepId::new(3)))?;
-    changes.push(Change::Rollback(StepId::new(4)))?;
-    changes.push(Change::Back(name(b"m")?))?;
-    for change in &changes {
-        let told = Command::from(change.copy(alloc)?).into_change();
-        let told = told.ok_or("a change")?;
-        let before = format!(in alloc; "{change:?}")?;
-        let after = format!(in alloc; "{told:?}")?;
-        assert_eq!(rt; before.as_str(), after.as_str());
-    }
-    assert!(rt; Command::News(9).into_change().is_none());
-    assert!(rt; Command::Show.into_change().is_none());
-    Ok(())
-}
-
-#[test]
 fn copies_shown_texts(rt: HostRuntime) -> Result<(), Fail> {
     let alloc = rt.alloc();
     let text = ShownText::of(Vec::from_slice(alloc, b"{1 ~}")?);
