@@ -1,7 +1,6 @@
 //! Changes of a room.
-ghost use Rattle.std.specs.Prelude.{◌≡◌, ◌+◌, ◌⊎◌, [], ◌∷◌, ◌++◌, false, ◌<◌, ◌≤◌, length, vec_len, vec_capacity, IsSome, IfErr, OnOk};
+ghost use Rattle.std.specs.Prelude.{◌≡◌, ◌+◌, [], ◌∷◌, ◌++◌, false, ◌<◌, ◌≤◌, length, vec_len, vec_capacity, IsSome, IfErr, OnOk};
 ghost use Rattle.mps_command.specs.Changes.{change_of};
-ghost use Rattle.mps_command.specs.declared.answer.Refusal.TheVariants.{Full as NoRoom, Memory as OutOfMemory};
 ghost use Rattle.mps_room.specs.Journal.{grown, is_accepted, most_entries, reply, HasEntered, IsReply};
 ghost use Rattle.mps_room.specs.Kept.{owners_after, IsShort};
 

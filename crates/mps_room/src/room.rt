@@ -141,7 +141,7 @@ impl Room {
     }
 
     /// Answers the role's command as `apply` does, but tells what is accepted by the journal alone: its newest entry has
-    /// the command and its answer, and none is handed out. So no answer is written twice.
+    /// the command and its answer, and none is handed out. So no answer is made twice.
     pub fn enter(&mut self, role: Role, command: Command) -> Option<Answer>
         requires { role < length self.old.types }
         ensures entered { HasEntered self.old.names self.old.types self.old.journal role command

@@ -26,11 +26,11 @@ impl Session {
         ensures fault { result_err result ≡ fault self.now.types self.now.state role command.now }
     {
         let _ = &self.types;
-        self.wants(role, command)
+        self.fault_of(role, command)
     }
 
     // The same, by the kind of command.
-    fn wants(&self, role: Role, command: &Command) -> Result<(), Refusal>
+    fn fault_of(&self, role: Role, command: &Command) -> Result<(), Refusal>
         requires { role < length self.now.types }
         ensures { result_err result ≡ fault self.now.types self.now.state role command.now }
     {
