@@ -1,5 +1,5 @@
 -- What a caller sees of the fields of an arena.
-use Rattle.std.specs.Prelude.{nat_lt, ◌&&◌, ◌^◌, length, vec_len, vec_capacity, List}
+use Rattle.std.specs.Prelude.{nat_lt, ◌+◌, ◌&&◌, ◌^◌, length, vec_len, vec_capacity, List}
 use Rattle.slab.specs.Slab.{get, slab_len}
 use Rattle.mps_arena.specs.declared.arena.Arena.TheInside.{Inside}
 use Rattle.mps_arena.specs.Entries.{Entry, Entries}
@@ -14,7 +14,7 @@ view_of a = record {
   entries = entries_of a;
   issued = length a.index.items;
   next_key = a.nodes.vacant_key;
-  is_ready = nat_lt (slab_len a.nodes) a.nodes.capacity && nat_lt (vec_len a.index) (vec_capacity a.index) && nat_lt a.nodes.vacant_key (2 ^ 32);
+  is_ready = nat_lt (slab_len a.nodes) a.nodes.capacity && nat_lt (vec_len a.index) (vec_capacity a.index) && nat_lt (a.nodes.vacant_key + 1) (2 ^ 32);
 }
 
 abbrev pub IsArena : Inside → Type 0

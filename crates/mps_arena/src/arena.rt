@@ -49,7 +49,7 @@ impl Arena {
         }
     }
 
-    /// Makes room for one step more, and tells the key that it will have. Where 2^32 keys are in use, there is no
+    /// Makes room for one step more, and tells the key that it will have. Where 2^32 - 1 keys are in use, there is no
     /// room. Nothing else asks for memory.
     pub fn reserve_one(&mut self) -> Result<Key, AllocError>
         ensures ready { OnOk result (IsTrue self.new.is_ready) }
@@ -140,7 +140,7 @@ impl Arena {
         ensures { result ≡ next_in self.now.entries key }
     {
         match self.nodes.get(key.place()) {
-            Some(node) => node.next,
+            Some(node) => node.next.key(),
             None => None,
         }
     }
@@ -150,7 +150,7 @@ impl Arena {
         ensures { result ≡ prev_in self.now.entries key }
     {
         match self.nodes.get(key.place()) {
-            Some(node) => node.prev,
+            Some(node) => node.prev.key(),
             None => None,
         }
     }
@@ -160,7 +160,7 @@ impl Arena {
         ensures { result ≡ next_of_role_in self.now.entries key }
     {
         match self.nodes.get(key.place()) {
-            Some(node) => node.next_of_role,
+            Some(node) => node.next_of_role.key(),
             None => None,
         }
     }
@@ -170,7 +170,7 @@ impl Arena {
         ensures { result ≡ prev_of_role_in self.now.entries key }
     {
         match self.nodes.get(key.place()) {
-            Some(node) => node.prev_of_role,
+            Some(node) => node.prev_of_role.key(),
             None => None,
         }
     }
@@ -180,7 +180,7 @@ impl Arena {
         ensures { result ≡ next_send_in self.now.entries key }
     {
         match self.nodes.get(key.place()) {
-            Some(node) => node.next_send,
+            Some(node) => node.next_send.key(),
             None => None,
         }
     }
@@ -190,7 +190,7 @@ impl Arena {
         ensures { result ≡ prev_send_in self.now.entries key }
     {
         match self.nodes.get(key.place()) {
-            Some(node) => node.prev_send,
+            Some(node) => node.prev_send.key(),
             None => None,
         }
     }
@@ -271,14 +271,14 @@ impl Arena {
     pub fn first(&self) -> Option<Key>
         ensures { result ≡ first_key (keys_of any_step self.now.entries) }
     {
-        self.ends.first
+        self.ends.first.key()
     }
 
     /// The newest step.
     pub fn last(&self) -> Option<Key>
         ensures { result ≡ last_key None (keys_of any_step self.now.entries) }
     {
-        self.ends.last
+        self.ends.last.key()
     }
 
     /// The newest step of the role.
@@ -286,7 +286,7 @@ impl Arena {
         requires { role < 8 }
         ensures { result ≡ last_key None (keys_of (of_role role) self.now.entries) }
     {
-        self.ends.last_of[role.index()]
+        self.ends.last_of[role.index()].key()
     }
 
     /// The newest send of the pair.
@@ -295,6 +295,6 @@ impl Arena {
         requires to { to < 8 }
         ensures { result ≡ last_key None (keys_of (sends from to) self.now.entries) }
     {
-        self.ends.last_send[from.index() * 8 + to.index()]
+        self.ends.last_send[from.index() * 8 + to.index()].key()
     }
 }

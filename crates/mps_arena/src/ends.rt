@@ -4,17 +4,17 @@ ghost use Rattle.std.specs.Option.{option_or};
 ghost use Rattle.mps_arena.specs.Ends.{receiver, end_at, with_end};
 ghost use Rattle.mps_arena.specs.Entries.{IsSmall};
 
-use crate::node::{Before, Key, Node};
+use crate::node::{Before, Key, Link, Node};
 use mps_base::{Act, Step};
 
 /// The first and the last steps: of all, of each role, of each pair.
 #[derive(Drop)]
 pub(crate) struct Ends {
-    pub(crate) first: Option<Key>,
-    pub(crate) last: Option<Key>,
-    pub(crate) last_of: [Option<Key>; 8],
+    pub(crate) first: Link,
+    pub(crate) last: Link,
+    pub(crate) last_of: [Link; 8],
     // the last send from p to q at p * 8 + q
-    pub(crate) last_send: [Option<Key>; 64],
+    pub(crate) last_send: [Link; 64],
 }
 
 impl Ends {
@@ -27,11 +27,12 @@ impl Ends {
         ensures role_count { length result.last_of ≡ 8 }
         ensures pair_count { length result.last_send ≡ 64 }
     {
+        let none = Link::none();
         Ends {
-            first: None,
-            last: None,
-            last_of: [None; 8],
-            last_send: [None; 64],
+            first: none,
+            last: none,
+            last_of: [none; 8],
+            last_send: [none; 64],
         }
     }
 
@@ -56,18 +57,18 @@ impl Ends {
         let role = step.role.index();
         let prev_send = match &step.act {
             Act::Out { to, .. } => self.last_send[role * 8 + to.index()],
-            _ => None,
+            _ => Link::none(),
         };
         Node {
             step,
             before,
-            next: None,
+            next: Link::none(),
             prev: self.last,
-            next_of_role: None,
+            next_of_role: Link::none(),
             prev_of_role: self.last_of[role],
-            next_send: None,
+            next_send: Link::none(),
             prev_send,
-            mate: source,
+            mate: Link::of(source),
             marked: false,
         }
     }
@@ -82,12 +83,12 @@ impl Ends {
     {
         let role = step.role.index();
         if self.first.is_none() {
-            self.first = Some(key);
+            self.first = Link::to(key);
         }
-        self.last = Some(key);
-        self.last_of[role] = Some(key);
+        self.last = Link::to(key);
+        self.last_of[role] = Link::to(key);
         if let Act::Out { to, .. } = &step.act {
-            self.last_send[role * 8 + to.index()] = Some(key);
+            self.last_send[role * 8 + to.index()] = Link::to(key);
         }
     }
 

@@ -6,16 +6,16 @@ ghost use Rattle.mps_arena.specs.Links.{joined, parted, indexed_key};
 ghost use Rattle.mps_arena.specs.Keys.{is_at};
 ghost use Rattle.mps_arena.specs.Rewrites.{Rewrites};
 
-use crate::node::{Key, Node};
+use crate::node::{Key, Link, Node};
 use mps_base::StepId;
 use slab::Slab;
 
 /// Writes what stands behind that node, if there is one.
-pub(crate) fn set_next(nodes: &mut Slab<Node>, at: Option<Key>, to: Option<Key>)
+pub(crate) fn set_next(nodes: &mut Slab<Node>, at: Link, to: Link)
     ensures { Rewrites nodes.old nodes.new (λ k n.
         record n { next = if is_at at k then to else n.next }) }
 {
-    if let Some(key) = at {
+    if let Some(key) = at.key() {
         if let Some(node) = nodes.get_mut(key.place()) {
             node.next = to;
         }
@@ -23,11 +23,11 @@ pub(crate) fn set_next(nodes: &mut Slab<Node>, at: Option<Key>, to: Option<Key>)
 }
 
 /// Writes what stands before that node, if there is one.
-pub(crate) fn set_prev(nodes: &mut Slab<Node>, at: Option<Key>, to: Option<Key>)
+pub(crate) fn set_prev(nodes: &mut Slab<Node>, at: Link, to: Link)
     ensures { Rewrites nodes.old nodes.new (λ k n.
         record n { prev = if is_at at k then to else n.prev }) }
 {
-    if let Some(key) = at {
+    if let Some(key) = at.key() {
         if let Some(node) = nodes.get_mut(key.place()) {
             node.prev = to;
         }
@@ -35,11 +35,11 @@ pub(crate) fn set_prev(nodes: &mut Slab<Node>, at: Option<Key>, to: Option<Key>)
 }
 
 /// Writes the next step of the role behind that node, if there is one.
-pub(crate) fn set_next_of_role(nodes: &mut Slab<Node>, at: Option<Key>, to: Option<Key>)
+pub(crate) fn set_next_of_role(nodes: &mut Slab<Node>, at: Link, to: Link)
     ensures { Rewrites nodes.old nodes.new (λ k n.
         record n { next_of_role = if is_at at k then to else n.next_of_role }) }
 {
-    if let Some(key) = at {
+    if let Some(key) = at.key() {
         if let Some(node) = nodes.get_mut(key.place()) {
             node.next_of_role = to;
         }
@@ -47,11 +47,11 @@ pub(crate) fn set_next_of_role(nodes: &mut Slab<Node>, at: Option<Key>, to: Opti
 }
 
 /// Writes the next send of the pair behind that node, if there is one.
-pub(crate) fn set_next_send(nodes: &mut Slab<Node>, at: Option<Key>, to: Option<Key>)
+pub(crate) fn set_next_send(nodes: &mut Slab<Node>, at: Link, to: Link)
     ensures { Rewrites nodes.old nodes.new (λ k n.
         record n { next_send = if is_at at k then to else n.next_send }) }
 {
-    if let Some(key) = at {
+    if let Some(key) = at.key() {
         if let Some(node) = nodes.get_mut(key.place()) {
             node.next_send = to;
         }
@@ -59,11 +59,11 @@ pub(crate) fn set_next_send(nodes: &mut Slab<Node>, at: Option<Key>, to: Option<
 }
 
 /// Writes the other end of that node, if there is one.
-pub(crate) fn set_mate(nodes: &mut Slab<Node>, at: Option<Key>, to: Option<Key>)
+pub(crate) fn set_mate(nodes: &mut Slab<Node>, at: Link, to: Link)
     ensures { Rewrites nodes.old nodes.new (λ k n.
         record n { mate = if is_at at k then to else n.mate }) }
 {
-    if let Some(key) = at {
+    if let Some(key) = at.key() {
         if let Some(node) = nodes.get_mut(key.place()) {
             node.mate = to;
         }
@@ -81,9 +81,10 @@ pub(crate) fn set_marked(nodes: &mut Slab<Node>, key: Key, marked: bool)
 }
 
 /// Takes a node in, behind the last of each of its chains and against its source, and tells its key.
+#[inline(never)]
 pub(crate) fn join(nodes: &mut Slab<Node>, node: Node) -> Key
     requires room { HasRoomFor nodes.old 1 }
-    requires small { nodes.old.vacant_key < 2 ^ 32 }
+    requires small { nodes.old.vacant_key + 1 < 2 ^ 32 }
     ensures key { result ≡ nodes.old.vacant_key }
     ensures vacant { get nodes.old result ≡ None }
     ensures nodes { (k : ℕ) → get nodes.new k
@@ -95,10 +96,11 @@ pub(crate) fn join(nodes: &mut Slab<Node>, node: Node) -> Key
     let prev_send = node.prev_send;
     let mate = node.mate;
     let key = Key::small(nodes.insert_reserved(node));
-    set_next(nodes, prev, Some(key));
-    set_next_of_role(nodes, prev_of_role, Some(key));
-    set_next_send(nodes, prev_send, Some(key));
-    set_mate(nodes, mate, Some(key));
+    let link = Link::to(key);
+    set_next(nodes, prev, link);
+    set_next_of_role(nodes, prev_of_role, link);
+    set_next_send(nodes, prev_send, link);
+    set_mate(nodes, mate, link);
     key
 }
 
@@ -111,14 +113,15 @@ pub(crate) fn part(nodes: &mut Slab<Node>, key: Key) -> Node
     ensures len { slab_len nodes.new + 1 ≡ slab_len nodes.old }
     ensures next_key { nodes.new.vacant_key ≡ key }
     ensures capacity { nodes.new.capacity ≡ nodes.old.capacity }
-    ensures small { key < 2 ^ 32 }
+    ensures small { key + 1 < 2 ^ 32 }
 {
     let node = nodes.remove(key.place());
+    let none = Link::none();
     set_next(nodes, node.prev, node.next);
     set_prev(nodes, node.next, node.prev);
-    set_next_of_role(nodes, node.prev_of_role, None);
-    set_next_send(nodes, node.prev_send, None);
-    set_mate(nodes, node.mate, None);
+    set_next_of_role(nodes, node.prev_of_role, none);
+    set_next_send(nodes, node.prev_send, none);
+    set_mate(nodes, node.mate, none);
     node
 }
 

@@ -1,5 +1,5 @@
 //! Nodes: steps with their neighbours.
-ghost use Rattle.std.specs.Prelude.{◌≡◌, ◌<◌, ◌^◌, ◌==◌, IfOk, IsOk};
+ghost use Rattle.std.specs.Prelude.{◌≡◌, ◌<◌, ◌+◌, ◌^◌, ◌==◌, Some, None, is_none, IfOk, IsOk};
 ghost use Rattle.mps_arena.specs.Receipts.{receipt_mate, source_mate};
 
 use mps_base::{Act, Step};
@@ -11,11 +11,13 @@ use std::marker::Model;
 pub struct Key(u32);
 
 impl Model for Key {
-    ghost use Rattle.std.specs.Prelude.{ℕ};
+    ghost use Rattle.std.specs.Prelude.{ℕ, ◌+◌, ◌<◌, ◌^◌};
 
     ghost Value = { ℕ };
 
     ghost view = { λ k. k.0 };
+
+    ghost invariant = { λ k. k.0 + 1 < 2 ^ 32 };
 
     ghost inverse = { λ n. record { 0 = n } };
 }
@@ -24,18 +26,18 @@ impl Key {
     /// The key of a place, where there are few enough.
     pub(crate) fn of(place: usize) -> Result<Key, AllocError>
         ensures key { IfOk result (λ key. key ≡ place) }
-        ensures small { IfOk result (λ key. place < 2 ^ 32) }
-        ensures succeeds { place < 2 ^ 32 → IsOk result }
+        ensures small { IfOk result (λ key. place + 1 < 2 ^ 32) }
+        ensures succeeds { place + 1 < 2 ^ 32 → IsOk result }
     {
-        match u32::try_from(place) {
-            Ok(number) => Ok(Key(number)),
-            Err(_) => Err(AllocError),
+        if place >= u32::MAX as usize {
+            return Err(AllocError);
         }
+        Ok(Key(place as u32))
     }
 
-    /// The key of a place below 2^32.
+    /// The key of a place below 2^32 - 1.
     pub(crate) fn small(place: usize) -> Key
-        requires { place < 2 ^ 32 }
+        requires { place + 1 < 2 ^ 32 }
         ensures { result ≡ place }
     {
         Key(place as u32)
@@ -51,9 +53,74 @@ impl Key {
     /// The place itself.
     pub(crate) fn place(self) -> usize
         ensures place { result ≡ self }
-        ensures small { result < 2 ^ 32 }
+        ensures small { result + 1 < 2 ^ 32 }
     {
         self.0 as usize
+    }
+}
+
+/// The key of a neighbour, or none. It is one number, so a node's links are read and written at once, where an
+/// `Option<Key>` has a tag and a gap.
+#[derive(Clone, Copy)]
+pub(crate) struct Link(
+    // one more than the key; 0 for none
+    u32,
+);
+
+impl Model for Link {
+    ghost use Rattle.std.specs.Prelude.{ℕ, Option};
+    ghost use Rattle.mps_arena.specs.Linked.{one_above, one_below, restored};
+
+    ghost Value = { Option ℕ };
+
+    ghost view = { λ l. one_below l.0 };
+
+    ghost inverse = { λ o. record { 0 = one_above o } };
+
+    ghost inverse_ok = { λ l _. restored l };
+}
+
+impl Link {
+    /// No neighbour.
+    pub(crate) fn none() -> Link
+        ensures { result ≡ None }
+    {
+        Link(0)
+    }
+
+    /// The link to that neighbour.
+    pub(crate) fn to(key: Key) -> Link
+        ensures { result ≡ Some key }
+    {
+        Link(key.0 + 1)
+    }
+
+    /// The link that an option is.
+    pub(crate) fn of(key: Option<Key>) -> Link
+        ensures { result ≡ key }
+    {
+        match key {
+            Some(key) => Link::to(key),
+            None => Link::none(),
+        }
+    }
+
+    /// The neighbour, if there is one.
+    pub(crate) fn key(self) -> Option<Key>
+        ensures { result ≡ self }
+    {
+        if self.0 == 0 {
+            None
+        } else {
+            Some(Key(self.0 - 1))
+        }
+    }
+
+    /// Whether there is no neighbour.
+    pub(crate) fn is_none(self) -> bool
+        ensures { result ≡ is_none self }
+    {
+        self.0 == 0
     }
 }
 
@@ -71,33 +138,33 @@ pub struct Before {
 pub(crate) struct Node {
     pub(crate) step: Step,
     pub(crate) before: Before,
-    pub(crate) next: Option<Key>,
-    pub(crate) prev: Option<Key>,
-    pub(crate) next_of_role: Option<Key>,
-    pub(crate) prev_of_role: Option<Key>,
-    pub(crate) next_send: Option<Key>,
-    pub(crate) prev_send: Option<Key>,
+    pub(crate) next: Link,
+    pub(crate) prev: Link,
+    pub(crate) next_of_role: Link,
+    pub(crate) prev_of_role: Link,
+    pub(crate) next_send: Link,
+    pub(crate) prev_send: Link,
     // the receipt of a send, the send of a receipt
-    pub(crate) mate: Option<Key>,
+    pub(crate) mate: Link,
     pub(crate) marked: bool,
 }
 
 /// The other end of a send.
-pub(crate) fn receipt_at(act: &Act, mate: Option<Key>) -> Option<Key>
+pub(crate) fn receipt_at(act: &Act, mate: Link) -> Option<Key>
     ensures { result ≡ receipt_mate act.now mate }
 {
     match act {
-        Act::Out { .. } => mate,
+        Act::Out { .. } => mate.key(),
         _ => None,
     }
 }
 
 /// The other end of a receipt.
-pub(crate) fn source_at(act: &Act, mate: Option<Key>) -> Option<Key>
+pub(crate) fn source_at(act: &Act, mate: Link) -> Option<Key>
     ensures { result ≡ source_mate act.now mate }
 {
     match act {
-        Act::In { .. } => mate,
+        Act::In { .. } => mate.key(),
         _ => None,
     }
 }

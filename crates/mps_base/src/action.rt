@@ -8,14 +8,19 @@ use std::marker::Model;
 
 /// A role of a session, by its place in the list of roles, from 0.
 #[derive(Clone, Copy, Debug, PartialEq, Eq, PartialOrd, Ord, Hash)]
-pub struct Role(u8);
+pub struct Role(
+    // as wide as a word: a byte would leave gaps in each value that holds a role, and each move would carry them
+    usize,
+);
 
 impl Model for Role {
-    ghost use Rattle.std.specs.Prelude.{ℕ};
+    ghost use Rattle.std.specs.Prelude.{ℕ, ◌<◌, ◌^◌};
 
     ghost Value = { ℕ };
 
     ghost view = { λ r. r.0 };
+
+    ghost invariant = { λ r. r.0 < 2 ^ 8 };
 
     ghost inverse = { λ n. record { 0 = n } };
 }
@@ -25,7 +30,7 @@ impl Role {
     pub const fn new(index: u8) -> Role
         ensures { result ≡ index }
     {
-        Role(index)
+        Role(index as usize)
     }
 
     /// Its place in the list of roles.
@@ -33,7 +38,7 @@ impl Role {
         ensures place { result ≡ self }
         ensures small { result < 2 ^ 8 }
     {
-        usize::from(self.0)
+        self.0
     }
 
     /// Whether it is that role.

@@ -122,8 +122,16 @@ fn name_bytes(bytes: &[u8]) -> Option<Inline>
     Some(word)
 }
 
-// Whether the bytes are no reserved word.
+// Whether the bytes are no reserved word. Each of those has three to five bytes, so most names are free at once.
 fn is_free(bytes: &[u8]) -> bool
+    ensures { IsTrue result ↔ IsNoneOf reserved_words bytes.now }
+{
+    bytes.len() < 3 || bytes.len() > 5 || is_no_word(bytes)
+}
+
+// Whether the bytes are none of the reserved words.
+#[inline(never)]
+fn is_no_word(bytes: &[u8]) -> bool
     ensures { IsTrue result ↔ IsNoneOf reserved_words bytes.now }
 {
     is_no_structure(bytes) && is_no_sort(bytes) && is_no_bool(bytes)

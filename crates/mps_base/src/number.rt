@@ -34,7 +34,7 @@ fn read_digits(digits: &[u8]) -> Option<u64>
 }
 
 // The same of so few digits that no sum needs to be looked at.
-#[inline(never)]
+#[inline(always)]
 fn read_few(digits: &[u8]) -> Option<u64>
     requires { length digits.now ≤ 19 }
     ensures read { IfSome result (λ n. AllDigits 10 digits.now × (digits_value 10 digits.now ≡ n)) }

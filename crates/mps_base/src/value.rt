@@ -79,6 +79,7 @@ impl Text {
     }
 
     /// The text of a copy of these bytes.
+    #[inline(never)]
     pub(crate) fn from_slice(alloc: Global, bytes: &[u8]) -> Result<Text, AllocError>
         requires { IsText bytes.now }
         ensures { IfOk result (λ text. text ≡ bytes.now) }

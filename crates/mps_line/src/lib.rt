@@ -10,7 +10,7 @@ pub mod script;
 pub mod spelling;
 
 pub use reader::{read_answer, read_join};
-pub use reply::{Reply, write_answer, write_bad_line};
+pub use reply::{Reply, write_answer, write_bad_line, write_refused};
 pub use script::{LineFault, read_command, read_script_line};
 pub use spelling::write_command;
 

@@ -2,6 +2,7 @@
 ghost use Rattle.std.specs.Prelude.{◌≡◌, [], OnOk, OnErr};
 ghost use Rattle.std.specs.Io.{StartsWith};
 ghost use Rattle.mps_base.specs.Appends.{Appends};
+ghost use Rattle.mps_command.specs.declared.answer.Answer.TheVariants.{Refused};
 ghost use Rattle.mps_command.specs.declared.answer.Refusal.TheVariants.{Violation as Violates};
 ghost use Rattle.mps_line.specs.Tokens.{SpellsToken, SpellsLine};
 ghost use Rattle.mps_line.specs.Replies.{SpellsReply, message_token, done_tokens, undone_tokens, news_tokens, refusal_tokens, word_of};
@@ -111,11 +112,19 @@ pub fn write_answer(answer: &Answer, out: &mut Vec<u8>) -> Result<(), AllocError
         Answer::Undone(ids) => write_undone(ids.as_slice(), out),
         Answer::News { length, ids } => write_news(*length, ids.as_slice(), out),
         Answer::Shown(text) => out.extend_from_slice(text.as_bytes()),
-        Answer::Refused(refusal) => {
-            out.extend_from_slice(b"refused ")?;
-            write_refusal(refusal, out)
-        }
+        Answer::Refused(refusal) => write_refused(refusal, out),
     }
+}
+
+/// Writes that a command is refused, at the end, without a line break: what `write_answer` writes of such an answer.
+/// Where memory runs out, a part of it may stand there.
+pub fn write_refused(refusal: &Refusal, out: &mut Vec<u8>) -> Result<(), AllocError>
+    ensures ok { OnOk result (Appends
+        (λ text. SpellsReply text (Answered (Refused refusal.now))) out.old.items out.new.items) }
+    ensures err { OnErr result (StartsWith out.new.items out.old.items) }
+{
+    out.extend_from_slice(b"refused ")?;
+    write_refusal(refusal, out)
 }
 
 // Writes the number of the step and the message that it took, or a part of them.

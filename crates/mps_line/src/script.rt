@@ -155,9 +155,7 @@ fn read_arguments(
     }
 }
 
-// The command of any other verb, which takes one argument, or none. It stands apart, since the places for its names
-// would otherwise be cleared for each line.
-#[inline(never)]
+// The command of any other verb, which takes one argument, or none.
 fn read_argument(roles: &Roles, verb: Verb, bytes: &[u8]) -> Option<Command>
     requires send { verb ≢ Verb.Send }
     requires choose { verb ≢ Verb.Choose }

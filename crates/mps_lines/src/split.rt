@@ -24,6 +24,7 @@ pub fn line_end(bytes: &[u8]) -> Option<usize>
 }
 
 /// Adds to the front of a line what comes of it. More than `MOST_KEPT` bytes are dropped.
+#[inline(never)]
 pub fn keep(line: &mut Vec<u8>, piece: &[u8]) -> Result<(), AllocError>
     requires { length line.old.items ≤ most_kept }
     ensures ok { OnOk result (line.new.items ≡ front (line.old.items ++ piece.now)) }

@@ -48,6 +48,7 @@ impl Pending {
     }
 
     /// Where the step is marked too: its role's next step and its receipt depend on it.
+    #[inline(always)]
     pub(crate) fn follow(&mut self, arena: &Arena, key: Key)
         requires size { length self.old.firsts ≡ 8 }
         requires present { IsSome (entry_at key arena.now.entries) }

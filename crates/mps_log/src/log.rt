@@ -202,6 +202,7 @@ impl Log {
     }
 
     /// Puts a send or a choice behind all other steps, with the next number. The role stood at the node `at`.
+    #[inline(always)]
     pub fn send(
         &mut self,
         role: Role,

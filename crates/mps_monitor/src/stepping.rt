@@ -18,6 +18,7 @@ use mps_table::{Node, Table};
 /// The node at which a role goes on that stands at this one, or the first reason why the command is
 /// not allowed there. The message is the first that waits from the peer whom the command names, if
 /// one does.
+#[inline(always)]
 pub fn next_node(
     table: &Table,
     node: Node,

@@ -31,6 +31,7 @@ pub enum Advance {
 /// How a role goes on that expects this, or the first reason why the command is not allowed. The
 /// message is the first that waits from the peer whom the command names, if one does. Nothing is
 /// allocated.
+#[inline(always)]
 pub fn judge(
     expected: Expect<'_>,
     command: &Forward,

@@ -1,5 +1,5 @@
 -- Journals: what a session accepted, each command with its role and its answer.
-use Rattle.std.specs.Prelude.{◌≡◌, ℕ, ◌<◌, ◌≤◌, ⊤, Bool, true, false, ◌==◌, ◌&&◌, nat_lt, if◌then◌else◌, List, [], ◌∷◌, ◌++◌, length, drop, Option, Some, None}
+use Rattle.std.specs.Prelude.{◌≡◌, ℕ, ◌<◌, ◌≤◌, ⊤, Bool, true, false, ◌==◌, ◌&&◌, nat_lt, if◌then◌else◌, List, [], ◌∷◌, ◌++◌, length, drop}
 use Rattle.std.specs.Borrow.{Bor}
 use Rattle.std.specs.List.{filter, flat_map, list_any}
 use Rattle.std.specs.Option.{option_map_or}
@@ -100,12 +100,12 @@ IsReply answer (Refused refusal) = answer ≡ Refused refusal
 IsReply (Refused Memory) wanted = ⊤
 IsReply answer wanted = answer ≡ wanted
 
--- role p's command is answered as is wanted; an answer that accepts is told by the journal alone, any other by the call
-pub record HasEntered (names : List (List ℕ)) (types : List LocalType) (j : List Entry) (p : ℕ) (c : Command) (told : Option Answer) (after : List Entry) : Type 0 where
+-- role p's command is accepted as is wanted, and joins the journal with its answer
+pub record HasEntered (names : List (List ℕ)) (types : List LocalType) (j : List Entry) (p : ℕ) (c : Command) (after : List Entry) : Type 0 where
   pub answer : Answer
   pub wanted : IsReply answer (reply names types j p c)
-  pub joined : after ≡ grown j p c answer
-  pub handed_out : told ≡ (if is_accepted answer then None else Some answer)
+  pub accepted : is_accepted answer ≡ true
+  pub joined : after ≡ j ++ record { role = p; command = c; answer = answer } ∷ []
 
 -- an entry, as it is shown
 abbrev pub as_entry : ℕ × Bor Command × Bor Answer → Entry

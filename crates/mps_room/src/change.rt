@@ -1,7 +1,8 @@
 //! Changes of a room.
-ghost use Rattle.std.specs.Prelude.{◌≡◌, ◌+◌, [], ◌∷◌, ◌++◌, false, ◌<◌, ◌≤◌, length, vec_len, vec_capacity, IsSome, IfErr, OnOk};
+ghost use Rattle.std.specs.Prelude.{◌≡◌, ◌+◌, [], ◌∷◌, ◌++◌, ◌<◌, ◌≤◌, length, vec_len, vec_capacity, IsSome, IfErr, OnOk, OnErr};
 ghost use Rattle.mps_command.specs.Changes.{change_of};
-ghost use Rattle.mps_room.specs.Journal.{grown, is_accepted, most_entries, reply, HasEntered, IsReply};
+ghost use Rattle.mps_command.specs.declared.answer.Answer.TheVariants.{Refused};
+ghost use Rattle.mps_room.specs.Journal.{grown, most_entries, reply, HasEntered, IsReply};
 ghost use Rattle.mps_room.specs.Kept.{owners_after, IsShort};
 
 use crate::entry::Entry;
@@ -51,7 +52,7 @@ impl Room {
         ensures types { self.new.types ≡ self.old.types }
     {
         if let Err(refusal) = make_room(&mut self.journal, &mut self.owners) {
-            return self.refused(role, &command, refusal);
+            return Answer::Refused(self.refused(role, &command, refusal));
         }
         match self.session.accept_twice(role, &command) {
             Ok((told, answer)) => {
@@ -67,17 +68,22 @@ impl Room {
         }
     }
 
-    /// Does the change that the command asks for, whose answer the journal tells, or says why not.
-    pub(crate) fn enter_change(&mut self, role: Role, command: Command) -> Option<Answer>
+    /// Does the change that the command asks for, or says why not, as `apply` does, but tells the answer by the journal
+    /// alone: its newest entry has the command and its answer. So no answer is made twice.
+    #[inline(always)]
+    pub fn enter(&mut self, role: Role, command: Command) -> Result<(), Refusal>
         requires role { role < length self.old.types }
         requires change { IsSome (change_of command) }
-        ensures entered { HasEntered self.old.names self.old.types self.old.journal role command
-            result self.new.journal }
+        ensures entered { OnOk result (HasEntered self.old.names self.old.types self.old.journal role command
+            self.new.journal) }
+        ensures refused { IfErr result (λ refusal. IsReply (Refused refusal)
+            (reply self.old.names self.old.types self.old.journal role command)) }
+        ensures err { OnErr result (self.new.journal ≡ self.old.journal) }
         ensures names { self.new.names ≡ self.old.names }
         ensures types { self.new.types ≡ self.old.types }
     {
         if let Err(refusal) = make_room(&mut self.journal, &mut self.owners) {
-            return Some(self.refused(role, &command, refusal));
+            return Err(self.refused(role, &command, refusal));
         }
         match self.session.accept(role, &command) {
             Ok(answer) => {
@@ -87,25 +93,24 @@ impl Room {
                     answer,
                 };
                 keep(&mut self.journal, &mut self.owners, entry);
-                None
+                Ok(())
             }
-            Err(refusal) => Some(Answer::Refused(refusal)),
+            Err(refusal) => Err(refusal),
         }
     }
 
     // The refusal of a change for which there is no room in the journal or no memory: the machine's, if it refuses, else
     // this one.
-    fn refused(&self, role: Role, command: &Command, refusal: Refusal) -> Answer
+    fn refused(&self, role: Role, command: &Command, refusal: Refusal) -> Refusal
         requires role { role < length self.now.types }
         requires change { IsSome (change_of command.now) }
         requires short { IsShort self.now.journal refusal }
-        ensures answer { IsReply result
+        ensures { IsReply (Refused result)
             (reply self.now.names self.now.types self.now.journal role command.now) }
-        ensures refused { is_accepted result ≡ false }
     {
         match self.session.would(role, command) {
-            Err(refusal) => Answer::Refused(refusal),
-            Ok(()) => Answer::Refused(refusal),
+            Err(refusal) => refusal,
+            Ok(()) => refusal,
         }
     }
 }

@@ -3,7 +3,7 @@ ghost use Rattle.std.specs.Prelude.{◌≡◌, ◌<◌, ◌++◌, ◌∷◌, ℕ
 ghost use Rattle.std.specs.Option.{option_map};
 ghost use Rattle.mps_command.specs.declared.command.Command.TheVariants as commands;
 ghost use Rattle.mps_machine.specs.Machine.{initial};
-ghost use Rattle.mps_room.specs.Journal.{as_entry, grown, is_accepted, news, reply, run, HasEntered, IsLegal, IsReply};
+ghost use Rattle.mps_room.specs.Journal.{as_entry, grown, is_accepted, news, reply, run, IsLegal, IsReply};
 ghost use Rattle.mps_room.specs.declared.entry.Entry.{Entry};
 ghost use Rattle.mps_show.specs.Shown.{show_text, shown};
 ghost use Rattle.serde_json.specs.View.{view};
@@ -140,22 +140,6 @@ impl Room {
         }
     }
 
-    /// Answers the role's command as `apply` does, but tells what is accepted by the journal alone: its newest entry has
-    /// the command and its answer, and none is handed out. So no answer is made twice.
-    pub fn enter(&mut self, role: Role, command: Command) -> Option<Answer>
-        requires { role < length self.old.types }
-        ensures entered { HasEntered self.old.names self.old.types self.old.journal role command
-            result self.new.journal }
-        ensures names { self.new.names ≡ self.old.names }
-        ensures types { self.new.types ≡ self.old.types }
-    {
-        match command {
-            Command::News(known) => Some(self.tell_news(role, known)),
-            Command::Show => Some(self.tell_show()),
-            change => self.enter_change(role, change),
-        }
-    }
-
     /// The answer of the newest entry.
     pub fn newest_answer(&self) -> &Answer
         requires { 0 < length self.now.journal }
@@ -165,8 +149,8 @@ impl Room {
         &self.journal[self.journal.len() - 1].answer
     }
 
-    // Answers what others took back.
-    fn tell_news(&self, role: Role, known: u64) -> Answer
+    /// Answers what others took back, as `apply` does.
+    pub fn tell_news(&self, role: Role, known: u64) -> Answer
         ensures answer { IsReply result
             (reply self.now.names self.now.types self.now.journal role (commands.News known)) }
         ensures asked { is_accepted result ≡ false }
@@ -177,8 +161,8 @@ impl Room {
         }
     }
 
-    // Answers how the session stands.
-    fn tell_show(&self) -> Answer
+    /// Answers how the session stands, as `apply` does.
+    pub fn tell_show(&self) -> Answer
         ensures answer { (role : ℕ) → IsReply result
             (reply self.now.names self.now.types self.now.journal role commands.Show) }
         ensures asked { is_accepted result ≡ false }

@@ -122,6 +122,7 @@ impl Session {
     }
 
     // Takes the step, and tells the answer.
+    #[inline(always)]
     fn accept_step(&mut self, role: Role, step: &Forward) -> Result<Answer, Refusal>
         requires role { role < length self.old.types }
         ensures accepted { IsAccepted (changes.Forward step.now) result self.old.state self.new.state

@@ -44,6 +44,7 @@ impl Configuration {
 
     /// The node at which the role goes on after the command, or why its type doesn't allow it. The message is the
     /// first that waits for it, if it would take one.
+    #[inline(always)]
     pub(crate) fn verdict(
         &self,
         role: Role,

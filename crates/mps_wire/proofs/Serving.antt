@@ -1,5 +1,6 @@
 -- What a line is answered, from what the room answers.
-use Rattle.std.proofs.Common.{◌≡◌, ℕ, zero, suc, ◌<◌, arith, List, [], ◌∷◌, length, Result, Ok, Err, inl, inr, refl}
+use Rattle.std.proofs.Common.{◌≡◌, ℕ, zero, suc, ◌<◌, arith, false, List, [], ◌∷◌, ◌++◌, length, Result, Ok, Err, inl, inr, refl, sym}
+use Rattle.std.proofs.lemmas.Bool.{cond-false}
 use Rattle.std.specs.Prelude.{OnOk}
 use Rattle.std.specs.List.{AllByRecursion}
 use Rattle.std.specs.Str.{IsAscii}
@@ -14,10 +15,10 @@ use Rattle.mps_line.specs.Commands.{SpellsScriptLine, command_tokens}
 use Rattle.mps_line.specs.Tokens.{RoleAt, SpellEach}
 use Rattle.mps_line.proofs.Shown.{shown_line}
 use Rattle.mps_room.specs.declared.entry.Entry.{Entry}
-use Rattle.mps_room.specs.Journal.{grown, reply, IsReply}
+use Rattle.mps_room.specs.Journal.{grown, reply, is_accepted, IsReply}
 use Rattle.mps_line.specs.declared.reply.Reply.TheVariants.{Answered}
 use Rattle.mps_command.specs.declared.answer.Answer.{Answer}
-use Rattle.mps_wire.specs.Script.{IsReadable, RepliesTo, AnswersLine}
+use Rattle.mps_wire.specs.Script.{IsReadable, IsAnswered, RepliesTo, AnswersLine}
 
 -- the role of a line is one of the names
 pub role_within : (names : List (List ℕ)) (line : List ℕ) (role : ℕ) (command : Command) → SpellsScriptLine names line role command → role < length names
@@ -41,10 +42,23 @@ pub answers_line : {T E : Type 0} (names : List (List ℕ)) (types : List LocalT
 answers_line names types line journal after reply (Ok x) old new replies a = (a.0, a.1, record { reply = reply; replies = replies; spelled = a.2 })
 answers_line names types line journal after reply (Err e) old new replies a = tt
 
+-- the text of the answer answers the command
+pub answered : {T E : Type 0} (names : List (List ℕ)) (types : List LocalType) (journal : List Entry) (role : ℕ) (command : Command) (after : List Entry) (answer : Answer) (written : Result T E) (old new : List ℕ)
+    → IsReply answer (reply names types journal role command)
+    → after ≡ grown journal role command answer
+    → OnOk written (Appends (λ text. SpellsReply text (Answered answer)) old new)
+    → OnOk written (IsAnswered names types journal role command after old new)
+answered names types journal role command after answer (Ok x) old new wanted joined written = (answer, wanted, joined, written)
+answered names types journal role command after answer (Err e) old new wanted joined written = tt
+
+-- an answer that accepts nothing leaves the journal
+pub unchanged : (journal : List Entry) (role : ℕ) (command : Command) (answer : Answer) → is_accepted answer ≡ false → journal ≡ grown journal role command answer
+unchanged journal role command answer asked = sym (cond-false (is_accepted answer) (journal ++ record { role = role; command = command; answer = answer } ∷ []) journal asked)
+
 -- the text of the room's answer answers the line of its command
 pub answers_command : {T E : Type 0} (names : List (List ℕ)) (types : List LocalType) (line : List ℕ) (journal : List Entry) (role : ℕ) (command : Command) (after : List Entry) (written : Result T E) (old new : List ℕ)
     → IsReadable names line role command
-    → OnOk written ((answer : Answer) × IsReply answer (reply names types journal role command) × (after ≡ grown journal role command answer) × Appends (λ text. SpellsReply text (Answered answer)) old new)
+    → OnOk written (IsAnswered names types journal role command after old new)
     → OnOk written (Appends (λ text. AnswersLine names types line journal text after) old new)
 answers_command {T} {E} names types line journal role command after (Ok x) old new readable h =
     answers_line {T = T} {E = E} names types line journal after (Answered h.0) (Ok x) old new

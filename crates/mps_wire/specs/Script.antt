@@ -1,6 +1,7 @@
 -- What a script does to a room, and what it is answered.
 use Rattle.std.specs.Prelude.{◌≡◌, ℕ, ◌≤◌, ◌⊎◌, List, length}
 use Rattle.std.specs.Str.{IsAscii}
+use Rattle.mps_base.specs.Appends.{Appends}
 use Rattle.mps_base.specs.declared.value.Value.TheVariants.{Text}
 use Rattle.mps_local.specs.Local.{LocalType}
 use Rattle.mps_command.specs.declared.command.Command.{Command}
@@ -62,6 +63,13 @@ module _ (names : List (List ℕ)) (types : List LocalType) (line : List ℕ) (j
     pub reply : Reply
     pub replies : RepliesTo reply after
     pub spelled : SpellsReply text reply
+
+-- the texts of old and a text that answers the role's command, and the journal after it
+abbrev pub IsAnswered : (names : List (List ℕ)) → List LocalType → (journal : List Entry) → ℕ → Command → (after : List Entry) → (old new : List ℕ) → Type 0
+IsAnswered names types journal role command after old new =
+    (answer : Answer) × IsReply answer (journals.reply names types journal role command)
+    × (after ≡ grown journal role command answer)
+    × Appends (λ text. SpellsReply text (Answered answer)) old new
 
 -- how a line of a run is answered
 abbrev pub lines_of : Run → Answering (List Entry)

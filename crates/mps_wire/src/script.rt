@@ -2,26 +2,23 @@
 ghost use Rattle.std.specs.Prelude.{◌≡◌, ◌+◌, ◌<◌, ◌≤◌, ◌^◌, ◌++◌, ℕ, List, [], length, map, OnOk, OnErr};
 ghost use Rattle.std.specs.Io.KnownBytes.{Appends as Takes};
 ghost use Rattle.mps_base.specs.Appends.{Appends};
-ghost use Rattle.mps_command.specs.declared.answer.Answer.{Answer as Said};
-ghost use Rattle.mps_line.specs.Replies.{SpellsReply};
-ghost use Rattle.mps_line.specs.declared.reply.Reply.TheVariants.{Answered};
+ghost use Rattle.mps_command.specs.declared.command.Command.TheVariants.{News, Show};
 ghost use Rattle.mps_local.specs.Local.{plain};
 ghost use Rattle.mps_machine.specs.Machine.{initial};
-ghost use Rattle.mps_room.specs.Journal.{grown, reply, IsReply};
 ghost use Rattle.mps_wire.specs.Answers.{TakesBytes, TakesEnd};
 ghost use Rattle.mps_wire.specs.Flow.{TookFront};
 ghost use Rattle.mps_lines.specs.Lines.{ended, front, most_kept};
 ghost use Rattle.mps_wire.specs.Runs.{Going, Outcome, Replayed, Turned, max_reads, of_opening};
-ghost use Rattle.mps_wire.specs.Script.{AnswersLine, lines_of, place_of};
+ghost use Rattle.mps_wire.specs.Script.{AnswersLine, IsAnswered, lines_of, place_of};
 ghost use Rattle.mps_wire.specs.Streams.{streams};
 ghost use Rattle.mps_wire.specs.declared.script.ReplayFault.TheVariants.{Memory as OutOfMemory};
 
 use crate::flow::send_all;
 use mps_base::{Role, Roles};
-use mps_command::{Answer, Command, Refusal};
+use mps_command::{Command, Refusal};
 use mps_dev::{Failed, Sink, Source};
 use mps_line::laws::one_script_line;
-use mps_line::{LineFault, read_script_line, write_answer, write_bad_line};
+use mps_line::{LineFault, read_script_line, write_answer, write_bad_line, write_refused};
 use mps_lines::{MAX_LINE, MOST_KEPT, keep, line_end};
 use mps_local::Local;
 use mps_room::Room;
@@ -69,8 +66,31 @@ impl From<OpenFault> for ReplayFault {
     }
 }
 
+/// Writes what others took back behind the other answers.
+#[inline(never)]
+fn reply_with_news(
+    room: &Room,
+    role: Role,
+    known: u64,
+    answers: &mut Vec<u8>,
+) -> Result<(), AllocError>
+    ensures { OnOk result (IsAnswered room.now.names room.now.types room.now.journal role (News known)
+        room.now.journal answers.old.items answers.new.items) }
+{
+    write_answer(&room.tell_news(role, known), answers)
+}
+
+/// Writes how the session stands behind the other answers.
+#[inline(never)]
+fn reply_with_show(room: &Room, answers: &mut Vec<u8>) -> Result<(), AllocError>
+    ensures { (role : ℕ) → OnOk result (IsAnswered room.now.names room.now.types room.now.journal role Show
+        room.now.journal answers.old.items answers.new.items) }
+{
+    write_answer(&room.tell_show(), answers)
+}
+
 /// Gives the role's command to the room, and writes the answer behind the others. What is accepted is written as the
-/// journal keeps it.
+/// journal keeps it. Questions are answered apart, so that no other line makes place for their answers.
 fn reply_to_command(
     room: &mut Room,
     role: Role,
@@ -80,15 +100,17 @@ fn reply_to_command(
     requires { role < length room.old.types }
     ensures names { room.new.names ≡ room.old.names }
     ensures types { room.new.types ≡ room.old.types }
-    ensures answer { OnOk result ((answer : Said)
-        × IsReply answer (reply room.old.names room.old.types room.old.journal role command)
-        × (room.new.journal ≡ grown room.old.journal role command answer)
-        × Appends (λ text. SpellsReply text (Answered answer)) answers.old.items answers.new.items) }
+    ensures answer { OnOk result (IsAnswered room.old.names room.old.types room.old.journal role command
+        room.new.journal answers.old.items answers.new.items) }
 {
-    if let Some(answer) = room.enter(role, command) {
-        return write_answer(&answer, answers);
+    match command {
+        Command::News(known) => reply_with_news(room, role, known, answers),
+        Command::Show => reply_with_show(room, answers),
+        change => match room.enter(role, change) {
+            Ok(()) => write_answer(room.newest_answer(), answers),
+            Err(refusal) => write_refused(&refusal, answers),
+        },
     }
-    write_answer(room.newest_answer(), answers)
 }
 
 /// Gives the command of a line to the room, if it has one, and writes the reply behind the others.
@@ -114,11 +136,12 @@ fn reply_to_line(
             reply_to_command(room, role, command, answers)
         }
         Err(LineFault::Bad) => write_bad_line(answers),
-        Err(LineFault::Memory) => write_answer(&Answer::Refused(Refusal::Memory), answers),
+        Err(LineFault::Memory) => write_refused(&Refusal::Memory, answers),
     }
 }
 
 /// Answers a line, whose answer goes behind the others.
+#[inline(always)]
 fn answer_line(
     alloc: Global,
     room: &mut Room,

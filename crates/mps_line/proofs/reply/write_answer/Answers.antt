@@ -1,4 +1,4 @@
-use Rattle.mps_line.proofs.Writing.{done_before, refused_before, show_written}
+use Rattle.mps_line.proofs.Writing.{done_before, show_written}
 use Rattle.mps_line.proofs.reply.write_answer.Goals as goal
 
 pub returns-in_ok-extend_from_slice-in-Done-clause-ok :
@@ -9,8 +9,3 @@ returns-in_ok-extend_from_slice-in-Done-clause-ok c =
 pub returns-in-Shown-clause-ok : goal.returns-in-Shown-clause-ok
 returns-in-Shown-clause-ok c =
     rw c.in-Shown.is (show_written _ _ _ _ _ c.extend_from_slice-in-Shown.ensures.items c.as_bytes.ensures.bytes c.as_bytes.ensures.shown)
-
-pub returns-in_ok-extend_from_slice-in-Refused-clause-ok :
-    goal.returns-in_ok-extend_from_slice-in-Refused-clause-ok
-returns-in_ok-extend_from_slice-in-Refused-clause-ok c =
-    rw c.in-Refused.is (refused_before _ _ _ _ _ c.in_ok-extend_from_slice-in-Refused.ensures.items c.write_refusal.ensures.ok)

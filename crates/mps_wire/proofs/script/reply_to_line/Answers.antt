@@ -51,7 +51,7 @@ returns-in-Err-Memory-clause-reply c =
     let text = c.in-Err-Memory.ensures.memory (cc) in
     let sends = Forward (Send text.1 (Text text.2)) in
     let spelled : SpellsScriptLine m.names line text.0 sends = subst (λ (n : List (List ℕ)). SpellsScriptLine n line text.0 sends) c.names.ensures.names text.3 in
-    answers_line m.names m.types c.args.line.now m.journal m.journal (Answered (Refused Memory)) c.write_answer.result c.args.answers.now.items c.write_answer.new.out.items
+    answers_line m.names m.types c.args.line.now m.journal m.journal (Answered (Refused Memory)) c.write_refused.result c.args.answers.now.items c.write_refused.new.out.items
     (inr (inr (record {
       role = text.0;
       to = text.1;
@@ -60,4 +60,4 @@ returns-in-Err-Memory-clause-reply c =
       told = refl;
       unchanged = refl;
     })))
-    c.write_answer.ensures.ok
+    c.write_refused.ensures.ok

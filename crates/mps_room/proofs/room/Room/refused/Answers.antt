@@ -6,8 +6,8 @@ use Rattle.mps_room.specs.Kept.{Record}
 use Rattle.mps_room.proofs.Refusing.{refused}
 use Rattle.mps_room.proofs.room.Room.refused.Goals as goal
 
-pub returns-in-Err-clause-answer : goal.returns-in-Err-clause-answer
-returns-in-Err-clause-answer c =
+pub returns-in-Err : goal.returns-in-Err
+returns-in-Err c =
     let r = c.self.inside in
     let m = c.args.self.now in
     let command = c.args.command.now in
