@@ -7,10 +7,11 @@ use Rattle.std.specs.Prelude.{◌<◌, Result, Ok, Err, is_ok, if◌then◌else�
 use Rattle.mps_base.specs.Appends.{Appends}
 use Rattle.mps_base.specs.declared.action.Message.{Message}
 use Rattle.mps_command.specs.Shown.{IsShownText}
-use Rattle.mps_command.specs.declared.answer.Refusal.{Refusal}
-use Rattle.mps_command.specs.declared.answer.Refusal.TheVariants.{Needed}
-use Rattle.mps_line.specs.declared.reply.Reply.TheVariants.{BadLine, NoSession, NoRole, Taken}
-use Rattle.mps_line.specs.Replies.{word_of, done_tokens, news_tokens, refusal_tokens, SpellsReply}
+use Rattle.mps_command.specs.declared.answer.Answer.TheVariants.{Refused}
+use Rattle.mps_command.specs.declared.answer.Refusal.TheVariants.{Violation as Violates, NoStep, NotYours, Needed, NoMark, Full, Memory}
+use Rattle.mps_command.specs.declared.answer.Violation.{Violation}
+use Rattle.mps_line.specs.declared.reply.Reply.TheVariants.{Answered, BadLine, NoSession, NoRole, Taken}
+use Rattle.mps_line.specs.Replies.{word_of, done_tokens, news_tokens, SpellsReply}
 use Rattle.mps_line.specs.Tokens.{Token, Word, Number, Show, SpellsNumber, SpellsToken, SpellsLine}
 use Rattle.mps_line.proofs.Splitting.{behind, joined, alone, line_of_one}
 
@@ -45,10 +46,6 @@ some_done : (id : ℕ) (got : Option Message) → 0 < length (done_tokens id got
 some_done id None = omega arith
 some_done id (Some message) = omega arith
 
-some_refusal : (r : Refusal) → 0 < length (refusal_tokens r)
-some_refusal (Needed by) = omega arith
-some_refusal r = omega arith
-
 pub done_before : {T E : Type 0} (r : Result T E) (old pushed new : List ℕ) (id : ℕ) (got : Option Message) → pushed ≡ old ++ codes "done " → OnOk r (Appends (λ text. SpellsLine [] text (done_tokens id got)) pushed new) → OnOk r (Appends (λ text. SpellsLine [] text (Word (codes "done") ∷ done_tokens id got)) old new)
 done_before r old pushed new id got e b = word_before [] r old pushed new (codes "done") (done_tokens id got) (some_done id got) e b
 
@@ -66,12 +63,32 @@ show_written (Err e) old new bytes text h is shown = tt
 show_written (Ok x) old new bytes text h is shown =
     (bytes, h, line_of_one [] bytes (Show text) (record { is = is; allowed = rw is shown }))
 
-pub refused_before : {T E : Type 0} (r : Result T E) (old pushed new : List ℕ) (refusal : Refusal) → pushed ≡ old ++ codes "refused " → OnOk r (Appends (λ text. SpellsLine [] text (refusal_tokens refusal)) pushed new) → OnOk r (Appends (λ text. SpellsLine [] text (Word (codes "refused") ∷ refusal_tokens refusal)) old new)
-refused_before r old pushed new refusal e b = word_before [] r old pushed new (codes "refused") (refusal_tokens refusal) (some_refusal refusal) e b
+-- the step that stands in the way, behind its words
+pub needed_before : {T E : Type 0} (r : Result T E) (old pushed new : List ℕ) (by : ℕ) → pushed ≡ old ++ codes "refused needed " → OnOk r (Appends (λ text. SpellsNumber text by) pushed new) → OnOk r (Appends (λ text. SpellsReply text (Answered (Refused (Needed by)))) old new)
+needed_before r old pushed new by e b =
+    written_more (λ text. SpellsNumber text by) (λ text. SpellsReply text (Answered (Refused (Needed by)))) r old pushed new (codes "refused needed ") e
+    (λ text k. joined [] (codes "refused needed " ++ text) (Word (codes "refused")) (Word (codes "needed")) (Number by ∷ []) (codes "needed " ++ text) (record { front = codes "refused"; parts = refl; spelled = refl })
+    (joined [] (codes "needed " ++ text) (Word (codes "needed")) (Number by) [] text (record { front = codes "needed"; parts = refl; spelled = refl }) (line_of_one [] text (Number by) k))) b
 
-pub lone_word : (r : Refusal) (bytes : List ℕ) → ((by : ℕ) → r ≡ Needed by → ⊥) → bytes ≡ word_of r → SpellsLine [] bytes (refusal_tokens r)
-lone_word (Needed by) bytes other e = absurd (other by refl)
-lone_word r bytes other e = line_of_one [] bytes (Word (word_of r)) e
+-- a refusal that names no step
+pub no_step : SpellsReply (codes "refused nostep") (Answered (Refused NoStep))
+no_step = record { spellings = codes "refused" ∷ codes "nostep" ∷ []; joined = refl; each = (refl, (refl, tt)) }
+
+pub not_yours : SpellsReply (codes "refused notyours") (Answered (Refused NotYours))
+not_yours = record { spellings = codes "refused" ∷ codes "notyours" ∷ []; joined = refl; each = (refl, (refl, tt)) }
+
+pub no_mark : SpellsReply (codes "refused nomark") (Answered (Refused NoMark))
+no_mark = record { spellings = codes "refused" ∷ codes "nomark" ∷ []; joined = refl; each = (refl, (refl, tt)) }
+
+pub full : SpellsReply (codes "refused full") (Answered (Refused Full))
+full = record { spellings = codes "refused" ∷ codes "full" ∷ []; joined = refl; each = (refl, (refl, tt)) }
+
+pub memory : SpellsReply (codes "refused memory") (Answered (Refused Memory))
+memory = record { spellings = codes "refused" ∷ codes "memory" ∷ []; joined = refl; each = (refl, (refl, tt)) }
+
+-- what a role's type doesn't allow
+pub violation_line : (v : Violation) → SpellsReply (codes "refused " ++ word_of (Violates v)) (Answered (Refused (Violates v)))
+violation_line v = record { spellings = codes "refused" ∷ word_of (Violates v) ∷ []; joined = refl; each = (refl, (refl, tt)) }
 
 pub bad_line : SpellsReply (codes "refused line") BadLine
 bad_line = record { spellings = codes "refused" ∷ codes "line" ∷ []; joined = refl; each = (refl, (refl, tt)) }

@@ -5,7 +5,7 @@ ghost use Rattle.mps_base.specs.Appends.{Appends};
 ghost use Rattle.mps_command.specs.declared.answer.Answer.TheVariants.{Refused};
 ghost use Rattle.mps_command.specs.declared.answer.Refusal.TheVariants.{Violation as Violates};
 ghost use Rattle.mps_line.specs.Tokens.{SpellsToken, SpellsLine};
-ghost use Rattle.mps_line.specs.Replies.{SpellsReply, message_token, done_tokens, undone_tokens, news_tokens, refusal_tokens, word_of};
+ghost use Rattle.mps_line.specs.Replies.{SpellsReply, message_token, done_tokens, undone_tokens, news_tokens};
 ghost use Rattle.mps_line.specs.declared.reply.Reply.TheVariants.{Answered, BadLine, Joined};
 ghost use Rattle.mps_line.specs.Codes.{code_of, refusal_code, violation_code};
 
@@ -123,8 +123,35 @@ pub fn write_refused(refusal: &Refusal, out: &mut Vec<u8>) -> Result<(), AllocEr
         (λ text. SpellsReply text (Answered (Refused refusal.now))) out.old.items out.new.items) }
     ensures err { OnErr result (StartsWith out.new.items out.old.items) }
 {
-    out.extend_from_slice(b"refused ")?;
-    write_refusal(refusal, out)
+    match refusal {
+        Refusal::Violation(violation) => write_violation(*violation, out),
+        Refusal::NoStep => out.extend_from_slice(b"refused nostep"),
+        Refusal::NotYours => out.extend_from_slice(b"refused notyours"),
+        Refusal::Needed { by } => {
+            out.extend_from_slice(b"refused needed ")?;
+            write_step(*by, out)
+        }
+        Refusal::NoMark => out.extend_from_slice(b"refused nomark"),
+        Refusal::Full => out.extend_from_slice(b"refused full"),
+        Refusal::Memory => out.extend_from_slice(b"refused memory"),
+    }
+}
+
+// Writes that a role's type doesn't allow the command, or nothing.
+fn write_violation(violation: Violation, out: &mut Vec<u8>) -> Result<(), AllocError>
+    ensures ok { OnOk result (Appends
+        (λ text. SpellsReply text (Answered (Refused (Violates violation)))) out.old.items out.new.items) }
+    ensures err { OnErr result (out.new.items ≡ out.old.items) }
+{
+    match violation {
+        Violation::Ended => out.extend_from_slice(b"refused ended"),
+        Violation::WrongAct => out.extend_from_slice(b"refused wrongact"),
+        Violation::WrongPeer => out.extend_from_slice(b"refused wrongpeer"),
+        Violation::WrongSort => out.extend_from_slice(b"refused wrongsort"),
+        Violation::NoLabel => out.extend_from_slice(b"refused nolabel"),
+        Violation::NothingQueued => out.extend_from_slice(b"refused nothingqueued"),
+        Violation::Mismatch => out.extend_from_slice(b"refused mismatch"),
+    }
 }
 
 // Writes the number of the step and the message that it took, or a part of them.
@@ -183,52 +210,6 @@ fn write_news(length: u64, ids: &[StepId], out: &mut Vec<u8>) -> Result<(), Allo
         write_step(*step, out)?;
     }
     Ok(())
-}
-
-// Writes why the command was refused, or a part of it.
-fn write_refusal(refusal: &Refusal, out: &mut Vec<u8>) -> Result<(), AllocError>
-    ensures ok { OnOk result (Appends
-        (λ text. SpellsLine [] text (refusal_tokens refusal.now)) out.old.items out.new.items) }
-    ensures err { OnErr result (StartsWith out.new.items out.old.items) }
-{
-    out.extend_from_slice(word_of(refusal))?;
-    match refusal {
-        Refusal::Needed { by } => {
-            out.push(b' ')?;
-            write_step(*by, out)
-        }
-        _ => Ok(()),
-    }
-}
-
-// The word for a refusal.
-fn word_of(refusal: &Refusal) -> &'static [u8]
-    ensures { result.now ≡ word_of refusal.now }
-{
-    match refusal {
-        Refusal::Violation(violation) => violation_word(*violation),
-        Refusal::NoStep => b"nostep",
-        Refusal::NotYours => b"notyours",
-        Refusal::Needed { .. } => b"needed",
-        Refusal::NoMark => b"nomark",
-        Refusal::Full => b"full",
-        Refusal::Memory => b"memory",
-    }
-}
-
-// The word for what a role's type doesn't allow.
-fn violation_word(violation: Violation) -> &'static [u8]
-    ensures { result.now ≡ word_of (Violates violation) }
-{
-    match violation {
-        Violation::Ended => b"ended",
-        Violation::WrongAct => b"wrongact",
-        Violation::WrongPeer => b"wrongpeer",
-        Violation::WrongSort => b"wrongsort",
-        Violation::NoLabel => b"nolabel",
-        Violation::NothingQueued => b"nothingqueued",
-        Violation::Mismatch => b"mismatch",
-    }
 }
 
 // The code of a refusal.
