@@ -287,7 +287,8 @@ module _ (look after : ℕ → Option Node) (size : ℕ) (f l : Option ℕ) (r p
   abbrev pub behind : Node
   behind = record {
     step = s;
-    before = before;
+    at = before.at;
+    bound = before.bound;
     next = None;
     prev = l;
     next_of_role = None;
@@ -300,7 +301,7 @@ module _ (look after : ℕ → Option Node) (size : ℕ) (f l : Option ℕ) (r p
 
   behind_is : IsSmall s → IsSource es s.role s.act source → behind ≡ newcomer es entry
   behind_is small h =
-      same_node behind (newcomer es entry) refl refl refl k.last refl (k.last_of s.role small.0) refl (end_is p es k.last_send s.role s.act small.0 small.1) (source_at es (matched_of es k.linked.fed) s.role s.act source h) refl
+      same_node behind (newcomer es entry) refl refl refl refl k.last refl (k.last_of s.role small.0) refl (end_is p es k.last_send s.role s.act small.0 small.1) (source_at es (matched_of es k.linked.fed) s.role s.act source h) refl
 
   pub kept_add : IsSmall s → s.id ≡ length index + 1 → IsSource es s.role s.act source → look key ≡ None
       → ((i : ℕ) → after i ≡ option_map (joined behind key i) (cond (key == i) (Some behind) (look i)))

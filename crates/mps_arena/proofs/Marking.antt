@@ -58,6 +58,7 @@ module _ (j : ℕ) (m : Bool) where
       same_node (node_of (marks es) (with_mark j m y)) (marked_node y.key (node_of es y))
       refl
       refl
+      refl
       (ap (key_after y.key) (keys_marked any_step es))
       (ap (key_before None y.key) (keys_marked any_step es))
       (ap (key_after y.key) (keys_marked (of_role y.step.role) es))

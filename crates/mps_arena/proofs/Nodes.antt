@@ -31,9 +31,9 @@ walk_from look a (x ∷ b) n =
 pub walk_is : (look : ℕ → Option Node) (es : List Entry) → AreNodes look es → walk look (length es) (first_key (keys_of any_step es)) ≡ es
 walk_is look es n = walk_from look [] es n
 
-pub same_node : (n m : Node) → n.step ≡ m.step → n.before ≡ m.before → n.next ≡ m.next → n.prev ≡ m.prev → n.next_of_role ≡ m.next_of_role → n.prev_of_role ≡ m.prev_of_role → n.next_send ≡ m.next_send → n.prev_send ≡ m.prev_send → n.mate ≡ m.mate → n.marked ≡ m.marked → n ≡ m
-same_node n m a j b c d e f g h i =
-    let t : ◌≡◌ {A = Node} (record { step = n.step; before = n.before; next = n.next; prev = n.prev; next_of_role = n.next_of_role; prev_of_role = n.prev_of_role; next_send = n.next_send; prev_send = n.prev_send; mate = n.mate; marked = n.marked }) (record { step = m.step; before = m.before; next = m.next; prev = m.prev; next_of_role = m.next_of_role; prev_of_role = m.prev_of_role; next_send = m.next_send; prev_send = m.prev_send; mate = m.mate; marked = m.marked }) = cc in
+pub same_node : (n m : Node) → n.step ≡ m.step → n.at ≡ m.at → n.bound ≡ m.bound → n.next ≡ m.next → n.prev ≡ m.prev → n.next_of_role ≡ m.next_of_role → n.prev_of_role ≡ m.prev_of_role → n.next_send ≡ m.next_send → n.prev_send ≡ m.prev_send → n.mate ≡ m.mate → n.marked ≡ m.marked → n ≡ m
+same_node n m a j k b c d e f g h i =
+    let t : ◌≡◌ {A = Node} (record { step = n.step; at = n.at; bound = n.bound; next = n.next; prev = n.prev; next_of_role = n.next_of_role; prev_of_role = n.prev_of_role; next_send = n.next_send; prev_send = n.prev_send; mate = n.mate; marked = n.marked }) (record { step = m.step; at = m.at; bound = m.bound; next = m.next; prev = m.prev; next_of_role = m.next_of_role; prev_of_role = m.prev_of_role; next_send = m.next_send; prev_send = m.prev_send; mate = m.mate; marked = m.marked }) = cc in
     t
 
 pub cases_entry : (o : Option Entry) → (o ≡ None) ⊎ ((y : Entry) × (o ≡ Some y))
@@ -44,7 +44,8 @@ cases_entry (Some y) = inr (y, refl)
 abbrev pub newcomer : List Entry → Entry → Node
 newcomer es e = record {
   step = e.step;
-  before = e.before;
+  at = e.before.at;
+  bound = e.before.bound;
   next = None;
   prev = last_key None (keys_of any_step es);
   next_of_role = None;
@@ -66,6 +67,7 @@ module _ (look after : ℕ → Option Node) (es : List Entry) (e : Entry) (n : A
       same_node (joined (newcomer es e) e.key e.key (newcomer es e)) (node_of (es ++ e ∷ []) e)
       refl
       refl
+      refl
       (rw (not_last any_step) (sym (after_new (λ s. any_step) (λ s t e. refl) (λ s t e. refl) es e n.distinct fresh)))
       (sym (before_new (λ s. any_step) (λ s t e. refl) (λ s t e. refl) es e n.distinct fresh))
       (rw (not_last (of_role e.step.role)) (sym (after_new (λ s. of_role s.role) role_alike role_back es e n.distinct fresh)))
@@ -78,6 +80,7 @@ module _ (look after : ℕ → Option Node) (es : List Entry) (e : Entry) (n : A
   old_node : (y : Entry) → entry_at y.key es ≡ Some y → joined (newcomer es e) e.key y.key (node_of es y) ≡ node_of (es ++ e ∷ []) y
   old_node y found =
       same_node (joined (newcomer es e) e.key y.key (node_of es y)) (node_of (es ++ e ∷ []) y)
+      refl
       refl
       refl
       (sym (after_push (λ s. any_step) (λ s t e. refl) (λ s t e. refl) es e n.distinct fresh y.key y found))
@@ -171,6 +174,7 @@ module _ (look after : ℕ → Option Node) (a b : List Entry) (x : Entry) (n : 
   kept_node : (y : Entry) → entry_at y.key whole ≡ Some y → (x.key == y.key) ≡ false → parted (node_of whole x) y.key (node_of whole y) ≡ node_of (a ++ b) y
   kept_node y found apart =
       same_node (parted (node_of whole x) y.key (node_of whole y)) (node_of (a ++ b) y)
+      refl
       refl
       refl
       (sym (after_removal (λ s. any_step) (λ s t e. refl) (λ s t e. refl) a b x n.distinct y.key y found apart))

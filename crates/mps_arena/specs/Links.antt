@@ -8,7 +8,8 @@ use Rattle.mps_arena.specs.Entries.{Entry, keys_of, any_step, of_role, like_send
 abbrev pub node_of : List Entry → Entry → Node
 node_of es e = record {
   step = e.step;
-  before = e.before;
+  at = e.before.at;
+  bound = e.before.bound;
   next = key_after e.key (keys_of any_step es);
   prev = key_before None e.key (keys_of any_step es);
   next_of_role = key_after e.key (keys_of (of_role e.step.role) es);

@@ -238,7 +238,11 @@ impl Arena {
         requires { IsSome (entry_at key self.now.entries) }
         ensures { option_map (λ e. e.before) (entry_at key self.now.entries) ≡ Some result }
     {
-        self.nodes[key.place()].before
+        let node = &self.nodes[key.place()];
+        Before {
+            at: node.at,
+            bound: node.bound.key(),
+        }
     }
 
     /// Whether the step of the key is marked.

@@ -43,7 +43,8 @@ impl Ends {
         requires pair_count { length self.now.last_send ≡ 64 }
         ensures { result ≡ record {
           step = step;
-          before = before;
+          at = before.at;
+          bound = before.bound;
           next = None;
           prev = self.now.last;
           next_of_role = None;
@@ -61,7 +62,8 @@ impl Ends {
         };
         Node {
             step,
-            before,
+            at: before.at,
+            bound: Link::of(before.bound),
             next: Link::none(),
             prev: self.last,
             next_of_role: Link::none(),

@@ -7,4 +7,4 @@ mod links;
 mod node;
 
 pub use arena::Arena;
-pub use node::{Before, Key};
+pub use node::{Before, Key, Link};

@@ -59,10 +59,10 @@ impl Key {
     }
 }
 
-/// The key of a neighbour, or none. It is one number, so a node's links are read and written at once, where an
-/// `Option<Key>` has a tag and a gap.
+/// The key of a neighbour, or none. It is one number, so links are read and written at once, where an `Option<Key>` has
+/// a tag and a gap.
 #[derive(Clone, Copy)]
-pub(crate) struct Link(
+pub struct Link(
     // one more than the key; 0 for none
     u32,
 );
@@ -82,21 +82,21 @@ impl Model for Link {
 
 impl Link {
     /// No neighbour.
-    pub(crate) fn none() -> Link
+    pub fn none() -> Link
         ensures { result ≡ None }
     {
         Link(0)
     }
 
     /// The link to that neighbour.
-    pub(crate) fn to(key: Key) -> Link
+    pub fn to(key: Key) -> Link
         ensures { result ≡ Some key }
     {
         Link(key.0 + 1)
     }
 
     /// The link that an option is.
-    pub(crate) fn of(key: Option<Key>) -> Link
+    pub fn of(key: Option<Key>) -> Link
         ensures { result ≡ key }
     {
         match key {
@@ -106,7 +106,7 @@ impl Link {
     }
 
     /// The neighbour, if there is one.
-    pub(crate) fn key(self) -> Option<Key>
+    pub fn key(self) -> Option<Key>
         ensures { result ≡ self }
     {
         if self.0 == 0 {
@@ -117,7 +117,7 @@ impl Link {
     }
 
     /// Whether there is no neighbour.
-    pub(crate) fn is_none(self) -> bool
+    pub fn is_none(self) -> bool
         ensures { result ≡ is_none self }
     {
         self.0 == 0
@@ -137,7 +137,10 @@ pub struct Before {
 #[derive(Drop)]
 pub(crate) struct Node {
     pub(crate) step: Step,
-    pub(crate) before: Before,
+    // the node of its role's table at which the role stood
+    pub(crate) at: u16,
+    // the receipt to which a receipt's slot was bound
+    pub(crate) bound: Link,
     pub(crate) next: Link,
     pub(crate) prev: Link,
     pub(crate) next_of_role: Link,

@@ -77,21 +77,6 @@ pub(crate) fn split_role<'a>(roles: &Roles, bytes: &'a [u8]) -> Option<(Role, &'
     Some((read_role(roles, name)?, rest))
 }
 
-// The role and the name behind it.
-#[inline(always)]
-pub(crate) fn read_role_and_name(roles: &Roles, bytes: &[u8]) -> Option<(Role, Name)>
-    ensures read { IfSome result
-        (λ r. SpellsLine roles.now bytes.now (RoleAt r.0 ∷ Called r.1 ∷ [])) }
-    ensures none { IfNone result ((role : ℕ) (name : List ℕ)
-        → SpellsLine roles.now bytes.now (RoleAt role ∷ Called name ∷ []) → ⊥) }
-{
-    let Some(parts) = split_role(roles, bytes) else {
-        return None;
-    };
-    let (role, name) = parts;
-    Some((role, Name::read(name)?))
-}
-
 // Writes the role's name.
 pub(crate) fn write_role(roles: &Roles, role: Role, out: &mut Vec<u8>) -> Result<(), AllocError>
     requires { role < length roles.now }

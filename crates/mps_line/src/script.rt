@@ -8,10 +8,10 @@ ghost use Rattle.mps_command.specs.declared.command.Command.TheVariants as comma
 ghost use Rattle.mps_command.specs.declared.command.Forward.TheVariants as steps;
 ghost use Rattle.mps_line.specs.declared.script.LineFault.TheVariants.{Memory as OutOfMemory};
 ghost use Rattle.mps_line.specs.declared.script.Verb.{Verb};
-ghost use Rattle.mps_line.specs.Tokens.{RoleAt, Worth, SpellsLine};
+ghost use Rattle.mps_line.specs.Tokens.{RoleAt, Called, Worth, SpellsLine};
 ghost use Rattle.mps_line.specs.Commands.{verb_word, verb_of, arguments, TakesArguments, SpellsCommand, SpellsScriptLine};
 
-use crate::parts::{behind, read_count, read_role, read_role_and_name, read_step, split_role};
+use crate::parts::{behind, read_count, read_role, read_step, split_role};
 use mps_base::{Name, Role, Roles, Value, ValueFault};
 use mps_command::{Command, Forward};
 use std::alloc::{AllocError, AllocFailed, Global};
@@ -105,8 +105,8 @@ fn split_verb(bytes: &[u8]) -> Option<(Verb, &[u8])>
         → bytes.now ≢ spaced (verb_word verb ∷ rest ∷ [])) }
 {
     match bytes {
-        [b's', b'e', ..] => Some((Verb::Send, behind(bytes, b"send")?)),
-        [b'r', b'e', ..] => Some((Verb::Receive, behind(bytes, b"recv")?)),
+        [b's', b'e', b'n', b'd', b' ', rest @ ..] => Some((Verb::Send, rest)),
+        [b'r', b'e', b'c', b'v', b' ', rest @ ..] => Some((Verb::Receive, rest)),
         [b'c', ..] => Some((Verb::Choose, behind(bytes, b"choose")?)),
         [b'p', ..] => Some((Verb::Pick, behind(bytes, b"pick")?)),
         [b'm', ..] => Some((Verb::Mark, behind(bytes, b"mark")?)),
@@ -140,14 +140,8 @@ fn read_arguments(
             let (to, value) = read_role_and_value(alloc, roles, bytes)?;
             Ok(Command::Forward(Forward::Send { to, value }))
         }
-        Verb::Choose => match read_role_and_name(roles, bytes) {
-            Some((to, label)) => Ok(Command::Forward(Forward::Choose { to, label })),
-            None => Err(LineFault::Bad),
-        },
-        Verb::Receive => match read_role_and_name(roles, bytes) {
-            Some((from, slot)) => Ok(Command::Forward(Forward::Receive { from, slot })),
-            None => Err(LineFault::Bad),
-        },
+        Verb::Choose => read_choice(roles, bytes),
+        Verb::Receive => read_receipt(roles, bytes),
         verb => match read_argument(roles, verb, bytes) {
             Some(command) => Ok(command),
             None => Err(LineFault::Bad),
@@ -178,6 +172,44 @@ fn read_argument(roles: &Roles, verb: Verb, bytes: &[u8]) -> Option<Command>
         Verb::Back => Some(Command::Back(Name::read(bytes)?)),
         Verb::News => Some(Command::News(read_count(bytes)?)),
         _ => None,
+    }
+}
+
+// The choice of a label.
+fn read_choice(roles: &Roles, bytes: &[u8]) -> Result<Command, LineFault>
+    ensures verb { IfOk result (λ command. verb_of command ≡ Verb.Choose) }
+    ensures some { IfOk result TakesArguments }
+    ensures read { IfOk result (λ command. SpellsLine roles.now bytes.now (arguments command)) }
+    ensures bad { IsErrOf result LineFault.Bad → (to : ℕ) (label : List ℕ)
+        → SpellsLine roles.now bytes.now (RoleAt to ∷ Called label ∷ []) → ⊥ }
+    ensures memory { IsErrOf result LineFault.Memory → ⊥ }
+{
+    let Some(parts) = split_role(roles, bytes) else {
+        return Err(LineFault::Bad);
+    };
+    let (to, name) = parts;
+    match Name::read(name) {
+        Some(label) => Ok(Command::Forward(Forward::Choose { to, label })),
+        None => Err(LineFault::Bad),
+    }
+}
+
+// The receipt of a value into a slot.
+fn read_receipt(roles: &Roles, bytes: &[u8]) -> Result<Command, LineFault>
+    ensures verb { IfOk result (λ command. verb_of command ≡ Verb.Receive) }
+    ensures some { IfOk result TakesArguments }
+    ensures read { IfOk result (λ command. SpellsLine roles.now bytes.now (arguments command)) }
+    ensures bad { IsErrOf result LineFault.Bad → (from : ℕ) (slot : List ℕ)
+        → SpellsLine roles.now bytes.now (RoleAt from ∷ Called slot ∷ []) → ⊥ }
+    ensures memory { IsErrOf result LineFault.Memory → ⊥ }
+{
+    let Some(parts) = split_role(roles, bytes) else {
+        return Err(LineFault::Bad);
+    };
+    let (from, name) = parts;
+    match Name::read(name) {
+        Some(slot) => Ok(Command::Forward(Forward::Receive { from, slot })),
+        None => Err(LineFault::Bad),
     }
 }
 

@@ -231,21 +231,21 @@ impl Log {
         &mut self,
         role: Role,
         from: Role,
-        slot: Name,
+        slot: &Name,
         at: u16,
     ) -> Result<StepId, AllocError>
         requires role { role < 8 }
         requires from { from < 8 }
         requires waits { IsSome (waiting self.old.entries from role) }
         ensures id { IfOk result (λ id. id ≡ self.old.issued + 1) }
-        ensures joined { OnOk result (HasJoined self.old self.new role (In from (Some slot)) at) }
+        ensures joined { OnOk result (HasJoined self.old self.new role (In from (Some slot.now)) at) }
         ensures err { OnErr result (self.new ≡ self.old) }
     {
         let key = self.arena.reserve_one()?;
         let bound = self.stores.bind(role, slot, key)?;
         let source = self.queues.take(&self.arena, from, role);
         let id = next_id(&self.arena);
-        let slot = Some(slot);
+        let slot = Some(*slot);
         let act = Act::In { from, slot };
         self.arena
             .add(Step { id, role, act }, Before { at, bound }, source);

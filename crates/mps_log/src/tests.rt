@@ -100,7 +100,7 @@ fn take(
         return None;
     }
     let joined = match slot {
-        Some(word) => log.receive(own, from, name(rt, word), at),
+        Some(word) => log.receive(own, from, &name(rt, word), at),
         None => log.pick(own, from, at),
     };
     Some(joined.expect(rt, "memory"))

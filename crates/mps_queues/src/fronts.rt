@@ -7,7 +7,7 @@ ghost use Rattle.mps_arena.specs.Entries.{Entry, keys_of, AreSound};
 ghost use Rattle.mps_arena.specs.Sources.{waiting};
 ghost use Rattle.mps_queues.specs.Fronts.{front_at, waiting_keys, AreFronts, pushed, taken, returned, dropped};
 
-use mps_arena::{Arena, Key};
+use mps_arena::{Arena, Key, Link};
 use mps_base::Role;
 use std::marker::Model;
 
@@ -16,7 +16,7 @@ use std::marker::Model;
 #[derive(Drop)]
 pub struct Queues {
     // that from p to q at p * 8 + q
-    fronts: [Option<Key>; 64],
+    fronts: [Link; 64],
 }
 
 impl Model for Queues {
@@ -30,40 +30,44 @@ impl Model for Queues {
 }
 
 // The front, where a send joins.
-fn pushed_front(key: Key, front: Option<Key>) -> Option<Key>
+fn pushed_front(key: Key, front: Link) -> Link
     ensures { result ≡ pushed key front }
 {
-    if front.is_none() { Some(key) } else { front }
+    if front.is_none() {
+        Link::to(key)
+    } else {
+        front
+    }
 }
 
 // The front, where the first send is received.
-fn taken_front(arena: &Arena, front: Option<Key>) -> Option<Key>
+fn taken_front(arena: &Arena, front: Link) -> Link
     ensures { result ≡ taken arena.now.entries front }
 {
-    match front {
-        Some(front) => arena.next_send(front),
-        None => None,
+    match front.key() {
+        Some(front) => Link::of(arena.next_send(front)),
+        None => Link::none(),
     }
 }
 
 // The front, where a receipt goes.
-fn returned_front(arena: &Arena, last: Option<Key>, front: Option<Key>) -> Option<Key>
+fn returned_front(arena: &Arena, last: Option<Key>, front: Link) -> Link
     ensures { result ≡ returned arena.now.entries last front }
 {
-    match front {
-        Some(front) => arena.prev_send(front),
-        None => last,
+    match front.key() {
+        Some(front) => Link::of(arena.prev_send(front)),
+        None => Link::of(last),
     }
 }
 
 // The front, where the last send goes.
-fn dropped_front(last: Option<Key>, front: Option<Key>) -> Option<Key>
+fn dropped_front(last: Option<Key>, front: Link) -> Link
     ensures { result ≡ dropped last front }
 {
-    match (last, front) {
-        (Some(last), Some(front)) => { if last.is(front) { None } else { Some(front) } }
-        (None, front) => front,
-        (Some(_), None) => None,
+    match (last, front.key()) {
+        (Some(last), Some(first)) => { if last.is(first) { Link::none() } else { front } }
+        (None, _) => front,
+        (Some(_), None) => Link::none(),
     }
 }
 
@@ -79,7 +83,8 @@ impl Queues {
     pub fn new() -> Queues
         ensures { AreFronts [] result }
     {
-        Queues { fronts: [None; 64] }
+        let none = Link::none();
+        Queues { fronts: [none; 64] }
     }
 
     /// The first send of the pair that isn't received.
@@ -88,7 +93,7 @@ impl Queues {
         requires to { to < 8 }
         ensures { (es : List Entry) → AreFronts es self.now → result ≡ waiting es from to }
     {
-        self.fronts[from.index() * 8 + to.index()]
+        self.fronts[from.index() * 8 + to.index()].key()
     }
 
     /// The k-th send of the pair that isn't received, from 0. It takes k looks.

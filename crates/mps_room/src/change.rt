@@ -34,10 +34,12 @@ fn keep(journal: &mut Vec<Entry>, owners: &mut Vec<Role>, entry: Entry)
     ensures journal { journal.new.items ≡ journal.old.items ++ entry ∷ [] }
     ensures owners { owners.new.items ≡ owners_after owners.old.items entry.role entry.answer }
 {
-    if let Answer::Done(_) = &entry.answer {
-        owners.push_reserved(entry.role);
-    }
+    let role = entry.role;
+    let is_step = matches!(&entry.answer, Answer::Done(_));
     journal.push_reserved(entry);
+    if is_step {
+        owners.push_reserved(role);
+    }
 }
 
 impl Room {

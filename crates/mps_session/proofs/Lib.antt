@@ -6,6 +6,7 @@ pub mod Following
 pub mod Slots
 pub mod Moved
 pub mod Serving
+pub mod Taking
 pub mod Starting
 pub mod Opened
 pub mod Fronts

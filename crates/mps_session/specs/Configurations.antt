@@ -1,17 +1,21 @@
 -- What a session keeps, as lists, and how an act changes it.
-use Rattle.std.specs.Prelude.{◌≡◌, ℕ, ◌+◌, ◌<◌, ⊤, List, Option, Some, None, slice_get, slice_index_or, slice_set, IsSome}
+use Rattle.std.specs.Prelude.{◌≡◌, ℕ, ◌+◌, ◌<◌, ◌≤◌, ⊤, Bool, true, false, List, Option, Some, None, slice_get, slice_index_or, slice_set, IsSome}
 use Rattle.mps_base.specs.declared.action.Act.{Act}
 use Rattle.mps_base.specs.declared.action.Act.TheVariants.{Out, In, Mark}
 use Rattle.mps_base.specs.declared.action.Message.{Message}
 use Rattle.mps_command.specs.declared.answer.Done.{Done}
+use Rattle.mps_command.specs.declared.answer.Refusal.{Refusal}
+use Rattle.mps_command.specs.declared.answer.Refusal.TheVariants.{Violation as Violates, Full}
 use Rattle.mps_command.specs.declared.answer.Violation.{Violation}
+use Rattle.mps_command.specs.declared.command.Forward.{Forward}
+use Rattle.mps_command.specs.declared.command.Forward.TheVariants.{Receive, Pick}
 use Rattle.mps_local.specs.Local.{LocalType}
 use Rattle.mps_local.specs.Unfolding.{unfolded}
 use Rattle.mps_history.specs.Steps.{unreceived}
 use Rattle.mps_machine.specs.View.{Participant}
 use Rattle.mps_machine.specs.Rule.{participant_after}
 use Rattle.mps_machine.specs.Violations.{act_fault}
-use Rattle.mps_machine.specs.Machine.{State, taken}
+use Rattle.mps_machine.specs.Machine.{State, most_numbers, taken}
 use Rattle.mps_arena.specs.Entries.{Entry, steps}
 use Rattle.mps_arena.specs.Sources.{waiting}
 use Rattle.mps_log.specs.Joins.{HasJoined}
@@ -70,6 +74,18 @@ IsReadyAct c p (Mark name) = ⊤
 
 abbrev pub IsReady : Configuration → ℕ → Act → Type 0
 IsReady c p act = (p < 8) × IsReadyAct c p act
+
+-- why the act of role p is refused, want of memory aside: its type doesn't allow it, or no number is left
+abbrev pub IsBarred : Configuration → ℕ → Act → Refusal → Type 0
+IsBarred c p act (Violates fault) = (t : LocalType) → StandsAt c p t → fault_in c p act t ≡ Some fault
+IsBarred c p act Full = (most_numbers ≤ c.issued) × ((t : LocalType) → StandsAt c p t → fault_in c p act t ≡ None)
+IsBarred c p act refusal = ⊥
+
+-- whether a command takes a message
+abbrev pub takes_message : Forward → Bool
+takes_message (Receive from slot) = true
+takes_message (Pick from) = true
+takes_message command = false
 
 -- the act of role p is the newest step, and the role goes on at the node
 pub record HasActed (p : ℕ) (act : Act) (node : ℕ) (old new : Configuration) : Type 0 where

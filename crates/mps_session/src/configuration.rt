@@ -1,18 +1,19 @@
 //! What a session keeps of its roles and its steps, and how an act changes it.
-ghost use Rattle.std.specs.Prelude.{◌≡◌, ◌+◌, ◌<◌, Some, None, vec_len, slice_set, IfOk, OnOk, OnErr, IfErr};
+ghost use Rattle.std.specs.Prelude.{◌≡◌, ◌+◌, ◌<◌, true, false, Some, None, vec_len, slice_set, IfOk, OnOk, OnErr, IfErr};
 ghost use Rattle.std.specs.Option.{option_copied};
 ghost use Rattle.mps_base.specs.declared.action.Act.TheVariants.{Out, In, Mark};
 ghost use Rattle.mps_command.specs.Acts.{act_of};
 ghost use Rattle.mps_local.specs.Local.{LocalType};
-ghost use Rattle.mps_machine.specs.Machine.{taken};
+ghost use Rattle.mps_machine.specs.Machine.{most_numbers, taken};
 ghost use Rattle.mps_monitor.specs.Verdicts.{moved_by};
 ghost use Rattle.mps_table.specs.Graph.{IsNode};
-ghost use Rattle.mps_session.specs.Configurations.{lists_of, IsReady, cursor_of, moved_in, StandsAt, fault_in, LeadsTo, HasActed};
+ghost use Rattle.mps_session.specs.Configurations.{lists_of, IsReady, cursor_of, moved_in, StandsAt, fault_in, LeadsTo, HasActed, IsBarred, takes_message};
 ghost use Rattle.mps_session.specs.Cursors.{went};
 
 use crate::cursor::Cursor;
+use crate::session::MAX_NUMBERS;
 use mps_base::{Message, Name, Role, StepId};
-use mps_command::{Forward, Violation};
+use mps_command::{Forward, Refusal, Violation};
 use mps_log::Log;
 use mps_monitor::next_node;
 use mps_table::Node;
@@ -68,15 +69,47 @@ impl Configuration {
         next_node(&cursor.table, cursor.node, command, first)
     }
 
-    /// Takes the step of the command, after which the role stands at the node. Nothing is changed
-    /// where memory runs out.
-    pub(crate) fn act(
+    /// The node at which the role goes on after the command, or why it is refused, want of memory aside. The message is
+    /// the first that waits for the role, if it would take one.
+    #[inline(always)]
+    pub(crate) fn allowed(
+        &self,
+        role: Role,
+        command: &Forward,
+        first: Option<&Message>,
+    ) -> Result<Node, Refusal>
+        requires role { role < vec_len self.now.cursors }
+        requires stands { IsNode (cursor_of (lists_of self.now) role).table
+            (cursor_of (lists_of self.now) role).node }
+        requires first { moved_by command.now (option_copied first)
+            ≡ moved_in (lists_of self.now) role (act_of command.now) }
+        ensures barred { IfErr result (IsBarred (lists_of self.now) role (act_of command.now)) }
+        ensures allowed { OnOk result ((t : LocalType)
+            → StandsAt (lists_of self.now) role t
+            → fault_in (lists_of self.now) role (act_of command.now) t ≡ None) }
+        ensures room { OnOk result ((lists_of self.now).issued < most_numbers) }
+        ensures follows { IfOk result (LeadsTo (lists_of self.now) role (act_of command.now)) }
+    {
+        let node = match self.verdict(role, command, first) {
+            Ok(node) => node,
+            Err(fault) => return Err(Refusal::Violation(fault)),
+        };
+        if self.log.steps().issued() as u64 >= MAX_NUMBERS {
+            return Err(Refusal::Full);
+        }
+        Ok(node)
+    }
+
+    /// Takes the step of a send, a choice or a mark, after which the role stands at the node. Nothing is changed where
+    /// memory runs out.
+    pub(crate) fn give(
         &mut self,
         role: Role,
         command: &Forward,
         node: Node,
     ) -> Result<StepId, AllocError>
         requires role { role < vec_len self.old.cursors }
+        requires gives { takes_message command.now ≡ false }
         requires ready { IsReady (lists_of self.old) role (act_of command.now) }
         ensures id { IfOk result (λ id. id ≡ (lists_of self.old).issued + 1) }
         ensures acted { OnOk result (HasActed role (act_of command.now) node
@@ -89,9 +122,30 @@ impl Configuration {
                 self.send(role, *to, Message::Value(value), node)
             }
             Forward::Choose { to, label } => self.send(role, *to, Message::Label(*label), node),
-            Forward::Receive { from, slot } => self.receive(role, *from, *slot, node),
-            Forward::Pick { from } => self.pick(role, *from, node),
             Forward::Mark { name } => self.mark(role, *name, node),
+            Forward::Receive { .. } | Forward::Pick { .. } => unreachable!(),
+        }
+    }
+
+    /// Takes the step of a receipt or a pick, as `give` does that of another command.
+    pub(crate) fn take(
+        &mut self,
+        role: Role,
+        command: &Forward,
+        node: Node,
+    ) -> Result<StepId, AllocError>
+        requires role { role < vec_len self.old.cursors }
+        requires takes { takes_message command.now ≡ true }
+        requires ready { IsReady (lists_of self.old) role (act_of command.now) }
+        ensures id { IfOk result (λ id. id ≡ (lists_of self.old).issued + 1) }
+        ensures acted { OnOk result (HasActed role (act_of command.now) node
+            (lists_of self.old) (lists_of self.new)) }
+        ensures err { OnErr result (lists_of self.new ≡ lists_of self.old) }
+    {
+        match command {
+            Forward::Receive { from, slot } => self.receive(role, *from, slot, node),
+            Forward::Pick { from } => self.pick(role, *from, node),
+            Forward::Send { .. } | Forward::Choose { .. } | Forward::Mark { .. } => unreachable!(),
         }
     }
 
@@ -122,13 +176,13 @@ impl Configuration {
         &mut self,
         role: Role,
         from: Role,
-        slot: Name,
+        slot: &Name,
         node: Node,
     ) -> Result<StepId, AllocError>
         requires role { role < vec_len self.old.cursors }
-        requires ready { IsReady (lists_of self.old) role (In from (Some slot)) }
+        requires ready { IsReady (lists_of self.old) role (In from (Some slot.now)) }
         ensures id { IfOk result (λ id. id ≡ (lists_of self.old).issued + 1) }
-        ensures acted { OnOk result (HasActed role (In from (Some slot)) node
+        ensures acted { OnOk result (HasActed role (In from (Some slot.now)) node
             (lists_of self.old) (lists_of self.new)) }
         ensures err { OnErr result (lists_of self.new ≡ lists_of self.old) }
     {

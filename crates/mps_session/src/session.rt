@@ -1,5 +1,5 @@
 //! The session.
-ghost use Rattle.std.specs.Prelude.{◌≡◌, ◌≢◌, ◌↔◌, ◌+◌, ◌<◌, ◌≤◌, ℕ, length, map, IfOk, IsErrOf, OnOk, OnErr, Err, slice_get, [], ◌∷◌, Ok};
+ghost use Rattle.std.specs.Prelude.{◌≡◌, ◌≢◌, ◌↔◌, ◌+◌, ◌<◌, ◌≤◌, ℕ, true, false, length, map, IfOk, IsErrOf, OnOk, OnErr, Err, slice_get, [], ◌∷◌, Ok};
 ghost use Rattle.std.specs.List.{AllByRecursion};
 ghost use Rattle.std.specs.Option.{option_copied, option_map};
 ghost use Rattle.mps_base.specs.RoleLists.{HasRoleCount};
@@ -13,6 +13,7 @@ ghost use Rattle.mps_local.specs.declared.faults.LocalFault.{LocalFault};
 ghost use Rattle.mps_machine.specs.Machine as machine;
 ghost use Rattle.mps_history.specs.Slots.{value_in};
 ghost use Rattle.mps_session.specs.Answers.{IsAnswer, as_step};
+ghost use Rattle.mps_session.specs.Configurations.{takes_message};
 ghost use Rattle.mps_session.specs.Peers.{IsFirstBad, IsFirstFaulty, CanOpen, IsKnown, IsHeadKnown};
 ghost use Rattle.mps_session.specs.Seen.{view_of, moves_of};
 ghost use Rattle.mps_table.specs.Expects.{head_of};
@@ -123,18 +124,53 @@ impl Session {
             ≡ (Ok (done.id ∷ []), record self.old.state { next = self.old.state.next + 1 })) }
         ensures err { OnErr result (self.new.state ≡ self.old.state) }
     {
+        match command {
+            Forward::Receive { .. } | Forward::Pick { .. } => self.take_message(role, command),
+            Forward::Send { .. } | Forward::Choose { .. } | Forward::Mark { .. } => {
+                self.give(role, command)
+            }
+        }
+    }
+
+    // Takes the step of a receipt or a pick.
+    fn take_message(&mut self, role: Role, command: &Forward) -> Result<Done, Refusal>
+        requires role { role < length self.old.types }
+        requires takes { takes_message command.now ≡ true }
+        ensures never_mismatch { AreOfOneProtocol self.old.types → result ≢ Err (Violates Mismatch) }
+        ensures answer { IsAnswer result
+            (machine.forward self.old.types self.old.state role (act_of command.now)).0 }
+        ensures state { OnOk result (self.new.state
+            ≡ (machine.forward self.old.types self.old.state role (act_of command.now)).1) }
+        ensures types { self.new.types ≡ self.old.types }
+        ensures undone { IfOk result (λ done. machine.undo self.new.state role done.id
+            ≡ (Ok (done.id ∷ []), record self.old.state { next = self.old.state.next + 1 })) }
+        ensures err { OnErr result (self.new.state ≡ self.old.state) }
+    {
         let kept = &self.configuration;
         let first = kept.first_for(role, command);
-        let node = match kept.verdict(role, command, first) {
-            Ok(node) => node,
-            Err(fault) => return Err(Refusal::Violation(fault)),
-        };
-        if kept.log.steps().issued() as u64 >= MAX_NUMBERS {
-            return Err(Refusal::Full);
-        }
+        let node = kept.allowed(role, command, first)?;
         let got = once_more(kept.alloc, first)?;
-        let id = self.configuration.act(role, command, node)?;
+        let id = self.configuration.take(role, command, node)?;
         Ok(Done { id, got })
+    }
+
+    // Takes the step of a send, a choice or a mark, with which no message comes.
+    fn give(&mut self, role: Role, command: &Forward) -> Result<Done, Refusal>
+        requires role { role < length self.old.types }
+        requires gives { takes_message command.now ≡ false }
+        ensures never_mismatch { AreOfOneProtocol self.old.types → result ≢ Err (Violates Mismatch) }
+        ensures answer { IsAnswer result
+            (machine.forward self.old.types self.old.state role (act_of command.now)).0 }
+        ensures state { OnOk result (self.new.state
+            ≡ (machine.forward self.old.types self.old.state role (act_of command.now)).1) }
+        ensures types { self.new.types ≡ self.old.types }
+        ensures undone { IfOk result (λ done. machine.undo self.new.state role done.id
+            ≡ (Ok (done.id ∷ []), record self.old.state { next = self.old.state.next + 1 })) }
+        ensures err { OnErr result (self.new.state ≡ self.old.state) }
+    {
+        let node = self.configuration.allowed(role, command, None)?;
+        let id = self.configuration.give(role, command, node)?;
+        Ok(Done { id, got: None })
     }
 
     /// What the role may do first; labels in the order of the branches. A mark it may leave always.

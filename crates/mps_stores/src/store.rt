@@ -73,16 +73,16 @@ impl Store {
     }
 
     /// Binds the slot, and tells the key to which it was bound.
-    pub(crate) fn bind(&mut self, slot: Name, key: Key) -> Result<Option<Key>, AllocError>
-        ensures replaced { IfOk result (λ older. older ≡ value_in slot self.old) }
-        ensures bound { OnOk result (self.new ≡ bound slot key self.old) }
+    pub(crate) fn bind(&mut self, slot: &Name, key: Key) -> Result<Option<Key>, AllocError>
+        ensures replaced { IfOk result (λ older. older ≡ value_in slot.now self.old) }
+        ensures bound { OnOk result (self.new ≡ bound slot.now key self.old) }
         ensures err { OnErr result (self.new ≡ self.old) }
-        ensures absent { OnErr result (value_in slot self.old ≡ None) }
+        ensures absent { OnErr result (value_in slot.now self.old ≡ None) }
     {
-        if let Some(place) = self.place_among_few(&slot) {
+        if let Some(place) = self.place_among_few(slot) {
             return Ok(self.rebind(place, key));
         }
-        Ok(self.keys.insert(slot, key)?)
+        Ok(self.keys.insert(*slot, key)?)
     }
 
     // The place of a known slot, where a role keeps few: it is found without its hash.

@@ -82,16 +82,16 @@ impl Stores {
 
     /// Binds the role's slot to a receipt, and tells to which one it was bound: what the receipt's
     /// entry keeps as `before.bound`. A known slot keeps its place, and needs no memory.
-    pub fn bind(&mut self, role: Role, slot: Name, key: Key) -> Result<Option<Key>, AllocError>
+    pub fn bind(&mut self, role: Role, slot: &Name, key: Key) -> Result<Option<Key>, AllocError>
         requires { role < 8 }
-        ensures replaced { IfOk result (λ older. older ≡ value_in slot (store_at self.old role)) }
+        ensures replaced { IfOk result (λ older. older ≡ value_in slot.now (store_at self.old role)) }
         ensures bound { OnOk result (self.new
-            ≡ slice_set self.old role (bound slot key (store_at self.old role))) }
+            ≡ slice_set self.old role (bound slot.now key (store_at self.old role))) }
         ensures follows { IfOk result (λ older. (es : List Entry) (e : Entry) →
-            AreStores es self.old → IsReceiptInto role slot e →
+            AreStores es self.old → IsReceiptInto role slot.now e →
             e.key ≡ key → e.before.bound ≡ older → AreStores (es ++ e ∷ []) self.new) }
         ensures err { OnErr result (self.new ≡ self.old) }
-        ensures absent { OnErr result (value_in slot (store_at self.old role) ≡ None) }
+        ensures absent { OnErr result (value_in slot.now (store_at self.old role) ≡ None) }
     {
         let store = &mut self.stores[role.index()];
         store.bind(slot, key)

@@ -62,7 +62,7 @@ fn asked(rt: &impl Abort, stores: &mut Stores, role: Role, keys: &[Key], ask: &A
     match ask {
         Ask::Bind(slot, place, older) => {
             let key = *keys.get(*place).expect(rt, "a key");
-            let was = stores.bind(role, name(rt, slot), key).expect(rt, "memory");
+            let was = stores.bind(role, &name(rt, slot), key).expect(rt, "memory");
             assert!(rt; was == key_at(rt, keys, *older), "what {slot} was bound to");
         }
         Ask::Unbind(slot, older) => {
@@ -149,7 +149,7 @@ fn has_room_for_many_slots(rt: HostRuntime) {
     let mut stores = Stores::new(rt.alloc()).expect(&rt, "memory");
     for (letters, key) in LETTERS.iter().zip(&keys) {
         let was = stores
-            .bind(role, name(&rt, letters), *key)
+            .bind(role, &name(&rt, letters), *key)
             .expect(&rt, "memory");
         assert!(rt; was.is_none());
     }

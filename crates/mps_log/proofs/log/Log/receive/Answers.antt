@@ -14,7 +14,7 @@ invariant_of-self-2 c =
     let es = l.arena.entries in
     let p = c.args.role in
     let q = c.args.from in
-    let e : Entry = record { key = c.add.result; step = record { id = c.next_id-id.result; role = p; act = In q (Some c.args.slot) }; before = record { at = c.args.at; bound = c.in_ok-bound.bound }; marked = false } in
+    let e : Entry = record { key = c.add.result; step = record { id = c.next_id-id.result; role = p; act = In q (Some c.args.slot.now) }; before = record { at = c.args.at; bound = c.in_ok-bound.bound }; marked = false } in
     let same : c.reserve_one.new.self.entries ≡ es = c.reserve_one.ensures.entries in
     let whole : c.add.new.self.entries ≡ es ++ e ∷ [] = c.add.ensures.entries ∙ ap (λ (o : List Entry). o ++ e ∷ []) same in
     let got = and_from (p == p) (q == q) (eq-eqb p p refl) (eq-eqb q q refl) in

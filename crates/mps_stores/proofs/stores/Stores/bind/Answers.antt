@@ -18,7 +18,7 @@ pub returns-clause-follows : goal.returns-clause-follows
 returns-clause-follows c =
     let stores = c.self.inside.stores.items in
     let p = c.args.role in
-    let slot = c.args.slot in
+    let slot = c.args.slot.now in
     let was : c.index_mut-store.result.now ≡ store_at stores p = store_is stores p c.index.result c.index_mut-store.result.now c.index.ensures.place c.self.invariant c.requires c.index_mut-store.ensures.value in
     let replaced : IfOk c.bind.result (λ older. older ≡ value_in slot (store_at stores p)) = subst (λ (s : Keys). IfOk c.bind.result (λ older. older ≡ value_in slot s)) was c.bind.ensures.replaced in
     let now : OnOk c.bind.result (c.bind.new.self ≡ bound slot c.args.key (store_at stores p)) = subst (λ (s : Keys). OnOk c.bind.result (c.bind.new.self ≡ bound slot c.args.key s)) was c.bind.ensures.bound in
