@@ -4,6 +4,7 @@ pub mod Cursors
 pub mod Configurations
 pub mod Held
 pub mod Answers
+pub mod Forwarded
 pub mod Opening
 pub mod Protocols
 pub mod Leaving

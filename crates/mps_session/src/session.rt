@@ -14,6 +14,7 @@ ghost use Rattle.mps_machine.specs.Machine as machine;
 ghost use Rattle.mps_history.specs.Slots.{value_in};
 ghost use Rattle.mps_session.specs.Answers.{IsAnswer, as_step};
 ghost use Rattle.mps_session.specs.Configurations.{takes_message};
+ghost use Rattle.mps_session.specs.Forwarded.{IsForwarded};
 ghost use Rattle.mps_session.specs.Peers.{IsFirstBad, IsFirstFaulty, CanOpen, IsKnown, IsHeadKnown};
 ghost use Rattle.mps_session.specs.Seen.{view_of, moves_of};
 ghost use Rattle.mps_table.specs.Expects.{head_of};
@@ -114,15 +115,7 @@ impl Session {
     /// Takes a step of the role, as `forward` does.
     pub(crate) fn take(&mut self, role: Role, command: &Forward) -> Result<Done, Refusal>
         requires { role < length self.old.types }
-        ensures never_mismatch { AreOfOneProtocol self.old.types → result ≢ Err (Violates Mismatch) }
-        ensures answer { IsAnswer result
-            (machine.forward self.old.types self.old.state role (act_of command.now)).0 }
-        ensures state { OnOk result (self.new.state
-            ≡ (machine.forward self.old.types self.old.state role (act_of command.now)).1) }
-        ensures types { self.new.types ≡ self.old.types }
-        ensures undone { IfOk result (λ done. machine.undo self.new.state role done.id
-            ≡ (Ok (done.id ∷ []), record self.old.state { next = self.old.state.next + 1 })) }
-        ensures err { OnErr result (self.new.state ≡ self.old.state) }
+        ensures { IsForwarded self.old self.new role command.now result }
     {
         match command {
             Forward::Receive { .. } | Forward::Pick { .. } => self.take_message(role, command),
@@ -136,15 +129,7 @@ impl Session {
     fn take_message(&mut self, role: Role, command: &Forward) -> Result<Done, Refusal>
         requires role { role < length self.old.types }
         requires takes { takes_message command.now ≡ true }
-        ensures never_mismatch { AreOfOneProtocol self.old.types → result ≢ Err (Violates Mismatch) }
-        ensures answer { IsAnswer result
-            (machine.forward self.old.types self.old.state role (act_of command.now)).0 }
-        ensures state { OnOk result (self.new.state
-            ≡ (machine.forward self.old.types self.old.state role (act_of command.now)).1) }
-        ensures types { self.new.types ≡ self.old.types }
-        ensures undone { IfOk result (λ done. machine.undo self.new.state role done.id
-            ≡ (Ok (done.id ∷ []), record self.old.state { next = self.old.state.next + 1 })) }
-        ensures err { OnErr result (self.new.state ≡ self.old.state) }
+        ensures { IsForwarded self.old self.new role command.now result }
     {
         let kept = &self.configuration;
         let first = kept.first_for(role, command);
@@ -158,15 +143,7 @@ impl Session {
     fn give(&mut self, role: Role, command: &Forward) -> Result<Done, Refusal>
         requires role { role < length self.old.types }
         requires gives { takes_message command.now ≡ false }
-        ensures never_mismatch { AreOfOneProtocol self.old.types → result ≢ Err (Violates Mismatch) }
-        ensures answer { IsAnswer result
-            (machine.forward self.old.types self.old.state role (act_of command.now)).0 }
-        ensures state { OnOk result (self.new.state
-            ≡ (machine.forward self.old.types self.old.state role (act_of command.now)).1) }
-        ensures types { self.new.types ≡ self.old.types }
-        ensures undone { IfOk result (λ done. machine.undo self.new.state role done.id
-            ≡ (Ok (done.id ∷ []), record self.old.state { next = self.old.state.next + 1 })) }
-        ensures err { OnErr result (self.new.state ≡ self.old.state) }
+        ensures { IsForwarded self.old self.new role command.now result }
     {
         let node = self.configuration.allowed(role, command, None)?;
         let id = self.configuration.give(role, command, node)?;

@@ -1,8 +1,9 @@
-use Rattle.std.proofs.Common.{◌≡◌, map, None, refl, ap, ◌∙◌}
-use Rattle.mps_command.specs.Acts.{act_of}
+use Rattle.std.proofs.Common.{None, map, refl, ap, ◌∙◌}
 use Rattle.mps_local.specs.Local.{plain}
 use Rattle.mps_links.specs.Marks.{marked_keys}
-use Rattle.mps_session.specs.Configurations.{lists_of}
+use Rattle.mps_command.specs.Acts.{act_of}
+use Rattle.mps_session.specs.Configurations.{Configuration, lists_of, state_of}
+use Rattle.mps_session.specs.Seen.{Machine}
 use Rattle.mps_session.proofs.Rolling.{push_unmarked}
 use Rattle.mps_session.proofs.Serving as serving
 use Rattle.mps_session.proofs.Taking as taking
@@ -13,47 +14,36 @@ allowed-requires-clause-stands c =
     let s = c.self.inside in
     serving.is_node (map plain s.types.items) (lists_of s.configuration) c.self.invariant.holds c.args.self.now c.self.view_is c.args.role c.requires.role
 
-pub returns-in_err-node-clause-answer : goal.returns-in_err-node-clause-answer
-returns-in_err-node-clause-answer c =
+pub returns-in_err-node : goal.returns-in_err-node
+returns-in_err-node c =
     let s = c.self.inside in
-    taking.refused_by (map plain s.types.items) (lists_of s.configuration) c.self.invariant.holds c.args.self.now c.self.view_is c.args.role c.requires.role (act_of c.args.command.now) c.from_residual.result _ c.from_residual.ensures.1 c.in_err-node.ensures.barred
-
-pub returns-in_err-node-clause-never_mismatch : goal.returns-in_err-node-clause-never_mismatch
-returns-in_err-node-clause-never_mismatch c =
-    let s = c.self.inside in
-    taking.never (map plain s.types.items) (lists_of s.configuration) c.self.invariant.holds c.args.self.now c.self.view_is c.args.role c.requires.role c.args.command.now c.from_residual.result _ c.from_residual.ensures.1 c.in_err-node.ensures.barred
+    taking.refused_by (map plain s.types.items) (lists_of s.configuration) c.self.invariant.holds c.args.self.now c.self.view_is c.args.role c.requires.role c.args.command.now
+    c.from_residual.result _ c.from_residual.ensures.1 c.in_err-node.ensures.barred c.args.self.now refl
 
 pub give-requires-clause-ready : goal.give-requires-clause-ready
 give-requires-clause-ready c =
     let s = c.self.inside in
     serving.ready (map plain s.types.items) (lists_of s.configuration) c.self.invariant.holds c.args.self.now c.self.view_is c.args.role c.requires.role (act_of c.args.command.now) c.in_ok-node.ensures.allowed
 
-pub returns-in_err-id-clause-answer : goal.returns-in_err-id-clause-answer
-returns-in_err-id-clause-answer c =
+pub returns-in_err-id : goal.returns-in_err-id
+returns-in_err-id c =
     let s = c.self.inside in
-    let done = serving.done (map plain s.types.items) (lists_of s.configuration) c.self.invariant.holds c.args.self.now c.self.view_is c.args.role c.requires.role (act_of c.args.command.now) c.in_ok-node.ensures.allowed c.in_ok-node.ensures.room in
-    serving.out_of_memory c.from_residual-in_err-id.result _ _ _ done c.from_residual-in_err-id.ensures.1
+    let types = map plain s.types.items in
+    taking.starved types (lists_of s.configuration) c.self.invariant.holds c.args.self.now c.self.view_is c.args.role c.requires.role c.args.command.now c.in_ok-node.ensures.allowed c.in_ok-node.ensures.room
+    c.from_residual-in_err-id.result c.from_residual-in_err-id.ensures.1 _ (ap (λ (l : Configuration). let m : Machine = record { types = types; state = state_of l } in m) c.in_err-id.ensures.err ∙ c.self.view_is)
 
 pub invariant_of-self-2 : goal.invariant_of-self-2
 invariant_of-self-2 c =
     let s = c.self.inside in
     let acted = c.in_ok-id.ensures.acted in
     record {
-      holds = taking.holds_then (map plain s.types.items) (lists_of s.configuration) c.self.invariant.holds c.args.self.now c.self.view_is c.args.role c.requires.role (act_of c.args.command.now) c.in_ok-node.ensures.allowed c.in_ok-node.ensures.room c.in_ok-node.node c.in_ok-node.ensures.follows (lists_of c.give.new.self) acted;
+      holds = taking.holds_then (map plain s.types.items) (lists_of s.configuration) c.self.invariant.holds c.args.self.now c.self.view_is c.args.role c.requires.role c.args.command.now c.in_ok-node.ensures.allowed c.in_ok-node.ensures.room
+          c.in_ok-node.node c.in_ok-node.ensures.follows (lists_of c.give.new.self) acted;
       unmarked = ap marked_keys acted.joined.entries ∙ push_unmarked s.configuration.log.entries _ refl c.self.invariant.unmarked;
     }
 
-pub returns-clause-answer : goal.returns-clause-answer
-returns-clause-answer c =
+pub returns : goal.returns
+returns c =
     let s = c.self.inside in
-    taking.answer_then (map plain s.types.items) (lists_of s.configuration) c.self.invariant.holds c.args.self.now c.self.view_is c.args.role c.requires.role (act_of c.args.command.now) c.in_ok-node.ensures.allowed c.in_ok-node.ensures.room c.in_ok-node.node c.in_ok-node.ensures.follows (lists_of c.give.new.self) c.in_ok-id.ensures.acted c.in_ok-id.id None c.in_ok-id.ensures.id (taking.none_taken c.args.command.now _ c.requires.gives)
-
-pub returns-clause-state : goal.returns-clause-state
-returns-clause-state c =
-    let s = c.self.inside in
-    taking.state_then (map plain s.types.items) (lists_of s.configuration) c.self.invariant.holds c.args.self.now c.self.view_is c.args.role c.requires.role (act_of c.args.command.now) c.in_ok-node.ensures.allowed c.in_ok-node.ensures.room c.in_ok-node.node c.in_ok-node.ensures.follows (lists_of c.give.new.self) c.in_ok-id.ensures.acted
-
-pub returns-clause-undone : goal.returns-clause-undone
-returns-clause-undone c =
-    let s = c.self.inside in
-    taking.undone_then (map plain s.types.items) (lists_of s.configuration) c.self.invariant.holds c.args.self.now c.self.view_is c.args.role c.requires.role (act_of c.args.command.now) c.in_ok-node.ensures.allowed c.in_ok-node.ensures.room c.in_ok-node.node c.in_ok-node.ensures.follows (lists_of c.give.new.self) c.in_ok-id.ensures.acted c.in_ok-id.id None c.in_ok-id.ensures.id (taking.none_taken c.args.command.now _ c.requires.gives)
+    taking.done (map plain s.types.items) (lists_of s.configuration) c.self.invariant.holds c.args.self.now c.self.view_is c.args.role c.requires.role c.args.command.now c.in_ok-node.ensures.allowed c.in_ok-node.ensures.room
+    c.in_ok-node.node c.in_ok-node.ensures.follows (lists_of c.give.new.self) c.in_ok-id.ensures.acted c.in_ok-id.id None c.in_ok-id.ensures.id (taking.none_taken c.args.command.now _ c.requires.gives)
