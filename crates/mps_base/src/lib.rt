@@ -19,6 +19,3 @@ pub use spacing::push_token;
 pub use spelling::ValueFault;
 pub use value::{Sort, Text, Value};
 pub use variable::VarName;
-
-#[cfg(test)]
-mod tests;

@@ -10,6 +10,3 @@ pub use answer::{Answer, Done, Refusal, Violation};
 pub use command::{Change, Command, Forward};
 pub use shown_text::ShownText;
 pub use step_ids::StepIds;
-
-#[cfg(test)]
-mod tests;

@@ -9,6 +9,3 @@ mod traits;
 pub use memory::{Discard, Pieces, Short};
 pub use standard::{OverRead, OverWrite};
 pub use traits::{Failed, Sink, Source};
-
-#[cfg(test)]
-mod tests;

@@ -134,6 +134,3 @@ pub struct Protocol {
     pub roles: Vec<Name>,
     pub body: Global,
 }
-
-#[cfg(test)]
-mod tests;

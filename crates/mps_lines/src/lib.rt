@@ -9,6 +9,3 @@ pub mod split;
 pub use line::Line;
 pub use lines::Lines;
 pub use split::{MAX_LINE, MOST_KEPT, keep, line_end};
-
-#[cfg(test)]
-mod tests;

@@ -11,6 +11,3 @@ mod pending;
 pub use dependent::least_dependent;
 pub use laws::{marked_steps_go, marks_stay_closed};
 pub use marking::{mark_from, newest_marked, unmark};
-
-#[cfg(test)]
-mod tests;

@@ -153,8 +153,3 @@ impl Branches {
         }
     }
 }
-
-#[cfg(test)]
-mod fault_tests;
-#[cfg(test)]
-mod tests;

@@ -9,6 +9,3 @@ mod queue;
 pub use log::Log;
 pub use moves::Moves;
 pub use queue::Queue;
-
-#[cfg(test)]
-mod tests;

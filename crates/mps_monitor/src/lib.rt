@@ -7,6 +7,3 @@ mod verdict;
 pub use mps_command::{Forward, Violation};
 pub use stepping::next_node;
 pub use verdict::{Advance, judge, the_machine_moves_the_same};
-
-#[cfg(test)]
-mod tests;

@@ -23,18 +23,3 @@ pub use mps_table::Expect;
 pub use open::OpenFault;
 pub use protocol::{ProtocolFault, open_protocol};
 pub use session::{MAX_NUMBERS, Session};
-
-#[cfg(test)]
-mod choice_tests;
-#[cfg(test)]
-mod protocol_tests;
-#[cfg(test)]
-mod rollback_tests;
-#[cfg(test)]
-mod same_tests;
-#[cfg(test)]
-mod serve_all_tests;
-#[cfg(test)]
-mod tests;
-#[cfg(test)]
-mod undo_tests;

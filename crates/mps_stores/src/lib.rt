@@ -10,6 +10,3 @@ pub use laws::{
     marks_leave_stores,
 };
 pub use stores::Stores;
-
-#[cfg(test)]
-mod tests;

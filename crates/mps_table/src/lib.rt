@@ -12,6 +12,3 @@ pub use compiling::compile;
 pub use expect::{Expect, Node};
 pub use laws::nodes_lead;
 pub use table::Table;
-
-#[cfg(test)]
-mod tests;

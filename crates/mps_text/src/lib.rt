@@ -11,6 +11,3 @@ pub use reading::{
     MAX_TEXT_BYTES, first_tokens, one_fault, one_protocol, protocol_or_fault, read_protocol,
 };
 pub use writing::{write_protocol, written_reads};
-
-#[cfg(test)]
-mod tests;

@@ -1,5 +1,0 @@
-use Rattle.mps_links.specs.Marks.{AreMarksClosed}
-use Rattle.mps_links.proofs.tests.undo.Given as goal
-
-abbrev pub invariant-loop : goal.invariant-loop
-invariant-loop g l = AreMarksClosed l.arena.entries

@@ -1,7 +1,0 @@
-use Rattle.std.proofs.Common.{◌<◌}
-use Rattle.mps_local.specs.Local.{plain_branches}
-use Rattle.mps_local.specs.Shape.{AllBranchPeers}
-use Rattle.mps_local.proofs.tests.choice.Given as goal
-
-abbrev pub invariant-loop : goal.invariant-loop
-invariant-loop g l = AllBranchPeers (λ peer. peer < 2) (plain_branches l.branches)

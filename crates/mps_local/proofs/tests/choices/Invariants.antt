@@ -1,7 +1,0 @@
-use Rattle.std.proofs.Common.{◌<◌}
-use Rattle.mps_local.specs.Local.{plain}
-use Rattle.mps_local.specs.Shape.{AllPeers}
-use Rattle.mps_local.proofs.tests.choices.Given as goal
-
-abbrev pub invariant-loop : goal.invariant-loop
-invariant-loop g l = AllPeers (λ peer. peer < 2) (plain l.tree)

@@ -1,5 +1,0 @@
-use Rattle.mps_table.specs.Graph.{IsNode}
-use Rattle.mps_monitor.proofs.tests.goes_by.Given as goal
-
-abbrev pub invariant-loop-asked : goal.invariant-loop-asked
-invariant-loop-asked g l = IsNode l.table l.node

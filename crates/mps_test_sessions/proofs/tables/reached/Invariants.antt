@@ -1,0 +1,5 @@
+use Rattle.mps_table.specs.Graph.{IsNode}
+use Rattle.mps_test_sessions.proofs.tables.reached.Given as goal
+
+abbrev pub invariant-loop-choice : goal.invariant-loop-choice
+invariant-loop-choice l = IsNode l.table l.node

@@ -1,0 +1,5 @@
+use Rattle.mps_table.specs.Graph.{IsNode}
+use Rattle.mps_test_sessions.proofs.verdicts.goes_by.Given as goal
+
+abbrev pub invariant-loop-asked : goal.invariant-loop-asked
+invariant-loop-asked g l = IsNode l.table l.node

@@ -1,0 +1,266 @@
+ghost use Rattle.std.specs.Prelude.{◌≡◌, ◌<◌, [], IsTrue, IsSome};
+ghost use Rattle.mps_history.specs.Steps.{step_of};
+ghost use Rattle.mps_arena.specs.Entries.{steps};
+ghost use Rattle.mps_arena.specs.Sources.{waiting};
+ghost use Rattle.mps_links.specs.Marks.{marked_keys, AreMarksClosed};
+
+use mps_links::*;
+use mps_arena::{Arena, Before, Key};
+use mps_base::{Act, Message, Name, Role, Step, StepId};
+use std::alloc::AllocGlobal;
+use std::process::Abort;
+
+// The roles by their places.
+const A: u8 = 0;
+
+const B: u8 = 1;
+
+const C: u8 = 2;
+
+const H: u8 = 7;
+
+// What a role does: the role, and its peer.
+#[derive(Clone, Copy)]
+enum Deed {
+    Gives(u8, u8),
+    Takes(u8, u8),
+    Marks(u8),
+}
+
+use Deed::{Gives, Marks, Takes};
+
+// The first send of the pair that isn't received.
+fn first_waiting(arena: &Arena, from: Role, to: Role) -> Option<Key>
+    requires from { from < 8 }
+    requires to { to < 8 }
+    ensures { result ≡ waiting arena.now.entries from to }
+{
+    let mut first = None;
+    let mut at = arena.last_send(from, to);
+    for _ in 0..arena.len() {
+        let Some(key) = at else {
+            return first;
+        };
+        if arena.receipt(key).is_some() {
+            return first;
+        }
+        first = at;
+        at = arena.prev_send(key);
+    }
+    first
+}
+
+// Puts the step of the deed behind all others.
+fn add(rt: &(impl Abort + AllocGlobal), arena: &mut Arena, deed: Deed)
+    requires none { marked_keys arena.old.entries ≡ [] }
+    ensures none { marked_keys arena.new.entries ≡ [] }
+{
+    assert!(rt; arena.issued() < 1_000_000);
+    arena.reserve_one().expect(rt, "memory");
+    let id = StepId::new(arena.issued() as u64 + 1);
+    let before = Before { at: 0, bound: None };
+    let name = Name::read(b"x").expect(rt, "a name");
+    let (Gives(role, _) | Takes(role, _) | Marks(role)) = deed;
+    assert!(rt; role < 8);
+    let role = Role::new(role);
+    match deed {
+        Gives(_, to) => {
+            assert!(rt; to < 8);
+            let act = Act::Out {
+                to: Role::new(to),
+                message: Message::Label(name),
+            };
+            arena.add(Step { id, role, act }, before, None);
+        }
+        Takes(_, from) => {
+            assert!(rt; from < 8);
+            let from = Role::new(from);
+            let source = first_waiting(arena, from, role);
+            assert!(rt; source.is_some());
+            let act = Act::In { from, slot: None };
+            arena.add(Step { id, role, act }, before, source);
+        }
+        Marks(_) => {
+            let act = Act::Mark(name);
+            arena.add(Step { id, role, act }, before, None);
+        }
+    }
+}
+
+// The arena of these deeds.
+fn play(rt: &(impl Abort + AllocGlobal), deeds: &[Deed]) -> Arena
+    ensures none { marked_keys result.entries ≡ [] }
+{
+    let mut arena = Arena::new(rt.alloc());
+    for deed in deeds {
+        add(rt, &mut arena, *deed);
+    }
+    arena
+}
+
+// The number of a step that is there.
+fn present(rt: &impl Abort, arena: &Arena, number: u64) -> StepId
+    ensures { IsSome (step_of (steps arena.now.entries) result) }
+{
+    let id = StepId::new(number);
+    arena.by_id(id).expect(rt, "a step");
+    id
+}
+
+// Marks what depends on the step, and takes the marked steps out: their numbers, the newest first.
+fn undo(rt: &(impl Abort + AllocGlobal), arena: &mut Arena, number: u64) -> Vec<u64>
+    requires none { marked_keys arena.old.entries ≡ [] }
+{
+    let id = present(rt, arena, number);
+    let count = mark_from(arena, id);
+    let mut gone = Vec::new(rt.alloc());
+    for _ in 0..count {
+        marks_stay_closed();
+        assert!(rt; arena.len() > 0);
+        let key = newest_marked(arena).expect(rt, "a marked step");
+        gone.push(arena.remove(key).id.number())
+            .expect(rt, "memory");
+    }
+    assert!(rt; newest_marked(arena).is_none());
+    gone
+}
+
+const CHAIN: &[Deed] = &[Gives(A, B), Takes(B, A), Gives(B, C), Takes(C, B)];
+
+const TWO_SENDS: &[Deed] = &[Gives(A, B), Gives(A, B), Takes(B, A)];
+
+const SENT_AGAIN: &[Deed] = &[Gives(A, B), Takes(B, A), Gives(A, B)];
+
+const TWO_PAIRS: &[Deed] = &[Gives(A, B), Gives(C, H), Takes(B, A), Takes(H, C)];
+
+const WITH_MARKS: &[Deed] = &[
+    Marks(A),
+    Gives(A, B),
+    Marks(B),
+    Takes(B, A),
+    Marks(B),
+    Marks(H),
+];
+
+// Two ways from a to h.
+const TWO_WAYS: &[Deed] = &[
+    Gives(A, B),
+    Gives(A, C),
+    Takes(B, A),
+    Takes(C, A),
+    Gives(B, H),
+    Gives(C, H),
+    Takes(H, B),
+    Takes(H, C),
+];
+
+#[test]
+fn finds_the_least_dependent(rt: HostRuntime) {
+    for (deeds, number, want) in [
+        (CHAIN, 1, 2),
+        (CHAIN, 2, 3),
+        (CHAIN, 4, 0),
+        (TWO_SENDS, 1, 2),
+        (TWO_SENDS, 2, 0),
+        (SENT_AGAIN, 1, 2),
+        (TWO_PAIRS, 2, 4),
+        (WITH_MARKS, 1, 2),
+        (WITH_MARKS, 2, 4),
+        (WITH_MARKS, 3, 4),
+        (WITH_MARKS, 6, 0),
+        (TWO_WAYS, 2, 4),
+    ] {
+        let arena = play(&rt, deeds);
+        let found = match least_dependent(&arena, present(&rt, &arena, number)) {
+            Some(id) => id.number(),
+            None => 0,
+        };
+        assert_eq!(&rt; found, want, "of {number}");
+    }
+}
+
+#[test]
+fn takes_out_what_depends_on_a_step(rt: HostRuntime) {
+    for (deeds, number, want) in [
+        (CHAIN, 1, &[4, 3, 2, 1][..]),
+        (CHAIN, 2, &[4, 3, 2]),
+        (CHAIN, 4, &[4]),
+        (TWO_SENDS, 1, &[3, 2, 1]),
+        (TWO_SENDS, 2, &[2]),
+        (TWO_PAIRS, 1, &[3, 1]),
+        (TWO_PAIRS, 2, &[4, 2]),
+        (WITH_MARKS, 1, &[5, 4, 2, 1]),
+        (WITH_MARKS, 3, &[5, 4, 3]),
+        (TWO_WAYS, 2, &[8, 6, 4, 2]),
+        (TWO_WAYS, 3, &[8, 7, 5, 3]),
+    ] {
+        let mut arena = play(&rt, deeds);
+        let gone = undo(&rt, &mut arena, number);
+        assert_eq!(&rt; gone.as_slice(), want, "from {number}");
+        assert_eq!(&rt; arena.len(), deeds.len().saturating_sub(gone.len()));
+    }
+}
+
+#[test]
+fn leaves_no_mark(rt: HostRuntime) {
+    for (deeds, first, second, want) in [
+        (CHAIN, 1, 4, &[4][..]),
+        (TWO_PAIRS, 1, 2, &[4, 2]),
+        (TWO_WAYS, 3, 2, &[8, 6, 4, 2]),
+    ] {
+        let mut arena = play(&rt, deeds);
+        let id = present(&rt, &arena, first);
+        mark_from(&mut arena, id);
+        unmark(&mut arena);
+        assert_eq!(&rt;
+            undo(&rt, &mut arena, second).as_slice(),
+            want,
+            "from {second}"
+        );
+    }
+}
+
+// A history of that many steps: 500 messages from b to c, and then marks of a. Of the first 1,000 steps the last so
+// many depend on their first.
+fn marks_at(rt: &(impl Abort + AllocGlobal), marked: u64, steps: u64) {
+    let mut arena = Arena::new(rt.alloc());
+    for _ in 0..500_u64 {
+        add(rt, &mut arena, Gives(B, C));
+        add(rt, &mut arena, Takes(C, B));
+    }
+    for _ in 1000..steps {
+        add(rt, &mut arena, Marks(A));
+    }
+    let from = present(rt, &arena, 1001_u64.saturating_sub(marked));
+    assert_eq!(rt; mark_from(&mut arena, from) as u64, marked);
+}
+
+#[test]
+fn marks_10_of_10_000(rt: HostRuntime) {
+    marks_at(&rt, 10, 10_000);
+}
+
+#[test]
+fn marks_100_of_10_000(rt: HostRuntime) {
+    marks_at(&rt, 100, 10_000);
+}
+
+#[test]
+fn marks_1_000_of_10_000(rt: HostRuntime) {
+    marks_at(&rt, 1_000, 10_000);
+}
+
+#[test]
+fn marks_10_of_100_000(rt: HostRuntime) {
+    marks_at(&rt, 10, 100_000);
+}
+
+#[test]
+fn marks_100_of_100_000(rt: HostRuntime) {
+    marks_at(&rt, 100, 100_000);
+}
+
+#[test]
+fn marks_1_000_of_100_000(rt: HostRuntime) {
+    marks_at(&rt, 1_000, 100_000);
+}

@@ -1,0 +1,27 @@
+//! Tests of tables, verdicts, logs and sessions, over what their crates make public.
+#![tactic(auto)]
+
+#[cfg(test)]
+mod choices;
+#[cfg(test)]
+mod comparisons;
+#[cfg(test)]
+mod dependents;
+#[cfg(test)]
+mod lists_of_requests;
+#[cfg(test)]
+mod logs;
+#[cfg(test)]
+mod open_protocols;
+#[cfg(test)]
+mod rollbacks;
+#[cfg(test)]
+mod steps;
+#[cfg(test)]
+mod stores;
+#[cfg(test)]
+mod tables;
+#[cfg(test)]
+mod undos;
+#[cfg(test)]
+mod verdicts;

@@ -1,0 +1,160 @@
+use mps_session::*;
+use crate::choices::{giving, looping};
+use crate::steps::Line::{Asks, Count, GoesBack, Keeps, Moves, RollsBack, Undoes, Waits};
+use crate::steps::{
+    A, A_TO_B_TO_C, Ask, B, C, FROM_A, Line, Row, TO_B, answer, play, play_anew, role_of,
+};
+use mps_base::{Sort, StepId};
+use std::test::Fail;
+
+const D: u8 = 3;
+
+const ALL: &[Line] = &[
+    Asks(A, Ask::Send(B, "5"), "1 -"),
+    Asks(B, Ask::Receive(A, "x"), "2 5"),
+    Asks(B, Ask::Send(C, "7"), "3 -"),
+    Asks(C, Ask::Receive(B, "y"), "4 7"),
+    RollsBack(A, 1, "4 3 2 1 "),
+    Count(0, 4),
+    Keeps(B, "x", "-"),
+    Keeps(C, "y", "-"),
+    Asks(A, Ask::Send(B, "6"), "5 -"),
+];
+
+const ALL_BUT_THE_SEND: &[Line] = &[
+    Asks(A, Ask::Send(B, "5"), "1 -"),
+    Asks(B, Ask::Receive(A, "x"), "2 5"),
+    Asks(B, Ask::Send(C, "7"), "3 -"),
+    Asks(C, Ask::Receive(B, "y"), "4 7"),
+    RollsBack(B, 2, "4 3 2 "),
+    Waits(A, B, 0, "5"),
+    Moves("1 5; "),
+    Asks(B, Ask::Receive(A, "x"), "5 5"),
+];
+
+const WHOSE: &[Line] = &[
+    Asks(A, Ask::Send(B, "5"), "1 -"),
+    Asks(B, Ask::Receive(A, "x"), "2 5"),
+    RollsBack(A, 3, "NoStep"),
+    RollsBack(B, 1, "NotYours"),
+    RollsBack(A, 2, "NotYours"),
+    RollsBack(C, 1, "NotYours"),
+    Count(2, 2),
+    RollsBack(B, 2, "2 "),
+    RollsBack(B, 2, "NoStep"),
+    Count(1, 2),
+];
+
+// What is played where a gives b an int, and b one to c.
+const RELAYED: &[&[Line]] = &[ALL, ALL_BUT_THE_SEND, WHOSE];
+
+#[test]
+fn rolls_back_in_a_relay(rt: HostRuntime) -> Result<(), Fail> {
+    for lines in RELAYED {
+        play_anew(rt.alloc(), A_TO_B_TO_C, lines)?;
+    }
+    Ok(())
+}
+
+const TWO_PAIRS: &[&[Row]] = &[
+    &[TO_B],
+    &[FROM_A],
+    &[(true, D, Sort::Int)],
+    &[(false, C, Sort::Int)],
+];
+
+const STRANGERS_STAY: &[Line] = &[
+    Asks(A, Ask::Send(B, "1"), "1 -"),
+    Asks(C, Ask::Send(D, "2"), "2 -"),
+    Asks(B, Ask::Receive(A, "x"), "3 1"),
+    Asks(D, Ask::Receive(C, "y"), "4 2"),
+    RollsBack(A, 1, "3 1 "),
+    Moves("2 2; 4 2; "),
+    Keeps(D, "y", "2"),
+];
+
+#[test]
+fn leaves_strangers(rt: HostRuntime) -> Result<(), Fail> {
+    play_anew(rt.alloc(), TWO_PAIRS, STRANGERS_STAY)
+}
+
+const TO_THE_MARK: &[Line] = &[
+    GoesBack(A, "m", "NoMark"),
+    Asks(A, Ask::Mark("m"), "1 -"),
+    GoesBack(A, "m", ""),
+    Asks(A, Ask::Send(B, "1"), "2 -"),
+    Asks(B, Ask::Receive(A, "x"), "3 1"),
+    GoesBack(B, "m", "NoMark"),
+    GoesBack(A, "m", "3 2 "),
+    GoesBack(A, "m", ""),
+    Undoes(A, 1, "Ok"),
+    GoesBack(A, "m", "NoMark"),
+];
+
+const TO_THE_LAST_MARK: &[Line] = &[
+    Asks(A, Ask::Mark("m"), "1 -"),
+    Asks(A, Ask::Send(B, "1"), "2 -"),
+    Asks(A, Ask::Mark("k"), "3 -"),
+    Asks(A, Ask::Mark("m"), "4 -"),
+    Asks(A, Ask::Send(B, "2"), "5 -"),
+    Asks(B, Ask::Mark("m"), "6 -"),
+    GoesBack(B, "k", "NoMark"),
+    GoesBack(A, "m", "5 "),
+    GoesBack(A, "k", "4 "),
+    GoesBack(A, "m", "3 2 "),
+    GoesBack(A, "k", "NoMark"),
+    GoesBack(B, "m", ""),
+    Moves("1 -; 6 -; "),
+];
+
+// What is played where a gives b ints.
+const MARKED: &[&[Line]] = &[TO_THE_MARK, TO_THE_LAST_MARK];
+
+#[test]
+fn goes_back_to_marks(rt: HostRuntime) -> Result<(), Fail> {
+    for lines in MARKED {
+        let mut session = Session::open(rt.alloc(), giving(rt.alloc())?)?;
+        play(rt.alloc(), &mut session, lines)?;
+    }
+    Ok(())
+}
+
+const OTHER_BRANCH: &[Line] = &[
+    Asks(A, Ask::Choose(B, "go"), "1 -"),
+    Asks(B, Ask::Pick(A), "2 go"),
+    Asks(B, Ask::Send(A, "\"good day\""), "3 -"),
+    Asks(A, Ask::Receive(B, "w"), "4 \"good day\""),
+    RollsBack(B, 2, "4 3 2 "),
+    Waits(A, B, 0, "go"),
+    RollsBack(A, 1, "1 "),
+    Asks(A, Ask::Choose(B, "stop"), "5 -"),
+    Asks(B, Ask::Pick(A), "6 stop"),
+    Asks(B, Ask::Pick(A), "Ended"),
+];
+
+#[test]
+fn rolls_back_choices(rt: HostRuntime) -> Result<(), Fail> {
+    let mut session = Session::open(rt.alloc(), looping(rt.alloc())?)?;
+    play(rt.alloc(), &mut session, OTHER_BRANCH)
+}
+
+const HALF: &[Line] = &[
+    Waits(A, B, 499, "1"),
+    Waits(A, B, 500, "-"),
+    Count(500, 1000),
+];
+
+#[test]
+fn rolls_back_many_steps(rt: HostRuntime) -> Result<(), Fail> {
+    let mut session = Session::open(rt.alloc(), giving(rt.alloc())?)?;
+    for _ in 0..1000 {
+        let _ = answer(rt.alloc(), &mut session, A, Ask::Send(B, "1"))?;
+    }
+    let role = role_of(&session, A)?;
+    let gone = session.rollback(role, StepId::new(501))?;
+    let numbers = gone.as_slice();
+    assert_eq!(rt; numbers.len(), 500);
+    assert!(rt; numbers.first().is_some_and(|id| id.number() == 1000));
+    assert!(rt; numbers.last().is_some_and(|id| id.number() == 501));
+    play(rt.alloc(), &mut session, HALF)
+}

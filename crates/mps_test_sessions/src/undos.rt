@@ -1,0 +1,223 @@
+use mps_session::*;
+use crate::choices::{giving, looping};
+use crate::steps::Line::{Asks, Count, Keeps, Moves, Undoes, Waits};
+use crate::steps::{
+    A, A_TO_B_TO_C, Ask, B, C, FROM_A, Line, Row, TO_B, answer, play, play_anew, undone,
+};
+use std::alloc::Global;
+use std::test::Fail;
+
+const WAITS_FOR_THE_RECEIPT: &[Line] = &[
+    Asks(A, Ask::Send(B, "5"), "1 -"),
+    Asks(B, Ask::Receive(A, "x"), "2 5"),
+    Undoes(A, 1, "Needed 2"),
+    Count(2, 2),
+    Keeps(B, "x", "5"),
+    Undoes(B, 2, "Ok"),
+    Keeps(B, "x", "-"),
+    Waits(A, B, 0, "5"),
+    Undoes(A, 1, "Ok"),
+    Waits(A, B, 0, "-"),
+    Count(0, 2),
+];
+
+const BY_NAME: &[Line] = &[
+    Asks(B, Ask::Receive(A, "x"), "NothingQueued"),
+    Asks(A, Ask::Receive(B, "x"), "WrongAct"),
+    Asks(A, Ask::Send(C, "5"), "WrongPeer"),
+    Asks(A, Ask::Send(B, "true"), "WrongSort"),
+    Undoes(B, 7, "NoStep"),
+    Undoes(B, 0, "NoStep"),
+    Asks(A, Ask::Send(B, "5"), "1 -"),
+    Undoes(B, 1, "NotYours"),
+    Asks(B, Ask::Receive(A, "x"), "2 5"),
+    // whether others depend on it or not
+    Undoes(C, 1, "NotYours"),
+    Undoes(A, 2, "NotYours"),
+    Undoes(A, 3, "NoStep"),
+    Count(2, 2),
+];
+
+// What is played where a gives b an int, and b one to c.
+const RELAYED: &[&[Line]] = &[WAITS_FOR_THE_RECEIPT, BY_NAME];
+
+#[test]
+fn undoes_in_a_relay(rt: HostRuntime) -> Result<(), Fail> {
+    for lines in RELAYED {
+        play_anew(rt.alloc(), A_TO_B_TO_C, lines)?;
+    }
+    Ok(())
+}
+
+const TWICE: &[&[Row]] = &[&[TO_B, TO_B], &[FROM_A, FROM_A]];
+
+const TO_THE_FRONT: &[Line] = &[
+    Asks(A, Ask::Send(B, "1"), "1 -"),
+    Asks(A, Ask::Send(B, "2"), "2 -"),
+    Asks(B, Ask::Receive(A, "x"), "3 1"),
+    Undoes(B, 3, "Ok"),
+    Asks(B, Ask::Receive(A, "x"), "4 1"),
+];
+
+const GONE: &[Line] = &[
+    Asks(A, Ask::Send(B, "1"), "1 -"),
+    Asks(B, Ask::Receive(A, "x"), "2 1"),
+    Undoes(B, 2, "Ok"),
+    Undoes(A, 1, "Ok"),
+    Asks(A, Ask::Send(B, "9"), "3 -"),
+    Asks(B, Ask::Receive(A, "x"), "4 9"),
+];
+
+const BOUND_AS_BEFORE: &[Line] = &[
+    Asks(A, Ask::Send(B, "1"), "1 -"),
+    Asks(A, Ask::Send(B, "2"), "2 -"),
+    Asks(B, Ask::Receive(A, "x"), "3 1"),
+    Asks(B, Ask::Receive(A, "x"), "4 2"),
+    Keeps(B, "x", "2"),
+    Undoes(B, 4, "Ok"),
+    Keeps(B, "x", "1"),
+    Waits(A, B, 0, "2"),
+    Waits(A, B, 1, "-"),
+];
+
+const NEEDED_BY_A_SEND: &[Line] = &[
+    Asks(A, Ask::Send(B, "1"), "1 -"),
+    Asks(A, Ask::Send(B, "2"), "2 -"),
+    Asks(B, Ask::Receive(A, "x"), "3 1"),
+    Undoes(A, 1, "Needed 2"),
+];
+
+const NEEDED_BY_A_RECEIPT: &[Line] = &[
+    Asks(A, Ask::Send(B, "1"), "1 -"),
+    Asks(B, Ask::Receive(A, "x"), "2 1"),
+    Asks(A, Ask::Send(B, "2"), "3 -"),
+    Undoes(A, 1, "Needed 2"),
+];
+
+const NEVER_AGAIN: &[Line] = &[
+    Asks(A, Ask::Send(B, "1"), "1 -"),
+    Undoes(A, 1, "Ok"),
+    Asks(A, Ask::Send(B, "2"), "2 -"),
+    Undoes(A, 1, "NoStep"),
+];
+
+// What is played where a gives b two ints.
+const GIVEN_TWICE: &[&[Line]] = &[
+    TO_THE_FRONT,
+    GONE,
+    BOUND_AS_BEFORE,
+    NEEDED_BY_A_SEND,
+    NEEDED_BY_A_RECEIPT,
+    NEVER_AGAIN,
+];
+
+#[test]
+fn undoes_of_two_messages(rt: HostRuntime) -> Result<(), Fail> {
+    for lines in GIVEN_TWICE {
+        play_anew(rt.alloc(), TWICE, lines)?;
+    }
+    Ok(())
+}
+
+const OTHER_BRANCH: &[Line] = &[
+    Asks(A, Ask::Mark("m"), "1 -"),
+    Asks(A, Ask::Choose(B, "go"), "2 -"),
+    Asks(B, Ask::Pick(A), "3 go"),
+    Undoes(B, 3, "Ok"),
+    Asks(B, Ask::Send(A, "\"good day\""), "WrongAct"),
+    Waits(A, B, 0, "go"),
+    Asks(B, Ask::Pick(A), "4 go"),
+    Undoes(A, 2, "Needed 4"),
+    Undoes(B, 4, "Ok"),
+    Undoes(A, 2, "Ok"),
+    Asks(A, Ask::Choose(B, "stop"), "5 -"),
+    Asks(B, Ask::Pick(A), "6 stop"),
+    Undoes(A, 1, "Needed 5"),
+    Asks(B, Ask::Mark("n"), "7 -"),
+    Undoes(B, 7, "Ok"),
+    Moves("1 -; 5 stop; 6 stop; "),
+];
+
+#[test]
+fn undoes_choices_and_marks(rt: HostRuntime) -> Result<(), Fail> {
+    let mut session = Session::open(rt.alloc(), looping(rt.alloc())?)?;
+    play(rt.alloc(), &mut session, OTHER_BRANCH)
+}
+
+const MANY: &[Line] = &[Undoes(A, 1, "Needed 2"), Count(1000, 1000)];
+
+const NONE_LEFT: &[Line] = &[Undoes(A, 1, "NoStep"), Waits(A, B, 0, "-"), Count(0, 1000)];
+
+// Takes the steps of a back, from that number on downwards.
+fn undo_all(alloc: Global, session: &mut Session, last: u64) -> Result<(), Fail> {
+    for k in 0..last {
+        if undone(alloc, session, A, last - k)?.as_str() != "Ok" {
+            return Err("it stays".into());
+        }
+    }
+    Ok(())
+}
+
+#[test]
+fn undoes_a_thousand_steps(rt: HostRuntime) -> Result<(), Fail> {
+    let mut session = Session::open(rt.alloc(), giving(rt.alloc())?)?;
+    for _ in 0..1000 {
+        let _ = answer(rt.alloc(), &mut session, A, Ask::Send(B, "1"))?;
+    }
+    play(rt.alloc(), &mut session, MANY)?;
+    undo_all(rt.alloc(), &mut session, 1000)?;
+    play(rt.alloc(), &mut session, NONE_LEFT)
+}
+
+// Sends and takes the send back at once, so many times.
+fn send_and_undo(alloc: Global, session: &mut Session, times: u64) -> Result<(), Fail> {
+    for k in 0..times {
+        let _ = answer(alloc, session, A, Ask::Send(B, "1"))?;
+        if undone(alloc, session, A, k + 1)?.as_str() != "Ok" {
+            return Err("it stays".into());
+        }
+    }
+    Ok(())
+}
+
+const AFTER_THEM: &[Line] = &[
+    Asks(A, Ask::Send(B, "2"), "1001 -"),
+    Asks(B, Ask::Receive(A, "x"), "1002 2"),
+    Undoes(A, 1001, "Needed 1002"),
+    Undoes(A, 1000, "NoStep"),
+    Count(2, 1002),
+];
+
+#[test]
+fn undoes_a_thousand_sends_at_once(rt: HostRuntime) -> Result<(), Fail> {
+    let mut session = Session::open(rt.alloc(), giving(rt.alloc())?)?;
+    send_and_undo(rt.alloc(), &mut session, 1000)?;
+    play(rt.alloc(), &mut session, AFTER_THEM)
+}
+
+const BOUND_AGAIN: &[Line] = &[
+    Asks(A, Ask::Send(B, "1"), "1 -"),
+    Asks(A, Ask::Send(B, "2"), "2 -"),
+    Asks(A, Ask::Send(B, "3"), "3 -"),
+    Asks(B, Ask::Receive(A, "x"), "4 1"),
+    Asks(B, Ask::Receive(A, "y"), "5 2"),
+    Asks(B, Ask::Receive(A, "x"), "6 3"),
+    Keeps(B, "x", "3"),
+    Keeps(B, "y", "2"),
+    Undoes(B, 6, "Ok"),
+    Keeps(B, "x", "1"),
+    Keeps(B, "y", "2"),
+    Undoes(B, 5, "Ok"),
+    Keeps(B, "x", "1"),
+    Keeps(B, "y", "-"),
+    Undoes(B, 4, "Ok"),
+    Keeps(B, "x", "-"),
+    Asks(B, Ask::Receive(A, "y"), "7 1"),
+    Keeps(B, "y", "1"),
+];
+
+#[test]
+fn unbinds_slots(rt: HostRuntime) -> Result<(), Fail> {
+    let mut session = Session::open(rt.alloc(), giving(rt.alloc())?)?;
+    play(rt.alloc(), &mut session, BOUND_AGAIN)
+}

@@ -1,0 +1,262 @@
+ghost use Rattle.std.specs.Prelude.{◌+◌, ◌^◌, ◌<◌, ◌≤◌, take, IfOk};
+ghost use Rattle.std.specs.Io.KnownBytes.{Appends, Consumes};
+
+use mps_dev::*;
+use std::alloc::{AllocError, Global};
+use std::io::{self, ErrorKind, Read, Write};
+use std::test::Fail;
+
+// What up to ten reads of at most four bytes give, until the end or a failure, and whether that was
+// a failure.
+fn drained<S: Source>(alloc: Global, source: &mut S) -> Result<(Vec<u8>, bool), AllocError>
+    requires { S.calls source.old < 2 ^ 62 }
+    ensures calls { S.calls source.new ≤ S.calls source.old + 10 }
+    ensures bytes { IfOk result (λ r.
+        Consumes (S.remaining source.old) (S.remaining source.new) r.0.items) }
+{
+    let mut bytes = Vec::new(alloc);
+    for _turn in 0..10u8 {
+        let mut buf = [0; 4];
+        match source.read(&mut buf) {
+            Ok(0) => return Ok((bytes, false)),
+            Ok(n) => bytes.extend_from_slice(&buf[..n])?,
+            Err(Failed) => return Ok((bytes, true)),
+        }
+    }
+    Ok((bytes, false))
+}
+
+// How many of the bytes up to ten writes hand over, until a failure.
+fn handed_over<K: Sink>(sink: &mut K, bytes: &[u8]) -> usize
+    requires { K.failed_calls sink.old < 2 ^ 62 }
+    ensures bytes { Appends (K.taken sink.old) (K.taken sink.new) (take result bytes.now) }
+{
+    let mut at = 0;
+    for _turn in 0..10u8 {
+        match sink.write(&bytes[at..]) {
+            Ok(n) => at += n,
+            Err(Failed) => return at,
+        }
+    }
+    at
+}
+
+// A device that fails once, by an error of this kind, and counts its calls. As a reader it then
+// gives two bytes and ends, as a writer it then takes what comes.
+#[derive(Drop)]
+struct FailsOnce {
+    kind: ErrorKind,
+    calls: u8,
+}
+
+impl FailsOnce {
+    fn new(kind: ErrorKind) -> Self {
+        FailsOnce { kind, calls: 0 }
+    }
+}
+
+impl Read for FailsOnce {
+    fn read(&mut self, buf: &mut [u8]) -> io::Result<usize> {
+        self.calls = self.calls.saturating_add(1);
+        match self.calls {
+            1 => Err(self.kind.into()),
+            2 if buf.len() >= 2 => {
+                buf[0] = 8;
+                buf[1] = 9;
+                Ok(2)
+            }
+            _ => Ok(0),
+        }
+    }
+}
+
+impl Write for FailsOnce {
+    fn write(&mut self, buf: &[u8]) -> io::Result<usize> {
+        self.calls = self.calls.saturating_add(1);
+        match self.calls {
+            1 => Err(self.kind.into()),
+            _ => Ok(buf.len()),
+        }
+    }
+
+    fn flush(&mut self) -> io::Result<()> {
+        Ok(())
+    }
+}
+
+// Kinds of errors, of which std's own loops ask again after the first.
+const KINDS: [ErrorKind; 3] = [
+    ErrorKind::Interrupted,
+    ErrorKind::ConnectionReset,
+    ErrorKind::Other,
+];
+
+// A writer that counts its calls. It has room for so many bytes, and once it is full it fails by
+// this error, or takes nothing where there is none.
+#[derive(Drop)]
+struct Stuck {
+    room: usize,
+    error: Option<ErrorKind>,
+    calls: u8,
+}
+
+impl Stuck {
+    fn new(room: usize, error: Option<ErrorKind>) -> Self {
+        Stuck {
+            room,
+            error,
+            calls: 0,
+        }
+    }
+}
+
+impl Write for Stuck {
+    fn write(&mut self, buf: &[u8]) -> io::Result<usize> {
+        self.calls = self.calls.saturating_add(1);
+        let count = self.room.min(buf.len());
+        self.room -= count;
+        match self.error {
+            Some(kind) if count == 0 => Err(kind.into()),
+            _ => Ok(count),
+        }
+    }
+
+    fn flush(&mut self) -> io::Result<()> {
+        Ok(())
+    }
+}
+
+fn three_pieces(alloc: Global) -> Result<Vec<Vec<u8>>, AllocError> {
+    Ok(vec![in alloc; vec![in alloc; 1, 2]?, vec![in alloc]?, vec![in alloc; 3]?]?)
+}
+
+#[test]
+fn pieces_come_one_by_one(rt: HostRuntime) -> Result<(), Fail> {
+    let mut source = Pieces::new(three_pieces(rt.alloc())?, None);
+    let mut buf = [0; 4];
+    assert_eq!(rt; source.read(&mut buf), Ok(2));
+    assert_eq!(rt; source.read(&mut buf), Ok(1), "past the empty piece");
+    assert_eq!(rt; buf, [3, 2, 0, 0]);
+    assert_eq!(rt; source.read(&mut buf), Ok(0));
+    Ok(())
+}
+
+#[test]
+fn a_piece_is_given_in_parts(rt: HostRuntime) -> Result<(), Fail> {
+    let mut source = Pieces::new(three_pieces(rt.alloc())?, None);
+    let mut buf = [0; 1];
+    assert_eq!(rt; source.read(&mut []), Ok(0));
+    for byte in [1, 2, 3] {
+        assert_eq!(rt; source.read(&mut buf), Ok(1));
+        assert_eq!(rt; buf, [byte]);
+    }
+    assert_eq!(rt; source.read(&mut buf), Ok(0));
+    Ok(())
+}
+
+#[test]
+fn pieces_fail_from_a_call_on(rt: HostRuntime) -> Result<(), Fail> {
+    let mut source = Pieces::new(three_pieces(rt.alloc())?, Some(2));
+    let (bytes, failed) = drained(rt.alloc(), &mut source)?;
+    assert_eq!(rt; bytes.as_slice(), [1, 2].as_slice());
+    assert!(rt; failed);
+    Ok(())
+}
+
+#[test]
+fn a_short_sink_fails_when_full(rt: HostRuntime) -> Result<(), Fail> {
+    let mut sink = Short::new(rt.alloc(), 3)?;
+    assert_eq!(rt; sink.write(&[5, 6, 7, 8, 9]), Ok(3));
+    assert_eq!(rt; sink.write(&[8, 9]), Err(Failed));
+    assert_eq!(rt; sink.write(&[]), Ok(0));
+    assert_eq!(rt; sink.bytes(), [5, 6, 7].as_slice());
+    let mut larger = Short::new(rt.alloc(), 9)?;
+    assert_eq!(rt; handed_over(&mut larger, &[5, 6, 7, 8, 9]), 5);
+    Ok(())
+}
+
+#[test]
+fn a_sink_that_keeps_nothing_takes_all(rt: HostRuntime) {
+    assert_eq!(rt; Discard.write(&[5, 6, 7]), Ok(3));
+    assert_eq!(rt; Discard.write(&[]), Ok(0));
+    assert_eq!(rt; handed_over(&mut Discard, &[5, 6, 7, 8]), 4);
+}
+
+#[test]
+fn readers_of_std_are_sources(rt: HostRuntime) -> Result<(), Fail> {
+    let text = [1u8, 2, 3, 4, 5];
+    let mut source = OverRead::new(text.as_slice());
+    let (bytes, failed) = drained(rt.alloc(), &mut source)?;
+    assert_eq!(rt; bytes.as_slice(), text.as_slice());
+    assert!(rt; !failed);
+    assert!(rt; source.into_inner().is_empty());
+    Ok(())
+}
+
+#[test]
+fn writers_of_std_are_sinks(rt: HostRuntime) -> Result<(), Fail> {
+    let mut sink = OverWrite::new(Vec::new(rt.alloc()));
+    assert_eq!(rt; handed_over(&mut sink, &[5, 6, 7]), 3);
+    assert_eq!(rt; sink.into_inner().as_slice(), [5, 6, 7].as_slice());
+
+    let mut stuck = OverWrite::new(Stuck::new(0, None));
+    assert_eq!(rt; stuck.write(&[1]), Err(Failed));
+    assert_eq!(rt; stuck.write(&[]), Ok(0));
+    Ok(())
+}
+
+#[test]
+fn a_failed_read_is_not_asked_again(rt: HostRuntime) -> Result<(), Fail> {
+    for kind in KINDS {
+        let mut buf = [0; 4];
+        let mut once = OverRead::new(FailsOnce::new(kind));
+        assert_eq!(rt; once.read(&mut buf), Err(Failed));
+        assert_eq!(rt; once.into_inner().calls, 1, "{kind:?}");
+
+        let mut source = OverRead::new(FailsOnce::new(kind));
+        assert_eq!(rt; source.read(&mut buf), Err(Failed), "{kind:?}");
+        assert_eq!(rt; source.read(&mut buf), Ok(2), "{kind:?}");
+        assert_eq!(rt; buf, [8, 9, 0, 0]);
+        assert_eq!(rt; source.read(&mut buf), Ok(0));
+        assert_eq!(rt; source.into_inner().calls, 3, "{kind:?}");
+    }
+    Ok(())
+}
+
+#[test]
+fn a_failed_write_is_not_asked_again(rt: HostRuntime) -> Result<(), Fail> {
+    for kind in KINDS {
+        let mut once = OverWrite::new(FailsOnce::new(kind));
+        assert_eq!(rt; once.write(&[5, 6]), Err(Failed));
+        assert_eq!(rt; once.into_inner().calls, 1, "{kind:?}");
+
+        let mut sink = OverWrite::new(FailsOnce::new(kind));
+        assert_eq!(rt; sink.write(&[5, 6]), Err(Failed), "{kind:?}");
+        assert_eq!(rt; sink.write(&[5, 6]), Ok(2), "{kind:?}");
+        assert_eq!(rt; sink.into_inner().calls, 2, "{kind:?}");
+    }
+    Ok(())
+}
+
+#[test]
+fn a_stuck_writer_is_not_asked_again(rt: HostRuntime) -> Result<(), Fail> {
+    let mut stuck = OverWrite::new(Stuck::new(0, None));
+    assert_eq!(rt; stuck.write(&[5]), Err(Failed));
+    assert_eq!(rt; stuck.into_inner().calls, 1);
+    Ok(())
+}
+
+#[test]
+fn a_short_write_is_not_asked_again(rt: HostRuntime) -> Result<(), Fail> {
+    for error in [None, Some(ErrorKind::Interrupted), Some(ErrorKind::Other)] {
+        let mut once = OverWrite::new(Stuck::new(1, error));
+        assert_eq!(rt; once.write(&[5, 6]), Ok(1));
+        assert_eq!(rt; once.into_inner().calls, 1);
+
+        let mut sink = OverWrite::new(Stuck::new(1, error));
+        assert_eq!(rt; sink.write(&[5, 6]), Ok(1));
+        assert_eq!(rt; sink.write(&[6]), Err(Failed));
+        assert_eq!(rt; sink.into_inner().calls, 2);
+    }
+    Ok(())
+}

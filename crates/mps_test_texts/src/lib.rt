@@ -1,0 +1,19 @@
+//! Tests of names, values, commands, devices, lines, protocols and local types, over what their crates make public.
+#![tactic(auto)]
+
+#[cfg(test)]
+mod commands;
+#[cfg(test)]
+mod devices;
+#[cfg(test)]
+mod lines;
+#[cfg(test)]
+mod local_faults;
+#[cfg(test)]
+mod projections;
+#[cfg(test)]
+mod protocol_texts;
+#[cfg(test)]
+mod protocols;
+#[cfg(test)]
+mod values;

@@ -1,0 +1,339 @@
+use crate::projections::{name, variable};
+use mps_local::{
+    Branches, Local, LocalFault, first_fault, local_fault_laws, local_size_laws,
+    projections_have_no_fault,
+};
+use mps_base::{Role, Sort};
+use std::alloc::AllocGlobal;
+use std::process::Abort;
+
+// A node, with what comes after it left out.
+#[derive(Clone, Copy)]
+enum Part<'a> {
+    Var(&'a str),
+    Rec(&'a str),
+    Sends,
+    Takes,
+    // the last of the labels goes on, each other one ends
+    Chooses(&'a [&'a str]),
+    Picks(&'a [&'a str]),
+}
+
+// The branch of these letters, and then the others.
+fn more(rt: &(impl Abort + AllocGlobal), letters: &str, next: Local, others: Branches) -> Branches {
+    Branches::more(rt.alloc(), name(rt, letters), next, others).expect(rt, "memory")
+}
+
+// Branches of these labels, of which the last goes on with `next`.
+fn branches(rt: &(impl Abort + AllocGlobal), labels: &[&str], next: Local) -> Branches {
+    let mut branches = Branches::NoMore;
+    let mut body = next;
+    for k in 0..labels.len() {
+        branches = more(rt, labels[labels.len() - 1 - k], body, branches);
+        body = Local::End;
+    }
+    branches
+}
+
+// The node in front of `next`.
+fn in_front(rt: &(impl Abort + AllocGlobal), part: &Part<'_>, next: Local) -> Local {
+    let peer = Role::new(1);
+    let made = match part {
+        Part::Var(letters) => return Local::Var(variable(rt, letters)),
+        Part::Rec(letters) => Local::rec(rt.alloc(), variable(rt, letters), next),
+        Part::Sends => Local::send(rt.alloc(), peer, Sort::Int, next),
+        Part::Takes => Local::recv(rt.alloc(), peer, Sort::Text, next),
+        Part::Chooses(labels) => {
+            return Local::Select {
+                peer,
+                branches: branches(rt, labels, next),
+            };
+        }
+        Part::Picks(labels) => {
+            return Local::Branch {
+                peer,
+                branches: branches(rt, labels, next),
+            };
+        }
+    };
+    made.expect(rt, "memory")
+}
+
+// The parts, one behind the other, and then the end.
+fn chain(rt: &(impl Abort + AllocGlobal), parts: &[Part<'_>]) -> Local {
+    let mut body = Local::End;
+    for k in 0..parts.len() {
+        body = in_front(rt, &parts[parts.len() - 1 - k], body);
+    }
+    body
+}
+
+// So many of the part in front of `next`.
+fn many(rt: &(impl Abort + AllocGlobal), count: u32, part: &Part<'_>, next: Local) -> Local {
+    let mut body = next;
+    for _ in 0..count {
+        body = in_front(rt, part, body);
+    }
+    body
+}
+
+// The type has that first fault, or none.
+fn has_fault(rt: &impl Abort, t: Local, fault: Option<LocalFault>) {
+    assert_eq!(rt; first_fault(&t), fault);
+}
+
+// So many outputs and then the parts have that first fault, or none.
+fn tells(
+    rt: &(impl Abort + AllocGlobal),
+    count: u32,
+    parts: &[Part<'_>],
+    fault: Option<LocalFault>,
+) {
+    has_fault(rt, many(rt, count, &Part::Sends, chain(rt, parts)), fault);
+}
+
+const LABELS: &[&str] = &[
+    "l1", "l2", "l3", "l4", "l5", "l6", "l7", "l8", "l9", "l10", "l11", "l12", "l13", "l14", "l15",
+    "l16", "l17",
+];
+
+const FIRST_SIXTEEN: &[&str] = &[
+    "l1", "l2", "l3", "l4", "l5", "l6", "l7", "l8", "l9", "l10", "l11", "l12", "l13", "l14", "l15",
+    "l16",
+];
+
+const LAST_SIXTEEN: &[&str] = &[
+    "l2", "l3", "l4", "l5", "l6", "l7", "l8", "l9", "l10", "l11", "l12", "l13", "l14", "l15",
+    "l16", "l17",
+];
+
+// 17 labels, of which the last is the first once more.
+const FIRST_TWICE: &[&str] = &[
+    "l1", "l2", "l3", "l4", "l5", "l6", "l7", "l8", "l9", "l10", "l11", "l12", "l13", "l14", "l15",
+    "l16", "l1",
+];
+
+// For each fault of a node, in their order, a type that has it.
+const FAULTY: &[(&[Part<'static>], LocalFault)] = &[
+    (&[Part::Chooses(&["l", "m", "l"])], LocalFault::DoubleLabel),
+    (&[Part::Picks(FIRST_TWICE)], LocalFault::DoubleLabel),
+    (&[Part::Picks(LABELS)], LocalFault::TooManyBranches),
+    (&[Part::Chooses(&[])], LocalFault::NoBranches),
+    (
+        &[Part::Rec("X"), Part::Takes, Part::Var("Y")],
+        LocalFault::Unbound,
+    ),
+    (
+        &[
+            Part::Rec("X"),
+            Part::Sends,
+            Part::Rec("X"),
+            Part::Takes,
+            Part::Var("X"),
+        ],
+        LocalFault::Shadowed,
+    ),
+    (&[Part::Rec("X"), Part::Var("X")], LocalFault::Unguarded),
+    (
+        &[
+            Part::Rec("X"),
+            Part::Sends,
+            Part::Rec("Y"),
+            Part::Rec("Z"),
+            Part::Var("Y"),
+        ],
+        LocalFault::Unguarded,
+    ),
+];
+
+#[test]
+fn names_each_fault(rt: HostRuntime) {
+    for row in FAULTY {
+        tells(&rt, 0, row.0, Some(row.1));
+        tells(&rt, 50, row.0, Some(row.1));
+    }
+}
+
+// A choice between the two has that first fault.
+fn tells_of_choice(
+    rt: &(impl Abort + AllocGlobal),
+    left: &[Part<'_>],
+    right: &[Part<'_>],
+    fault: LocalFault,
+) {
+    let others = more(rt, "m", chain(rt, right), Branches::NoMore);
+    let branches = more(rt, "l", chain(rt, left), others);
+    let peer = Role::new(0);
+    has_fault(rt, Local::Branch { peer, branches }, Some(fault));
+}
+
+// A `rec` or a choice with a fault, and another fault below it.
+const FAULT_BELOW: &[(&[Part<'static>], LocalFault)] = &[
+    (
+        &[Part::Chooses(&["l", "l"]), Part::Var("X")],
+        LocalFault::DoubleLabel,
+    ),
+    (
+        &[Part::Picks(&["l", "l"]), Part::Var("X")],
+        LocalFault::DoubleLabel,
+    ),
+    (
+        &[Part::Picks(LABELS), Part::Chooses(&["l", "l"])],
+        LocalFault::TooManyBranches,
+    ),
+    (
+        &[Part::Rec("X"), Part::Picks(LABELS), Part::Rec("X")],
+        LocalFault::TooManyBranches,
+    ),
+    (
+        &[
+            Part::Rec("X"),
+            Part::Takes,
+            Part::Rec("X"),
+            Part::Chooses(&[]),
+        ],
+        LocalFault::Shadowed,
+    ),
+    (
+        &[Part::Rec("X"), Part::Rec("X"), Part::Var("X")],
+        LocalFault::Shadowed,
+    ),
+    (
+        &[Part::Rec("X"), Part::Sends, Part::Rec("X"), Part::Var("Y")],
+        LocalFault::Shadowed,
+    ),
+];
+
+#[test]
+fn names_the_first_fault_in_preorder(rt: HostRuntime) {
+    for first in FAULTY {
+        for second in FAULTY {
+            tells_of_choice(&rt, first.0, second.0, first.1);
+        }
+    }
+    for row in FAULT_BELOW {
+        tells(&rt, 0, row.0, Some(row.1));
+    }
+}
+
+// How many outputs stand before the end, and the fault.
+const LENGTHS: &[(u32, Option<LocalFault>)] = &[
+    (63, None),
+    (64, Some(LocalFault::TooDeep)),
+    (255, Some(LocalFault::TooDeep)),
+    (256, Some(LocalFault::TooManyNodes)),
+];
+
+#[test]
+fn names_the_limits_first(rt: HostRuntime) {
+    for row in FAULTY {
+        tells(&rt, 64, row.0, Some(LocalFault::TooDeep));
+        tells(&rt, 256, row.0, Some(LocalFault::TooManyNodes));
+    }
+    for row in LENGTHS {
+        tells(&rt, row.0, &[], row.1);
+    }
+}
+
+// A choice of three labels, of which the one in that place has so many outputs behind it, and each
+// other one ends.
+fn uneven(rt: &(impl Abort + AllocGlobal), place: usize, count: u32) -> Local {
+    let mut branches = Branches::NoMore;
+    for k in 0..3usize {
+        let below = if 2 - k == place { count } else { 0 };
+        let next = many(rt, below, &Part::Sends, Local::End);
+        branches = more(rt, LABELS[2 - k], next, branches);
+    }
+    let peer = Role::new(1);
+    Local::Select { peer, branches }
+}
+
+// The choice and the end are two nodes of the path.
+#[test]
+fn goes_down_the_deepest_branch(rt: HostRuntime) {
+    for place in 0..3usize {
+        has_fault(&rt, uneven(&rt, place, 62), None);
+        has_fault(&rt, uneven(&rt, place, 63), Some(LocalFault::TooDeep));
+    }
+}
+
+// A loop of so many inputs.
+fn inputs(rt: &(impl Abort + AllocGlobal), count: u32) -> Local {
+    let last = Local::Var(variable(rt, "X"));
+    in_front(rt, &Part::Rec("X"), many(rt, count, &Part::Takes, last))
+}
+
+// A choice of 16 labels. Behind 15 of them stands a loop of 14 inputs, which has 16 nodes, and
+// behind the last one a loop of so many.
+fn loops(rt: &(impl Abort + AllocGlobal), last: u32) -> Local {
+    let mut branches = more(rt, "l16", inputs(rt, last), Branches::NoMore);
+    for k in 0..15usize {
+        branches = more(rt, LABELS[14 - k], inputs(rt, 14), branches);
+    }
+    let peer = Role::new(1);
+    Local::Branch { peer, branches }
+}
+
+// With the choice and 15 loops, which have 241 nodes, a loop of 13 inputs makes 256.
+#[test]
+fn counts_each_node(rt: HostRuntime) {
+    has_fault(&rt, loops(&rt, 13), None);
+    has_fault(&rt, loops(&rt, 14), Some(LocalFault::TooManyNodes));
+}
+
+const FAULTLESS: &[&[Part<'static>]] = &[
+    &[],
+    &[Part::Rec("X"), Part::Sends, Part::Var("X")],
+    &[
+        Part::Rec("X"),
+        Part::Rec("Y"),
+        Part::Picks(&["l", "m"]),
+        Part::Var("X"),
+    ],
+    &[Part::Rec("X"), Part::Takes, Part::Rec("Y"), Part::Var("X")],
+    &[
+        Part::Chooses(FIRST_SIXTEEN),
+        Part::Picks(LAST_SIXTEEN),
+        Part::Sends,
+    ],
+    &[Part::Chooses(&["l", "m"]), Part::Chooses(&["l", "m"])],
+];
+
+#[test]
+fn finds_no_fault(rt: HostRuntime) {
+    for parts in FAULTLESS {
+        tells(&rt, 0, parts, None);
+    }
+    local_fault_laws();
+    local_size_laws();
+    projections_have_no_fault();
+}
+
+// So many of the part and then a variable are too many nodes.
+fn is_too_long(rt: &(impl Abort + AllocGlobal), count: u32, part: &Part<'_>) {
+    let last = Local::Var(variable(rt, "Y"));
+    has_fault(
+        rt,
+        many(rt, count, part, last),
+        Some(LocalFault::TooManyNodes),
+    );
+}
+
+// A choice of so many labels, behind each of which the type ends.
+fn wide(rt: &(impl Abort + AllocGlobal), count: u32) -> Local {
+    let mut branches = Branches::NoMore;
+    for _ in 0..count {
+        branches = more(rt, "l", Local::End, branches);
+    }
+    let peer = Role::new(9);
+    Local::Select { peer, branches }
+}
+
+#[test]
+fn checks_types_of_any_size(rt: HostRuntime) {
+    is_too_long(&rt, 1_000_000, &Part::Sends);
+    is_too_long(&rt, 1_000_000, &Part::Takes);
+    is_too_long(&rt, 1_000_000, &Part::Rec("X"));
+    is_too_long(&rt, 100_000, &Part::Picks(&["l"]));
+    has_fault(&rt, wide(&rt, 100_000), Some(LocalFault::TooManyNodes));
+}
