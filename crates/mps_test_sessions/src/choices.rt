@@ -1,8 +1,8 @@
-use mps_session::*;
 use crate::steps::Line::{Asks, Count, Keeps, Moves, Step, Undoes, Waits};
 use crate::steps::{A, Ask, B, C, Line, Opening, answer, name, opens_so, play, role_of};
 use mps_base::{Name, Role, Sort, Value, VarName};
 use mps_local::{Branches, Local};
+use mps_session::*;
 use std::alloc::Global;
 use std::test::Fail;
 

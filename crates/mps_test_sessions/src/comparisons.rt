@@ -1,11 +1,11 @@
 ghost use Rattle.std.specs.Prelude.{◌≡◌};
 
-use mps_session::*;
 use crate::open_protocols::{choice, int, names};
 use crate::steps::{A, Ask, B, C, command, name, role_of};
 use mps_base::{Sort, StepId};
 use mps_command::{Answer, Change, Refusal, StepIds};
 use mps_global::{Global, Protocol};
+use mps_session::*;
 use std::alloc;
 use std::test::Fail;
 

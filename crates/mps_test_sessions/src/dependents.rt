@@ -4,9 +4,9 @@ ghost use Rattle.mps_arena.specs.Entries.{steps};
 ghost use Rattle.mps_arena.specs.Sources.{waiting};
 ghost use Rattle.mps_links.specs.Marks.{marked_keys, AreMarksClosed};
 
-use mps_links::*;
 use mps_arena::{Arena, Before, Key};
 use mps_base::{Act, Message, Name, Role, Step, StepId};
+use mps_links::*;
 use std::alloc::AllocGlobal;
 use std::process::Abort;
 

@@ -1,13 +1,13 @@
 ghost use Rattle.std.specs.Prelude.{◌<◌, length, IfOk};
 ghost use Rattle.std.specs.List.{AllByRecursion};
 
-use mps_session::*;
 use crate::steps::Line::{Count, Keeps, Moves, Waits};
 use crate::steps::{
     A, A_TO_B_TO_C, Ask, B, C, Line, command, gone, name, play, role_of, told, types,
 };
 use mps_base::{Role, StepId};
 use mps_command::{Answer, Change};
+use mps_session::*;
 use std::alloc::Global;
 use std::test::Fail;
 

@@ -1,9 +1,9 @@
 ghost use Rattle.std.specs.Prelude.{◌<◌, IsTrue, IsSome};
 ghost use Rattle.mps_arena.specs.Sources.{waiting, CanGo};
 
-use mps_log::*;
 use mps_arena::{Arena, Before, Key};
 use mps_base::{Act, Message, Name, Role, Step, StepId, Text, Value};
+use mps_log::*;
 use std::alloc::AllocGlobal;
 use std::process::Abort;
 

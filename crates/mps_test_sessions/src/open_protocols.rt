@@ -1,8 +1,8 @@
-use mps_session::*;
 use crate::steps::Line::Asks;
 use crate::steps::{A, Ask, B, C, Line, name, play};
 use mps_base::{Name, Role, Sort, VarName};
 use mps_global::{Branches, Global, GlobalFault, Protocol};
+use mps_session::*;
 use std::alloc;
 use std::test::Fail;
 

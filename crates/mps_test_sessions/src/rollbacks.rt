@@ -1,10 +1,10 @@
-use mps_session::*;
 use crate::choices::{giving, looping};
 use crate::steps::Line::{Asks, Count, GoesBack, Keeps, Moves, RollsBack, Undoes, Waits};
 use crate::steps::{
     A, A_TO_B_TO_C, Ask, B, C, FROM_A, Line, Row, TO_B, answer, play, play_anew, role_of,
 };
 use mps_base::{Sort, StepId};
+use mps_session::*;
 use std::test::Fail;
 
 const D: u8 = 3;

@@ -1,8 +1,8 @@
 ghost use Rattle.std.specs.Prelude.{◌<◌, length, IfOk};
 
-use mps_session::*;
 use mps_base::{Act, Message, Name, Role, Sort, StepId, Value};
 use mps_local::Local;
+use mps_session::*;
 use std::alloc::Global;
 use std::test::Fail;
 

@@ -1,8 +1,8 @@
 ghost use Rattle.std.specs.Prelude.{◌<◌};
 
-use mps_stores::*;
 use mps_arena::{Arena, Before, Key};
 use mps_base::{Act, Name, Role, Step, StepId};
+use mps_stores::*;
 use std::alloc::AllocGlobal;
 use std::process::Abort;
 

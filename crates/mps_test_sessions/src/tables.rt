@@ -1,10 +1,10 @@
 ghost use Rattle.std.specs.Prelude.{IfSome};
 ghost use Rattle.mps_table.specs.Graph.{IsNode};
 
-use mps_table::{Expect, Node, Table, compile};
 use mps_base::Sort::{self, Bool, Int, Text};
 use mps_base::{Name, Role, VarName};
 use mps_local::{Branches, Local, LocalFault};
+use mps_table::{Expect, Node, Table, compile};
 use std::alloc::AllocGlobal;
 use std::process::Abort;
 

@@ -1,9 +1,9 @@
-use mps_session::*;
 use crate::choices::{giving, looping};
 use crate::steps::Line::{Asks, Count, Keeps, Moves, Undoes, Waits};
 use crate::steps::{
     A, A_TO_B_TO_C, Ask, B, C, FROM_A, Line, Row, TO_B, answer, play, play_anew, undone,
 };
+use mps_session::*;
 use std::alloc::Global;
 use std::test::Fail;
 

@@ -1,9 +1,9 @@
 ghost use Rattle.std.specs.Prelude.{IfOk};
 ghost use Rattle.mps_table.specs.Graph.{IsNode};
 
-use mps_monitor::*;
 use mps_base::{Message, Name, Role, Sort, Value, VarName};
 use mps_local::{Branches, Local};
+use mps_monitor::*;
 use mps_table::{Expect, Node, Table, compile};
 use std::alloc::AllocGlobal;
 use std::process::Abort;

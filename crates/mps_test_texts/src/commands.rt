@@ -1,5 +1,5 @@
-use mps_command::*;
 use mps_base::{Message, Name, Role, StepId, Value};
+use mps_command::*;
 use std::alloc::Global;
 use std::test::Fail;
 

@@ -1,7 +1,7 @@
 ghost use Rattle.std.specs.Prelude.{◌≡◌, [], OnOk};
 
-use mps_lines::{Line, Lines, MOST_KEPT, keep, line_end};
 use bytes::Bytes;
+use mps_lines::{Line, Lines, MOST_KEPT, keep, line_end};
 use std::alloc::Global;
 use std::test::Fail;
 

@@ -1,9 +1,9 @@
 use crate::projections::{name, variable};
+use mps_base::{Role, Sort};
 use mps_local::{
     Branches, Local, LocalFault, first_fault, local_fault_laws, local_size_laws,
     projections_have_no_fault,
 };
-use mps_base::{Role, Sort};
 use std::alloc::AllocGlobal;
 use std::process::Abort;
 

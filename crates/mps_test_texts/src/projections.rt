@@ -2,10 +2,10 @@ ghost use Rattle.std.specs.Prelude.{◌≡◌, ◌<◌, IfOk, length};
 ghost use Rattle.mps_local.specs.Local.{plain, plain_branches};
 ghost use Rattle.mps_local.specs.Shape.{AllPeers, AllBranchPeers};
 
-use mps_local::{Local, ProjectFault, project, project_all, projection_laws, write_local};
 use mps_base::Sort::{self, Bool, Int, Text};
 use mps_base::{Name, Role, Roles, VarName};
 use mps_global::{Branches, Global, Protocol, check};
+use mps_local::{Local, ProjectFault, project, project_all, projection_laws, write_local};
 use std::alloc::AllocGlobal;
 use std::process::Abort;
 
@@ -415,7 +415,11 @@ fn projects_a_wide_choice(rt: HostRuntime) {
 const MANY: usize = 100_000;
 
 // Branches of one more label, `l`.
-fn and(rt: &(impl Abort + AllocGlobal), next: Local, others: mps_local::Branches) -> mps_local::Branches
+fn and(
+    rt: &(impl Abort + AllocGlobal),
+    next: Local,
+    others: mps_local::Branches,
+) -> mps_local::Branches
     ensures { AllPeers (λ peer. peer < 2) (plain next)
         → AllBranchPeers (λ peer. peer < 2) (plain_branches others)
         → AllBranchPeers (λ peer. peer < 2) (plain_branches result) }
@@ -536,7 +540,9 @@ fn output_branches(rt: &(impl Abort + AllocGlobal), count: usize) -> mps_local::
     for place in 0..count {
         let label = name(rt, ["l", "r", "again"][place % 3]);
         let next = output(rt, place, Local::End);
-        branches = mps_local::Branches::more(rt.alloc(), label, next, branches).expect(rt, "memory");
+        branches = mps_local::Branches::more(rt.alloc(), label, next, branches).expect(
+            rt, "memory",
+        );
     }
     branches
 }

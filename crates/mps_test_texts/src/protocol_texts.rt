@@ -1,9 +1,9 @@
+use mps_base::{Name, Sort, VarName};
+use mps_global::{Branches, Global, Protocol, check};
 use mps_text::{
     MAX_TEXT_BYTES, TextFault, TextKind, first_tokens, one_fault, one_protocol, protocol_or_fault,
     read_protocol, write_protocol, written_reads,
 };
-use mps_base::{Name, Sort, VarName};
-use mps_global::{Branches, Global, Protocol, check};
 use std::alloc::AllocGlobal;
 use std::process::Abort;
 

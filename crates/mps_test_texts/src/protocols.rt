@@ -1,5 +1,5 @@
-use mps_global::{Branches, Global, GlobalFault, Protocol, check, protocol_laws, size_laws};
 use mps_base::{Name, Sort, VarName};
+use mps_global::{Branches, Global, GlobalFault, Protocol, check, protocol_laws, size_laws};
 use std::alloc;
 use std::process::Abort;
 use std::test::Fail;
