@@ -12,30 +12,41 @@ use std::alloc::{AllocError, Global};
 /// The version of the program.
 const VERSION: &str = "0.1.0";
 
+/// The argument that each command begins with: its name, and what the help says of it.
+const FILE: (&str, &str) = ("FILE", "The protocol");
+
+/// A command with these arguments, all of which have to be given.
+fn command<'a>(
+    alloc: Global,
+    name: &'a str,
+    about: &'a str,
+    arguments: &[(&'a str, &'a str)],
+) -> Result<Command<'a>, AllocError> {
+    let mut command = Command::new(alloc, name).about(about);
+    for (id, help) in arguments {
+        command = command.arg(Arg::new(alloc, id).help(help).required(true))?;
+    }
+    Ok(command)
+}
+
 /// The commands of the program.
 fn commands<'a>(alloc: Global) -> Result<Command<'a>, AllocError> {
-    let file = Arg::new(alloc, "FILE").help("The protocol").required(true);
-    let script = Arg::new(alloc, "SCRIPT")
-        .help("A command on each line")
-        .required(true);
-    let check = Command::new(alloc, "check")
-        .about("Shows each role's local type")
-        .arg(Arg::new(alloc, "FILE").help("The protocol").required(true))?;
-    let run = Command::new(alloc, "run")
-        .about("Runs a script and prints the answers")
-        .arg(file)?
-        .arg(script)?;
-    let first = Arg::new(alloc, "FIRST")
-        .help("A script, as for run")
-        .required(true);
-    let second = Arg::new(alloc, "SECOND")
-        .help("Another script")
-        .required(true);
-    let same = Command::new(alloc, "same")
-        .about("Says whether two scripts come to the same")
-        .arg(Arg::new(alloc, "FILE").help("The protocol").required(true))?
-        .arg(first)?
-        .arg(second)?;
+    let script = ("SCRIPT", "A command on each line");
+    let first = ("FIRST", "A script, as for run");
+    let second = ("SECOND", "Another script");
+    let check = command(alloc, "check", "Shows each role's local type", &[FILE])?;
+    let run = command(
+        alloc,
+        "run",
+        "Runs a script and prints the answers",
+        &[FILE, script],
+    )?;
+    let same = command(
+        alloc,
+        "same",
+        "Says whether two scripts come to the same",
+        &[FILE, first, second],
+    )?;
     Command::new(alloc, "mps_tool")
         .about("A monitor for multiparty sessions")
         .version(VERSION)
