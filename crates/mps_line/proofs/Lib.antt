@@ -5,3 +5,5 @@ pub mod Unique
 pub mod Shown
 pub mod Meaning
 pub mod Replying
+pub mod Numbering
+pub mod Existing

@@ -10,16 +10,15 @@ use Rattle.mps_base.specs.declared.value.Value.{Value}
 use Rattle.mps_base.specs.declared.action.Message.{Message}
 use Rattle.mps_base.specs.declared.action.Message.TheVariants.{Value as Plain, Label}
 use Rattle.mps_command.specs.declared.answer.Done.{Done}
-use Rattle.mps_command.specs.declared.answer.Answer.{Answer}
 use Rattle.mps_command.specs.declared.answer.Answer.TheVariants.{Done as Accepted, Undone, News, Shown, Refused}
 use Rattle.mps_command.specs.declared.answer.Violation.TheVariants.{Ended, WrongAct, WrongPeer, WrongSort, NoLabel, NothingQueued, Mismatch}
 use Rattle.mps_command.specs.declared.answer.Refusal.{Refusal}
 use Rattle.mps_command.specs.declared.answer.Refusal.TheVariants.{Violation as Violates, NoStep, NotYours, Needed, NoMark, Full, Memory}
 use Rattle.mps_line.specs.declared.reply.Reply.{Reply}
-use Rattle.mps_line.specs.declared.reply.Reply.TheVariants.{Answered, BadLine, Joined, NoSession, NoRole, Taken}
-use Rattle.mps_line.specs.Tokens.{Token, Word, Called, Number, Show, HasNoSpace, SpellsShow, SpellsToken, SpellEach, SpellsLine}
-use Rattle.mps_line.specs.Replies.{word_of, message_token, done_tokens, undone_tokens, news_tokens, refusal_tokens, answer_tokens, SpellsReply}
-use Rattle.mps_line.proofs.Splitting.{one_split, never_split, digits_have_no_space, behind, alone}
+use Rattle.mps_line.specs.declared.reply.Reply.TheVariants.{Answered, BadLine, Joined, NoSession, NoRole, Taken, Number as WrongNumber}
+use Rattle.mps_line.specs.Tokens.{Token, Word, Called, Number, Show, HasNoSpace, SpellsShow, SpellsToken, SpellsLine}
+use Rattle.mps_line.specs.Replies.{word_of, message_token, done_tokens, undone_tokens, news_tokens, refusal_tokens, SpellsReply}
+use Rattle.mps_line.proofs.Splitting.{one_split, never_split, digits_have_no_space, first_word, behind, alone}
 use Rattle.mps_line.proofs.Reading.{word_behind}
 use Rattle.mps_line.proofs.Unique.{one_number}
 
@@ -30,6 +29,7 @@ data Cause : Type 0 where
   Nowhere : Cause
   Nobody : Cause
   Used : Cause
+  Misnumbered : Cause
 
 -- the reply that says so
 abbrev reply_of : Cause → Reply
@@ -38,6 +38,7 @@ reply_of Unread = BadLine
 reply_of Nowhere = NoSession
 reply_of Nobody = NoRole
 reply_of Used = Taken
+reply_of Misnumbered = WrongNumber
 
 -- its word, and the tokens behind `refused`
 abbrev cause_word : Cause → List ℕ
@@ -46,6 +47,7 @@ cause_word Unread = codes "line"
 cause_word Nowhere = codes "nosession"
 cause_word Nobody = codes "norole"
 cause_word Used = codes "taken"
+cause_word Misnumbered = codes "number"
 
 abbrev cause_tokens : Cause → List Token
 cause_tokens (Because r) = refusal_tokens r
@@ -71,6 +73,7 @@ meant word =
     else if bytes_eq word (codes "nosession") then Some Nowhere
     else if bytes_eq word (codes "norole") then Some Nobody
     else if bytes_eq word (codes "taken") then Some Used
+    else if bytes_eq word (codes "number") then Some Misnumbered
     else None
 
 -- the cause without its step
@@ -96,6 +99,7 @@ meant_word Unread = refl
 meant_word Nowhere = refl
 meant_word Nobody = refl
 meant_word Used = refl
+meant_word Misnumbered = refl
 
 one_word : (c d : Cause) → cause_word c ≡ cause_word d → plain c ≡ plain d
 one_word c d e = same_Some (plain c) (plain d) (sym (meant_word c) ∙ ap meant e ∙ meant_word d)
@@ -121,6 +125,7 @@ cause_has_no_space Unread = search rules
 cause_has_no_space Nowhere = search rules
 cause_has_no_space Nobody = search rules
 cause_has_no_space Used = search rules
+cause_has_no_space Misnumbered = search rules
 
 pub done_has_no_space : HasNoSpace (codes "done")
 done_has_no_space = search rules
@@ -167,6 +172,7 @@ alone_or_needed Unread = inl refl
 alone_or_needed Nowhere = inl refl
 alone_or_needed Nobody = inl refl
 alone_or_needed Used = inl refl
+alone_or_needed Misnumbered = inl refl
 
 -- a cause that names no step is plain
 is_plain : (c : Cause) → cause_tokens c ≡ Word (cause_word c) ∷ [] → plain c ≡ c
@@ -181,6 +187,7 @@ is_plain Unread e = refl
 is_plain Nowhere e = refl
 is_plain Nobody e = refl
 is_plain Used e = refl
+is_plain Misnumbered e = refl
 
 -- no line is such a word and `needed` with a step
 alone_nor_needed : (a : List ℕ) (c : Cause) (by : ℕ) → SpellsLine [] a (Word (cause_word c) ∷ []) → SpellsLine [] a (cause_tokens (Because (Needed by))) → ⊥
@@ -277,6 +284,7 @@ cause_behind a Unread h = word_behind [] a (codes "refused") _ _ h
 cause_behind a Nowhere h = word_behind [] a (codes "refused") _ _ h
 cause_behind a Nobody h = word_behind [] a (codes "refused") _ _ h
 cause_behind a Used h = word_behind [] a (codes "refused") _ _ h
+cause_behind a Misnumbered h = word_behind [] a (codes "refused") _ _ h
 
 -- a line has one cause
 same_cause : (a : List ℕ) (c d : Cause) → SpellsReply a (reply_of c) → SpellsReply a (reply_of d) → reply_of c ≡ reply_of d
@@ -288,16 +296,14 @@ same_cause a c d h k =
 
 -- a line begins with the first byte of its first word
 first_byte : (a letters : List ℕ) (ts : List Token) → 0 < length letters → SpellsLine [] a (Word letters ∷ ts) → get_or a 0 0 ≡ get_or letters 0 0
-first_byte a letters ts some h = by_spellings h.spellings h.joined h.each
+first_byte a letters ts some h =
+    let w = first_word [] a letters ts h in
+    ap (λ (l : List ℕ). get_or l 0 0) w.1 ∙ front letters w.0 some
   where
     front : (xs : List ℕ) (ss : List (List ℕ)) → 0 < length xs → get_or (spaced (xs ∷ ss)) 0 0 ≡ get_or xs 0 0
     front [] ss k = absurd (omega (arith, k))
     front (x ∷ xs) [] k = refl
     front (x ∷ xs) (s ∷ ss) k = refl
-
-    by_spellings : (ss : List (List ℕ)) → a ≡ spaced ss → SpellEach [] ss (Word letters ∷ ts) → get_or a 0 0 ≡ get_or letters 0 0
-    by_spellings [] e k = absurd k
-    by_spellings (s ∷ ss) e k = ap (λ (l : List ℕ). get_or l 0 0) e ∙ front s ss (rw k.0 some) ∙ ap (λ (l : List ℕ). get_or l 0 0) k.0
 
 -- replies of different kinds are told apart by it
 abbrev pub letter : Reply → ℕ
@@ -323,6 +329,7 @@ begins a (Joined session name) h = first_byte a (codes "joined") _ (omega arith)
 begins a NoSession h = first_byte a (codes "refused") _ (omega arith) h
 begins a NoRole h = first_byte a (codes "refused") _ (omega arith) h
 begins a Taken h = first_byte a (codes "refused") _ (omega arith) h
+begins a WrongNumber h = first_byte a (codes "refused") _ (omega arith) h
 
 one_letter : (a : List ℕ) (r s : Reply) → SpellsReply a r → SpellsReply a s → letter r ≡ letter s
 one_letter a r s h k = sym (begins a r h) ∙ begins a s k
@@ -339,6 +346,7 @@ refused_or_not (Joined session name) = inr (λ e. absurd (omega (arith, e)))
 refused_or_not NoSession = inl (Nowhere, refl)
 refused_or_not NoRole = inl (Nobody, refl)
 refused_or_not Taken = inl (Used, refl)
+refused_or_not WrongNumber = inl (Misnumbered, refl)
 
 cause_letter : (c : Cause) → letter (reply_of c) ≡ 114
 cause_letter (Because r) = refl
@@ -346,6 +354,7 @@ cause_letter Unread = refl
 cause_letter Nowhere = refl
 cause_letter Nobody = refl
 cause_letter Used = refl
+cause_letter Misnumbered = refl
 
 -- and so has the line that a role is joined to a connection
 one_pass : (a : List ℕ) (m n : ℕ) (x y : List ℕ) → SpellsReply a (Joined m x) → SpellsReply a (Joined n y) → (m ≡ n) × (x ≡ y)
@@ -399,6 +408,7 @@ module _ (one_value : (a : List ℕ) (v w : Value) → SpellsValue a v → Spell
   one_other a NoSession s l other h k = absurd (other refl)
   one_other a NoRole s l other h k = absurd (other refl)
   one_other a Taken s l other h k = absurd (other refl)
+  one_other a WrongNumber s l other h k = absurd (other refl)
   one_other a (Joined m x) (Answered (Shown y)) l other h k = absurd (omega (arith, l))
   one_other a r s l other h k = absurd (omega (arith, l))
 

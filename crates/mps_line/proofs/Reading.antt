@@ -55,7 +55,7 @@ meant_word verbs.Back = refl
 meant_word verbs.News = refl
 meant_word verbs.Show = refl
 
-same_verb : (v w : Verb) → verb_word v ≡ verb_word w → v ≡ w
+pub same_verb : (v w : Verb) → verb_word v ≡ verb_word w → v ≡ w
 same_verb v w e = same_Some v w (sym (meant_word v) ∙ ap meant e ∙ meant_word w)
 
 -- a line has one verb, and one rest behind it

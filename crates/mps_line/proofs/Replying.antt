@@ -1,5 +1,5 @@
 -- What replies are read from.
-use Rattle.std.proofs.Common.{arith, ◌≡◌, ◌≢◌, ℕ, ◌<◌, ◌+◌, List, [], ◌∷◌, ◌++◌, length, Some, get_or, append_assoc, refl, sym, ap, subst, ◌∙◌}
+use Rattle.std.proofs.Common.{arith, ◌≡◌, ◌≢◌, ℕ, ◌<◌, List, [], ◌∷◌, ◌++◌, length, Some, get_or, append_assoc, refl, sym, ap, subst, ◌∙◌}
 use Rattle.std.specs.Prelude.{Option, None, IfSome, IfNone, map, codes}
 use Rattle.mps_base.specs.Names.{IsName, IsNoneOf}
 use Rattle.mps_base.specs.Spaced.{spaced}
@@ -14,13 +14,13 @@ use Rattle.mps_command.specs.declared.answer.Violation.{Violation}
 use Rattle.mps_command.specs.declared.answer.Refusal.{Refusal}
 use Rattle.mps_command.specs.declared.answer.Refusal.TheVariants.{Violation as Violates, NoStep, NotYours, Needed, NoMark, Full, Memory}
 use Rattle.mps_line.specs.declared.reply.Reply.{Reply}
-use Rattle.mps_line.specs.declared.reply.Reply.TheVariants.{Answered, BadLine, Joined, NoSession, NoRole, Taken}
-use Rattle.mps_line.specs.Tokens.{Token, Word, Called, Number, Show, HasNoSpace, SpellsNumber, SpellsToken, SpellsLine}
+use Rattle.mps_line.specs.declared.reply.Reply.TheVariants.{Answered, BadLine, Joined, NoSession, NoRole, Taken, Number as WrongNumber}
+use Rattle.mps_line.specs.Tokens.{Token, Word, Number, Show, HasNoSpace, SpellsNumber, SpellsToken, SpellsLine}
 use Rattle.mps_line.specs.Replies.{lone_words, own_word, word_of, message_token, done_tokens, refusal_tokens, SpellsReply, SpellsSteps}
 use Rattle.mps_line.proofs.Splitting.{one_split, never_split, digits_have_no_space, behind, joined, alone, line_of_one}
 use Rattle.mps_line.proofs.Reading.{word_behind}
 use Rattle.mps_line.proofs.Shown.{some_reply}
-use Rattle.mps_line.proofs.Writing.{bad_line, no_session, no_role, taken}
+use Rattle.mps_line.proofs.Writing.{bad_line, no_session, no_role, taken, wrong_number}
 use Rattle.mps_line.proofs.Meaning.{letter, begins, word_has_no_space, undone_has_no_space, refused_has_no_space}
 
 -- ---- a word in front
@@ -256,6 +256,7 @@ no_reply bytes d u n s j f (Joined session name) h = j (begins bytes (Joined ses
 no_reply bytes d u n s j f NoSession h = f (begins bytes NoSession h)
 no_reply bytes d u n s j f NoRole h = f (begins bytes NoRole h)
 no_reply bytes d u n s j f Taken h = f (begins bytes Taken h)
+no_reply bytes d u n s j f WrongNumber h = f (begins bytes WrongNumber h)
 
 -- the reply that the first byte leaves is not spelled
 told : (bytes : List ℕ) (r : Reply) (c : ℕ) → get_or bytes 0 0 ≡ c → SpellsReply bytes r → c ≡ letter r
@@ -282,13 +283,14 @@ no_other_joined bytes e none (Joined session name) h = none session name h
 no_other_joined bytes e none (Answered (Shown text)) h = let t = told bytes (Answered (Shown text)) 106 e h in absurd (omega (arith, t))
 no_other_joined bytes e none r h = let t = told bytes r 106 e h in absurd (omega (arith, t))
 
-pub no_other_refused : (bytes : List ℕ) → get_or bytes 0 0 ≡ 114 → ((refusal : Refusal) → SpellsReply bytes (Answered (Refused refusal)) → ⊥) → (SpellsReply bytes BadLine → ⊥) → (SpellsReply bytes NoSession → ⊥) → (SpellsReply bytes NoRole → ⊥) → (SpellsReply bytes Taken → ⊥) → (r : Reply) → SpellsReply bytes r → ⊥
-no_other_refused bytes e refusal line session role pass (Answered (Refused r)) h = refusal r h
-no_other_refused bytes e refusal line session role pass BadLine h = line h
-no_other_refused bytes e refusal line session role pass NoSession h = session h
-no_other_refused bytes e refusal line session role pass NoRole h = role h
-no_other_refused bytes e refusal line session role pass Taken h = pass h
-no_other_refused bytes e refusal line session role pass r h = let t = told bytes r 114 e h in absurd (omega (arith, t))
+pub no_other_refused : (bytes : List ℕ) → get_or bytes 0 0 ≡ 114 → ((refusal : Refusal) → SpellsReply bytes (Answered (Refused refusal)) → ⊥) → (SpellsReply bytes BadLine → ⊥) → (SpellsReply bytes NoSession → ⊥) → (SpellsReply bytes NoRole → ⊥) → (SpellsReply bytes Taken → ⊥) → (SpellsReply bytes WrongNumber → ⊥) → (r : Reply) → SpellsReply bytes r → ⊥
+no_other_refused bytes e refusal line session role pass number (Answered (Refused r)) h = refusal r h
+no_other_refused bytes e refusal line session role pass number BadLine h = line h
+no_other_refused bytes e refusal line session role pass number NoSession h = session h
+no_other_refused bytes e refusal line session role pass number NoRole h = role h
+no_other_refused bytes e refusal line session role pass number Taken h = pass h
+no_other_refused bytes e refusal line session role pass number WrongNumber h = number h
+no_other_refused bytes e refusal line session role pass number r h = let t = told bytes r 114 e h in absurd (omega (arith, t))
 
 pub shown_read : (bytes text : List ℕ) → text ≡ bytes → IsShownText bytes → SpellsReply bytes (Answered (Shown text))
 shown_read bytes text e h = line_of_one [] bytes (Show text) (record { is = sym e; allowed = h })
@@ -304,6 +306,7 @@ own_line bytes rest BadLine e is some = rw e (rw is bad_line)
 own_line bytes rest NoSession e is some = rw e (rw is no_session)
 own_line bytes rest NoRole e is some = rw e (rw is no_role)
 own_line bytes rest Taken e is some = rw e (rw is taken)
+own_line bytes rest WrongNumber e is some = rw e (rw is wrong_number)
 own_line bytes rest (Answered (Shown text)) e is some = absurd (omega (arith, some))
 own_line bytes rest (Joined session name) e is some = absurd (omega (arith, some))
 own_line bytes rest reply e is some = absurd (omega (arith, some))

@@ -21,12 +21,12 @@ use Rattle.mps_command.specs.declared.command.Command.TheVariants.{Forward, Undo
 use Rattle.mps_command.specs.declared.command.Command.TheVariants as commands
 use Rattle.mps_command.specs.declared.command.Forward.TheVariants.{Send, Choose, Receive, Pick, Mark}
 use Rattle.mps_line.specs.declared.reply.Reply.{Reply}
-use Rattle.mps_line.specs.declared.reply.Reply.TheVariants.{Answered, BadLine, Joined, NoSession, NoRole, Taken}
+use Rattle.mps_line.specs.declared.reply.Reply.TheVariants.{Answered, BadLine, Joined, NoSession, NoRole, Taken, Number as WrongNumber}
 use Rattle.mps_line.specs.declared.script.Verb.{Verb}
 use Rattle.mps_line.specs.declared.script.Verb.TheVariants as verbs
 use Rattle.mps_line.specs.Tokens.{Token, Word, RoleAt, Called, Number, Worth, Show, SpellsShow, SpellsToken, SpellEach, SpellsLine}
 use Rattle.mps_line.proofs.Splitting.{alone}
-use Rattle.mps_line.specs.Commands.{verb_word, verb_of, arguments, SpellsScriptLine}
+use Rattle.mps_line.specs.Commands.{verb_word, verb_of, arguments, command_tokens, SpellsCommand, SpellsScriptLine, SpellsNumbered}
 use Rattle.mps_line.specs.Replies.{word_of, message_token, done_tokens, refusal_tokens, answer_tokens, reply_tokens, SpellsReply}
 
 abbrev AreShown : List ℕ → Type 0
@@ -102,8 +102,18 @@ plain_arguments (Back name) = (tt, tt)
 plain_arguments (commands.News known) = (tt, tt)
 plain_arguments commands.Show = tt
 
+plain_command : (c : Command) → AllByRecursion IsPlain (command_tokens c)
+plain_command c = (shown_verb (verb_of c), plain_arguments c)
+
+pub shown_command : (names : List (List ℕ)) (a : List ℕ) (c : Command) → SpellsCommand names a c → AreShown a
+shown_command names a c h = shown_tokens names a _ (plain_command c) h
+
 pub shown_line : (names : List (List ℕ)) (a : List ℕ) (p : ℕ) (c : Command) → SpellsScriptLine names a p c → AreShown a
-shown_line names a p c h = shown_tokens names a _ (tt, (shown_verb (verb_of c), plain_arguments c)) h
+shown_line names a p c h = shown_tokens names a _ (tt, plain_command c) h
+
+pub shown_numbered : (names : List (List ℕ)) (a : List ℕ) (number : Option ℕ) (c : Command) → SpellsNumbered names a number c → AreShown a
+shown_numbered names a None c h = shown_command names a c h.line
+shown_numbered names a (Some n) c h = shown_tokens names a _ (tt, plain_command c) h.line
 
 -- ---- replies
 
@@ -146,6 +156,9 @@ no_role_word = search rules
 taken_word : AreShown (codes "taken")
 taken_word = search rules
 
+number_word : AreShown (codes "number")
+number_word = search rules
+
 joined_word : AreShown (codes "joined")
 joined_word = search rules
 
@@ -179,6 +192,7 @@ plain_reply (Joined session name) = (joined_word, (tt, (tt, tt)))
 plain_reply NoSession = (refused_word, (no_session_word, tt))
 plain_reply NoRole = (refused_word, (no_role_word, tt))
 plain_reply Taken = (refused_word, (taken_word, tt))
+plain_reply WrongNumber = (refused_word, (number_word, tt))
 
 pub shown_reply : (a : List ℕ) (r : Reply) → SpellsReply a r → AreShown a
 shown_reply a r h = shown_tokens [] a (reply_tokens r) (plain_reply r) h
@@ -221,3 +235,4 @@ some_reply a (Joined session name) h = some_word a (codes "joined") _ (omega ari
 some_reply a NoSession h = some_word a (codes "refused") _ (omega arith) h
 some_reply a NoRole h = some_word a (codes "refused") _ (omega arith) h
 some_reply a Taken h = some_word a (codes "refused") _ (omega arith) h
+some_reply a WrongNumber h = some_word a (codes "refused") _ (omega arith) h

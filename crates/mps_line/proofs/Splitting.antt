@@ -12,7 +12,7 @@ use Rattle.std.proofs.lemmas.List.Elements.{recursion_from_All}
 use Rattle.std.proofs.lemmas.Str.Parse.{digit_from_value}
 use Rattle.mps_base.specs.Names.{IsName, is_name_byte}
 use Rattle.mps_base.specs.Spaced.{spaced}
-use Rattle.mps_line.specs.Tokens.{Token, RoleAt, HasNoSpace, SpellsRole, SpellsToken, SpellEach, SpellsLine, BeginsWith}
+use Rattle.mps_line.specs.Tokens.{Token, Word, RoleAt, HasNoSpace, SpellsRole, SpellsToken, SpellEach, SpellsLine, BeginsWith}
 
 -- what holds anyway
 pub if_none : {T P : Type 0} (r : Option T) → P → IfNone r P
@@ -42,6 +42,13 @@ one_split (a ∷ rs) (b ∷ ss) x y p q e =
     let tails : spaced (rs ∷ x ∷ []) ≡ spaced (ss ∷ y ∷ []) = cc in
     let more = one_split rs ss x y p.1 q.1 tails in
     (cc, more.1)
+
+-- the part before the first space, whatever stands behind it
+pub one_first : (a b : List ℕ) (xs ys : List (List ℕ)) → HasNoSpace a → HasNoSpace b → spaced (a ∷ xs) ≡ spaced (b ∷ ys) → a ≡ b
+one_first a b [] [] p q e = e
+one_first a b [] (y ∷ ys) p q e = absurd (never_split a b (spaced (y ∷ ys)) p e)
+one_first a b (x ∷ xs) [] p q e = absurd (never_split b a (spaced (x ∷ xs)) q (sym e))
+one_first a b (x ∷ xs) (y ∷ ys) p q e = (one_split a b (spaced (x ∷ xs)) (spaced (y ∷ ys)) p q e).0
 
 space_is_none : IsTrue (is_name_byte 32) → ⊥
 space_is_none h = absurd cc
@@ -97,6 +104,14 @@ joined names bytes t u ts rest b h = by_spellings h.spellings h.joined h.each
     by_spellings [] e k = absurd k
     by_spellings (s ∷ ss) e k =
         record { spellings = b.front ∷ s ∷ ss; joined = rw e at b.parts; each = (b.spelled, k) }
+
+-- a line that begins with a word
+pub first_word : (names : List (List ℕ)) (bytes letters : List ℕ) (ts : List Token) → SpellsLine names bytes (Word letters ∷ ts) → (others : List (List ℕ)) × (bytes ≡ spaced (letters ∷ others))
+first_word names bytes letters ts h = by_spellings h.spellings h.joined h.each
+  where
+    by_spellings : (ss : List (List ℕ)) → bytes ≡ spaced ss → SpellEach names ss (Word letters ∷ ts) → (others : List (List ℕ)) × (bytes ≡ spaced (letters ∷ others))
+    by_spellings [] e k = absurd k
+    by_spellings (s ∷ ss) e k = (ss, e ∙ ap (λ (l : List ℕ). spaced (l ∷ ss)) k.0)
 
 -- a line of one token is the token
 pub alone : (names : List (List ℕ)) (bytes : List ℕ) (t : Token) → SpellsLine names bytes (t ∷ []) → SpellsToken names bytes t

@@ -10,7 +10,7 @@ use Rattle.mps_command.specs.Shown.{IsShownText}
 use Rattle.mps_command.specs.declared.answer.Answer.TheVariants.{Refused}
 use Rattle.mps_command.specs.declared.answer.Refusal.TheVariants.{Violation as Violates, NoStep, NotYours, Needed, NoMark, Full, Memory}
 use Rattle.mps_command.specs.declared.answer.Violation.{Violation}
-use Rattle.mps_line.specs.declared.reply.Reply.TheVariants.{Answered, BadLine, NoSession, NoRole, Taken}
+use Rattle.mps_line.specs.declared.reply.Reply.TheVariants.{Answered, BadLine, NoSession, NoRole, Taken, Number as WrongNumber}
 use Rattle.mps_line.specs.Replies.{word_of, done_tokens, news_tokens, SpellsReply}
 use Rattle.mps_line.specs.Tokens.{Token, Word, Number, Show, SpellsNumber, SpellsToken, SpellsLine}
 use Rattle.mps_line.proofs.Splitting.{behind, joined, alone, line_of_one}
@@ -101,6 +101,9 @@ no_role = record { spellings = codes "refused" ∷ codes "norole" ∷ []; joined
 
 pub taken : SpellsReply (codes "refused taken") Taken
 taken = record { spellings = codes "refused" ∷ codes "taken" ∷ []; joined = refl; each = (refl, (refl, tt)) }
+
+pub wrong_number : SpellsReply (codes "refused number") WrongNumber
+wrong_number = record { spellings = codes "refused" ∷ codes "number" ∷ []; joined = refl; each = (refl, (refl, tt)) }
 
 -- one token alone
 pub token_alone : {T E : Type 0} (names : List (List ℕ)) (r : Result T E) (old new : List ℕ) (t : Token) → OnOk r (Appends (λ text. SpellsToken names text t) old new) → OnOk r (Appends (λ text. SpellsLine names text (t ∷ [])) old new)

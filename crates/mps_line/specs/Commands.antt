@@ -1,6 +1,7 @@
 -- How commands are spelled.
-use Rattle.std.specs.Prelude.{ℕ, ◌<◌, List, [], ◌∷◌, length, codes, Option, Some, None}
+use Rattle.std.specs.Prelude.{ℕ, ◌<◌, List, [], ◌∷◌, length, codes, Option, Some, None, IsSome, OnSome}
 use Rattle.std.specs.Option.{ForSome}
+use Rattle.mps_command.specs.Changes.{change_of}
 use Rattle.mps_command.specs.declared.command.Command.{Command}
 use Rattle.mps_command.specs.declared.command.Command.TheVariants.{Forward, Undo, Rollback, Back, News, Show}
 use Rattle.mps_command.specs.declared.command.Forward.TheVariants.{Send, Choose, Receive, Pick, Mark}
@@ -62,6 +63,20 @@ SpellsCommand names bytes command = SpellsLine names bytes (command_tokens comma
 -- a role's name in front of a command
 abbrev pub SpellsScriptLine : (names : List (List ℕ)) → List ℕ → (role : ℕ) → Command → Type 0
 SpellsScriptLine names bytes role command = SpellsLine names bytes (RoleAt role ∷ command_tokens command)
+
+-- a number may stand in front of the command: it asks for a change
+abbrev pub MayHaveNumber : Command → Type 0
+MayHaveNumber command = IsSome (change_of command)
+
+-- the number, where there is one, and the command
+abbrev pub numbered_tokens : Option ℕ → Command → List Token
+numbered_tokens None command = command_tokens command
+numbered_tokens (Some number) command = Number number ∷ command_tokens command
+
+-- a line of a conversation: a command, or a number and a command that may have one
+pub record SpellsNumbered (names : List (List ℕ)) (bytes : List ℕ) (number : Option ℕ) (command : Command) : Type 0 where
+  pub line : SpellsLine names bytes (numbered_tokens number command)
+  pub allowed : OnSome number (MayHaveNumber command)
 
 -- the role that a command names, where it names one
 abbrev pub peer_of : Command → Option ℕ

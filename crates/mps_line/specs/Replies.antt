@@ -8,7 +8,7 @@ use Rattle.mps_command.specs.declared.answer.Refusal.TheVariants.{Violation as V
 use Rattle.mps_command.specs.declared.answer.Answer.{Answer}
 use Rattle.mps_command.specs.declared.answer.Answer.TheVariants.{Done, Undone, News, Shown, Refused}
 use Rattle.mps_line.specs.declared.reply.Reply.{Reply}
-use Rattle.mps_line.specs.declared.reply.Reply.TheVariants.{Answered, BadLine, Joined, NoSession, NoRole, Taken}
+use Rattle.mps_line.specs.declared.reply.Reply.TheVariants.{Answered, BadLine, Joined, NoSession, NoRole, Taken, Number as WrongNumber}
 use Rattle.mps_line.specs.Tokens.{Token, Word, Called, Number, Worth, Show, SpellsLine}
 
 -- the word for a refusal
@@ -37,11 +37,12 @@ own_word BadLine = codes "line"
 own_word NoSession = codes "nosession"
 own_word NoRole = codes "norole"
 own_word Taken = codes "taken"
+own_word WrongNumber = codes "number"
 own_word reply = []
 
 -- these words
 abbrev pub own_words : List (List ℕ)
-own_words = codes "line" ∷ codes "nosession" ∷ codes "norole" ∷ codes "taken" ∷ []
+own_words = codes "line" ∷ codes "nosession" ∷ codes "norole" ∷ codes "taken" ∷ codes "number" ∷ []
 
 -- a value or a label
 abbrev pub message_token : Message → Token
@@ -83,6 +84,7 @@ reply_tokens (Joined session name) = Word (codes "joined") ∷ Number session �
 reply_tokens NoSession = Word (codes "refused") ∷ Word (codes "nosession") ∷ []
 reply_tokens NoRole = Word (codes "refused") ∷ Word (codes "norole") ∷ []
 reply_tokens Taken = Word (codes "refused") ∷ Word (codes "taken") ∷ []
+reply_tokens WrongNumber = Word (codes "refused") ∷ Word (codes "number") ∷ []
 
 -- a line of these tokens, none of which is a role's name
 abbrev pub SpellsReply : List ℕ → Reply → Type 0

@@ -1,17 +1,17 @@
 //! Laws of the lines' spellings.
-ghost use Rattle.std.specs.Prelude.{◌≡◌, ◌≢◌, ℕ, ◌<◌, List, length};
+ghost use Rattle.std.specs.Prelude.{◌≡◌, ◌≢◌, ℕ, ◌<◌, List, Option, length};
 ghost use Rattle.std.specs.List.{AllByRecursion};
 ghost use Rattle.mps_base.specs.RoleLists.{AreDistinct};
 ghost use Rattle.mps_base.specs.Values.{IsShown};
 ghost use Rattle.mps_command.specs.declared.command.Command.{Command};
 ghost use Rattle.mps_line.specs.declared.reply.Reply.{Reply};
-ghost use Rattle.mps_line.specs.Commands.{SpellsCommand, SpellsScriptLine, NamesRolesOf};
+ghost use Rattle.mps_line.specs.Commands.{SpellsCommand, SpellsScriptLine, SpellsNumbered, NamesRolesOf};
 ghost use Rattle.mps_line.specs.Replies.{SpellsReply};
 
 use mps_base::spelling::one_spelling;
 
 /// Bytes spell at most one command, where no two roles have one name, and each command has one
-/// spelling. It names no role but these.
+/// spelling, with no line break in it. It names no role but these.
 pub fn one_command()
     ensures command { (names : List (List ℕ)) (a : List ℕ) (c d : Command) → AreDistinct names
         → SpellsCommand names a c → SpellsCommand names a d → c ≡ d }
@@ -19,6 +19,8 @@ pub fn one_command()
         → SpellsCommand names a c → SpellsCommand names b c → a ≡ b }
     ensures known { (names : List (List ℕ)) (a : List ℕ) (c : Command)
         → SpellsCommand names a c → NamesRolesOf names c }
+    ensures shown { (names : List (List ℕ)) (a : List ℕ) (c : Command)
+        → SpellsCommand names a c → AllByRecursion IsShown a }
 {
     one_spelling();
 }
@@ -34,6 +36,23 @@ pub fn one_script_line()
         → SpellsScriptLine names a p c → SpellsScriptLine names b p c → a ≡ b }
     ensures shown { (names : List (List ℕ)) (a : List ℕ) (p : ℕ) (c : Command)
         → SpellsScriptLine names a p c → AllByRecursion IsShown a }
+{
+    one_spelling();
+}
+
+/// A line of a conversation has at most one number, and one command where no two roles have one name.
+/// These have one line, with no line break in it. The command names no role but these.
+pub fn one_numbered()
+    ensures number { (names : List (List ℕ)) (a : List ℕ) (m n : Option ℕ) (c d : Command)
+        → SpellsNumbered names a m c → SpellsNumbered names a n d → m ≡ n }
+    ensures command { (names : List (List ℕ)) (a : List ℕ) (m n : Option ℕ) (c d : Command)
+        → AreDistinct names → SpellsNumbered names a m c → SpellsNumbered names a n d → c ≡ d }
+    ensures spelling { (names : List (List ℕ)) (a b : List ℕ) (n : Option ℕ) (c : Command)
+        → SpellsNumbered names a n c → SpellsNumbered names b n c → a ≡ b }
+    ensures known { (names : List (List ℕ)) (a : List ℕ) (n : Option ℕ) (c : Command)
+        → SpellsNumbered names a n c → NamesRolesOf names c }
+    ensures shown { (names : List (List ℕ)) (a : List ℕ) (n : Option ℕ) (c : Command)
+        → SpellsNumbered names a n c → AllByRecursion IsShown a }
 {
     one_spelling();
 }

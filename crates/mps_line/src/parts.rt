@@ -2,7 +2,7 @@
 ghost use Rattle.std.specs.Prelude.{◌≡◌, ◌≢◌, ℕ, List, [], ◌∷◌, IfSome, IfNone, OnOk, OnErr, ◌<◌, All, length, slice_index, take};
 ghost use Rattle.mps_base.specs.Appends.{Appends};
 ghost use Rattle.mps_base.specs.Spaced.{spaced};
-ghost use Rattle.mps_line.specs.Tokens.{RoleAt, Called, HasNoSpace, SpellsRole, SpellsName, SpellsNumber, SpellsLine, BeginsWith};
+ghost use Rattle.mps_line.specs.Tokens.{RoleAt, Called, Number, HasNoSpace, SpellsRole, SpellsName, SpellsNumber, SpellsLine, BeginsWith};
 
 use mps_base::{Name, Role, Roles, StepId, read_number, write_number};
 use std::alloc::AllocError;
@@ -75,6 +75,21 @@ pub(crate) fn split_role<'a>(roles: &Roles, bytes: &'a [u8]) -> Option<(Role, &'
 {
     let (name, rest) = split_at_space(bytes)?;
     Some((read_role(roles, name)?, rest))
+}
+
+// The number that stands before the first space, and what stands behind it. Of bytes that begin with no digit the first
+// alone is looked at.
+#[inline(always)]
+pub(crate) fn split_number(bytes: &[u8]) -> Option<(u64, &[u8])>
+    ensures read { IfSome result (λ r. BeginsWith [] bytes.now (Number r.0) r.1.now) }
+    ensures none { IfNone result ((n : ℕ) (rest : List ℕ)
+        → BeginsWith [] bytes.now (Number n) rest → ⊥) }
+{
+    if !bytes.first()?.is_ascii_digit() {
+        return None;
+    }
+    let (digits, rest) = split_at_space(bytes)?;
+    Some((read_count(digits)?, rest))
 }
 
 // Writes the role's name.

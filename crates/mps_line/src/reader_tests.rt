@@ -63,6 +63,7 @@ fn reads_replies(rt: HostRuntime) -> Result<(), Fail> {
         ("refused nosession", 15),
         ("refused norole", 16),
         ("refused taken", 17),
+        ("refused number", 19),
     ];
     for (line, code) in replies {
         let reply = read_answer(alloc, line.as_bytes())?;
@@ -73,6 +74,45 @@ fn reads_replies(rt: HostRuntime) -> Result<(), Fail> {
             shown(alloc, &read)?.as_str(),
             shown(alloc, &reply)?.as_str()
         );
+    }
+    Ok(())
+}
+
+// Whether the reply of that line has a text, also alone where it is an answer.
+fn has_text(alloc: Global, line: &[u8]) -> Result<bool, Fail> {
+    let reply = read_answer(alloc, line)?;
+    let alone = match &reply {
+        Reply::Answered(answer) => answer_has_text(answer),
+        _ => true,
+    };
+    Ok(alone && reply.has_text())
+}
+
+#[test]
+fn each_reply_has_a_text(rt: HostRuntime) -> Result<(), Fail> {
+    let lines = [
+        "done 1",
+        "done 18446744073709551615 true",
+        "done 2 -9223372036854775808",
+        "done 3 \"good day\"",
+        "done 6 ok",
+        "undone",
+        "undone 18446744073709551615 1",
+        "news 0",
+        "news 5 18446744073709551615 4",
+        "{}",
+        "joined 18446744073709551615 role_2",
+        "refused mismatch",
+        "refused needed 18446744073709551615",
+        "refused memory",
+        "refused line",
+        "refused nosession",
+        "refused norole",
+        "refused taken",
+        "refused number",
+    ];
+    for line in lines {
+        assert!(rt; has_text(rt.alloc(), line.as_bytes())?, "{line}");
     }
     Ok(())
 }
@@ -132,6 +172,9 @@ fn bad_replies(rt: HostRuntime) -> Result<(), Fail> {
         "refused Full",
         "refused wrong",
         "refused it",
+        "refused number ",
+        "refused number 3",
+        "refused numbers",
         " {x",
         "{x\n",
         "{\t}",

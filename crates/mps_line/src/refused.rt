@@ -7,7 +7,7 @@ ghost use Rattle.mps_command.specs.declared.answer.Refusal.TheVariants.{Violatio
 ghost use Rattle.mps_command.specs.declared.answer.Violation.{Violation};
 ghost use Rattle.mps_line.specs.Replies.{SpellsReply, lone_words, own_word, own_words, refusal_tokens, word_of};
 ghost use Rattle.mps_line.specs.Tokens.{Word, SpellsLine};
-ghost use Rattle.mps_line.specs.declared.reply.Reply.TheVariants.{Answered, BadLine, NoSession, NoRole, Taken};
+ghost use Rattle.mps_line.specs.declared.reply.Reply.TheVariants.{Answered, BadLine, NoSession, NoRole, Taken, Number};
 
 use crate::parts::{behind, read_step};
 use crate::reply::Reply;
@@ -24,6 +24,7 @@ pub(crate) fn refused_reply(bytes: &[u8]) -> Result<Reply, LineFault>
     ensures session { IsErrOf result LineFault.Bad → SpellsReply bytes.now NoSession → ⊥ }
     ensures role { IsErrOf result LineFault.Bad → SpellsReply bytes.now NoRole → ⊥ }
     ensures pass { IsErrOf result LineFault.Bad → SpellsReply bytes.now Taken → ⊥ }
+    ensures number { IsErrOf result LineFault.Bad → SpellsReply bytes.now Number → ⊥ }
 {
     let Some(rest) = behind(bytes, b"refused") else {
         return Err(LineFault::Bad);
@@ -48,6 +49,7 @@ fn own_reply(word: &[u8]) -> Option<Reply>
         b"nosession" => Some(Reply::NoSession),
         b"norole" => Some(Reply::NoRole),
         b"taken" => Some(Reply::Taken),
+        b"number" => Some(Reply::Number),
         _ => None,
     }
 }

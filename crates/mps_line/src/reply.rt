@@ -1,5 +1,5 @@
 //! The lines that answer others.
-ghost use Rattle.std.specs.Prelude.{◌≡◌, [], OnOk, OnErr};
+ghost use Rattle.std.specs.Prelude.{◌≡◌, ℕ, List, [], IsTrue, OnOk, OnErr};
 ghost use Rattle.std.specs.Io.{StartsWith};
 ghost use Rattle.mps_base.specs.Appends.{Appends};
 ghost use Rattle.mps_command.specs.declared.answer.Answer.TheVariants.{Refused};
@@ -10,6 +10,7 @@ ghost use Rattle.mps_line.specs.declared.reply.Reply.TheVariants.{Answered, BadL
 ghost use Rattle.mps_line.specs.Codes.{code_of, refusal_code, violation_code};
 
 use crate::parts::{write_count, write_name, write_step};
+use crate::texts::{answer_has_text, pass_has_text};
 use mps_base::{Message, Name, StepId};
 use mps_command::{Answer, Done, Refusal, Violation};
 use std::alloc::AllocError;
@@ -29,10 +30,12 @@ pub enum Reply {
     NoRole,
     /// Another connection acts for the role.
     Taken,
+    /// The number of the line is neither that of the last accepted one nor the one after it.
+    Number,
 }
 
 impl Reply {
-    /// The code of a refusal, 1 to 17; of any other reply 0.
+    /// The code of a refusal, 1 to 17 or 19; of any other reply 0.
     pub fn code(&self) -> u8
         ensures { result ≡ code_of self.now }
     {
@@ -42,7 +45,25 @@ impl Reply {
             Reply::NoSession => 15,
             Reply::NoRole => 16,
             Reply::Taken => 17,
+            Reply::Number => 19,
             Reply::Answered(_) | Reply::Joined { .. } => 0,
+        }
+    }
+
+    /// Whether the reply has a text, which each reply has. It takes no memory, so it can be asked where there is none left
+    /// to write the text.
+    pub fn has_text(&self) -> bool
+        ensures always { IsTrue result }
+        ensures text { (text : List ℕ) × SpellsReply text self.now }
+    {
+        match self {
+            Reply::Answered(answer) => answer_has_text(answer),
+            Reply::BadLine => true,
+            Reply::Joined { session, name } => pass_has_text(*session, name),
+            Reply::NoSession => true,
+            Reply::NoRole => true,
+            Reply::Taken => true,
+            Reply::Number => true,
         }
     }
 
@@ -73,6 +94,7 @@ impl Reply {
             Reply::NoSession => out.extend_from_slice(b"refused nosession"),
             Reply::NoRole => out.extend_from_slice(b"refused norole"),
             Reply::Taken => out.extend_from_slice(b"refused taken"),
+            Reply::Number => out.extend_from_slice(b"refused number"),
         }
     }
 }

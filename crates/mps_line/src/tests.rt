@@ -146,6 +146,9 @@ fn bad_lines(rt: HostRuntime) -> Result<(), Fail> {
         "a news 01",
         "show",
         "news 0",
+        "1 a send b 5",
+        "a 1 send b 5",
+        "1 send b 5",
     ];
     for line in bad {
         let found = read_script_line(rt.alloc(), &roles, line.as_bytes());
@@ -389,7 +392,21 @@ fn refused(rt: HostRuntime) -> Result<(), Fail> {
         let out = written(rt.alloc(), &Reply::Answered(Answer::Refused(refusal)))?;
         assert_eq!(rt; out.as_slice(), text.as_bytes());
     }
-    let out = written(rt.alloc(), &Reply::BadLine)?;
-    assert_eq!(rt; out.as_slice(), b"#refused line".as_slice());
+    Ok(())
+}
+
+#[test]
+fn refused_lines(rt: HostRuntime) -> Result<(), Fail> {
+    let replies = [
+        (Reply::BadLine, "#refused line"),
+        (Reply::NoSession, "#refused nosession"),
+        (Reply::NoRole, "#refused norole"),
+        (Reply::Taken, "#refused taken"),
+        (Reply::Number, "#refused number"),
+    ];
+    for (reply, text) in replies {
+        let out = written(rt.alloc(), &reply)?;
+        assert_eq!(rt; out.as_slice(), text.as_bytes());
+    }
     Ok(())
 }

@@ -1,2 +1,5 @@
 pub mod Journal
 pub mod Kept
+pub mod Callers
+pub mod Numbers
+pub mod Solos

@@ -1,15 +1,25 @@
 //! Rooms: a session with the names of its roles, a journal of what it accepted, and news of what others took back.
+//! Callers: who gives a role's commands, with numbers where an answer may get lost.
 #![tactic(auto)]
 
+pub mod caller;
 mod change;
 pub mod entry;
+pub mod laws;
 mod news;
+pub mod numbers;
 pub mod room;
 mod shown;
+pub mod solo;
 
+pub use caller::Caller;
 pub use entry::Entry;
 pub use mps_command::{Answer, Command, ShownText};
+pub use numbers::{Numbered, Numbers, Place, Told};
 pub use room::{MAX_ENTRIES, Room};
+pub use solo::Solo;
 
+#[cfg(test)]
+mod number_tests;
 #[cfg(test)]
 mod tests;

@@ -84,7 +84,8 @@ impl Room {
 
     /// How many entries the journal has.
     pub fn entries(&self) -> u64
-        ensures { result ≡ length self.now.journal }
+        ensures count { result ≡ length self.now.journal }
+        ensures legal { IsLegal self.now.names self.now.types self.now.journal }
     {
         self.journal.len() as u64
     }

@@ -9,9 +9,9 @@ use std::alloc::Global;
 use std::test::Fail;
 
 // The roles by their places.
-const A: u8 = 0;
+pub(crate) const A: u8 = 0;
 
-const B: u8 = 1;
+pub(crate) const B: u8 = 1;
 
 const C: u8 = 2;
 
@@ -30,7 +30,7 @@ fn ok_or_no(alloc: Global) -> Result<Branches, Fail> {
 }
 
 // a gives b an int, b gives c an int, and c tells a `ok` or `no`.
-fn verdict(alloc: Global) -> Result<Vec<Local>, Fail> {
+pub(crate) fn verdict(alloc: Global) -> Result<Vec<Local>, Fail> {
     let waits = Local::Branch {
         peer: Role::new(C),
         branches: ok_or_no(alloc)?,
@@ -72,7 +72,7 @@ fn names(alloc: Global, count: usize) -> Result<Roles, Fail> {
 }
 
 // A new room of roles with these types.
-fn room(alloc: Global, types: Vec<Local>) -> Result<Room, Fail> {
+pub(crate) fn room(alloc: Global, types: Vec<Local>) -> Result<Room, Fail> {
     let session = Session::open(alloc, types)?;
     let names = names(alloc, session.roles())?;
     if names.count() != session.roles() {
@@ -85,7 +85,7 @@ fn room(alloc: Global, types: Vec<Local>) -> Result<Room, Fail> {
 
 // What a role asks for, with the peer's place.
 #[derive(Clone, Copy)]
-enum Ask {
+pub(crate) enum Ask {
     Send(u8, &'static str),
     Choose(u8, &'static str),
     Receive(u8, &'static str),
@@ -102,7 +102,7 @@ enum Ask {
 type Row = (u8, Ask, &'static str);
 
 // The command that is asked for.
-fn command(alloc: Global, ask: Ask) -> Result<Command, Fail> {
+pub(crate) fn command(alloc: Global, ask: Ask) -> Result<Command, Fail> {
     Ok(match ask {
         Ask::Send(to, value) => Command::Forward(Forward::Send {
             to: Role::new(to),
@@ -168,7 +168,7 @@ fn refusal(alloc: Global, refusal: Refusal) -> Result<String, Fail> {
 }
 
 // What is answered, as text.
-fn shown(alloc: Global, answer: &Answer) -> Result<String, Fail> {
+pub(crate) fn shown(alloc: Global, answer: &Answer) -> Result<String, Fail> {
     match answer {
         Answer::Done(done) => {
             let number = done.id.number();

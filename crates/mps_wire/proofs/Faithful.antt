@@ -1,26 +1,28 @@
--- What lines answer a script in a session of one protocol.
-use Rattle.std.proofs.Common.{◌≡◌, ◌≢◌, ℕ, Bool, true, false, inl, inr, List, [], ◌∷◌, ◌++◌, length, refl, sym, ap, ◌∙◌, subst, append_assoc}
-use Rattle.std.specs.Prelude.{codes, nat_lt, if◌then◌else◌}
+-- What lines answer a script or a conversation in a session of one protocol.
+use Rattle.std.proofs.Common.{◌≡◌, ◌≢◌, ℕ, true, inl, inr, List, [], ◌∷◌, ◌++◌, Some, refl, sym, ap, ◌∙◌, subst, append_assoc, append-nil}
+use Rattle.std.specs.Prelude.{codes, ⊤}
 use Rattle.std.specs.List.{AllByRecursion, flat_map}
+use Rattle.std.proofs.lemmas.Option.{same_Some}
 use Rattle.mps_command.specs.declared.answer.Answer.{Answer}
-use Rattle.mps_command.specs.declared.answer.Answer.TheVariants.{Done, Undone, News as Told, Shown, Refused}
-use Rattle.mps_command.specs.declared.answer.Refusal.TheVariants.{Violation as Violates, Full}
-use Rattle.mps_command.specs.declared.command.Change.TheVariants as changes
+use Rattle.mps_command.specs.declared.answer.Answer.TheVariants.{Refused}
 use Rattle.mps_command.specs.declared.command.Command.{Command}
-use Rattle.mps_command.specs.declared.command.Command.TheVariants.{Forward, Undo, Rollback, Back, News, Show}
-use Rattle.mps_command.specs.declared.answer.Violation.TheVariants.{Mismatch}
 use Rattle.mps_line.specs.Replies.{SpellsReply}
 use Rattle.mps_line.specs.declared.reply.Reply.{Reply}
 use Rattle.mps_line.specs.declared.reply.Reply.TheVariants.{Answered}
 use Rattle.mps_line.proofs.Shown.{no_line_feed}
 use Rattle.mps_local.specs.Local.{LocalType}
-use Rattle.mps_machine.specs.Machine.{State, initial, IsSound}
-use Rattle.mps_machine.proofs.Sound.{initial_sound, serve_sound}
-use Rattle.mps_room.specs.Journal.{most_entries, after_command, run_from, run, limited, reply, IsReply}
+use Rattle.mps_room.specs.Journal.{is_accepted}
+use Rattle.mps_room.specs.Numbers.{IsNumbered}
+use Rattle.mps_room.specs.declared.caller.Caller.{Ghosts}
 use Rattle.mps_room.specs.declared.entry.Entry.{Entry}
+use Rattle.mps_room.specs.declared.numbers.Told.{Told}
+use Rattle.mps_room.specs.declared.numbers.Told.TheVariants.{Fresh, Kept, Wrong, Refused as CalledInVain}
+use Rattle.mps_room.proofs.Faithful.{answer_other}
 use Rattle.mps_fidelity.specs.Fidelity.{AreOfOneProtocol}
-use Rattle.mps_fidelity.proofs.Refusals.{sound_other}
-use Rattle.mps_wire.specs.Answers.{AnswersLines, AnswersInPart}
+use Rattle.mps_wire.specs.Answers.{Answering, AnswersLines, AnswersInPart}
+use Rattle.mps_wire.specs.Fidelity.{mismatch, MeetsNoMismatch, IsFree}
+use Rattle.mps_wire.specs.Talk.{TalksLine, AnswersToPart, talks, talks_to_part}
+use Rattle.mps_wire.specs.Talk as talking
 use Rattle.mps_lines.specs.Lines.{HasNoBreak, ended, IsSplit}
 use Rattle.mps_wire.specs.Script.{RepliesTo, AnswersLine}
 
@@ -52,91 +54,123 @@ each_line P (x ∷ texts) (y ∷ lines) more n m e a =
     (subst P k.0 a.0, each_line P texts lines more n.1 m.1 k.1 a.1)
 
 abbrev mismatched : Reply
-mismatched = Answered (Refused (Violates Mismatch))
-
--- the state after the commands of a journal is one that the machine comes to
-run_sound : (types : List LocalType) (st : State) (j : List Entry) → IsSound types st → IsSound types (run_from types st j)
-run_sound types st [] ok = ok
-run_sound types st (e ∷ j) ok = run_sound types (after_command types st e.role e.command) j (after_sound e.command)
-  where
-    after_sound : (c : Command) → IsSound types (after_command types st e.role c)
-    after_sound (Forward step) = serve_sound types st e.role (changes.Forward step) ok
-    after_sound (Undo n) = serve_sound types st e.role (changes.Undo n) ok
-    after_sound (Rollback n) = serve_sound types st e.role (changes.Rollback n) ok
-    after_sound (Back name) = serve_sound types st e.role (changes.Back name) ok
-    after_sound (News n) = ok
-    after_sound Show = ok
+mismatched = Answered mismatch
 
 -- the refusal's line
 spelled : SpellsReply (codes "refused mismatch") mismatched
 spelled = record { spellings = codes "refused" ∷ codes "mismatch" ∷ []; joined = refl; each = (refl, (refl, tt)) }
 
-abbrev mismatch : Answer
-mismatch = Refused (Violates Mismatch)
+abbrev pub Fits : List ℕ → Type 0
+Fits text = text ≢ codes "refused mismatch"
 
--- want of room makes no mismatch
-full_other : (a : Answer) (room : Bool) → a ≢ mismatch → (if room then a else Refused Full) ≢ mismatch
-full_other a true other e = other e
-full_other a false other e = cc
+-- a text on one line that isn't the refusal's
+abbrev IsFit : List ℕ → Type 0
+IsFit text = HasNoBreak text × Fits text
 
-limited_other : (n : ℕ) (a : Answer) → a ≢ mismatch → limited n a ≢ mismatch
-limited_other n (Refused refusal) other = other
-limited_other n (Done done) other = full_other (Done done) (nat_lt n most_entries) other
-limited_other n (Undone ids) other = full_other (Undone ids) (nat_lt n most_entries) other
-limited_other n (Told length ids) other = full_other (Told length ids) (nat_lt n most_entries) other
-limited_other n (Shown text) other = full_other (Shown text) (nat_lt n most_entries) other
-
--- a mismatch that is answered is the one that is wanted
-wanted_too : (wanted : Answer) → IsReply mismatch wanted → wanted ≡ mismatch
-wanted_too (Refused refusal) h = sym h
-wanted_too (Done done) h = sym h
-wanted_too (Undone ids) h = sym h
-wanted_too (Told length ids) h = sym h
-wanted_too (Shown text) h = sym h
-
-module _ (one_reply : (a : List ℕ) (r s : Reply) → SpellsReply a r → SpellsReply a s → r ≡ s) (names : List (List ℕ)) (types : List LocalType) (own : AreOfOneProtocol types) where
-  -- what a room answers
-  sound : (j : List Entry) → IsSound types (run types j)
-  sound j = run_sound types initial j (initial_sound types)
-
-  reply_other : (j : List Entry) (p : ℕ) (c : Command) → reply names types j p c ≢ mismatch
-  reply_other j p (Forward step) = limited_other (length j) _ (sound_other types (run types j) p (changes.Forward step) own (sound j))
-  reply_other j p (Undo n) = limited_other (length j) _ (sound_other types (run types j) p (changes.Undo n) own (sound j))
-  reply_other j p (Rollback n) = limited_other (length j) _ (sound_other types (run types j) p (changes.Rollback n) own (sound j))
-  reply_other j p (Back name) = limited_other (length j) _ (sound_other types (run types j) p (changes.Back name) own (sound j))
-  reply_other j p (News n) = λ e. cc
-  reply_other j p Show = λ e. cc
-
-  reply_fits : (line : List ℕ) (j after : List Entry) (r : Reply) → RepliesTo names types line j r after → r ≢ mismatched
-  reply_fits line j after r (inl u) = λ e. let b = u.bad in cc
-  reply_fits line j after r (inr (inl s)) = λ e.
-      let same : Answered s.answer ≡ mismatched = sym s.told ∙ e in
-      let is : s.answer ≡ mismatch = cc in
-      reply_other j s.role s.command (wanted_too (reply names types j s.role s.command) (subst (λ (a : Answer). IsReply a (reply names types j s.role s.command)) is s.wanted))
-  reply_fits line j after r (inr (inr s)) = λ e. let b = s.told in cc
-
-  abbrev Fits : List ℕ → Type 0
-  Fits text = text ≢ codes "refused mismatch"
-
+-- Lines of which each is answered by such a text, as long as something holds of the state.
+module _ {S : Type 0} (answers : Answering S) (Holds : S → Type 0) (each : (line : List ℕ) (st : S) (text : List ℕ) (after : S) → Holds st → answers line st text after → IsFit text × Holds after) where
   -- the texts that make up the answers
-  texts_of : (lines : List (List ℕ)) (j after : List Entry) (out : List ℕ) → AnswersLines (AnswersLine names types) lines j out after → (texts : List (List ℕ)) × (out ≡ flat_map ended texts) × AllByRecursion HasNoBreak texts × AllByRecursion Fits texts
-  texts_of [] j after out a = ([], a.0, tt, tt)
-  texts_of (line ∷ lines) j after out (text, others, mid, whole, here, there) =
-      let fits = reply_fits line j mid here.reply here.replies in
-      let t = texts_of lines mid after others there in (
-        text ∷ t.0,
-        whole ∙ ap (λ (l : List ℕ). ended text ++ l) t.1,
-        (no_line_feed text here.reply here.spelled, t.2),
-        ((λ e. fits (one_reply (codes "refused mismatch") here.reply mismatched (subst (λ (b : List ℕ). SpellsReply b here.reply) e here.spelled) spelled)), t.3),
-      )
+  texts_of : (lines : List (List ℕ)) (st after : S) (out : List ℕ) → Holds st → AnswersLines answers lines st out after → (texts : List (List ℕ)) × (out ≡ flat_map ended texts) × AllByRecursion HasNoBreak texts × AllByRecursion Fits texts
+  texts_of [] st after out h a = ([], a.0, tt, tt)
+  texts_of (line ∷ lines) st after out h (text, others, mid, whole, here, there) =
+      let e = each line st text mid h here in
+      let t = texts_of lines mid after others e.1 there in
+      (text ∷ t.0, whole ∙ ap (λ (l : List ℕ). ended text ++ l) t.1, (e.0.0, t.2), (e.0.1, t.3))
 
   -- the lines of what was written, where more may follow
-  pub written_fits : (asked lines : List (List ℕ)) (out written unwritten rest : List ℕ) (after : List Entry) → AnswersLines (AnswersLine names types) asked [] out after → out ≡ written ++ unwritten → IsSplit written lines rest → AllByRecursion Fits lines
-  written_fits asked lines out written unwritten rest after a e split =
-      let t = texts_of asked [] after out a in
+  pub written_fits : (asked lines : List (List ℕ)) (st after : S) (out written unwritten rest : List ℕ) → Holds st → AnswersLines answers asked st out after → out ≡ written ++ unwritten → IsSplit written lines rest → AllByRecursion Fits lines
+  written_fits asked lines st after out written unwritten rest h a e split =
+      let t = texts_of asked st after out h a in
       each_line Fits t.0 lines (rest ++ unwritten) t.2 split.each
       (sym t.1 ∙ e ∙ ap (λ (l : List ℕ). l ++ unwritten) split.whole ∙ append_assoc (flat_map ended lines) rest unwritten) t.3
 
-  -- the same of answers up to some place in them
-  pub part_fits : (asked lines : List (List ℕ)) (written rest : List ℕ) → AnswersInPart (AnswersLine names types) [] asked written → IsSplit written lines rest → AllByRecursion Fits lines
-  part_fits asked lines written rest a split = written_fits a.answered lines a.out written a.unwritten rest a.after a.answers_lines a.part split
+-- ---- scripts
+
+module _ (one_reply : (a : List ℕ) (r s : Reply) → SpellsReply a r → SpellsReply a s → r ≡ s) where
+  -- the text of another reply
+  text_fits : (text : List ℕ) (reply : Reply) → SpellsReply text reply → reply ≢ mismatched → IsFit text
+  text_fits text reply says other =
+      (no_line_feed text reply says, λ e. other (one_reply (codes "refused mismatch") reply mismatched (subst (λ (b : List ℕ). SpellsReply b reply) e says) spelled))
+
+  module _ (names : List (List ℕ)) (types : List LocalType) (own : AreOfOneProtocol types) where
+    reply_fits : (line : List ℕ) (j after : List Entry) (r : Reply) → RepliesTo names types line j r after → r ≢ mismatched
+    reply_fits line j after r (inl u) = λ e. let b = u.bad in cc
+    reply_fits line j after r (inr (inl s)) = λ e.
+        let same : Answered s.answer ≡ mismatched = sym s.told ∙ e in
+        answer_other names types own j s.role s.command s.answer s.wanted (let is : s.answer ≡ mismatch = cc in is)
+    reply_fits line j after r (inr (inr s)) = λ e. let b = s.told in cc
+
+    pub script_line : (line : List ℕ) (j : List Entry) (text : List ℕ) (after : List Entry) → ⊤ → AnswersLine names types line j text after → IsFit text × ⊤
+    script_line line j text after h a = (text_fits text a.reply a.spelled (reply_fits line j after a.reply a.replies), tt)
+
+    pub script_fits : (asked lines : List (List ℕ)) (out written unwritten rest : List ℕ) (after : List Entry) → AnswersLines (AnswersLine names types) asked [] out after → out ≡ written ++ unwritten → IsSplit written lines rest → AllByRecursion Fits lines
+    script_fits asked lines out written unwritten rest after a e split =
+        written_fits (AnswersLine names types) (λ j. ⊤) script_line asked lines [] after out written unwritten rest tt a e split
+
+    -- the same of answers up to some place in them
+    pub part_fits : (asked lines : List (List ℕ)) (written rest : List ℕ) → AnswersInPart (AnswersLine names types) [] asked written → IsSplit written lines rest → AllByRecursion Fits lines
+    part_fits asked lines written rest a split = script_fits a.answered lines a.out written a.unwritten rest a.after a.answers_lines a.part split
+
+  -- ---- conversations
+
+  module _ {C : Type 0} (caller : Ghosts C) (types : C → List LocalType) (none : MeetsNoMismatch caller types) where
+    still : (c : C) (command : Command) (answer : Answer) (d : C) → AreOfOneProtocol (types c) → caller.calls c command answer d → AreOfOneProtocol (types d)
+    still c command answer d own call = subst AreOfOneProtocol (sym (none.same_types c command answer d call)) own
+
+    -- an answer that is accepted is no refusal
+    accepted_other : (a : Answer) → is_accepted a ≡ true → a ≢ mismatch
+    accepted_other a is e = let k : is_accepted mismatch ≡ true = sym (ap is_accepted e) ∙ is in cc
+
+    answered_other : (a : Answer) (r : Reply) → r ≡ Answered a → a ≢ mismatch → r ≢ mismatched
+    answered_other a r told other e =
+        let same : Answered a ≡ mismatched = sym told ∙ e in
+        other (let is : a ≡ mismatch = cc in is)
+
+    kept_other : (c : C) (a b : Answer) → caller.kept c ≡ Some a → caller.kept c ≡ Some b → b ≢ mismatch → a ≢ mismatch
+    kept_other c a b here there other e = other (same_Some b a (sym there ∙ here) ∙ e)
+
+    came_free : (c : C) (number : ℕ) (command : Command) (d : C) (came : Told) (r : Reply) → IsFree caller types c → IsNumbered caller.calls caller.last caller.kept c number command d came → talking.IsToldAs caller d came r → (r ≢ mismatched) × IsFree caller types d
+    came_free c number command d Fresh r free n told =
+        let other = accepted_other n.answer n.accepted in (
+          answered_other told.0 r told.2 (kept_other d told.0 n.answer told.1 n.told other),
+          record { of_one_protocol = still c command n.answer d free.of_one_protocol n.call; keeps_none = λ a is. kept_other d a n.answer is n.told other },
+        )
+    came_free c number command d Kept r free n told =
+        let at : IsFree caller types d = subst (IsFree caller types) (sym n.unchanged) free in
+        (answered_other told.0 r told.2 (at.keeps_none told.0 told.1), at)
+    came_free c number command d Wrong r free n told = ((λ e. cc), subst (IsFree caller types) (sym n.unchanged) free)
+    came_free c number command d (CalledInVain refusal) r free n told = (
+      answered_other (Refused refusal) r told (none.other c command (Refused refusal) d free.of_one_protocol n.call),
+      record { of_one_protocol = still c command (Refused refusal) d free.of_one_protocol n.call; keeps_none = λ a is. free.keeps_none a (sym n.kept_stays ∙ is) },
+    )
+
+    reply_free : (line : List ℕ) (c : C) (r : Reply) (d : C) → IsFree caller types c → talking.RepliesTo caller line c r d → (r ≢ mismatched) × IsFree caller types d
+    reply_free line c r d free (talking.Unread u) = ((λ e. let b = u.bad in cc), subst (IsFree caller types) (sym u.unchanged) free)
+    reply_free line c r d free (talking.Called s) = (
+      answered_other s.answer r s.told (none.other c s.command s.answer d free.of_one_protocol s.call),
+      record { of_one_protocol = still c s.command s.answer d free.of_one_protocol s.call; keeps_none = λ a is. free.keeps_none a (sym s.kept_stays ∙ is) },
+    )
+    reply_free line c r d free (talking.Numbered s) = came_free c s.number s.command d s.came r free s.numbered s.told
+    reply_free line c r d free (talking.Starved s) = ((λ e. let b = s.told in cc), subst (IsFree caller types) (sym s.unchanged) free)
+
+    talk_line : (line : List ℕ) (c : C) (text : List ℕ) (d : C) → IsFree caller types c → talks caller line c text d → IsFit text × IsFree caller types d
+    talk_line line c text d free a =
+        let r = reply_free line c a.reply d free a.replies in
+        (text_fits text a.reply a.spelled r.0, r.1)
+
+    pub talk_fits : (asked lines : List (List ℕ)) (c d : C) (out written unwritten rest : List ℕ) → IsFree caller types c → AnswersLines (talks caller) asked c out d → out ≡ written ++ unwritten → IsSplit written lines rest → AllByRecursion Fits lines
+    talk_fits asked lines c d out written unwritten rest free a e split =
+        written_fits (talks caller) (IsFree caller types) talk_line asked lines c d out written unwritten rest free a e split
+
+    -- answers of which the last is written in part, whole
+    completed : (lines : List (List ℕ)) (c : C) (written : List ℕ) (d : C) → AnswersToPart (talks caller) (talks_to_part caller) lines c written d → (unwritten : List ℕ) × AnswersLines (talks caller) lines c (written ++ unwritten) d
+    completed [] c written d a = ([], (ap (λ (l : List ℕ). l ++ []) a.0, a.1))
+    completed (l ∷ []) c written d a = (a.unwritten, (a.text, [], d, sym a.whole ∙ sym (append-nil (ended a.text)), a.line_is, (refl, refl)))
+    completed (l ∷ m ∷ lines) c written d a =
+        let more = completed (m ∷ lines) a.2 a.1 d a.5 in
+        (more.0, (a.0, a.1 ++ more.0, a.2, ap (λ (x : List ℕ). x ++ more.0) a.3 ∙ append_assoc (ended a.0) a.1 more.0, a.4, more.1))
+
+    pub talk_part_fits : (asked lines : List (List ℕ)) (c d : C) (written rest : List ℕ) → IsFree caller types c → AnswersToPart (talks caller) (talks_to_part caller) asked c written d → IsSplit written lines rest → AllByRecursion Fits lines
+    talk_part_fits asked lines c d written rest free a split =
+        let w = completed asked c written d a in
+        talk_fits asked lines c d (written ++ w.0) written w.0 rest free w.1 refl split

@@ -28,7 +28,7 @@ role_within names line role command spelled = first spelled.spellings spelled.ea
     first [] each = absurd each
     first (bytes ∷ others) each = slice_get_within names role bytes each.0.place
 
-shown_ascii : (bytes : List ℕ) → AllByRecursion IsShown bytes → IsAscii bytes
+pub shown_ascii : (bytes : List ℕ) → AllByRecursion IsShown bytes → IsAscii bytes
 shown_ascii [] h i = omega arith
 shown_ascii (c ∷ bytes) h zero = let high = h.0.high in omega arith
 shown_ascii (c ∷ bytes) h (suc i) = shown_ascii bytes h.1 i

@@ -17,7 +17,7 @@ use Rattle.mps_lines.proofs.Splitting.{split_more, split_ended}
 use Rattle.mps_wire.proofs.Answering.{answered_nothing}
 
 -- whatever comes, the lines go on
-split_on : (more bytes : List ℕ) (lines : List (List ℕ)) (rest : List ℕ) → IsSplit bytes lines rest → (others : List (List ℕ)) × (left : List ℕ) × IsSplit (bytes ++ more) (lines ++ others) left
+pub split_on : (more bytes : List ℕ) (lines : List (List ℕ)) (rest : List ℕ) → IsSplit bytes lines rest → (others : List (List ℕ)) × (left : List ℕ) × IsSplit (bytes ++ more) (lines ++ others) left
 split_on [] bytes lines rest s = (
   [],
   rest,

@@ -1,14 +1,18 @@
-//! What holds of the answers to whole scripts.
-ghost use Rattle.std.specs.Prelude.{◌≢◌, ℕ, List, [], codes};
+//! What holds of the answers to whole scripts and conversations.
+ghost use Rattle.std.specs.Prelude.{◌≡◌, ◌≢◌, ◌++◌, ℕ, List, [], codes};
 ghost use Rattle.std.specs.List.{AllByRecursion};
 ghost use Rattle.mps_fidelity.specs.Fidelity.{AreOfOneProtocol};
 ghost use Rattle.mps_local.specs.Local.{LocalType};
 ghost use Rattle.mps_room.specs.declared.entry.Entry.{Entry};
-ghost use Rattle.mps_wire.specs.Answers.{Answered, AnsweredAll, AnsweredAllInPart, AnsweredInPart};
+ghost use Rattle.mps_wire.specs.Answers.{Answered, AnsweredAll, AnsweredAllInPart, AnsweredInPart, AnswersLines};
+ghost use Rattle.mps_wire.specs.Fidelity.{IsFree, MeetsNoMismatch};
+ghost use Rattle.mps_wire.specs.Making.{accepted_in_part, accepted_lines};
+ghost use Rattle.mps_wire.specs.Talk.{AnswersToPart, talks, talks_to_part};
 ghost use Rattle.mps_lines.specs.Lines.{IsSplit};
 ghost use Rattle.mps_wire.specs.Script.{AnswersLine};
 
 use mps_line::laws::one_reply_line;
+use mps_room::{Caller, Solo};
 
 /// Where the opening types are those of one protocol without faults, no line that answers a script
 /// is `refused mismatch`: where it is answered to its end, where no more of it is read, or where what
@@ -39,3 +43,35 @@ pub fn no_script_meets_a_mismatch()
 {
     one_reply_line();
 }
+
+/// The accepted commands of a conversation are, in order, the entries that its caller made, where its lines are answered
+/// to their end, and where the last answer is written in part.
+pub fn a_talk_makes_its_commands<C: Caller>()
+    ensures whole { (lines : List (List ℕ)) (before : C) (out : List ℕ) (after : C)
+        (a : AnswersLines (talks C.Caller) lines before out after)
+        → C.made after ≡ C.made before ++ accepted_lines C.Caller lines before out after a }
+    ensures part { (lines : List (List ℕ)) (before : C) (out : List ℕ) (after : C)
+        (a : AnswersToPart (talks C.Caller) (talks_to_part C.Caller) lines before out after)
+        → C.made after ≡ C.made before ++ accepted_in_part C.Caller lines before out after a }
+{}
+
+/// Where no call of a caller is answered `Mismatch` in sessions of one protocol, no line that answers its conversation
+/// is `refused mismatch` there.
+pub fn no_talk_meets_a_mismatch<C: Caller>()
+    ensures whole { (types : C → List LocalType) → MeetsNoMismatch C.Caller types
+        → (asked : List (List ℕ)) (before : C) (out : List ℕ) (after : C) (lines : List (List ℕ)) (rest : List ℕ)
+        → IsFree C.Caller types before → AnswersLines (talks C.Caller) asked before out after
+        → IsSplit out lines rest → AllByRecursion (λ line. line ≢ codes "refused mismatch") lines }
+    ensures part { (types : C → List LocalType) → MeetsNoMismatch C.Caller types
+        → (asked : List (List ℕ)) (before : C) (out : List ℕ) (after : C) (lines : List (List ℕ)) (rest : List ℕ)
+        → IsFree C.Caller types before
+        → AnswersToPart (talks C.Caller) (talks_to_part C.Caller) asked before out after
+        → IsSplit out lines rest → AllByRecursion (λ line. line ≢ codes "refused mismatch") lines }
+{
+    one_reply_line();
+}
+
+/// No call of a room's caller is answered `Mismatch`, where the opening types are those of one protocol without faults.
+pub fn a_room_meets_no_mismatch()
+    ensures { MeetsNoMismatch ⟦<Solo as Caller>⟧ (λ s. s.room.types) }
+{}

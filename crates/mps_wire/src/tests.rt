@@ -8,10 +8,10 @@ use std::alloc::Global;
 use std::test::Fail;
 
 // An output (at true) or an input of a type, with the peer and the sort.
-type Row = (bool, u8, Sort);
+pub(crate) type Row = (bool, u8, Sort);
 
 // a gives b a number, and then b gives c one.
-const A_TO_B_TO_C: &[&[Row]] = &[
+pub(crate) const A_TO_B_TO_C: &[&[Row]] = &[
     &[(true, 1, Sort::Int)],
     &[(false, 0, Sort::Int), (true, 2, Sort::Int)],
     &[(false, 1, Sort::Int)],
@@ -24,12 +24,12 @@ const RELAYED: &str = "done 1\ndone 2 5\ndone 3\ndone 4 7\n";
 // How a run went: what was written, and the fault that ended it.
 type Outcome = (Vec<u8>, Option<ReplayFault>);
 
-fn name(text: &str) -> Result<Name, Fail> {
+pub(crate) fn name(text: &str) -> Result<Name, Fail> {
     Ok(Name::read(text.as_bytes()).ok_or("a name")?)
 }
 
 // The types of these rows, the first role's first.
-fn types(alloc: Global, rows: &[&[Row]]) -> Result<Vec<Local>, Fail> {
+pub(crate) fn types(alloc: Global, rows: &[&[Row]]) -> Result<Vec<Local>, Fail> {
     let mut types = Vec::new(alloc);
     for row in rows {
         let mut t = Local::End;
@@ -70,11 +70,11 @@ fn outcome(
     Ok((Vec::from_slice(alloc, writer.bytes())?, fault))
 }
 
-fn in_one_piece(alloc: Global, text: &str) -> Result<Vec<Vec<u8>>, Fail> {
+pub(crate) fn in_one_piece(alloc: Global, text: &str) -> Result<Vec<Vec<u8>>, Fail> {
     Ok(vec![in alloc; Vec::from_slice(alloc, text.as_bytes())?]?)
 }
 
-fn in_single_bytes(alloc: Global, text: &str) -> Result<Vec<Vec<u8>>, Fail> {
+pub(crate) fn in_single_bytes(alloc: Global, text: &str) -> Result<Vec<Vec<u8>>, Fail> {
     let mut pieces = Vec::new(alloc);
     for byte in text.as_bytes() {
         pieces.push(vec![in alloc; *byte]?)?;
@@ -286,7 +286,7 @@ fn ends_at_faults(rt: HostRuntime) -> Result<(), Fail> {
 }
 
 // So many pieces, each of one byte, an LF.
-fn empty_lines(alloc: Global, count: usize) -> Result<Vec<Vec<u8>>, Fail> {
+pub(crate) fn empty_lines(alloc: Global, count: usize) -> Result<Vec<Vec<u8>>, Fail> {
     let mut pieces = Vec::new(alloc);
     for _ in 0..count {
         pieces.push(vec![in alloc; b'\n']?)?;
@@ -295,7 +295,7 @@ fn empty_lines(alloc: Global, count: usize) -> Result<Vec<Vec<u8>>, Fail> {
 }
 
 // The answers to so many lines that are no commands.
-fn refused_lines(alloc: Global, count: usize) -> Result<Vec<u8>, Fail> {
+pub(crate) fn refused_lines(alloc: Global, count: usize) -> Result<Vec<u8>, Fail> {
     let mut text = Vec::new(alloc);
     for _ in 0..count {
         text.extend_from_slice(b"refused line\n")?;

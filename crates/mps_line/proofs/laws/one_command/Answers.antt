@@ -1,4 +1,5 @@
 use Rattle.mps_line.specs.Commands.{command_tokens}
+use Rattle.mps_line.proofs.Shown.{shown_command}
 use Rattle.mps_line.proofs.Unique.{same_command, line_spelling, names_roles}
 use Rattle.mps_line.proofs.laws.one_command.Goals as goal
 
@@ -10,3 +11,6 @@ returns-clause-spelling c = λ names a b d. line_spelling names a b (command_tok
 
 pub returns-clause-known : goal.returns-clause-known
 returns-clause-known c = names_roles
+
+pub returns-clause-shown : goal.returns-clause-shown
+returns-clause-shown c = shown_command

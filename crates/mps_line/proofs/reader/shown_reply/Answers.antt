@@ -1,9 +1,8 @@
 use Rattle.std.proofs.Common.{◌∙◌, sym}
 use Rattle.std.proofs.lemmas.Bool.{false≢true}
 use Rattle.std.specs.Prelude.{[]}
-use Rattle.mps_command.specs.Shown.{IsShownText}
 use Rattle.mps_line.specs.Tokens.{Show}
-use Rattle.mps_line.proofs.Splitting.{alone, line_of_one}
+use Rattle.mps_line.proofs.Splitting.{alone}
 use Rattle.mps_line.proofs.Replying.{shown_read}
 use Rattle.mps_line.proofs.reader.shown_reply.Goals as goal
 

@@ -21,6 +21,9 @@ returns-in_default-clause-role c = λ e h. no_word_in_front _ (codes "refused") 
 pub returns-in_default-clause-pass : goal.returns-in_default-clause-pass
 returns-in_default-clause-pass c = λ e h. no_word_in_front _ (codes "refused") (Word (codes "taken") ∷ []) (omega arith) c.in_default.ensures.none h
 
+pub returns-in_default-clause-number : goal.returns-in_default-clause-number
+returns-in_default-clause-number c = λ e h. no_word_in_front _ (codes "refused") (Word (codes "number") ∷ []) (omega arith) c.in_default.ensures.none h
+
 pub returns-in-Some-read_refusal-clause-read : goal.returns-in-Some-read_refusal-clause-read
 returns-in-Some-read_refusal-clause-read c = word_in_front _ (codes "refused") _ (refusal_tokens _) (some_refusal _) c.in-Some.ensures.read c.in-Some-read_refusal.ensures.read
 
@@ -39,3 +42,6 @@ returns-in-None-clause-role c = λ e h. no_own_word _ _ (codes "norole") c.in-So
 
 pub returns-in-None-clause-pass : goal.returns-in-None-clause-pass
 returns-in-None-clause-pass c = λ e h. no_own_word _ _ (codes "taken") c.in-Some.ensures.read c.in-None.ensures.none.1.1.1.0 h
+
+pub returns-in-None-clause-number : goal.returns-in-None-clause-number
+returns-in-None-clause-number c = λ e h. no_own_word _ _ (codes "number") c.in-Some.ensures.read c.in-None.ensures.none.1.1.1.1.0 h

@@ -1,6 +1,5 @@
 use Rattle.std.specs.Prelude.{codes}
 use Rattle.mps_base.proofs.Numbers.{appends_ok}
-use Rattle.mps_command.specs.declared.answer.Refusal.TheVariants.{Violation as Violates}
 use Rattle.mps_command.specs.declared.answer.Violation.TheVariants.{Ended, WrongAct, WrongPeer, WrongSort, NoLabel, NothingQueued, Mismatch}
 use Rattle.mps_line.proofs.Writing.{violation_line}
 use Rattle.mps_line.proofs.reply.write_violation.Goals as goal

@@ -1,0 +1,6 @@
+use Rattle.std.proofs.Common.{arith}
+use Rattle.mps_line.proofs.Existing.{word, number}
+use Rattle.mps_line.proofs.texts.refusal_is_spellable.Goals as goal
+
+pub returns-in-Needed : goal.returns-in-Needed
+returns-in-Needed c = rw c.in-Needed.is (word _, (word _, (number _ (omega (arith, c.number-number.ensures.number, c.number-number.ensures.small)), tt)))

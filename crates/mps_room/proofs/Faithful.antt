@@ -1,0 +1,68 @@
+-- What a room answers in a session of one protocol.
+use Rattle.std.proofs.Common.{◌≡◌, ◌≢◌, ℕ, Bool, true, false, List, [], ◌∷◌, length, sym, subst}
+use Rattle.std.specs.Prelude.{nat_lt, if◌then◌else◌}
+use Rattle.mps_command.specs.declared.answer.Answer.{Answer}
+use Rattle.mps_command.specs.declared.answer.Answer.TheVariants.{Done, Undone, News as Told, Shown, Refused}
+use Rattle.mps_command.specs.declared.answer.Refusal.TheVariants.{Violation as Violates, Full}
+use Rattle.mps_command.specs.declared.answer.Violation.TheVariants.{Mismatch}
+use Rattle.mps_command.specs.declared.command.Change.TheVariants as changes
+use Rattle.mps_command.specs.declared.command.Command.{Command}
+use Rattle.mps_command.specs.declared.command.Command.TheVariants.{Forward, Undo, Rollback, Back, News, Show}
+use Rattle.mps_fidelity.specs.Fidelity.{AreOfOneProtocol}
+use Rattle.mps_fidelity.proofs.Refusals.{sound_other}
+use Rattle.mps_local.specs.Local.{LocalType}
+use Rattle.mps_machine.specs.Machine.{State, initial, IsSound}
+use Rattle.mps_machine.proofs.Sound.{initial_sound, serve_sound}
+use Rattle.mps_room.specs.Journal.{most_entries, after_command, run_from, run, limited, reply, IsReply}
+use Rattle.mps_room.specs.declared.entry.Entry.{Entry}
+
+-- the state after the commands of a journal is one that the machine comes to
+run_sound : (types : List LocalType) (st : State) (j : List Entry) → IsSound types st → IsSound types (run_from types st j)
+run_sound types st [] ok = ok
+run_sound types st (e ∷ j) ok = run_sound types (after_command types st e.role e.command) j (after_sound e.command)
+  where
+    after_sound : (c : Command) → IsSound types (after_command types st e.role c)
+    after_sound (Forward step) = serve_sound types st e.role (changes.Forward step) ok
+    after_sound (Undo n) = serve_sound types st e.role (changes.Undo n) ok
+    after_sound (Rollback n) = serve_sound types st e.role (changes.Rollback n) ok
+    after_sound (Back name) = serve_sound types st e.role (changes.Back name) ok
+    after_sound (News n) = ok
+    after_sound Show = ok
+
+abbrev pub mismatch : Answer
+mismatch = Refused (Violates Mismatch)
+
+-- want of room makes no mismatch
+full_other : (a : Answer) (room : Bool) → a ≢ mismatch → (if room then a else Refused Full) ≢ mismatch
+full_other a true other e = other e
+full_other a false other e = cc
+
+limited_other : (n : ℕ) (a : Answer) → a ≢ mismatch → limited n a ≢ mismatch
+limited_other n (Refused refusal) other = other
+limited_other n (Done done) other = full_other (Done done) (nat_lt n most_entries) other
+limited_other n (Undone ids) other = full_other (Undone ids) (nat_lt n most_entries) other
+limited_other n (Told length ids) other = full_other (Told length ids) (nat_lt n most_entries) other
+limited_other n (Shown text) other = full_other (Shown text) (nat_lt n most_entries) other
+
+-- a mismatch that is answered is the one that is wanted
+wanted_too : (wanted : Answer) → IsReply mismatch wanted → wanted ≡ mismatch
+wanted_too (Refused refusal) h = sym h
+wanted_too (Done done) h = sym h
+wanted_too (Undone ids) h = sym h
+wanted_too (Told length ids) h = sym h
+wanted_too (Shown text) h = sym h
+
+module _ (names : List (List ℕ)) (types : List LocalType) (own : AreOfOneProtocol types) where
+  sound : (j : List Entry) → IsSound types (run types j)
+  sound j = run_sound types initial j (initial_sound types)
+
+  reply_other : (j : List Entry) (p : ℕ) (c : Command) → reply names types j p c ≢ mismatch
+  reply_other j p (Forward step) = limited_other (length j) _ (sound_other types (run types j) p (changes.Forward step) own (sound j))
+  reply_other j p (Undo n) = limited_other (length j) _ (sound_other types (run types j) p (changes.Undo n) own (sound j))
+  reply_other j p (Rollback n) = limited_other (length j) _ (sound_other types (run types j) p (changes.Rollback n) own (sound j))
+  reply_other j p (Back name) = limited_other (length j) _ (sound_other types (run types j) p (changes.Back name) own (sound j))
+  reply_other j p (News n) = λ e. cc
+  reply_other j p Show = λ e. cc
+
+  pub answer_other : (j : List Entry) (p : ℕ) (c : Command) (a : Answer) → IsReply a (reply names types j p c) → a ≢ mismatch
+  answer_other j p c a says e = reply_other j p c (wanted_too (reply names types j p c) (subst (λ (x : Answer). IsReply x (reply names types j p c)) e says))

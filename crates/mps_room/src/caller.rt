@@ -1,0 +1,70 @@
+//! Who gives commands for a role.
+ghost use Rattle.std.specs.Prelude.{◌≡◌, ℕ, List, Option, IsSome};
+ghost use Rattle.std.specs.Option.{option_map};
+ghost use Rattle.mps_command.specs.Changes.{change_of};
+ghost use Rattle.mps_command.specs.declared.answer.Answer.{Answer as Answered};
+ghost use Rattle.mps_command.specs.declared.command.Command.{Command as Asked};
+ghost use Rattle.mps_room.specs.Journal.{grown};
+ghost use Rattle.mps_room.specs.Numbers.{IsNumbered};
+ghost use Rattle.mps_room.specs.declared.entry.Entry.{Entry};
+
+use crate::numbers::Told;
+use mps_base::Roles;
+use mps_command::{Answer, Command};
+
+/// Who gives commands for one role, and is answered. A caller that waits for others has what it waits by in its type.
+///
+/// A command that asks for a change may have a number, which lets whoever lost the answer ask for it again: a command
+/// with the last number isn't called, and its answer is `kept`.
+pub trait Caller {
+    // The names of the roles.
+    ghost names: { Self → List (List ℕ) };
+
+    // The role that it calls for.
+    ghost role: { Self → ℕ };
+
+    // The entries that it made.
+    ghost made: { Self → List Entry };
+
+    // What one call tells, of the caller before, the command, the answer and the caller after.
+    ghost calls: { Self → Asked → Answered → Self → Type 0 };
+
+    // The number of the newest numbered command that was accepted, 0 at first.
+    ghost last: { Self → ℕ };
+
+    // Its answer.
+    ghost kept: { Self → Option Answered };
+
+    /// The names of the roles.
+    fn roles(&self) -> &Roles
+        ensures { result.now ≡ names self.now };
+
+    /// Gives the command without a number, and is answered.
+    fn call(&mut self, command: Command) -> Answer
+        ensures call { calls self.old command result self.new }
+        ensures last { last self.new ≡ last self.old }
+        ensures kept { kept self.new ≡ kept self.old };
+
+    /// The number of the newest numbered command that was accepted, 0 at first.
+    fn last(&self) -> u64
+        ensures { result ≡ last self.now };
+
+    /// Its answer.
+    fn kept(&self) -> Option<&Answer>
+        ensures { option_map (λ a. a.now) result ≡ kept self.now };
+
+    /// Gives a command that asks for a change, with its number. What is accepted is `kept`.
+    fn call_numbered(&mut self, number: u64, command: Command) -> Told
+        requires { IsSome (change_of command) }
+        ensures { IsNumbered calls last kept self.old number command self.new result };
+
+    // No call changes the names.
+    ghost same_names: { (c : Self) (x : Asked) (a : Answered) (d : Self) → calls c x a d → names d ≡ names c };
+
+    // No call changes the role.
+    ghost same_role: { (c : Self) (x : Asked) (a : Answered) (d : Self) → calls c x a d → role d ≡ role c };
+
+    // A call adds just an accepted command, with its answer.
+    ghost grows: { (c : Self) (x : Asked) (a : Answered) (d : Self) → calls c x a d
+        → made d ≡ grown (made c) (role c) x a };
+}

@@ -1,0 +1,93 @@
+//! Numbers of commands, by which a caller that lost an answer asks again.
+ghost use Rattle.std.specs.Prelude.{◌≡◌, ◌+◌, Some};
+ghost use Rattle.std.specs.Option.{option_map};
+ghost use Rattle.mps_room.specs.Numbers.{last_of, kept_of, IsPlaced};
+
+use mps_command::{Answer, Refusal};
+
+/// What came of a command with a number.
+#[derive(Clone, Copy, Debug, PartialEq, Eq)]
+pub enum Told {
+    /// It had the next number, and was called and accepted. Its answer is kept.
+    Fresh,
+    /// It had the last number, so nothing was called. The answer that is kept is its own.
+    Kept,
+    /// It had any other number, so nothing was called.
+    Wrong,
+    /// It had the next number, and was called and refused. The number may come again.
+    Refused(Refusal),
+}
+
+/// Where a number stands.
+#[derive(Clone, Copy, Debug, PartialEq, Eq)]
+pub enum Place {
+    /// It is that of the newest command.
+    Last,
+    /// It is the one after that.
+    Next,
+    /// It is neither.
+    Elsewhere,
+}
+
+/// A numbered command that was accepted: its number, and its answer.
+#[derive(Debug, Drop)]
+pub struct Numbered {
+    pub number: u64,
+    pub answer: Answer,
+}
+
+/// The newest of a caller's numbered commands that were accepted.
+#[derive(Debug, Drop)]
+pub struct Numbers {
+    pub newest: Option<Numbered>,
+}
+
+impl Numbers {
+    /// Those of a caller that had no command with a number accepted.
+    pub fn new() -> Numbers
+        ensures { result.newest ≡ None }
+    {
+        Numbers { newest: None }
+    }
+
+    /// The last number, 0 at first.
+    pub fn last(&self) -> u64
+        ensures { result ≡ last_of self.now.newest }
+    {
+        match &self.newest {
+            Some(newest) => newest.number,
+            None => 0,
+        }
+    }
+
+    /// The answer to the command of that number.
+    pub fn kept(&self) -> Option<&Answer>
+        ensures { option_map (λ a. a.now) result ≡ kept_of self.now.newest }
+    {
+        match &self.newest {
+            Some(newest) => Some(&newest.answer),
+            None => None,
+        }
+    }
+
+    /// Where a number stands.
+    pub fn place(&self, number: u64) -> Place
+        ensures { IsPlaced (last_of self.now.newest) number result }
+    {
+        let last = self.last();
+        if number == last && number != 0 {
+            return Place::Last;
+        }
+        if number.checked_sub(1) == Some(last) {
+            return Place::Next;
+        }
+        Place::Elsewhere
+    }
+
+    /// Keeps the answer under its number, in place of the one before it.
+    pub fn keep(&mut self, number: u64, answer: Answer)
+        ensures { self.new.newest ≡ Some (record { number = number; answer = answer }) }
+    {
+        self.newest = Some(Numbered { number, answer });
+    }
+}

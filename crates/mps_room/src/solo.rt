@@ -1,0 +1,87 @@
+//! A room with one caller.
+ghost use Rattle.std.specs.Prelude.{◌≡◌, ◌<◌, length};
+
+use crate::caller::Caller;
+use crate::numbers::{Numbers, Place, Told};
+use crate::room::Room;
+use mps_base::{Role, Roles};
+use mps_command::{Answer, Command};
+
+/// A room, who calls it for one of its roles, and the newest of the caller's numbered commands.
+#[derive(Drop)]
+pub struct Solo {
+    pub room: Room,
+    pub role: Role,
+    pub numbers: Numbers,
+    ghost known: { role < length room.types },
+}
+
+impl Solo {
+    /// A caller for the role, who gave no command with a number yet.
+    pub fn new(room: Room, role: Role) -> Solo
+        requires { role < length room.types }
+        ensures room { result.room ≡ room }
+        ensures role { result.role ≡ role }
+        ensures numbers { result.numbers.newest ≡ None }
+    {
+        Solo {
+            room,
+            role,
+            numbers: Numbers::new(),
+        }
+    }
+}
+
+impl Caller for Solo {
+    ghost use Rattle.mps_room.specs.Numbers.{last_of, kept_of};
+    ghost use Rattle.mps_room.specs.Solos.{IsSoloCall, names_of, role_of, made_of, same_names, same_role, made_grows};
+
+    ghost names = { names_of };
+
+    ghost role = { role_of };
+
+    ghost made = { made_of };
+
+    ghost calls = { IsSoloCall };
+
+    ghost last = { λ s. last_of s.numbers.newest };
+
+    ghost kept = { λ s. kept_of s.numbers.newest };
+
+    fn roles(&self) -> &Roles {
+        self.room.names()
+    }
+
+    fn call(&mut self, command: Command) -> Answer {
+        self.room.apply(self.role, command)
+    }
+
+    fn last(&self) -> u64 {
+        self.numbers.last()
+    }
+
+    fn kept(&self) -> Option<&Answer> {
+        self.numbers.kept()
+    }
+
+    fn call_numbered(&mut self, number: u64, command: Command) -> Told {
+        match self.numbers.place(number) {
+            Place::Last => return Told::Kept,
+            Place::Elsewhere => return Told::Wrong,
+            Place::Next => {}
+        }
+        match self.room.apply(self.role, command) {
+            Answer::Refused(refusal) => Told::Refused(refusal),
+            answer => {
+                self.numbers.keep(number, answer);
+                Told::Fresh
+            }
+        }
+    }
+
+    ghost same_names = { same_names };
+
+    ghost same_role = { same_role };
+
+    ghost grows = { made_grows };
+}

@@ -1,0 +1,78 @@
+-- What one read of a conversation leads to, and how it ends.
+use Rattle.std.proofs.Common.{◌≡◌, ℕ, ◌+◌, List, [], ◌++◌, Option, Some, refl, sym, ap, ◌∙◌, subst, append-nil}
+use Rattle.std.specs.Prelude.{Result, Ok, Err, OnErr}
+use Rattle.std.specs.Io.KnownBytes.{Appends, Consumes}
+use Rattle.mps_lines.proofs.Splitting.{split_nothing}
+use Rattle.mps_wire.specs.Answers.{Answering}
+use Rattle.mps_wire.specs.Endings.{EndedAs, TakesOn, TakesToPart, TurnedTo, WasAnswered, WasCut, failed_by}
+use Rattle.mps_wire.specs.Runs.{Going}
+use Rattle.mps_wire.specs.Streams.{Streams, Counts}
+use Rattle.mps_wire.specs.declared.conversation.Broken.{Broken}
+use Rattle.mps_wire.specs.declared.conversation.Ending.{Ending}
+use Rattle.mps_wire.specs.declared.conversation.Ending.TheVariants.{Closed, ReadFault, WriteFault, Turns, Memory}
+use Rattle.mps_wire.proofs.Bytes.{Appends-trans, Appends-none, Consumes-trans, Consumes-none}
+use Rattle.mps_wire.proofs.Outcomes.{counts_more}
+
+pub on_err_of : {A E : Type 0} (r : Result A E) (P : Type 0) → P → OnErr r P
+on_err_of (Ok x) P p = tt
+on_err_of (Err e) P p = p
+
+pub failed_is : (e e' : Broken) → e ≡ e' → (old new : ℕ) → new ≡ old + failed_by (Err e) → new ≡ old + failed_by (Err e')
+failed_is e e' same old new h = h ∙ ap (λ (b : Broken). old + failed_by (Err b)) same
+
+module _ {S : Type 0} (answers : Answering S) (start : S) (first old new : Streams) (kept : List ℕ) (st : S) (going : Going answers start first old kept st) where
+  -- more bytes were read, and their lines answered
+  pub goes_on : (bytes kept' : List ℕ) (d : S) → Consumes old.left new.left bytes → TakesOn answers bytes kept st old.taken kept' d new.taken → Going answers start first new kept' d
+  goes_on bytes kept' d more fed =
+      let f = fed start going.read going.out going.answered in
+      record {
+        read = going.read ++ bytes;
+        out = going.out ++ f.0;
+        bytes = Consumes-trans first.left old.left new.left going.read bytes going.bytes more;
+        sent = Appends-trans first.taken old.taken new.taken going.out f.0 going.sent f.1;
+        answered = f.2;
+      }
+
+  -- that broke off
+  pub breaks_off : (part : Answering S) (bytes : List ℕ) (d : S) → Consumes old.left new.left bytes → TakesToPart answers part bytes kept st old.taken d new.taken → WasCut answers part start first new d
+  breaks_off part bytes d more fed =
+      let f = fed start going.read going.out going.answered in
+      record {
+        read = going.read ++ bytes;
+        written = going.out ++ f.0;
+        bytes = Consumes-trans first.left old.left new.left going.read bytes going.bytes more;
+        sent = Appends-trans first.taken old.taken new.taken going.out f.0 going.sent f.1;
+        answered = f.2;
+      }
+
+  -- nothing more was read
+  pub stays : Consumes old.left new.left [] → new.taken ≡ old.taken → WasAnswered answers start first new st
+  stays none same = record {
+    kept = kept;
+    going = record {
+      read = going.read;
+      out = going.out;
+      bytes = subst (λ (b : List ℕ). Consumes first.left new.left b) (append-nil going.read) (Consumes-trans first.left old.left new.left going.read [] going.bytes none);
+      sent = subst (λ (t : Option (List ℕ)). Appends first.taken t going.out) (sym same) going.sent;
+      answered = going.answered;
+    };
+  }
+
+module _ {S : Type 0} (answers part : Answering S) (start : S) where
+  -- nothing was read or written
+  pub none_begun : (s : Streams) → WasCut answers part start s s start
+  none_begun s = record {
+    read = [];
+    written = [];
+    bytes = Consumes-none s.left;
+    sent = Appends-none s.taken;
+    answered = record { lines = []; rest = []; split = split_nothing; done = []; others = []; first = refl; answers_lines = (refl, refl) };
+  }
+
+  -- the turn that ended it
+  pub ends_as : (first old now : Streams) (kept : List ℕ) (st : S) (e : Ending) → Counts first old 0 0 0 → TurnedTo answers part start first old now kept st (Some e) → EndedAs answers part start first now st e
+  ends_as first old now kept st Closed counts h = (h.0, counts_more first old now counts 0 1 0 h.1, h.2)
+  ends_as first old now kept st ReadFault counts h = (h.0, counts_more first old now counts 1 0 0 h.1)
+  ends_as first old now kept st Turns counts h = absurd h
+  ends_as first old now kept st WriteFault counts h = (h.0, counts_more first old now counts 0 0 1 h.1)
+  ends_as first old now kept st Memory counts h = (h.0, counts_more first old now counts 0 0 0 h.1)

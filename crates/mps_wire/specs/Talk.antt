@@ -1,0 +1,124 @@
+-- What a conversation does to its caller, and what the caller is answered.
+use Rattle.std.specs.Prelude.{◌≡◌, ℕ, ◌≤◌, List, [], ◌∷◌, ◌++◌, length, Option, None, Some}
+use Rattle.std.specs.Str.{IsAscii}
+use Rattle.mps_base.specs.declared.value.Value.TheVariants.{Text}
+use Rattle.mps_command.specs.declared.answer.Answer.{Answer}
+use Rattle.mps_command.specs.declared.answer.Answer.TheVariants.{Refused}
+use Rattle.mps_command.specs.declared.answer.Refusal.TheVariants.{Memory}
+use Rattle.mps_command.specs.declared.command.Command.{Command}
+use Rattle.mps_command.specs.declared.command.Command.TheVariants.{Forward}
+use Rattle.mps_command.specs.declared.command.Forward.TheVariants.{Send}
+use Rattle.mps_line.specs.Commands.{SpellsNumbered}
+use Rattle.mps_line.specs.Replies.{SpellsReply}
+use Rattle.mps_line.specs.declared.reply.Reply.{Reply}
+use Rattle.mps_line.specs.declared.reply.Reply.TheVariants.{Answered, BadLine, Number}
+use Rattle.mps_lines.specs.Lines.{IsSplit, ended, max_line}
+use Rattle.mps_room.specs.Numbers.{IsNumbered}
+use Rattle.mps_room.specs.declared.caller.Caller.{Ghosts}
+use Rattle.mps_room.specs.declared.numbers.Told.{Told}
+use Rattle.mps_room.specs.declared.numbers.Told.TheVariants.{Fresh, Kept, Wrong, Refused as CalledInVain}
+use Rattle.mps_wire.specs.Answers.{Answering}
+
+-- a line that isn't too long, of bytes below 128, that spells a command, with a number or without one
+pub record IsRequest (names : List (List ℕ)) (line : List ℕ) (number : Option ℕ) (command : Command) : Type 0 where
+  pub short : length line ≤ max_line
+  pub ascii : IsAscii line
+  pub spelled : SpellsNumbered names line number command
+
+-- what is told of a command with a number, to a caller that is now d: the answer that it keeps, that the number is wrong,
+-- or the refusal
+abbrev pub IsToldAs : {C : Type 0} → Ghosts C → (d : C) → Told → Reply → Type 0
+IsToldAs caller d Fresh reply = (answer : Answer) × (caller.kept d ≡ Some answer) × (reply ≡ Answered answer)
+IsToldAs caller d Kept reply = (answer : Answer) × (caller.kept d ≡ Some answer) × (reply ≡ Answered answer)
+IsToldAs caller d Wrong reply = reply ≡ Number
+IsToldAs caller d (CalledInVain refusal) reply = reply ≡ Answered (Refused refusal)
+
+-- a command with a number was given, and the text tells what came of it
+pub record TalksNumbered {C : Type 0} (caller : Ghosts C) (c : C) (number : ℕ) (command : Command) (text : List ℕ) (d : C) : Type 0 where
+  pub came : Told
+  pub numbered : IsNumbered caller.calls caller.last caller.kept c number command d came
+  pub reply : Reply
+  pub told : IsToldAs caller d came reply
+  pub spelled : SpellsReply text reply
+
+-- What one line does to a caller.
+module _ {C : Type 0} (caller : Ghosts C) (line : List ℕ) (c : C) where
+  -- no command can be read: the line is called bad, and the caller makes no call
+  pub record IsUnread (reply : Reply) (d : C) : Type 0 where
+    pub unreadable : (number : Option ℕ) (command : Command) → IsRequest (caller.names c) line number command → ⊥
+    pub bad : reply ≡ BadLine
+    pub unchanged : d ≡ c
+
+  -- a command without a number: the caller makes one call with it, whose answer is told; the last number and its answer stay
+  pub record IsCalled (reply : Reply) (d : C) : Type 0 where
+    pub command : Command
+    pub readable : IsRequest (caller.names c) line None command
+    pub answer : Answer
+    pub call : caller.calls c command answer d
+    pub last_stays : caller.last d ≡ caller.last c
+    pub kept_stays : caller.kept d ≡ caller.kept c
+    pub told : reply ≡ Answered answer
+
+  -- a command with a number: it is called once, or not again, or not at all, and what came of it is told
+  pub record IsNumberedCall (reply : Reply) (d : C) : Type 0 where
+    pub number : ℕ
+    pub command : Command
+    pub readable : IsRequest (caller.names c) line (Some number) command
+    pub came : Told
+    pub numbered : IsNumbered caller.calls caller.last caller.kept c number command d came
+    pub told : IsToldAs caller d came reply
+
+  -- memory ran out while the line was read, whose value is a text: the caller makes no call
+  pub record IsStarved (reply : Reply) (d : C) : Type 0 where
+    pub number : Option ℕ
+    pub to : ℕ
+    pub value : List ℕ
+    pub readable : IsRequest (caller.names c) line number (Forward (Send to (Text value)))
+    pub told : reply ≡ Answered (Refused Memory)
+    pub unchanged : d ≡ c
+
+  -- the reply to the line, and the caller after it
+  pub data RepliesTo (reply : Reply) (d : C) : Type 0 where
+    Unread : IsUnread reply d → RepliesTo reply d
+    Called : IsCalled reply d → RepliesTo reply d
+    Numbered : IsNumberedCall reply d → RepliesTo reply d
+    Starved : IsStarved reply d → RepliesTo reply d
+
+  -- the text that answers the line, and the caller after it
+  pub record TalksLine (text : List ℕ) (d : C) : Type 0 where
+    pub reply : Reply
+    pub replies : RepliesTo reply d
+    pub spelled : SpellsReply text reply
+
+  -- of the text that answers the line this part is written
+  pub record TalksToPart (written : List ℕ) (d : C) : Type 0 where
+    pub text : List ℕ
+    pub unwritten : List ℕ
+    pub line_is : TalksLine text d
+    pub whole : ended text ≡ written ++ unwritten
+
+-- how a caller's lines are answered, and how they are in part
+abbrev pub talks : {C : Type 0} → Ghosts C → Answering C
+talks caller line c text d = TalksLine caller line c text d
+
+abbrev pub talks_to_part : {C : Type 0} → Ghosts C → Answering C
+talks_to_part caller line c written d = TalksToPart caller line c written d
+
+-- lines that are answered in order, of the last one in part, and the state after it; whatever they do to what state
+abbrev pub AnswersToPart : {S : Type 0} → Answering S → Answering S → List (List ℕ) → S → List ℕ → S → Type 0
+AnswersToPart answers part [] st out after = (out ≡ []) × (after ≡ st)
+AnswersToPart answers part (line ∷ []) st out after = part line st out after
+AnswersToPart {S} answers part (line ∷ other ∷ lines) st out after =
+    (text : List ℕ) × (others : List ℕ) × (mid : S) × (out ≡ ended text ++ others)
+    × answers line st text mid × AnswersToPart answers part (other ∷ lines) mid others after
+
+module _ {S : Type 0} (answers part : Answering S) (start : S) where
+  -- the first of the whole lines of the bytes are answered, of the last of these in part
+  pub record AnsweredToPart (bytes written : List ℕ) (after : S) : Type 0 where
+    pub lines : List (List ℕ)
+    pub rest : List ℕ
+    pub split : IsSplit bytes lines rest
+    pub done : List (List ℕ)
+    pub others : List (List ℕ)
+    pub first : lines ≡ done ++ others
+    pub answers_lines : AnswersToPart answers part done start written after

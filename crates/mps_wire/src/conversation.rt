@@ -1,0 +1,282 @@
+//! A conversation over streams.
+ghost use Rattle.std.specs.Prelude.{◌≡◌, ◌+◌, ◌<◌, ◌≤◌, ◌^◌, ℕ, List, length, Some, OnOk, OnErr, IfNone, IsSome};
+ghost use Rattle.mps_command.specs.Changes.{change_of};
+ghost use Rattle.mps_command.specs.declared.answer.Answer.{Answer as Response};
+ghost use Rattle.mps_command.specs.declared.command.Command.{Command as Asked};
+ghost use Rattle.mps_line.specs.Replies.{SpellsReply};
+ghost use Rattle.mps_line.specs.declared.reply.Reply.TheVariants.{Answered};
+ghost use Rattle.mps_lines.specs.Lines.{ended, most_kept};
+ghost use Rattle.mps_wire.specs.declared.conversation.Broken.TheVariants.{Memory as NoMemory};
+ghost use Rattle.mps_wire.specs.Endings.{EndedAs, IsPartly, IsWholly, TakesOn, TakesToPart, TurnedTo, failed_by};
+ghost use Rattle.mps_wire.specs.Runs.{Going, max_reads};
+ghost use Rattle.mps_wire.specs.Streams.{streams};
+ghost use Rattle.mps_wire.specs.Talk.{TalksLine, TalksNumbered, talks, talks_to_part};
+
+use crate::flow::send_all;
+use crate::script::MAX_READS;
+use mps_command::{Answer, Command, Refusal};
+use mps_dev::{Failed, Sink, Source};
+use mps_line::laws::one_numbered;
+use mps_line::{LineFault, Reply, answer_has_text, read_numbered, write_answer};
+use mps_lines::{MAX_LINE, keep, line_end};
+use mps_room::{Caller, Told};
+use std::alloc::{AllocError, Global};
+
+/// How many bytes a conversation asks for at a time.
+pub const PIECE: usize = 4_096;
+
+/// How a conversation ended.
+#[derive(Clone, Copy, Debug, PartialEq, Eq)]
+pub enum Ending {
+    /// The reader came to its end.
+    Closed,
+    /// A read failed.
+    ReadFault,
+    /// A write failed.
+    WriteFault,
+    /// It was read from as often as it may be.
+    Turns,
+    /// Memory ran out.
+    Memory,
+}
+
+/// Why no more lines are answered.
+#[derive(Clone, Copy, Debug, PartialEq, Eq)]
+pub enum Broken {
+    Write,
+    Memory,
+}
+
+impl From<AllocError> for Broken {
+    ghost from_gives = { λ _ e. e ≡ NoMemory };
+
+    fn from(_e: AllocError) -> Broken {
+        Broken::Memory
+    }
+}
+
+/// Puts the reply and an LF in place of what the buffer had. Where memory runs out, the reply has a text all the same.
+fn put_reply(reply: &Reply, text: &mut Vec<u8>) -> Result<(), AllocError>
+    ensures { (words : List ℕ) × SpellsReply words reply.now × OnOk result (text.new.items ≡ ended words) }
+{
+    reply.has_text();
+    text.clear();
+    reply.write(text)?;
+    text.push(b'\n')?;
+    Ok(())
+}
+
+/// Puts the answer and an LF in place of what the buffer had, as `put_reply` does, but from where the answer is kept.
+fn put_answer(answer: &Answer, text: &mut Vec<u8>) -> Result<(), AllocError>
+    ensures { (words : List ℕ) × SpellsReply words (Answered answer.now)
+        × OnOk result (text.new.items ≡ ended words) }
+{
+    answer_has_text(answer);
+    text.clear();
+    write_answer(answer, text)?;
+    text.push(b'\n')?;
+    Ok(())
+}
+
+/// Puts the answer that the caller keeps.
+fn put_kept<C: Caller>(caller: &C, text: &mut Vec<u8>) -> Result<(), AllocError>
+    requires { IsSome (C.kept caller.now) }
+    ensures { (answer : Response) × (C.kept caller.now ≡ Some answer) × (words : List ℕ)
+        × SpellsReply words (Answered answer) × OnOk result (text.new.items ≡ ended words) }
+{
+    match caller.kept() {
+        Some(answer) => put_answer(answer, text),
+        None => unreachable!(),
+    }
+}
+
+/// Gives a command with its number, and makes the text of what came of it.
+fn reply_to_numbered<C: Caller>(
+    caller: &mut C,
+    number: u64,
+    command: Command,
+    text: &mut Vec<u8>,
+) -> Result<(), AllocError>
+    requires { IsSome (change_of command) }
+    ensures { (words : List ℕ) × TalksNumbered C.Caller caller.old number command words caller.new
+        × OnOk result (text.new.items ≡ ended words) }
+{
+    match caller.call_numbered(number, command) {
+        Told::Fresh => put_kept(caller, text),
+        Told::Kept => put_kept(caller, text),
+        Told::Wrong => put_reply(&Reply::Number, text),
+        Told::Refused(refusal) => put_answer(&Answer::Refused(refusal), text),
+    }
+}
+
+/// Replies to a line: makes its call, if it has one, and the text of the answer.
+fn reply_to_line<C: Caller>(
+    alloc: Global,
+    caller: &mut C,
+    line: &[u8],
+    text: &mut Vec<u8>,
+) -> Result<(), AllocError>
+    ensures { (words : List ℕ) × TalksLine C.Caller line.now caller.old words caller.new
+        × OnOk result (text.new.items ≡ ended words) }
+{
+    one_numbered();
+    if line.len() > MAX_LINE {
+        return put_reply(&Reply::BadLine, text);
+    }
+    match read_numbered(alloc, caller.roles(), line) {
+        Ok((Some(number), command)) => reply_to_numbered(caller, number, command, text),
+        Ok((None, command)) => put_answer(&caller.call(command), text),
+        Err(LineFault::Bad) => put_reply(&Reply::BadLine, text),
+        Err(LineFault::Memory) => put_answer(&Answer::Refused(Refusal::Memory), text),
+    }
+}
+
+/// Answers a line, and writes the answer.
+fn answer_line<C: Caller, W: Sink>(
+    alloc: Global,
+    caller: &mut C,
+    writer: &mut W,
+    line: &[u8],
+    text: &mut Vec<u8>,
+) -> Result<(), Broken>
+    requires { W.failed_calls writer.old < 2 ^ 63 }
+    ensures writes { W.failed_calls writer.new ≡ W.failed_calls writer.old + failed_by result }
+    ensures ok { OnOk result (IsWholly (talks C.Caller) line.now caller.old caller.new
+        (W.taken writer.old) (W.taken writer.new)) }
+    ensures err { OnErr result (IsPartly (talks_to_part C.Caller) line.now caller.old caller.new
+        (W.taken writer.old) (W.taken writer.new)) }
+{
+    reply_to_line(alloc, caller, line, text)?;
+    match send_all(writer, text.as_slice()) {
+        Ok(()) => Ok(()),
+        Err(Failed) => Err(Broken::Write),
+    }
+}
+
+/// Takes the next bytes, and answers each line that they end, before the next.
+fn feed<C: Caller, W: Sink>(
+    alloc: Global,
+    caller: &mut C,
+    writer: &mut W,
+    line: &mut Vec<u8>,
+    text: &mut Vec<u8>,
+    bytes: &[u8],
+) -> Result<(), Broken>
+    requires kept { length line.old.items ≤ most_kept }
+    requires writes { W.failed_calls writer.old < 2 ^ 63 }
+    ensures writes { W.failed_calls writer.new ≡ W.failed_calls writer.old + failed_by result }
+    ensures kept { OnOk result (length line.new.items ≤ most_kept) }
+    ensures ok { OnOk result (TakesOn (talks C.Caller) bytes.now line.old.items caller.old (W.taken writer.old)
+        line.new.items caller.new (W.taken writer.new)) }
+    ensures err { OnErr result (TakesToPart (talks C.Caller) (talks_to_part C.Caller) bytes.now line.old.items
+        caller.old (W.taken writer.old) caller.new (W.taken writer.new)) }
+{
+    let mut rest = bytes;
+    while let Some(k) = line_end(rest) {
+        keep(line, &rest[..k])?;
+        answer_line(alloc, caller, writer, line.as_slice(), text)?;
+        line.clear();
+        rest = &rest[k + 1..];
+    }
+    keep(line, rest)?;
+    Ok(())
+}
+
+/// Reads once, and answers the lines that are whole then. Says how the conversation ended, if it did.
+fn turn<C: Caller, R: Source, W: Sink>(
+    alloc: Global,
+    caller: &mut C,
+    reader: &mut R,
+    writer: &mut W,
+    line: &mut Vec<u8>,
+    text: &mut Vec<u8>,
+    block: &mut [u8],
+) -> Option<Ending>
+    requires short { length line.old.items ≤ most_kept }
+    requires room { 0 < length block.old }
+    requires reads { R.calls reader.old < 2 ^ 63 }
+    requires writes { W.failed_calls writer.old < 2 ^ 63 }
+    ensures short { IfNone result (length line.new.items ≤ most_kept) }
+    ensures reads { R.calls reader.new ≡ R.calls reader.old + 1 }
+    ensures step { (start : C) (first : _)
+        → Going (talks C.Caller) start first (streams R.Source W.Sink reader.old writer.old) line.old.items caller.old
+        → TurnedTo (talks C.Caller) (talks_to_part C.Caller) start first
+        (streams R.Source W.Sink reader.old writer.old) (streams R.Source W.Sink reader.new writer.new)
+        line.new.items caller.new result }
+{
+    let Ok(count) = reader.read(block) else {
+        return Some(Ending::ReadFault);
+    };
+    if count == 0 {
+        return Some(Ending::Closed);
+    }
+    match feed(alloc, caller, writer, line, text, &block[..count]) {
+        Ok(()) => None,
+        Err(Broken::Write) => Some(Ending::WriteFault),
+        Err(Broken::Memory) => Some(Ending::Memory),
+    }
+}
+
+/// As `converse`.
+fn run_lines<C: Caller, R: Source, W: Sink>(
+    alloc: Global,
+    caller: &mut C,
+    reader: &mut R,
+    writer: &mut W,
+) -> Ending
+    requires reads { R.calls reader.old < 2 ^ 62 }
+    requires writes { W.failed_calls writer.old < 2 ^ 62 }
+    ensures ending { EndedAs (talks C.Caller) (talks_to_part C.Caller) caller.old
+        (streams R.Source W.Sink reader.old writer.old) (streams R.Source W.Sink reader.new writer.new)
+        caller.new result }
+    ensures reads { R.calls reader.new ≤ R.calls reader.old + max_reads }
+{
+    let mut line = Vec::new(alloc);
+    let mut text = Vec::new(alloc);
+    let Ok(mut block) = vec![in alloc; 0u8; PIECE] else {
+        return Ending::Memory;
+    };
+    for _ in 0..MAX_READS {
+        let ended = turn(
+            alloc,
+            caller,
+            reader,
+            writer,
+            &mut line,
+            &mut text,
+            block.as_mut_slice(),
+        );
+        match ended {
+            Some(ending) => return ending,
+            None => {}
+        }
+    }
+    Ending::Turns
+}
+
+/// Runs each line of the reader as a command of the caller, and writes its answer before it looks at the next line.
+///
+/// A line may begin with a number and a space (`read_numbered`). A client that lost an answer sends the same line again:
+/// the command isn't run a second time, and its answer is written again. At the end a rest that no LF ends isn't run.
+/// The reader is asked for `PIECE` bytes at a time, `MAX_READS` times at most. After `Closed`, `ReadFault` or `Turns` each
+/// whole line that was read is answered; after `WriteFault` or `Memory` the first of them are, and the answer of the last
+/// of these may be written in part, or not at all.
+pub fn converse<C: Caller, R: Source, W: Sink>(
+    alloc: Global,
+    caller: &mut C,
+    reader: &mut R,
+    writer: &mut W,
+) -> Ending
+    requires reads { R.calls reader.old < 2 ^ 62 }
+    requires writes { W.failed_calls writer.old < 2 ^ 62 }
+    ensures ending { EndedAs (talks C.Caller) (talks_to_part C.Caller) caller.old
+        (streams R.Source W.Sink reader.old writer.old) (streams R.Source W.Sink reader.new writer.new)
+        caller.new result }
+    ensures reads { R.calls reader.new ≤ R.calls reader.old + max_reads }
+
+    // What no call changes is as before.
+    ensures fixed { (f : C → ℕ)
+        → ((c : C) (x : Asked) (a : Response) (d : C) → C.calls c x a d → f d ≡ f c) → f caller.new ≡ f caller.old }
+{
+    run_lines(alloc, caller, reader, writer)
+}
