@@ -1,0 +1,95 @@
+-- The passes are dealt, and the room comes back at the end.
+use Rattle.std.proofs.Common.{zero, length, ◌≡◌, ℕ, suc, ◌+◌, ◌-◌, ◌%◌, ◌<◌, false, List, [], ◌∷◌, ◌++◌, sym, refl, ap, ◌∙◌, subst, arith, add-one, Option, Some, None}
+use Rattle.std.specs.List.{All}
+use Rattle.std.proofs.lemmas.List.Elements.{All-nil, All-push, All-same, All-pop}
+use Rattle.std.specs.Prelude.{IfSome}
+use Rattle.std.specs.Option.{option_to_list}
+use mathlib.Core.Option as maybe
+use lib.ListN.{get_elem?}
+use Rattle.atomic_table.specs.Table.{Me, State, Splits, Final, Seen}
+use Rattle.mps_room.specs.Kept.{Record}
+use Rattle.mps_room.specs.declared.entry.Entry.{Entry}
+use Rattle.mps_cell.specs.Openings.{Opening, room_of, IsLegalIn}
+use Rattle.mps_cell.specs.Views.{View, newcomer, newcomers, dealing, part_of, without_first, first_alone}
+use Rattle.mps_cell.specs.Rule.{Kept, word_of, home_of, resting, Shows, AllShow, IsFree}
+use Rattle.atomic_table.specs.Seated.{TableId}
+use Rattle.mps_cell.specs.Calls.{Known, known}
+use Rattle.mps_cell.specs.Meetings.{Holds}
+use Rattle.mps_cell.specs.Cells.{Closes, fresh, fresh_below}
+use Rattle.mps_cell.proofs.Keeping.{deals}
+
+abbrev M : Type 0
+M = Me Record View
+
+one_more : (i n : ℕ) → i < n → n - i ≡ suc (n - (i + 1))
+one_more i n h = omega arith
+
+next : (o : Opening) (i n : ℕ) → i < n → newcomers o i (n - i) ≡ newcomer o i ∷ newcomers o (i + 1) (n - (i + 1))
+next o i n h = ap (newcomers o i) (one_more i n h)
+
+pub deals_next : (k o : Opening) (id i n : ℕ) (m : M) → i < n → m ≡ (dealing o i (n - i), []) → Splits (Kept k) id m.0 (without_first m.0) (first_alone m.0)
+deals_next k o id i n m h is = deals k id m.0 (newcomer o i) (newcomers o (i + 1) (n - (i + 1))) (ap (λ (x : M). x.0.parts) is ∙ next o i n h)
+
+pub dealt_rest : (o : Opening) (i n : ℕ) (m m' : M) → i < n → m ≡ (dealing o i (n - i), []) → m' ≡ (without_first m.0, m.1) → m' ≡ (dealing o (i + 1) (n - (i + 1)), [])
+dealt_rest o i n m m' h is now = now ∙ (ap (λ (x : M). (without_first x.0, x.1)) is ∙ ap (λ ps. (without_first (record { parts = ps; noted = None; barred = false }), [])) (next o i n h))
+
+pub dealt_one : (o : Opening) (i n : ℕ) (m m' : M) → i < n → m ≡ (dealing o i (n - i), []) → m' ≡ (first_alone m.0, []) → m' ≡ resting (newcomer o i) false
+dealt_one o i n m m' h is now = now ∙ (ap (λ (x : M). (first_alone x.0, [])) is ∙ ap (λ ps. (first_alone (record { parts = ps; noted = None; barred = false }), [])) (next o i n h))
+
+home_even : (a : Option ℕ) (j : List Entry) → word_of a j % 2 ≡ 0 → a ≡ None
+home_even None j e = refl
+home_even (Some t) j e = absurd (omega arith)
+
+module _ (o : Opening) (s : State Record View) (r : Kept o s) (ws : List ℕ) (xs : List Record) (w : ℕ) (y : Record) (same : s.words ≡ ws)
+    (homes : (k : ℕ) (x : Record) → get_elem? s.homes k ≡ maybe.some (maybe.some x) → get_elem? xs k ≡ maybe.some x) (word : get_elem? ws 0 ≡ maybe.some w) (even : w % 2 ≡ 0) (room : get_elem? xs 0 ≡ maybe.some y) where
+  at_home : r.away ≡ None
+  at_home = let e : word_of r.away r.log ≡ w = maybe.some-injective (word_of r.away r.log) w (sym (ap (λ (l : List ℕ). get_elem? l 0) r.words) ∙ (ap (λ (l : List ℕ). get_elem? l 0) same ∙ word)) in
+      home_even r.away r.log (ap (λ (n : ℕ). n % 2) e ∙ even)
+
+  pub ends_as : y ≡ room_of o r.log
+  ends_as = let h = homes 0 (room_of o r.log) (ap (λ (l : List (maybe.Option Record)). get_elem? l 0) (r.homes ∙ ap (λ (a : Option ℕ). home_of o a r.log ∷ []) at_home)) in
+      maybe.some-injective y (room_of o r.log) (sym room ∙ h)
+
+  pub closes : Closes o y
+  closes = record { names = ap (λ (m : Record). m.names) ends_as; types = ap (λ (m : Record). m.types) ends_as; legal = subst (λ (m : Record). IsLegalIn o m.journal) (sym ends_as) r.legal }
+
+pub closed : (o : Opening) (ws : List ℕ) (xs : List Record) (w : ℕ) (y : Record) → Final (Kept o) ws xs → get_elem? ws 0 ≡ maybe.some w → w % 2 ≡ 0 → get_elem? xs 0 ≡ maybe.some y → Closes o y
+closed o ws xs w y f word even room = closes o f.0 f.1 ws xs w y f.2 f.4 word even room
+
+more : (id : TableId) (o : Opening) (n : ℕ) → fresh_below id o (n + 1) ≡ fresh_below id o n ++ fresh id o n ∷ []
+more id o n = rw add-one refl
+
+pub dealt_more : (id id' : TableId) (o o' : Opening) (i : ℕ) (all all' : List Known) (k : Known) → all' ≡ all ++ k ∷ [] → all ≡ fresh_below id o i → k ≡ fresh id' o' i → id' ≡ id → o' ≡ o
+    → all' ≡ fresh_below id o (i + 1)
+dealt_more id id' o o' i all all' k now was new is is' = let e : k ≡ fresh id o i = new ∙ (λ t. fresh (is t) (is' t) i) in let f = more id o i in cc
+
+shown_in : (j : List Entry) (m : M) → IsFree m → AllShow j m.0.parts → Shows j (part_of m.0.parts)
+shown_in j m free all = (subst (λ (x : M). AllShow j x.0.parts) free all).0
+
+pub closed_with : (o : Opening) (id : ℕ) (m : M) (t : TableId) (ws : List ℕ) (xs : List Record) (w : ℕ) (y : Record) → IsFree m → Final (Seen (Kept o) id m.0) ws xs → get_elem? ws 0 ≡ maybe.some w → w % 2 ≡ 0 → get_elem? xs 0 ≡ maybe.some y
+    → Closes o y × Holds (known t m.0) y.journal
+closed_with o id m t ws xs w y free f word even room = let r = f.1.0 in let e = ends_as o f.0 r ws xs w y f.2 f.4 word even room in
+    let s : Shows r.log (part_of m.0.parts) = shown_in r.log m free (r.seats id m.0 f.1.1).shows in let h : Holds (known t m.0) r.log = record { begins = s.begins; reached = s.reached; own = s.own } in
+    (closes o f.0 r ws xs w y f.2 f.4 word even room, subst (λ (x : Record). Holds (known t m.0) x.journal) (sym e) h)
+
+-- the seat of a role that was dealt is a newcomer's
+pub fresh_seat : (o : Opening) (i role : ℕ) (m : M) → m ≡ resting (newcomer o i) false → role ≡ i → m ≡ resting (newcomer (part_of m.0.parts).opening role) false
+fresh_seat o i role m is same = subst (λ (x : M × ℕ). x.0 ≡ resting (newcomer (part_of x.0.0.parts).opening x.1) false) (λ k. (sym is k, sym same k)) refl
+
+pub fresh_some : (o : Opening) (i role : ℕ) (m : M) → m ≡ resting (newcomer o i) false → role ≡ i → i < length o.types → role < length (part_of m.0.parts).opening.types
+fresh_some o i role m is same h = subst (λ (x : M × ℕ). x.1 < length (part_of x.0.0.parts).opening.types) (λ k. (sym is k, sym same k)) h
+
+-- fresh passes are the cell's
+fresh_all : (id : TableId) (o : Opening) (n : ℕ) → All (λ (p : Known). p.cell ≡ id) (fresh_below id o n)
+fresh_all id o zero = All-nil (λ (p : Known). p.cell ≡ id)
+fresh_all id o (suc n) = All-push (λ (p : Known). p.cell ≡ id) (fresh_below id o n) (fresh id o n) (fresh_all id o n) refl
+
+pub all_fresh : (id : TableId) (o : Opening) (n : ℕ) (xs : List Known) → xs ≡ fresh_below id o n → All (λ (p : Known). p.cell ≡ id) xs
+all_fresh id o n xs is = All-same (λ (p : Known). p.cell ≡ id) xs (fresh_below id o n) is (fresh_all id o n)
+
+-- where all are passes of a cell, so are those before the last one, and that one
+pub popped_rest : (id : TableId) (xs ys : List Known) (r : Option Known) → xs ≡ ys ++ option_to_list r → All (λ (p : Known). p.cell ≡ id) xs → All (λ (p : Known). p.cell ≡ id) ys
+popped_rest id xs ys r is all = (All-pop (λ (p : Known). p.cell ≡ id) xs ys r is all).0
+
+pub popped_last : (id : TableId) (xs ys : List Known) (r : Option Known) → xs ≡ ys ++ option_to_list r → All (λ (p : Known). p.cell ≡ id) xs → IfSome r (λ (p : Known). p.cell ≡ id)
+popped_last id xs ys r is all = (All-pop (λ (p : Known). p.cell ≡ id) xs ys r is all).1

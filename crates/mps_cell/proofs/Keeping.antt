@@ -1,0 +1,294 @@
+-- Each step keeps the rule.
+use Rattle.std.proofs.Common.{◌≡◌, ◌≢◌, ℕ, zero, suc, ◌+◌, ◌*◌, ◌/◌, ◌%◌, ◌<◌, ◌==◌, Bool, true, false, List, [], ◌∷◌, ◌++◌, length, set, get_or, sym, refl, ap, ◌∙◌, subst, ⊎_elim, arith, Option, Some, None, length-set, length-append, ne_eqb, eq-eqb, if◌then◌else◌, le_refl}
+use Rattle.std.proofs.lemmas.List.{append-nil}
+use Rattle.std.proofs.lemmas.Bool.{eqb-true}
+use mathlib.Core.Option as maybe
+use lib.ListN.{get_elem?}
+use Rattle.atomic_table.specs.Table.{State, Me, Act, Valid, carried_after, keeps, takes, gives, step, stepped, Allows, Splits, Joins, opening}
+use Rattle.atomic_table.proofs.Lists.{exchanged, set_else}
+use Rattle.mps_room.specs.Kept.{Record}
+use Rattle.mps_room.specs.declared.entry.Entry.{Entry}
+use Rattle.mps_cell.specs.Openings.{Opening, opening_of, room_of, IsLegalIn}
+use Rattle.mps_cell.specs.Views.{Part, View, newcomers, first_view, part_of, looked, took, gave, without_first_part, first_part_alone, without_first, first_alone, spent}
+use Rattle.mps_cell.specs.Rule.{Kept, Rests, AllShow, AllHere, AllOther, AllApart, noted_by, word_of, home_of, holding, resting, Told, Looks, Tries, Gives}
+use Rattle.mps_cell.proofs.Lists.{inside, at_end, seats_stay, raise_all, raise_here, raise_apart, Grows, grow_all, elsewhere, moved, moved_here, still_here}
+
+abbrev St : Type 0
+St = State Record View
+
+abbrev M : Type 0
+M = Me Record View
+
+word_half : (a : Option ℕ) (j : List Entry) → word_of a j / 2 ≡ length j
+word_half None j = omega arith
+word_half (Some t) j = omega arith
+
+home_at_even : (a : Option ℕ) (j : List Entry) → word_of a j % 2 ≡ 0 → a ≡ None
+home_at_even None j e = refl
+home_at_even (Some t) j e = absurd (omega arith)
+
+word_is : (o : Opening) (s : St) (r : Kept o s) → get_or s.words 0 0 ≡ word_of r.away r.log
+word_is o s r = ap (λ ws. get_or ws 0 0) r.words
+
+-- what a seat is told of the journal
+told : (o : Opening) (s : St) (r : Kept o s) (id : ℕ) (v : View) → get_elem? s.views id ≡ maybe.some v → Told v (get_or s.words 0 0) r.log
+told o s r id v at = let n = word_is o s r in let h = word_half r.away r.log in
+    (sym h ∙ ap (λ (k : ℕ). k / 2) (sym n), (r.seats id v at).shows, (r.seats id v at).apart)
+
+-- a step that looks, and changes no word
+unmoved : (o : Opening) (s : St) (r : Kept o s) (id : ℕ) (me : M) (b : Bool) → get_elem? s.views id ≡ maybe.some me.0
+    → Kept o (stepped s 0 (get_or s.words 0 0) id me.1 (looked (get_or s.words 0 0) b me.0) keeps)
+unmoved o s r id me b at = let n : ℕ = get_or s.words 0 0 in let mine = r.seats id me.0 at in let t : n / 2 ≡ length r.log = sym (told o s r id me.0 at).0 in record {
+  log = r.log;
+  away = r.away;
+  owner = r.owner;
+  legal = r.legal;
+  words = ap (λ ws. set ws 0 (get_or ws 0 0)) r.words;
+  homes = r.homes;
+  placed = λ t e. let p = r.placed t e in omega (arith, length-set s.views id (looked n b me.0));
+  seats = seats_stay (Rests o r.log r.away r.owner) s.views id (looked n b me.0) record {
+    shows = raise_all r.log (n / 2) me.0.parts (omega arith) mine.shows;
+    here = raise_here o r.owner id (n / 2) me.0.parts mine.here;
+    apart = raise_apart (n / 2) me.0.parts mine.apart;
+    noted = mine.noted;
+  } (λ j d _. r.seats j d);
+}
+
+pub looks : (o : Opening) (slots id : ℕ) (me : M) → Allows (Kept o) slots id me 0 (λ n. n) (Looks (step slots 0 0 0 maybe.none) me)
+looks o slots id me s r _ at _ = let n : ℕ = get_or s.words 0 0 in
+    (looked n (n % 2 == 1) me.0, keeps, tt, unmoved o s r id me (n % 2 == 1) at, ((r.log, told o s r id me.0 at), refl))
+
+noted_else : (t i : ℕ) (j : List Entry) → i ≢ t → noted_by (Some t) i j ≡ None
+noted_else t i j apart = ap (λ (b : Bool). if b then Some j else None) (ne_eqb t i (λ e. apart (sym e)))
+
+noted_here : (t : ℕ) (j : List Entry) → noted_by (Some t) t j ≡ Some j
+noted_here t j = ap (λ (b : Bool). if b then Some j else None) (eq-eqb t t refl)
+
+pub tries : (o : Opening) (slots id : ℕ) (me : M) (p : Part) (ps : List Part) (old new : ℕ) → me.0.parts ≡ p ∷ ps → old % 2 ≡ 0 → new ≡ old + 1
+    → Allows (Kept o) slots id me 0 (λ n. if n == old then new else n) (Tries (step slots 0 old new maybe.none) me)
+tries o slots id me p ps old new some_part even next s r _ at _ = let n : ℕ = get_or s.words 0 0 in let late : Bool = old == 2 * (part_of me.0.parts).floor in let mine = r.seats id me.0 at in
+    let F : ℕ → Type 0 = λ k. (w : View) × (a : Act Record) × Valid s.homes me.1 a × Kept o (stepped s 0 k id me.1 w a)
+    × Tries (step slots 0 old new maybe.none) me n (w, carried_after me.1 a) in
+    exchanged n old new F
+    (λ hit. let w : View = took r.log me.0 in let y : Record = room_of (part_of me.0.parts).opening r.log in
+    let here : AllHere o r.owner id (p ∷ ps) = subst (AllHere o r.owner id) some_part mine.here in
+    let opening : (part_of me.0.parts).opening ≡ o = ap (λ l. (part_of l).opening) some_part ∙ here.0.0 in
+    let out : r.away ≡ None = home_at_even r.away r.log (ap (λ (k : ℕ). k % 2) (sym (word_is o s r) ∙ hit) ∙ even) in
+    let homes : s.homes ≡ maybe.some (room_of o r.log) ∷ [] = r.homes ∙ ap (λ (a : Option ℕ). home_of o a r.log ∷ []) out in
+    let word : n ≡ 2 * length r.log = word_is o s r ∙ ap (λ (a : Option ℕ). word_of a r.log) out in (
+      w,
+      takes 0 y,
+      ap (λ (hs : List (maybe.Option Record)). get_elem? hs 0) homes ∙ ap (λ (m : Opening). maybe.some (maybe.some (room_of m r.log))) (sym opening),
+      record {
+        log = r.log;
+        away = Some id;
+        owner = r.owner;
+        legal = r.legal;
+        words = ap (λ (ws : List ℕ). set ws 0 new) r.words ∙ ap (λ (k : ℕ). k ∷ []) (let z : new ≡ 2 * length r.log + 1 = omega arith in z);
+        homes = ap (λ (hs : List (maybe.Option Record)). set hs 0 maybe.none) homes;
+        placed = λ t e. let i = inside s.views id me.0 at in let same : id ≡ t = cc in omega (arith, length-set s.views id w);
+        seats = seats_stay (Rests o r.log (Some id) r.owner) s.views id w record {
+          shows = mine.shows;
+          here = mine.here;
+          apart = mine.apart;
+          noted = sym (noted_here id r.log);
+        } (λ j d other there. let old = r.seats j d there in record {
+          shows = old.shows;
+          here = old.here;
+          apart = old.apart;
+          noted = old.noted ∙ (ap (λ (a : Option ℕ). noted_by a j r.log) out ∙ sym (noted_else id j r.log other));
+        });
+      },
+      ((λ _. (r.log, told o s r id me.0 at, refl)), λ differs. absurd (differs hit)),
+    ))
+    (λ miss. (
+      looked n late me.0,
+      keeps,
+      tt,
+      unmoved o s r id me late at,
+      ((λ hit. absurd (miss hit)), λ _. ((r.log, told o s r id me.0 at), refl)),
+    ))
+
+noted_is_by : (t i : ℕ) (k j : List Entry) (b : Bool) → (t == i) ≡ b → Some k ≡ (if b then Some j else None) → (Some t ≡ Some i) × (k ≡ j)
+noted_is_by t i k j true b e = (ap (λ (x : ℕ). Some x) (eqb-true t i b), cc)
+noted_is_by t i k j false b e = absurd cc
+
+noted_is : (a : Option ℕ) (i : ℕ) (k j : List Entry) → Some k ≡ noted_by a i j → (a ≡ Some i) × (k ≡ j)
+noted_is None i k j e = absurd cc
+noted_is (Some t) i k j e = noted_is_by t i k j (t == i) refl e
+
+pub gives_back : (o : Opening) (slots id : ℕ) (p : Part) (k j : List Entry) (new : ℕ) → Grows p.role k j → IsLegalIn p.opening j → new ≡ 2 * length j
+    → Allows (Kept o) slots id (holding p k (room_of p.opening j)) 0 (λ _. new) (λ _. Gives (step slots 0 new 0 maybe.none) (holding p k (room_of p.opening j)) new)
+gives_back o slots id p k j new grows legal is s r _ at _ =
+    let v : View = (holding p k (room_of p.opening j)).0 in let w : View = gave j v in let mine = r.seats id v at in
+    let was = noted_is r.away id k r.log mine.noted in let opening : p.opening ≡ o = mine.here.0.0 in
+    let now : IsLegalIn o j = subst (λ (m : Opening). IsLegalIn m j) opening legal in (
+      w,
+      gives,
+      tt,
+      record {
+        log = j;
+        away = None;
+        owner = r.owner;
+        legal = now;
+        words = ap (λ (ws : List ℕ). set ws 0 new) r.words ∙ ap (λ (n : ℕ). n ∷ []) is;
+        homes = ap (λ (hs : List (maybe.Option Record)). set hs 0 (maybe.some (room_of p.opening j))) r.homes ∙ ap (λ (m : Opening). maybe.some (room_of m j) ∷ []) opening;
+        placed = λ t e. absurd cc;
+        seats = seats_stay (Rests o j None r.owner) s.views id w record {
+          shows = (record { legal = legal; begins = ([], sym (append-nil j)); reached = le_refl (length j); own = refl; all_seen = refl }, tt);
+          here = mine.here;
+          apart = mine.apart;
+          noted = refl;
+        } (λ i d other there. let old = r.seats i d there in record {
+          shows = grow_all o r.owner i p.role k j grows now d.parts old.here (elsewhere o r.owner p.role id i mine.here.0.1 other d.parts old.here) (subst (λ (l : List Entry). AllShow l d.parts) (sym was.1) old.shows);
+          here = old.here;
+          apart = old.apart;
+          noted = old.noted ∙ (ap (λ (a : Option ℕ). noted_by a i r.log) was.0 ∙ noted_else id i r.log other);
+        });
+      },
+      refl,
+    )
+
+unnoted : (a : Option ℕ) (n : ℕ) (j : List Entry) → ((t : ℕ) → a ≡ Some t → t < n) → noted_by a n j ≡ None
+unnoted None n j below = refl
+unnoted (Some t) n j below = let h = below t refl in noted_else t n j (λ e. omega arith)
+
+abbrev pub pair : Part → Part → Bool → M
+pair p q b = (record { parts = p ∷ q ∷ []; noted = None; barred = b }, [])
+
+-- a role that rested on the seat id moves to the seat `to`, and the other seats stay
+others_stay : (o : Opening) (j : List Entry) (away : Option ℕ) (owner : ℕ → ℕ) (role to id : ℕ) → owner role ≡ id → (i : ℕ) (x : View) → i ≢ id → Rests o j away owner i x → Rests o j away (moved owner role to) i x
+others_stay o j away owner role to id is i x differs r = record {
+  shows = r.shows;
+  here = still_here o owner role to i x.parts (elsewhere o owner role id i is differs x.parts r.here) r.here;
+  apart = r.apart;
+  noted = r.noted;
+}
+
+pub deals : (o : Opening) (id : ℕ) (v : View) (p : Part) (ps : List Part) → v.parts ≡ p ∷ ps → Splits (Kept o) id v (without_first v) (first_alone v)
+deals o id v p ps is s r at =
+    let mine = r.seats id v at in let n : ℕ = length s.views in let left : View = without_first v in let right : View = first_alone v in let vs : List View = set s.views id left in
+    let n_is : length vs ≡ n = length-set s.views id left in
+    let to : ℕ → ℕ = moved r.owner p.role n in let K : ℕ → View → Type 0 = Rests o r.log r.away to in
+    let shown : AllShow r.log (p ∷ ps) = subst (AllShow r.log) is mine.shows in let here : AllHere o r.owner id (p ∷ ps) = subst (AllHere o r.owner id) is mine.here in
+    let apart : AllApart (p ∷ ps) = subst AllApart is mine.apart in
+    let lefts : left.parts ≡ ps = ap without_first_part is in let rights : right.parts ≡ p ∷ [] = ap first_part_alone is in
+    let new : K n right = record {
+      shows = subst (AllShow r.log) (sym rights) (shown.0, tt);
+      here = subst (AllHere o to n) (sym rights) ((here.0.0, moved_here r.owner p.role n), tt);
+      apart = subst AllApart (sym rights) (tt, tt);
+      noted = sym (unnoted r.away n r.log r.placed);
+    } in record {
+      log = r.log;
+      away = r.away;
+      owner = to;
+      legal = r.legal;
+      words = r.words;
+      homes = r.homes;
+      placed = λ t e. let h = r.placed t e in omega (arith, n_is, length-append vs (right ∷ []));
+      seats = λ j d e. ⊎_elim
+          (λ there. seats_stay K s.views id left record {
+            shows = subst (AllShow r.log) (sym lefts) shown.1;
+            here = subst (AllHere o to id) (sym lefts) (still_here o r.owner p.role n id ps apart.0 here.1);
+            apart = subst AllApart (sym lefts) apart.1;
+            noted = mine.noted;
+          } (λ i x differs at_i. others_stay o r.log r.away r.owner p.role n id here.0.1 i x differs (r.seats i x at_i)) j d there)
+          (λ (last : (j ≡ length vs) × (right ≡ d)). subst (λ (x : ℕ × View). K x.0 x.1) (λ i. (sym (last.0 ∙ n_is) i, last.1 i)) new)
+          (at_end vs right d j e);
+    }
+
+-- a seat with two parts keeps the first
+pub divides : (o : Opening) (id : ℕ) (p q : Part) (b : Bool) → Splits (Kept o) id (pair p q b).0 (resting p b).0 (resting q false).0
+divides o id p q b s r at =
+    let v : View = (pair p q b).0 in let mine = r.seats id v at in let n : ℕ = length s.views in let left : View = (resting p b).0 in let right : View = (resting q false).0 in let vs : List View = set s.views id left in
+    let n_is : length vs ≡ n = length-set s.views id left in
+    let to : ℕ → ℕ = moved r.owner q.role n in let K : ℕ → View → Type 0 = Rests o r.log r.away to in
+    let differs : p.role ≢ q.role = λ e. mine.apart.0.0 (sym e) in
+    let new : K n right = record {
+      shows = (mine.shows.1.0, tt);
+      here = ((mine.here.1.0.0, moved_here r.owner q.role n), tt);
+      apart = (tt, tt);
+      noted = sym (unnoted r.away n r.log r.placed);
+    } in record {
+      log = r.log;
+      away = r.away;
+      owner = to;
+      legal = r.legal;
+      words = r.words;
+      homes = r.homes;
+      placed = λ t e. let h = r.placed t e in omega (arith, n_is, length-append vs (right ∷ []));
+      seats = λ j d e. ⊎_elim
+          (λ there. seats_stay K s.views id left record {
+            shows = (mine.shows.0, tt);
+            here = still_here o r.owner q.role n id (p ∷ []) (differs, tt) (mine.here.0, tt);
+            apart = (tt, tt);
+            noted = mine.noted;
+          } (λ i x other at_i. others_stay o r.log r.away r.owner q.role n id mine.here.1.0.1 i x other (r.seats i x at_i)) j d there)
+          (λ (last : (j ≡ length vs) × (right ≡ d)). subst (λ (x : ℕ × View). K x.0 x.1) (λ i. (sym (last.0 ∙ n_is) i, last.1 i)) new)
+          (at_end vs right d j e);
+    }
+
+-- a seat with one part takes in another's
+pub gathers : (o : Opening) (id other : ℕ) (p q : Part) (b b' : Bool) → Joins (Kept o) id (resting p b).0 other (resting q b').0 (pair p q b).0 spent
+gathers o id other p q b b' s r at apart at' =
+    let both : View = (pair p q b).0 in let vs : List View = set s.views id both in
+    let there : get_elem? s.views other ≡ maybe.some (resting q b').0 = sym (set_else s.views id other both apart) ∙ at' in
+    let mine = r.seats id (resting p b).0 at in let its = r.seats other (resting q b').0 there in
+    let to : ℕ → ℕ = moved r.owner q.role id in let K : ℕ → View → Type 0 = Rests o r.log r.away to in
+    let differs : p.role ≢ q.role = λ e. apart (sym its.here.0.1 ∙ (sym (ap r.owner e) ∙ mine.here.0.1)) in record {
+      log = r.log;
+      away = r.away;
+      owner = to;
+      legal = r.legal;
+      words = r.words;
+      homes = r.homes;
+      placed = λ t e. let h = r.placed t e in omega (arith, length-set s.views id both, length-set vs other spent);
+      seats = seats_stay K vs other spent record { shows = tt; here = tt; apart = tt; noted = its.noted }
+          (λ j d not_other at_j. seats_stay (λ i x. i ≢ other → K i x) s.views id both
+          (λ _. record {
+            shows = (mine.shows.0, (its.shows.0, tt));
+            here = ((mine.here.0.0, ap (λ (c : Bool). if c then id else r.owner p.role) (ne_eqb p.role q.role differs) ∙ mine.here.0.1), ((its.here.0.0, moved_here r.owner q.role id), tt));
+            apart = (((λ e. differs (sym e)), tt), (tt, tt));
+            noted = mine.noted;
+          })
+          (λ i x _ at_i away. others_stay o r.log r.away r.owner q.role id other its.here.0.1 i x away (r.seats i x at_i)) j d at_j not_other);
+    }
+
+newcomers_show : (o : Opening) (role n : ℕ) → AllShow [] (newcomers o role n)
+newcomers_show o role zero = tt
+newcomers_show o role (suc n) = (record { legal = record { few = omega arith; each = tt }; begins = ([], refl); reached = omega arith; own = refl; all_seen = refl }, newcomers_show o (role + 1) n)
+
+newcomers_here : (o : Opening) (role n : ℕ) → AllHere o (λ _. 0) 0 (newcomers o role n)
+newcomers_here o role zero = tt
+newcomers_here o role (suc n) = ((refl, refl), newcomers_here o (role + 1) n)
+
+newcomers_other : (o : Opening) (role from n : ℕ) → role < from → AllOther role (newcomers o from n)
+newcomers_other o role from zero h = tt
+newcomers_other o role from (suc n) h = ((λ e. omega arith), newcomers_other o role (from + 1) n (omega arith))
+
+newcomers_apart : (o : Opening) (role n : ℕ) → AllApart (newcomers o role n)
+newcomers_apart o role zero = tt
+newcomers_apart o role (suc n) = (newcomers_other o role (role + 1) n (omega arith), newcomers_apart o (role + 1) n)
+
+first_rests : (o : Opening) (seat : ℕ) (v : View) → get_elem? (first_view o ∷ []) seat ≡ maybe.some v → Rests o [] None (λ _. 0) seat v
+first_rests o zero v e = subst (Rests o [] None (λ _. 0) 0) (maybe.some-injective (first_view o) v e) record { shows = newcomers_show o 0 (length o.types); here = newcomers_here o 0 (length o.types); apart = newcomers_apart o 0 (length o.types); noted = refl }
+first_rests o (suc j) v e = absurd (maybe.some-ne-none v (sym e))
+
+pub opens : (o : Opening) → Kept o (opening (0 ∷ []) (room_of o [] ∷ []) (first_view o))
+opens o = record {
+  log = [];
+  away = None;
+  owner = λ _. 0;
+  legal = record { few = omega arith; each = tt };
+  words = refl;
+  homes = refl;
+  placed = λ t e. absurd cc;
+  seats = first_rests o;
+}
+
+pub opens_with : (m x : Record) (n : ℕ) (items rest : List Record) → m.journal ≡ [] → x ≡ m → items ≡ rest ++ m ∷ [] → rest ≡ [] → Kept (opening_of x n) (opening (0 ∷ []) items (first_view (opening_of x n)))
+opens_with m x n items rest blank is now none_else =
+    let P : Record × List Record → Type 0 = λ y. Kept (opening_of y.0 n) (opening (0 ∷ []) y.1 (first_view (opening_of y.0 n))) in
+    let e : items ≡ m ∷ [] = now ∙ ap (λ l. l ++ m ∷ []) none_else in
+    let new : room_of (opening_of m n) [] ≡ m = ap (λ (j : List Entry). room_of (opening_of m n) j) (sym blank) in
+    subst P (λ i. (sym is i, sym e i)) (subst (λ (y : Record). P (m, y ∷ [])) new (opens (opening_of m n)))

@@ -1,0 +1,9 @@
+pub mod Lists
+pub mod Keeping
+pub mod Taking
+pub mod Answering
+pub mod Dealing
+pub mod Pairing
+pub mod Numbering
+pub mod Faithful
+pub mod Crossing

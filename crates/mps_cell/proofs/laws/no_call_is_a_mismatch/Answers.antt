@@ -1,0 +1,5 @@
+use Rattle.mps_cell.proofs.Faithful.{call_other}
+use Rattle.mps_cell.proofs.laws.no_call_is_a_mismatch.Goals as goal
+
+pub returns : goal.returns
+returns c = record { other = call_other }

@@ -1,0 +1,10 @@
+use Rattle.std.proofs.Common.{◌≡◌}
+use Rattle.std.specs.List.{All}
+use Rattle.mps_cell.specs.Calls.{Known}
+use Rattle.mps_cell.proofs.tests.equals.Given as goal
+
+abbrev pub invariant-loop-i : goal.invariant-loop-i
+invariant-loop-i l = record {
+  first : l.first.cell ≡ l.cell.cell;
+  others : All (λ (p : Known). p.cell ≡ l.cell.cell) l.others;
+}

@@ -1,0 +1,38 @@
+-- How a cell is opened, and the rooms that it may have.
+use Rattle.std.specs.Prelude.{ℕ, List, []}
+use Rattle.mps_command.specs.declared.answer.Answer.{Answer}
+use Rattle.mps_command.specs.declared.command.Command.{Command}
+use Rattle.mps_local.specs.Local.{LocalType}
+use Rattle.mps_room.specs.Journal.{reply, IsReply, IsLegal}
+use Rattle.mps_room.specs.Kept.{Record}
+use Rattle.mps_room.specs.declared.entry.Entry.{Entry}
+
+-- what a cell was opened with: the names and the opening types of the roles, and the number of its session
+pub record Opening : Type 0 where
+  pub names : List (List ℕ)
+  pub types : List LocalType
+  pub session : ℕ
+
+-- the opening of a cell that begins with this room and this number
+abbrev pub opening_of : Record → ℕ → Opening
+opening_of m n = record { names = m.names; types = m.types; session = n }
+
+-- the room of this opening with this journal
+abbrev pub room_of : Opening → List Entry → Record
+room_of o j = record { names = o.names; types = o.types; journal = j }
+
+-- the journal is legal in a room of this opening
+abbrev pub IsLegalIn : Opening → List Entry → Type 0
+IsLegalIn o j = IsLegal o.names o.types j
+
+-- the answer to the role's command after the journal
+abbrev pub reply_in : Opening → List Entry → ℕ → Command → Answer
+reply_in o j role c = reply o.names o.types j role c
+
+-- the answer is that one, but memory may run out where it refuses nothing
+abbrev pub IsReplyIn : Opening → List Entry → ℕ → Command → Answer → Type 0
+IsReplyIn o j role c a = IsReply a (reply_in o j role c)
+
+-- an opening without roles
+abbrev pub nowhere : Opening
+nowhere = record { names = []; types = []; session = 0 }

@@ -1,0 +1,69 @@
+//! A pass that gives a role's commands.
+
+use crate::pass::Pass;
+use mps_base::Roles;
+use mps_room::{Answer, Caller, Command, Place, Told};
+use std::sync::Wait;
+
+/// A pass, with what it waits by.
+#[derive(Drop)]
+pub struct Held<'r, 'a, R: Wait> {
+    pub rt: &'r R,
+    pub pass: Pass<'a>,
+}
+
+impl<'r, 'a, R: Wait> Caller for Held<'r, 'a, R> {
+    ghost use Rattle.std.proofs.Common.{ap};
+    ghost use Rattle.mps_room.specs.Numbers.{last_of, kept_of};
+    ghost use Rattle.mps_cell.specs.Openings.{Opening};
+    ghost use Rattle.mps_cell.specs.Calls.{Calls, calls_grow};
+
+    ghost names = { λ h. h.pass.opening.names };
+
+    ghost role = { λ h. h.pass.role };
+
+    ghost made = { λ h. h.pass.made };
+
+    ghost calls = { λ h c a k. Calls h.pass c a k.pass };
+
+    ghost last = { λ h. last_of h.pass.newest };
+
+    ghost kept = { λ h. kept_of h.pass.newest };
+
+    fn roles(&self) -> &Roles {
+        self.pass.names()
+    }
+
+    fn call(&mut self, command: Command) -> Answer {
+        self.pass.call(self.rt, command)
+    }
+
+    fn last(&self) -> u64 {
+        self.pass.numbers().last()
+    }
+
+    fn kept(&self) -> Option<&Answer> {
+        self.pass.numbers().kept()
+    }
+
+    fn call_numbered(&mut self, number: u64, command: Command) -> Told {
+        match self.pass.numbers().place(number) {
+            Place::Last => return Told::Kept,
+            Place::Elsewhere => return Told::Wrong,
+            Place::Next => {}
+        }
+        match self.pass.call(self.rt, command) {
+            Answer::Refused(refusal) => Told::Refused(refusal),
+            answer => {
+                self.pass.keep(number, answer);
+                Told::Fresh
+            }
+        }
+    }
+
+    ghost same_names = { λ h c a k t. ap (λ (o : Opening). o.names) t.pass.opening };
+
+    ghost same_role = { λ h c a k t. t.pass.role };
+
+    ghost grows = { λ h c a k t. calls_grow h.pass c a k.pass t };
+}

@@ -1,0 +1,30 @@
+//! Two seats meet.
+ghost use Rattle.std.specs.Prelude.{◌≡◌};
+ghost use Rattle.mps_cell.specs.Rule.{IsFree, Met};
+
+use crate::pass::Table;
+use crate::rule::{CutFirst, Divide, Gather, Look};
+use crate::view::View;
+use atomic_table::Seat;
+use mps_room::Room;
+
+// The first seat has both parts for one look, and then the second has its own back.
+pub(crate) fn meet_seats(
+    shared: &Table,
+    first: &mut Seat<Room, View>,
+    second: &mut Seat<Room, View>,
+)
+    requires first { first.old.table_id ≡ shared.now.table_id }
+    requires second { second.old.table_id ≡ shared.now.table_id }
+    requires word { shared.now.table_id.words ≡ 1 }
+    requires first_free { IsFree first.old.me }
+    requires second_free { IsFree second.old.me }
+    ensures first { first.new.table_id ≡ first.old.table_id }
+    ensures second { second.new.table_id ≡ second.old.table_id }
+    ensures met { Met first.old.me second.old.me first.new.me second.new.me }
+{
+    let other = shared.split_seat::<CutFirst>(second);
+    shared.join_seat::<Gather>(first, other);
+    shared.load::<Look>(first, 0);
+    *second = shared.split_seat::<Divide>(first);
+}

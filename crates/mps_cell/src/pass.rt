@@ -1,0 +1,261 @@
+//! Passes, with which the roles of a session call it.
+ghost use Rattle.std.specs.Prelude.{◌≡◌, ◌<◌, ◌≤◌, length, true, false, OnOk, OnErr, IfOk, IfErr, Some, None};
+ghost use Rattle.std.specs.Ordering.{nat_cmp};
+ghost use Rattle.mps_cell.specs.Views.{part_of, newcomer};
+ghost use Rattle.mps_cell.specs.Rule.{IsFree, resting};
+ghost use Rattle.mps_cell.specs.Calls.{Calls, KeepsSeen, IsTold, known, carried};
+ghost use Rattle.mps_cell.specs.Meetings.{HasSeen, ReachesBoth};
+ghost use Rattle.mps_cell.specs.Cells.{fresh};
+
+use crate::meeting::meet_seats;
+use crate::origin::Origin;
+use crate::rule::{Journaled, Look};
+use crate::turns::{attempt, finish, take};
+use crate::view::View;
+use atomic_table::{Seat, Shared};
+use mps_base::{Role, Roles};
+use mps_room::{Answer, Command, Numbers, Room};
+use std::cmp::Ordering;
+use std::marker::Model;
+use std::sync::Wait;
+use std::sync::atomic::AtomicU64;
+
+/// The table of a cell, as its passes share it.
+pub type Table = Shared<Room, View, Origin, Journaled>;
+
+/// The one pass of a role, with which it calls its cell. It may go to any thread.
+#[derive(Drop)]
+pub struct Pass<'a> {
+    shared: &'a Table,
+    // how many calls sleep until the room is back
+    waiting: &'a AtomicU64,
+    names: &'a Roles,
+    seat: Seat<Room, View>,
+    role: Role,
+    seen: u64,
+    numbers: Numbers,
+}
+
+impl<'a> Model for Pass<'a> {
+    ghost use Rattle.mps_cell.specs.Calls.{Known, IsSeated, known, carried};
+    ghost use Rattle.std.specs.Coded.{codes};
+    ghost use Rattle.mps_local.specs.Codes.{coded_local};
+
+    ghost Value = { Known };
+
+    ghost coded = { Prim.hlevel (codes, coded_local) };
+
+    ghost view = { λ p. carried (known p.seat.table_id p.seat.me.0) p.numbers.newest };
+
+    ghost invariant = { λ p. IsSeated p.seat.table_id p.seat.me p.shared.now.table_id p.role p.seen p.names.now };
+}
+
+/// Something that runs while the room is out.
+pub trait Pause {
+    fn pause(&mut self);
+}
+
+/// No pause.
+#[derive(Drop)]
+pub struct Straight;
+
+impl Pause for Straight {
+    fn pause(&mut self) {}
+}
+
+/// The room was out, or another call came between the look and the try. The word showed that the journal has `found`
+/// entries.
+#[derive(Clone, Copy, Debug, PartialEq, Eq)]
+pub struct Busy {
+    pub found: u64,
+}
+
+/// What a pass knew when it left its cell.
+#[derive(Drop)]
+pub struct Leave {
+    seat: Seat<Room, View>,
+}
+
+impl Model for Leave {
+    ghost use Rattle.mps_cell.specs.Calls.{Known, known};
+    ghost use Rattle.mps_cell.specs.Rule.{IsFree};
+    ghost use Rattle.std.specs.Coded.{codes};
+    ghost use Rattle.mps_local.specs.Codes.{coded_local};
+
+    ghost Value = { Known };
+
+    ghost coded = { Prim.hlevel (codes, coded_local) };
+
+    ghost view = { λ p. known p.seat.table_id p.seat.me.0 };
+
+    ghost invariant = { λ p. IsFree p.seat.me };
+}
+
+impl Leave {
+    // The seat by itself.
+    pub(crate) fn into_seat(self) -> Seat<Room, View>
+        ensures free { IsFree result.me }
+        ensures known { self ≡ known result.table_id result.me.0 }
+    {
+        let Leave { seat } = self;
+        seat
+    }
+}
+
+impl<'a> Pass<'a> {
+    // The pass of a role that rests on this seat, as it is dealt.
+    pub(crate) fn fresh(
+        shared: &'a Table,
+        waiting: &'a AtomicU64,
+        names: &'a Roles,
+        seat: Seat<Room, View>,
+        role: Role,
+    ) -> Pass<'a>
+        requires cell { seat.table_id ≡ shared.now.table_id }
+        requires word { shared.now.table_id.words ≡ 1 }
+        requires names { names.now ≡ (part_of seat.me.0.parts).opening.names }
+        requires seat { seat.me ≡ resting (newcomer (part_of seat.me.0.parts).opening role) false }
+        requires some { role < length (part_of seat.me.0.parts).opening.types }
+        ensures fresh { result ≡ fresh seat.table_id (part_of seat.me.0.parts).opening role }
+    {
+        Pass {
+            shared,
+            waiting,
+            names,
+            seat,
+            role,
+            seen: 0,
+            numbers: Numbers::new(),
+        }
+    }
+
+    /// Calls the room for the role, and is answered. It waits for its turn, and no clause says that the turn comes.
+    pub fn call<R: Wait>(&mut self, rt: &R, command: Command) -> Answer
+        ensures call { Calls self.old command result self.new }
+        ensures numbers { self.new.newest ≡ self.old.newest }
+    {
+        self.call_with(rt, command, &mut Straight)
+    }
+
+    /// The same, with a pause between taking the room and answering in it.
+    pub fn call_with<R: Wait, P: Pause>(
+        &mut self,
+        rt: &R,
+        command: Command,
+        pause: &mut P,
+    ) -> Answer
+        ensures call { Calls self.old command result self.new }
+        ensures numbers { self.new.newest ≡ self.old.newest }
+    {
+        take(rt, self.shared, self.waiting, &mut self.seat);
+        pause.pause();
+        let (answer, entries) = finish(
+            self.shared,
+            self.waiting,
+            &mut self.seat,
+            self.role,
+            command,
+        );
+        self.seen = entries;
+        answer
+    }
+
+    /// Calls the room if it is at home. It takes one look and one try, and never waits.
+    pub fn try_call(&mut self, command: Command) -> Result<Answer, Busy>
+        ensures call { IfOk result (λ answer. Calls self.old command answer self.new) }
+        ensures numbers { OnOk result (self.new.newest ≡ self.old.newest) }
+        ensures busy { IfErr result (λ busy. IsTold self.old busy.found self.new) }
+        ensures barred { OnErr result (self.new.barred ≡ true) }
+    {
+        let (found, won) = attempt(self.shared, &mut self.seat);
+        if !won {
+            return Err(Busy { found });
+        }
+        let (answer, entries) = finish(
+            self.shared,
+            self.waiting,
+            &mut self.seat,
+            self.role,
+            command,
+        );
+        self.seen = entries;
+        Ok(answer)
+    }
+
+    /// How many entries the journal has by now. It never waits, and takes no memory.
+    pub fn front(&mut self) -> u64
+        ensures told { IsTold self.old result self.new }
+    {
+        let word = self.shared.load::<Look>(&mut self.seat, 0);
+        word / 2
+    }
+
+    /// How many entries the journal had that the last call showed.
+    pub fn seen(&self) -> u64
+        ensures seen { result ≡ length self.now.seen }
+    {
+        self.seen
+    }
+
+    /// The role that it calls for.
+    pub fn role(&self) -> Role
+        ensures role { result ≡ self.now.role }
+    {
+        self.role
+    }
+
+    /// The names of the roles.
+    pub fn names(&self) -> &Roles
+        ensures names { result.now ≡ self.now.opening.names }
+    {
+        self.names
+    }
+
+    /// The newest of its numbered commands that was accepted.
+    pub fn numbers(&self) -> &Numbers
+        ensures numbers { result.now.newest ≡ self.now.newest }
+    {
+        &self.numbers
+    }
+
+    // Keeps the answer to a numbered command under its number.
+    pub(crate) fn keep(&mut self, number: u64, answer: Answer)
+        ensures keep { self.new ≡ carried self.old (Some (record { number = number; answer = answer })) }
+    {
+        self.numbers.keep(number, answer);
+    }
+
+    /// What the pass knows, without the borrow of its cell. Its numbered command is dropped.
+    pub fn leave(self) -> Leave
+        ensures known { result ≡ carried self.entry None }
+    {
+        let Pass {
+            shared: _,
+            waiting: _,
+            names: _,
+            seat,
+            role: _,
+            seen: _,
+            numbers: _,
+        } = self;
+        Leave { seat }
+    }
+}
+
+/// Compares what two passes of one cell have seen. What the one has seen begins what the other has. It never waits,
+/// and takes no memory.
+pub fn meet(first: &mut Pass<'_>, second: &mut Pass<'_>) -> Ordering
+    requires cell { second.old.cell ≡ first.old.cell }
+    ensures first { KeepsSeen first.old first.new }
+    ensures second { KeepsSeen second.old second.new }
+    ensures order { result ≡ nat_cmp (length first.old.seen) (length second.old.seen) }
+    ensures shorter { length first.old.seen ≤ length second.old.seen
+        → HasSeen first.old second.old }
+    ensures longer { length second.old.seen ≤ length first.old.seen
+        → HasSeen second.old first.old }
+    ensures floor { ReachesBoth first.old second.old first.new.floor }
+    ensures same_floor { second.new.floor ≡ first.new.floor }
+{
+    meet_seats(first.shared, &mut first.seat, &mut second.seat);
+    first.seen.cmp(&second.seen)
+}

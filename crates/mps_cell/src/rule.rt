@@ -1,0 +1,79 @@
+//! The rule of a cell's table, and what each step tells the seat that takes it.
+
+use crate::origin::Origin;
+use crate::view::View;
+use atomic_table::{Join, Play, Split, TableRule};
+use mps_room::Room;
+
+/// The rule: there is one legal journal, whose length the word shows, and what each seat knows of it is true.
+pub struct Journaled;
+
+impl TableRule<Room, View, Origin> for Journaled {
+    ghost use Rattle.mps_cell.specs.Origins.{opening_in};
+    ghost use Rattle.mps_cell.specs.Rule.{Kept};
+    ghost use Rattle.mps_cell.specs.Views.{first_view};
+
+    ghost holds = { λ k. Kept (opening_in k) };
+
+    ghost first = { λ k. first_view (opening_in k) };
+}
+
+/// A look at the word.
+pub(crate) struct Look;
+
+impl Play<Room, View> for Look {
+    ghost use Rattle.mps_cell.specs.Rule.{Looks};
+
+    ghost then = { Looks };
+}
+
+/// A try to take the room.
+pub(crate) struct Take;
+
+impl Play<Room, View> for Take {
+    ghost use Rattle.mps_cell.specs.Rule.{Tries};
+
+    ghost then = { Tries };
+}
+
+/// The room is given back, with one entry more or as it was.
+pub(crate) struct Give;
+
+impl Play<Room, View> for Give {
+    ghost use Rattle.mps_cell.specs.Rule.{Gives};
+
+    ghost then = { Gives };
+}
+
+/// The first part of a seat goes to a new seat.
+pub(crate) struct CutFirst;
+
+impl Split<View> for CutFirst {
+    ghost use Rattle.mps_cell.specs.Views.{without_first, first_alone};
+
+    ghost left = { without_first };
+
+    ghost right = { first_alone };
+}
+
+/// The parts of the second seat go to the first.
+pub(crate) struct Gather;
+
+impl Join<View> for Gather {
+    ghost use Rattle.mps_cell.specs.Views.{both_parts, spent};
+
+    ghost both = { both_parts };
+
+    ghost spent = { spent };
+}
+
+/// The first part of a seat stays, and the others go to a new seat.
+pub(crate) struct Divide;
+
+impl Split<View> for Divide {
+    ghost use Rattle.mps_cell.specs.Views.{first_stays, others_go};
+
+    ghost left = { first_stays };
+
+    ghost right = { others_go };
+}
