@@ -50,8 +50,8 @@ impl Reply {
         }
     }
 
-    /// Whether the reply has a text, which each reply has. It takes no memory, so it can be asked where there is none left
-    /// to write the text.
+    /// Whether the reply has a text, which each reply has. It takes no memory, so it can be asked where
+    /// there is none left to write the text.
     pub fn has_text(&self) -> bool
         ensures always { IsTrue result }
         ensures text { (text : List ℕ) × SpellsReply text self.now }

@@ -163,19 +163,21 @@ fn talks_in_any_two_pieces(rt: HostRuntime) -> Result<(), Fail> {
 }
 
 // The answers to the lines that end within the first so many bytes.
-fn told_by(at: usize) -> Result<&'static str, Fail> {
-    let asked = ASKED.as_bytes().get(..at).ok_or("a place")?;
-    let whole = asked.iter().filter(|&&byte| byte == b'\n').count();
-    let mut lines = 0;
-    for (place, byte) in TOLD.bytes().enumerate() {
-        if lines == whole {
-            return Ok(TOLD.get(..place).ok_or("a place")?);
-        }
-        if byte == b'\n' {
-            lines += 1;
-        }
+fn told_by(alloc: Global, at: usize) -> Result<Vec<u8>, Fail> {
+    let mut told = Vec::new(alloc);
+    let mut left = at;
+    for (line, want) in NUMBERED {
+        let Some(behind) = left.checked_sub(line.len()) else {
+            return Ok(told);
+        };
+        let Some(rest) = behind.checked_sub(1) else {
+            return Ok(told);
+        };
+        told.extend_from_slice(want.as_bytes())?;
+        told.push(b'\n')?;
+        left = rest;
     }
-    Ok(TOLD)
+    Ok(told)
 }
 
 #[test]
@@ -187,7 +189,7 @@ fn ends_after_any_byte(rt: HostRuntime) -> Result<(), Fail> {
         assert_eq!(rt; ending, Ending::Closed, "ended at {at}");
         assert_eq!(rt;
             written.as_slice(),
-            told_by(at)?.as_bytes(),
+            told_by(alloc, at)?.as_slice(),
             "ended at {at}"
         );
     }
@@ -204,7 +206,7 @@ fn ends_where_a_read_fails(rt: HostRuntime) -> Result<(), Fail> {
         assert_eq!(rt; ending, Ending::ReadFault, "failed after {at}");
         assert_eq!(rt;
             written.as_slice(),
-            told_by(at)?.as_bytes(),
+            told_by(alloc, at)?.as_slice(),
             "failed after {at}"
         );
     }
