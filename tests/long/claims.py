@@ -1,6 +1,7 @@
 """claims: cases whose answers are held against what can be said of them, and runs over a pipe."""
 import os
 import random
+import select
 import subprocess
 import time
 
@@ -83,7 +84,9 @@ def at_once(bench):
                           stdout=subprocess.PIPE, bufsize=0) as ran:
         for line, answer in zip(lines, wanted):
             ran.stdin.write(script(line))
-            found = os.read(ran.stdout.fileno(), 65_536)
+            found = b""
+            while not found.endswith(b"\n") and select.select([ran.stdout], [], [], 10)[0]:
+                found += os.read(ran.stdout.fileno(), 65_536) or b"\n"
             if found != answer:
                 bench.fault(f"  to {line!r} at once {found!r}", "run", ring(4), script(*lines))
                 break
