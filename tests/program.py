@@ -29,7 +29,8 @@ class Program:
 
     def __init__(self):
         self.kind, self.path = find()
-        self.room = tempfile.TemporaryDirectory(prefix="mps-tests-")
+        memory = "/dev/shm" if os.access("/dev/shm", os.W_OK) else None
+        self.room = tempfile.TemporaryDirectory(prefix="mps-tests-", dir=memory)
 
     def __enter__(self):
         return self

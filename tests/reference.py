@@ -7,6 +7,7 @@ them line by line. A history is a list of steps, and every answer comes from rep
 reference.py check FILE | run FILE SCRIPT | same FILE SCRIPT SCRIPT
 """
 import dataclasses
+import functools
 import itertools
 import json
 import re
@@ -18,6 +19,7 @@ from typing import NamedTuple
 RESERVED = ("roles", "rec", "end", "int", "bool", "text", "true", "false")
 
 
+@functools.lru_cache(100_000)
 def is_name(word):
     """1 to 32 small letters, digits and `_`, the first a letter, and no reserved word."""
     return re.fullmatch("[a-z][a-z0-9_]{0,31}", word) is not None and word not in RESERVED
@@ -33,6 +35,7 @@ def is_number(word):
     return re.fullmatch("0|[1-9][0-9]{0,19}", word) is not None and int(word) < 2 ** 64
 
 
+@functools.lru_cache(100_000)
 def sort_of(word):
     """The sort of the value that is spelled so, or nothing. As each value has one spelling, a value is its spelling."""
     if word in ("true", "false"):
