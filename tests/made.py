@@ -93,8 +93,11 @@ class Maker:
         if len(self.roles) == 2 or dice.random() < 0.03:
             branches = [self.type(share, level + 1, loops) for _ in labels]
         else:
-            after = self.type(share - 1, level + 4, loops)
+            after = self.type(share - 1, level + 4, loops) if dice.random() < 0.8 else End()
             branches = [self.private(sender, receiver, share, after) for _ in labels]
+            if isinstance(after, End):  # the two go on alone, in loops of their own
+                alone = Maker(dice, [sender, receiver])
+                branches = [alone.type(share, level + 1, {}) if dice.random() < 0.7 else it for it in branches]
         return Choice(sender, receiver, tuple(zip(labels, branches)))
 
     def private(self, sender, receiver, nodes, after):

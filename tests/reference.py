@@ -230,40 +230,54 @@ class Local:
 
 
 class Unmerged(Exception):
-    """The choice of this number has branches that can't be merged for the role."""
+    """This choice has branches that can't be merged for the role."""
+
+    def __init__(self, choice):
+        super().__init__()
+        self.choice = choice
 
 
-def projection(role, node, choices):
-    """What a role does in a global type; `choices` counts the choices as they come, in preorder."""
+def projection(role, node):
+    """What a role does in a global type."""
     if isinstance(node, (End, Var)):
         return node
     if isinstance(node, Rec):
-        body = projection(role, node.body, choices)
-        return End() if is_idle(body, {node.name}) else Rec(node.name, body)
+        is_idle = all(role not in parties(it) for it in preorder(node)) and not leads_out(node, set())
+        return End() if is_idle else Rec(node.name, projection(role, node.body))
     if isinstance(node, Message):
-        then = projection(role, node.then, choices)
+        then = projection(role, node.then)
         kind, peer = part(role, node, "send", "recv")
         return Local(kind, peer, ((node.sort, then),)) if kind else then
-    number = next(choices)
-    branches = tuple((label, projection(role, below, choices)) for label, below in node.branches)
+    branches = tuple((label, projection(role, below)) for label, below in node.branches)
     kind, peer = part(role, node, "choose", "pick")
     if kind:
         return Local(kind, peer, branches)
     if any(below != branches[0][1] for _, below in branches):
-        raise Unmerged(number)
+        raise Unmerged(node)
     return branches[0][1]
+
+
+def preorder(node):
+    """The node and all below it, in preorder."""
+    return [node, *(it for below, _ in nodes_below(node, {}) for it in preorder(below))]
+
+
+def parties(node):
+    """The sender and the receiver of a node, if it has them."""
+    return (node.sender, node.receiver) if isinstance(node, (Message, Choice)) else ()
+
+
+def leads_out(node, loops):
+    """Whether a variable in a type is that of no `rec` in it, nor of one of these loops."""
+    if isinstance(node, Var):
+        return node.name not in loops
+    inside = {*loops, node.name} if isinstance(node, Rec) else loops
+    return any(leads_out(below, inside) for below, _ in nodes_below(node, {}))
 
 
 def part(role, node, output, input_):
     """The kind of the role's act and its peer there, or nothing where the act is that of two others."""
     return {node.sender: (output, node.receiver), node.receiver: (input_, node.sender)}.get(role, (None, None))
-
-
-def is_idle(node, loops):
-    """Whether nothing is done in a local type, and each variable is that of one of these loops."""
-    if isinstance(node, Rec):
-        return is_idle(node.body, {*loops, node.name})
-    return isinstance(node, End) or isinstance(node, Var) and node.name in loops
 
 
 def spelled(node):
@@ -286,12 +300,13 @@ def load(protocol):
     fault = protocol_fault(roles, body)
     if fault:
         raise Fault(f"refused protocol {fault}", 3)
-    types = {}
+    types, choices = {}, [node for node in preorder(body) if isinstance(node, Choice)]
     for role in roles:
         try:
-            types[role] = projection(role, body, itertools.count())
-        except Unmerged as choice:
-            raise Fault(f"refused projection {role} {choice}", 3) from None
+            types[role] = projection(role, body)
+        except Unmerged as found:
+            place = next(place for place, choice in enumerate(choices) if choice is found.choice)
+            raise Fault(f"refused projection {role} {place}", 3) from None
     return types
 
 
