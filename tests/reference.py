@@ -141,13 +141,13 @@ class Reader:
 
     def type(self, level):
         """A global type whose root is at that level."""
-        if is_name(self.token()) or is_variable(self.token()) or self.token() in ("end", "rec"):
+        if begins_type(self.token()):
             self.nodes += 1
             if self.nodes > 256:
                 raise self.fault("toomanynodes")
             if level > 64:
                 raise self.fault("toodeep")
-        token = self.take(lambda word: is_name(word) or is_variable(word) or word in ("end", "rec"))
+        token = self.take(begins_type)
         if token == "end":
             return End()
         if is_variable(token):
@@ -175,6 +175,11 @@ class Reader:
         label = self.take(is_name)
         self.take_one(":")
         return label, self.type(level)
+
+
+def begins_type(token):
+    """Whether a global type may begin with this token."""
+    return is_name(token) or is_variable(token) or token in ("end", "rec")
 
 
 # --- Faults of the protocol ------------------------------------------------------------------------------------------

@@ -24,7 +24,7 @@ class Bench:
         wanted, found = reference.run(protocol, text, FastRoom), self.mps.order("run", protocol, text)
         if wanted != found:
             self.fault(program.first_difference(wanted, found), "run", protocol, text)
-        return found.out.decode("latin-1").splitlines()
+        return answers_in(found.out, len(lines))
 
     def answers(self, protocol, *lines):
         """The answers to a script, which has to run to its end; the reference isn't asked."""
@@ -33,9 +33,15 @@ class Bench:
         if found.status or found.fault or found.out.count(b"\n") != len(lines):
             told = f"{found.status}, {found.fault!r} and {found.out.count(10)} answers to {len(lines)} lines"
             self.fault(f"  ended with {told}", "run", protocol, script(*lines))
-        return found.out.decode("latin-1").splitlines()
+        return answers_in(found.out, len(lines))
 
     def holds(self, claim, told, protocol, *lines):
         """Notes that a claim doesn't hold of this script."""
         if not claim:
             self.fault(f"  {told}", "run", protocol, script(*lines))
+
+
+def answers_in(out, count):
+    """The answers in an output, with an empty one for each that is missing."""
+    found = out.decode("latin-1").split("\n")[:-1]
+    return found + [""] * (count - len(found))

@@ -13,24 +13,31 @@ from fast import FastRoom
 from scripts import PAIR, ROLES, pair_turns, ring, ring_turns, script
 
 
-def properties(bench):
+def wrong_numbers(answers):
+    """The first answer whose numbers can't be: `done` has to count up by one, and `undone` to fall."""
+    newest = 0
+    for answer in answers:
+        word, *given = answer.split(" ")
+        if word == "done":
+            if given[:1] != [str(newest + 1)]:
+                return f"{answer} comes behind step {newest}"
+            newest += 1
+        if word == "undone":
+            steps = [newest + 1, *(int(number) for number in given)]
+            if any(one <= other for one, other in zip(steps, steps[1:])):
+                return f"{answer} doesn't fall from {newest}"
+    return None
+
+
+def numbers(bench):
     """Of random scripts: `undone` lists fall, and no number is given out twice or before a smaller one."""
     for count in range(2, 9):
         protocol = scripts.all_pairs(count)
         writer = made.Writer(random.Random(count), reference.load(protocol))
         writer.weights = (90, 3, 2, 1, 1, 0, 0, 1, 1)
         lines = [writer.line().decode("latin-1") for _ in range(3000)]
-        lines = [line for line in lines if "\n" not in line]
-        given = 0
-        for answer in bench.answers(protocol, *lines):
-            word, *numbers = answer.split()
-            if word == "done":
-                bench.holds(int(numbers[0]) == given + 1, f"{answer} behind {given}", protocol, *lines)
-                given = int(numbers[0])
-            if word == "undone":
-                steps = [int(number) for number in numbers]
-                falls = all(one > other for one, other in zip([given + 1, *steps], steps))
-                bench.holds(falls, f"{answer} doesn't fall from {given}", protocol, *lines)
+        wrong = wrong_numbers(bench.answers(protocol, *lines))
+        bench.holds(wrong is None, wrong, protocol, *lines)
 
 
 def cut(bench):
@@ -70,8 +77,9 @@ def pieces(bench):
                     time.sleep(0.0002)
             ran.stdin.close()
             out = ran.stdout.read()
-        if out != wanted.out:
-            bench.fault(program.first_difference(wanted, reference.Outcome(out, "", ran.wait())), "run", ring(3), text)
+        found = reference.Outcome(out, "", ran.returncode)
+        if found != wanted:
+            bench.fault(program.first_difference(wanted, found), "run", ring(3), text)
 
 
 def at_once(bench):
@@ -92,4 +100,4 @@ def at_once(bench):
                 break
 
 
-CASES = (properties, cut, one_by_one, pieces, at_once)
+CASES = (numbers, cut, one_by_one, pieces, at_once)
