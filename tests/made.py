@@ -34,7 +34,7 @@ def names(dice, count):
 def text(dice, length=None):
     """A text of that length, or of any from 0 to 256."""
     if length is None:
-        length = dice.choice((0, 1, 8, 15, 16, 32, 33, 255, 256, dice.randint(0, 40), dice.randint(0, 256)))
+        length = dice.choice((0, 1, 15, 16, 32, 33, 255, 256, dice.randint(0, 40), *[dice.randint(0, 256)] * 8))
     letters = "".join(chr(byte) for byte in range(0x20, 0x7F) if chr(byte) not in '"\\')
     return '"' + "".join(dice.choices(letters, k=length)) + '"'
 
@@ -199,19 +199,20 @@ def at_the_limits(dice):
         front, loop = "roles a b ; ", long.upper()
         return dice.choice((f"roles {long} b ; {long} -> b : int . end", f"{front}rec {loop} . a -> b : int . {loop}",
                             f"{front}a -> b {{ {long} : end }}"))
-    branches = [f"l{at} : " + "a -> b : int . " * 16 + "end" for at in range(14)]
-    return "roles a b ; a -> b { " + " , ".join(branches) + " , m : " + "a -> b : int . " * (80 + over) + "end }"
+    # a node at level 65, behind 255, 256 or 257 others: it is too deep, or one too many
+    branches = [f"l{at} : " + "a -> b : int . " * (15 + (at == 11) * over) + "end" for at in range(12)]
+    return "roles a b ; a -> b { " + " , ".join(branches) + " , m : " + "a -> b : int . " * 70 + "end }"
 
 
 def protocol(dice):
     """The text of a protocol; some have a fault."""
     kind = dice.random()
-    if kind < 0.03:
+    if kind < 0.07:
         return at_the_limits(dice).encode("latin-1")
     roles = names(dice, dice.choice((2, 2, 2, 3, 3, 4, 5, 6, 7, 8)))
     nodes = dice.choice((1, 2, 4, 8, 8, 16, 16, 30, 60, 120, 240))
     maker = Maker(dice, roles)
-    if kind < 0.12:
+    if kind < 0.15:
         tree = maker.wild(nodes, 1, [])
         roles = dice.choices(roles, k=len(roles)) if dice.random() < 0.2 else roles
     else:
@@ -219,7 +220,7 @@ def protocol(dice):
         tree = maker.type(nodes, 2, loops)
         tree = Rec("LOOP", tree) if loops else tree
     tokens = ["roles", *roles, ";", *tokens_of(tree)]
-    if 0.12 < kind < 0.20:
+    if 0.15 < kind < 0.23:
         tokens = spoiled(dice, tokens)
     return spaced(dice, tokens).encode("latin-1")
 
