@@ -1,0 +1,81 @@
+"""program: the program that ./mps runs, as the tests call it."""
+import os
+import pathlib
+import re
+import subprocess
+import sys
+import tempfile
+
+import reference
+
+HOME = pathlib.Path(__file__).resolve().parent.parent
+OUT = HOME / "out" / "tests"
+MPS = str(HOME / "mps")
+
+
+def find():
+    """Where the program stands that ./mps runs; the checked one is built where there is none."""
+    for words in (["which"], ["--version"], ["which"]):
+        told = subprocess.run([MPS, *words], cwd=HOME, stdin=subprocess.DEVNULL, stdout=subprocess.PIPE, text=True,
+                              check=True).stdout
+        found = re.fullmatch(r"(proved|checked) program of the sources \w+: (\S+)\n", told)
+        if found:
+            return found[1], str(HOME / found[2])
+    sys.exit(f"tests: ./mps which says {told}")
+
+
+class Program:
+    """The program, with a folder for what it reads."""
+
+    def __init__(self):
+        self.kind, self.path = find()
+        memory = "/dev/shm" if os.access("/dev/shm", os.W_OK) else None
+        self.room = tempfile.TemporaryDirectory(prefix="mps-tests-", dir=memory)
+
+    def __enter__(self):
+        return self
+
+    def __exit__(self, *_):
+        self.room.cleanup()
+
+    def run(self, words, seconds=120, **streams):
+        """What the program comes to with these words."""
+        streams = {"stdout": subprocess.PIPE, "stdin": subprocess.DEVNULL, **streams}
+        try:
+            ran = subprocess.run([self.path, *words], stderr=subprocess.PIPE, timeout=seconds, check=False, **streams)
+        except subprocess.TimeoutExpired:
+            return reference.Outcome(b"", f"ran for more than {seconds} seconds", -1)
+        told = ran.stderr.decode("latin-1")
+        fault = told[:-1] if told.endswith("\n") else told and f"{told} (without LF)"
+        return reference.Outcome(ran.stdout or b"", fault, ran.returncode)
+
+    def order(self, order, *texts, **more):
+        """What the program comes to with this order, over files with these texts."""
+        paths = [os.path.join(self.room.name, str(place)) for place in range(len(texts))]
+        for path, text in zip(paths, texts):
+            with open(path, "wb") as file:
+                file.write(text)
+        return self.run([order, *paths], **more)
+
+
+def keep(name, order, texts):
+    """Keeps the files of a run under out/tests, and gives the command that repeats it."""
+    OUT.mkdir(parents=True, exist_ok=True)
+    ends = ("protocol", "script", "second.script")
+    paths = [OUT / f"{name}.{end}" for end, _ in zip(ends, texts)]
+    for path, text in zip(paths, texts):
+        path.write_bytes(text)
+    return " ".join(["mps", order, *(str(path.relative_to(HOME)) for path in paths)])
+
+
+def first_difference(wanted, found):
+    """What differs in two outcomes, in a few lines."""
+    told = []
+    if wanted[1:] != found[1:]:
+        told.append(f"  fault and status: wanted {wanted.fault!r} and {wanted.status}, "
+                    f"found {found.fault[:300]!r} and {found.status}")
+    if wanted.out != found.out:
+        pairs = zip(wanted.out.split(b"\n") + [b""], found.out.split(b"\n") + [b""])
+        line, pair = next(((line, pair) for line, pair in enumerate(pairs, 1) if pair[0] != pair[1]), (0, (b"", b"")))
+        told.append(f"  line {line} of the output: wanted {pair[0][:300]!r}, found {pair[1][:300]!r}")
+    return "\n".join(told)

@@ -1,0 +1,659 @@
+#!/usr/bin/env python3
+"""reference: the monitor once more, plain and slow, for the program to be compared with.
+
+It is written from docs/FORMATS.md and docs/DEFINITIONS.md and from nothing else, so that a reader can hold it against
+them line by line. A history is a list of steps, and every answer comes from replaying it.
+
+reference.py check FILE | run FILE SCRIPT | same FILE SCRIPT SCRIPT
+"""
+import dataclasses
+import functools
+import itertools
+import json
+import re
+import sys
+from typing import NamedTuple
+
+# --- Names, numbers and values ---------------------------------------------------------------------------------------
+
+RESERVED = ("roles", "rec", "end", "int", "bool", "text", "true", "false")
+
+
+@functools.lru_cache(100_000)
+def is_name(word):
+    """1 to 32 small letters, digits and `_`, the first a letter, and no reserved word."""
+    return re.fullmatch("[a-z][a-z0-9_]{0,31}", word) is not None and word not in RESERVED
+
+
+def is_variable(word):
+    """1 to 32 capital letters, digits and `_`, the first a letter."""
+    return re.fullmatch("[A-Z][A-Z0-9_]{0,31}", word) is not None
+
+
+def is_number(word):
+    """`0`, or digits that don't begin with `0`, below 2^64."""
+    return re.fullmatch("0|[1-9][0-9]{0,19}", word) is not None and int(word) < 2 ** 64
+
+
+@functools.lru_cache(100_000)
+def sort_of(word):
+    """The sort of the value that is spelled so, or nothing. As each value has one spelling, a value is its spelling."""
+    if word in ("true", "false"):
+        return "bool"
+    if re.fullmatch(r'"[ !#-\[\]-~]{0,256}"', word):
+        return "text"
+    if re.fullmatch("0|-?[1-9][0-9]{0,18}", word) and -2 ** 63 <= int(word) < 2 ** 63:
+        return "int"
+    return None
+
+
+# --- Protocol text ---------------------------------------------------------------------------------------------------
+
+@dataclasses.dataclass(frozen=True)
+class End:
+    """`end`, in global and in local types."""
+
+
+@dataclasses.dataclass(frozen=True)
+class Var:
+    """A variable, in global and in local types."""
+    name: str
+
+
+@dataclasses.dataclass(frozen=True)
+class Rec:
+    """`rec NAME . BODY`, in global and in local types."""
+    name: str
+    body: object
+
+
+@dataclasses.dataclass(frozen=True)
+class Message:
+    """`SENDER -> RECEIVER : SORT . THEN`."""
+    sender: str
+    receiver: str
+    sort: str
+    then: object
+
+
+@dataclasses.dataclass(frozen=True)
+class Choice:
+    """`SENDER -> RECEIVER { LABEL : G , .. }`; each branch is a label and a type."""
+    sender: str
+    receiver: str
+    branches: tuple
+
+
+class Fault(Exception):
+    """The line and the exit status with which the program ends."""
+
+    def __init__(self, line, status):
+        super().__init__(line)
+        self.line, self.status = line, status
+
+
+class Reader:
+    """Reads a protocol text from the left, token by token, up to the first fault."""
+
+    def __init__(self, text):
+        self.text, self.at, self.nodes = text, 0, 0
+
+    def fault(self, kind):
+        """The fault of that kind here."""
+        return Fault(f"refused text {kind} {self.at}", 3)
+
+    def token(self):
+        """The token that comes next and is not yet taken, or nothing at the end of the text."""
+        self.at = re.compile("[ \t\n\r]*").match(self.text, self.at).end()
+        found = re.compile("[A-Za-z0-9_]+|->|[:;.,{}]").match(self.text, self.at)
+        if self.at == len(self.text):
+            return ""
+        word = found.group() if found else ""
+        if not (is_name(word) or is_variable(word) or word in RESERVED or word in ("->", *":;.,{}")):
+            raise self.fault("word")
+        return word
+
+    def take(self, may_come):
+        """Takes the next token, which has to be one that may come here."""
+        token = self.token()
+        if not may_come(token):
+            raise self.fault("unexpected")
+        self.at += len(token)
+        return token
+
+    def take_one(self, *tokens):
+        """Takes one of these tokens."""
+        return self.take(lambda token: token in tokens)
+
+    def protocol(self):
+        """The roles and the global type of the whole text."""
+        if len(self.text) > 65536:
+            raise Fault("refused text toolong 65536", 3)
+        self.take_one("roles")
+        roles = [self.take(is_name), self.take(is_name)]
+        while len(roles) < 8 and self.token() != ";":
+            roles.append(self.take(is_name))
+        self.take_one(";")
+        body = self.type(1)
+        if self.token():
+            raise self.fault("trailing")
+        return roles, body
+
+    def type(self, level):
+        """A global type whose root is at that level."""
+        if begins_type(self.token()):
+            self.nodes += 1
+            if self.nodes > 256:
+                raise self.fault("toomanynodes")
+            if level > 64:
+                raise self.fault("toodeep")
+        token = self.take(begins_type)
+        if token == "end":
+            return End()
+        if is_variable(token):
+            return Var(token)
+        if token == "rec":
+            name = self.take(is_variable)
+            self.take_one(".")
+            return Rec(name, self.type(level + 1))
+        self.take_one("->")
+        return self.act(token, self.take(is_name), level)
+
+    def act(self, sender, receiver, level):
+        """A message or a choice, behind its two roles."""
+        if self.take_one(":", "{") == ":":
+            sort = self.take_one("int", "bool", "text")
+            self.take_one(".")
+            return Message(sender, receiver, sort, self.type(level + 1))
+        branches = [self.branch(level + 1)]
+        while self.take_one(",", "}") == ",":
+            branches.append(self.branch(level + 1))
+        return Choice(sender, receiver, tuple(branches))
+
+    def branch(self, level):
+        """A label, and the type behind it."""
+        label = self.take(is_name)
+        self.take_one(":")
+        return label, self.type(level)
+
+
+def begins_type(token):
+    """Whether a global type may begin with this token."""
+    return is_name(token) or is_variable(token) or token in ("end", "rec")
+
+
+# --- Faults of the protocol ------------------------------------------------------------------------------------------
+
+def protocol_fault(roles, body):
+    """The first fault of a protocol that was read, or nothing; faults that the reader refuses are left out."""
+    return "doublerole" if len(set(roles)) < len(roles) else type_fault(roles, body, {})
+
+
+def type_fault(roles, node, loops):
+    """The first fault of the nodes in preorder. `loops` has the `rec`s around, and whether an act came since."""
+    return node_fault(roles, node, loops) or next(filter(None, (
+        type_fault(roles, below, inside) for below, inside in nodes_below(node, loops))), None)
+
+
+def nodes_below(node, loops):
+    """The nodes right below a node, from the left, each with the `rec`s around it."""
+    acted = dict.fromkeys(loops, True)
+    if isinstance(node, Rec):
+        return [(node.body, {**loops, node.name: False})]
+    if isinstance(node, Message):
+        return [(node.then, acted)]
+    return [(below, acted) for _, below in node.branches] if isinstance(node, Choice) else []
+
+
+def node_fault(roles, node, loops):
+    """The first fault of this node, in the order of the table."""
+    if isinstance(node, (Message, Choice)):
+        labels = [label for label, _ in node.branches] if isinstance(node, Choice) else []
+        if node.sender not in roles or node.receiver not in roles:
+            return "unknownrole"
+        if node.sender == node.receiver:
+            return "selfmessage"
+        if len(set(labels)) < len(labels):
+            return "doublelabel"
+        return "toomanybranches" if len(labels) > 16 else None
+    if isinstance(node, Var) and node.name not in loops:
+        return "unbound"
+    if isinstance(node, Rec) and node.name in loops:
+        return "shadowed"
+    return "unguarded" if isinstance(node, Var) and not loops[node.name] else None
+
+
+# --- Local types -----------------------------------------------------------------------------------------------------
+
+@dataclasses.dataclass(frozen=True)
+class Local:
+    """`send PEER SORT . THEN` or `recv PEER SORT . THEN`: the one branch has the sort in place of a label.
+    `choose PEER { LABEL : T , .. }` or `pick PEER { LABEL : T , .. }`."""
+    kind: str
+    peer: str
+    branches: tuple
+
+
+class Unmerged(Exception):
+    """This choice has branches that can't be merged for the role."""
+
+    def __init__(self, choice):
+        super().__init__()
+        self.choice = choice
+
+
+def projection(role, node):
+    """What a role does in a global type."""
+    if isinstance(node, (End, Var)):
+        return node
+    if isinstance(node, Rec):
+        is_idle = all(role not in parties(it) for it in preorder(node)) and not leads_out(node, set())
+        return End() if is_idle else Rec(node.name, projection(role, node.body))
+    if isinstance(node, Message):
+        then = projection(role, node.then)
+        kind, peer = part(role, node, "send", "recv")
+        return Local(kind, peer, ((node.sort, then),)) if kind else then
+    branches = tuple((label, projection(role, below)) for label, below in node.branches)
+    kind, peer = part(role, node, "choose", "pick")
+    if kind:
+        return Local(kind, peer, branches)
+    if any(below != branches[0][1] for _, below in branches):
+        raise Unmerged(node)
+    return branches[0][1]
+
+
+def preorder(node):
+    """The node and all below it, in preorder."""
+    return [node, *(it for below, _ in nodes_below(node, {}) for it in preorder(below))]
+
+
+def parties(node):
+    """The sender and the receiver of a node, if it has them."""
+    return (node.sender, node.receiver) if isinstance(node, (Message, Choice)) else ()
+
+
+def leads_out(node, loops):
+    """Whether a variable in a type is that of no `rec` in it, nor of one of these loops."""
+    if isinstance(node, Var):
+        return node.name not in loops
+    inside = {*loops, node.name} if isinstance(node, Rec) else loops
+    return any(leads_out(below, inside) for below, _ in nodes_below(node, {}))
+
+
+def part(role, node, output, input_):
+    """The kind of the role's act and its peer there, or nothing where the act is that of two others."""
+    return {node.sender: (output, node.receiver), node.receiver: (input_, node.sender)}.get(role, (None, None))
+
+
+def spelled(node):
+    """The text of a local type."""
+    if isinstance(node, End):
+        return "end"
+    if isinstance(node, Var):
+        return node.name
+    if isinstance(node, Rec):
+        return f"rec {node.name} . {spelled(node.body)}"
+    if node.kind in ("send", "recv"):
+        return f"{node.kind} {node.peer} {node.branches[0][0]} . {spelled(node.branches[0][1])}"
+    branches = " , ".join(f"{label} : {spelled(below)}" for label, below in node.branches)
+    return f"{node.kind} {node.peer} {{ {branches} }}"
+
+
+def load(protocol):
+    """Each role's local type, in the order of the roles, or the fault of the protocol."""
+    roles, body = Reader(protocol.decode("latin-1")).protocol()
+    fault = protocol_fault(roles, body)
+    if fault:
+        raise Fault(f"refused protocol {fault}", 3)
+    types, choices = {}, [node for node in preorder(body) if isinstance(node, Choice)]
+    for role in roles:
+        try:
+            types[role] = projection(role, body)
+        except Unmerged as found:
+            place = next(place for place, choice in enumerate(choices) if choice is found.choice)
+            raise Fault(f"refused projection {role} {place}", 3) from None
+    return types
+
+
+# --- The machine: views and what leads from one to the next ----------------------------------------------------------
+
+class Act(NamedTuple):
+    """A send, recv, choose, pick or mark. The word is the value, the slot, the label or the mark's name."""
+    kind: str
+    peer: str | None
+    word: str | None
+
+
+class Step(NamedTuple):
+    """An act of a role, with its number."""
+    number: int
+    role: str
+    act: Act
+
+
+class View:
+    """For each role its past, its type to come and its store; for each ordered pair of roles a queue.
+
+    Of each step in a past, the message that it took stands beside it, or nothing. A message is its spelling, as no
+    value is spelled like a label. A type to come is a part of the local type, with the `rec`s around it."""
+
+    def __init__(self, types):
+        self.past = {role: [] for role in types}
+        self.types = {role: (node, {}) for role, node in types.items()}
+        self.store = {role: {} for role in types}
+        self.queues = {pair: [] for pair in itertools.product(types, types)}
+
+    def head(self, role):
+        """What the role's type allows first, with the `rec`s around: a variable leads back to its `rec`."""
+        node, loops = self.types[role]
+        while isinstance(node, (Rec, Var)):
+            if isinstance(node, Rec):
+                loops = {**loops, node.name: (node, loops)}
+                node = node.body
+            else:
+                node, loops = loops[node.name]
+        return node, loops
+
+
+def violation(view, role, act):
+    """Why an act isn't allowed: the first of seven reasons that applies, or nothing."""
+    node, _ = view.head(role)
+    if act.kind == "mark":
+        return None
+    if isinstance(node, End):
+        return "ended"
+    if node.kind != act.kind:
+        return "wrongact"
+    if node.peer != act.peer:
+        return "wrongpeer"
+    branches = [word for word, _ in node.branches]
+    if act.kind == "send":
+        return None if sort_of(act.word) in branches else "wrongsort"
+    if act.kind == "choose":
+        return None if act.word in branches else "nolabel"
+    waiting = view.queues[act.peer, role]
+    if not waiting:
+        return "nothingqueued"
+    found = sort_of(waiting[0]) if act.kind == "recv" else waiting[0]
+    return None if found in branches else "mismatch"
+
+
+def rule(view, step):
+    """Makes the view that after a step which is allowed, and gives the message that the step took."""
+    role, act, taken = step.role, step.act, None
+    if act.kind in ("recv", "pick"):
+        taken = view.queues[act.peer, role].pop(0)
+    if act.kind in ("send", "choose"):
+        view.queues[role, act.peer].append(act.word)
+    if act.kind == "recv":
+        view.store[role][act.word] = taken
+    if act.kind != "mark":
+        node, loops = view.head(role)
+        message = taken or act.word
+        view.types[role] = dict(node.branches)[sort_of(message) or message], loops
+    view.past[role].append((step, taken))
+    return taken
+
+
+def replay(types, history):
+    """The view after these steps."""
+    view = View(types)
+    for step in history:
+        rule(view, step)
+    return view
+
+
+# --- Dependence ------------------------------------------------------------------------------------------------------
+
+def is_matched(history, s, t):
+    """Whether step t receives what s sent: as many were sent before s as were received before t."""
+    give, take = history[s], history[t]
+    if give.act.kind not in ("send", "choose") or take.act.kind not in ("recv", "pick"):
+        return False
+    if (give.role, give.act.peer) != (take.act.peer, take.role):
+        return False
+    outputs = [it for it in history[:s] if it.role == give.role and it.act.kind in ("send", "choose")]
+    inputs = [it for it in history[:t] if it.role == take.role and it.act.kind in ("recv", "pick")]
+    return sum(it.act.peer == take.role for it in outputs) == sum(it.act.peer == give.role for it in inputs)
+
+
+def depends_on(history, s, t):
+    """Whether t depends directly on s: s is earlier, and both are one role's or t receives what s sent."""
+    return s < t and (history[s].role == history[t].role or is_matched(history, s, t))
+
+
+def consequences(history, s):
+    """The places of a step and of all that depend on it, through any number of links, in order."""
+    found = [s]
+    for t in range(s + 1, len(history)):
+        if any(depends_on(history, earlier, t) for earlier in found):
+            found.append(t)
+    return found
+
+
+# --- Rooms: a session with its journal -------------------------------------------------------------------------------
+
+class Entry(NamedTuple):
+    """An accepted command but `news` and `show`: whose it was, and the steps that it took back, in their order."""
+    role: str
+    gone: list
+
+
+class Room:
+    """A session: the surviving steps, the number that the next one gets, and the journal."""
+
+    def __init__(self, types):
+        self.types, self.history, self.next, self.journal = types, [], 1, []
+
+    def view(self):
+        """The view to which the surviving steps lead."""
+        return replay(self.types, self.history)
+
+    def consequences(self, place):
+        """The places of the step there and of all that depend on it."""
+        return consequences(self.history, place)
+
+    def is_full(self):
+        """Whether the journal has as many entries as it may have."""
+        return len(self.journal) >= 100_000
+
+    def forward(self, role, act):
+        """The answer to a step forward."""
+        view = self.view()
+        reason = violation(view, role, act) or (self.is_full() and "full")
+        if reason:
+            return f"refused {reason}"
+        step = Step(self.next, role, act)
+        taken = rule(view, step)
+        self.history.append(step)
+        self.next += 1
+        self.journal.append(Entry(role, []))
+        return f"done {step.number}" + (f" {taken}" if taken else "")
+
+    def place_of(self, role, number):
+        """The place of the step of that number, or why the role can't take it back."""
+        places = [place for place, step in enumerate(self.history) if step.number == number]
+        if not places:
+            return None, "nostep"
+        return places[0], None if self.history[places[0]].role == role else "notyours"
+
+    def undo(self, role, number):
+        """The answer to an undo."""
+        place, reason = self.place_of(role, number)
+        if reason is None:
+            needed = self.consequences(place)[1:]
+            reason = f"needed {self.history[needed[0]].number}" if needed else None
+        return self.without(role, [place], reason)
+
+    def rollback(self, role, number):
+        """The answer to a rollback."""
+        place, reason = self.place_of(role, number)
+        return self.without(role, [] if reason else self.consequences(place), reason)
+
+    def back(self, role, name):
+        """The answer to a return to a mark: a rollback of the role's first step behind its last mark of that name."""
+        own = [place for place, step in enumerate(self.history) if step.role == role]
+        marks = [place for place in own if self.history[place].act == Act("mark", None, name)]
+        behind = [place for place in own if marks and place > marks[-1]]
+        return self.without(role, self.consequences(behind[0]) if behind else [], None if marks else "nomark")
+
+    def without(self, role, places, reason):
+        """The answer where the steps at these places are to be taken out, unless there is a reason against it."""
+        reason = reason or (self.is_full() and "full")
+        if reason:
+            return f"refused {reason}"
+        gone, left = [self.history[place] for place in reversed(places)], set(range(len(self.history))) - set(places)
+        self.history = [self.history[place] for place in sorted(left)]
+        self.journal.append(Entry(role, gone))
+        return " ".join(["undone", *(str(step.number) for step in gone)])
+
+    def news(self, role, number):
+        """How many entries the journal has, and which of the role's steps others took back after the first `number`."""
+        others = [entry for entry in self.journal[number:] if entry.role != role]
+        gone = [step for entry in others for step in entry.gone if step.role == role]
+        return " ".join(["news", str(len(self.journal)), *(str(step.number) for step in gone)])
+
+    def show(self):
+        """The session as it is shown."""
+        view = self.view()
+        past = sorted((it for role in self.types for it in view.past[role]), key=lambda it: it[0].number)
+        queues = [[*pair, [shown_message(it) for it in waiting]] for pair, waiting in view.queues.items() if waiting]
+        roles = [{"expects": expects(view.head(role)[0]), "past": [step.number for step, _ in view.past[role]],
+                  "role": role, "store": [[slot, json.loads(value)] for slot, value in view.store[role].items()]}
+                 for role in self.types]
+        shown = {"history": [shown_step(*it) for it in past], "queues": queues, "roles": roles}
+        return json.dumps(shown, separators=(",", ":"), sort_keys=True)
+
+
+def shown_step(step, taken):
+    """A step as it is shown; values are spelled as in JSON."""
+    kind, peer, word = step.act
+    shown = {"send": lambda: [peer, json.loads(word)], "choose": lambda: [peer, word], "pick": lambda: [peer, taken],
+             "recv": lambda: [peer, word, json.loads(taken)], "mark": lambda: [word]}
+    return [step.number, step.role, kind, *shown[kind]()]
+
+
+def shown_message(message):
+    """A message as it is shown in a queue."""
+    return json.loads(message) if sort_of(message) else {"label": message}
+
+
+def expects(node):
+    """What a type allows first, as it is shown."""
+    return "end" if isinstance(node, End) else " ".join([node.kind, node.peer, *(word for word, _ in node.branches)])
+
+
+# --- Script lines ----------------------------------------------------------------------------------------------------
+
+def read_line(line, roles):
+    """The role, the verb and the other parts of a line, or nothing where it is unreadable."""
+    peer = roles.__contains__
+    forms = {"send": (peer, sort_of), "recv": (peer, is_name), "choose": (peer, is_name), "pick": (peer,),
+             "mark": (is_name,), "undo": (is_number,), "rollback": (is_number,), "back": (is_name,),
+             "news": (is_number,), "show": ()}
+    if len(line) > 512 or not line.isascii() or b" " not in line:
+        return None
+    role, verb, *parts = line.decode("ascii").split(" ", 3)
+    if role not in roles or verb not in forms or len(parts) != len(forms[verb]):
+        return None
+    return (role, verb, parts) if all(test(it) for test, it in zip(forms[verb], parts)) else None
+
+
+def answer(room, line):
+    """The answer to a line."""
+    read = read_line(line, room.types)
+    if read is None:
+        return "refused line"
+    role, verb, parts = read
+    if verb in ("undo", "rollback", "news"):
+        return getattr(room, verb)(role, int(parts[0]))
+    if verb == "back":
+        return room.back(role, parts[0])
+    if verb == "show":
+        return room.show()
+    peer, word = (None, parts[0]) if verb == "mark" else [*parts, None][:2]
+    return room.forward(role, Act(verb, peer, word))
+
+
+def lines_of(script):
+    """The lines of a script: the bytes before each LF, and a rest where there is one."""
+    *lines, rest = script.split(b"\n")
+    return [*lines, rest] if rest else lines
+
+
+# Conversations, with numbered lines and commits, have their place here, once docs/FORMATS.md tells of them: a class
+# beside Room that hands it the commands, and an order beside the three below.
+
+# --- The program -----------------------------------------------------------------------------------------------------
+
+class Outcome(NamedTuple):
+    """What the program comes to: its standard output, its fault line without the LF, or nothing, and its status."""
+    out: bytes
+    fault: str
+    status: int
+
+
+def check(protocol):
+    """`check` of a protocol's text."""
+    try:
+        types = load(protocol)
+    except Fault as fault:
+        return Outcome(b"", fault.line, fault.status)
+    return Outcome("".join(f"{role} : {spelled(node)}\n" for role, node in types.items()).encode(), "", 0)
+
+
+def run(protocol, script, kind=Room):
+    """`run` of a script under a protocol, in a room of that kind."""
+    try:
+        room = kind(load(protocol))
+    except Fault as fault:
+        return Outcome(b"", fault.line, fault.status)
+    return Outcome("".join(f"{answer(room, line)}\n" for line in lines_of(script)).encode(), "", 0)
+
+
+def deeds(protocol, script, kind):
+    """What each role did in the steps that survive a script, and took: all of a view that numbers leave open."""
+    room = kind(load(protocol))
+    for line in lines_of(script):
+        answer(room, line)
+    view = room.view()
+    done = {role: [(step.act, taken) for step, taken in past] for role, past in view.past.items()}
+    return done, view.store, view.queues
+
+
+def same(protocol, first, second, kind=Room):
+    """`same` of two scripts under a protocol."""
+    try:
+        is_same = deeds(protocol, first, kind) == deeds(protocol, second, kind)
+    except Fault as fault:
+        return Outcome(b"", fault.line, fault.status)
+    return Outcome(b"same\n", "", 0) if is_same else Outcome(b"different\n", "", 1)
+
+
+def outcome_of(order, *files):
+    """What an order over files comes to: the protocol is read and checked before a script is opened."""
+    texts = []
+    try:
+        for file in files:
+            with open(file, "rb") as content:
+                texts.append(content.read())
+            load(texts[0])
+    except Fault as fault:
+        return Outcome(b"", fault.line, fault.status)
+    except OSError:
+        return Outcome(b"", f"refused file {file}", 2)
+    return {"check": check, "run": run, "same": same}[order](*texts)
+
+
+def main():
+    if [len(sys.argv), sys.argv[1:2]] not in ([3, ["check"]], [4, ["run"]], [5, ["same"]]):
+        sys.exit(2)
+    found = outcome_of(*sys.argv[1:])
+    sys.stdout.buffer.write(found.out)
+    if found.fault:
+        print(found.fault, file=sys.stderr)
+    sys.exit(found.status)
+
+
+if __name__ == "__main__":
+    main()
