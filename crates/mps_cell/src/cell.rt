@@ -133,7 +133,7 @@ impl Cell {
         }
     }
 
-    /// The right to the passes, once. What is lent afterwards are passes of a cell that is known.
+    /// The right to the passes, once in the cell's life. `passes_of` gives them for it, and the cell stays known beside.
     pub fn deal(&mut self) -> Option<Deal>
         ensures cell { self.new.cell ≡ self.old.cell }
         ensures opening { self.new.opening ≡ self.old.opening }
