@@ -39,6 +39,48 @@ module _ {C : Type 0} (caller : Ghosts C) where
       by_case (Numbered s) = let short = s.readable.short in absurd (omega (arith, n))
       by_case (Starved s) = let short = s.readable.short in absurd (omega (arith, n))
 
+  -- a long line's front is not read either
+  long_front : (line : List ℕ) (c d : C) (reply : Reply) → most_kept < length line → RepliesTo caller line c reply d → RepliesTo caller (front line) c reply d
+  long_front line c d reply long r = by_case r
+    where
+      n : length (front line) ≡ most_kept
+      n = length-take most_kept line ∙ (let m : min most_kept (length line) ≡ most_kept = omega arith in m)
+
+      by_case : RepliesTo caller line c reply d → RepliesTo caller (front line) c reply d
+      by_case (Unread u) = Unread (record { unreadable = λ number command readable. let s = readable.short in absurd (omega (arith, n)); bad = u.bad; unchanged = u.unchanged })
+      by_case (Called s) = let short = s.readable.short in absurd (omega arith)
+      by_case (Numbered s) = let short = s.readable.short in absurd (omega arith)
+      by_case (Starved s) = let short = s.readable.short in absurd (omega arith)
+
+  -- what a line does, its front does
+  front_line : (line : List ℕ) (c : C) (text : List ℕ) (d : C) → TalksLine caller line c text d → TalksLine caller (front line) c text d
+  front_line line c text d a =
+      ⊎_elim
+      (λ (long : most_kept < length line). record { reply = a.reply; replies = long_front line c d a.reply long a.replies; spelled = a.spelled })
+      (λ (short : length line ≤ most_kept). subst (λ (l : List ℕ). TalksLine caller l c text d) (sym (front_short line short)) a)
+      (cases_lt most_kept (length line))
+
+  -- a line that was answered, by its front
+  module _ (line kept : List ℕ) (is : front line ≡ kept) (c d : C) (taken taken' : Option (List ℕ)) where
+    pub wholly_front : IsWholly (talks caller) line c d taken taken' → IsWholly (talks caller) kept c d taken taken'
+    wholly_front w = record {
+      text = w.text;
+      line_is = subst (λ (l : List ℕ). TalksLine caller l c w.text d) is (front_line line c w.text d w.line_is);
+      sent = w.sent;
+    }
+
+    pub partly_front : IsPartly (talks_to_part caller) line c d taken taken' → IsPartly (talks_to_part caller) kept c d taken taken'
+    partly_front w = record {
+      written = w.written;
+      line_is = record {
+        text = w.line_is.text;
+        unwritten = w.line_is.unwritten;
+        line_is = subst (λ (l : List ℕ). TalksLine caller l c w.line_is.text d) is (front_line line c w.line_is.text d w.line_is.line_is);
+        whole = w.line_is.whole;
+      };
+      sent = w.sent;
+    }
+
   whole_line : (line : List ℕ) (c : C) (text : List ℕ) (d : C) → TalksLine caller (front line) c text d → TalksLine caller line c text d
   whole_line line c text d a =
       ⊎_elim

@@ -5,11 +5,21 @@ use Rattle.std.proofs.lemmas.List.{take_rest, take_more, drop-drop, take-append-
 use Rattle.mps_lines.specs.Lines.{HasNoBreak, ended, front}
 use Rattle.mps_lines.proofs.Splitting.{split_ended}
 use Rattle.mps_wire.specs.Answers.{Answering, AnswersLines, Answered}
-use Rattle.mps_wire.specs.Endings.{IsWholly, IsPartly, TakesOn, TakesToPart}
+use Rattle.mps_wire.specs.Endings.{IsWholly, IsPartly, TakesOn, TakesToPart, begun_or}
 use Rattle.mps_wire.specs.Talk.{AnswersToPart, AnsweredToPart}
 use Rattle.mps_wire.proofs.Answering.{GoesByFront, answered_more, answered_line}
 use Rattle.mps_wire.proofs.Bytes.{Appends-trans, Appends-none}
 use Rattle.mps_wire.proofs.Turning.{split_on}
+
+-- the piece that came whole, behind no line that has begun
+pub begun_none : (line piece : List ℕ) → length line ≡ 0 → begun_or line piece ≡ piece
+begun_none [] piece e = refl
+begun_none (c ∷ line) piece e = absurd (omega (arith, e))
+
+-- a line that has begun
+pub begun_some : (line piece : List ℕ) → (length line ≡ 0 → ⊥) → begun_or line piece ≡ line
+begun_some [] piece some = absurd (some refl)
+begun_some (c ∷ line) piece some = refl
 
 -- what is answered whole is answered in part
 abbrev pub IsWholePart : {S : Type 0} → Answering S → Answering S → Type 0

@@ -1,5 +1,5 @@
 -- How a conversation ends.
-use Rattle.std.specs.Prelude.{ℕ, List, Option, None, Some, Result, Ok, Err, ◌++◌}
+use Rattle.std.specs.Prelude.{ℕ, List, [], ◌∷◌, Option, None, Some, Result, Ok, Err, ◌++◌}
 use Rattle.std.specs.Io.KnownBytes.{Appends, Consumes, IsAtEnd}
 use Rattle.mps_lines.specs.Lines.{ended}
 use Rattle.mps_wire.specs.Answers.{Answering, Answered}
@@ -62,6 +62,11 @@ pub record IsPartly {S : Type 0} (part : Answering S) (line : List ℕ) (c d : S
   pub written : List ℕ
   pub line_is : part line c written d
   pub sent : Appends taken taken' written
+
+-- the line that has begun, or else the piece that came whole
+abbrev pub begun_or : (line piece : List ℕ) → List ℕ
+begun_or [] piece = piece
+begun_or (c ∷ line) piece = c ∷ line
 
 -- bytes are taken line by line, and their answers written
 abbrev pub TakesOn : {S : Type 0} → Answering S → (bytes kept : List ℕ) → S → Option (List ℕ) → List ℕ → S → Option (List ℕ) → Type 0

@@ -1,13 +1,13 @@
 //! A conversation over streams.
-ghost use Rattle.std.specs.Prelude.{◌≡◌, ◌+◌, ◌<◌, ◌≤◌, ◌^◌, ℕ, List, length, Some, OnOk, OnErr, IfNone, IsSome};
+ghost use Rattle.std.specs.Prelude.{◌≡◌, ◌+◌, ◌<◌, ◌≤◌, ◌^◌, ◌++◌, ℕ, List, length, Some, OnOk, OnErr, IfNone, IsSome};
 ghost use Rattle.mps_command.specs.Changes.{change_of};
 ghost use Rattle.mps_command.specs.declared.answer.Answer.{Answer as Response};
 ghost use Rattle.mps_command.specs.declared.command.Command.{Command as Asked};
 ghost use Rattle.mps_line.specs.Replies.{SpellsReply};
 ghost use Rattle.mps_line.specs.declared.reply.Reply.TheVariants.{Answered};
-ghost use Rattle.mps_lines.specs.Lines.{ended, most_kept};
+ghost use Rattle.mps_lines.specs.Lines.{ended, front, most_kept};
 ghost use Rattle.mps_wire.specs.declared.conversation.Broken.TheVariants.{Memory as NoMemory};
-ghost use Rattle.mps_wire.specs.Endings.{EndedAs, IsPartly, IsWholly, TakesOn, TakesToPart, TurnedTo, failed_by};
+ghost use Rattle.mps_wire.specs.Endings.{EndedAs, IsPartly, IsWholly, TakesOn, TakesToPart, TurnedTo, begun_or, failed_by};
 ghost use Rattle.mps_wire.specs.Runs.{Going, max_reads};
 ghost use Rattle.mps_wire.specs.Streams.{streams};
 ghost use Rattle.mps_wire.specs.Talk.{TalksLine, TalksNumbered, talks, talks_to_part};
@@ -153,6 +153,27 @@ fn answer_line<C: Caller, W: Sink>(
     }
 }
 
+/// Adds to a line that has begun what comes of it.
+fn keep_begun(line: &mut Vec<u8>, piece: &[u8]) -> Result<(), AllocError>
+    requires { length line.old.items ≤ most_kept }
+    ensures { OnOk result (front (begun_or line.new.items piece.now) ≡ front (line.old.items ++ piece.now)) }
+{
+    if line.is_empty() {
+        return Ok(());
+    }
+    keep(line, piece)
+}
+
+/// The line that has begun, or else the one that came whole, which is answered where it stands.
+fn begun<'a>(line: &'a [u8], piece: &'a [u8]) -> &'a [u8]
+    ensures { result.now ≡ begun_or line.now piece.now }
+{
+    if line.is_empty() {
+        return piece;
+    }
+    line
+}
+
 /// Takes the next bytes, and answers each line that they end, before the next.
 fn feed<C: Caller, W: Sink>(
     alloc: Global,
@@ -173,8 +194,9 @@ fn feed<C: Caller, W: Sink>(
 {
     let mut rest = bytes;
     while let Some(k) = line_end(rest) {
-        keep(line, &rest[..k])?;
-        answer_line(alloc, caller, writer, line.as_slice(), text)?;
+        let piece = &rest[..k];
+        keep_begun(line, piece)?;
+        answer_line(alloc, caller, writer, begun(line.as_slice(), piece), text)?;
         line.clear();
         rest = &rest[k + 1..];
     }

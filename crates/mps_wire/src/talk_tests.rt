@@ -1,6 +1,7 @@
 use crate::conversation::{Ending, converse};
 use crate::tests::{
-    A_TO_B_TO_C, empty_lines, in_one_piece, in_single_bytes, name, refused_lines, types,
+    A_TO_B_TO_C, cut_long_line, empty_lines, in_one_piece, in_single_bytes, in_two_pieces, name,
+    refused_lines, told_by, types,
 };
 use mps_base::{Role, Roles};
 use mps_dev::{Pieces, Short};
@@ -50,15 +51,6 @@ fn talk_anew(
     let mut solo = new_solo(alloc)?;
     let went = talk(alloc, &mut solo, pieces, fails_from, space)?;
     Ok((went, solo.room.entries()))
-}
-
-fn in_two_pieces(alloc: Global, text: &str, at: usize) -> Result<Vec<Vec<u8>>, Fail> {
-    let (front, rest) = text.as_bytes().split_at_checked(at).ok_or("a place")?;
-    let pieces = vec![in alloc;
-        Vec::from_slice(alloc, front)?,
-        Vec::from_slice(alloc, rest)?,
-    ]?;
-    Ok(pieces)
 }
 
 #[test]
@@ -162,24 +154,6 @@ fn talks_in_any_two_pieces(rt: HostRuntime) -> Result<(), Fail> {
     Ok(())
 }
 
-// The answers to the lines that end within the first so many bytes.
-fn told_by(alloc: Global, at: usize) -> Result<Vec<u8>, Fail> {
-    let mut told = Vec::new(alloc);
-    let mut left = at;
-    for (line, want) in NUMBERED {
-        let Some(behind) = left.checked_sub(line.len()) else {
-            return Ok(told);
-        };
-        let Some(rest) = behind.checked_sub(1) else {
-            return Ok(told);
-        };
-        told.extend_from_slice(want.as_bytes())?;
-        told.push(b'\n')?;
-        left = rest;
-    }
-    Ok(told)
-}
-
 #[test]
 fn ends_after_any_byte(rt: HostRuntime) -> Result<(), Fail> {
     let alloc = rt.alloc();
@@ -189,7 +163,7 @@ fn ends_after_any_byte(rt: HostRuntime) -> Result<(), Fail> {
         assert_eq!(rt; ending, Ending::Closed, "ended at {at}");
         assert_eq!(rt;
             written.as_slice(),
-            told_by(alloc, at)?.as_slice(),
+            told_by(alloc, NUMBERED, at)?.as_slice(),
             "ended at {at}"
         );
     }
@@ -206,7 +180,7 @@ fn ends_where_a_read_fails(rt: HostRuntime) -> Result<(), Fail> {
         assert_eq!(rt; ending, Ending::ReadFault, "failed after {at}");
         assert_eq!(rt;
             written.as_slice(),
-            told_by(alloc, at)?.as_slice(),
+            told_by(alloc, NUMBERED, at)?.as_slice(),
             "failed after {at}"
         );
     }
@@ -250,9 +224,7 @@ fn asks_again_in_a_second_conversation(rt: HostRuntime) -> Result<(), Fail> {
 fn talks_over_long_lines(rt: HostRuntime) -> Result<(), Fail> {
     let alloc = rt.alloc();
     for length in [MAX_LINE, MAX_LINE + 1, 100_000] {
-        let mut rest = vec![in alloc; b'a'; length - MAX_LINE]?;
-        rest.extend_from_slice(b"\nsend b 5\n")?;
-        let pieces = vec![in alloc; vec![in alloc; b'a'; MAX_LINE]?, rest]?;
+        let pieces = cut_long_line(alloc, length, "send b 5")?;
         let ((ending, written), _) = talk_anew(alloc, pieces, None, 100)?;
         assert_eq!(rt; ending, Ending::Closed, "of {length}");
         assert_eq!(rt;

@@ -132,29 +132,137 @@ fn answers_each_line(rt: HostRuntime) -> Result<(), Fail> {
     Ok(())
 }
 
-// A script with each kind of answer, and its answers.
+// The lines of a script with each kind of answer, and what they are answered.
+const PLAYED: &[(&str, &str)] = &[
+    ("a send b 5", "done 1"),
+    ("b recv a x", "done 2 5"),
+    ("b show", SHOWN),
+    ("", "refused line"),
+    ("a undo 1", "refused needed 2"),
+    ("a rollback 1", "undone 2 1"),
+    ("b news 0", "news 3 2"),
+    ("b send c 1", "refused wrongact"),
+    ("a send b 6", "done 3"),
+];
+
+const SHOWN: &str =
+    r#"{"history":[[1,"a","send","b",5],[2,"b","recv","a","x",5]],"queues":[],"roles":[{"expects":"end","past":[1],"role":"a","store":[]},{"expects":"send c int","past":[2],"role":"b","store":[["x",5]]},{"expects":"recv b int","past":[],"role":"c","store":[]}]}"#;
+
+// The same script as one text, whose last line no LF ends.
 const ASKED: &str =
     "a send b 5\nb recv a x\nb show\n\na undo 1\na rollback 1\nb news 0\nb send c 1\na send b 6";
 
-const TOLD: &str = concat!(
-    "done 1\ndone 2 5\n",
-    r#"{"history":[[1,"a","send","b",5],[2,"b","recv","a","x",5]],"queues":[],"roles":[{"expects":"end","past":[1],"role":"a","store":[]},{"expects":"send c int","past":[2],"role":"b","store":[["x",5]]},{"expects":"recv b int","past":[],"role":"c","store":[]}]}"#,
-    "\nrefused line\nrefused needed 2\nundone 2 1\nnews 3 2\nrefused wrongact\ndone 3\n"
-);
+fn add_line(text: &mut Vec<u8>, line: &str) -> Result<(), Fail> {
+    text.extend_from_slice(line.as_bytes())?;
+    Ok(text.push(b'\n')?)
+}
+
+// The answers to the lines whose LF is among the first so many bytes.
+pub(crate) fn told_by(alloc: Global, rows: &[(&str, &str)], at: usize) -> Result<Vec<u8>, Fail> {
+    let mut told = Vec::new(alloc);
+    let mut left = at;
+    for (line, want) in rows {
+        if left <= line.len() {
+            return Ok(told);
+        }
+        add_line(&mut told, want)?;
+        left -= line.len() + 1;
+    }
+    Ok(told)
+}
+
+// The answer to the rest behind those lines, where the first so many bytes are a whole script.
+fn told_of_rest(alloc: Global, rows: &[(&str, &str)], at: usize) -> Result<Vec<u8>, Fail> {
+    let mut told = Vec::new(alloc);
+    let mut left = at;
+    for (line, want) in rows {
+        if left <= line.len() {
+            if left == line.len() && left > 0 {
+                add_line(&mut told, want)?;
+            } else if left > 0 {
+                add_line(&mut told, "refused line")?;
+            }
+            return Ok(told);
+        }
+        left -= line.len() + 1;
+    }
+    Ok(told)
+}
+
+// The answers to a script of the first so many bytes of `ASKED`.
+fn told_in_all(alloc: Global, at: usize) -> Result<Vec<u8>, Fail> {
+    let mut told = told_by(alloc, PLAYED, at)?;
+    told.extend_from_slice(told_of_rest(alloc, PLAYED, at)?.as_slice())?;
+    Ok(told)
+}
+
+pub(crate) fn in_two_pieces(alloc: Global, text: &str, at: usize) -> Result<Vec<Vec<u8>>, Fail> {
+    let (front, rest) = text.as_bytes().split_at_checked(at).ok_or("a place")?;
+    let pieces = vec![in alloc;
+        Vec::from_slice(alloc, front)?,
+        Vec::from_slice(alloc, rest)?,
+    ]?;
+    Ok(pieces)
+}
+
+// Runs the pieces as a script of a, b and c.
+fn relayed(
+    alloc: Global,
+    pieces: Vec<Vec<u8>>,
+    fails_from: Option<u64>,
+    room: usize,
+) -> Result<Outcome, Fail> {
+    outcome(alloc, types(alloc, A_TO_B_TO_C)?, pieces, fails_from, room)
+}
 
 #[test]
 fn answers_in_any_two_pieces(rt: HostRuntime) -> Result<(), Fail> {
     let alloc = rt.alloc();
-    let script = ASKED.as_bytes();
-    for at in 0..script.len() + 1 {
-        let (front, rest) = script.split_at(at);
-        let pieces = vec![in alloc;
-            Vec::from_slice(alloc, front)?,
-            Vec::from_slice(alloc, rest)?,
-        ]?;
-        let (written, fault) = outcome(alloc, types(alloc, A_TO_B_TO_C)?, pieces, None, 1_000)?;
+    let told = told_in_all(alloc, ASKED.len())?;
+    for at in 0..ASKED.len() + 1 {
+        let pieces = in_two_pieces(alloc, ASKED, at)?;
+        let (written, fault) = relayed(alloc, pieces, None, 1_000)?;
         assert_eq!(rt; fault, None, "cut at {at}");
-        assert_eq!(rt; written.as_slice(), TOLD.as_bytes(), "cut at {at}");
+        assert_eq!(rt; written.as_slice(), told.as_slice(), "cut at {at}");
+    }
+    Ok(())
+}
+
+#[test]
+fn answers_up_to_any_byte(rt: HostRuntime) -> Result<(), Fail> {
+    let alloc = rt.alloc();
+    for at in 0..ASKED.len() + 1 {
+        let script = ASKED.get(..at).ok_or("a place")?;
+        let (written, fault) = relayed(alloc, in_one_piece(alloc, script)?, None, 1_000)?;
+        assert_eq!(rt; fault, None, "ended at {at}");
+        let told = told_in_all(alloc, at)?;
+        assert_eq!(rt; written.as_slice(), told.as_slice(), "ended at {at}");
+    }
+    Ok(())
+}
+
+#[test]
+fn stops_where_a_read_fails(rt: HostRuntime) -> Result<(), Fail> {
+    let alloc = rt.alloc();
+    // the call after so many reads of one byte fails
+    for at in 0..ASKED.len() + 1 {
+        let pieces = in_single_bytes(alloc, ASKED)?;
+        let (written, fault) = relayed(alloc, pieces, Some(at as u64 + 1), 1_000)?;
+        assert_eq!(rt; fault, Some(ReplayFault::ReadFault), "failed after {at}");
+        let told = told_by(alloc, PLAYED, at)?;
+        assert_eq!(rt; written.as_slice(), told.as_slice(), "failed after {at}");
+    }
+    Ok(())
+}
+
+#[test]
+fn stops_where_a_write_fails(rt: HostRuntime) -> Result<(), Fail> {
+    let alloc = rt.alloc();
+    let told = told_in_all(alloc, ASKED.len())?;
+    for room in 0..told.len() {
+        let (written, fault) = relayed(alloc, in_one_piece(alloc, ASKED)?, None, room)?;
+        assert_eq!(rt; fault, Some(ReplayFault::WriteFault), "{room}");
+        assert_eq!(rt; Some(written.as_slice()), told.get(..room), "{room}");
     }
     Ok(())
 }
@@ -246,18 +354,32 @@ fn is_full_after_a_hundred_thousand_numbers(rt: HostRuntime) -> Result<(), Fail>
     Ok(())
 }
 
+// A line of so many bytes that is no command, and the line behind it, cut after 512 bytes.
+pub(crate) fn cut_long_line(
+    alloc: Global,
+    length: usize,
+    line: &str,
+) -> Result<Vec<Vec<u8>>, Fail> {
+    let mut rest = vec![in alloc; b'a'; length.saturating_sub(MAX_LINE)]?;
+    rest.push(b'\n')?;
+    add_line(&mut rest, line)?;
+    Ok(vec![in alloc; vec![in alloc; b'a'; MAX_LINE]?, rest]?)
+}
+
 #[test]
 fn answers_long_lines(rt: HostRuntime) -> Result<(), Fail> {
     let alloc = rt.alloc();
+    let want = b"refused line\ndone 1\n".as_slice();
     for length in [MAX_LINE, MAX_LINE + 1, BLOCK, BLOCK + 1, 1_000_001] {
         let mut script = vec![in alloc; b'a'; length]?;
         script.extend_from_slice(b"\na send b 5\n")?;
         let written = answers(alloc, types(alloc, A_TO_B_TO_C)?, vec![in alloc; script]?)?;
-        assert_eq!(rt;
-            written.as_slice(),
-            b"refused line\ndone 1\n".as_slice(),
-            "of {length}"
-        );
+        assert_eq!(rt; written.as_slice(), want, "of {length}");
+    }
+    for length in [MAX_LINE, MAX_LINE + 1, 100_000] {
+        let pieces = cut_long_line(alloc, length, "a send b 5")?;
+        let written = answers(alloc, types(alloc, A_TO_B_TO_C)?, pieces)?;
+        assert_eq!(rt; written.as_slice(), want, "of {length} in two pieces");
     }
     Ok(())
 }

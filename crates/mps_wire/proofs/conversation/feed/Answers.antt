@@ -1,8 +1,8 @@
-use Rattle.std.proofs.Common.{◌≡◌, ℕ, ◌≤◌, List, length, refl, ap, subst, arith, length-take}
+use Rattle.std.proofs.Common.{◌≡◌, ℕ, ◌≤◌, List, ◌++◌, length, take, refl, ap, ◌∙◌, arith, length-take}
 use Rattle.mps_lines.specs.Lines.{front, most_kept}
-use Rattle.mps_wire.specs.Endings.{IsPartly, IsWholly}
+use Rattle.mps_wire.specs.Endings.{begun_or}
 use Rattle.mps_wire.specs.Talk.{talks, talks_to_part}
-use Rattle.mps_wire.proofs.Calling.{talks_by_front, part_by_front, whole_is_part}
+use Rattle.mps_wire.proofs.Calling.{talks_by_front, part_by_front, whole_is_part, wholly_front, partly_front}
 use Rattle.mps_wire.proofs.Conversing.{on_err_of}
 use Rattle.mps_wire.proofs.Talking.{taking_begins, takes_on, taking_breaks, taking_ends, taking_stops}
 use Rattle.mps_wire.proofs.conversation.feed.Goals as goal
@@ -13,31 +13,37 @@ front_short_enough line new e = omega (arith, ap length e, length-take most_kept
 pub loop-k-init : goal.loop-k-init
 loop-k-init g c = record { writes = refl; short = c.requires.kept; taking = taking_begins (talks g.C.Caller) (talks_to_part g.C.Caller) _ _ _ _ }
 
+pub returns-in_err-keep_begun-clause-err : goal.returns-in_err-keep_begun-clause-err
+returns-in_err-keep_begun-clause-err g c =
+    on_err_of _ _ (taking_stops (talks g.C.Caller) (talks_to_part g.C.Caller) _ _ _ _ c.loop-k.rest.now c.loop-k.line.items _ _ c.loop-k.invariant.taking (whole_is_part g.C.Caller))
+
+-- the line that is answered, by what was kept and what came
+answered_front : (line kept new old piece : List ℕ) → line ≡ begun_or kept piece → kept ≡ new → front (begun_or new piece) ≡ front (old ++ piece) → front line ≡ front (old ++ piece)
+answered_front line kept new old piece is same h = ap front (is ∙ ap (λ (l : List ℕ). begun_or l piece) same) ∙ h
+
+pub returns-in_err-answer_line-clause-err : goal.returns-in_err-answer_line-clause-err
+returns-in_err-answer_line-clause-err g c =
+    let is = answered_front _ _ _ c.loop-k.line.items (take c.in-Some.k c.loop-k.rest.now) c.begun.ensures c.as_slice.ensures.value c.in_ok-keep_begun.ensures in
+    let line = partly_front g.C.Caller _ _ is _ _ _ _ c.in_err-answer_line.ensures.err in
+    on_err_of _ _ (taking_breaks (talks g.C.Caller) (talks_to_part g.C.Caller) _ _ _ _ c.loop-k.rest.now c.loop-k.line.items (front (c.loop-k.line.items ++ take c.in-Some.k c.loop-k.rest.now)) _ _ c.in-Some.k c.loop-k.invariant.taking c.in-Some.ensures.within c.in-Some.ensures.end c.in-Some.ensures.before refl (part_by_front g.C.Caller) _ _ line)
+
+pub loop-k-preserved : goal.loop-k-preserved
+loop-k-preserved g c =
+    let is = answered_front _ _ _ c.loop-k.line.items (take c.in-Some.k c.loop-k.rest.now) c.begun.ensures c.as_slice.ensures.value c.in_ok-keep_begun.ensures in
+    let line = wholly_front g.C.Caller _ _ is _ _ _ _ c.in_ok-answer_line.ensures.ok in
+    record {
+      writes = omega (arith, c.in_ok-answer_line.ensures.writes, c.loop-k.invariant.writes);
+      short = omega (arith, ap length c.clear.ensures.items);
+      taking = takes_on (talks g.C.Caller) (talks_to_part g.C.Caller) _ _ _ _ c.loop-k.rest.now c.loop-k.line.items (front (c.loop-k.line.items ++ take c.in-Some.k c.loop-k.rest.now)) _ _ c.in-Some.k c.loop-k.invariant.taking c.in-Some.ensures.within c.in-Some.ensures.end c.in-Some.ensures.before refl (talks_by_front g.C.Caller) _ _ _ line c.clear.ensures.items;
+    }
+
 pub returns-in_err-keep-clause-err : goal.returns-in_err-keep-clause-err
 returns-in_err-keep-clause-err g c =
     on_err_of _ _ (taking_stops (talks g.C.Caller) (talks_to_part g.C.Caller) _ _ _ _ c.loop-k.rest.now c.loop-k.line.items _ _ c.loop-k.invariant.taking (whole_is_part g.C.Caller))
 
-pub returns-in_err-answer_line-clause-err : goal.returns-in_err-answer_line-clause-err
-returns-in_err-answer_line-clause-err g c =
-    let line = subst (λ (y : List ℕ). IsPartly (talks_to_part g.C.Caller) y c.loop-k.caller c.answer_line.new.caller (g.W.Sink.taken c.loop-k.writer) (g.W.Sink.taken c.answer_line.new.writer)) c.as_slice.ensures.value c.in_err-answer_line.ensures.err in
-    on_err_of _ _ (taking_breaks (talks g.C.Caller) (talks_to_part g.C.Caller) _ _ _ _ c.loop-k.rest.now c.loop-k.line.items c.keep.new.line.items _ _ c.in-Some.k c.loop-k.invariant.taking c.in-Some.ensures.within c.in-Some.ensures.end c.in-Some.ensures.before c.in_ok-keep.ensures.ok (part_by_front g.C.Caller) _ _ line)
-
-pub loop-k-preserved : goal.loop-k-preserved
-loop-k-preserved g c =
-    let line = subst (λ (y : List ℕ). IsWholly (talks g.C.Caller) y c.loop-k.caller c.answer_line.new.caller (g.W.Sink.taken c.loop-k.writer) (g.W.Sink.taken c.answer_line.new.writer)) c.as_slice.ensures.value c.in_ok-answer_line.ensures.ok in
-    record {
-      writes = omega (arith, c.in_ok-answer_line.ensures.writes, c.loop-k.invariant.writes);
-      short = omega (arith, ap length c.clear.ensures.items);
-      taking = takes_on (talks g.C.Caller) (talks_to_part g.C.Caller) _ _ _ _ c.loop-k.rest.now c.loop-k.line.items c.keep.new.line.items _ _ c.in-Some.k c.loop-k.invariant.taking c.in-Some.ensures.within c.in-Some.ensures.end c.in-Some.ensures.before c.in_ok-keep.ensures.ok (talks_by_front g.C.Caller) _ _ _ line c.clear.ensures.items;
-    }
-
-pub returns-in_err-keep-2-clause-err : goal.returns-in_err-keep-2-clause-err
-returns-in_err-keep-2-clause-err g c =
-    on_err_of _ _ (taking_stops (talks g.C.Caller) (talks_to_part g.C.Caller) _ _ _ _ c.loop-k.rest.now c.loop-k.line.items _ _ c.loop-k.invariant.taking (whole_is_part g.C.Caller))
-
 pub returns-clause-kept : goal.returns-clause-kept
-returns-clause-kept g c = front_short_enough _ _ c.in_ok-keep-2.ensures.ok
+returns-clause-kept g c = front_short_enough _ _ c.in_ok-keep.ensures.ok
 
 pub returns-clause-ok : goal.returns-clause-ok
 returns-clause-ok g c =
-    taking_ends (talks g.C.Caller) (talks_to_part g.C.Caller) _ _ _ _ c.loop-k.rest.now c.loop-k.line.items _ _ c.loop-k.invariant.taking _ c.in_default.ensures.none c.in_ok-keep-2.ensures.ok
+    taking_ends (talks g.C.Caller) (talks_to_part g.C.Caller) _ _ _ _ c.loop-k.rest.now c.loop-k.line.items _ _ c.loop-k.invariant.taking _ c.in_default.ensures.none c.in_ok-keep.ensures.ok

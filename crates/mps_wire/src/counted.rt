@@ -1,0 +1,132 @@
+//! Scripts and conversations whose instructions `bench/talks` counts, in the order of the rows here.
+use crate::conversation::{Ending, converse};
+use crate::script::replay;
+use crate::tests::name;
+use mps_base::{Role, Roles, Sort, VarName};
+use mps_dev::{Discard, Pieces};
+use mps_local::Local;
+use mps_room::{Room, Solo};
+use mps_session::Session;
+use std::alloc::Global;
+use std::test::Fail;
+
+// How many lines each has, in turn.
+const LENGTHS: [u64; 3] = [0, 10_000, 40_000];
+
+// a gives b numbers without end.
+fn types(alloc: Global) -> Result<Vec<Local>, Fail> {
+    let x = VarName::read(b"X").ok_or("a variable")?;
+    let gives = Local::send(alloc, Role::new(1), Sort::Int, Local::Var(x))?;
+    let takes = Local::recv(alloc, Role::new(0), Sort::Int, Local::Var(x))?;
+    Ok(vec![in alloc;
+        Local::rec(alloc, x, gives)?,
+        Local::rec(alloc, x, takes)?,
+        Local::End,
+    ]?)
+}
+
+fn names(alloc: Global) -> Result<Roles, Fail> {
+    Ok(Roles::of(alloc, &[name("a")?, name("b")?, name("c")?])?)
+}
+
+fn new_room(alloc: Global) -> Result<Room, Fail> {
+    let (roles, session) = (names(alloc)?, Session::open(alloc, types(alloc)?)?);
+    if roles.count() != session.roles() {
+        return Err("a name for each role".into());
+    }
+    Ok(Room::open(alloc, roles, session))
+}
+
+// These words so many times as a line, each line with its number before it, or none with one.
+fn lines(alloc: Global, words: &str, numbered: bool, count: u64) -> Result<Vec<u8>, Fail> {
+    let mut text = Vec::new(alloc);
+    for before in 0..count {
+        if numbered {
+            text.extend_from_slice(format!(in alloc; "{} ", before + 1)?.as_bytes())?;
+        }
+        text.extend_from_slice(words.as_bytes())?;
+        text.push(b'\n')?;
+    }
+    Ok(text)
+}
+
+// Runs a script of these lines, and gives how many entries it made.
+#[inline(never)]
+fn run(alloc: Global, lines: Vec<u8>) -> Result<u64, Fail> {
+    let (roles, types) = (names(alloc)?, types(alloc)?);
+    if roles.count() != types.len() {
+        return Err("a type for each role".into());
+    }
+    let mut reader = Pieces::new(vec![in alloc; lines]?, None);
+    Ok(replay(alloc, &mut reader, &mut Discard, roles, types)?.entries())
+}
+
+// The role talks to the room in these lines. Gives the room.
+#[inline(never)]
+fn talk(alloc: Global, room: Room, role: Role, lines: Vec<u8>) -> Result<Room, Fail> {
+    if role.index() >= room.session().roles() {
+        return Err("a role".into());
+    }
+    let mut solo = Solo::new(room, role);
+    let mut reader = Pieces::new(vec![in alloc; lines]?, None);
+    match converse(alloc, &mut solo, &mut reader, &mut Discard) {
+        Ending::Closed => Ok(solo.room),
+        _ => Err("the end of the lines".into()),
+    }
+}
+
+// The words of a script's lines, and how many entries each line makes.
+const SCRIPTS: [(&str, u64); 4] = [
+    ("a send b 123456", 1),
+    ("a send b 123456\nb recv a x", 2),
+    ("a send c 123456", 0),
+    ("a give b 123456", 0),
+];
+
+#[test]
+fn runs_scripts(rt: HostRuntime) -> Result<(), Fail> {
+    let alloc = rt.alloc();
+    for (words, made) in SCRIPTS {
+        for count in LENGTHS {
+            let entries = run(alloc, lines(alloc, words, false, count)?)?;
+            assert_eq!(rt; entries, count * made, "{words}");
+        }
+    }
+    Ok(())
+}
+
+// Of a conversation of a whether its lines have numbers, their words, and how many entries they make at most.
+const TALKS: [(bool, &str, u64); 5] = [
+    (false, "send b 123456", u64::MAX),
+    (false, "send c 123456", 0),
+    (false, "give b 123456", 0),
+    (true, "send b 123456", u64::MAX),
+    (false, "1 send b 123456", 1),
+];
+
+#[test]
+fn talks(rt: HostRuntime) -> Result<(), Fail> {
+    let alloc = rt.alloc();
+    for (numbered, words, most) in TALKS {
+        for count in LENGTHS {
+            let said = lines(alloc, words, numbered, count)?;
+            let room = talk(alloc, new_room(alloc)?, Role::new(0), said)?;
+            assert_eq!(rt; room.entries(), count.min(most), "{words}");
+        }
+    }
+    Ok(())
+}
+
+// Of so many numbers each is given in one conversation, and taken in the next.
+#[test]
+fn talks_in_turn(rt: HostRuntime) -> Result<(), Fail> {
+    let alloc = rt.alloc();
+    for count in LENGTHS {
+        let given = lines(alloc, "send b 123456", false, count)?;
+        let room = talk(alloc, new_room(alloc)?, Role::new(0), given)?;
+        let taken = lines(alloc, "recv a x", false, count)?;
+        let room = talk(alloc, room, Role::new(1), taken)?;
+        assert_eq!(rt; room.entries(), 2 * count);
+    }
+    Ok(())
+}
