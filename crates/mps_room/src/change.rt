@@ -44,6 +44,7 @@ fn keep(journal: &mut Vec<Entry>, owners: &mut Vec<Role>, entry: Entry)
 
 impl Room {
     /// Does the change that the command asks for, or says why not.
+    #[inline(always)]
     pub(crate) fn change(&mut self, role: Role, command: Command) -> Answer
         requires role { role < length self.old.types }
         requires change { IsSome (change_of command) }

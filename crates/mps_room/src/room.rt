@@ -151,6 +151,7 @@ impl Room {
     }
 
     /// Answers what others took back, as `apply` does.
+    #[inline(never)]
     pub fn tell_news(&self, role: Role, known: u64) -> Answer
         ensures answer { IsReply result
             (reply self.now.names self.now.types self.now.journal role (commands.News known)) }
@@ -163,6 +164,7 @@ impl Room {
     }
 
     /// Answers how the session stands, as `apply` does.
+    #[inline(never)]
     pub fn tell_show(&self) -> Answer
         ensures answer { (role : ℕ) → IsReply result
             (reply self.now.names self.now.types self.now.journal role commands.Show) }

@@ -67,6 +67,7 @@ fn undone(lists: Numbers) -> (Answer, Answer)
 impl Configuration {
     /// Takes the step of that number out, and all that depend on it, the newest first, and tells their numbers twice.
     /// Nothing is changed where memory runs out.
+    #[inline(never)]
     fn roll_back_twice(&mut self, id: StepId) -> Result<Numbers, AllocError>
         requires present { IsSome (step_of (steps (lists_of self.old).entries) id) }
         requires unmarked { marked_keys (lists_of self.old).entries ≡ [] }
@@ -168,6 +169,7 @@ impl Session {
     }
 
     // Takes the step, and tells the answer twice.
+    #[inline(always)]
     fn take_twice(&mut self, role: Role, step: &Forward) -> Result<(Answer, Answer), Refusal>
         requires role { role < length self.old.types }
         ensures accepted { IsAcceptedTwice (changes.Forward step.now) result self.old.state self.new.state
@@ -200,6 +202,7 @@ impl Session {
     }
 
     // Takes the step of that number back, and tells the answer twice.
+    #[inline(never)]
     fn undo_twice(&mut self, role: Role, id: StepId) -> Result<(Answer, Answer), Refusal>
         requires role { role < length self.old.types }
         ensures accepted { IsAcceptedTwice (changes.Undo id) result self.old.state self.new.state
@@ -226,6 +229,7 @@ impl Session {
     }
 
     // Takes the role back to its last mark of the name, and tells the answer twice.
+    #[inline(never)]
     fn go_back_twice(&mut self, role: Role, name: &Name) -> Result<(Answer, Answer), Refusal>
         requires role { role < length self.old.types }
         ensures accepted { IsAcceptedTwice (changes.Back name.now) result self.old.state self.new.state

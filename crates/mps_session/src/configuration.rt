@@ -234,6 +234,7 @@ impl Configuration {
 }
 
 /// The message once more, where there is one.
+#[inline(always)]
 pub(crate) fn once_more(
     alloc: Global,
     message: Option<&Message>,

@@ -91,6 +91,7 @@ fn put_kept<C: Caller>(caller: &C, text: &mut Vec<u8>) -> Result<(), AllocError>
 }
 
 /// Gives a command with its number, and makes the text of what came of it.
+#[inline(never)]
 fn reply_to_numbered<C: Caller>(
     caller: &mut C,
     number: u64,
