@@ -63,7 +63,7 @@ pub struct Cell {
     first: Option<Seat<Room, View>>,
     names: Roles,
     table: Table<Room, View, Origin, Journaled, Global>,
-    // how many calls sleep until the room is back
+    // 1 where a call may sleep until the room is back
     waiting: AtomicU64,
     alloc: Global,
 }

@@ -27,7 +27,7 @@ pub type Table = Shared<Room, View, Origin, Journaled>;
 #[derive(Drop)]
 pub struct Pass<'a> {
     shared: &'a Table,
-    // how many calls sleep until the room is back
+    // 1 where a call may sleep until the room is back
     waiting: &'a AtomicU64,
     names: &'a Roles,
     seat: Seat<Room, View>,
@@ -149,15 +149,14 @@ impl<'a> Pass<'a> {
     {
         take(rt, self.shared, self.waiting, &mut self.seat);
         pause.pause();
-        let (answer, entries) = finish(
+        finish(
             self.shared,
             self.waiting,
             &mut self.seat,
+            &mut self.seen,
             self.role,
             command,
-        );
-        self.seen = entries;
-        answer
+        )
     }
 
     /// Calls the room if it is at home. It takes one look and one try, and never waits.
@@ -171,15 +170,14 @@ impl<'a> Pass<'a> {
         if !won {
             return Err(Busy { found });
         }
-        let (answer, entries) = finish(
+        Ok(finish(
             self.shared,
             self.waiting,
             &mut self.seat,
+            &mut self.seen,
             self.role,
             command,
-        );
-        self.seen = entries;
-        Ok(answer)
+        ))
     }
 
     /// How many entries the journal has by now. It never waits, and takes no memory.

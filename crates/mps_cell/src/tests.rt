@@ -216,9 +216,11 @@ fn are_in_order(all: &[Pass<'_>], count: usize) -> bool {
 #[test]
 fn gives_its_passes_once(rt: HostRuntime) -> Result<(), Fail> {
     let mut cell = cell(rt.alloc(), two_pairs(rt.alloc())?)?;
-    {
-        let all = cell.passes().ok().ok_or("passes")?;
-        assert!(rt; are_in_order(all.as_slice(), 4));
+    match cell.passes() {
+        Ok(all) => assert!(rt; are_in_order(all.as_slice(), 4)),
+
+        // where memory is refused on purpose
+        Err(fault) => assert!(rt; fault == PassFault::Memory),
     }
     assert!(rt; matches!(cell.passes(), Err(PassFault::Given)));
     assert!(rt; matches!(cell.passes(), Err(PassFault::Given)));
@@ -317,6 +319,8 @@ fn two_passes_meet(rt: HostRuntime) -> Result<(), Fail> {
 #[derive(Drop)]
 struct Probe<'a, 'b> {
     other: &'b mut Pass<'a>,
+    // how often the pause ran
+    pauses: u64,
     front: u64,
     // how many of a thousand further fronts told the same
     same: u64,
@@ -344,6 +348,7 @@ fn found_busy(pass: &mut Pass<'_>) -> Option<u64> {
 
 impl Pause for Probe<'_, '_> {
     fn pause(&mut self) {
+        self.pauses = u64::wrapping_add(self.pauses, 1);
         self.front = self.other.front();
         self.same = same_fronts(self.other, self.front, 1000);
         self.busy = found_busy(self.other);
@@ -354,6 +359,7 @@ impl Pause for Probe<'_, '_> {
 fn probed<R: Wait>(rt: &R, a: &mut Pass<'_>, c: &mut Pass<'_>) -> Option<bool> {
     let mut probe = Probe {
         other: c,
+        pauses: 0,
         front: 9,
         same: 0,
         busy: None,
@@ -361,6 +367,7 @@ fn probed<R: Wait>(rt: &R, a: &mut Pass<'_>, c: &mut Pass<'_>) -> Option<bool> {
     let answer = a.call_with(rt, command(Ask::Send(B, 1))?, &mut probe);
     Some(
         is_wanted(&answer, Want::Done(1))
+            && probe.pauses == 1
             && probe.front == 0
             && probe.same == 1000
             && probe.busy == Some(0)
@@ -572,6 +579,14 @@ fn is_numbered<R: Wait>(rt: &R, held: &mut Held<'_, '_, R>, row: Numbered) -> Op
     Some(came_of(told) == Some(row.2) && held.last() == last && kept)
 }
 
+// What a caller of any kind is answered without a number, where it has so many roles.
+fn called_by_its_bound<C: Caller>(caller: &mut C, ask: Ask, roles: usize) -> Option<Answer> {
+    if caller.roles().count() != roles {
+        return None;
+    }
+    Some(caller.call(command(ask)?))
+}
+
 #[test]
 fn keeps_the_answer_to_a_number(rt: HostRuntime) -> Result<(), Fail> {
     let mut cell = cell(rt.alloc(), two_pairs(rt.alloc())?)?;
@@ -584,5 +599,7 @@ fn keeps_the_answer_to_a_number(rt: HostRuntime) -> Result<(), Fail> {
         assert!(rt; is_numbered(&rt, &mut held, *row) == Some(true));
     }
     assert!(rt; held.pass.seen() == 3);
+    let answer = called_by_its_bound(&mut held, Ask::Undo(1), 4).ok_or("four")?;
+    assert!(rt; is_wanted(&answer, Want::Undone(1)) && held.last() == 3);
     Ok(())
 }

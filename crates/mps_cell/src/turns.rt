@@ -11,9 +11,13 @@ use crate::view::View;
 use atomic_table::Seat;
 use mps_base::Role;
 use mps_room::{Answer, Command, Room};
+use std::hint::spin_loop;
 use std::sync::Wait;
 use std::sync::atomic::AtomicU64;
 use std::sync::atomic::Ordering::SeqCst;
+
+// How often a pass looks whether the room is back, before it sleeps.
+const LOOKS: u32 = 100;
 
 // One look and one try. It tells the journal's length that the word showed, and whether the room was taken.
 pub(crate) fn attempt(shared: &Table, seat: &mut Seat<Room, View>) -> (u64, bool)
@@ -45,26 +49,54 @@ pub(crate) fn take<R: Wait>(
     ensures cell { seat.new.table_id ≡ seat.old.table_id }
     ensures took { Took seat.old.me seat.new.me }
 {
+    if attempt(shared, seat).1 {
+        return;
+    }
+    if attempt_soon(shared, seat).1 {
+        return;
+    }
     for _ in rt.forever() {
-        let (found, won) = attempt(shared, seat);
-        if won {
+        waiting.store(1, SeqCst);
+        if attempt(shared, seat).1 {
             return;
         }
-        waiting.fetch_add(1, SeqCst);
-        shared.park(rt, 0, (2 * found + 1) as u32);
-        waiting.fetch_sub(1, SeqCst);
+        waiting.park(rt, 1);
+        if attempt_soon(shared, seat).1 {
+            // others may sleep on
+            waiting.store(1, SeqCst);
+            return;
+        }
     }
     unreachable!()
 }
 
-// Answers the role's command in the room that was taken, and gives the room back. It tells the journal's length too.
+// The same as `attempt`, once the room is back or a while has gone by.
+fn attempt_soon(shared: &Table, seat: &mut Seat<Room, View>) -> (u64, bool)
+    requires cell { seat.old.table_id ≡ shared.now.table_id }
+    requires word { shared.now.table_id.words ≡ 1 }
+    requires free { IsFree seat.old.me }
+    ensures cell { seat.new.table_id ≡ seat.old.table_id }
+    ensures tried { MatchBool result.1
+        (Took seat.old.me seat.new.me) (Missed seat.old.me result.0 seat.new.me) }
+{
+    for _ in 0..LOOKS {
+        if shared.peek(0) % 2 == 0 {
+            break;
+        }
+        spin_loop();
+    }
+    attempt(shared, seat)
+}
+
+// Answers the role's command in the room that was taken, and gives the room back. `seen` is the journal's length then.
 pub(crate) fn finish(
     shared: &Table,
     waiting: &AtomicU64,
     seat: &mut Seat<Room, View>,
+    seen: &mut u64,
     role: Role,
     command: Command,
-) -> (Answer, u64)
+) -> Answer
     requires cell { seat.old.table_id ≡ shared.now.table_id }
     requires word { shared.now.table_id.words ≡ 1 }
     requires room { HasRoom seat.old.me }
@@ -72,48 +104,51 @@ pub(crate) fn finish(
     requires some { role < length (part_of seat.old.me.0.parts).opening.types }
     ensures cell { seat.new.table_id ≡ seat.old.table_id }
     ensures answer { IsReplyIn (part_of seat.old.me.0.parts).opening
-        (journal_in seat.old.me.1) role command result.0 }
+        (journal_in seat.old.me.1) role command result }
     ensures gave { Gave seat.old.me
-        (grown (journal_in seat.old.me.1) role command result.0) seat.new.me }
-    ensures count { result.1 ≡ length (grown (journal_in seat.old.me.1) role command result.0) }
+        (grown (journal_in seat.old.me.1) role command result) seat.new.me }
+    ensures count { seen.new ≡ length (grown (journal_in seat.old.me.1) role command result) }
     ensures legal { IsLegalIn (part_of seat.old.me.0.parts).opening
-        (grown (journal_in seat.old.me.1) role command result.0) }
+        (grown (journal_in seat.old.me.1) role command result) }
 {
-    let (answer, entries) = answer_in(shared, seat, role, command);
-    shared.store::<Give>(seat, 0, 2 * entries);
-    if waiting.load(SeqCst) > 0 {
-        shared.wake_one(0);
+    let answer = answer_in(shared, seat, seen, role, command);
+    shared.store::<Give>(seat, 0, 2 * *seen);
+    if waiting.load(SeqCst) == 1 {
+        waiting.store(0, SeqCst);
+        waiting.wake_one();
     }
-    (answer, entries)
+    answer
 }
 
-// Answers the command, and tells the journal's length. The room is still the seat's.
+// Answers the command. `seen` is the journal's length then, and the room is still the seat's.
 fn answer_in(
     shared: &Table,
     seat: &mut Seat<Room, View>,
+    seen: &mut u64,
     role: Role,
     command: Command,
-) -> (Answer, u64)
+) -> Answer
     requires cell { seat.old.table_id ≡ shared.now.table_id }
     requires word { shared.now.table_id.words ≡ 1 }
     requires room { HasRoom seat.old.me }
     requires some { role < length (part_of seat.old.me.0.parts).opening.types }
     ensures cell { seat.new.table_id ≡ seat.old.table_id }
     ensures answer { IsReplyIn (part_of seat.old.me.0.parts).opening
-        (journal_in seat.old.me.1) role command result.0 }
+        (journal_in seat.old.me.1) role command result }
     ensures room { seat.new.me ≡ (
       seat.old.me.0,
       (
         0,
         room_of (part_of seat.old.me.0.parts).opening
-            (grown (journal_in seat.old.me.1) role command result.0),
+            (grown (journal_in seat.old.me.1) role command result),
       ) ∷ [],
     ) }
-    ensures count { result.1 ≡ length (grown (journal_in seat.old.me.1) role command result.0) }
+    ensures count { seen.new ≡ length (grown (journal_in seat.old.me.1) role command result) }
     ensures legal { IsLegalIn (part_of seat.old.me.0.parts).opening
-        (grown (journal_in seat.old.me.1) role command result.0) }
+        (grown (journal_in seat.old.me.1) role command result) }
 {
     let room = seat.slot_mut(shared, 0);
     let answer = room.apply(role, command);
-    (answer, room.entries())
+    *seen = room.entries();
+    answer
 }
