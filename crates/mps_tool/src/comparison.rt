@@ -1,7 +1,7 @@
 //! Two scripts compared.
 ghost use Rattle.std.specs.Prelude.{◌≡◌, ◌+◌, ◌<◌, ◌≤◌, ◌^◌, length, IsTrue, IfOk, IfErr};
 ghost use Rattle.mps_machine.specs.Machine.{initial};
-ghost use Rattle.mps_tool.specs.Compared.{CantCompare, HasCompared, HasReplayed, HasStopped, Tells, unheard};
+ghost use Rattle.mps_tool.specs.Compared.{CantCompare, CantFollow, HasCompared, HasFollowed, HasReplayed, HasStopped, Tells, unheard};
 ghost use Rattle.mps_tool.specs.Faults.{IsCompareFault, IsScriptsFault};
 ghost use Rattle.mps_wire.specs.Runs.{max_reads};
 
@@ -38,6 +38,29 @@ fn replay_unheard<'a, R: Source>(
     Ok(replay_session(alloc, reader, &mut Discard, roles, session)?)
 }
 
+/// The same in a room with a copy of the roles.
+fn replay_on<'a, R: Source>(
+    alloc: Global,
+    reader: &mut R,
+    roles: &Roles,
+    session: Session,
+) -> Result<Room, ToolFault<'a>>
+    requires new { session.state ≡ initial }
+    requires named { length roles.now ≡ length session.types }
+    requires reads { R.calls reader.old < 2 ^ 62 }
+    ensures replayed { IfOk result (λ room. HasReplayed roles.now session.types
+        (unheard R.Source reader.old) (unheard R.Source reader.new) room.journal) }
+    ensures types { IfOk result (λ room. room.types ≡ session.types) }
+    ensures fault { IfErr result (HasStopped roles.now session.types
+        (unheard R.Source reader.old) (unheard R.Source reader.new)) }
+    ensures reads { R.calls reader.new ≤ R.calls reader.old + max_reads }
+{
+    match roles.copy(alloc) {
+        Ok(names) => replay_unheard(alloc, reader, names, session),
+        Err(_) => Err(ToolFault::Memory),
+    }
+}
+
 /// The line and the status that say whether two sessions are the same.
 fn told(alloc: Global, alike: bool) -> Result<(Vec<u8>, u8), AllocError>
     ensures { IfOk result (λ r. Tells (IsTrue alike) r.0.items r.1) }
@@ -46,6 +69,31 @@ fn told(alloc: Global, alike: bool) -> Result<(Vec<u8>, u8), AllocError>
         Ok((Vec::from_slice(alloc, b"same\n")?, 0))
     } else {
         Ok((Vec::from_slice(alloc, b"different\n")?, 1))
+    }
+}
+
+/// Replays the script on a new session, and says whether it is then the same as the first.
+fn compared<'a, S: Source>(
+    alloc: Global,
+    roles: &Roles,
+    first: &Session,
+    second: Session,
+    other: &mut S,
+) -> Result<(Vec<u8>, u8), ToolFault<'a>>
+    requires types { second.types ≡ first.now.types }
+    requires named { length roles.now ≡ length second.types }
+    requires new { second.state ≡ initial }
+    requires reads { S.calls other.old < 2 ^ 62 }
+    ensures verdict { IfOk result (λ r. HasFollowed roles.now first.now
+        (unheard S.Source other.old) (unheard S.Source other.new) r.0.items r.1) }
+    ensures fault { IfErr result (CantFollow roles.now first.now.types
+        (unheard S.Source other.old) (unheard S.Source other.new)) }
+    ensures reads { S.calls other.new ≤ S.calls other.old + max_reads }
+{
+    let second = replay_on(alloc, other, roles, second)?;
+    match told(alloc, same(first, second.session())) {
+        Ok(told) => Ok(told),
+        Err(_) => Err(ToolFault::Memory),
     }
 }
 
@@ -75,11 +123,8 @@ pub fn same_out<'a, R: Source, S: Source>(
     ensures first_reads { R.calls reader.new ≤ R.calls reader.old + max_reads }
     ensures second_reads { S.calls other.new ≤ S.calls other.old + max_reads }
 {
-    let names = roles.copy(alloc)?;
-    let others = roles.copy(alloc)?;
-    let first = replay_unheard(alloc, reader, names, first)?;
-    let second = replay_unheard(alloc, other, others, second)?;
-    Ok(told(alloc, same(first.session(), second.session()))?)
+    let first = replay_on(alloc, reader, roles, first)?;
+    compared(alloc, roles, first.session(), second, other)
 }
 
 /// Compares the scripts in two files, and prints what is said of them. Gives the status.
