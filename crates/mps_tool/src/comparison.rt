@@ -1,15 +1,17 @@
 //! Two scripts compared.
-ghost use Rattle.std.specs.Prelude.{◌≡◌, ◌+◌, ◌<◌, ◌≤◌, ◌^◌, length, IsTrue, IfOk, IfErr};
+ghost use Rattle.std.specs.Prelude.{◌⊎◌, ◌≡◌, ◌+◌, ◌<◌, ◌≤◌, ◌^◌, length, IsTrue, IfOk, IfErr};
+ghost use Rattle.mps_dev.specs.Standard.{calls_of};
 ghost use Rattle.mps_machine.specs.Machine.{initial};
 ghost use Rattle.mps_tool.specs.Compared.{CantCompare, CantFollow, HasCompared, HasFollowed, HasReplayed, HasStopped, Tells, unheard};
-ghost use Rattle.mps_tool.specs.Faults.{IsCompareFault, IsScriptsFault};
+ghost use Rattle.mps_tool.specs.Faults.{IsCompareFault, IsFileFault, IsScriptsFault};
+ghost use Rattle.mps_tool.specs.declared.faults.ToolFault.TheVariants.{Write as NotWritten};
 ghost use Rattle.mps_wire.specs.Runs.{max_reads};
 
 use crate::faults::ToolFault;
 use crate::files::open_file;
 use crate::load::read_sessions;
 use mps_base::Roles;
-use mps_dev::{Discard, OverWrite, Source};
+use mps_dev::{Discard, OverRead, OverWrite, Source};
 use mps_room::Room;
 use mps_session::{Session, same};
 use mps_wire::flow::send_all;
@@ -127,6 +129,32 @@ pub fn same_out<'a, R: Source, S: Source>(
     compared(alloc, roles, first.session(), second, other)
 }
 
+/// Opens both scripts, of which nothing was read yet.
+fn open_both<'a, R: Files>(
+    rt: &R,
+    script: &'a str,
+    other: &'a str,
+) -> Result<(OverRead<R::File>, OverRead<R::File>), ToolFault<'a>>
+    ensures first_fresh { IfOk result (λ readers. calls_of readers.0 ≡ 0) }
+    ensures second_fresh { IfOk result (λ readers. calls_of readers.1 ≡ 0) }
+    ensures fault { IfErr result (λ fault.
+        IsFileFault script.now fault ⊎ IsFileFault other.now fault) }
+{
+    let first = open_file(rt, script)?;
+    let second = open_file(rt, other)?;
+    Ok((first, second))
+}
+
+/// Prints the line.
+fn print_line<'a, R: Print>(rt: &R, line: &[u8]) -> Result<(), ToolFault<'a>>
+    ensures { IfErr result (λ fault. fault ≡ NotWritten) }
+{
+    match send_all(&mut OverWrite::new(io::writer(rt)), line) {
+        Ok(()) => Ok(()),
+        Err(_) => Err(ToolFault::Write),
+    }
+}
+
 /// Compares the scripts in two files, and prints what is said of them. Gives the status.
 fn compare_scripts<'a, R: Files + AllocGlobal + Print>(
     rt: &R,
@@ -143,8 +171,7 @@ fn compare_scripts<'a, R: Files + AllocGlobal + Print>(
     ensures status { IfOk result (λ status. status ≤ 1) }
     ensures fault { IfErr result (IsScriptsFault script.now other.now) }
 {
-    let mut reader = open_file(rt, script)?;
-    let mut second_reader = open_file(rt, other)?;
+    let (mut reader, mut second_reader) = open_both(rt, script, other)?;
     let (line, status) = same_out(
         rt.alloc(),
         roles,
@@ -153,11 +180,8 @@ fn compare_scripts<'a, R: Files + AllocGlobal + Print>(
         &mut reader,
         &mut second_reader,
     )?;
-    let mut writer = OverWrite::new(io::writer(rt));
-    match send_all(&mut writer, line.as_slice()) {
-        Ok(()) => Ok(status),
-        Err(_) => Err(ToolFault::Write),
-    }
+    print_line(rt, line.as_slice())?;
+    Ok(status)
 }
 
 /// Replays the scripts in two files, each on a new session of the protocol in the file, and prints
