@@ -1,7 +1,7 @@
 use crate::{
-    Order, ToolFault, check_out, compare, fault_line, open_file, order, read_session,
-    read_sessions, read_text, replay_session, roles_and_session, roles_and_sessions, run, same_out,
-    show, status, write_types,
+    ToolFault, check_out, compare, fault_line, open_file, order, read_session, read_sessions,
+    read_text, replay_session, roles_and_session, roles_and_sessions, run, same_out, show, status,
+    write_types,
 };
 use mps_base::{Name, Roles};
 use mps_dev::{Pieces, Short};
@@ -30,22 +30,22 @@ fn halves(alloc: Global, text: &str) -> Result<Vec<Vec<u8>>, Fail> {
     ]?)
 }
 
-// The answers to the script on this session.
-fn replayed(alloc: Global, roles: Roles, session: Session, script: &str) -> Result<Vec<u8>, Fail> {
-    let mut reader = Pieces::new(whole(alloc, script)?, None);
-    let mut writer = Short::new(alloc, 2_000_000)?;
-    match replay_session(alloc, &mut reader, &mut writer, roles, session) {
-        Ok(_) => Ok(Vec::from_slice(alloc, writer.bytes())?),
-        Err(_) => Err("a script".into()),
+// Whether the script that the reader gives is replayed on a new session of the protocol.
+fn replays(alloc: Global, protocol: &str, reader: &mut Pieces, writer: &mut Short) -> bool {
+    match roles_and_session(alloc, protocol.as_bytes()) {
+        Ok((roles, session)) => replay_session(alloc, reader, writer, roles, session).is_ok(),
+        Err(_) => false,
     }
 }
 
 // The answers to the script on a new session of the protocol.
 pub(crate) fn answers(alloc: Global, protocol: &str, script: &str) -> Result<Vec<u8>, Fail> {
-    match roles_and_session(alloc, protocol.as_bytes()) {
-        Ok((roles, session)) => replayed(alloc, roles, session, script),
-        Err(_) => Err("a protocol".into()),
+    let mut reader = Pieces::new(whole(alloc, script)?, None);
+    let mut writer = Short::new(alloc, 2_000_000)?;
+    if !replays(alloc, protocol, &mut reader, &mut writer) {
+        return Err("a script".into());
     }
+    Ok(Vec::from_slice(alloc, writer.bytes())?)
 }
 
 // A protocol, a script, and the answers.
