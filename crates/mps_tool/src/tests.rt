@@ -228,16 +228,23 @@ fn tells_protocols(rt: HostRuntime) -> Result<(), Fail> {
     Ok(())
 }
 
-// How many names there are and how many roles the session has, or the line of the fault.
+// How many names there are, and how many roles the session has.
+fn counts<'a>(
+    had: Result<(Roles, Session), ToolFault<'a>>,
+) -> Result<(usize, usize), ToolFault<'a>> {
+    match had {
+        Ok((roles, session)) => Ok((roles.count(), session.roles())),
+        Err(fault) => Err(fault),
+    }
+}
+
+// These numbers, or the line of the fault.
 fn counted(
     alloc: Global,
-    had: Result<(Roles, Session), ToolFault<'_>>,
+    had: Result<(usize, usize), ToolFault<'_>>,
 ) -> Result<Vec<u8>, AllocError> {
     match had {
-        Ok((roles, session)) => {
-            let counts = format!(in alloc; "{} {}", roles.count(), session.roles())?;
-            Ok(counts.into_bytes())
-        }
+        Ok((names, roles)) => Ok(format!(in alloc; "{names} {roles}")?.into_bytes()),
         Err(fault) => fault_line(alloc, &fault),
     }
 }
@@ -261,10 +268,10 @@ enum Had {
 // What is had of the protocol, or the line of its fault.
 fn given(alloc: Global, what: Had, protocol: &str) -> Result<Vec<u8>, Fail> {
     match what {
-        Had::Session => Ok(counted(alloc, roles_and_session(alloc, protocol.as_bytes()))?),
+        Had::Session => Ok(counted(alloc, counts(roles_and_session(alloc, protocol.as_bytes())))?),
         Had::Loaded => {
             let mut reader = Pieces::new(halves(alloc, protocol)?, None);
-            Ok(counted(alloc, read_session(alloc, &mut reader))?)
+            Ok(counted(alloc, counts(read_session(alloc, &mut reader)))?)
         }
         Had::Lines => Ok(shown(alloc, protocol)?),
     }
@@ -338,7 +345,7 @@ const LONG: &[(usize, &str)] = &[
 fn reads_no_more_than_a_text(rt: HostRuntime) -> Result<(), Fail> {
     for (count, line) in LONG {
         let mut reader = Pieces::new(blanks(rt.alloc(), *count)?, None);
-        let found = counted(rt.alloc(), read_session(rt.alloc(), &mut reader))?;
+        let found = counted(rt.alloc(), counts(read_session(rt.alloc(), &mut reader)))?;
         assert_eq!(rt; found.as_slice(), line.as_bytes());
     }
     Ok(())
@@ -451,21 +458,24 @@ fn reads_texts(rt: HostRuntime) -> Result<(), Fail> {
     Ok(())
 }
 
-// Whether a read that fails is told as one, by each function that reads.
-fn tells_failed_reads(alloc: Global) -> Result<bool, Fail> {
-    let mut first = Pieces::new(whole(alloc, "roles a")?, Some(2));
-    let mut second = Pieces::new(whole(alloc, RELAY)?, Some(2));
-    let mut third = Pieces::new(whole(alloc, RELAY)?, Some(2));
-    Ok(
-        matches!(read_text(alloc, &mut first), Err(ToolFault::Read))
-            && matches!(read_session(alloc, &mut second), Err(ToolFault::Read))
-            && matches!(read_sessions(alloc, &mut third), Err(ToolFault::Read)),
-    )
+// Whether it is told that a read failed.
+fn is_failed_read<T: Drop>(had: Result<T, ToolFault<'_>>) -> bool {
+    matches!(had, Err(ToolFault::Read))
+}
+
+// A reader that fails from its second call on.
+fn torn(alloc: Global, text: &str) -> Result<Pieces, Fail> {
+    Ok(Pieces::new(whole(alloc, text)?, Some(2)))
 }
 
 #[test]
 fn tells_reads_that_fail(rt: HostRuntime) -> Result<(), Fail> {
-    assert!(rt; tells_failed_reads(rt.alloc())?);
+    let mut reader = torn(rt.alloc(), "roles a")?;
+    assert!(rt; is_failed_read(read_text(rt.alloc(), &mut reader)));
+    let mut reader = torn(rt.alloc(), RELAY)?;
+    assert!(rt; is_failed_read(read_session(rt.alloc(), &mut reader)));
+    let mut reader = torn(rt.alloc(), RELAY)?;
+    assert!(rt; is_failed_read(read_sessions(rt.alloc(), &mut reader)));
     Ok(())
 }
 
@@ -518,14 +528,21 @@ const COMPARED: &[Scripts] = &[
     Scripts(AB, CD, None, Some(1), "refused read", 4),
 ];
 
+// What is told of the scripts that two readers give.
+fn told(
+    alloc: Global,
+    reader: &mut Pieces,
+    other: &mut Pieces,
+) -> Result<(Vec<u8>, u8), ToolFault<'static>> {
+    let (roles, first, second) = roles_and_sessions(alloc, PAIRS.as_bytes())?;
+    same_out(alloc, &roles, first, second, reader, other)
+}
+
 // What is told of the two scripts, and the status; or the line and the status of the fault.
 fn compared(alloc: Global, scripts: &Scripts) -> Result<(Vec<u8>, u8), Fail> {
-    let Ok((roles, first, second)) = roles_and_sessions(alloc, PAIRS.as_bytes()) else {
-        return Err("a protocol".into());
-    };
     let mut reader = Pieces::new(whole(alloc, scripts.0)?, scripts.2);
     let mut other = Pieces::new(whole(alloc, scripts.1)?, scripts.3);
-    match same_out(alloc, &roles, first, second, &mut reader, &mut other) {
+    match told(alloc, &mut reader, &mut other) {
         Ok(told) => Ok(told),
         Err(fault) => Ok((fault_line(alloc, &fault)?, status(&fault))),
     }
@@ -614,7 +631,7 @@ fn writes_types(rt: HostRuntime) -> Result<(), Fail> {
 
 #[test]
 fn writes_nothing_after_a_failed_read(rt: HostRuntime) -> Result<(), Fail> {
-    let mut reader = Pieces::new(whole(rt.alloc(), RELAY)?, Some(2));
+    let mut reader = torn(rt.alloc(), RELAY)?;
     let (found, line) = write_to(rt.alloc(), &mut reader, 1000)?;
     assert!(rt; found.is_empty() && line.as_slice() == b"refused read".as_slice());
     Ok(())
