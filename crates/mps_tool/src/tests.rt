@@ -30,19 +30,17 @@ fn halves(alloc: Global, text: &str) -> Result<Vec<Vec<u8>>, Fail> {
     ]?)
 }
 
-// Whether the script that the reader gives is replayed on a new session of the protocol.
-fn replays(alloc: Global, protocol: &str, reader: &mut Pieces, writer: &mut Short) -> bool {
-    match roles_and_session(alloc, protocol.as_bytes()) {
-        Ok((roles, session)) => replay_session(alloc, reader, writer, roles, session).is_ok(),
-        Err(_) => false,
-    }
-}
-
 // The answers to the script on a new session of the protocol.
 pub(crate) fn answers(alloc: Global, protocol: &str, script: &str) -> Result<Vec<u8>, Fail> {
     let mut reader = Pieces::new(whole(alloc, script)?, None);
     let mut writer = Short::new(alloc, 2_000_000)?;
-    if !replays(alloc, protocol, &mut reader, &mut writer) {
+    let ran = match roles_and_session(alloc, protocol.as_bytes()) {
+        Ok((roles, session)) => {
+            replay_session(alloc, &mut reader, &mut writer, roles, session).is_ok()
+        }
+        Err(_) => false,
+    };
+    if !ran {
         return Err("a script".into());
     }
     Ok(Vec::from_slice(alloc, writer.bytes())?)
@@ -463,18 +461,13 @@ fn is_failed_read<T: Drop>(had: Result<T, ToolFault<'_>>) -> bool {
     matches!(had, Err(ToolFault::Read))
 }
 
-// A reader that fails from its second call on.
-fn torn(alloc: Global, text: &str) -> Result<Pieces, Fail> {
-    Ok(Pieces::new(whole(alloc, text)?, Some(2)))
-}
-
 #[test]
 fn tells_reads_that_fail(rt: HostRuntime) -> Result<(), Fail> {
-    let mut reader = torn(rt.alloc(), "roles a")?;
+    let mut reader = Pieces::new(whole(rt.alloc(), "roles a")?, Some(2));
     assert!(rt; is_failed_read(read_text(rt.alloc(), &mut reader)));
-    let mut reader = torn(rt.alloc(), RELAY)?;
+    let mut reader = Pieces::new(whole(rt.alloc(), RELAY)?, Some(2));
     assert!(rt; is_failed_read(read_session(rt.alloc(), &mut reader)));
-    let mut reader = torn(rt.alloc(), RELAY)?;
+    let mut reader = Pieces::new(whole(rt.alloc(), RELAY)?, Some(2));
     assert!(rt; is_failed_read(read_sessions(rt.alloc(), &mut reader)));
     Ok(())
 }
@@ -528,21 +521,24 @@ const COMPARED: &[Scripts] = &[
     Scripts(AB, CD, None, Some(1), "refused read", 4),
 ];
 
-// What is told of the scripts that two readers give.
+// What is told of the two scripts, which come in these pieces.
 fn told(
     alloc: Global,
-    reader: &mut Pieces,
-    other: &mut Pieces,
+    scripts: &Scripts,
+    first: Vec<Vec<u8>>,
+    second: Vec<Vec<u8>>,
 ) -> Result<(Vec<u8>, u8), ToolFault<'static>> {
+    let mut reader = Pieces::new(first, scripts.2);
+    let mut other = Pieces::new(second, scripts.3);
     let (roles, first, second) = roles_and_sessions(alloc, PAIRS.as_bytes())?;
-    same_out(alloc, &roles, first, second, reader, other)
+    same_out(alloc, &roles, first, second, &mut reader, &mut other)
 }
 
 // What is told of the two scripts, and the status; or the line and the status of the fault.
 fn compared(alloc: Global, scripts: &Scripts) -> Result<(Vec<u8>, u8), Fail> {
-    let mut reader = Pieces::new(whole(alloc, scripts.0)?, scripts.2);
-    let mut other = Pieces::new(whole(alloc, scripts.1)?, scripts.3);
-    match told(alloc, &mut reader, &mut other) {
+    let first = whole(alloc, scripts.0)?;
+    let second = whole(alloc, scripts.1)?;
+    match told(alloc, scripts, first, second) {
         Ok(told) => Ok(told),
         Err(fault) => Ok((fault_line(alloc, &fault)?, status(&fault))),
     }
@@ -604,14 +600,17 @@ const WRITTEN: &[Written] = &[
     Written("roles a b ; end end", 0, "", "refused text trailing 16"),
 ];
 
-// What is written of the types to a writer with so much room, and the line of the fault.
+// What is written of the types to a writer with so much room, by a reader of these pieces that fails
+// from a call on; and the line of the fault.
 fn write_to(
     alloc: Global,
-    reader: &mut Pieces,
+    pieces: Vec<Vec<u8>>,
+    fails_from: Option<u64>,
     room: usize,
 ) -> Result<(Vec<u8>, Vec<u8>), AllocError> {
+    let mut reader = Pieces::new(pieces, fails_from);
     let mut writer = Short::new(alloc, room)?;
-    let line = match write_types(alloc, reader, &mut writer) {
+    let line = match write_types(alloc, &mut reader, &mut writer) {
         Ok(()) => Vec::new(alloc),
         Err(fault) => fault_line(alloc, &fault)?,
     };
@@ -621,8 +620,8 @@ fn write_to(
 #[test]
 fn writes_types(rt: HostRuntime) -> Result<(), Fail> {
     for Written(protocol, room, lines, fault) in WRITTEN {
-        let mut reader = Pieces::new(halves(rt.alloc(), protocol)?, None);
-        let (found, line) = write_to(rt.alloc(), &mut reader, *room)?;
+        let pieces = halves(rt.alloc(), protocol)?;
+        let (found, line) = write_to(rt.alloc(), pieces, None, *room)?;
         assert_eq!(rt; found.as_slice(), lines.as_bytes());
         assert_eq!(rt; line.as_slice(), fault.as_bytes());
     }
@@ -631,8 +630,8 @@ fn writes_types(rt: HostRuntime) -> Result<(), Fail> {
 
 #[test]
 fn writes_nothing_after_a_failed_read(rt: HostRuntime) -> Result<(), Fail> {
-    let mut reader = torn(rt.alloc(), RELAY)?;
-    let (found, line) = write_to(rt.alloc(), &mut reader, 1000)?;
+    let pieces = whole(rt.alloc(), RELAY)?;
+    let (found, line) = write_to(rt.alloc(), pieces, Some(2), 1000)?;
     assert!(rt; found.is_empty() && line.as_slice() == b"refused read".as_slice());
     Ok(())
 }
