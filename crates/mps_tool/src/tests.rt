@@ -34,13 +34,10 @@ fn halves(alloc: Global, text: &str) -> Result<Vec<Vec<u8>>, Fail> {
 pub(crate) fn answers(alloc: Global, protocol: &str, script: &str) -> Result<Vec<u8>, Fail> {
     let mut reader = Pieces::new(whole(alloc, script)?, None);
     let mut writer = Short::new(alloc, 2_000_000)?;
-    let ran = match roles_and_session(alloc, protocol.as_bytes()) {
-        Ok((roles, session)) => {
-            replay_session(alloc, &mut reader, &mut writer, roles, session).is_ok()
-        }
-        Err(_) => false,
+    let Ok((roles, session)) = roles_and_session(alloc, protocol.as_bytes()) else {
+        return Err("a protocol".into());
     };
-    if !ran {
+    if replay_session(alloc, &mut reader, &mut writer, roles, session).is_err() {
         return Err("a script".into());
     }
     Ok(Vec::from_slice(alloc, writer.bytes())?)
