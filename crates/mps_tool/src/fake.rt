@@ -5,8 +5,14 @@ ghost use Rattle.std.specs.Prelude.{◌≤◌, length, IfOk};
 use std::alloc::{Allocator, Global};
 use std::cell::RefCell;
 use std::fmt::Display;
-use std::fs::{Metadata, OpenFile, OpenOptions};
-use std::io::{self, Cursor, Eprint, Error, ErrorKind, Print, Read, Seek, SeekFrom, Write};
+use std::fs::{FileTimes, Metadata, OpenFile, OpenOptions, Permissions};
+use std::io::{
+    self, Cursor, Eprint, Error, ErrorKind, PipeReader, PipeWriter, Print, Read, Seek, SeekFrom,
+    Write,
+};
+use std::os::fd::BorrowedFd;
+use std::os::unix::net::SocketAddr;
+use std::path::PathBuf;
 use std::rt::Files;
 
 /// Files by name with their texts, what was printed, and what was told on the standard error. The
@@ -91,6 +97,14 @@ impl OpenFile for Text<'_> {
     fn sync_data(&self) -> io::Result<()> {
         Err(unsupported())
     }
+
+    fn set_permissions(&self, _perm: Permissions) -> io::Result<()> {
+        Err(unsupported())
+    }
+
+    fn set_times(&self, _times: FileTimes) -> io::Result<()> {
+        Err(unsupported())
+    }
 }
 
 impl<'a> Files for Machine<'a> {
@@ -142,6 +156,48 @@ impl<'a> Files for Machine<'a> {
     }
 
     fn remove_dir_all<B: Allocator>(&self, _alloc: B, _path: &str) -> io::Result<()> {
+        Err(unsupported())
+    }
+
+    // what follows is unsupported by itself too, but takes longer to prove then
+
+    fn canonicalize<B: Allocator>(&self, _alloc: B, _path: &str) -> io::Result<PathBuf<B>> {
+        Err(unsupported())
+    }
+
+    fn read_link<B: Allocator>(&self, _alloc: B, _path: &str) -> io::Result<PathBuf<B>> {
+        Err(unsupported())
+    }
+
+    fn hard_link(&self, _original: &str, _link: &str) -> io::Result<()> {
+        Err(unsupported())
+    }
+
+    fn set_permissions(&self, _path: &str, _perm: Permissions) -> io::Result<()> {
+        Err(unsupported())
+    }
+
+    fn symlink(&self, _original: &str, _link: &str) -> io::Result<()> {
+        Err(unsupported())
+    }
+
+    fn pipe(&self) -> io::Result<(PipeReader, PipeWriter)> {
+        Err(unsupported())
+    }
+
+    fn chown(&self, _path: &str, _uid: Option<u32>, _gid: Option<u32>) -> io::Result<()> {
+        Err(unsupported())
+    }
+
+    fn lchown(&self, _path: &str, _uid: Option<u32>, _gid: Option<u32>) -> io::Result<()> {
+        Err(unsupported())
+    }
+
+    fn create_dir_with_mode(&self, _path: &str, _mode: u32) -> io::Result<()> {
+        Err(unsupported())
+    }
+
+    fn bind_unix(&self, _socket: BorrowedFd<'_>, _addr: &SocketAddr) -> io::Result<()> {
         Err(unsupported())
     }
 }

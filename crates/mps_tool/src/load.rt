@@ -53,6 +53,25 @@ fn session_of<'a>(alloc: Global, protocol: &Protocol) -> Result<Session, ToolFau
     }
 }
 
+/// The roles of the protocol, and a new session of it.
+fn opened<'a>(alloc: Global, protocol: &Protocol) -> Result<(Roles, Session), ToolFault<'a>>
+    ensures faultless { OnOk result
+        (fault_of protocol.now.roles.items (global_type protocol.now.body) ≡ None) }
+    ensures names { IfOk result (λ r. r.0 ≡ protocol.now.roles.items) }
+    ensures types { IfOk result (λ r. AreProjections
+        protocol.now.roles.items (global_type protocol.now.body) r.1.types) }
+    ensures new { IfOk result (λ r. r.1.state ≡ initial) }
+    ensures of_one_protocol { IfOk result (λ r. AreOfOneProtocol r.1.types) }
+    ensures fault { IfErr result
+        (GivesNoSession protocol.now.roles.items (global_type protocol.now.body)) }
+{
+    let session = session_of(alloc, protocol)?;
+    match roles_of(alloc, protocol) {
+        Ok(roles) => Ok((roles, session)),
+        Err(_) => Err(ToolFault::Memory),
+    }
+}
+
 /// The roles of the protocol that the text spells, and a new session of it.
 pub fn roles_and_session<'a>(alloc: Global, text: &[u8]) -> Result<(Roles, Session), ToolFault<'a>>
     ensures types { IfOk result (λ r. AreTypesOf text.now r.0 r.1.types) }
@@ -61,9 +80,7 @@ pub fn roles_and_session<'a>(alloc: Global, text: &[u8]) -> Result<(Roles, Sessi
     ensures fault { IfErr result (GivesNoTypes text.now) }
 {
     let protocol = read_protocol(alloc, text)?;
-    let session = session_of(alloc, &protocol)?;
-    let roles = roles_of(alloc, &protocol)?;
-    Ok((roles, session))
+    opened(alloc, &protocol)
 }
 
 /// The roles of the protocol that the text spells, and two new sessions of it.
@@ -78,9 +95,8 @@ pub fn roles_and_sessions<'a>(
     ensures fault { IfErr result (GivesNoTypes text.now) }
 {
     let protocol = read_protocol(alloc, text)?;
-    let first = session_of(alloc, &protocol)?;
+    let (roles, first) = opened(alloc, &protocol)?;
     let second = session_of(alloc, &protocol)?;
-    let roles = roles_of(alloc, &protocol)?;
     Ok((roles, first, second))
 }
 

@@ -2,7 +2,7 @@
 use crate::fake::Machine;
 use crate::{end, obey, run, show};
 use std::alloc::Global;
-use std::process::ExitCode;
+use std::process::{Abort, ExitCode};
 use std::test::Fail;
 
 const RELAY: &str = "roles a b c ;\na -> b : int .\nb -> c : int .\nend\n";
@@ -58,202 +58,292 @@ const FILES: &[(&str, &str)] = &[
     ("empty", ""),
 ];
 
-// Whether these words print so much, tell so much, and end with this status, which is 0 for
-// success.
-fn does(alloc: Global, words: &[&str], room: usize, out: &str, told: &str, code: u8) -> bool {
+// The words that the program is called with, behind its name; room for so many printed bytes; what is
+// printed; what is told on the standard error; and the status, which is 0 for success.
+struct Row(
+    &'static [&'static str],
+    usize,
+    &'static str,
+    &'static str,
+    u8,
+);
+
+const RUNS: &[Row] = &[
+    Row(
+        &["mps_tool", "run", "relay", "script"],
+        1000,
+        "done 1\ndone 2 5\ndone 3\ndone 4 7\n",
+        "",
+        0,
+    ),
+    Row(
+        &["mps_tool", "run", "relay", "script"],
+        8,
+        "",
+        "refused write\n",
+        4,
+    ),
+    Row(&["mps_tool", "run", "relay", "empty"], 1000, "", "", 0),
+    Row(
+        &["mps_tool", "run", "relay", "no script"],
+        1000,
+        "",
+        "refused file no script\n",
+        2,
+    ),
+    Row(
+        &["mps_tool", "run", "no file", "script"],
+        1000,
+        "",
+        "refused file no file\n",
+        2,
+    ),
+    // the protocol is read and checked before the script is opened
+    Row(
+        &["mps_tool", "run", "unguarded", "no script"],
+        1000,
+        "",
+        "refused protocol unguarded\n",
+        3,
+    ),
+    Row(
+        &["mps_tool", "run", "unmergeable", "no script"],
+        1000,
+        "",
+        "refused projection c 0\n",
+        3,
+    ),
+];
+
+const LOOPS_AND_CHOICES: &[Row] = &[
+    Row(
+        &["mps_tool", "run", "talk", "talked"],
+        1000,
+        "done 1\ndone 2 go\ndone 3\nrefused wrongact\ndone 4 \"good day\"\n\
+         done 5\ndone 6 stop\nrefused ended\n",
+        "",
+        0,
+    ),
+    Row(
+        &["mps_tool", "run", "ring", "stray"],
+        1000,
+        "refused nothingqueued\nrefused wrongact\nrefused wrongpeer\nrefused wrongsort\n",
+        "",
+        0,
+    ),
+    Row(
+        &["mps_tool", "run", "ring", "round"],
+        1000,
+        "done 1\ndone 2 5\ndone 3\ndone 4 7\nrefused nolabel\nrefused nothingqueued\n\
+         done 5\ndone 6 ok\ndone 7\nrefused ended\n",
+        "",
+        0,
+    ),
+    Row(
+        &["mps_tool", "run", "loop", "twice"],
+        1000,
+        "done 1\ndone 2\ndone 3 1\ndone 4 2\n",
+        "",
+        0,
+    ),
+];
+
+const COMPARISONS: &[Row] = &[
+    Row(
+        &["mps_tool", "same", "pairs", "ab first", "cd first"],
+        1000,
+        "same\n",
+        "",
+        0,
+    ),
+    Row(
+        &["mps_tool", "same", "pairs", "ab first", "another number"],
+        1000,
+        "different\n",
+        "",
+        1,
+    ),
+    Row(
+        &["mps_tool", "same", "pairs", "ab first", "ab first"],
+        4,
+        "",
+        "refused write\n",
+        4,
+    ),
+    Row(
+        &["mps_tool", "same", "no file", "no script", "none"],
+        1000,
+        "",
+        "refused file no file\n",
+        2,
+    ),
+    // the protocol is checked before a script is opened
+    Row(
+        &["mps_tool", "same", "unguarded", "no script", "none"],
+        1000,
+        "",
+        "refused protocol unguarded\n",
+        3,
+    ),
+    Row(
+        &["mps_tool", "same", "unmergeable", "no script", "none"],
+        1000,
+        "",
+        "refused projection c 0\n",
+        3,
+    ),
+    Row(
+        &["mps_tool", "same", "pairs", "no script", "none"],
+        1000,
+        "",
+        "refused file no script\n",
+        2,
+    ),
+    // both scripts are opened before one is read
+    Row(
+        &["mps_tool", "same", "pairs", "torn", "none"],
+        1000,
+        "",
+        "refused file none\n",
+        2,
+    ),
+    Row(
+        &["mps_tool", "same", "pairs", "torn", "ab first"],
+        1000,
+        "",
+        "refused read\n",
+        4,
+    ),
+    Row(
+        &["mps_tool", "same", "pairs", "ab first", "torn"],
+        1000,
+        "",
+        "refused read\n",
+        4,
+    ),
+];
+
+const GREETINGS: &[Row] = &[
+    Row(
+        &["mps_tool", "run", "greeting", "words"],
+        1000,
+        "done 1\ndone 2 \"good day\"\ndone 3\ndone 4 true\n",
+        "",
+        0,
+    ),
+    Row(
+        &["mps_tool", "check", "greeting"],
+        1000,
+        "a : send b text . recv b bool . end\nb : recv a text . send a bool . end\n",
+        "",
+        0,
+    ),
+];
+
+const VERSIONS: &[Row] = &[
+    Row(&["mps_tool", "--version"], 1000, "mps_tool 0.1.0\n", "", 0),
+    Row(&["mps_tool", "-V"], 1000, "mps_tool 0.1.0\n", "", 0),
+];
+
+const CHECKS: &[Row] = &[
+    Row(
+        &["mps_tool", "check", "loop"],
+        1000,
+        "a : rec X . send b int . X\nb : rec X . recv a int . X\n",
+        "",
+        0,
+    ),
+    Row(&["mps_tool", "check", "loop"], 8, "", "refused write\n", 4),
+    Row(
+        &["mps_tool", "check", "choice"],
+        1000,
+        "a : choose b { l : end , r : end }\nb : pick a { l : end , r : end }\n",
+        "",
+        0,
+    ),
+    Row(
+        &["mps_tool", "check", "empty"],
+        1000,
+        "",
+        "refused text unexpected 0\n",
+        3,
+    ),
+    Row(
+        &["mps_tool", "check", "no file"],
+        1000,
+        "",
+        "refused file no file\n",
+        2,
+    ),
+];
+
+// What the program prints and tells where it is called with these words, and how it ends.
+fn called(alloc: Global, words: &[&str], room: usize) -> (Vec<u8>, Vec<u8>, ExitCode) {
     let machine = Machine::new(alloc, FILES, room);
     let status = match obey(&machine, words) {
         Ok(status) => ExitCode::from(status),
         Err(fault) => end(&machine, &fault),
     };
-    let (printed, errors) = machine.output();
-    printed.as_slice() == out.as_bytes()
-        && errors.as_slice() == told.as_bytes()
-        && status == ExitCode::from(code)
-}
-
-#[test]
-fn runs_scripts(rt: HostRuntime) -> Result<(), Fail> {
-    let alloc = rt.alloc();
-    let words = ["mps_tool", "run", "relay", "script"];
-    let answers = "done 1\ndone 2 5\ndone 3\ndone 4 7\n";
-    assert!(rt; does(alloc, &words, 1000, answers, "", 0));
-    assert!(rt; does(alloc, &words, 8, "", "refused write\n", 4));
-    let words = ["mps_tool", "run", "relay", "empty"];
-    assert!(rt; does(alloc, &words, 1000, "", "", 0));
-    let words = ["mps_tool", "run", "relay", "no script"];
-    assert!(rt; does(alloc, &words, 1000, "", "refused file no script\n", 2));
-    let words = ["mps_tool", "run", "no file", "script"];
-    assert!(rt; does(alloc, &words, 1000, "", "refused file no file\n", 2));
-    // the protocol is read and checked before the script is opened
-    let words = ["mps_tool", "run", "unguarded", "no script"];
-    let told = "refused protocol unguarded\n";
-    assert!(rt; does(alloc, &words, 1000, "", told, 3));
-    let words = ["mps_tool", "run", "unmergeable", "no script"];
-    let told = "refused projection c 0\n";
-    assert!(rt; does(alloc, &words, 1000, "", told, 3));
-    Ok(())
-}
-
-#[test]
-fn runs_loops_and_choices(rt: HostRuntime) -> Result<(), Fail> {
-    let rows = [
-        (
-            "talk",
-            "talked",
-            "done 1\ndone 2 go\ndone 3\nrefused wrongact\ndone 4 \"good day\"\n\
-             done 5\ndone 6 stop\nrefused ended\n",
-        ),
-        (
-            "ring",
-            "stray",
-            "refused nothingqueued\nrefused wrongact\nrefused wrongpeer\nrefused wrongsort\n",
-        ),
-        (
-            "ring",
-            "round",
-            "done 1\ndone 2 5\ndone 3\ndone 4 7\nrefused nolabel\nrefused nothingqueued\n\
-             done 5\ndone 6 ok\ndone 7\nrefused ended\n",
-        ),
-        ("loop", "twice", "done 1\ndone 2\ndone 3 1\ndone 4 2\n"),
-    ];
-    for (file, script, answers) in rows {
-        let words = ["mps_tool", "run", file, script];
-        assert!(rt; does(rt.alloc(), &words, 1000, answers, "", 0), "{script}");
-    }
-    Ok(())
-}
-
-#[test]
-fn compares_files(rt: HostRuntime) -> Result<(), Fail> {
-    let rows = [
-        (["pairs", "ab first", "cd first"], 1000, "same\n", "", 0),
-        (
-            ["pairs", "ab first", "another number"],
-            1000,
-            "different\n",
-            "",
-            1,
-        ),
-        (
-            ["pairs", "ab first", "ab first"],
-            4,
-            "",
-            "refused write\n",
-            4,
-        ),
-        (
-            ["no file", "no script", "none"],
-            1000,
-            "",
-            "refused file no file\n",
-            2,
-        ),
-        // the protocol is checked before a script is opened
-        (
-            ["unguarded", "no script", "none"],
-            1000,
-            "",
-            "refused protocol unguarded\n",
-            3,
-        ),
-        (
-            ["unmergeable", "no script", "none"],
-            1000,
-            "",
-            "refused projection c 0\n",
-            3,
-        ),
-        (
-            ["pairs", "no script", "none"],
-            1000,
-            "",
-            "refused file no script\n",
-            2,
-        ),
-        // both scripts are opened before one is read
-        (
-            ["pairs", "torn", "none"],
-            1000,
-            "",
-            "refused file none\n",
-            2,
-        ),
-        (["pairs", "torn", "ab first"], 1000, "", "refused read\n", 4),
-        (["pairs", "ab first", "torn"], 1000, "", "refused read\n", 4),
-    ];
-    for (files, room, out, told, code) in rows {
-        let words = ["mps_tool", "same", files[0], files[1], files[2]];
-        assert!(rt; does(rt.alloc(), &words, room, out, told, code), "{told}");
-    }
-    Ok(())
-}
-
-#[test]
-fn sends_texts_and_truth_values(rt: HostRuntime) -> Result<(), Fail> {
-    let alloc = rt.alloc();
-    let words = ["mps_tool", "run", "greeting", "words"];
-    let answers = "done 1\ndone 2 \"good day\"\ndone 3\ndone 4 true\n";
-    assert!(rt; does(alloc, &words, 1000, answers, "", 0));
-    let words = ["mps_tool", "check", "greeting"];
-    let lines = "a : send b text . recv b bool . end\nb : recv a text . send a bool . end\n";
-    assert!(rt; does(alloc, &words, 1000, lines, "", 0));
-    Ok(())
-}
-
-#[test]
-fn tells_its_version(rt: HostRuntime) -> Result<(), Fail> {
-    let alloc = rt.alloc();
-    for word in ["--version", "-V"] {
-        let words = ["mps_tool", word];
-        assert!(rt; does(alloc, &words, 1000, "mps_tool 0.1.0\n", "", 0));
-    }
-    Ok(())
-}
-
-#[test]
-fn checks_protocols(rt: HostRuntime) -> Result<(), Fail> {
-    let alloc = rt.alloc();
-    let words = ["mps_tool", "check", "loop"];
-    let lines = "a : rec X . send b int . X\nb : rec X . recv a int . X\n";
-    assert!(rt; does(alloc, &words, 1000, lines, "", 0));
-    assert!(rt; does(alloc, &words, 8, "", "refused write\n", 4));
-    let words = ["mps_tool", "check", "choice"];
-    let lines = "a : choose b { l : end , r : end }\nb : pick a { l : end , r : end }\n";
-    assert!(rt; does(alloc, &words, 1000, lines, "", 0));
-    let words = ["mps_tool", "check", "empty"];
-    let told = "refused text unexpected 0\n";
-    assert!(rt; does(alloc, &words, 1000, "", told, 3));
-    let words = ["mps_tool", "check", "no file"];
-    assert!(rt; does(alloc, &words, 1000, "", "refused file no file\n", 2));
-    Ok(())
-}
-
-#[test]
-fn tells_misuse(rt: HostRuntime) -> Result<(), Fail> {
-    let machine = Machine::new(rt.alloc(), FILES, 1000);
-    let Err(fault) = obey(&machine, &["mps_tool", "fly"]) else {
-        return Err("a fault of use".into());
-    };
-    assert!(rt; end(&machine, &fault) == ExitCode::from(2));
     let (printed, told) = machine.output();
-    assert!(rt; printed.is_empty());
-    assert!(rt; told.ends_with(b"\n"));
-    let machine = Machine::new(rt.alloc(), FILES, 1000);
-    assert!(rt; obey(&machine, &["mps_tool", "--help"]).is_ok());
-    let (printed, told) = machine.output();
-    assert!(rt; told.is_empty());
-    assert!(rt; printed.ends_with(b"\n"));
-    Ok(())
+    (printed, told, status)
+}
+
+fn plays(rt: &impl Abort, alloc: Global, rows: &[Row]) {
+    for Row(words, room, out, err, code) in rows {
+        let (printed, told, status) = called(alloc, words, *room);
+        assert!(rt; printed.as_slice() == out.as_bytes(), "{out}");
+        assert!(rt; told.as_slice() == err.as_bytes(), "{err}");
+        assert!(rt; status == ExitCode::from(*code), "{out}{err}");
+    }
 }
 
 #[test]
-fn runs_and_shows(rt: HostRuntime) -> Result<(), Fail> {
+fn runs_scripts(rt: HostRuntime) {
+    plays(&rt, rt.alloc(), RUNS)
+}
+
+#[test]
+fn runs_loops_and_choices(rt: HostRuntime) {
+    plays(&rt, rt.alloc(), LOOPS_AND_CHOICES)
+}
+
+#[test]
+fn compares_files(rt: HostRuntime) {
+    plays(&rt, rt.alloc(), COMPARISONS)
+}
+
+#[test]
+fn sends_texts_and_truth_values(rt: HostRuntime) {
+    plays(&rt, rt.alloc(), GREETINGS)
+}
+
+#[test]
+fn tells_its_version(rt: HostRuntime) {
+    plays(&rt, rt.alloc(), VERSIONS)
+}
+
+#[test]
+fn checks_protocols(rt: HostRuntime) {
+    plays(&rt, rt.alloc(), CHECKS)
+}
+
+#[test]
+fn tells_misuse(rt: HostRuntime) {
+    let (printed, told, status) = called(rt.alloc(), &["mps_tool", "fly"], 1000);
+    assert!(rt; printed.is_empty() && told.ends_with(b"\n") && status == ExitCode::from(2));
+}
+
+#[test]
+fn tells_its_use(rt: HostRuntime) {
+    let (printed, told, status) = called(rt.alloc(), &["mps_tool", "--help"], 1000);
+    assert!(rt; printed.ends_with(b"\n") && told.is_empty() && status == ExitCode::from(0));
+}
+
+#[test]
+fn runs_and_shows(rt: HostRuntime) {
     let machine = Machine::new(rt.alloc(), FILES, 1000);
-    assert!(rt; run(&machine, "relay", "script").is_ok());
-    assert!(rt; show(&machine, "relay").is_ok());
+    let done = run(&machine, "relay", "script").is_ok() && show(&machine, "relay").is_ok();
     let (printed, _) = machine.output();
-    assert!(rt; printed.starts_with(b"done 1\n"));
+    assert!(rt; done && printed.starts_with(b"done 1\n"));
     assert!(rt; printed.ends_with(b"c : recv b int . end\n"));
-    Ok(())
 }

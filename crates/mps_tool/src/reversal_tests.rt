@@ -1,5 +1,5 @@
 use crate::tests::answers;
-use std::alloc::Global;
+use std::alloc::{AllocError, Global};
 use std::process::Abort;
 use std::test::Fail;
 
@@ -211,17 +211,27 @@ const QUESTIONS: &[Row] = &[
     ),
 ];
 
+// Puts the line behind the text.
+pub(crate) fn put_line(text: &mut String, line: &str) -> Result<(), AllocError> {
+    text.push_str(line)?;
+    text.push('\n')
+}
+
+// The lines of a script, and those of its answers.
+fn both(alloc: Global, lines: &[(&str, &str)]) -> Result<(String, String), AllocError> {
+    let (mut script, mut want) = (String::new(alloc), String::new(alloc));
+    for (line, answer) in lines {
+        put_line(&mut script, line)?;
+        put_line(&mut want, answer)?;
+    }
+    Ok((script, want))
+}
+
 // Each row's script is answered so.
 fn run_rows(rt: &impl Abort, alloc: Global, rows: &[Row]) -> Result<(), Fail> {
-    for row in rows {
-        let (mut script, mut want) = (String::new(alloc), String::new(alloc));
-        for (line, answer) in row.1 {
-            script.push_str(line)?;
-            script.push('\n')?;
-            want.push_str(answer)?;
-            want.push('\n')?;
-        }
-        let found = answers(alloc, row.0, script.as_str())?;
+    for Row(protocol, lines) in rows {
+        let (script, want) = both(alloc, lines)?;
+        let found = answers(alloc, protocol, script.as_str())?;
         assert_eq!(rt; found.as_slice(), want.as_bytes());
     }
     Ok(())

@@ -1,15 +1,15 @@
 //! How the session stands after each line of a script: what `show` answers, written out by hand.
-use crate::reversal_tests::{LOOP, PAIRS, RELAY};
+use crate::reversal_tests::{LOOP, PAIRS, RELAY, put_line};
 use crate::tests::answers;
 use std::alloc::{AllocError, Global};
 use std::process::Abort;
 use std::test::Fail;
 
-// A protocol, and the lines of a script, each with its answer and what is shown behind it.
-struct Row(
-    &'static str,
-    &'static [(&'static str, &'static str, &'static str)],
-);
+// A line, its answer, and what is shown behind it.
+type Line = (&'static str, &'static str, &'static str);
+
+// A protocol, and the lines of a script.
+struct Row(&'static str, &'static [Line]);
 
 // ---- a gives b a number, b gives c one, and c tells a that it is fine or not
 
@@ -507,46 +507,57 @@ const LOOPS: &[Row] = &[
     ),
 ];
 
-// Puts the two lines behind the text.
-fn put_lines(text: &mut String, first: &str, second: &str) -> Result<(), AllocError> {
-    text.push_str(first)?;
-    text.push('\n')?;
-    text.push_str(second)?;
-    Ok(text.push('\n')?)
+// The lines of a script with a line that shows behind each, and those of the answers.
+fn both(alloc: Global, show: &str, lines: &[Line]) -> Result<(String, String), AllocError> {
+    let (mut script, mut want) = (String::new(alloc), String::new(alloc));
+    for (line, answer, shown) in lines {
+        put_line(&mut script, line)?;
+        put_line(&mut script, show)?;
+        put_line(&mut want, answer)?;
+        put_line(&mut want, shown)?;
+    }
+    Ok((script, want))
 }
 
-// Each row's lines are answered so, and after each the session is shown so to the role. The last
-// line has no LF.
-fn run_shown(rt: &impl Abort, alloc: Global, role: &str, rows: &[Row]) -> Result<(), Fail> {
-    let show = format!(in alloc; "{role} show")?;
-    for row in rows {
-        let (mut script, mut want) = (String::new(alloc), String::new(alloc));
-        for (line, answer, shown) in row.1 {
-            put_lines(&mut script, line, show.as_str())?;
-            put_lines(&mut want, answer, shown)?;
-        }
-        let found = answers(alloc, row.0, script.as_str().trim_end())?;
+// Each row's lines are answered so, and after each the session is shown so to the role that asks by
+// this line. The last line has no LF.
+fn run_shown(rt: &impl Abort, alloc: Global, show: &str, rows: &[Row]) -> Result<(), Fail> {
+    for Row(protocol, lines) in rows {
+        let (script, want) = both(alloc, show, lines)?;
+        let found = answers(alloc, protocol, script.as_str().trim_end())?;
         assert_eq!(rt; found.as_slice(), want.as_bytes());
     }
     Ok(())
 }
 
 #[test]
-fn shows_relays(rt: HostRuntime) -> Result<(), Fail> {
-    run_shown(&rt, rt.alloc(), "a", RELAYS)?;
-    run_shown(&rt, rt.alloc(), "c", RELAYS)?;
-    run_shown(&rt, rt.alloc(), "b", HANDINGS)
+fn shows_relays_to_their_first(rt: HostRuntime) -> Result<(), Fail> {
+    run_shown(&rt, rt.alloc(), "a show", RELAYS)
+}
+
+#[test]
+fn shows_relays_to_their_last(rt: HostRuntime) -> Result<(), Fail> {
+    run_shown(&rt, rt.alloc(), "c show", RELAYS)
+}
+
+#[test]
+fn shows_what_is_handed_on(rt: HostRuntime) -> Result<(), Fail> {
+    run_shown(&rt, rt.alloc(), "b show", HANDINGS)
 }
 
 #[test]
 fn shows_two_pairs(rt: HostRuntime) -> Result<(), Fail> {
-    run_shown(&rt, rt.alloc(), "d", TWO_PAIRS)
+    run_shown(&rt, rt.alloc(), "d show", TWO_PAIRS)
 }
 
 #[test]
-fn shows_loops(rt: HostRuntime) -> Result<(), Fail> {
-    run_shown(&rt, rt.alloc(), "a", LOOPS)?;
-    run_shown(&rt, rt.alloc(), "b", LOOPS)
+fn shows_loops_to_the_sender(rt: HostRuntime) -> Result<(), Fail> {
+    run_shown(&rt, rt.alloc(), "a show", LOOPS)
+}
+
+#[test]
+fn shows_loops_to_the_receiver(rt: HostRuntime) -> Result<(), Fail> {
+    run_shown(&rt, rt.alloc(), "b show", LOOPS)
 }
 
 // After 100,000 entries of the journal the session is still shown.
@@ -558,29 +569,33 @@ const FULL: &str = concat!(
     r#"{"expects":"recv c int","past":[],"role":"d","store":[]}]}"#,
 );
 
-const AT_THE_LIMIT: &[(&str, &str)] = &[
-    ("a mark m", "refused full"),
-    ("a undo 50001", "refused full"),
-    ("a undo 50000", "refused needed 50001"),
-    ("a undo 1", "refused nostep"),
-    ("a news 0", "news 100000"),
+const AT_THE_LIMIT: &[Line] = &[
+    ("a mark m", "refused full", FULL),
+    ("a undo 50001", "refused full", FULL),
+    ("a undo 50000", "refused needed 50001", FULL),
+    ("a undo 1", "refused nostep", FULL),
+    ("a news 0", "news 100000", FULL),
 ];
 
-#[test]
-fn shows_a_full_session(rt: HostRuntime) -> Result<(), Fail> {
-    let alloc = rt.alloc();
-    let (mut script, mut want) = (String::new(alloc), String::new(alloc));
+// Puts a mark and its undo behind the script, and their answers behind these, until the journal has
+// room for two entries more, and then two marks.
+fn fill(alloc: Global, script: &mut String, want: &mut String) -> Result<(), AllocError> {
     for step in 1..50_000 {
         script.push_str(&format!(in alloc; "a mark m\na undo {step}\n")?)?;
         want.push_str(&format!(in alloc; "done {step}\nundone {step}\n")?)?;
     }
     script.push_str("a mark m\na mark m\n")?;
-    want.push_str("done 50000\ndone 50001\n")?;
-    for (line, answer) in AT_THE_LIMIT {
-        put_lines(&mut script, line, "a show")?;
-        put_lines(&mut want, answer, FULL)?;
-    }
-    let found = answers(alloc, PAIRS, script.as_str())?;
+    want.push_str("done 50000\ndone 50001\n")
+}
+
+#[test]
+fn shows_a_full_session(rt: HostRuntime) -> Result<(), Fail> {
+    let (mut script, mut want) = (String::new(rt.alloc()), String::new(rt.alloc()));
+    fill(rt.alloc(), &mut script, &mut want)?;
+    let (more, answered) = both(rt.alloc(), "a show", AT_THE_LIMIT)?;
+    script.push_str(more.as_str())?;
+    want.push_str(answered.as_str())?;
+    let found = answers(rt.alloc(), PAIRS, script.as_str())?;
     assert!(rt; found.as_slice() == want.as_bytes());
     Ok(())
 }

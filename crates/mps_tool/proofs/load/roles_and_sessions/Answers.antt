@@ -13,5 +13,5 @@ returns-clause-alike c =
     let p = c.in_ok-protocol.protocol in
     let machine : List LocalType → State → Machine = λ types state. record { types = types; state = state } in
     ap₂ machine
-    (one_projection p.roles.items (global_type p.body) c.in_ok-second.second.types c.in_ok-first.first.types c.in_ok-second.ensures.types c.in_ok-first.ensures.types)
-    (c.in_ok-second.ensures.new ∙ sym c.in_ok-first.ensures.new)
+    (one_projection p.roles.items (global_type p.body) c.in_ok-second.second.types _ c.in_ok-second.ensures.types c.in_ok-roles.ensures.types)
+    (c.in_ok-second.ensures.new ∙ sym c.in_ok-roles.ensures.new)
