@@ -1,0 +1,127 @@
+-- Cells, deals and rows.
+use Rattle.std.proofs.Common.{◌≡◌, ℕ, zero, suc, ◌+◌, ◌⊎◌, List, [], ◌∷◌, ◌++◌, Option, Some, None, length, refl, sym, ap, ◌∙◌, subst, arith, ⊎_elim, inl, inr, length-append}
+use Rattle.std.specs.Prelude.{slice_get, All, IfSome}
+use Rattle.std.proofs.lemmas.Option.{slice_get_within, slice_get-get_or}
+use Rattle.std.proofs.lemmas.List.Elements.{All-nil, All-push, All-get_or}
+use Rattle.atomic_table.specs.Seated.{TableId}
+use Rattle.mps_local.specs.Local.{LocalType}
+use Rattle.mps_session.specs.Seen.{Machine}
+use Rattle.mps_room.specs.Kept.{Record}
+use Rattle.mps_cell.specs.Openings.{Opening}
+use Rattle.mps_cell.specs.Calls.{Known}
+use Rattle.mps_cell.specs.Cells.{Opened, Closes, Dealt, IsDealOf, fresh, fresh_below, opened_with}
+use Rattle.mps_hub.specs.Places.{AtHome}
+use Rattle.mps_hub.specs.Halls.{AreNumbered, AreCellsOf, AreCellsWith, AreClosed, AreDeals}
+
+-- what stands in a list with one item more
+pub get_push : {A : Type 0} (xs : List A) (y : A) (i : ℕ) (z : A) → slice_get (xs ++ y ∷ []) i ≡ Some z → (slice_get xs i ≡ Some z) ⊎ ((i ≡ length xs) × (y ≡ z))
+get_push [] y zero z h = inr (refl, cc)
+get_push [] y (suc i) z h = absurd cc
+get_push (x ∷ xs) y zero z h = inl h
+get_push (x ∷ xs) y (suc i) z h = ⊎_elim (λ (e : slice_get xs i ≡ Some z). inl e) (λ (e : (i ≡ length xs) × (y ≡ z)). inr (ap suc e.0, e.1)) (get_push xs y i z h)
+
+get_more : {A : Type 0} (xs ys : List A) (i : ℕ) (z : A) → slice_get xs i ≡ Some z → slice_get (xs ++ ys) i ≡ Some z
+get_more [] ys i z h = absurd cc
+get_more (x ∷ xs) ys zero z h = h
+get_more (x ∷ xs) ys (suc i) z h = get_more xs ys i z h
+
+get_last : {A : Type 0} (xs : List A) (y : A) → slice_get (xs ++ y ∷ []) (length xs) ≡ Some y
+get_last [] y = refl
+get_last (x ∷ xs) y = get_last xs y
+
+pub at_home_none : (number : ℕ) (xs : List (Option Known)) → AtHome number xs → AtHome number (xs ++ None ∷ [])
+at_home_none number xs h i k e =
+    ⊎_elim (λ (old : slice_get xs i ≡ Some (Some k)). h i k old) (λ (new : (i ≡ length xs) × (None ≡ Some k)). let n = new.1 in absurd cc) (get_push xs None i (Some k) e)
+
+-- one session more, and its cell
+pub cells_push : (names : List (List ℕ)) (sessions : List Machine) (cells : List Opened) (s : Machine) (c : Opened) → AreCellsOf names sessions cells → c.opening ≡ opened_with names s.types (length cells + 1)
+    → AreCellsOf names (sessions ++ s ∷ []) (cells ++ c ∷ [])
+cells_push names sessions cells s c h is = record {
+  count = omega (arith, length-append cells (c ∷ []), length-append sessions (s ∷ []), h.count);
+  each = λ i o e.
+      ⊎_elim
+      (λ (old : slice_get cells i ≡ Some o). let was = h.each i o old in (was.0, get_more sessions (s ∷ []) i was.0 was.1, was.2))
+      (λ (new : (i ≡ length cells) × (c ≡ o)). (
+        s,
+        subst (λ (n : ℕ). slice_get (sessions ++ s ∷ []) n ≡ Some s) (sym (new.0 ∙ h.count)) (get_last sessions s),
+        ap (λ (x : Opened). x.opening) (sym new.1) ∙ is ∙ ap (λ (n : ℕ). opened_with names s.types (n + 1)) (sym new.0),
+      ))
+      (get_push cells c i o e);
+}
+
+pub numbered : (names : List (List ℕ)) (sessions : List Machine) (cells : List Opened) → AreCellsOf names sessions cells → AreNumbered names cells
+numbered names sessions cells h i o e = let is = (h.each i o e).2 in (ap (λ (x : Opening). x.names) is, ap (λ (x : Opening). x.session) is)
+
+-- cells of sessions that are all alike
+pub all_alike : (names : List (List ℕ)) (types : List LocalType) (n : ℕ) (sessions : List Machine) (cells : List Opened) (m : Machine) → All (λ (s : Machine). s ≡ m) sessions → m.types ≡ types → length sessions ≡ n → AreCellsOf names sessions cells → AreCellsWith names types n cells
+all_alike names types n sessions cells m all is count h = record {
+  count = h.count ∙ count;
+  each = λ i o e. let was = h.each i o e in
+      let alike : was.0 ≡ m = one_of sessions m i was.0 all was.1 in
+      was.2 ∙ ap (λ (t : List LocalType). opened_with names t (i + 1)) (ap (λ (s : Machine). s.types) alike ∙ is);
+}
+  where
+    one_of : (sessions : List Machine) (m : Machine) (i : ℕ) (s : Machine) → All (λ (s : Machine). s ≡ m) sessions → slice_get sessions i ≡ Some s → s ≡ m
+    one_of sessions m i s all at =
+        let less = slice_get_within sessions i s at in
+        let read = slice_get-get_or sessions i s less in
+        let same = All-get_or (λ (s : Machine). s ≡ m) sessions i s less all in
+        cc
+
+pub deals_push : (cells : List Opened) (deals : List Dealt) (c : Opened) (d : Dealt) → AreDeals cells deals → length deals ≡ length cells → IsDealOf c.cell c.opening d → AreDeals (cells ++ c ∷ []) (deals ++ d ∷ [])
+deals_push cells deals c d h same is = record {
+  count = omega (arith, length-append cells (c ∷ []), length-append deals (d ∷ []), same);
+  each = λ i o e at there.
+      ⊎_elim
+      (λ (old : slice_get cells i ≡ Some o).
+      ⊎_elim
+      (λ (was : slice_get deals i ≡ Some e). h.each i o e old was)
+      (λ (new : (i ≡ length deals) × (d ≡ e)). let less = slice_get_within cells i o old in absurd (omega (arith, less, new.0, same)))
+      (get_push deals d i e there))
+      (λ (new : (i ≡ length cells) × (c ≡ o)).
+      ⊎_elim
+      (λ (was : slice_get deals i ≡ Some e). let less = slice_get_within deals i e was in absurd (omega (arith, less, new.0, same)))
+      (λ (also : (i ≡ length deals) × (d ≡ e)). subst (λ (x : Opened × Dealt). IsDealOf x.0.cell x.0.opening x.1) (λ j. (new.1 j, also.1 j)) is)
+      (get_push deals d i e there))
+      (get_push cells c i o at);
+}
+
+-- one cell more, and what it closed with
+pub closed_push : (cells : List Opened) (rooms : List (Option Record)) (c : Opened) (r : Option Record) → AreClosed cells rooms → ((m : Record) → r ≡ Some m → Closes c.opening m) → AreClosed (cells ++ c ∷ []) (rooms ++ r ∷ [])
+closed_push cells rooms c r h is = record {
+  count = omega (arith, length-append cells (c ∷ []), length-append rooms (r ∷ []), h.count);
+  each = λ i o m at there.
+      ⊎_elim
+      (λ (old : slice_get cells i ≡ Some o).
+      ⊎_elim
+      (λ (was : slice_get rooms i ≡ Some (Some m)). h.each i o m old was)
+      (λ (new : (i ≡ length rooms) × (r ≡ Some m)). let less = slice_get_within cells i o old in absurd (omega (arith, less, new.0, h.count)))
+      (get_push rooms r i (Some m) there))
+      (λ (new : (i ≡ length cells) × (c ≡ o)).
+      ⊎_elim
+      (λ (was : slice_get rooms i ≡ Some (Some m)). let less = slice_get_within rooms i (Some m) was in absurd (omega (arith, less, new.0, h.count)))
+      (λ (also : (i ≡ length rooms) × (r ≡ Some m)). subst (λ (x : Opened). Closes x.opening m) new.1 (is m also.1))
+      (get_push rooms r i (Some m) there))
+      (get_push cells c i o at);
+}
+
+pub closed_where : (c : Opened) (r : Option Record) → IfSome r (λ (m : Record). Closes c.opening m) → (m : Record) → r ≡ Some m → Closes c.opening m
+closed_where c (Some x) h m is = subst (λ (r : Option Record). IfSome r (λ (m : Record). Closes c.opening m)) is h
+closed_where c None h m is = absurd cc
+
+-- each fresh pass is of its cell's session
+pub fresh_session : (id : TableId) (o : Opening) (n : ℕ) → All (λ (k : Known). k.opening.session ≡ o.session) (fresh_below id o n)
+fresh_session id o zero = All-nil (λ (k : Known). k.opening.session ≡ o.session)
+fresh_session id o (suc n) = All-push (λ (k : Known). k.opening.session ≡ o.session) (fresh_below id o n) (fresh id o n) (fresh_session id o n) refl
+
+-- without the last deal
+pub deals_rest : (cells : List Opened) (deals rest : List Dealt) (d : Dealt) → AreDeals cells deals → deals ≡ rest ++ d ∷ [] → AreDeals cells rest
+deals_rest cells deals rest d h is = record {
+  count = omega (arith, h.count, ap length is, length-append rest (d ∷ []));
+  each = λ i o e at there. h.each i o e at (subst (λ (l : List Dealt). slice_get l i ≡ Some e) (sym is) (get_more rest (d ∷ []) i e there));
+}
+
+-- the last deal is of the cell at its place
+pub deals_last : (cells : List Opened) (deals rest : List Dealt) (d : Dealt) (place : ℕ) (o : Opened) → AreDeals cells deals → deals ≡ rest ++ d ∷ [] → place ≡ length rest → slice_get cells place ≡ Some o → IsDealOf o.cell o.opening d
+deals_last cells deals rest d place o h is at there =
+    h.each place o d there (subst (λ (l : List Dealt). slice_get l place ≡ Some d) (sym is) (subst (λ (n : ℕ). slice_get (rest ++ d ∷ []) n ≡ Some d) (sym at) (get_last rest d)))

@@ -1,0 +1,71 @@
+-- From what the parts of a connection do to what it does as a whole.
+use Rattle.std.proofs.Common.{◌≡◌, ℕ, inr, List, Option, Some, sym, subst}
+use Rattle.std.specs.Prelude.{IfSome}
+use Rattle.mps_cell.specs.Calls.{Known}
+use Rattle.mps_dev.specs.declared.traits.Sink.{Ghosts as SinkGhosts}
+use Rattle.mps_dev.specs.declared.traits.Source.{Ghosts as SourceGhosts}
+use Rattle.mps_line.specs.declared.reply.Reply.{Reply}
+use Rattle.mps_line.specs.declared.reply.Reply.TheVariants.{Answered, BadLine, Joined, NoSession, NoRole, Taken, Number}
+use Rattle.mps_lines.specs.Lines.{front}
+use Rattle.mps_room.specs.declared.caller.Caller.{Ghosts}
+use Rattle.mps_hub.specs.Connections.{HasAttended, HasJoined, IsAnsweredFirst, RepliesToFirst}
+use Rattle.mps_hub.specs.First.{IsFirstLine, IsJoin}
+use Rattle.mps_hub.specs.Places.{IsOffered, IsPassOf, Offer}
+use Rattle.mps_hub.specs.declared.attending.Attended.{Attended}
+use Rattle.mps_hub.specs.declared.attending.Attended.TheVariants.{NoLine, TurnedAway, Conversed, Memory}
+use Rattle.mps_hub.proofs.Bytewise.{joins_whole, joins_front}
+
+pub if_some : {A : Type 0} (found : Option A) (x : A) (P : A → Type 0) → found ≡ Some x → IfSome found P → P x
+if_some found x P is h = subst (λ y. IfSome y P) is h
+
+-- the reply to the front of a line is that to the line
+replies_whole : (offer : Offer) (line kept : List ℕ) (reply : Reply) → kept ≡ front line → RepliesToFirst offer kept reply → RepliesToFirst offer line reply
+replies_whole offer line kept BadLine is h = λ session name j. h session name (joins_front line kept session name is j)
+replies_whole offer line kept NoSession is h = (h.0, h.1, joins_whole line kept h.0 h.1 is h.2, h.3)
+replies_whole offer line kept NoRole is h = (h.0, h.1, joins_whole line kept h.0 h.1 is h.2, h.3, h.4)
+replies_whole offer line kept Taken is h = (h.0, h.1, joins_whole line kept h.0 h.1 is h.2, h.3)
+replies_whole offer line kept (Joined session name) is h = (joins_whole line kept session name is h.0, h.1)
+replies_whole offer line kept Number is h = absurd h
+replies_whole offer line kept (Answered answer) is h = absurd h
+
+offered : (offer : Offer) (session : ℕ) (name : List ℕ) (pass : Known) → IsPassOf offer session name pass → IsOffered offer session name
+offered offer session name pass h = record { is_session = h.is_session; role = pass.role; named = h.of_role }
+
+module _ {C R W : Type 0} (caller : Ghosts C) (pass : C → Known) (source : SourceGhosts R) (sink : SinkGhosts W) (offer : Offer) (reader mid : R) (writer : W) (kept : List ℕ) (first : IsFirstLine source reader mid kept) where
+  -- a first line that got no pass, and its answer
+  pub refused : (writer' : W) (reply : Reply) (ended : Attended) → RepliesToFirst offer kept reply → IsAnsweredFirst sink writer writer' reply ended → HasAttended caller pass source sink offer reader writer mid writer' ended
+  refused writer' reply NoLine replies h = absurd h
+  refused writer' reply TurnedAway replies h = record {
+    kept = kept;
+    first = first;
+    reply = reply;
+    replies = replies_whole offer first.line kept reply first.front_kept replies;
+    written = h;
+  }
+  refused writer' reply (Conversed ending) replies h = absurd h
+  refused writer' reply Memory replies h = h
+
+  -- a first line that got its pass, and what followed
+  pub joined : (session : ℕ) (name : List ℕ) (before after : C) (reader' : R) (writer' : W) (ended : Attended) → HasJoined caller source sink (Joined session name) before mid writer after reader' writer' ended → IsJoin kept session name → IsPassOf offer session name (pass before)
+      → HasAttended caller pass source sink offer reader writer reader' writer' ended
+  joined session name before after reader' writer' NoLine h joins taken = absurd h
+  joined session name before after reader' writer' TurnedAway h joins taken = let moved = subst (λ (r : R). IsFirstLine source reader r kept) (sym h.1) first in record {
+    kept = kept;
+    first = moved;
+    reply = Joined session name;
+    replies = (joins_whole moved.line kept session name moved.front_kept joins, offered offer session name (pass before) taken);
+    written = inr h.0;
+  }
+  joined session name before after reader' writer' (Conversed ending) h joins taken = record {
+    kept = kept;
+    session = session;
+    name = name;
+    joined = mid;
+    first = first;
+    joins = joins_whole first.line kept session name first.front_kept joins;
+    before = before;
+    after = after;
+    taken = taken;
+    talked = h;
+  }
+  joined session name before after reader' writer' Memory h joins taken = h.0

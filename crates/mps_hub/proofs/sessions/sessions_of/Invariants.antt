@@ -1,0 +1,12 @@
+use Rattle.std.proofs.Common.{◌≡◌, ◌≤◌, vec_len, vec_capacity}
+use Rattle.std.specs.Prelude.{All, map}
+use Rattle.mps_local.specs.Local.{plain}
+use Rattle.mps_machine.specs.Machine.{initial}
+use Rattle.mps_hub.proofs.sessions.sessions_of.Given as goal
+
+abbrev pub invariant-loop : goal.invariant-loop
+invariant-loop l = record {
+  count : vec_len l.made ≡ l.counter;
+  room : l.n ≤ vec_capacity l.made;
+  all : All (λ s. s ≡ record { types = map plain l.types; state = initial }) l.made.items;
+}

@@ -1,0 +1,100 @@
+-- What a connection comes to.
+use Rattle.std.specs.Prelude.{◌≡◌, ◌≢◌, ℕ, ◌⊎◌, List, All}
+use Rattle.std.specs.Io.KnownBytes.{Appends}
+use Rattle.mps_cell.specs.Calls.{Known}
+use Rattle.mps_dev.specs.declared.traits.Sink.{Ghosts as SinkGhosts}
+use Rattle.mps_dev.specs.declared.traits.Source.{Ghosts as SourceGhosts}
+use Rattle.mps_line.specs.Codes.{code_of}
+use Rattle.mps_line.specs.Replies.{SpellsReply}
+use Rattle.mps_line.specs.declared.reply.Reply.{Reply}
+use Rattle.mps_line.specs.declared.reply.Reply.TheVariants.{Answered, BadLine, Joined, NoSession, NoRole, Taken, Number}
+use Rattle.mps_lines.specs.Lines.{ended}
+use Rattle.mps_room.specs.declared.caller.Caller.{Ghosts}
+use Rattle.mps_wire.specs.Endings.{EndedAs}
+use Rattle.mps_wire.specs.Flow.{TookFront}
+use Rattle.mps_wire.specs.Streams.{streams}
+use Rattle.mps_wire.specs.Talk.{talks, talks_to_part}
+use Rattle.mps_wire.specs.declared.conversation.Ending.{Ending}
+use Rattle.mps_hub.specs.First.{HasNoFirstLine, IsFirstLine, IsJoin}
+use Rattle.mps_hub.specs.Places.{IsOffered, IsPassOf, IsSession, Offer}
+use Rattle.mps_hub.specs.declared.attending.Attended.{Attended}
+use Rattle.mps_hub.specs.declared.attending.Attended.TheVariants.{NoLine, TurnedAway, Conversed, Memory}
+
+-- the reply to a first line: that it is none, why it gets no pass, or that it joined
+abbrev pub RepliesToFirst : Offer → List ℕ → Reply → Type 0
+RepliesToFirst offer line BadLine = (session : ℕ) (name : List ℕ) → IsJoin line session name → ⊥
+RepliesToFirst offer line NoSession = (session : ℕ) × (name : List ℕ) × IsJoin line session name × (¬ IsSession offer.sessions session)
+RepliesToFirst offer line NoRole = (session : ℕ) × (name : List ℕ) × IsJoin line session name
+    × IsSession offer.sessions session × All (λ other. other ≢ name) offer.names
+RepliesToFirst offer line Taken = (session : ℕ) × (name : List ℕ) × IsJoin line session name × IsOffered offer session name
+RepliesToFirst offer line (Joined session name) = IsJoin line session name × IsOffered offer session name
+RepliesToFirst offer line Number = ⊥
+RepliesToFirst offer line (Answered answer) = ⊥
+
+-- the reply was written with its LF, and nothing else
+pub record WasSent {W : Type 0} (sink : SinkGhosts W) (old new : W) (reply : Reply) : Type 0 where
+  pub text : List ℕ
+  pub spelled : SpellsReply text reply
+  pub sent : Appends (sink.taken old) (sink.taken new) (ended text)
+  pub no_failure : sink.failed_calls new ≡ sink.failed_calls old
+
+-- the front of it was written, and then a write failed
+pub record WasCutShort {W : Type 0} (sink : SinkGhosts W) (old new : W) (reply : Reply) : Type 0 where
+  pub text : List ℕ
+  pub spelled : SpellsReply text reply
+  pub front : TookFront (sink.taken old) (sink.taken new) (ended text)
+
+-- what the writer was given of the reply to a first line that gets no pass, by how the connection ended
+abbrev pub IsAnsweredFirst : {W : Type 0} → SinkGhosts W → W → W → Reply → Attended → Type 0
+IsAnsweredFirst sink old new reply NoLine = ⊥
+IsAnsweredFirst sink old new reply TurnedAway = (WasSent sink old new reply × (code_of reply ≢ 0)) ⊎ WasCutShort sink old new reply
+IsAnsweredFirst sink old new reply (Conversed ending) = ⊥
+IsAnsweredFirst sink old new reply Memory = new ≡ old
+
+-- what a caller that got its pass came to, once it was told so with this reply
+module _ {C R W : Type 0} (caller : Ghosts C) (source : SourceGhosts R) (sink : SinkGhosts W) (joined : Reply)
+    (before : C) (reader : R) (writer : W) (after : C) (reader' : R) (writer' : W) where
+  -- it was told so, and the lines that follow were its conversation
+  pub record HasTalked (ending : Ending) : Type 0 where
+    pub told : W
+    pub sent : WasSent sink writer told joined
+    pub ended : EndedAs (talks caller) (talks_to_part caller) before
+        (streams source sink reader told) (streams source sink reader' writer') after ending
+
+  -- by how the connection ended
+  abbrev pub HasJoined : Attended → Type 0
+  HasJoined NoLine = ⊥
+  HasJoined TurnedAway = WasCutShort sink writer writer' joined × (reader' ≡ reader)
+  HasJoined (Conversed ending) = HasTalked ending
+  HasJoined Memory = (writer' ≡ writer) × (reader' ≡ reader)
+
+-- What one connection comes to: a reader and a writer, as they were before it and as they are after it.
+module _ {C R W : Type 0} (caller : Ghosts C) (pass : C → Known) (source : SourceGhosts R) (sink : SinkGhosts W)
+    (offer : Offer) (reader : R) (writer : W) (reader' : R) (writer' : W) where
+  -- its first line was refused, or the first answer could be written in part alone
+  pub record WasTurnedAway : Type 0 where
+    pub kept : List ℕ
+    pub first : IsFirstLine source reader reader' kept
+    pub reply : Reply
+    pub replies : RepliesToFirst offer first.line reply
+    pub written : (WasSent sink writer writer' reply × (code_of reply ≢ 0)) ⊎ WasCutShort sink writer writer' reply
+
+  -- it joined, and was answered so; and from there on its lines were a conversation of the pass that it asked for
+  pub record HasConversed (ending : Ending) : Type 0 where
+    pub kept : List ℕ
+    pub session : ℕ
+    pub name : List ℕ
+    pub joined : R
+    pub first : IsFirstLine source reader joined kept
+    pub joins : IsJoin first.line session name
+    pub before : C
+    pub after : C
+    pub taken : IsPassOf offer session name (pass before)
+    pub talked : HasTalked caller source sink (Joined session name) before joined writer after reader' writer' ending
+
+  -- by how it ended
+  abbrev pub HasAttended : Attended → Type 0
+  HasAttended NoLine = HasNoFirstLine source reader reader' × (writer' ≡ writer)
+  HasAttended TurnedAway = WasTurnedAway
+  HasAttended (Conversed ending) = HasConversed ending
+  HasAttended Memory = writer' ≡ writer

@@ -1,0 +1,47 @@
+-- The first line of a connection.
+use Rattle.std.specs.Prelude.{◌≡◌, ℕ, ◌+◌, ◌≤◌, ◌⊎◌, List, length}
+use Rattle.std.specs.Io.KnownBytes.{Consumes, IsAtEnd}
+use Rattle.mps_dev.specs.declared.traits.Source.{Ghosts}
+use Rattle.mps_line.specs.Replies.{SpellsJoin}
+use Rattle.mps_lines.specs.Lines.{HasNoBreak, ended, front, max_line}
+
+-- how often a first line is read from at most
+abbrev pub max_reads : ℕ
+max_reads = 1000000
+
+-- What a reader gave, from the one state of it to the other.
+module _ {R : Type 0} (source : Ghosts R) (old new : R) where
+  -- the bytes were given one after the other
+  abbrev pub Gave : List ℕ → Type 0
+  Gave bytes = Consumes (source.remaining old) (source.remaining new) bytes
+
+  -- one more read failed, or one more found the end
+  abbrev pub HasStopped : Type 0
+  HasStopped = (source.failed_calls new ≡ source.failed_calls old + 1)
+      ⊎ ((source.ends new ≡ source.ends old + 1) × IsAtEnd (source.remaining new))
+
+  -- no byte that was given ends a line; of them the front is kept
+  pub record IsBegun (kept : List ℕ) : Type 0 where
+    pub read : List ℕ
+    pub gave : Gave read
+    pub unbroken : HasNoBreak read
+    pub front_kept : kept ≡ front read
+
+  -- a line and its LF were given, and no byte more; of the line the front is kept
+  pub record IsFirstLine (kept : List ℕ) : Type 0 where
+    pub line : List ℕ
+    pub gave : Gave (ended line)
+    pub unbroken : HasNoBreak line
+    pub front_kept : kept ≡ front line
+
+  -- no LF was given before a read failed, the end came, or there were as many reads as there may be
+  pub record HasNoFirstLine : Type 0 where
+    pub read : List ℕ
+    pub gave : Gave read
+    pub unbroken : HasNoBreak read
+    pub stopped : HasStopped ⊎ (source.calls new ≡ source.calls old + max_reads)
+
+-- the line joins the session of this number as the role of this name
+pub record IsJoin (line : List ℕ) (session : ℕ) (name : List ℕ) : Type 0 where
+  pub short : length line ≤ max_line
+  pub spelled : SpellsJoin line session name

@@ -1,0 +1,41 @@
+-- What a clause sees of a hub.
+use Rattle.std.specs.Prelude.{◌≡◌, ℕ, ◌+◌, ◌≤◌, Bool, List, Option, Some, slice_get, length}
+use Rattle.mps_local.specs.Local.{LocalType}
+use Rattle.mps_machine.specs.Machine.{initial}
+use Rattle.mps_session.specs.Seen.{Machine}
+use Rattle.mps_room.specs.Kept.{Record}
+use Rattle.mps_cell.specs.Cells.{Opened, Closes, Dealt, IsDealOf, opened_with}
+
+-- the names of the roles, a cell for each session, and whether the passes were given
+pub record Hall : Type 0 where
+  pub names : List (List ℕ)
+  pub cells : List Opened
+  pub given : Bool
+
+-- the cell at each place is of these names, and of the session with the next number
+abbrev pub AreNumbered : List (List ℕ) → List Opened → Type 0
+AreNumbered names cells = (i : ℕ) (o : Opened) → slice_get cells i ≡ Some o → (o.opening.names ≡ names) × (o.opening.session ≡ i + 1)
+
+-- nothing was done in the session, and it has as many roles as there are names
+abbrev pub IsNew : List (List ℕ) → Machine → Type 0
+IsNew names s = (s.state ≡ initial) × (length names ≡ length s.types)
+
+-- there is a cell for each session, in order, opened with these names, the session's types and its number
+pub record AreCellsOf (names : List (List ℕ)) (sessions : List Machine) (cells : List Opened) : Type 0 where
+  pub count : length cells ≡ length sessions
+  pub each : (i : ℕ) (o : Opened) → slice_get cells i ≡ Some o → (s : Machine) × (slice_get sessions i ≡ Some s) × (o.opening ≡ opened_with names s.types (i + 1))
+
+-- there are so many cells, each opened with these names, these types and its number
+pub record AreCellsWith (names : List (List ℕ)) (types : List LocalType) (n : ℕ) (cells : List Opened) : Type 0 where
+  pub count : length cells ≡ n
+  pub each : (i : ℕ) (o : Opened) → slice_get cells i ≡ Some o → o.opening ≡ opened_with names types (i + 1)
+
+-- the deal at each place is of the cell there
+pub record AreDeals (cells : List Opened) (deals : List Dealt) : Type 0 where
+  pub count : length deals ≤ length cells
+  pub each : (i : ℕ) (o : Opened) (d : Dealt) → slice_get cells i ≡ Some o → slice_get deals i ≡ Some d → IsDealOf o.cell o.opening d
+
+-- what each cell closed with, in order
+pub record AreClosed (cells : List Opened) (rooms : List (Option Record)) : Type 0 where
+  pub count : length rooms ≡ length cells
+  pub each : (i : ℕ) (o : Opened) (m : Record) → slice_get cells i ≡ Some o → slice_get rooms i ≡ Some (Some m) → Closes o.opening m

@@ -1,0 +1,4 @@
+pub mod First
+pub mod Places
+pub mod Halls
+pub mod Connections

@@ -1,0 +1,83 @@
+//! What runs before each command.
+ghost use Rattle.std.specs.Prelude.{◌≡◌};
+
+use mps_base::Roles;
+use mps_room::{Answer, Caller, Command, Told};
+
+/// Something that runs before each command of a connection is given to its pass. A test can hold a command there.
+pub trait Gate {
+    /// Both are counted from 1: connections as they are accepted, and the commands of each that are given to its pass. A
+    /// line that can't be read gives none, and neither does one whose number is not the next.
+    fn before(&self, connection: u64, line: u64);
+}
+
+/// No gate.
+#[derive(Drop)]
+pub struct Unguarded;
+
+impl Gate for Unguarded {
+    fn before(&self, _connection: u64, _line: u64) {}
+}
+
+/// A caller behind a gate.
+#[derive(Drop)]
+pub struct Gated<'g, G, C> {
+    pub gate: &'g G,
+    pub connection: u64,
+    pub line: u64,
+    pub inner: C,
+}
+
+impl<'g, G: Gate, C> Gated<'g, G, C> {
+    // Counts one more command, and stops at the gate.
+    fn stop(&mut self)
+        ensures { self.new.inner ≡ self.old.inner }
+    {
+        self.line = self.line.saturating_add(1);
+        self.gate.before(self.connection, self.line);
+    }
+}
+
+impl<'g, G: Gate, C: Caller> Caller for Gated<'g, G, C> {
+    ghost names = { λ g. C.names g.inner };
+
+    ghost role = { λ g. C.role g.inner };
+
+    ghost made = { λ g. C.made g.inner };
+
+    ghost calls = { λ g c a h. C.calls g.inner c a h.inner };
+
+    ghost last = { λ g. C.last g.inner };
+
+    ghost kept = { λ g. C.kept g.inner };
+
+    fn roles(&self) -> &Roles {
+        self.inner.roles()
+    }
+
+    fn call(&mut self, command: Command) -> Answer {
+        self.stop();
+        self.inner.call(command)
+    }
+
+    fn last(&self) -> u64 {
+        self.inner.last()
+    }
+
+    fn kept(&self) -> Option<&Answer> {
+        self.inner.kept()
+    }
+
+    fn call_numbered(&mut self, number: u64, command: Command) -> Told {
+        if number.checked_sub(1) == Some(self.inner.last()) {
+            self.stop();
+        }
+        self.inner.call_numbered(number, command)
+    }
+
+    ghost same_names = { λ g c a h t. C.same_names g.inner c a h.inner t };
+
+    ghost same_role = { λ g c a h t. C.same_role g.inner c a h.inner t };
+
+    ghost grows = { λ g c a h t. C.grows g.inner c a h.inner t };
+}

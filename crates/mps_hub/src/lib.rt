@@ -1,0 +1,21 @@
+//! A server's sessions, which connections share: each connection has the one pass that it joined with.
+//!
+//! `Hub` has a cell for each session, `Desk` the passes that are not in use, and `serve` accepts connections and attends
+//! to each in a thread of its own.
+#![tactic(auto)]
+
+pub mod attending;
+pub mod desk;
+pub mod first;
+pub mod gates;
+pub mod server;
+pub mod sessions;
+
+pub use attending::{Attended, attend};
+pub use desk::{Desk, JoinFault};
+pub use gates::{Gate, Gated, Unguarded};
+pub use server::{ServeFault, Served, serve, serve_with};
+pub use sessions::{Hub, HubDeal};
+
+#[cfg(test)]
+mod tests;

@@ -1,0 +1,235 @@
+//! The sessions of a server.
+ghost use Rattle.std.specs.Prelude.{◌≡◌, ◌+◌, ◌≤◌, ◌↔◌, [], true, false, map, length, vec_capacity, IfOk, IfSome, IsSome, IsErrOf, All};
+ghost use Rattle.mps_local.specs.Local.{plain};
+ghost use Rattle.mps_machine.specs.Machine.{initial};
+ghost use Rattle.mps_cell.specs.Cells.{IsDealOf, opened_with};
+ghost use Rattle.mps_cell.specs.declared.cell.PassFault.TheVariants.{Given};
+ghost use Rattle.mps_hub.specs.Halls.{AreCellsOf, AreCellsWith, AreClosed, AreDeals, IsNew};
+
+use crate::desk::{Desk, Row};
+use mps_base::Roles;
+use mps_cell::{Cell, Deal, Pass, PassFault};
+use mps_local::Local;
+use mps_room::Room;
+use mps_session::{OpenFault, Session};
+use std::alloc::{AllocError, Global};
+use std::marker::Model;
+
+/// The right to the passes of a hub.
+#[derive(Drop)]
+pub struct HubDeal {
+    deals: Vec<Deal>,
+}
+
+impl Model for HubDeal {
+    ghost use Rattle.std.specs.Prelude.{List};
+    ghost use Rattle.std.specs.Coded.{codes};
+    ghost use Rattle.mps_local.specs.Codes.{coded_local};
+    ghost use Rattle.mps_cell.specs.Cells.{Dealt};
+
+    ghost Value = { List Dealt };
+
+    ghost coded = { Prim.hlevel (codes, coded_local) };
+
+    ghost view = { λ d. d.deals.items };
+}
+
+/// The sessions of a server, a cell for each, numbered from 1.
+#[derive(Drop)]
+pub struct Hub {
+    names: Roles,
+    cells: Vec<Cell>,
+    // until the passes are asked for
+    deals: Option<Vec<Deal>>,
+}
+
+impl Model for Hub {
+    ghost use Rattle.std.specs.Prelude.{IfSome};
+    ghost use Rattle.std.specs.Option.{is_none};
+    ghost use Rattle.std.specs.Coded.{codes};
+    ghost use Rattle.mps_local.specs.Codes.{coded_local};
+    ghost use Rattle.mps_hub.specs.Halls.{Hall, AreNumbered, AreDeals};
+
+    ghost Value = { Hall };
+
+    ghost coded = { Prim.hlevel (codes, coded_local) };
+
+    ghost view = { λ h. record { names = h.names; cells = h.cells.items; given = is_none h.deals } };
+
+    ghost invariant = { λ h. AreNumbered h.names h.cells.items × IfSome h.deals (λ v. AreDeals h.cells.items v.items) };
+}
+
+/// A cell of the session with this number, and the right to its passes.
+fn cell_of(
+    alloc: Global,
+    names: &Roles,
+    session: Session,
+    number: u64,
+) -> Result<(Cell, Deal), AllocError>
+    requires { IsNew names.now session }
+    ensures opening { IfOk result (λ r. r.0.opening ≡ opened_with names.now session.types number) }
+    ensures deal { IfOk result (λ r. IsDealOf r.0.cell r.0.opening r.1) }
+{
+    let mut cell = Cell::open_numbered(alloc, names.copy(alloc)?, session, number)?;
+    match cell.deal() {
+        Some(deal) => Ok((cell, deal)),
+        None => unreachable!(),
+    }
+}
+
+/// Copies of the types.
+fn copies(alloc: Global, types: &[Local]) -> Result<Vec<Local>, AllocError>
+    ensures { IfOk result (λ made. map plain made.items ≡ map plain types.now) }
+{
+    let mut made = Vec::with_capacity(alloc, types.len())?;
+    for t in types {
+        made.push_reserved(t.copy(alloc)?);
+    }
+    Ok(made)
+}
+
+/// A session with these types, in which nothing was done yet.
+fn session_of(alloc: Global, types: &[Local]) -> Result<Session, OpenFault>
+    ensures { IfOk result (λ s. s ≡ record { types = map plain types.now; state = initial }) }
+{
+    Session::open(alloc, copies(alloc, types)?)
+}
+
+/// So many sessions with these types.
+fn sessions_of(alloc: Global, types: &[Local], n: u64) -> Result<Vec<Session>, OpenFault>
+    ensures count { IfOk result (λ v. length v.items ≡ n) }
+    ensures all { IfOk result (λ v. All (λ s. s ≡ record { types = map plain types.now; state = initial }) v.items) }
+{
+    let mut made = Vec::with_capacity(alloc, n as usize)?;
+    for _ in 0..n {
+        made.push_reserved(session_of(alloc, types)?);
+    }
+    Ok(made)
+}
+
+impl Hub {
+    /// Opens so many sessions of these roles with these types.
+    pub fn open(
+        alloc: Global,
+        names: &Roles,
+        types: &[Local],
+        sessions: u64,
+    ) -> Result<Hub, OpenFault>
+        requires some { (1 ≤ sessions) × (sessions ≤ 16) }
+        requires named { length names.now ≡ length types.now }
+        ensures names { IfOk result (λ h. h.names ≡ names.now) }
+        ensures given { IfOk result (λ h. h.given ≡ false) }
+        ensures cells { IfOk result (λ h. AreCellsWith names.now (map plain types.now) sessions h.cells) }
+    {
+        let made = sessions_of(alloc, types, sessions)?;
+        Ok(Hub::of(alloc, names, made)?)
+    }
+
+    /// A hub of these sessions, in their order, in which nothing was done yet. Where memory runs out they are dropped.
+    pub fn of(alloc: Global, names: &Roles, sessions: Vec<Session>) -> Result<Hub, AllocError>
+        requires some { (1 ≤ length sessions.items) × (length sessions.items ≤ 16) }
+        requires new { All (IsNew names.now) sessions.items }
+        ensures names { IfOk result (λ h. h.names ≡ names.now) }
+        ensures given { IfOk result (λ h. h.given ≡ false) }
+        ensures cells { IfOk result (λ h. AreCellsOf names.now sessions.items h.cells) }
+    {
+        let mut cells = Vec::with_capacity(alloc, sessions.len())?;
+        let mut deals = Vec::with_capacity(alloc, sessions.len())?;
+        for session in sessions {
+            let (cell, deal) = cell_of(alloc, names, session, cells.len() as u64 + 1)?;
+            cells.push_reserved(cell);
+            deals.push_reserved(deal);
+        }
+        Ok(Hub {
+            names: names.copy(alloc)?,
+            cells,
+            deals: Some(deals),
+        })
+    }
+
+    /// The right to the passes, once in the hub's life. `desk_of` makes the desk for it, and the hub stays known beside.
+    pub fn deal(&mut self) -> Option<HubDeal>
+        ensures names { self.new.names ≡ self.old.names }
+        ensures cells { self.new.cells ≡ self.old.cells }
+        ensures given { self.new.given ≡ true }
+        ensures once { IsSome result ↔ (self.old.given ≡ false) }
+        ensures deal { IfSome result (AreDeals self.old.cells) }
+    {
+        Some(HubDeal {
+            deals: self.deals.take()?,
+        })
+    }
+
+    /// The desk, with all passes.
+    pub fn desk_of(&self, alloc: Global, deal: HubDeal) -> Result<Desk<'_>, AllocError>
+        requires deal { AreDeals self.now.cells deal }
+        ensures desk { IfOk result (λ d. d ≡ record { names = self.now.names; sessions = length self.now.cells }) }
+    {
+        let HubDeal { mut deals } = deal;
+        let names = &self.names;
+        let cells = self.cells.as_slice();
+        let mut rows = Vec::with_capacity(alloc, cells.len())?;
+        while let Some(deal) = deals.pop() {
+            let place = deals.len();
+            let passes = cells[place].passes_of(deal)?;
+            rows.push(row_of(alloc, place as u64 + 1, names.count(), passes)?)?;
+        }
+        Ok(Desk::new(names, cells.len() as u64, rows))
+    }
+
+    /// Both in one: the desk, once in the hub's life. After want of memory later calls are told that it was given.
+    pub fn desk(&mut self, alloc: Global) -> Result<Desk<'_>, PassFault>
+        ensures given { IsErrOf result Given ↔ (self.old.given ≡ true) }
+        ensures desk { IfOk result (λ d. d ≡ record { names = self.old.names; sessions = length self.old.cells }) }
+    {
+        let Some(deal) = self.deal() else {
+            return Err(PassFault::Given);
+        };
+        let Ok(desk) = self.desk_of(alloc, deal) else {
+            return Err(PassFault::Memory);
+        };
+        Ok(desk)
+    }
+
+    /// The room of each session, in order, if it is at home. Where memory runs out the rooms are dropped.
+    pub fn close(self, alloc: Global) -> Result<Vec<Option<Room>>, AllocError>
+        ensures { IfOk result (λ rooms. AreClosed self.cells rooms.items) }
+    {
+        let Hub {
+            names: _,
+            cells,
+            deals: _,
+        } = self;
+        let rooms = Vec::with_capacity(alloc, cells.len())?;
+        Ok(close_all(cells, rooms))
+    }
+}
+
+// Closes the cells in order.
+fn close_all(cells: Vec<Cell>, mut rooms: Vec<Option<Room>>) -> Vec<Option<Room>>
+    requires none { rooms.items ≡ [] }
+    requires room { length cells.items ≤ vec_capacity rooms }
+    ensures { AreClosed cells.items result.items }
+{
+    for cell in cells {
+        rooms.push_reserved(cell.close());
+    }
+    rooms
+}
+
+// The row with these passes.
+fn row_of<'a>(
+    alloc: Global,
+    number: u64,
+    roles: usize,
+    mut passes: Vec<Pass<'a>>,
+) -> Result<Row<'a>, AllocError>
+    requires { All (λ k. k.opening.session ≡ number) passes.items }
+    ensures { IfOk result (λ r. r ≡ number) }
+{
+    let mut row = Row::new(alloc, number, roles)?;
+    while let Some(pass) = passes.pop() {
+        row.give(pass);
+    }
+    Ok(row)
+}
