@@ -2,3 +2,4 @@ pub mod Causes
 pub mod Comparing
 pub mod Lines
 pub mod Bounds
+pub mod Telling

@@ -1,10 +1,13 @@
 -- What the text of a protocol gives.
-use Rattle.std.specs.Prelude.{◌≡◌, ℕ, suc, ◌≤◌, ⊤, List, [], ◌∷◌, ◌++◌, codes, length, slice_get, Some, None}
+use Rattle.std.specs.Prelude.{◌≡◌, ℕ, suc, ◌≤◌, ⊤, List, [], ◌∷◌, ◌++◌, codes, length, slice_get, Some, None, All}
 use Rattle.mps_global.specs.Global.{GlobalType}
 use Rattle.mps_global.specs.Faults.{fault_of}
+use Rattle.mps_fidelity.specs.Fidelity.{AreOfOneProtocol}
 use Rattle.mps_local.specs.Local.{LocalType}
 use Rattle.mps_local.specs.Outcome.{AreProjections, IsFirstUnmerged}
 use Rattle.mps_local.specs.Text.{name_at, local_text}
+use Rattle.mps_machine.specs.Machine.{initial}
+use Rattle.mps_session.specs.Seen.{Machine}
 use Rattle.mps_text.specs.Grammar.{SpellsText, IsWithinLimits}
 use Rattle.mps_text.specs.Faults.{IsFirstFault}
 use Rattle.mps_text.specs.declared.fault.TextKind.{TextKind}
@@ -24,6 +27,14 @@ pub record AreTypesOf (text : List ℕ) (roles : List (List ℕ)) (types : List 
   pub read : IsProtocolText text roles tree
   pub faultless : fault_of roles tree ≡ None
   pub projected : AreProjections roles tree types
+
+-- the text is a protocol without faults, and these are so many new sessions of it
+pub record AreSessionsOf (text : List ℕ) (roles : List (List ℕ)) (n : ℕ) (sessions : List Machine) : Type 0 where
+  pub types : List LocalType
+  pub read : AreTypesOf text roles types
+  pub one : AreOfOneProtocol types
+  pub count : length sessions ≡ n
+  pub alike : All (λ s. s ≡ record { types = types; state = initial }) sessions
 
 -- the first fault of the text; want of memory is none of a text's
 abbrev pub IsTextFault : List ℕ → ℕ → TextKind → Type 0

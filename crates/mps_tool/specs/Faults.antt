@@ -10,7 +10,7 @@ use Rattle.mps_wire.specs.declared.script.ReplayFault.{ReplayFault}
 use Rattle.mps_wire.specs.declared.script.ReplayFault.TheVariants.{Open as NotOpened, ReadFault, WriteFault, Turns as TooManyReads, Memory as OutOfMemory}
 use Rattle.mps_tool.specs.Streams.{CantLoad, CantShow}
 use Rattle.mps_tool.specs.declared.faults.ToolFault.{ToolFault}
-use Rattle.mps_tool.specs.declared.faults.ToolFault.TheVariants.{Usage, File, Text, Protocol, Projection, Open, Read, Write, Turns, Memory}
+use Rattle.mps_tool.specs.declared.faults.ToolFault.TheVariants.{Usage, File, Text, Protocol, Projection, Open, Read, Write, Turns, Bind, Accept, Lost, Memory}
 
 -- the word for a fault of a text
 abbrev pub text_word : TextKind → List ℕ
@@ -50,9 +50,13 @@ IsFaultLine line Open = line ≡ codes "refused open"
 IsFaultLine line Read = line ≡ codes "refused read"
 IsFaultLine line Write = line ≡ codes "refused write"
 IsFaultLine line Turns = line ≡ codes "refused turns"
+IsFaultLine line Bind = line ≡ codes "refused bind"
+IsFaultLine line Accept = line ≡ codes "refused accept"
+IsFaultLine line (Lost session) =
+    (number : List ℕ) × (line ≡ codes "refused lost " ++ number) × IsNumberText number session
 IsFaultLine line Memory = line ≡ codes "refused memory"
 
--- 2 for the words and the files, 3 for the protocol, 4 for a device and for memory
+-- 2 for the words, the files and the port, 3 for the protocol, 4 for a device, a lost session and memory
 abbrev pub status_of : ToolFault → ℕ
 status_of (Usage text) = 2
 status_of (File name) = 2
@@ -63,6 +67,9 @@ status_of Open = 3
 status_of Read = 4
 status_of Write = 4
 status_of Turns = 4
+status_of Bind = 2
+status_of Accept = 4
+status_of (Lost session) = 4
 status_of Memory = 4
 
 -- a fault of a text, as the program tells it

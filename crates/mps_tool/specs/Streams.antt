@@ -1,8 +1,9 @@
 -- The types of a protocol from a source, and to a sink: given is what the source had left at first, took what the sink had taken.
 use Rattle.std.specs.Prelude.{◌≡◌, ◌≤◌, ℕ, ⊤, List, Option, length}
 use Rattle.mps_local.specs.Local.{LocalType}
+use Rattle.mps_session.specs.Seen.{Machine}
 use Rattle.std.specs.Io.KnownBytes.{Appends, Consumes, IsAtEnd}
-use Rattle.mps_tool.specs.Check.{AreTypesOf, AreLinesOf, GivesNoTypes}
+use Rattle.mps_tool.specs.Check.{AreSessionsOf, AreTypesOf, AreLinesOf, GivesNoTypes}
 use Rattle.mps_tool.specs.Files.{longest, most_read}
 use Rattle.mps_tool.specs.declared.faults.ToolFault.{ToolFault}
 use Rattle.mps_tool.specs.declared.faults.ToolFault.TheVariants.{Read, Write, Memory}
@@ -29,6 +30,13 @@ pub record HasLoaded (given left : Option (List ℕ)) (roles : List (List ℕ)) 
   pub bytes : Consumes given left text
   pub over : IsAtEnd left
   pub read : AreTypesOf text roles types
+
+-- the source gave a protocol without faults to its end, with these roles and so many new sessions
+pub record HasLoadedMany (given left : Option (List ℕ)) (roles : List (List ℕ)) (n : ℕ) (sessions : List Machine) : Type 0 where
+  pub text : List ℕ
+  pub bytes : Consumes given left text
+  pub over : IsAtEnd left
+  pub read : AreSessionsOf text roles n sessions
 
 -- why no types were had: the text gives none, a read failed, or memory ran out
 abbrev pub CantLoad : (given left : Option (List ℕ)) → ToolFault → Type 0

@@ -22,4 +22,11 @@ pub enum Order<'a> {
         first: &'a str,
         second: &'a str,
     },
+    /// Serve so many sessions of the protocol in the file, to so many connections at that port.
+    Serve {
+        file: &'a str,
+        port: u16,
+        sessions: u64,
+        connections: u64,
+    },
 }

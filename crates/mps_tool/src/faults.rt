@@ -42,6 +42,15 @@ pub enum ToolFault<'a> {
     /// The script was read from too often.
     #[error("refused turns")]
     Turns,
+    /// The port can't be listened on.
+    #[error("refused bind")]
+    Bind,
+    /// No connection can be accepted.
+    #[error("refused accept")]
+    Accept,
+    /// The session's cell closed without a room.
+    #[error("refused lost {session}")]
+    Lost { session: u64 },
     /// Memory ran out.
     #[error("refused memory")]
     Memory,
@@ -177,21 +186,32 @@ fn write_line(fault: &ToolFault<'_>, out: &mut Vec<u8>) -> Result<(), AllocError
         ToolFault::Read => out.extend_from_slice(b"refused read"),
         ToolFault::Write => out.extend_from_slice(b"refused write"),
         ToolFault::Turns => out.extend_from_slice(b"refused turns"),
+        ToolFault::Bind => out.extend_from_slice(b"refused bind"),
+        ToolFault::Accept => out.extend_from_slice(b"refused accept"),
+        ToolFault::Lost { session } => {
+            out.extend_from_slice(b"refused lost ")?;
+            write_number(*session, out)
+        }
         ToolFault::Memory => out.extend_from_slice(b"refused memory"),
     }
 }
 
-/// The exit status for the fault: 2 for the words and files, 3 for the protocol, 4 for a device and
-/// memory.
+/// The exit status for the fault: 2 for the words, files and the port, 3 for the protocol, 4 for a
+/// device, a lost session and memory.
 pub fn status(fault: &ToolFault<'_>) -> u8
     ensures { result ≡ status_of fault.now }
 {
     match fault {
-        ToolFault::Usage { .. } | ToolFault::File { .. } => 2,
+        ToolFault::Usage { .. } | ToolFault::File { .. } | ToolFault::Bind => 2,
         ToolFault::Text { .. }
         | ToolFault::Protocol { .. }
         | ToolFault::Projection { .. }
         | ToolFault::Open => 3,
-        ToolFault::Read | ToolFault::Write | ToolFault::Turns | ToolFault::Memory => 4,
+        ToolFault::Read
+        | ToolFault::Write
+        | ToolFault::Turns
+        | ToolFault::Accept
+        | ToolFault::Lost { .. }
+        | ToolFault::Memory => 4,
     }
 }

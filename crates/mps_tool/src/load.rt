@@ -1,15 +1,15 @@
 //! From a protocol's text to its roles and new sessions of it.
-ghost use Rattle.std.specs.Prelude.{◌≡◌, ◌<◌, ◌^◌, None, IfOk, IfErr, OnOk};
+ghost use Rattle.std.specs.Prelude.{◌≡◌, ◌<◌, ◌≤◌, ◌^◌, None, IfOk, IfErr, OnOk, All, length};
 ghost use Rattle.mps_fidelity.specs.Fidelity.{AreOfOneProtocol};
 ghost use Rattle.mps_global.specs.Global.{plain as global_type};
 ghost use Rattle.mps_global.specs.Faults.{fault_of};
 ghost use Rattle.mps_local.specs.Outcome.{AreProjections};
 ghost use Rattle.mps_machine.specs.Machine.{initial};
 ghost use Rattle.mps_session.specs.Protocols.{HasNoSession};
-ghost use Rattle.mps_tool.specs.Check.{AreTypesOf, GivesNoSession, GivesNoTypes};
+ghost use Rattle.mps_tool.specs.Check.{AreSessionsOf, AreTypesOf, GivesNoSession, GivesNoTypes};
 ghost use Rattle.mps_tool.specs.Faults.{after_reads};
 ghost use Rattle.mps_tool.specs.Files.{HasReadAtMost, most_read};
-ghost use Rattle.mps_tool.specs.Streams.{CantLoad, HasLoaded};
+ghost use Rattle.mps_tool.specs.Streams.{CantLoad, HasLoaded, HasLoadedMany};
 
 use crate::check::roles_of;
 use crate::faults::ToolFault;
@@ -139,4 +139,61 @@ pub fn read_sessions<'a, R: Source>(
 {
     let text = read_text(alloc, reader)?;
     roles_and_sessions(alloc, text.as_slice())
+}
+
+/// This session, and others of the same protocol after it: so many in all.
+fn and_others<'a>(
+    alloc: Global,
+    protocol: &Protocol,
+    first: Session,
+    n: u64,
+) -> Result<Vec<Session>, ToolFault<'a>>
+    requires some { (1 ≤ n) × (n ≤ 16) }
+    requires types { AreProjections protocol.now.roles.items (global_type protocol.now.body) first.types }
+    requires new { first.state ≡ initial }
+    ensures count { IfOk result (λ sessions. length sessions.items ≡ n) }
+    ensures alike { IfOk result (λ sessions. All (λ s. s ≡ first) sessions.items) }
+    ensures fault { IfErr result
+        (GivesNoSession protocol.now.roles.items (global_type protocol.now.body)) }
+{
+    let mut sessions = Vec::with_capacity(alloc, n as usize)?;
+    sessions.push_reserved(first);
+    for _ in 1..n {
+        sessions.push_reserved(session_of(alloc, protocol)?);
+    }
+    Ok(sessions)
+}
+
+/// The roles of the protocol that the text spells, and so many new sessions of it.
+pub fn roles_and_many<'a>(
+    alloc: Global,
+    text: &[u8],
+    n: u64,
+) -> Result<(Roles, Vec<Session>), ToolFault<'a>>
+    requires some { (1 ≤ n) × (n ≤ 16) }
+    ensures sessions { IfOk result (λ r. AreSessionsOf text.now r.0 n r.1.items) }
+    ensures fault { IfErr result (GivesNoTypes text.now) }
+{
+    let protocol = read_protocol(alloc, text)?;
+    let (roles, first) = opened(alloc, &protocol)?;
+    let sessions = and_others(alloc, &protocol, first, n)?;
+    Ok((roles, sessions))
+}
+
+/// Reads a protocol, and gives its roles and so many new sessions of it.
+///
+/// The text is read to its end, or one byte further than a protocol may go.
+pub fn read_many<'a, R: Source>(
+    alloc: Global,
+    reader: &mut R,
+    n: u64,
+) -> Result<(Roles, Vec<Session>), ToolFault<'a>>
+    requires calls { R.calls reader.old < 2 ^ 62 }
+    requires some { (1 ≤ n) × (n ≤ 16) }
+    ensures read { IfOk result (λ r. HasLoadedMany
+        (R.remaining reader.old) (R.remaining reader.new) r.0 n r.1.items) }
+    ensures fault { IfErr result (CantLoad (R.remaining reader.old) (R.remaining reader.new)) }
+{
+    let text = read_text(alloc, reader)?;
+    roles_and_many(alloc, text.as_slice(), n)
 }

@@ -1,4 +1,4 @@
-//! Checks protocols, and runs and compares scripts of commands on multiparty sessions.
+//! Checks protocols, runs and compares scripts of commands on multiparty sessions, and serves such sessions.
 #![tactic(auto)]
 
 ghost use Rattle.std.specs.Prelude.{◌≡◌, ◌≢◌, ◌≤◌, IfErr, IfOk};
@@ -13,6 +13,7 @@ mod faults;
 mod files;
 mod load;
 mod run;
+mod serving;
 mod words;
 
 pub use check::{check_out, show, write_types};
@@ -20,12 +21,18 @@ pub use command::Order;
 pub use comparison::{compare, same_out};
 pub use faults::{ToolFault, fault_line, status};
 pub use files::{open_file, read_text};
-pub use load::{read_session, read_sessions, roles_and_session, roles_and_sessions};
+pub use load::{
+    read_many, read_session, read_sessions, roles_and_many, roles_and_session, roles_and_sessions,
+};
 pub use mps_wire::script::{ReplayFault, replay_session};
 pub use run::run;
+pub use serving::{serve_file, serve_out};
 use std::io::ErrorKind;
+use std::net::{Net, TcpListener, TcpStream};
 use std::process::ExitCode;
 use std::rt::{Env, Files};
+use std::sync::Wait;
+use std::thread::Threads;
 use std::{env, io, str};
 pub use words::order;
 
@@ -36,20 +43,22 @@ mod program_tests;
 #[cfg(test)]
 mod reversal_tests;
 #[cfg(test)]
+mod serving_tests;
+#[cfg(test)]
 mod shown_tests;
 #[cfg(test)]
 mod tests;
 
-/// Does what the words say, of which the first is the program's name, and gives the exit status: 1
-/// where two scripts differ, else 0.
-fn obey<'a, R: Files + AllocGlobal + Print>(
+/// Carries out an order that needs no network, and gives the exit status: 1 where two scripts differ,
+/// else 0. Here no port can be bound.
+fn carry_out<'a, R: Files + AllocGlobal + Print>(
     rt: &R,
-    words: &'a [&'a str],
+    order: Order<'a>,
 ) -> Result<u8, ToolFault<'a>>
     ensures status { IfOk result (λ status. status ≤ 1) }
     ensures opened { IfErr result (λ fault. fault ≢ NotOpened) }
 {
-    match order(rt.alloc(), words)? {
+    match order {
         Order::Help { text } => {
             if println!(rt; "{text}").is_err() {
                 return Err(ToolFault::Write);
@@ -62,8 +71,39 @@ fn obey<'a, R: Files + AllocGlobal + Print>(
             first,
             second,
         } => return compare(rt, file, first, second),
+        Order::Serve { .. } => return Err(ToolFault::Bind),
     }
     Ok(0)
+}
+
+/// Does what the words say, of which the first is the program's name, and gives the exit status: 1
+/// where two scripts differ, else 0.
+fn obey<
+    'a,
+    R: Files
+        + AllocGlobal
+        + Print
+        + Net<Listener = TcpListener, Stream = TcpStream>
+        + Threads
+        + Wait
+        + Sync
+        + 'static,
+>(rt: &R, words: &'a [&'a str]) -> Result<u8, ToolFault<'a>>
+    ensures status { IfOk result (λ status. status ≤ 1) }
+    ensures opened { IfErr result (λ fault. fault ≢ NotOpened) }
+{
+    match order(rt.alloc(), words)? {
+        Order::Serve {
+            file,
+            port,
+            sessions,
+            connections,
+        } => {
+            serve_file(rt, file, port, sessions, connections)?;
+            Ok(0)
+        }
+        alone => carry_out(rt, alone),
+    }
 }
 
 /// The words that the program is called with.

@@ -1,8 +1,9 @@
 //! The program as a whole, on a machine in memory.
 use crate::fake::Machine;
-use crate::{end, obey, run, show};
+use crate::{ToolFault, carry_out, end, order, run, show};
 use std::alloc::Global;
 use std::process::{Abort, ExitCode};
+use std::rt::Files;
 use std::test::Fail;
 
 const RELAY: &str = "roles a b c ;\na -> b : int .\nb -> c : int .\nend\n";
@@ -277,10 +278,18 @@ const CHECKS: &[Row] = &[
     ),
 ];
 
+// Does what the words say, on a machine without a network.
+fn obeyed<'a, R: Files + AllocGlobal + Print>(
+    rt: &R,
+    words: &'a [&'a str],
+) -> Result<u8, ToolFault<'a>> {
+    carry_out(rt, order(rt.alloc(), words)?)
+}
+
 // What the program prints and tells where it is called with these words, and how it ends.
 fn called(alloc: Global, words: &[&str], room: usize) -> (Vec<u8>, Vec<u8>, ExitCode) {
     let machine = Machine::new(alloc, FILES, room);
-    let status = match obey(&machine, words) {
+    let status = match obeyed(&machine, words) {
         Ok(status) => ExitCode::from(status),
         Err(fault) => end(&machine, &fault),
     };

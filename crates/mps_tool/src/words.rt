@@ -1,7 +1,8 @@
 //! The words that the program is called with.
 
-ghost use Rattle.std.specs.Prelude.{IfErr};
+ghost use Rattle.std.specs.Prelude.{◌≤◌, IfErr, IfOk, IfSome};
 ghost use Rattle.mps_tool.specs.Faults.{IsUseFault};
+ghost use Rattle.mps_tool.specs.Orders.{IsInRange};
 
 use crate::command::Order;
 use crate::faults::ToolFault;
@@ -11,6 +12,19 @@ use std::alloc::{AllocError, Global};
 
 /// The version of the program.
 const VERSION: &str = "0.1.0";
+
+/// How many sessions a server has at most.
+const MAX_SESSIONS: u64 = 16;
+
+/// How many connections it accepts at most.
+const MAX_CONNECTIONS: u64 = 64;
+
+/// What is said of words that lack one.
+const MISSING: &str = "error: a word is missing";
+
+/// What is said of numbers that a server can't have.
+const OUT_OF_RANGE: &str =
+    "error: --port is 0 to 65535, --sessions is 1 to 16, and --connections is 1 to 64";
 
 /// A word that a command needs: what it stands for, and what the help says of it.
 struct Word {
@@ -42,11 +56,30 @@ const SECOND: Word = Word {
     help: "Another script",
 };
 
-/// A command of the program, and the words that have to follow it.
+/// The port that a server listens on.
+const PORT: Word = Word {
+    name: "port",
+    help: "The port of 127.0.0.1, 0 for any that is free",
+};
+
+/// How many sessions a server has.
+const SESSIONS: Word = Word {
+    name: "sessions",
+    help: "How many sessions are opened, 1 to 16",
+};
+
+/// How many connections a server accepts.
+const CONNECTIONS: Word = Word {
+    name: "connections",
+    help: "How many connections are accepted, 1 to 64",
+};
+
+/// A command of the program, the words that have to follow it, and the options that have to be given with a word each.
 struct Form {
     name: &'static str,
     about: &'static str,
     words: &'static [Word],
+    options: &'static [Word],
 }
 
 /// The commands of the program.
@@ -55,16 +88,25 @@ const FORMS: &[Form] = &[
         name: "check",
         about: "Shows each role's local type",
         words: &[FILE],
+        options: &[],
     },
     Form {
         name: "run",
         about: "Runs a script and prints the answers",
         words: &[FILE, SCRIPT],
+        options: &[],
     },
     Form {
         name: "same",
         about: "Says whether two scripts come to the same",
         words: &[FILE, FIRST, SECOND],
+        options: &[],
+    },
+    Form {
+        name: "serve",
+        about: "Serves sessions to connections",
+        words: &[FILE],
+        options: &[PORT, SESSIONS, CONNECTIONS],
     },
 ];
 
@@ -73,13 +115,30 @@ fn argument<'a>(alloc: Global, word: &Word) -> Arg<'a> {
     Arg::new(alloc, word.name).help(word.help).required(true)
 }
 
+/// The option that takes the word.
+fn option<'a>(alloc: Global, word: &Word) -> Arg<'a> {
+    argument(alloc, word).long(word.name)
+}
+
+/// The command with these options besides.
+fn with_options<'a>(
+    alloc: Global,
+    mut command: Command<'a>,
+    options: &[Word],
+) -> Result<Command<'a>, AllocError> {
+    for word in options {
+        command = command.arg(option(alloc, word))?;
+    }
+    Ok(command)
+}
+
 /// The command of that form.
 fn command<'a>(alloc: Global, form: &Form) -> Result<Command<'a>, AllocError> {
     let mut command = Command::new(alloc, form.name).about(form.about);
     for word in form.words {
         command = command.arg(argument(alloc, word))?;
     }
-    Ok(command)
+    with_options(alloc, command, form.options)
 }
 
 /// The program with its commands.
@@ -94,24 +153,69 @@ fn program<'a>(alloc: Global) -> Result<Command<'a>, AllocError> {
     Ok(program)
 }
 
-/// The order that stands in the words, as they matched the commands.
-fn order_in<'a>(matches: &ArgMatches<'a>) -> Option<Order<'a>> {
-    let (command, found) = matches.subcommand()?;
-    let file = found.get_str("FILE")?;
-    if command == "check" {
-        return Some(Order::Check { file });
+/// The number that an option has, if it lies between these two, or is one of them.
+fn number_in<'a>(found: &ArgMatches<'a>, name: &str, least: u64, most: u64) -> Option<u64>
+    ensures { IfSome result (λ n. (least ≤ n) × (n ≤ most)) }
+{
+    let number = found.get_str(name)?.parse::<u64>().ok()?;
+    if number < least || number > most {
+        return None;
     }
-    if command == "same" {
-        let first = found.get_str("FIRST")?;
-        let second = found.get_str("SECOND")?;
-        return Some(Order::Same {
-            file,
-            first,
-            second,
-        });
-    }
+    Some(number)
+}
+
+/// The order to serve the file, with its numbers.
+fn serve_in<'a>(file: &'a str, found: &ArgMatches<'a>) -> Option<Order<'a>>
+    ensures { IfSome result IsInRange }
+{
+    let port = number_in(found, "port", 0, u16::MAX as u64)?;
+    let sessions = number_in(found, "sessions", 1, MAX_SESSIONS)?;
+    let connections = number_in(found, "connections", 1, MAX_CONNECTIONS)?;
+    Some(Order::Serve {
+        file,
+        port: port as u16,
+        sessions,
+        connections,
+    })
+}
+
+/// The order to compare two scripts.
+fn same_in<'a>(file: &'a str, found: &ArgMatches<'a>) -> Option<Order<'a>>
+    ensures { IfSome result IsInRange }
+{
+    let first = found.get_str("FIRST")?;
+    let second = found.get_str("SECOND")?;
+    Some(Order::Same {
+        file,
+        first,
+        second,
+    })
+}
+
+/// The order to run a script.
+fn run_in<'a>(file: &'a str, found: &ArgMatches<'a>) -> Option<Order<'a>>
+    ensures { IfSome result IsInRange }
+{
     let script = found.get_str("SCRIPT")?;
     Some(Order::Run { file, script })
+}
+
+/// The order that stands in the words, as they matched the commands, or what is wrong with them.
+fn order_in<'a>(matches: &ArgMatches<'a>) -> Result<Order<'a>, &'static str>
+    ensures { IfOk result IsInRange }
+{
+    let Some((command, found)) = matches.subcommand() else {
+        return Err(MISSING);
+    };
+    let Some(file) = found.get_str("FILE") else {
+        return Err(MISSING);
+    };
+    match command {
+        "check" => Ok(Order::Check { file }),
+        "same" => same_in(file, found).ok_or(MISSING),
+        "serve" => serve_in(file, found).ok_or(OUT_OF_RANGE),
+        _ => run_in(file, found).ok_or(MISSING),
+    }
 }
 
 /// What clap says of words that match no command, without blanks at its end.
@@ -122,7 +226,8 @@ fn text_of(alloc: Global, error: &Error) -> Result<String, AllocError> {
 
 /// What comes of words that match no command: they ask how the program is used, or are refused.
 fn unmatched<'a>(alloc: Global, error: &Error) -> Result<Order<'a>, ToolFault<'a>>
-    ensures { IfErr result IsUseFault }
+    ensures fault { IfErr result IsUseFault }
+    ensures ranges { IfOk result IsInRange }
 {
     if error.kind() == ErrorKind::OutOfMemory {
         return Err(ToolFault::Memory);
@@ -134,14 +239,16 @@ fn unmatched<'a>(alloc: Global, error: &Error) -> Result<Order<'a>, ToolFault<'a
     }
 }
 
-/// The order that stands in the words, as they matched the commands, or that one is missing.
+/// The order that stands in the words, as they matched the commands, or a fault of use.
 fn matched<'a>(alloc: Global, matches: &ArgMatches<'a>) -> Result<Order<'a>, ToolFault<'a>>
-    ensures { IfErr result IsUseFault }
+    ensures fault { IfErr result IsUseFault }
+    ensures ranges { IfOk result IsInRange }
 {
-    if let Some(order) = order_in(matches) {
-        return Ok(order);
-    }
-    match String::from_str(alloc, "error: a word is missing") {
+    let what = match order_in(matches) {
+        Ok(order) => return Ok(order),
+        Err(what) => what,
+    };
+    match String::from_str(alloc, what) {
         Ok(text) => Err(ToolFault::Usage { text }),
         Err(_) => Err(ToolFault::Memory),
     }
@@ -149,7 +256,8 @@ fn matched<'a>(alloc: Global, matches: &ArgMatches<'a>) -> Result<Order<'a>, Too
 
 /// Reads the words, of which the first is the program's name.
 pub fn order<'a>(alloc: Global, words: &'a [&'a str]) -> Result<Order<'a>, ToolFault<'a>>
-    ensures { IfErr result IsUseFault }
+    ensures fault { IfErr result IsUseFault }
+    ensures ranges { IfOk result IsInRange }
 {
     let Ok(program) = program(alloc) else {
         return Err(ToolFault::Memory);
