@@ -54,8 +54,9 @@ fn serves_a_client(rt: HostRuntime) -> Result<(), Fail> {
         || written(&rt, alloc, &listener),
         || answered(&rt, alloc, addr),
     );
-    assert!(rt; answers?.as_slice() == b"joined 2 a\ndone 1\nrefused ended\n".as_slice());
     let lines = lines?;
+    let answers = answers?;
+    assert!(rt; answers.as_slice() == b"joined 2 a\ndone 1\nrefused ended\n".as_slice());
     assert!(rt; lines.starts_with(b"listening "));
     assert!(rt; lines.ends_with(b"\nsession 1 0\nsession 2 1\n"));
     Ok(())
