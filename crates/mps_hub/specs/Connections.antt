@@ -1,5 +1,5 @@
 -- What a connection comes to.
-use Rattle.std.specs.Prelude.{◌≡◌, ◌≢◌, ℕ, ◌⊎◌, List, All}
+use Rattle.std.specs.Prelude.{◌≡◌, ◌≢◌, ℕ, ◌+◌, ◌⊎◌, List, All}
 use Rattle.std.specs.Io.KnownBytes.{Appends}
 use Rattle.mps_cell.specs.Calls.{Known}
 use Rattle.mps_dev.specs.declared.traits.Sink.{Ghosts as SinkGhosts}
@@ -43,6 +43,7 @@ pub record WasCutShort {W : Type 0} (sink : SinkGhosts W) (old new : W) (reply :
   pub text : List ℕ
   pub spelled : SpellsReply text reply
   pub front : TookFront (sink.taken old) (sink.taken new) (ended text)
+  pub failed : sink.failed_calls new ≡ sink.failed_calls old + 1
 
 -- what the writer was given of the reply to a first line that gets no pass, by how the connection ended
 abbrev pub IsAnsweredFirst : {W : Type 0} → SinkGhosts W → W → W → Reply → Attended → Type 0
