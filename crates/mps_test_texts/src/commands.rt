@@ -151,3 +151,37 @@ fn copies_answers(rt: HostRuntime) -> Result<(), Fail> {
     }
     Ok(())
 }
+
+// The list of the numbers from 1 to the last.
+fn listed_to(alloc: Global, last: u64) -> Result<StepIds, Fail> {
+    let mut ids = Vec::new(alloc);
+    for number in 0..last {
+        ids.push(StepId::new(number + 1))?;
+    }
+    Ok(StepIds::of(ids))
+}
+
+// Whether the numbers rise from 1 on.
+fn rise(ids: &StepIds) -> bool {
+    ids.as_slice()
+        .iter()
+        .zip(1..)
+        .all(|(id, number)| id.number() == number)
+}
+
+// Whether a copy of the list of the numbers from 1 to the last has them all.
+fn is_copied(alloc: Global, last: u64) -> Result<bool, Fail> {
+    let ids = listed_to(alloc, last)?;
+    let Answer::Undone(undone) = Answer::Undone(ids).copy(alloc)? else {
+        return Err("no list of numbers")?;
+    };
+    Ok(undone.as_slice().len() as u64 == last && rise(&undone))
+}
+
+#[test]
+fn copies_a_thousand_numbers(rt: HostRuntime) -> Result<(), Fail> {
+    for last in [5, 7, 1_000] {
+        assert!(rt; is_copied(rt.alloc(), last)?, "{last}");
+    }
+    Ok(())
+}

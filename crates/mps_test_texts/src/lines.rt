@@ -183,3 +183,12 @@ fn fronts_of_lines(rt: HostRuntime) -> Result<(), Fail> {
     assert!(rt; line.len() == MOST_KEPT);
     Ok(())
 }
+
+#[test]
+fn a_piece_of_a_megabyte(rt: HostRuntime) -> Result<(), Fail> {
+    let bytes = letters(rt.alloc(), 1_100_000, b"\npick a\n")?;
+    assert!(rt;
+        told(rt.alloc(), &[&bytes])?.as_slice() == [Line::TooLong, text(b"pick a")].as_slice()
+    );
+    Ok(())
+}

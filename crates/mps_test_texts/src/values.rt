@@ -116,6 +116,23 @@ fn text_lengths(rt: HostRuntime) -> Result<(), Fail> {
     Ok(())
 }
 
+// Whether the text of so many letters is read, spelled and copied.
+fn is_text_of(alloc: Global, count: usize) -> Result<bool, Fail> {
+    let mut quoted = vec![in alloc; b'x'; count]?;
+    quoted.insert(0, b'"')?;
+    quoted.push(b'"')?;
+    let (spelled, copied) = spelled(alloc, &value(alloc, &quoted)?)?;
+    Ok(spelled.as_slice() == quoted.as_slice() && copied.as_slice() == quoted.as_slice())
+}
+
+#[test]
+fn texts_of_each_length(rt: HostRuntime) -> Result<(), Fail> {
+    for count in 0..257 {
+        assert!(rt; is_text_of(rt.alloc(), count)?, "{count}");
+    }
+    Ok(())
+}
+
 #[test]
 fn sorts(rt: HostRuntime) -> Result<(), Fail> {
     let sorts = [
