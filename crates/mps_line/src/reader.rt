@@ -1,5 +1,5 @@
 //! How replies are read, and the first line of a connection.
-ghost use Rattle.std.specs.Prelude.{◌≡◌, ℕ, List, [], ◌∷◌, IfOk, IfSome, IfNone, IsErrOf, IsTrue, ◌↔◌};
+ghost use Rattle.std.specs.Prelude.{◌≡◌, ℕ, List, [], ◌∷◌, IfOk, IfSome, IfNone, IsErrOf, IsTrue, IsFalse, ◌↔◌};
 ghost use Rattle.mps_base.specs.declared.action.Message.{Message};
 ghost use Rattle.mps_base.specs.Values.{IsShown};
 ghost use Rattle.mps_command.specs.Shown.{IsShownText};
@@ -21,10 +21,12 @@ use std::alloc::Global;
 /// Reads a reply that takes all of the bytes, without a line break. What a shown session says isn't
 /// read.
 ///
-/// Lists of numbers, texts and shown sessions take memory.
+/// Lists of numbers, texts and shown sessions take memory. A line that spells no reply is `Bad`, also
+/// where memory runs out.
 pub fn read_answer(alloc: Global, bytes: &[u8]) -> Result<Reply, LineFault>
     ensures read { IfOk result (SpellsReply bytes.now) }
     ensures bad { IsErrOf result LineFault.Bad → (reply : Reply) → SpellsReply bytes.now reply → ⊥ }
+    ensures memory { IsErrOf result LineFault.Memory → (reply : Reply) × SpellsReply bytes.now reply }
 {
     match bytes {
         [b'd', ..] => done_reply(alloc, bytes),
@@ -71,6 +73,7 @@ fn joined_reply(bytes: &[u8]) -> Result<Reply, LineFault>
     ensures read { IfOk result (SpellsReply bytes.now) }
     ensures bad { IsErrOf result LineFault.Bad → (session : ℕ) (name : List ℕ)
         → SpellsReply bytes.now (Joined session name) → ⊥ }
+    ensures memory { IsErrOf result LineFault.Memory → ⊥ }
 {
     let Some(rest) = behind(bytes, b"joined") else {
         return Err(LineFault::Bad);
@@ -87,6 +90,7 @@ fn shown_reply(alloc: Global, bytes: &[u8]) -> Result<Reply, LineFault>
     ensures read { IfOk result (SpellsReply bytes.now) }
     ensures bad { IsErrOf result LineFault.Bad → (text : List ℕ)
         → SpellsReply bytes.now (Answered (Shown text)) → ⊥ }
+    ensures memory { IsErrOf result LineFault.Memory → (reply : Reply) × SpellsReply bytes.now reply }
 {
     if !is_shown_text(bytes) {
         return Err(LineFault::Bad);
@@ -116,6 +120,7 @@ fn done_reply(alloc: Global, bytes: &[u8]) -> Result<Reply, LineFault>
     ensures read { IfOk result (SpellsReply bytes.now) }
     ensures bad { IsErrOf result LineFault.Bad → (done : Done)
         → SpellsReply bytes.now (Answered (Accepted done)) → ⊥ }
+    ensures memory { IsErrOf result LineFault.Memory → (reply : Reply) × SpellsReply bytes.now reply }
 {
     let Some(rest) = behind(bytes, b"done") else {
         return Err(LineFault::Bad);
@@ -129,6 +134,8 @@ fn read_done(alloc: Global, bytes: &[u8]) -> Result<Done, LineFault>
     ensures read { IfOk result (λ done. SpellsLine [] bytes.now (done_tokens done.id done.got)) }
     ensures bad { IsErrOf result LineFault.Bad → (done : Done)
         → SpellsLine [] bytes.now (done_tokens done.id done.got) → ⊥ }
+    ensures memory { IsErrOf result LineFault.Memory → (done : Done)
+        × SpellsLine [] bytes.now (done_tokens done.id done.got) }
 {
     let Some(parts) = split_at_space(bytes) else {
         return match read_step(bytes) {
@@ -151,6 +158,8 @@ fn read_message(alloc: Global, bytes: &[u8]) -> Result<Message, LineFault>
     ensures read { IfOk result (λ message. SpellsToken [] bytes.now (message_token message)) }
     ensures bad { IsErrOf result LineFault.Bad → (message : Message)
         → SpellsToken [] bytes.now (message_token message) → ⊥ }
+    ensures memory { IsErrOf result LineFault.Memory → (message : Message)
+        × SpellsToken [] bytes.now (message_token message) }
 {
     if let Some(label) = Name::read(bytes) {
         return Ok(Message::Label(label));
@@ -167,6 +176,7 @@ fn undone_reply(alloc: Global, bytes: &[u8]) -> Result<Reply, LineFault>
     ensures read { IfOk result (SpellsReply bytes.now) }
     ensures bad { IsErrOf result LineFault.Bad → (ids : List ℕ)
         → SpellsReply bytes.now (Answered (Undone ids)) → ⊥ }
+    ensures memory { IsErrOf result LineFault.Memory → (reply : Reply) × SpellsReply bytes.now reply }
 {
     if bytes == b"undone".as_slice() {
         return Ok(Reply::Answered(Answer::Undone(StepIds::of(Vec::new(alloc)))));
@@ -183,6 +193,7 @@ fn news_reply(alloc: Global, bytes: &[u8]) -> Result<Reply, LineFault>
     ensures read { IfOk result (SpellsReply bytes.now) }
     ensures bad { IsErrOf result LineFault.Bad → (n : ℕ) (ids : List ℕ)
         → SpellsReply bytes.now (Answered (News n ids)) → ⊥ }
+    ensures memory { IsErrOf result LineFault.Memory → (reply : Reply) × SpellsReply bytes.now reply }
 {
     let Some(rest) = behind(bytes, b"news") else {
         return Err(LineFault::Bad);
@@ -210,11 +221,16 @@ fn news_of(length: u64, ids: Vec<StepId>) -> Reply
     })
 }
 
-// The steps of these numbers, of which there is one at least.
+// The steps of these numbers, of which there is one at least. Memory is taken once it is known that
+// there are no others.
 fn read_steps(alloc: Global, bytes: &[u8]) -> Result<Vec<StepId>, LineFault>
     ensures read { IfOk result (λ ids. SpellsSteps bytes.now ids.items) }
     ensures bad { IsErrOf result LineFault.Bad → (ids : List ℕ) → SpellsSteps bytes.now ids → ⊥ }
+    ensures memory { IsErrOf result LineFault.Memory → (ids : List ℕ) × SpellsSteps bytes.now ids }
 {
+    if !are_steps(bytes) {
+        return Err(LineFault::Bad);
+    }
     let mut ids = Vec::new(alloc);
     let mut rest = bytes;
     while let Some(parts) = split_at_space(rest) {
@@ -229,4 +245,19 @@ fn read_steps(alloc: Global, bytes: &[u8]) -> Result<Vec<StepId>, LineFault>
     };
     ids.push(id)?;
     Ok(ids)
+}
+
+// Whether these are the numbers of some steps, of one at least.
+fn are_steps(bytes: &[u8]) -> bool
+    ensures yes { IsTrue result → (ids : List ℕ) × SpellsSteps bytes.now ids }
+    ensures no { IsFalse result → (ids : List ℕ) → SpellsSteps bytes.now ids → ⊥ }
+{
+    let mut rest = bytes;
+    while let Some(parts) = split_at_space(rest) {
+        if read_step(parts.0).is_none() {
+            return false;
+        }
+        rest = parts.1;
+    }
+    read_step(rest).is_some()
 }

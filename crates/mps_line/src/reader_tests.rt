@@ -2,6 +2,7 @@ ghost use Rattle.std.specs.Prelude.{◌≡◌, IfOk};
 
 use super::*;
 use crate::laws::one_reply_line;
+use mps_base::write_number;
 use std::alloc::Global;
 use std::test::Fail;
 
@@ -188,6 +189,35 @@ fn bad_replies(rt: HostRuntime) -> Result<(), Fail> {
         let found = read_answer(rt.alloc(), line.as_bytes());
         assert!(rt; matches!(found, Err(LineFault::Bad)), "{line}");
     }
+    Ok(())
+}
+
+// The words, and after them the numbers from 1 to this one.
+fn numbered(alloc: Global, words: &[u8], last: u64) -> Result<Vec<u8>, Fail> {
+    let mut line = Vec::from_slice(alloc, words)?;
+    for number in 1..=last {
+        line.push(b' ')?;
+        write_number(number, &mut line)?;
+    }
+    Ok(line)
+}
+
+// The line, read and written again.
+fn read_and_written(alloc: Global, line: &[u8]) -> Result<Vec<u8>, Fail> {
+    let reply = read_answer(alloc, line)?;
+    let (written, _read) = again(alloc, &reply)?;
+    Ok(written)
+}
+
+#[test]
+fn reads_long_replies(rt: HostRuntime) -> Result<(), Fail> {
+    let alloc = rt.alloc();
+    for words in ["undone", "news 7"] {
+        let line = numbered(alloc, words.as_bytes(), 1_000)?;
+        assert_eq!(rt; read_and_written(alloc, &line)?.as_slice(), line.as_slice());
+    }
+    let line = numbered(alloc, b"{", 20_000)?;
+    assert_eq!(rt; read_and_written(alloc, &line)?.as_slice(), line.as_slice());
     Ok(())
 }
 

@@ -25,6 +25,7 @@ pub(crate) fn refused_reply(bytes: &[u8]) -> Result<Reply, LineFault>
     ensures role { IsErrOf result LineFault.Bad → SpellsReply bytes.now NoRole → ⊥ }
     ensures pass { IsErrOf result LineFault.Bad → SpellsReply bytes.now Taken → ⊥ }
     ensures number { IsErrOf result LineFault.Bad → SpellsReply bytes.now Number → ⊥ }
+    ensures memory { IsErrOf result LineFault.Memory → ⊥ }
 {
     let Some(rest) = behind(bytes, b"refused") else {
         return Err(LineFault::Bad);

@@ -30,3 +30,8 @@ returns-in_err-ids-clause-bad c = λ e n ids h.
 pub returns-clause-read : goal.returns-clause-read
 returns-clause-read c =
     rw c.news_of-2.ensures (news_some _ _ _ _ _ _ c.in-Some.ensures.read c.in-Some-split_at_space.ensures.parts c.in-Some-read_count-2.ensures.read c.in_ok-ids.ensures.read)
+
+pub returns-in_err-ids-clause-memory : goal.returns-in_err-ids-clause-memory
+returns-in_err-ids-clause-memory c = λ e.
+    let ids = c.in_err-ids.ensures.memory (ap Err (sym (rw e at c.from_residual.ensures.1))) in
+    (Answered (News _ ids.0), news_some _ _ _ _ _ _ c.in-Some.ensures.read c.in-Some-split_at_space.ensures.parts c.in-Some-read_count-2.ensures.read ids.1)

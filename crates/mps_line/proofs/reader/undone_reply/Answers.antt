@@ -1,4 +1,6 @@
 use Rattle.std.specs.Prelude.{◌≡◌, []}
+use Rattle.mps_command.specs.declared.answer.Answer.TheVariants.{Undone}
+use Rattle.mps_line.specs.declared.reply.Reply.TheVariants.{Answered}
 use Rattle.std.proofs.Common.{rules, sym, ap, Err}
 use Rattle.mps_line.proofs.Splitting.{is_word, is_no_word}
 use Rattle.mps_line.proofs.Replying.{undone_none, undone_some, undone_steps, steps_of_undone}
@@ -17,3 +19,8 @@ returns-in_err-ids-clause-bad c = λ e ids h.
 
 pub returns-clause-read : goal.returns-clause-read
 returns-clause-read c = rw c.of-2.ensures (undone_some _ _ _ c.in-Some.ensures.read c.in_ok-ids.ensures.read)
+
+pub returns-in_err-ids-clause-memory : goal.returns-in_err-ids-clause-memory
+returns-in_err-ids-clause-memory c = λ e.
+    let ids = c.in_err-ids.ensures.memory (ap Err (sym (rw e at c.from_residual.ensures.1))) in
+    (Answered (Undone ids.0), undone_some _ _ _ c.in-Some.ensures.read ids.1)
