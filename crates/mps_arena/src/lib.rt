@@ -1,4 +1,13 @@
 //! The surviving steps of a session as nodes with links: an ordered list in which each neighbour is found at once.
+//!
+//! The main type is `Arena`. A step joins at the end, and leaves from anywhere once no later step of its role
+//! stands and its message wasn't received. Each look-up reads one link.
+//!
+//! ```
+//! let key = arena.reserve_one()?;
+//! arena.add(Step { id, role, act }, Before { at, bound: None }, source);
+//! let step = arena.remove(key);
+//! ```
 #![tactic(auto)]
 
 mod arena;

@@ -1,4 +1,12 @@
 //! Names, roles, sorts, values, messages and steps of a multiparty session.
+//!
+//! `Roles` are the 2 to 8 names of a session, and a `Role` is a place among them. A `Value` is an int, a truth value
+//! or a `Text`; a `Step` is a number, a role and an `Act`. Each has one spelling, which is read and written here.
+//!
+//! ```
+//! let name = Name::read(b"alice");
+//! let value = Value::read(alloc, b"\"good day\"")?;
+//! ```
 #![tactic(auto)]
 
 pub mod action;

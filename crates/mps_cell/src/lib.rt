@@ -1,5 +1,13 @@
-//! Cells: one room, which a pass for each role calls, from any thread. Whoever holds a pass can't tell the session from
+//! Cells: one room, which a pass for each role calls from any thread. No holder of a pass can tell the session from
 //! one that answered all passes one after the other.
+//!
+//! `Cell` opens a room and deals its passes once; a `Pass` calls it, tries it without waiting, or asks how long the
+//! journal is. `meet` compares what two passes have seen.
+//!
+//! ```
+//! let mut cell = Cell::open(alloc, names, session)?;
+//! let mut passes = cell.passes()?;
+//! ```
 #![tactic(auto)]
 
 pub mod cell;

@@ -1,4 +1,12 @@
 //! What participants of a session ask for, and what they are answered.
+//!
+//! A `Command` is either a `Change` (a step forward, an undo, a rollback, a return to a mark) or a question (`News`,
+//! `Show`). An `Answer` says what came of it, or names the `Refusal`.
+//!
+//! ```
+//! let command = Command::Undo(StepId::new(3));
+//! let again = command.copy(alloc)?;
+//! ```
 #![tactic(auto)]
 
 pub mod answer;

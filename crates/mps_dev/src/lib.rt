@@ -1,5 +1,13 @@
-//! Readers and writers that count: two traits of devices, `Source` and `Sink`, with devices over
-//! std's readers and writers and over memory. Code above is proved once, for every device.
+//! Readers and writers that count: two traits of devices, `Source` and `Sink`, with devices over std's readers and
+//! writers and over memory. Code above is proved once, for every device.
+//!
+//! A device counts its calls, its failures and its ends, so a contract can say how often each happened, whatever
+//! the device gives.
+//!
+//! ```
+//! let mut source = OverRead::new(text.as_slice());
+//! let count = source.read(&mut buffer)?;
+//! ```
 #![tactic(auto)]
 
 mod memory;

@@ -1,4 +1,14 @@
 //! Global types: what a whole session may say, as one tree.
+//!
+//! A `Protocol` has the names of its roles and a `Global`, which is a message, a choice, a recursion, a variable or
+//! the end. `check` accepts a protocol without faults, and names the first fault of any other.
+//!
+//! ```
+//! match check(&protocol) {
+//!     Ok(()) => {}
+//!     Err(fault) => return Err(fault), // GlobalFault::Unguarded for `rec X . X`
+//! }
+//! ```
 #![tactic(auto)]
 
 ghost use Rattle.std.specs.Prelude.{◌≡◌, ◌+◌, MatchOption};

@@ -1,5 +1,9 @@
-//! Histories of steps: which step depends on which, what a removal leaves, and when two histories are one
-//! but for the order of independent steps. Definitions and their laws; there is no code here.
+//! Histories of steps: which step depends on which, what is left without some of them, and when two histories differ
+//! only in the order of independent steps.
+//!
+//! Definitions and their laws; there is no code here. A history is a list of steps whose numbers rise. `DependsOn` is
+//! dependence through any number of links, `consequences` is a step with all that depend on it, and `without` takes
+//! steps out. The crates above prove their code against these.
 #![tactic(auto)]
 
 ghost use Rattle.std.specs.Prelude.{◌≡◌, ◌↔◌, ◌⊎◌, ℕ, ◌<◌, ◌==◌, List, [], ◌∷◌, ◌++◌, Some, IsTrue};

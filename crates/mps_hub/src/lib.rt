@@ -1,7 +1,13 @@
 //! A server's sessions, which connections share: each connection has the one pass that it joined with.
 //!
-//! `Hub` has a cell for each session, `Desk` the passes that are not in use, and `serve` accepts connections and attends
-//! to each in a thread of its own.
+//! `Hub` has a cell for each session, `Desk` the passes that are not in use, and `serve` accepts connections and
+//! attends to each in a thread of its own.
+//!
+//! ```
+//! let mut hub = Hub::open(alloc, &roles, &types, sessions)?;
+//! let desk = hub.desk(alloc)?;
+//! let served = serve(rt, alloc, &listener, &desk, connections)?;
+//! ```
 #![tactic(auto)]
 
 pub mod attending;

@@ -1,4 +1,13 @@
 //! The lines of a script and of a conversation, and the lines that answer them.
+//!
+//! A `Reply` is whatever may answer a line. Each command and each reply has one spelling, which is read and written
+//! here; a line that spells none is `LineFault::Bad`.
+//!
+//! ```
+//! let (role, command) = read_script_line(alloc, &roles, b"a undo 3")?;
+//! let (number, command) = read_numbered(alloc, &roles, b"4 undo 3")?;
+//! let reply = read_answer(alloc, b"undone 4 3")?;
+//! ```
 #![tactic(auto)]
 
 pub mod laws;

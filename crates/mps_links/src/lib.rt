@@ -1,5 +1,13 @@
-//! What depends on a step of an arena, found from link to link: the least of it, and all of it
-//! marked.
+//! What depends on a step of an arena, found from link to link.
+//!
+//! `least_dependent` names the least step that depends on a step. `mark_from` marks a step and all that depend on it,
+//! and `newest_marked` gives them one by one, so that they can be taken out, the newest first.
+//!
+//! ```
+//! let count = mark_from(arena, id);
+//! let newest = newest_marked(arena);
+//! unmark(arena);
+//! ```
 #![tactic(auto)]
 
 mod dependent;

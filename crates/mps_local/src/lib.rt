@@ -1,4 +1,12 @@
 //! Local types: what one role of a session may do.
+//!
+//! A `Local` is a role's part of a protocol. `project` makes it, or names the first choice whose branches can't be
+//! merged; `first_fault` names the first fault of a type that was built by hand.
+//!
+//! ```
+//! let local = project(alloc, &protocol, Role::new(2))?;
+//! let text = write_local(alloc, &roles, &local)?;
+//! ```
 #![tactic(auto)]
 
 ghost use Rattle.std.specs.Prelude.{◌≡◌, ◌+◌, MatchOption};

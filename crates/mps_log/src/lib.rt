@@ -1,4 +1,14 @@
-//! The surviving steps of a session, with what leads from one to another: the links of steps, the queues and the slots.
+//! The surviving steps of a session with all that leads from one to another: the links of steps, the queues and the
+//! slots.
+//!
+//! The main type is `Log`. A step joins with its message, and a step on which no other depends is taken out; queues
+//! and slots follow.
+//!
+//! ```
+//! let id = log.send(a, b, Message::Value(value), 0)?;
+//! log.receive(b, a, &slot, 0)?;
+//! let kept = log.value(b, &slot);
+//! ```
 #![tactic(auto)]
 
 mod log;

@@ -1,5 +1,14 @@
 //! Rooms: a session with the names of its roles, a journal of what it accepted, and news of what others took back.
 //! Callers: who gives a role's commands, with numbers where an answer may get lost.
+//!
+//! The main types are `Room` and, for one role of it, `Solo`, which is a `Caller`.
+//!
+//! ```
+//! let mut room = Room::open(alloc, names, session);
+//! let answer = room.apply(Role::new(0), Command::Undo(StepId::new(1)));
+//! let mut caller = Solo::new(room, Role::new(0));
+//! let told = caller.call_numbered(1, Command::Undo(StepId::new(2)));
+//! ```
 #![tactic(auto)]
 
 pub mod caller;

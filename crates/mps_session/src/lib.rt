@@ -1,4 +1,13 @@
-//! Sessions: what roles send and receive, each step remembered.
+//! Sessions: what roles send and receive, each step remembered, and what they take back.
+//!
+//! The main type is `Session`. `open_protocol` opens one for a protocol, and `Session::open` one for types of one's
+//! own.
+//!
+//! ```
+//! let mut session = open_protocol(alloc, &protocol)?;
+//! let done = session.forward(Role::new(0), Forward::Send { to: Role::new(1), value })?;
+//! session.undo(Role::new(0), done.id)?;
+//! ```
 #![tactic(auto)]
 
 mod accept;

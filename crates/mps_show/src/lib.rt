@@ -1,4 +1,11 @@
 //! What a session shows, as JSON: its history, its queues and its roles.
+//!
+//! `write_show` appends the text, on one line; `show` gives the same as a JSON value.
+//!
+//! ```
+//! write_show(&names, &session, &mut out)?;
+//! let value = show(alloc, &names, &session)?;
+//! ```
 #![tactic(auto)]
 
 mod examples;

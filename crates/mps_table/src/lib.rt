@@ -1,4 +1,14 @@
 //! Local types as flat tables of nodes, in which recursion is a step back.
+//!
+//! The main type is `Table`, with a `Node` for each action and each end of a type. `Expect` is what a role may do at a
+//! node.
+//!
+//! ```
+//! let table = compile(alloc, &local)?;
+//! if let Expect::Select(_, labels) = table.expect(table.first()) {
+//!     // the first of `labels` leads to `table.after(table.first(), Some(0))`
+//! }
+//! ```
 #![tactic(auto)]
 
 pub mod compiling;

@@ -1,4 +1,12 @@
 //! Scripts and conversations over streams: lines from blocks of bytes, and the answers to them.
+//!
+//! `replay_session` runs a script of all roles' commands on a session. `converse` is one role's conversation over any
+//! reader and writer: a line, and then its answer.
+//!
+//! ```
+//! let mut caller = Solo::new(Room::open(alloc, names, session), a);
+//! let ending = converse(alloc, &mut caller, &mut reader, &mut writer);
+//! ```
 #![tactic(auto)]
 
 pub mod conversation;
