@@ -126,6 +126,7 @@ impl Room {
 
     /// Answers the role's command. What is accepted joins the journal with its answer. All memory is asked for before
     /// anything changes; a refusal changes nothing, and want of memory is none where the command is refused anyway.
+    #[inline(always)]
     pub fn apply(&mut self, role: Role, command: Command) -> Answer
         requires { role < length self.old.types }
         ensures answer { IsReply result

@@ -113,6 +113,7 @@ impl Session {
     }
 
     /// Takes a step of the role, as `forward` does.
+    #[inline(always)]
     pub(crate) fn take(&mut self, role: Role, command: &Forward) -> Result<Done, Refusal>
         requires { role < length self.old.types }
         ensures { IsForwarded self.old self.new role command.now result }
@@ -126,6 +127,7 @@ impl Session {
     }
 
     // Takes the step of a receipt or a pick.
+    #[inline(always)]
     fn take_message(&mut self, role: Role, command: &Forward) -> Result<Done, Refusal>
         requires role { role < length self.old.types }
         requires takes { takes_message command.now ≡ true }
@@ -140,6 +142,7 @@ impl Session {
     }
 
     // Takes the step of a send, a choice or a mark, with which no message comes.
+    #[inline(always)]
     fn give(&mut self, role: Role, command: &Forward) -> Result<Done, Refusal>
         requires role { role < length self.old.types }
         requires gives { takes_message command.now ≡ false }

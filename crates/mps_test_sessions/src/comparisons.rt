@@ -183,7 +183,7 @@ fn rolled_back(alloc: alloc::Global, protocol: &Protocol, turns: &[Turn]) -> Res
     }
 }
 
-// `rt try --test --fail-alloc 105 -- rolls_back_after` refuses the room for the answer.
+// The room for the answer is the last request for memory: the README of mps_session says how a run refuses it.
 #[test]
 fn rolls_back_after_a_refusal(rt: HostRuntime) -> Result<(), Fail> {
     let alloc = rt.alloc();

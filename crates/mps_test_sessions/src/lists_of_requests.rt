@@ -1,12 +1,12 @@
-ghost use Rattle.std.specs.Prelude.{◌<◌, length, IfOk};
+ghost use Rattle.std.specs.Prelude.{◌≡◌, ◌<◌, length, IfOk};
 ghost use Rattle.std.specs.List.{AllByRecursion};
 
 use crate::steps::Line::{Count, Keeps, Moves, Waits};
 use crate::steps::{
     A, A_TO_B_TO_C, Ask, B, C, Line, command, gone, name, play, role_of, told, types,
 };
-use mps_base::{Role, StepId};
-use mps_command::{Answer, Change};
+use mps_base::{Name, Role, StepId};
+use mps_command::{Answer, Change, Forward};
 use mps_session::*;
 use std::alloc::Global;
 use std::test::Fail;
@@ -97,4 +97,44 @@ fn serves_a_list(rt: HostRuntime) -> Result<(), Fail> {
         assert_eq!(rt; shown(alloc, answer)?.as_str(), *wanted);
     }
     play(alloc, &mut session, LEFT)
+}
+
+// A request of the role: its mark, or the undo of the step of that number.
+fn mark_or_undo(role: Role, turn: u64, mark: Name) -> (Role, Change)
+    ensures { result.0 ≡ role }
+{
+    if turn.is_multiple_of(2) {
+        (role, Change::Forward(Forward::Mark { name: mark }))
+    } else {
+        (role, Change::Undo(StepId::new(turn / 2 + 1)))
+    }
+}
+
+// So many requests of the role, marks and their undos by turns.
+fn marks_and_undos(
+    alloc: Global,
+    session: &Session,
+    count: u64,
+) -> Result<Vec<(Role, Change)>, Fail>
+    ensures { IfOk result (λ all. AllByRecursion (λ request. request.0 < length session.now.types) all.items) }
+{
+    let mut all = Vec::new(alloc);
+    let role = role_of(session, A)?;
+    let mark = name("m")?;
+    for turn in 0..count {
+        all.push(mark_or_undo(role, turn, mark))?;
+    }
+    Ok(all)
+}
+
+const MARKED_AND_UNDONE: &[Line] = &[Count(0, 500), Moves("")];
+
+#[test]
+fn serves_a_thousand_requests(rt: HostRuntime) -> Result<(), Fail> {
+    let alloc = rt.alloc();
+    let mut session = Session::open(alloc, types(alloc, A_TO_B_TO_C)?)?;
+    let requests = marks_and_undos(alloc, &session, 1_000)?;
+    let answers = session.serve_all(requests)?;
+    assert_eq!(rt; answers.len(), 1_000);
+    play(alloc, &mut session, MARKED_AND_UNDONE)
 }
