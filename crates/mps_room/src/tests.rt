@@ -416,3 +416,57 @@ fn changes_nothing_for_want_of_memory(rt: HostRuntime) -> Result<(), Fail> {
     }
     Ok(())
 }
+
+// ---- long histories
+
+// So many marks of the role.
+fn mark_often(room: &mut Room, place: u8, times: u64) -> Result<(), Fail> {
+    let mark = name("m")?;
+    for _ in 0..times {
+        let made = Command::Forward(Forward::Mark { name: mark });
+        let _ = answered(room, place, made)?;
+    }
+    Ok(())
+}
+
+// How many steps were taken back.
+fn count_taken(answer: &Answer) -> Option<usize> {
+    match answer {
+        Answer::Undone(ids) => Some(ids.as_slice().len()),
+        _ => None,
+    }
+}
+
+#[test]
+fn takes_back_a_thousand_steps(rt: HostRuntime) -> Result<(), Fail> {
+    let mut room = room(rt.alloc(), giving(rt.alloc(), Sort::Int)?)?;
+    mark_often(&mut room, A, 1000)?;
+    let answer = answered(&mut room, A, Command::Rollback(StepId::new(1)))?;
+    assert_eq!(rt; count_taken(&answer), Some(1000));
+    assert_eq!(rt; counts(&room), (1001, 0, 1000));
+    Ok(())
+}
+
+// How long the text is that shows the session, as it is answered and as a value.
+fn shown_lengths(alloc: Global, room: &mut Room) -> Result<(usize, usize), Fail> {
+    let answer = answered(room, A, Command::Show)?;
+    let text = shown(alloc, &answer)?;
+    let value = room.show()?.to_string(alloc)?;
+    Ok((text.len(), value.len()))
+}
+
+// The numbers 1 to 1,100 have 3,293 digits, and stand in the history and in the past of a. Beside the number a step has
+// the 17 bytes of `[,"a","mark","m"]`, and 1,099 commas part the steps and the numbers of the past.
+const THOUSAND_SHOWN: usize = 2 * (3_293 + 1_099) + 1_100 * 17 + AROUND_THEM.len();
+
+const AROUND_THEM: &str =
+    r#"{"history":[],"queues":[],"roles":[{"expects":"send b int","past":[],"role":"a","store":[]},{"expects":"recv a int","past":[],"role":"b","store":[]}]}"#;
+
+#[test]
+fn shows_a_thousand_steps(rt: HostRuntime) -> Result<(), Fail> {
+    let mut room = room(rt.alloc(), giving(rt.alloc(), Sort::Int)?)?;
+    mark_often(&mut room, A, 1_100)?;
+    let lengths = shown_lengths(rt.alloc(), &mut room)?;
+    assert_eq!(rt; lengths, (THOUSAND_SHOWN, THOUSAND_SHOWN));
+    Ok(())
+}
