@@ -8,7 +8,7 @@ use Rattle.mps_room.specs.Solos.{other_entry}
 use Rattle.mps_room.specs.declared.entry.Entry.{Entry}
 use Rattle.mps_cell.specs.Openings.{Opening, IsLegalIn}
 use Rattle.mps_cell.specs.Views.{Part, View, raised}
-use Rattle.mps_cell.specs.Rule.{Shows, AllShow, AllHere, AllOther, AllApart}
+use Rattle.mps_cell.specs.Rule.{Shows, AllShow, AllHere, AllOther, AllApart, Grows}
 
 pub inside : {A : Type 0} (l : List A) (i : ℕ) (a : A) → get_elem? l i ≡ maybe.some a → i < length l
 inside [] i a e = absurd (maybe.some-ne-none a (sym e))
@@ -33,10 +33,6 @@ raise_all j n (p ∷ ps) le a = (record { legal = a.0.legal; begins = a.0.begins
 pub raise_here : (o : Opening) (owner : ℕ → ℕ) (seat n : ℕ) (ps : List Part) → AllHere o owner seat ps → AllHere o owner seat (map (raised n) ps)
 raise_here o owner seat n [] a = tt
 raise_here o owner seat n (p ∷ ps) a = (a.0, raise_here o owner seat n ps a.1)
-
--- the journal stays, or has one entry of the role more
-abbrev pub Grows : ℕ → List Entry → List Entry → Type 0
-Grows role k j = (j ≡ k) ⊎ ((e : Entry) × (e.role ≡ role) × (j ≡ k ++ e ∷ []))
 
 grow_show : (role : ℕ) (k j : List Entry) → Grows role k j → (p : Part) → IsLegalIn p.opening j → p.role ≢ role → Shows k p → Shows j p
 grow_show role k j (inl same) p legal other s = subst (λ l. Shows l p) (sym same) s

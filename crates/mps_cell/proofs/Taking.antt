@@ -11,8 +11,7 @@ use Rattle.mps_room.specs.Kept.{Record}
 use Rattle.mps_room.specs.declared.entry.Entry.{Entry}
 use Rattle.mps_cell.specs.Openings.{Opening, room_of, IsLegalIn}
 use Rattle.mps_cell.specs.Views.{Part, View, part_of, raised}
-use Rattle.mps_cell.specs.Rule.{Kept, Shows, resting, holding, journal_in, IsFree, Looks, Tries, Gives, Took, Missed, Waited, HasRoom}
-use Rattle.mps_cell.proofs.Lists.{Grows}
+use Rattle.mps_cell.specs.Rule.{Kept, Shows, resting, holding, journal_in, IsFree, Looks, Tries, Gives, Took, Missed, Waited, HasRoom, HasAnswered, Grows, Gave}
 use Rattle.mps_cell.proofs.Keeping.{gives_back}
 
 abbrev M : Type 0
@@ -67,13 +66,28 @@ room_taken m h = let y : Record = room_of (part_of m.0.parts).opening (journal_i
 pub grows_by : (j : List Entry) (role r : ℕ) (c : Command) (a : Answer) → role ≡ r → Grows r j (grown j role c a)
 grows_by j role r c a is = elim (is_accepted a) as (λ (b : Bool). Grows r j (if b then j ++ entry role c a ∷ [] else j)) [ true ↦ inr (entry role c a, is, refl) | false ↦ inl refl ]
 
-pub gives_call : (o : Opening) (slots id : ℕ) (m m1 : M) (role : ℕ) (c : Command) (a : Answer) (new : ℕ) → HasRoom m → role ≡ (part_of m.0.parts).role
+-- a room that was taken and answered in
+pub answered : (m m1 : M) (role : ℕ) (c : Command) (a : Answer) → HasRoom m → role ≡ (part_of m.0.parts).role
     → m1 ≡ (m.0, (0, room_of (part_of m.0.parts).opening (grown (journal_in m.1) role c a)) ∷ []) → IsLegalIn (part_of m.0.parts).opening (grown (journal_in m.1) role c a)
-    → new ≡ 2 * length (grown (journal_in m.1) role c a) → Allows (Kept o) slots id m1 0 (λ _. new) (λ _. Gives (step slots 0 new 0 maybe.none) m1 new)
-gives_call o slots id m m1 role c a new has is now legal fits = let k : List Entry = journal_in m.1 in let j : List Entry = grown k role c a in let p : Part = part_of m.0.parts in
+    → HasAnswered m1
+answered m m1 role c a has is now legal = let k : List Entry = journal_in m.1 in let j : List Entry = grown k role c a in let p : Part = part_of m.0.parts in
     let e : m1 ≡ holding p k (room_of p.opening j) = now ∙ ap (λ (x : M). (x.0, (0, room_of p.opening j) ∷ [])) has in
-    subst (λ (x : M). Allows (Kept o) slots id x 0 (λ _. new) (λ _. Gives (step slots 0 new 0 maybe.none) x new)) (sym e)
-    (gives_back o slots id p k j new (grows_by k role p.role c a is) legal fits)
+    subst HasAnswered (sym e) record { before = k; room = refl; grows = grows_by k role p.role c a is; legal = legal }
+
+-- it may be given back
+pub gives_answered : (o : Opening) (slots id : ℕ) (m : M) (new : ℕ) → HasAnswered m → new ≡ 2 * length (journal_in m.1)
+    → Allows (Kept o) slots id m 0 (λ _. new) (λ _. Gives (step slots 0 new 0 maybe.none) m new)
+gives_answered o slots id m new h is =
+    subst (λ (x : M). Allows (Kept o) slots id x 0 (λ _. new) (λ _. Gives (step slots 0 new 0 maybe.none) x new)) (sym h.room)
+    (gives_back o slots id (part_of m.0.parts) h.before (journal_in m.1) new h.grows h.legal is)
+
+pub gave_answered : (st : Step Record) (m m' : M) (r : ℕ) → HasAnswered m → Gives st m r m' → Gave m (journal_in m.1) m'
+gave_answered st m m' r h g = let p : Part = part_of m.0.parts in let j : List Entry = journal_in m.1 in
+    let g' : Gave (holding p h.before (room_of p.opening j)) j m' = subst (λ (x : M). Gives st x r m') h.room g in
+    subst (λ (x : M). Gave x (journal_in x.1) m') (sym h.room) g'
+
+pub gave_by : (m m1 m2 : M) (j : List Entry) → m1 ≡ (m.0, (0, room_of (part_of m.0.parts).opening j) ∷ []) → Gave m1 (journal_in m1.1) m2 → Gave m j m2
+gave_by m m1 m2 j now h = subst (λ (x : M). Gave x (journal_in x.1) m2) now h
 
 -- the try after a look comes from a seat with one part
 pub looked_part : (m m' : M) (r : ℕ) → IsFree m → Looks (step 0 0 0 0 maybe.none) m r m' → m'.0.parts ≡ raised (r / 2) (part_of m.0.parts) ∷ []

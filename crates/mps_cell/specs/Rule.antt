@@ -1,5 +1,5 @@
 -- The rule of a cell's table, and what each step tells the seat that takes it.
-use Rattle.std.specs.Prelude.{◌≡◌, ◌≢◌, ℕ, ◌+◌, ◌*◌, ◌/◌, ◌%◌, ◌<◌, ◌≤◌, ◌==◌, Bool, true, false, List, [], ◌∷◌, ◌++◌, length, if◌then◌else◌, Option, Some, None}
+use Rattle.std.specs.Prelude.{◌≡◌, ◌≢◌, ℕ, ◌+◌, ◌*◌, ◌/◌, ◌%◌, ◌<◌, ◌≤◌, ◌==◌, Bool, true, false, List, [], ◌∷◌, ◌++◌, ◌⊎◌, length, if◌then◌else◌, Option, Some, None}
 use mathlib.Core.Option as maybe
 use lib.ListN.{get_elem?}
 use Rattle.atomic_table.specs.Table.{State, Me, Step, rest}
@@ -117,6 +117,17 @@ IsFree m = m ≡ resting (part_of m.0.parts) m.0.barred
 -- the seat has one part, and the room
 abbrev pub HasRoom : Me Record View → Type 0
 HasRoom m = let p : Part = part_of m.0.parts in m ≡ holding p (journal_in m.1) (room_of p.opening (journal_in m.1))
+
+-- the journal stayed, or has one entry of the role more
+abbrev pub Grows : ℕ → List Entry → List Entry → Type 0
+Grows role k j = (j ≡ k) ⊎ ((e : Entry) × (e.role ≡ role) × (j ≡ k ++ e ∷ []))
+
+-- the seat has one part, and the room with a legal journal: the one that it took, or that with one entry of its role more
+pub record HasAnswered (m : Me Record View) : Type 0 where
+  pub before : List Entry
+  pub room : m ≡ holding (part_of m.0.parts) before (room_of (part_of m.0.parts).opening (journal_in m.1))
+  pub grows : Grows (part_of m.0.parts).role before (journal_in m.1)
+  pub legal : IsLegalIn (part_of m.0.parts).opening (journal_in m.1)
 
 -- one look and one try took the room
 abbrev pub Took : Me Record View → Me Record View → Type 0

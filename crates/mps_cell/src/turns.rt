@@ -3,7 +3,7 @@ ghost use Rattle.std.specs.Prelude.{◌≡◌, ◌<◌, ◌∷◌, [], length, M
 ghost use Rattle.mps_room.specs.Journal.{grown};
 ghost use Rattle.mps_cell.specs.Openings.{IsLegalIn, IsReplyIn, room_of};
 ghost use Rattle.mps_cell.specs.Views.{part_of};
-ghost use Rattle.mps_cell.specs.Rule.{IsFree, Took, Missed, HasRoom, Gave, journal_in};
+ghost use Rattle.mps_cell.specs.Rule.{IsFree, Took, Missed, HasRoom, HasAnswered, Gave, journal_in};
 
 use crate::pass::Table;
 use crate::rule::{Give, Look, Take};
@@ -11,12 +11,12 @@ use crate::view::View;
 use atomic_table::Seat;
 use mps_base::Role;
 use mps_room::{Answer, Command, Room};
-use std::hint::spin_loop;
 use std::sync::Wait;
 use std::sync::atomic::AtomicU64;
 use std::sync::atomic::Ordering::SeqCst;
+use std::thread::yield_now;
 
-// How often a pass looks whether the room is back, before it sleeps.
+// How often a pass looks whether the room is back, and lets other threads run between, before it sleeps.
 const LOOKS: u32 = 100;
 
 // One look and one try. It tells the journal's length that the word showed, and whether the room was taken.
@@ -37,6 +37,7 @@ pub(crate) fn attempt(shared: &Table, seat: &mut Seat<Room, View>) -> (u64, bool
 }
 
 // Takes the room, and sleeps while it is out.
+#[inline(never)]
 pub(crate) fn take<R: Wait>(
     rt: &R,
     shared: &Table,
@@ -49,9 +50,20 @@ pub(crate) fn take<R: Wait>(
     ensures cell { seat.new.table_id ≡ seat.old.table_id }
     ensures took { Took seat.old.me seat.new.me }
 {
-    if attempt(shared, seat).1 {
-        return;
+    if !attempt(shared, seat).1 {
+        take_later(rt, shared, waiting, seat);
     }
+}
+
+// The same, where the room was out: it looks again for a while, and then sleeps.
+#[inline(never)]
+fn take_later<R: Wait>(rt: &R, shared: &Table, waiting: &AtomicU64, seat: &mut Seat<Room, View>)
+    requires cell { seat.old.table_id ≡ shared.now.table_id }
+    requires word { shared.now.table_id.words ≡ 1 }
+    requires free { IsFree seat.old.me }
+    ensures cell { seat.new.table_id ≡ seat.old.table_id }
+    ensures took { Took seat.old.me seat.new.me }
+{
     if attempt_soon(shared, seat).1 {
         return;
     }
@@ -83,7 +95,7 @@ fn attempt_soon(shared: &Table, seat: &mut Seat<Room, View>) -> (u64, bool)
         if shared.peek(0) % 2 == 0 {
             break;
         }
-        spin_loop();
+        yield_now();
     }
     attempt(shared, seat)
 }
@@ -112,12 +124,25 @@ pub(crate) fn finish(
         (grown (journal_in seat.old.me.1) role command result) }
 {
     let answer = answer_in(shared, seat, seen, role, command);
-    shared.store::<Give>(seat, 0, 2 * *seen);
+    give_back(shared, waiting, seat, *seen);
+    answer
+}
+
+// Gives the room back with a journal of so many entries, and wakes a pass that may sleep.
+#[inline(never)]
+fn give_back(shared: &Table, waiting: &AtomicU64, seat: &mut Seat<Room, View>, entries: u64)
+    requires cell { seat.old.table_id ≡ shared.now.table_id }
+    requires word { shared.now.table_id.words ≡ 1 }
+    requires room { HasAnswered seat.old.me }
+    requires count { entries ≡ length (journal_in seat.old.me.1) }
+    ensures cell { seat.new.table_id ≡ seat.old.table_id }
+    ensures gave { Gave seat.old.me (journal_in seat.old.me.1) seat.new.me }
+{
+    shared.store::<Give>(seat, 0, 2 * entries);
     if waiting.load(SeqCst) == 1 {
         waiting.store(0, SeqCst);
         waiting.wake_one();
     }
-    answer
 }
 
 // Answers the command. `seen` is the journal's length then, and the room is still the seat's.

@@ -1,6 +1,6 @@
 use Rattle.std.proofs.Common.{◌≡◌}
 use Rattle.mps_cell.specs.Rule.{Waited}
-use Rattle.mps_cell.proofs.turns.take.Given as goal
+use Rattle.mps_cell.proofs.turns.take_later.Given as goal
 
 abbrev pub invariant-loop : goal.invariant-loop
 invariant-loop g l = record { cell : l.seat.table_id ≡ l.initial.seat.table_id; waited : Waited l.initial.seat.me l.seat.me }
