@@ -1,0 +1,45 @@
+use mps_base::{Role, Value};
+use mps_command::Forward;
+use mps_global::check;
+use mps_local::project_all;
+use mps_session::{Expect, Session, open_protocol};
+use mps_text::read_protocol;
+use std::test::Fail;
+
+// a gives b an int, and b gives c one.
+pub(crate) const RELAY: &[u8] = b"roles a b c ; a -> b : int . b -> c : int . end";
+
+#[test]
+fn takes_a_step_back(rt: HostRuntime) -> Result<(), Fail> {
+    let alloc = rt.alloc();
+    let protocol = read_protocol(alloc, RELAY)?;
+    let mut session = open_protocol(alloc, &protocol)?;
+    if session.roles() != 3 {
+        return Err("three roles".into());
+    }
+    let (a, b) = (Role::new(0), Role::new(1));
+    let value = Value::Int(5);
+    let done = session.forward(a, Forward::Send { to: b, value })?;
+    session.undo(a, done.id)?;
+    assert_eq!(rt; session.len(), 0);
+    Ok(())
+}
+
+#[test]
+fn opens_a_session_of_types(rt: HostRuntime) -> Result<(), Fail> {
+    let alloc = rt.alloc();
+    let protocol = read_protocol(alloc, RELAY)?;
+    check(&protocol)?;
+    let types = project_all(alloc, &protocol)?;
+    let mut session = Session::open(alloc, types)?;
+    if session.roles() != 3 {
+        return Err("three roles".into());
+    }
+    let (a, b) = (Role::new(0), Role::new(1));
+    let value = Value::Int(5);
+    let done = session.forward(a, Forward::Send { to: b, value })?;
+    let next = session.expect(a);
+    assert!(rt; matches!(next, Expect::End));
+    session.undo(a, done.id)?;
+    Ok(())
+}
