@@ -1,0 +1,32 @@
+-- From what the parts of a comparison say to what the whole says.
+use Rattle.std.proofs.Common.{◌≡◌, ℕ, List, inl, inr, subst}
+use Rattle.mps_local.specs.Local.{LocalType}
+use Rattle.mps_room.specs.Journal.{run}
+use Rattle.mps_room.specs.declared.entry.Entry.{Entry}
+use Rattle.mps_session.specs.Seen.{Machine}
+use Rattle.mps_wire.specs.Streams.{Streams}
+use Rattle.mps_program.specs.Compared.{CantCompare, CantFollow, HasCompared, HasFollowed, HasReplayed}
+use Rattle.mps_program.specs.declared.faults.ToolFault.{ToolFault}
+
+-- what is told of a session and of the one that the second script left is told of the two scripts, where the first left that session
+pub followed : (names : List (List ℕ)) (types : List LocalType) (first : List Entry) (session : Machine) → session ≡ record { types = types; state = run types first } → (before after before' after' : Streams) (line : List ℕ) (status : ℕ) → HasReplayed names types before after first → HasFollowed names session before' after' line status → HasCompared names types before after before' after' line status
+followed names types first session is before after before' after' line status replayed h =
+    let seen = subst (λ (m : Machine). HasFollowed names m before' after' line status) is h in
+    record {
+      first = first;
+      second = seen.second;
+      first_replayed = replayed;
+      second_replayed = seen.replayed;
+      views = seen.views;
+      swaps = seen.swaps;
+    }
+
+-- the same, where the types are the first script's
+on_types : (names : List (List ℕ)) (types : List LocalType) (first : List Entry) (before after before' after' : Streams) (fault : ToolFault) → HasReplayed names types before after first → CantFollow names types before' after' fault → CantCompare names types before after before' after' fault
+on_types names types first before after before' after' fault replayed (inl stopped) = inr (inl (first, replayed, stopped))
+on_types names types first before after before' after' fault replayed (inr h) = inr (inr (first, h.0, replayed, h.1, h.2))
+
+-- why nothing is told behind the second script is why nothing is told of the two
+pub cant_follow : (names : List (List ℕ)) (types : List LocalType) (first : List Entry) (types' : List LocalType) → types' ≡ types → (before after before' after' : Streams) (fault : ToolFault) → HasReplayed names types before after first → CantFollow names types' before' after' fault → CantCompare names types before after before' after' fault
+cant_follow names types first types' same before after before' after' fault replayed h = on_types names types first before after before' after' fault replayed
+    (subst (λ (t : List LocalType). CantFollow names t before' after' fault) same h)

@@ -1,0 +1,91 @@
+-- What the text of a protocol gives.
+use Rattle.std.specs.Prelude.{◌≡◌, ℕ, suc, ◌≤◌, ⊤, List, [], ◌∷◌, ◌++◌, codes, length, slice_get, Some, None, All}
+use Rattle.mps_global.specs.Global.{GlobalType}
+use Rattle.mps_global.specs.Faults.{fault_of}
+use Rattle.mps_fidelity.specs.Fidelity.{AreOfOneProtocol}
+use Rattle.mps_local.specs.Local.{LocalType}
+use Rattle.mps_local.specs.Outcome.{AreProjections, IsFirstUnmerged}
+use Rattle.mps_local.specs.Text.{name_at, local_text}
+use Rattle.mps_machine.specs.Machine.{initial}
+use Rattle.mps_session.specs.Seen.{Machine}
+use Rattle.mps_text.specs.Grammar.{SpellsText, IsWithinLimits}
+use Rattle.mps_text.specs.Faults.{IsFirstFault}
+use Rattle.mps_text.specs.declared.fault.TextKind.{TextKind}
+use Rattle.mps_text.specs.declared.fault.TextKind.TheVariants.{Memory as NoRoom}
+use Rattle.mps_program.specs.Files.{longest}
+use Rattle.mps_program.specs.declared.faults.ToolFault.{ToolFault}
+use Rattle.mps_program.specs.declared.faults.ToolFault.TheVariants.{Text, Protocol, Projection, Memory}
+
+-- the text is a protocol of these roles, whose conversation is the tree
+pub record IsProtocolText (text : List ℕ) (roles : List (List ℕ)) (tree : GlobalType) : Type 0 where
+  pub spelled : SpellsText text roles tree
+  pub limits : IsWithinLimits text tree
+
+-- the text is a protocol without faults, and these are its types
+pub record AreTypesOf (text : List ℕ) (roles : List (List ℕ)) (types : List LocalType) : Type 0 where
+  pub tree : GlobalType
+  pub read : IsProtocolText text roles tree
+  pub faultless : fault_of roles tree ≡ None
+  pub projected : AreProjections roles tree types
+
+-- the text is a protocol without faults, and these are so many new sessions of it
+pub record AreSessionsOf (text : List ℕ) (roles : List (List ℕ)) (n : ℕ) (sessions : List Machine) : Type 0 where
+  pub types : List LocalType
+  pub read : AreTypesOf text roles types
+  pub one : AreOfOneProtocol types
+  pub count : length sessions ≡ n
+  pub alike : All (λ s. s ≡ record { types = types; state = initial }) sessions
+
+-- the first fault of the text; want of memory is none of a text's
+abbrev pub IsTextFault : List ℕ → ℕ → TextKind → Type 0
+IsTextFault text at NoRoom = ⊥
+IsTextFault text at kind = IsFirstFault text at kind
+
+-- the role of that name is the first of the protocol that has no projection
+pub record HasNoProjection (roles : List (List ℕ)) (tree : GlobalType) (name : List ℕ) (choice : ℕ) : Type 0 where
+  pub role : ℕ
+  pub named : slice_get roles role ≡ Some name
+  pub first : IsFirstUnmerged roles tree role choice
+
+-- why a protocol without faults gives no types: a role without a projection, or want of memory
+abbrev pub GivesNoProjections : List (List ℕ) → GlobalType → ToolFault → Type 0
+GivesNoProjections roles tree (Projection name choice) = HasNoProjection roles tree name choice
+GivesNoProjections roles tree Memory = ⊤
+GivesNoProjections roles tree fault = ⊥
+
+-- why a protocol has no session: its first fault; or it has none, and a role has no projection; or memory ran out
+abbrev pub GivesNoSession : List (List ℕ) → GlobalType → ToolFault → Type 0
+GivesNoSession roles tree (Protocol fault) = fault_of roles tree ≡ Some fault
+GivesNoSession roles tree (Projection name choice) = (fault_of roles tree ≡ None) × HasNoProjection roles tree name choice
+GivesNoSession roles tree Memory = ⊤
+GivesNoSession roles tree fault = ⊥
+
+-- why a text gives no protocol without faults: its first fault, the fault of the protocol that it spells, or want of memory, where it is short enough
+abbrev pub GivesNoProtocol : List ℕ → ToolFault → Type 0
+GivesNoProtocol text (Text at kind) = IsTextFault text at kind
+GivesNoProtocol text (Protocol fault) =
+    (roles : List (List ℕ)) × (tree : GlobalType) × IsProtocolText text roles tree × (fault_of roles tree ≡ Some fault)
+GivesNoProtocol text Memory = length text ≤ longest
+GivesNoProtocol text fault = ⊥
+
+-- why a text gives no types: it gives no protocol without faults, or a role of it has no projection
+abbrev pub GivesNoTypes : List ℕ → ToolFault → Type 0
+GivesNoTypes text (Projection name choice) =
+    (roles : List (List ℕ)) × (tree : GlobalType) × IsProtocolText text roles tree × (fault_of roles tree ≡ None) × HasNoProjection roles tree name choice
+GivesNoTypes text fault = GivesNoProtocol text fault
+
+-- the line of the role at that place: its name, ` : `, and its type
+abbrev pub role_line : (roles : List (List ℕ)) (place : ℕ) → LocalType → List ℕ
+role_line roles place t = name_at roles place ++ codes " : " ++ local_text roles t ++ 10 ∷ []
+
+-- a line for each role from that place on
+abbrev pub role_lines : (roles : List (List ℕ)) (place : ℕ) → List LocalType → List ℕ
+role_lines roles place [] = []
+role_lines roles place (t ∷ types) = role_line roles place t ++ role_lines roles (suc place) types
+
+-- the text is a protocol without faults, and these are the lines of its roles
+pub record AreLinesOf (text bytes : List ℕ) : Type 0 where
+  pub roles : List (List ℕ)
+  pub types : List LocalType
+  pub read : AreTypesOf text roles types
+  pub lines : bytes ≡ role_lines roles 0 types

@@ -1,0 +1,158 @@
+-- How faults are told.
+use Rattle.std.specs.Prelude.{◌+◌, ◌⊎◌, ⊤, ◌≡◌, ℕ, List, Option, Result, Ok, Err, codes, ◌++◌}
+use Rattle.std.specs.String.{string_bytes}
+use Rattle.mps_base.specs.Numbers.{IsNumberText}
+use Rattle.mps_global.specs.declared.faults.GlobalFault.{GlobalFault}
+use Rattle.mps_global.specs.declared.faults.GlobalFault.TheVariants.{RoleCount, DoubleRole, TooManyNodes as ManyNodes, TooDeep as Deep, UnknownRole, SelfMessage, DoubleLabel, TooManyBranches, NoBranches, Unbound, Shadowed, Unguarded}
+use Rattle.mps_text.specs.declared.fault.TextKind.{TextKind}
+use Rattle.mps_text.specs.declared.fault.TextKind.TheVariants.{TooLong, Word, Unexpected, TooManyNodes, TooDeep, Trailing, Memory as NoRoom}
+use Rattle.mps_wire.specs.declared.script.ReplayFault.{ReplayFault}
+use Rattle.mps_wire.specs.declared.script.ReplayFault.TheVariants.{Open as NotOpened, ReadFault, WriteFault, Turns as TooManyReads, Memory as OutOfMemory}
+use Rattle.mps_words.specs.declared.faults.UseFault.{UseFault}
+use Rattle.mps_words.specs.declared.faults.UseFault.TheVariants.{Usage as Misuse, Memory as NoMemory}
+use Rattle.mps_program.specs.Streams.{CantLoad, CantShow}
+use Rattle.mps_program.specs.declared.faults.ToolFault.{ToolFault}
+use Rattle.mps_program.specs.declared.faults.ToolFault.TheVariants.{Usage, File, Text, Protocol, Projection, Open, Read, Write, Turns, Bind, Accept, Lost, Memory}
+
+-- the word for a fault of a text
+abbrev pub text_word : TextKind → List ℕ
+text_word TooLong = codes "toolong"
+text_word Word = codes "word"
+text_word Unexpected = codes "unexpected"
+text_word TooManyNodes = codes "toomanynodes"
+text_word TooDeep = codes "toodeep"
+text_word Trailing = codes "trailing"
+text_word NoRoom = codes "memory"
+
+-- the word for a fault of a protocol
+abbrev pub protocol_word : GlobalFault → List ℕ
+protocol_word RoleCount = codes "rolecount"
+protocol_word DoubleRole = codes "doublerole"
+protocol_word ManyNodes = codes "toomanynodes"
+protocol_word Deep = codes "toodeep"
+protocol_word UnknownRole = codes "unknownrole"
+protocol_word SelfMessage = codes "selfmessage"
+protocol_word DoubleLabel = codes "doublelabel"
+protocol_word TooManyBranches = codes "toomanybranches"
+protocol_word NoBranches = codes "nobranches"
+protocol_word Unbound = codes "unbound"
+protocol_word Shadowed = codes "shadowed"
+protocol_word Unguarded = codes "unguarded"
+
+-- the line that tells the fault
+abbrev pub IsFaultLine : List ℕ → ToolFault → Type 0
+IsFaultLine line (Usage text) = line ≡ string_bytes text
+IsFaultLine line (File name) = line ≡ codes "refused file " ++ name.now
+IsFaultLine line (Text at kind) =
+    (number : List ℕ) × (line ≡ codes "refused text " ++ text_word kind ++ codes " " ++ number) × IsNumberText number at
+IsFaultLine line (Protocol fault) = line ≡ codes "refused protocol " ++ protocol_word fault
+IsFaultLine line (Projection role choice) =
+    (number : List ℕ) × (line ≡ codes "refused projection " ++ role ++ codes " " ++ number) × IsNumberText number choice
+IsFaultLine line Open = line ≡ codes "refused open"
+IsFaultLine line Read = line ≡ codes "refused read"
+IsFaultLine line Write = line ≡ codes "refused write"
+IsFaultLine line Turns = line ≡ codes "refused turns"
+IsFaultLine line Bind = line ≡ codes "refused bind"
+IsFaultLine line Accept = line ≡ codes "refused accept"
+IsFaultLine line (Lost session) =
+    (number : List ℕ) × (line ≡ codes "refused lost " ++ number) × IsNumberText number session
+IsFaultLine line Memory = line ≡ codes "refused memory"
+
+-- 2 for the words, the files and the port, 3 for the protocol, 4 for a device, a lost session and memory
+abbrev pub status_of : ToolFault → ℕ
+status_of (Usage text) = 2
+status_of (File name) = 2
+status_of (Text at kind) = 3
+status_of (Protocol fault) = 3
+status_of (Projection role choice) = 3
+status_of Open = 3
+status_of Read = 4
+status_of Write = 4
+status_of Turns = 4
+status_of Bind = 2
+status_of Accept = 4
+status_of (Lost session) = 4
+status_of Memory = 4
+
+-- a fault of use, as the program tells it
+abbrev pub of_use : UseFault → ToolFault
+of_use (Misuse text) = Usage text
+of_use NoMemory = Memory
+
+-- a fault of a text, as the program tells it
+abbrev pub of_text : ℕ → TextKind → ToolFault
+of_text at NoRoom = Memory
+of_text at kind = Text at kind
+
+-- why a script was not run to its end, as the program tells it
+abbrev pub of_script : ReplayFault → ToolFault
+of_script (NotOpened fault) = Open
+of_script ReadFault = Read
+of_script WriteFault = Write
+of_script TooManyReads = Turns
+of_script OutOfMemory = Memory
+
+-- how a text may fail to be read: a call more failed, or memory ran out and none more failed
+abbrev pub IsReadFault : ℕ → ℕ → ToolFault → Type 0
+IsReadFault before after Read = after ≡ before + 1
+IsReadFault before after Memory = after ≡ before
+IsReadFault before after fault = ⊥
+
+-- how many reads failed where this is the fault
+abbrev pub failed_reads : ToolFault → ℕ
+failed_reads Read = 1
+failed_reads fault = 0
+
+-- how many writes failed where this is the fault
+abbrev pub failed_writes : ToolFault → ℕ
+failed_writes Write = 1
+failed_writes fault = 0
+
+-- how many calls of the source have failed after this answer
+abbrev pub after_reads : {A : Type 0} → Result A ToolFault → ℕ → ℕ
+after_reads (Ok x) before = before
+after_reads (Err fault) before = before + failed_reads fault
+
+-- how many calls of the sink have failed after this answer
+abbrev pub after_writes : {A : Type 0} → Result A ToolFault → ℕ → ℕ
+after_writes (Ok x) before = before
+after_writes (Err fault) before = before + failed_writes fault
+
+-- the file of that name can't be opened
+abbrev pub IsFileFault : List ℕ → ToolFault → Type 0
+IsFileFault name (File file) = file.now ≡ name
+IsFileFault name fault = ⊥
+
+-- how the run of a script in an open session may break off: a read or a write fails, it is read from too often, or memory runs out
+abbrev pub IsBreak : ToolFault → Type 0
+IsBreak Read = ⊤
+IsBreak Write = ⊤
+IsBreak Turns = ⊤
+IsBreak Memory = ⊤
+IsBreak fault = ⊥
+
+-- how the script of this file may fail to be run: the file can't be opened, or the run breaks off
+abbrev pub IsReplayFault : List ℕ → ToolFault → Type 0
+IsReplayFault script fault = IsFileFault script fault ⊎ IsBreak fault
+
+-- how a protocol may fail to be had from this file: it can't be opened, or gives no types
+abbrev pub IsLoadFault : List ℕ → ToolFault → Type 0
+IsLoadFault file fault =
+    IsFileFault file fault ⊎ ((given : Option (List ℕ)) × (left : Option (List ℕ)) × CantLoad given left fault)
+
+-- how a run of these two files may fail: the first gives no protocol, or the script fails to be run
+abbrev pub IsRunFault : List ℕ → List ℕ → ToolFault → Type 0
+IsRunFault file script fault = IsLoadFault file fault ⊎ IsReplayFault script fault
+
+-- how the scripts of these two files may fail to be compared: one fails to be run, or what is said of them can't be written
+abbrev pub IsScriptsFault : List ℕ → List ℕ → ToolFault → Type 0
+IsScriptsFault script other fault = IsReplayFault script fault ⊎ (IsReplayFault other fault ⊎ (fault ≡ Write))
+
+-- how a comparison of the scripts of two files may fail: the protocol isn't had, or the scripts fail to be compared
+abbrev pub IsCompareFault : List ℕ → List ℕ → List ℕ → ToolFault → Type 0
+IsCompareFault file script other fault = IsLoadFault file fault ⊎ IsScriptsFault script other fault
+
+-- how a check of this file may fail: it can't be opened, or its types can't be shown
+abbrev pub IsCheckFault : List ℕ → ToolFault → Type 0
+IsCheckFault file fault =
+    IsFileFault file fault ⊎ ((given : Option (List ℕ)) × (left : Option (List ℕ)) × (took : Option (List ℕ)) × (taken : Option (List ℕ)) × CantShow given left took taken fault)

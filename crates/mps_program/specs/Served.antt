@@ -1,0 +1,74 @@
+-- What a server tells.
+use Rattle.std.specs.Prelude.{◌≡◌, ◌+◌, ◌<◌, ◌≤◌, ◌⊎◌, ⊤, ℕ, suc, List, [], ◌∷◌, ◌++◌, Option, Some, None, codes, length}
+use Rattle.std.specs.Io.KnownBytes.{Appends}
+use Rattle.mps_base.specs.Numbers.{IsNumberText}
+use Rattle.mps_room.specs.Kept.{Record}
+use Rattle.mps_cell.specs.Cells.{Opened}
+use Rattle.mps_hub.specs.Halls.{AreCellsWith, AreClosed, Hall}
+use Rattle.mps_local.specs.Local.{LocalType}
+use Rattle.mps_fidelity.specs.Fidelity.{AreOfOneProtocol}
+use Rattle.mps_program.specs.Faults.{IsLoadFault}
+use Rattle.mps_program.specs.Streams.{HasLoaded}
+use Rattle.mps_program.specs.declared.faults.ToolFault.{ToolFault}
+use Rattle.mps_program.specs.declared.faults.ToolFault.TheVariants.{Write, Bind, Accept, Lost, Memory}
+
+-- the source gave a protocol without faults to its end, and the hub has so many new sessions of it
+pub record HasOpened (given left : Option (List ℕ)) (n : ℕ) (hub : Hall) : Type 0 where
+  pub types : List LocalType
+  pub loaded : HasLoaded given left hub.names types
+  pub cells : AreCellsWith hub.names types n hub.cells
+  pub one : AreOfOneProtocol types
+
+-- the line that tells the port
+abbrev pub IsListeningLine : ℕ → List ℕ → Type 0
+IsListeningLine port line = (number : List ℕ) × IsNumberText number port × (line ≡ codes "listening " ++ number ++ 10 ∷ [])
+
+-- the line that tells how many entries a session's journal has
+abbrev pub IsSessionLine : ℕ → ℕ → List ℕ → Type 0
+IsSessionLine session entries line = (number : List ℕ) × (count : List ℕ) × IsNumberText number session × IsNumberText count entries
+    × (line ≡ codes "session " ++ number ++ codes " " ++ count ++ 10 ∷ [])
+
+-- a line for each session from this one on, of which none is lost
+abbrev pub AreSessionLines : ℕ → List (Option Record) → List ℕ → Type 0
+AreSessionLines session [] lines = lines ≡ []
+AreSessionLines session (None ∷ rooms) lines = ⊥
+AreSessionLines session (Some m ∷ rooms) lines =
+    (line : List ℕ) × (others : List ℕ) × IsSessionLine session (length m.journal) line × (lines ≡ line ++ others) × AreSessionLines (suc session) rooms others
+
+-- the sink took such a text
+abbrev pub TookOne : (List ℕ → Type 0) → Option (List ℕ) → Option (List ℕ) → Type 0
+TookOne P took taken = (text : List ℕ) × P text × Appends took taken text
+
+-- all was told: the port, and how many entries the room has that each session's cell closed with
+pub record HasServed (cells : List Opened) (took taken : Option (List ℕ)) : Type 0 where
+  pub port : ℕ
+  pub rooms : List (Option Record)
+  pub first : List ℕ
+  pub lines : List ℕ
+  pub listening : IsListeningLine port first
+  pub closed : AreClosed cells rooms
+  pub told : AreSessionLines 1 rooms lines
+  pub sent : Appends took taken (first ++ lines)
+
+-- how the telling of so many sessions from this one on may fail: one of them is lost, the line can't be written, or memory ran out
+abbrev pub IsTellFault : ℕ → ℕ → ToolFault → Type 0
+IsTellFault session n (Lost k) = (session ≤ k) × (k < session + n)
+IsTellFault session n Write = ⊤
+IsTellFault session n Memory = ⊤
+IsTellFault session n fault = ⊥
+
+-- how a server may fail: as the telling does, or it has no port, or accepts no more
+abbrev pub IsOutFault : ℕ → ToolFault → Type 0
+IsOutFault n Bind = ⊤
+IsOutFault n Accept = ⊤
+IsOutFault n fault = IsTellFault 1 n fault
+
+-- how the serving itself may fail: it accepts no more, or memory ran out
+abbrev pub IsHubFault : ToolFault → Type 0
+IsHubFault Accept = ⊤
+IsHubFault Memory = ⊤
+IsHubFault fault = ⊥
+
+-- how a server of this file may fail: the protocol isn't had, or the server fails
+abbrev pub IsServeFault : List ℕ → ℕ → ToolFault → Type 0
+IsServeFault file n fault = IsLoadFault file fault ⊎ IsOutFault n fault

@@ -1,0 +1,175 @@
+//! From a protocol's text to the lines that show its roles' types.
+ghost use Rattle.std.specs.Prelude.{◌≡◌, ◌+◌, ◌<◌, ◌≤◌, ◌^◌, ◌++◌, ℕ, Option, length, map, IfOk, IfErr, OnOk, None, Some};
+ghost use Rattle.std.specs.List.{AllByRecursion};
+ghost use Rattle.mps_global.specs.Global.{plain as global_type};
+ghost use Rattle.mps_global.specs.Faults.{fault_of};
+ghost use Rattle.mps_local.specs.Local.{plain};
+ghost use Rattle.mps_local.specs.Shape.{AllPeers};
+ghost use Rattle.mps_local.specs.Outcome.{AreProjections, AreNotAll};
+ghost use Rattle.mps_program.specs.Check.{IsProtocolText, role_line, role_lines, AreLinesOf};
+ghost use Rattle.mps_program.specs.Check.{GivesNoProtocol, GivesNoProjections, GivesNoTypes};
+ghost use Rattle.mps_program.specs.Faults.{after_reads, after_writes, IsCheckFault};
+ghost use Rattle.mps_program.specs.Files.{HasReadAtMost, most_read};
+ghost use Rattle.mps_program.specs.declared.faults.ToolFault.TheVariants.{Memory as OutOfMemory};
+ghost use Rattle.mps_program.specs.Streams.{CantShow, HasShown};
+
+use crate::faults::ToolFault;
+use crate::files::{open_file, read_text};
+use mps_base::{Role, RoleFault, Roles};
+use mps_dev::{OverWrite, Sink, Source};
+use mps_global::{Protocol, check};
+use mps_local::{Local, ProjectFault, project_all, write_local};
+use mps_text::read_protocol;
+use mps_wire::flow::send_all;
+use std::alloc::{AllocError, Global};
+use std::io;
+use std::rt::Files;
+
+/// The protocol without faults that the text spells.
+fn protocol_of<'a>(alloc: Global, text: &[u8]) -> Result<Protocol, ToolFault<'a>>
+    ensures read { IfOk result (λ p. IsProtocolText text.now p.roles.items (global_type p.body)) }
+    ensures faultless { IfOk result (λ p. fault_of p.roles.items (global_type p.body) ≡ None) }
+    ensures fault { IfErr result (GivesNoProtocol text.now) }
+{
+    let protocol = read_protocol(alloc, text)?;
+    check(&protocol)?;
+    Ok(protocol)
+}
+
+/// Why the protocol gives no types, told by the name of the role.
+fn unprojected<'a>(protocol: &Protocol, fault: ProjectFault) -> ToolFault<'a>
+    requires { AreNotAll protocol.now.roles.items (global_type protocol.now.body) fault }
+    ensures { GivesNoProjections protocol.now.roles.items (global_type protocol.now.body) result }
+{
+    match fault {
+        ProjectFault::Memory => ToolFault::Memory,
+        ProjectFault::Unmergeable { role, choice } => ToolFault::Projection {
+            role: protocol.roles[role.index()],
+            choice,
+        },
+    }
+}
+
+/// The local type of each role in order.
+fn types_of<'a>(alloc: Global, protocol: &Protocol) -> Result<Vec<Local>, ToolFault<'a>>
+    requires faultless { fault_of protocol.now.roles.items (global_type protocol.now.body) ≡ None }
+    ensures ok { IfOk result (λ types. AreProjections
+        protocol.now.roles.items (global_type protocol.now.body) (map plain types.items)) }
+    ensures peers { IfOk result (λ types. AllByRecursion
+        (AllPeers (λ peer. peer < length protocol.now.roles.items)) (map plain types.items)) }
+    ensures fault { IfErr result
+        (GivesNoProjections protocol.now.roles.items (global_type protocol.now.body)) }
+{
+    match project_all(alloc, protocol) {
+        Ok(types) => Ok(types),
+        Err(fault) => Err(unprojected(protocol, fault)),
+    }
+}
+
+/// The roles of a protocol without faults.
+pub(crate) fn roles_of<'a>(alloc: Global, protocol: &Protocol) -> Result<Roles, ToolFault<'a>>
+    requires { fault_of protocol.now.roles.items (global_type protocol.now.body) ≡ None }
+    ensures ok { IfOk result (λ roles. roles ≡ protocol.now.roles.items) }
+    ensures fault { IfErr result (λ fault. fault ≡ OutOfMemory) }
+{
+    match Roles::of(alloc, protocol.roles.as_slice()) {
+        Ok(roles) => Ok(roles),
+        Err(RoleFault::Memory) => Err(ToolFault::Memory),
+        Err(RoleFault::RoleCount) => unreachable!(),
+        Err(RoleFault::DoubleRole) => unreachable!(),
+    }
+}
+
+/// A line for each role of the protocol that the text spells: its name, ` : `, and its local type.
+pub fn check_out<'a>(alloc: Global, text: &[u8]) -> Result<Vec<u8>, ToolFault<'a>>
+    ensures lines { IfOk result (λ out. AreLinesOf text.now out.items) }
+    ensures fault { IfErr result (GivesNoTypes text.now) }
+{
+    let protocol = protocol_of(alloc, text)?;
+    let types = types_of(alloc, &protocol)?;
+    let roles = roles_of(alloc, &protocol)?;
+    let mut out = Vec::new(alloc);
+    write_lines(alloc, &mut out, &roles, 0, &types)?;
+    Ok(out)
+}
+
+/// Writes a line for each role from that place on at the end.
+fn write_lines(
+    alloc: Global,
+    out: &mut Vec<u8>,
+    roles: &Roles,
+    place: usize,
+    types: &[Local],
+) -> Result<(), AllocError>
+    requires few { length roles.now ≤ 8 }
+    requires named { place + length types.now ≤ length roles.now }
+    requires known { AllByRecursion
+        (AllPeers (λ peer. peer < length roles.now)) (map plain types.now) }
+    ensures { IfOk result (λ _. out.new.items
+        ≡ out.old.items ++ role_lines roles.now place (map plain types.now)) }
+{
+    match types {
+        [] => Ok(()),
+        [t, later @ ..] => {
+            write_role(alloc, out, &*roles, place, t)?;
+            write_lines(alloc, out, &*roles, place + 1, later)
+        }
+    }
+}
+
+/// Writes the line of the role at that place at the end.
+fn write_role(
+    alloc: Global,
+    out: &mut Vec<u8>,
+    roles: &Roles,
+    place: usize,
+    t: &Local,
+) -> Result<(), AllocError>
+    requires few { length roles.now ≤ 8 }
+    requires named { place < length roles.now }
+    requires known { AllPeers (λ peer. peer < length roles.now) (plain t.now) }
+    ensures { IfOk result (λ _. out.new.items
+        ≡ out.old.items ++ role_line roles.now place (plain t.now)) }
+{
+    let text = write_local(alloc, roles, t)?;
+    out.extend_from_slice(roles.name(Role::new(place as u8)).as_bytes())?;
+    out.extend_from_slice(b" : ")?;
+    out.extend_from_slice(&text)?;
+    out.push(b'\n')?;
+    Ok(())
+}
+
+/// Reads a protocol, and writes a line for each role: its name, ` : `, and its local type.
+///
+/// All is read and checked before the first byte is written.
+pub fn write_types<'a, R: Source, W: Sink>(
+    alloc: Global,
+    reader: &mut R,
+    writer: &mut W,
+) -> Result<(), ToolFault<'a>>
+    requires reads { R.calls reader.old < 2 ^ 62 }
+    requires writes { W.failed_calls writer.old < 2 ^ 63 }
+    ensures shown { OnOk result (HasShown (R.remaining reader.old) (R.remaining reader.new)
+        (W.taken writer.old) (W.taken writer.new)) }
+    ensures fault { IfErr result (CantShow (R.remaining reader.old) (R.remaining reader.new)
+        (W.taken writer.old) (W.taken writer.new)) }
+    ensures most { HasReadAtMost most_read (R.remaining reader.old) (R.remaining reader.new) }
+    ensures reads { R.failed_calls reader.new ≡ after_reads result (R.failed_calls reader.old) }
+    ensures writes { W.failed_calls writer.new ≡ after_writes result (W.failed_calls writer.old) }
+{
+    let text = read_text(alloc, reader)?;
+    let lines = check_out(alloc, text.as_slice())?;
+    match send_all(writer, lines.as_slice()) {
+        Ok(()) => Ok(()),
+        Err(_) => Err(ToolFault::Write),
+    }
+}
+
+/// Prints a line for each role of the protocol in the file: its name and its local type.
+pub fn show<'a, R: Files + AllocGlobal + Print>(rt: &R, file: &'a str) -> Result<(), ToolFault<'a>>
+    ensures { IfErr result (IsCheckFault file.now) }
+{
+    let mut reader = open_file(rt, file)?;
+    let mut writer = OverWrite::new(io::writer(rt));
+    write_types(rt.alloc(), &mut reader, &mut writer)
+}

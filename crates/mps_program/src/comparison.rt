@@ -1,0 +1,203 @@
+//! Two scripts compared.
+ghost use Rattle.std.specs.Prelude.{◌⊎◌, ◌≡◌, ◌+◌, ◌<◌, ◌≤◌, ◌^◌, length, IsTrue, IfOk, IfErr};
+ghost use Rattle.mps_dev.specs.Standard.{calls_of};
+ghost use Rattle.mps_machine.specs.Machine.{initial};
+ghost use Rattle.mps_program.specs.Compared.{CantCompare, CantFollow, HasCompared, HasFollowed, HasReplayed, HasStopped, Tells, unheard};
+ghost use Rattle.mps_program.specs.Faults.{IsCompareFault, IsFileFault, IsScriptsFault};
+ghost use Rattle.mps_program.specs.declared.faults.ToolFault.TheVariants.{Write as NotWritten};
+ghost use Rattle.mps_wire.specs.Runs.{max_reads};
+
+use crate::faults::ToolFault;
+use crate::files::open_file;
+use crate::load::read_sessions;
+use mps_base::Roles;
+use mps_dev::{Discard, OverRead, OverWrite, Source};
+use mps_room::Room;
+use mps_session::{Session, same};
+use mps_wire::flow::send_all;
+use mps_wire::script::replay_session;
+use std::alloc::{AllocError, Global};
+use std::io;
+use std::rt::Files;
+
+/// Runs the script in a room of the session, and gives the room. Nobody hears the answers.
+fn replay_unheard<'a, R: Source>(
+    alloc: Global,
+    reader: &mut R,
+    roles: Roles,
+    session: Session,
+) -> Result<Room, ToolFault<'a>>
+    requires new { session.state ≡ initial }
+    requires named { length roles ≡ length session.types }
+    requires reads { R.calls reader.old < 2 ^ 62 }
+    ensures replayed { IfOk result (λ room. HasReplayed roles session.types
+        (unheard R.Source reader.old) (unheard R.Source reader.new) room.journal) }
+    ensures types { IfOk result (λ room. room.types ≡ session.types) }
+    ensures fault { IfErr result (HasStopped roles session.types
+        (unheard R.Source reader.old) (unheard R.Source reader.new)) }
+    ensures reads { R.calls reader.new ≤ R.calls reader.old + max_reads }
+{
+    Ok(replay_session(alloc, reader, &mut Discard, roles, session)?)
+}
+
+/// The same in a room with a copy of the roles.
+fn replay_on<'a, R: Source>(
+    alloc: Global,
+    reader: &mut R,
+    roles: &Roles,
+    session: Session,
+) -> Result<Room, ToolFault<'a>>
+    requires new { session.state ≡ initial }
+    requires named { length roles.now ≡ length session.types }
+    requires reads { R.calls reader.old < 2 ^ 62 }
+    ensures replayed { IfOk result (λ room. HasReplayed roles.now session.types
+        (unheard R.Source reader.old) (unheard R.Source reader.new) room.journal) }
+    ensures types { IfOk result (λ room. room.types ≡ session.types) }
+    ensures fault { IfErr result (HasStopped roles.now session.types
+        (unheard R.Source reader.old) (unheard R.Source reader.new)) }
+    ensures reads { R.calls reader.new ≤ R.calls reader.old + max_reads }
+{
+    match roles.copy(alloc) {
+        Ok(names) => replay_unheard(alloc, reader, names, session),
+        Err(_) => Err(ToolFault::Memory),
+    }
+}
+
+/// The line and the status that say whether two sessions are the same.
+fn told(alloc: Global, alike: bool) -> Result<(Vec<u8>, u8), AllocError>
+    ensures { IfOk result (λ r. Tells (IsTrue alike) r.0.items r.1) }
+{
+    if alike {
+        Ok((Vec::from_slice(alloc, b"same\n")?, 0))
+    } else {
+        Ok((Vec::from_slice(alloc, b"different\n")?, 1))
+    }
+}
+
+/// Replays the script on a new session, and says whether it is then the same as the first.
+fn compared<'a, S: Source>(
+    alloc: Global,
+    roles: &Roles,
+    first: &Session,
+    second: Session,
+    other: &mut S,
+) -> Result<(Vec<u8>, u8), ToolFault<'a>>
+    requires types { second.types ≡ first.now.types }
+    requires named { length roles.now ≡ length second.types }
+    requires new { second.state ≡ initial }
+    requires reads { S.calls other.old < 2 ^ 62 }
+    ensures verdict { IfOk result (λ r. HasFollowed roles.now first.now
+        (unheard S.Source other.old) (unheard S.Source other.new) r.0.items r.1) }
+    ensures fault { IfErr result (CantFollow roles.now first.now.types
+        (unheard S.Source other.old) (unheard S.Source other.new)) }
+    ensures reads { S.calls other.new ≤ S.calls other.old + max_reads }
+{
+    let second = replay_on(alloc, other, roles, second)?;
+    match told(alloc, same(first, second.session())) {
+        Ok(told) => Ok(told),
+        Err(_) => Err(ToolFault::Memory),
+    }
+}
+
+/// Replays one script whole and then another, each on a new session of its own, and says whether
+/// the sessions are then causally the same, whatever the order across roles and the numbers: by the
+/// line `same` and the status 0, or the line `different` and the status 1.
+pub fn same_out<'a, R: Source, S: Source>(
+    alloc: Global,
+    roles: &Roles,
+    first: Session,
+    second: Session,
+    reader: &mut R,
+    other: &mut S,
+) -> Result<(Vec<u8>, u8), ToolFault<'a>>
+    requires types { second.types ≡ first.types }
+    requires named { length roles.now ≡ length first.types }
+    requires first_new { first.state ≡ initial }
+    requires second_new { second.state ≡ initial }
+    requires first_reads { R.calls reader.old < 2 ^ 62 }
+    requires second_reads { S.calls other.old < 2 ^ 62 }
+    ensures verdict { IfOk result (λ r. HasCompared roles.now first.types
+        (unheard R.Source reader.old) (unheard R.Source reader.new)
+        (unheard S.Source other.old) (unheard S.Source other.new) r.0.items r.1) }
+    ensures fault { IfErr result (CantCompare roles.now first.types
+        (unheard R.Source reader.old) (unheard R.Source reader.new)
+        (unheard S.Source other.old) (unheard S.Source other.new)) }
+    ensures first_reads { R.calls reader.new ≤ R.calls reader.old + max_reads }
+    ensures second_reads { S.calls other.new ≤ S.calls other.old + max_reads }
+{
+    let first = replay_on(alloc, reader, roles, first)?;
+    compared(alloc, roles, first.session(), second, other)
+}
+
+/// Opens both scripts, of which nothing was read yet.
+fn open_both<'a, R: Files>(
+    rt: &R,
+    script: &'a str,
+    other: &'a str,
+) -> Result<(OverRead<R::File>, OverRead<R::File>), ToolFault<'a>>
+    ensures first_fresh { IfOk result (λ readers. calls_of readers.0 ≡ 0) }
+    ensures second_fresh { IfOk result (λ readers. calls_of readers.1 ≡ 0) }
+    ensures fault { IfErr result (λ fault.
+        IsFileFault script.now fault ⊎ IsFileFault other.now fault) }
+{
+    let first = open_file(rt, script)?;
+    let second = open_file(rt, other)?;
+    Ok((first, second))
+}
+
+/// Prints the line.
+fn print_line<'a, R: Print>(rt: &R, line: &[u8]) -> Result<(), ToolFault<'a>>
+    ensures { IfErr result (λ fault. fault ≡ NotWritten) }
+{
+    match send_all(&mut OverWrite::new(io::writer(rt)), line) {
+        Ok(()) => Ok(()),
+        Err(_) => Err(ToolFault::Write),
+    }
+}
+
+/// Compares the scripts in two files, and prints what is said of them. Gives the status.
+fn compare_scripts<'a, R: Files + AllocGlobal + Print>(
+    rt: &R,
+    roles: &Roles,
+    first: Session,
+    second: Session,
+    script: &'a str,
+    other: &'a str,
+) -> Result<u8, ToolFault<'a>>
+    requires types { second.types ≡ first.types }
+    requires named { length roles.now ≡ length first.types }
+    requires first_new { first.state ≡ initial }
+    requires second_new { second.state ≡ initial }
+    ensures status { IfOk result (λ status. status ≤ 1) }
+    ensures fault { IfErr result (IsScriptsFault script.now other.now) }
+{
+    let (mut reader, mut second_reader) = open_both(rt, script, other)?;
+    let (line, status) = same_out(
+        rt.alloc(),
+        roles,
+        first,
+        second,
+        &mut reader,
+        &mut second_reader,
+    )?;
+    print_line(rt, line.as_slice())?;
+    Ok(status)
+}
+
+/// Replays the scripts in two files, each on a new session of the protocol in the file, and prints
+/// `same` or `different`. Gives the status, 0 or 1.
+///
+/// The protocol is read and checked before a script is opened, and both are opened before the first
+/// is read.
+pub fn compare<'a, R: Files + AllocGlobal + Print>(
+    rt: &R,
+    file: &'a str,
+    script: &'a str,
+    other: &'a str,
+) -> Result<u8, ToolFault<'a>>
+    ensures status { IfOk result (λ status. status ≤ 1) }
+    ensures fault { IfErr result (IsCompareFault file.now script.now other.now) }
+{
+    let (roles, first, second) = read_sessions(rt.alloc(), &mut open_file(rt, file)?)?;
+    compare_scripts(rt, &roles, first, second, script, other)
+}

@@ -1,0 +1,142 @@
+//! What the program does, from its words to its exit status.
+ghost use Rattle.std.specs.Prelude.{◌≡◌, ◌≢◌, ◌≤◌, IfErr, IfOk};
+ghost use Rattle.std.specs.Process.{exit_status};
+ghost use Rattle.mps_program.specs.Ends.{EndsAs, IsObeyed, status_after};
+ghost use Rattle.mps_program.specs.Faults.{status_of};
+ghost use Rattle.mps_program.specs.declared.faults.ToolFault.TheVariants.{Open as NotOpened};
+
+use crate::check::show;
+use crate::comparison::compare;
+use crate::faults::{ToolFault, fault_line, status};
+use crate::running::run;
+use crate::serving::serve_file;
+use mps_words::{Order, order, words_of};
+use std::net::{Net, TcpListener, TcpStream};
+use std::process::ExitCode;
+use std::rt::{Env, Files};
+use std::sync::Wait;
+use std::thread::Threads;
+use std::{io, str};
+
+/// Carries out an order that needs no network, and gives the exit status: 1 where two scripts differ,
+/// else 0. Here no port can be bound.
+pub fn carry_out<'a, R: Files + AllocGlobal + Print>(
+    rt: &R,
+    order: Order<'a>,
+) -> Result<u8, ToolFault<'a>>
+    ensures status { IfOk result (λ status. status ≤ 1) }
+    ensures opened { IfErr result (λ fault. fault ≢ NotOpened) }
+{
+    match order {
+        Order::Help { text } => {
+            if println!(rt; "{text}").is_err() {
+                return Err(ToolFault::Write);
+            }
+        }
+        Order::Check { file } => show(rt, file)?,
+        Order::Run { file, script } => run(rt, file, script)?,
+        Order::Same {
+            file,
+            first,
+            second,
+        } => return compare(rt, file, first, second),
+        Order::Serve { .. } => return Err(ToolFault::Bind),
+    }
+    Ok(0)
+}
+
+/// Does what the words say, of which the first is the program's name, and gives the exit status: 1
+/// where two scripts differ, else 0.
+pub fn obey<
+    'a,
+    R: Files
+        + AllocGlobal
+        + Print
+        + Net<Listener = TcpListener, Stream = TcpStream>
+        + Threads
+        + Wait
+        + Sync
+        + 'static,
+>(rt: &R, words: &'a [&'a str]) -> Result<u8, ToolFault<'a>>
+    ensures status { IfOk result (λ status. status ≤ 1) }
+    ensures opened { IfErr result (λ fault. fault ≢ NotOpened) }
+{
+    match order(rt.alloc(), words)? {
+        Order::Serve {
+            file,
+            port,
+            sessions,
+            connections,
+        } => {
+            serve_file(rt, file, port, sessions, connections)?;
+            Ok(0)
+        }
+        alone => carry_out(rt, alone),
+    }
+}
+
+/// Prints what went wrong: the line of the fault, or its display, which takes no memory.
+fn report<R: AllocGlobal + Eprint>(rt: &R, fault: &ToolFault<'_>) -> io::Result<()> {
+    if let Ok(line) = fault_line(rt.alloc(), fault) {
+        if let Ok(text) = str::from_utf8(line.as_slice()) {
+            return eprintln!(rt; "{text}");
+        }
+    }
+    eprintln!(rt; "{fault}")
+}
+
+/// Prints what went wrong, if that can be printed, and gives the exit status.
+pub fn end<R: AllocGlobal + Eprint>(rt: &R, fault: &ToolFault<'_>) -> ExitCode
+    ensures { exit_status result ≡ status_of fault.now }
+{
+    let _told = report(rt, fault);
+    ExitCode::from(status(fault))
+}
+
+/// Ends after what was done: with its status, or with that of its fault, which is told.
+pub fn end_after<R: AllocGlobal + Eprint>(rt: &R, done: Result<u8, ToolFault<'_>>) -> ExitCode
+    ensures { exit_status result ≡ status_after done.entry }
+{
+    match done {
+        Ok(status) => ExitCode::from(status),
+        Err(fault) => end(rt, &fault),
+    }
+}
+
+/// Has the work done on the words that the program is called with, and ends after it. Where the words
+/// can't be had, nothing is done.
+pub fn end_with<R, F>(rt: &R, work: F) -> ExitCode
+where
+    R: Env + AllocGlobal + Eprint,
+    F: for<'a> FnOnce(&'a [&'a str]) -> Result<u8, ToolFault<'a>>,
+    requires { F.IsAlwaysCallable work }
+    ensures { EndsAs (λ done. (words : _) × F.post work words done) (exit_status result) }
+{
+    let words = match words_of(rt) {
+        Ok(words) => words,
+        Err(fault) => return end(rt, &ToolFault::from(fault)),
+    };
+    let words: Vec<&str> = match words.iter().map(|word| word.as_str()).collect(rt.alloc()) {
+        Ok(words) => words,
+        Err(_) => return end(rt, &ToolFault::Memory),
+    };
+    end_after(rt, work(words.as_slice()))
+}
+
+/// Does what the words say that the program is called with, and ends after it.
+pub fn program<
+    R: Env
+        + Files
+        + AllocGlobal
+        + Print
+        + Eprint
+        + Net<Listener = TcpListener, Stream = TcpStream>
+        + Threads
+        + Wait
+        + Sync
+        + 'static,
+>(rt: &R) -> ExitCode
+    ensures { EndsAs IsObeyed (exit_status result) }
+{
+    end_with(rt, |words| obey(rt, words))
+}

@@ -1,0 +1,229 @@
+//! What the program says when it can't go on.
+ghost use Rattle.std.specs.Prelude.{◌≡◌, OnOk, IfOk};
+ghost use Rattle.mps_base.specs.Appends.{Appends};
+ghost use Rattle.mps_program.specs.Faults.{IsFaultLine, of_script, of_text, of_use, protocol_word, status_of, text_word};
+ghost use Rattle.mps_program.specs.declared.faults.ToolFault.TheVariants.{Memory as OutOfMemory, Protocol as OfProtocol};
+
+use mps_base::{Name, write_number};
+use mps_global::GlobalFault;
+use mps_text::{TextFault, TextKind};
+use mps_wire::script::ReplayFault;
+use mps_words::UseFault;
+use std::alloc::{AllocError, AllocFailed, Global};
+use thiserror::Error;
+
+/// Why the program didn't do what it was told. What it displays as is its line, which `fault_line`
+/// spells.
+#[derive(Debug, Drop, Error)]
+pub enum ToolFault<'a> {
+    /// The words are none of the program's; the text says how to use it.
+    #[error("{text}")]
+    Usage { text: String },
+    /// The file can't be opened.
+    #[error("refused file {name}")]
+    File { name: &'a str },
+    /// The protocol's text has a fault.
+    #[error("refused text {} {at}", text_word_of(*kind))]
+    Text { at: usize, kind: TextKind },
+    /// The protocol has a fault.
+    #[error("refused protocol {}", protocol_word_of(*fault))]
+    Protocol { fault: GlobalFault },
+    /// The role does not do the same in each branch of that choice, counted in preorder from 0.
+    #[error("refused projection {} {choice}", text_of(role))]
+    Projection { role: Name, choice: usize },
+    /// No session can be opened with the types.
+    #[error("refused open")]
+    Open,
+    /// A file can't be read.
+    #[error("refused read")]
+    Read,
+    /// The answers can't be written.
+    #[error("refused write")]
+    Write,
+    /// The script was read from too often.
+    #[error("refused turns")]
+    Turns,
+    /// The port can't be listened on.
+    #[error("refused bind")]
+    Bind,
+    /// No connection can be accepted.
+    #[error("refused accept")]
+    Accept,
+    /// The session's cell closed without a room.
+    #[error("refused lost {session}")]
+    Lost { session: u64 },
+    /// Memory ran out.
+    #[error("refused memory")]
+    Memory,
+}
+
+impl From<AllocError> for ToolFault<'_> {
+    ghost from_gives = { λ _ fault. fault ≡ OutOfMemory };
+
+    fn from(_: AllocError) -> Self {
+        ToolFault::Memory
+    }
+}
+
+impl<T: Drop> From<AllocFailed<T>> for ToolFault<'_> {
+    ghost from_gives = { λ _ fault. fault ≡ OutOfMemory };
+
+    fn from(_: AllocFailed<T>) -> Self {
+        ToolFault::Memory
+    }
+}
+
+impl From<UseFault> for ToolFault<'_> {
+    ghost from_gives = { λ f fault. fault ≡ of_use f };
+
+    fn from(fault: UseFault) -> Self {
+        match fault {
+            UseFault::Usage { text } => ToolFault::Usage { text },
+            UseFault::Memory => ToolFault::Memory,
+        }
+    }
+}
+
+impl From<TextFault> for ToolFault<'_> {
+    ghost from_gives = { λ f fault. fault ≡ of_text f.at f.kind };
+
+    fn from(fault: TextFault) -> Self {
+        match fault.kind {
+            TextKind::Memory => ToolFault::Memory,
+            kind => ToolFault::Text { at: fault.at, kind },
+        }
+    }
+}
+
+impl From<GlobalFault> for ToolFault<'_> {
+    ghost from_gives = { λ f fault. fault ≡ OfProtocol f };
+
+    fn from(fault: GlobalFault) -> Self {
+        ToolFault::Protocol { fault }
+    }
+}
+
+impl From<ReplayFault> for ToolFault<'_> {
+    ghost from_gives = { λ f fault. fault ≡ of_script f };
+
+    fn from(fault: ReplayFault) -> Self {
+        match fault {
+            ReplayFault::Open(_) => ToolFault::Open,
+            ReplayFault::ReadFault => ToolFault::Read,
+            ReplayFault::WriteFault => ToolFault::Write,
+            ReplayFault::Turns => ToolFault::Turns,
+            ReplayFault::Memory => ToolFault::Memory,
+        }
+    }
+}
+
+/// The name as text.
+fn text_of(name: &Name) -> &str {
+    str::from_utf8(name.as_bytes()).unwrap_or_default()
+}
+
+/// The word for a fault of a text.
+fn text_word_of(kind: TextKind) -> &'static str
+    ensures { result.now ≡ text_word kind }
+{
+    match kind {
+        TextKind::TooLong => "toolong",
+        TextKind::Word => "word",
+        TextKind::Unexpected => "unexpected",
+        TextKind::TooManyNodes => "toomanynodes",
+        TextKind::TooDeep => "toodeep",
+        TextKind::Trailing => "trailing",
+        TextKind::Memory => "memory",
+    }
+}
+
+/// The word for a fault of a protocol.
+fn protocol_word_of(fault: GlobalFault) -> &'static str
+    ensures { result.now ≡ protocol_word fault }
+{
+    match fault {
+        GlobalFault::RoleCount => "rolecount",
+        GlobalFault::DoubleRole => "doublerole",
+        GlobalFault::TooManyNodes => "toomanynodes",
+        GlobalFault::TooDeep => "toodeep",
+        GlobalFault::UnknownRole => "unknownrole",
+        GlobalFault::SelfMessage => "selfmessage",
+        GlobalFault::DoubleLabel => "doublelabel",
+        GlobalFault::TooManyBranches => "toomanybranches",
+        GlobalFault::NoBranches => "nobranches",
+        GlobalFault::Unbound => "unbound",
+        GlobalFault::Shadowed => "shadowed",
+        GlobalFault::Unguarded => "unguarded",
+    }
+}
+
+/// The line that tells the fault, without a line break. What is said of the words may have several
+/// lines.
+pub fn fault_line(alloc: Global, fault: &ToolFault<'_>) -> Result<Vec<u8>, AllocError>
+    ensures { IfOk result (λ line. IsFaultLine line.items fault.now) }
+{
+    let mut line = Vec::new(alloc);
+    write_line(fault, &mut line)?;
+    Ok(line)
+}
+
+/// Writes the line at the end, or a part of it.
+fn write_line(fault: &ToolFault<'_>, out: &mut Vec<u8>) -> Result<(), AllocError>
+    ensures { OnOk result
+        (Appends (λ line. IsFaultLine line fault.now) out.old.items out.new.items) }
+{
+    match fault {
+        ToolFault::Usage { text } => out.extend_from_slice(text.as_bytes()),
+        ToolFault::File { name } => {
+            out.extend_from_slice(b"refused file ")?;
+            out.extend_from_slice(name.as_bytes())
+        }
+        ToolFault::Text { at, kind } => {
+            out.extend_from_slice(b"refused text ")?;
+            out.extend_from_slice(text_word_of(*kind).as_bytes())?;
+            out.push(b' ')?;
+            write_number(*at as u64, out)
+        }
+        ToolFault::Protocol { fault } => {
+            out.extend_from_slice(b"refused protocol ")?;
+            out.extend_from_slice(protocol_word_of(*fault).as_bytes())
+        }
+        ToolFault::Projection { role, choice } => {
+            out.extend_from_slice(b"refused projection ")?;
+            out.extend_from_slice(role.as_bytes())?;
+            out.push(b' ')?;
+            write_number(*choice as u64, out)
+        }
+        ToolFault::Open => out.extend_from_slice(b"refused open"),
+        ToolFault::Read => out.extend_from_slice(b"refused read"),
+        ToolFault::Write => out.extend_from_slice(b"refused write"),
+        ToolFault::Turns => out.extend_from_slice(b"refused turns"),
+        ToolFault::Bind => out.extend_from_slice(b"refused bind"),
+        ToolFault::Accept => out.extend_from_slice(b"refused accept"),
+        ToolFault::Lost { session } => {
+            out.extend_from_slice(b"refused lost ")?;
+            write_number(*session, out)
+        }
+        ToolFault::Memory => out.extend_from_slice(b"refused memory"),
+    }
+}
+
+/// The exit status for the fault: 2 for the words, files and the port, 3 for the protocol, 4 for a
+/// device, a lost session and memory.
+pub fn status(fault: &ToolFault<'_>) -> u8
+    ensures { result ≡ status_of fault.now }
+{
+    match fault {
+        ToolFault::Usage { .. } | ToolFault::File { .. } | ToolFault::Bind => 2,
+        ToolFault::Text { .. }
+        | ToolFault::Protocol { .. }
+        | ToolFault::Projection { .. }
+        | ToolFault::Open => 3,
+        ToolFault::Read
+        | ToolFault::Write
+        | ToolFault::Turns
+        | ToolFault::Accept
+        | ToolFault::Lost { .. }
+        | ToolFault::Memory => 4,
+    }
+}

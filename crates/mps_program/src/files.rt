@@ -1,0 +1,76 @@
+//! The files: opening one, and reading a text to its end.
+ghost use Rattle.std.specs.Prelude.{◌≡◌, ◌+◌, ◌<◌, ◌≤◌, ◌^◌, ◌++◌, ℕ, List, length, IfOk, IfErr, OnOk};
+ghost use Rattle.mps_dev.specs.Standard.{calls_of};
+ghost use Rattle.std.specs.Io.KnownBytes.{Consumes, IsAtEnd};
+ghost use Rattle.mps_program.specs.Faults.{IsReadFault};
+ghost use Rattle.mps_program.specs.Files.{HasReadAtMost, longest, most_read};
+ghost use Rattle.mps_program.specs.declared.faults.ToolFault.TheVariants.{File as NotOpened};
+
+use crate::faults::ToolFault;
+use mps_dev::{OverRead, Source};
+use mps_text::MAX_TEXT_BYTES;
+use std::alloc::Global;
+use std::fs;
+use std::rt::Files;
+
+/// Opens the file, of which nothing was read yet.
+pub fn open_file<'a, R: Files>(rt: &R, name: &'a str) -> Result<OverRead<R::File>, ToolFault<'a>>
+    ensures fresh { IfOk result (λ reader. calls_of reader ≡ 0) }
+    ensures fault { IfErr result (λ fault. fault ≡ NotOpened name.entry) }
+{
+    match fs::open(rt, name) {
+        Ok(opened) => Ok(OverRead::new(opened)),
+        Err(_) => Err(ToolFault::File { name }),
+    }
+}
+
+/// Reads a text to its end, or one byte more of it than a protocol may have.
+pub fn read_text<'a, R: Source>(alloc: Global, reader: &mut R) -> Result<Vec<u8>, ToolFault<'a>>
+    requires { R.calls reader.old < 2 ^ 62 }
+    ensures bytes { IfOk result
+        (λ text. Consumes (R.remaining reader.old) (R.remaining reader.new) text.items) }
+    ensures most { HasReadAtMost most_read (R.remaining reader.old) (R.remaining reader.new) }
+    ensures long { IfOk result (λ text. length text.items ≤ most_read) }
+    ensures whole { IfOk result
+        (λ text. length text.items ≤ longest → IsAtEnd (R.remaining reader.new)) }
+    ensures reads_well { OnOk result (R.failed_calls reader.new ≡ R.failed_calls reader.old) }
+    ensures fault { IfErr result
+        (IsReadFault (R.failed_calls reader.old) (R.failed_calls reader.new)) }
+{
+    let mut text = Vec::new(alloc);
+    let mut block = vec![in alloc; 0u8; MAX_TEXT_BYTES + 1]?;
+    while text.len() <= MAX_TEXT_BYTES {
+        block.truncate(MAX_TEXT_BYTES + 1 - text.len());
+        if read_more(reader, block.as_mut_slice(), &mut text)? == 0 {
+            return Ok(text);
+        }
+    }
+    Ok(text)
+}
+
+/// Reads once, and puts what was read behind the text. Gives the number of bytes.
+fn read_more<'a, R: Source>(
+    reader: &mut R,
+    block: &mut [u8],
+    text: &mut Vec<u8>,
+) -> Result<usize, ToolFault<'a>>
+    requires { R.calls reader.old < 2 ^ 63 }
+    ensures calls { R.calls reader.new ≡ R.calls reader.old + 1 }
+    ensures more { IfOk result (λ n. (piece : List ℕ) × (length piece ≡ n)
+        × (text.new.items ≡ text.old.items ++ piece)
+        × Consumes (R.remaining reader.old) (R.remaining reader.new) piece) }
+    ensures most { HasReadAtMost (length block.old)
+        (R.remaining reader.old) (R.remaining reader.new) }
+    ensures long { IfOk result (λ n. n ≤ length block.old) }
+    ensures reads_well { OnOk result (R.failed_calls reader.new ≡ R.failed_calls reader.old) }
+    ensures fault { IfErr result
+        (IsReadFault (R.failed_calls reader.old) (R.failed_calls reader.new)) }
+    ensures end { IfOk result
+        (λ n. n ≡ 0 → 0 < length block.old → IsAtEnd (R.remaining reader.new)) }
+{
+    let Ok(count) = reader.read(block) else {
+        return Err(ToolFault::Read);
+    };
+    text.extend_from_slice(&block[..count])?;
+    Ok(count)
+}

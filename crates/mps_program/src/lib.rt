@@ -1,0 +1,22 @@
+//! The program: it checks protocols, runs and compares scripts of commands on multiparty sessions, and serves such sessions.
+#![tactic(auto)]
+
+mod check;
+mod comparison;
+mod entry;
+mod faults;
+mod files;
+mod load;
+mod running;
+mod serving;
+
+pub use check::{check_out, show, write_types};
+pub use comparison::{compare, same_out};
+pub use entry::{carry_out, end, end_after, end_with, obey, program};
+pub use faults::{ToolFault, fault_line, status};
+pub use files::{open_file, read_text};
+pub use load::{
+    read_many, read_session, read_sessions, roles_and_many, roles_and_session, roles_and_sessions,
+};
+pub use running::run;
+pub use serving::{read_hub, serve_file, serve_out};

@@ -1,0 +1,15 @@
+//! Tests of the program, over what its crates make public.
+#![tactic(auto)]
+
+#[cfg(test)]
+mod fake;
+#[cfg(test)]
+mod parts;
+#[cfg(test)]
+mod reversals;
+#[cfg(test)]
+mod servers;
+#[cfg(test)]
+mod shown_sessions;
+#[cfg(test)]
+mod whole_program;

@@ -1,0 +1,356 @@
+//! The program as a whole, on a machine in memory.
+use crate::fake::Machine;
+use mps_program::{ToolFault, carry_out, end_after, run, show};
+use mps_words::order;
+use std::alloc::Global;
+use std::process::{Abort, ExitCode};
+use std::rt::Files;
+use std::test::Fail;
+
+const RELAY: &str = "roles a b c ;\na -> b : int .\nb -> c : int .\nend\n";
+
+const SCRIPT: &str = "a send b 5\nb recv a x\nb send c 7\nc recv b y";
+
+const GREETING: &str = "roles a b ; a -> b : text . b -> a : bool . end";
+
+const WORDS: &str = "a send b \"good day\"\nb recv a x\nb send a true\na recv b y\n";
+
+// In a loop, `a` chooses; at `go`, `b` answers a text.
+const TALK: &str = "roles a b ; rec X . a -> b { go : b -> a : text . X , stop : end }";
+
+const TALKED: &str = "a choose b go\nb pick a\nb send a \"good day\"\na choose b stop\n\
+    a recv b w\na choose b stop\nb pick a\nb pick a\n";
+
+// A number goes round, and then `c` chooses.
+const RING: &str = "roles a b c ; a -> b : int . b -> c : int . c -> a { ok : end , no : end }";
+
+const STRAY: &str = "b recv a x\na recv b x\na send c 5\na send b true\n";
+
+const ROUND: &str = "a send b 5\nb recv a x\nb send c 7\nc recv b y\nc choose a maybe\n\
+    a pick c\nc choose a ok\na pick c\na mark e\na send b 1\n";
+
+const TWICE: &str = "a send b 1\na send b 2\nb recv a x\nb recv a x\n";
+
+// Two numbers that have nothing to do with each other.
+const PAIRS: &str = "roles a b c d ; a -> b : int . c -> d : int . end";
+
+const FILES: &[(&str, &str)] = &[
+    ("pairs", PAIRS),
+    ("ab first", "a send b 1\nc send d 2\n"),
+    ("cd first", "c send d 2\na send b 1\n"),
+    ("another number", "c send d 2\na send b 3\n"),
+    ("torn", ""),
+    ("talk", TALK),
+    ("talked", TALKED),
+    ("ring", RING),
+    ("stray", STRAY),
+    ("round", ROUND),
+    ("twice", TWICE),
+    ("greeting", GREETING),
+    ("words", WORDS),
+    ("relay", RELAY),
+    ("script", SCRIPT),
+    ("loop", "roles a b ; rec X . a -> b : int . X"),
+    ("choice", "roles a b ; a -> b { l : end , r : end }"),
+    ("unguarded", "roles a b ; rec X . X"),
+    (
+        "unmergeable",
+        "roles a b c ; a -> b { l : a -> c : int . end , r : end }",
+    ),
+    ("empty", ""),
+];
+
+// The words that the program is called with, behind its name; room for so many printed bytes; what is
+// printed; what is told on the standard error; and the status, which is 0 for success.
+struct Row(
+    &'static [&'static str],
+    usize,
+    &'static str,
+    &'static str,
+    u8,
+);
+
+const RUNS: &[Row] = &[
+    Row(
+        &["mps_tool", "run", "relay", "script"],
+        1000,
+        "done 1\ndone 2 5\ndone 3\ndone 4 7\n",
+        "",
+        0,
+    ),
+    Row(
+        &["mps_tool", "run", "relay", "script"],
+        8,
+        "",
+        "refused write\n",
+        4,
+    ),
+    Row(&["mps_tool", "run", "relay", "empty"], 1000, "", "", 0),
+    Row(
+        &["mps_tool", "run", "relay", "no script"],
+        1000,
+        "",
+        "refused file no script\n",
+        2,
+    ),
+    Row(
+        &["mps_tool", "run", "no file", "script"],
+        1000,
+        "",
+        "refused file no file\n",
+        2,
+    ),
+    // the protocol is read and checked before the script is opened
+    Row(
+        &["mps_tool", "run", "unguarded", "no script"],
+        1000,
+        "",
+        "refused protocol unguarded\n",
+        3,
+    ),
+    Row(
+        &["mps_tool", "run", "unmergeable", "no script"],
+        1000,
+        "",
+        "refused projection c 0\n",
+        3,
+    ),
+];
+
+const LOOPS_AND_CHOICES: &[Row] = &[
+    Row(
+        &["mps_tool", "run", "talk", "talked"],
+        1000,
+        "done 1\ndone 2 go\ndone 3\nrefused wrongact\ndone 4 \"good day\"\n\
+         done 5\ndone 6 stop\nrefused ended\n",
+        "",
+        0,
+    ),
+    Row(
+        &["mps_tool", "run", "ring", "stray"],
+        1000,
+        "refused nothingqueued\nrefused wrongact\nrefused wrongpeer\nrefused wrongsort\n",
+        "",
+        0,
+    ),
+    Row(
+        &["mps_tool", "run", "ring", "round"],
+        1000,
+        "done 1\ndone 2 5\ndone 3\ndone 4 7\nrefused nolabel\nrefused nothingqueued\n\
+         done 5\ndone 6 ok\ndone 7\nrefused ended\n",
+        "",
+        0,
+    ),
+    Row(
+        &["mps_tool", "run", "loop", "twice"],
+        1000,
+        "done 1\ndone 2\ndone 3 1\ndone 4 2\n",
+        "",
+        0,
+    ),
+];
+
+const COMPARISONS: &[Row] = &[
+    Row(
+        &["mps_tool", "same", "pairs", "ab first", "cd first"],
+        1000,
+        "same\n",
+        "",
+        0,
+    ),
+    Row(
+        &["mps_tool", "same", "pairs", "ab first", "another number"],
+        1000,
+        "different\n",
+        "",
+        1,
+    ),
+    Row(
+        &["mps_tool", "same", "pairs", "ab first", "ab first"],
+        4,
+        "",
+        "refused write\n",
+        4,
+    ),
+    Row(
+        &["mps_tool", "same", "no file", "no script", "none"],
+        1000,
+        "",
+        "refused file no file\n",
+        2,
+    ),
+    // the protocol is checked before a script is opened
+    Row(
+        &["mps_tool", "same", "unguarded", "no script", "none"],
+        1000,
+        "",
+        "refused protocol unguarded\n",
+        3,
+    ),
+    Row(
+        &["mps_tool", "same", "unmergeable", "no script", "none"],
+        1000,
+        "",
+        "refused projection c 0\n",
+        3,
+    ),
+    Row(
+        &["mps_tool", "same", "pairs", "no script", "none"],
+        1000,
+        "",
+        "refused file no script\n",
+        2,
+    ),
+    // both scripts are opened before one is read
+    Row(
+        &["mps_tool", "same", "pairs", "torn", "none"],
+        1000,
+        "",
+        "refused file none\n",
+        2,
+    ),
+    Row(
+        &["mps_tool", "same", "pairs", "torn", "ab first"],
+        1000,
+        "",
+        "refused read\n",
+        4,
+    ),
+    Row(
+        &["mps_tool", "same", "pairs", "ab first", "torn"],
+        1000,
+        "",
+        "refused read\n",
+        4,
+    ),
+];
+
+const GREETINGS: &[Row] = &[
+    Row(
+        &["mps_tool", "run", "greeting", "words"],
+        1000,
+        "done 1\ndone 2 \"good day\"\ndone 3\ndone 4 true\n",
+        "",
+        0,
+    ),
+    Row(
+        &["mps_tool", "check", "greeting"],
+        1000,
+        "a : send b text . recv b bool . end\nb : recv a text . send a bool . end\n",
+        "",
+        0,
+    ),
+];
+
+const VERSIONS: &[Row] = &[
+    Row(&["mps_tool", "--version"], 1000, "mps_tool 0.1.0\n", "", 0),
+    Row(&["mps_tool", "-V"], 1000, "mps_tool 0.1.0\n", "", 0),
+];
+
+const CHECKS: &[Row] = &[
+    Row(
+        &["mps_tool", "check", "loop"],
+        1000,
+        "a : rec X . send b int . X\nb : rec X . recv a int . X\n",
+        "",
+        0,
+    ),
+    Row(&["mps_tool", "check", "loop"], 8, "", "refused write\n", 4),
+    Row(
+        &["mps_tool", "check", "choice"],
+        1000,
+        "a : choose b { l : end , r : end }\nb : pick a { l : end , r : end }\n",
+        "",
+        0,
+    ),
+    Row(
+        &["mps_tool", "check", "empty"],
+        1000,
+        "",
+        "refused text unexpected 0\n",
+        3,
+    ),
+    Row(
+        &["mps_tool", "check", "no file"],
+        1000,
+        "",
+        "refused file no file\n",
+        2,
+    ),
+];
+
+// Does what the words say, on a machine without a network.
+fn obeyed<'a, R: Files + AllocGlobal + Print>(
+    rt: &R,
+    words: &'a [&'a str],
+) -> Result<u8, ToolFault<'a>> {
+    carry_out(rt, order(rt.alloc(), words)?)
+}
+
+// What the program prints and tells where it is called with these words, and how it ends.
+fn called(alloc: Global, words: &[&str], room: usize) -> (Vec<u8>, Vec<u8>, ExitCode) {
+    let machine = Machine::new(alloc, FILES, room);
+    let status = end_after(&machine, obeyed(&machine, words));
+    let (printed, told) = machine.output();
+    (printed, told, status)
+}
+
+fn plays(rt: &impl Abort, alloc: Global, rows: &[Row]) {
+    for Row(words, room, out, err, code) in rows {
+        let (printed, told, status) = called(alloc, words, *room);
+        assert!(rt; printed.as_slice() == out.as_bytes(), "{out}");
+        assert!(rt; told.as_slice() == err.as_bytes(), "{err}");
+        assert!(rt; status == ExitCode::from(*code), "{out}{err}");
+    }
+}
+
+#[test]
+fn runs_scripts(rt: HostRuntime) {
+    plays(&rt, rt.alloc(), RUNS)
+}
+
+#[test]
+fn runs_loops_and_choices(rt: HostRuntime) {
+    plays(&rt, rt.alloc(), LOOPS_AND_CHOICES)
+}
+
+#[test]
+fn compares_files(rt: HostRuntime) {
+    plays(&rt, rt.alloc(), COMPARISONS)
+}
+
+#[test]
+fn sends_texts_and_truth_values(rt: HostRuntime) {
+    plays(&rt, rt.alloc(), GREETINGS)
+}
+
+#[test]
+fn tells_its_version(rt: HostRuntime) {
+    plays(&rt, rt.alloc(), VERSIONS)
+}
+
+#[test]
+fn checks_protocols(rt: HostRuntime) {
+    plays(&rt, rt.alloc(), CHECKS)
+}
+
+#[test]
+fn tells_misuse(rt: HostRuntime) {
+    let (printed, told, status) = called(rt.alloc(), &["mps_tool", "fly"], 1000);
+    assert!(rt; printed.is_empty() && told.ends_with(b"\n") && status == ExitCode::from(2));
+}
+
+#[test]
+fn tells_its_use(rt: HostRuntime) {
+    let (printed, told, status) = called(rt.alloc(), &["mps_tool", "--help"], 1000);
+    assert!(rt; printed.ends_with(b"\n") && told.is_empty() && status == ExitCode::from(0));
+}
+
+#[test]
+fn runs_and_shows(rt: HostRuntime) {
+    let machine = Machine::new(rt.alloc(), FILES, 1000);
+    let done = run(&machine, "relay", "script").is_ok() && show(&machine, "relay").is_ok();
+    let (printed, _) = machine.output();
+    assert!(rt; done && printed.starts_with(b"done 1\n"));
+    assert!(rt; printed.ends_with(b"c : recv b int . end\n"));
+}

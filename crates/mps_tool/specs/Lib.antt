@@ -1,7 +1,0 @@
-pub mod Check
-pub mod Compared
-pub mod Faults
-pub mod Files
-pub mod Orders
-pub mod Served
-pub mod Streams

@@ -1,0 +1,10 @@
+//! The command line of the program: the words that it is called with, and the order that they give.
+#![tactic(auto)]
+
+mod command;
+mod faults;
+mod words;
+
+pub use command::Order;
+pub use faults::UseFault;
+pub use words::{order, words_of};

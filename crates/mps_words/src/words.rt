@@ -1,0 +1,277 @@
+//! The words that the program is called with.
+
+ghost use Rattle.std.specs.Prelude.{◌≤◌, IfErr, IfOk, IfSome};
+ghost use Rattle.mps_words.specs.Orders.{IsInRange};
+ghost use Rattle.mps_words.specs.Uses.{IsSaidOfMatched, Says, TellsMatched, no_text};
+
+use crate::command::Order;
+use crate::faults::{UseFault, usage};
+use clap::error::ErrorKind;
+use clap::{Arg, ArgMatches, Command, Error};
+use std::alloc::{AllocError, Global};
+use std::rt::Env;
+use std::{env, io};
+
+/// The version of the program.
+const VERSION: &str = "0.1.0";
+
+/// How many sessions a server has at most.
+const MAX_SESSIONS: u64 = 16;
+
+/// How many connections it accepts at most.
+const MAX_CONNECTIONS: u64 = 64;
+
+/// What is said of words of which one is no text.
+const NO_TEXT: &str = "error: a word is not UTF-8";
+
+/// What is said of words that lack one.
+const MISSING: &str = "error: a word is missing";
+
+/// What is said of numbers that a server can't have.
+const OUT_OF_RANGE: &str =
+    "error: --port is 0 to 65535, --sessions is 1 to 16, and --connections is 1 to 64";
+
+/// A word that a command needs: what it stands for, and what the help says of it.
+struct Word {
+    name: &'static str,
+    help: &'static str,
+}
+
+/// The protocol, with which each command begins.
+const FILE: Word = Word {
+    name: "FILE",
+    help: "The protocol",
+};
+
+/// The script that is run.
+const SCRIPT: Word = Word {
+    name: "SCRIPT",
+    help: "A command on each line",
+};
+
+/// The first of two scripts that are compared.
+const FIRST: Word = Word {
+    name: "FIRST",
+    help: "A script, as for run",
+};
+
+/// The second of two scripts that are compared.
+const SECOND: Word = Word {
+    name: "SECOND",
+    help: "Another script",
+};
+
+/// The port that a server listens on.
+const PORT: Word = Word {
+    name: "port",
+    help: "The port of 127.0.0.1, 0 for any that is free",
+};
+
+/// How many sessions a server has.
+const SESSIONS: Word = Word {
+    name: "sessions",
+    help: "How many sessions are opened, 1 to 16",
+};
+
+/// How many connections a server accepts.
+const CONNECTIONS: Word = Word {
+    name: "connections",
+    help: "How many connections are accepted, 1 to 64",
+};
+
+/// A command of the program, the words that have to follow it, and the options that have to be given with a word each.
+struct Form {
+    name: &'static str,
+    about: &'static str,
+    words: &'static [Word],
+    options: &'static [Word],
+}
+
+/// The commands of the program.
+const FORMS: &[Form] = &[
+    Form {
+        name: "check",
+        about: "Shows each role's local type",
+        words: &[FILE],
+        options: &[],
+    },
+    Form {
+        name: "run",
+        about: "Runs a script and prints the answers",
+        words: &[FILE, SCRIPT],
+        options: &[],
+    },
+    Form {
+        name: "same",
+        about: "Says whether two scripts come to the same",
+        words: &[FILE, FIRST, SECOND],
+        options: &[],
+    },
+    Form {
+        name: "serve",
+        about: "Serves sessions to connections",
+        words: &[FILE],
+        options: &[PORT, SESSIONS, CONNECTIONS],
+    },
+];
+
+/// The argument that takes the word.
+fn argument<'a>(alloc: Global, word: &Word) -> Arg<'a> {
+    Arg::new(alloc, word.name).help(word.help).required(true)
+}
+
+/// The option that takes the word.
+fn option<'a>(alloc: Global, word: &Word) -> Arg<'a> {
+    argument(alloc, word).long(word.name)
+}
+
+/// The command with these options besides.
+fn with_options<'a>(
+    alloc: Global,
+    mut command: Command<'a>,
+    options: &[Word],
+) -> Result<Command<'a>, AllocError> {
+    for word in options {
+        command = command.arg(option(alloc, word))?;
+    }
+    Ok(command)
+}
+
+/// The command of that form.
+fn command<'a>(alloc: Global, form: &Form) -> Result<Command<'a>, AllocError> {
+    let mut command = Command::new(alloc, form.name).about(form.about);
+    for word in form.words {
+        command = command.arg(argument(alloc, word))?;
+    }
+    with_options(alloc, command, form.options)
+}
+
+/// The program with its commands.
+fn program<'a>(alloc: Global) -> Result<Command<'a>, AllocError> {
+    let mut program = Command::new(alloc, "mps_tool")
+        .about("A monitor for multiparty sessions")
+        .version(VERSION)
+        .subcommand_required(true);
+    for form in FORMS {
+        program = program.subcommand(command(alloc, form)?)?;
+    }
+    Ok(program)
+}
+
+/// The number that an option has, if it lies between these two, or is one of them.
+fn number_in<'a>(found: &ArgMatches<'a>, name: &str, least: u64, most: u64) -> Option<u64>
+    ensures { IfSome result (λ n. (least ≤ n) × (n ≤ most)) }
+{
+    let number = found.get_str(name)?.parse::<u64>().ok()?;
+    if number < least || number > most {
+        return None;
+    }
+    Some(number)
+}
+
+/// The order to serve the file, with its numbers.
+fn serve_in<'a>(file: &'a str, found: &ArgMatches<'a>) -> Option<Order<'a>>
+    ensures { IfSome result IsInRange }
+{
+    let port = number_in(found, "port", 0, u16::MAX as u64)?;
+    let sessions = number_in(found, "sessions", 1, MAX_SESSIONS)?;
+    let connections = number_in(found, "connections", 1, MAX_CONNECTIONS)?;
+    Some(Order::Serve {
+        file,
+        port: port as u16,
+        sessions,
+        connections,
+    })
+}
+
+/// The order to compare two scripts.
+fn same_in<'a>(file: &'a str, found: &ArgMatches<'a>) -> Option<Order<'a>>
+    ensures { IfSome result IsInRange }
+{
+    let first = found.get_str("FIRST")?;
+    let second = found.get_str("SECOND")?;
+    Some(Order::Same {
+        file,
+        first,
+        second,
+    })
+}
+
+/// The order to run a script.
+fn run_in<'a>(file: &'a str, found: &ArgMatches<'a>) -> Option<Order<'a>>
+    ensures { IfSome result IsInRange }
+{
+    let script = found.get_str("SCRIPT")?;
+    Some(Order::Run { file, script })
+}
+
+/// The order that stands in the words, as they matched the commands, or what is wrong with them.
+fn order_in<'a>(matches: &ArgMatches<'a>) -> Result<Order<'a>, &'static str>
+    ensures range { IfOk result IsInRange }
+    ensures said { IfErr result (λ what. IsSaidOfMatched what.now) }
+{
+    let Some((command, found)) = matches.subcommand() else {
+        return Err(MISSING);
+    };
+    let Some(file) = found.get_str("FILE") else {
+        return Err(MISSING);
+    };
+    match command {
+        "check" => Ok(Order::Check { file }),
+        "same" => same_in(file, found).ok_or(MISSING),
+        "serve" => serve_in(file, found).ok_or(OUT_OF_RANGE),
+        _ => run_in(file, found).ok_or(MISSING),
+    }
+}
+
+/// What clap says of words that match no command, without blanks at its end.
+fn text_of(alloc: Global, error: &Error) -> Result<String, AllocError> {
+    let text = format!(in alloc; "{error}")?;
+    String::from_str(alloc, text.as_str().trim_end())
+}
+
+/// What comes of words that match no command: they ask how the program is used, or are refused.
+fn unmatched<'a>(alloc: Global, error: &Error) -> Result<Order<'a>, UseFault>
+    ensures { IfOk result IsInRange }
+{
+    if error.kind() == ErrorKind::OutOfMemory {
+        return Err(UseFault::Memory);
+    }
+    let text = text_of(alloc, error)?;
+    if error.use_stderr() {
+        return Err(UseFault::Usage { text });
+    }
+    Ok(Order::Help { text })
+}
+
+/// The order that stands in the words, as they matched the commands, or a fault of use.
+fn matched<'a>(alloc: Global, matches: &ArgMatches<'a>) -> Result<Order<'a>, UseFault>
+    ensures range { IfOk result IsInRange }
+    ensures fault { IfErr result TellsMatched }
+{
+    match order_in(matches) {
+        Ok(order) => Ok(order),
+        Err(what) => Err(usage(alloc, what)),
+    }
+}
+
+/// Reads the words, of which the first is the program's name.
+pub fn order<'a>(alloc: Global, words: &'a [&'a str]) -> Result<Order<'a>, UseFault>
+    ensures ranges { IfOk result IsInRange }
+{
+    match program(alloc)?.try_get_matches_from(words) {
+        Ok(matches) => matched(alloc, &matches),
+        Err(error) => unmatched(alloc, &error),
+    }
+}
+
+/// The words that the program is called with, of which the first is its name.
+pub fn words_of<R: Env + AllocGlobal>(rt: &R) -> Result<Vec<String>, UseFault>
+    ensures { IfErr result (Says no_text) }
+{
+    match env::args(rt) {
+        Ok(words) => Ok(words.collect(rt.alloc())?),
+        Err(error) if error.kind() == io::ErrorKind::OutOfMemory => Err(UseFault::Memory),
+        Err(_) => Err(usage(rt.alloc(), NO_TEXT)),
+    }
+}
