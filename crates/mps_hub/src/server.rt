@@ -1,5 +1,6 @@
 //! A server's connections, a thread for each.
-ghost use Rattle.std.specs.Prelude.{◌≡◌, ◌+◌, ◌<◌, ◌≤◌, ◌^◌, IfOk};
+ghost use Rattle.std.specs.Prelude.{◌≡◌, ◌+◌, ◌<◌, ◌≤◌, ◌^◌, ◌↔◌, IfOk, IfErr, IsOk, OnOk, OnErr};
+ghost use Rattle.std.specs.IoError.{error_kind};
 
 use crate::attending::attend;
 use crate::desk::Desk;
@@ -7,10 +8,10 @@ use crate::gates::{Gate, Unguarded};
 use mps_dev::{OverRead, OverWrite};
 use std::alloc::Global;
 use std::io::ErrorKind;
-use std::net::{TcpListener, TcpStream};
+use std::net::{SocketAddr, TcpListener, TcpStream};
 use std::sync::Wait;
-use std::thread;
 use std::thread::{Scope, Threads};
+use std::{io, thread};
 
 /// How many connections there were: those that ended, and those whose thread couldn't be started, which were closed.
 #[derive(Clone, Copy, Debug, PartialEq, Eq)]
@@ -43,6 +44,31 @@ fn connection<R: Wait + 'static, G: Gate + 'static>(
     let _ended = attend(rt, alloc, desk, gate, number, &mut reader, &mut writer);
 }
 
+/// The connection that was accepted, or why none is any more.
+fn accepted(found: io::Result<(TcpStream, SocketAddr)>) -> Result<TcpStream, ServeFault>
+    ensures came { IsOk result ↔ IsOk found }
+    ensures fault { IfErr found (λ error. IfErr result (λ fault.
+        (fault ≡ ServeFault.Memory) ↔ (error_kind error ≡ ErrorKind.OutOfMemory))) }
+{
+    match found {
+        Ok((stream, _)) => Ok(stream),
+        Err(error) if error.kind() == ErrorKind::OutOfMemory => Err(ServeFault::Memory),
+        Err(_) => Err(ServeFault::Accept),
+    }
+}
+
+/// How many connections are lost by now, where one more thread was to be started.
+fn count_lost<T, E>(lost: u64, started: &Result<T, E>) -> u64
+    requires { lost + 1 < 2 ^ 64 }
+    ensures started { OnOk started.now (result ≡ lost) }
+    ensures lost { OnErr started.now (result ≡ lost + 1) }
+{
+    match started {
+        Ok(_) => lost,
+        Err(_) => lost + 1,
+    }
+}
+
 /// Accepts `n` connections, a thread of the scope for each, and counts the threads that couldn't be started.
 fn accept_all<'s, 'd, E, R: Wait + Sync + 'static, G: Gate + Sync + 'static>(
     scope: &Scope<'s, E>,
@@ -57,18 +83,10 @@ fn accept_all<'s, 'd, E, R: Wait + Sync + 'static, G: Gate + Sync + 'static>(
 {
     let mut lost = 0;
     for place in 0..n {
-        let stream = match listener.accept() {
-            Ok((stream, _)) => stream,
-            Err(error) if error.kind() == ErrorKind::OutOfMemory => return Err(ServeFault::Memory),
-            Err(_) => return Err(ServeFault::Accept),
-        };
+        let stream = accepted(listener.accept())?;
         let number = place + 1;
-        if scope
-            .spawn(move || connection(rt, alloc, desk, gate, number, stream))
-            .is_err()
-        {
-            lost += 1;
-        }
+        let started = scope.spawn(move || connection(rt, alloc, desk, gate, number, stream));
+        lost = count_lost(lost, &started);
     }
     Ok(lost)
 }
