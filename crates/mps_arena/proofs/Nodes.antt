@@ -133,7 +133,7 @@ nothing_first : (c : List ℕ) → first_key c ≡ None → c ≡ []
 nothing_first [] e = refl
 nothing_first (k ∷ c) e = absurd cc
 
--- behind the last step of a role there is none of the role
+-- after the last step of a role there is none of the role
 pub role_ends : (a b : List Entry) (x : Entry) → AreDistinct (keys_of any_step (a ++ x ∷ b)) → key_after x.key (keys_of (of_role x.step.role) (a ++ x ∷ b)) ≡ None → keys_of (of_role x.step.role) b ≡ []
 role_ends a b x d final =
     let p = of_role x.step.role in

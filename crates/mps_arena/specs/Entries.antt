@@ -14,7 +14,7 @@ pub record Entry : Type 0 where
   pub before : Before
   pub marked : Bool
 
--- the entries, the oldest first; how many numbers were given out; the key of the next entry; whether it needs no memory
+-- the entries, the oldest first; how many numbers were given out; the key of the next entry; whether that needs no allocation
 pub record Entries : Type 0 where
   pub entries : List Entry
   pub issued : ℕ

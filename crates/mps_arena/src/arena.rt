@@ -65,7 +65,7 @@ impl Arena {
         Key::of(self.nodes.vacant_key())
     }
 
-    /// Puts a step behind all others, unmarked. A receipt or a pick comes with its source: the first send of its pair
+    /// Puts a step after all others, unmarked. A receipt or a pick comes with its source: the first send of its pair
     /// that isn't received.
     pub fn add(&mut self, step: Step, before: Before, source: Option<Key>) -> Key
         requires ready { IsTrue self.old.is_ready }
@@ -114,7 +114,7 @@ impl Arena {
         self.nodes.len()
     }
 
-    /// The key of the k-th step, from 0. It takes k looks.
+    /// The key of the k-th step, from 0. It takes O(k) time.
     pub fn nth(&self, k: usize) -> Option<Key>
         ensures { result ≡ slice_get (keys_of any_step self.now.entries) k }
     {
@@ -135,7 +135,7 @@ impl Arena {
         self.index.len()
     }
 
-    /// The step right behind this one; none where no step has the key.
+    /// The step right after this one; none where no step has the key.
     pub fn next(&self, key: Key) -> Option<Key>
         ensures { result ≡ next_in self.now.entries key }
     {

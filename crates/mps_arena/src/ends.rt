@@ -36,7 +36,7 @@ impl Ends {
         }
     }
 
-    /// The node of a step that comes behind all others.
+    /// The node of a step that comes after all others.
     pub(crate) fn node_behind(&self, step: Step, before: Before, source: Option<Key>) -> Node
         requires small { IsSmall step }
         requires role_count { length self.now.last_of ≡ 8 }
@@ -75,7 +75,7 @@ impl Ends {
         }
     }
 
-    /// Notes that the step stands behind all others under that key.
+    /// Notes that the step stands after all others under that key.
     pub(crate) fn push(&mut self, step: &Step, key: Key)
         requires { IsSmall step.now }
         ensures first { self.new.first ≡ option_or self.old.first (Some key) }

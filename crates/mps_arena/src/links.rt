@@ -10,7 +10,7 @@ use crate::node::{Key, Link, Node};
 use mps_base::StepId;
 use slab::Slab;
 
-/// Writes what stands behind that node, if there is one.
+/// Writes what stands after that node, if there is one.
 pub(crate) fn set_next(nodes: &mut Slab<Node>, at: Link, to: Link)
     ensures { Rewrites nodes.old nodes.new (λ k n.
         record n { next = if is_at at k then to else n.next }) }
@@ -34,7 +34,7 @@ pub(crate) fn set_prev(nodes: &mut Slab<Node>, at: Link, to: Link)
     }
 }
 
-/// Writes the next step of the role behind that node, if there is one.
+/// Writes the next step of the role after that node, if there is one.
 pub(crate) fn set_next_of_role(nodes: &mut Slab<Node>, at: Link, to: Link)
     ensures { Rewrites nodes.old nodes.new (λ k n.
         record n { next_of_role = if is_at at k then to else n.next_of_role }) }
@@ -46,7 +46,7 @@ pub(crate) fn set_next_of_role(nodes: &mut Slab<Node>, at: Link, to: Link)
     }
 }
 
-/// Writes the next send of the pair behind that node, if there is one.
+/// Writes the next send of the pair after that node, if there is one.
 pub(crate) fn set_next_send(nodes: &mut Slab<Node>, at: Link, to: Link)
     ensures { Rewrites nodes.old nodes.new (λ k n.
         record n { next_send = if is_at at k then to else n.next_send }) }
@@ -80,7 +80,7 @@ pub(crate) fn set_marked(nodes: &mut Slab<Node>, key: Key, marked: bool)
     }
 }
 
-/// Takes a node in, behind the last of each of its chains and against its source, and tells its key.
+/// Takes a node in, after the last of each of its chains and against its source, and tells its key.
 #[inline(never)]
 pub(crate) fn join(nodes: &mut Slab<Node>, node: Node) -> Key
     requires room { HasRoomFor nodes.old 1 }

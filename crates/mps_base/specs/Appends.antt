@@ -1,6 +1,6 @@
 -- What a function that writes at the end of a list leaves there.
 use Rattle.std.specs.Prelude.{◌≡◌, ℕ, List, ◌++◌}
 
--- new is old with a text behind it that P holds of
+-- new is old with a text after it that P holds of
 abbrev pub Appends : (List ℕ → Type 0) → List ℕ → List ℕ → Type 0
 Appends P old new = (text : List ℕ) × (new ≡ old ++ text) × P text

@@ -11,7 +11,7 @@ pub(crate) const MAX_WORD: usize = 32;
 pub(crate) struct Inline {
     // as wide as a word: a byte would leave gaps in each value that holds a name, and each move would carry them
     len: usize,
-    // zeros behind the word
+    // zeros after the word
     bytes: [u8; 32],
 }
 
@@ -56,7 +56,7 @@ impl Inline {
         }
     }
 
-    /// Puts a byte behind the others.
+    /// Puts a byte after the others.
     pub(crate) fn push(&mut self, byte: u8)
         requires { length self.old < 32 }
         ensures { self.new ≡ self.old ++ byte ∷ [] }

@@ -76,7 +76,7 @@ pub fn write_number(n: u64, out: &mut Vec<u8>) -> Result<(), AllocError>
     out.extend_from_slice(digits.format(n).as_bytes())
 }
 
-// Reads an integer: `0`, or digits without a `0` in front, behind a `-` if it is below 0.
+// Reads an integer: `0`, or digits without a `0` in front, after a `-` if it is below 0.
 pub(crate) fn read_int(bytes: &[u8]) -> Option<i64>
     ensures read { IfSome result (IsIntText bytes.now) }
     ensures none { IfNone result ((z : ℤ) → IsIntText bytes.now z → ⊥) }

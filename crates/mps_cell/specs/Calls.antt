@@ -51,7 +51,7 @@ pub record IsSamePass (k k' : Known) : Type 0 where
   pub opening : k'.opening ≡ k.opening
   pub role : k'.role ≡ k.role
 
--- an accepted command stands behind a journal that begins with all that was seen, and that is no shorter than was told; its answer is the reply after that journal
+-- an accepted command stands after a journal that begins with all that was seen, and that is no shorter than was told; its answer is the reply after that journal
 pub record IsAccepted (k : Known) (c : Command) (a : Answer) (k' : Known) : Type 0 where
   pub before : List Entry
   pub begins : StartsWith before k.seen

@@ -180,7 +180,7 @@ impl<'a> Pass<'a> {
         ))
     }
 
-    /// How many entries the journal has by now. It never waits, and takes no memory.
+    /// How many entries the journal has by now. It never waits, and does not allocate.
     pub fn front(&mut self) -> u64
         ensures told { IsTold self.old result self.new }
     {
@@ -241,7 +241,7 @@ impl<'a> Pass<'a> {
 }
 
 /// Compares what two passes of one cell have seen. What the one has seen begins what the other has. It never waits,
-/// and takes no memory.
+/// and does not allocate.
 pub fn meet(first: &mut Pass<'_>, second: &mut Pass<'_>) -> Ordering
     requires cell { second.old.cell ≡ first.old.cell }
     ensures first { KeepsSeen first.old first.new }

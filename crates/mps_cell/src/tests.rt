@@ -28,7 +28,7 @@ fn name(text: &str) -> Option<Name> {
     Name::read(text.as_bytes())
 }
 
-// A choice of `ok` or `no`, behind which the part ends.
+// A choice of `ok` or `no`, after which the part ends.
 fn ok_or_no(alloc: Global) -> Result<Branches, Fail> {
     let no = name("no").ok_or("a name")?;
     let ok = name("ok").ok_or("a name")?;

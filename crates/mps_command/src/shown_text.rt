@@ -24,7 +24,7 @@ impl Model for ShownText {
 }
 
 impl ShownText {
-    /// The text of these bytes. It takes no memory.
+    /// The text of these bytes. It does not allocate.
     pub fn of(bytes: Vec<u8>) -> ShownText
         requires { IsShownText bytes.items }
         ensures { result ≡ bytes.items }

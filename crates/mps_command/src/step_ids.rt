@@ -12,7 +12,7 @@ pub struct StepIds {
     kept: Kept,
 }
 
-// One number takes no memory.
+// One number is kept without allocating.
 #[derive(Debug, Drop)]
 enum Kept {
     One(StepId),
@@ -30,7 +30,7 @@ impl Model for StepIds {
 }
 
 impl StepIds {
-    /// The list of these numbers. It takes no memory.
+    /// The list of these numbers. It does not allocate.
     pub fn of(ids: Vec<StepId>) -> StepIds
         ensures { result ≡ ids.items }
     {
@@ -39,7 +39,7 @@ impl StepIds {
         }
     }
 
-    /// The list of this number alone. It takes no memory.
+    /// The list of this number alone. It does not allocate.
     pub fn one(id: StepId) -> StepIds
         ensures { result ≡ id ∷ [] }
     {

@@ -30,7 +30,7 @@ non_empty-non_empty [] = refl
 non_empty-non_empty ([] ∷ pieces) = non_empty-non_empty pieces
 non_empty-non_empty ((b ∷ bs) ∷ pieces) = ap (λ l. (b ∷ bs) ∷ l) (non_empty-non_empty pieces)
 
--- behind a piece the others may be left out before or after
+-- after a piece the others may be left out before or after
 pub non_empty-again : (piece : List ℕ) (pieces : List (List ℕ)) → non_empty (piece ∷ non_empty pieces) ≡ non_empty (piece ∷ pieces)
 non_empty-again [] pieces = non_empty-non_empty pieces
 non_empty-again (b ∷ bs) pieces = ap (λ l. (b ∷ bs) ∷ l) (non_empty-non_empty pieces)

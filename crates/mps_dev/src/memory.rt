@@ -40,7 +40,7 @@ impl Model for Pieces {
 
 impl Pieces {
     /// A source that gives `pieces`, and fails from the call `fails_from` on, counted from 1. It
-    /// takes no memory.
+    /// does not allocate.
     pub fn new(pieces: Vec<Vec<u8>>, fails_from: Option<u64>) -> Self
         ensures script { result ≡ record {
           pieces = non_empty (map vec_items pieces.items);

@@ -10,7 +10,7 @@ use thiserror::Error;
 #[error("the device failed")]
 pub struct Failed;
 
-/// What bytes are read from, one call at a time. It takes no memory.
+/// What bytes are read from, one call at a time. It does not allocate.
 pub trait Source {
     // The bytes that reads will give from here on, where they are known.
     ghost remaining: { Self → Option (List ℕ) };
@@ -38,7 +38,7 @@ pub trait Source {
     ghost fewer_failed: { (s : Self) → failed_calls s + ends s ≤ calls s };
 }
 
-/// What bytes are written to, one call at a time. It takes no memory.
+/// What bytes are written to, one call at a time. It does not allocate.
 pub trait Sink {
     // The bytes taken so far, where they are known.
     ghost taken: { Self → Option (List ℕ) };

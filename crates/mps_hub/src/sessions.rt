@@ -177,7 +177,7 @@ impl Hub {
         Ok(Desk::new(names, cells.len() as u64, rows))
     }
 
-    /// Both in one: the desk, once in the hub's life. After want of memory later calls are told that it was given.
+    /// Both in one: the desk, once in the hub's life. After an out-of-memory answer later calls are told that it was given.
     pub fn desk(&mut self, alloc: Global) -> Result<Desk<'_>, PassFault>
         ensures given { IsErrOf result Given ↔ (self.old.given ≡ true) }
         ensures desk { IfOk result (λ d. d ≡ record { names = self.old.names; sessions = length self.old.cells }) }

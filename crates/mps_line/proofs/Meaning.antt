@@ -40,7 +40,7 @@ reply_of Nobody = NoRole
 reply_of Used = Taken
 reply_of Misnumbered = WrongNumber
 
--- its word, and the tokens behind `refused`
+-- its word, and the tokens after `refused`
 abbrev cause_word : Cause → List ℕ
 cause_word (Because r) = word_of r
 cause_word Unread = codes "line"
@@ -215,7 +215,7 @@ one_cause a c d h k =
     (alone_or_needed d))
     (alone_or_needed c)
 
--- what stands behind a number
+-- what stands after a number
 record SameNumber (m n : ℕ) (t : Token) (ts : List Token) (u : Token) (us : List Token) : Type 0 where
   number : m ≡ n
   rest : List ℕ
@@ -267,7 +267,7 @@ one_news a m n ms ns h k =
     let same = one_list b.0 m n ms ns b.1 b.2 in
     (cc, cc)
 
--- what stands behind the first word of a reply
+-- what stands after the first word of a reply
 done_behind : (a letters : List ℕ) (id : ℕ) (got : Option Message) → SpellsLine [] a (Word letters ∷ done_tokens id got) → (rest : List ℕ) × (a ≡ spaced (letters ∷ rest ∷ [])) × SpellsLine [] rest (done_tokens id got)
 done_behind a letters id None h = word_behind [] a letters _ _ h
 done_behind a letters id (Some message) h = word_behind [] a letters _ _ h

@@ -54,7 +54,7 @@ no_number bytes first rest e h none n other b =
     let same = one_split b.front first other rest (digits_have_no_space b.front b.spelled.number.digits) h (sym b.parts ∙ e) in
     none n (rw same.0 at b.spelled)
 
--- one number stands in front of bytes, and one rest behind it
+-- one number stands in front of bytes, and one rest after it
 one_front : (bytes : List ℕ) (m n : ℕ) (x y : List ℕ) → BeginsWith [] bytes (Number m) x → BeginsWith [] bytes (Number n) y → (m ≡ n) × (x ≡ y)
 one_front bytes m n x y b d =
     let same = one_split b.front d.front x y (digits_have_no_space b.front b.spelled.number.digits) (digits_have_no_space d.front d.spelled.number.digits) (sym b.parts ∙ d.parts) in
@@ -107,7 +107,7 @@ pub none_alone : (names : List (List ℕ)) (bytes : List ℕ) → ((n : ℕ) (re
 none_alone names bytes whole none None command h = none command h.line
 none_alone names bytes whole none (Some n) command h = let p = number_behind names bytes n command h.line in whole n p.0 p.1
 
--- behind a number
+-- after a number
 pub command_numbered : (names : List (List ℕ)) (bytes rest : List ℕ) (n : ℕ) (command : Command) → BeginsWith [] bytes (Number n) rest → MayHaveNumber command → SpellsCommand names rest command → SpellsNumbered names bytes (Some n) command
 command_numbered names bytes rest n command b may h = record { line = number_before names bytes rest n command b h; allowed = may }
 

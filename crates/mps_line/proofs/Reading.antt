@@ -58,7 +58,7 @@ meant_word verbs.Show = refl
 pub same_verb : (v w : Verb) → verb_word v ≡ verb_word w → v ≡ w
 same_verb v w e = same_Some v w (sym (meant_word v) ∙ ap meant e ∙ meant_word w)
 
--- a line has one verb, and one rest behind it
+-- a line has one verb, and one rest after it
 pub one_verb : (bytes : List ℕ) (v w : Verb) (x y : List ℕ) → bytes ≡ spaced (verb_word v ∷ x ∷ []) → bytes ≡ spaced (verb_word w ∷ y ∷ []) → (v ≡ w) × (x ≡ y)
 one_verb bytes v w x y e f =
     let same = one_split (verb_word v) (verb_word w) x y (verb_has_no_space v) (verb_has_no_space w) (sym e ∙ f) in
@@ -186,7 +186,7 @@ no_showing Show e takes = absurd (omega (arith, takes))
 no_showing (Forward (Mark name)) e takes = absurd cc
 no_showing command e takes = absurd cc
 
--- what stands behind the role's name is no such line
+-- what stands after the role's name is no such line
 pub none_behind : (names : List (List ℕ)) (bytes rest : List ℕ) (u : Token) (ts : List Token) → ((role : ℕ) (other : List ℕ) → BeginsWith names bytes (RoleAt role) other → other ≡ rest) → (SpellsLine names rest (u ∷ ts) → ⊥) → (role : ℕ) → SpellsLine names bytes (RoleAt role ∷ u ∷ ts) → ⊥
 none_behind names bytes rest u ts only none role h =
     let b = behind names bytes (RoleAt role) u ts h in
@@ -200,7 +200,7 @@ no_role_in_front names bytes u ts none role h = let b = behind names bytes (Role
 pub role_in_front : (names : List (List ℕ)) (bytes rest : List ℕ) (role : ℕ) (u : Token) → BeginsWith names bytes (RoleAt role) rest → SpellsToken names rest u → SpellsLine names bytes (RoleAt role ∷ u ∷ [])
 role_in_front names bytes rest role u b h = joined names bytes (RoleAt role) u [] rest b (line_of_one names rest u h)
 
--- what stands behind the role's name is none of these
+-- what stands after the role's name is none of these
 pub none_of_these : (names : List (List ℕ)) (bytes rest : List ℕ) (u : Token) → ((role : ℕ) (other : List ℕ) → BeginsWith names bytes (RoleAt role) other → other ≡ rest) → (SpellsToken names rest u → ⊥) → (role : ℕ) → SpellsLine names bytes (RoleAt role ∷ u ∷ []) → ⊥
 none_of_these names bytes rest u only none role h = none_behind names bytes rest u [] only (λ k. none (alone names rest u k)) role h
 
@@ -208,11 +208,11 @@ none_of_these names bytes rest u only none role h = none_behind names bytes rest
 pub name_read : (bytes name : List ℕ) → IsName bytes → name ≡ bytes → SpellsName bytes name
 name_read bytes name h e = record { is = sym e; allowed = h }
 
--- the arguments that were read make a command behind their verb
+-- the arguments that were read make a command after their verb
 pub command_read : (names : List (List ℕ)) (bytes rest : List ℕ) (verb : Verb) (r : Result Command LineFault) → bytes ≡ spaced (verb_word verb ∷ rest ∷ []) → IfOk r (λ command. verb_of command ≡ verb) → IfOk r TakesArguments → IfOk r (λ command. SpellsLine names rest (arguments command)) → IfOk r (SpellsCommand names bytes)
 command_read names bytes rest verb (Err fault) e v takes h = tt
 command_read names bytes rest verb (Ok command) e v takes h = command_of names bytes rest command (rw v e) takes h
 
--- what stands behind the role's name is no name
+-- what stands after the role's name is no name
 pub none_of_names : (names : List (List ℕ)) (bytes rest : List ℕ) → ((role : ℕ) (other : List ℕ) → BeginsWith names bytes (RoleAt role) other → other ≡ rest) → (IsName rest → ⊥) → (role : ℕ) (name : List ℕ) → SpellsLine names bytes (RoleAt role ∷ Called name ∷ []) → ⊥
 none_of_names names bytes rest only none role name = none_of_these names bytes rest (Called name) only (λ k. none k.allowed) role

@@ -79,7 +79,7 @@ step_in_front bytes front rest n [] e h k = let some = k.some in absurd (omega (
 step_in_front bytes front rest n (m ∷ ns) e h k =
     record { some = omega arith; line = number_in_front bytes front rest n (Number m) (map Number ns) e h k.line }
 
--- the steps behind the first
+-- the steps after the first
 steps_behind : (bytes front rest : List ℕ) (ns : List ℕ) → bytes ≡ spaced (front ∷ rest ∷ []) → HasNoSpace front → SpellsSteps bytes ns → (n : ℕ) × (others : List ℕ) × SpellsNumber front n × SpellsSteps rest others
 steps_behind bytes front rest [] e p k = let some = k.some in absurd (omega (arith, some))
 steps_behind bytes front rest (n ∷ []) e p k = absurd (never_alone bytes front rest n e k.line)
@@ -133,7 +133,7 @@ some_done done = by_got done.got
     by_got None = omega arith
     by_got (Some message) = omega arith
 
--- one number, with nothing behind it
+-- one number, with nothing after it
 pub no_done_alone : (bytes : List ℕ) → ((first rest : List ℕ) → bytes ≢ spaced (first ∷ rest ∷ [])) → ((n : ℕ) → SpellsNumber bytes n → ⊥) → (done : Done) → SpellsLine [] bytes (done_tokens done.id done.got) → ⊥
 no_done_alone bytes whole none done h = by_got done.got h
   where
@@ -166,7 +166,7 @@ pub undone_some : (bytes rest ids : List ℕ) → bytes ≡ spaced (codes "undon
 undone_some bytes rest [] e k = let some = k.some in absurd (omega (arith, some))
 undone_some bytes rest (i ∷ ids) e k = word_in_front bytes (codes "undone") rest (map Number (i ∷ ids)) (omega arith) e k.line
 
--- another line has steps behind the word
+-- another line has steps after the word
 pub undone_steps : (bytes ids : List ℕ) → bytes ≢ codes "undone" → SpellsReply bytes (Answered (Undone ids)) → (rest : List ℕ) × (bytes ≡ spaced (codes "undone" ∷ rest ∷ [])) × SpellsSteps rest ids
 undone_steps bytes [] other h = absurd (other (alone [] bytes (Word (codes "undone")) h))
 undone_steps bytes (i ∷ ids) other h =
@@ -188,7 +188,7 @@ news_some bytes rest front others n [] e f h k = let some = k.some in absurd (om
 news_some bytes rest front others n (i ∷ ids) e f h k =
     word_in_front bytes (codes "news") rest (Number n ∷ map Number (i ∷ ids)) (omega arith) e (number_in_front rest front others n (Number i) (map Number ids) f h k.line)
 
--- what stands behind the word is the length alone
+-- what stands after the word is the length alone
 pub no_news_alone : (rest : List ℕ) (n : ℕ) (ids : List ℕ) → ((first others : List ℕ) → rest ≢ spaced (first ∷ others ∷ [])) → ((m : ℕ) → SpellsNumber rest m → ⊥) → SpellsLine [] rest (Number n ∷ map Number ids) → ⊥
 no_news_alone rest n [] whole none h = none n (alone [] rest (Number n) h)
 no_news_alone rest n (i ∷ ids) whole none h = never_parted rest (Number n) (Number i) (map Number ids) whole h
@@ -212,7 +212,7 @@ needed_read bytes rest by e h = word_in_front bytes (codes "needed") rest (Numbe
 pub violation_read : (bytes : List ℕ) (v : Violation) → bytes ≡ word_of (Violates v) → SpellsLine [] bytes (refusal_tokens (Violates v))
 violation_read bytes v e = line_of_one [] bytes (Word (word_of (Violates v))) e
 
--- `needed` with no number behind it
+-- `needed` with no number after it
 pub no_needed : (bytes rest : List ℕ) (r : Refusal) → bytes ≡ spaced (codes "needed" ∷ rest ∷ []) → ((n : ℕ) → SpellsNumber rest n → ⊥) → SpellsLine [] bytes (refusal_tokens r) → ⊥
 no_needed bytes rest (Needed by) e none h =
     none by (alone [] rest (Number by) (rest_of_word bytes (codes "needed") rest (Number by ∷ []) (omega arith) (word_has_no_space (Needed by)) e h))
@@ -233,7 +233,7 @@ no_refusal bytes None needed violation none = by_refusal
     by_refusal Full h = none.1.1.1.0 (alone [] bytes (Word (codes "full")) h)
     by_refusal Memory h = none.1.1.1.1.0 (alone [] bytes (Word (codes "memory")) h)
 
--- a word behind `refused`
+-- a word after `refused`
 pub no_own_word : (bytes rest word : List ℕ) → bytes ≡ spaced (codes "refused" ∷ rest ∷ []) → rest ≢ word → SpellsLine [] bytes (Word (codes "refused") ∷ Word word ∷ []) → ⊥
 no_own_word bytes rest word e other h =
     other (alone [] rest (Word word) (rest_of_word bytes (codes "refused") rest (Word word ∷ []) (omega arith) refused_has_no_space e h))
@@ -300,7 +300,7 @@ pub lone_read : (bytes : List ℕ) (found : Option Refusal) → IfSome found (λ
 lone_read bytes None e f = tt
 lone_read bytes (Some r) e f = rw f (line_of_one [] bytes (Word (word_of r)) e)
 
--- a word of a reply's own behind `refused`
+-- a word of a reply's own after `refused`
 pub own_line : (bytes rest : List ℕ) (reply : Reply) → bytes ≡ spaced (codes "refused" ∷ rest ∷ []) → rest ≡ own_word reply → 0 < length (own_word reply) → SpellsReply bytes reply
 own_line bytes rest BadLine e is some = rw e (rw is bad_line)
 own_line bytes rest NoSession e is some = rw e (rw is no_session)

@@ -43,7 +43,7 @@ one_split (a ∷ rs) (b ∷ ss) x y p q e =
     let more = one_split rs ss x y p.1 q.1 tails in
     (cc, more.1)
 
--- the part before the first space, whatever stands behind it
+-- the part before the first space, whatever stands after it
 pub one_first : (a b : List ℕ) (xs ys : List (List ℕ)) → HasNoSpace a → HasNoSpace b → spaced (a ∷ xs) ≡ spaced (b ∷ ys) → a ≡ b
 one_first a b [] [] p q e = e
 one_first a b [] (y ∷ ys) p q e = absurd (never_split a b (spaced (y ∷ ys)) p e)
@@ -71,7 +71,7 @@ digits_have_no_space (d ∷ ds) h =
     let digit = digit_from_value d h.0 in
     ((λ e. absurd (omega (arith, digit.0, e))), digits_have_no_space ds h.1)
 
--- the rest behind the first space
+-- the rest after the first space
 pub same_rest : (names : List (List ℕ)) (bytes first rest : List ℕ) (role : ℕ) (other : List ℕ) → bytes ≡ spaced (first ∷ rest ∷ []) → HasNoSpace first → BeginsWith names bytes (RoleAt role) other → other ≡ rest
 same_rest names bytes first rest role other e h b =
     (one_split b.front first other rest (name_has_no_space b.front b.spelled.name) h (sym b.parts ∙ e)).1
@@ -86,7 +86,7 @@ no_role names bytes first rest e h none role other b =
 pub no_role_alone : (names : List (List ℕ)) (bytes : List ℕ) → ((first rest : List ℕ) → bytes ≢ spaced (first ∷ rest ∷ [])) → (role : ℕ) (rest : List ℕ) → BeginsWith names bytes (RoleAt role) rest → ⊥
 no_role_alone names bytes none role rest b = none b.front rest b.parts
 
--- a line of two tokens and more begins with the first, and what stands behind it is a line of the others
+-- a line of two tokens and more begins with the first, and what stands after it is a line of the others
 pub behind : (names : List (List ℕ)) (bytes : List ℕ) (t u : Token) (ts : List Token) → SpellsLine names bytes (t ∷ u ∷ ts) → (rest : List ℕ) × BeginsWith names bytes t rest × SpellsLine names rest (u ∷ ts)
 behind names bytes t u ts h = by_spellings h.spellings h.joined h.each
   where

@@ -53,7 +53,7 @@ begins_once names a p q x y distinct h k =
     let place : slice_get names q ≡ Some h.front = k.spelled.place ∙ ap Some (sym same.0) in
     (one_place names h.front p q distinct h.spelled.place place, same.1)
 
--- two lines behind the names of roles, of the same bytes
+-- two lines after the names of roles, of the same bytes
 record SameRole (names : List (List ℕ)) (p q : ℕ) (t : Token) (ts : List Token) (u : Token) (us : List Token) : Type 0 where
   role : p ≡ q
   rest : List ℕ

@@ -15,7 +15,7 @@ use Rattle.mps_line.specs.Replies.{word_of, done_tokens, news_tokens, SpellsRepl
 use Rattle.mps_line.specs.Tokens.{Token, Word, Number, Show, SpellsNumber, SpellsToken, SpellsLine}
 use Rattle.mps_line.proofs.Splitting.{behind, joined, alone, line_of_one}
 
--- what is written behind what was written
+-- what is written after what was written
 pub written_more : {T E : Type 0} (P Q : List ℕ → Type 0) (r : Result T E) (old pushed new front : List ℕ) → pushed ≡ old ++ front → ((text : List ℕ) → P text → Q (front ++ text)) → OnOk r (Appends P pushed new) → OnOk r (Appends Q old new)
 written_more P Q (Err e) old pushed new front f g a = tt
 written_more P Q (Ok x) old pushed new front f g a =
@@ -27,7 +27,7 @@ token_before names r old pushed new bytes t u ts h e =
     written_more (λ text. SpellsLine names text (u ∷ ts)) (λ text. SpellsLine names text (t ∷ u ∷ ts)) r old pushed new (bytes ++ 32 ∷ []) e
     (λ text k. joined names ((bytes ++ 32 ∷ []) ++ text) t u ts text (record { front = bytes; parts = append_assoc bytes (32 ∷ []) text; spelled = h }) k)
 
--- a token that was written, and a space behind it
+-- a token that was written, and a space after it
 pub token_written : {T E : Type 0} (names : List (List ℕ)) (r : Result T E) (old mid pushed new : List ℕ) (t u : Token) (ts : List Token) → Appends (λ text. SpellsToken names text t) old mid → pushed ≡ mid ++ 32 ∷ [] → OnOk r (Appends (λ text. SpellsLine names text (u ∷ ts)) pushed new) → OnOk r (Appends (λ text. SpellsLine names text (t ∷ u ∷ ts)) old new)
 token_written names r old mid pushed new t u ts a p b =
     token_before names r old pushed new a.0 t u ts a.2 (p ∙ ap (λ m. m ++ 32 ∷ []) a.1 ∙ append_assoc old a.0 (32 ∷ [])) b
@@ -37,7 +37,7 @@ pub word_before : {T E : Type 0} (names : List (List ℕ)) (r : Result T E) (old
 word_before names r old pushed new letters [] some e b = absurd (omega (arith, some))
 word_before names r old pushed new letters (u ∷ ts) some e b = token_before names r old pushed new letters (Word letters) u ts refl e b
 
--- a word that was written, and a space behind it
+-- a word that was written, and a space after it
 pub word_written : {T E : Type 0} (names : List (List ℕ)) (r : Result T E) (old mid pushed new letters : List ℕ) (ts : List Token) → 0 < length ts → mid ≡ old ++ letters → pushed ≡ mid ++ 32 ∷ [] → OnOk r (Appends (λ text. SpellsLine names text ts) pushed new) → OnOk r (Appends (λ text. SpellsLine names text (Word letters ∷ ts)) old new)
 word_written names r old mid pushed new letters ts some a p b =
     word_before names r old pushed new letters ts some (p ∙ ap (λ m. m ++ 32 ∷ []) a ∙ append_assoc old letters (32 ∷ [])) b
@@ -49,7 +49,7 @@ some_done id (Some message) = omega arith
 pub done_before : {T E : Type 0} (r : Result T E) (old pushed new : List ℕ) (id : ℕ) (got : Option Message) → pushed ≡ old ++ codes "done " → OnOk r (Appends (λ text. SpellsLine [] text (done_tokens id got)) pushed new) → OnOk r (Appends (λ text. SpellsLine [] text (Word (codes "done") ∷ done_tokens id got)) old new)
 done_before r old pushed new id got e b = word_before [] r old pushed new (codes "done") (done_tokens id got) (some_done id got) e b
 
--- the length of the journal behind its word
+-- the length of the journal after its word
 pub news_before : (old pushed new : List ℕ) (n : ℕ) → pushed ≡ old ++ codes "news " → Appends (λ text. SpellsNumber text n) pushed new → Appends (λ text. SpellsLine [] text (news_tokens n [])) old new
 news_before old pushed new n e a = (
   codes "news " ++ a.0,
@@ -63,7 +63,7 @@ show_written (Err e) old new bytes text h is shown = tt
 show_written (Ok x) old new bytes text h is shown =
     (bytes, h, line_of_one [] bytes (Show text) (record { is = is; allowed = rw is shown }))
 
--- the step that stands in the way, behind its words
+-- the step that stands in the way, after its words
 pub needed_before : {T E : Type 0} (r : Result T E) (old pushed new : List ℕ) (by : ℕ) → pushed ≡ old ++ codes "refused needed " → OnOk r (Appends (λ text. SpellsNumber text by) pushed new) → OnOk r (Appends (λ text. SpellsReply text (Answered (Refused (Needed by)))) old new)
 needed_before r old pushed new by e b =
     written_more (λ text. SpellsNumber text by) (λ text. SpellsReply text (Answered (Refused (Needed by)))) r old pushed new (codes "refused needed ") e
@@ -110,7 +110,7 @@ pub token_alone : {T E : Type 0} (names : List (List ℕ)) (r : Result T E) (old
 token_alone names (Err e) old new t a = tt
 token_alone names (Ok x) old new t a = (a.0, a.1, line_of_one names a.0 t a.2)
 
--- a token behind a line
+-- a token after a line
 token_behind : (names : List (List ℕ)) (a b : List ℕ) (t : Token) (ts : List Token) (u : Token) → SpellsLine names a (t ∷ ts) → SpellsToken names b u → SpellsLine names (a ++ 32 ∷ b) (t ∷ (ts ++ u ∷ []))
 token_behind names a b t [] u h k =
     joined names (a ++ 32 ∷ b) t u [] b (record { front = a; parts = refl; spelled = alone names a t h }) (line_of_one names b u k)
@@ -120,7 +120,7 @@ token_behind names a b t (v ∷ ts) u h k =
     (record { front = s.1.front; parts = ap (λ l. l ++ 32 ∷ b) s.1.parts ∙ append_assoc s.1.front (32 ∷ s.0) (32 ∷ b); spelled = s.1.spelled })
     (token_behind names s.0 b v ts u s.2 k)
 
--- one more number behind the tokens and the numbers that were written
+-- one more number after the tokens and the numbers that were written
 pub number_written : (t : Token) (ts : List Token) (ids : List ℕ) (k d : ℕ) (old before pushed new : List ℕ) → k < length ids → Appends (λ text. SpellsLine [] text (t ∷ (ts ++ map Number (take k ids)))) old before → pushed ≡ before ++ 32 ∷ [] → Appends (λ text. SpellsNumber text (get_or ids k d)) pushed new → Appends (λ text. SpellsLine [] text (t ∷ (ts ++ map Number (take (k + 1) ids)))) old new
 number_written t ts ids k d old before pushed new less a p b =
     let more : ts ++ map Number (take (k + 1) ids) ≡ (ts ++ map Number (take k ids)) ++ Number (get_or ids k d) ∷ [] =

@@ -35,7 +35,7 @@ verb_of (Back name) = verbs.Back
 verb_of (News known) = verbs.News
 verb_of Show = verbs.Show
 
--- the tokens behind the verb
+-- the tokens after the verb
 abbrev pub arguments : Command → List Token
 arguments (Forward (Send to value)) = RoleAt to ∷ Worth value ∷ []
 arguments (Forward (Choose to label)) = RoleAt to ∷ Called label ∷ []
@@ -48,7 +48,7 @@ arguments (Back name) = Called name ∷ []
 arguments (News known) = Number known ∷ []
 arguments Show = []
 
--- something stands behind the verb
+-- something stands after the verb
 abbrev pub TakesArguments : Command → Type 0
 TakesArguments command = 0 < length (arguments command)
 

@@ -31,7 +31,7 @@ word_of Memory = codes "memory"
 abbrev pub lone_words : List (List ℕ)
 lone_words = codes "nostep" ∷ codes "notyours" ∷ codes "nomark" ∷ codes "full" ∷ codes "memory" ∷ []
 
--- the word behind `refused` of a reply that answers no command; any other has none
+-- the word after `refused` of a reply that answers no command; any other has none
 abbrev pub own_word : Reply → List ℕ
 own_word BadLine = codes "line"
 own_word NoSession = codes "nosession"
@@ -49,21 +49,21 @@ abbrev pub message_token : Message → Token
 message_token (Plain value) = Worth value
 message_token (Label name) = Called name
 
--- the step's number, and behind it the message that was taken, if one was
+-- the step's number, and after it the message that was taken, if one was
 abbrev pub done_tokens : ℕ → Option Message → List Token
 done_tokens id None = Number id ∷ []
 done_tokens id (Some message) = Number id ∷ message_token message ∷ []
 
--- the word, and behind `needed` the step's number
+-- the word, and after `needed` the step's number
 abbrev pub refusal_tokens : Refusal → List Token
 refusal_tokens (Needed by) = Word (word_of (Needed by)) ∷ Number by ∷ []
 refusal_tokens refusal = Word (word_of refusal) ∷ []
 
--- the word, and behind it the number of each step
+-- the word, and after it the number of each step
 abbrev pub undone_tokens : List ℕ → List Token
 undone_tokens ids = Word (codes "undone") ∷ map Number ids
 
--- the word, the length of the journal, and behind it the number of each step
+-- the word, the length of the journal, and after it the number of each step
 abbrev pub news_tokens : ℕ → List ℕ → List Token
 news_tokens n ids = Word (codes "news") ∷ Number n ∷ map Number ids
 

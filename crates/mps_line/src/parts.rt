@@ -17,7 +17,7 @@ fn first_space(bytes: &[u8]) -> Option<usize>
     bytes.iter().position(|&byte| byte == b' ')
 }
 
-// What stands before the first space, and what behind it.
+// What stands before the first space, and what after it.
 #[tactic(auto, using(crate::proofs::Splitting::no_space, crate::proofs::Splitting::never_spaced))]
 pub(crate) fn split_at_space(bytes: &[u8]) -> Option<(&[u8], &[u8])>
     ensures parts { IfSome result
@@ -30,7 +30,7 @@ pub(crate) fn split_at_space(bytes: &[u8]) -> Option<(&[u8], &[u8])>
     Some((&bytes[..place], &bytes[place + 1..]))
 }
 
-// What stands behind the word and a space.
+// What stands after the word and a space.
 pub(crate) fn behind<'a>(bytes: &'a [u8], word: &[u8]) -> Option<&'a [u8]>
     ensures read { IfSome result (λ rest. bytes.now ≡ spaced (word.now ∷ rest.now ∷ [])) }
     ensures none { IfNone result ((rest : List ℕ) → bytes.now ≢ spaced (word.now ∷ rest ∷ [])) }
@@ -63,7 +63,7 @@ pub(crate) fn read_count(bytes: &[u8]) -> Option<u64>
     read_number(bytes)
 }
 
-// The role whose name stands before the first space, and what stands behind it.
+// The role whose name stands before the first space, and what stands after it.
 #[tactic(auto, using(crate::proofs::Splitting::no_role_alone))]
 #[inline(always)]
 pub(crate) fn split_role<'a>(roles: &Roles, bytes: &'a [u8]) -> Option<(Role, &'a [u8])>
@@ -77,7 +77,7 @@ pub(crate) fn split_role<'a>(roles: &Roles, bytes: &'a [u8]) -> Option<(Role, &'
     Some((read_role(roles, name)?, rest))
 }
 
-// The number that stands before the first space, and what stands behind it. Of bytes that begin with no digit the first
+// The number that stands before the first space, and what stands after it. Of bytes that begin with no digit the first
 // alone is looked at.
 #[inline(always)]
 pub(crate) fn split_number(bytes: &[u8]) -> Option<(u64, &[u8])>

@@ -56,7 +56,7 @@ pub fn read_join(bytes: &[u8]) -> Result<(u64, Name), LineFault>
     }
 }
 
-// The number and the name behind it.
+// The number and the name after it.
 fn read_number_and_name(bytes: &[u8]) -> Option<(u64, Name)>
     ensures read { IfSome result (λ r. SpellsLine [] bytes.now (Number r.0 ∷ Called r.1 ∷ [])) }
     ensures none { IfNone result ((n : ℕ) (name : List ℕ)
@@ -129,7 +129,7 @@ fn done_reply(alloc: Global, bytes: &[u8]) -> Result<Reply, LineFault>
     Ok(Reply::Answered(Answer::Done(done)))
 }
 
-// The step of that number, and behind it the message that it took, if there is one.
+// The step of that number, and after it the message that it took, if there is one.
 fn read_done(alloc: Global, bytes: &[u8]) -> Result<Done, LineFault>
     ensures read { IfOk result (λ done. SpellsLine [] bytes.now (done_tokens done.id done.got)) }
     ensures bad { IsErrOf result LineFault.Bad → (done : Done)

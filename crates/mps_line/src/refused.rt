@@ -55,7 +55,7 @@ fn own_reply(word: &[u8]) -> Option<Reply>
     }
 }
 
-// The refusal of that word, with its step behind `needed`.
+// The refusal of that word, with its step after `needed`.
 fn read_refusal(bytes: &[u8]) -> Option<Refusal>
     ensures read { IfSome result (λ refusal. SpellsLine [] bytes.now (refusal_tokens refusal)) }
     ensures none { IfNone result ((refusal : Refusal)
@@ -73,7 +73,7 @@ fn read_refusal(bytes: &[u8]) -> Option<Refusal>
     }
 }
 
-// The refusal of that word, behind which no step stands.
+// The refusal of that word, after which no step stands.
 fn lone_refusal(word: &[u8]) -> Option<Refusal>
     ensures read { IfSome result (λ refusal. word.now ≡ word_of refusal) }
     ensures alone { IfSome result (λ refusal. refusal_tokens refusal ≡ Word (word_of refusal) ∷ []) }

@@ -50,7 +50,7 @@ impl Reply {
         }
     }
 
-    /// Whether the reply has a text, which each reply has. It takes no memory, so it can be asked where
+    /// Whether the reply has a text, which each reply has. It does not allocate, so it can be asked where
     /// there is none left to write the text.
     pub fn has_text(&self) -> bool
         ensures always { IsTrue result }

@@ -98,7 +98,7 @@ pub fn read_command(alloc: Global, roles: &Roles, bytes: &[u8]) -> Result<Comman
     read_arguments(alloc, roles, verb, rest)
 }
 
-// The verb, and what stands behind it and a space.
+// The verb, and what stands after it and a space.
 fn split_verb(bytes: &[u8]) -> Option<(Verb, &[u8])>
     ensures read { IfSome result (λ r. bytes.now ≡ spaced (verb_word r.0 ∷ r.1.now ∷ [])) }
     ensures none { IfNone result ((verb : Verb) (rest : List ℕ)

@@ -42,7 +42,7 @@ fn write_parts(roles: &Roles, command: &Command, out: &mut Vec<u8>) -> Result<()
     write_arguments(roles, command, out)
 }
 
-// Writes what stands behind the verb, or a part of it.
+// Writes what stands after the verb, or a part of it.
 fn write_arguments(roles: &Roles, command: &Command, out: &mut Vec<u8>) -> Result<(), AllocError>
     requires known { NamesRolesOf roles.now command.now }
     ensures ok { OnOk result (Appends
@@ -59,7 +59,7 @@ fn write_arguments(roles: &Roles, command: &Command, out: &mut Vec<u8>) -> Resul
     }
 }
 
-// Writes what stands behind the verb of the step that a role wants to take, or a part of it.
+// Writes what stands after the verb of the step that a role wants to take, or a part of it.
 fn write_forward(roles: &Roles, step: &Forward, out: &mut Vec<u8>) -> Result<(), AllocError>
     requires known { NamesRolesOf roles.now (commands.Forward step.now) }
     ensures ok { OnOk result (Appends

@@ -67,7 +67,7 @@ fn worded(alloc: Global, word: &str, role: Option<Role>, bytes: &[u8]) -> Result
     Ok(text)
 }
 
-// The reply's line, written behind a `#`.
+// The reply's line, written after a `#`.
 fn written(alloc: Global, reply: &Reply) -> Result<Vec<u8>, Fail> {
     let mut out = Vec::from_slice(alloc, b"#")?;
     reply.write(&mut out)?;

@@ -11,7 +11,7 @@ ghost use Rattle.mps_line.specs.declared.reply.Reply.TheVariants.{Answered, Join
 use mps_base::{Message, Name, StepId, Value};
 use mps_command::{Answer, Done, Refusal};
 
-/// Whether the answer has a text, which each answer has. It takes no memory, so it can be asked where
+/// Whether the answer has a text, which each answer has. It does not allocate, so it can be asked where
 /// there is none left to write the text.
 pub fn answer_has_text(answer: &Answer) -> bool
     ensures always { IsTrue result }

@@ -186,7 +186,7 @@ pub no_break_places : (bytes : List ℕ) → ((j : ℕ) → j < length bytes →
 no_break_places [] h = tt
 no_break_places (c ∷ bytes) h = (λ (e : c ≡ 10). h 0 (omega arith) (eq-eqb c 10 e), no_break_places bytes (λ j within. h (suc j) (omega arith)))
 
--- what stands behind the last LF
+-- what stands after the last LF
 pub rest_behind : (p : List ℕ) (k : ℕ) → k < length p → get_or p k 0 ≡ 10 → HasNoBreak (drop (k + 1) p) → drop (k + 1) p ≡ (cut p).rest
 rest_behind p k within end none =
     let tail = drop (k + 1) p in
@@ -200,7 +200,7 @@ rest_behind p k within end none =
     ∙ ap (λ (c : Cut). c.rest) (cut_rest tail none)
     )
 
--- a piece of which the lines and the front of the rest are kept, behind a rest
+-- a piece of which the lines and the front of the rest are kept, after a rest
 pub record IsKept (r p kept : List ℕ) (n : ℕ) : Type 0 where
   pub is_cut : cut (r ++ kept) ≡ record { lines = (cut (r ++ p)).lines; rest = front (cut (r ++ p)).rest }
   pub is_long : n ≡ length (front (cut (r ++ p)).rest)

@@ -57,7 +57,7 @@ take_min n xs =
     (λ (e : length xs ≤ n). ap (λ k. take k xs) (let m : min n (length xs) ≡ length xs = omega arith in m) ∙ take_all (length xs) xs (omega arith) ∙ sym (take_all n xs e))
     (cases_lt n (length xs))
 
--- what fits behind a line that is no longer than is kept
+-- what fits after a line that is no longer than is kept
 pub front_fits : (line piece : List ℕ) → length line ≤ most_kept → line ++ take (min (most_kept - length line) (length piece)) piece ≡ front (line ++ piece)
 front_fits line piece h =
     ap (λ l. line ++ l) (take_min (most_kept - length line) piece)

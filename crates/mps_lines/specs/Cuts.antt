@@ -6,7 +6,7 @@ use Rattle.mps_lines.specs.Lines.{front, max_line}
 use Rattle.mps_lines.specs.declared.line.Line.{Line}
 use Rattle.mps_lines.specs.declared.line.Line.TheVariants.{Text, TooLong, NotAscii}
 
--- the lines that an LF ends, each without it, and the rest behind the last LF
+-- the lines that an LF ends, each without it, and the rest after the last LF
 pub record Cut : Type 0 where
   pub lines : List (List ℕ)
   pub rest : List ℕ
@@ -23,7 +23,7 @@ cut (c ∷ bytes) =
     if c == 10 then record { lines = [] ∷ (cut bytes).lines; rest = (cut bytes).rest }
     else led_by c (cut bytes).lines (cut bytes).rest
 
--- what a line is told as: too long above 512 bytes, else no text where a byte is 128 or more
+-- what a line is reported as: too long above 512 bytes, else no text where a byte is 128 or more
 abbrev pub line_of : List ℕ → Line
 line_of line = if nat_lt max_line (length line) then TooLong else if list_all is_ascii line then Text line else NotAscii
 
@@ -40,7 +40,7 @@ pending_of bytes = record { waiting = map line_of (cut bytes).lines; rest = fron
 abbrev pub nothing : Pending
 nothing = record { waiting = []; rest = [] }
 
--- after one more piece: the lines of the rest and the piece wait behind the others
+-- after one more piece: the lines of the rest and the piece wait after the others
 abbrev pub fed : Pending → List ℕ → Pending
 fed s piece =
     let more = pending_of (s.rest ++ piece) in

@@ -1,7 +1,7 @@
 //! One line.
 use bytes::Bytes;
 
-/// What a line is told as, without the LF that ended it.
+/// What a line is reported as, without the LF that ended it.
 #[derive(Debug, PartialEq, Eq, Drop)]
 pub enum Line {
     /// The bytes of a line: at most `MAX_LINE`, each below 128. They share the block in which they

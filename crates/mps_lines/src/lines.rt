@@ -122,7 +122,7 @@ fn is_ascii(bytes: &[u8]) -> bool
     largest < 128
 }
 
-// Where the rest of a piece begins: behind its last LF.
+// Where the rest of a piece begins: after its last LF.
 fn last_start(piece: &[u8]) -> usize
     ensures within { result ≤ length piece.now }
     ensures rest { drop result piece.now ≡ (cut piece.now).rest }

@@ -48,13 +48,13 @@ module _ (es : List Entry) (d : AreDistinct (keys_of any_step es)) (rising : IsR
   pub id_middle : (a b : List Entry) (x : Entry) → es ≡ a ++ x ∷ b → id_in es x.key ≡ Some x.step.id
   id_middle a b x e = ap (option_map (λ (y : Entry). y.step.id)) (entry_in a b x e)
 
-  -- the steps behind a step have larger numbers
+  -- the steps after a step have larger numbers
   pub rising_behind : (a b : List Entry) (x : Entry) (t : Step) → es ≡ a ++ x ∷ b → IsIn t (steps b) → x.step.id < t.id
   rising_behind a b x t e i =
       let r = IsRising-append_right (steps a) (x.step ∷ steps b) (subst IsRising (ap steps e ∙ steps_around a b x) rising) in
       at_member (λ u. x.step.id < u.id) (steps b) t r.0 i
 
-  -- a first entry behind another has a larger number
+  -- a first entry after another has a larger number
   pub first_behind : (p : Step → Bool) (a b : List Entry) (y : Entry) (k : ℕ) → es ≡ a ++ y ∷ b → first_key (keys_of p b) ≡ Some k → (n : ℕ) × ((id_in es k ≡ Some n) × (y.step.id < n))
   first_behind p a b y k e first =
       let w = first_is p b k first in

@@ -52,7 +52,7 @@ module _ (es : List Entry) (sound : AreSound es) (a b : List Entry) (x : Entry) 
       ∙ before_absent None x.key (keys_of p a) (x.key ∷ keys_of p b) o.0
       ∙ rw (eq-eqb x.key x.key refl) refl
 
-  -- behind the step, what depends on it is of its role or its receipt
+  -- after the step, what depends on it is of its role or its receipt
   pub on_later : (t : Step) → IsIn t (steps b) → on_s t ≡ (of_role s.role t || is_matched (steps es) s t)
   on_later t i =
       let less = rising_behind es sound.distinct sound.rising a b x t parts i in

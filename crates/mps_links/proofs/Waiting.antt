@@ -37,7 +37,7 @@ module _ (es : List Entry) (sound : AreSound es) (p q : ℕ) where
   abbrev got : List ℕ
   got = keys_of (receives p q) es
 
-  -- the sends up to a key are at least as many as the receipts, and those behind it wait
+  -- the sends up to a key are at least as many as the receipts, and those after it wait
   pub record IsSought (at first : Option ℕ) (turns : ℕ) : Type 0 where
     pub front : List ℕ
     pub back : List ℕ

@@ -7,7 +7,7 @@ use Rattle.mps_arena.specs.Entries.{Entry}
 abbrev pub unmarked_of : ℕ → Entry → Entry
 unmarked_of p e = record e { marked = if e.step.role == p then false else e.marked }
 
--- behind a marked step of the role each step of the role is marked
+-- after a marked step of the role each step of the role is marked
 abbrev pub AreLastMarked : ℕ → List Entry → Type 0
 AreLastMarked p [] = ⊤
 AreLastMarked p (e ∷ es) = (e.step.role ≡ p → e.marked ≡ true → AllByRecursion (λ f. f.step.role ≡ p → f.marked ≡ true) es) × AreLastMarked p es

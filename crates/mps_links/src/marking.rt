@@ -15,7 +15,7 @@ use mps_arena::{Arena, Key};
 use mps_base::{Role, StepId};
 
 /// Marks the step of that number and all that depend on it, and tells how many they are. It goes
-/// from link to link, the oldest first, and by the code looks at no step that it doesn't mark, but
+/// from link to link, the oldest first, and (unproved) looks at no step that it doesn't mark, but
 /// at the next of each role.
 pub fn mark_from(arena: &mut Arena, id: StepId) -> usize
     requires present { IsSome (step_of (steps arena.old.entries) id) }

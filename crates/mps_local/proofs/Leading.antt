@@ -1,4 +1,4 @@
--- Labels, and what stands behind them.
+-- Labels, and what stands after them.
 use Rattle.std.proofs.Common.{◌≡◌, ◌≢◌, ℕ, zero, suc, ⊎_elim, Bool, true, false, cond, List, [], ◌∷◌, length, Some, refl, sym, ap, subst}
 use Rattle.std.specs.Prelude.{slice_get}
 use Rattle.std.specs.List.{AllByRecursion}
@@ -30,7 +30,7 @@ lead (More l t others) (suc place) label d e =
     (λ (h : bytes_eq l label ≡ false). rw h (lead others place label d.1 e))
     (cases_Bool (bytes_eq l label))
 
--- where a label stands, with what is behind it
+-- where a label stands, with what is after it
 abbrev StandsAt : Branches → List ℕ → LocalType → Type 0
 StandsAt b label t = (place : ℕ) × (slice_get (labels b) place ≡ Some label) × (slice_get (nexts b) place ≡ Some t)
 

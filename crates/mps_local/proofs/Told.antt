@@ -20,7 +20,7 @@ all_of_both : {T : Type 0} (P : T → Type 0) (a b : List T) → AllByRecursion 
 all_of_both P [] b p q = q
 all_of_both P (t ∷ ts) b p q = (p.0, all_of_both P ts b p.1 q)
 
--- no test of a node tells want of memory
+-- no test of a node tells out of memory
 at_node : (above : List LocalType) (t : LocalType) → AllByRecursion (λ test. test.1 ≢ faults.Memory) (node_tests above t)
 at_node above End = tt
 at_node above (Var name) = (λ h. cc, (λ h. cc, tt))

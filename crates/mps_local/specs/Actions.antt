@@ -15,7 +15,7 @@ abbrev pub labels : Branches → List (List ℕ)
 labels NoMore = []
 labels (More label next others) = label ∷ labels others
 
--- the types behind the labels, in the same order
+-- the types after the labels, in the same order
 abbrev pub nexts : Branches → List LocalType
 nexts NoMore = []
 nexts (More label next others) = next ∷ nexts others
@@ -36,7 +36,7 @@ first_action (Select peer branches) = Chooses peer (labels branches)
 first_action (Branch peer branches) = Picks peer (labels branches)
 first_action t = Ends
 
--- what follows that action: behind a value one type, behind a choice the type behind the label of that place
+-- what follows that action: after a value one type, after a choice the type after the label of that place
 abbrev pub continuation : LocalType → Option ℕ → Option LocalType
 continuation (Send peer sort next) None = Some next
 continuation (Recv peer sort next) None = Some next

@@ -66,7 +66,7 @@ inner = global.Var (codes "Y")
 abbrev pub relay : GlobalType
 relay = int_to a b (int_to b c (Choice c a (global.More (codes "ok") global.End (global.More (codes "no") global.End global.NoMore))))
 
--- the branches of two labels behind which all ends
+-- the branches of two labels after which all ends
 abbrev pub ok_or_no : Branches
 ok_or_no = More (codes "ok") End (More (codes "no") End NoMore)
 

@@ -7,7 +7,7 @@ use Rattle.mps_local.specs.Projection.{projection, projections, choice_count, br
 use Rattle.mps_local.specs.declared.projection.ProjectFault.{ProjectFault}
 use Rattle.mps_local.specs.declared.projection.ProjectFault.TheVariants as faults
 
--- the role does that in the tree, whose first choice has that number, and the next choice behind it has that one
+-- the role does that in the tree, whose first choice has that number, and the next choice after it has that one
 pub record IsDone (roles : List (List ℕ)) (role number : ℕ) (tree : GlobalType) (t : LocalType) (after : ℕ) : Type 0 where
   pub defined : projection roles role tree ≡ Some t
   pub all_merged : first_unmerged roles role (examined roles role number tree) ≡ None

@@ -7,11 +7,11 @@ use Rattle.mps_local.specs.Weights.{weight, branch_weight}
 use Rattle.mps_local.specs.declared.writing.Todo.{Todo}
 use Rattle.mps_local.specs.declared.writing.Todo.TheVariants as todos
 
--- the tokens behind `{`
+-- the tokens after `{`
 abbrev pub branches_tokens : (roles : List (List ℕ)) → Branches → List (List ℕ)
 branches_tokens roles branches = branch_tokens roles branches ++ codes "}" ∷ []
 
--- the tokens behind a branch
+-- the tokens after a branch
 abbrev pub others_tokens : (roles : List (List ℕ)) → Branches → List (List ℕ)
 others_tokens roles NoMore = codes "}" ∷ []
 others_tokens roles (More label next others) = codes "," ∷ branches_tokens roles (More label next others)

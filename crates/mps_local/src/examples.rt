@@ -64,7 +64,7 @@ pub fn worked_actions()
         × (type_left (Select at_b ok_or_no) None ≡ None) }
     ensures pick { (head (Branch at_b (More (codes "x") ping NoMore)) ≡ Picks at_b (codes "x" ∷ []))
         × (type_left (Branch at_b (More (codes "x") ping NoMore)) (Some 0) ≡ Some ping) }
-    // The loop's variable is replaced behind each label, and after the receipt the loop is back.
+    // The loop's variable is replaced after each label, and after the receipt the loop is back.
     ensures choice_in_a_loop { (unfolded asking ≡ Select at_b (go_or_stop asking))
         × (head asking ≡ Chooses at_b (codes "go" ∷ codes "stop" ∷ []))
         × (type_left asking (Some 0) ≡ Some (Recv at_b Text asking))

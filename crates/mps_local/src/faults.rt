@@ -74,7 +74,7 @@ pub fn first_fault(t: &Local) -> Option<LocalFault>
 }
 
 /// What holds of a type without faults, and of no other: each variable stands in its `rec` and
-/// behind an act of it, no `rec` has the variable of one around it, each choice has 1 to 16 labels
+/// after an act of it, no `rec` has the variable of one around it, each choice has 1 to 16 labels
 /// that differ, and the type is within the limits.
 pub fn local_fault_laws()
     ensures closed { (t : LocalType) → local_fault_of t ≡ None → is_closed [] t ≡ true }

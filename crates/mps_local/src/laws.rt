@@ -7,8 +7,8 @@ ghost use Rattle.mps_local.specs.Local.{LocalType, Branches};
 ghost use Rattle.mps_local.specs.Actions.{branch_at, labels, nexts};
 ghost use Rattle.mps_local.specs.Projection.{same, same_branches, merged, projection, examined, first_unmerged};
 
-/// Labels lead to what stands behind them. Each label has its type in the same place; where no
-/// label stands twice, that is what follows the label, and what follows a label stands behind it.
+/// Labels lead to what stands after them. Each label has its type in the same place; where no
+/// label stands twice, that is what follows the label, and what follows a label stands after it.
 pub fn labels_lead()
     ensures paired { (b : Branches) → length (nexts b) ≡ length (labels b) }
     ensures lead { (b : Branches) (place : ℕ) (label : List ℕ) → AreDistinct (labels b)

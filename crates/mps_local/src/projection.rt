@@ -104,7 +104,7 @@ pub fn projection_laws()
 {}
 
 // What the role does in the tree, whose first choice has that number, and the number of the next
-// choice behind it.
+// choice after it.
 #[cycle(project)]
 #[tactic(auto, using(crate::proofs::Examined::message_done, crate::proofs::Examined::choice_fails_in_a_branch, crate::proofs::Examined::choice_done, crate::proofs::Examined::choice_fails))]
 fn project_tree(
@@ -259,7 +259,7 @@ fn go_on_with(first: &Local, branches: &Branches) -> bool
     }
 }
 
-/// The role of that name, or one behind all of them.
+/// The role of that name, or one after all of them.
 pub(crate) fn role_of(names: &[Name], name: &Name) -> Role
     requires few { length names.now ≤ 8 }
     ensures { result ≡ place_of names.now name.now }

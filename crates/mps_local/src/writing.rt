@@ -27,7 +27,7 @@ pub fn write_local(alloc: Global, roles: &Roles, tree: &Local) -> Result<Vec<u8>
     Ok(out)
 }
 
-// What is still to be written: a local type, the branches behind `{`, or those behind a branch.
+// What is still to be written: a local type, the branches after `{`, or those after a branch.
 #[derive(Clone, Copy)]
 enum Todo<'a> {
     Tree(&'a Local),
@@ -123,7 +123,7 @@ fn write_node<'a>(
     }
 }
 
-// The first branch behind `{`, or `}`.
+// The first branch after `{`, or `}`.
 #[tactic(auto, using(crate::proofs::Written::left_more, crate::proofs::Written::weight_more, crate::proofs::Written::more_known, crate::proofs::Written::branches_more))]
 fn write_branches<'a>(
     roles: &Roles,
@@ -158,7 +158,7 @@ fn write_branches<'a>(
     }
 }
 
-// The next branch behind another one, or `}`.
+// The next branch after another one, or `}`.
 fn write_others<'a>(
     roles: &Roles,
     branches: &'a Branches,

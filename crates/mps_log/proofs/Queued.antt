@@ -108,7 +108,7 @@ module _ (w : Inside) (walk : IsQueue w) where
       at = e ∙ next_waiting es_of walk.sound w.from w.to walk.passed k at_key;
     }
 
-    -- what was left began with that message, and behind it is what is left then
+    -- what was left began with that message, and after it is what is left then
     pub shows : (m : Message) → message_of es_of k ≡ Some m → (next : Option ℕ) → next ≡ next_send_in es_of k → left_of w ≡ m ∷ left_of (record { arena = w.arena; from = w.from; to = w.to; at = next })
     shows m is next e =
         let all = unreceived w.from w.to (steps es_of) in

@@ -123,7 +123,7 @@ impl Log {
         })
     }
 
-    /// The k-th step, from 0. It takes k looks.
+    /// The k-th step, from 0. It takes O(k) time.
     pub fn step(&self, k: usize) -> Option<&Step>
         ensures { option_copied result ≡ slice_get (steps self.now.entries) k }
     {
@@ -147,7 +147,7 @@ impl Log {
         &self.arena
     }
 
-    /// The k-th message that waits, from 0, of those that one role sent to another. It takes k looks. Any roles may be
+    /// The k-th message that waits, from 0, of those that one role sent to another. It takes O(k) time. Any roles may be
     /// named.
     pub fn message(&self, from: Role, to: Role, k: usize) -> Option<&Message>
         ensures { option_copied result
@@ -201,7 +201,7 @@ impl Log {
         Queue::of(arena, from, to, first)
     }
 
-    /// Puts a send or a choice behind all other steps, with the next number. The role stood at the node `at`.
+    /// Puts a send or a choice after all other steps, with the next number. The role stood at the node `at`.
     #[inline(always)]
     pub fn send(
         &mut self,
@@ -225,7 +225,7 @@ impl Log {
         Ok(id)
     }
 
-    /// Puts a receipt behind all other steps, with the next number. It takes the first message that waits, and its
+    /// Puts a receipt after all other steps, with the next number. It takes the first message that waits, and its
     /// slot is bound to it. The role stood at the node `at`.
     pub fn receive(
         &mut self,
@@ -252,7 +252,7 @@ impl Log {
         Ok(id)
     }
 
-    /// Puts a pick behind all other steps, with the next number. It takes the first message that waits. The role
+    /// Puts a pick after all other steps, with the next number. It takes the first message that waits. The role
     /// stood at the node `at`.
     pub fn pick(&mut self, role: Role, from: Role, at: u16) -> Result<StepId, AllocError>
         requires role { role < 8 }
@@ -271,7 +271,7 @@ impl Log {
         Ok(id)
     }
 
-    /// Puts a mark behind all other steps, with the next number. The role stood at the node `at`.
+    /// Puts a mark after all other steps, with the next number. The role stood at the node `at`.
     pub fn mark(&mut self, role: Role, name: Name, at: u16) -> Result<StepId, AllocError>
         requires { role < 8 }
         ensures id { IfOk result (λ id. id ≡ self.old.issued + 1) }

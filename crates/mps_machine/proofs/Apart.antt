@@ -15,7 +15,7 @@ use Rattle.mps_machine.specs.Rule.{rule, replay}
 use Rattle.mps_machine.proofs.Stepping.{one_if, queue_step, queue_count, length_filter_step, replay_parts, replay_from, replay-append, replay_front}
 use Rattle.mps_machine.proofs.Commuting.{Waits, commute}
 
--- s may be taken behind the steps
+-- s may be taken after the steps
 abbrev pub Passes : View → Step → List Step → Type 0
 Passes v s [] = ⊤
 Passes v s (t ∷ b) = (s.role ≢ t.role) × Waits v s t × ((x : View) → rule v t ≡ Some x → Passes x s b)

@@ -16,7 +16,7 @@ use Rattle.mps_machine.proofs.Stepping.{rule_parts, rule_from, first_of-append, 
 abbrev pub Waits : View → Step → Step → Type 0
 Waits v s t = sends s.role t.role s ≡ true → receives s.role t.role t ≡ true → 0 < length (v.queue s.role t.role)
 
--- s leaves what another role's act moves: it appends behind the first message, or it has to do with another queue
+-- s leaves what another role's act moves: it appends after the first message, or it has to do with another queue
 moved_stays : (v : View) (s : Step) (c : Participant) (r : ℕ) (act : Act) → s.role ≢ r → ((from : ℕ) (slot : Option (List ℕ)) → act ≡ In from slot → sends from r s ≡ true → 0 < length (v.queue from r)) → moved (view_after v s c) r act ≡ moved v r act
 moved_stays v s c r (Out to m) ne waits = refl
 moved_stays v s c r (In from slot) ne waits =

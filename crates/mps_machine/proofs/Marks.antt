@@ -15,7 +15,7 @@ use Rattle.mps_machine.specs.Machine.{State, unless, rolled_back, is_mark, since
 use Rattle.mps_machine.specs.TakingBack.{IsOwn, IsLastMark, ReturnsToMarks}
 use Rattle.mps_machine.proofs.TakingBack.{own_allowed}
 
--- what comes behind the last mark of a part comes behind the last of the whole
+-- what comes after the last mark of a part comes after the last of the whole
 pub since_append : (name : List ℕ) (a b c : List Step) → since_mark name b ≡ Some c → since_mark name (a ++ b) ≡ Some c
 since_append name [] b c e = e
 since_append name (s ∷ a) b c e =
@@ -63,7 +63,7 @@ none_since name (s ∷ h) e = by_rest (since_mark name h) refl (none_since name 
         let no : Some h ≡ None = sym (since_at name s h r ∙ cond-true (is_mark name s.act) (Some h) None here) ∙ e in
         absurd cc
 
--- what comes behind the last mark is found
+-- what comes after the last mark is found
 since_last : (h : List Step) (p : ℕ) (name : List ℕ) (mark : Step) (behind : List Step) → IsLastMark h p name mark behind → since_mark name (steps_of p h) ≡ Some behind
 since_last h p name mark behind w =
     ap (since_mark name) w.parts
@@ -77,7 +77,7 @@ refused_none st None e = refl
 refused_none st (Some []) e = absurd cc
 refused_none st (Some (s ∷ h)) e = absurd cc
 
--- the first step behind the mark is the role's own
+-- the first step after the mark is the role's own
 first_own : (h : List Step) (p : ℕ) (name : List ℕ) (mark s : Step) (behind : List Step) → IsLastMark h p name mark (s ∷ behind) → IsOwn h p s.id s
 first_own h p name mark s behind w =
     let there : IsIn s (steps_of p h) = subst (λ (l : List Step). IsIn s l) (sym w.parts) (IsIn-append_right s w.before (mark ∷ s ∷ behind) (inr (inl refl))) in

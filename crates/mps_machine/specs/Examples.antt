@@ -219,7 +219,7 @@ TheSlotHasItsOldValue =
     let v = view_of stream (after stream initial (sends_int a b 1 ∷ sends_int a b 2 ∷ receives_into b a (codes "x") ∷ receives_into b a (codes "x") ∷ undoes b 4 ∷ [])).history in
     ((v.participant b).store ≡ (codes "x", Int (pos 1)) ∷ []) × (v.queue a b ≡ Plain (Int (pos 2)) ∷ [])
 
--- the number 100000 is given out, and none after it, also where the step is undone. An act that isn't allowed is told as that
+-- the number 100000 is given out, and none after it, also where the step is undone. An act that isn't allowed is reported as that
 abbrev pub AHundredThousandNumbersAreGivenOut : Type 0
 AHundredThousandNumbersAreGivenOut =
     let requests = sends_int a b 1 ∷ sends_int a b 2 ∷ sends_int c b 3 ∷ sends_int c d 4 ∷ marks a (codes "m") ∷ undoes a 100000 ∷ sends_int a b 5 ∷ [] in
@@ -243,7 +243,7 @@ AReturnIsToTheLastMarkOfTheName =
     × (answers stream st (goes_back b (codes "k") ∷ goes_back a (codes "m") ∷ goes_back a (codes "k") ∷ goes_back a (codes "m") ∷ goes_back a (codes "k") ∷ goes_back b (codes "m") ∷ [])
     ≡ Refused NoMark ∷ Undone (5 ∷ []) ∷ Undone (4 ∷ []) ∷ Undone (3 ∷ 2 ∷ []) ∷ Refused NoMark ∷ Undone [] ∷ [])
 
--- a step that isn't there, or is another role's, is told as that, whether others depend on it or not
+-- a step that isn't there, or is another role's, is reported as that, whether others depend on it or not
 abbrev pub AnotherRolesStepIsNotYours : Type 0
 AnotherRolesStepIsNotYours =
     answers verdict initial (sends_int a b 5 ∷ receives_into b a (codes "x") ∷ undoes c 1 ∷ undoes b 1 ∷ undoes a 3 ∷ rolls_back a 3 ∷ rolls_back b 1 ∷ rolls_back a 2 ∷ undoes a 1 ∷ [])

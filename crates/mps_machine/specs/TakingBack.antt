@@ -60,19 +60,19 @@ pub record TakesFutures (st : State) : Type 0 where
   pub accepted : (p n : ℕ) (s : Step) → IsOwn st.history p n s → (ids : List ℕ) × ((rollback st p n).0 ≡ Ok ids)
   pub exactly : (p n : ℕ) (ids : List ℕ) → (rollback st p n).0 ≡ Ok ids → TookFuture p n ids st (rollback st p n).1
 
--- of role p's surviving steps this one is the last mark of the name, and those behind it are these, in order
+-- of role p's surviving steps this one is the last mark of the name, and those after it are these, in order
 pub record IsLastMark (h : List Step) (p : ℕ) (name : List ℕ) (mark : Step) (behind : List Step) : Type 0 where
   pub before : List Step
   pub parts : steps_of p h ≡ before ++ mark ∷ behind
   pub marks : mark.act ≡ Mark name
   pub last : (t : Step) → IsIn t behind → t.act ≢ Mark name
 
--- a return to a mark is a rollback of the role's first step behind its last mark of the name
+-- a return to a mark is a rollback of the role's first step after its last mark of the name
 pub record ReturnsToMarks (st : State) : Type 0 where
   -- it is refused as no mark exactly where no surviving step of the role marks the name
   pub refused : (p : ℕ) (name : List ℕ)
       → (((back st p name).0 ≡ Err NoMark) ↔ ((s : Step) → IsIn s st.history → s.role ≡ p → s.act ≢ Mark name))
-  -- where a step comes first behind the mark, it is the rollback of that step
+  -- where a step comes first after the mark, it is the rollback of that step
   pub first : (p : ℕ) (name : List ℕ) (mark s : Step) (behind : List Step) → IsLastMark st.history p name mark (s ∷ behind)
       → back st p name ≡ rollback st p s.id
   -- where none does, nothing is taken back

@@ -97,7 +97,7 @@ pub fn a_rollback_takes_the_causal_future()
     ensures { (types : List LocalType) (st : State) → IsSound types st → TakesFutures st }
 {}
 
-/// A return to a mark is a rollback of the role's first step behind its last mark of the name, and takes nothing where
+/// A return to a mark is a rollback of the role's first step after its last mark of the name, and takes nothing where
 /// there is none. It is refused exactly where no such mark survives.
 pub fn a_return_goes_to_the_last_mark()
     ensures { (types : List LocalType) (st : State) → IsSound types st → ReturnsToMarks st }

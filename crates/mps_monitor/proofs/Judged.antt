@@ -83,7 +83,7 @@ value_left t next act m true true e f p = (e ∙ sym f, ap is_some f)
 value_left t next act m true false e f p = absurd (let k = p.1 in cc)
 value_left t next act m false y e f p = absurd (let k = p.0 in cc)
 
--- behind a value stands what is left
+-- after a value stands what is left
 next_left : (h : Head) (t : LocalType) → Begins h t → (act : Act) (v : Value) → Moves act (Some (Plain v)) → act_fault (one_of h) act (Some (Plain v)) ≡ None → IsLeft t act (Some (Plain v)) None
 next_left h t b (Mark name) v o e = absurd o
 next_left Ends t b (Out to x) v o e = absurd cc
@@ -112,7 +112,7 @@ branch_left t b label act m false k e f p l = absurd cc
 led : (names : List (List ℕ)) (b : Branches) (label : List ℕ) (k : ℕ) → names ≡ labels b → place_of names label ≡ Some k → LeadsTo b label k
 led names b label k e f = leads b label k (ap (λ (ns : List (List ℕ)). place_of ns label) (sym e) ∙ f)
 
--- and behind a label what stands at its place
+-- and after a label what stands at its place
 into_left : (h : Head) (t : LocalType) → Begins h t → (act : Act) (label : List ℕ) (k : ℕ) → Moves act (Some (Label label)) → act_fault (one_of h) act (Some (Label label)) ≡ None → place_of (labels_of h) label ≡ Some k → IsLeft t act (Some (Label label)) (Some k)
 into_left h t b (Mark name) label k o e p = absurd o
 into_left Ends t b act label k o e p = absurd cc

@@ -57,7 +57,7 @@ place_of labels label = position (λ other. bytes_eq other label) labels
 abbrev pub IsLeft : LocalType → Act → Option Message → Option ℕ → Type 0
 IsLeft t act m choice = (type_after t act m ≡ continuation t choice) × IsSome (continuation t choice)
 
--- the type goes on so: not at all after a mark, else behind its value, or in the branch of that place
+-- the type goes on so: not at all after a mark, else after its value, or in the branch of that place
 abbrev pub GoesOn : Advance → LocalType → Act → Option Message → Type 0
 GoesOn Stay t act m = (name : List ℕ) × (act ≡ acts.Mark name)
 GoesOn Next t act m = IsLeft t act m None

@@ -26,7 +26,7 @@ on_types : (names : List (List ℕ)) (types : List LocalType) (first : List Entr
 on_types names types first before after before' after' fault replayed (inl stopped) = inr (inl (first, replayed, stopped))
 on_types names types first before after before' after' fault replayed (inr h) = inr (inr (first, h.0, replayed, h.1, h.2))
 
--- why nothing is told behind the second script is why nothing is told of the two
+-- why nothing is told after the second script is why nothing is told of the two
 pub cant_follow : (names : List (List ℕ)) (types : List LocalType) (first : List Entry) (types' : List LocalType) → types' ≡ types → (before after before' after' : Streams) (fault : ToolFault) → HasReplayed names types before after first → CantFollow names types' before' after' fault → CantCompare names types before after before' after' fault
 cant_follow names types first types' same before after before' after' fault replayed h = on_types names types first before after before' after' fault replayed
     (subst (λ (t : List LocalType). CantFollow names t before' after' fault) same h)

@@ -1,4 +1,4 @@
--- The parts of a line, one behind the other.
+-- The parts of a line, one after the other.
 use Rattle.std.proofs.Common.{◌≡◌, ℕ, List, ◌++◌, sym, ap, ◌∙◌, append_assoc}
 
 pub whole_line : (out name colon text end : List ℕ) → out ++ name ++ colon ++ text ++ end ≡ out ++ (name ++ colon ++ text ++ end)

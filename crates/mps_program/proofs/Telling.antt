@@ -34,11 +34,11 @@ pub on_err : {A : Type 0} (r : Result A ToolFault) (P Q : ToolFault → Type 0) 
 on_err (Ok x) P Q f h = tt
 on_err (Err e) P Q f h = f e h
 
--- one session's line, and those behind it
+-- one session's line, and those after it
 pub one_more : (session : ℕ) (m : Record) (rooms : List (Option Record)) (took mid taken : Option (List ℕ)) → TookOne (IsSessionLine session (length m.journal)) took mid → TookOne (AreSessionLines (suc session) rooms) mid taken → TookOne (AreSessionLines session (Some m ∷ rooms)) took taken
 one_more session m rooms took mid taken (line, is, sent) (others, are, more) = (line ++ others, (line, others, is, refl, are), Appends-trans took mid taken line others sent more)
 
--- the same, where the lines behind it may not all be told
+-- the same, where the lines after it may not all be told
 pub told_rest : {A : Type 0} (r : Result A ToolFault) (session next : ℕ) (m : Record) (rooms later : List (Option Record)) (took mid taken : Option (List ℕ)) → rooms ≡ Some m ∷ later → next ≡ session + 1 → TookOne (IsSessionLine session (length m.journal)) took mid → OnOk r (TookOne (AreSessionLines next later) mid taken) → OnOk r (TookOne (AreSessionLines session rooms) took taken)
 told_rest r session next m rooms later took mid taken split at first rest =
     let step : next ≡ suc session = omega (arith, at) in

@@ -36,7 +36,7 @@ pub record AreSessionsOf (text : List ℕ) (roles : List (List ℕ)) (n : ℕ) (
   pub count : length sessions ≡ n
   pub alike : All (λ s. s ≡ record { types = types; state = initial }) sessions
 
--- the first fault of the text; want of memory is none of a text's
+-- the first fault of the text; out of memory is not one of a text's
 abbrev pub IsTextFault : List ℕ → ℕ → TextKind → Type 0
 IsTextFault text at NoRoom = ⊥
 IsTextFault text at kind = IsFirstFault text at kind
@@ -47,7 +47,7 @@ pub record HasNoProjection (roles : List (List ℕ)) (tree : GlobalType) (name :
   pub named : slice_get roles role ≡ Some name
   pub first : IsFirstUnmerged roles tree role choice
 
--- why a protocol without faults gives no types: a role without a projection, or want of memory
+-- why a protocol without faults gives no types: a role without a projection, or out of memory
 abbrev pub GivesNoProjections : List (List ℕ) → GlobalType → ToolFault → Type 0
 GivesNoProjections roles tree (Projection name choice) = HasNoProjection roles tree name choice
 GivesNoProjections roles tree Memory = ⊤
@@ -60,7 +60,7 @@ GivesNoSession roles tree (Projection name choice) = (fault_of roles tree ≡ No
 GivesNoSession roles tree Memory = ⊤
 GivesNoSession roles tree fault = ⊥
 
--- why a text gives no protocol without faults: its first fault, the fault of the protocol that it spells, or want of memory, where it is short enough
+-- why a text gives no protocol without faults: its first fault, the fault of the protocol that it spells, or out of memory, where it is short enough
 abbrev pub GivesNoProtocol : List ℕ → ToolFault → Type 0
 GivesNoProtocol text (Text at kind) = IsTextFault text at kind
 GivesNoProtocol text (Protocol fault) =

@@ -44,7 +44,7 @@ module _ (names : List (List ℕ)) (types : List LocalType) where
   HasStopped before after fault =
       (end : ReplayFault) × (fault ≡ of_script end) × Ran (AnswersLine names types) [] before after (Err end)
 
-  -- Of a script behind which two sessions are compared.
+  -- Of a script after which two sessions are compared.
   module _ (before after : Streams) where
     -- why nothing is told of the two: its run broke off, or it was replayed and memory ran out
     abbrev pub CantFollow : ToolFault → Type 0

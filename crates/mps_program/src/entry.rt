@@ -75,7 +75,7 @@ pub fn obey<
     }
 }
 
-/// Prints what went wrong: the line of the fault, or its display, which takes no memory.
+/// Prints what went wrong: the line of the fault, or its display, which does not allocate.
 fn report<R: AllocGlobal + Eprint>(rt: &R, fault: &ToolFault<'_>) -> io::Result<()> {
     if let Ok(line) = fault_line(rt.alloc(), fault) {
         if let Ok(text) = str::from_utf8(line.as_slice()) {

@@ -48,7 +48,7 @@ pub fn read_text<'a, R: Source>(alloc: Global, reader: &mut R) -> Result<Vec<u8>
     Ok(text)
 }
 
-/// Reads once, and puts what was read behind the text. Gives the number of bytes.
+/// Reads once, and puts what was read after the text. Gives the number of bytes.
 fn read_more<'a, R: Source>(
     reader: &mut R,
     block: &mut [u8],

@@ -140,7 +140,7 @@ module _ (es : List Entry) (sound : AreSound es) (p q : ℕ) where
   pub others_take : (e : Entry) → receives p q e.step ≡ true → (i j : ℕ) → (i ≡ p → j ≡ q → ⊥) → waiting (es ++ e ∷ []) i j ≡ waiting es i j
   others_take e t i j n = rw (keys_kept (sends i j) es e (receives_gives p q i j e.step t), keys_kept (receives i j) es e (receives_at p q i j e.step t ∙ other_pair_turned p q i j n)) refl
 
--- a place behind the first ones
+-- a place after the first ones
 pub get_drop_front : {A : Type 0} (c : List A) (g n m : ℕ) → m ≡ g + n → slice_get (drop g c) n ≡ slice_get c m
 get_drop_front c zero n m e = let same : n ≡ m = omega (arith, e) in ap (slice_get c) same
 get_drop_front [] (suc g) n m e = refl

@@ -12,7 +12,7 @@ use mps_base::Role;
 use std::marker::Model;
 
 /// Of each pair of roles the first send that isn't received. With the chain of the pair's sends, which the arena keeps,
-/// it says the whole queue: that send and all behind it.
+/// it says the whole queue: that send and all after it.
 #[derive(Drop)]
 pub struct Queues {
     // that from p to q at p * 8 + q
@@ -96,7 +96,7 @@ impl Queues {
         self.fronts[from.index() * 8 + to.index()].key()
     }
 
-    /// The k-th send of the pair that isn't received, from 0. It takes k looks.
+    /// The k-th send of the pair that isn't received, from 0. It takes O(k) time.
     pub fn nth(&self, arena: &Arena, from: Role, to: Role, k: usize) -> Option<Key>
         requires from { from < 8 }
         requires to { to < 8 }
@@ -111,7 +111,7 @@ impl Queues {
         Some(at)
     }
 
-    /// Puts a send behind all others of its pair, before it is added or after.
+    /// Puts a send after all others of its pair, before it is added or after.
     pub fn push(&mut self, from: Role, to: Role, key: Key)
         requires from { from < 8 }
         requires to { to < 8 }

@@ -33,7 +33,7 @@ refused names types j p (Back name) refusal e = limited_refusal (length j) (serv
 refused names types j p (News n) refusal e = absurd cc
 refused names types j p Show refusal e = absurd cc
 
--- want of memory may stand for an answer that accepts
+-- out of memory may stand for an answer that accepts
 starved : (a : Answer) → is_accepted a ≡ true → IsReply (Refused Memory) a
 starved (Done done) kept = tt
 starved (Undone ids) kept = tt

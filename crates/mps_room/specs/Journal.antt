@@ -84,7 +84,7 @@ pub record IsEntryAfter (names : List (List ℕ)) (types : List LocalType) (befo
   pub accepted : is_accepted e.answer ≡ true
   pub answer : e.answer ≡ reply names types before e.role e.command
 
--- each entry is, behind those before it
+-- each entry is, after those before it
 abbrev pub FollowsOn : (names : List (List ℕ)) → List LocalType → (before j : List Entry) → Type 0
 FollowsOn names types before [] = ⊤
 FollowsOn names types before (e ∷ j) = IsEntryAfter names types before e × FollowsOn names types (before ++ e ∷ []) j

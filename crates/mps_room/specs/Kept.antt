@@ -26,7 +26,7 @@ abbrev pub owners_after : (owners : List ℕ) → ℕ → Answer → List ℕ
 owners_after owners p (Done done) = owners ++ p ∷ []
 owners_after owners p answer = owners
 
--- what is wanting for one entry more: there are as many as there may be, or there are fewer and memory ran out
+-- what is missing for one entry more: there are as many as there may be, or there are fewer and memory ran out
 abbrev pub IsShort : List Entry → Refusal → Type 0
 IsShort j Full = most_entries ≤ length j
 IsShort j Memory = length j < most_entries

@@ -10,7 +10,7 @@ use crate::room::{MAX_ENTRIES, Room};
 use mps_base::Role;
 use mps_command::{Answer, Command, Refusal};
 
-// Makes room for one entry more and for the owner of its step, or says what is wanting.
+// Makes room for one entry more and for the owner of its step, or says what is missing.
 fn make_room(journal: &mut Vec<Entry>, owners: &mut Vec<Role>) -> Result<(), Refusal>
     ensures journal { journal.new.items ≡ journal.old.items }
     ensures owners { owners.new.items ≡ owners.old.items }

@@ -49,7 +49,7 @@ impl Model for Room {
 }
 
 impl Room {
-    /// A room of a session in which nothing was done yet. It takes no memory.
+    /// A room of a session in which nothing was done yet. It does not allocate.
     pub fn open(alloc: Global, names: Roles, session: Session) -> Room
         requires count { length names ≡ length session.types }
         requires fresh { session.state ≡ initial }
@@ -99,7 +99,7 @@ impl Room {
     }
 
     /// How many entries the journal has, and which of the role's steps the entries of others took back, after the
-    /// first few entries. It goes through the entries behind those.
+    /// first few entries. It goes through the entries after those.
     pub fn news(&self, role: Role, known: u64) -> Result<(u64, StepIds), AllocError>
         ensures length { IfOk result (λ told. told.0 ≡ length self.now.journal) }
         ensures ids { IfOk result (λ told. told.1 ≡ news self.now.journal role known) }
@@ -125,7 +125,7 @@ impl Room {
     }
 
     /// Answers the role's command. What is accepted joins the journal with its answer. All memory is asked for before
-    /// anything changes; a refusal changes nothing, and want of memory is none where the command is refused anyway.
+    /// anything changes; a refusal changes nothing, and out of memory is not reported where the command is refused anyway.
     #[inline(always)]
     pub fn apply(&mut self, role: Role, command: Command) -> Answer
         requires { role < length self.old.types }

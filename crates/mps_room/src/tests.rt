@@ -23,7 +23,7 @@ fn name(text: &str) -> Result<Name, Fail> {
 
 // ---- rooms
 
-// A choice of `ok` or `no`, behind which the part ends.
+// A choice of `ok` or `no`, after which the part ends.
 fn ok_or_no(alloc: Global) -> Result<Branches, Fail> {
     let no = Branches::more(alloc, name("no")?, Local::End, Branches::NoMore)?;
     Ok(Branches::more(alloc, name("ok")?, Local::End, no)?)
@@ -128,7 +128,7 @@ pub(crate) fn command(alloc: Global, ask: Ask) -> Result<Command, Fail> {
     })
 }
 
-// What a message says, behind a space, or nothing.
+// What a message says, after a space, or nothing.
 fn message(alloc: Global, got: Option<&Message>) -> Result<String, Fail> {
     let mut bytes = Vec::new(alloc);
     match got {
@@ -145,7 +145,7 @@ fn message(alloc: Global, got: Option<&Message>) -> Result<String, Fail> {
     Ok(String::from_utf8(bytes)?)
 }
 
-// The numbers, each behind a space.
+// The numbers, each after a space.
 fn numbers(alloc: Global, ids: &StepIds) -> Result<String, Fail> {
     let mut all = format!(in alloc; "")?;
     for id in ids.as_slice() {
@@ -388,7 +388,7 @@ fn is_full_with_a_hundred_thousand_entries(rt: HostRuntime) -> Result<(), Fail> 
     play(rt.alloc(), room, FULL)
 }
 
-// ---- want of memory
+// ---- out of memory
 
 // What the role at this place is answered, where memory may run out once: nothing has changed then, and the command is
 // given again.

@@ -1,4 +1,4 @@
--- What comes behind a role's last mark, looked for from its last step back.
+-- What comes after a role's last mark, looked for from its last step back.
 use Rattle.std.proofs.Common.{◌≡◌, ℕ, ◌+◌, ◌≤◌, true, false, List, [], ◌∷◌, ◌++◌, length, Option, Some, None, refl, sym, ap, ◌∙◌, subst, arith, ⊎_elim, inl, inr, append_assoc, append-nil, length-append}
 use Rattle.std.specs.Prelude.{◌==◌, is_some, IsSome, if◌then◌else◌}
 use Rattle.std.specs.Option.{option_map}
@@ -20,7 +20,7 @@ use Rattle.mps_links.proofs.Links.{prev_is}
 use Rattle.mps_links.proofs.StepKeys.{none_passes}
 use Rattle.mps_session.specs.Answers.{first_number}
 
--- what comes behind a mark is of the history
+-- what comes after a mark is of the history
 since_in : (name : List ℕ) (h c : List Step) (s : Step) → since_mark name h ≡ Some c → IsIn s c → IsIn s h
 since_in name [] c s e i = absurd cc
 since_in name (t ∷ h) c s e i =
@@ -41,7 +41,7 @@ since_in name (t ∷ h) c s e i =
 behind_in : (name : List ℕ) (p : ℕ) (h c : List Step) (s : Step) → since_mark name (steps_of p h) ≡ Some (s ∷ c) → IsIn s h
 behind_in name p h c s e = (filter-IsIn (λ t. t.role == p) s h (since_in name (steps_of p h) (s ∷ c) s e (inl refl))).0
 
--- what comes first behind a mark is a step that is there
+-- what comes first after a mark is a step that is there
 first_some : (o : Option (List Step)) (n : ℕ) → Some (Some n) ≡ option_map first_number o → (s : Step) × (h : List Step) × (o ≡ Some (s ∷ h)) × (s.id ≡ n)
 first_some None n e = absurd cc
 first_some (Some []) n e = let no : Some n ≡ None = cc in absurd cc
@@ -67,7 +67,7 @@ module _ (name : List ℕ) (p : ℕ) where
       cond-false (y.step.role == p) (y.step ∷ own b) (own b) f
       ∙ own_none b (sym (keys_without (of_role p) y b f) ∙ e)
 
-  -- behind some place there is no mark of the name, and the key is that of the role's last step before
+  -- after some place there is no mark of the name, and the key is that of the role's last step before
   pub record IsBack (es : List Entry) (at behind : Option ℕ) (turns : ℕ) : Type 0 where
     pub front : List Entry
     pub rest : List Entry

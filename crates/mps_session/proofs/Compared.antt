@@ -95,7 +95,7 @@ same_end xs ys us vs d e same h =
     last_same (x ∷ xs) (y ∷ ys) k = last_same xs ys (let r : xs ++ d ∷ [] ≡ ys ++ e ∷ [] = cc in r)
 
 module _ (p : ℕ) where
-  -- behind some place the role's steps were looked at, and the key is that of its last step before
+  -- after some place the role's steps were looked at, and the key is that of its last step before
   pub record IsLooked (es : List Entry) (at : Option ℕ) : Type 0 where
     pub front : List Entry
     pub rest : List Entry

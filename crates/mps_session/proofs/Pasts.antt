@@ -60,7 +60,7 @@ module _ (p : ℕ) where
       let few : y.step.role < 8 = small.0.0 in
       did_other es b y (ne_eqb y.step.role p (λ e. omega arith)) ∙ did_stranger es b large small.1
 
-  -- a replay puts what its steps did behind the past
+  -- a replay puts what its steps did after the past
   past_from : (types : List LocalType) (a b : List Step) (v w : View) → replay (opening types) a ≡ Some v → replay v b ≡ Some w → past_of w p ≡ past_of v p ++ deeds_of p (moved_from types a b)
   past_from types a [] v w ea eb =
       let same : w ≡ v = cc in

@@ -51,7 +51,7 @@ all_without : (P : Entry → Type 0) (a b : List Entry) (x : Entry) → AllByRec
 all_without P [] b x h = h.1
 all_without P (y ∷ a) b x h = (h.0, all_without P a b x h.1)
 
--- an entry that is left stood before the one that is gone, or behind it
+-- an entry that is left stood before the one that is gone, or after it
 left_cases : (a b c d : List Entry) (y : Entry) → a ++ b ≡ c ++ y ∷ d → ((m : List Entry) × (a ≡ c ++ y ∷ m)) ⊎ ((m : List Entry) × ((c ≡ a ++ m) × (b ≡ m ++ y ∷ d)))
 left_cases [] b c d y e = inr (c, (refl, e))
 left_cases (z ∷ a) b [] d y e = let same : z ≡ y = cc in inl (a, ap (λ (w : Entry). w ∷ a) same)
@@ -90,7 +90,7 @@ module _ (types : List LocalType) (cursors : List Cursor) (issued : ℕ) (a b : 
     inside : p < length cursors
     inside = omega (arith, member, holds.cursors.long)
 
-    -- where the entries behind it are d and m
+    -- where the entries after it are d and m
     from : (d m : List Entry) → b ≡ d ++ m → IsAside types a d x
     from d m e =
         let same : a ++ x ∷ b ≡ a ++ x ∷ (d ++ m) = ap (λ (l : List Entry). a ++ x ∷ l) e in

@@ -26,7 +26,7 @@ abbrev pub IsAccepting : Answer → Type 0
 IsAccepting (Refused refusal) = ⊥
 IsAccepting answer = ⊤
 
--- whether memory may be wanting for the command: never for an undo
+-- whether memory may run out for the command: never for an undo
 abbrev pub MayStarve : Change → Type 0
 MayStarve (Undo id) = ⊥
 MayStarve command = ⊤

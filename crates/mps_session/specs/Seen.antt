@@ -17,7 +17,7 @@ pub record Machine : Type 0 where
 abbrev pub view_of : Machine → View
 view_of m = machine.view_of m.types m.state.history
 
--- steps, each with the message that it gives or takes where it is replayed behind those that are done
+-- steps, each with the message that it gives or takes where it is replayed after those that are done
 abbrev pub moved_from : List LocalType → List Step → List Step → List (Step × Option Message)
 moved_from types done [] = []
 moved_from types done (s ∷ h) = (s, moved (machine.view_of types done) s.role s.act) ∷ moved_from types (done ++ s ∷ []) h

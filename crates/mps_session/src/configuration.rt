@@ -69,7 +69,7 @@ impl Configuration {
         next_node(&cursor.table, cursor.node, command, first)
     }
 
-    /// The node at which the role goes on after the command, or why it is refused, want of memory aside. The message is
+    /// The node at which the role goes on after the command, or why it is refused, out of memory aside. The message is
     /// the first that waits for the role, if it would take one.
     #[inline(always)]
     pub(crate) fn allowed(
@@ -149,7 +149,7 @@ impl Configuration {
         }
     }
 
-    // Sends the message, which then waits behind all others.
+    // Sends the message, which then waits after all others.
     #[inline(always)]
     fn send(
         &mut self,

@@ -88,7 +88,7 @@ impl Configuration {
         }
     }
 
-    /// The number of the role's first step behind its last mark of the name; none where there is no such step, and
+    /// The number of the role's first step after its last mark of the name; none where there is no such step, and
     /// none of that where there is no such mark.
     pub(crate) fn first_behind(&self, role: Role, name: &Name) -> Option<Option<StepId>>
         requires { role < 8 }
@@ -132,7 +132,7 @@ impl Session {
         Ok(self.configuration.roll_back(id)?)
     }
 
-    /// Takes the role back to its last mark of the name: its first step behind the mark is taken back, and all that
+    /// Takes the role back to its last mark of the name: its first step after the mark is taken back, and all that
     /// depend on it. The mark stays. A refusal changes nothing.
     pub fn back(&mut self, role: Role, name: &Name) -> Result<StepIds, Refusal>
         requires { role < length self.old.types }

@@ -34,7 +34,7 @@ impl Session {
         ensures refused { RefusesNeeded self.new.state }
         // a rollback takes exactly the chosen step and all that depend on it
         ensures taken { TakesFutures self.new.state }
-        // a return to a mark is a rollback of the role's first step behind its last mark of the name
+        // a return to a mark is a rollback of the role's first step after its last mark of the name
         ensures returned { ReturnsToMarks self.new.state }
         ensures err { OnErr result (self.new.state ≡ self.old.state) }
     {

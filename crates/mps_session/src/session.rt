@@ -189,7 +189,7 @@ impl Session {
         self.configuration.log.steps().len()
     }
 
-    /// The k-th surviving step, from 0. It takes k looks.
+    /// The k-th surviving step, from 0. It takes O(k) time.
     pub fn step(&self, k: usize) -> Option<(StepId, Role, &Act)>
         ensures { option_map as_step result ≡ slice_get self.now.state.history k }
     {
@@ -215,7 +215,7 @@ impl Session {
     }
 
     /// The k-th message that waits, from 0, of those that one role sent to another; none where one of both is no role
-    /// of the session. It takes k looks.
+    /// of the session. It takes O(k) time.
     pub fn message(&self, from: Role, to: Role, k: usize) -> Option<&Message>
         ensures { option_copied result
             ≡ slice_get ((view_of self.now).queue from to) k }

@@ -18,7 +18,7 @@ use mps_links::least_dependent;
 
 impl Session {
     /// Why the command of the role would be refused, before it is looked at whether there is room for what it brings.
-    /// How things stand may always be asked. It asks for no memory.
+    /// How things stand may always be asked. It does not allocate.
     pub fn would(&self, role: Role, command: &Command) -> Result<(), Refusal>
         requires { role < length self.now.types }
         // In a session of one protocol no answer is Mismatch.

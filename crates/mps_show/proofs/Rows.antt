@@ -72,7 +72,7 @@ pub plain-append : (a b : List Data) → ArePlainItems (items_of a) → ArePlain
 plain-append [] b ha hb = hb
 plain-append (d ∷ a) b ha hb = (ha.0, plain-append a b ha.1 hb)
 
--- the rows of q, and those of the numbers behind it
+-- the rows of q, and those of the numbers after it
 pub flat_next : (f : ℕ → List Data) (q n : ℕ) → q < n → flat_map f (range_with_len q (n - q)) ≡ f q ++ flat_map f (range_with_len (q + 1) (n - (q + 1)))
 flat_next f q n h = ap (flat_map f) (range_next q n h)
 
@@ -85,7 +85,7 @@ next_at xs k x at =
     let within : k < length xs = slice_get_within xs k x at in
     drop-cons xs k x within ∙ ap (λ y. y ∷ drop (suc k) xs) (get_or_from_slice_get xs k x x at) ∙ ap (λ (j : ℕ). x ∷ drop j xs) (sym (add-one k))
 
--- a first word and those behind it
+-- a first word and those after it
 pub spaced_words : (word : List ℕ) (words : List (List ℕ)) → spaced (word ∷ words) ≡ word ++ words_behind words
 spaced_words word [] = sym (append-nil word)
 spaced_words word (next ∷ words) = ap (λ (l : List ℕ). word ++ 32 ∷ l) (spaced_words next words)
@@ -102,7 +102,7 @@ on_ok (Err e) p = tt
 pub then_more : (mid next new a rest : List ℕ) → next ≡ mid ++ a → new ≡ next ++ rest → new ≡ mid ++ (a ++ rest)
 then_more mid next new a rest e h = h ∙ ap (λ (l : List ℕ). l ++ rest) e ∙ append_assoc mid a rest
 
--- a word and one behind it are written, and more words follow
+-- a word and one after it are written, and more words follow
 pub words_begin : (out word peer begun new bytes : List ℕ) (words : List (List ℕ)) → begun ≡ out ++ word → new ≡ begun ++ 32 ∷ bytes → bytes ≡ peer → new ++ words_behind words ≡ out ++ (word ++ 32 ∷ spaced (peer ∷ words))
 words_begin out word peer begun new bytes words a b e =
     ap (λ (l : List ℕ). l ++ words_behind words) (b ∙ ap₂ (λ (l m : List ℕ). l ++ 32 ∷ m) a e)

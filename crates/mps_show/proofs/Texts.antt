@@ -50,7 +50,7 @@ sort_is_plain Text = search rules
 pub in_front : (word words : List ℕ) → AllByRecursion IsPlainByte word → AllByRecursion IsPlainByte words → AllByRecursion IsPlainByte (word ++ 32 ∷ words)
 in_front word words h hs = all-append IsPlainByte word (32 ∷ words) h (space_is_plain, hs)
 
--- a word in front of plain ones that stand behind spaces
+-- a word in front of plain ones that stand after spaces
 pub one_behind : (word rest : List ℕ) → IsName word → AllByRecursion IsPlainByte rest → AllByRecursion IsPlainByte (32 ∷ (word ++ rest))
 one_behind word rest h hs = (space_is_plain, all-append IsPlainByte word rest (name_is_plain word h) hs)
 

@@ -20,6 +20,6 @@ behind later (d ∷ ds) = true
 abbrev pub own_number : ℕ → Step → List Data
 own_number p s = if s.role == p then number_shown s.id ∷ [] else []
 
--- words, each behind a space
+-- words, each after a space
 abbrev pub words_behind : List (List ℕ) → List ℕ
 words_behind words = flat_map (λ word. 32 ∷ word) words

@@ -50,7 +50,7 @@ abbrev pub taken_shown : Option Message → List Data
 taken_shown None = []
 taken_shown (Some m) = moved_shown m ∷ []
 
--- a send or a choice, behind its role
+-- a send or a choice, after its role
 abbrev pub out_shown : List (List ℕ) → ℕ → Message → List Data
 out_shown names to (Plain v) = string (codes "send") ∷ role_name names to ∷ value_shown v ∷ []
 out_shown names to (Label l) = string (codes "choose") ∷ role_name names to ∷ string l ∷ []

@@ -75,7 +75,7 @@ fn put_choice(
     Ok(())
 }
 
-// Writes a word behind another.
+// Writes a word after another.
 fn put_behind(out: &mut Vec<u8>, word: &[u8]) -> Result<(), AllocError>
     ensures { OnOk result (out.new.items ≡ out.old.items ++ 32 ∷ word.now) }
 {

@@ -135,7 +135,7 @@ pub(crate) fn put_step(
     put_act(out, names, &step.act, moved)
 }
 
-// Writes what the act is and what it moved, behind a role, and the end of the step.
+// Writes what the act is and what it moved, after a role, and the end of the step.
 fn put_act(
     out: &mut Vec<u8>,
     names: &Roles,
@@ -154,7 +154,7 @@ fn put_act(
     }
 }
 
-// Writes a send or a choice, behind its role, and the end of the step.
+// Writes a send or a choice, after its role, and the end of the step.
 fn put_out(out: &mut Vec<u8>, names: &Roles, to: Role, message: &Message) -> Result<(), AllocError>
     requires { to < length names.now }
     ensures text { OnOk result (out.new.items
@@ -171,7 +171,7 @@ fn put_out(out: &mut Vec<u8>, names: &Roles, to: Role, message: &Message) -> Res
     Ok(out.push(b']')?)
 }
 
-// Writes a receipt or a pick, behind its role, and the end of the step.
+// Writes a receipt or a pick, after its role, and the end of the step.
 fn put_in(
     out: &mut Vec<u8>,
     names: &Roles,
@@ -212,7 +212,7 @@ fn put_taken(out: &mut Vec<u8>, moved: Option<&Message>) -> Result<(), AllocErro
     Ok(out.push(b']')?)
 }
 
-// Writes a mark, behind its role, and the end of the step.
+// Writes a mark, after its role, and the end of the step.
 fn put_mark(out: &mut Vec<u8>, mark: &Name) -> Result<(), AllocError>
     ensures text { OnOk result (out.new.items
         ≡ out.old.items ++ items_text true (items_of (string (codes "mark") ∷ string mark.now ∷ []))) }

@@ -70,7 +70,7 @@ fn does(alloc: Global, session: &mut Session, place: u8, deed: Deed) -> Result<(
 // What roles do in turn, and what is shown then.
 type Row = (&'static [(u8, Deed)], &'static str);
 
-// Whether this is shown, behind what was written before, and by the value too.
+// Whether this is shown, after what was written before, and by the value too.
 fn shows(alloc: Global, names: &Roles, session: &Session, wanted: &str) -> Result<(), Fail> {
     if names.count() != session.roles() {
         return Err("a name for each role".into());
@@ -122,7 +122,7 @@ fn part(alloc: Global, actions: &[Action], last: Local) -> Result<Local, Fail> {
     Ok(t)
 }
 
-// A choice of two labels, each with the type behind it, that is made or taken.
+// A choice of two labels, each with the type after it, that is made or taken.
 fn choice(
     alloc: Global,
     makes: bool,

@@ -135,7 +135,7 @@ stores_bind es e p slot stores long small s is kept = record { each = each; trac
         ∙ sym (bindings_push q es e ∙ after_other q (bindings q es) e (ap (λ (r : ℕ). r == q) is.0 ∙ n)))
         (cases_Bool (p == q))
 
--- nothing of its role stands behind the last entry of the role
+-- nothing of its role stands after the last entry of the role
 none_behind : (c d : List ℕ) (k : ℕ) → AreDistinct (c ++ k ∷ d) → last_key None (c ++ k ∷ d) ≡ Some k → d ≡ []
 none_behind c [] k apart last = refl
 none_behind c (j ∷ d) k apart last =

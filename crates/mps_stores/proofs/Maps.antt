@@ -74,7 +74,7 @@ module _ (slot : List ℕ) where
     pub bound_there : (v : ℕ) → set_value_at store place v ≡ bound slot v store
     bound_there v = sym (insert_entry-first bytes_eq slot v store place there.first) ∙ insert_is_bound v store
 
--- a write behind the last slot changes nothing
+-- a write after the last slot changes nothing
 pub nothing_behind : (v : ℕ) (store : Keys) (place : ℕ) → ¬ (place < length store) → store ≡ set_value_at store place v
 nothing_behind v [] place h = refl
 nothing_behind v (entry ∷ store) zero h = absurd (h (omega arith))

@@ -81,7 +81,7 @@ impl Stores {
     }
 
     /// Binds the role's slot to a receipt, and tells to which one it was bound: what the receipt's
-    /// entry keeps as `before.bound`. A known slot keeps its place, and needs no memory.
+    /// entry keeps as `before.bound`. A known slot keeps its place, and does not allocate.
     pub fn bind(&mut self, role: Role, slot: &Name, key: Key) -> Result<Option<Key>, AllocError>
         requires { role < 8 }
         ensures replaced { IfOk result (λ older. older ≡ value_in slot.now (store_at self.old role)) }

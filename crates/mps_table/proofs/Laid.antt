@@ -187,7 +187,7 @@ rec_agrees types places env bound at x u w a g c h z e =
     put_agrees types (bytes_eq z x) (start places at u) (places z) (filled env (Rec x u)) (env z)
     (starts_stand types places env bound at (Rec x u) w a g c h) (λ f. a z (rw f at e))
 
--- a choice's labels and the nodes behind them are where its entry says
+-- a choice's labels and the nodes after them are where its entry says
 choice_stands : (g : Graph) (types : List LocalType) (places : Places) (env : Env) (bound : List (List ℕ)) (at first : ℕ) (b : Branches) → AreWhole env → Agree types bound places env → are_guarded b ≡ true → are_closed bound b ≡ true → HasFrom types at (flat_in env b) → HasFrom g.labels first (labels b) → HasFrom g.targets first (starts places at b) → HasBranches g types first (length (labels b)) (filled_in env b)
 choice_stands g types places env bound at first b w a gs cs h k l =
     record { as_many = ap length (sym (labels-filled_in env b)); labels = subst (λ (ls : List (List ℕ)). HasFrom g.labels first ls) (sym (labels-filled_in env b)) k; targets = branches_stand types g.targets places env bound at first b w a gs cs h l }
@@ -314,7 +314,7 @@ starts_known types places env bound at (More label u others) w a g c h =
     )
 
 mutual
-  -- behind each label is a node
+  -- after each label is a node
   targets_known : (types : List LocalType) (places : Places) (env : Env) (bound : List (List ℕ)) (at : ℕ) (t : LocalType) → AreWhole env → Agree types bound places env → is_guarded t ≡ true → is_closed bound t ≡ true → HasFrom types at (flat env t) → AllByRecursion (λ m. m < length types) (all_targets places at t)
   targets_known types places env bound at End w a g c h = tt
   targets_known types places env bound at (Var x) w a g c h = tt

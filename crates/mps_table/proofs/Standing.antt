@@ -63,7 +63,7 @@ pub begins : (g : Graph) (node : ℕ) (entry : Entry) (t : LocalType) → slice_
 begins g node entry t e s =
     entry_begins g s.0 entry (unfolded t) (entry_at g s.0 g.entries s.0 node entry (unfolded t) s.1 e s.2)
 
--- the node behind the label of a place has the type behind it
+-- the node after the label of a place has the type after it
 target_at : (types : List LocalType) (targets : List ℕ) (first : ℕ) (ts : List LocalType) (place node : ℕ) (u : LocalType) → StandFrom types targets first ts → slice_get ts place ≡ Some u → slice_get targets (first + place) ≡ Some node → StandsIn types node u
 target_at types targets first [] place node u s e f = absurd cc
 target_at types targets first (t ∷ ts) zero node u s e f =

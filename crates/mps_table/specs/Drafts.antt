@@ -11,7 +11,7 @@ abbrev pub places_of : Bound → Places
 places_of Nothing z = 0
 places_of (Inside' name node p outer) z = put_node name.now node (places_of outer) z
 
--- the new draft has these behind what the old one has
+-- the new draft has these after what the old one has
 pub record Adds (old new : Draft) (es : List Entry) (ls : List (List ℕ)) (ns : List ℕ) : Type 0 where
   pub entries : new.entries.items ≡ old.entries.items ++ es
   pub labels : new.labels.items ≡ old.labels.items ++ ls
@@ -24,7 +24,7 @@ entry_count d = length d.entries.items
 abbrev pub label_count : Draft → ℕ
 label_count d = length d.labels.items
 
--- the type is laid out behind what the old draft has
+-- the type is laid out after what the old draft has
 abbrev pub Lays : (old new : Draft) → Places → LocalType → Type 0
 Lays old new places t =
     Adds old new (all_entries places (entry_count old) (label_count old) t) (all_labels t) (all_targets places (entry_count old) t)

@@ -12,7 +12,7 @@ head_of (Recv peer sort) = Receives peer sort
 head_of (Select peer labels) = Chooses peer labels.now
 head_of (Branch peer labels) = Picks peer labels.now
 
--- what may follow where a type begins so: no label behind a value, and one of the labels, by its place, behind a choice
+-- what may follow where a type begins so: no label after a value, and one of the labels, by its place, after a choice
 abbrev pub Allows : Option ℕ → Head → Type 0
 Allows None (Sends peer sort) = ⊤
 Allows None (Receives peer sort) = ⊤

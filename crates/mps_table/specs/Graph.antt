@@ -5,7 +5,7 @@ use Rattle.mps_local.specs.Actions.{Head, Ends, Sends, Receives, Chooses, Picks}
 use Rattle.mps_table.specs.declared.entry.Entry.{Entry}
 use Rattle.mps_table.specs.declared.entry.Entry.TheVariants.{End, Send, Recv, Select, Branch}
 
--- what stands at each node; the labels of all choices, and the nodes behind them in the same order; the first node
+-- what stands at each node; the labels of all choices, and the nodes after them in the same order; the first node
 pub record Graph : Type 0 where
   pub entries : List Entry
   pub labels : List (List ℕ)
@@ -24,7 +24,7 @@ LeadsWithin many (Send peer sort next) = next < many
 LeadsWithin many (Recv peer sort next) = next < many
 LeadsWithin many entry = ⊤
 
--- a node stands behind each label, each choice has labels of the table, and all nodes are nodes of the table
+-- a node stands after each label, each choice has labels of the table, and all nodes are nodes of the table
 pub record IsSound (entries : List Entry) (labels : List (List ℕ)) (targets : List ℕ) (first : ℕ) : Type 0 where
   pub paired : length labels ≡ length targets
   pub within : AllByRecursion (IsWithin (length labels)) entries

@@ -59,7 +59,7 @@ starts places at local.NoMore = []
 starts places at (local.More label u others) = start places at u ∷ starts places (at + size u) others
 
 abbrev mutual
-  -- the nodes behind all its labels
+  -- the nodes after all its labels
   pub all_targets : Places → ℕ → LocalType → List ℕ
   all_targets places at local.End = []
   all_targets places at (local.Var x) = []

@@ -23,7 +23,7 @@ StandFrom types targets from [] = ⊤
 StandFrom types targets from (t ∷ ts) =
     ((node : ℕ) × (slice_get targets from ≡ Some node) × StandsIn types node t) × StandFrom types targets (suc from) ts
 
--- so many labels from a place on are those of the branches, with nodes of the types behind them
+-- so many labels from a place on are those of the branches, with nodes of the types after them
 pub record HasBranches (g : Graph) (types : List LocalType) (first count : ℕ) (b : Branches) : Type 0 where
   pub as_many : count ≡ length (actions.labels b)
   pub labels : HasFrom g.labels first (actions.labels b)

@@ -161,7 +161,7 @@ impl Draft {
         }
     }
 
-    // Lays the types behind the labels out.
+    // Lays the types after the labels out.
     #[cycle(lay)]
     fn lay_branches(&mut self, branches: &Branches, bound: &Bound<'_>) -> Result<(), AllocError>
         requires entries { entry_count self.old + branch_size (plain_branches branches.now) ≤ 256 }
@@ -232,7 +232,7 @@ impl Draft {
         Ok(self.entries.push(entry)?)
     }
 
-    // Adds a label with the node behind it.
+    // Adds a label with the node after it.
     fn push_label(&mut self, label: Name, node: Node) -> Result<(), AllocError>
         ensures { OnOk result (Adds self.old self.new [] (label ∷ []) (node ∷ [])) }
     {

@@ -59,7 +59,7 @@ impl Table {
         self.shown(self.entry(node))
     }
 
-    /// The node of what comes then: behind a value with no choice, behind a choice with the place of
+    /// The node of what comes then: after a value with no choice, after a choice with the place of
     /// the label that was chosen.
     pub fn after(&self, node: Node, choice: Option<usize>) -> Node
         requires action { HasNext self.now node choice }

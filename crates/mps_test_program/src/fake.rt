@@ -210,7 +210,7 @@ impl Alloc for Machine<'_> {
     }
 }
 
-// Puts the value and the end behind what is there.
+// Puts the value and the end after what is there.
 fn put<D: Display + Drop>(
     alloc: Global,
     to: &RefCell<Vec<u8>>,

@@ -212,7 +212,7 @@ const QUESTIONS: &[Row] = &[
     ),
 ];
 
-// Puts the line behind the text.
+// Puts the line after the text.
 pub(crate) fn put_line(text: &mut String, line: &str) -> Result<(), AllocError> {
     text.push_str(line)?;
     text.push('\n')

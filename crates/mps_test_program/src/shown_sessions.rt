@@ -5,7 +5,7 @@ use std::alloc::{AllocError, Global};
 use std::process::Abort;
 use std::test::Fail;
 
-// A line, its answer, and what is shown behind it.
+// A line, its answer, and what is shown after it.
 type Line = (&'static str, &'static str, &'static str);
 
 // A protocol, and the lines of a script.
@@ -507,7 +507,7 @@ const LOOPS: &[Row] = &[
     ),
 ];
 
-// The lines of a script with a line that shows behind each, and those of the answers.
+// The lines of a script with a line that shows after each, and those of the answers.
 fn both(alloc: Global, show: &str, lines: &[Line]) -> Result<(String, String), AllocError> {
     let (mut script, mut want) = (String::new(alloc), String::new(alloc));
     for (line, answer, shown) in lines {
@@ -577,7 +577,7 @@ const AT_THE_LIMIT: &[Line] = &[
     ("a news 0", "news 100000", FULL),
 ];
 
-// Puts a mark and its undo behind the script, and their answers behind these, until the journal has
+// Puts a mark and its undo after the script, and their answers after these, until the journal has
 // room for two entries more, and then two marks.
 fn fill(alloc: Global, script: &mut String, want: &mut String) -> Result<(), AllocError> {
     for step in 1..50_000 {

@@ -60,7 +60,7 @@ const FILES: &[(&str, &str)] = &[
     ("empty", ""),
 ];
 
-// The words that the program is called with, behind its name; room for so many printed bytes; what is
+// The words that the program is called with, after its name; room for so many printed bytes; what is
 // printed; what is told on the standard error; and the status, which is 0 for success.
 struct Row(
     &'static [&'static str],

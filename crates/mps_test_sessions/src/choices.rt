@@ -10,7 +10,7 @@ fn variable(text: &str) -> Result<VarName, Fail> {
     Ok(VarName::read(text.as_bytes()).ok_or("a variable")?)
 }
 
-// A choice of these labels, each with the type behind it, that is made or taken.
+// A choice of these labels, each with the type after it, that is made or taken.
 fn choice(
     alloc: Global,
     makes: bool,
@@ -30,7 +30,7 @@ fn choice(
     }
 }
 
-// The arms of `ok` and `no`, behind which the part ends.
+// The arms of `ok` and `no`, after which the part ends.
 fn ok_or_no(alloc: Global) -> Result<Vec<(&'static str, Local)>, Fail> {
     Ok(vec![in alloc; ("ok", Local::End), ("no", Local::End)]?)
 }

@@ -50,7 +50,7 @@ fn first_waiting(arena: &Arena, from: Role, to: Role) -> Option<Key>
     first
 }
 
-// Puts the step of the deed behind all others.
+// Puts the step of the deed after all others.
 fn add(rt: &(impl Abort + AllocGlobal), arena: &mut Arena, deed: Deed)
     requires none { marked_keys arena.old.entries ≡ [] }
     ensures none { marked_keys arena.new.entries ≡ [] }

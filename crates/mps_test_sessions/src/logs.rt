@@ -197,7 +197,7 @@ fn number(arena: &Arena, key: Option<Key>) -> u64 {
     }
 }
 
-// What the step of the key is linked to: what stands behind it and before it, of all, of its role
+// What the step of the key is linked to: what stands after it and before it, of all, of its role
 // and of the sends of its pair; its receipt; its source.
 fn links(arena: &Arena, key: Key) -> [Option<Key>; 8] {
     [

@@ -25,7 +25,7 @@ fn looped(alloc: alloc::Global, text: &str, body: Global) -> Result<Global, Fail
     Ok(Global::rec(alloc, variable(text)?, body)?)
 }
 
-// One role chooses one of the labels. Behind the last comes `last`, behind each other the end.
+// One role chooses one of the labels. After the last comes `last`, after each other the end.
 pub(super) fn choice(
     alloc: alloc::Global,
     from: &str,

@@ -34,7 +34,7 @@ enum Part {
     Recv(u8, Sort),
 }
 
-// A label, the node behind it, and the variable that stands then, or `end`.
+// A label, the node after it, and the variable that stands then, or `end`.
 type Arm = (&'static str, Part, &'static str);
 
 // The name of these letters.
@@ -99,7 +99,7 @@ fn picks(rt: &(impl Abort + AllocGlobal), peer: u8, arms: &[Arm]) -> Local {
     }
 }
 
-// The parts, one behind the other, in front of `next`.
+// The parts, one after the other, in front of `next`.
 fn chain(rt: &(impl Abort + AllocGlobal), parts: &[Part], next: Local) -> Local {
     let mut body = next;
     for k in 0..parts.len() {
@@ -275,7 +275,7 @@ fn one_node_for_two_loops(rt: HostRuntime) {
     }
 }
 
-// One input of each sort, from each of eight roles in turn, behind sixteen labels.
+// One input of each sort, from each of eight roles in turn, after sixteen labels.
 const INPUTS: &[Arm] = &[
     ("a", Part::Recv(A, Int), "end"),
     ("b", Part::Recv(B, Bool), "end"),
@@ -335,7 +335,7 @@ const OUTPUTS_BEHIND: &[Arm] = &[
     ("p", Part::Send(H, Int), "end"),
 ];
 
-// Sixteen labels behind the eighth of sixteen; behind each other one an output.
+// Sixteen labels after the eighth of sixteen; after each other one an output.
 fn choice_below_another(rt: &(impl Abort + AllocGlobal)) -> Local {
     let behind = in_front_of(rt, OUTPUTS_BEHIND, Branches::NoMore);
     let eighth = more(rt, "h", picks(rt, G, INPUTS), behind);
@@ -383,7 +383,7 @@ const FIVE: [(&str, u8, Sort); 5] = [
     ("e", E, Bool),
 ];
 
-// A choice of five labels. Behind the last stand so many inputs and behind each other one 50, all
+// A choice of five labels. After the last stand so many inputs and after each other one 50, all
 // of one sort, and then the end.
 fn five_chains(rt: &(impl Abort + AllocGlobal), last: usize) -> Local {
     let mut branches = Branches::NoMore;
@@ -401,7 +401,7 @@ fn five_chains(rt: &(impl Abort + AllocGlobal), last: usize) -> Local {
     Local::Select { peer, branches }
 }
 
-// The table shows this 50 times behind the label of that place, and then the end.
+// The table shows this 50 times after the label of that place, and then the end.
 fn walks(rt: &impl Abort, table: &Table, place: usize, shown: &Shown<'_>) {
     let mut way = [None; 51];
     way[0] = Some(place);

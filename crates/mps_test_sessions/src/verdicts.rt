@@ -442,7 +442,7 @@ fn goes(rt: &(impl Abort + AllocGlobal), t: &Local, rows: &[Asked]) {
     goes_by(rt, &table, rows);
 }
 
-// A label, the act behind it if there is one, and whether the loop's variable stands there then, or
+// A label, the act after it if there is one, and whether the loop's variable stands there then, or
 // the end.
 type Arm = (&'static str, Kind, bool);
 
@@ -451,7 +451,7 @@ fn variable(rt: &impl Abort) -> VarName {
     VarName::read(b"X").expect(rt, "a variable")
 }
 
-// The type behind the label.
+// The type after the label.
 fn behind(rt: &(impl Abort + AllocGlobal), arm: &Arm) -> Local {
     let next = if arm.2 {
         Local::Var(variable(rt))
@@ -496,7 +496,7 @@ fn picks(rt: &(impl Abort + AllocGlobal), peer: u8, arms: &[Arm]) -> Local {
     }
 }
 
-// Behind each label an output to the role of its place, among eight.
+// After each label an output to the role of its place, among eight.
 const SIXTEEN_ARMS: &[Arm] = &[
     ("l1", Kind::Gives(0, Sort::Int), false),
     ("l2", Kind::Gives(1, Sort::Int), false),

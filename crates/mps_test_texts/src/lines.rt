@@ -15,7 +15,7 @@ fn text(bytes: &'static [u8]) -> Line {
     Line::Text(Bytes::from_static(bytes))
 }
 
-// What TEXT is told as.
+// What TEXT is reported as.
 fn lines_of_text() -> [Line; 5] {
     [
         text(b"a send b 5"),

@@ -59,7 +59,7 @@ fn in_front(rt: &(impl Abort + AllocGlobal), part: &Part<'_>, next: Local) -> Lo
     made.expect(rt, "memory")
 }
 
-// The parts, one behind the other, and then the end.
+// The parts, one after the other, and then the end.
 fn chain(rt: &(impl Abort + AllocGlobal), parts: &[Part<'_>]) -> Local {
     let mut body = Local::End;
     for k in 0..parts.len() {
@@ -235,7 +235,7 @@ fn names_the_limits_first(rt: HostRuntime) {
     }
 }
 
-// A choice of three labels, of which the one in that place has so many outputs behind it, and each
+// A choice of three labels, of which the one in that place has so many outputs after it, and each
 // other one ends.
 fn uneven(rt: &(impl Abort + AllocGlobal), place: usize, count: u32) -> Local {
     let mut branches = Branches::NoMore;
@@ -263,8 +263,8 @@ fn inputs(rt: &(impl Abort + AllocGlobal), count: u32) -> Local {
     in_front(rt, &Part::Rec("X"), many(rt, count, &Part::Takes, last))
 }
 
-// A choice of 16 labels. Behind 15 of them stands a loop of 14 inputs, which has 16 nodes, and
-// behind the last one a loop of so many.
+// A choice of 16 labels. After 15 of them stands a loop of 14 inputs, which has 16 nodes, and
+// after the last one a loop of so many.
 fn loops(rt: &(impl Abort + AllocGlobal), last: u32) -> Local {
     let mut branches = more(rt, "l16", inputs(rt, last), Branches::NoMore);
     for k in 0..15usize {
@@ -319,7 +319,7 @@ fn is_too_long(rt: &(impl Abort + AllocGlobal), count: u32, part: &Part<'_>) {
     );
 }
 
-// A choice of so many labels, behind each of which the type ends.
+// A choice of so many labels, after each of which the type ends.
 fn wide(rt: &(impl Abort + AllocGlobal), count: u32) -> Local {
     let mut branches = Branches::NoMore;
     for _ in 0..count {

@@ -67,7 +67,7 @@ fn in_front(rt: &(impl Abort + AllocGlobal), part: &Part<'_>, next: Global) -> G
     made.expect(rt, "memory")
 }
 
-// The parts, one behind the other, and then the end.
+// The parts, one after the other, and then the end.
 fn chain(rt: &(impl Abort + AllocGlobal), parts: &[Part<'_>]) -> Global {
     let mut body = Global::End;
     for k in 0..parts.len() {
@@ -253,7 +253,7 @@ fn chosen(rt: &(impl Abort + AllocGlobal), left: &[Part<'_>], right: &[Part<'_>]
     in_front(rt, &Part::Rec("X"), inner)
 }
 
-// What `c` may do behind a choice of others, and how its type is written then.
+// What `c` may do after a choice of others, and how its type is written then.
 type Way = (&'static [Part<'static>], &'static str);
 
 const INT: Way = (
@@ -340,7 +340,7 @@ fn merges_what_is_the_same(rt: HostRuntime) {
 
 const EIGHT: [&str; 8] = ["a", "b", "c", "d", "e", "f", "g", "h"];
 
-// What the roles behind the second do in each branch: a relay of values of all sorts.
+// What the roles after the second do in each branch: a relay of values of all sorts.
 const PASSED_ON: [Part<'static>; 6] = [
     Part::Sent("a", "c", Int),
     Part::Sent("c", "d", Bool),
@@ -371,7 +371,7 @@ fn wide_choice(rt: &(impl Abort + AllocGlobal)) -> Global {
     }
 }
 
-// What `a` gives behind each label.
+// What `a` gives after each label.
 const GIVEN: &str = "choose b { \
     l0 : send b int . send c int . end , l1 : send b bool . send c int . end , \
     l2 : send b text . send c int . end , l3 : send b int . send c int . end , \
@@ -382,7 +382,7 @@ const GIVEN: &str = "choose b { \
     l12 : send b int . send c int . end , l13 : send b bool . send c int . end , \
     l14 : send b text . send c int . end , l15 : send b int . send c int . end }";
 
-// What `b` takes behind each label.
+// What `b` takes after each label.
 const TAKEN: &str = "pick a { \
     l0 : recv a int . end , l1 : recv a bool . end , \
     l2 : recv a text . end , l3 : recv a int . end , \
@@ -427,7 +427,7 @@ fn and(
     mps_local::Branches::more(rt.alloc(), name(rt, "l"), next, others).expect(rt, "memory")
 }
 
-// A choice of one label, an input behind it and an output behind that.
+// A choice of one label, an input after it and an output after that.
 fn turn(rt: &(impl Abort + AllocGlobal), next: Local) -> Local {
     let peer = Role::new(1);
     let sent = Local::send(rt.alloc(), peer, Int, next).expect(rt, "memory");
@@ -447,7 +447,7 @@ fn drops_deep_trees(rt: HostRuntime) {
     assert!(rt; matches!(&tree, Local::Select { .. }));
 }
 
-// So many outputs to the second role, one behind the other.
+// So many outputs to the second role, one after the other.
 fn sends(rt: &(impl Abort + AllocGlobal), count: usize) -> Local
     ensures { AllPeers (λ peer. peer < 2) (plain result) }
 {
@@ -525,7 +525,7 @@ fn output(rt: &(impl Abort + AllocGlobal), place: usize, next: Local) -> Local {
     Local::send(rt.alloc(), peer, sort, next).expect(rt, "memory")
 }
 
-// So many outputs, one behind the other.
+// So many outputs, one after the other.
 fn outputs(rt: &(impl Abort + AllocGlobal), count: usize) -> Local {
     let mut tree = Local::End;
     for place in 0..count {
@@ -534,7 +534,7 @@ fn outputs(rt: &(impl Abort + AllocGlobal), count: usize) -> Local {
     tree
 }
 
-// So many branches, with an output behind each: three labels take turns.
+// So many branches, with an output after each: three labels take turns.
 fn output_branches(rt: &(impl Abort + AllocGlobal), count: usize) -> mps_local::Branches {
     let mut branches = mps_local::Branches::NoMore;
     for place in 0..count {
@@ -572,7 +572,7 @@ fn send_alike(one: &Local, other: &Local) -> bool {
     }
 }
 
-// Whether both have the same labels in the same order, and the types behind them send alike.
+// Whether both have the same labels in the same order, and the types after them send alike.
 fn choose_alike(one: &mps_local::Branches, other: &mps_local::Branches) -> bool {
     let (mut ones, mut others) = (one.iter(), other.iter());
     while let Some((label, next)) = ones.next() {

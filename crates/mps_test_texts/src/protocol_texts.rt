@@ -31,7 +31,7 @@ fn protocol(rt: &(impl Abort + AllocGlobal), text: &[u8]) -> Protocol {
     read_protocol(rt.alloc(), text).expect(rt, "a protocol")
 }
 
-// The bytes behind those that are there.
+// The bytes after those that are there.
 fn add(rt: &impl Abort, text: &mut Vec<u8>, bytes: &[u8]) {
     text.extend_from_slice(bytes).expect(rt, "memory");
 }
@@ -104,7 +104,7 @@ fn reads_protocols(rt: HostRuntime) {
     }
 }
 
-// What stands behind the message, if it is this one.
+// What stands after the message, if it is this one.
 fn behind_message<'a>(node: &'a Global, from: &[u8], to: &[u8], of: Sort) -> Option<&'a Global> {
     match node {
         Global::Message {
@@ -152,7 +152,7 @@ fn branches_of<'a>(node: &'a Global, from: &[u8], to: &[u8]) -> Option<&'a Branc
     }
 }
 
-// What stands behind the first label, and the other branches, if it is this label.
+// What stands after the first label, and the other branches, if it is this label.
 fn behind_label<'a>(branches: &'a Branches, letters: &[u8]) -> Option<(&'a Global, &'a Branches)> {
     match branches {
         Branches::More {
@@ -253,7 +253,7 @@ const MALFORMED: &[Row] = &[
     (b"roles a b;a->b:int.enD", 19),
     (b"roles a b ; a -> b { l-m : end }", 22),
     (b"roles a b ; a -> b { l : end , 2 : end }", 31),
-    // behind a whole protocol
+    // after a whole protocol
     (b"roles a b ; end\x0b", 15),
     (b"roles a b ; end\xff", 15),
     (b"roles a b ; end 9x", 16),
@@ -281,7 +281,7 @@ fn names_what_stands_behind_a_protocol(rt: HostRuntime) {
     have_faults(&rt, TextKind::Trailing, TRAILING);
 }
 
-// How many messages a chain has, what stands behind them, and the fault.
+// How many messages a chain has, what stands after them, and the fault.
 const CHAINS: &[(usize, &[u8], Option<Fault>)] = &[
     (63, b"end", None),
     (64, b"end", Some((TextKind::TooDeep, 972))),
@@ -299,7 +299,7 @@ fn keeps_the_limits(rt: HostRuntime) {
     has_fault(&rt, &blanks[1..], Some((TextKind::Unexpected, 65536)));
 }
 
-// The most messages behind each label.
+// The most messages after each label.
 const MOST: &[usize] = &[31, 31, 31, 31, 31, 31, 31, 30];
 
 // Too many nodes; node 257 at depth 65; and node 256 there.

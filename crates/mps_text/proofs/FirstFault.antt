@@ -52,7 +52,7 @@ driven_by front starts o =
     let same : p.before ≡ starts = same_front p.before starts p.behind o.later (drives_each whole front p.mid p.before p.first ∙ sym o.each) (sym p.parts ∙ o.nodes) in
     (p.mid, subst (Drives whole front p.mid) same p.first)
 
--- a token behind the front, where the stack stands
+-- a token after the front, where the stack stands
 pub record Behind (x : Symbol) (token : List ℕ) (starts later : List (Option ℕ)) : Type 0 where
   pub pushed : List Symbol
   pub steps : step x token ≡ Some pushed

@@ -92,7 +92,7 @@ Completes (Others level ∷ stack) tokens starts = BranchesOf level (codes ",") 
 
 -- ---- one token more
 
--- behind what was pushed
+-- after what was pushed
 popped : (stack pushed : List Symbol) (tokens : List (List ℕ)) (starts : List (Option ℕ)) (q : List Symbol) → q ≡ pushed → Completes (pushed ++ stack) tokens starts → Completes (q ++ stack) tokens starts
 popped stack pushed tokens starts q e c = subst (λ (p : List Symbol). Completes (p ++ stack) tokens starts) (sym e) c
 
@@ -245,7 +245,7 @@ one_token_more (Node level) stack pushed token tokens starts s c = more_node lev
 one_token_more (Exchange level) stack pushed token tokens starts s c = more_exchange level stack pushed token tokens starts (which (codes ":") (codes "{") token) refl s c
 one_token_more (Others level) stack pushed token tokens starts s c = more_others level stack pushed token tokens starts (which (codes ",") (codes "}") token) refl s c
 
--- what the tokens drive a stack to may come behind them
+-- what the tokens drive a stack to may come after them
 pub completes_behind : (stack : List Symbol) (front : List (List ℕ)) (mid : List Symbol) (starts : List (Option ℕ)) (back : List (List ℕ)) (later : List (Option ℕ)) → Drives stack front mid starts → Completes mid back later → Completes stack (front ++ back) (starts ++ later)
 completes_behind stack [] mid starts back later d c = rw (d.0, d.1) c
 completes_behind [] (token ∷ front) mid starts back later d c = absurd d

@@ -47,7 +47,7 @@ first_by : (c : ℕ) (cs : List ℕ) (b : Bool) → is_blank c ≡ b → first_i
 first_by c cs true e h = rw (e, h) refl
 first_by c cs false e h = rw e e
 
--- what stands behind the blanks begins with none
+-- what stands after the blanks begins with none
 pub unblanked_first : (bytes : List ℕ) → first_is is_blank (unblanked bytes) ≡ false
 unblanked_first [] = refl
 unblanked_first (c ∷ cs) = first_by c cs (is_blank c) refl (unblanked_first cs)
@@ -252,7 +252,7 @@ token_again token rest (inr word) = word_again token rest (is_small_word token) 
 pub token_some : (token rest : List ℕ) → IsTokenBefore token rest → 0 < length token
 token_some token rest h = (token_again token rest h).some
 
--- what stands behind the blanks
+-- what stands after the blanks
 pub begins_behind : (bytes token rest : List ℕ) → Begins bytes token rest → unblanked bytes ≡ token ++ rest
 begins_behind bytes token rest h =
     let a = token_again token rest h.found in

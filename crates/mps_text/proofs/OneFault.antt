@@ -101,7 +101,7 @@ spelled_runs text roles tree limits h =
 
 -- ---- one fault
 
--- a fault other than want of memory
+-- a fault other than out of memory
 abbrev Seen : List ℕ → ℕ → TextKind → Type 0
 Seen text at kind = ((65536 < length text) × (at ≡ 65536) × (kind ≡ TooLong)) ⊎ ((length text ≤ 65536) × FaultAt text at kind)
 

@@ -169,7 +169,7 @@ stuck_end x stack nodes bytes blank = stuck_at (x ∷ stack) nodes bytes bytes [
 stuck_word : (stack : List Symbol) (nodes : ℕ) (bytes : List ℕ) (left : ℕ) → Spoilt bytes left → Stuck stack nodes bytes (left, Word)
 stuck_word stack nodes bytes left s = stuck_at stack nodes bytes s.blanks s.here (left, Word) s.parts s.blank s.long s.wrong
 
--- behind a token
+-- after a token
 stuck_behind : (x : Symbol) (stack pushed : List Symbol) (token after bytes : List ℕ) (nodes more : ℕ) (fault : Fault) → step x token ≡ Some pushed → IsShallow (start_of x) → more + nodes_begun (start_of x ∷ []) ≡ nodes → Begins bytes token after → Stuck (pushed ++ stack) more after fault → Stuck (x ∷ stack) nodes bytes fault
 stuck_behind x stack pushed token after bytes nodes more fault s shallow count b w =
     let inner = w.count in

@@ -43,7 +43,7 @@ lexed_stop bytes left kind h = ap (lexed_by (lexed_in (length bytes))) h
 
 -- ---- no token is there
 
--- what bytes without a token begin with, behind blanks
+-- what bytes without a token begin with, after blanks
 pub record NoLexeme (bytes : List ℕ) (fault : Fault) : Type 0 where
   pub blanks : List ℕ
   pub blank : list_all is_blank blanks ≡ true

@@ -90,7 +90,7 @@ more_starts level label next second then others =
     ∙ ap (λ (st : List (Option ℕ)). st ++ branch_starts level more) (map-append (λ (part : Part). part.1) (node_parts level next) (inside (codes "," ∷ [])))
     ∙ append_assoc (node_starts level next) (None ∷ []) (branch_starts level more))
 
--- ---- with others behind
+-- ---- with others after
 
 abbrev mutual
   -- for each token of a global type the depth of the node that it begins, and then others
@@ -160,7 +160,7 @@ mutual
 
 -- ---- driven by a tree
 
--- behind the last branch the symbol is closed by `}`
+-- after the last branch the symbol is closed by `}`
 abbrev Closes : Symbol → Branches → Type 0
 Closes x NoMore = step x (codes "}") ≡ Some []
 Closes x (More label next others) = ⊤

@@ -55,11 +55,11 @@ branches_more label next (More second then others) left =
 
 -- ---- the whole
 
--- what stands behind one space or at the end
+-- what stands after one space or at the end
 abbrev IsSpacing : List ℕ → Type 0
 IsSpacing rest = first_is is_word_byte rest ≡ false
 
--- a token of a protocol is found where a space or the end stands behind it
+-- a token of a protocol is found where a space or the end stands after it
 abbrev IsToken : List ℕ → Type 0
 IsToken token = IsTrue (list_any (bytes_eq token) punctuation) ⊎ IsWord token
 

@@ -50,12 +50,12 @@ pub record IsMalformed (bytes : List ℕ) : Type 0 where
   pub no_blank : first_is is_blank bytes ≡ false
   pub no_token : (token rest : List ℕ) → Begins bytes token rest → ⊥
 
--- no protocol goes on with that token, or ends there, behind these tokens
+-- no protocol goes on with that token, or ends there, after these tokens
 abbrev pub IsUnexpected : List Part → Option (List ℕ) → Type 0
 IsUnexpected front None = ¬ IsWhole (tokens_of front)
 IsUnexpected front (Some token) = (¬ IsWhole (tokens_of front)) × ((start : Option ℕ) → ¬ Opens (front ++ (token, start) ∷ []))
 
--- what is wrong at these bytes behind the tokens
+-- what is wrong at these bytes after the tokens
 abbrev pub IsWrong : List Part → List ℕ → TextKind → Type 0
 IsWrong front bytes Word = IsMalformed bytes
 IsWrong front bytes Unexpected = (next : Option (List ℕ)) × Shows bytes next × IsUnexpected front next
@@ -66,7 +66,7 @@ IsWrong front bytes TooDeep =
 IsWrong front bytes Trailing = (token : List ℕ) × Shows bytes (Some token) × IsWhole (tokens_of front)
 IsWrong front bytes kind = ⊥
 
--- the tokens in front begin a protocol within the limits, and behind them something is wrong at that byte
+-- the tokens in front begin a protocol within the limits, and after them something is wrong at that byte
 pub record FaultAt (text : List ℕ) (at : ℕ) (kind : TextKind) : Type 0 where
   pub front : List Part
   pub rest : List ℕ
@@ -90,6 +90,6 @@ IsFirstFault text at kind = (length text ≤ 65536) × FaultAt text at kind
 abbrev pub HasProtocol : List ℕ → Type 0
 HasProtocol text = (roles : List (List ℕ)) × (tree : GlobalType) × IsWithinLimits text tree × SpellsText text roles tree
 
--- the text has a first fault other than want of memory
+-- the text has a first fault other than out of memory
 abbrev pub HasFault : List ℕ → Type 0
 HasFault text = (at : ℕ) × (kind : TextKind) × IsFirstFault text at kind × (kind ≢ Memory)

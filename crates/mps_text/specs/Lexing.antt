@@ -28,7 +28,7 @@ abbrev pub Gives : {X Y : Type 0} → (X → Y) → Result X Halt → Result Y F
 Gives view (Ok x) read = read ≡ Ok (view x)
 Gives view (Err e) read = Fails e read
 
--- the bytes behind the blanks in front
+-- the bytes after the blanks in front
 abbrev pub unblanked : List ℕ → List ℕ
 unblanked [] = []
 unblanked (c ∷ cs) = if is_blank c then unblanked cs else c ∷ cs

@@ -55,8 +55,8 @@ which this that token = if bytes_eq token this then Some true else (if bytes_eq 
 -- ---- a stack of what is to come
 
 -- what may come: a token, a name, a variable, a sort, some more roles and `;`, a global type whose
--- root has that depth, what stands behind the receiver of a message or a choice, and what stands
--- behind a branch
+-- root has that depth, what stands after the receiver of a message or a choice, and what stands
+-- after a branch
 pub data Symbol : Type 0 where
   Token : (token : List ℕ) → Symbol
   AName : Symbol
@@ -67,11 +67,11 @@ pub data Symbol : Type 0 where
   Exchange : (depth : ℕ) → Symbol
   Others : (depth : ℕ) → Symbol
 
--- a branch, and what stands behind it
+-- a branch, and what stands after it
 abbrev pub branch : ℕ → List Symbol
 branch depth = AName ∷ Token (codes ":") ∷ Node depth ∷ Others depth ∷ []
 
--- what stands behind the first token of a global type
+-- what stands after the first token of a global type
 abbrev pub behind_first : ℕ → First → List Symbol
 behind_first depth firsts.End = []
 behind_first depth firsts.Rec = AVariable ∷ Token (codes ".") ∷ Node (depth + 1) ∷ []
@@ -86,13 +86,13 @@ abbrev pub named : Option Sort → Option (List Symbol)
 named None = None
 named (Some sort) = Some []
 
--- behind `:` the sort, behind `{` a branch
+-- after `:` the sort, after `{` a branch
 abbrev pub exchanged : ℕ → Option Bool → Option (List Symbol)
 exchanged depth None = None
 exchanged depth (Some true) = Some (ASort ∷ Token (codes ".") ∷ Node depth ∷ [])
 exchanged depth (Some false) = Some (branch depth)
 
--- behind `,` a branch, behind `}` nothing
+-- after `,` a branch, after `}` nothing
 abbrev pub followed : ℕ → Option Bool → Option (List Symbol)
 followed depth None = None
 followed depth (Some true) = Some (branch depth)
@@ -128,7 +128,7 @@ abbrev pub pushed_by : ℕ → Option (List Symbol) → Result (List Symbol) Fau
 pushed_by left None = Err (left, Unexpected)
 pushed_by left (Some pushed) = Ok pushed
 
--- how many more nodes may begin behind a token
+-- how many more nodes may begin after a token
 abbrev pub counted : Option ℕ → ℕ → ℕ → Result ℕ Fault
 counted None nodes left = Ok nodes
 counted (Some depth) nodes left =
@@ -197,7 +197,7 @@ abbrev mutual
   branches_before sep NoMore rest = codes "}" ∷ rest
   branches_before sep (More label next others) rest = sep ∷ label ∷ codes ":" ∷ tokens_before next (branches_before (codes ",") others rest)
 
--- what stands behind the receiver, up to the sort and `.` or to `{`
+-- what stands after the receiver, up to the sort and `.` or to `{`
 abbrev pub exchange_tokens : Option Sort → List (List ℕ) → List (List ℕ)
 exchange_tokens None rest = codes "{" ∷ rest
 exchange_tokens (Some sort) rest = codes ":" ∷ sort_word sort ∷ codes "." ∷ rest
@@ -207,7 +207,7 @@ abbrev pub behind_exchange : ℕ → Option Sort → List Symbol
 behind_exchange depth None = branch depth
 behind_exchange depth (Some sort) = Node depth ∷ []
 
--- behind a branch
+-- after a branch
 abbrev pub separator : Bool → List ℕ
 separator true = codes ","
 separator false = codes "}"

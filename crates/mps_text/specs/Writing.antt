@@ -24,11 +24,11 @@ abbrev mutual
   branch_tokens (More label next NoMore) = label ∷ codes ":" ∷ global_tokens next
   branch_tokens (More label next others) = label ∷ codes ":" ∷ global_tokens next ++ codes "," ∷ branch_tokens others
 
--- the tokens behind `{`
+-- the tokens after `{`
 abbrev pub branches_tokens : Branches → List (List ℕ)
 branches_tokens branches = branch_tokens branches ++ codes "}" ∷ []
 
--- the tokens behind a branch
+-- the tokens after a branch
 abbrev pub others_tokens : Branches → List (List ℕ)
 others_tokens NoMore = codes "}" ∷ []
 others_tokens (More label next others) = codes "," ∷ branches_tokens (More label next others)

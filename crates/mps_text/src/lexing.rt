@@ -14,7 +14,7 @@ use mps_base::name::MAX_NAME;
 use mps_base::{Name, VarName};
 use std::alloc::{AllocError, AllocFailed};
 
-/// Why reading stopped: for want of memory, or at a fault with so many bytes left from it on.
+/// Why reading stopped: because memory ran out, or at a fault with so many bytes left from it on.
 #[derive(Clone, Copy, Debug)]
 pub(crate) enum Halt {
     Memory,
@@ -61,7 +61,7 @@ pub(crate) struct Cursor<'a> {
     pub(crate) nodes: usize,
 }
 
-/// The next token, behind which the cursor stands then.
+/// The next token, after which the cursor stands then.
 pub(crate) fn take<'a>(cursor: &mut Cursor<'a>) -> Result<Lexeme<'a>, Halt>
     ensures next { Takes result cursor.old cursor.new }
     ensures nodes { cursor.new.nodes ≡ cursor.old.nodes }
@@ -99,7 +99,7 @@ fn lexeme_of(bytes: &[u8]) -> Result<Lexeme<'_>, Halt>
     })
 }
 
-/// The bytes behind the blanks in front.
+/// The bytes after the blanks in front.
 pub(crate) fn unblanked(bytes: &[u8]) -> &[u8]
     ensures { result.now ≡ unblanked bytes.now }
 {

@@ -74,7 +74,7 @@ pub fn one_fault()
 {}
 
 /// Each text spells a protocol within the limits, or has a first fault: `TooLong` where it has more
-/// than 65,536 bytes, and otherwise one that it shows, never want of memory.
+/// than 65,536 bytes, and otherwise one that it shows, never out of memory.
 pub fn protocol_or_fault()
     ensures { (text : List ℕ) → HasProtocol text ⊎ HasFault text }
 {}
@@ -264,7 +264,7 @@ fn first_of(token: &[u8]) -> Option<First>
     }
 }
 
-// What stands behind the sender: the receiver, and a sort and `.`, or `{`.
+// What stands after the sender: the receiver, and a sort and `.`, or `{`.
 fn exchange_at(cursor: &mut Cursor<'_>) -> Result<(Name, Option<Sort>), Halt>
     ensures runs { (depth : ℕ) → Reads (Token (codes "->") ∷ AName ∷ Exchange depth ∷ [])
         (λ x. behind_exchange depth x.1) cursor.old cursor.new result }
@@ -279,7 +279,7 @@ fn exchange_at(cursor: &mut Cursor<'_>) -> Result<(Name, Option<Sort>), Halt>
     Ok((receiver, sort))
 }
 
-// What stands behind the receiver: `:`, a sort and `.`, or `{`.
+// What stands after the receiver: `:`, a sort and `.`, or `{`.
 fn payload_at(cursor: &mut Cursor<'_>) -> Result<Option<Sort>, Halt>
     ensures runs { (depth : ℕ) → Reads (Exchange depth ∷ []) (behind_exchange depth)
         cursor.old cursor.new result }
@@ -299,7 +299,7 @@ fn payload_at(cursor: &mut Cursor<'_>) -> Result<Option<Sort>, Halt>
     }
 }
 
-// Whether `,` and another branch stand behind a branch, and not `}`.
+// Whether `,` and another branch stand after a branch, and not `}`.
 #[tactic(auto, using(crate::proofs::Tokens::separator_is))]
 fn another_at(cursor: &mut Cursor<'_>) -> Result<bool, Halt>
     ensures runs { (depth : ℕ) → Reads (Others depth ∷ []) (behind_branch depth)
@@ -399,7 +399,7 @@ fn expect(cursor: &mut Cursor<'_>, token: &[u8]) -> Result<(), Halt>
     }
 }
 
-// Whether nothing but blanks is left, behind a whole protocol.
+// Whether nothing but blanks is left, after a whole protocol.
 fn ended(cursor: &Cursor<'_>) -> Result<(), Halt>
     ensures runs { Ends cursor.now result }
     ensures tokens { OnOk result (tokens_from cursor.now ≡ []) }

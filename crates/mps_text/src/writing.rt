@@ -52,7 +52,7 @@ fn write_names(names: &[Name], out: &mut Vec<u8>) -> Result<(), AllocError>
     Ok(())
 }
 
-// What is still to be written: a global type, the branches behind `{`, or those behind a branch.
+// What is still to be written: a global type, the branches after `{`, or those after a branch.
 #[derive(Clone, Copy)]
 enum Todo<'a> {
     Tree(&'a Global),
@@ -143,7 +143,7 @@ fn write_node<'a>(
     }
 }
 
-// The first branch behind `{`, or `}`.
+// The first branch after `{`, or `}`.
 #[tactic(auto, using(crate::proofs::Written::left_more, crate::proofs::Written::weight_more, crate::proofs::Written::branches_more))]
 fn write_branches<'a>(
     branches: &'a Branches,
@@ -173,7 +173,7 @@ fn write_branches<'a>(
     }
 }
 
-// The next branch behind another one, or `}`.
+// The next branch after another one, or `}`.
 fn write_others<'a>(
     branches: &'a Branches,
     waiting: &mut Vec<Todo<'a>>,

@@ -11,7 +11,7 @@ use Rattle.mps_wire.proofs.Answering.{GoesByFront, answered_more, answered_line}
 use Rattle.mps_wire.proofs.Bytes.{Appends-trans, Appends-none}
 use Rattle.mps_wire.proofs.Turning.{split_on}
 
--- the piece that came whole, behind no line that has begun
+-- the piece that came whole, after no line that has begun
 pub begun_none : (line piece : List ℕ) → length line ≡ 0 → begun_or line piece ≡ piece
 begun_none [] piece e = refl
 begun_none (c ∷ line) piece e = absurd (omega (arith, e))

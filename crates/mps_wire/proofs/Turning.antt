@@ -37,7 +37,7 @@ split_on (c ∷ more) bytes lines rest s =
     (next.0, next.1, subst (λ (b : List ℕ). IsSplit b (lines ++ next.0) next.1) (append_assoc bytes (c ∷ []) more) next.2))
     (cases_eq c 10)
 
--- a last line stands behind the whole ones
+-- a last line stands after the whole ones
 last_behind : (lines : List (List ℕ)) (rest : List ℕ) → lines ++ with_last [] rest ≡ with_last lines rest
 last_behind lines [] = append-nil lines
 last_behind lines (c ∷ rest) = refl
@@ -132,14 +132,14 @@ module _ {S : Type 0} (answers : Answering S) (start : S) where
       (subst (λ (x : S). Going answers start s s [] x) (sym f) (goes_first s))
 
   module _ (first old new : Streams) (at : Place S) (going : Going answers start first old at.kept at.state) where
-    -- the bytes of a read, behind those before
+    -- the bytes of a read, after those before
     read_on : (bytes : List ℕ) → Consumes old.left new.left bytes → Consumes first.left new.left (going.read ++ bytes)
     read_on bytes more = Consumes-trans first.left old.left new.left going.read bytes going.bytes more
 
     read_none : Consumes old.left new.left [] → Consumes first.left new.left going.read
     read_none none = subst (λ (b : List ℕ). Consumes first.left new.left b) (append-nil going.read) (read_on [] none)
 
-    -- the answers that were written, behind those before
+    -- the answers that were written, after those before
     sent_on : (more : List ℕ) → Appends old.taken new.taken more → Appends first.taken new.taken (going.out ++ more)
     sent_on more sent = Appends-trans first.taken old.taken new.taken going.out more going.sent sent
 

@@ -61,13 +61,13 @@ module _ {S : Type 0} (answers : Answering S) (start : S) where
     pub split : IsSplit bytes lines rest
     pub in_part : AnswersInPart (with_last lines rest) written
 
-  -- after these bytes too each whole line is answered: the answers to theirs wait behind the others
+  -- after these bytes too each whole line is answered: the answers to theirs wait after the others
   abbrev pub TakesBytes : List ℕ → Place S → Place S → Type 0
   TakesBytes bytes old new = (before out : List ℕ) → Answered before old.kept out old.state
       → (more : List ℕ) × (new.waiting ≡ old.waiting ++ more)
       × Answered (before ++ bytes) new.kept (out ++ more) new.state
 
-  -- at the end each line is answered: the answer to a rest waits behind the others
+  -- at the end each line is answered: the answer to a rest waits after the others
   abbrev pub TakesEnd : Place S → Place S → Type 0
   TakesEnd old new = (before out : List ℕ) → Answered before old.kept out old.state
       → (more : List ℕ) × (new.waiting ≡ old.waiting ++ more)

@@ -100,7 +100,7 @@ module _ {S : Type 0} (answers : Answering S) (start : S) (before after : Stream
   Ran (Err Memory) = BreaksOff answers start before before after 0
   Ran (Err (Open fault)) = ⊥
 
--- why a session with these types isn't opened; want of memory is no fault of opening
+-- why a session with these types isn't opened; out of memory is no fault of opening
 abbrev pub KeepsShut : List LocalType → OpenFault → Type 0
 KeepsShut types RoleCount = ¬ (HasRoleCount types)
 KeepsShut types (BadPeer role) = IsFirstBad types role

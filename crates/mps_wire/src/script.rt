@@ -66,7 +66,7 @@ impl From<OpenFault> for ReplayFault {
     }
 }
 
-/// Writes what others took back behind the other answers.
+/// Writes what others took back after the other answers.
 #[inline(never)]
 fn reply_with_news(
     room: &Room,
@@ -80,7 +80,7 @@ fn reply_with_news(
     write_answer(&room.tell_news(role, known), answers)
 }
 
-/// Writes how the session stands behind the other answers.
+/// Writes how the session stands after the other answers.
 #[inline(never)]
 fn reply_with_show(room: &Room, answers: &mut Vec<u8>) -> Result<(), AllocError>
     ensures { (role : ℕ) → OnOk result (IsAnswered room.now.names room.now.types room.now.journal role Show
@@ -89,7 +89,7 @@ fn reply_with_show(room: &Room, answers: &mut Vec<u8>) -> Result<(), AllocError>
     write_answer(&room.tell_show(), answers)
 }
 
-/// Gives the role's command to the room, and writes the answer behind the others. What is accepted is written as the
+/// Gives the role's command to the room, and writes the answer after the others. What is accepted is written as the
 /// journal keeps it. Questions are answered apart, so that no other line makes place for their answers.
 fn reply_to_command(
     room: &mut Room,
@@ -113,7 +113,7 @@ fn reply_to_command(
     }
 }
 
-/// Gives the command of a line to the room, if it has one, and writes the reply behind the others.
+/// Gives the command of a line to the room, if it has one, and writes the reply after the others.
 fn reply_to_line(
     alloc: Global,
     room: &mut Room,
@@ -140,7 +140,7 @@ fn reply_to_line(
     }
 }
 
-/// Answers a line, whose answer goes behind the others.
+/// Answers a line, whose answer goes after the others.
 #[inline(always)]
 fn answer_line(
     alloc: Global,

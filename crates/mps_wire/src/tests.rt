@@ -171,7 +171,7 @@ pub(crate) fn told_by(alloc: Global, rows: &[(&str, &str)], at: usize) -> Result
     Ok(told)
 }
 
-// The answer to the rest behind those lines, where the first so many bytes are a whole script.
+// The answer to the rest after those lines, where the first so many bytes are a whole script.
 fn told_of_rest(alloc: Global, rows: &[(&str, &str)], at: usize) -> Result<Vec<u8>, Fail> {
     let mut told = Vec::new(alloc);
     let mut left = at;
@@ -354,7 +354,7 @@ fn is_full_after_a_hundred_thousand_numbers(rt: HostRuntime) -> Result<(), Fail>
     Ok(())
 }
 
-// A line of so many bytes that is no command, and the line behind it, cut after 512 bytes.
+// A line of so many bytes that is no command, and the line after it, cut after 512 bytes.
 pub(crate) fn cut_long_line(
     alloc: Global,
     length: usize,

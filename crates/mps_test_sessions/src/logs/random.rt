@@ -69,7 +69,7 @@ fn last(steps: &[Plain], chain: Chain) -> Option<Key> {
     nth_key(steps, chain, count(steps, chain).checked_sub(1)?)
 }
 
-// The step of the chain right behind that of the key.
+// The step of the chain right after that of the key.
 fn after(steps: &[Plain], chain: Chain, key: Key) -> Option<Key> {
     let place = place_in(steps, chain, key)?;
     nth_key(steps, chain, place.checked_add(1)?)

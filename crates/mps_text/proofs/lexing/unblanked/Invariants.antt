@@ -2,7 +2,7 @@ use Rattle.std.proofs.Common.{◌≡◌, length}
 use Rattle.mps_text.specs.Lexing.{unblanked}
 use Rattle.mps_text.proofs.lexing.unblanked.Given as goal
 
--- what is left begins alike behind its blanks
+-- what is left begins alike after its blanks
 abbrev pub invariant-loop-rest : goal.invariant-loop-rest
 invariant-loop-rest l = unblanked l.rest ≡ unblanked l.bytes
 

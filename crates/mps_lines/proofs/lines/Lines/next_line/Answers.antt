@@ -26,7 +26,7 @@ returns-in_default-clause-others c =
     let none = none_waits (goal.at.returns-in_default-clause-others c).In_default in
     none ∙ ap (drop 1) (sym none)
 
--- the line is the first one, and behind it and its LF stands what is left
+-- the line is the first one, and after it and its LF stands what is left
 cut_now : (c : After-advance) → cut c.self.inside.bytes.items ≡ record { lines = take c.in-Some.k c.self.inside.bytes.items ∷ (cut c.advance.new.self.items).lines; rest = (cut c.advance.new.self.items).rest }
 cut_now c =
     let items = c.self.inside.bytes.items in

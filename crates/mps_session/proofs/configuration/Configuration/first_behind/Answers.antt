@@ -11,7 +11,7 @@ use Rattle.mps_session.proofs.Behind.{IsBack}
 use Rattle.mps_session.proofs.configuration.Configuration.first_behind.Goals as goal
 use Rattle.mps_session.proofs.configuration.Configuration.first_behind.Goals.{In-Some, After-get-step}
 
--- what comes behind the mark, by these entries
+-- what comes after the mark, by these entries
 abbrev first : List ℕ → ℕ → List Entry → Option (Option ℕ)
 first name p es = option_map first_number (since_mark name (steps_of p (steps es)))
 
