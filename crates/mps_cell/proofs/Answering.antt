@@ -5,6 +5,7 @@ use Rattle.atomic_table.specs.Seated.{TableId}
 use Rattle.mps_command.specs.declared.answer.Answer.{Answer}
 use Rattle.mps_command.specs.declared.answer.Answer.TheVariants.{Done, Undone, News, Shown, Refused}
 use Rattle.mps_command.specs.declared.command.Command.{Command}
+use Rattle.mps_machine.proofs.Answering.{from_ok}
 use Rattle.mps_room.specs.Callers.{entry}
 use Rattle.mps_room.specs.Journal.{is_accepted, grown, IsReply}
 use Rattle.mps_room.specs.Kept.{Record}
@@ -21,9 +22,8 @@ M = Me Record View
 
 -- an answer that accepts is the one that is wanted
 accepted_is : (a wanted : Answer) → IsReply a wanted → is_accepted a ≡ true → a ≡ wanted
-accepted_is a (Refused refusal) says done = says
-accepted_is (Done d) wanted says done = says
-accepted_is (Undone ids) wanted says done = says
+accepted_is (Done d) wanted says done = from_ok (Done d) wanted says
+accepted_is (Undone ids) wanted says done = from_ok (Undone ids) wanted says
 accepted_is (News n ids) wanted says done = absurd cc
 accepted_is (Shown text) wanted says done = absurd cc
 accepted_is (Refused refusal) wanted says done = absurd cc

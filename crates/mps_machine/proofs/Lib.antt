@@ -10,3 +10,4 @@ pub mod Unreceived
 pub mod TakingBack
 pub mod Marks
 pub mod Faults
+pub mod Answering

@@ -5,3 +5,4 @@ pub mod Machine
 pub mod Examples
 pub mod TakingBack
 pub mod Faults
+pub mod Answering

@@ -1,5 +1,5 @@
 -- What a room answers in a session of one protocol.
-use Rattle.std.proofs.Common.{◌≡◌, ◌≢◌, ℕ, Bool, true, false, List, [], ◌∷◌, length, sym, subst}
+use Rattle.std.proofs.Common.{◌≡◌, ◌≢◌, ℕ, Bool, true, false, List, [], ◌∷◌, length, sym, ap, subst}
 use Rattle.std.specs.Prelude.{nat_lt, if◌then◌else◌}
 use Rattle.mps_command.specs.declared.answer.Answer.{Answer}
 use Rattle.mps_command.specs.declared.answer.Answer.TheVariants.{Done, Undone, News as Told, Shown, Refused}
@@ -46,11 +46,11 @@ limited_other n (Shown text) other = full_other (Shown text) (nat_lt n most_entr
 
 -- a mismatch that is answered is the one that is wanted
 wanted_too : (wanted : Answer) → IsReply mismatch wanted → wanted ≡ mismatch
-wanted_too (Refused refusal) h = sym h
-wanted_too (Done done) h = sym h
-wanted_too (Undone ids) h = sym h
-wanted_too (Told length ids) h = sym h
-wanted_too (Shown text) h = sym h
+wanted_too (Refused refusal) h = let is : Violates Mismatch ≡ refusal = cc in ap Refused (sym is)
+wanted_too (Done done) h = absurd cc
+wanted_too (Undone ids) h = absurd cc
+wanted_too (Told length ids) h = absurd cc
+wanted_too (Shown text) h = absurd cc
 
 module _ (names : List (List ℕ)) (types : List LocalType) (own : AreOfOneProtocol types) where
   sound : (j : List Entry) → IsSound types (run types j)

@@ -1,7 +1,7 @@
 -- Numbered commands: a change that isn't refused is accepted, and what was accepted last is kept.
-use Rattle.std.proofs.Common.{◌≡◌, ◌≢◌, ℕ, true, List, Option, None, Some, Bool, false, length, refl, sym, ap, ◌∙◌, subst}
+use Rattle.std.proofs.Common.{◌≡◌, ◌≢◌, ℕ, true, List, Option, None, Some, Bool, false, length, refl, ap, ◌∙◌}
 use Rattle.std.specs.Prelude.{IsSome, Result, Ok, Err, if◌then◌else◌, nat_lt}
-use Rattle.mps_command.specs.Changes.{change_of, command_of}
+use Rattle.mps_command.specs.Changes.{change_of}
 use Rattle.mps_command.specs.declared.answer.Answer.{Answer}
 use Rattle.mps_command.specs.declared.answer.Answer.TheVariants.{Done, Undone, News, Shown, Refused}
 use Rattle.mps_command.specs.declared.answer.Done.{Done as Stepped}
@@ -13,6 +13,7 @@ use Rattle.mps_command.specs.Acts.{act_of}
 use Rattle.mps_command.specs.declared.command.Command.{Command}
 use Rattle.mps_local.specs.Local.{LocalType}
 use Rattle.mps_machine.specs.Machine.{State, serve, stepped, removed, forward, undo, rollback, back}
+use Rattle.mps_machine.proofs.Answering.{from_ok}
 use Rattle.mps_room.specs.Journal.{most_entries, run, limited, reply, is_accepted, IsReply}
 use Rattle.mps_room.specs.declared.entry.Entry.{Entry}
 use Rattle.mps_room.specs.Numbers.{last_of, kept_of}
@@ -20,7 +21,7 @@ use Rattle.mps_room.specs.declared.numbers.Numbered.{Numbered}
 use Rattle.mps_room.proofs.Growing.{asked, reply_to_change}
 
 -- the answer is of a change: a step, a list of steps taken back, or a refusal
-abbrev is_told : Answer → Bool
+abbrev pub is_told : Answer → Bool
 is_told (Done done) = true
 is_told (Undone ids) = true
 is_told (Refused refusal) = true
@@ -34,7 +35,7 @@ told_removal : (r : Result (List ℕ) Refusal) → is_told (removed r) ≡ true
 told_removal (Ok ids) = refl
 told_removal (Err refusal) = refl
 
-told_change : (types : List LocalType) (st : State) (p : ℕ) (change : Change) → is_told (serve types st p change).0 ≡ true
+pub told_change : (types : List LocalType) (st : State) (p : ℕ) (change : Change) → is_told (serve types st p change).0 ≡ true
 told_change types st p (Forward step) = told_step (forward types st p (act_of step)).0
 told_change types st p (Undo n) = told_removal (undo st p n).0
 told_change types st p (Rollback n) = told_removal (rollback st p n).0
@@ -57,11 +58,10 @@ told_reply names types j p c some =
     ap is_told (ap (reply names types j p) found.2 ∙ reply_to_change names types j p found.0) ∙ told_limited (length j) (serve types (run types j) p found.0).0 (told_change types (run types j) p found.0)
 
 by_reply : (a wanted : Answer) → IsReply a wanted → is_told wanted ≡ true → ((refusal : Refusal) → a ≡ Refused refusal → ⊥) → is_accepted a ≡ true
-by_reply a (Refused refusal) says t none = absurd (none refusal says)
 by_reply (Done d) wanted says t none = refl
 by_reply (Undone ids) wanted says t none = refl
-by_reply (News n ids) wanted says t none = absurd (let e : is_told (News n ids) ≡ true = ap is_told says ∙ t in cc)
-by_reply (Shown text) wanted says t none = absurd (let e : is_told (Shown text) ≡ true = ap is_told says ∙ t in cc)
+by_reply (News n ids) wanted says t none = absurd (let e : is_told (News n ids) ≡ true = ap is_told (from_ok (News n ids) wanted says) ∙ t in cc)
+by_reply (Shown text) wanted says t none = absurd (let e : is_told (Shown text) ≡ true = ap is_told (from_ok (Shown text) wanted says) ∙ t in cc)
 by_reply (Refused refusal) wanted says t none = absurd (none refusal refl)
 
 pub accepts_change : (names : List (List ℕ)) (types : List LocalType) (j : List Entry) (p : ℕ) (c : Command) (a : Answer) → IsSome (change_of c) → IsReply a (reply names types j p c) → ((refusal : Refusal) → a ≡ Refused refusal → ⊥) → is_accepted a ≡ true

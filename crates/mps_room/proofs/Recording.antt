@@ -8,8 +8,8 @@ use Rattle.mps_command.specs.declared.answer.Refusal.{Refusal}
 use Rattle.mps_command.specs.declared.command.Change.{Change}
 use Rattle.mps_command.specs.declared.command.Command.{Command}
 use Rattle.mps_local.specs.Local.{LocalType}
+use Rattle.mps_machine.specs.Answering.{IsChanged}
 use Rattle.mps_machine.specs.Machine.{State, serve}
-use Rattle.mps_session.specs.Answers.{IsAccepted}
 use Rattle.mps_session.specs.Seen.{Machine}
 use Rattle.mps_room.specs.Journal.{most_entries, run, is_accepted, grown, limited, reply, IsLegal, IsReply}
 use Rattle.mps_room.specs.Kept.{AreOwners, owners_after, IsRecorded}
@@ -66,7 +66,7 @@ module _ (names : List (List ℕ)) (m : Machine) (owners : List ℕ) (j : List E
 
 -- a refusal of the session is the room's
 module _ (names : List (List ℕ)) (m : Machine) (owners : List ℕ) (j : List Entry) (old : IsRecorded names m owners j) (p : ℕ) (change : Change) (command : Command) (asks : command ≡ command_of change) (space : length j < most_entries) where
-  pub refused_as : (new : State) (refusal : Refusal) → IsAccepted change (Err refusal) m.state new (serve m.types m.state p change) → IsReply (Refused refusal) (reply names m.types j p command)
+  pub refused_as : (new : State) (refusal : Refusal) → IsChanged m.types p change (Err refusal) m.state new → IsReply (Refused refusal) (reply names m.types j p command)
   refused_as new refusal h =
       subst (λ (w : Answer). IsReply (Refused refusal) w)
       (sym (ap (reply names m.types j p) asks ∙ growing.reply_to_change names m.types j p change ∙ ap (λ (st : State). limited (length j) (serve m.types st p change).0) (sym old.state)))

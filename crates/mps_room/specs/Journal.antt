@@ -10,7 +10,8 @@ use Rattle.mps_command.specs.declared.command.Command.{Command}
 use Rattle.mps_command.specs.declared.command.Command.TheVariants as commands
 use Rattle.mps_command.specs.declared.answer.Answer.{Answer}
 use Rattle.mps_command.specs.declared.answer.Answer.TheVariants.{Done, Undone, News, Shown, Refused}
-use Rattle.mps_command.specs.declared.answer.Refusal.TheVariants.{Full, Memory}
+use Rattle.mps_command.specs.declared.answer.Refusal.TheVariants.{Full}
+use Rattle.mps_machine.specs.Answering.{IsAnswer, result_of}
 use Rattle.mps_machine.specs.Machine.{State, initial, serve}
 use Rattle.mps_show.specs.Shown.{show_text}
 use Rattle.mps_room.specs.declared.entry.Entry.{Entry}
@@ -96,9 +97,7 @@ pub record IsLegal (names : List (List ℕ)) (types : List LocalType) (j : List 
 
 -- the answer is the one that is wanted, but memory may run out where that refuses nothing
 abbrev pub IsReply : Answer → Answer → Type 0
-IsReply answer (Refused refusal) = answer ≡ Refused refusal
-IsReply (Refused Memory) wanted = ⊤
-IsReply answer wanted = answer ≡ wanted
+IsReply answer wanted = IsAnswer (result_of answer) (result_of wanted)
 
 -- role p's command is accepted as is wanted, and joins the journal with its answer
 pub record HasEntered (names : List (List ℕ)) (types : List LocalType) (j : List Entry) (p : ℕ) (c : Command) (after : List Entry) : Type 0 where

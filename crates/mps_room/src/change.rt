@@ -1,5 +1,5 @@
 //! Changes of a room.
-ghost use Rattle.std.specs.Prelude.{◌≡◌, ◌+◌, [], ◌∷◌, ◌++◌, ◌<◌, ◌≤◌, length, vec_len, vec_capacity, IsSome, IfErr, OnOk, OnErr};
+ghost use Rattle.std.specs.Prelude.{◌≡◌, ◌+◌, [], ◌∷◌, ◌++◌, ◌<◌, ◌≤◌, length, vec_len, vec_capacity, is_some, IsSome, IfErr, IfOk, IfSome, OnOk, OnErr};
 ghost use Rattle.mps_command.specs.Changes.{change_of};
 ghost use Rattle.mps_command.specs.declared.answer.Answer.TheVariants.{Refused};
 ghost use Rattle.mps_room.specs.Journal.{grown, most_entries, reply, HasEntered, IsReply};
@@ -43,31 +43,44 @@ fn keep(journal: &mut Vec<Entry>, owners: &mut Vec<Role>, entry: Entry)
 }
 
 impl Room {
-    /// Does the change that the command asks for, or says why not.
+    /// Does the change that the command asks for, or says why not. What is accepted joins the journal with its answer,
+    /// which is told besides where that is asked for.
     #[inline(always)]
-    pub(crate) fn change(&mut self, role: Role, command: Command) -> Answer
+    pub(crate) fn change(
+        &mut self,
+        role: Role,
+        command: Command,
+        told: bool,
+    ) -> Result<Option<Answer>, Refusal>
         requires role { role < length self.old.types }
         requires change { IsSome (change_of command) }
-        ensures answer { IsReply result
-            (reply self.old.names self.old.types self.old.journal role command) }
-        ensures journal { self.new.journal ≡ grown self.old.journal role command result }
+        ensures entered { OnOk result (HasEntered self.old.names self.old.types self.old.journal role command
+            self.new.journal) }
+        ensures told { IfOk result (λ answer. is_some answer ≡ told) }
+        ensures answer { IfOk result (λ answer. IfSome answer (λ told. IsReply told
+            (reply self.old.names self.old.types self.old.journal role command))) }
+        ensures journal { IfOk result (λ answer. IfSome answer (λ told. self.new.journal
+            ≡ grown self.old.journal role command told)) }
+        ensures refused { IfErr result (λ refusal. IsReply (Refused refusal)
+            (reply self.old.names self.old.types self.old.journal role command)) }
+        ensures err { OnErr result (self.new.journal ≡ self.old.journal) }
         ensures names { self.new.names ≡ self.old.names }
         ensures types { self.new.types ≡ self.old.types }
     {
         if let Err(refusal) = make_room(&mut self.journal, &mut self.owners) {
-            return Answer::Refused(self.refused(role, &command, refusal));
+            return Err(self.refused(role, &command, refusal));
         }
-        match self.session.accept_twice(role, &command) {
-            Ok((told, answer)) => {
+        match self.session.accept(role, &command, told) {
+            Ok((answer, told)) => {
                 let entry = Entry {
                     role,
                     command,
                     answer,
                 };
                 keep(&mut self.journal, &mut self.owners, entry);
-                told
+                Ok(told)
             }
-            Err(refusal) => Answer::Refused(refusal),
+            Err(refusal) => Err(refusal),
         }
     }
 
@@ -85,21 +98,8 @@ impl Room {
         ensures names { self.new.names ≡ self.old.names }
         ensures types { self.new.types ≡ self.old.types }
     {
-        if let Err(refusal) = make_room(&mut self.journal, &mut self.owners) {
-            return Err(self.refused(role, &command, refusal));
-        }
-        match self.session.accept(role, &command) {
-            Ok(answer) => {
-                let entry = Entry {
-                    role,
-                    command,
-                    answer,
-                };
-                keep(&mut self.journal, &mut self.owners, entry);
-                Ok(())
-            }
-            Err(refusal) => Err(refusal),
-        }
+        self.change(role, command, false)?;
+        Ok(())
     }
 
     // The refusal of a change for which there is no room in the journal or no memory: the machine's, if it refuses, else

@@ -138,7 +138,10 @@ impl Room {
         match command {
             Command::News(known) => self.tell_news(role, known),
             Command::Show => self.tell_show(),
-            change => self.change(role, change),
+            change => match self.change(role, change, true) {
+                Ok(told) => told.unwrap(),
+                Err(refusal) => Answer::Refused(refusal),
+            },
         }
     }
 

@@ -17,7 +17,6 @@ pub mod Undoing
 pub mod Rolling
 pub mod Behind
 pub mod Told
-pub mod Served
 pub mod Accepted
 pub mod Runs
 pub mod Pasts

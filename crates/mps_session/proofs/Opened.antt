@@ -15,7 +15,7 @@ use Rattle.mps_machine.specs.View.{type_at}
 use Rattle.mps_fidelity.specs.Fidelity.{AreOfOneProtocol}
 use Rattle.mps_fidelity.proofs.Faithful.{type_is, opening_peers}
 use Rattle.mps_fidelity.proofs.Refusals.{sound_other}
-use Rattle.mps_session.specs.Answers.{IsAnswer}
+use Rattle.mps_machine.specs.Answering.{IsAnswer}
 use Rattle.mps_session.specs.Peers.{HasPeers, IsFirstBad, IsFirstFaulty, CanOpen}
 
 pub can_open : (types : List LocalType) → AreOfOneProtocol types → CanOpen types

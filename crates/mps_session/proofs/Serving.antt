@@ -23,7 +23,7 @@ use Rattle.mps_machine.specs.Violations.{act_fault, violation}
 use Rattle.mps_table.proofs.Standing.{node_stands}
 use Rattle.mps_table.specs.Graph.{IsNode}
 use Rattle.mps_table.specs.Standing.{StandsFor}
-use Rattle.mps_session.specs.Answers.{IsAnswer}
+use Rattle.mps_machine.specs.Answering.{IsAnswer}
 use Rattle.mps_session.specs.Configurations.{Configuration, cursor_of, state_of, moved_in, StandsAt, fault_in, LeadsTo, IsReady, HasActed, logged, done_in}
 use Rattle.mps_session.specs.Held.{Holds}
 use Rattle.mps_session.specs.Seen.{Machine}

@@ -4,7 +4,6 @@ pub mod Cursors
 pub mod Configurations
 pub mod Held
 pub mod Answers
-pub mod Forwarded
 pub mod Opening
 pub mod Protocols
 pub mod Leaving

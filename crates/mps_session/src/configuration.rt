@@ -1,5 +1,6 @@
 //! What a session keeps of its roles and its steps, and how an act changes it.
 ghost use Rattle.std.specs.Prelude.{◌≡◌, ◌+◌, ◌<◌, true, false, Some, None, vec_len, slice_set, IfOk, OnOk, OnErr, IfErr};
+ghost use Rattle.std.specs.Bool.{then_some};
 ghost use Rattle.std.specs.Option.{option_copied};
 ghost use Rattle.mps_base.specs.declared.action.Act.TheVariants.{Out, In, Mark};
 ghost use Rattle.mps_command.specs.Acts.{act_of};
@@ -233,7 +234,8 @@ impl Configuration {
     }
 }
 
-/// The message once more, where there is one.
+/// The message once more, where there is one. Its kinds are told apart here, and not by `Message::copy`: what that gives
+/// back would have a place of its own, which each receipt clears.
 #[inline(always)]
 pub(crate) fn once_more(
     alloc: Global,
@@ -242,7 +244,23 @@ pub(crate) fn once_more(
     ensures { IfOk result (λ copy. copy ≡ option_copied message.entry) }
 {
     match message {
-        Some(message) => Ok(Some(message.copy(alloc)?)),
+        Some(Message::Value(value)) => Ok(Some(Message::Value(value.copy(alloc)?))),
+        Some(Message::Label(label)) => Ok(Some(Message::Label(*label))),
         None => Ok(None),
     }
+}
+
+/// The same, where it is to be told again.
+#[inline(always)]
+pub(crate) fn once_more_again(
+    alloc: Global,
+    message: Option<&Message>,
+    again: bool,
+) -> Result<Option<Option<Message>>, AllocError>
+    ensures { IfOk result (λ copy. copy ≡ then_some again (option_copied message.entry)) }
+{
+    if !again {
+        return Ok(None);
+    }
+    Ok(Some(once_more(alloc, message)?))
 }

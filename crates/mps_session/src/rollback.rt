@@ -1,5 +1,6 @@
 //! Steps taken back with all that depend on them.
-ghost use Rattle.std.specs.Prelude.{◌≡◌, ◌+◌, ◌<◌, ◌≤◌, ◌++◌, [], List, reverse, length, Some, vec_len, vec_capacity, IsSome, IfOk, OnOk, OnErr};
+ghost use Rattle.std.specs.Prelude.{◌≡◌, ◌+◌, ◌<◌, ◌≤◌, ◌++◌, [], List, reverse, length, Some, is_some, vec_len, vec_capacity, IsSome, IfOk, IfSome, OnOk, OnErr, ⊤};
+ghost use Rattle.std.specs.Bool.{then_some};
 ghost use Rattle.std.specs.List.{AllByRecursion};
 ghost use Rattle.std.specs.Option.{option_map};
 ghost use Rattle.mps_history.specs.Steps.{numbers, step_of, steps_of, within, without};
@@ -7,10 +8,11 @@ ghost use Rattle.mps_history.specs.Dependence.{consequences};
 ghost use Rattle.mps_local.specs.Local.{LocalType};
 ghost use Rattle.mps_machine.specs.Machine as machine;
 ghost use Rattle.mps_machine.specs.Machine.{is_mark, since_mark};
+ghost use Rattle.mps_machine.specs.Answering.{IsAnswer, IsServed};
 ghost use Rattle.mps_machine.specs.Rule.{replay};
 ghost use Rattle.mps_arena.specs.Entries.{steps};
 ghost use Rattle.mps_links.specs.Marks.{marked_keys, marked_steps, unmarked_steps, AreMarksClosed};
-ghost use Rattle.mps_session.specs.Answers.{IsAnswer, first_number};
+ghost use Rattle.mps_session.specs.Answers.{first_number, once};
 ghost use Rattle.mps_session.specs.Configurations.{lists_of};
 ghost use Rattle.mps_session.specs.Held.{Holds};
 ghost use Rattle.mps_session.specs.Seen.{view_of};
@@ -21,7 +23,7 @@ use crate::session::Session;
 use mps_base::{Act, Name, Role, StepId};
 use mps_command::{Refusal, StepIds};
 use mps_links::newest_marked;
-use std::alloc::AllocError;
+use std::alloc::{AllocError, Global};
 
 // Whether the act is a mark of that name.
 fn is_mark(act: &Act, name: &Name) -> bool
@@ -33,17 +35,72 @@ fn is_mark(act: &Act, name: &Name) -> bool
     }
 }
 
+// Room for so many numbers, and once more where they are told again.
+fn room_for(
+    alloc: Global,
+    count: usize,
+    again: bool,
+) -> Result<(Vec<StepId>, Option<Vec<StepId>>), AllocError>
+    ensures none { IfOk result (λ room. vec_len room.0 ≡ 0) }
+    ensures first { IfOk result (λ room. room.0.items ≡ []) }
+    ensures first_room { IfOk result (λ room. count ≤ vec_capacity room.0) }
+    ensures again { IfOk result (λ room. is_some room.1 ≡ again) }
+    ensures empty_again { IfOk result (λ room. IfSome room.1 (λ more. more.items ≡ [])) }
+    ensures room_again { IfOk result (λ room. IfSome room.1 (λ more. count ≤ vec_capacity more)) }
+{
+    let first = Vec::with_capacity(alloc, count)?;
+    if !again {
+        return Ok((first, None));
+    }
+    let more = Vec::with_capacity(alloc, count)?;
+    Ok((first, Some(more)))
+}
+
+// The numbers, and once more in the room that there is for that.
+fn told(ids: Vec<StepId>, room: Option<Vec<StepId>>) -> (StepIds, Option<StepIds>)
+    requires empty { IfSome room (λ more. more.items ≡ []) }
+    requires space { IfSome room (λ more. vec_len ids ≤ vec_capacity more) }
+    ensures first { result.0 ≡ ids.items }
+    ensures again { result.1 ≡ then_some (is_some room) ids.items }
+{
+    let again = match room {
+        Some(mut more) => {
+            if more.extend_from_slice(&ids).is_err() {
+                unreachable!()
+            }
+            Some(StepIds::of(more))
+        }
+        None => None,
+    };
+    (StepIds::of(ids), again)
+}
+
+// No numbers, and once more where that is asked for.
+fn nothing(alloc: Global, again: bool) -> (StepIds, Option<StepIds>)
+    ensures first { result.0 ≡ [] }
+    ensures again { result.1 ≡ then_some again [] }
+{
+    let more = if again { Some(Vec::new(alloc)) } else { None };
+    told(Vec::new(alloc), more)
+}
+
 impl Configuration {
-    /// Takes the step of that number out, and all that depend on it, the newest first, and tells their numbers.
-    /// Nothing is changed where memory runs out.
-    pub(crate) fn roll_back(&mut self, id: StepId) -> Result<StepIds, AllocError>
+    /// Takes the step of that number out, and all that depend on it, the newest first, and tells their numbers, and
+    /// once more where that is asked for. Nothing is changed where memory runs out.
+    #[inline(never)]
+    pub(crate) fn roll_back(
+        &mut self,
+        id: StepId,
+        again: bool,
+    ) -> Result<(StepIds, Option<StepIds>), AllocError>
         requires present { IsSome (step_of (steps (lists_of self.old).entries) id) }
         requires unmarked { marked_keys (lists_of self.old).entries ≡ [] }
         requires members { AllByRecursion
             (λ e. e.step.role < length (lists_of self.old).cursors) (lists_of self.old).entries }
-        ensures numbers { IfOk result (λ ids. ids ≡ reverse (numbers
+        ensures numbers { IfOk result (λ ids. ids.0 ≡ reverse (numbers
             (within (steps (lists_of self.old).entries)
             (consequences (steps (lists_of self.old).entries) id)))) }
+        ensures again { IfOk result (λ ids. ids.1 ≡ then_some again ids.0) }
         ensures history { OnOk result (steps (lists_of self.new).entries
             ≡ without (steps (lists_of self.old).entries)
             (consequences (steps (lists_of self.old).entries) id)) }
@@ -54,10 +111,10 @@ impl Configuration {
         ensures err { OnErr result (lists_of self.new ≡ lists_of self.old) }
     {
         let count = self.log.mark_from(id);
-        match Vec::with_capacity(self.alloc, count) {
-            Ok(mut ids) => {
+        match room_for(self.alloc, count, again) {
+            Ok((mut ids, room)) => {
                 self.take_marked(&mut ids);
-                Ok(StepIds::of(ids))
+                Ok(told(ids, room))
             }
             Err(error) => {
                 self.log.unmark();
@@ -128,8 +185,29 @@ impl Session {
             ≡ Some (view_of self.old)) }
         ensures err { OnErr result (self.new.state ≡ self.old.state) }
     {
+        let (ids, _) = self.roll_back(role, id, false)?;
+        Ok(ids)
+    }
+
+    /// Takes back what `rollback` does, and tells the numbers once more where that is asked for.
+    #[inline(always)]
+    pub(crate) fn roll_back(
+        &mut self,
+        role: Role,
+        id: StepId,
+        again: bool,
+    ) -> Result<(StepIds, Option<StepIds>), Refusal>
+        requires { role < length self.old.types }
+        ensures served { IsServed ⊤ (once result) self.old.state self.new.state
+            (machine.rollback self.old.state role id) }
+        ensures again { IfOk result (λ ids. ids.1 ≡ then_some again ids.0) }
+        ensures types { self.new.types ≡ self.old.types }
+        ensures back { OnOk result (replay (view_of self.new)
+            (within self.old.state.history (consequences self.old.state.history id))
+            ≡ Some (view_of self.old)) }
+    {
         self.configuration.own_step(role, id)?;
-        Ok(self.configuration.roll_back(id)?)
+        Ok(self.configuration.roll_back(id, again)?)
     }
 
     /// Takes the role back to its last mark of the name: its first step after the mark is taken back, and all that
@@ -145,10 +223,30 @@ impl Session {
             (within self.old.state.history (told ids)) ≡ Some (view_of self.old)) }
         ensures err { OnErr result (self.new.state ≡ self.old.state) }
     {
+        let (ids, _) = self.go_back(role, name, false)?;
+        Ok(ids)
+    }
+
+    /// Takes back what `back` does, and tells the numbers once more where that is asked for.
+    #[inline(always)]
+    pub(crate) fn go_back(
+        &mut self,
+        role: Role,
+        name: &Name,
+        again: bool,
+    ) -> Result<(StepIds, Option<StepIds>), Refusal>
+        requires { role < length self.old.types }
+        ensures served { IsServed ⊤ (once result) self.old.state self.new.state
+            (machine.back self.old.state role name.now) }
+        ensures again { IfOk result (λ ids. ids.1 ≡ then_some again ids.0) }
+        ensures types { self.new.types ≡ self.old.types }
+        ensures back { IfOk result (λ ids. replay (view_of self.new)
+            (within self.old.state.history (told ids.0)) ≡ Some (view_of self.old)) }
+    {
         match self.configuration.first_behind(role, name) {
             None => Err(Refusal::NoMark),
-            Some(None) => Ok(StepIds::of(Vec::new(self.configuration.alloc))),
-            Some(Some(id)) => Ok(self.configuration.roll_back(id)?),
+            Some(None) => Ok(nothing(self.configuration.alloc, again)),
+            Some(Some(id)) => Ok(self.configuration.roll_back(id, again)?),
         }
     }
 }

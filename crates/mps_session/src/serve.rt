@@ -1,41 +1,36 @@
 //! Commands of all kinds.
 ghost use Rattle.std.specs.Prelude.{◌≡◌, ◌<◌, length};
-ghost use Rattle.mps_machine.specs.Machine as machine;
-ghost use Rattle.mps_session.specs.Answers.{IsServed};
+ghost use Rattle.mps_command.specs.Changes.{command_of};
+ghost use Rattle.mps_machine.specs.Answering.{IsChanged, result_of};
 
 use crate::session::Session;
 use mps_base::Role;
-use mps_command::{Answer, Change, Refusal, StepIds};
+use mps_command::{Answer, Change, Command, Refusal};
 
-// The answer of a command that takes steps back.
-fn undone(taken: Result<StepIds, Refusal>) -> Answer
-    ensures { result ≡ machine.removed taken }
+// The command that asks for the change.
+fn command_of(change: Change) -> Command
+    ensures { result ≡ command_of change }
 {
-    match taken {
-        Ok(ids) => Answer::Undone(ids),
-        Err(refusal) => Answer::Refused(refusal),
+    match change {
+        Change::Forward(step) => Command::Forward(step),
+        Change::Undo(id) => Command::Undo(id),
+        Change::Rollback(id) => Command::Rollback(id),
+        Change::Back(name) => Command::Back(name),
     }
 }
 
 impl Session {
-    /// Answers a command of the role. A single undo is answered like a rollback of one step. A refusal changes nothing.
+    /// Answers a command of the role, as `accept` does. A single undo is answered like a rollback of one step. A refusal
+    /// changes nothing.
     pub fn serve(&mut self, role: Role, command: Change) -> Answer
         requires { role < length self.old.types }
-        ensures served { IsServed command result self.old.state self.new.state
-            (machine.serve self.old.types self.old.state role command) }
+        ensures served { IsChanged self.old.types role command (result_of result)
+            self.old.state self.new.state }
         ensures types { self.new.types ≡ self.old.types }
     {
-        match command {
-            Change::Forward(step) => match self.forward(role, step) {
-                Ok(done) => Answer::Done(done),
-                Err(refusal) => Answer::Refused(refusal),
-            },
-            Change::Undo(id) => match self.undo(role, id) {
-                Ok(()) => Answer::Undone(StepIds::one(id)),
-                Err(refusal) => Answer::Refused(refusal),
-            },
-            Change::Rollback(id) => undone(self.rollback(role, id)),
-            Change::Back(name) => undone(self.back(role, &name)),
+        match self.accept(role, &command_of(command), false) {
+            Ok((answer, _)) => answer,
+            Err(refusal) => Answer::Refused(refusal),
         }
     }
 }

@@ -1,6 +1,7 @@
 //! The session.
-ghost use Rattle.std.specs.Prelude.{◌≡◌, ◌≢◌, ◌↔◌, ◌+◌, ◌<◌, ◌≤◌, ℕ, true, false, length, map, IfOk, IsErrOf, OnOk, OnErr, Err, slice_get, [], ◌∷◌, Ok};
+ghost use Rattle.std.specs.Prelude.{◌≡◌, ◌≢◌, ◌↔◌, ◌+◌, ◌<◌, ◌≤◌, ℕ, Bool, true, false, length, map, IfOk, IsErrOf, OnOk, OnErr, Err, slice_get, [], ◌∷◌, Ok, ⊤};
 ghost use Rattle.std.specs.List.{AllByRecursion};
+ghost use Rattle.std.specs.Bool.{then_some};
 ghost use Rattle.std.specs.Option.{option_copied, option_map};
 ghost use Rattle.mps_base.specs.RoleLists.{HasRoleCount};
 ghost use Rattle.mps_command.specs.Acts.{act_of};
@@ -10,16 +11,16 @@ ghost use Rattle.mps_fidelity.specs.Fidelity.{AreOfOneProtocol};
 ghost use Rattle.mps_local.specs.Actions.{head};
 ghost use Rattle.mps_local.specs.Local.{plain};
 ghost use Rattle.mps_local.specs.declared.faults.LocalFault.{LocalFault};
+ghost use Rattle.mps_machine.specs.Answering.{IsAnswer, IsServed};
 ghost use Rattle.mps_machine.specs.Machine as machine;
 ghost use Rattle.mps_history.specs.Slots.{value_in};
-ghost use Rattle.mps_session.specs.Answers.{IsAnswer, as_step};
+ghost use Rattle.mps_session.specs.Answers.{as_step, once};
 ghost use Rattle.mps_session.specs.Configurations.{takes_message};
-ghost use Rattle.mps_session.specs.Forwarded.{IsForwarded};
 ghost use Rattle.mps_session.specs.Peers.{IsFirstBad, IsFirstFaulty, CanOpen, IsKnown, IsHeadKnown};
 ghost use Rattle.mps_session.specs.Seen.{view_of, moves_of};
 ghost use Rattle.mps_table.specs.Expects.{head_of};
 
-use crate::configuration::{Configuration, once_more};
+use crate::configuration::{Configuration, once_more, once_more_again};
 use crate::open::{OpenFault, first_bad_peer, first_bad_peer_of_any_size, first_faulty, opening};
 use mps_base::{Act, MAX_ROLES, MIN_ROLES, Message, Name, Role, Sort, Step, StepId, Value};
 use mps_command::{Done, Forward, Refusal};
@@ -56,6 +57,20 @@ impl Model for Session {
     ghost view = { λ s. record { types = map plain s.types.items; state = state_of (lists_of s.configuration) } };
 
     ghost invariant = { λ s. IsAtRest (map plain s.types.items) (lists_of s.configuration) };
+}
+
+// The new step with the message that it took, and once more with the copy that there is for that.
+#[inline(always)]
+fn told(id: StepId, got: Option<Message>, more: Option<Option<Message>>) -> (Done, Option<Done>)
+    ensures first { result.0 ≡ record { id = id; got = got } }
+    ensures again { (again : Bool) → more ≡ then_some again got
+        → result.1 ≡ then_some again result.0 }
+{
+    let more = match more {
+        Some(got) => Some(Done { id, got }),
+        None => None,
+    };
+    (Done { id, got }, more)
 }
 
 impl Session {
@@ -109,48 +124,78 @@ impl Session {
             ≡ (Ok (done.id ∷ []), record self.old.state { next = self.old.state.next + 1 })) }
         ensures err { OnErr result (self.new.state ≡ self.old.state) }
     {
-        self.take(role, &command)
+        let _ = &self.types;
+        let (done, _) = self.take(role, &command, false)?;
+        Ok(done)
     }
 
-    /// Takes a step of the role, as `forward` does.
+    /// Takes a step of the role, as `forward` does, and tells the answer, and once more where that is asked for.
     #[inline(always)]
-    pub(crate) fn take(&mut self, role: Role, command: &Forward) -> Result<Done, Refusal>
+    pub(crate) fn take(
+        &mut self,
+        role: Role,
+        command: &Forward,
+        again: bool,
+    ) -> Result<(Done, Option<Done>), Refusal>
         requires { role < length self.old.types }
-        ensures { IsForwarded self.old self.new role command.now result }
+        ensures served { IsServed ⊤ (once result) self.old.state self.new.state
+            (machine.forward self.old.types self.old.state role (act_of command.now)) }
+        ensures again { IfOk result (λ done. done.1 ≡ then_some again done.0) }
+        ensures types { self.new.types ≡ self.old.types }
     {
         match command {
-            Forward::Receive { .. } | Forward::Pick { .. } => self.take_message(role, command),
+            Forward::Receive { .. } | Forward::Pick { .. } => {
+                self.take_message(role, command, again)
+            }
             Forward::Send { .. } | Forward::Choose { .. } | Forward::Mark { .. } => {
-                self.give(role, command)
+                self.give(role, command, again)
             }
         }
     }
 
-    // Takes the step of a receipt or a pick.
+    // Takes the step of a receipt or a pick. What waits is looked up once, for the verdict and for each copy.
     #[inline(always)]
-    fn take_message(&mut self, role: Role, command: &Forward) -> Result<Done, Refusal>
+    fn take_message(
+        &mut self,
+        role: Role,
+        command: &Forward,
+        again: bool,
+    ) -> Result<(Done, Option<Done>), Refusal>
         requires role { role < length self.old.types }
         requires takes { takes_message command.now ≡ true }
-        ensures { IsForwarded self.old self.new role command.now result }
+        ensures served { IsServed ⊤ (once result) self.old.state self.new.state
+            (machine.forward self.old.types self.old.state role (act_of command.now)) }
+        ensures again { IfOk result (λ done. done.1 ≡ then_some again done.0) }
+        ensures types { self.new.types ≡ self.old.types }
     {
         let kept = &self.configuration;
         let first = kept.first_for(role, command);
         let node = kept.allowed(role, command, first)?;
         let got = once_more(kept.alloc, first)?;
+        let more = once_more_again(kept.alloc, first, again)?;
         let id = self.configuration.take(role, command, node)?;
-        Ok(Done { id, got })
+        Ok(told(id, got, more))
     }
 
     // Takes the step of a send, a choice or a mark, with which no message comes.
     #[inline(always)]
-    fn give(&mut self, role: Role, command: &Forward) -> Result<Done, Refusal>
+    fn give(
+        &mut self,
+        role: Role,
+        command: &Forward,
+        again: bool,
+    ) -> Result<(Done, Option<Done>), Refusal>
         requires role { role < length self.old.types }
         requires gives { takes_message command.now ≡ false }
-        ensures { IsForwarded self.old self.new role command.now result }
+        ensures served { IsServed ⊤ (once result) self.old.state self.new.state
+            (machine.forward self.old.types self.old.state role (act_of command.now)) }
+        ensures again { IfOk result (λ done. done.1 ≡ then_some again done.0) }
+        ensures types { self.new.types ≡ self.old.types }
     {
         let node = self.configuration.allowed(role, command, None)?;
         let id = self.configuration.give(role, command, node)?;
-        Ok(Done { id, got: None })
+        let more = if again { Some(None) } else { None };
+        Ok(told(id, None, more))
     }
 
     /// What the role may do first; labels in the order of the branches. A mark it may leave always.

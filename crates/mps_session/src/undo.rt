@@ -1,5 +1,6 @@
 //! Steps taken back.
 ghost use Rattle.std.specs.Prelude.{◌≡◌, ◌==◌, ◌+◌, ◌<◌, Some, None, length, vec_len, slice_set, IfOk, IfErr, IfSome, OnOk, OnErr};
+ghost use Rattle.std.specs.Bool.{then_some};
 ghost use Rattle.std.specs.List.{find};
 ghost use Rattle.std.specs.Option.{option_map};
 ghost use Rattle.mps_base.specs.declared.action.Step.{Step};
@@ -7,10 +8,11 @@ ghost use Rattle.mps_command.specs.Acts.{act_of};
 ghost use Rattle.mps_history.specs.Steps.{step_of};
 ghost use Rattle.mps_machine.specs.Machine as machine;
 ghost use Rattle.mps_machine.specs.Machine.{owner_fault};
+ghost use Rattle.mps_machine.specs.Answering.{IsServed};
 ghost use Rattle.mps_machine.specs.Rule.{rule};
 ghost use Rattle.mps_arena.specs.Entries.{steps, entry_at};
 ghost use Rattle.mps_arena.specs.Sources.{CanGo};
-ghost use Rattle.mps_session.specs.Answers.{IsAnswer, undo_answer};
+ghost use Rattle.mps_session.specs.Answers.{once, undo_answer};
 ghost use Rattle.mps_session.specs.Configurations.{lists_of, cursor_of};
 ghost use Rattle.mps_session.specs.Cursors.{went};
 ghost use Rattle.mps_session.specs.Leaving.{HasLeft};
@@ -20,7 +22,7 @@ use crate::configuration::Configuration;
 use crate::session::Session;
 use mps_arena::Key;
 use mps_base::{Role, StepId};
-use mps_command::{Done, Forward, Refusal};
+use mps_command::{Done, Forward, Refusal, StepIds};
 use mps_links::least_dependent;
 use mps_table::Node;
 
@@ -84,5 +86,24 @@ impl Session {
         }
         self.configuration.take_out(key);
         Ok(())
+    }
+
+    /// Takes back what `undo` does, and tells its number, and once more where that is asked for.
+    #[inline(always)]
+    pub(crate) fn take_back(
+        &mut self,
+        role: Role,
+        id: StepId,
+        again: bool,
+    ) -> Result<(StepIds, Option<StepIds>), Refusal>
+        requires { role < length self.old.types }
+        ensures served { IsServed ⊥ (once result) self.old.state self.new.state
+            (machine.undo self.old.state role id) }
+        ensures again { IfOk result (λ ids. ids.1 ≡ then_some again ids.0) }
+        ensures types { self.new.types ≡ self.old.types }
+    {
+        self.undo(role, id)?;
+        let more = if again { Some(StepIds::one(id)) } else { None };
+        Ok((StepIds::one(id), more))
     }
 }

@@ -1,19 +1,22 @@
 use Rattle.std.proofs.Common.{◌≡◌, ◌++◌, ◌<◌, ℕ, Bool, List, length, map, sym, ap, ◌∙◌, subst, arith}
 use mathlib.Core.Path.{ap₂}
 use Rattle.std.specs.Prelude.{reverse}
+use Rattle.std.proofs.lemmas.Option.{IfSome_then}
 use Rattle.std.specs.List.{AllByRecursion}
 use Rattle.mps_base.specs.declared.action.Step.{Step}
 use Rattle.mps_history.specs.Dependence.{consequences}
-use Rattle.mps_history.specs.Steps.{numbers}
+use Rattle.mps_history.specs.Steps.{numbers, within}
 use Rattle.mps_arena.specs.Entries.{Entry, steps}
 use Rattle.mps_links.specs.Marks.{marked_keys, marked_steps, unmarked_steps, unmarked}
 use Rattle.mps_links.proofs.Going.{unmarked_left, marked_count, marked_within}
 use Rattle.mps_log.proofs.Remarked.{all_again}
 use Rattle.mps_session.specs.Configurations.{Configuration, lists_of}
 use Rattle.mps_session.specs.Held.{Holds}
+use Rattle.std.proofs.lemmas.List.{length-reverse}
+use Rattle.mps_session.proofs.Types.{length_map}
 use Rattle.mps_session.proofs.Rolling as rolling
 use Rattle.mps_session.proofs.configuration.Configuration.roll_back.Goals as goal
-use Rattle.mps_session.proofs.configuration.Configuration.roll_back.Goals.{After-mark_from-count, After-unmark}
+use Rattle.mps_session.proofs.configuration.Configuration.roll_back.Goals.{After-mark_from-count, After-take_marked, After-unmark}
 
 -- what is marked
 abbrev set : After-mark_from-count → ℕ → Bool
@@ -32,14 +35,24 @@ pub take_marked-requires-clause-room : goal.take_marked-requires-clause-room
 take_marked-requires-clause-room c =
     let k = (goal.at.take_marked-requires-clause-room c).After-mark_from-count in
     let marked = ap (λ (l : List Entry). length (marked_keys l)) c.mark_from-count.ensures.marks ∙ marked_count c.args.self.now.log.entries (set k) in
-    omega (arith, marked, c.mark_from-count.ensures.count, c.in-Ok.ensures.len, c.in-Ok.ensures.exact)
+    omega (arith, marked, c.mark_from-count.ensures.count, c.in-Ok.ensures.none, c.in-Ok.ensures.first_room)
+
+-- the numbers that were told
+all : (c : After-take_marked) → c.take_marked.new.ids.items ≡ reverse (numbers (within (steps c.args.self.now.log.entries) (consequences (steps c.args.self.now.log.entries) c.args.id)))
+all c =
+    c.take_marked.ensures.numbers
+    ∙ ap₂ (λ (ids : List ℕ) (h : List Step). ids ++ reverse (numbers h)) c.in-Ok.ensures.first
+    (ap marked_steps c.mark_from-count.ensures.marks ∙ marked_within c.args.self.now.log.entries (consequences (steps c.args.self.now.log.entries) c.args.id))
+
+pub told-requires-clause-space : goal.told-requires-clause-space
+told-requires-clause-space c =
+    let k = (goal.at.told-requires-clause-space c).After-take_marked in
+    let gone = within (steps c.args.self.now.log.entries) (consequences (steps c.args.self.now.log.entries) c.args.id) in
+    let long = ap (λ (l : List ℕ). length l) (all k) ∙ length-reverse (numbers gone) ∙ length_map (λ (s : Step). s.id) gone in
+    IfSome_then c.in-Ok.room c.in-Ok.ensures.room_again (λ more fits. omega (arith, fits, long, c.take_marked.new.ids.ok.0, c.mark_from-count.ensures.count))
 
 pub returns-in-Ok-clause-numbers : goal.returns-in-Ok-clause-numbers
-returns-in-Ok-clause-numbers c =
-    let k = (goal.at.returns-in-Ok-clause-numbers c).After-mark_from-count in
-    c.of.ensures ∙ c.take_marked.ensures.numbers
-    ∙ ap₂ (λ (ids : List ℕ) (h : List Step). ids ++ reverse (numbers h)) c.in-Ok.ensures.items
-    (ap marked_steps c.mark_from-count.ensures.marks ∙ marked_within c.args.self.now.log.entries (set k))
+returns-in-Ok-clause-numbers c = c.told.ensures.first ∙ all ((goal.at.returns-in-Ok-clause-numbers c).After-take_marked)
 
 pub returns-in-Ok-clause-history : goal.returns-in-Ok-clause-history
 returns-in-Ok-clause-history c =

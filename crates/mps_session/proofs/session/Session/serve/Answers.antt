@@ -1,11 +1,23 @@
-use Rattle.std.proofs.Common.{refl}
-use Rattle.mps_command.specs.Acts.{act_of}
-use Rattle.mps_machine.specs.Machine.{stepped, forward}
-use Rattle.mps_session.proofs.Served.{forward_keeps, refused}
+use Rattle.std.proofs.Common.{◌≡◌, Some, Result, refl, sym, ap, ◌∙◌, subst}
+use Rattle.mps_command.specs.Changes.{change_of, command_of}
+use Rattle.mps_command.specs.declared.answer.Answer.{Answer}
+use Rattle.mps_command.specs.declared.answer.Refusal.{Refusal}
+use Rattle.mps_command.specs.declared.command.Change.{Change}
+use Rattle.mps_command.specs.declared.command.Change.TheVariants.{Forward, Undo, Rollback, Back}
+use Rattle.mps_machine.specs.Answering.{IsChanged}
+use Rattle.mps_machine.specs.Machine.{serve}
+use Rattle.mps_session.proofs.Accepted.{no_refusal}
 use Rattle.mps_session.proofs.session.Session.serve.Goals as goal
 
-pub returns-in-Err-clause-served : goal.returns-in-Err-clause-served
-returns-in-Err-clause-served c =
+asked : (change : Change) → change_of (command_of change) ≡ Some change
+asked (Forward step) = refl
+asked (Undo id) = refl
+asked (Rollback id) = refl
+asked (Back name) = refl
+
+pub returns-in-Ok-clause-served : goal.returns-in-Ok-clause-served
+returns-in-Ok-clause-served c =
     let m = c.args.self.now in
-    rw c.in-Forward.is
-    (refused stepped (λ e. refl) (λ a. tt) c.args.command (rw c.in-Forward.is tt) m.state c.forward.new.self.state (forward m.types m.state c.args.role (act_of c.in-Forward.step)) (forward_keeps m.types m.state c.args.role (act_of c.in-Forward.step)) c.in-Err.refusal c.in-Err.ensures.answer c.in-Err.ensures.err)
+    let is = c.in-Ok.ensures.accepted c.args.command (ap change_of c.command_of.ensures ∙ asked c.args.command) in
+    subst (λ (r : Result Answer Refusal). IsChanged m.types c.args.role c.args.command r m.state c.accept.new.self.state)
+    (sym (no_refusal c.in-Ok.answer (serve m.types m.state c.args.role c.args.command).0 is.answer)) is

@@ -2,11 +2,11 @@ use Rattle.std.proofs.Common.{List, [], ◌∷◌, ◌++◌, length, ap, sym, su
 use Rattle.std.specs.Vec.Iter.{into_iter_items}
 use Rattle.mps_command.specs.declared.answer.Answer.{Answer}
 use Rattle.mps_local.specs.Local.{LocalType}
-use Rattle.mps_machine.specs.Machine.{Request, IsSound, serve}
+use Rattle.mps_machine.specs.Machine.{Request, IsSound}
 use Rattle.mps_machine.proofs.Sound.{serve_sound}
 use Rattle.mps_machine.proofs.TakingBack.{undoes_steps, refuses_needed, takes_futures}
 use Rattle.mps_machine.proofs.Marks.{returns_to_marks}
-use Rattle.mps_session.specs.Answers.{IsServed}
+use Rattle.mps_machine.specs.Answering.{IsChanged, result_of}
 use Rattle.mps_session.specs.Runs.{AreServed}
 use Rattle.mps_session.specs.Seen.{Machine}
 use Rattle.mps_session.proofs.Runs.{one_more, as_many, still_sound}
@@ -29,9 +29,9 @@ pub returns-in_err-answers-clause-returned : goal.returns-in_err-answers-clause-
 returns-in_err-answers-clause-returned c = returns_to_marks c.args.self.now.types c.args.self.now.state (sound ((goal.at.returns-in_err-answers-clause-returned c).After-drop-requests))
 
 -- the request is served as the machine serves it
-served : (c : After-push_reserved) → IsServed c.in-Some.command c.serve.result c.loop-role.self.state c.serve.new.self.state (serve c.args.self.now.types c.loop-role.self.state c.in-Some.role c.in-Some.command)
+served : (c : After-push_reserved) → IsChanged c.args.self.now.types c.in-Some.role c.in-Some.command (result_of c.serve.result) c.loop-role.self.state c.serve.new.self.state
 served c =
-    subst (λ (types : List LocalType). IsServed c.in-Some.command c.serve.result c.loop-role.self.state c.serve.new.self.state (serve types c.loop-role.self.state c.in-Some.role c.in-Some.command)) c.loop-role.invariant.1 c.serve.ensures.served
+    subst (λ (types : List LocalType). IsChanged types c.in-Some.role c.in-Some.command (result_of c.serve.result) c.loop-role.self.state c.serve.new.self.state) c.loop-role.invariant.1 c.serve.ensures.served
 
 pub loop-role-preserved : goal.loop-role-preserved
 loop-role-preserved c =
@@ -47,7 +47,7 @@ loop-role-preserved c =
       c.serve.ensures.types ∙ held.1,
       subst (λ (l : List Answer). AreServed types (c.loop-role.yielded ++ r ∷ []) l start next) (sym {A = List Answer} c.push_reserved.ensures.items)
           (one_more types c.loop-role.yielded c.loop-role.answers.items start st next r c.serve.result held.2 this),
-      still_sound types c.in-Some.command c.serve.result st next (serve types st r.0 r.1) held.3 (serve_sound types st r.0 r.1 held.3) this,
+      still_sound types c.in-Some.role c.in-Some.command (result_of c.serve.result) st next held.3 (serve_sound types st r.0 r.1 held.3) this,
       omega (arith, held.4, ap (λ (l : List Request). length l) left, c.push_reserved.ensures.len, c.push_reserved.ensures.capacity),
     )
 

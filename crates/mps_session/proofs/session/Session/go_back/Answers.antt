@@ -12,7 +12,7 @@ use Rattle.mps_session.specs.Told.{told}
 use Rattle.mps_session.proofs.Behind.{first_there}
 use Rattle.mps_session.proofs.Rolling.{leads_back, members_there}
 use Rattle.mps_session.proofs.Told.{within_none, within_told}
-use Rattle.mps_session.proofs.session.Session.back.Goals as goal
+use Rattle.mps_session.proofs.session.Session.go_back.Goals as goal
 
 pub roll_back-requires-clause-present : goal.roll_back-requires-clause-present
 roll_back-requires-clause-present c =
@@ -27,7 +27,7 @@ roll_back-requires-clause-members c =
 pub returns-in-Some-None-clause-back : goal.returns-in-Some-None-clause-back
 returns-in-Some-None-clause-back c =
     let m = c.args.self.now in
-    ap (λ (l : List Step). replay (view_of m) l) (within_none m.state.history c.of.result (c.of.ensures ∙ c.new.ensures.items))
+    ap (λ (l : List Step). replay (view_of m) l) (within_none m.state.history c.nothing.result.0 c.nothing.ensures.first)
 
 pub returns-in_ok-roll_back-in-Some-Some-clause-back : goal.returns-in_ok-roll_back-in-Some-Some-clause-back
 returns-in_ok-roll_back-in-Some-Some-clause-back c =
@@ -36,7 +36,7 @@ returns-in_ok-roll_back-in-Some-Some-clause-back c =
     let h = steps s.configuration.log.entries in
     let left = steps c.roll_back.new.self.log.entries in
     let id = c.in-Some-Some.id in
-    let ids = c.in_ok-roll_back-in-Some-Some.field-0 in
+    let ids = c.in_ok-roll_back-in-Some-Some.field-0.0 in
     subst (λ (m : Machine). replay (machine.view_of types left) (within m.state.history (told ids)) ≡ Some (view_of m)) c.self.view_is
     (ap (λ (l : List Step). replay (machine.view_of types left) l) (within_told h (consequences h id) ids c.in_ok-roll_back-in-Some-Some.ensures.numbers)
     ∙ leads_back types (state_of (lists_of s.configuration)) left id c.self.invariant.holds.sound c.in_ok-roll_back-in-Some-Some.ensures.history)

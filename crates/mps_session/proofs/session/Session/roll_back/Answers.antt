@@ -8,7 +8,7 @@ use Rattle.mps_arena.specs.Entries.{steps}
 use Rattle.mps_session.specs.Configurations.{lists_of, state_of}
 use Rattle.mps_session.specs.Seen.{Machine, view_of}
 use Rattle.mps_session.proofs.Rolling.{leads_back}
-use Rattle.mps_session.proofs.session.Session.rollback.Goals as goal
+use Rattle.mps_session.proofs.session.Session.roll_back.Goals as goal
 
 pub returns-clause-back : goal.returns-clause-back
 returns-clause-back c =
