@@ -70,18 +70,14 @@ impl Room {
         if let Err(refusal) = make_room(&mut self.journal, &mut self.owners) {
             return Err(self.refused(role, &command, refusal));
         }
-        match self.session.accept(role, &command, told) {
-            Ok((answer, told)) => {
-                let entry = Entry {
-                    role,
-                    command,
-                    answer,
-                };
-                keep(&mut self.journal, &mut self.owners, entry);
-                Ok(told)
-            }
-            Err(refusal) => Err(refusal),
-        }
+        let (answer, told) = self.session.accept(role, &command, told)?;
+        let entry = Entry {
+            role,
+            command,
+            answer,
+        };
+        keep(&mut self.journal, &mut self.owners, entry);
+        Ok(told)
     }
 
     /// Does the change that the command asks for, or says why not, as `apply` does, but tells the answer by the journal
