@@ -6,7 +6,7 @@ use Rattle.mps_command.specs.declared.command.Change.{Change}
 use Rattle.mps_command.specs.declared.command.Change.TheVariants.{Forward, Undo, Rollback, Back}
 use Rattle.mps_machine.specs.Answering.{IsChanged}
 use Rattle.mps_machine.specs.Machine.{serve}
-use Rattle.mps_session.proofs.Accepted.{no_refusal}
+use Rattle.mps_machine.proofs.Answering.{no_refusal}
 use Rattle.mps_session.proofs.session.Session.serve.Goals as goal
 
 asked : (change : Change) → change_of (command_of change) ≡ Some change
