@@ -12,7 +12,6 @@ mps which    tells which program runs, and of which sources
 import contextlib
 import fcntl
 import glob
-import hashlib
 import os
 import shutil
 import signal
@@ -26,47 +25,7 @@ OUT = os.path.join(HOME, "out")
 sys.dont_write_bytecode = True
 sys.path.insert(0, os.path.join(HOME, "tools"))
 import checked_build  # noqa: E402
-
-
-def listed():
-    """The crates of the repository, each with what it stands on."""
-    found = {}
-    with open(os.path.join(HOME, "crates.txt"), encoding="utf-8") as lines:
-        for line in lines:
-            name, colon, below = line.split("#")[0].partition(":")
-            if colon:
-                found[name.split()[0]] = below.split()
-    return found
-
-
-def needed(crates):
-    """The crates that mps_tool stands on, the lowest first and itself last, each with those that it names."""
-    found = {}
-
-    def visit(name):
-        if name in crates and name not in found:
-            for low in crates[name]:
-                visit(low)
-            found[name] = crates[name]
-
-    visit("mps_tool")
-    return found
-
-
-def digest(crates):
-    """A digest of the sources of these crates."""
-    found = hashlib.sha256()
-    for name, below in crates.items():
-        found.update(f"{name}: {' '.join(below)}\n".encode())
-        for folder in ("src", "specs", "proofs"):
-            for top, folders, files in os.walk(os.path.join(HOME, "crates", name, folder)):
-                folders.sort()
-                for file in sorted(files):
-                    path = os.path.join(top, file)
-                    with open(path, "rb") as source:
-                        content = hashlib.sha256(source.read()).hexdigest()
-                    found.update(f"{os.path.relpath(path, HOME)} {content}\n".encode())
-    return found.hexdigest()[:16]
+from sources import digest, listed, needed  # noqa: E402
 
 
 def place(kind, sources):
@@ -150,7 +109,7 @@ def prove(crates, sources):
             if shutil.which("rt") is None:
                 sys.exit("mps: there is no rt, the command of the Rattle kit, which proves and builds mps_tool")
             prove_all(crates)
-            if digest(needed(listed())) != sources:
+            if digest(needed(listed(), "mps_tool")) != sources:
                 sys.exit("mps: a source was changed while mps_tool was built; call it again")
             beside = f"{program}.{os.getpid()}"
             shutil.copy2(os.path.join(HOME, "crates", "mps_tool", "out", "mps_tool"), beside)
@@ -176,7 +135,7 @@ def check(crates, sources):
         except checked_build.NotAsExpected as reason:
             print(f"mps: no checked build ({reason}), so the proved program is built", file=sys.stderr, flush=True)
         else:
-            if digest(needed(listed())) != sources:
+            if digest(needed(listed(), "mps_tool")) != sources:
                 os.remove(program)
                 sys.exit("mps: a source was changed while mps_tool was built; call it again")
             only(program, "checked")
@@ -199,7 +158,7 @@ def which(sources):
 def main():
     for number in (signal.SIGTERM, signal.SIGHUP):
         signal.signal(number, lambda number, _: sys.exit(128 + number))
-    crates = needed(listed())
+    crates = needed(listed(), "mps_tool")
     sources = digest(crates)
     if sys.argv[1:] == ["which"]:
         which(sources)

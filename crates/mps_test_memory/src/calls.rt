@@ -1,0 +1,247 @@
+//! Calls that make something, or look at it.
+ghost use Rattle.std.specs.Prelude.{◌≡◌, ◌∷◌, [], None, IfOk, IfSome, length, IsSome};
+ghost use Rattle.mps_arena.specs.Entries.{steps};
+ghost use Rattle.mps_global.specs.Global.{plain as global_type};
+ghost use Rattle.mps_global.specs.Faults.{fault_of};
+ghost use Rattle.mps_history.specs.Steps.{step_of};
+ghost use Rattle.mps_links.specs.Marks.{marked_keys};
+
+use crate::outcomes::{Outcome, Until, answered, refused};
+use crate::parties::opened;
+use crate::rows::PROTOCOL;
+use mps_arena::{Arena, Before};
+use mps_base::{Act, Name, Role, RoleFault, Roles, Step, StepId};
+use mps_command::{Command, Refusal};
+use mps_global::{Protocol, check};
+use mps_links::{least_dependent, mark_from};
+use mps_local::{Local, LocalFault, ProjectFault, project};
+use mps_session::{OpenFault, ProtocolFault, Session, open_protocol, same};
+use mps_table::compile;
+use mps_text::{TextKind, read_protocol, write_protocol};
+use std::alloc::Global;
+
+// The protocol, which has no fault.
+fn protocol(alloc: Global) -> Option<Protocol>
+    ensures { IfSome result (λ p. fault_of p.roles.items (global_type p.body) ≡ None) }
+{
+    let protocol = read_protocol(alloc, PROTOCOL).ok()?;
+    check(&protocol).ok()?;
+    Some(protocol)
+}
+
+fn is_the_protocol(alloc: Global, protocol: &Protocol) -> Option<bool> {
+    let wanted = read_protocol(alloc, PROTOCOL).ok()?;
+    Some(write_protocol(alloc, protocol).ok()? == write_protocol(alloc, &wanted).ok()?)
+}
+
+/// Reads a protocol.
+pub fn reads_a_protocol(alloc: Global, until: Until) -> Option<Outcome> {
+    if until == Until::Before {
+        return Some(Outcome::Reached);
+    }
+    let read = read_protocol(alloc, PROTOCOL);
+    if until == Until::After {
+        return Some(Outcome::Reached);
+    }
+    match read {
+        Ok(protocol) => answered(is_the_protocol(alloc, &protocol)?),
+        Err(fault) if fault.kind == TextKind::Memory => refused(read_protocol(
+            alloc, PROTOCOL,
+        ).is_ok()),
+        Err(_) => Some(Outcome::Other),
+    }
+}
+
+/// Makes the list of roles.
+pub fn makes_roles(alloc: Global, until: Until) -> Option<Outcome> {
+    let protocol = protocol(alloc)?;
+    let names = protocol.roles.as_slice();
+    if until == Until::Before {
+        return Some(Outcome::Reached);
+    }
+    let roles = Roles::of(alloc, names);
+    if until == Until::After {
+        return Some(Outcome::Reached);
+    }
+    match roles {
+        Ok(roles) => answered(roles.count() == names.len()),
+        Err(RoleFault::Memory) => refused(Roles::of(alloc, names).is_ok()),
+        Err(_) => Some(Outcome::Other),
+    }
+}
+
+// What the first role does in the protocol.
+fn first_type(alloc: Global, protocol: &Protocol) -> Result<Local, ProjectFault>
+    requires { fault_of protocol.now.roles.items (global_type protocol.now.body) ≡ None }
+{
+    if protocol.roles.len() == 0 {
+        return Err(ProjectFault::Memory);
+    }
+    project(alloc, protocol, Role::new(0))
+}
+
+/// Projects the protocol on its first role.
+pub fn projects(alloc: Global, until: Until) -> Option<Outcome> {
+    let protocol = protocol(alloc)?;
+    if until == Until::Before {
+        return Some(Outcome::Reached);
+    }
+    let projected = first_type(alloc, &protocol);
+    if until == Until::After {
+        return Some(Outcome::Reached);
+    }
+    match projected {
+        Ok(Local::Rec { .. }) => answered(true),
+        Err(ProjectFault::Memory) => refused(first_type(alloc, &protocol).is_ok()),
+        _ => Some(Outcome::Other),
+    }
+}
+
+/// Makes the table of the first role's type.
+pub fn compiles(alloc: Global, until: Until) -> Option<Outcome> {
+    let protocol = protocol(alloc)?;
+    let tree = first_type(alloc, &protocol).ok()?;
+    if until == Until::Before {
+        return Some(Outcome::Reached);
+    }
+    let table = compile(alloc, &tree);
+    if until == Until::After {
+        return Some(Outcome::Reached);
+    }
+    match table {
+        Ok(_) => answered(true),
+        Err(LocalFault::Memory) => refused(compile(alloc, &tree).is_ok()),
+        Err(_) => Some(Outcome::Other),
+    }
+}
+
+// Two types, of which either has nothing to say.
+fn silence(alloc: Global) -> Option<Vec<Local>> {
+    Some(vec![in alloc; Local::End, Local::End].ok()?)
+}
+
+/// Opens a session of types.
+pub fn opens_a_session(alloc: Global, until: Until) -> Option<Outcome> {
+    let types = silence(alloc)?;
+    if until == Until::Before {
+        return Some(Outcome::Reached);
+    }
+    let opened = Session::open(alloc, types);
+    if until == Until::After {
+        return Some(Outcome::Reached);
+    }
+    match opened {
+        Ok(session) => answered(session.roles() == 2),
+        Err(OpenFault::Memory) => refused(Session::open(alloc, silence(alloc)?).is_ok()),
+        Err(_) => Some(Outcome::Other),
+    }
+}
+
+/// Opens a session of the protocol.
+pub fn opens_a_protocol(alloc: Global, until: Until) -> Option<Outcome> {
+    let protocol = protocol(alloc)?;
+    if until == Until::Before {
+        return Some(Outcome::Reached);
+    }
+    let opened = open_protocol(alloc, &protocol);
+    if until == Until::After {
+        return Some(Outcome::Reached);
+    }
+    match opened {
+        Ok(session) => answered(session.roles() == 3),
+        Err(ProtocolFault::Memory) => refused(open_protocol(alloc, &protocol).is_ok()),
+        Err(_) => Some(Outcome::Other),
+    }
+}
+
+/// Asks a session whether it would accept an undo.
+pub fn asks_whether(alloc: Global, until: Until) -> Option<Outcome> {
+    let (_, session) = opened(alloc)?;
+    if until == Until::Before {
+        return Some(Outcome::Reached);
+    }
+    let would = session.would(Role::new(0), &Command::Undo(StepId::new(1)));
+    if until == Until::After {
+        return Some(Outcome::Reached);
+    }
+    answered(would == Err(Refusal::NoStep))
+}
+
+/// Compares two sessions.
+pub fn compares(alloc: Global, until: Until) -> Option<Outcome> {
+    let protocol = protocol(alloc)?;
+    let first = open_protocol(alloc, &protocol).ok()?;
+    let second = open_protocol(alloc, &protocol).ok()?;
+    if until == Until::Before {
+        return Some(Outcome::Reached);
+    }
+    let is_same = same(&first, &second);
+    if until == Until::After {
+        return Some(Outcome::Reached);
+    }
+    answered(is_same)
+}
+
+// ---- links
+
+// Puts a mark of the first role after all other steps.
+fn add_a_mark(arena: &mut Arena) -> Option<()>
+    requires none { marked_keys arena.old.entries ≡ [] }
+    ensures none { marked_keys arena.new.entries ≡ [] }
+{
+    arena.reserve_one().ok()?;
+    let id = StepId::new(arena.issued() as u64 + 1);
+    let before = Before { at: 0, bound: None };
+    let act = Act::Mark(Name::read(b"m")?);
+    let role = Role::new(0);
+    arena.add(Step { id, role, act }, before, None);
+    Some(())
+}
+
+// An arena with three marks of the first role.
+fn three_marks(alloc: Global) -> Option<Arena>
+    ensures none { IfSome result (λ arena. marked_keys arena.entries ≡ []) }
+{
+    let mut arena = Arena::new(alloc);
+    add_a_mark(&mut arena)?;
+    add_a_mark(&mut arena)?;
+    add_a_mark(&mut arena)?;
+    Some(arena)
+}
+
+// The number of a step that is there.
+fn present(arena: &Arena, number: u64) -> Option<StepId>
+    ensures { IfSome result (λ id. IsSome (step_of (steps arena.now.entries) id)) }
+{
+    let id = StepId::new(number);
+    arena.by_id(id)?;
+    Some(id)
+}
+
+/// Looks for the least step that depends on one.
+pub fn finds_a_dependent(alloc: Global, until: Until) -> Option<Outcome> {
+    let arena = three_marks(alloc)?;
+    let id = present(&arena, 1)?;
+    if until == Until::Before {
+        return Some(Outcome::Reached);
+    }
+    let found = least_dependent(&arena, id);
+    if until == Until::After {
+        return Some(Outcome::Reached);
+    }
+    answered(found.map(|by| by.number()) == Some(2))
+}
+
+/// Marks a step and all that depend on it.
+pub fn marks_from(alloc: Global, until: Until) -> Option<Outcome> {
+    let mut arena = three_marks(alloc)?;
+    let id = present(&arena, 2)?;
+    if until == Until::Before {
+        return Some(Outcome::Reached);
+    }
+    let count = mark_from(&mut arena, id);
+    if until == Until::After {
+        return Some(Outcome::Reached);
+    }
+    answered(count == 2)
+}

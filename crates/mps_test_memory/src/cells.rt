@@ -1,0 +1,130 @@
+//! Cells and their passes.
+ghost use Rattle.std.specs.Prelude.{◌≡◌, false, IfSome};
+
+use crate::outcomes::{Outcome, Until, answered, refused};
+use crate::parties::{Passes, compared, names, opened};
+use crate::rows::Row;
+use mps_cell::{Cell, Pass, PassFault, meet};
+use std::alloc::Global;
+use std::cmp::Ordering;
+use std::sync::Wait;
+
+// A new cell of the protocol.
+fn cell(alloc: Global) -> Option<Cell>
+    ensures given { IfSome result (λ c. c.given ≡ false) }
+{
+    let (names, session) = opened(alloc)?;
+    Cell::open(alloc, names, session).ok()
+}
+
+// Asks passes for the command of the row.
+fn passes_asked<R: Wait>(
+    rt: &R,
+    alloc: Global,
+    row: &Row,
+    until: Until,
+    first: Vec<Pass<'_>>,
+    second: Vec<Pass<'_>>,
+) -> Option<Outcome> {
+    let names = names(alloc)?;
+    let mut first = Passes {
+        rt,
+        alloc,
+        all: first,
+    };
+    let mut second = Passes {
+        rt,
+        alloc,
+        all: second,
+    };
+    compared(alloc, &names, row, until, &mut first, &mut second)
+}
+
+/// Asks a pass for the command of the row.
+pub fn pass_asked<R: Wait>(rt: &R, alloc: Global, row: &Row, until: Until) -> Option<Outcome> {
+    let mut first = cell(alloc)?;
+    let mut second = cell(alloc)?;
+    let first = first.passes().ok()?;
+    let second = second.passes().ok()?;
+    passes_asked(rt, alloc, row, until, first, second)
+}
+
+/// Opens a cell.
+pub fn opens_a_cell(alloc: Global, until: Until) -> Option<Outcome> {
+    let (names, session) = opened(alloc)?;
+    if until == Until::Before {
+        return Some(Outcome::Reached);
+    }
+    let made = Cell::open(alloc, names, session).is_ok();
+    if until == Until::After {
+        return Some(Outcome::Reached);
+    }
+    if made { answered(true) } else { refused(true) }
+}
+
+/// Hands out the passes of a cell. Where memory ran out, they count as given.
+pub fn hands_out_passes(alloc: Global, until: Until) -> Option<Outcome> {
+    let mut cell = cell(alloc)?;
+    if until == Until::Before {
+        return Some(Outcome::Reached);
+    }
+    let fault = match cell.passes() {
+        Ok(all) => {
+            if until == Until::After {
+                return Some(Outcome::Reached);
+            }
+            return answered(all.len() == 3);
+        }
+        Err(fault) => fault,
+    };
+    if until == Until::After {
+        return Some(Outcome::Reached);
+    }
+    let is_given = matches!(cell.passes(), Err(PassFault::Given));
+    if fault == PassFault::Memory {
+        refused(is_given)
+    } else {
+        Some(Outcome::Other)
+    }
+}
+
+/// Has a pass ask for the length of the journal.
+pub fn asks_for_the_front(alloc: Global, until: Until) -> Option<Outcome> {
+    let mut cell = cell(alloc)?;
+    let mut all = cell.passes().ok()?;
+    let pass = all.get_mut(0)?;
+    if until == Until::Before {
+        return Some(Outcome::Reached);
+    }
+    let front = pass.front();
+    if until == Until::After {
+        return Some(Outcome::Reached);
+    }
+    answered(front == 0)
+}
+
+// The last pass, of the cell.
+#[tactic(auto)]
+fn met(first: &mut Pass<'_>, second: &mut Pass<'_>) -> Ordering
+    requires cell { second.old.cell ≡ first.old.cell }
+{
+    meet(first, second)
+}
+
+/// Has two passes of a cell meet.
+pub fn has_passes_meet(alloc: Global, until: Until) -> Option<Outcome> {
+    let mut cell = cell(alloc)?;
+    let deal = cell.deal()?;
+    let mut all = cell.passes_of(deal).ok()?;
+    let [first, second, _] = all.as_mut_slice() else {
+        return None;
+    };
+    if until == Until::Before {
+        return Some(Outcome::Reached);
+    }
+    let order = met(first, second);
+    if until == Until::After {
+        return Some(Outcome::Reached);
+    }
+    answered(order == Ordering::Equal)
+}
