@@ -129,7 +129,7 @@ impl Link {
 pub struct Before {
     /// the node of its role's table at which the role stood
     pub at: u16,
-    /// the receipt to which a receipt's slot was bound
+    /// the step to which a receipt's slot, or the name of a mark, was bound
     pub bound: Option<Key>,
 }
 
@@ -139,7 +139,7 @@ pub(crate) struct Node {
     pub(crate) step: Step,
     // the node of its role's table at which the role stood
     pub(crate) at: u16,
-    // the receipt to which a receipt's slot was bound
+    // the step to which a receipt's slot, or the name of a mark, was bound
     pub(crate) bound: Link,
     pub(crate) next: Link,
     pub(crate) prev: Link,

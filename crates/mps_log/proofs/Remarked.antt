@@ -11,7 +11,7 @@ use Rattle.mps_arena.specs.Keys.{AreDistinct}
 use Rattle.mps_arena.specs.Entries.{Entry, steps, keys_of, any_step, IsSmall, AreSound}
 use Rattle.mps_arena.proofs.Chains.{keys_with, keys_without}
 use Rattle.mps_queues.specs.Fronts.{AreFronts}
-use Rattle.mps_stores.specs.Stores.{Keys, IsReceiptInto, bindings, rebound, store_after, AreStores}
+use Rattle.mps_stores.specs.Stores.{Keys, Naming, IsBinding, bindings, rebound, store_after, AreStores}
 
 module _ (m : Entry → Bool) where
   abbrev pub remarked : Entry → Entry
@@ -59,9 +59,9 @@ module _ (m : Entry → Bool) where
         f.each p q small little ∙ sym (ap₂ (λ (l r : List ℕ). slice_get l (length r)) (keys_again (sends p q) es) (keys_again (receives p q) es));
   }
 
-  rebound_again : (p : ℕ) (store : Keys) (es : List Entry) → rebound p store (again es) ≡ rebound p store es
-  rebound_again p store [] = refl
-  rebound_again p store (x ∷ es) = rebound_again p (store_after p store x) es
+  rebound_again : (naming : Naming) (p : ℕ) (store : Keys) (es : List Entry) → rebound naming p store (again es) ≡ rebound naming p store es
+  rebound_again naming p store [] = refl
+  rebound_again naming p store (x ∷ es) = rebound_again naming p (store_after naming p store x) es
 
   -- where an entry of the list stands in the one before
   pub record IsPlace (es c : List Entry) (y : Entry) : Type 0 where
@@ -91,12 +91,12 @@ module _ (m : Entry → Bool) where
         same = w.same;
       }
 
-  pub stores_again : (es : List Entry) (stores : List Keys) → AreStores es stores → AreStores (again es) stores
-  stores_again es stores s = record {
-    each = λ p small. s.each p small ∙ sym (rebound_again p [] es);
-    traced = λ p slot a b e whole is.
+  pub stores_again : (naming : Naming) (es : List Entry) (stores : List Keys) → AreStores naming es stores → AreStores naming (again es) stores
+  stores_again naming es stores s = record {
+    each = λ p small. s.each p small ∙ sym (rebound_again naming p [] es);
+    traced = λ p name a b e whole is.
         let w = place_again es a b e whole in
-        let receipt : IsReceiptInto p slot w.entry = subst (IsReceiptInto p slot) w.same is in
-        ap (λ (z : Entry). z.before.bound) w.same ∙ s.traced p slot w.before w.behind w.entry w.parts receipt
-        ∙ ap (value_in slot) (sym (rebound_again p [] w.before)) ∙ ap (λ (l : List Entry). value_in slot (bindings p l)) (sym w.front);
+        let binding : IsBinding naming p name w.entry = subst (IsBinding naming p name) w.same is in
+        ap (λ (z : Entry). z.before.bound) w.same ∙ s.traced p name w.before w.behind w.entry w.parts binding
+        ∙ ap (value_in name) (sym (rebound_again naming p [] w.before)) ∙ ap (λ (l : List Entry). value_in name (bindings naming p l)) (sym w.front);
   }

@@ -2,7 +2,7 @@
 use Rattle.std.specs.Prelude.{ℕ, List}
 use Rattle.mps_arena.specs.Entries.{Entry, AreSound}
 use Rattle.mps_queues.specs.Fronts.{AreFronts}
-use Rattle.mps_stores.specs.Stores.{AreStores}
+use Rattle.mps_stores.specs.Stores.{AreStores, slot_of, mark_of}
 use Rattle.mps_log.specs.declared.log.Log.TheInside.{Inside}
 
 -- the steps, the oldest first; how many numbers were given out
@@ -13,8 +13,9 @@ pub record Logged : Type 0 where
 abbrev pub view_of : Inside → Logged
 view_of l = record { entries = l.arena.entries; issued = l.arena.issued }
 
--- queues and slots are those of the steps
+-- queues, slots and marks are those of the steps
 pub record IsLog (l : Inside) : Type 0 where
   pub sound : AreSound l.arena.entries
   pub fronts : AreFronts l.arena.entries l.queues
-  pub stores : AreStores l.arena.entries l.stores
+  pub slots : AreStores slot_of l.arena.entries l.slots
+  pub marks : AreStores mark_of l.arena.entries l.marks

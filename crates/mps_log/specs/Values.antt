@@ -9,7 +9,7 @@ use Rattle.mps_base.specs.declared.value.Value.{Value}
 use Rattle.mps_history.specs.Slots.{value_in}
 use Rattle.mps_arena.specs.Entries.{Entry, entry_at}
 use Rattle.mps_arena.specs.Sources.{source_in}
-use Rattle.mps_stores.specs.Stores.{bindings}
+use Rattle.mps_stores.specs.Stores.{bindings, slot_of, mark_of}
 
 -- the message that an act gives
 abbrev pub given_by : Act → Option Message
@@ -36,8 +36,12 @@ value_taken es k = option_and_then value_of (message_taken es k)
 
 -- what role p keeps in the slot: the value that the receipt took to which the slot is bound
 abbrev pub kept_in : List Entry → ℕ → List ℕ → Option Value
-kept_in es p slot = option_and_then (value_taken es) (value_in slot (bindings p es))
+kept_in es p slot = option_and_then (value_taken es) (value_in slot (bindings slot_of p es))
 
 -- a slot with the value that the receipt took to which it is bound
 abbrev pub kept_by : List Entry → List ℕ × ℕ → Option (List ℕ × Value)
 kept_by es binding = option_map (λ value. (binding.0, value)) (value_taken es binding.1)
+
+-- the key of role p's last mark of the name
+abbrev pub last_mark : List Entry → ℕ → List ℕ → Option ℕ
+last_mark es p name = value_in name (bindings mark_of p es)

@@ -9,10 +9,10 @@ ghost use Rattle.mps_arena.specs.Sources.{waiting, CanGo};
 ghost use Rattle.mps_queues.specs.Fronts.{AreFronts};
 ghost use Rattle.std.specs.Map.Iter.{deref_pair};
 ghost use Rattle.mps_base.specs.declared.value.Value.{Value};
-ghost use Rattle.mps_stores.specs.Stores.{slot_of, bindings, AreStores};
+ghost use Rattle.mps_stores.specs.Stores.{Naming, slot_of, mark_of, bindings, AreStores};
 ghost use Rattle.mps_log.specs.Joins.{HasJoined};
 ghost use Rattle.mps_log.specs.Shown.{shown};
-ghost use Rattle.mps_log.specs.Values.{message_of, value_taken, kept_in, kept_by};
+ghost use Rattle.mps_log.specs.Values.{message_of, value_taken, kept_in, kept_by, last_mark};
 
 use crate::moves::Moves;
 use crate::queue::Queue;
@@ -23,13 +23,14 @@ use mps_stores::Stores;
 use std::alloc::{AllocError, Global};
 use std::marker::Model;
 
-/// The surviving steps, the oldest first, with the queues and the slots that they lead to. Each message is kept
-/// once, in the step that gave it.
+/// The surviving steps, the oldest first, with the queues and the slots that they lead to, and each role's last mark of
+/// each name. Each message is kept once, in the step that gave it.
 #[derive(Drop)]
 pub struct Log {
     pub(crate) arena: Arena,
     queues: Queues,
-    stores: Stores,
+    slots: Stores,
+    marks: Stores,
 }
 
 impl Model for Log {
@@ -65,16 +66,16 @@ fn give_back(queues: &mut Queues, arena: &Arena, key: Key)
     }
 }
 
-// The slots without the step of the key: a receipt's gets back what it was bound to.
-fn unbind(stores: &mut Stores, arena: &Arena, key: Key)
+// The stores without the step of the key, which binds that name, or none: the name gets back what it was bound to.
+fn unbind(stores: &mut Stores, arena: &Arena, key: Key, name: Option<&Name>)
     requires can { CanGo arena.now.entries key }
     requires sound { AreSound arena.now.entries }
-    requires stores { AreStores arena.now.entries stores.old }
-    ensures { AreStores (filter (λ e. not (e.key == key)) arena.now.entries) stores.new }
+    ensures { (naming : Naming) → AreStores naming arena.now.entries stores.old
+        → option_map (λ e. naming e.step.act) (entry_at key arena.now.entries) ≡ Some (option_copied name.entry)
+        → AreStores naming (filter (λ e. not (e.key == key)) arena.now.entries) stores.new }
 {
-    let step = arena.get(key);
-    if let Some(slot) = slot_in(&step.act) {
-        stores.unbind(step.role, slot, arena.before(key).bound);
+    if let Some(name) = name {
+        stores.unbind(arena.get(key).role, name, arena.before(key).bound);
     }
 }
 
@@ -85,6 +86,16 @@ fn slot_in(act: &Act) -> Option<&Name>
     match act {
         Act::In { slot, .. } => slot.as_ref(),
         Act::Out { .. } | Act::Mark(_) => None,
+    }
+}
+
+// The name that the act marks.
+fn mark_in(act: &Act) -> Option<&Name>
+    ensures { option_copied result ≡ mark_of act.now }
+{
+    match act {
+        Act::Mark(name) => Some(name),
+        Act::Out { .. } | Act::In { .. } => None,
     }
 }
 
@@ -119,7 +130,8 @@ impl Log {
         Ok(Log {
             arena: Arena::new(alloc),
             queues: Queues::new(),
-            stores: Stores::new(alloc)?,
+            slots: Stores::new(alloc)?,
+            marks: Stores::new(alloc)?,
         })
     }
 
@@ -166,25 +178,33 @@ impl Log {
         requires { role < 8 }
         ensures { option_copied result ≡ kept_in self.now.entries role slot.now }
     {
-        let receipt = self.stores.get(role, slot)?;
+        let receipt = self.slots.get(role, slot)?;
         value_at(&self.arena, receipt)
+    }
+
+    /// The key of the role's last mark of the name.
+    pub fn last_mark(&self, role: Role, name: &Name) -> Option<Key>
+        requires { role < 8 }
+        ensures { result ≡ last_mark self.now.entries role name.now }
+    {
+        self.marks.get(role, name)
     }
 
     /// How many slots of the role are bound.
     pub fn slots(&self, role: Role) -> usize
         requires { role < 8 }
-        ensures { result ≡ length (bindings role self.now.entries) }
+        ensures { result ≡ length (bindings slot_of role self.now.entries) }
     {
-        self.stores.count(role)
+        self.slots.count(role)
     }
 
     /// The role's slot that was bound as the k-th, from 0, and the value that it keeps there.
     pub fn binding(&self, role: Role, k: usize) -> Option<(&Name, &Value)>
         requires { role < 8 }
         ensures { option_map (deref_pair {K = List ℕ} {X = Value}) result
-            ≡ option_and_then (kept_by self.now.entries) (slice_get (bindings role self.now.entries) k) }
+            ≡ option_and_then (kept_by self.now.entries) (slice_get (bindings slot_of role self.now.entries) k) }
     {
-        let bound = self.stores.nth(role, k)?;
+        let bound = self.slots.nth(role, k)?;
         let value = value_at(&self.arena, *bound.1)?;
         Some((bound.0, value))
     }
@@ -242,7 +262,7 @@ impl Log {
         ensures err { OnErr result (self.new ≡ self.old) }
     {
         let key = self.arena.reserve_one()?;
-        let bound = self.stores.bind(role, slot, key)?;
+        let bound = self.slots.bind(role, slot, key)?;
         let source = self.queues.take(&self.arena, from, role);
         let id = next_id(&self.arena);
         let slot = Some(*slot);
@@ -278,16 +298,17 @@ impl Log {
         ensures joined { OnOk result (HasJoined self.old self.new role (Mark name) at) }
         ensures err { OnErr result (self.new ≡ self.old) }
     {
-        self.arena.reserve_one()?;
+        let key = self.arena.reserve_one()?;
+        let bound = self.marks.bind(role, &name, key)?;
         let id = next_id(&self.arena);
         let act = Act::Mark(name);
         self.arena
-            .add(Step { id, role, act }, Before { at, bound: None }, None);
+            .add(Step { id, role, act }, Before { at, bound }, None);
         Ok(id)
     }
 
     /// Takes a step out that is the last of its role and, if it is a send or a choice, isn't received. Its message
-    /// leaves the queue, or comes back to its front; its slot gets back what it was bound to.
+    /// leaves the queue, or comes back to its front; its slot, or the name that it marks, gets back what it was bound to.
     pub fn take_out(&mut self, key: Key) -> Step
         requires { CanGo self.old.entries key }
         ensures step { option_map (λ e. e.step) (entry_at key self.old.entries) ≡ Some result }
@@ -298,7 +319,9 @@ impl Log {
         ensures sound { AreSound self.new.entries }
     {
         give_back(&mut self.queues, &self.arena, key);
-        unbind(&mut self.stores, &self.arena, key);
+        let act = &self.arena.get(key).act;
+        unbind(&mut self.slots, &self.arena, key, slot_in(act));
+        unbind(&mut self.marks, &self.arena, key, mark_in(act));
         self.arena.remove(key)
     }
 }

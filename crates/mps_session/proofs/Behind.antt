@@ -1,23 +1,27 @@
--- What comes after a role's last mark, looked for from its last step back.
-use Rattle.std.proofs.Common.{◌≡◌, ℕ, ◌+◌, ◌≤◌, true, false, List, [], ◌∷◌, ◌++◌, length, Option, Some, None, refl, sym, ap, ◌∙◌, subst, arith, ⊎_elim, inl, inr, append_assoc, append-nil, length-append}
+-- What comes after a role's last mark, which is found by its name.
+use Rattle.std.proofs.Common.{◌≡◌, ℕ, ◌⊎◌, true, false, List, [], ◌∷◌, ◌++◌, Option, Some, None, refl, sym, ap, ◌∙◌, subst, ⊎_elim, inl, inr, append_assoc}
 use Rattle.std.specs.Prelude.{◌==◌, is_some, IsSome, if◌then◌else◌}
-use Rattle.std.specs.Option.{option_map}
+use Rattle.std.specs.List.{find}
+use Rattle.std.specs.Option.{option_map, option_and_then}
+use Rattle.std.specs.Str.{bytes_eq}
 use Rattle.std.proofs.lemmas.Bool.{cases_Bool, cond-true, cond-false, eqb-true}
-use Rattle.std.proofs.lemmas.List.{map-append}
-use Rattle.std.proofs.lemmas.List.Elements.{filter-append}
+use Rattle.mps_base.specs.declared.action.Act.{Act}
+use Rattle.mps_base.specs.declared.action.Act.TheVariants.{Out, In, Mark}
 use Rattle.mps_base.specs.declared.action.Step.{Step}
+use Rattle.mps_history.specs.Slots.{value_in}
 use Rattle.mps_history.specs.Steps.{IsIn, IsRising, step_of, steps_of}
 use Rattle.mps_history.proofs.Order.{filter-IsIn, step_of_member}
+use Rattle.mps_history.proofs.Slots.{value_in-bound}
 use Rattle.mps_machine.specs.Machine.{is_mark, since_mark}
-use Rattle.mps_machine.proofs.Marks.{since_append, since_at}
-use Rattle.mps_arena.specs.Keys.{last_key}
-use Rattle.mps_arena.specs.Entries.{Entry, steps, keys_of, of_role, entry_at, AreSound}
-use Rattle.mps_arena.specs.Sources.{prev_of_role_in}
-use Rattle.mps_arena.proofs.Chains.{keys_without}
-use Rattle.mps_links.proofs.Firsts.{entry_in}
-use Rattle.mps_links.proofs.Lasts.{IsLast, last_is, nothing_last}
-use Rattle.mps_links.proofs.Links.{prev_is}
-use Rattle.mps_links.proofs.StepKeys.{none_passes}
+use Rattle.mps_machine.proofs.Marks.{since_at, since_append}
+use Rattle.mps_arena.specs.Keys.{first_key}
+use Rattle.mps_arena.specs.Entries.{Entry, steps, keys_of, of_role, AreSound}
+use Rattle.mps_arena.specs.Sources.{next_of_role_in, id_in}
+use Rattle.mps_links.proofs.Firsts.{id_first}
+use Rattle.mps_links.proofs.Links.{next_is}
+use Rattle.mps_stores.specs.Stores.{Keys, mark_of, store_after, rebound}
+use Rattle.mps_stores.proofs.Bindings.{after_binding, after_other, after_idle}
+use Rattle.mps_log.specs.Values.{last_mark}
 use Rattle.mps_session.specs.Answers.{first_number}
 
 -- what comes after a mark is of the history
@@ -54,88 +58,135 @@ first_there name p h n rising e =
     subst (λ (m : ℕ). IsSome (step_of h m)) w.3 (subst (λ (o : Option Step). IsSome o) (sym found) refl)
 
 module _ (name : List ℕ) (p : ℕ) where
-  abbrev own : List Entry → List Step
+  abbrev pub own : List Entry → List Step
   own es = steps_of p (steps es)
 
-  own-append : (a b : List Entry) → own (a ++ b) ≡ own a ++ own b
-  own-append a b = ap (steps_of p) (map-append (λ (e : Entry). e.step) a b) ∙ filter-append (λ t. t.role == p) (steps a) (steps b)
+  abbrev pub since : List Entry → Option (List Step)
+  since es = since_mark name (own es)
 
-  own_none : (b : List Entry) → keys_of (of_role p) b ≡ [] → own b ≡ []
-  own_none [] e = refl
-  own_none (y ∷ b) e =
-      let f : (y.step.role == p) ≡ false = none_passes (of_role p) (y ∷ b) y.step e (inl refl) in
-      cond-false (y.step.role == p) (y.step ∷ own b) (own b) f
-      ∙ own_none b (sym (keys_without (of_role p) y b f) ∙ e)
+  -- the role's last mark of the name has that key
+  record IsMarkAt (es : List Entry) (k : ℕ) : Type 0 where
+    before : List Entry
+    behind : List Entry
+    entry : Entry
+    parts : es ≡ before ++ entry ∷ behind
+    key : entry.key ≡ k
+    role : entry.step.role ≡ p
+    since : since_mark name (own es) ≡ Some (own behind)
 
-  -- after some place there is no mark of the name, and the key is that of the role's last step before
-  pub record IsBack (es : List Entry) (at behind : Option ℕ) (turns : ℕ) : Type 0 where
-    pub front : List Entry
-    pub rest : List Entry
-    pub parts : es ≡ front ++ rest
-    pub key : at ≡ last_key None (keys_of (of_role p) front)
-    pub none : since_mark name (own rest) ≡ None
-    pub first : behind ≡ first_number (own rest)
-    pub count : turns ≤ length rest
+  -- an entry of the role binds the name where it marks it, and else leaves it
+  abbrev Binds : Keys → Entry → Type 0
+  Binds store x =
+      ((is_mark name x.step.act ≡ true) × (value_in name (store_after mark_of p store x) ≡ Some x.key))
+      ⊎ ((is_mark name x.step.act ≡ false) × (value_in name (store_after mark_of p store x) ≡ value_in name store))
 
-  pub back_starts : (es : List Entry) → IsBack es (last_key None (keys_of (of_role p) es)) None 0
-  back_starts es = record { front = es; rest = []; parts = sym (append-nil es); key = refl; none = refl; first = refl; count = omega arith }
+  binds : (store : Keys) (x : Entry) → (x.step.role == p) ≡ true → Binds store x
+  binds store x mine = of x.step.act refl
+    where
+      idle : mark_of x.step.act ≡ None → is_mark name x.step.act ≡ false → Binds store x
+      idle none n = inr (n, ap (value_in name) (after_idle mark_of p store x none))
 
-  module _ (es : List Entry) (at behind : Option ℕ) (turns : ℕ) (w : IsBack es at behind turns) where
-    ended : own w.front ≡ [] → since_mark name (own es) ≡ None
-    ended e =
-        ap (since_mark name) (ap own w.parts ∙ own-append w.front w.rest ∙ ap (λ (h : List Step). h ++ own w.rest) e) ∙ w.none
+      of : (act : Act) → x.step.act ≡ act → Binds store x
+      of (Out to message) is = idle (ap mark_of is) (ap (is_mark name) is)
+      of (In from slot) is = idle (ap mark_of is) (ap (is_mark name) is)
+      of (Mark m) is =
+          let got : value_in name (store_after mark_of p store x) ≡ (if bytes_eq m name then Some x.key else value_in name store) =
+          ap (value_in name) (after_binding mark_of p m store x (eqb-true x.step.role p mine, ap mark_of is)) ∙ value_in-bound name m x.key store in
+          ⊎_elim
+          (λ (y : bytes_eq m name ≡ true). inl (ap (is_mark name) is ∙ y, got ∙ cond-true (bytes_eq m name) (Some x.key) (value_in name store) y))
+          (λ (n : bytes_eq m name ≡ false). inr (ap (is_mark name) is ∙ n, got ∙ cond-false (bytes_eq m name) (Some x.key) (value_in name store) n))
+          (cases_Bool (bytes_eq m name))
 
-    pub ends_at_first : at ≡ None → since_mark name (own es) ≡ None
-    ends_at_first e = ended (own_none w.front (nothing_last (keys_of (of_role p) w.front) (sym w.key ∙ e)))
+  -- what the name is bound to after the entries: their last mark of it, or what it was bound to
+  abbrev Bound : Keys → List Entry → Type 0
+  Bound store es =
+      ((since_mark name (own es) ≡ None) × (value_in name (rebound mark_of p store es) ≡ value_in name store))
+      ⊎ ((k : ℕ) × IsMarkAt es k × (value_in name (rebound mark_of p store es) ≡ Some k))
 
-    pub ends_by_count : length es ≤ turns → since_mark name (own es) ≡ None
-    ends_by_count long =
-        ended (empty w.front (λ x l e. omega (arith, long, w.count, ap length w.parts, length-append w.front w.rest, ap length e)))
-      where
-        empty : (l : List Entry) → ((x : Entry) (m : List Entry) → l ≡ x ∷ m → ⊥) → own l ≡ []
-        empty [] h = refl
-        empty (x ∷ m) h = absurd (h x m refl)
+  own_other : (x : Entry) (es : List Entry) → (x.step.role == p) ≡ false → own (x ∷ es) ≡ own es
+  own_other x es f = cond-false (x.step.role == p) (x.step ∷ own es) (own es) f
 
-    module _ (k : ℕ) (is : at ≡ Some k) (sound : AreSound es) where
-      pub last : IsLast (of_role p) w.front k
-      last = last_is (of_role p) w.front k (sym w.key ∙ is)
+  own_mine : (x : Entry) (es : List Entry) → (x.step.role == p) ≡ true → own (x ∷ es) ≡ x.step ∷ own es
+  own_mine x es t = cond-true (x.step.role == p) (x.step ∷ own es) (own es) t
 
-      abbrev pub x : Entry
-      x = last.entry
+  -- a mark among the later entries stays the last
+  later : (x : Entry) (es : List Entry) (k : ℕ) → IsMarkAt es k → IsMarkAt (x ∷ es) k
+  later x es k w = record {
+    before = x ∷ w.before;
+    behind = w.behind;
+    entry = w.entry;
+    parts = ap (λ (l : List Entry). x ∷ l) w.parts;
+    key = w.key;
+    role = w.role;
+    since =
+        ⊎_elim
+        (λ (t : (x.step.role == p) ≡ true). ap (since_mark name) (own_mine x es t) ∙ since_append name (x.step ∷ []) (own es) (own w.behind) w.since)
+        (λ (f : (x.step.role == p) ≡ false). ap (since_mark name) (own_other x es f) ∙ w.since)
+        (cases_Bool (x.step.role == p));
+  }
 
-      es_is : es ≡ last.before ++ x ∷ (last.behind ++ w.rest)
-      es_is = w.parts ∙ ap (λ l. l ++ w.rest) last.parts ∙ append_assoc last.before (x ∷ last.behind) w.rest
+  bound_by : (store : Keys) (es : List Entry) → Bound store es
+  bound_by store [] = inl (refl, refl)
+  bound_by store (x ∷ es) =
+      ⊎_elim
+      (λ (w : (since_mark name (own es) ≡ None) × (value_in name (rebound mark_of p (store_after mark_of p store x) es) ≡ value_in name (store_after mark_of p store x))).
+      ⊎_elim
+      (λ (t : (x.step.role == p) ≡ true).
+      let here : since_mark name (own (x ∷ es)) ≡ (if is_mark name x.step.act then Some (own es) else None) =
+      ap (since_mark name) (own_mine x es t) ∙ since_at name x.step (own es) w.0 in
+      ⊎_elim
+      (λ (b : (is_mark name x.step.act ≡ true) × (value_in name (store_after mark_of p store x) ≡ Some x.key)).
+      let at : IsMarkAt (x ∷ es) x.key = record {
+        before = [];
+        behind = es;
+        entry = x;
+        parts = refl;
+        key = refl;
+        role = eqb-true x.step.role p t;
+        since = here ∙ cond-true (is_mark name x.step.act) (Some (own es)) None b.0;
+      } in
+      inr (x.key, at, w.1 ∙ b.1))
+      (λ (b : (is_mark name x.step.act ≡ false) × (value_in name (store_after mark_of p store x) ≡ value_in name store)).
+      inl (here ∙ cond-false (is_mark name x.step.act) (Some (own es)) None b.0, w.1 ∙ b.1))
+      (binds store x t))
+      (λ (f : (x.step.role == p) ≡ false).
+      inl (ap (since_mark name) (own_other x es f) ∙ w.0, w.1 ∙ ap (value_in name) (after_other mark_of p store x f)))
+      (cases_Bool (x.step.role == p)))
+      (λ (w : (k : ℕ) × IsMarkAt es k × (value_in name (rebound mark_of p (store_after mark_of p store x) es) ≡ Some k)).
+      inr (w.0, later x es w.0 w.1, w.2))
+      (bound_by (store_after mark_of p store x) es)
 
-      pub here : entry_at k es ≡ Some x
-      here = subst (λ (j : ℕ). entry_at j es ≡ Some x) last.key (entry_in es sound.distinct sound.rising last.before (last.behind ++ w.rest) x es_is)
+  -- where the name is bound to nothing, the role has no mark of it
+  pub no_mark : (es : List Entry) → last_mark es p name ≡ None → since_mark name (own es) ≡ None
+  no_mark es none =
+      ⊎_elim
+      (λ (w : (since_mark name (own es) ≡ None) × (last_mark es p name ≡ value_in name [])). w.0)
+      (λ (w : (k : ℕ) × IsMarkAt es k × (last_mark es p name ≡ Some k)). let no : None ≡ Some w.0 = sym none ∙ w.2 in absurd cc)
+      (bound_by [] es)
 
-      -- the role's steps from there on
-      own_rest : own (x ∷ (last.behind ++ w.rest)) ≡ x.step ∷ own w.rest
-      own_rest =
-          cond-true (x.step.role == p) (x.step ∷ own (last.behind ++ w.rest)) (own (last.behind ++ w.rest)) last.passes
-          ∙ ap (λ (h : List Step). x.step ∷ h) (own-append last.behind w.rest ∙ ap (λ (h : List Step). h ++ own w.rest) (own_none last.behind last.none))
+  first_of_role : (h : List Step) → option_map (λ (s : Step). s.id) (find (λ s. s.role == p) h) ≡ first_number (steps_of p h)
+  first_of_role [] = refl
+  first_of_role (s ∷ h) =
+      ⊎_elim
+      (λ (t : (s.role == p) ≡ true). rw t refl)
+      (λ (f : (s.role == p) ≡ false). rw f (first_of_role h))
+      (cases_Bool (s.role == p))
 
-      since_here : since_mark name (own (x ∷ (last.behind ++ w.rest))) ≡ (if is_mark name x.step.act then Some (own w.rest) else None)
-      since_here = ap (since_mark name) own_rest ∙ since_at name x.step (own w.rest) w.none
+  marked_first : (es : List Entry) (k : ℕ) → AreSound es → IsMarkAt es k → option_map first_number (since_mark name (own es)) ≡ Some (option_and_then (id_in es) (next_of_role_in es k))
+  marked_first es k sound w =
+      let next : next_of_role_in es k ≡ first_key (keys_of (of_role p) w.behind) =
+      ap (next_of_role_in es) (sym w.key) ∙ next_is es sound w.before w.behind w.entry w.parts ∙ ap (λ (r : ℕ). first_key (keys_of (of_role r) w.behind)) w.role in
+      let whole : es ≡ (w.before ++ w.entry ∷ []) ++ w.behind = w.parts ∙ sym (append_assoc w.before (w.entry ∷ []) w.behind) in
+      ap (option_map first_number) w.since
+      ∙ ap Some (sym (ap (option_and_then (id_in es)) next ∙ id_first es sound.distinct sound.rising (of_role p) (w.before ++ w.entry ∷ []) w.behind whole ∙ first_of_role (steps w.behind)))
 
-      pub found_mark : is_mark name x.step.act ≡ true → option_map first_number (since_mark name (own es)) ≡ Some behind
-      found_mark t =
-          ap (λ (o : Option (List Step)). option_map first_number o)
-          (ap (λ (l : List Entry). since_mark name (own l)) es_is
-          ∙ ap (since_mark name) (own-append last.before (x ∷ (last.behind ++ w.rest)))
-          ∙ since_append name (own last.before) (own (x ∷ (last.behind ++ w.rest))) (own w.rest) (since_here ∙ cond-true (is_mark name x.step.act) (Some (own w.rest)) None t))
-          ∙ ap Some (sym w.first)
-
-      pub back_goes : is_mark name x.step.act ≡ false → IsBack es (prev_of_role_in es k) (Some x.step.id) (turns + 1)
-      back_goes f = record {
-        front = last.before;
-        rest = x ∷ (last.behind ++ w.rest);
-        parts = es_is;
-        key =
-            ap (prev_of_role_in es) (sym last.key)
-            ∙ prev_is es sound last.before (last.behind ++ w.rest) x es_is
-            ∙ ap (λ r. last_key None (keys_of (of_role r) last.before)) (eqb-true x.step.role p last.passes);
-        none = since_here ∙ cond-false (is_mark name x.step.act) (Some (own w.rest)) None f;
-        first = sym (ap first_number own_rest);
-        count = omega (arith, w.count, length-append last.behind w.rest);
-      }
+  -- the role's next step after the one of that key comes first after its last mark of the name
+  pub after_mark : (es : List Entry) (k : ℕ) → AreSound es → last_mark es p name ≡ Some k → option_map first_number (since_mark name (own es)) ≡ Some (option_and_then (id_in es) (next_of_role_in es k))
+  after_mark es k sound is =
+      ⊎_elim
+      (λ (w : (since_mark name (own es) ≡ None) × (last_mark es p name ≡ value_in name [])). let no : None ≡ Some k = sym w.1 ∙ is in absurd cc)
+      (λ (w : (j : ℕ) × IsMarkAt es j × (last_mark es p name ≡ Some j)).
+      let one : Some w.0 ≡ Some k = sym w.2 ∙ is in
+      let same : w.0 ≡ k = cc in
+      marked_first es k sound (subst (IsMarkAt es) same w.1))
+      (bound_by [] es)

@@ -23,7 +23,7 @@ use Rattle.mps_arena.specs.Entries.{Entry, steps, entry_at, AreSound}
 use Rattle.mps_arena.specs.Sources.{waiting}
 use Rattle.mps_arena.proofs.Mates.{sound_left, last_fresh}
 use Rattle.mps_stores.specs.Stores.{Keys, slot_of, bindings}
-use Rattle.mps_stores.proofs.Bindings.{bindings_push, after_receipt, after_other, after_idle}
+use Rattle.mps_stores.proofs.Bindings.{bindings_push, after_binding, after_other, after_idle}
 use Rattle.mps_log.specs.Values.{value_of, message_of, value_taken, kept_in, kept_by}
 use Rattle.mps_log.proofs.Waiting.{first_message}
 use Rattle.mps_log.proofs.Taking.{value_stays, taken_new}
@@ -112,23 +112,23 @@ took_value before after from slot (Some (Label l)) e =
 module _ (types : List LocalType) where
   -- the stores of the view are those of the entries
   abbrev Bind : List Entry → View → Type 0
-  Bind es v = (p : ℕ) → AreBound (value_taken es) (v.participant p).store (bindings p es)
+  Bind es v = (p : ℕ) → AreBound (value_taken es) (v.participant p).store (bindings slot_of p es)
 
   module _ (es : List Entry) (e : Entry) (v w : View) (sound : AreSound es) (fresh : entry_at e.key es ≡ None) (before : replay (opening types) (steps es) ≡ Some v) (next : rule v e.step ≡ Some w) (was : Bind es v) where
     abbrev now : List Entry
     now = es ++ e ∷ []
 
-    stays : (p : ℕ) → AreBound (value_taken now) (v.participant p).store (bindings p es)
-    stays p = bound_stays (value_taken es) (value_taken now) (v.participant p).store (bindings p es) (value_stays es e sound fresh) (was p)
+    stays : (p : ℕ) → AreBound (value_taken now) (v.participant p).store (bindings slot_of p es)
+    stays p = bound_stays (value_taken es) (value_taken now) (v.participant p).store (bindings slot_of p es) (value_stays es e sound fresh) (was p)
 
     -- of the role of the step
-    own_store : (act : Act) → e.step.act ≡ act → (after : Participant) → participant_after (v.participant e.step.role) act (moved v e.step.role act) ≡ Some after → AreBound (value_taken now) (store_after (v.participant e.step.role).store act (moved v e.step.role act)) (bindings e.step.role now)
+    own_store : (act : Act) → e.step.act ≡ act → (after : Participant) → participant_after (v.participant e.step.role) act (moved v e.step.role act) ≡ Some after → AreBound (value_taken now) (store_after (v.participant e.step.role).store act (moved v e.step.role act)) (bindings slot_of e.step.role now)
     own_store (Out to m) is after h =
-        rw (bindings_push e.step.role es e, after_idle e.step.role (bindings e.step.role es) e (ap slot_of is)) (stays e.step.role)
+        rw (bindings_push slot_of e.step.role es e, after_idle slot_of e.step.role (bindings slot_of e.step.role es) e (ap slot_of is)) (stays e.step.role)
     own_store (Mark name) is after h =
-        rw (bindings_push e.step.role es e, after_idle e.step.role (bindings e.step.role es) e (ap slot_of is)) (stays e.step.role)
+        rw (bindings_push slot_of e.step.role es e, after_idle slot_of e.step.role (bindings slot_of e.step.role es) e (ap slot_of is)) (stays e.step.role)
     own_store (In from None) is after h =
-        rw (bindings_push e.step.role es e, after_idle e.step.role (bindings e.step.role es) e (ap slot_of is)) (stays e.step.role)
+        rw (bindings_push slot_of e.step.role es e, after_idle slot_of e.step.role (bindings slot_of e.step.role es) e (ap slot_of is)) (stays e.step.role)
     own_store (In from (Some slot)) is after h =
         let r = e.step.role in
         let m = moved v r (In from (Some slot)) in
@@ -136,8 +136,8 @@ module _ (types : List LocalType) where
         let first : option_and_then (message_of es) (waiting es from r) ≡ Some (Plain took.0) =
         first_message es sound from r ∙ get_first (unreceived from r (steps es)) ∙ ap first_of (sym (queue_is (opening types) v (steps es) from r before)) ∙ took.1 in
         let taken : value_taken now e.key ≡ Some took.0 = ap (option_and_then value_of) (taken_new es e sound fresh from (Some slot) (Plain took.0) is first) in
-        rw (bindings_push r es e, after_receipt r slot (bindings r es) e (refl, ap slot_of is), took.1)
-        (bound_both (value_taken now) (v.participant r).store (bindings r es) slot took.0 e.key (stays r) taken)
+        rw (bindings_push slot_of r es e, after_binding slot_of r slot (bindings slot_of r es) e (refl, ap slot_of is), took.1)
+        (bound_both (value_taken now) (v.participant r).store (bindings slot_of r es) slot took.0 e.key (stays r) taken)
       where
         get_first : (queue : List Message) → slice_get queue 0 ≡ first_of queue
         get_first [] = refl
@@ -147,10 +147,10 @@ module _ (types : List LocalType) where
     bind_step p =
         let parts = rule_parts v w e.step next in
         let c = parts.0 in
-        subst (λ (u : View). AreBound (value_taken now) (u.participant p).store (bindings p now)) parts.2
-        (fact_by_role (λ k part. AreBound (value_taken now) part.store (bindings k now)) v e.step c p
-        (subst (λ (s : Store). AreBound (value_taken now) s (bindings e.step.role now)) (sym (store_then (v.participant e.step.role) c e.step.act (moved v e.step.role e.step.act) parts.1)) (own_store e.step.act refl c parts.1))
-        (λ ne. rw (bindings_push p es e, after_other p (bindings p es) e (ne_eqb e.step.role p (λ k. ne (sym k)))) (stays p)))
+        subst (λ (u : View). AreBound (value_taken now) (u.participant p).store (bindings slot_of p now)) parts.2
+        (fact_by_role (λ k part. AreBound (value_taken now) part.store (bindings slot_of k now)) v e.step c p
+        (subst (λ (s : Store). AreBound (value_taken now) s (bindings slot_of e.step.role now)) (sym (store_then (v.participant e.step.role) c e.step.act (moved v e.step.role e.step.act) parts.1)) (own_store e.step.act refl c parts.1))
+        (λ ne. rw (bindings_push slot_of p es e, after_other slot_of p (bindings slot_of p es) e (ne_eqb e.step.role p (λ k. ne (sym k)))) (stays p)))
 
   bind_from : (a b : List Entry) (v w : View) → AreSound (a ++ b) → replay (opening types) (steps a) ≡ Some v → replay v (steps b) ≡ Some w → Bind a v → Bind (a ++ b) w
   bind_from a [] v w sound before rest was =
@@ -170,14 +170,14 @@ module _ (types : List LocalType) where
   -- what a role keeps in a slot is what the entries say
   pub slot_is : (es : List Entry) (v : View) (p : ℕ) (slot : List ℕ) → AreSound es → replay (opening types) (steps es) ≡ Some v → value_in slot (v.participant p).store ≡ kept_in es p slot
   slot_is es v p slot sound h =
-      value_both (value_taken es) (v.participant p).store (bindings p es) slot (bind_from [] es (opening types) v sound refl h (λ q. tt) p)
+      value_both (value_taken es) (v.participant p).store (bindings slot_of p es) slot (bind_from [] es (opening types) v sound refl h (λ q. tt) p)
 
   -- so it is with the slots of each place
-  pub binding_is : (es : List Entry) (v : View) (p k : ℕ) → AreSound es → replay (opening types) (steps es) ≡ Some v → slice_get (v.participant p).store k ≡ option_and_then (kept_by es) (slice_get (bindings p es) k)
+  pub binding_is : (es : List Entry) (v : View) (p k : ℕ) → AreSound es → replay (opening types) (steps es) ≡ Some v → slice_get (v.participant p).store k ≡ option_and_then (kept_by es) (slice_get (bindings slot_of p es) k)
   binding_is es v p k sound h =
-      binding_both (value_taken es) (v.participant p).store (bindings p es) k (bind_from [] es (opening types) v sound refl h (λ q. tt) p)
+      binding_both (value_taken es) (v.participant p).store (bindings slot_of p es) k (bind_from [] es (opening types) v sound refl h (λ q. tt) p)
 
   -- and with how many there are
-  pub slots_are : (es : List Entry) (v : View) (p : ℕ) → AreSound es → replay (opening types) (steps es) ≡ Some v → length (v.participant p).store ≡ length (bindings p es)
+  pub slots_are : (es : List Entry) (v : View) (p : ℕ) → AreSound es → replay (opening types) (steps es) ≡ Some v → length (v.participant p).store ≡ length (bindings slot_of p es)
   slots_are es v p sound h =
-      long_both (value_taken es) (v.participant p).store (bindings p es) (bind_from [] es (opening types) v sound refl h (λ q. tt) p)
+      long_both (value_taken es) (v.participant p).store (bindings slot_of p es) (bind_from [] es (opening types) v sound refl h (λ q. tt) p)

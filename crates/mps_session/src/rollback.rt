@@ -7,7 +7,7 @@ ghost use Rattle.mps_history.specs.Steps.{numbers, step_of, steps_of, within, wi
 ghost use Rattle.mps_history.specs.Dependence.{consequences};
 ghost use Rattle.mps_local.specs.Local.{LocalType};
 ghost use Rattle.mps_machine.specs.Machine as machine;
-ghost use Rattle.mps_machine.specs.Machine.{is_mark, since_mark};
+ghost use Rattle.mps_machine.specs.Machine.{since_mark};
 ghost use Rattle.mps_machine.specs.Answering.{IsAnswer, IsServed};
 ghost use Rattle.mps_machine.specs.Rule.{replay};
 ghost use Rattle.mps_arena.specs.Entries.{steps};
@@ -20,20 +20,10 @@ ghost use Rattle.mps_session.specs.Told.{told};
 
 use crate::configuration::Configuration;
 use crate::session::Session;
-use mps_base::{Act, Name, Role, StepId};
+use mps_base::{Name, Role, StepId};
 use mps_command::{Refusal, StepIds};
 use mps_links::newest_marked;
 use std::alloc::{AllocError, Global};
-
-// Whether the act is a mark of that name.
-fn is_mark(act: &Act, name: &Name) -> bool
-    ensures { result ≡ is_mark name.now act.now }
-{
-    match act {
-        Act::Mark(mark) => mark == name,
-        Act::Out { .. } | Act::In { .. } => false,
-    }
-}
 
 // Room for so many numbers, and once more where they are told again.
 fn room_for(
@@ -152,21 +142,12 @@ impl Configuration {
         ensures { result ≡ option_map first_number
             (since_mark name.now (steps_of role (steps (lists_of self.now).entries))) }
     {
+        let mark = self.log.last_mark(role, name)?;
         let arena = self.log.steps();
-        let mut at = arena.last_of(role);
-        let mut behind = None;
-        for _ in 0..arena.len() {
-            let Some(key) = at else {
-                return None;
-            };
-            let step = arena.get(key);
-            if is_mark(&step.act, name) {
-                return Some(behind);
-            }
-            behind = Some(step.id);
-            at = arena.prev_of_role(key);
-        }
-        None
+        let Some(next) = arena.next_of_role(mark) else {
+            return Some(None);
+        };
+        Some(arena.id(next))
     }
 }
 

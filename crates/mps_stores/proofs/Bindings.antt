@@ -14,279 +14,281 @@ use Rattle.mps_arena.specs.Entries.{Entry, keys_of, any_step, of_role, entry_at,
 use Rattle.mps_arena.proofs.KeyLists.{last-append, last_in, once}
 use Rattle.mps_arena.proofs.Chains.{keys_with, keys_without, keys_around, distinct, entry_middle}
 use Rattle.mps_arena.proofs.Keeping.{entry_split, others_are}
-use Rattle.mps_stores.specs.Stores.{Keys, store_at, slot_of, IsReceiptInto, store_after, rebound, bindings, AreTraced, AreStores}
-
--- one entry
-pub after_receipt : (p : ℕ) (slot : List ℕ) (store : Keys) (e : Entry) → IsReceiptInto p slot e → store_after p store e ≡ bound slot e.key store
-after_receipt p slot store e is = rw (eq-eqb e.step.role p is.0, is.1) refl
-
-pub after_other : (p : ℕ) (store : Keys) (e : Entry) → (e.step.role == p) ≡ false → store_after p store e ≡ store
-after_other p store e n = cond-false (e.step.role == p) (option_map_or (λ slot. bound slot e.key store) (slot_of e.step.act) store) store n
-
-pub after_idle : (p : ℕ) (store : Keys) (e : Entry) → slot_of e.step.act ≡ None → store_after p store e ≡ store
-after_idle p store e n =
-    ⊎_elim
-    (λ (t : (e.step.role == p) ≡ true). rw (t, n) refl)
-    (λ (f : (e.step.role == p) ≡ false). after_other p store e f)
-    (cases_Bool (e.step.role == p))
-
--- many entries
-pub rebound-append : (p : ℕ) (store : Keys) (a b : List Entry) → rebound p store (a ++ b) ≡ rebound p (rebound p store a) b
-rebound-append p store [] b = refl
-rebound-append p store (x ∷ a) b = rebound-append p (store_after p store x) a b
-
-pub rebound_others : (p : ℕ) (store : Keys) (es : List Entry) → keys_of (of_role p) es ≡ [] → rebound p store es ≡ store
-rebound_others p store [] none = refl
-rebound_others p store (x ∷ es) none =
-    ⊎_elim
-    (λ (t : of_role p x.step ≡ true). let some : x.key ∷ keys_of (of_role p) es ≡ [] = sym (keys_with (of_role p) x es t) ∙ none in absurd cc)
-    (λ (f : of_role p x.step ≡ false).
-    ap (λ (s : Keys). rebound p s es) (after_other p store x f) ∙ rebound_others p store es (sym (keys_without (of_role p) x es f) ∙ none))
-    (cases_Bool (of_role p x.step))
-
-pub bindings_push : (p : ℕ) (es : List Entry) (e : Entry) → bindings p (es ++ e ∷ []) ≡ store_after p (bindings p es) e
-bindings_push p es e = rebound-append p [] es (e ∷ [])
-
--- an entry in the middle that leaves the store
-pub bindings_beside : (p : ℕ) (a b : List Entry) (x : Entry) → ((store : Keys) → store_after p store x ≡ store) → bindings p (a ++ x ∷ b) ≡ bindings p (a ++ b)
-bindings_beside p a b x same = rebound-append p [] a (x ∷ b) ∙ ap (λ (s : Keys). rebound p s b) (same (bindings p a)) ∙ sym (rebound-append p [] a b)
-
--- where an entry of one part stands in the whole
-place_cases : (a b c d : List Entry) (y : Entry) → a ++ b ≡ c ++ y ∷ d → ((m : List Entry) × (a ≡ c ++ y ∷ m)) ⊎ ((m : List Entry) × ((c ≡ a ++ m) × (b ≡ m ++ y ∷ d)))
-place_cases [] b c d y e = inr (c, (refl, e))
-place_cases (x ∷ a) b [] d y e = let head : x ≡ y = cc in inl (a, ap (λ (z : Entry). z ∷ a) head)
-place_cases (x ∷ a) b (z ∷ c) d y e =
-    let head : x ≡ z = cc in
-    let tail : a ++ b ≡ c ++ y ∷ d = cc in
-    ⊎_elim
-    (λ (w : (m : List Entry) × (a ≡ c ++ y ∷ m)). inl (w.0, ap₂ (λ (v : Entry) (l : List Entry). v ∷ l) head w.1))
-    (λ (w : (m : List Entry) × ((c ≡ a ++ m) × (b ≡ m ++ y ∷ d))). inr (w.0, (ap₂ (λ (v : Entry) (l : List Entry). v ∷ l) (sym head) w.1.0, w.1.1)))
-    (place_cases a b c d y tail)
-
-only : (e y : Entry) (m d : List Entry) → e ∷ [] ≡ m ++ y ∷ d → (m ≡ []) × (y ≡ e)
-only e y [] d h = let same : y ≡ e = cc in (refl, same)
-only e y (z ∷ []) d h = absurd cc
-only e y (z ∷ v ∷ m) d h = absurd cc
-
-pub traced_push : (es : List Entry) (e : Entry) → AreTraced es → ((p : ℕ) (slot : List ℕ) → IsReceiptInto p slot e → e.before.bound ≡ value_in slot (bindings p es)) → AreTraced (es ++ e ∷ [])
-traced_push es e was new p slot a b y whole is =
-    ⊎_elim
-    (λ (w : (m : List Entry) × (es ≡ a ++ y ∷ m)). was p slot a w.0 y w.1 is)
-    (λ (w : (m : List Entry) × ((a ≡ es ++ m) × (e ∷ [] ≡ m ++ y ∷ b))).
-    let o = only e y w.0 b w.1.1 in
-    let here : a ≡ es = w.1.0 ∙ ap (λ (l : List Entry). es ++ l) o.0 ∙ append-nil es in
-    ap (λ (z : Entry). z.before.bound) o.1 ∙ new p slot (subst (IsReceiptInto p slot) o.1 is) ∙ ap (λ (l : List Entry). value_in slot (bindings p l)) (sym here))
-    (place_cases es (e ∷ []) a b y whole)
-
--- an entry goes that no later entry's store shows
-pub traced_without : (a b : List Entry) (x : Entry) → AreTraced (a ++ x ∷ b) → ((c d : List Entry) (y : Entry) → b ≡ c ++ y ∷ d → (store : Keys) → store_after y.step.role store x ≡ store) → AreTraced (a ++ b)
-traced_without a b x was unseen p slot c d y whole is =
-    ⊎_elim
-    (λ (w : (m : List Entry) × (a ≡ c ++ y ∷ m)). was p slot c (w.0 ++ x ∷ b) y (ap (λ (l : List Entry). l ++ x ∷ b) w.1 ∙ append_assoc c (y ∷ w.0) (x ∷ b)) is)
-    (λ (w : (m : List Entry) × ((c ≡ a ++ m) × (b ≡ m ++ y ∷ d))).
-    let found = was p slot (a ++ x ∷ w.0) d y (ap (λ (l : List Entry). a ++ x ∷ l) w.1.1 ∙ sym (append_assoc a (x ∷ w.0) (y ∷ d))) is in
-    let same : (store : Keys) → store_after p store x ≡ store = subst (λ (i : ℕ). (store : Keys) → store_after i store x ≡ store) is.0 (unseen w.0 d y w.1.1) in
-    found ∙ ap (value_in slot) (bindings_beside p a w.0 x same) ∙ ap (λ (l : List Entry). value_in slot (bindings p l)) (sym w.1.0))
-    (place_cases a b c d y whole)
-
--- an idle entry
-pub stores_idle_push : (es : List Entry) (e : Entry) (stores : List Keys) → AreStores es stores → slot_of e.step.act ≡ None → AreStores (es ++ e ∷ []) stores
-stores_idle_push es e stores s idle = record {
-  each = λ p small. s.each p small ∙ sym (bindings_push p es e ∙ after_idle p (bindings p es) e idle);
-  traced = traced_push es e s.traced (λ p slot is. let no : None ≡ Some slot = sym idle ∙ is.1 in absurd cc);
-}
-
-pub stores_idle_without : (es : List Entry) (e : Entry) (stores : List Keys) → AreStores es stores → AreSound es → entry_at e.key es ≡ Some e → slot_of e.step.act ≡ None → AreStores (filter (λ other. not (other.key == e.key)) es) stores
-stores_idle_without es e stores s sound found idle =
-    let w = entry_split e.key es e found in
-    let a = w.0 in
-    let b = w.1 in
-    let d : AreDistinct (keys_of any_step (a ++ e ∷ b)) = subst (λ (l : List Entry). AreDistinct (keys_of any_step l)) w.2 sound.distinct in
-    let left : filter (λ other. not (other.key == e.key)) es ≡ a ++ b = ap (filter (λ (other : Entry). not (other.key == e.key))) w.2 ∙ others_are e.key a b e d refl in
-    let t : AreTraced (a ++ e ∷ b) = subst AreTraced w.2 s.traced in
-    let r : AreStores (a ++ b) stores = record {
-      each = λ p small. s.each p small ∙ ap (bindings p) w.2 ∙ bindings_beside p a b e (λ store. after_idle p store e idle);
-      traced = traced_without a b e t (λ c l y is store. after_idle y.step.role store e idle);
-    } in
-    subst (λ (l : List Entry). AreStores l stores) (sym left) r
-
--- a receipt joins
-pub stores_bind : (es : List Entry) (e : Entry) (p : ℕ) (slot : List ℕ) (stores : List Keys) → length stores ≡ 8 → p < 8 → AreStores es stores → IsReceiptInto p slot e → e.before.bound ≡ value_in slot (store_at stores p) → AreStores (es ++ e ∷ []) (slice_set stores p (bound slot e.key (store_at stores p)))
-stores_bind es e p slot stores long small s is kept = record { each = each; traced = traced_push es e s.traced own }
-  where
-    own : (q : ℕ) (x : List ℕ) → IsReceiptInto q x e → e.before.bound ≡ value_in x (bindings q es)
-    own q x h =
-        let role : p ≡ q = sym is.0 ∙ h.0 in
-        let one : Some slot ≡ Some x = sym is.1 ∙ h.1 in
-        let same : slot ≡ x = cc in
-        kept ∙ ap (value_in slot) (s.each p small) ∙ ap₂ (λ (y : List ℕ) (r : ℕ). value_in y (bindings r es)) same role
-
-    each : (q : ℕ) → q < 8 → store_at (slice_set stores p (bound slot e.key (store_at stores p))) q ≡ bindings q (es ++ e ∷ [])
-    each q low =
-        ⊎_elim
-        (λ (t : (p == q) ≡ true).
-        let same = eqb-true p q t in
-        subst (λ (r : ℕ). store_at (slice_set stores p (bound slot e.key (store_at stores p))) r ≡ bindings r (es ++ e ∷ [])) same
-        (get_or-set_same stores p (bound slot e.key (store_at stores p)) [] (omega (arith, long, small))
-        ∙ ap (bound slot e.key) (s.each p small) ∙ sym (bindings_push p es e ∙ after_receipt p slot (bindings p es) e is)))
-        (λ (n : (p == q) ≡ false).
-        let away : q ≢ p = λ z. both_ways (p == q) n (eq-eqb p q (sym z)) in
-        get_or-set_other stores p q (bound slot e.key (store_at stores p)) [] away ∙ s.each q low
-        ∙ sym (bindings_push q es e ∙ after_other q (bindings q es) e (ap (λ (r : ℕ). r == q) is.0 ∙ n)))
-        (cases_Bool (p == q))
-
--- nothing of its role stands after the last entry of the role
-none_behind : (c d : List ℕ) (k : ℕ) → AreDistinct (c ++ k ∷ d) → last_key None (c ++ k ∷ d) ≡ Some k → d ≡ []
-none_behind c [] k apart last = refl
-none_behind c (j ∷ d) k apart last =
-    let is : last_key None (j ∷ d) ≡ Some k = sym (last-append None c (k ∷ j ∷ d)) ∙ last in
-    absurd (both_ways (has k (j ∷ d)) (once k c (j ∷ d) apart).1 (last_in (j ∷ d) k (ap (λ (o : Option ℕ). is_at o k) is ∙ eq-eqb k k refl)))
-
--- no entry of the role stands there
-not_of : (p : ℕ) (c d : List Entry) (y : Entry) → keys_of (of_role p) (c ++ y ∷ d) ≡ [] → (y.step.role == p) ≡ false
-not_of p c d y none =
-    false_from_ne_true (y.step.role == p) (λ t.
-    let some : keys_of (of_role p) c ++ y.key ∷ keys_of (of_role p) d ≡ [] = sym (keys_around (of_role p) c d y t) ∙ none in
-    not_nil (keys_of (of_role p) c) (keys_of (of_role p) d) y.key some)
-  where
-    not_nil : (c d : List ℕ) (k : ℕ) → c ++ k ∷ d ≡ [] → ⊥
-    not_nil [] d k e = absurd cc
-    not_nil (j ∷ c) d k e = absurd cc
-
--- the last entry of its role goes, which is a receipt
-pub stores_unbind : (es : List Entry) (e : Entry) (p : ℕ) (slot : List ℕ) (older : Option ℕ) (stores : List Keys) → length stores ≡ 8 → p < 8 → AreStores es stores → AreSound es → entry_at e.key es ≡ Some e → last_key None (keys_of (of_role p) es) ≡ Some e.key → IsReceiptInto p slot e → e.before.bound ≡ older
-    → AreStores (filter (λ other. not (other.key == e.key)) es) (slice_set stores p (unbound slot older (store_at stores p)))
-stores_unbind es e p slot older stores long small s sound found last is kept =
-    let w = entry_split e.key es e found in
-    let a = w.0 in
-    let b = w.1 in
-    let now = slice_set stores p (unbound slot older (store_at stores p)) in
-    let d : AreDistinct (keys_of any_step (a ++ e ∷ b)) = subst (λ (l : List Entry). AreDistinct (keys_of any_step l)) w.2 sound.distinct in
-    let left : filter (λ other. not (other.key == e.key)) es ≡ a ++ b = ap (filter (λ (other : Entry). not (other.key == e.key))) w.2 ∙ others_are e.key a b e d refl in
-    let t : AreTraced (a ++ e ∷ b) = subst AreTraced w.2 s.traced in
-    let mine : of_role p e.step ≡ true = eq-eqb e.step.role p is.0 in
-    let chain = keys_around (of_role p) a b e mine in
-    let apart : AreDistinct (keys_of (of_role p) a ++ e.key ∷ keys_of (of_role p) b) = subst AreDistinct chain (distinct (of_role p) (a ++ e ∷ b) d) in
-    let final : keys_of (of_role p) b ≡ [] = none_behind (keys_of (of_role p) a) (keys_of (of_role p) b) e.key apart (ap (last_key None) (sym chain) ∙ ap (λ (l : List Entry). last_key None (keys_of (of_role p) l)) (sym w.2) ∙ last) in
-    let was : store_at stores p ≡ bound slot e.key (bindings p a) =
-    s.each p small ∙ ap (bindings p) w.2 ∙ rebound-append p [] a (e ∷ b) ∙ rebound_others p (store_after p (bindings p a) e) b final ∙ after_receipt p slot (bindings p a) e is in
-    let older_is : older ≡ value_in slot (bindings p a) = sym kept ∙ t p slot a b e refl is in
-    let back : unbound slot older (store_at stores p) ≡ bindings p (a ++ b) =
-    ap₂ (unbound slot) older_is was ∙ unbound-bound slot e.key (bindings p a) ∙ sym (rebound-append p [] a b ∙ rebound_others p (bindings p a) b final) in
-    let r : AreStores (a ++ b) now = record {
-      each = λ q low.
-          ⊎_elim
-          (λ (y : (p == q) ≡ true).
-          subst (λ (i : ℕ). store_at now i ≡ bindings i (a ++ b)) (eqb-true p q y)
-          (get_or-set_same stores p (unbound slot older (store_at stores p)) [] (omega (arith, long, small)) ∙ back))
-          (λ (n : (p == q) ≡ false).
-          let away : q ≢ p = λ z. both_ways (p == q) n (eq-eqb p q (sym z)) in
-          get_or-set_other stores p q (unbound slot older (store_at stores p)) [] away ∙ s.each q low ∙ ap (bindings q) w.2
-          ∙ bindings_beside q a b e (λ store. after_other q store e (ap (λ (i : ℕ). i == q) is.0 ∙ n)))
-          (cases_Bool (p == q));
-      traced = traced_without a b e t (λ c l y parts store.
-          let other = not_of p c l y (ap (keys_of (of_role p)) (sym parts) ∙ final) in
-          after_other y.step.role store e (ap (λ (i : ℕ). i == y.step.role) is.0 ∙ ne_eqb p y.step.role (λ z. both_ways (y.step.role == p) other (eq-eqb y.step.role p (sym z)))));
-    } in
-    subst (λ (l : List Entry). AreStores l now) (sym left) r
-
--- marks
-module _ (k : ℕ) (m : Bool) where
-  abbrev marks : List Entry → List Entry
-  marks es = map (with_mark k m) es
-
-  rebound_marked : (p : ℕ) (store : Keys) (es : List Entry) → rebound p store (marks es) ≡ rebound p store es
-  rebound_marked p store [] = refl
-  rebound_marked p store (x ∷ es) = rebound_marked p (store_after p store x) es
-
-  -- where an entry of the marked list stands in the other
-  abbrev Place : List Entry → List Entry → Entry → Type 0
-  Place es c y = (a : List Entry) × (b : List Entry) × (x : Entry) × ((es ≡ a ++ x ∷ b) × (c ≡ marks a) × (y ≡ with_mark k m x))
-
-  behind : (x z : Entry) (es c : List Entry) (y : Entry) → z ≡ with_mark k m x → Place es c y → Place (x ∷ es) (z ∷ c) y
-  behind x z es c y head w =
-      (x ∷ w.0, w.1, w.2, (ap (λ (l : List Entry). x ∷ l) w.3.0, ap₂ (λ (v : Entry) (l : List Entry). v ∷ l) head w.3.1, w.3.2))
-
-  marks_place : (es c d : List Entry) (y : Entry) → marks es ≡ c ++ y ∷ d → Place es c y
-  marks_place [] [] d y e = absurd cc
-  marks_place [] (z ∷ c) d y e = absurd cc
-  marks_place (x ∷ es) [] d y e = let head : y ≡ with_mark k m x = cc in ([], es, x, (refl, refl, head))
-  marks_place (x ∷ es) (z ∷ c) d y e =
-      let head : z ≡ with_mark k m x = cc in
-      let tail : marks es ≡ c ++ y ∷ d = cc in
-      behind x z es c y head (marks_place es c d y tail)
-
-  pub stores_marked : (es : List Entry) (stores : List Keys) → AreStores es stores → AreStores (marks es) stores
-  stores_marked es stores s = record {
-    each = λ p small. s.each p small ∙ sym (rebound_marked p [] es);
-    traced = λ p slot a b e whole is.
-        let w = marks_place es a b e whole in
-        let unmarked : IsReceiptInto p slot w.2 = subst (IsReceiptInto p slot) w.3.2 is in
-        ap (λ (z : Entry). z.before.bound) w.3.2 ∙ s.traced p slot w.0 w.1 w.2 w.3.0 unmarked
-        ∙ ap (value_in slot) (sym (rebound_marked p [] w.0)) ∙ ap (λ (l : List Entry). value_in slot (bindings p l)) (sym w.3.1);
-  }
-
--- what a slot is bound to
-pub record Bound (p : ℕ) (slot : List ℕ) (k : ℕ) (es : List Entry) : Type 0 where
-  pub before : List Entry
-  pub behind : List Entry
-  pub entry : Entry
-  pub parts : es ≡ before ++ entry ∷ behind
-  pub key : entry.key ≡ k
-  pub receipt : IsReceiptInto p slot entry
-
-cases_slot : (o : Option (List ℕ)) → (o ≡ None) ⊎ ((x : List ℕ) × (o ≡ Some x))
-cases_slot None = inl refl
-cases_slot (Some x) = inr (x, refl)
-
--- by an entry, or before it
-bound_here : (p : ℕ) (slot : List ℕ) (k : ℕ) (store : Keys) (e : Entry) → value_in slot (store_after p store e) ≡ Some k → ((e.key ≡ k) × IsReceiptInto p slot e) ⊎ (value_in slot store ≡ Some k)
-bound_here p slot k store e h =
-    ⊎_elim
-    (λ (t : (e.step.role == p) ≡ true).
-    ⊎_elim
-    (λ (z : slot_of e.step.act ≡ None). inr (sym (ap (value_in slot) (after_idle p store e z)) ∙ h))
-    (λ (w : (x : List ℕ) × (slot_of e.step.act ≡ Some x)).
-    let is : IsReceiptInto p w.0 e = (eqb-true e.step.role p t, w.1) in
-    let got : (if bytes_eq w.0 slot then Some e.key else value_in slot store) ≡ Some k =
-    sym (value_in-bound slot w.0 e.key store) ∙ sym (ap (value_in slot) (after_receipt p w.0 store e is)) ∙ h in
-    ⊎_elim
-    (λ (y : bytes_eq w.0 slot ≡ true).
-    let one : Some e.key ≡ Some k = sym (cond-true (bytes_eq w.0 slot) (Some e.key) (value_in slot store) y) ∙ got in
-    let same : e.key ≡ k = cc in
-    inl (same, (is.0, w.1 ∙ ap Some (same_slot w.0 slot y))))
-    (λ (n : bytes_eq w.0 slot ≡ false). inr (sym (cond-false (bytes_eq w.0 slot) (Some e.key) (value_in slot store) n) ∙ got))
-    (cases_Bool (bytes_eq w.0 slot)))
-    (cases_slot (slot_of e.step.act)))
-    (λ (f : (e.step.role == p) ≡ false). inr (sym (ap (value_in slot) (after_other p store e f)) ∙ h))
-    (cases_Bool (e.step.role == p))
-
-bound_in : (p : ℕ) (slot : List ℕ) (k : ℕ) (store : Keys) (es : List Entry) → value_in slot (rebound p store es) ≡ Some k → Bound p slot k es ⊎ (value_in slot store ≡ Some k)
-bound_in p slot k store [] h = inr h
-bound_in p slot k store (x ∷ es) h =
-    ⊎_elim
-    (λ (w : Bound p slot k es).
-    let r : Bound p slot k (x ∷ es) = record { before = x ∷ w.before; behind = w.behind; entry = w.entry; parts = ap (λ (l : List Entry). x ∷ l) w.parts; key = w.key; receipt = w.receipt } in
-    inl r)
-    (λ (g : value_in slot (store_after p store x) ≡ Some k).
-    ⊎_elim
-    (λ (v : (x.key ≡ k) × IsReceiptInto p slot x).
-    let r : Bound p slot k (x ∷ es) = record { before = []; behind = es; entry = x; parts = refl; key = v.0; receipt = v.1 } in
-    inl r)
-    (λ (v : value_in slot store ≡ Some k). inr v)
-    (bound_here p slot k store x g))
-    (bound_in p slot k (store_after p store x) es h)
-
-pub binding_is_receipt : (es : List Entry) (p k : ℕ) (slot : List ℕ) → AreSound es → value_in slot (bindings p es) ≡ Some k → (e : Entry) × (entry_at k es ≡ Some e) × IsReceiptInto p slot e
-binding_is_receipt es p k slot sound h =
-    ⊎_elim
-    (λ (w : Bound p slot k es).
-    let d : AreDistinct (keys_of any_step (w.before ++ w.entry ∷ w.behind)) = subst (λ (l : List Entry). AreDistinct (keys_of any_step l)) w.parts sound.distinct in
-    let found : entry_at k es ≡ Some w.entry = ap₂ entry_at (sym w.key) w.parts ∙ entry_middle w.before w.behind w.entry d in
-    (w.entry, found, w.receipt))
-    (λ (z : value_in slot [] ≡ Some k). absurd cc)
-    (bound_in p slot k [] es h)
+use Rattle.mps_stores.specs.Stores.{Keys, Naming, store_at, IsBinding, store_after, rebound, bindings, AreTraced, AreStores}
 
 -- the store that is written
 pub store_is : (stores : List Keys) (p i : ℕ) (store : Keys) → i ≡ p → length stores ≡ 8 → p < 8 → store ≡ get_or stores i store → store ≡ store_at stores p
 store_is stores p i store same long small is = is ∙ ap (λ (k : ℕ). get_or stores k store) same ∙ get_or_default stores p store [] (omega (arith, long, small))
+
+-- of each kind of names
+module _ (naming : Naming) where
+  -- one entry
+  pub after_binding : (p : ℕ) (slot : List ℕ) (store : Keys) (e : Entry) → IsBinding naming p slot e → store_after naming p store e ≡ bound slot e.key store
+  after_binding p slot store e is = rw (eq-eqb e.step.role p is.0, is.1) refl
+
+  pub after_other : (p : ℕ) (store : Keys) (e : Entry) → (e.step.role == p) ≡ false → store_after naming p store e ≡ store
+  after_other p store e n = cond-false (e.step.role == p) (option_map_or (λ slot. bound slot e.key store) (naming e.step.act) store) store n
+
+  pub after_idle : (p : ℕ) (store : Keys) (e : Entry) → naming e.step.act ≡ None → store_after naming p store e ≡ store
+  after_idle p store e n =
+      ⊎_elim
+      (λ (t : (e.step.role == p) ≡ true). rw (t, n) refl)
+      (λ (f : (e.step.role == p) ≡ false). after_other p store e f)
+      (cases_Bool (e.step.role == p))
+
+  -- many entries
+  pub rebound-append : (p : ℕ) (store : Keys) (a b : List Entry) → rebound naming p store (a ++ b) ≡ rebound naming p (rebound naming p store a) b
+  rebound-append p store [] b = refl
+  rebound-append p store (x ∷ a) b = rebound-append p (store_after naming p store x) a b
+
+  pub rebound_others : (p : ℕ) (store : Keys) (es : List Entry) → keys_of (of_role p) es ≡ [] → rebound naming p store es ≡ store
+  rebound_others p store [] none = refl
+  rebound_others p store (x ∷ es) none =
+      ⊎_elim
+      (λ (t : of_role p x.step ≡ true). let some : x.key ∷ keys_of (of_role p) es ≡ [] = sym (keys_with (of_role p) x es t) ∙ none in absurd cc)
+      (λ (f : of_role p x.step ≡ false).
+      ap (λ (s : Keys). rebound naming p s es) (after_other p store x f) ∙ rebound_others p store es (sym (keys_without (of_role p) x es f) ∙ none))
+      (cases_Bool (of_role p x.step))
+
+  pub bindings_push : (p : ℕ) (es : List Entry) (e : Entry) → bindings naming p (es ++ e ∷ []) ≡ store_after naming p (bindings naming p es) e
+  bindings_push p es e = rebound-append p [] es (e ∷ [])
+
+  -- an entry in the middle that leaves the store
+  pub bindings_beside : (p : ℕ) (a b : List Entry) (x : Entry) → ((store : Keys) → store_after naming p store x ≡ store) → bindings naming p (a ++ x ∷ b) ≡ bindings naming p (a ++ b)
+  bindings_beside p a b x same = rebound-append p [] a (x ∷ b) ∙ ap (λ (s : Keys). rebound naming p s b) (same (bindings naming p a)) ∙ sym (rebound-append p [] a b)
+
+  -- where an entry of one part stands in the whole
+  place_cases : (a b c d : List Entry) (y : Entry) → a ++ b ≡ c ++ y ∷ d → ((m : List Entry) × (a ≡ c ++ y ∷ m)) ⊎ ((m : List Entry) × ((c ≡ a ++ m) × (b ≡ m ++ y ∷ d)))
+  place_cases [] b c d y e = inr (c, (refl, e))
+  place_cases (x ∷ a) b [] d y e = let head : x ≡ y = cc in inl (a, ap (λ (z : Entry). z ∷ a) head)
+  place_cases (x ∷ a) b (z ∷ c) d y e =
+      let head : x ≡ z = cc in
+      let tail : a ++ b ≡ c ++ y ∷ d = cc in
+      ⊎_elim
+      (λ (w : (m : List Entry) × (a ≡ c ++ y ∷ m)). inl (w.0, ap₂ (λ (v : Entry) (l : List Entry). v ∷ l) head w.1))
+      (λ (w : (m : List Entry) × ((c ≡ a ++ m) × (b ≡ m ++ y ∷ d))). inr (w.0, (ap₂ (λ (v : Entry) (l : List Entry). v ∷ l) (sym head) w.1.0, w.1.1)))
+      (place_cases a b c d y tail)
+
+  only : (e y : Entry) (m d : List Entry) → e ∷ [] ≡ m ++ y ∷ d → (m ≡ []) × (y ≡ e)
+  only e y [] d h = let same : y ≡ e = cc in (refl, same)
+  only e y (z ∷ []) d h = absurd cc
+  only e y (z ∷ v ∷ m) d h = absurd cc
+
+  pub traced_push : (es : List Entry) (e : Entry) → AreTraced naming es → ((p : ℕ) (slot : List ℕ) → IsBinding naming p slot e → e.before.bound ≡ value_in slot (bindings naming p es)) → AreTraced naming (es ++ e ∷ [])
+  traced_push es e was new p slot a b y whole is =
+      ⊎_elim
+      (λ (w : (m : List Entry) × (es ≡ a ++ y ∷ m)). was p slot a w.0 y w.1 is)
+      (λ (w : (m : List Entry) × ((a ≡ es ++ m) × (e ∷ [] ≡ m ++ y ∷ b))).
+      let o = only e y w.0 b w.1.1 in
+      let here : a ≡ es = w.1.0 ∙ ap (λ (l : List Entry). es ++ l) o.0 ∙ append-nil es in
+      ap (λ (z : Entry). z.before.bound) o.1 ∙ new p slot (subst (IsBinding naming p slot) o.1 is) ∙ ap (λ (l : List Entry). value_in slot (bindings naming p l)) (sym here))
+      (place_cases es (e ∷ []) a b y whole)
+
+  -- an entry goes that no later entry's store shows
+  pub traced_without : (a b : List Entry) (x : Entry) → AreTraced naming (a ++ x ∷ b) → ((c d : List Entry) (y : Entry) → b ≡ c ++ y ∷ d → (store : Keys) → store_after naming y.step.role store x ≡ store) → AreTraced naming (a ++ b)
+  traced_without a b x was unseen p slot c d y whole is =
+      ⊎_elim
+      (λ (w : (m : List Entry) × (a ≡ c ++ y ∷ m)). was p slot c (w.0 ++ x ∷ b) y (ap (λ (l : List Entry). l ++ x ∷ b) w.1 ∙ append_assoc c (y ∷ w.0) (x ∷ b)) is)
+      (λ (w : (m : List Entry) × ((c ≡ a ++ m) × (b ≡ m ++ y ∷ d))).
+      let found = was p slot (a ++ x ∷ w.0) d y (ap (λ (l : List Entry). a ++ x ∷ l) w.1.1 ∙ sym (append_assoc a (x ∷ w.0) (y ∷ d))) is in
+      let same : (store : Keys) → store_after naming p store x ≡ store = subst (λ (i : ℕ). (store : Keys) → store_after naming i store x ≡ store) is.0 (unseen w.0 d y w.1.1) in
+      found ∙ ap (value_in slot) (bindings_beside p a w.0 x same) ∙ ap (λ (l : List Entry). value_in slot (bindings naming p l)) (sym w.1.0))
+      (place_cases a b c d y whole)
+
+  -- an idle entry
+  pub stores_idle_push : (es : List Entry) (e : Entry) (stores : List Keys) → AreStores naming es stores → naming e.step.act ≡ None → AreStores naming (es ++ e ∷ []) stores
+  stores_idle_push es e stores s idle = record {
+    each = λ p small. s.each p small ∙ sym (bindings_push p es e ∙ after_idle p (bindings naming p es) e idle);
+    traced = traced_push es e s.traced (λ p slot is. let no : None ≡ Some slot = sym idle ∙ is.1 in absurd cc);
+  }
+
+  pub stores_idle_without : (es : List Entry) (e : Entry) (stores : List Keys) → AreStores naming es stores → AreSound es → entry_at e.key es ≡ Some e → naming e.step.act ≡ None → AreStores naming (filter (λ other. not (other.key == e.key)) es) stores
+  stores_idle_without es e stores s sound found idle =
+      let w = entry_split e.key es e found in
+      let a = w.0 in
+      let b = w.1 in
+      let d : AreDistinct (keys_of any_step (a ++ e ∷ b)) = subst (λ (l : List Entry). AreDistinct (keys_of any_step l)) w.2 sound.distinct in
+      let left : filter (λ other. not (other.key == e.key)) es ≡ a ++ b = ap (filter (λ (other : Entry). not (other.key == e.key))) w.2 ∙ others_are e.key a b e d refl in
+      let t : AreTraced naming (a ++ e ∷ b) = subst (AreTraced naming) w.2 s.traced in
+      let r : AreStores naming (a ++ b) stores = record {
+        each = λ p small. s.each p small ∙ ap (bindings naming p) w.2 ∙ bindings_beside p a b e (λ store. after_idle p store e idle);
+        traced = traced_without a b e t (λ c l y is store. after_idle y.step.role store e idle);
+      } in
+      subst (λ (l : List Entry). AreStores naming l stores) (sym left) r
+
+  -- a receipt joins
+  pub stores_bind : (es : List Entry) (e : Entry) (p : ℕ) (slot : List ℕ) (stores : List Keys) → length stores ≡ 8 → p < 8 → AreStores naming es stores → IsBinding naming p slot e → e.before.bound ≡ value_in slot (store_at stores p) → AreStores naming (es ++ e ∷ []) (slice_set stores p (bound slot e.key (store_at stores p)))
+  stores_bind es e p slot stores long small s is kept = record { each = each; traced = traced_push es e s.traced own }
+    where
+      own : (q : ℕ) (x : List ℕ) → IsBinding naming q x e → e.before.bound ≡ value_in x (bindings naming q es)
+      own q x h =
+          let role : p ≡ q = sym is.0 ∙ h.0 in
+          let one : Some slot ≡ Some x = sym is.1 ∙ h.1 in
+          let same : slot ≡ x = cc in
+          kept ∙ ap (value_in slot) (s.each p small) ∙ ap₂ (λ (y : List ℕ) (r : ℕ). value_in y (bindings naming r es)) same role
+
+      each : (q : ℕ) → q < 8 → store_at (slice_set stores p (bound slot e.key (store_at stores p))) q ≡ bindings naming q (es ++ e ∷ [])
+      each q low =
+          ⊎_elim
+          (λ (t : (p == q) ≡ true).
+          let same = eqb-true p q t in
+          subst (λ (r : ℕ). store_at (slice_set stores p (bound slot e.key (store_at stores p))) r ≡ bindings naming r (es ++ e ∷ [])) same
+          (get_or-set_same stores p (bound slot e.key (store_at stores p)) [] (omega (arith, long, small))
+          ∙ ap (bound slot e.key) (s.each p small) ∙ sym (bindings_push p es e ∙ after_binding p slot (bindings naming p es) e is)))
+          (λ (n : (p == q) ≡ false).
+          let away : q ≢ p = λ z. both_ways (p == q) n (eq-eqb p q (sym z)) in
+          get_or-set_other stores p q (bound slot e.key (store_at stores p)) [] away ∙ s.each q low
+          ∙ sym (bindings_push q es e ∙ after_other q (bindings naming q es) e (ap (λ (r : ℕ). r == q) is.0 ∙ n)))
+          (cases_Bool (p == q))
+
+  -- nothing of its role stands after the last entry of the role
+  none_behind : (c d : List ℕ) (k : ℕ) → AreDistinct (c ++ k ∷ d) → last_key None (c ++ k ∷ d) ≡ Some k → d ≡ []
+  none_behind c [] k apart last = refl
+  none_behind c (j ∷ d) k apart last =
+      let is : last_key None (j ∷ d) ≡ Some k = sym (last-append None c (k ∷ j ∷ d)) ∙ last in
+      absurd (both_ways (has k (j ∷ d)) (once k c (j ∷ d) apart).1 (last_in (j ∷ d) k (ap (λ (o : Option ℕ). is_at o k) is ∙ eq-eqb k k refl)))
+
+  -- no entry of the role stands there
+  not_of : (p : ℕ) (c d : List Entry) (y : Entry) → keys_of (of_role p) (c ++ y ∷ d) ≡ [] → (y.step.role == p) ≡ false
+  not_of p c d y none =
+      false_from_ne_true (y.step.role == p) (λ t.
+      let some : keys_of (of_role p) c ++ y.key ∷ keys_of (of_role p) d ≡ [] = sym (keys_around (of_role p) c d y t) ∙ none in
+      not_nil (keys_of (of_role p) c) (keys_of (of_role p) d) y.key some)
+    where
+      not_nil : (c d : List ℕ) (k : ℕ) → c ++ k ∷ d ≡ [] → ⊥
+      not_nil [] d k e = absurd cc
+      not_nil (j ∷ c) d k e = absurd cc
+
+  -- the last entry of its role goes, which is a receipt
+  pub stores_unbind : (es : List Entry) (e : Entry) (p : ℕ) (slot : List ℕ) (older : Option ℕ) (stores : List Keys) → length stores ≡ 8 → p < 8 → AreStores naming es stores → AreSound es → entry_at e.key es ≡ Some e → last_key None (keys_of (of_role p) es) ≡ Some e.key → IsBinding naming p slot e → e.before.bound ≡ older
+      → AreStores naming (filter (λ other. not (other.key == e.key)) es) (slice_set stores p (unbound slot older (store_at stores p)))
+  stores_unbind es e p slot older stores long small s sound found last is kept =
+      let w = entry_split e.key es e found in
+      let a = w.0 in
+      let b = w.1 in
+      let now = slice_set stores p (unbound slot older (store_at stores p)) in
+      let d : AreDistinct (keys_of any_step (a ++ e ∷ b)) = subst (λ (l : List Entry). AreDistinct (keys_of any_step l)) w.2 sound.distinct in
+      let left : filter (λ other. not (other.key == e.key)) es ≡ a ++ b = ap (filter (λ (other : Entry). not (other.key == e.key))) w.2 ∙ others_are e.key a b e d refl in
+      let t : AreTraced naming (a ++ e ∷ b) = subst (AreTraced naming) w.2 s.traced in
+      let mine : of_role p e.step ≡ true = eq-eqb e.step.role p is.0 in
+      let chain = keys_around (of_role p) a b e mine in
+      let apart : AreDistinct (keys_of (of_role p) a ++ e.key ∷ keys_of (of_role p) b) = subst AreDistinct chain (distinct (of_role p) (a ++ e ∷ b) d) in
+      let final : keys_of (of_role p) b ≡ [] = none_behind (keys_of (of_role p) a) (keys_of (of_role p) b) e.key apart (ap (last_key None) (sym chain) ∙ ap (λ (l : List Entry). last_key None (keys_of (of_role p) l)) (sym w.2) ∙ last) in
+      let was : store_at stores p ≡ bound slot e.key (bindings naming p a) =
+      s.each p small ∙ ap (bindings naming p) w.2 ∙ rebound-append p [] a (e ∷ b) ∙ rebound_others p (store_after naming p (bindings naming p a) e) b final ∙ after_binding p slot (bindings naming p a) e is in
+      let older_is : older ≡ value_in slot (bindings naming p a) = sym kept ∙ t p slot a b e refl is in
+      let back : unbound slot older (store_at stores p) ≡ bindings naming p (a ++ b) =
+      ap₂ (unbound slot) older_is was ∙ unbound-bound slot e.key (bindings naming p a) ∙ sym (rebound-append p [] a b ∙ rebound_others p (bindings naming p a) b final) in
+      let r : AreStores naming (a ++ b) now = record {
+        each = λ q low.
+            ⊎_elim
+            (λ (y : (p == q) ≡ true).
+            subst (λ (i : ℕ). store_at now i ≡ bindings naming i (a ++ b)) (eqb-true p q y)
+            (get_or-set_same stores p (unbound slot older (store_at stores p)) [] (omega (arith, long, small)) ∙ back))
+            (λ (n : (p == q) ≡ false).
+            let away : q ≢ p = λ z. both_ways (p == q) n (eq-eqb p q (sym z)) in
+            get_or-set_other stores p q (unbound slot older (store_at stores p)) [] away ∙ s.each q low ∙ ap (bindings naming q) w.2
+            ∙ bindings_beside q a b e (λ store. after_other q store e (ap (λ (i : ℕ). i == q) is.0 ∙ n)))
+            (cases_Bool (p == q));
+        traced = traced_without a b e t (λ c l y parts store.
+            let other = not_of p c l y (ap (keys_of (of_role p)) (sym parts) ∙ final) in
+            after_other y.step.role store e (ap (λ (i : ℕ). i == y.step.role) is.0 ∙ ne_eqb p y.step.role (λ z. both_ways (y.step.role == p) other (eq-eqb y.step.role p (sym z)))));
+      } in
+      subst (λ (l : List Entry). AreStores naming l now) (sym left) r
+
+  -- marks
+  module _ (k : ℕ) (m : Bool) where
+    abbrev marks : List Entry → List Entry
+    marks es = map (with_mark k m) es
+
+    rebound_marked : (p : ℕ) (store : Keys) (es : List Entry) → rebound naming p store (marks es) ≡ rebound naming p store es
+    rebound_marked p store [] = refl
+    rebound_marked p store (x ∷ es) = rebound_marked p (store_after naming p store x) es
+
+    -- where an entry of the marked list stands in the other
+    abbrev Place : List Entry → List Entry → Entry → Type 0
+    Place es c y = (a : List Entry) × (b : List Entry) × (x : Entry) × ((es ≡ a ++ x ∷ b) × (c ≡ marks a) × (y ≡ with_mark k m x))
+
+    behind : (x z : Entry) (es c : List Entry) (y : Entry) → z ≡ with_mark k m x → Place es c y → Place (x ∷ es) (z ∷ c) y
+    behind x z es c y head w =
+        (x ∷ w.0, w.1, w.2, (ap (λ (l : List Entry). x ∷ l) w.3.0, ap₂ (λ (v : Entry) (l : List Entry). v ∷ l) head w.3.1, w.3.2))
+
+    marks_place : (es c d : List Entry) (y : Entry) → marks es ≡ c ++ y ∷ d → Place es c y
+    marks_place [] [] d y e = absurd cc
+    marks_place [] (z ∷ c) d y e = absurd cc
+    marks_place (x ∷ es) [] d y e = let head : y ≡ with_mark k m x = cc in ([], es, x, (refl, refl, head))
+    marks_place (x ∷ es) (z ∷ c) d y e =
+        let head : z ≡ with_mark k m x = cc in
+        let tail : marks es ≡ c ++ y ∷ d = cc in
+        behind x z es c y head (marks_place es c d y tail)
+
+    pub stores_marked : (es : List Entry) (stores : List Keys) → AreStores naming es stores → AreStores naming (marks es) stores
+    stores_marked es stores s = record {
+      each = λ p small. s.each p small ∙ sym (rebound_marked p [] es);
+      traced = λ p slot a b e whole is.
+          let w = marks_place es a b e whole in
+          let unmarked : IsBinding naming p slot w.2 = subst (IsBinding naming p slot) w.3.2 is in
+          ap (λ (z : Entry). z.before.bound) w.3.2 ∙ s.traced p slot w.0 w.1 w.2 w.3.0 unmarked
+          ∙ ap (value_in slot) (sym (rebound_marked p [] w.0)) ∙ ap (λ (l : List Entry). value_in slot (bindings naming p l)) (sym w.3.1);
+    }
+
+  -- what a slot is bound to
+  pub record Bound (p : ℕ) (slot : List ℕ) (k : ℕ) (es : List Entry) : Type 0 where
+    pub before : List Entry
+    pub behind : List Entry
+    pub entry : Entry
+    pub parts : es ≡ before ++ entry ∷ behind
+    pub key : entry.key ≡ k
+    pub receipt : IsBinding naming p slot entry
+
+  cases_slot : (o : Option (List ℕ)) → (o ≡ None) ⊎ ((x : List ℕ) × (o ≡ Some x))
+  cases_slot None = inl refl
+  cases_slot (Some x) = inr (x, refl)
+
+  -- by an entry, or before it
+  bound_here : (p : ℕ) (slot : List ℕ) (k : ℕ) (store : Keys) (e : Entry) → value_in slot (store_after naming p store e) ≡ Some k → ((e.key ≡ k) × IsBinding naming p slot e) ⊎ (value_in slot store ≡ Some k)
+  bound_here p slot k store e h =
+      ⊎_elim
+      (λ (t : (e.step.role == p) ≡ true).
+      ⊎_elim
+      (λ (z : naming e.step.act ≡ None). inr (sym (ap (value_in slot) (after_idle p store e z)) ∙ h))
+      (λ (w : (x : List ℕ) × (naming e.step.act ≡ Some x)).
+      let is : IsBinding naming p w.0 e = (eqb-true e.step.role p t, w.1) in
+      let got : (if bytes_eq w.0 slot then Some e.key else value_in slot store) ≡ Some k =
+      sym (value_in-bound slot w.0 e.key store) ∙ sym (ap (value_in slot) (after_binding p w.0 store e is)) ∙ h in
+      ⊎_elim
+      (λ (y : bytes_eq w.0 slot ≡ true).
+      let one : Some e.key ≡ Some k = sym (cond-true (bytes_eq w.0 slot) (Some e.key) (value_in slot store) y) ∙ got in
+      let same : e.key ≡ k = cc in
+      inl (same, (is.0, w.1 ∙ ap Some (same_slot w.0 slot y))))
+      (λ (n : bytes_eq w.0 slot ≡ false). inr (sym (cond-false (bytes_eq w.0 slot) (Some e.key) (value_in slot store) n) ∙ got))
+      (cases_Bool (bytes_eq w.0 slot)))
+      (cases_slot (naming e.step.act)))
+      (λ (f : (e.step.role == p) ≡ false). inr (sym (ap (value_in slot) (after_other p store e f)) ∙ h))
+      (cases_Bool (e.step.role == p))
+
+  bound_in : (p : ℕ) (slot : List ℕ) (k : ℕ) (store : Keys) (es : List Entry) → value_in slot (rebound naming p store es) ≡ Some k → Bound p slot k es ⊎ (value_in slot store ≡ Some k)
+  bound_in p slot k store [] h = inr h
+  bound_in p slot k store (x ∷ es) h =
+      ⊎_elim
+      (λ (w : Bound p slot k es).
+      let r : Bound p slot k (x ∷ es) = record { before = x ∷ w.before; behind = w.behind; entry = w.entry; parts = ap (λ (l : List Entry). x ∷ l) w.parts; key = w.key; receipt = w.receipt } in
+      inl r)
+      (λ (g : value_in slot (store_after naming p store x) ≡ Some k).
+      ⊎_elim
+      (λ (v : (x.key ≡ k) × IsBinding naming p slot x).
+      let r : Bound p slot k (x ∷ es) = record { before = []; behind = es; entry = x; parts = refl; key = v.0; receipt = v.1 } in
+      inl r)
+      (λ (v : value_in slot store ≡ Some k). inr v)
+      (bound_here p slot k store x g))
+      (bound_in p slot k (store_after naming p store x) es h)
+
+  pub binding_is_step : (es : List Entry) (p k : ℕ) (slot : List ℕ) → AreSound es → value_in slot (bindings naming p es) ≡ Some k → (e : Entry) × (entry_at k es ≡ Some e) × IsBinding naming p slot e
+  binding_is_step es p k slot sound h =
+      ⊎_elim
+      (λ (w : Bound p slot k es).
+      let d : AreDistinct (keys_of any_step (w.before ++ w.entry ∷ w.behind)) = subst (λ (l : List Entry). AreDistinct (keys_of any_step l)) w.parts sound.distinct in
+      let found : entry_at k es ≡ Some w.entry = ap₂ entry_at (sym w.key) w.parts ∙ entry_middle w.before w.behind w.entry d in
+      (w.entry, found, w.receipt))
+      (λ (z : value_in slot [] ≡ Some k). absurd cc)
+      (bound_in p slot k [] es h)

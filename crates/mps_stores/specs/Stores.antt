@@ -1,4 +1,4 @@
--- What each role keeps: slots, each with the key of the receipt that bound it, in the order in which they were first bound.
+-- Names that steps bind: a receipt binds its slot, a mark its own name. Each role's names, each with the key of the step that bound it last, in the order in which they were first bound.
 use Rattle.std.specs.Prelude.{◌≡◌, ℕ, ◌<◌, ◌==◌, if◌then◌else◌, List, [], ◌∷◌, ◌++◌, Option, None, Some, slice_index_or}
 use Rattle.std.specs.Option.{option_map_or}
 use Rattle.mps_base.specs.declared.action.Act.{Act}
@@ -13,35 +13,45 @@ Keys = List (List ℕ × ℕ)
 abbrev pub store_at : List Keys → ℕ → Keys
 store_at stores p = slice_index_or stores p []
 
+-- which name an act binds, if it binds one
+abbrev pub Naming : Type 0
+Naming = Act → Option (List ℕ)
+
 -- the slot into which the act receives a value
-abbrev pub slot_of : Act → Option (List ℕ)
+abbrev pub slot_of : Naming
 slot_of (Out to message) = None
 slot_of (In from slot) = slot
 slot_of (Mark name) = None
 
--- a receipt of role p into the slot
-abbrev pub IsReceiptInto : ℕ → List ℕ → Entry → Type 0
-IsReceiptInto p slot e = (e.step.role ≡ p) × (slot_of e.step.act ≡ Some slot)
+-- the name that the act marks
+abbrev pub mark_of : Naming
+mark_of (Out to message) = None
+mark_of (In from slot) = None
+mark_of (Mark name) = Some name
 
--- the store of role p after the entry: a receipt of p into a slot binds it to the entry's key
-abbrev pub store_after : ℕ → Keys → Entry → Keys
-store_after p store e =
-    if e.step.role == p then option_map_or (λ slot. bound slot e.key store) (slot_of e.step.act) store else store
+-- a step of role p that binds the name
+abbrev pub IsBinding : Naming → ℕ → List ℕ → Entry → Type 0
+IsBinding naming p name e = (e.step.role ≡ p) × (naming e.step.act ≡ Some name)
+
+-- the store of role p after the entry: a step of p that binds a name binds it to the entry's key
+abbrev pub store_after : Naming → ℕ → Keys → Entry → Keys
+store_after naming p store e =
+    if e.step.role == p then option_map_or (λ name. bound name e.key store) (naming e.step.act) store else store
 
 -- the store of role p after the entries, the oldest first
-abbrev pub rebound : ℕ → Keys → List Entry → Keys
-rebound p store [] = store
-rebound p store (e ∷ es) = rebound p (store_after p store e) es
+abbrev pub rebound : Naming → ℕ → Keys → List Entry → Keys
+rebound naming p store [] = store
+rebound naming p store (e ∷ es) = rebound naming p (store_after naming p store e) es
 
 -- the same, from an empty one
-abbrev pub bindings : ℕ → List Entry → Keys
-bindings p es = rebound p [] es
+abbrev pub bindings : Naming → ℕ → List Entry → Keys
+bindings naming p es = rebound naming p [] es
 
--- each receipt into a slot keeps to what the slot was bound right before it
-abbrev pub AreTraced : List Entry → Type 0
-AreTraced es = (p : ℕ) (slot : List ℕ) (a b : List Entry) (e : Entry) → es ≡ a ++ e ∷ b → IsReceiptInto p slot e → e.before.bound ≡ value_in slot (bindings p a)
+-- each step that binds a name keeps to what the name was bound right before it
+abbrev pub AreTraced : Naming → List Entry → Type 0
+AreTraced naming es = (p : ℕ) (name : List ℕ) (a b : List Entry) (e : Entry) → es ≡ a ++ e ∷ b → IsBinding naming p name e → e.before.bound ≡ value_in name (bindings naming p a)
 
 -- the stores are those of these entries, and each binding can be taken back
-pub record AreStores (es : List Entry) (stores : List Keys) : Type 0 where
-  pub each : (p : ℕ) → p < 8 → store_at stores p ≡ bindings p es
-  pub traced : AreTraced es
+pub record AreStores (naming : Naming) (es : List Entry) (stores : List Keys) : Type 0 where
+  pub each : (p : ℕ) → p < 8 → store_at stores p ≡ bindings naming p es
+  pub traced : AreTraced naming es

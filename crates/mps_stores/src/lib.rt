@@ -1,11 +1,11 @@
-//! What each role keeps of its receipts: slots, each with the key of the receipt that bound it.
+//! The names that each role's steps bind, each with the key of the step that bound it last: the slots of its receipts,
+//! or the names of its marks.
 //!
-//! The main type is `Stores`. A slot that is bound again remembers its earlier receipt, so a receipt can be taken
-//! back.
+//! The main type is `Stores`. A step that binds a name again remembers which one did before, so it can be taken back.
 //!
 //! ```
-//! let older = stores.bind(role, &slot, arena.reserve_one()?)?;
-//! stores.unbind(role, &slot, older);
+//! let older = stores.bind(role, &name, arena.reserve_one()?)?;
+//! stores.unbind(role, &name, older);
 //! ```
 #![tactic(auto)]
 
@@ -14,7 +14,7 @@ mod store;
 mod stores;
 
 pub use laws::{
-    bindings_are_receipts, bindings_come_back, idle_steps_may_go, idle_steps_may_join,
+    bindings_are_steps, bindings_come_back, idle_steps_may_go, idle_steps_may_join,
     marks_leave_stores,
 };
 pub use stores::Stores;

@@ -16,10 +16,10 @@ use std::alloc::{AllocError, Global};
 use std::marker::Model;
 use std::mem;
 
-// How many slots are looked through one by one.
+// How many names are looked through one by one.
 const FEW: usize = 8;
 
-/// Slots and the keys to which they are bound, in the order in which the slots were first bound.
+/// Names and the keys to which they are bound, in the order in which the names were first bound.
 #[derive(Drop)]
 pub(crate) struct Store {
     keys: IndexMap<Name, Key>,
@@ -34,7 +34,7 @@ impl Model for Store {
 }
 
 impl Store {
-    /// A store in which no slot is bound.
+    /// A store in which no name is bound.
     pub(crate) fn new(alloc: Global) -> Store
         ensures { result ≡ [] }
     {
@@ -43,14 +43,14 @@ impl Store {
         }
     }
 
-    /// The key to which the slot is bound.
-    pub(crate) fn get(&self, slot: &Name) -> Option<Key>
-        ensures { result ≡ value_in slot.now self.now }
+    /// The key to which the name is bound.
+    pub(crate) fn get(&self, name: &Name) -> Option<Key>
+        ensures { result ≡ value_in name.now self.now }
     {
-        self.keys.get(slot).copied()
+        self.keys.get(name).copied()
     }
 
-    /// The slots and their keys.
+    /// The names and their keys.
     pub(crate) fn entries(&self) -> Iter<'_, Name, Key>
         ensures rest { result ≡ self.now }
         ensures runs { ShowsInOrder (deref_pair {K = List ℕ} {X = ℕ}) }
@@ -58,45 +58,45 @@ impl Store {
         self.keys.iter()
     }
 
-    /// How many slots are bound.
+    /// How many names are bound.
     pub(crate) fn len(&self) -> usize
         ensures { result ≡ length self.now }
     {
         self.keys.len()
     }
 
-    /// The slot that was bound as the k-th, from 0, and its key.
+    /// The name that was bound as the k-th, from 0, and its key.
     pub(crate) fn nth(&self, k: usize) -> Option<(&Name, &Key)>
         ensures { option_map (deref_pair {K = List ℕ} {X = ℕ}) result ≡ slice_get self.now k }
     {
         self.keys.get_index(k)
     }
 
-    /// Binds the slot, and tells the key to which it was bound.
-    pub(crate) fn bind(&mut self, slot: &Name, key: Key) -> Result<Option<Key>, AllocError>
-        ensures replaced { IfOk result (λ older. older ≡ value_in slot.now self.old) }
-        ensures bound { OnOk result (self.new ≡ bound slot.now key self.old) }
+    /// Binds the name, and tells the key to which it was bound.
+    pub(crate) fn bind(&mut self, name: &Name, key: Key) -> Result<Option<Key>, AllocError>
+        ensures replaced { IfOk result (λ older. older ≡ value_in name.now self.old) }
+        ensures bound { OnOk result (self.new ≡ bound name.now key self.old) }
         ensures err { OnErr result (self.new ≡ self.old) }
-        ensures absent { OnErr result (value_in slot.now self.old ≡ None) }
+        ensures absent { OnErr result (value_in name.now self.old ≡ None) }
     {
-        if let Some(place) = self.place_among_few(slot) {
+        if let Some(place) = self.place_among_few(name) {
             return Ok(self.rebind(place, key));
         }
-        Ok(self.keys.insert(*slot, key)?)
+        Ok(self.keys.insert(*name, key)?)
     }
 
-    // The place of a known slot, where a role keeps few: it is found without its hash.
-    fn place_among_few(&self, slot: &Name) -> Option<usize>
-        ensures { IfSome result (λ place. position (bytes_eq slot.now) (keys_of self.now) ≡ Some place) }
+    // The place of a known name, where a role keeps few: it is found without its hash.
+    fn place_among_few(&self, name: &Name) -> Option<usize>
+        ensures { IfSome result (λ place. position (bytes_eq name.now) (keys_of self.now) ≡ Some place) }
     {
         if self.keys.len() > FEW {
             return None;
         }
         let known = self.keys.keys();
-        place_in(known.as_slice(), slot)
+        place_in(known.as_slice(), name)
     }
 
-    // Binds the slot of that place, and tells the key to which it was bound.
+    // Binds the name of that place, and tells the key to which it was bound.
     fn rebind(&mut self, place: usize, key: Key) -> Option<Key>
         ensures older { result ≡ slice_get (values_of self.old) place }
         ensures rebound { self.new ≡ set_value_at self.old place key }
@@ -105,26 +105,26 @@ impl Store {
         Some(mem::replace(bound, key))
     }
 
-    /// Takes the binding of a slot back. Where the slot isn't bound, nothing changes.
-    pub(crate) fn unbind(&mut self, slot: &Name, older: Option<Key>)
-        ensures { self.new ≡ unbound slot.now older self.old }
+    /// Takes the binding of a name back. Where the name isn't bound, nothing changes.
+    pub(crate) fn unbind(&mut self, name: &Name, older: Option<Key>)
+        ensures { self.new ≡ unbound name.now older self.old }
     {
         match older {
             Some(older) => {
-                if let Some(key) = self.keys.get_mut(slot) {
+                if let Some(key) = self.keys.get_mut(name) {
                     *key = older;
                 }
             }
             None => {
-                self.keys.shift_remove(slot);
+                self.keys.shift_remove(name);
             }
         }
     }
 }
 
-// The first place at which the slot stands.
-fn place_in(slots: &[Name], slot: &Name) -> Option<usize>
-    ensures { result ≡ position (bytes_eq slot.now) slots.now }
+// The first place at which the name stands.
+fn place_in(names: &[Name], name: &Name) -> Option<usize>
+    ensures { result ≡ position (bytes_eq name.now) names.now }
 {
-    slots.iter().position(|other| slot.is(other))
+    names.iter().position(|other| name.is(other))
 }

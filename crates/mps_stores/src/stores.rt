@@ -6,7 +6,7 @@ ghost use Rattle.std.specs.Map.Iter.{ShowsInOrder, deref_pair};
 ghost use Rattle.mps_history.specs.Slots.{bound, unbound, value_in};
 ghost use Rattle.mps_arena.specs.Keys.{last_key};
 ghost use Rattle.mps_arena.specs.Entries.{Entry, keys_of, of_role, entry_at, AreSound};
-ghost use Rattle.mps_stores.specs.Stores.{store_at, IsReceiptInto, AreStores};
+ghost use Rattle.mps_stores.specs.Stores.{Naming, store_at, IsBinding, AreStores};
 
 use crate::store::Store;
 use indexmap::map::Iter;
@@ -15,8 +15,8 @@ use mps_base::{Name, Role};
 use std::alloc::{AllocError, Global};
 use std::marker::Model;
 
-/// For each of 8 roles its slots, in the order in which they were first bound, each with the key
-/// of a receipt.
+/// For each of 8 roles the names that its steps bound, in the order in which they were first bound, each with the key
+/// of the step that bound it last.
 #[derive(Drop)]
 pub struct Stores {
     stores: Vec<Store>,
@@ -34,10 +34,10 @@ impl Model for Stores {
 }
 
 impl Stores {
-    /// Stores in which no slot is bound. The allocator is kept for later growth.
+    /// Stores in which no name is bound. The allocator is kept for later growth.
     pub fn new(alloc: Global) -> Result<Stores, AllocError>
         ensures empty { IfOk result (λ stores. stores ≡ replicate 8 []) }
-        ensures stores { IfOk result (λ stores. AreStores [] stores) }
+        ensures stores { IfOk result (λ stores. (naming : Naming) → AreStores naming [] stores) }
     {
         let mut stores = Vec::with_capacity(alloc, 8)?;
         for _ in 0..8usize {
@@ -46,15 +46,15 @@ impl Stores {
         Ok(Stores { stores })
     }
 
-    /// The receipt to which the role's slot is bound.
-    pub fn get(&self, role: Role, slot: &Name) -> Option<Key>
+    /// The step to which the role's name is bound.
+    pub fn get(&self, role: Role, name: &Name) -> Option<Key>
         requires { role < 8 }
-        ensures { result ≡ value_in slot.now (store_at self.now role) }
+        ensures { result ≡ value_in name.now (store_at self.now role) }
     {
-        self.stores[role.index()].get(slot)
+        self.stores[role.index()].get(name)
     }
 
-    /// The role's slots, in the order in which they were first bound, each with its receipt.
+    /// The role's names, in the order in which they were first bound, each with its step.
     pub fn entries(&self, role: Role) -> Iter<'_, Name, Key>
         requires { role < 8 }
         ensures rest { result ≡ store_at self.now role }
@@ -63,7 +63,7 @@ impl Stores {
         self.stores[role.index()].entries()
     }
 
-    /// How many slots of the role are bound.
+    /// How many names of the role are bound.
     pub fn count(&self, role: Role) -> usize
         requires { role < 8 }
         ensures { result ≡ length (store_at self.now role) }
@@ -71,7 +71,7 @@ impl Stores {
         self.stores[role.index()].len()
     }
 
-    /// The role's slot that was bound as the k-th, from 0, and its receipt.
+    /// The role's name that was bound as the k-th, from 0, and its step.
     pub fn nth(&self, role: Role, k: usize) -> Option<(&Name, &Key)>
         requires { role < 8 }
         ensures { option_map (deref_pair {K = List ℕ} {X = ℕ}) result
@@ -80,36 +80,36 @@ impl Stores {
         self.stores[role.index()].nth(k)
     }
 
-    /// Binds the role's slot to a receipt, and tells to which one it was bound: what the receipt's
-    /// entry keeps as `before.bound`. A known slot keeps its place, and does not allocate.
-    pub fn bind(&mut self, role: Role, slot: &Name, key: Key) -> Result<Option<Key>, AllocError>
+    /// Binds the role's name to a step, and tells to which one it was bound: what the step's entry keeps as
+    /// `before.bound`. A known name keeps its place, and does not allocate.
+    pub fn bind(&mut self, role: Role, name: &Name, key: Key) -> Result<Option<Key>, AllocError>
         requires { role < 8 }
-        ensures replaced { IfOk result (λ older. older ≡ value_in slot.now (store_at self.old role)) }
+        ensures replaced { IfOk result (λ older. older ≡ value_in name.now (store_at self.old role)) }
         ensures bound { OnOk result (self.new
-            ≡ slice_set self.old role (bound slot.now key (store_at self.old role))) }
-        ensures follows { IfOk result (λ older. (es : List Entry) (e : Entry) →
-            AreStores es self.old → IsReceiptInto role slot.now e →
-            e.key ≡ key → e.before.bound ≡ older → AreStores (es ++ e ∷ []) self.new) }
+            ≡ slice_set self.old role (bound name.now key (store_at self.old role))) }
+        ensures follows { IfOk result (λ older. (naming : Naming) (es : List Entry) (e : Entry) →
+            AreStores naming es self.old → IsBinding naming role name.now e →
+            e.key ≡ key → e.before.bound ≡ older → AreStores naming (es ++ e ∷ []) self.new) }
         ensures err { OnErr result (self.new ≡ self.old) }
-        ensures absent { OnErr result (value_in slot.now (store_at self.old role) ≡ None) }
+        ensures absent { OnErr result (value_in name.now (store_at self.old role) ≡ None) }
     {
         let store = &mut self.stores[role.index()];
-        store.bind(slot, key)
+        store.bind(name, key)
     }
 
-    /// Takes the binding of a slot back: it is bound to the older receipt, in its place, or taken
-    /// out where there is none. Where the slot isn't bound, nothing changes.
-    pub fn unbind(&mut self, role: Role, slot: &Name, older: Option<Key>)
+    /// Takes the binding of a name back: it is bound to the older step, in its place, or taken out where there is none.
+    /// Where the name isn't bound, nothing changes.
+    pub fn unbind(&mut self, role: Role, name: &Name, older: Option<Key>)
         requires { role < 8 }
         ensures unbound { self.new
-            ≡ slice_set self.old role (unbound slot.now older (store_at self.old role)) }
-        ensures returns { (es : List Entry) (e : Entry) →
-            AreStores es self.old → AreSound es → entry_at e.key es ≡ Some e →
+            ≡ slice_set self.old role (unbound name.now older (store_at self.old role)) }
+        ensures returns { (naming : Naming) (es : List Entry) (e : Entry) →
+            AreStores naming es self.old → AreSound es → entry_at e.key es ≡ Some e →
             last_key None (keys_of (of_role role) es) ≡ Some e.key →
-            IsReceiptInto role slot.now e → e.before.bound ≡ older →
-            AreStores (filter (λ other. not (other.key == e.key)) es) self.new }
+            IsBinding naming role name.now e → e.before.bound ≡ older →
+            AreStores naming (filter (λ other. not (other.key == e.key)) es) self.new }
     {
         let store = &mut self.stores[role.index()];
-        store.unbind(slot, older);
+        store.unbind(name, older);
     }
 }

@@ -2,7 +2,7 @@ use Rattle.std.proofs.Common.{List, Bool, sym, subst}
 use Rattle.mps_history.specs.Dependence.{consequences}
 use Rattle.mps_arena.specs.Entries.{Entry, steps, AreSound}
 use Rattle.mps_queues.specs.Fronts.{AreFronts}
-use Rattle.mps_stores.specs.Stores.{AreStores}
+use Rattle.mps_stores.specs.Stores.{AreStores, slot_of, mark_of}
 use Rattle.mps_log.proofs.Remarked.{sound_again, fronts_again, stores_again}
 use Rattle.mps_log.proofs.log.Log.mark_from.Goals as goal
 use Rattle.mps_log.proofs.log.Log.mark_from.Goals.{After-mark_from}
@@ -21,7 +21,8 @@ invariant_of-self c =
     record {
       sound = sound k;
       fronts = subst (λ (es : List Entry). AreFronts es l.queues) (sym c.mark_from.ensures.marks) (fronts_again (marks k) l.arena.entries l.queues c.self.invariant.fronts);
-      stores = subst (λ (es : List Entry). AreStores es l.stores) (sym c.mark_from.ensures.marks) (stores_again (marks k) l.arena.entries l.stores c.self.invariant.stores);
+      slots = subst (λ (es : List Entry). AreStores slot_of es l.slots) (sym c.mark_from.ensures.marks) (stores_again (marks k) slot_of l.arena.entries l.slots c.self.invariant.slots);
+      marks = subst (λ (es : List Entry). AreStores mark_of es l.marks) (sym c.mark_from.ensures.marks) (stores_again (marks k) mark_of l.arena.entries l.marks c.self.invariant.marks);
     }
 
 pub returns-clause-sound : goal.returns-clause-sound

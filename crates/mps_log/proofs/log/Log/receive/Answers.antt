@@ -4,7 +4,8 @@ use Rattle.std.proofs.lemmas.Bool.{and_from}
 use Rattle.mps_base.specs.declared.action.Act.TheVariants.{In}
 use Rattle.mps_arena.specs.Entries.{Entry}
 use Rattle.mps_queues.specs.Fronts.{AreFronts}
-use Rattle.mps_stores.specs.Stores.{AreStores}
+use Rattle.mps_stores.specs.Stores.{AreStores, slot_of, mark_of}
+use Rattle.mps_stores.proofs.Bindings.{stores_idle_push}
 use Rattle.mps_log.proofs.log.Log.receive.Goals as goal
 
 pub invariant_of-self-2 : goal.invariant_of-self-2
@@ -21,5 +22,6 @@ invariant_of-self-2 c =
     record {
       sound = c.add.ensures.sound;
       fronts = subst (λ (o : List Entry). AreFronts o c.take-source.new.self) (sym c.add.ensures.entries) (c.take-source.ensures.fronts e got);
-      stores = subst (λ (o : List Entry). AreStores o c.bind.new.self) (sym whole) (c.in_ok-bound.ensures.follows es e k.stores (refl, refl) (c.add.ensures.key ∙ sym c.in_ok-key.ensures.key) refl);
+      slots = subst (λ (o : List Entry). AreStores slot_of o c.bind.new.self) (sym whole) (c.in_ok-bound.ensures.follows slot_of es e k.slots (refl, refl) (c.add.ensures.key ∙ sym c.in_ok-key.ensures.key) refl);
+      marks = subst (λ (o : List Entry). AreStores mark_of o l.marks) (sym whole) (stores_idle_push mark_of es e l.marks k.marks refl);
     }

@@ -4,7 +4,7 @@ use Rattle.std.proofs.lemmas.Bool.{and_from}
 use Rattle.mps_base.specs.declared.action.Act.TheVariants.{Out}
 use Rattle.mps_arena.specs.Entries.{Entry}
 use Rattle.mps_queues.specs.Fronts.{AreFronts}
-use Rattle.mps_stores.specs.Stores.{AreStores}
+use Rattle.mps_stores.specs.Stores.{AreStores, slot_of, mark_of}
 use Rattle.mps_stores.proofs.Bindings.{stores_idle_push}
 use Rattle.mps_log.proofs.log.Log.send.Goals as goal
 
@@ -21,5 +21,6 @@ invariant_of-self-2 c =
     record {
       sound = c.add.ensures.sound;
       fronts = subst (λ (o : List Entry). AreFronts o c.push.new.self) (sym whole) (c.push.ensures es e k.fronts k.sound sent (c.add.ensures.key ∙ sym c.in_ok-key.ensures.key));
-      stores = subst (λ (o : List Entry). AreStores o l.stores) (sym whole) (stores_idle_push es e l.stores k.stores refl);
+      slots = subst (λ (o : List Entry). AreStores slot_of o l.slots) (sym whole) (stores_idle_push slot_of es e l.slots k.slots refl);
+      marks = subst (λ (o : List Entry). AreStores mark_of o l.marks) (sym whole) (stores_idle_push mark_of es e l.marks k.marks refl);
     }

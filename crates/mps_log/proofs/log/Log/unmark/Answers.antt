@@ -1,7 +1,7 @@
 use Rattle.std.proofs.Common.{List, Bool, false, sym, subst}
 use Rattle.mps_arena.specs.Entries.{Entry, AreSound}
 use Rattle.mps_queues.specs.Fronts.{AreFronts}
-use Rattle.mps_stores.specs.Stores.{AreStores}
+use Rattle.mps_stores.specs.Stores.{AreStores, slot_of, mark_of}
 use Rattle.mps_log.proofs.Remarked.{sound_again, fronts_again, stores_again}
 use Rattle.mps_log.proofs.log.Log.unmark.Goals as goal
 use Rattle.mps_log.proofs.log.Log.unmark.Goals.{After-unmark}
@@ -18,7 +18,8 @@ invariant_of-self c =
     record {
       sound = sound ((goal.at.invariant_of-self c).After-unmark);
       fronts = subst (λ (es : List Entry). AreFronts es l.queues) (sym c.unmark.ensures.entries) (fronts_again nowhere l.arena.entries l.queues c.self.invariant.fronts);
-      stores = subst (λ (es : List Entry). AreStores es l.stores) (sym c.unmark.ensures.entries) (stores_again nowhere l.arena.entries l.stores c.self.invariant.stores);
+      slots = subst (λ (es : List Entry). AreStores slot_of es l.slots) (sym c.unmark.ensures.entries) (stores_again nowhere slot_of l.arena.entries l.slots c.self.invariant.slots);
+      marks = subst (λ (es : List Entry). AreStores mark_of es l.marks) (sym c.unmark.ensures.entries) (stores_again nowhere mark_of l.arena.entries l.marks c.self.invariant.marks);
     }
 
 pub returns-clause-sound : goal.returns-clause-sound

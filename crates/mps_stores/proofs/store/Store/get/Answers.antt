@@ -5,4 +5,4 @@ use Rattle.mps_stores.proofs.store.Store.get.Goals as goal
 
 pub returns : goal.returns
 returns c =
-    c.copied.ensures ∙ c.get.ensures.value ∙ lookup_is_value c.args.slot.now c.self.inside.keys.entries ∙ ap (value_in c.args.slot.now) c.self.view_is
+    c.copied.ensures ∙ c.get.ensures.value ∙ lookup_is_value c.args.name.now c.self.inside.keys.entries ∙ ap (value_in c.args.name.now) c.self.view_is

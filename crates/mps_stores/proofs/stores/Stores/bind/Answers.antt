@@ -2,24 +2,24 @@ use Rattle.std.proofs.Common.{◌≡◌, ℕ, ◌<◌, List, [], ◌∷◌, ◌+
 use Rattle.std.specs.Prelude.{Result, Ok, Err, IfOk, OnOk, slice_set}
 use Rattle.mps_history.specs.Slots.{bound, value_in}
 use Rattle.mps_arena.specs.Entries.{Entry}
-use Rattle.mps_stores.specs.Stores.{Keys, store_at, IsReceiptInto, AreStores}
+use Rattle.mps_stores.specs.Stores.{Keys, Naming, store_at, IsBinding, AreStores}
 use Rattle.mps_stores.proofs.Bindings.{stores_bind, store_is}
 use Rattle.mps_stores.proofs.stores.Stores.bind.Goals as goal
 
-follows_from : {E : Type 0} (r : Result (Option ℕ) E) (stores : List Keys) (p key : ℕ) (slot : List ℕ) (now : Keys) → length stores ≡ 8 → p < 8
-    → IfOk r (λ older. older ≡ value_in slot (store_at stores p)) → OnOk r (now ≡ bound slot key (store_at stores p))
-    → IfOk r (λ older. (es : List Entry) (e : Entry) → AreStores es stores → IsReceiptInto p slot e → e.key ≡ key → e.before.bound ≡ older → AreStores (es ++ e ∷ []) (slice_set stores p now))
-follows_from (Err error) stores p key slot now long small replaced bound_is = tt
-follows_from (Ok older) stores p key slot now long small replaced bound_is = λ es e s is same kept.
-    let now_is : now ≡ bound slot e.key (store_at stores p) = bound_is ∙ ap (λ (k : ℕ). bound slot k (store_at stores p)) (sym same) in
-    rw now_is (stores_bind es e p slot stores long small s is (kept ∙ replaced))
+follows_from : {E : Type 0} (r : Result (Option ℕ) E) (stores : List Keys) (p key : ℕ) (name : List ℕ) (now : Keys) → length stores ≡ 8 → p < 8
+    → IfOk r (λ older. older ≡ value_in name (store_at stores p)) → OnOk r (now ≡ bound name key (store_at stores p))
+    → IfOk r (λ older. (naming : Naming) (es : List Entry) (e : Entry) → AreStores naming es stores → IsBinding naming p name e → e.key ≡ key → e.before.bound ≡ older → AreStores naming (es ++ e ∷ []) (slice_set stores p now))
+follows_from (Err error) stores p key name now long small replaced bound_is = tt
+follows_from (Ok older) stores p key name now long small replaced bound_is = λ naming es e s is same kept.
+    let now_is : now ≡ bound name e.key (store_at stores p) = bound_is ∙ ap (λ (k : ℕ). bound name k (store_at stores p)) (sym same) in
+    rw now_is (stores_bind naming es e p name stores long small s is (kept ∙ replaced))
 
 pub returns-clause-follows : goal.returns-clause-follows
 returns-clause-follows c =
     let stores = c.self.inside.stores.items in
     let p = c.args.role in
-    let slot = c.args.slot.now in
+    let name = c.args.name.now in
     let was : c.index_mut-store.result.now ≡ store_at stores p = store_is stores p c.index.result c.index_mut-store.result.now c.index.ensures.place c.self.invariant c.requires c.index_mut-store.ensures.value in
-    let replaced : IfOk c.bind.result (λ older. older ≡ value_in slot (store_at stores p)) = subst (λ (s : Keys). IfOk c.bind.result (λ older. older ≡ value_in slot s)) was c.bind.ensures.replaced in
-    let now : OnOk c.bind.result (c.bind.new.self ≡ bound slot c.args.key (store_at stores p)) = subst (λ (s : Keys). OnOk c.bind.result (c.bind.new.self ≡ bound slot c.args.key s)) was c.bind.ensures.bound in
-    rw (c.index.ensures.place, ← c.self.view_is) (follows_from c.bind.result stores p c.args.key slot c.bind.new.self c.self.invariant c.requires replaced now)
+    let replaced : IfOk c.bind.result (λ older. older ≡ value_in name (store_at stores p)) = subst (λ (s : Keys). IfOk c.bind.result (λ older. older ≡ value_in name s)) was c.bind.ensures.replaced in
+    let now : OnOk c.bind.result (c.bind.new.self ≡ bound name c.args.key (store_at stores p)) = subst (λ (s : Keys). OnOk c.bind.result (c.bind.new.self ≡ bound name c.args.key s)) was c.bind.ensures.bound in
+    rw (c.index.ensures.place, ← c.self.view_is) (follows_from c.bind.result stores p c.args.key name c.bind.new.self c.self.invariant c.requires replaced now)

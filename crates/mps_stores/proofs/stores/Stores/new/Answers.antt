@@ -13,7 +13,7 @@ none_in [] b e whole = absurd cc
 none_in (x ∷ a) b e whole = absurd cc
 
 pub returns-clause-stores : goal.returns-clause-stores
-returns-clause-stores c = record {
+returns-clause-stores c = λ naming. record {
   each = λ p small. ap (λ s. store_at s p) c.loop.invariant ∙ nothing c.loop.counter p;
-  traced = λ p slot a b e whole is. absurd (none_in a b e whole);
+  traced = λ p name a b e whole is. absurd (none_in a b e whole);
 }

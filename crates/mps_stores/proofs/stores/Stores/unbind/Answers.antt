@@ -5,10 +5,10 @@ use Rattle.mps_stores.proofs.Bindings.{stores_unbind, store_is}
 use Rattle.mps_stores.proofs.stores.Stores.unbind.Goals as goal
 
 pub returns-clause-returns : goal.returns-clause-returns
-returns-clause-returns c es e =
+returns-clause-returns c naming es e =
     let stores = c.self.inside.stores.items in
     let p = c.args.role in
-    let slot = c.args.slot.now in
+    let name = c.args.name.now in
     let was : c.index_mut-store.result.now ≡ store_at stores p = store_is stores p c.index.result c.index_mut-store.result.now c.index.ensures.place c.self.invariant c.requires c.index_mut-store.ensures.value in
-    let now : c.unbind.new.self ≡ unbound slot c.args.older (store_at stores p) = c.unbind.ensures ∙ ap (unbound slot c.args.older) was in
-    rw (c.index.ensures.place, now, ← c.self.view_is) (stores_unbind es e p slot c.args.older stores c.self.invariant c.requires)
+    let now : c.unbind.new.self ≡ unbound name c.args.older (store_at stores p) = c.unbind.ensures ∙ ap (unbound name c.args.older) was in
+    rw (c.index.ensures.place, now, ← c.self.view_is) (stores_unbind naming es e p name c.args.older stores c.self.invariant c.requires)

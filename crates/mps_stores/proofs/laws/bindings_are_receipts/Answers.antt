@@ -1,5 +1,0 @@
-use Rattle.mps_stores.proofs.Bindings.{binding_is_receipt}
-use Rattle.mps_stores.proofs.laws.bindings_are_receipts.Goals as goal
-
-pub returns : goal.returns
-returns c = binding_is_receipt
