@@ -26,10 +26,3 @@ pub use reply::{Reply, write_answer, write_bad_line, write_refused};
 pub use script::{LineFault, read_command, read_script_line};
 pub use spelling::write_command;
 pub use texts::answer_has_text;
-
-#[cfg(test)]
-mod numbered_tests;
-#[cfg(test)]
-mod reader_tests;
-#[cfg(test)]
-mod tests;

@@ -163,10 +163,14 @@ fn listed_to(alloc: Global, last: u64) -> Result<StepIds, Fail> {
 
 // Whether the numbers rise from 1 on.
 fn rise(ids: &StepIds) -> bool {
-    ids.as_slice()
-        .iter()
-        .zip(1..)
-        .all(|(id, number)| id.number() == number)
+    let mut before = 0;
+    for id in ids.as_slice() {
+        if id.number().checked_sub(1) != Some(before) {
+            return false;
+        }
+        before = id.number();
+    }
+    true
 }
 
 // Whether a copy of the list of the numbers from 1 to the last has them all.

@@ -1,6 +1,9 @@
-//! Tests of names, values, commands, devices, lines, protocols and local types, over what their crates make public.
+//! Tests of names, values, commands, devices, lines, replies, protocols and local types, over what their crates make
+//! public.
 #![tactic(auto)]
 
+#[cfg(test)]
+mod command_lines;
 #[cfg(test)]
 mod commands;
 #[cfg(test)]
@@ -16,4 +19,8 @@ mod protocol_texts;
 #[cfg(test)]
 mod protocols;
 #[cfg(test)]
+mod read_replies;
+#[cfg(test)]
 mod values;
+#[cfg(test)]
+mod written_replies;

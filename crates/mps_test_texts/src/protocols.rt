@@ -98,161 +98,174 @@ fn row(
     Ok(check(&Protocol { roles: names, body }))
 }
 
-const NINE: [&str; 9] = ["a", "b", "c", "d", "e", "f", "g", "h", "i"];
+const TWO: &[&str] = &["a", "b"];
+
+const EIGHT: &[&str] = &["a", "b", "c", "d", "e", "f", "g", "h"];
+
+const NINE: &[&str] = &["a", "b", "c", "d", "e", "f", "g", "h", "i"];
+
+const LEVELS: &[(&[&str], u32, Result<(), GlobalFault>)] = &[
+    (TWO, 0, Ok(())),
+    (EIGHT, 1, Ok(())),
+    (TWO, 63, Ok(())),
+    (TWO, 64, Err(GlobalFault::TooDeep)),
+    (TWO, 255, Err(GlobalFault::TooDeep)),
+    (TWO, 256, Err(GlobalFault::TooManyNodes)),
+    (&["a"], 256, Err(GlobalFault::RoleCount)),
+    (NINE, 0, Err(GlobalFault::RoleCount)),
+    (&["a", "a"], 256, Err(GlobalFault::DoubleRole)),
+    (&["b", "a", "b"], 0, Err(GlobalFault::DoubleRole)),
+];
 
 #[test]
 fn counts_roles_nodes_and_levels(rt: HostRuntime) -> Result<(), Fail> {
-    let rows = [
-        (&NINE[..2], 0, Ok(())),
-        (&NINE[..8], 1, Ok(())),
-        (&NINE[..2], 63, Ok(())),
-        (&NINE[..2], 64, Err(GlobalFault::TooDeep)),
-        (&NINE[..2], 255, Err(GlobalFault::TooDeep)),
-        (&NINE[..2], 256, Err(GlobalFault::TooManyNodes)),
-        (&NINE[..1], 256, Err(GlobalFault::RoleCount)),
-        (&NINE, 0, Err(GlobalFault::RoleCount)),
-        (&["a", "a"], 256, Err(GlobalFault::DoubleRole)),
-        (&["b", "a", "b"], 0, Err(GlobalFault::DoubleRole)),
-    ];
-    for (roles, messages, answer) in rows {
-        assert_eq!(rt; row(&rt, rt.alloc(), roles, messages)?, answer);
+    for (roles, messages, answer) in LEVELS {
+        assert!(rt; row(&rt, rt.alloc(), roles, *messages)? == *answer);
     }
     Ok(())
 }
+
+const MESSAGES: &[(&[Part<'static>], Result<(), GlobalFault>)] = &[
+    (&[Part::Sent("a", "b"), Part::Sent("b", "c")], Ok(())),
+    (&[Part::Sent("z", "b")], Err(GlobalFault::UnknownRole)),
+    (&[Part::Sent("a", "z")], Err(GlobalFault::UnknownRole)),
+    (
+        &[Part::Sent("a", "b"), Part::Sent("a", "z")],
+        Err(GlobalFault::UnknownRole),
+    ),
+    (&[Part::Sent("z", "z")], Err(GlobalFault::UnknownRole)),
+    (
+        &[Part::Sent("a", "a"), Part::Sent("a", "z")],
+        Err(GlobalFault::SelfMessage),
+    ),
+    (
+        &[Part::Sent("z", "z"), Part::Var("X")],
+        Err(GlobalFault::UnknownRole),
+    ),
+];
 
 #[test]
 fn checks_messages(rt: HostRuntime) -> Result<(), Fail> {
-    let rows = [
-        (&[Part::Sent("a", "b"), Part::Sent("b", "c")][..], Ok(())),
-        (&[Part::Sent("z", "b")], Err(GlobalFault::UnknownRole)),
-        (&[Part::Sent("a", "z")], Err(GlobalFault::UnknownRole)),
-        (
-            &[Part::Sent("a", "b"), Part::Sent("a", "z")],
-            Err(GlobalFault::UnknownRole),
-        ),
-        (&[Part::Sent("z", "z")], Err(GlobalFault::UnknownRole)),
-        (
-            &[Part::Sent("a", "a"), Part::Sent("a", "z")],
-            Err(GlobalFault::SelfMessage),
-        ),
-        (
-            &[Part::Sent("z", "z"), Part::Var("X")],
-            Err(GlobalFault::UnknownRole),
-        ),
-    ];
-    for (parts, answer) in rows {
-        assert_eq!(rt; checked(&rt, rt.alloc(), &NINE[..3], parts)?, answer);
+    for (parts, answer) in MESSAGES {
+        assert!(rt; checked(&rt, rt.alloc(), &NINE[..3], parts)? == *answer);
     }
     Ok(())
 }
 
-const LABELS: [&str; 17] = [
+const SIXTEEN: &[&str] = &[
+    "l1", "l2", "l3", "l4", "l5", "l6", "l7", "l8", "l9", "l10", "l11", "l12", "l13", "l14", "l15",
+    "l16",
+];
+
+const LABELS: &[&str] = &[
     "l1", "l2", "l3", "l4", "l5", "l6", "l7", "l8", "l9", "l10", "l11", "l12", "l13", "l14", "l15",
     "l16", "l17",
 ];
 
 // 17 labels, of which the last is the first once more.
-const FIRST_TWICE: [&str; 17] = [
+const FIRST_TWICE: &[&str] = &[
     "l1", "l2", "l3", "l4", "l5", "l6", "l7", "l8", "l9", "l10", "l11", "l12", "l13", "l14", "l15",
     "l16", "l1",
 ];
 
+const CHOICES: &[(&[Part<'static>], Result<(), GlobalFault>)] = &[
+    (&[Part::Choice("a", "b", SIXTEEN)], Ok(())),
+    (
+        &[Part::Choice("a", "b", LABELS)],
+        Err(GlobalFault::TooManyBranches),
+    ),
+    (
+        &[Part::Choice("a", "b", &["l", "m", "l"])],
+        Err(GlobalFault::DoubleLabel),
+    ),
+    (
+        &[Part::Choice("a", "b", FIRST_TWICE)],
+        Err(GlobalFault::DoubleLabel),
+    ),
+    (&[Part::Choice("a", "b", &[])], Err(GlobalFault::NoBranches)),
+    (
+        &[Part::Choice("a", "z", &["l", "l"])],
+        Err(GlobalFault::UnknownRole),
+    ),
+    (
+        &[Part::Choice("a", "a", &["l", "l"])],
+        Err(GlobalFault::SelfMessage),
+    ),
+    // in the second branch
+    (
+        &[
+            Part::Choice("a", "b", &["l", "m"]),
+            Part::Choice("b", "a", &["l", "l"]),
+        ],
+        Err(GlobalFault::DoubleLabel),
+    ),
+];
+
 #[test]
 fn checks_choices(rt: HostRuntime) -> Result<(), Fail> {
-    let rows = [
-        (&[Part::Choice("a", "b", &LABELS[..16])][..], Ok(())),
-        (
-            &[Part::Choice("a", "b", &LABELS)],
-            Err(GlobalFault::TooManyBranches),
-        ),
-        (
-            &[Part::Choice("a", "b", &["l", "m", "l"])],
-            Err(GlobalFault::DoubleLabel),
-        ),
-        (
-            &[Part::Choice("a", "b", &FIRST_TWICE)],
-            Err(GlobalFault::DoubleLabel),
-        ),
-        (&[Part::Choice("a", "b", &[])], Err(GlobalFault::NoBranches)),
-        (
-            &[Part::Choice("a", "z", &["l", "l"])],
-            Err(GlobalFault::UnknownRole),
-        ),
-        (
-            &[Part::Choice("a", "a", &["l", "l"])],
-            Err(GlobalFault::SelfMessage),
-        ),
-        // in the second branch
-        (
-            &[
-                Part::Choice("a", "b", &["l", "m"]),
-                Part::Choice("b", "a", &["l", "l"]),
-            ],
-            Err(GlobalFault::DoubleLabel),
-        ),
-    ];
-    for (parts, answer) in rows {
-        assert_eq!(rt; checked(&rt, rt.alloc(), &NINE[..3], parts)?, answer);
+    for (parts, answer) in CHOICES {
+        assert!(rt; checked(&rt, rt.alloc(), &NINE[..3], parts)? == *answer);
     }
     Ok(())
 }
 
+const VARIABLES: &[(&[Part<'static>], Result<(), GlobalFault>)] = &[
+    (
+        &[Part::Rec("X"), Part::Sent("a", "b"), Part::Var("X")],
+        Ok(()),
+    ),
+    (
+        &[Part::Sent("a", "b"), Part::Var("X")],
+        Err(GlobalFault::Unbound),
+    ),
+    (&[Part::Var("X")], Err(GlobalFault::Unbound)),
+    (
+        &[
+            Part::Rec("X"),
+            Part::Sent("a", "b"),
+            Part::Rec("X"),
+            Part::Sent("a", "b"),
+            Part::Var("X"),
+        ],
+        Err(GlobalFault::Shadowed),
+    ),
+    // the message comes before the inner one
+    (
+        &[Part::Rec("X"), Part::Sent("a", "z"), Part::Rec("X")],
+        Err(GlobalFault::UnknownRole),
+    ),
+    (
+        &[Part::Rec("X"), Part::Var("X")],
+        Err(GlobalFault::Unguarded),
+    ),
+    (
+        &[Part::Rec("X"), Part::Rec("Y"), Part::Var("X")],
+        Err(GlobalFault::Unguarded),
+    ),
+    (
+        &[
+            Part::Rec("X"),
+            Part::Sent("a", "b"),
+            Part::Rec("Y"),
+            Part::Var("Y"),
+        ],
+        Err(GlobalFault::Unguarded),
+    ),
+    (
+        &[
+            Part::Rec("X"),
+            Part::Rec("Y"),
+            Part::Choice("a", "b", &["l"]),
+            Part::Var("X"),
+        ],
+        Ok(()),
+    ),
+];
+
 #[test]
 fn checks_variables(rt: HostRuntime) -> Result<(), Fail> {
-    let rows = [
-        (
-            &[Part::Rec("X"), Part::Sent("a", "b"), Part::Var("X")][..],
-            Ok(()),
-        ),
-        (
-            &[Part::Sent("a", "b"), Part::Var("X")],
-            Err(GlobalFault::Unbound),
-        ),
-        (&[Part::Var("X")], Err(GlobalFault::Unbound)),
-        (
-            &[
-                Part::Rec("X"),
-                Part::Sent("a", "b"),
-                Part::Rec("X"),
-                Part::Sent("a", "b"),
-                Part::Var("X"),
-            ],
-            Err(GlobalFault::Shadowed),
-        ),
-        // the message comes before the inner one
-        (
-            &[Part::Rec("X"), Part::Sent("a", "z"), Part::Rec("X")],
-            Err(GlobalFault::UnknownRole),
-        ),
-        (
-            &[Part::Rec("X"), Part::Var("X")],
-            Err(GlobalFault::Unguarded),
-        ),
-        (
-            &[Part::Rec("X"), Part::Rec("Y"), Part::Var("X")],
-            Err(GlobalFault::Unguarded),
-        ),
-        (
-            &[
-                Part::Rec("X"),
-                Part::Sent("a", "b"),
-                Part::Rec("Y"),
-                Part::Var("Y"),
-            ],
-            Err(GlobalFault::Unguarded),
-        ),
-        (
-            &[
-                Part::Rec("X"),
-                Part::Rec("Y"),
-                Part::Choice("a", "b", &["l"]),
-                Part::Var("X"),
-            ],
-            Ok(()),
-        ),
-    ];
-    for (parts, answer) in rows {
-        assert_eq!(rt; checked(&rt, rt.alloc(), &NINE[..2], parts)?, answer);
+    for (parts, answer) in VARIABLES {
+        assert!(rt; checked(&rt, rt.alloc(), &NINE[..2], parts)? == *answer);
     }
     size_laws();
     protocol_laws();
@@ -291,7 +304,7 @@ fn drops_deep_trees(rt: HostRuntime) -> Result<(), Fail> {
         let body = nested(&rt, rt.alloc(), levels)?;
         assert_eq!(rt; between(&rt, rt.alloc(), body)?, answer);
     }
-    let long = row(&rt, rt.alloc(), &NINE, 150_000)?;
+    let long = row(&rt, rt.alloc(), NINE, 150_000)?;
     assert_eq!(rt; long, Err(GlobalFault::RoleCount));
     Ok(())
 }

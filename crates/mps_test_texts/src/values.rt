@@ -20,109 +20,145 @@ fn spelled(alloc: Global, value: &Value) -> Result<(Vec<u8>, Vec<u8>), Fail> {
     Ok((text, again))
 }
 
+const NAMES: &[&str] = &["a", "a_1", "abcdefghijklmnopqrstuvwxyz_01234", "ends", "x0"];
+
+const NO_NAMES: &[&str] = &[
+    "",
+    "A",
+    "1a",
+    "_a",
+    "a-b",
+    "a b",
+    "abcdefghijklmnopqrstuvwxyz_012345",
+    "roles",
+    "rec",
+    "end",
+    "int",
+    "bool",
+    "text",
+    "true",
+    "false",
+];
+
 #[test]
 fn names(rt: HostRuntime) -> Result<(), Fail> {
-    for good in ["a", "a_1", "abcdefghijklmnopqrstuvwxyz_01234", "ends", "x0"] {
+    for good in NAMES {
         let name = name(good.as_bytes())?;
         assert_eq!(rt; name.as_bytes(), good.as_bytes());
         assert!(rt; name.is(&name));
     }
-    let long = "abcdefghijklmnopqrstuvwxyz_012345";
-    let reserved = [
-        "roles", "rec", "end", "int", "bool", "text", "true", "false",
-    ];
-    for bad in ["", "A", "1a", "_a", "a-b", "a b", long] {
-        assert!(rt; Name::read(bad.as_bytes()).is_none(), "{bad}");
-    }
-    for bad in reserved {
+    for bad in NO_NAMES {
         assert!(rt; Name::read(bad.as_bytes()).is_none(), "{bad}");
     }
     Ok(())
 }
 
+const VARIABLES: &[&str] = &["X", "A_1", "ABCDEFGHIJKLMNOPQRSTUVWXYZ_01234", "END"];
+
+const NO_VARIABLES: &[&str] = &[
+    "",
+    "x",
+    "Xy",
+    "1A",
+    "_A",
+    "A-B",
+    "A B",
+    "end",
+    "ABCDEFGHIJKLMNOPQRSTUVWXYZ_012345",
+];
+
 #[test]
 fn variables(rt: HostRuntime) -> Result<(), Fail> {
-    for good in ["X", "A_1", "ABCDEFGHIJKLMNOPQRSTUVWXYZ_01234", "END"] {
+    for good in VARIABLES {
         let variable = VarName::read(good.as_bytes()).ok_or("a variable")?;
         assert_eq!(rt; variable.as_bytes(), good.as_bytes());
         assert!(rt; variable.is(&variable));
     }
-    let long = "ABCDEFGHIJKLMNOPQRSTUVWXYZ_012345";
-    for bad in ["", "x", "Xy", "1A", "_A", "A-B", "A B", "end", long] {
+    for bad in NO_VARIABLES {
         assert!(rt; VarName::read(bad.as_bytes()).is_none(), "{bad}");
     }
     Ok(())
 }
 
+const VALUES: &[&str] = &[
+    "0",
+    "7",
+    "-1",
+    "9223372036854775807",
+    "-9223372036854775808",
+    "true",
+    "false",
+    "\"\"",
+    "\"good day\"",
+    "\"~!0\"",
+];
+
+const NO_VALUES: &[&str] = &[
+    "",
+    "-",
+    "-0",
+    "+5",
+    "007",
+    "-01",
+    "1 ",
+    "9223372036854775808",
+    "-9223372036854775809",
+    "True",
+    "truer",
+    "\"",
+    "\"open",
+    "\"a\"b\"",
+    "\"a\\b\"",
+    "\"tab\t\"",
+    "\"\u{e9}\"",
+    "name",
+];
+
+// Whether the text is that of a value and of its copy.
+fn is_spelled(alloc: Global, text: &[u8]) -> Result<bool, Fail> {
+    let value = value(alloc, text)?;
+    let (spelled, copied) = spelled(alloc, &value)?;
+    Ok(spelled.as_slice() == text && copied.as_slice() == text)
+}
+
 #[test]
 fn values(rt: HostRuntime) -> Result<(), Fail> {
-    let good = [
-        "0",
-        "7",
-        "-1",
-        "9223372036854775807",
-        "-9223372036854775808",
-        "true",
-        "false",
-        "\"\"",
-        "\"good day\"",
-        "\"~!0\"",
-    ];
-    for text in good {
-        let (spelled, copied) = spelled(rt.alloc(), &value(rt.alloc(), text.as_bytes())?)?;
-        assert_eq!(rt; spelled.as_slice(), text.as_bytes());
-        assert_eq!(rt; copied.as_slice(), text.as_bytes());
+    for text in VALUES {
+        assert!(rt; is_spelled(rt.alloc(), text.as_bytes())?, "{text}");
     }
-    let bad = [
-        "",
-        "-",
-        "-0",
-        "+5",
-        "007",
-        "-01",
-        "1 ",
-        "9223372036854775808",
-        "-9223372036854775809",
-        "True",
-        "truer",
-        "\"",
-        "\"open",
-        "\"a\"b\"",
-        "\"a\\b\"",
-        "\"tab\t\"",
-        "\"\u{e9}\"",
-        "name",
-    ];
-    for text in bad {
+    for text in NO_VALUES {
         let read = Value::read(rt.alloc(), text.as_bytes());
         assert!(rt; matches!(read, Err(ValueFault::Bad)), "{text}");
     }
     Ok(())
 }
 
-#[test]
-fn text_lengths(rt: HostRuntime) -> Result<(), Fail> {
-    let mut quoted = vec![in rt.alloc(); b'x'; 257]?;
+// So many letters between quotes.
+fn quoted(alloc: Global, count: usize) -> Result<Vec<u8>, Fail> {
+    let mut quoted = vec![in alloc; b'x'; count]?;
     quoted.insert(0, b'"')?;
     quoted.push(b'"')?;
-    let read = Value::read(rt.alloc(), &quoted);
+    Ok(quoted)
+}
+
+// The text of so many letters, if they are few enough.
+fn text_of(alloc: Global, count: usize) -> Result<Option<Text>, Fail> {
+    Ok(Text::new(vec![in alloc; b'x'; count]?))
+}
+
+#[test]
+fn text_lengths(rt: HostRuntime) -> Result<(), Fail> {
+    let read = Value::read(rt.alloc(), &quoted(rt.alloc(), 257)?);
     assert!(rt; matches!(read, Err(ValueFault::Bad)));
-    let _ = quoted.remove(1);
-    let (spelled, _) = spelled(rt.alloc(), &value(rt.alloc(), &quoted)?)?;
-    assert_eq!(rt; spelled.as_slice(), quoted.as_slice());
-    let text = Text::new(vec![in rt.alloc(); b'x'; 256]?).ok_or("a text")?;
+    let text = text_of(rt.alloc(), 256)?.ok_or("a text")?;
     assert_eq!(rt; text.copy(rt.alloc())?.as_bytes().len(), 256);
-    assert!(rt; Text::new(vec![in rt.alloc(); b'x'; 257]?).is_none());
+    assert!(rt; text_of(rt.alloc(), 257)?.is_none());
     Ok(())
 }
 
 // Whether the text of so many letters is read, spelled and copied.
 fn is_text_of(alloc: Global, count: usize) -> Result<bool, Fail> {
-    let mut quoted = vec![in alloc; b'x'; count]?;
-    quoted.insert(0, b'"')?;
-    quoted.push(b'"')?;
-    let (spelled, copied) = spelled(alloc, &value(alloc, &quoted)?)?;
-    Ok(spelled.as_slice() == quoted.as_slice() && copied.as_slice() == quoted.as_slice())
+    is_spelled(alloc, &quoted(alloc, count)?)
 }
 
 #[test]
@@ -133,95 +169,124 @@ fn texts_of_each_length(rt: HostRuntime) -> Result<(), Fail> {
     Ok(())
 }
 
+const SORTS: &[(&str, Sort)] = &[
+    ("5", Sort::Int),
+    ("true", Sort::Bool),
+    ("\"true\"", Sort::Text),
+];
+
 #[test]
 fn sorts(rt: HostRuntime) -> Result<(), Fail> {
-    let sorts = [
-        ("5", Sort::Int),
-        ("true", Sort::Bool),
-        ("\"true\"", Sort::Text),
-    ];
-    for (text, sort) in sorts {
+    for (text, sort) in SORTS {
         let value = value(rt.alloc(), text.as_bytes())?;
-        assert_eq!(rt; value.sort(), sort);
-        assert!(rt; value.fits(sort));
+        assert!(rt; value.sort() == *sort && value.fits(*sort), "{text}");
     }
     assert!(rt; !Value::Int(1).fits(Sort::Bool));
     Ok(())
 }
 
+const NUMBERS: &[(&str, u64)] = &[("0", 0), ("1", 1), ("18446744073709551615", u64::MAX)];
+
+const NO_NUMBERS: &[&str] = &["", "-1", "+1", "01", "00", "1a", "18446744073709551616"];
+
+// Whether the text is that of the number.
+fn is_number_text(alloc: Global, text: &[u8], number: u64) -> Result<bool, Fail> {
+    let mut out = Vec::from_slice(alloc, b"#")?;
+    write_number(number, &mut out)?;
+    Ok(read_number(text) == Some(number) && out.as_slice().get(1..) == Some(text))
+}
+
 #[test]
 fn numbers(rt: HostRuntime) -> Result<(), Fail> {
-    let good = [("0", 0), ("1", 1), ("18446744073709551615", u64::MAX)];
-    for (text, number) in good {
-        assert_eq!(rt; read_number(text.as_bytes()), Some(number));
-        let mut out = Vec::from_slice(rt.alloc(), b"#")?;
-        write_number(number, &mut out)?;
-        assert_eq!(rt; &out[1..], text.as_bytes());
+    for (text, number) in NUMBERS {
+        assert!(rt;
+            is_number_text(rt.alloc(), text.as_bytes(), *number)?,
+            "{text}"
+        );
     }
-    for bad in ["", "-1", "+1", "01", "00", "1a", "18446744073709551616"] {
+    for bad in NO_NUMBERS {
         assert_eq!(rt; read_number(bad.as_bytes()), None, "{bad}");
     }
     Ok(())
 }
 
-#[test]
-fn role_lists(rt: HostRuntime) -> Result<(), Fail> {
-    let mut names = Vec::new(rt.alloc());
-    for text in ["a", "b", "c", "d", "e", "f", "g", "h", "i"] {
+const LETTERS: &[&str] = &["a", "b", "c", "d", "e", "f", "g", "h", "i"];
+
+// So many names, from a on.
+fn letters(alloc: Global, count: usize) -> Result<Vec<Name>, Fail> {
+    let mut names = Vec::new(alloc);
+    for text in LETTERS.get(..count).ok_or("nine")? {
         names.push(name(text.as_bytes())?)?;
     }
-    assert_eq!(rt; names.len(), 9);
-    for (count, fault) in [(0, true), (1, true), (2, false), (8, false), (9, true)] {
-        match Roles::of(rt.alloc(), &names[..count]) {
-            Ok(roles) => {
-                assert!(rt; !fault);
-                assert_eq!(rt; roles.copy(rt.alloc())?.count(), count);
-            }
-            Err(found) => {
-                assert!(rt; fault);
-                assert_eq!(rt; found, RoleFault::RoleCount);
-            }
-        }
+    Ok(names)
+}
+
+// Whether so many names are roles, and as many in a copy, or refused for their number.
+fn are_roles(alloc: Global, count: usize, few_or_many: bool) -> Result<bool, Fail> {
+    match Roles::of(alloc, &letters(alloc, count)?) {
+        Ok(roles) => Ok(!few_or_many && roles.copy(alloc)?.count() == count),
+        Err(fault) => Ok(few_or_many && fault == RoleFault::RoleCount),
     }
-    let double = Roles::of(rt.alloc(), &[names[0], names[1], names[0]]);
+}
+
+// Whether the role at the place is found by its name and has it.
+fn is_found(roles: &Roles, name: &Name, place: usize) -> bool {
+    match roles.find(name) {
+        Some(role) => role.index() == place && roles.name(role) == *name,
+        None => false,
+    }
+}
+
+#[test]
+fn role_lists(rt: HostRuntime) -> Result<(), Fail> {
+    let alloc = rt.alloc();
+    assert!(rt; are_roles(alloc, 0, true)? && are_roles(alloc, 1, true)?);
+    assert!(rt; are_roles(alloc, 2, false)? && are_roles(alloc, 8, false)?);
+    assert!(rt; are_roles(alloc, 9, true)?);
+    let (a, b) = (name(b"a")?, name(b"b")?);
+    let double = Roles::of(alloc, &[a, b, a]);
     assert!(rt; matches!(double, Err(RoleFault::DoubleRole)));
-    let roles = Roles::of(rt.alloc(), &names[..3])?;
-    let found = roles.find(&names[2]).ok_or("a role")?;
-    assert_eq!(rt; found.index(), 2);
-    assert!(rt; roles.name(found).is(&names[2]));
-    assert!(rt; roles.find(&names[3]).is_none());
-    assert_eq!(rt; roles.find_spelled(b"c"), Some(found));
-    for bytes in [b"".as_slice(), b"d", b"C", b"cc", b"end"] {
+    Ok(())
+}
+
+const NO_ROLES: &[&[u8]] = &[b"", b"d", b"C", b"cc", b"end"];
+
+#[test]
+fn finds_roles(rt: HostRuntime) -> Result<(), Fail> {
+    let roles = Roles::of(rt.alloc(), &letters(rt.alloc(), 3)?)?;
+    let (c, d) = (name(b"c")?, name(b"d")?);
+    assert!(rt; is_found(&roles, &c, 2) && roles.find(&d).is_none());
+    assert_eq!(rt; roles.find_spelled(b"c"), roles.find(&c));
+    for bytes in NO_ROLES {
         assert!(rt; roles.find_spelled(bytes).is_none());
     }
     Ok(())
 }
 
+// Whether a step of this act and its copy are shown alike.
+fn is_copied(alloc: Global, act: Act) -> Result<bool, Fail> {
+    let step = Step {
+        id: StepId::new(4),
+        role: Role::new(2),
+        act,
+    };
+    let copied = step.copy(alloc)?;
+    let first = format!(in alloc; "{step:?}")?;
+    let second = format!(in alloc; "{copied:?}")?;
+    Ok(first.as_str() == second.as_str())
+}
+
 #[test]
 fn copied_steps(rt: HostRuntime) -> Result<(), Fail> {
+    let alloc = rt.alloc();
     let label = name(b"yes")?;
-    let acts = [
-        Act::Out {
-            to: Role::new(1),
-            message: Message::Value(value(rt.alloc(), b"\"good day\"")?),
-        },
-        Act::In {
-            from: Role::new(0),
-            slot: Some(label),
-        },
-        Act::Mark(label),
-    ];
-    for act in acts {
-        let step = Step {
-            id: StepId::new(4),
-            role: Role::new(2),
-            act,
-        };
-        let copied = step.copy(rt.alloc())?;
-        let first = format!(in rt.alloc(); "{step:?}")?;
-        let second = format!(in rt.alloc(); "{copied:?}")?;
-        assert_eq!(rt; first.as_str(), second.as_str());
-    }
+    let message = Message::Value(value(alloc, b"\"good day\"")?);
+    let to = Role::new(1);
+    assert!(rt; is_copied(alloc, Act::Out { to, message })?);
+    let from = Role::new(0);
+    let slot = Some(label);
+    assert!(rt; is_copied(alloc, Act::In { from, slot })?);
+    assert!(rt; is_copied(alloc, Act::Mark(label))?);
     Ok(())
 }
 
@@ -254,21 +319,19 @@ fn copied_messages(rt: HostRuntime) -> Result<(), Fail> {
     Ok(())
 }
 
+// Whether the name of this letter is a role's at the place.
+fn is_at(roles: &Roles, letter: &str, place: usize) -> Result<bool, Fail> {
+    let name = name(letter.as_bytes())?;
+    let again = name;
+    Ok(is_found(roles, &name, place) && again.is(&name) && again.as_bytes() == letter.as_bytes())
+}
+
 #[test]
 fn copied_roles(rt: HostRuntime) -> Result<(), Fail> {
-    let names = [name(b"a")?, name(b"b")?, name(b"c")?];
-    let copied = Roles::of(rt.alloc(), &names)?.copy(rt.alloc())?;
+    let roles = Roles::of(rt.alloc(), &letters(rt.alloc(), 3)?)?;
+    let copied = roles.copy(rt.alloc())?;
     assert_eq!(rt; copied.count(), 3);
-    for (place, name) in names.iter().enumerate() {
-        let role = copied.find(name).ok_or("a role")?;
-        assert_eq!(rt; role.index(), place);
-        assert_eq!(rt; copied.name(role), *name);
-    }
-    for (name, letter) in names.iter().zip([b"a", b"b", b"c"]) {
-        let again = *name;
-        assert!(rt; again.is(name));
-        assert_eq!(rt; again.as_bytes(), letter.as_slice());
-    }
+    assert!(rt; is_at(&copied, "a", 0)? && is_at(&copied, "b", 1)? && is_at(&copied, "c", 2)?);
     Ok(())
 }
 

@@ -1,0 +1,369 @@
+ghost use Rattle.std.specs.Prelude.{◌≡◌, IfOk};
+ghost use Rattle.mps_line.specs.Commands.{NamesRolesOf};
+
+use mps_base::{Name, Role, Roles, StepId};
+use mps_command::{Command, Forward};
+use mps_line::laws::{one_command, one_numbered};
+use mps_line::{LineFault, read_command, read_numbered, read_script_line, write_command};
+use std::alloc::Global;
+use std::test::Fail;
+
+fn name(text: &str) -> Result<Name, Fail> {
+    Ok(Name::read(text.as_bytes()).ok_or("a name")?)
+}
+
+// The roles a, b and c.
+fn roles(alloc: Global) -> Result<Roles, Fail> {
+    Ok(Roles::of(alloc, &[name("a")?, name("b")?, name("c")?])?)
+}
+
+// The command in words.
+fn shown(alloc: Global, command: &Command) -> Result<String, Fail> {
+    match command {
+        Command::Forward(step) => shown_step(alloc, step),
+        Command::Undo(id) => numbered(alloc, "undoes", *id),
+        Command::Rollback(id) => numbered(alloc, "takes back", *id),
+        Command::Back(name) => worded(alloc, "goes back to", None, name.as_bytes()),
+        Command::News(known) => Ok(format!(in alloc; "asks what came after {known}")?),
+        Command::Show => Ok(format!(in alloc; "asks for the session")?),
+    }
+}
+
+// A word and the number of a step.
+fn numbered(alloc: Global, word: &str, id: StepId) -> Result<String, Fail> {
+    let number = id.number();
+    Ok(format!(in alloc; "{word} {number}")?)
+}
+
+// The step that a role wants to take, in words.
+fn shown_step(alloc: Global, command: &Forward) -> Result<String, Fail> {
+    let mut text = Vec::new(alloc);
+    match command {
+        Forward::Send { to, value } => {
+            value.write(&mut text)?;
+            worded(alloc, "to", Some(*to), &text)
+        }
+        Forward::Choose { to, label } => worded(alloc, "chooses", Some(*to), label.as_bytes()),
+        Forward::Receive { from, slot } => worded(alloc, "from", Some(*from), slot.as_bytes()),
+        Forward::Pick { from } => worded(alloc, "picks", Some(*from), b""),
+        Forward::Mark { name } => worded(alloc, "mark", None, name.as_bytes()),
+    }
+}
+
+// A word, the place of a role, if there is one, and bytes.
+fn worded(alloc: Global, word: &str, role: Option<Role>, bytes: &[u8]) -> Result<String, Fail> {
+    let mut text = format!(in alloc; "{word} ")?;
+    if let Some(role) = role {
+        let place = role.index();
+        text.push_str(format!(in alloc; "{place} ")?.as_str())?;
+    }
+    text.push_str(std::str::from_utf8(bytes).or(Err("a text"))?)?;
+    Ok(text)
+}
+
+// ---- lines of a script
+
+// A line, the place of its role, and its command in words: the peer is a place.
+const SCRIPT_LINES: &[(&str, usize, &str)] = &[
+    ("a send b \"good day\"", 0, "to 1 \"good day\""),
+    ("a send b 5", 0, "to 1 5"),
+    ("c send a -5", 2, "to 0 -5"),
+    ("c send a true", 2, "to 0 true"),
+    ("c send a \" 5 \"", 2, "to 0 \" 5 \""),
+    ("b recv a x", 1, "from 0 x"),
+    ("a choose b ok", 0, "chooses 1 ok"),
+    ("c pick a", 2, "picks 0 "),
+    ("b mark m", 1, "mark m"),
+    ("b mark send", 1, "mark send"),
+    ("b undo 3", 1, "undoes 3"),
+    ("c rollback 0", 2, "takes back 0"),
+    ("a back m", 0, "goes back to m"),
+    ("c news 7", 2, "asks what came after 7"),
+    ("b show", 1, "asks for the session"),
+];
+
+fn is_read(alloc: Global, roles: &Roles, row: &(&str, usize, &str)) -> Result<bool, Fail> {
+    let (role, command) = read_script_line(alloc, roles, row.0.as_bytes())?;
+    Ok(role.index() == row.1 && shown(alloc, &command)?.as_str() == row.2)
+}
+
+#[test]
+fn good_lines(rt: HostRuntime) -> Result<(), Fail> {
+    let roles = roles(rt.alloc())?;
+    for row in SCRIPT_LINES {
+        assert!(rt; is_read(rt.alloc(), &roles, row)?, "{}", row.0);
+    }
+    Ok(())
+}
+
+const BAD_LINES: &[&str] = &[
+    "",
+    "a",
+    "a ",
+    "a send",
+    "a send b",
+    "a send b ",
+    "a send b  5",
+    "a send b 5 ",
+    "a send z 5",
+    "z send b 5",
+    "a Send b 5",
+    "a send b 007",
+    " a send b 5",
+    "a  send b 5",
+    "a recv b end",
+    "a recv b",
+    "a recv b \"x\"",
+    "a recv b x y",
+    "a choose b",
+    "a choose b ",
+    "a choose b 5",
+    "a choose z ok",
+    "a choose b ok no",
+    "a pick",
+    "a pick ",
+    "a pick z",
+    "a pick b x",
+    "a pick b ",
+    "a mark",
+    "a mark ",
+    "a mark end",
+    "a mark b m",
+    "a mark  m",
+    "a sendxb 5",
+    "a sender b 5",
+    "a sendb 5",
+    "a marksm",
+    "a show ",
+    "a news 01",
+    "show",
+    "news 0",
+    "1 a send b 5",
+    "a 1 send b 5",
+    "1 send b 5",
+];
+
+#[test]
+fn bad_lines(rt: HostRuntime) -> Result<(), Fail> {
+    let roles = roles(rt.alloc())?;
+    for line in BAD_LINES {
+        let found = read_script_line(rt.alloc(), &roles, line.as_bytes());
+        assert!(rt; matches!(found, Err(LineFault::Bad)), "{line}");
+    }
+    Ok(())
+}
+
+// ---- commands alone
+
+// The command as it is written, and what that is read as.
+fn again(alloc: Global, roles: &Roles, command: &Command) -> Result<(Vec<u8>, Command), Fail>
+    requires { NamesRolesOf roles.now command.now }
+    ensures { IfOk result (λ r. r.1 ≡ command.now) }
+{
+    let (_one, _distinct) = (one_command(), roles.count());
+    let mut line = Vec::new(alloc);
+    write_command(roles, command, &mut line)?;
+    let read = read_command(alloc, roles, &line);
+    prove!(!matches!(&read, Err(LineFault::Bad)));
+    Ok((line, read?))
+}
+
+// A command's line, and the command in words.
+const COMMANDS: &[(&str, &str)] = &[
+    ("send b 5", "to 1 5"),
+    ("send c -9223372036854775808", "to 2 -9223372036854775808"),
+    ("send b false", "to 1 false"),
+    ("send b \"good day\"", "to 1 \"good day\""),
+    ("send b \" 5 \"", "to 1 \" 5 \""),
+    ("send b \"\"", "to 1 \"\""),
+    ("choose b ok", "chooses 1 ok"),
+    ("recv a x", "from 0 x"),
+    ("pick a", "picks 0 "),
+    ("mark m", "mark m"),
+    ("mark undo", "mark undo"),
+    ("undo 3", "undoes 3"),
+    ("undo 0", "undoes 0"),
+    ("undo 18446744073709551615", "undoes 18446744073709551615"),
+    ("rollback 1", "takes back 1"),
+    (
+        "rollback 18446744073709551615",
+        "takes back 18446744073709551615",
+    ),
+    ("back m", "goes back to m"),
+    ("back rollback", "goes back to rollback"),
+    ("news 0", "asks what came after 0"),
+    (
+        "news 18446744073709551615",
+        "asks what came after 18446744073709551615",
+    ),
+    ("show", "asks for the session"),
+];
+
+// Whether the line is read as that command, also when it is written again.
+fn is_command(alloc: Global, roles: &Roles, line: &str, text: &str) -> Result<bool, Fail> {
+    let command = read_command(alloc, roles, line.as_bytes())?;
+    one_command();
+    let (written, read) = again(alloc, roles, &command)?;
+    let (first, second) = (shown(alloc, &command)?, shown(alloc, &read)?);
+    Ok(first.as_str() == text && second.as_str() == text && written.as_slice() == line.as_bytes())
+}
+
+#[test]
+fn commands_alone(rt: HostRuntime) -> Result<(), Fail> {
+    let roles = roles(rt.alloc())?;
+    for (line, text) in COMMANDS {
+        assert!(rt; is_command(rt.alloc(), &roles, line, text)?, "{line}");
+    }
+    Ok(())
+}
+
+const BAD_COMMANDS: &[&str] = &[
+    "",
+    " ",
+    "a send b 5",
+    "send b  5",
+    "send z 5",
+    "send b 05",
+    "undo 03",
+    "undo",
+    "undo ",
+    "undo 3 ",
+    "undo  3",
+    " undo 3",
+    "Undo 3",
+    "undo +3",
+    "undo -1",
+    "undo 00",
+    "undo 3.0",
+    "undo x",
+    "undo 3 4",
+    "undo3",
+    "undo\t3",
+    "undo 18446744073709551616",
+    "undo 100000000000000000000",
+    "undone 3",
+    "rollback x",
+    "rollback",
+    "rollback 03",
+    "rollback 18446744073709551616",
+    "roll 3",
+    "back 3",
+    "back",
+    "back ",
+    "back end",
+    "back m ",
+    "back M",
+    "backm",
+    "mark end",
+    "show ",
+    "show 0",
+    "shows",
+    "Show",
+    "news",
+    "news ",
+    "news 00",
+    "news  0",
+    "news 0 ",
+    "news 0 1",
+    "news m",
+    "news 18446744073709551616",
+    "done 1",
+    "refused line",
+];
+
+#[test]
+fn bad_commands(rt: HostRuntime) -> Result<(), Fail> {
+    let roles = roles(rt.alloc())?;
+    for line in BAD_COMMANDS {
+        let found = read_command(rt.alloc(), &roles, line.as_bytes());
+        assert!(rt; matches!(found, Err(LineFault::Bad)), "{line}");
+    }
+    Ok(())
+}
+
+// ---- lines of a conversation
+
+// The roles a and b.
+fn two_roles(alloc: Global) -> Result<Roles, Fail> {
+    Ok(Roles::of(alloc, &[name("a")?, name("b")?])?)
+}
+
+// A line, its number, if it has one, and its command.
+const NUMBERED: &[(&str, Option<u64>, &str)] = &[
+    ("1 send b 5", Some(1), "send b 5"),
+    ("2 send b \"4 mark m\"", Some(2), "send b \"4 mark m\""),
+    ("3 choose b ok", Some(3), "choose b ok"),
+    ("4 recv b x", Some(4), "recv b x"),
+    ("5 pick b", Some(5), "pick b"),
+    ("6 undo 3", Some(6), "undo 3"),
+    ("7 rollback 3", Some(7), "rollback 3"),
+    ("10 back m", Some(10), "back m"),
+    ("0 mark m", Some(0), "mark m"),
+    ("18446744073709551615 mark m", Some(u64::MAX), "mark m"),
+    ("mark m", None, "mark m"),
+    ("send b \"good day\"", None, "send b \"good day\""),
+    ("undo 3", None, "undo 3"),
+    ("news 0", None, "news 0"),
+    ("show", None, "show"),
+];
+
+// Whether the line is read as that number and that command, which is written again.
+fn is_numbered(
+    alloc: Global,
+    roles: &Roles,
+    row: &(&str, Option<u64>, &str),
+) -> Result<bool, Fail> {
+    one_numbered();
+    let (number, command) = read_numbered(alloc, roles, row.0.as_bytes())?;
+    let mut text = Vec::new(alloc);
+    write_command(roles, &command, &mut text)?;
+    Ok(number == row.1 && text.as_slice() == row.2.as_bytes())
+}
+
+#[test]
+fn reads_numbered_lines(rt: HostRuntime) -> Result<(), Fail> {
+    let roles = two_roles(rt.alloc())?;
+    for row in NUMBERED {
+        assert!(rt; is_numbered(rt.alloc(), &roles, row)?, "{}", row.0);
+    }
+    Ok(())
+}
+
+const BAD_NUMBERED: &[&str] = &[
+    "",
+    "4",
+    "4 ",
+    "4 show",
+    "4 news 0",
+    "4  mark m",
+    " 4 mark m",
+    "4 mark m ",
+    "4 mark",
+    "4 mark end",
+    "4 send z 5",
+    "4 5 mark m",
+    "4 a mark m",
+    "4a mark m",
+    "4mark m",
+    "4\tmark m",
+    "+4 mark m",
+    "-4 mark m",
+    "04 mark m",
+    "00 mark m",
+    "04 show",
+    "18446744073709551616 mark m",
+    "100000000000000000000 mark m",
+    "a mark m",
+    "Mark m",
+    "mark m 4",
+];
+
+#[test]
+fn bad_numbered_lines(rt: HostRuntime) -> Result<(), Fail> {
+    let roles = two_roles(rt.alloc())?;
+    for line in BAD_NUMBERED {
+        let found = read_numbered(rt.alloc(), &roles, line.as_bytes());
+        assert!(rt; matches!(found, Err(LineFault::Bad)), "{line}");
+    }
+    Ok(())
+}

@@ -1,0 +1,276 @@
+ghost use Rattle.std.specs.Prelude.{◌≡◌, IfOk};
+
+use mps_base::write_number;
+use mps_line::laws::one_reply_line;
+use mps_line::{LineFault, Reply, answer_has_text, read_answer, read_join};
+use std::alloc::Global;
+use std::test::Fail;
+
+// The reply as it is written, and what that is read as.
+fn again(alloc: Global, reply: &Reply) -> Result<(Vec<u8>, Reply), Fail>
+    ensures { IfOk result (λ r. r.1 ≡ reply.now) }
+{
+    one_reply_line();
+    let mut line = Vec::new(alloc);
+    reply.write(&mut line)?;
+    let read = read_answer(alloc, &line);
+    prove!(!matches!(&read, Err(LineFault::Bad)));
+    Ok((line, read?))
+}
+
+// What the line is read as, in words.
+fn shown(alloc: Global, reply: &Reply) -> Result<String, Fail> {
+    Ok(format!(in alloc; "{reply:?}")?)
+}
+
+// A reply's line, and its code.
+const REPLIES: &[(&str, u8)] = &[
+    ("done 1", 0),
+    ("done 0", 0),
+    ("done 18446744073709551615 true", 0),
+    ("done 2 -5", 0),
+    ("done 6 ok", 0),
+    ("done 3 \"good day\"", 0),
+    ("done 3 \" 5 \"", 0),
+    ("done 3 \"\"", 0),
+    ("undone", 0),
+    ("undone 3", 0),
+    ("undone 4 3 2 1", 0),
+    ("undone 0 18446744073709551615", 0),
+    ("news 0", 0),
+    ("news 5 4", 0),
+    ("news 100000 3 2 1", 0),
+    ("{}", 0),
+    ("{x", 0),
+    ("{\"a\": [1,  2], \"b ", 0),
+    ("joined 1 a", 0),
+    ("joined 18446744073709551615 role_2", 0),
+    ("refused ended", 1),
+    ("refused wrongact", 2),
+    ("refused wrongpeer", 3),
+    ("refused wrongsort", 4),
+    ("refused nolabel", 5),
+    ("refused nothingqueued", 6),
+    ("refused mismatch", 7),
+    ("refused nostep", 8),
+    ("refused notyours", 9),
+    ("refused needed 2", 10),
+    ("refused nomark", 11),
+    ("refused full", 12),
+    ("refused memory", 13),
+    ("refused line", 14),
+    ("refused nosession", 15),
+    ("refused norole", 16),
+    ("refused taken", 17),
+    ("refused number", 19),
+];
+
+// Whether the line is read as a reply with this code, which is written and read again.
+fn is_read(alloc: Global, line: &str, code: u8) -> Result<bool, Fail> {
+    let reply = read_answer(alloc, line.as_bytes())?;
+    let (written, read) = again(alloc, &reply)?;
+    let (first, second) = (shown(alloc, &reply)?, shown(alloc, &read)?);
+    Ok(
+        reply.code() == code
+            && written.as_slice() == line.as_bytes()
+            && first.as_str() == second.as_str(),
+    )
+}
+
+#[test]
+fn reads_replies(rt: HostRuntime) -> Result<(), Fail> {
+    for (line, code) in REPLIES {
+        assert!(rt; is_read(rt.alloc(), line, *code)?, "{line}");
+    }
+    Ok(())
+}
+
+// Whether the reply of that line has a text, also alone where it is an answer.
+fn has_text(alloc: Global, line: &[u8]) -> Result<bool, Fail> {
+    let reply = read_answer(alloc, line)?;
+    let alone = match &reply {
+        Reply::Answered(answer) => answer_has_text(answer),
+        _ => true,
+    };
+    Ok(alone && reply.has_text())
+}
+
+const EACH_REPLY: &[&str] = &[
+    "done 1",
+    "done 18446744073709551615 true",
+    "done 2 -9223372036854775808",
+    "done 3 \"good day\"",
+    "done 6 ok",
+    "undone",
+    "undone 18446744073709551615 1",
+    "news 0",
+    "news 5 18446744073709551615 4",
+    "{}",
+    "joined 18446744073709551615 role_2",
+    "refused mismatch",
+    "refused needed 18446744073709551615",
+    "refused memory",
+    "refused line",
+    "refused nosession",
+    "refused norole",
+    "refused taken",
+    "refused number",
+];
+
+#[test]
+fn each_reply_has_a_text(rt: HostRuntime) -> Result<(), Fail> {
+    for line in EACH_REPLY {
+        assert!(rt; has_text(rt.alloc(), line.as_bytes())?, "{line}");
+    }
+    Ok(())
+}
+
+const BAD_REPLIES: &[&str] = &[
+    "",
+    " ",
+    "done",
+    "done ",
+    "done 01",
+    "done 1 ",
+    "done  1",
+    "done 1  5",
+    "done 1 5 6",
+    "done 1 05",
+    "done 1 end",
+    "done 1 \"x",
+    "done x",
+    "Done 1",
+    "done 18446744073709551616",
+    "undone ",
+    "undone  3",
+    "undone 3 ",
+    "undone 3  2",
+    "undone 03",
+    "undone 3 x",
+    "undone 18446744073709551616",
+    "undone3",
+    "news",
+    "news ",
+    "news  3",
+    "news 3 ",
+    "news x",
+    "news 3 x",
+    "news 03",
+    "news 3 02",
+    "joined",
+    "joined 1",
+    "joined 1 ",
+    "joined 01 a",
+    "joined 1 A",
+    "joined 1 end",
+    "joined 1 a b",
+    "joined 18446744073709551616 a",
+    "refused",
+    "refused ",
+    "refused needed",
+    "refused needed ",
+    "refused needed 02",
+    "refused needed 2 ",
+    "refused needed x",
+    "refused  full",
+    "refused full ",
+    "refused full 3",
+    "refused Full",
+    "refused wrong",
+    "refused it",
+    "refused number ",
+    "refused number 3",
+    "refused numbers",
+    " {x",
+    "{x\n",
+    "{\t}",
+    "{\x7f}",
+    "{é}",
+    "show",
+    "undo 3",
+    "join 1 a",
+];
+
+#[test]
+fn bad_replies(rt: HostRuntime) -> Result<(), Fail> {
+    for line in BAD_REPLIES {
+        let found = read_answer(rt.alloc(), line.as_bytes());
+        assert!(rt; matches!(found, Err(LineFault::Bad)), "{line}");
+    }
+    Ok(())
+}
+
+// The words, and after them the numbers from 1 to this one.
+fn numbered(alloc: Global, words: &[u8], last: u64) -> Result<Vec<u8>, Fail> {
+    let mut line = Vec::from_slice(alloc, words)?;
+    for number in 1..=last {
+        line.push(b' ')?;
+        write_number(number, &mut line)?;
+    }
+    Ok(line)
+}
+
+// Whether the line is read, and written again.
+fn is_read_again(alloc: Global, line: &[u8]) -> Result<bool, Fail> {
+    let reply = read_answer(alloc, line)?;
+    let (written, _read) = again(alloc, &reply)?;
+    Ok(written.as_slice() == line)
+}
+
+const LONG: &[(&str, u64)] = &[("undone", 1_000), ("news 7", 1_000), ("{", 20_000)];
+
+#[test]
+fn reads_long_replies(rt: HostRuntime) -> Result<(), Fail> {
+    for (words, last) in LONG {
+        let line = numbered(rt.alloc(), words.as_bytes(), *last)?;
+        assert!(rt; is_read_again(rt.alloc(), &line)?, "{words}");
+    }
+    Ok(())
+}
+
+// A first line, the session that it joins, and the role.
+const JOINS: &[(&str, u64, &str)] = &[
+    ("join 1 a", 1, "a"),
+    ("join 0 role_2", 0, "role_2"),
+    ("join 18446744073709551615 join", u64::MAX, "join"),
+];
+
+const BAD_JOINS: &[&str] = &[
+    "",
+    "join",
+    "join ",
+    "join 1",
+    "join 1 ",
+    "join a",
+    "join 01 a",
+    "join 1 A",
+    "join 1 end",
+    "join 1  a",
+    "join  1 a",
+    "join 1 a ",
+    "join 1 a b",
+    " join 1 a",
+    "Join 1 a",
+    "joined 1 a",
+    "join 18446744073709551616 a",
+    "show",
+];
+
+fn is_join(line: &str, session: u64, name: &str) -> bool {
+    match read_join(line.as_bytes()) {
+        Ok(pass) => pass.0 == session && pass.1.as_bytes() == name.as_bytes(),
+        Err(_) => false,
+    }
+}
+
+#[test]
+fn reads_joins(rt: HostRuntime) -> Result<(), Fail> {
+    for (line, session, name) in JOINS {
+        assert!(rt; is_join(line, *session, name), "{line}");
+    }
+    for line in BAD_JOINS {
+        let found = read_join(line.as_bytes());
+        assert!(rt; matches!(found, Err(LineFault::Bad)), "{line}");
+    }
+    Ok(())
+}
