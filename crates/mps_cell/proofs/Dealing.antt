@@ -1,9 +1,7 @@
 -- The passes are dealt, and the room comes back at the end.
 use Rattle.std.proofs.Common.{zero, length, ◌≡◌, ℕ, suc, ◌+◌, ◌-◌, ◌%◌, ◌<◌, false, List, [], ◌∷◌, ◌++◌, sym, refl, ap, ◌∙◌, subst, arith, add-one, Option, Some, None}
 use Rattle.std.specs.List.{All}
-use Rattle.std.proofs.lemmas.List.Elements.{All-nil, All-push, All-same, All-pop}
-use Rattle.std.specs.Prelude.{IfSome}
-use Rattle.std.specs.Option.{option_to_list}
+use Rattle.std.proofs.lemmas.List.Elements.{All-nil, All-push, All-same}
 use mathlib.Core.Option as maybe
 use lib.ListN.{get_elem?}
 use Rattle.atomic_table.specs.Table.{Me, State, Splits, Final, Seen}
@@ -86,10 +84,3 @@ fresh_all id o (suc n) = All-push (λ (p : Known). p.cell ≡ id) (fresh_below i
 
 pub all_fresh : (id : TableId) (o : Opening) (n : ℕ) (xs : List Known) → xs ≡ fresh_below id o n → All (λ (p : Known). p.cell ≡ id) xs
 all_fresh id o n xs is = All-same (λ (p : Known). p.cell ≡ id) xs (fresh_below id o n) is (fresh_all id o n)
-
--- where all are passes of a cell, so are those before the last one, and that one
-pub popped_rest : (id : TableId) (xs ys : List Known) (r : Option Known) → xs ≡ ys ++ option_to_list r → All (λ (p : Known). p.cell ≡ id) xs → All (λ (p : Known). p.cell ≡ id) ys
-popped_rest id xs ys r is all = (All-pop (λ (p : Known). p.cell ≡ id) xs ys r is all).0
-
-pub popped_last : (id : TableId) (xs ys : List Known) (r : Option Known) → xs ≡ ys ++ option_to_list r → All (λ (p : Known). p.cell ≡ id) xs → IfSome r (λ (p : Known). p.cell ≡ id)
-popped_last id xs ys r is all = (All-pop (λ (p : Known). p.cell ≡ id) xs ys r is all).1

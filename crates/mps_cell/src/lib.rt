@@ -23,6 +23,3 @@ pub mod view;
 pub use cell::{Cell, Deal, PassFault};
 pub use held::Held;
 pub use pass::{Busy, Leave, Pass, Pause, Straight, meet};
-
-#[cfg(test)]
-mod tests;

@@ -27,8 +27,3 @@ pub use mps_command::{Answer, Command, ShownText};
 pub use numbers::{Numbered, Numbers, Place, Told};
 pub use room::{MAX_ENTRIES, Room};
 pub use solo::Solo;
-
-#[cfg(test)]
-mod number_tests;
-#[cfg(test)]
-mod tests;

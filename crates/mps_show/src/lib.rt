@@ -20,6 +20,3 @@ pub use examples::worked_states;
 pub use laws::{a_shown_text_is_one_line, a_shown_value_has_one_text};
 pub use object::show;
 pub use state::write_show;
-
-#[cfg(test)]
-mod tests;

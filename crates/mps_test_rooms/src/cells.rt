@@ -1,11 +1,12 @@
 ghost use Rattle.std.specs.Prelude.{◌≡◌, false, IfOk, IfSome, All};
 
-use super::*;
-use mps_base::{Message, Name, Role, Roles, Sort, StepId, Value};
-use mps_command::{Answer, Command, Forward, Refusal};
-use mps_local::{Branches, Local};
-use mps_room::{Caller, Room, Told};
-use mps_session::Session;
+use crate::numbers;
+use crate::numbers::is_numbered;
+use crate::texts::{TWO_PAIRS, VERDICT, asked, opened, told};
+use mps_base::{Name, Role, StepId, Value};
+use mps_cell::{Busy, Cell, Held, Pass, PassFault, Pause, meet};
+use mps_command::{Answer, Command, Forward};
+use mps_room::{Caller, Room};
 use std::alloc::Global;
 use std::cmp::Ordering;
 use std::sync::Wait;
@@ -13,189 +14,72 @@ use std::test::Fail;
 use std::thread;
 use std::thread::{Threads, join};
 
-// The roles by their places.
-const A: u8 = 0;
-
-const B: u8 = 1;
-
-const C: u8 = 2;
-
-const D: u8 = 3;
-
-// ---- cells
-
-fn name(text: &str) -> Option<Name> {
-    Name::read(text.as_bytes())
-}
-
-// A choice of `ok` or `no`, after which the part ends.
-fn ok_or_no(alloc: Global) -> Result<Branches, Fail> {
-    let no = name("no").ok_or("a name")?;
-    let ok = name("ok").ok_or("a name")?;
-    let last = Branches::more(alloc, no, Local::End, Branches::NoMore)?;
-    Ok(Branches::more(alloc, ok, Local::End, last)?)
-}
-
-// a gives b an int, b gives c an int, and c tells a `ok` or `no`.
-fn verdict(alloc: Global) -> Result<Vec<Local>, Fail> {
-    let waits = Local::Branch {
-        peer: Role::new(C),
-        branches: ok_or_no(alloc)?,
-    };
-    let tells = Local::Select {
-        peer: Role::new(A),
-        branches: ok_or_no(alloc)?,
-    };
-    let a = Local::send(alloc, Role::new(B), Sort::Int, waits)?;
-    let b = Local::send(alloc, Role::new(C), Sort::Int, Local::End)?;
-    let b = Local::recv(alloc, Role::new(A), Sort::Int, b)?;
-    let c = Local::recv(alloc, Role::new(B), Sort::Int, tells)?;
-    Ok(vec![in alloc; a, b, c]?)
-}
-
-// a gives b an int, and c gives d one.
-fn two_pairs(alloc: Global) -> Result<Vec<Local>, Fail> {
-    let a = Local::send(alloc, Role::new(B), Sort::Int, Local::End)?;
-    let b = Local::recv(alloc, Role::new(A), Sort::Int, Local::End)?;
-    let c = Local::send(alloc, Role::new(D), Sort::Int, Local::End)?;
-    let d = Local::recv(alloc, Role::new(C), Sort::Int, Local::End)?;
-    Ok(vec![in alloc; a, b, c, d]?)
-}
-
 // Eight roles that have nothing to say.
-fn silence(alloc: Global) -> Result<Vec<Local>, Fail> {
-    let mut types = Vec::new(alloc);
-    for _ in 0..8 {
-        types.push(Local::End)?;
-    }
-    Ok(types)
-}
+const SILENCE: &str = "roles a b c d e f g h ; end";
 
-// A cell of roles with these types, a and so on.
-fn cell(alloc: Global, types: Vec<Local>) -> Result<Cell, Fail>
+// A cell of the protocol.
+fn cell(alloc: Global, protocol: &str) -> Result<Cell, Fail>
     ensures given { IfOk result (λ c. c.given ≡ false) }
 {
-    let mut all = Vec::new(alloc);
-    for text in ["a", "b", "c", "d", "e", "f", "g", "h"] {
-        all.push(name(text).ok_or("a name")?)?;
-    }
-    let session = Session::open(alloc, types)?;
-    let some = all.as_slice().get(..session.roles()).ok_or("names")?;
-    let names = Roles::of(alloc, some)?;
-    if names.count() != session.roles() {
-        return Err("as many names".into());
-    }
+    let (names, session) = opened(alloc, protocol)?;
     Ok(Cell::open(alloc, names, session)?)
 }
 
 // ---- rows
 
-// What a role asks for, with the peer's place.
-#[derive(Clone, Copy)]
-enum Ask {
-    Send(u8, i64),
-    Receive(u8),
-    Mark,
-    Undo(u64),
-}
-
-// What it is answered.
-#[derive(Clone, Copy)]
-enum Want {
-    Done(u64),
-    Got(u64, i64),
-    Undone(u64),
-    Needed(u64),
-    NoStep,
-}
-
-// The command that is asked for. What is received goes into the slot `x`, and a mark is called `m`.
-fn command(ask: Ask) -> Option<Command> {
-    Some(match ask {
-        Ask::Send(to, value) => Command::Forward(Forward::Send {
-            to: Role::new(to),
-            value: Value::Int(value),
-        }),
-        Ask::Receive(from) => Command::Forward(Forward::Receive {
-            from: Role::new(from),
-            slot: name("x")?,
-        }),
-        Ask::Mark => Command::Forward(Forward::Mark { name: name("m")? }),
-        Ask::Undo(number) => Command::Undo(StepId::new(number)),
-    })
-}
-
-// Whether the answer is the one that is wanted.
-fn is_wanted(answer: &Answer, want: Want) -> bool {
-    match (answer, want) {
-        (Answer::Done(done), Want::Done(number)) => {
-            done.id.number() == number && done.got.is_none()
-        }
-        (Answer::Done(done), Want::Got(number, value)) => {
-            done.id.number() == number
-                && matches!(&done.got, Some(Message::Value(Value::Int(got))) if *got == value)
-        }
-        (Answer::Undone(ids), Want::Undone(number)) => {
-            matches!(ids.as_slice(), [id] if id.number() == number)
-        }
-        (Answer::Refused(Refusal::Needed { by }), Want::Needed(number)) => by.number() == number,
-        (Answer::Refused(Refusal::NoStep), Want::NoStep) => true,
-        _ => false,
-    }
-}
-
-// A role's place, what it asks for, and what it is answered.
-type Row = (u8, Ask, Want);
+// A line, and what it is answered.
+type Row = (&'static str, &'static str);
 
 const UNDONE: &[Row] = &[
-    (A, Ask::Send(B, 5), Want::Done(1)),
-    (B, Ask::Receive(A), Want::Got(2, 5)),
-    (A, Ask::Undo(1), Want::Needed(2)),
-    (B, Ask::Undo(2), Want::Undone(2)),
-    (A, Ask::Undo(1), Want::Undone(1)),
+    ("a send b 5", "done 1"),
+    ("b recv a x", "done 2 5"),
+    ("a undo 1", "refused needed 2"),
+    ("b undo 2", "undone 2"),
+    ("a undo 1", "undone 1"),
 ];
 
-// Whether each row is answered as it says, by a call of its role's pass.
-fn play<R: Wait>(rt: &R, all: &mut [Pass<'_>], rows: &[Row]) -> Option<bool> {
-    for (place, ask, want) in rows {
-        let pass = all.get_mut(*place as usize)?;
-        let answer = pass.call(rt, command(*ask)?);
-        if !is_wanted(&answer, *want) {
-            return Some(false);
-        }
-    }
-    Some(true)
+// The place of the line's role, and its command.
+fn asked_of(alloc: Global, all: &[Pass<'_>], line: &str) -> Result<(usize, Command), Fail> {
+    let pass = all.first().ok_or("a pass")?;
+    let (role, command) = asked(alloc, pass.names(), line)?;
+    Ok((role.index(), command))
 }
 
-// The same by tries of a free cell.
-fn play_by_tries(all: &mut [Pass<'_>], rows: &[Row]) -> Option<bool> {
-    for (place, ask, want) in rows {
-        let pass = all.get_mut(*place as usize)?;
-        match pass.try_call(command(*ask)?) {
-            Ok(answer) => {
-                if !is_wanted(&answer, *want) {
-                    return Some(false);
-                }
-            }
-            Err(_) => return Some(false),
-        }
+// Whether the row is answered as it says, by a call of its role's pass.
+fn is_called<R: Wait>(rt: &R, alloc: Global, all: &mut [Pass<'_>], row: Row) -> Result<bool, Fail> {
+    let (place, command) = asked_of(alloc, all, row.0)?;
+    let pass = all.get_mut(place).ok_or("a pass")?;
+    let answer = pass.call(rt, command);
+    Ok(told(alloc, &answer)?.as_str() == row.1)
+}
+
+// The same by a try of a free cell.
+fn is_tried(alloc: Global, all: &mut [Pass<'_>], row: Row) -> Result<bool, Fail> {
+    let (place, command) = asked_of(alloc, all, row.0)?;
+    let pass = all.get_mut(place).ok_or("a pass")?;
+    match pass.try_call(command) {
+        Ok(answer) => Ok(told(alloc, &answer)?.as_str() == row.1),
+        Err(_) => Ok(false),
     }
-    Some(true)
 }
 
 #[test]
 fn answers_calls(rt: HostRuntime) -> Result<(), Fail> {
-    let mut cell = cell(rt.alloc(), verdict(rt.alloc())?)?;
+    let mut cell = cell(rt.alloc(), VERDICT)?;
     let mut all = cell.passes().ok().ok_or("passes")?;
-    assert!(rt; play(&rt, all.as_mut_slice(), UNDONE) == Some(true));
+    for row in UNDONE {
+        assert!(rt; is_called(&rt, rt.alloc(), all.as_mut_slice(), *row)?);
+    }
     Ok(())
 }
 
 #[test]
 fn answers_tries_of_a_free_cell(rt: HostRuntime) -> Result<(), Fail> {
-    let mut cell = cell(rt.alloc(), verdict(rt.alloc())?)?;
+    let mut cell = cell(rt.alloc(), VERDICT)?;
     let mut all = cell.passes().ok().ok_or("passes")?;
-    assert!(rt; play_by_tries(all.as_mut_slice(), UNDONE) == Some(true));
+    for row in UNDONE {
+        assert!(rt; is_tried(rt.alloc(), all.as_mut_slice(), *row)?);
+    }
     Ok(())
 }
 
@@ -215,7 +99,7 @@ fn are_in_order(all: &[Pass<'_>], count: usize) -> bool {
 
 #[test]
 fn gives_its_passes_once(rt: HostRuntime) -> Result<(), Fail> {
-    let mut cell = cell(rt.alloc(), two_pairs(rt.alloc())?)?;
+    let mut cell = cell(rt.alloc(), TWO_PAIRS)?;
     match cell.passes() {
         Ok(all) => assert!(rt; are_in_order(all.as_slice(), 4)),
 
@@ -227,8 +111,34 @@ fn gives_its_passes_once(rt: HostRuntime) -> Result<(), Fail> {
     Ok(())
 }
 
+// A command of a pass.
+#[derive(Clone, Copy)]
+enum Ask {
+    // a's message to b
+    Send,
+    Mark,
+}
+
+fn command(ask: Ask) -> Option<Command> {
+    match ask {
+        Ask::Send => Some(Command::Forward(Forward::Send {
+            to: Role::new(1),
+            value: Value::Int(1),
+        })),
+        Ask::Mark => {
+            let name = Name::read(b"m")?;
+            Some(Command::Forward(Forward::Mark { name }))
+        }
+    }
+}
+
+// Whether the answer is that step 1 is done.
+fn is_first(answer: &Answer) -> bool {
+    matches!(answer, Answer::Done(done) if done.id.number() == 1 && done.got.is_none())
+}
+
 // The last of these passes of the cell.
-#[tactic(auto, using(crate::proofs::Dealing::popped_rest, crate::proofs::Dealing::popped_last))]
+#[tactic(auto, using(crate::proofs::Popping::popped_rest, crate::proofs::Popping::popped_last))]
 fn last<'a>(cell: &'a Cell, all: &mut Vec<Pass<'a>>) -> Option<Pass<'a>>
     requires all { All (λ p. p.cell ≡ cell.now.cell) all.old.items }
     ensures rest { All (λ p. p.cell ≡ cell.now.cell) all.new.items }
@@ -281,12 +191,12 @@ fn meetings<R: Wait>(rt: &R, a: &mut Pass<'_>, c: &mut Pass<'_>) -> Option<bool>
     requires cell { c.old.cell ≡ a.old.cell }
     ensures cell { c.new.cell ≡ c.old.cell }
 {
-    let answer = called(rt, a, Ask::Send(B, 1));
+    let answer = called(rt, a, Ask::Send);
     let before = compared_both(a, c);
     let seen = shown(c);
     let after = compared_both(a, c);
     Some(
-        is_wanted(&answer?, Want::Done(1))
+        is_first(&answer?)
             && before == (Ordering::Greater, Ordering::Less, 0)
             && seen == Some(1)
             && after == (Ordering::Equal, Ordering::Equal, 1),
@@ -295,7 +205,7 @@ fn meetings<R: Wait>(rt: &R, a: &mut Pass<'_>, c: &mut Pass<'_>) -> Option<bool>
 
 #[test]
 fn two_passes_meet(rt: HostRuntime) -> Result<(), Fail> {
-    let mut cell = cell(rt.alloc(), two_pairs(rt.alloc())?)?;
+    let mut cell = cell(rt.alloc(), TWO_PAIRS)?;
     let deal = cell.deal().ok_or("given")?;
     let mut all = cell.passes_of(deal)?;
     let d = last(&cell, &mut all).ok_or("four")?;
@@ -364,9 +274,9 @@ fn probed<R: Wait>(rt: &R, a: &mut Pass<'_>, c: &mut Pass<'_>) -> Option<bool> {
         same: 0,
         busy: None,
     };
-    let answer = a.call_with(rt, command(Ask::Send(B, 1))?, &mut probe);
+    let answer = a.call_with(rt, command(Ask::Send)?, &mut probe);
     Some(
-        is_wanted(&answer, Want::Done(1))
+        is_first(&answer)
             && probe.pauses == 1
             && probe.front == 0
             && probe.same == 1000
@@ -380,7 +290,7 @@ const SENT: &str =
 
 #[test]
 fn finds_the_room_out(rt: HostRuntime) -> Result<(), Fail> {
-    let mut cell = cell(rt.alloc(), two_pairs(rt.alloc())?)?;
+    let mut cell = cell(rt.alloc(), TWO_PAIRS)?;
     let mut all = cell.passes().ok().ok_or("passes")?;
     let _d = all.pop().ok_or("four")?;
     let mut c = all.pop().ok_or("four")?;
@@ -424,7 +334,7 @@ fn both<R: Threads + Wait + Sync>(rt: &R, mut all: Vec<Pass<'_>>) -> Option<(boo
     let a = all.pop()?;
     Some(join(
         rt,
-        move || many(rt, a, Ask::Send(B, 1), 1000),
+        move || many(rt, a, Ask::Send, 1000),
         move || many(rt, c, Ask::Mark, 1000),
     ))
 }
@@ -437,7 +347,7 @@ fn counts(room: &Room) -> (u64, usize, u64) {
 
 #[test]
 fn two_threads_fill_the_room(rt: HostRuntime) -> Result<(), Fail> {
-    let mut cell = cell(rt.alloc(), two_pairs(rt.alloc())?)?;
+    let mut cell = cell(rt.alloc(), TWO_PAIRS)?;
     let done = both(&rt, cell.passes().ok().ok_or("passes")?);
     assert!(rt; done == Some((true, true)));
     let room = cell.close().ok_or("at home")?;
@@ -510,7 +420,7 @@ fn equal_pairs<'a>(cell: &'a Cell, mut all: Vec<Pass<'a>>) -> usize
 
 #[test]
 fn eight_threads_fill_the_room(rt: HostRuntime) -> Result<(), Fail> {
-    let mut cell = cell(rt.alloc(), silence(rt.alloc())?)?;
+    let mut cell = cell(rt.alloc(), SILENCE)?;
     let deal = cell.deal().ok_or("given")?;
     let mut all = cell.passes_of(deal)?;
     all_mark(&rt, &cell, all.as_mut_slice());
@@ -523,83 +433,39 @@ fn eight_threads_fill_the_room(rt: HostRuntime) -> Result<(), Fail> {
 
 // ---- numbered commands
 
-// A number, what is asked for with it, what comes of it, and the answer that is kept then under the last number.
-type Numbered = (u64, Ask, Came, (u64, Want));
-
-// What comes of a numbered command.
-#[derive(Clone, Copy, PartialEq, Eq)]
-enum Came {
-    Fresh,
-    Kept,
-    Wrong,
-    NoStep,
-}
-
-fn came_of(told: Told) -> Option<Came> {
-    match told {
-        Told::Fresh => Some(Came::Fresh),
-        Told::Kept => Some(Came::Kept),
-        Told::Wrong => Some(Came::Wrong),
-        Told::Refused(Refusal::NoStep) => Some(Came::NoStep),
-        Told::Refused(_) => None,
-    }
-}
-
-const NUMBERED: &[Numbered] = &[
-    (1, Ask::Send(B, 1), Came::Fresh, (1, Want::Done(1))),
-    (1, Ask::Send(B, 1), Came::Kept, (1, Want::Done(1))),
-    (3, Ask::Mark, Came::Wrong, (1, Want::Done(1))),
-    (0, Ask::Mark, Came::Wrong, (1, Want::Done(1))),
-    (2, Ask::Undo(7), Came::NoStep, (1, Want::Done(1))),
-    (2, Ask::Mark, Came::Fresh, (2, Want::Done(2))),
-    (1, Ask::Mark, Came::Wrong, (2, Want::Done(2))),
-    (3, Ask::Undo(2), Came::Fresh, (3, Want::Undone(2))),
-    (3, Ask::Mark, Came::Kept, (3, Want::Undone(2))),
+const NUMBERED: &[numbers::Row<'static>] = &[
+    ("1 send b 1", "Fresh", 1, "done 1"),
+    ("1 send b 1", "Kept", 1, "done 1"),
+    ("3 mark m", "Wrong", 1, "done 1"),
+    ("0 mark m", "Wrong", 1, "done 1"),
+    ("2 undo 7", "Refused(NoStep)", 1, "done 1"),
+    ("2 mark m", "Fresh", 2, "done 2"),
+    ("1 mark m", "Wrong", 2, "done 2"),
+    ("3 undo 2", "Fresh", 3, "undone 2"),
+    ("3 mark m", "Kept", 3, "undone 2"),
 ];
 
-// Whether the row comes to what it says.
-fn is_numbered<R: Wait>(rt: &R, held: &mut Held<'_, '_, R>, row: Numbered) -> Option<bool> {
-    let told = match row.1 {
-        Ask::Undo(number) => held.call_numbered(row.0, Command::Undo(StepId::new(number))),
-        Ask::Send(to, value) => {
-            let to = Role::new(to);
-            let value = Value::Int(value);
-            held.call_numbered(row.0, Command::Forward(Forward::Send { to, value }))
-        }
-        _ => {
-            let name = name("m")?;
-            held.call_numbered(row.0, Command::Forward(Forward::Mark { name }))
-        }
-    };
-    let (last, want) = row.3;
-    let kept = match held.kept() {
-        Some(answer) => is_wanted(answer, want),
-        None => false,
-    };
-    Some(came_of(told) == Some(row.2) && held.last() == last && kept)
-}
-
-// What a caller of any kind is answered without a number, where it has so many roles.
-fn called_by_its_bound<C: Caller>(caller: &mut C, ask: Ask, roles: usize) -> Option<Answer> {
+// What the undo of step 1 is answered by a caller of any kind, where it has so many roles.
+fn undone_by_its_bound<C: Caller>(caller: &mut C, roles: usize) -> Option<Answer> {
     if caller.roles().count() != roles {
         return None;
     }
-    Some(caller.call(command(ask)?))
+    Some(caller.call(Command::Undo(StepId::new(1))))
 }
 
 #[test]
 fn keeps_the_answer_to_a_number(rt: HostRuntime) -> Result<(), Fail> {
-    let mut cell = cell(rt.alloc(), two_pairs(rt.alloc())?)?;
+    let mut cell = cell(rt.alloc(), TWO_PAIRS)?;
     let mut all = cell.passes().ok().ok_or("passes")?;
     all.truncate(1);
     let pass = all.pop().ok_or("a pass")?;
     let mut held = Held { rt: &rt, pass };
     assert!(rt; held.last() == 0 && held.kept().is_none());
     for row in NUMBERED {
-        assert!(rt; is_numbered(&rt, &mut held, *row) == Some(true));
+        assert!(rt; is_numbered(rt.alloc(), &mut held, *row)?, "{}", row.0);
     }
     assert!(rt; held.pass.seen() == 3);
-    let answer = called_by_its_bound(&mut held, Ask::Undo(1), 4).ok_or("four")?;
-    assert!(rt; is_wanted(&answer, Want::Undone(1)) && held.last() == 3);
+    let answer = undone_by_its_bound(&mut held, 4).ok_or("four")?;
+    assert!(rt; told(rt.alloc(), &answer)?.as_str() == "undone 1" && held.last() == 3);
     Ok(())
 }

@@ -1,7 +1,7 @@
 use Rattle.std.proofs.Common.{◌≡◌}
 use Rattle.std.specs.List.{All}
 use Rattle.mps_cell.specs.Calls.{Known}
-use Rattle.mps_cell.proofs.tests.equals.Given as goal
+use Rattle.mps_test_rooms.proofs.cells.equals.Given as goal
 
 abbrev pub invariant-loop-i : goal.invariant-loop-i
 invariant-loop-i l = record {

@@ -1,7 +1,7 @@
 use Rattle.std.proofs.Common.{◌≡◌}
 use Rattle.std.specs.List.{All}
 use Rattle.mps_cell.specs.Calls.{Known}
-use Rattle.mps_cell.proofs.tests.all_shown.Given as goal
+use Rattle.mps_test_rooms.proofs.cells.all_shown.Given as goal
 
 abbrev pub invariant-loop-i : goal.invariant-loop-i
 invariant-loop-i l = All (λ (p : Known). p.cell ≡ l.cell.cell) l.all

@@ -1,7 +1,7 @@
 use Rattle.std.proofs.Common.{◌≡◌}
 use Rattle.std.specs.List.{All}
 use Rattle.mps_cell.specs.Calls.{Known}
-use Rattle.mps_cell.proofs.tests.equal_pairs.Given as goal
+use Rattle.mps_test_rooms.proofs.cells.equal_pairs.Given as goal
 
 abbrev pub invariant-loop : goal.invariant-loop
 invariant-loop l = All (λ (p : Known). p.cell ≡ l.cell.cell) l.all.items

@@ -1,5 +1,5 @@
 use Rattle.std.proofs.Common.{◌≡◌}
-use Rattle.mps_cell.proofs.tests.marks.Given as goal
+use Rattle.mps_test_rooms.proofs.cells.marks.Given as goal
 
 abbrev pub invariant-loop : goal.invariant-loop
 invariant-loop g l = l.pass.cell ≡ l.initial.pass.cell

@@ -1,0 +1,108 @@
+use crate::texts::{VERDICT, room, told};
+use mps_base::{Role, StepId};
+use mps_command::{Answer, Command, StepIds};
+use mps_line::read_numbered;
+use mps_room::{Caller, Numbers, Place, Solo, Told};
+use std::alloc::Global;
+use std::test::Fail;
+
+// Whether each of the numbers stands where its row says.
+fn stand(numbers: &Numbers, rows: &[(u64, Place)]) -> bool {
+    for row in rows {
+        if numbers.place(row.0) != row.1 {
+            return false;
+        }
+    }
+    true
+}
+
+const AT_FIRST: &[(u64, Place)] = &[
+    (0, Place::Elsewhere),
+    (1, Place::Next),
+    (2, Place::Elsewhere),
+    (u64::MAX, Place::Elsewhere),
+];
+
+const AFTER_ONE: &[(u64, Place)] = &[
+    (0, Place::Elsewhere),
+    (1, Place::Last),
+    (2, Place::Next),
+    (3, Place::Elsewhere),
+];
+
+#[test]
+fn keeps_the_newest_number(rt: HostRuntime) -> Result<(), Fail> {
+    let alloc = rt.alloc();
+    let mut numbers = Numbers::new();
+    assert!(rt; numbers.last() == 0 && numbers.kept().is_none());
+    assert!(rt; stand(&numbers, AT_FIRST));
+    let ids = StepIds::of(vec![in alloc; StepId::new(7)]?);
+    numbers.keep(1, Answer::Undone(ids));
+    assert!(rt; stand(&numbers, AFTER_ONE));
+    let kept = told(alloc, numbers.kept().ok_or("an answer")?)?;
+    assert!(rt; numbers.last() == 1 && kept.as_str() == "undone 7");
+    Ok(())
+}
+
+// What comes of a line with its number.
+fn numbered<C: Caller>(alloc: Global, caller: &mut C, line: &str) -> Result<Told, Fail> {
+    let (number, change) = read_numbered(alloc, caller.roles(), line.as_bytes())?;
+    let number = number.ok_or("a number")?;
+    match change {
+        Command::News(_) | Command::Show => Err("a change".into()),
+        change => Ok(caller.call_numbered(number, change)),
+    }
+}
+
+// A line with its number, what it comes to, and what is kept then, under which number.
+pub(crate) type Row<'a> = (&'a str, &'a str, u64, &'a str);
+
+// Whether the row comes to what it says.
+pub(crate) fn is_numbered<C: Caller>(
+    alloc: Global,
+    caller: &mut C,
+    row: Row<'_>,
+) -> Result<bool, Fail> {
+    let came = numbered(alloc, caller, row.0)?;
+    let came = format!(in alloc; "{came:?}")?;
+    let kept = told(alloc, caller.kept().ok_or("an answer")?)?;
+    Ok(came.as_str() == row.1 && caller.last() == row.2 && kept.as_str() == row.3)
+}
+
+const NUMBERED: &[Row<'static>] = &[
+    ("1 send b 5", "Fresh", 1, "done 1"),
+    ("1 send b 5", "Kept", 1, "done 1"),
+    ("3 mark m", "Wrong", 1, "done 1"),
+    ("2 mark m", "Fresh", 2, "done 2"),
+    ("1 mark m", "Wrong", 2, "done 2"),
+    ("0 mark m", "Wrong", 2, "done 2"),
+    ("2 undo 9", "Kept", 2, "done 2"),
+    ("3 undo 9", "Refused(NoStep)", 2, "done 2"),
+    ("3 undo 2", "Fresh", 3, "undone 2"),
+    ("3 undo 2", "Kept", 3, "undone 2"),
+    ("4 back m", "Refused(NoMark)", 3, "undone 2"),
+    ("4 rollback 1", "Fresh", 4, "undone 1"),
+];
+
+// The caller of a in a new room.
+fn new_solo(alloc: Global) -> Result<Solo, Fail> {
+    let room = room(alloc, VERDICT)?;
+    if room.session().roles() == 0 {
+        return Err("a role".into());
+    }
+    Ok(Solo::new(room, Role::new(0)))
+}
+
+#[test]
+fn calls_with_numbers(rt: HostRuntime) -> Result<(), Fail> {
+    let mut solo = new_solo(rt.alloc())?;
+    for row in NUMBERED {
+        assert!(rt; is_numbered(rt.alloc(), &mut solo, *row)?, "{}", row.0);
+    }
+    assert_eq!(rt; solo.room.entries(), 4);
+    let answer = solo.call(Command::News(0));
+    assert_eq!(rt; told(rt.alloc(), &answer)?.as_str(), "news 4");
+    assert_eq!(rt; solo.last(), 4);
+    assert_eq!(rt; solo.roles().count(), 3);
+    Ok(())
+}

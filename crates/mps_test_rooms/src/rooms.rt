@@ -1,0 +1,338 @@
+use crate::texts::{TWO_PAIRS, VERDICT, asked, room, told};
+use mps_base::{Name, Role, StepId};
+use mps_command::{Answer, Command, Forward, Refusal};
+use mps_room::Room;
+use std::alloc::Global;
+use std::test::Fail;
+
+// a gives b ints in a loop.
+const INTS: &str = "roles a b ; rec X . a -> b : int . X";
+
+// The same with texts.
+const TEXTS: &str = "roles a b ; rec X . a -> b : text . X";
+
+// ---- rows
+
+// A line, and what it is answered.
+type Row = (&'static str, &'static str);
+
+// What the role is answered to the command.
+fn answered(room: &mut Room, role: Role, command: Command) -> Result<Answer, Fail> {
+    if role.index() < room.session().roles() {
+        Ok(room.apply(role, command))
+    } else {
+        Err("a role".into())
+    }
+}
+
+// How many entries, steps and numbers there are.
+fn counts(room: &Room) -> (u64, usize, u64) {
+    let session = room.session();
+    (room.entries(), session.len(), session.issued())
+}
+
+// A role's command and its answer, in words.
+fn entry_text(alloc: Global, role: Role, command: &Command, answer: &str) -> Result<String, Fail> {
+    let place = role.index();
+    Ok(format!(in alloc; "{place} {command:?} {answer}")?)
+}
+
+// The last entry in words.
+fn last_text(alloc: Global, room: &Room) -> Result<String, Fail> {
+    let last = room.entries().checked_sub(1).ok_or("an entry")?;
+    let Some(entry) = room.entry(last) else {
+        return Err("an entry".into());
+    };
+    let answer = told(alloc, entry.2)?;
+    entry_text(alloc, entry.0, entry.1, answer.as_str())
+}
+
+// Whether the last entry is that of the row.
+fn is_last(alloc: Global, room: &Room, row: Row) -> Result<bool, Fail> {
+    let (role, command) = asked(alloc, room.names(), row.0)?;
+    let wanted = entry_text(alloc, role, &command, row.1)?;
+    Ok(last_text(alloc, room)?.as_str() == wanted.as_str())
+}
+
+// What the row's line is answered, and whether it was accepted.
+fn answer_text(alloc: Global, room: &mut Room, line: &str) -> Result<(String, bool), Fail> {
+    let (role, command) = asked(alloc, room.names(), line)?;
+    let answer = answered(room, role, command)?;
+    let accepted = matches!(answer, Answer::Done(_) | Answer::Undone(_));
+    Ok((told(alloc, &answer)?, accepted))
+}
+
+// Whether the journal has the row's line where it was accepted, and else as many entries as before.
+fn is_kept(
+    alloc: Global,
+    room: &Room,
+    row: Row,
+    before: u64,
+    accepted: bool,
+) -> Result<bool, Fail> {
+    if accepted {
+        Ok(room.entries().checked_sub(1) == Some(before) && is_last(alloc, room, row)?)
+    } else {
+        Ok(room.entries() == before)
+    }
+}
+
+// Whether the session's value has this text.
+fn is_shown(alloc: Global, room: &Room, wanted: &str) -> Result<bool, Fail> {
+    Ok(room.show()?.to_string(alloc)?.as_str() == wanted)
+}
+
+// The row is played: its answer is as it says, and the journal has it where it was accepted.
+fn play_row(alloc: Global, room: &mut Room, row: Row) -> Result<(), Fail> {
+    let before = room.entries();
+    let (text, accepted) = answer_text(alloc, room, row.0)?;
+    if text.as_str() != row.1 {
+        let wanted = row.1;
+        return Err(format!(in alloc; "{text}, and not {wanted}")?.into());
+    }
+    if !is_kept(alloc, room, row, before, accepted)? {
+        return Err("another entry".into());
+    }
+    if row.0.ends_with(" show") && !is_shown(alloc, room, row.1)? {
+        return Err("another value".into());
+    }
+    Ok(())
+}
+
+fn play(alloc: Global, room: &mut Room, rows: &[Row]) -> Result<(), Fail> {
+    for row in rows {
+        play_row(alloc, room, *row)?;
+    }
+    Ok(())
+}
+
+// The same in a new room of the protocol.
+fn play_anew(alloc: Global, protocol: &str, rows: &[Row]) -> Result<(), Fail> {
+    let mut room = room(alloc, protocol)?;
+    play(alloc, &mut room, rows)
+}
+
+// ---- a relay with a verdict
+
+const ROLLED_BACK: &[Row] = &[
+    ("a send b 5", "done 1"),
+    ("b recv a x", "done 2 5"),
+    ("b send c 7", "done 3"),
+    ("c recv b y", "done 4 7"),
+    ("a rollback 1", "undone 4 3 2 1"),
+    ("b news 0", "news 5 3 2"),
+    ("a news 0", "news 5"),
+    ("c news 0", "news 5 4"),
+    ("c news 4", "news 5 4"),
+    ("c news 5", "news 5"),
+    ("c news 9", "news 5"),
+    ("c news 18446744073709551615", "news 5"),
+];
+
+const UNDONE: &[Row] = &[
+    ("a send b 5", "done 1"),
+    ("b recv a x", "done 2 5"),
+    ("a undo 1", "refused needed 2"),
+    ("b undo 2", "undone 2"),
+    ("a undo 1", "undone 1"),
+    ("a news 0", "news 4"),
+    ("b news 0", "news 4"),
+];
+
+const SENT: &str =
+    r#"{"history":[[1,"a","send","b",5]],"queues":[["a","b",[5]]],"roles":[{"expects":"pick c ok no","past":[1],"role":"a","store":[]},{"expects":"recv a int","past":[],"role":"b","store":[]},{"expects":"recv b int","past":[],"role":"c","store":[]}]}"#;
+
+const RECEIVED: &str =
+    r#"{"history":[[1,"a","send","b",5],[2,"b","recv","a","x",5]],"queues":[],"roles":[{"expects":"pick c ok no","past":[1],"role":"a","store":[]},{"expects":"send c int","past":[2],"role":"b","store":[["x",5]]},{"expects":"recv b int","past":[],"role":"c","store":[]}]}"#;
+
+const TOLD: &[Row] = &[
+    ("a send b 5", "done 1"),
+    ("a show", SENT),
+    ("b recv a x", "done 2 5"),
+    ("c show", RECEIVED),
+    ("b send c 7", "done 3"),
+    ("c recv b y", "done 4 7"),
+    ("c choose a maybe", "refused nolabel"),
+    ("a pick c", "refused nothingqueued"),
+    ("c choose a ok", "done 5"),
+    ("a pick c", "done 6 ok"),
+    ("a mark e", "done 7"),
+    ("a send b 1", "refused ended"),
+    ("b rollback 2", "undone 7 6 5 4 3 2"),
+    ("a news 7", "news 8 7 6"),
+    ("c news 7", "news 8 5 4"),
+];
+
+const REFUSED: &[Row] = &[
+    ("b recv a x", "refused nothingqueued"),
+    ("a recv b x", "refused wrongact"),
+    ("a send c 5", "refused wrongpeer"),
+    ("a send b true", "refused wrongsort"),
+    ("b undo 7", "refused nostep"),
+    ("b rollback 7", "refused nostep"),
+    ("a send b 5", "done 1"),
+    ("b undo 1", "refused notyours"),
+    ("b rollback 1", "refused notyours"),
+    ("a back m", "refused nomark"),
+    ("a undo 0", "refused nostep"),
+];
+
+#[test]
+fn relays_and_tells_a_verdict(rt: HostRuntime) -> Result<(), Fail> {
+    for rows in [ROLLED_BACK, UNDONE, TOLD, REFUSED] {
+        play_anew(rt.alloc(), VERDICT, rows)?;
+    }
+    Ok(())
+}
+
+// ---- a loop
+
+const MARKED: &[Row] = &[
+    ("a mark m", "done 1"),
+    ("a send b \"good day\"", "done 2"),
+    ("b recv a x", "done 3 \"good day\""),
+    ("a back m", "undone 3 2"),
+    ("a back m", "undone"),
+    ("b news 0", "news 5 3"),
+    ("a undo 1", "undone 1"),
+    ("a back m", "refused nomark"),
+    ("a news 0", "news 6"),
+    ("a send b \"\"", "done 4"),
+    ("b news 4", "news 7"),
+];
+
+#[test]
+fn goes_back_to_a_mark(rt: HostRuntime) -> Result<(), Fail> {
+    play_anew(rt.alloc(), TEXTS, MARKED)
+}
+
+// ---- a full journal
+
+// A mark `m` of a.
+fn mark(room: &mut Room) -> Result<Answer, Fail> {
+    let name = Name::read(b"m").ok_or("a name")?;
+    answered(room, Role::new(0), Command::Forward(Forward::Mark { name }))
+}
+
+// a's mark and its undo, so many times.
+fn mark_and_undo(room: &mut Room, times: u64) -> Result<(), Fail> {
+    for k in 0..times {
+        let _ = mark(room)?;
+        let _ = answered(room, Role::new(0), Command::Undo(StepId::new(k + 1)))?;
+    }
+    Ok(())
+}
+
+const MARKS_SHOWN: &str =
+    r#"{"history":[[50000,"a","mark","m"],[50001,"a","mark","m"]],"queues":[],"roles":[{"expects":"send b int","past":[50000,50001],"role":"a","store":[]},{"expects":"recv a int","past":[],"role":"b","store":[]},{"expects":"send d int","past":[],"role":"c","store":[]},{"expects":"recv c int","past":[],"role":"d","store":[]}]}"#;
+
+const FULL: &[Row] = &[
+    ("a mark m", "done 50000"),
+    ("a mark m", "done 50001"),
+    ("a mark m", "refused full"),
+    ("a undo 50001", "refused full"),
+    ("a rollback 50000", "refused full"),
+    ("a back m", "refused full"),
+    ("a back k", "refused nomark"),
+    ("a undo 50000", "refused needed 50001"),
+    ("a undo 1", "refused nostep"),
+    ("b recv a x", "refused nothingqueued"),
+    ("a news 0", "news 100000"),
+    ("a show", MARKS_SHOWN),
+];
+
+#[test]
+fn is_full_with_a_hundred_thousand_entries(rt: HostRuntime) -> Result<(), Fail> {
+    let mut room = room(rt.alloc(), TWO_PAIRS)?;
+    mark_and_undo(&mut room, 49_999)?;
+    assert_eq!(rt; room.entries(), 99_998);
+    play(rt.alloc(), &mut room, FULL)
+}
+
+// ---- out of memory
+
+// What the line is answered, where memory may run out once: nothing has changed then, and the command is given again.
+fn answered_at_last(alloc: Global, room: &mut Room, line: &str) -> Result<Answer, Fail> {
+    let before = counts(room);
+    let (role, first) = asked(alloc, room.names(), line)?;
+    let (_, again) = asked(alloc, room.names(), line)?;
+    let answer = answered(room, role, first)?;
+    if !matches!(answer, Answer::Refused(Refusal::Memory)) {
+        return Ok(answer);
+    }
+    if counts(room) != before {
+        return Err("want of memory changes something".into());
+    }
+    answered(room, role, again)
+}
+
+// Whether the row is answered as it says, where memory may run out once.
+fn is_answered_at_last(alloc: Global, room: &mut Room, row: Row) -> Result<bool, Fail> {
+    let answer = answered_at_last(alloc, room, row.0)?;
+    Ok(told(alloc, &answer)?.as_str() == row.1)
+}
+
+// Under `rt try --test --fail-alloc` a request for memory is refused on the way.
+#[test]
+fn changes_nothing_for_want_of_memory(rt: HostRuntime) -> Result<(), Fail> {
+    let mut room = room(rt.alloc(), VERDICT)?;
+    for row in ROLLED_BACK {
+        assert!(rt;
+            is_answered_at_last(rt.alloc(), &mut room, *row)?,
+            "{}",
+            row.0
+        );
+    }
+    Ok(())
+}
+
+// ---- long histories
+
+// A new room of ints, with so many marks of a.
+fn marked(alloc: Global, times: u64) -> Result<Room, Fail> {
+    let mut room = room(alloc, INTS)?;
+    for _ in 0..times {
+        let _ = mark(&mut room)?;
+    }
+    Ok(room)
+}
+
+// How many steps were taken back.
+fn count_taken(answer: &Answer) -> Option<usize> {
+    match answer {
+        Answer::Undone(ids) => Some(ids.as_slice().len()),
+        _ => None,
+    }
+}
+
+#[test]
+fn takes_back_a_thousand_steps(rt: HostRuntime) -> Result<(), Fail> {
+    let mut room = marked(rt.alloc(), 1000)?;
+    let answer = answered(&mut room, Role::new(0), Command::Rollback(StepId::new(1)))?;
+    assert_eq!(rt; count_taken(&answer), Some(1000));
+    assert_eq!(rt; counts(&room), (1001, 0, 1000));
+    Ok(())
+}
+
+// How long the text is that shows the session, as it is answered and as a value.
+fn shown_lengths(alloc: Global, room: &mut Room) -> Result<(usize, usize), Fail> {
+    let answer = answered(room, Role::new(0), Command::Show)?;
+    let text = told(alloc, &answer)?;
+    let value = room.show()?.to_string(alloc)?;
+    Ok((text.len(), value.len()))
+}
+
+// The numbers 1 to 1,100 have 3,293 digits, and stand in the history and in the past of a. Beside the number a step has
+// the 17 bytes of `[,"a","mark","m"]`, and 1,099 commas part the steps and the numbers of the past.
+const THOUSAND_SHOWN: usize = 2 * (3_293 + 1_099) + 1_100 * 17 + AROUND_THEM.len();
+
+const AROUND_THEM: &str =
+    r#"{"history":[],"queues":[],"roles":[{"expects":"send b int","past":[],"role":"a","store":[]},{"expects":"recv a int","past":[],"role":"b","store":[]}]}"#;
+
+#[test]
+fn shows_a_thousand_steps(rt: HostRuntime) -> Result<(), Fail> {
+    let mut room = marked(rt.alloc(), 1_100)?;
+    let lengths = shown_lengths(rt.alloc(), &mut room)?;
+    assert_eq!(rt; lengths, (THOUSAND_SHOWN, THOUSAND_SHOWN));
+    Ok(())
+}

@@ -1,0 +1,249 @@
+use crate::texts::{VERDICT, asked, opened};
+use mps_base::{Name, Role, Roles, Sort};
+use mps_command::Command;
+use mps_local::Local;
+use mps_session::Session;
+use mps_show::{show, write_show};
+use std::alloc::Global;
+use std::test::Fail;
+
+// What roles do in turn, and what is shown then.
+type Row = (&'static [&'static str], &'static str);
+
+// The role of the line does what it says, and is not refused.
+fn does(alloc: Global, names: &Roles, session: &mut Session, line: &str) -> Result<(), Fail> {
+    let (role, command) = asked(alloc, names, line)?;
+    if role.index() >= session.roles() {
+        return Err("a role".into());
+    }
+    match command {
+        Command::Forward(step) => {
+            session.forward(role, step)?;
+        }
+        Command::Undo(id) => session.undo(role, id)?,
+        Command::Rollback(id) => {
+            session.rollback(role, id)?;
+        }
+        _ => return Err("a step, an undo or a rollback".into()),
+    }
+    Ok(())
+}
+
+// What is shown after other bytes.
+fn written(alloc: Global, names: &Roles, session: &Session) -> Result<String, Fail> {
+    if names.count() != session.roles() {
+        return Err("a name for each role".into());
+    }
+    let mut written = Vec::from_slice(alloc, b"> ")?;
+    write_show(names, session, &mut written)?;
+    Ok(String::from_utf8(written)?)
+}
+
+// The text of the value that is shown.
+fn value_text(alloc: Global, names: &Roles, session: &Session) -> Result<String, Fail> {
+    if names.count() != session.roles() {
+        return Err("a name for each role".into());
+    }
+    Ok(show(alloc, names, session)?.to_string(alloc)?)
+}
+
+// Whether this is shown, after what was written before, and by the value too.
+fn shows(alloc: Global, names: &Roles, session: &Session, wanted: &str) -> Result<(), Fail> {
+    let written = written(alloc, names, session)?;
+    let value = value_text(alloc, names, session)?;
+    if written.strip_prefix("> ") == Some(wanted) && value.as_str() == wanted {
+        return Ok(());
+    }
+    Err(format!(in alloc; "{written} for {wanted}")?.into())
+}
+
+// Whether each row comes out as it is wanted, one after the other in the session.
+fn plays(alloc: Global, names: &Roles, session: &mut Session, rows: &[Row]) -> Result<(), Fail> {
+    for (lines, wanted) in rows {
+        for line in *lines {
+            does(alloc, names, session, line)?;
+        }
+        shows(alloc, names, session, wanted)?;
+    }
+    Ok(())
+}
+
+// The same in a new session of the protocol.
+fn plays_anew(alloc: Global, protocol: &str, rows: &[Row]) -> Result<(), Fail> {
+    let (names, mut session) = opened(alloc, protocol)?;
+    plays(alloc, &names, &mut session, rows)
+}
+
+const RELAY: &[Row] = &[
+    (
+        &[],
+        r#"{"history":[],"queues":[],"roles":[{"expects":"send b int","past":[],"role":"a","store":[]},{"expects":"recv a int","past":[],"role":"b","store":[]},{"expects":"recv b int","past":[],"role":"c","store":[]}]}"#,
+    ),
+    (
+        &["a send b 5"],
+        r#"{"history":[[1,"a","send","b",5]],"queues":[["a","b",[5]]],"roles":[{"expects":"pick c ok no","past":[1],"role":"a","store":[]},{"expects":"recv a int","past":[],"role":"b","store":[]},{"expects":"recv b int","past":[],"role":"c","store":[]}]}"#,
+    ),
+    (
+        &["b recv a x"],
+        r#"{"history":[[1,"a","send","b",5],[2,"b","recv","a","x",5]],"queues":[],"roles":[{"expects":"pick c ok no","past":[1],"role":"a","store":[]},{"expects":"send c int","past":[2],"role":"b","store":[["x",5]]},{"expects":"recv b int","past":[],"role":"c","store":[]}]}"#,
+    ),
+    (
+        &["b send c 7", "c recv b y"],
+        r#"{"history":[[1,"a","send","b",5],[2,"b","recv","a","x",5],[3,"b","send","c",7],[4,"c","recv","b","y",7]],"queues":[],"roles":[{"expects":"pick c ok no","past":[1],"role":"a","store":[]},{"expects":"end","past":[2,3],"role":"b","store":[["x",5]]},{"expects":"choose a ok no","past":[4],"role":"c","store":[["y",7]]}]}"#,
+    ),
+    (
+        &["c choose a ok"],
+        r#"{"history":[[1,"a","send","b",5],[2,"b","recv","a","x",5],[3,"b","send","c",7],[4,"c","recv","b","y",7],[5,"c","choose","a","ok"]],"queues":[["c","a",[{"label":"ok"}]]],"roles":[{"expects":"pick c ok no","past":[1],"role":"a","store":[]},{"expects":"end","past":[2,3],"role":"b","store":[["x",5]]},{"expects":"end","past":[4,5],"role":"c","store":[["y",7]]}]}"#,
+    ),
+    (
+        &["a pick c"],
+        r#"{"history":[[1,"a","send","b",5],[2,"b","recv","a","x",5],[3,"b","send","c",7],[4,"c","recv","b","y",7],[5,"c","choose","a","ok"],[6,"a","pick","c","ok"]],"queues":[],"roles":[{"expects":"end","past":[1,6],"role":"a","store":[]},{"expects":"end","past":[2,3],"role":"b","store":[["x",5]]},{"expects":"end","past":[4,5],"role":"c","store":[["y",7]]}]}"#,
+    ),
+];
+
+#[test]
+fn shows_a_relay(rt: HostRuntime) -> Result<(), Fail> {
+    plays_anew(rt.alloc(), VERDICT, RELAY)
+}
+
+const TAKEN_BACK: &[Row] = &[
+    (
+        &[
+            "a send b 5",
+            "b recv a x",
+            "b send c 7",
+            "c recv b y",
+            "c undo 4",
+        ],
+        r#"{"history":[[1,"a","send","b",5],[2,"b","recv","a","x",5],[3,"b","send","c",7]],"queues":[["b","c",[7]]],"roles":[{"expects":"pick c ok no","past":[1],"role":"a","store":[]},{"expects":"end","past":[2,3],"role":"b","store":[["x",5]]},{"expects":"recv b int","past":[],"role":"c","store":[]}]}"#,
+    ),
+    (
+        &["b rollback 2"],
+        r#"{"history":[[1,"a","send","b",5]],"queues":[["a","b",[5]]],"roles":[{"expects":"pick c ok no","past":[1],"role":"a","store":[]},{"expects":"recv a int","past":[],"role":"b","store":[]},{"expects":"recv b int","past":[],"role":"c","store":[]}]}"#,
+    ),
+    (
+        &["b recv a z"],
+        r#"{"history":[[1,"a","send","b",5],[5,"b","recv","a","z",5]],"queues":[],"roles":[{"expects":"pick c ok no","past":[1],"role":"a","store":[]},{"expects":"send c int","past":[5],"role":"b","store":[["z",5]]},{"expects":"recv b int","past":[],"role":"c","store":[]}]}"#,
+    ),
+];
+
+#[test]
+fn shows_what_is_left(rt: HostRuntime) -> Result<(), Fail> {
+    plays_anew(rt.alloc(), VERDICT, TAKEN_BACK)
+}
+
+const SORTS: &str =
+    "roles a b ; a -> b : text . a -> b : bool . a -> b : int . a -> b : text . end";
+
+const EACH_SORT: &[Row] = &[
+    (
+        &[
+            "a send b \"good day\"",
+            "a send b true",
+            "a send b -9223372036854775808",
+            "a send b \"\"",
+        ],
+        r#"{"history":[[1,"a","send","b","good day"],[2,"a","send","b",true],[3,"a","send","b",-9223372036854775808],[4,"a","send","b",""]],"queues":[["a","b",["good day",true,-9223372036854775808,""]]],"roles":[{"expects":"end","past":[1,2,3,4],"role":"a","store":[]},{"expects":"recv a text","past":[],"role":"b","store":[]}]}"#,
+    ),
+    // a slot that is bound again keeps its place
+    (
+        &["b recv a x", "b recv a y", "b mark m", "b recv a x"],
+        r#"{"history":[[1,"a","send","b","good day"],[2,"a","send","b",true],[3,"a","send","b",-9223372036854775808],[4,"a","send","b",""],[5,"b","recv","a","x","good day"],[6,"b","recv","a","y",true],[7,"b","mark","m"],[8,"b","recv","a","x",-9223372036854775808]],"queues":[["a","b",[""]]],"roles":[{"expects":"end","past":[1,2,3,4],"role":"a","store":[]},{"expects":"recv a text","past":[5,6,7,8],"role":"b","store":[["x",-9223372036854775808],["y",true]]}]}"#,
+    ),
+    // what it had comes back in its place
+    (
+        &["b undo 8", "b undo 7"],
+        r#"{"history":[[1,"a","send","b","good day"],[2,"a","send","b",true],[3,"a","send","b",-9223372036854775808],[4,"a","send","b",""],[5,"b","recv","a","x","good day"],[6,"b","recv","a","y",true]],"queues":[["a","b",[-9223372036854775808,""]]],"roles":[{"expects":"end","past":[1,2,3,4],"role":"a","store":[]},{"expects":"recv a int","past":[5,6],"role":"b","store":[["x","good day"],["y",true]]}]}"#,
+    ),
+];
+
+#[test]
+fn shows_values_of_each_sort(rt: HostRuntime) -> Result<(), Fail> {
+    plays_anew(rt.alloc(), SORTS, EACH_SORT)
+}
+
+const CHOICES: &str = "roles a b ; rec X . a -> b { go : a -> b : text . X , stop : end }";
+
+const LABELS: &[Row] = &[
+    (
+        &[],
+        r#"{"history":[],"queues":[],"roles":[{"expects":"choose b go stop","past":[],"role":"a","store":[]},{"expects":"pick a go stop","past":[],"role":"b","store":[]}]}"#,
+    ),
+    (
+        &["a choose b go", "a send b \"go\""],
+        r#"{"history":[[1,"a","choose","b","go"],[2,"a","send","b","go"]],"queues":[["a","b",[{"label":"go"},"go"]]],"roles":[{"expects":"choose b go stop","past":[1,2],"role":"a","store":[]},{"expects":"pick a go stop","past":[],"role":"b","store":[]}]}"#,
+    ),
+    (
+        &["b pick a", "b recv a x", "a choose b stop"],
+        r#"{"history":[[1,"a","choose","b","go"],[2,"a","send","b","go"],[3,"b","pick","a","go"],[4,"b","recv","a","x","go"],[5,"a","choose","b","stop"]],"queues":[["a","b",[{"label":"stop"}]]],"roles":[{"expects":"end","past":[1,2,5],"role":"a","store":[]},{"expects":"pick a go stop","past":[3,4],"role":"b","store":[["x","go"]]}]}"#,
+    ),
+];
+
+#[test]
+fn tells_labels_from_texts(rt: HostRuntime) -> Result<(), Fail> {
+    plays_anew(rt.alloc(), CHOICES, LABELS)
+}
+
+// An output (at true) or an input of a type, with the peer and the sort.
+type Action = (bool, u8, Sort);
+
+// What eight roles do, whose types are not those of a protocol.
+const PARTS: [&[Action]; 8] = [
+    &[(true, 7, Sort::Int), (true, 2, Sort::Int)],
+    &[(true, 0, Sort::Int)],
+    &[(true, 1, Sort::Int)],
+    &[],
+    &[],
+    &[],
+    &[],
+    &[(false, 0, Sort::Bool)],
+];
+
+// The actions one after the other.
+fn part(alloc: Global, actions: &[Action]) -> Result<Local, Fail> {
+    let mut t = Local::End;
+    for (sends, peer, sort) in actions.iter().rev() {
+        let peer = Role::new(*peer);
+        t = if *sends {
+            Local::send(alloc, peer, *sort, t)?
+        } else {
+            Local::recv(alloc, peer, *sort, t)?
+        };
+    }
+    Ok(t)
+}
+
+// The roles a to h.
+fn eight_names(alloc: Global) -> Result<Roles, Fail> {
+    let mut names = Vec::new(alloc);
+    for letter in ["a", "b", "c", "d", "e", "f", "g", "h"] {
+        names.push(Name::read(letter.as_bytes()).ok_or("a name")?)?;
+    }
+    Ok(Roles::of(alloc, &names)?)
+}
+
+fn eight_types(alloc: Global) -> Result<Vec<Local>, Fail> {
+    let mut types = Vec::new(alloc);
+    for actions in PARTS {
+        types.push(part(alloc, actions)?)?;
+    }
+    Ok(types)
+}
+
+const EIGHT: &[Row] = &[(
+    &[
+        "c send b 3",
+        "a send h 1",
+        "a send c 2",
+        "g mark m",
+        "b send a 4",
+    ],
+    r#"{"history":[[1,"c","send","b",3],[2,"a","send","h",1],[3,"a","send","c",2],[4,"g","mark","m"],[5,"b","send","a",4]],"queues":[["a","c",[2]],["a","h",[1]],["b","a",[4]],["c","b",[3]]],"roles":[{"expects":"end","past":[2,3],"role":"a","store":[]},{"expects":"end","past":[5],"role":"b","store":[]},{"expects":"end","past":[1],"role":"c","store":[]},{"expects":"end","past":[],"role":"d","store":[]},{"expects":"end","past":[],"role":"e","store":[]},{"expects":"end","past":[],"role":"f","store":[]},{"expects":"end","past":[4],"role":"g","store":[]},{"expects":"recv a bool","past":[],"role":"h","store":[]}]}"#,
+)];
+
+#[test]
+fn shows_eight_roles(rt: HostRuntime) -> Result<(), Fail> {
+    let alloc = rt.alloc();
+    let mut session = Session::open(alloc, eight_types(alloc)?)?;
+    plays(alloc, &eight_names(alloc)?, &mut session, EIGHT)
+}
