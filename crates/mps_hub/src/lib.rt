@@ -22,6 +22,3 @@ pub use desk::{Desk, JoinFault};
 pub use gates::{Gate, Gated, Unguarded};
 pub use server::{ServeFault, Served, serve, serve_with};
 pub use sessions::{Hub, HubDeal};
-
-#[cfg(test)]
-mod tests;

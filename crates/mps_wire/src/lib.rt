@@ -17,10 +17,3 @@ pub mod script;
 pub use conversation::{Ending, converse};
 pub use mps_lines::{Line, Lines};
 pub use script::{ReplayFault, replay, replay_session};
-
-#[cfg(test)]
-mod counted;
-#[cfg(test)]
-mod talk_tests;
-#[cfg(test)]
-mod tests;

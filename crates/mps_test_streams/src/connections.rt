@@ -1,11 +1,9 @@
 ghost use Rattle.std.specs.Prelude.{◌≡◌, false, IfOk};
 
-use super::*;
-use mps_base::{Name, Role, Roles, Sort};
+use crate::protocols::{VERDICT, names, opened, types};
 use mps_cell::PassFault;
 use mps_dev::{Pieces, Short};
-use mps_local::{Branches, Local};
-use mps_session::Session;
+use mps_hub::{Attended, Desk, Hub, Unguarded, attend};
 use mps_wire::Ending;
 use std::alloc::Global;
 use std::sync::Wait;
@@ -13,56 +11,16 @@ use std::test::Fail;
 
 // ---- hubs
 
-fn name(text: &str) -> Result<Name, Fail> {
-    Ok(Name::read(text.as_bytes()).ok_or("a name")?)
-}
-
-// The first roles of a, b, c and d.
-fn names(alloc: Global, count: usize) -> Result<Roles, Fail> {
-    let mut all = Vec::new(alloc);
-    for text in ["a", "b", "c", "d"] {
-        all.push(name(text)?)?;
-    }
-    let some = all.as_slice().get(..count).ok_or("few names")?;
-    Ok(Roles::of(alloc, some)?)
-}
-
-// A choice of `ok` or `no`, after which the part ends.
-fn ok_or_no(alloc: Global) -> Result<Branches, Fail> {
-    let no = Branches::more(alloc, name("no")?, Local::End, Branches::NoMore)?;
-    Ok(Branches::more(alloc, name("ok")?, Local::End, no)?)
-}
-
-// a gives b an int, b gives c an int, and c tells a `ok` or `no`.
-fn verdict(alloc: Global) -> Result<Vec<Local>, Fail> {
-    let waits = Local::Branch {
-        peer: Role::new(2),
-        branches: ok_or_no(alloc)?,
-    };
-    let tells = Local::Select {
-        peer: Role::new(0),
-        branches: ok_or_no(alloc)?,
-    };
-    let a = Local::send(alloc, Role::new(1), Sort::Int, waits)?;
-    let b = Local::send(alloc, Role::new(2), Sort::Int, Local::End)?;
-    let b = Local::recv(alloc, Role::new(0), Sort::Int, b)?;
-    let c = Local::recv(alloc, Role::new(1), Sort::Int, tells)?;
-    Ok(vec![in alloc; a, b, c]?)
-}
-
 // A hub of so many sessions in which c gives its verdict.
 fn hub(alloc: Global, sessions: u64) -> Result<Hub, Fail>
     ensures { IfOk result (λ h. h.given ≡ false) }
 {
-    let types = verdict(alloc)?;
+    if sessions == 0 || sessions > 16 {
+        return Err("1 to 16 sessions".into());
+    }
+    let types = types(alloc, VERDICT)?;
     let names = names(alloc, types.len())?;
-    if names.count() != types.len() || sessions == 0 || sessions > 16 {
-        return Err("as many names, and 1 to 16 sessions".into());
-    }
-    match Hub::open(alloc, &names, types.as_slice(), sessions) {
-        Ok(hub) => Ok(hub),
-        Err(_) => Err("not opened".into()),
-    }
+    Ok(Hub::open(alloc, &names, types.as_slice(), sessions)?)
 }
 
 #[test]
@@ -104,6 +62,22 @@ fn are_played<R: Wait + 'static>(
         }
     }
     Ok(true)
+}
+
+// The connections come to these rows, one after the other, at the desk of the hub.
+fn plays<R: Wait + 'static>(
+    rt: &R,
+    alloc: Global,
+    mut hub: Hub,
+    rows: &[Row<'_>],
+) -> Result<bool, Fail>
+    requires { hub.given ≡ false }
+{
+    let Some(deal) = hub.deal() else {
+        return Err("given".into());
+    };
+    let desk = hub.desk_of(alloc, deal)?;
+    are_played(rt, alloc, &desk, rows)
 }
 
 const CLOSED: Attended = Attended::Conversed(Ending::Closed);
@@ -187,10 +161,7 @@ const JOINS: &[Row<'static>] = &[
 
 #[test]
 fn gives_each_pass_back(rt: HostRuntime) -> Result<(), Fail> {
-    let mut hub = hub(rt.alloc(), 1)?;
-    let deal = hub.deal().ok_or("given")?;
-    let desk = hub.desk_of(rt.alloc(), deal)?;
-    assert!(rt; are_played(&rt, rt.alloc(), &desk, JOINS)?);
+    assert!(rt; plays(&rt, rt.alloc(), hub(rt.alloc(), 1)?, JOINS)?);
     Ok(())
 }
 
@@ -227,31 +198,20 @@ const REPEATS: &[Row<'static>] = &[
 
 #[test]
 fn keeps_the_last_answer_of_a_pass(rt: HostRuntime) -> Result<(), Fail> {
-    let mut hub = hub(rt.alloc(), 1)?;
-    let deal = hub.deal().ok_or("given")?;
-    let desk = hub.desk_of(rt.alloc(), deal)?;
-    assert!(rt; are_played(&rt, rt.alloc(), &desk, REPEATS)?);
+    assert!(rt; plays(&rt, rt.alloc(), hub(rt.alloc(), 1)?, REPEATS)?);
     Ok(())
 }
 
 #[test]
 fn refuses_a_long_first_line(rt: HostRuntime) -> Result<(), Fail> {
-    let alloc = rt.alloc();
-    let mut hub = hub(alloc, 1)?;
-    let deal = hub.deal().ok_or("given")?;
-    let desk = hub.desk_of(alloc, deal)?;
-    let mut text = vec![in alloc; b'x'; 513]?;
+    let mut text = vec![in rt.alloc(); b'x'; 513]?;
     text.push(b'\n')?;
-    let long: Row<'_> = (
-        text.as_slice(),
-        None,
-        99,
-        b"refused line\n",
-        Attended::TurnedAway,
-    );
-    assert!(rt; is_played(&rt, alloc, &desk, &long)?);
-    let short: Row<'_> = (b"join 1 a\n", None, 99, b"joined 1 a\n", CLOSED);
-    assert!(rt; is_played(&rt, alloc, &desk, &short)?);
+    let refused: &[u8] = b"refused line\n";
+    let rows: [Row<'_>; 2] = [
+        (text.as_slice(), None, 99, refused, Attended::TurnedAway),
+        (b"join 1 a\n", None, 99, b"joined 1 a\n", CLOSED),
+    ];
+    assert!(rt; plays(&rt, rt.alloc(), hub(rt.alloc(), 1)?, &rows)?);
     Ok(())
 }
 
@@ -290,10 +250,9 @@ const SECOND: &[Row<'static>] = &[
 fn hub_of_two(alloc: Global) -> Result<Hub, Fail>
     ensures { IfOk result (λ h. h.given ≡ false) }
 {
-    let first = Session::open(alloc, verdict(alloc)?)?;
-    let second = Session::open(alloc, verdict(alloc)?)?;
-    let names = names(alloc, 3)?;
-    if first.roles() != names.count() || second.roles() != names.count() {
+    let (names, first) = opened(alloc, VERDICT)?;
+    let (_, second) = opened(alloc, VERDICT)?;
+    if second.roles() != names.count() {
         return Err("three roles".into());
     }
     Ok(Hub::of(alloc, &names, vec![in alloc; first, second]?)?)
@@ -301,9 +260,6 @@ fn hub_of_two(alloc: Global) -> Result<Hub, Fail>
 
 #[test]
 fn has_its_sessions_apart(rt: HostRuntime) -> Result<(), Fail> {
-    let mut hub = hub_of_two(rt.alloc())?;
-    let deal = hub.deal().ok_or("given")?;
-    let desk = hub.desk_of(rt.alloc(), deal)?;
-    assert!(rt; are_played(&rt, rt.alloc(), &desk, SECOND)?);
+    assert!(rt; plays(&rt, rt.alloc(), hub_of_two(rt.alloc())?, SECOND)?);
     Ok(())
 }

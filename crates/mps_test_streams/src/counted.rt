@@ -1,12 +1,9 @@
 //! Scripts and conversations whose instructions `bench/talks` counts, in the order of the rows here.
-use crate::conversation::{Ending, converse};
-use crate::script::replay;
-use crate::tests::name;
-use mps_base::{Role, Roles, Sort, VarName};
+use crate::protocols::{names, opened, types};
+use mps_base::Role;
 use mps_dev::{Discard, Pieces};
-use mps_local::Local;
 use mps_room::{Room, Solo};
-use mps_session::Session;
+use mps_wire::{Ending, converse, replay};
 use std::alloc::Global;
 use std::test::Fail;
 
@@ -14,26 +11,10 @@ use std::test::Fail;
 const LENGTHS: [u64; 3] = [0, 10_000, 40_000];
 
 // a gives b numbers without end.
-fn types(alloc: Global) -> Result<Vec<Local>, Fail> {
-    let x = VarName::read(b"X").ok_or("a variable")?;
-    let gives = Local::send(alloc, Role::new(1), Sort::Int, Local::Var(x))?;
-    let takes = Local::recv(alloc, Role::new(0), Sort::Int, Local::Var(x))?;
-    Ok(vec![in alloc;
-        Local::rec(alloc, x, gives)?,
-        Local::rec(alloc, x, takes)?,
-        Local::End,
-    ]?)
-}
-
-fn names(alloc: Global) -> Result<Roles, Fail> {
-    Ok(Roles::of(alloc, &[name("a")?, name("b")?, name("c")?])?)
-}
+const NUMBERS: &str = "roles a b c ; rec X . a -> b : int . X";
 
 fn new_room(alloc: Global) -> Result<Room, Fail> {
-    let (roles, session) = (names(alloc)?, Session::open(alloc, types(alloc)?)?);
-    if roles.count() != session.roles() {
-        return Err("a name for each role".into());
-    }
+    let (roles, session) = opened(alloc, NUMBERS)?;
     Ok(Room::open(alloc, roles, session))
 }
 
@@ -53,10 +34,8 @@ fn lines(alloc: Global, words: &str, numbered: bool, count: u64) -> Result<Vec<u
 // Runs a script of these lines, and gives how many entries it made.
 #[inline(never)]
 fn run(alloc: Global, lines: Vec<u8>) -> Result<u64, Fail> {
-    let (roles, types) = (names(alloc)?, types(alloc)?);
-    if roles.count() != types.len() {
-        return Err("a type for each role".into());
-    }
+    let types = types(alloc, NUMBERS)?;
+    let roles = names(alloc, types.len())?;
     let mut reader = Pieces::new(vec![in alloc; lines]?, None);
     Ok(replay(alloc, &mut reader, &mut Discard, roles, types)?.entries())
 }

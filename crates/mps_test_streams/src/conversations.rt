@@ -1,0 +1,280 @@
+use crate::pieces::{
+    Way, cut_long_line, empty_lines, fails_from, in_one_piece, in_single_bytes, in_two_pieces,
+    refused_lines, room, told_by,
+};
+use crate::protocols::{RELAY, opened};
+use mps_base::Role;
+use mps_dev::{Pieces, Short};
+use mps_lines::MAX_LINE;
+use mps_room::{Room, Solo};
+use mps_wire::{Ending, converse};
+use std::alloc::Global;
+use std::test::Fail;
+
+// A new room, called by a.
+fn new_solo(alloc: Global) -> Result<Solo, Fail> {
+    let (names, session) = opened(alloc, RELAY)?;
+    if session.roles() == 0 {
+        return Err("a role".into());
+    }
+    Ok(Solo::new(Room::open(alloc, names, session), Role::new(0)))
+}
+
+// Whether a conversation over these pieces ends so, with these bytes written.
+fn talks(
+    alloc: Global,
+    solo: &mut Solo,
+    pieces: Vec<Vec<u8>>,
+    way: Way,
+    want: &[u8],
+    end: Ending,
+) -> Result<bool, Fail> {
+    let mut reader = Pieces::new(pieces, way.fails_from);
+    let mut writer = Short::new(alloc, way.room)?;
+    let ending = converse(alloc, solo, &mut reader, &mut writer);
+    Ok(ending == end && writer.bytes() == want)
+}
+
+// How many entries there are where a conversation in a new room went so.
+fn entries_after(
+    alloc: Global,
+    pieces: Vec<Vec<u8>>,
+    way: Way,
+    want: &[u8],
+    end: Ending,
+) -> Result<Option<u64>, Fail> {
+    let mut solo = new_solo(alloc)?;
+    let went_so = talks(alloc, &mut solo, pieces, way, want, end)?;
+    Ok(if went_so {
+        Some(solo.room.entries())
+    } else {
+        None
+    })
+}
+
+// What is said, how many bytes of answers are taken, the end, the answers, and how many entries there are then.
+const LINE_BY_LINE: &[(&str, usize, Ending, &str, u64)] = &[
+    ("send b 5\nund", 100, Ending::Closed, "done 1\n", 1),
+    ("send b 5\nmark m\n", 3, Ending::WriteFault, "don", 1),
+    ("und\n", 3, Ending::WriteFault, "ref", 0),
+    ("", 100, Ending::Closed, "", 0),
+    ("\n", 100, Ending::Closed, "refused line\n", 0),
+    (
+        "news 0\na mark m\n",
+        100,
+        Ending::Closed,
+        "news 0\nrefused line\n",
+        0,
+    ),
+];
+
+#[test]
+fn talks_line_by_line(rt: HostRuntime) -> Result<(), Fail> {
+    for (text, space, end, want, count) in LINE_BY_LINE {
+        let pieces = in_one_piece(rt.alloc(), text)?;
+        let entries = entries_after(rt.alloc(), pieces, room(*space), want.as_bytes(), *end)?;
+        assert_eq!(rt; entries, Some(*count), "{text}");
+    }
+    Ok(())
+}
+
+const TWO_ANSWERS: &[u8] = b"done 1\ndone 2\n";
+
+// How many entries there are where two lines were answered in this much space.
+fn entries_in_space(alloc: Global, space: usize, end: Ending) -> Result<Option<u64>, Fail> {
+    let pieces = in_one_piece(alloc, "send b 5\nmark m\n")?;
+    let want = TWO_ANSWERS.get(..space).ok_or("a place")?;
+    entries_after(alloc, pieces, room(space), want, end)
+}
+
+#[test]
+fn writes_each_byte_once(rt: HostRuntime) -> Result<(), Fail> {
+    for space in 0..14 {
+        let entries = entries_in_space(rt.alloc(), space, Ending::WriteFault)?;
+        assert_eq!(rt; entries, Some(if space < 7 { 1 } else { 2 }), "{space}");
+    }
+    assert_eq!(rt; entries_in_space(rt.alloc(), 14, Ending::Closed)?, Some(2));
+    Ok(())
+}
+
+// Lines of a with numbers and without them, and what they are answered.
+const NUMBERED: &[(&str, &str)] = &[
+    ("1 send b 5", "done 1"),
+    ("1 send b 5", "done 1"),
+    ("3 mark m", "refused number"),
+    ("2 mark m", "done 2"),
+    ("1 mark m", "refused number"),
+    ("0 mark m", "refused number"),
+    ("2 undo 9", "done 2"),
+    ("mark k", "done 3"),
+    ("3 undo 9", "refused nostep"),
+    ("3 undo 3", "undone 3"),
+    ("3 undo 3", "undone 3"),
+    ("4 show", "refused line"),
+    ("04 mark m", "refused line"),
+];
+
+// Whether the line is answered so.
+fn is_answered(alloc: Global, solo: &mut Solo, line: &str, want: &str) -> Result<bool, Fail> {
+    let pieces = in_one_piece(alloc, format!(in alloc; "{line}\n")?.as_str())?;
+    let want = format!(in alloc; "{want}\n")?;
+    talks(
+        alloc,
+        solo,
+        pieces,
+        room(100),
+        want.as_bytes(),
+        Ending::Closed,
+    )
+}
+
+#[test]
+fn runs_a_number_once(rt: HostRuntime) -> Result<(), Fail> {
+    let mut solo = new_solo(rt.alloc())?;
+    for (line, want) in NUMBERED {
+        assert!(rt; is_answered(rt.alloc(), &mut solo, line, want)?, "{line}");
+    }
+    assert_eq!(rt; solo.room.entries(), 4);
+    Ok(())
+}
+
+// The same lines as one text, and their answers.
+const ASKED: &str = concat!(
+    "1 send b 5\n1 send b 5\n3 mark m\n2 mark m\n1 mark m\n0 mark m\n2 undo 9\nmark k\n",
+    "3 undo 9\n3 undo 3\n3 undo 3\n4 show\n04 mark m\n"
+);
+
+const TOLD: &str = concat!(
+    "done 1\ndone 1\nrefused number\ndone 2\nrefused number\nrefused number\ndone 2\ndone 3\n",
+    "refused nostep\nundone 3\nundone 3\nrefused line\nrefused line\n"
+);
+
+#[test]
+fn talks_in_any_two_pieces(rt: HostRuntime) -> Result<(), Fail> {
+    for at in 0..ASKED.len() + 1 {
+        let pieces = in_two_pieces(rt.alloc(), ASKED, at)?;
+        let told = TOLD.as_bytes();
+        let entries = entries_after(rt.alloc(), pieces, room(1_000), told, Ending::Closed)?;
+        assert_eq!(rt; entries, Some(4), "cut at {at}");
+    }
+    Ok(())
+}
+
+// Whether the first so many bytes are answered line by line.
+fn is_answered_up_to(alloc: Global, at: usize) -> Result<bool, Fail> {
+    let text = ASKED.get(..at).ok_or("a place")?;
+    let told = told_by(alloc, NUMBERED, at)?;
+    let pieces = in_one_piece(alloc, text)?;
+    Ok(entries_after(alloc, pieces, room(1_000), &told, Ending::Closed)?.is_some())
+}
+
+#[test]
+fn ends_after_any_byte(rt: HostRuntime) -> Result<(), Fail> {
+    for at in 0..ASKED.len() + 1 {
+        assert!(rt; is_answered_up_to(rt.alloc(), at)?, "ended at {at}");
+    }
+    Ok(())
+}
+
+// Whether a conversation ends where the call after so many reads of one byte fails.
+fn ends_after_reads(alloc: Global, at: usize) -> Result<bool, Fail> {
+    let told = told_by(alloc, NUMBERED, at)?;
+    let pieces = in_single_bytes(alloc, ASKED)?;
+    let way = fails_from(at.saturating_add(1));
+    Ok(entries_after(alloc, pieces, way, &told, Ending::ReadFault)?.is_some())
+}
+
+#[test]
+fn ends_where_a_read_fails(rt: HostRuntime) -> Result<(), Fail> {
+    for at in 0..ASKED.len() + 1 {
+        assert!(rt; ends_after_reads(rt.alloc(), at)?, "failed after {at}");
+    }
+    Ok(())
+}
+
+// Whether a conversation ends where a write fails after so many bytes.
+fn ends_after_bytes(alloc: Global, space: usize) -> Result<bool, Fail> {
+    let told = TOLD.as_bytes().get(..space).ok_or("a place")?;
+    let pieces = in_one_piece(alloc, ASKED)?;
+    Ok(entries_after(alloc, pieces, room(space), told, Ending::WriteFault)?.is_some())
+}
+
+#[test]
+fn ends_where_a_write_fails(rt: HostRuntime) -> Result<(), Fail> {
+    for space in 0..TOLD.len() {
+        assert!(rt; ends_after_bytes(rt.alloc(), space)?, "{space}");
+    }
+    Ok(())
+}
+
+#[test]
+fn asks_again_in_a_second_conversation(rt: HostRuntime) -> Result<(), Fail> {
+    let alloc = rt.alloc();
+    let mut solo = new_solo(alloc)?;
+    let line = in_one_piece(alloc, "1 send b 5\n")?;
+    assert!(rt; talks(alloc, &mut solo, line, room(0), b"", Ending::WriteFault)?);
+    assert_eq!(rt; solo.room.entries(), 1);
+    let line = in_one_piece(alloc, "1 send b 5\n")?;
+    assert!(rt;
+        talks(
+            alloc,
+            &mut solo,
+            line,
+            room(100),
+            b"done 1\n",
+            Ending::Closed
+        )?
+    );
+    assert_eq!(rt; solo.room.entries(), 1);
+    Ok(())
+}
+
+#[test]
+fn talks_over_long_lines(rt: HostRuntime) -> Result<(), Fail> {
+    for length in [MAX_LINE, MAX_LINE + 1, 100_000] {
+        let pieces = cut_long_line(rt.alloc(), length, "send b 5")?;
+        let want = b"refused line\ndone 1\n";
+        let entries = entries_after(rt.alloc(), pieces, room(100), want, Ending::Closed)?;
+        assert!(rt; entries.is_some(), "of {length}");
+    }
+    Ok(())
+}
+
+// So many pieces of one byte, `x`.
+fn letters(alloc: Global, count: usize) -> Result<Vec<Vec<u8>>, Fail> {
+    let mut pieces = Vec::new(alloc);
+    for _ in 0..count {
+        pieces.push(vec![in alloc; b'x']?)?;
+    }
+    Ok(pieces)
+}
+
+// So many pieces of one byte, `x` and an LF in turn.
+fn letters_and_ends(alloc: Global, count: usize) -> Result<Vec<Vec<u8>>, Fail> {
+    let mut pieces = Vec::new(alloc);
+    for at in 0..count {
+        pieces.push(vec![in alloc; if at % 2 == 0 { b'x' } else { b'\n' }]?)?;
+    }
+    Ok(pieces)
+}
+
+// Whether a conversation over these pieces ends so, with so many lines refused.
+fn ends_after_lines(
+    alloc: Global,
+    pieces: Vec<Vec<u8>>,
+    lines: usize,
+    end: Ending,
+) -> Result<bool, Fail> {
+    let answers = refused_lines(alloc, lines)?;
+    Ok(entries_after(alloc, pieces, room(13_000_000), &answers, end)?.is_some())
+}
+
+#[test]
+fn reads_a_million_times_at_most(rt: HostRuntime) -> Result<(), Fail> {
+    let (alloc, turns) = (rt.alloc(), Ending::Turns);
+    assert!(rt; ends_after_lines(alloc, letters(alloc, 1_000_001)?, 0, turns)?);
+    assert!(rt; ends_after_lines(alloc, letters_and_ends(alloc, 1_000_001)?, 500_000, turns)?);
+    assert!(rt; ends_after_lines(alloc, letters(alloc, 999_999)?, 0, Ending::Closed)?);
+    assert!(rt; ends_after_lines(alloc, empty_lines(alloc, 1_000_000)?, 1_000_000, turns)?);
+    Ok(())
+}
