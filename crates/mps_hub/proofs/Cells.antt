@@ -1,17 +1,16 @@
 -- Cells, deals and rows.
-use Rattle.std.proofs.Common.{◌≡◌, ℕ, zero, suc, ◌+◌, ◌⊎◌, List, [], ◌∷◌, ◌++◌, Option, Some, None, length, refl, sym, ap, ◌∙◌, subst, arith, ⊎_elim, inl, inr, length-append}
+use Rattle.std.proofs.Common.{◌≡◌, ℕ, zero, suc, ◌+◌, ◌⊎◌, List, [], ◌∷◌, ◌++◌, Option, Some, None, ◌<◌, length, refl, sym, ap, ◌∙◌, subst, arith, ⊎_elim, inl, inr, length-append}
 use Rattle.std.specs.Prelude.{slice_get, All, IfSome}
 use Rattle.std.proofs.lemmas.Option.{slice_get_within, slice_get-get_or}
 use Rattle.std.proofs.lemmas.List.Elements.{All-nil, All-push, All-get_or}
-use Rattle.atomic_table.specs.Seated.{TableId}
 use Rattle.mps_local.specs.Local.{LocalType}
 use Rattle.mps_session.specs.Seen.{Machine}
 use Rattle.mps_room.specs.Kept.{Record}
 use Rattle.mps_cell.specs.Openings.{Opening}
 use Rattle.mps_cell.specs.Calls.{Known}
 use Rattle.mps_cell.specs.Cells.{Opened, Closes, Dealt, IsDealOf, fresh, fresh_below, opened_with}
-use Rattle.mps_hub.specs.Places.{AtHome}
-use Rattle.mps_hub.specs.Halls.{AreNumbered, AreCellsOf, AreCellsWith, AreClosed, AreDeals}
+use Rattle.mps_hub.specs.Places.{AreNumbered, AtHome, IsOfCell}
+use Rattle.mps_hub.specs.Halls.{AreCellsOf, AreCellsWith, AreClosed, AreDeals}
 
 -- what stands in a list with one item more
 pub get_push : {A : Type 0} (xs : List A) (y : A) (i : ℕ) (z : A) → slice_get (xs ++ y ∷ []) i ≡ Some z → (slice_get xs i ≡ Some z) ⊎ ((i ≡ length xs) × (y ≡ z))
@@ -29,8 +28,8 @@ get_last : {A : Type 0} (xs : List A) (y : A) → slice_get (xs ++ y ∷ []) (le
 get_last [] y = refl
 get_last (x ∷ xs) y = get_last xs y
 
-pub at_home_none : (number : ℕ) (xs : List (Option Known)) → AtHome number xs → AtHome number (xs ++ None ∷ [])
-at_home_none number xs h i k e =
+pub at_home_none : (o : Opened) (xs : List (Option Known)) → AtHome o xs → AtHome o (xs ++ None ∷ [])
+at_home_none o xs h i k e =
     ⊎_elim (λ (old : slice_get xs i ≡ Some (Some k)). h i k old) (λ (new : (i ≡ length xs) × (None ≡ Some k)). let n = new.1 in absurd cc) (get_push xs None i (Some k) e)
 
 -- one session more, and its cell
@@ -68,19 +67,19 @@ all_alike names types n sessions cells m all is count h = record {
         let same = All-get_or (λ (s : Machine). s ≡ m) sessions i s less all in
         cc
 
-pub deals_push : (cells : List Opened) (deals : List Dealt) (c : Opened) (d : Dealt) → AreDeals cells deals → length deals ≡ length cells → IsDealOf c.cell c.opening d → AreDeals (cells ++ c ∷ []) (deals ++ d ∷ [])
-deals_push cells deals c d h same is = record {
-  count = omega (arith, length-append cells (c ∷ []), length-append deals (d ∷ []), same);
+pub deals_push : (cells : List Opened) (deals : List Dealt) (c : Opened) (d : Dealt) → AreDeals cells deals → IsDealOf c.cell c.opening d → AreDeals (cells ++ c ∷ []) (deals ++ d ∷ [])
+deals_push cells deals c d h is = record {
+  count = omega (arith, length-append cells (c ∷ []), length-append deals (d ∷ []), h.count);
   each = λ i o e at there.
       ⊎_elim
       (λ (old : slice_get cells i ≡ Some o).
       ⊎_elim
       (λ (was : slice_get deals i ≡ Some e). h.each i o e old was)
-      (λ (new : (i ≡ length deals) × (d ≡ e)). let less = slice_get_within cells i o old in absurd (omega (arith, less, new.0, same)))
+      (λ (new : (i ≡ length deals) × (d ≡ e)). let less = slice_get_within cells i o old in absurd (omega (arith, less, new.0, h.count)))
       (get_push deals d i e there))
       (λ (new : (i ≡ length cells) × (c ≡ o)).
       ⊎_elim
-      (λ (was : slice_get deals i ≡ Some e). let less = slice_get_within deals i e was in absurd (omega (arith, less, new.0, same)))
+      (λ (was : slice_get deals i ≡ Some e). let less = slice_get_within deals i e was in absurd (omega (arith, less, new.0, h.count)))
       (λ (also : (i ≡ length deals) × (d ≡ e)). subst (λ (x : Opened × Dealt). IsDealOf x.0.cell x.0.opening x.1) (λ j. (new.1 j, also.1 j)) is)
       (get_push deals d i e there))
       (get_push cells c i o at);
@@ -109,19 +108,19 @@ pub closed_where : (c : Opened) (r : Option Record) → IfSome r (λ (m : Record
 closed_where c (Some x) h m is = subst (λ (r : Option Record). IfSome r (λ (m : Record). Closes c.opening m)) is h
 closed_where c None h m is = absurd cc
 
--- each fresh pass is of its cell's session
-pub fresh_session : (id : TableId) (o : Opening) (n : ℕ) → All (λ (k : Known). k.opening.session ≡ o.session) (fresh_below id o n)
-fresh_session id o zero = All-nil (λ (k : Known). k.opening.session ≡ o.session)
-fresh_session id o (suc n) = All-push (λ (k : Known). k.opening.session ≡ o.session) (fresh_below id o n) (fresh id o n) (fresh_session id o n) refl
+-- each fresh pass is of its cell
+pub fresh_of_cell : (c : Opened) (n : ℕ) → All (IsOfCell c) (fresh_below c.cell c.opening n)
+fresh_of_cell c zero = All-nil (IsOfCell c)
+fresh_of_cell c (suc n) = All-push (IsOfCell c) (fresh_below c.cell c.opening n) (fresh c.cell c.opening n) (fresh_of_cell c n) (record { same_cell = refl; same_opening = refl })
 
--- without the last deal
-pub deals_rest : (cells : List Opened) (deals rest : List Dealt) (d : Dealt) → AreDeals cells deals → deals ≡ rest ++ d ∷ [] → AreDeals cells rest
-deals_rest cells deals rest d h is = record {
-  count = omega (arith, h.count, ap length is, length-append rest (d ∷ []));
-  each = λ i o e at there. h.each i o e at (subst (λ (l : List Dealt). slice_get l i ≡ Some e) (sym is) (get_more rest (d ∷ []) i e there));
-}
+-- the deal after these is of the cell at its place
+pub next_deal : (cells : List Opened) (deals done rest : List Dealt) (d : Dealt) (place : ℕ) (o : Opened) → AreDeals cells deals → deals ≡ done ++ d ∷ rest → place ≡ length done → slice_get cells place ≡ Some o → IsDealOf o.cell o.opening d
+next_deal cells deals done rest d place o h is at there = h.each place o d there (subst (λ (l : List Dealt). slice_get l place ≡ Some d) (sym is) (subst (λ (n : ℕ). slice_get (done ++ d ∷ rest) n ≡ Some d) (sym at) (get_next done rest d)))
+  where
+    get_next : (done rest : List Dealt) (d : Dealt) → slice_get (done ++ d ∷ rest) (length done) ≡ Some d
+    get_next [] rest d = refl
+    get_next (x ∷ done) rest d = get_next done rest d
 
--- the last deal is of the cell at its place
-pub deals_last : (cells : List Opened) (deals rest : List Dealt) (d : Dealt) (place : ℕ) (o : Opened) → AreDeals cells deals → deals ≡ rest ++ d ∷ [] → place ≡ length rest → slice_get cells place ≡ Some o → IsDealOf o.cell o.opening d
-deals_last cells deals rest d place o h is at there =
-    h.each place o d there (subst (λ (l : List Dealt). slice_get l place ≡ Some d) (sym is) (subst (λ (n : ℕ). slice_get (rest ++ d ∷ []) n ≡ Some d) (sym at) (get_last rest d)))
+-- there is a next cell where there is a next deal
+pub next_cell : (cells : List Opened) (deals done rest : List Dealt) (d : Dealt) → AreDeals cells deals → deals ≡ done ++ d ∷ rest → length done < length cells
+next_cell cells deals done rest d h is = omega (arith, h.count, ap (λ (l : List Dealt). length l) is, length-append done (d ∷ rest))

@@ -1,5 +1,5 @@
 pub mod Bytewise
-pub mod Names
+pub mod Locking
 pub mod Joining
 pub mod Cells
 pub mod Crossing

@@ -1,5 +1,5 @@
 -- What a clause sees of a hub.
-use Rattle.std.specs.Prelude.{◌≡◌, ℕ, ◌+◌, ◌≤◌, Bool, List, Option, Some, slice_get, length}
+use Rattle.std.specs.Prelude.{◌≡◌, ℕ, ◌+◌, Bool, List, Option, Some, slice_get, length}
 use Rattle.mps_local.specs.Local.{LocalType}
 use Rattle.mps_machine.specs.Machine.{initial}
 use Rattle.mps_session.specs.Seen.{Machine}
@@ -11,10 +11,6 @@ pub record Hall : Type 0 where
   pub names : List (List ℕ)
   pub cells : List Opened
   pub given : Bool
-
--- the cell at each place is of these names, and of the session with the next number
-abbrev pub AreNumbered : List (List ℕ) → List Opened → Type 0
-AreNumbered names cells = (i : ℕ) (o : Opened) → slice_get cells i ≡ Some o → (o.opening.names ≡ names) × (o.opening.session ≡ i + 1)
 
 -- nothing was done in the session, and it has as many roles as there are names
 abbrev pub IsNew : List (List ℕ) → Machine → Type 0
@@ -30,9 +26,9 @@ pub record AreCellsWith (names : List (List ℕ)) (types : List LocalType) (n : 
   pub count : length cells ≡ n
   pub each : (i : ℕ) (o : Opened) → slice_get cells i ≡ Some o → o.opening ≡ opened_with names types (i + 1)
 
--- the deal at each place is of the cell there
+-- there is a deal for each cell, in order
 pub record AreDeals (cells : List Opened) (deals : List Dealt) : Type 0 where
-  pub count : length deals ≤ length cells
+  pub count : length deals ≡ length cells
   pub each : (i : ℕ) (o : Opened) (d : Dealt) → slice_get cells i ≡ Some o → slice_get deals i ≡ Some d → IsDealOf o.cell o.opening d
 
 -- what each cell closed with, in order

@@ -1,30 +1,55 @@
 -- What a desk has, and where.
-use Rattle.std.specs.Prelude.{◌≡◌, ℕ, ◌≤◌, List, Option, Some, slice_get}
+use Rattle.std.specs.Prelude.{◌≡◌, ℕ, ◌+◌, ◌-◌, ◌≤◌, List, Option, Some, slice_get, length}
+use Rattle.atomic_table.specs.Seated.{TableId}
 use Rattle.mps_cell.specs.Calls.{Known}
+use Rattle.mps_cell.specs.Cells.{Opened}
 
--- what a desk offers: the names of the roles, and how many sessions there are
+-- what a desk offers: the names of the roles, and a cell for each session
 pub record Offer : Type 0 where
   pub names : List (List ℕ)
-  pub sessions : ℕ
+  pub cells : List Opened
 
 -- sessions are counted from 1
 abbrev pub IsSession : ℕ → ℕ → Type 0
 IsSession sessions session = (1 ≤ session) × (session ≤ sessions)
 
+-- the pass is of this cell, and so of its names, its types and its session
+pub record IsOfCell (cell : Opened) (pass : Known) : Type 0 where
+  pub same_cell : pass.cell ≡ cell.cell
+  pub same_opening : pass.opening ≡ cell.opening
+
+-- the pass is of the cell of this session
+pub record IsOfSession (cells : List Opened) (session : ℕ) (pass : Known) : Type 0 where
+  pub cell : Opened
+  pub there : slice_get cells (session - 1) ≡ Some cell
+  pub of_cell : IsOfCell cell pass
+
 -- there is such a session, with a role of that name
 pub record IsOffered (offer : Offer) (session : ℕ) (name : List ℕ) : Type 0 where
-  pub is_session : IsSession offer.sessions session
+  pub is_session : IsSession (length offer.cells) session
   pub role : ℕ
   pub named : slice_get offer.names role ≡ Some name
 
--- there is such a session, and it is the pass of that session and of the role of that name
+-- there is such a session, and it is the pass of its cell and of the role of that name
 pub record IsPassOf (offer : Offer) (session : ℕ) (name : List ℕ) (pass : Known) : Type 0 where
-  pub is_session : IsSession offer.sessions session
-  pub of_session : pass.opening.session ≡ session
+  pub is_session : IsSession (length offer.cells) session
+  pub of_session : IsOfSession offer.cells session pass
+  pub number_is : pass.opening.session ≡ session
   pub names_are : pass.opening.names ≡ offer.names
   pub of_role : slice_get offer.names pass.role ≡ Some name
 
--- the pass at place i is of the session of this number, and of the role i
-abbrev pub AtHome : ℕ → List (Option Known) → Type 0
-AtHome number passes = (i : ℕ) (k : Known) → slice_get passes i ≡ Some (Some k)
-    → (k.opening.session ≡ number) × (k.role ≡ i)
+-- the pass at place i is of this cell, and of the role i
+abbrev pub AtHome : Opened → List (Option Known) → Type 0
+AtHome cell passes = (i : ℕ) (k : Known) → slice_get passes i ≡ Some (Some k)
+    → IsOfCell cell k × (k.role ≡ i)
+
+-- the cell at each place is of these names, and of the session with the next number
+abbrev pub AreNumbered : List (List ℕ) → List Opened → Type 0
+AreNumbered names cells = (i : ℕ) (o : Opened) → slice_get cells i ≡ Some o → (o.opening.names ≡ names) × (o.opening.session ≡ i + 1)
+
+-- how the parts of a desk fit: its table has one word and one slot, and there are so many cells, numbered from 1, with these names
+pub record IsDesk (table : TableId) (names : List (List ℕ)) (sessions : ℕ) (cells : List Opened) : Type 0 where
+  pub word : table.words ≡ 1
+  pub slot : table.slots ≡ 1
+  pub count : sessions ≡ length cells
+  pub numbered : AreNumbered names cells

@@ -103,7 +103,7 @@ fn admit<'a, H: Wait>(rt: &H, desk: &Desk<'a>, kept: &[u8]) -> Result<Admitted<'
     }
 }
 
-/// Says that it joined, and converses. The pass stays one of its session.
+/// Says that it joined, and converses. The pass stays one of its cell.
 fn talk<'g, 'r, 'a, G: Gate + 'static, H: Wait + 'static, R: Source, W: Sink>(
     alloc: Global,
     caller: &mut Gated<'g, G, Held<'r, 'a, H>>,
@@ -113,7 +113,8 @@ fn talk<'g, 'r, 'a, G: Gate + 'static, H: Wait + 'static, R: Source, W: Sink>(
 ) -> Attended
     requires reads { R.calls reader.old < 2 ^ 62 }
     requires writes { W.failed_calls writer.old < 2 ^ 61 }
-    ensures session { caller.new.inner.pass.opening.session ≡ caller.old.inner.pass.opening.session }
+    ensures cell { caller.new.inner.pass.cell ≡ caller.old.inner.pass.cell }
+    ensures opening { caller.new.inner.pass.opening ≡ caller.old.inner.pass.opening }
     ensures talked { HasJoined ⟦<Gated<'static, G, Held<'static, 'static, H>> as Caller>⟧ R.Source W.Sink joined.now
         caller.old reader.old writer.old caller.new reader.new writer.new result }
 {

@@ -1,12 +1,15 @@
-//! The passes that are not in use, under one lock.
-ghost use Rattle.std.specs.Prelude.{◌≡◌, ◌≢◌, ◌<◌, ◌≤◌, ◌↔◌, ℕ, Some, None, IfOk, IfSome, IsErrOf, IsTrue, All, length, slice_get, vec_len};
-ghost use Rattle.mps_hub.specs.Places.{AtHome, IsOffered, IsPassOf, IsSession, Offer};
+//! The passes that are not in use, which one thread at a time has.
+ghost use Rattle.std.specs.Prelude.{◌≡◌, ◌≢◌, ◌<◌, ◌≤◌, ◌↔◌, ℕ, Some, None, IfOk, IfSome, IsErrOf, All, length, slice_get};
+ghost use Rattle.mps_hub.specs.Places.{AreNumbered, AtHome, IsOfCell, IsOfSession, IsOffered, IsPassOf, IsSession, Offer};
 
-use mps_base::{Name, Role, Roles};
-use mps_cell::Pass;
+use crate::lock::{Steady, put_back, take_out};
+use atomic_table::{Refused, Table};
+use mps_base::{Name, Roles};
+use mps_cell::{Cell, Pass};
 use std::alloc::{AllocError, Global};
 use std::marker::Model;
-use std::sync::{Mutex, Wait};
+use std::snapshot::Snapshot;
+use std::sync::Wait;
 
 /// Why no pass is given. The first that applies is told.
 #[derive(Clone, Copy, Debug, PartialEq, Eq)]
@@ -22,44 +25,44 @@ pub enum JoinFault {
 /// The passes of one session that are not in use, each at its role.
 #[derive(Drop)]
 pub(crate) struct Row<'a> {
-    number: u64,
+    cell: Snapshot<Cell>,
     passes: Vec<Option<Pass<'a>>>,
 }
 
 impl<'a> Model for Row<'a> {
-    ghost use Rattle.std.specs.Prelude.{ℕ};
+    ghost use Rattle.std.specs.Coded.{codes};
+    ghost use Rattle.mps_local.specs.Codes.{coded_local};
+    ghost use Rattle.mps_cell.specs.Cells.{Opened};
     ghost use Rattle.mps_hub.specs.Places.{AtHome};
 
-    ghost Value = { ℕ };
+    ghost Value = { Opened };
 
-    ghost view = { λ r. r.number };
+    ghost coded = { Prim.hlevel (codes, coded_local) };
 
-    ghost invariant = { λ r. AtHome r.number r.passes.items };
+    ghost view = { λ r. r.cell.value };
+
+    ghost invariant = { λ r. AtHome r.cell.value r.passes.items };
 }
 
 impl<'a> Row<'a> {
-    // The row of a session with this number, with no pass yet.
-    pub(crate) fn new(alloc: Global, number: u64, roles: usize) -> Result<Row<'a>, AllocError>
-        ensures { IfOk result (λ r. r ≡ number) }
+    // The row of a session with this cell, with no pass yet.
+    pub(crate) fn new(alloc: Global, cell: &Cell, roles: usize) -> Result<Row<'a>, AllocError>
+        ensures { IfOk result (λ r. r ≡ cell.now) }
     {
         let mut passes = Vec::with_capacity(alloc, roles)?;
         for _ in 0..roles {
             passes.push_reserved(None);
         }
-        Ok(Row { number, passes })
-    }
-
-    // The number of the session.
-    fn number(&self) -> u64
-        ensures { result ≡ self.now }
-    {
-        self.number
+        Ok(Row {
+            cell: Snapshot::of(cell),
+            passes,
+        })
     }
 
     // The pass of this role, if it is there.
     fn take(&mut self, role: usize) -> Option<Pass<'a>>
         ensures same { self.new ≡ self.old }
-        ensures session { IfSome result (λ p. p.opening.session ≡ self.old) }
+        ensures cell { IfSome result (IsOfCell self.old) }
         ensures role { IfSome result (λ p. p.role ≡ role) }
     {
         if role >= self.passes.len() {
@@ -70,7 +73,7 @@ impl<'a> Row<'a> {
 
     // Takes a pass of the session, to its own place.
     pub(crate) fn give(&mut self, pass: Pass<'a>)
-        requires { pass.opening.session ≡ self.old }
+        requires { IsOfCell self.old pass }
         ensures { self.new ≡ self.old }
     {
         let role = pass.role().index();
@@ -80,52 +83,44 @@ impl<'a> Row<'a> {
     }
 }
 
-/// A row for each session.
+/// A row for each session, in order.
 #[derive(Drop)]
 struct Places<'a> {
     rows: Vec<Row<'a>>,
 }
 
+impl<'a> Model for Places<'a> {
+    ghost use Rattle.std.specs.Prelude.{List};
+    ghost use Rattle.std.specs.Coded.{codes};
+    ghost use Rattle.mps_local.specs.Codes.{coded_local};
+    ghost use Rattle.mps_cell.specs.Cells.{Opened};
+
+    ghost Value = { List Opened };
+
+    ghost coded = { Prim.hlevel (codes, coded_local) };
+
+    ghost view = { λ p. p.rows.items };
+}
+
 impl<'a> Places<'a> {
     // The pass of this session and role, if it is there.
     fn take(&mut self, session: u64, role: usize) -> Option<Pass<'a>>
-        ensures session { IfSome result (λ p. p.opening.session ≡ session) }
+        requires { IsSession (length self.old) session }
+        ensures same { self.new ≡ self.old }
+        ensures cell { IfSome result (IsOfSession self.old session) }
         ensures role { IfSome result (λ p. p.role ≡ role) }
     {
-        for row in self.rows.iter_mut() {
-            if row.number() == session {
-                return row.take(role);
-            }
-        }
-        None
+        self.rows[session as usize - 1].take(role)
     }
 
     // Takes a pass of this session, to its own place.
     fn give(&mut self, session: u64, pass: Pass<'a>)
-        requires { pass.opening.session ≡ session }
+        requires session { IsSession (length self.old) session }
+        requires pass { IsOfSession self.old session pass }
+        ensures { self.new ≡ self.old }
     {
-        for row in self.rows.iter_mut() {
-            if row.number() == session {
-                row.give(pass);
-                return;
-            }
-        }
+        self.rows[session as usize - 1].give(pass);
     }
-}
-
-/// Whether the names are the same, in the same order.
-fn are_same(names: &Roles, others: &Roles) -> bool
-    ensures { IsTrue result → names.now ≡ others.now }
-{
-    if names.count() != others.count() {
-        return false;
-    }
-    for place in 0..names.count() as u8 {
-        if names.name(Role::new(place)) != others.name(Role::new(place)) {
-            return false;
-        }
-    }
-    true
 }
 
 /// The passes of a hub that are not in use. Each connection takes one and gives it back.
@@ -133,36 +128,55 @@ fn are_same(names: &Roles, others: &Roles) -> bool
 pub struct Desk<'a> {
     names: &'a Roles,
     sessions: u64,
-    places: Mutex<Places<'a>>,
+    table: Table<Places<'a>, Places<'a>, Snapshot<Places<'a>>, Steady, Global>,
 }
 
 impl<'a> Model for Desk<'a> {
-    ghost use Rattle.mps_hub.specs.Places.{Offer};
+    ghost use Rattle.std.specs.Coded.{codes};
+    ghost use Rattle.mps_local.specs.Codes.{coded_local};
+    ghost use Rattle.mps_hub.specs.Places.{IsDesk, Offer};
 
     ghost Value = { Offer };
 
-    ghost view = { λ d. record { names = d.names.now; sessions = d.sessions } };
+    ghost coded = { Prim.hlevel (codes, coded_local) };
+
+    ghost view = { λ d. record { names = d.names.now; cells = d.table.shared.key.value } };
+
+    ghost invariant = { λ d. IsDesk d.table.shared.table_id d.names.now d.sessions d.table.shared.key.value };
 }
 
 impl<'a> Desk<'a> {
-    // A desk of so many sessions with these names, over these rows.
-    pub(crate) fn new(names: &'a Roles, sessions: u64, rows: Vec<Row<'a>>) -> Desk<'a>
-        ensures { result ≡ record { names = names.now; sessions = sessions } }
+    // A desk with these names, over these rows.
+    pub(crate) fn new(
+        alloc: Global,
+        names: &'a Roles,
+        rows: Vec<Row<'a>>,
+    ) -> Result<Desk<'a>, AllocError>
+        requires { AreNumbered names.now rows.items }
+        ensures { IfOk result (λ d. d ≡ record { names = names.now; cells = rows.entry.items }) }
     {
-        Desk {
-            names,
-            sessions,
-            places: Mutex::new(Places { rows }),
+        let sessions = rows.len() as u64;
+        let places = Places { rows };
+        let about = Snapshot::of(&places);
+        let mut slots = Vec::with_capacity(alloc, 1)?;
+        slots.push_reserved(places);
+        match Table::new(alloc, &[0], slots, &about) {
+            Ok((table, _)) => Ok(Desk {
+                names,
+                sessions,
+                table,
+            }),
+            Err(Refused { slots: _ }) => Err(AllocError),
         }
     }
 
-    /// Takes the pass of the role of that name in the session of that number, counted from 1. It waits for the lock, which
-    /// nobody holds for longer than a look at each session, and does not allocate.
+    /// Takes the pass of the role of that name in the session of that number, counted from 1. It waits while another thread
+    /// has the passes out, which is for one look, and does not allocate.
     pub fn take<R: Wait>(&self, rt: &R, session: u64, name: &Name) -> Result<Pass<'a>, JoinFault>
         ensures pass { IfOk result (IsPassOf self.now session name.now) }
-        ensures no_session { IsErrOf result JoinFault.NoSession ↔ ¬ IsSession self.now.sessions session }
+        ensures no_session { IsErrOf result JoinFault.NoSession ↔ ¬ IsSession (length self.now.cells) session }
         ensures no_role { IsErrOf result JoinFault.NoRole
-            ↔ (IsSession self.now.sessions session × All (λ other. other ≢ name.now) self.now.names) }
+            ↔ (IsSession (length self.now.cells) session × All (λ other. other ≢ name.now) self.now.names) }
         ensures taken { IsErrOf result JoinFault.Taken → IsOffered self.now session name.now }
     {
         if session == 0 || session > self.sessions {
@@ -171,18 +185,24 @@ impl<'a> Desk<'a> {
         let Some(role) = self.names.find(name) else {
             return Err(JoinFault::NoRole);
         };
-        let found = self.places.lock(rt).take(session, role.index());
-        // No proof knows whose passes stand behind a lock, so the names are compared. They are always the same.
+        let mut seat = take_out(rt, &self.table.shared);
+        let places = seat.slot_mut(&self.table.shared, 0);
+        let found = places.take(session, role.index());
+        put_back(&self.table.shared, seat);
         match found {
-            Some(pass) if are_same(pass.names(), self.names) => Ok(pass),
-            _ => Err(JoinFault::Taken),
+            Some(pass) => Ok(pass),
+            None => Err(JoinFault::Taken),
         }
     }
 
-    /// Takes a pass of that session back. It waits for the lock, and does not allocate.
+    /// Takes a pass of that session back. It waits as `take` does, and does not allocate.
     pub fn give<R: Wait>(&self, rt: &R, session: u64, pass: Pass<'a>)
-        requires session { pass.opening.session ≡ session }
+        requires session { IsSession (length self.now.cells) session }
+        requires pass { IsOfSession self.now.cells session pass }
     {
-        self.places.lock(rt).give(session, pass);
+        let mut seat = take_out(rt, &self.table.shared);
+        let places = seat.slot_mut(&self.table.shared, 0);
+        places.give(session, pass);
+        put_back(&self.table.shared, seat);
     }
 }

@@ -5,6 +5,7 @@ ghost use Rattle.mps_machine.specs.Machine.{initial};
 ghost use Rattle.mps_cell.specs.Cells.{IsDealOf, opened_with};
 ghost use Rattle.mps_cell.specs.declared.cell.PassFault.TheVariants.{Given};
 ghost use Rattle.mps_hub.specs.Halls.{AreCellsOf, AreCellsWith, AreClosed, AreDeals, IsNew};
+ghost use Rattle.mps_hub.specs.Places.{IsOfCell};
 
 use crate::desk::{Desk, Row};
 use mps_base::Roles;
@@ -48,7 +49,8 @@ impl Model for Hub {
     ghost use Rattle.std.specs.Option.{is_none};
     ghost use Rattle.std.specs.Coded.{codes};
     ghost use Rattle.mps_local.specs.Codes.{coded_local};
-    ghost use Rattle.mps_hub.specs.Halls.{Hall, AreNumbered, AreDeals};
+    ghost use Rattle.mps_hub.specs.Halls.{Hall, AreDeals};
+    ghost use Rattle.mps_hub.specs.Places.{AreNumbered};
 
     ghost Value = { Hall };
 
@@ -163,24 +165,18 @@ impl Hub {
     /// The desk, with all passes.
     pub fn desk_of(&self, alloc: Global, deal: HubDeal) -> Result<Desk<'_>, AllocError>
         requires deal { AreDeals self.now.cells deal }
-        ensures desk { IfOk result (λ d. d ≡ record { names = self.now.names; sessions = length self.now.cells }) }
+        ensures desk { IfOk result (λ d. d ≡ record { names = self.now.names; cells = self.now.cells }) }
     {
-        let HubDeal { mut deals } = deal;
+        let HubDeal { deals } = deal;
         let names = &self.names;
-        let cells = self.cells.as_slice();
-        let mut rows = Vec::with_capacity(alloc, cells.len())?;
-        while let Some(deal) = deals.pop() {
-            let place = deals.len();
-            let passes = cells[place].passes_of(deal)?;
-            rows.push(row_of(alloc, place as u64 + 1, names.count(), passes)?)?;
-        }
-        Ok(Desk::new(names, cells.len() as u64, rows))
+        let rows = rows_of(alloc, self.cells.as_slice(), names.count(), deals)?;
+        Desk::new(alloc, names, rows)
     }
 
     /// Both in one: the desk, once in the hub's life. After an out-of-memory answer later calls are told that it was given.
     pub fn desk(&mut self, alloc: Global) -> Result<Desk<'_>, PassFault>
         ensures given { IsErrOf result Given ↔ (self.old.given ≡ true) }
-        ensures desk { IfOk result (λ d. d ≡ record { names = self.old.names; sessions = length self.old.cells }) }
+        ensures desk { IfOk result (λ d. d ≡ record { names = self.old.names; cells = self.old.cells }) }
     {
         let Some(deal) = self.deal() else {
             return Err(PassFault::Given);
@@ -217,17 +213,36 @@ fn close_all(cells: Vec<Cell>, mut rooms: Vec<Option<Room>>) -> Vec<Option<Room>
     rooms
 }
 
-// The row with these passes.
+// A row for each cell, in order.
+fn rows_of<'a>(
+    alloc: Global,
+    cells: &'a [Cell],
+    roles: usize,
+    deals: Vec<Deal>,
+) -> Result<Vec<Row<'a>>, AllocError>
+    requires { AreDeals cells.now deals.items }
+    ensures { IfOk result (λ rows. rows.items ≡ cells.now) }
+{
+    let mut rows = Vec::with_capacity(alloc, cells.len())?;
+    for deal in deals {
+        let cell = &cells[rows.len()];
+        let passes = cell.passes_of(deal)?;
+        rows.push(row_of(alloc, cell, roles, passes)?)?;
+    }
+    Ok(rows)
+}
+
+// The row of this cell, with these passes.
 fn row_of<'a>(
     alloc: Global,
-    number: u64,
+    cell: &Cell,
     roles: usize,
     mut passes: Vec<Pass<'a>>,
 ) -> Result<Row<'a>, AllocError>
-    requires { All (λ k. k.opening.session ≡ number) passes.items }
-    ensures { IfOk result (λ r. r ≡ number) }
+    requires { All (IsOfCell cell.now) passes.items }
+    ensures { IfOk result (λ r. r ≡ cell.now) }
 {
-    let mut row = Row::new(alloc, number, roles)?;
+    let mut row = Row::new(alloc, cell, roles)?;
     while let Some(pass) = passes.pop() {
         row.give(pass);
     }

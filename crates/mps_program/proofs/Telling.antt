@@ -8,8 +8,8 @@ use Rattle.mps_hub.proofs.Cells.{all_alike}
 use Rattle.mps_machine.specs.Machine.{initial}
 use Rattle.mps_session.specs.Seen.{Machine}
 use Rattle.mps_program.specs.Streams.{HasLoaded, HasLoadedMany}
-use Rattle.mps_wire.proofs.Bytes.{Appends-trans}
-use Rattle.mps_program.specs.Served.{IsListeningLine, IsSessionLine, AreSessionLines, TookOne, HasOpened, HasServed, IsTellFault, IsOutFault, IsHubFault}
+use Rattle.mps_wire.proofs.Bytes.{Appends-none, Appends-trans}
+use Rattle.mps_program.specs.Served.{IsListeningLine, IsSessionLine, AreSessionLines, AreLinesUpTo, TookOne, HasOpened, HasServed, HasServedUpTo, IfLost, IsTellFault, IsOutFault, IsHubFault}
 use Rattle.mps_program.specs.Faults.{after_writes, failed_writes}
 use Rattle.mps_program.specs.declared.faults.ToolFault.{ToolFault}
 use Rattle.mps_program.specs.declared.faults.ToolFault.TheVariants.{Write, Bind, Accept, Lost, Memory}
@@ -58,6 +58,51 @@ served cells cells' took mid taken port rooms slice same value (first, listening
   told = subst (λ (r : List (Option Record)). AreSessionLines 1 r lines) value told;
   sent = Appends-trans took mid taken first lines sent more;
 }
+
+-- a line that fails to be told names no session that is lost
+pub none_lost : (P : ℕ → Type 0) (fault : ToolFault) → IsTellFault 1 0 fault → IfLost P fault
+none_lost P (Lost k) h = absurd (omega (arith, h.0, h.1))
+none_lost P fault h = tt
+
+pub hub_lost : (P : ℕ → Type 0) (fault : ToolFault) → IsHubFault fault → IfLost P fault
+hub_lost P (Lost k) h = absurd h
+hub_lost P fault h = tt
+
+if_lost : (P Q : ℕ → Type 0) → ((k : ℕ) → P k → Q k) → (fault : ToolFault) → IfLost P fault → IfLost Q fault
+if_lost P Q f (Lost k) h = f k h
+if_lost P Q f fault h = tt
+
+-- the first session is lost
+pub first_lost : (session : ℕ) (rooms later : List (Option Record)) (took : Option (List ℕ)) → rooms ≡ None ∷ later → TookOne (AreLinesUpTo session rooms session) took took
+first_lost session rooms later took split = ([], subst (λ (l : List (Option Record)). AreLinesUpTo session l session []) (sym split) (refl, refl), Appends-none took)
+
+-- one session's line, and those after it up to the first that is lost
+pub lost_rest : {A : Type 0} (r : Result A ToolFault) (session next : ℕ) (m : Record) (rooms later : List (Option Record)) (took mid taken : Option (List ℕ)) → rooms ≡ Some m ∷ later → next ≡ session + 1 → TookOne (IsSessionLine session (length m.journal)) took mid
+    → IfErr r (IfLost (λ k. TookOne (AreLinesUpTo next later k) mid taken)) → IfErr r (IfLost (λ k. TookOne (AreLinesUpTo session rooms k) took taken))
+lost_rest r session next m rooms later took mid taken split at (line, is, sent) rest =
+    let step : next ≡ suc session = omega (arith, at) in
+    on_err r (IfLost (λ k. TookOne (AreLinesUpTo next later k) mid taken)) (IfLost (λ k. TookOne (AreLinesUpTo session rooms k) took taken))
+    (if_lost (λ k. TookOne (AreLinesUpTo next later k) mid taken) (λ k. TookOne (AreLinesUpTo session rooms k) took taken) (λ k h. (
+      line ++ h.0,
+      subst (λ (l : List (Option Record)). AreLinesUpTo session l k (line ++ h.0)) (sym split) (line, h.0, is, refl, subst (λ (n : ℕ). AreLinesUpTo n later k h.0) step h.1),
+      Appends-trans took mid taken line h.0 sent h.2,
+    ))) rest
+
+-- the port's line, and those of the sessions up to the first that is lost
+pub served_in_part : {A : Type 0} (r : Result A ToolFault) (cells cells' : List Opened) (took mid taken : Option (List ℕ)) (port : ℕ) (rooms slice : List (Option Record)) → cells' ≡ cells → slice ≡ rooms → TookOne (IsListeningLine port) took mid → AreClosed cells' rooms
+    → IfErr r (IfLost (λ k. TookOne (AreLinesUpTo 1 slice k) mid taken)) → IfErr r (IfLost (HasServedUpTo cells took taken))
+served_in_part r cells cells' took mid taken port rooms slice same value (first, listening, sent) closed rest =
+    on_err r (IfLost (λ k. TookOne (AreLinesUpTo 1 slice k) mid taken)) (IfLost (HasServedUpTo cells took taken))
+    (if_lost (λ k. TookOne (AreLinesUpTo 1 slice k) mid taken) (HasServedUpTo cells took taken) (λ k h. record {
+      port = port;
+      rooms = rooms;
+      first = first;
+      lines = h.0;
+      listening = listening;
+      closed = subst (λ (c : List Opened). AreClosed c rooms) same closed;
+      told = subst (λ (l : List (Option Record)). AreLinesUpTo 1 l k h.0) value h.1;
+      sent = Appends-trans took mid taken first h.0 sent h.2;
+    })) rest
 
 -- a line that fails to be told is no lost session
 pub any_tell : (session n : ℕ) (fault : ToolFault) → IsTellFault 1 0 fault → IsTellFault session n fault

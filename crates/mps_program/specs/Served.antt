@@ -35,6 +35,13 @@ AreSessionLines session (None ∷ rooms) lines = ⊥
 AreSessionLines session (Some m ∷ rooms) lines =
     (line : List ℕ) × (others : List ℕ) × IsSessionLine session (length m.journal) line × (lines ≡ line ++ others) × AreSessionLines (suc session) rooms others
 
+-- a line for each session from this one on, up to the first that is lost
+abbrev pub AreLinesUpTo : ℕ → List (Option Record) → ℕ → List ℕ → Type 0
+AreLinesUpTo session [] lost lines = ⊥
+AreLinesUpTo session (None ∷ rooms) lost lines = (lost ≡ session) × (lines ≡ [])
+AreLinesUpTo session (Some m ∷ rooms) lost lines =
+    (line : List ℕ) × (others : List ℕ) × IsSessionLine session (length m.journal) line × (lines ≡ line ++ others) × AreLinesUpTo (suc session) rooms lost others
+
 -- the sink took such a text
 abbrev pub TookOne : (List ℕ → Type 0) → Option (List ℕ) → Option (List ℕ) → Type 0
 TookOne P took taken = (text : List ℕ) × P text × Appends took taken text
@@ -49,6 +56,22 @@ pub record HasServed (cells : List Opened) (took taken : Option (List ℕ)) : Ty
   pub closed : AreClosed cells rooms
   pub told : AreSessionLines 1 rooms lines
   pub sent : Appends took taken (first ++ lines)
+
+-- a session is lost: the port was told, and how many entries the rooms have that the cells before it closed with
+pub record HasServedUpTo (cells : List Opened) (took taken : Option (List ℕ)) (lost : ℕ) : Type 0 where
+  pub port : ℕ
+  pub rooms : List (Option Record)
+  pub first : List ℕ
+  pub lines : List ℕ
+  pub listening : IsListeningLine port first
+  pub closed : AreClosed cells rooms
+  pub told : AreLinesUpTo 1 rooms lost lines
+  pub sent : Appends took taken (first ++ lines)
+
+-- where a fault is that a session is lost, this holds of its number
+abbrev pub IfLost : (ℕ → Type 0) → ToolFault → Type 0
+IfLost P (Lost session) = P session
+IfLost P fault = ⊤
 
 -- how the telling of so many sessions from this one on may fail: one of them is lost, the line can't be written, or memory ran out
 abbrev pub IsTellFault : ℕ → ℕ → ToolFault → Type 0

@@ -2,7 +2,7 @@
 ghost use Rattle.std.specs.Prelude.{◌≡◌, ◌+◌, ◌<◌, ◌≤◌, ◌^◌, false, length, IfErr, IfOk, OnOk};
 ghost use Rattle.std.specs.Io.KnownBytes.{Appends};
 ghost use Rattle.mps_program.specs.Faults.{after_writes};
-ghost use Rattle.mps_program.specs.Served.{AreSessionLines, HasOpened, HasServed, IsHubFault, IsListeningLine, IsOutFault, IsServeFault, IsSessionLine, IsTellFault, TookOne};
+ghost use Rattle.mps_program.specs.Served.{AreLinesUpTo, AreSessionLines, HasOpened, HasServed, HasServedUpTo, IfLost, IsHubFault, IsListeningLine, IsOutFault, IsServeFault, IsSessionLine, IsTellFault, TookOne};
 ghost use Rattle.mps_program.specs.Streams.{CantLoad};
 
 use crate::faults::ToolFault;
@@ -85,7 +85,7 @@ fn tell_session<'a, W: Sink>(
 }
 
 /// Tells of each session from this one on, up to the first that is lost.
-#[tactic(auto, using(crate::proofs::Telling::one_more, crate::proofs::Telling::any_tell, crate::proofs::Telling::later_tell))]
+#[tactic(auto, using(crate::proofs::Telling::one_more, crate::proofs::Telling::any_tell, crate::proofs::Telling::later_tell, crate::proofs::Telling::none_lost, crate::proofs::Telling::first_lost))]
 fn tell_sessions<'a, W: Sink>(
     alloc: Global,
     writer: &mut W,
@@ -96,6 +96,7 @@ fn tell_sessions<'a, W: Sink>(
     requires writes { W.failed_calls writer.old < 2 ^ 62 }
     ensures told { OnOk result (TookOne (AreSessionLines session rooms.now) (W.taken writer.old) (W.taken writer.new)) }
     ensures fault { IfErr result (IsTellFault session (length rooms.now)) }
+    ensures lost { IfErr result (IfLost (λ k. TookOne (AreLinesUpTo session rooms.now k) (W.taken writer.old) (W.taken writer.new))) }
     ensures writes { W.failed_calls writer.new ≡ after_writes result (W.failed_calls writer.old) }
 {
     let Some((first, later)) = rooms.split_first() else {
@@ -136,7 +137,7 @@ fn serve_hub<'a, R: Threads + Wait + Sync + 'static>(
 /// Tells the port, serves the hub's sessions to so many connections, and then tells how many entries
 /// the journal of each session has.
 ///
-/// After a fault nothing more is told: the lines of sessions stop before the first that is lost.
+/// After a fault nothing more is told: the lines of sessions stop before the first that is lost, which the fault names.
 pub fn serve_out<'a, R: Threads + Wait + Sync + 'static, W: Sink>(
     rt: &R,
     alloc: Global,
@@ -150,6 +151,7 @@ pub fn serve_out<'a, R: Threads + Wait + Sync + 'static, W: Sink>(
     requires writes { W.failed_calls writer.old < 2 ^ 62 }
     ensures told { OnOk result (HasServed hub.cells (W.taken writer.old) (W.taken writer.new)) }
     ensures fault { IfErr result (IsOutFault (length hub.cells)) }
+    ensures lost { IfErr result (IfLost (HasServedUpTo hub.cells (W.taken writer.old) (W.taken writer.new))) }
     ensures writes { W.failed_calls writer.new ≡ after_writes result (W.failed_calls writer.old) }
 {
     let mut hub = hub;

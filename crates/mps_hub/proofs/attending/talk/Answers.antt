@@ -1,6 +1,9 @@
-use Rattle.std.proofs.Common.{ap}
-use Rattle.mps_cell.specs.Openings.{Opening}
+use Rattle.mps_wire.specs.Streams.{streams}
+use Rattle.mps_wire.proofs.Making.{ended_keeps}
 use Rattle.mps_hub.proofs.attending.talk.Goals as goal
 
-pub returns-in-Ok-clause-session : goal.returns-in-Ok-clause-session
-returns-in-Ok-clause-session g c = c.converse.ensures.fixed (λ h. h.inner.pass.opening.session) (λ h x a k t. ap (λ (o : Opening). o.session) t.pass.opening)
+pub returns-in-Ok-clause-cell : goal.returns-in-Ok-clause-cell
+returns-in-Ok-clause-cell g c = ended_keeps _ (λ h. h.inner.pass.cell) (λ h x a k t. t.pass.cell) (streams g.R.Source g.W.Sink c.args.reader.now c.send.new.writer) (streams g.R.Source g.W.Sink c.converse.new.reader c.converse.new.writer) _ _ c.converse.result c.converse.ensures.ending
+
+pub returns-in-Ok-clause-opening : goal.returns-in-Ok-clause-opening
+returns-in-Ok-clause-opening g c = ended_keeps _ (λ h. h.inner.pass.opening) (λ h x a k t. t.pass.opening) (streams g.R.Source g.W.Sink c.args.reader.now c.send.new.writer) (streams g.R.Source g.W.Sink c.converse.new.reader c.converse.new.writer) _ _ c.converse.result c.converse.ensures.ending

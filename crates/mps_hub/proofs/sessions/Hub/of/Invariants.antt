@@ -8,7 +8,6 @@ invariant-loop-session l = record {
   whole : l.fn.sessions.items ≡ l.yielded ++ into_iter_items l.session-iterator;
   cells : AreCellsOf l.names l.yielded l.cells.items;
   deals : AreDeals l.cells.items l.deals.items;
-  same : length l.deals.items ≡ length l.cells.items;
   cells_room : length l.cells.items + length (into_iter_items l.session-iterator) ≤ vec_capacity l.cells;
   deals_room : length l.deals.items + length (into_iter_items l.session-iterator) ≤ vec_capacity l.deals;
 }
