@@ -1,4 +1,4 @@
-//! Tests of scripts, conversations and connections over streams, over what their crates make public.
+//! Tests of scripts, conversations, connections and servers, over what their crates make public.
 #![tactic(auto)]
 
 #[cfg(test)]
@@ -7,6 +7,10 @@ mod connections;
 mod conversations;
 #[cfg(test)]
 mod counted;
+#[cfg(test)]
+mod desks;
+#[cfg(test)]
+mod gates;
 #[cfg(test)]
 mod pieces;
 #[cfg(test)]

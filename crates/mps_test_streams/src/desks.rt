@@ -1,0 +1,199 @@
+//! Hubs that aren't opened, first lines, and passes that come back.
+ghost use Rattle.std.specs.Prelude.{◌≡◌, false, IfOk};
+
+use mps_base::{Name, Role, Roles, Sort};
+use mps_dev::{Pieces, Short};
+use mps_hub::{Attended, Desk, Hub, Unguarded, attend};
+use mps_local::Local;
+use mps_session::OpenFault;
+use mps_wire::Ending;
+use std::alloc::Global;
+use std::sync::Wait;
+use std::test::Fail;
+
+// The roles a and b.
+fn two_names(alloc: Global) -> Result<Roles, Fail> {
+    let mut all = Vec::new(alloc);
+    for text in ["a", "b"] {
+        all.push(Name::read(text.as_bytes()).ok_or("a name")?)?;
+    }
+    Ok(Roles::of(alloc, all.as_slice())?)
+}
+
+// The role a gives this peer an int, and b does nothing.
+fn giving_to(alloc: Global, peer: u8) -> Result<Vec<Local>, Fail> {
+    let mut types = Vec::new(alloc);
+    types.push(Local::send(alloc, Role::new(peer), Sort::Int, Local::End)?)?;
+    types.push(Local::End)?;
+    Ok(types)
+}
+
+// A hub with one session in which a gives this peer an int, or why there is none.
+fn opened(alloc: Global, peer: u8) -> Result<Result<Hub, OpenFault>, Fail>
+    ensures { IfOk result (λ opened. IfOk opened (λ h. h.given ≡ false)) }
+{
+    let names = two_names(alloc)?;
+    let types = giving_to(alloc, peer)?;
+    if names.count() != types.len() {
+        return Err("as many names as types".into());
+    }
+    Ok(Hub::open(alloc, &names, types.as_slice(), 1))
+}
+
+// Of which role the peer is bad.
+fn bad_peer(fault: OpenFault) -> Option<usize> {
+    match fault {
+        OpenFault::BadPeer { role } => Some(role.index()),
+        _ => None,
+    }
+}
+
+// The same, where a gives this peer an int.
+fn refused(alloc: Global, peer: u8) -> Result<Option<usize>, Fail> {
+    match opened(alloc, peer)? {
+        Ok(_hub) => Ok(None),
+        Err(fault) => Ok(bad_peer(fault)),
+    }
+}
+
+#[test]
+fn refuses_bad_peers(rt: HostRuntime) -> Result<(), Fail> {
+    for peer in [0, 2, 255] {
+        assert!(rt; refused(rt.alloc(), peer)? == Some(0));
+    }
+    assert!(rt; refused(rt.alloc(), 1)?.is_none());
+    Ok(())
+}
+
+// A hub with one session.
+fn hub(alloc: Global) -> Result<Hub, Fail>
+    ensures { IfOk result (λ h. h.given ≡ false) }
+{
+    match opened(alloc, 1)? {
+        Ok(hub) => Ok(hub),
+        Err(_) => Err("not opened".into()),
+    }
+}
+
+// What a connection comes to that sends these pieces, each of which is one read at the least.
+fn attended<R: Wait + 'static>(
+    rt: &R,
+    alloc: Global,
+    desk: &Desk<'_>,
+    pieces: Vec<Vec<u8>>,
+    answers: &[u8],
+) -> Result<Attended, Fail> {
+    let mut reader = Pieces::new(pieces, None);
+    let mut writer = Short::new(alloc, 99)?;
+    let ended = attend(rt, alloc, desk, &Unguarded, 1, &mut reader, &mut writer);
+    if writer.bytes() != answers {
+        return Err("other answers".into());
+    }
+    Ok(ended)
+}
+
+// The line, and then so many pieces of one letter.
+fn line_and_letters(alloc: Global, line: &[u8], count: usize) -> Result<Vec<Vec<u8>>, Fail> {
+    let mut pieces = vec![in alloc; Vec::from_slice(alloc, line)?]?;
+    for _ in 0..count {
+        pieces.push(vec![in alloc; b'x']?)?;
+    }
+    Ok(pieces)
+}
+
+#[test]
+fn gives_a_pass_back_after_too_many_reads(rt: HostRuntime) -> Result<(), Fail> {
+    let alloc = rt.alloc();
+    let mut hub = hub(alloc)?;
+    let deal = hub.deal().ok_or("given")?;
+    let desk = hub.desk_of(alloc, deal)?;
+    for (letters, ending) in [(1_000_001, Ending::Turns), (1, Ending::Closed)] {
+        let pieces = line_and_letters(alloc, b"join 1 a\n", letters)?;
+        let ended = attended(&rt, alloc, &desk, pieces, b"joined 1 a\n")?;
+        assert!(rt; ended == Attended::Conversed(ending));
+    }
+    Ok(())
+}
+
+// So many letters, and an LF.
+fn long_line(alloc: Global, letters: usize) -> Result<Vec<Vec<u8>>, Fail> {
+    let mut line = vec![in alloc; b'x'; letters]?;
+    line.push(b'\n')?;
+    Ok(vec![in alloc; line]?)
+}
+
+#[test]
+fn looks_for_a_first_line_in_a_million_reads(rt: HostRuntime) -> Result<(), Fail> {
+    let alloc = rt.alloc();
+    let mut hub = hub(alloc)?;
+    let deal = hub.deal().ok_or("given")?;
+    let desk = hub.desk_of(alloc, deal)?;
+    let found = attended(
+        &rt,
+        alloc,
+        &desk,
+        long_line(alloc, 999_999)?,
+        b"refused line\n",
+    )?;
+    assert!(rt; found == Attended::TurnedAway);
+    let lost = attended(&rt, alloc, &desk, long_line(alloc, 1_000_000)?, b"")?;
+    assert!(rt; lost == Attended::NoLine);
+    Ok(())
+}
+
+// First lines, and what they are answered.
+const FIRST_LINES: &[(&[u8], &[u8])] = &[
+    (b"join 18446744073709551615 a\n", b"refused nosession\n"),
+    (b"join 18446744073709551616 a\n", b"refused line\n"),
+    (b"join 1 c\n", b"refused norole\n"),
+    (b"join 2 c\n", b"refused nosession\n"),
+    (b"join 1 A\n", b"refused line\n"),
+    (b"join 1  a\n", b"refused line\n"),
+    (b"join 1 a \n", b"refused line\n"),
+    (b"join 1\n", b"refused line\n"),
+    (b"1 join 1 a\n", b"refused line\n"),
+    (b"send b 5\n", b"refused line\n"),
+    (b"join 1 b\n", b"joined 1 b\n"),
+];
+
+#[test]
+fn answers_first_lines(rt: HostRuntime) -> Result<(), Fail> {
+    let alloc = rt.alloc();
+    let mut hub = hub(alloc)?;
+    let deal = hub.deal().ok_or("given")?;
+    let desk = hub.desk_of(alloc, deal)?;
+    for (line, answer) in FIRST_LINES {
+        let pieces = line_and_letters(alloc, line, 0)?;
+        attended(&rt, alloc, &desk, pieces, answer)?;
+    }
+    Ok(())
+}
+
+// What the first line of a joins to.
+fn joining<R: Wait + 'static>(
+    rt: &R,
+    alloc: Global,
+    desk: &Desk<'_>,
+    answer: &[u8],
+) -> Result<Attended, Fail> {
+    let pieces = line_and_letters(alloc, b"join 1 a\n", 0)?;
+    attended(rt, alloc, desk, pieces, answer)
+}
+
+#[test]
+fn tells_that_a_pass_is_taken(rt: HostRuntime) -> Result<(), Fail> {
+    let alloc = rt.alloc();
+    let mut hub = hub(alloc)?;
+    let deal = hub.deal().ok_or("given")?;
+    let desk = hub.desk_of(alloc, deal)?;
+    let name = Name::read(b"a").ok_or("a name")?;
+    let Ok(pass) = desk.take(&rt, 1, &name) else {
+        return Err("no pass".into());
+    };
+    assert!(rt; joining(&rt, alloc, &desk, b"refused taken\n")? == Attended::TurnedAway);
+    desk.give(&rt, 1, pass);
+    assert!(rt;
+        joining(&rt, alloc, &desk, b"joined 1 a\n")? == Attended::Conversed(Ending::Closed)
+    );
+    Ok(())
+}

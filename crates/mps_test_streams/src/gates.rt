@@ -1,0 +1,209 @@
+//! Commands that are held at a gate, in a server's own threads.
+ghost use Rattle.std.specs.Prelude.{◌≡◌, false, IfOk};
+
+use mps_base::{Name, Role, Roles, Sort};
+use mps_hub::{Gate, Hub, Served, serve_with};
+use mps_local::Local;
+use mps_room::Room;
+use std::alloc::Global;
+use std::io::{Read, Write};
+use std::net::{Net, Shutdown, SocketAddr, TcpListener, TcpStream};
+use std::sync::Wait;
+use std::sync::atomic::AtomicU64;
+use std::sync::atomic::Ordering::SeqCst;
+use std::test::Fail;
+use std::thread::{Threads, yield_now};
+
+// The roles a, b, c and d.
+fn four_names(alloc: Global) -> Result<Roles, Fail> {
+    let mut all = Vec::new(alloc);
+    for text in ["a", "b", "c", "d"] {
+        all.push(Name::read(text.as_bytes()).ok_or("a name")?)?;
+    }
+    Ok(Roles::of(alloc, all.as_slice())?)
+}
+
+// a gives b an int, and c gives d one.
+fn two_pairs(alloc: Global) -> Result<Vec<Local>, Fail> {
+    let mut types = Vec::new(alloc);
+    for first in [0, 2] {
+        let (giver, taker) = (Role::new(first), Role::new(first + 1));
+        types.push(Local::send(alloc, taker, Sort::Int, Local::End)?)?;
+        types.push(Local::recv(alloc, giver, Sort::Int, Local::End)?)?;
+    }
+    Ok(types)
+}
+
+// A hub with one session of two pairs.
+fn hub_of_pairs(alloc: Global) -> Result<Hub, Fail>
+    ensures { IfOk result (λ h. h.given ≡ false) }
+{
+    let names = four_names(alloc)?;
+    let types = two_pairs(alloc)?;
+    if names.count() != types.len() {
+        return Err("as many names as types".into());
+    }
+    match Hub::open(alloc, &names, types.as_slice(), 1) {
+        Ok(hub) => Ok(hub),
+        Err(_) => Err("not opened".into()),
+    }
+}
+
+// How often the one looks for the other.
+const TURNS: u32 = 10_000_000;
+
+// Holds the first command of either connection until the other's has come, for a time.
+#[derive(Drop)]
+struct Meeting {
+    first: AtomicU64,
+    second: AtomicU64,
+    met: AtomicU64,
+}
+
+impl Meeting {
+    // Waits for the other, and counts where it came.
+    fn wait(&self, other: &AtomicU64) {
+        for _ in 0..TURNS {
+            if other.load(SeqCst) == 1 {
+                self.met.fetch_add(1, SeqCst);
+                return;
+            }
+            yield_now();
+        }
+    }
+}
+
+impl Gate for Meeting {
+    fn before(&self, connection: u64, line: u64) {
+        if line != 1 {
+            return;
+        }
+        if connection == 1 {
+            self.first.store(1, SeqCst);
+            self.wait(&self.second);
+        } else {
+            self.second.store(1, SeqCst);
+            self.wait(&self.first);
+        }
+    }
+}
+
+// A connection that sends the lines, and no more.
+fn sent<R: Net<Stream = TcpStream>>(
+    rt: &R,
+    addr: SocketAddr,
+    lines: &[u8],
+) -> Result<TcpStream, Fail> {
+    let mut stream = TcpStream::connect(rt, addr)?;
+    stream.write_all(lines)?;
+    stream.shutdown(Shutdown::Write)?;
+    Ok(stream)
+}
+
+// Whether the answers are that it joined, and others of so many bytes, of which the last are these.
+fn has_joined(
+    alloc: Global,
+    mut stream: TcpStream,
+    joined: &[u8],
+    bytes: usize,
+    last: &[u8],
+) -> Result<bool, Fail> {
+    let mut text = Vec::new(alloc);
+    stream.read_to_end(&mut text)?;
+    let more = text.len().checked_sub(joined.len());
+    Ok(text.starts_with(joined) && text.ends_with(last) && more == Some(bytes))
+}
+
+// Whether a server of one session attended to so many connections, which had come before.
+fn has_served<R: Threads + Wait + Sync + 'static, G: Gate + Sync + 'static>(
+    rt: &R,
+    alloc: Global,
+    listener: &TcpListener,
+    hub: &mut Hub,
+    connections: u64,
+    gate: &G,
+) -> Result<bool, Fail>
+    requires { hub.old.given ≡ false }
+{
+    let deal = hub.deal().ok_or("given")?;
+    let desk = hub.desk_of(alloc, deal)?;
+    match serve_with(rt, alloc, listener, &desk, connections, gate) {
+        Ok(Served { ended, lost }) => Ok(ended == connections && lost == 0),
+        Err(_) => Err("not served".into()),
+    }
+}
+
+// How many entries the journal of the one session has.
+fn entries(alloc: Global, hub: Hub) -> Result<u64, Fail> {
+    let rooms = hub.close(alloc)?;
+    let Some(Some(room)) = rooms.as_slice().first() else {
+        return Err("no room".into());
+    };
+    Ok(Room::entries(room))
+}
+
+#[test]
+fn two_connections_meet_at_the_gate(rt: HostRuntime) -> Result<(), Fail> {
+    let alloc = rt.alloc();
+    let listener = TcpListener::bind(&rt, "127.0.0.1:0")?;
+    let addr = listener.local_addr()?;
+    let first = sent(&rt, addr, b"join 1 a\nsend b 1\n")?;
+    let second = sent(&rt, addr, b"join 1 c\nsend d 2\n")?;
+    let gate = Meeting {
+        first: AtomicU64::new(0),
+        second: AtomicU64::new(0),
+        met: AtomicU64::new(0),
+    };
+    let mut hub = hub_of_pairs(alloc)?;
+    assert!(rt; has_served(&rt, alloc, &listener, &mut hub, 2, &gate)?);
+    assert!(rt; gate.met.load(SeqCst) == 2);
+    assert!(rt; has_joined(alloc, first, b"joined 1 a\ndone ", 2, b"\n")?);
+    assert!(rt; has_joined(alloc, second, b"joined 1 c\ndone ", 2, b"\n")?);
+    assert!(rt; entries(alloc, hub)? == 2);
+    Ok(())
+}
+
+// Holds the commands of the first two connections until the other two have come to their second one, for a time.
+#[derive(Drop)]
+struct Order {
+    sent: AtomicU64,
+}
+
+impl Gate for Order {
+    fn before(&self, connection: u64, line: u64) {
+        if connection > 2 {
+            if line == 2 {
+                self.sent.fetch_add(1, SeqCst);
+            }
+            return;
+        }
+        for _ in 0..TURNS {
+            if self.sent.load(SeqCst) == 2 {
+                return;
+            }
+            yield_now();
+        }
+    }
+}
+
+#[test]
+fn four_clients_share_a_session(rt: HostRuntime) -> Result<(), Fail> {
+    let alloc = rt.alloc();
+    let listener = TcpListener::bind(&rt, "127.0.0.1:0")?;
+    let addr = listener.local_addr()?;
+    let b = sent(&rt, addr, b"join 1 b\nrecv a x\n")?;
+    let d = sent(&rt, addr, b"join 1 d\nrecv c x\n")?;
+    let a = sent(&rt, addr, b"join 1 a\nsend b 1\nundo 9\n")?;
+    let c = sent(&rt, addr, b"join 1 c\nsend d 2\nundo 9\n")?;
+    let gate = Order {
+        sent: AtomicU64::new(0),
+    };
+    let mut hub = hub_of_pairs(alloc)?;
+    assert!(rt; has_served(&rt, alloc, &listener, &mut hub, 4, &gate)?);
+    assert!(rt; has_joined(alloc, b, b"joined 1 b\ndone ", 4, b" 1\n")?);
+    assert!(rt; has_joined(alloc, d, b"joined 1 d\ndone ", 4, b" 2\n")?);
+    assert!(rt; has_joined(alloc, a, b"joined 1 a\ndone ", 17, b"\nrefused nostep\n")?);
+    assert!(rt; has_joined(alloc, c, b"joined 1 c\ndone ", 17, b"\nrefused nostep\n")?);
+    assert!(rt; entries(alloc, hub)? == 4);
+    Ok(())
+}
