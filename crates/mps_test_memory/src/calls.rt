@@ -214,8 +214,10 @@ fn present(arena: &Arena, number: u64) -> Option<StepId>
     ensures { IfSome result (λ id. IsSome (step_of (steps arena.now.entries) id)) }
 {
     let id = StepId::new(number);
-    arena.by_id(id)?;
-    Some(id)
+    match arena.by_id(id) {
+        Some(_) => Some(id),
+        None => None,
+    }
 }
 
 /// Looks for the least step that depends on one.

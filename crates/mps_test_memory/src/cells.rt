@@ -4,9 +4,8 @@ ghost use Rattle.std.specs.Prelude.{◌≡◌, false, IfSome};
 use crate::outcomes::{Outcome, Until, answered, refused};
 use crate::parties::{Passes, compared, names, opened};
 use crate::rows::Row;
-use mps_cell::{Cell, Pass, PassFault, meet};
+use mps_cell::{Cell, Pass, PassFault};
 use std::alloc::Global;
-use std::cmp::Ordering;
 use std::sync::Wait;
 
 // A new cell of the protocol.
@@ -21,7 +20,7 @@ fn cell(alloc: Global) -> Option<Cell>
 fn passes_asked<R: Wait>(
     rt: &R,
     alloc: Global,
-    row: &Row,
+    row: &Row<'_>,
     until: Until,
     first: Vec<Pass<'_>>,
     second: Vec<Pass<'_>>,
@@ -41,7 +40,7 @@ fn passes_asked<R: Wait>(
 }
 
 /// Asks a pass for the command of the row.
-pub fn pass_asked<R: Wait>(rt: &R, alloc: Global, row: &Row, until: Until) -> Option<Outcome> {
+pub fn pass_asked<R: Wait>(rt: &R, alloc: Global, row: &Row<'_>, until: Until) -> Option<Outcome> {
     let mut first = cell(alloc)?;
     let mut second = cell(alloc)?;
     let first = first.passes().ok()?;
@@ -101,30 +100,4 @@ pub fn asks_for_the_front(alloc: Global, until: Until) -> Option<Outcome> {
         return Some(Outcome::Reached);
     }
     answered(front == 0)
-}
-
-// The last pass, of the cell.
-#[tactic(auto)]
-fn met(first: &mut Pass<'_>, second: &mut Pass<'_>) -> Ordering
-    requires cell { second.old.cell ≡ first.old.cell }
-{
-    meet(first, second)
-}
-
-/// Has two passes of a cell meet.
-pub fn has_passes_meet(alloc: Global, until: Until) -> Option<Outcome> {
-    let mut cell = cell(alloc)?;
-    let deal = cell.deal()?;
-    let mut all = cell.passes_of(deal).ok()?;
-    let [first, second, _] = all.as_mut_slice() else {
-        return None;
-    };
-    if until == Until::Before {
-        return Some(Outcome::Reached);
-    }
-    let order = met(first, second);
-    if until == Until::After {
-        return Some(Outcome::Reached);
-    }
-    answered(order == Ordering::Equal)
 }

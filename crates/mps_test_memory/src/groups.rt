@@ -1,9 +1,7 @@
 //! The calls that are made, by groups.
 
 use crate::calls::*;
-use crate::cells::{
-    asks_for_the_front, hands_out_passes, has_passes_meet, opens_a_cell, pass_asked,
-};
+use crate::cells::{asks_for_the_front, hands_out_passes, opens_a_cell, pass_asked};
 use crate::lines::{
     TOLD, attends, converses, reads_a_command, reads_an_answer, writes_a_show, writes_an_answer,
 };
@@ -55,7 +53,6 @@ enum Call {
     Would,
     Same,
     Front,
-    Meet,
     LeastDependent,
     MarkFrom,
 }
@@ -80,7 +77,6 @@ const CALLS: &[(&str, Call)] = &[
     ("Session::would", Call::Would),
     ("same", Call::Same),
     ("Pass::front", Call::Front),
-    ("meet", Call::Meet),
     ("least_dependent", Call::LeastDependent),
     ("mark_from", Call::MarkFrom),
 ];
@@ -96,7 +92,7 @@ pub fn named(word: &[u8]) -> Option<Group> {
 }
 
 // The k-th row of a group that is asked, from 0.
-fn row(group: Group, k: usize) -> Option<&'static Row> {
+fn row(group: Group, k: usize) -> Option<&'static Row<'static>> {
     match ROWS.get(k) {
         Some(row) => Some(row),
         None if group == Group::Session => None,
@@ -138,7 +134,6 @@ fn call_made<R: Wait + 'static>(
         Call::Would => asks_whether(alloc, until),
         Call::Same => compares(alloc, until),
         Call::Front => asks_for_the_front(alloc, until),
-        Call::Meet => has_passes_meet(alloc, until),
         Call::LeastDependent => finds_a_dependent(alloc, until),
         Call::MarkFrom => marks_from(alloc, until),
     }

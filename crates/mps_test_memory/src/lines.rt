@@ -88,7 +88,9 @@ pub fn writes_a_show(alloc: Global, until: Until) -> Option<Outcome> {
 
 // ---- conversations
 
-fn reader_of(alloc: Global, bytes: &[u8]) -> Option<Pieces> {
+fn reader_of(alloc: Global, bytes: &[u8]) -> Option<Pieces>
+    ensures { IfSome result (λ r. r.answered ≡ 0) }
+{
     let bytes = Vec::from_slice(alloc, bytes).ok()?;
     Some(Pieces::new(vec![in alloc; bytes].ok()?, None))
 }

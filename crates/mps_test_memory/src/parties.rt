@@ -1,5 +1,5 @@
 //! Sessions, rooms and cells, as those who answer the commands of any role.
-ghost use Rattle.std.specs.Prelude.{◌≡◌, length, IfOk, IfSome};
+ghost use Rattle.std.specs.Prelude.{◌≡◌, ◌<◌, length, IfSome};
 ghost use Rattle.mps_machine.specs.Machine.{initial};
 
 use crate::outcomes::{Outcome, Until, answered, refused};
@@ -212,7 +212,7 @@ fn goes_on<P: Party>(
 pub fn compared<P: Party>(
     alloc: Global,
     names: &Roles,
-    row: &Row,
+    row: &Row<'_>,
     until: Until,
     first: &mut P,
     second: &mut P,
@@ -250,13 +250,13 @@ pub fn names(alloc: Global) -> Option<Roles> {
 }
 
 /// Asks a session for the command of the row.
-pub fn session_asked(alloc: Global, row: &Row, until: Until) -> Option<Outcome> {
+pub fn session_asked(alloc: Global, row: &Row<'_>, until: Until) -> Option<Outcome> {
     let (mut first, mut second) = (Alone::new(alloc)?, Alone::new(alloc)?);
     compared(alloc, &names(alloc)?, row, until, &mut first, &mut second)
 }
 
 /// Asks a room for the command of the row.
-pub fn room_asked(alloc: Global, row: &Row, until: Until) -> Option<Outcome> {
+pub fn room_asked(alloc: Global, row: &Row<'_>, until: Until) -> Option<Outcome> {
     let (mut first, mut second) = (Roomed::new(alloc)?, Roomed::new(alloc)?);
     compared(alloc, &names(alloc)?, row, until, &mut first, &mut second)
 }

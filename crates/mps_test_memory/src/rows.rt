@@ -6,11 +6,7 @@ pub const PROTOCOL: &[u8] =
 
 /// A command: its name, the lines of the script before it, and its own line.
 #[derive(Clone, Copy)]
-pub struct Row(
-    pub &'static str,
-    pub &'static [&'static str],
-    pub &'static str,
-);
+pub struct Row<'t>(pub &'t str, pub &'t [&'t str], pub &'t str);
 
 const SEND: &str = "a send b 5";
 
@@ -29,7 +25,7 @@ const MARK: &str = "a mark m";
 const BACK: &str = "a back m";
 
 /// What a session is asked for.
-pub const ROWS: &[Row] = &[
+pub const ROWS: &[Row<'static>] = &[
     Row("send", &[], SEND),
     Row("receive", &[SEND], RECEIVE),
     Row("send-text", &[SEND, RECEIVE], SAY),
@@ -55,7 +51,7 @@ pub const ROWS: &[Row] = &[
 ];
 
 /// What a room is asked for besides.
-pub const ROOM_ROWS: &[Row] = &[
+pub const ROOM_ROWS: &[Row<'static>] = &[
     Row("news", &[SEND, RECEIVE, SAY, "a rollback 1"], "b news 0"),
     Row("show", &[SEND, RECEIVE, SAY, HEAR], "a show"),
 ];
