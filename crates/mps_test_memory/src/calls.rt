@@ -5,6 +5,7 @@ ghost use Rattle.mps_global.specs.Global.{plain as global_type};
 ghost use Rattle.mps_global.specs.Faults.{fault_of};
 ghost use Rattle.mps_history.specs.Steps.{step_of};
 ghost use Rattle.mps_links.specs.Marks.{marked_keys};
+ghost use Rattle.mps_local.specs.Outcome.{AreProjections};
 
 use crate::outcomes::{Outcome, Until, answered, refused};
 use crate::parties::opened;
@@ -167,11 +168,22 @@ pub fn asks_whether(alloc: Global, until: Until) -> Option<Outcome> {
     answered(would == Err(Refusal::NoStep))
 }
 
+// A new session of the protocol.
+fn session_of(alloc: Global, protocol: &Protocol) -> Option<Session>
+    ensures { IfSome result (λ session. AreProjections
+        protocol.now.roles.items (global_type protocol.now.body) session.types) }
+{
+    match open_protocol(alloc, protocol) {
+        Ok(session) => Some(session),
+        Err(_) => None,
+    }
+}
+
 /// Compares two sessions.
 pub fn compares(alloc: Global, until: Until) -> Option<Outcome> {
     let protocol = protocol(alloc)?;
-    let first = open_protocol(alloc, &protocol).ok()?;
-    let second = open_protocol(alloc, &protocol).ok()?;
+    let first = session_of(alloc, &protocol)?;
+    let second = session_of(alloc, &protocol)?;
     if until == Until::Before {
         return Some(Outcome::Reached);
     }

@@ -88,11 +88,9 @@ pub fn writes_a_show(alloc: Global, until: Until) -> Option<Outcome> {
 
 // ---- conversations
 
-fn reader_of(alloc: Global, bytes: &[u8]) -> Option<Pieces>
-    ensures { IfSome result (λ r. r.answered ≡ 0) }
-{
+fn in_one_piece(alloc: Global, bytes: &[u8]) -> Option<Vec<Vec<u8>>> {
     let bytes = Vec::from_slice(alloc, bytes).ok()?;
-    Some(Pieces::new(vec![in alloc; bytes].ok()?, None))
+    vec![in alloc; bytes].ok()
 }
 
 // Who gives the commands of the first role.
@@ -104,7 +102,7 @@ fn solo(alloc: Global) -> Option<Solo> {
 
 // What a conversation of these lines comes to.
 fn talk(alloc: Global, caller: &mut Solo, lines: &[u8]) -> Option<(Vec<u8>, Ending)> {
-    let mut reader = reader_of(alloc, lines)?;
+    let mut reader = Pieces::new(in_one_piece(alloc, lines)?, None);
     let mut writer = Short::new(alloc, 99).ok()?;
     let ending = converse(alloc, caller, &mut reader, &mut writer);
     Some((Vec::from_slice(alloc, writer.bytes()).ok()?, ending))
@@ -124,7 +122,7 @@ fn finds(alloc: Global, caller: &mut Solo, is_there: bool) -> Option<bool> {
 /// Holds a conversation of one line.
 pub fn converses(alloc: Global, until: Until) -> Option<Outcome> {
     let mut caller = solo(alloc)?;
-    let mut reader = reader_of(alloc, b"send b 5\n")?;
+    let mut reader = Pieces::new(in_one_piece(alloc, b"send b 5\n")?, None);
     let mut writer = Short::new(alloc, 99).ok()?;
     if until == Until::Before {
         return Some(Outcome::Reached);
@@ -161,7 +159,7 @@ fn connect<R: Wait + 'static>(
     desk: &Desk<'_>,
     lines: &[u8],
 ) -> Option<(Vec<u8>, Attended)> {
-    let mut reader = reader_of(alloc, lines)?;
+    let mut reader = Pieces::new(in_one_piece(alloc, lines)?, None);
     let mut writer = Short::new(alloc, 99).ok()?;
     let ended = attend(rt, alloc, desk, &Unguarded, 1, &mut reader, &mut writer);
     Some((Vec::from_slice(alloc, writer.bytes()).ok()?, ended))
@@ -190,7 +188,7 @@ fn attends_at<R: Wait + 'static>(
     desk: &Desk<'_>,
     until: Until,
 ) -> Option<Outcome> {
-    let mut reader = reader_of(alloc, b"join 1 a\nsend b 5\n")?;
+    let mut reader = Pieces::new(in_one_piece(alloc, b"join 1 a\nsend b 5\n")?, None);
     let mut writer = Short::new(alloc, 99).ok()?;
     if until == Until::Before {
         return Some(Outcome::Reached);

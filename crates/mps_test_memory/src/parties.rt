@@ -183,23 +183,23 @@ fn text_of(alloc: Global, answer: &Answer) -> Option<Vec<u8>> {
 }
 
 // Whether both parties stand as they have to after their answers, which are the same.
-fn are_alike<P: Party>(
+fn are_alike<P: Party, Q: Party>(
     alloc: Global,
     first: (&mut P, &Answer),
-    second: (&mut P, &Answer),
+    second: (&mut Q, &Answer),
 ) -> Option<bool> {
     let same = text_of(alloc, first.1)? == text_of(alloc, second.1)?;
     Some(same && first.0.state()? == second.0.state()?)
 }
 
 // Whether the party, which was told that memory ran out, stands as before, and now answers as the other did.
-fn goes_on<P: Party>(
+fn goes_on<P: Party, Q: Party>(
     alloc: Global,
     names: &Roles,
     line: &str,
     before: &[u8],
     first: &mut P,
-    second: (&mut P, &Answer),
+    second: (&mut Q, &Answer),
 ) -> Option<bool> {
     if first.state()?.as_slice() != before {
         return Some(false);
@@ -209,13 +209,13 @@ fn goes_on<P: Party>(
 }
 
 /// Asks the first for the command of the row, and compares it with the second, which is asked with ample memory.
-pub fn compared<P: Party>(
+pub fn compared<P: Party, Q: Party>(
     alloc: Global,
     names: &Roles,
     row: &Row<'_>,
     until: Until,
     first: &mut P,
-    second: &mut P,
+    second: &mut Q,
 ) -> Option<Outcome> {
     let Row(_, lines, line) = row;
     if !are_done(alloc, names, first, lines) || !are_done(alloc, names, second, lines) {

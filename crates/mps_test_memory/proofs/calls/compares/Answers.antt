@@ -4,5 +4,5 @@ use Rattle.mps_test_memory.proofs.calls.compares.Goals as goal
 
 pub same-is_same-requires : goal.same-is_same-requires
 same-is_same-requires c =
-    let protocol = c.in-Some-protocol.protocol in
-    record { types = one_projection protocol.roles.items (plain protocol.body) c.in_ok-first.first.types c.in_ok-second.second.types c.in_ok-first.ensures.types c.in_ok-second.ensures.types }
+    let protocol = c.in_ok-protocol.protocol in
+    record { types = one_projection protocol.roles.items (plain protocol.body) c.in_ok-first.first.types c.in_ok-second.second.types c.in_ok-first.ensures c.in_ok-second.ensures }
