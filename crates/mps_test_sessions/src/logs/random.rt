@@ -2,8 +2,8 @@
 use super::Deed::{self, Choose, Mark, Pick, Receive, Send, Tell};
 use super::*;
 
-// A step of the plain list: its key and number, what it is, and the key to which its slot was
-// bound.
+// A step of the plain list: its key and number, what it is, and the key to which its slot, or the
+// name that it marks, was bound.
 #[derive(Clone, Copy)]
 struct Plain {
     key: Key,
@@ -15,7 +15,7 @@ struct Plain {
 }
 
 // Some of the steps, in order: all, those of a role, the sends of a pair, its receipts, the
-// receipts of a role into a slot, none.
+// receipts of a role into a slot, its marks of a name, none.
 #[derive(Clone, Copy)]
 enum Chain {
     All,
@@ -23,6 +23,7 @@ enum Chain {
     Sends(u8, u8),
     Receipts(u8, u8),
     Into(u8, Word),
+    Marks(u8, Word),
     Nothing,
 }
 
@@ -38,6 +39,7 @@ fn is_in(step: &Plain, chain: Chain) -> bool {
             step.role == to && peer == from
         }
         (Chain::Into(role, slot), Receive(_, word)) => step.role == role && word == slot,
+        (Chain::Marks(role, name), Mark(word)) => step.role == role && word == name,
         _ => false,
     }
 }
@@ -259,6 +261,7 @@ fn join(rt: &(impl Abort + AllocGlobal), log: &mut Log, steps: &mut Vec<Plain>, 
     assert!(rt; !is_idle(steps, place, deed), "no message waits");
     let bound = match deed {
         Receive(_, slot) => last(steps, Chain::Into(place, slot)),
+        Mark(name) => last(steps, Chain::Marks(place, name)),
         _ => None,
     };
     let key = log.steps().by_id(id).expect(rt, "its key");
