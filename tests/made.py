@@ -7,7 +7,7 @@ from reference import Choice, End, Message, Rec, Var
 
 LETTERS = "abcdefghijklmnopqrstuvwxyz"
 # names that are words of scripts and answers too, and names beside reserved words
-NAMES = ("send recv choose pick mark undo rollback back news show join done undone refused line full label "
+NAMES = ("send recv choose pick mark commit undo rollback back news show join done undone refused line full final label "
          "ends rolesx rec_ en tru in text0 e0 a_ a_b").split()
 SORTS = ("int", "bool", "text")
 INTS = ("0", "1", "-1", "7", "10", "-10", "99", "123456", "9223372036854775807", "-9223372036854775808",
@@ -245,13 +245,13 @@ class Writer:
         self.slots, self.marks = names(dice, dice.choice((1, 2, 5, 40))), names(dice, 3)
         self.labels = [*names(dice, 2), *labels_of(types)]
         self.weights = dice.choice((
-            (90, 3, 2, 1, 1, 1, 1, 1, 1), (60, 8, 8, 6, 6, 4, 2, 8, 8), (80, 6, 6, 6, 6, 2, 1, 1, 1),
-            (97, 1, 0, 0, 0, 0, 1, 1, 1), (50, 5, 25, 5, 5, 5, 5, 5, 5)))
+            (90, 3, 1, 2, 1, 1, 1, 1, 1, 1), (60, 8, 3, 8, 6, 6, 4, 2, 8, 8), (80, 6, 0, 6, 6, 6, 2, 1, 1, 1),
+            (97, 1, 0, 0, 0, 0, 0, 1, 1, 1), (50, 5, 3, 25, 5, 5, 5, 5, 5, 5), (60, 6, 12, 6, 10, 8, 2, 2, 1, 1)))
 
     def line(self):
         """One more line."""
-        write = self.dice.choices((self.step, self.mark, self.undo, self.rollback, self.back, self.news, self.show,
-                                   self.other_step, self.unreadable), self.weights)[0]
+        write = self.dice.choices((self.step, self.mark, self.commit, self.undo, self.rollback, self.back, self.news,
+                                   self.show, self.other_step, self.unreadable), self.weights)[0]
         line = write().encode("latin-1")
         reference.answer(self.room, line)
         return line
@@ -302,6 +302,10 @@ class Writer:
         """A mark."""
         return f"{self.dice.choice(self.roles)} mark {self.dice.choice(self.marks)}"
 
+    def commit(self):
+        """A commit."""
+        return f"{self.dice.choice(self.roles)} commit"
+
     def back(self):
         """A return to a mark, mostly to one that survives."""
         marks = [(step.role, step.act.word) for step in self.room.history[-200:] if step.act.kind == "mark"]
@@ -322,7 +326,7 @@ class Writer:
     def unreadable(self):
         """A line that is mostly unreadable: one that could stand here with something wrong in it, or one by itself."""
         dice = self.dice
-        moves = (self.step, self.step, self.mark, self.undo, self.rollback, self.back, self.news, self.show)
+        moves = (self.step, self.step, self.mark, self.commit, self.undo, self.rollback, self.back, self.news, self.show)
         line = dice.choice(moves)()
         at = dice.randint(0, len(line))
         more = dice.choice((*" \r\t\x00\x7f\xff0-\"\\A_+x", " x", "a" * 513))

@@ -318,10 +318,13 @@ def load(protocol):
 # --- The machine: views and what leads from one to the next ----------------------------------------------------------
 
 class Act(NamedTuple):
-    """A send, recv, choose, pick or mark. The word is the value, the slot, the label or the mark's name."""
+    """A send, recv, choose, pick, mark or commit. The word is the value, the slot, the label or the mark's name."""
     kind: str
     peer: str | None
     word: str | None
+
+
+IDLE = ("mark", "commit")  # the acts that give nothing and take nothing: each is allowed always
 
 
 class Step(NamedTuple):
@@ -358,7 +361,7 @@ class View:
 def violation(view, role, act):
     """Why an act isn't allowed: the first of seven reasons that applies, or nothing."""
     node, _ = view.head(role)
-    if act.kind == "mark":
+    if act.kind in IDLE:
         return None
     if isinstance(node, End):
         return "ended"
@@ -387,7 +390,7 @@ def rule(view, step):
         view.queues[role, act.peer].append(act.word)
     if act.kind == "recv":
         view.store[role][act.word] = taken
-    if act.kind != "mark":
+    if act.kind not in IDLE:
         node, loops = view.head(role)
         message = taken or act.word
         view.types[role] = dict(node.branches)[sort_of(message) or message], loops
@@ -477,25 +480,32 @@ class Room:
             return None, "nostep"
         return places[0], None if self.history[places[0]].role == role else "notyours"
 
+    def final(self, places):
+        """The first commit among the steps at these places, as the reason why they can't be taken back, or nothing."""
+        commits = [self.history[place].number for place in places if self.history[place].act.kind == "commit"]
+        return f"final {commits[0]}" if commits else None
+
     def undo(self, role, number):
         """The answer to an undo."""
         place, reason = self.place_of(role, number)
         if reason is None:
             needed = self.consequences(place)[1:]
-            reason = f"needed {self.history[needed[0]].number}" if needed else None
+            reason = self.final([place]) or (f"needed {self.history[needed[0]].number}" if needed else None)
         return self.without(role, [place], reason)
 
     def rollback(self, role, number):
         """The answer to a rollback."""
         place, reason = self.place_of(role, number)
-        return self.without(role, [] if reason else self.consequences(place), reason)
+        places = [] if reason else self.consequences(place)
+        return self.without(role, places, reason or self.final(places))
 
     def back(self, role, name):
         """The answer to a return to a mark: a rollback of the role's first step behind its last mark of that name."""
         own = [place for place, step in enumerate(self.history) if step.role == role]
         marks = [place for place in own if self.history[place].act == Act("mark", None, name)]
         behind = [place for place in own if marks and place > marks[-1]]
-        return self.without(role, self.consequences(behind[0]) if behind else [], None if marks else "nomark")
+        places = self.consequences(behind[0]) if behind else []
+        return self.without(role, places, self.final(places) if marks else "nomark")
 
     def without(self, role, places, reason):
         """The answer where the steps at these places are to be taken out, unless there is a reason against it."""
@@ -529,7 +539,7 @@ def shown_step(step, taken):
     """A step as it is shown; values are spelled as in JSON."""
     kind, peer, word = step.act
     shown = {"send": lambda: [peer, json.loads(word)], "choose": lambda: [peer, word], "pick": lambda: [peer, taken],
-             "recv": lambda: [peer, word, json.loads(taken)], "mark": lambda: [word]}
+             "recv": lambda: [peer, word, json.loads(taken)], "mark": lambda: [word], "commit": lambda: []}
     return [step.number, step.role, kind, *shown[kind]()]
 
 
@@ -549,7 +559,7 @@ def read_line(line, roles):
     """The role, the verb and the other parts of a line, or nothing where it is unreadable."""
     peer = roles.__contains__
     forms = {"send": (peer, sort_of), "recv": (peer, is_name), "choose": (peer, is_name), "pick": (peer,),
-             "mark": (is_name,), "undo": (is_number,), "rollback": (is_number,), "back": (is_name,),
+             "mark": (is_name,), "commit": (), "undo": (is_number,), "rollback": (is_number,), "back": (is_name,),
              "news": (is_number,), "show": ()}
     if len(line) > 512 or not line.isascii() or b" " not in line:
         return None
@@ -571,7 +581,7 @@ def answer(room, line):
         return room.back(role, parts[0])
     if verb == "show":
         return room.show()
-    peer, word = (None, parts[0]) if verb == "mark" else [*parts, None][:2]
+    peer, word = [None, *parts, None][:2] if verb in IDLE else [*parts, None][:2]
     return room.forward(role, Act(verb, peer, word))
 
 
@@ -581,8 +591,8 @@ def lines_of(script):
     return [*lines, rest] if rest else lines
 
 
-# Conversations, with numbered lines and commits, have their place here, once docs/FORMATS.md tells of them: a class
-# beside Room that hands it the commands, and an order beside the three below.
+# Conversations, with numbered lines, have their place here: a class beside Room that hands it the commands, and an order
+# beside the three below.
 
 # --- The program -----------------------------------------------------------------------------------------------------
 

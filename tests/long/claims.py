@@ -34,7 +34,7 @@ def numbers(bench):
     for count in range(2, 9):
         protocol = scripts.all_pairs(count)
         writer = made.Writer(random.Random(count), reference.load(protocol))
-        writer.weights = (90, 3, 2, 1, 1, 0, 0, 1, 1)
+        writer.weights = (90, 3, 1, 2, 1, 1, 0, 0, 1, 1)
         lines = [writer.line().decode("latin-1") for _ in range(3000)]
         wrong = wrong_numbers(bench.answers(protocol, *lines))
         bench.holds(wrong is None, wrong, protocol, *lines)

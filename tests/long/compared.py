@@ -44,7 +44,7 @@ def living(bench):
     for count in range(2, 9):
         for seed, protocol in enumerate((ring(count), scripts.all_pairs(count))):
             writer = made.Writer(random.Random(100 * count + seed), reference.load(protocol))
-            writer.weights = (94, 2, 1, 0.3, 0.1, 1, 0.1, 1, 1)
+            writer.weights = (94, 2, 0.2, 1, 0.3, 0.1, 1, 0.1, 1, 1)
             bench.agrees(protocol, b"\n".join(writer.line() for _ in range(2500)))
 
 
@@ -177,6 +177,29 @@ def marks(bench):
                  *[f"{role} back m1" for role in "dcba"], "c back m2", "a show", "a back m0", "b news 0")
 
 
+def commits(bench):
+    """Commits late in a session: what they rest on is final, and what comes after them, or stands beside, is not."""
+    for steps in (2, 2000, 50_000):
+        lines = [*pair_turns(0, 1000), "a mark m", *pair_turns(0, steps // 2), "b commit"]
+        asked = [f"{role} rollback {number}" for role in "ab" for number in (1, 2, 2000, 2001, 2002, steps + 2002)]
+        asked += ["a back m", "b undo 2000", f"b undo {steps + 2002}", "a undo 2001", "a news 0", "b news 0"]
+        told = bench.agrees(PAIR, *lines, *asked, *pair_turns(0, 100), *asked, f"a rollback {steps + 2003}", *asked)
+        bench.holds(told[len(lines)] == f"refused final {steps + 2002}", told[len(lines)], PAIR, *lines, asked[0])
+    for count in range(2, 9):
+        roles, last = ROLES[:count], 2 * count * 200
+        lines = [*ring_turns(count, 0, 100), *[f"{role} mark {role}m" for role in roles], *ring_turns(count, 100, 100)]
+        asked = [f"{role} {question}" for role in roles for question in ("back " + role + "m", "undo 1", "rollback 1")]
+        for role in roles:
+            bench.agrees(ring(count), *lines, f"{role} commit", *asked, *ring_turns(count, 0, 20), f"{roles[-1]} show",
+                         f"a rollback {last + count + 2}", *asked, "a show", *[f"{it} commit" for it in roles], *asked)
+    lines = scripts.four_pairs_turns(1000)
+    bench.agrees(scripts.four_pairs(), *lines, "c commit", "f commit", *[f"{it} rollback {at + 1}" for at, it in
+                                                                      enumerate("abcdefgh")], *lines[:80], "a show")
+    many = [line for at in range(10_000) for line in (f"a send b {at}", "b commit", "b recv a x", "a commit")]
+    bench.agrees(PAIR, *many, "a rollback 1", "b rollback 2", "b rollback 39999", "a undo 40000", "a undo 39999",
+                 "b undo 39998", "a send b 1", "a undo 40001", "a show")
+
+
 def needed(bench):
     """Undos that a step far behind stands against."""
     bench.agrees(PAIR, *sends(20_000), *receipts(20_000), "a undo 20000", "a undo 19999", "a undo 1", "b undo 40000",
@@ -190,7 +213,7 @@ def scripts_compared(bench):
     mixed = scripts.four_pairs_turns(3000)
     sorted_by_pair = sorted(mixed, key=lambda line: ROLES.index(line[0]) // 2)
     cases = {"the same": sorted_by_pair, "less": sorted_by_pair[:-1], "a mark more": [*mixed, "a mark m"],
-             "another value": [*mixed[:-2], "g send h 1", "h recv g x"], "another slot": [*mixed[:-1], "h recv g y"],
+             "a commit more": [*mixed, "a commit"], "another value": [*mixed[:-2], "g send h 1", "h recv g x"], "another slot": [*mixed[:-1], "h recv g y"],
              "more and taken back": [*sorted_by_pair, "a mark m", "a undo 24001"]}
     for told, lines in cases.items():
         texts_ = protocol, script(*mixed), script(*lines)
@@ -201,4 +224,4 @@ def scripts_compared(bench):
 
 
 CASES = (counts, pairs, living, taken, news, shown, slots, texts, full, lines_of_each_length, without_a_break, choices,
-         marks, needed, scripts_compared)
+         marks, commits, needed, scripts_compared)

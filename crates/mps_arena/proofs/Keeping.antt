@@ -7,14 +7,13 @@ use Rattle.std.proofs.lemmas.Option.{slice_get_past}
 use Rattle.std.specs.List.{AllByRecursion, filter}
 use Rattle.std.specs.Option.{option_map, option_or}
 use Rattle.std.proofs.lemmas.Bool.{cases_Bool, eqb-true, eqb-false, cond-true, cond-false, and_parts, and_from, and_right, or_parts, or_left, false_from_ne_true, false≢true, both_ways}
-use Rattle.mps_base.specs.declared.action.Act.{Act}
-use Rattle.mps_base.specs.declared.action.Act.TheVariants.{Out, In, Mark}
+use Rattle.mps_base.specs.Effects.{Effect, Gives, Takes, Idle, effect}
 use Rattle.mps_base.specs.declared.action.Step.{Step}
-use Rattle.mps_history.specs.Steps.{goes_to, comes_from, sends, receives}
+use Rattle.mps_history.specs.Steps.{gives_to, takes_from, sends, receives}
 use Rattle.mps_arena.specs.declared.node.Before.{Before}
 use Rattle.mps_arena.specs.declared.node.Node.{Node}
 use Rattle.mps_arena.specs.Keys.{has, AreDistinct, first_key, last_key, key_after, key_before}
-use Rattle.mps_arena.specs.Entries.{Entry, keys_of, any_step, of_role, like_sends, like, unlike, entry_at, IsSmall, IsSmallAct, AreSound}
+use Rattle.mps_arena.specs.Entries.{Entry, keys_of, any_step, of_role, like_sends, like, unlike, entry_at, IsSmall, HasSmallPeer, AreSound}
 use Rattle.mps_arena.specs.Ends.{receiver, end_at, with_end}
 use Rattle.mps_arena.specs.Links.{node_of, AreNodes, joined, parted}
 use Rattle.mps_arena.specs.Sources.{mate_of, IsFree, IsSource, IsUnreceived, CanGo}
@@ -59,20 +58,20 @@ all_without P [] b x h = h.1
 all_without P (y ∷ a) b x h = (h.0, all_without P a b x h.1)
 
 -- which pair an act ends
-sends_to : (p q r : ℕ) (s : Step) (a : Act) → s.act ≡ a → receiver a ≡ Some q → sends p r s ≡ (s.role == p && q == r)
-sends_to p q r s (Out to message) e h = let same : to ≡ q = cc in ap (λ (b : Act). s.role == p && goes_to r b) e ∙ ap (λ (n : ℕ). s.role == p && n == r) same
-sends_to p q r s (In from slot) e h = absurd cc
-sends_to p q r s (Mark name) e h = absurd cc
+sends_to : (p q r : ℕ) (s : Step) (a : Effect) → effect s.act ≡ a → receiver a ≡ Some q → sends p r s ≡ (s.role == p && q == r)
+sends_to p q r s (Gives to message) e h = let same : to ≡ q = cc in ap (λ (b : Effect). s.role == p && gives_to r b) e ∙ ap (λ (n : ℕ). s.role == p && n == r) same
+sends_to p q r s (Takes from slot) e h = absurd cc
+sends_to p q r s Idle e h = absurd cc
 
-sends_none : (p r : ℕ) (s : Step) (a : Act) → s.act ≡ a → receiver a ≡ None → sends p r s ≡ false
-sends_none p r s (Out to message) e h = absurd cc
-sends_none p r s (In from slot) e h = ap (λ (b : Act). s.role == p && goes_to r b) e ∙ and_right (s.role == p) false refl
-sends_none p r s (Mark name) e h = ap (λ (b : Act). s.role == p && goes_to r b) e ∙ and_right (s.role == p) false refl
+sends_none : (p r : ℕ) (s : Step) (a : Effect) → effect s.act ≡ a → receiver a ≡ None → sends p r s ≡ false
+sends_none p r s (Gives to message) e h = absurd cc
+sends_none p r s (Takes from slot) e h = ap (λ (b : Effect). s.role == p && gives_to r b) e ∙ and_right (s.role == p) false refl
+sends_none p r s Idle e h = ap (λ (b : Effect). s.role == p && gives_to r b) e ∙ and_right (s.role == p) false refl
 
-small_to : (a : Act) (q : ℕ) → IsSmallAct a → receiver a ≡ Some q → q < 8
-small_to (Out to message) q h e = let same : to ≡ q = cc in subst (λ (n : ℕ). n < 8) same h
-small_to (In from slot) q h e = absurd cc
-small_to (Mark name) q h e = absurd cc
+small_to : (a : Effect) (q : ℕ) → HasSmallPeer a → receiver a ≡ Some q → q < 8
+small_to (Gives to message) q h e = let same : to ≡ q = cc in subst (λ (n : ℕ). n < 8) same h
+small_to (Takes from slot) q h e = absurd cc
+small_to Idle q h e = absurd cc
 
 cases_number : (o : Option ℕ) → (o ≡ None) ⊎ ((q : ℕ) × (o ≡ Some q))
 cases_number None = inl refl
@@ -83,13 +82,13 @@ with_end_is : (ends : List (Option ℕ)) (s : Step) (key : Option ℕ) (before a
     → ((p q : ℕ) → p < 8 → q < 8 → slice_index_or ends (p * 8 + q) None ≡ before p q)
     → ((p q : ℕ) → sends p q s ≡ true → after p q ≡ key)
     → ((p q : ℕ) → sends p q s ≡ false → after p q ≡ before p q)
-    → (p q : ℕ) → p < 8 → q < 8 → slice_index_or (with_end ends s.role (receiver s.act) key) (p * 8 + q) None ≡ after p q
+    → (p q : ℕ) → p < 8 → q < 8 → slice_index_or (with_end ends s.role (receiver (effect s.act)) key) (p * 8 + q) None ≡ after p q
 with_end_is ends s key before after long small was at others p q hp hq =
     ⊎_elim
-    (λ (n : receiver s.act ≡ None). rw n (was p q hp hq ∙ sym (others p q (sends_none p q s s.act refl n))))
-    (λ (w : (r : ℕ) × (receiver s.act ≡ Some r)).
-    let is = sends_to p w.0 q s s.act refl w.1 in
-    let lr = small_to s.act w.0 small.1 w.1 in
+    (λ (n : receiver (effect s.act) ≡ None). rw n (was p q hp hq ∙ sym (others p q (sends_none p q s (effect s.act) refl n))))
+    (λ (w : (r : ℕ) × (receiver (effect s.act) ≡ Some r)).
+    let is = sends_to p w.0 q s (effect s.act) refl w.1 in
+    let lr = small_to (effect s.act) w.0 small.1 w.1 in
     let ls = small.0 in
     rw w.1
     (⊎_elim
@@ -104,7 +103,7 @@ with_end_is ends s key before after long small was at others p q hp hq =
     let away : p * 8 + q ≢ s.role * 8 + w.0 = λ e. both_ways (s.role == p && w.0 == q) f (and_from (s.role == p) (w.0 == q) (eq-eqb s.role p (omega arith)) (eq-eqb w.0 q (omega arith))) in
     get_or-set_other ends (s.role * 8 + w.0) (p * 8 + q) key None away ∙ was p q hp hq ∙ sym (others p q (is ∙ f)))
     (cases_Bool (s.role == p && w.0 == q))))
-    (cases_number (receiver s.act))
+    (cases_number (receiver (effect s.act)))
 
 with_role_is : (lasts : List (Option ℕ)) (s : Step) (key : Option ℕ) (before after : ℕ → Option ℕ) → length lasts ≡ 8 → s.role < 8
     → ((p : ℕ) → p < 8 → slice_index_or lasts p None ≡ before p)
@@ -128,7 +127,7 @@ module _ (look after : ℕ → Option Node) (size : ℕ) (f l : Option ℕ) (r p
   pub kept_push : (e : Entry) → IsSmall e.step → e.step.id ≡ length index + 1 → entry_at e.key es ≡ None
       → ((k : ℕ) → after k ≡ option_map (joined (newcomer es e) e.key k) (cond (e.key == k) (Some (newcomer es e)) (look k)))
       → ((p q : ℕ) → receives p q e.step ≡ true → (k : ℕ) × (source_in es e.step ≡ Some k))
-      → IsKept after (size + 1) (option_or f (Some e.key)) (Some e.key) (slice_set r e.step.role (Some e.key)) (with_end p e.step.role (receiver e.step.act) (Some e.key)) (index ++ e.key ∷ []) (es ++ e ∷ [])
+      → IsKept after (size + 1) (option_or f (Some e.key)) (Some e.key) (slice_set r e.step.role (Some e.key)) (with_end p e.step.role (receiver (effect e.step.act)) (Some e.key)) (index ++ e.key ∷ []) (es ++ e ∷ [])
   kept_push e small number fresh is sourced =
       record {
         linked = nodes_push look after es e k.linked fresh is sourced;
@@ -136,7 +135,7 @@ module _ (look after : ℕ → Option Node) (size : ℕ) (f l : Option ℕ) (r p
         first = rw (keys_push any_step es e refl, first_push (keys_of any_step es) e.key, k.first) refl;
         last = rw (keys_push any_step es e refl, last-append None (keys_of any_step es) (e.key ∷ [])) refl;
         roles = length-set r e.step.role (Some e.key) ∙ k.roles;
-        pairs = length_with_end p e.step.role (receiver e.step.act) (Some e.key) ∙ k.pairs;
+        pairs = length_with_end p e.step.role (receiver (effect e.step.act)) (Some e.key) ∙ k.pairs;
         last_of = with_role_is r e.step (Some e.key) (λ i. last_key None (keys_of (of_role i) es)) (λ i. last_key None (keys_of (of_role i) (es ++ e ∷ []))) k.roles small.0 k.last_of
             (λ i t. rw (keys_push (of_role i) es e t, last-append None (keys_of (of_role i) es) (e.key ∷ [])) refl) (λ i n. rw (keys_kept (of_role i) es e n) refl);
         last_send = with_end_is p e.step (Some e.key) (λ i j. last_key None (keys_of (sends i j) es)) (λ i j. last_key None (keys_of (sends i j) (es ++ e ∷ []))) k.pairs small k.last_send
@@ -185,7 +184,7 @@ module _ (look after : ℕ → Option Node) (size : ℕ) (f l : Option ℕ) (r p
       → key_after x.key (keys_of (of_role x.step.role) old) ≡ None
       → ((i j : ℕ) → sends i j x.step ≡ true → mate_of old x ≡ None)
       → ((i : ℕ) → after i ≡ option_map (parted (node_of old x) i) (cond (x.key == i) None (look i)))
-      → IsKept after left (cond (is_none (node_of old x).prev) (node_of old x).next f) (cond (is_none (node_of old x).next) (node_of old x).prev l) (slice_set r x.step.role (node_of old x).prev_of_role) (with_end p x.step.role (receiver x.step.act) (node_of old x).prev_send) index (a ++ b)
+      → IsKept after left (cond (is_none (node_of old x).prev) (node_of old x).next f) (cond (is_none (node_of old x).next) (node_of old x).prev l) (slice_set r x.step.role (node_of old x).prev_of_role) (with_end p x.step.role (receiver (effect x.step.act)) (node_of old x).prev_send) index (a ++ b)
   kept_without left fewer small final unreceived is =
       let d = k.linked.distinct in
       let all = keys_around any_step a b x refl in
@@ -196,7 +195,7 @@ module _ (look after : ℕ → Option Node) (size : ℕ) (f l : Option ℕ) (r p
         first = rw (keys-append any_step a b, first_without x.key (keys_of any_step a) (keys_of any_step b) parts, ← all, k.first) refl;
         last = rw (keys-append any_step a b, last_without x.key (keys_of any_step a) (keys_of any_step b) parts, ← all, k.last) refl;
         roles = length-set r x.step.role (node_of old x).prev_of_role ∙ k.roles;
-        pairs = length_with_end p x.step.role (receiver x.step.act) (node_of old x).prev_send ∙ k.pairs;
+        pairs = length_with_end p x.step.role (receiver (effect x.step.act)) (node_of old x).prev_send ∙ k.pairs;
         last_of = with_role_is r x.step (node_of old x).prev_of_role (λ i. last_key None (keys_of (of_role i) old)) (λ i. last_key None (keys_of (of_role i) (a ++ b))) k.roles small.0 k.last_of
             (λ i t. let same : x.step.role ≡ i = eqb-true x.step.role i t in
             subst (λ (n : ℕ). last_key None (keys_of (of_role n) (a ++ b)) ≡ (node_of old x).prev_of_role) same (last_goes (of_role x.step.role) a b x d (eq-eqb x.step.role x.step.role refl) final))
@@ -265,20 +264,20 @@ no_keys [] = refl
 no_keys (x ∷ es) = no_keys es
 
 module _ (es : List Entry) (m : (p q : ℕ) → length (keys_of (receives p q) es) ≤ length (keys_of (sends p q) es)) where
-  source_at : (p : ℕ) (a : Act) (source : Option ℕ) → IsSource es p a source → source ≡ slice_get (keys_of (unlike p a) es) (length (keys_of (like p a) es))
-  source_at p (Out to message) source h = h ∙ sym (slice_get_past (keys_of (receives p to) es) (length (keys_of (sends p to) es)) (m p to))
-  source_at p (In from slot) source h = h.0
-  source_at p (Mark name) source h = h ∙ sym (ap (λ c. slice_get c (length (keys_of (λ s. false) es))) (no_keys es))
+  source_at : (p : ℕ) (a : Effect) (source : Option ℕ) → IsSource es p a source → source ≡ slice_get (keys_of (unlike p a) es) (length (keys_of (like p a) es))
+  source_at p (Gives to message) source h = h ∙ sym (slice_get_past (keys_of (receives p to) es) (length (keys_of (sends p to) es)) (m p to))
+  source_at p (Takes from slot) source h = h.0
+  source_at p Idle source h = h ∙ sym (ap (λ c. slice_get c (length (keys_of (λ s. false) es))) (no_keys es))
 
-  sourced_at : (p : ℕ) (a : Act) (source : Option ℕ) → IsSource es p a source → (from : ℕ) → comes_from from a ≡ true → (k : ℕ) × (source ≡ Some k)
-  sourced_at p (Out to message) source h from e = absurd (false≢true e)
-  sourced_at p (In i slot) source h from e = some_of source h.1
-  sourced_at p (Mark name) source h from e = absurd (false≢true e)
+  sourced_at : (p : ℕ) (a : Effect) (source : Option ℕ) → IsSource es p a source → (from : ℕ) → takes_from from a ≡ true → (k : ℕ) × (source ≡ Some k)
+  sourced_at p (Gives to message) source h from e = absurd (false≢true e)
+  sourced_at p (Takes i slot) source h from e = some_of source h.1
+  sourced_at p Idle source h from e = absurd (false≢true e)
 
-end_is : (p : List (Option ℕ)) (es : List Entry) → ((i j : ℕ) → i < 8 → j < 8 → slice_index_or p (i * 8 + j) None ≡ last_key None (keys_of (sends i j) es)) → (r : ℕ) (a : Act) → r < 8 → IsSmallAct a → end_at p r (receiver a) ≡ last_key None (keys_of (like_sends r a) es)
-end_is p es h r (Out to message) lr la = h r to lr la
-end_is p es h r (In from slot) lr la = sym (ap (last_key None) (no_keys es))
-end_is p es h r (Mark name) lr la = sym (ap (last_key None) (no_keys es))
+end_is : (p : List (Option ℕ)) (es : List Entry) → ((i j : ℕ) → i < 8 → j < 8 → slice_index_or p (i * 8 + j) None ≡ last_key None (keys_of (sends i j) es)) → (r : ℕ) (a : Effect) → r < 8 → HasSmallPeer a → end_at p r (receiver a) ≡ last_key None (keys_of (like_sends r a) es)
+end_is p es h r (Gives to message) lr la = h r to lr la
+end_is p es h r (Takes from slot) lr la = sym (ap (last_key None) (no_keys es))
+end_is p es h r Idle lr la = sym (ap (last_key None) (no_keys es))
 
 module _ (look after : ℕ → Option Node) (size : ℕ) (f l : Option ℕ) (r p : List (Option ℕ)) (index : List ℕ) (es : List Entry) (k : IsKept look size f l r p index es) (s : Step) (before : Before) (source : Option ℕ) (key : ℕ) where
   abbrev pub entry : Entry
@@ -294,30 +293,30 @@ module _ (look after : ℕ → Option Node) (size : ℕ) (f l : Option ℕ) (r p
     next_of_role = None;
     prev_of_role = slice_index_or r s.role None;
     next_send = None;
-    prev_send = end_at p s.role (receiver s.act);
+    prev_send = end_at p s.role (receiver (effect s.act));
     mate = source;
     marked = false;
   }
 
-  behind_is : IsSmall s → IsSource es s.role s.act source → behind ≡ newcomer es entry
+  behind_is : IsSmall s → IsSource es s.role (effect s.act) source → behind ≡ newcomer es entry
   behind_is small h =
-      same_node behind (newcomer es entry) refl refl refl refl k.last refl (k.last_of s.role small.0) refl (end_is p es k.last_send s.role s.act small.0 small.1) (source_at es (matched_of es k.linked.fed) s.role s.act source h) refl
+      same_node behind (newcomer es entry) refl refl refl refl k.last refl (k.last_of s.role small.0) refl (end_is p es k.last_send s.role (effect s.act) small.0 small.1) (source_at es (matched_of es k.linked.fed) s.role (effect s.act) source h) refl
 
-  pub kept_add : IsSmall s → s.id ≡ length index + 1 → IsSource es s.role s.act source → look key ≡ None
+  pub kept_add : IsSmall s → s.id ≡ length index + 1 → IsSource es s.role (effect s.act) source → look key ≡ None
       → ((i : ℕ) → after i ≡ option_map (joined behind key i) (cond (key == i) (Some behind) (look i)))
-      → IsKept after (size + 1) (option_or f (Some key)) (Some key) (slice_set r s.role (Some key)) (with_end p s.role (receiver s.act) (Some key)) (index ++ key ∷ []) (es ++ entry ∷ [])
+      → IsKept after (size + 1) (option_or f (Some key)) (Some key) (slice_set r s.role (Some key)) (with_end p s.role (receiver (effect s.act)) (Some key)) (index ++ key ∷ []) (es ++ entry ∷ [])
   kept_add small number h vacant is =
       let same = behind_is small h in
       let fresh : entry_at key es ≡ None = none_at (node_of es) (entry_at key es) (sym (k.linked.nodes key) ∙ vacant) in
       kept_push look after size f l r p index es k entry small number fresh
       (subst (λ (n : Node). (i : ℕ) → after i ≡ option_map (joined n key i) (cond (key == i) (Some n) (look i))) same is)
-      (λ i j t. let w = sourced_at es (matched_of es k.linked.fed) s.role s.act source h i (and_parts (s.role == j) (comes_from i s.act) t).1 in
-      (w.0, sym (source_at es (matched_of es k.linked.fed) s.role s.act source h) ∙ w.1))
+      (λ i j t. let w = sourced_at es (matched_of es k.linked.fed) s.role (effect s.act) source h i (and_parts (s.role == j) (takes_from i (effect s.act)) t).1 in
+      (w.0, sym (source_at es (matched_of es k.linked.fed) s.role (effect s.act) source h) ∙ w.1))
 
-unreceived_at : (es : List Entry) (x : Entry) (a : Act) → IsUnreceived es x a → (q : ℕ) → goes_to q a ≡ true → mate_of es x ≡ None
-unreceived_at es x (Out to message) h q e = h
-unreceived_at es x (In from slot) h q e = absurd (false≢true e)
-unreceived_at es x (Mark name) h q e = absurd (false≢true e)
+unreceived_at : (es : List Entry) (x : Entry) (a : Effect) → IsUnreceived es x a → (q : ℕ) → gives_to q a ≡ true → mate_of es x ≡ None
+unreceived_at es x (Gives to message) h q e = h
+unreceived_at es x (Takes from slot) h q e = absurd (false≢true e)
+unreceived_at es x Idle h q e = absurd (false≢true e)
 
 -- the entry of a node
 pub record Stands (es : List Entry) (j : ℕ) (node : Node) : Type 0 where
@@ -346,7 +345,7 @@ small_of look size f l r p index es k j node e =
 
 -- what is left where a node goes
 abbrev pub Left : (ℕ → Option Node) → ℕ → Option ℕ → Option ℕ → List (Option ℕ) → List (Option ℕ) → List ℕ → Node → List Entry → Type 0
-Left after left f l r p index node es = IsKept after left (cond (is_none node.prev) node.next f) (cond (is_none node.next) node.prev l) (slice_set r node.step.role node.prev_of_role) (with_end p node.step.role (receiver node.step.act) node.prev_send) index es
+Left after left f l r p index node es = IsKept after left (cond (is_none node.prev) node.next f) (cond (is_none node.next) node.prev l) (slice_set r node.step.role node.prev_of_role) (with_end p node.step.role (receiver (effect node.step.act)) node.prev_send) index es
 
 pub kept_remove : (look after : ℕ → Option Node) (size : ℕ) (f l : Option ℕ) (r p : List (Option ℕ)) (index : List ℕ) (es : List Entry) → IsKept look size f l r p index es
     → (left : ℕ) → left + 1 ≡ size → (j : ℕ) (node : Node) → look j ≡ Some node → CanGo es j
@@ -367,7 +366,7 @@ kept_remove look after size f l r p index es k left fewer j node e can is =
     (subst (λ (m : ℕ). (i : ℕ) → after i ≡ option_map (parted node i) (cond (m == i) None (look i))) (sym key) is) in
     let result : Left after left f l r p index (node_of whole x) (s.before ++ s.behind) =
     kept_without look after size f l r p index s.before s.behind x kw left fewer small fw.final
-    (λ i q t. unreceived_at whole x x.step.act fw.unreceived q (and_parts (x.step.role == i) (goes_to q x.step.act) t).1) now in
+    (λ i q t. unreceived_at whole x (effect x.step.act) fw.unreceived q (and_parts (x.step.role == i) (gives_to q (effect x.step.act)) t).1) now in
     let rest : s.before ++ s.behind ≡ filter (λ e. not (e.key == j)) es =
     sym (others_are j s.before s.behind x kw.linked.distinct key) ∙ ap (filter (λ e. not (e.key == j))) (sym s.parts) in
     subst (λ (n : Node). Left after left f l r p index n (filter (λ e. not (e.key == j)) es)) (sym nw)

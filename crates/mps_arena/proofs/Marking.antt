@@ -6,6 +6,7 @@ use Rattle.std.specs.List.{AllByRecursion}
 use Rattle.std.specs.Option.{option_map}
 use Rattle.std.proofs.lemmas.Bool.{cases_Bool}
 use Rattle.std.proofs.lemmas.List.{length-map}
+use Rattle.mps_base.specs.Effects.{effect}
 use Rattle.mps_base.specs.declared.action.Step.{Step}
 use Rattle.mps_history.specs.Steps.{sends, receives, IsRising}
 use Rattle.mps_arena.specs.declared.node.Node.{Node}
@@ -63,9 +64,9 @@ module _ (j : ℕ) (m : Bool) where
       (ap (key_before None y.key) (keys_marked any_step es))
       (ap (key_after y.key) (keys_marked (of_role y.step.role) es))
       (ap (key_before None y.key) (keys_marked (of_role y.step.role) es))
-      (ap (key_after y.key) (keys_marked (like_sends y.step.role y.step.act) es))
-      (ap (key_before None y.key) (keys_marked (like_sends y.step.role y.step.act) es))
-      (ap₂ (partner y.key) (keys_marked (like y.step.role y.step.act) es) (keys_marked (unlike y.step.role y.step.act) es))
+      (ap (key_after y.key) (keys_marked (like_sends y.step.role (effect y.step.act)) es))
+      (ap (key_before None y.key) (keys_marked (like_sends y.step.role (effect y.step.act)) es))
+      (ap₂ (partner y.key) (keys_marked (like y.step.role (effect y.step.act)) es) (keys_marked (unlike y.step.role (effect y.step.act)) es))
       refl
 
   module _ (look after : ℕ → Option Node) (size now : ℕ) (f l : Option ℕ) (r p : List (Option ℕ)) (index : List ℕ) (es : List Entry) (k : IsKept look size f l r p index es) where

@@ -4,11 +4,10 @@ use mathlib.Core.Path.{ap₂}
 use Rattle.std.specs.Prelude.{◌==◌, ◌||◌, slice_get}
 use Rattle.std.specs.List.{AllByRecursion}
 use Rattle.std.proofs.lemmas.Bool.{cond-false, or_parts, cases_Bool, eqb-true, and_parts, and_from, or_cases, false_from_ne_true, false≢true, both_ways}
-use Rattle.mps_base.specs.declared.action.Act.{Act}
-use Rattle.mps_base.specs.declared.action.Act.TheVariants.{Out, In, Mark}
+use Rattle.mps_base.specs.Effects.{Effect, Gives, Takes, Idle, effect}
 use Rattle.mps_base.specs.declared.action.Message.{Message}
 use Rattle.mps_base.specs.declared.action.Step.{Step}
-use Rattle.mps_history.specs.Steps.{goes_to, comes_from, sends, receives, IsRising}
+use Rattle.mps_history.specs.Steps.{gives_to, takes_from, sends, receives, IsRising}
 use Rattle.mps_arena.specs.Keys.{is_at, has, AreDistinct, partner}
 use Rattle.mps_arena.specs.Entries.{Entry, keys_of, any_step, of_role, like_sends, like, unlike, entry_at, steps, IsFed, IsSmall, AreSound}
 use Rattle.mps_arena.proofs.KeyLists.{AreDistinct-left, not_at, partner_present, partner_more, partner_waits, partner_last, partner_in, get_in, get_none, get_some, has-append_cases, once}
@@ -22,95 +21,95 @@ pub role_back : (s t : Step) → of_role s.role t ≡ true → of_role t.role s 
 role_back s t e = eq-eqb s.role t.role (sym (eqb-true t.role s.role e))
 
 -- what a test of acts says
-gives : (q : ℕ) (a : Act) → goes_to q a ≡ true → (m : Message) × (a ≡ Out q m)
-gives q (Out to m) e = (m, ap (λ (n : ℕ). Out n m) (eqb-true to q e))
-gives q (In from slot) e = absurd (false≢true e)
-gives q (Mark name) e = absurd (false≢true e)
+gives : (q : ℕ) (a : Effect) → gives_to q a ≡ true → (m : Message) × (a ≡ Gives q m)
+gives q (Gives to m) e = (m, ap (λ (n : ℕ). Gives n m) (eqb-true to q e))
+gives q (Takes from slot) e = absurd (false≢true e)
+gives q Idle e = absurd (false≢true e)
 
-takes : (p : ℕ) (a : Act) → comes_from p a ≡ true → (slot : _) × (a ≡ In p slot)
-takes p (Out to m) e = absurd (false≢true e)
-takes p (In from slot) e = (slot, ap (λ (n : ℕ). In n slot) (eqb-true from p e))
-takes p (Mark name) e = absurd (false≢true e)
+takes : (p : ℕ) (a : Effect) → takes_from p a ≡ true → (slot : _) × (a ≡ Takes p slot)
+takes p (Gives to m) e = absurd (false≢true e)
+takes p (Takes from slot) e = (slot, ap (λ (n : ℕ). Takes n slot) (eqb-true from p e))
+takes p Idle e = absurd (false≢true e)
 
-apart : (p q : ℕ) (a : Act) → goes_to q a ≡ true → comes_from p a ≡ true → ⊥
-apart p q (Out to m) e f = false≢true f
-apart p q (In from slot) e f = false≢true e
-apart p q (Mark name) e f = false≢true e
+apart : (p q : ℕ) (a : Effect) → gives_to q a ≡ true → takes_from p a ≡ true → ⊥
+apart p q (Gives to m) e f = false≢true f
+apart p q (Takes from slot) e f = false≢true e
+apart p q Idle e f = false≢true e
 
 -- a send's pair
-pub sends_pair : (p q : ℕ) (t : Step) → sends p q t ≡ true → (m : Message) × (t.role ≡ p) × (t.act ≡ Out q m)
+pub sends_pair : (p q : ℕ) (t : Step) → sends p q t ≡ true → (m : Message) × (t.role ≡ p) × (effect t.act ≡ Gives q m)
 sends_pair p q t e =
-    let w = and_parts (t.role == p) (goes_to q t.act) e in
-    let g = gives q t.act w.1 in
+    let w = and_parts (t.role == p) (gives_to q (effect t.act)) e in
+    let g = gives q (effect t.act) w.1 in
     (g.0, eqb-true t.role p w.0, g.1)
 
-pub receives_pair : (p q : ℕ) (t : Step) → receives p q t ≡ true → (slot : _) × (t.role ≡ q) × (t.act ≡ In p slot)
+pub receives_pair : (p q : ℕ) (t : Step) → receives p q t ≡ true → (slot : _) × (t.role ≡ q) × (effect t.act ≡ Takes p slot)
 receives_pair p q t e =
-    let w = and_parts (t.role == q) (comes_from p t.act) e in
-    let g = takes p t.act w.1 in
+    let w = and_parts (t.role == q) (takes_from p (effect t.act)) e in
+    let g = takes p (effect t.act) w.1 in
     (g.0, eqb-true t.role q w.0, g.1)
 
 abbrev pub sends_like : Step → Step → Bool
-sends_like s = like_sends s.role s.act
+sends_like s = like_sends s.role (effect s.act)
 
 abbrev pub own : Step → Step → Bool
-own s = like s.role s.act
+own s = like s.role (effect s.act)
 
 abbrev pub other : Step → Step → Bool
-other s = unlike s.role s.act
+other s = unlike s.role (effect s.act)
 
-sends_alike_at : (p : ℕ) (a : Act) (t : Step) → like_sends p a t ≡ true → like_sends p a ≡ like_sends t.role t.act
-sends_alike_at p (Out q m) t e = let w = sends_pair p q t e in sym (ap₂ like_sends w.1 w.2)
-sends_alike_at p (In from slot) t e = absurd (false≢true e)
-sends_alike_at p (Mark name) t e = absurd (false≢true e)
+sends_alike_at : (p : ℕ) (a : Effect) (t : Step) → like_sends p a t ≡ true → like_sends p a ≡ like_sends t.role (effect t.act)
+sends_alike_at p (Gives q m) t e = let w = sends_pair p q t e in sym (ap₂ like_sends w.1 w.2)
+sends_alike_at p (Takes from slot) t e = absurd (false≢true e)
+sends_alike_at p Idle t e = absurd (false≢true e)
 
 pub sends_alike : (s t : Step) → sends_like s t ≡ true → sends_like s ≡ sends_like t
-sends_alike s t e = sends_alike_at s.role s.act t e
+sends_alike s t e = sends_alike_at s.role (effect s.act) t e
 
-sends_self : (s : Step) (a : Act) (t : Step) → s.act ≡ a → like_sends s.role a t ≡ true → like_sends s.role a s ≡ true
-sends_self s (Out q m) t e h = and_from (s.role == s.role) (goes_to q s.act) (eq-eqb s.role s.role refl) (ap (goes_to q) e ∙ eq-eqb q q refl)
-sends_self s (In from slot) t e h = absurd (false≢true h)
-sends_self s (Mark name) t e h = absurd (false≢true h)
+sends_self : (s : Step) (a : Effect) (t : Step) → effect s.act ≡ a → like_sends s.role a t ≡ true → like_sends s.role a s ≡ true
+sends_self s (Gives q m) t e h = and_from (s.role == s.role) (gives_to q (effect s.act)) (eq-eqb s.role s.role refl) (ap (gives_to q) e ∙ eq-eqb q q refl)
+sends_self s (Takes from slot) t e h = absurd (false≢true h)
+sends_self s Idle t e h = absurd (false≢true h)
 
 pub sends_back : (s t : Step) → sends_like s t ≡ true → sends_like t s ≡ true
-sends_back s t e = ap (λ (f : Step → Bool). f s) (sym (sends_alike s t e)) ∙ sends_self s s.act t refl e
+sends_back s t e = ap (λ (f : Step → Bool). f s) (sym (sends_alike s t e)) ∙ sends_self s (effect s.act) t refl e
 
-alike_at : (p : ℕ) (a : Act) (t : Step) → like p a t ≡ true → (like p a ≡ own t) × (unlike p a ≡ other t)
-alike_at p (Out q m) t e = let w = sends_pair p q t e in (sym (ap₂ like w.1 w.2), sym (ap₂ unlike w.1 w.2))
-alike_at p (In from slot) t e = let w = receives_pair from p t e in (sym (ap₂ like w.1 w.2), sym (ap₂ unlike w.1 w.2))
-alike_at p (Mark name) t e = absurd (false≢true e)
+alike_at : (p : ℕ) (a : Effect) (t : Step) → like p a t ≡ true → (like p a ≡ own t) × (unlike p a ≡ other t)
+alike_at p (Gives q m) t e = let w = sends_pair p q t e in (sym (ap₂ like w.1 w.2), sym (ap₂ unlike w.1 w.2))
+alike_at p (Takes from slot) t e = let w = receives_pair from p t e in (sym (ap₂ like w.1 w.2), sym (ap₂ unlike w.1 w.2))
+alike_at p Idle t e = absurd (false≢true e)
 
-across_at : (p : ℕ) (a : Act) (t : Step) → unlike p a t ≡ true → (like p a ≡ other t) × (unlike p a ≡ own t)
-across_at p (Out q m) t e = let w = receives_pair p q t e in (sym (ap₂ unlike w.1 w.2), sym (ap₂ like w.1 w.2))
-across_at p (In from slot) t e = let w = sends_pair from p t e in (sym (ap₂ unlike w.1 w.2), sym (ap₂ like w.1 w.2))
-across_at p (Mark name) t e = absurd (false≢true e)
+across_at : (p : ℕ) (a : Effect) (t : Step) → unlike p a t ≡ true → (like p a ≡ other t) × (unlike p a ≡ own t)
+across_at p (Gives q m) t e = let w = receives_pair p q t e in (sym (ap₂ unlike w.1 w.2), sym (ap₂ like w.1 w.2))
+across_at p (Takes from slot) t e = let w = sends_pair from p t e in (sym (ap₂ unlike w.1 w.2), sym (ap₂ like w.1 w.2))
+across_at p Idle t e = absurd (false≢true e)
 
 pub alike : (s t : Step) → own s t ≡ true → (own s ≡ own t) × (other s ≡ other t)
-alike s t e = alike_at s.role s.act t e
+alike s t e = alike_at s.role (effect s.act) t e
 
 pub across : (s t : Step) → other s t ≡ true → (own s ≡ other t) × (other s ≡ own t)
-across s t e = across_at s.role s.act t e
+across s t e = across_at s.role (effect s.act) t e
 
-self_at : (s : Step) (a : Act) (t : Step) → s.act ≡ a → like s.role a t ≡ true → like s.role a s ≡ true
-self_at s (Out q m) t e h = and_from (s.role == s.role) (goes_to q s.act) (eq-eqb s.role s.role refl) (ap (goes_to q) e ∙ eq-eqb q q refl)
-self_at s (In from slot) t e h = and_from (s.role == s.role) (comes_from from s.act) (eq-eqb s.role s.role refl) (ap (comes_from from) e ∙ eq-eqb from from refl)
-self_at s (Mark name) t e h = absurd (false≢true h)
+self_at : (s : Step) (a : Effect) (t : Step) → effect s.act ≡ a → like s.role a t ≡ true → like s.role a s ≡ true
+self_at s (Gives q m) t e h = and_from (s.role == s.role) (gives_to q (effect s.act)) (eq-eqb s.role s.role refl) (ap (gives_to q) e ∙ eq-eqb q q refl)
+self_at s (Takes from slot) t e h = and_from (s.role == s.role) (takes_from from (effect s.act)) (eq-eqb s.role s.role refl) (ap (takes_from from) e ∙ eq-eqb from from refl)
+self_at s Idle t e h = absurd (false≢true h)
 
-self_across : (s : Step) (a : Act) (t : Step) → s.act ≡ a → unlike s.role a t ≡ true → like s.role a s ≡ true
-self_across s (Out q m) t e h = and_from (s.role == s.role) (goes_to q s.act) (eq-eqb s.role s.role refl) (ap (goes_to q) e ∙ eq-eqb q q refl)
-self_across s (In from slot) t e h = and_from (s.role == s.role) (comes_from from s.act) (eq-eqb s.role s.role refl) (ap (comes_from from) e ∙ eq-eqb from from refl)
-self_across s (Mark name) t e h = absurd (false≢true h)
+self_across : (s : Step) (a : Effect) (t : Step) → effect s.act ≡ a → unlike s.role a t ≡ true → like s.role a s ≡ true
+self_across s (Gives q m) t e h = and_from (s.role == s.role) (gives_to q (effect s.act)) (eq-eqb s.role s.role refl) (ap (gives_to q) e ∙ eq-eqb q q refl)
+self_across s (Takes from slot) t e h = and_from (s.role == s.role) (takes_from from (effect s.act)) (eq-eqb s.role s.role refl) (ap (takes_from from) e ∙ eq-eqb from from refl)
+self_across s Idle t e h = absurd (false≢true h)
 
-differ_at : (p : ℕ) (a : Act) (t : Step) → like p a t ≡ true → unlike p a t ≡ true → ⊥
-differ_at p (Out q m) t e f = apart p q t.act (and_parts (t.role == p) (goes_to q t.act) e).1 (and_parts (t.role == q) (comes_from p t.act) f).1
-differ_at p (In from slot) t e f = apart from p t.act (and_parts (t.role == from) (goes_to p t.act) f).1 (and_parts (t.role == p) (comes_from from t.act) e).1
-differ_at p (Mark name) t e f = false≢true e
+differ_at : (p : ℕ) (a : Effect) (t : Step) → like p a t ≡ true → unlike p a t ≡ true → ⊥
+differ_at p (Gives q m) t e f = apart p q (effect t.act) (and_parts (t.role == p) (gives_to q (effect t.act)) e).1 (and_parts (t.role == q) (takes_from p (effect t.act)) f).1
+differ_at p (Takes from slot) t e f = apart from p (effect t.act) (and_parts (t.role == from) (gives_to p (effect t.act)) f).1 (and_parts (t.role == p) (takes_from from (effect t.act)) e).1
+differ_at p Idle t e f = false≢true e
 
 pub itself : (s t : Step) → own s t ≡ true → own s s ≡ true
-itself s t e = self_at s s.act t refl e
+itself s t e = self_at s (effect s.act) t refl e
 
 pub itself_across : (s t : Step) → other s t ≡ true → own s s ≡ true
-itself_across s t e = self_across s s.act t refl e
+itself_across s t e = self_across s (effect s.act) t refl e
 
 pub back : (s t : Step) → own s t ≡ true → own t s ≡ true
 back s t e = ap (λ (f : Step → Bool). f s) (sym (alike s t e).0) ∙ itself s t e
@@ -119,10 +118,10 @@ pub back_across : (s t : Step) → other s t ≡ true → other t s ≡ true
 back_across s t e = ap (λ (f : Step → Bool). f s) (sym (across s t e).0) ∙ itself_across s t e
 
 pub differ : (s t : Step) → own s t ≡ true → other s t ≡ false
-differ s t e = false_from_ne_true (other s t) (differ_at s.role s.act t e)
+differ s t e = false_from_ne_true (other s t) (differ_at s.role (effect s.act) t e)
 
 not_own : (s t : Step) → other s t ≡ true → own s t ≡ false
-not_own s t e = false_from_ne_true (own s t) (λ f. differ_at s.role s.act t f e)
+not_own s t e = false_from_ne_true (own s t) (λ f. differ_at s.role (effect s.act) t f e)
 
 none_across : (s : Step) (es : List Entry) → own s s ≡ false → keys_of (other s) es ≡ []
 none_across s [] n = refl
@@ -279,15 +278,15 @@ module _ (a b : List Entry) (x : Entry) (d : AreDistinct (keys_of any_step (a ++
       (cases_Bool (sends p q x.step))
 
 -- the steps of the chains of a role are its steps
-pub own_role : (p : ℕ) (a : Act) (s : Step) → like p a s ≡ true → of_role p s ≡ true
-own_role p (Out q m) s e = (and_parts (s.role == p) (goes_to q s.act) e).0
-own_role p (In from slot) s e = (and_parts (s.role == p) (comes_from from s.act) e).0
-own_role p (Mark name) s e = absurd (false≢true e)
+pub own_role : (p : ℕ) (a : Effect) (s : Step) → like p a s ≡ true → of_role p s ≡ true
+own_role p (Gives q m) s e = (and_parts (s.role == p) (gives_to q (effect s.act)) e).0
+own_role p (Takes from slot) s e = (and_parts (s.role == p) (takes_from from (effect s.act)) e).0
+own_role p Idle s e = absurd (false≢true e)
 
-pub sends_role : (p : ℕ) (a : Act) (s : Step) → like_sends p a s ≡ true → of_role p s ≡ true
-sends_role p (Out q m) s e = (and_parts (s.role == p) (goes_to q s.act) e).0
-sends_role p (In from slot) s e = absurd (false≢true e)
-sends_role p (Mark name) s e = absurd (false≢true e)
+pub sends_role : (p : ℕ) (a : Effect) (s : Step) → like_sends p a s ≡ true → of_role p s ≡ true
+sends_role p (Gives q m) s e = (and_parts (s.role == p) (gives_to q (effect s.act)) e).0
+sends_role p (Takes from slot) s e = absurd (false≢true e)
+sends_role p Idle s e = absurd (false≢true e)
 
 pub sends_chain : (p q : ℕ) (t : Step) → sends p q t ≡ true → sends_like t ≡ sends p q
 sends_chain p q t e = let w = sends_pair p q t e in ap₂ like_sends w.1 w.2

@@ -3,6 +3,7 @@ use Rattle.std.proofs.Common.{◌≡◌, ℕ, Bool, true, false, List, [], ◌�
 use Rattle.std.specs.Prelude.{◌==◌}
 use Rattle.std.specs.Option.{option_map}
 use Rattle.std.proofs.lemmas.Bool.{cases_Bool, eqb-true, false_from_ne_true, both_ways}
+use Rattle.mps_base.specs.Effects.{effect}
 use Rattle.mps_base.specs.declared.action.Step.{Step}
 use Rattle.mps_history.specs.Steps.{sends, receives}
 use Rattle.mps_arena.specs.declared.node.Node.{Node}
@@ -157,12 +158,12 @@ module _ (look after : ℕ → Option Node) (a b : List Entry) (x : Entry) (n : 
   none_later = role_ends a b x n.distinct final
 
   own_ends : keys_of (own x.step) b ≡ []
-  own_ends = none_of (of_role x.step.role) (own x.step) b (own_role x.step.role x.step.act) none_later
+  own_ends = none_of (of_role x.step.role) (own x.step) b (own_role x.step.role (effect x.step.act)) none_later
 
   pub sends_ends : key_after x.key (keys_of (sends_like x.step) whole) ≡ None
   sends_ends =
       let p = sends_like x.step in
-      let last : keys_of p b ≡ [] = none_of (of_role x.step.role) p b (sends_role x.step.role x.step.act) none_later in
+      let last : keys_of p b ≡ [] = none_of (of_role x.step.role) p b (sends_role x.step.role (effect x.step.act)) none_later in
       ⊎_elim
       (λ (t : p x.step ≡ true).
       let is = keys_around p a b x t in

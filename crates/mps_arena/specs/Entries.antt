@@ -1,8 +1,7 @@
 -- What a caller sees of an arena: the steps in order, each with its key and whether it is marked.
 use Rattle.std.specs.Prelude.{◌≡◌, ◌++◌, ℕ, Bool, true, false, ◌==◌, List, map, Option, ◌<◌, ◌≤◌, length, ⊤, if◌then◌else◌}
 use Rattle.std.specs.List.{filter, find, AllByRecursion}
-use Rattle.mps_base.specs.declared.action.Act.{Act}
-use Rattle.mps_base.specs.declared.action.Act.TheVariants.{Out, In, Mark}
+use Rattle.mps_base.specs.Effects.{Effect, Gives, Takes, Idle, effect}
 use Rattle.mps_base.specs.declared.action.Step.{Step}
 use Rattle.mps_history.specs.Steps.{sends, receives, IsRising}
 use Rattle.mps_arena.specs.declared.node.Before.{Before}
@@ -34,35 +33,34 @@ any_step s = true
 abbrev pub of_role : ℕ → Step → Bool
 of_role p s = s.role == p
 
--- the sends of the pair, where the act of p is a send
-abbrev pub like_sends : ℕ → Act → Step → Bool
-like_sends p (Out to message) = sends p to
-like_sends p (In from slot) = λ s. false
-like_sends p (Mark name) = λ s. false
+-- the sends of the pair, where the effect of an act of p is to give a message
+abbrev pub like_sends : ℕ → Effect → Step → Bool
+like_sends p (Gives to message) = sends p to
+like_sends p effect = λ s. false
 
--- the sends or the receipts of the pair, as the act of p is
-abbrev pub like : ℕ → Act → Step → Bool
-like p (Out to message) = sends p to
-like p (In from slot) = receives from p
-like p (Mark name) = λ s. false
+-- the sends or the receipts of the pair, as the effect of an act of p is to give a message or to take one
+abbrev pub like : ℕ → Effect → Step → Bool
+like p (Gives to message) = sends p to
+like p (Takes from slot) = receives from p
+like p Idle = λ s. false
 
--- the other ends of what the act of p is: receipts of what it sends, sends of what it receives
-abbrev pub unlike : ℕ → Act → Step → Bool
-unlike p (Out to message) = receives p to
-unlike p (In from slot) = sends from p
-unlike p (Mark name) = λ s. false
+-- the other ends of these: receipts of what p gives, sends of what it takes
+abbrev pub unlike : ℕ → Effect → Step → Bool
+unlike p (Gives to message) = receives p to
+unlike p (Takes from slot) = sends from p
+unlike p Idle = λ s. false
 
 abbrev pub entry_at : ℕ → List Entry → Option Entry
 entry_at k es = find (λ e. e.key == k) es
 
 -- peers and roles are below 8
-abbrev pub IsSmallAct : Act → Type 0
-IsSmallAct (Out to message) = to < 8
-IsSmallAct (In from slot) = from < 8
-IsSmallAct (Mark name) = ⊤
+abbrev pub HasSmallPeer : Effect → Type 0
+HasSmallPeer (Gives to message) = to < 8
+HasSmallPeer (Takes from slot) = from < 8
+HasSmallPeer Idle = ⊤
 
 abbrev pub IsSmall : Step → Type 0
-IsSmall s = (s.role < 8) × IsSmallAct s.act
+IsSmall s = (s.role < 8) × HasSmallPeer (effect s.act)
 
 -- the entry, marked or not where it has that key
 abbrev pub with_mark : ℕ → Bool → Entry → Entry

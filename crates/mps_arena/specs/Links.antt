@@ -1,6 +1,7 @@
 -- The node of an entry: each link is a function of the entries.
 use Rattle.std.specs.Prelude.{◌≡◌, ◌==◌, ℕ, zero, suc, slice_get, List, Option, Some, None, if◌then◌else◌}
 use Rattle.std.specs.Option.{option_map, option_and_then}
+use Rattle.mps_base.specs.Effects.{effect}
 use Rattle.mps_arena.specs.declared.node.Node.{Node}
 use Rattle.mps_arena.specs.Keys.{is_at, key_after, key_before, partner, AreDistinct}
 use Rattle.mps_arena.specs.Entries.{Entry, keys_of, any_step, of_role, like_sends, like, unlike, entry_at, IsFed}
@@ -14,9 +15,9 @@ node_of es e = record {
   prev = key_before None e.key (keys_of any_step es);
   next_of_role = key_after e.key (keys_of (of_role e.step.role) es);
   prev_of_role = key_before None e.key (keys_of (of_role e.step.role) es);
-  next_send = key_after e.key (keys_of (like_sends e.step.role e.step.act) es);
-  prev_send = key_before None e.key (keys_of (like_sends e.step.role e.step.act) es);
-  mate = partner e.key (keys_of (like e.step.role e.step.act) es) (keys_of (unlike e.step.role e.step.act) es);
+  next_send = key_after e.key (keys_of (like_sends e.step.role (effect e.step.act)) es);
+  prev_send = key_before None e.key (keys_of (like_sends e.step.role (effect e.step.act)) es);
+  mate = partner e.key (keys_of (like e.step.role (effect e.step.act)) es) (keys_of (unlike e.step.role (effect e.step.act)) es);
   marked = e.marked;
 }
 

@@ -2,6 +2,7 @@
 ghost use Rattle.std.specs.Prelude.{◌≡◌, ◌+◌, ◌^◌, [], ◌∷◌, ◌++◌, ◌==◌, not, false, None, IsTrue, IsOk, OnOk, IfOk, IsSome, Some, map, length, slice_get, ◌<◌};
 ghost use Rattle.std.specs.Option.{option_map};
 ghost use Rattle.std.specs.List.{filter, find};
+ghost use Rattle.mps_base.specs.Effects.{effect};
 ghost use Rattle.mps_history.specs.Steps.{sends, without};
 ghost use Rattle.mps_arena.specs.Keys.{first_key, last_key};
 ghost use Rattle.mps_arena.specs.Entries.{steps, any_step, of_role, keys_of, entry_at, with_mark, IsSmall, AreSound};
@@ -71,7 +72,7 @@ impl Arena {
         requires ready { IsTrue self.old.is_ready }
         requires number { step.id ≡ self.old.issued + 1 }
         requires small { IsSmall step }
-        requires source { IsSource self.old.entries step.role step.act source }
+        requires source { IsSource self.old.entries step.role (effect step.act) source }
         ensures key { result ≡ self.old.next_key }
         ensures fresh { entry_at result self.old.entries ≡ None }
         ensures entries { self.new.entries ≡ self.old.entries

@@ -1,5 +1,6 @@
 //! Nodes: steps with their neighbours.
 ghost use Rattle.std.specs.Prelude.{◌≡◌, ◌<◌, ◌+◌, ◌^◌, ◌==◌, Some, None, is_none, IfOk, IsOk};
+ghost use Rattle.mps_base.specs.Effects.{effect};
 ghost use Rattle.mps_arena.specs.Receipts.{receipt_mate, source_mate};
 
 use mps_base::{Act, Step};
@@ -154,7 +155,7 @@ pub(crate) struct Node {
 
 /// The other end of a send.
 pub(crate) fn receipt_at(act: &Act, mate: Link) -> Option<Key>
-    ensures { result ≡ receipt_mate act.now mate }
+    ensures { result ≡ receipt_mate (effect act.now) mate }
 {
     match act {
         Act::Out { .. } => mate.key(),
@@ -164,7 +165,7 @@ pub(crate) fn receipt_at(act: &Act, mate: Link) -> Option<Key>
 
 /// The other end of a receipt.
 pub(crate) fn source_at(act: &Act, mate: Link) -> Option<Key>
-    ensures { result ≡ source_mate act.now mate }
+    ensures { result ≡ source_mate (effect act.now) mate }
 {
     match act {
         Act::In { .. } => mate.key(),

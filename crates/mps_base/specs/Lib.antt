@@ -8,3 +8,4 @@ pub mod Values
 pub mod RoleLists
 pub mod Spaced
 pub mod Sorts
+pub mod Effects

@@ -113,12 +113,13 @@ impl Message {
     }
 }
 
-/// What a role did. A receipt without a slot is a pick: it took a label.
+/// What a role did. A receipt without a slot is a pick: it took a label. A commit is a step that nothing takes back.
 #[derive(Debug, Drop)]
 pub enum Act {
     Out { to: Role, message: Message },
     In { from: Role, slot: Option<Name> },
     Mark(Name),
+    Commit,
 }
 
 impl Act {
@@ -136,6 +137,7 @@ impl Act {
                 slot: *slot,
             },
             Act::Mark(mark) => Act::Mark(*mark),
+            Act::Commit => Act::Commit,
         })
     }
 }

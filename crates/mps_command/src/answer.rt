@@ -36,6 +36,8 @@ pub enum Refusal {
     NoStep,
     #[error("the step is another role's")]
     NotYours,
+    #[error("step {} is a commit, which nothing takes back", by.number())]
+    Final { by: StepId },
     #[error("step {} depends on it", by.number())]
     Needed { by: StepId },
     #[error("no mark of this name survives")]

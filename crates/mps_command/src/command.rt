@@ -17,6 +17,8 @@ pub enum Forward {
     Pick { from: Role },
     /// Leave a checkpoint, to which the role can go back.
     Mark { name: Name },
+    /// Make this step, and with it all that it depends on, final: nothing takes it back.
+    Commit,
 }
 
 impl Forward {
@@ -39,6 +41,7 @@ impl Forward {
             },
             Forward::Pick { from } => Forward::Pick { from: *from },
             Forward::Mark { name } => Forward::Mark { name: *name },
+            Forward::Commit => Forward::Commit,
         })
     }
 }

@@ -2,20 +2,19 @@
 use Rattle.std.proofs.Common.{◌≡◌, ◌≢◌, ℕ, suc, ⊎_elim, Bool, true, false, List, [], ◌∷◌, ◌++◌, drop, cond, Option, Some, None, refl, sym, ap, ◌∙◌, subst}
 use Rattle.std.specs.Prelude.{◌==◌, ◌&&◌}
 use Rattle.std.proofs.lemmas.Bool.{cases_Bool, cases_eq, ne_eqb, eqb-true, eqb-false, eq-eqb}
-use Rattle.std.specs.Option.{option_map}
+use Rattle.mps_base.specs.Effects.{Effect, Gives, Takes, Idle, effect}
 use Rattle.mps_base.specs.Sorts.{fits}
 use Rattle.mps_base.specs.declared.action.Act.{Act}
-use Rattle.mps_base.specs.declared.action.Act.TheVariants.{Out, In, Mark}
 use Rattle.mps_base.specs.declared.action.Message.{Message}
 use Rattle.mps_base.specs.declared.action.Message.TheVariants.{Value as Plain, Label}
 use Rattle.mps_base.specs.declared.action.Step.{Step}
-use Rattle.mps_history.specs.Steps.{goes_to, comes_from, given}
+use Rattle.mps_history.specs.Steps.{gives_to, takes_from, messages_of}
 use Rattle.mps_local.specs.Actions.{branch_at}
 use Rattle.mps_local.specs.Local.{LocalType, Send, Recv, Select, Branch}
 use Rattle.mps_local.specs.Unfolding.{unfolded}
 use Rattle.mps_machine.specs.View.{Participant, View}
-use Rattle.mps_machine.specs.Rule.{first_of, moved, type_after, advanced, participant_after, view_after, rule, replay}
-use Rattle.mps_machine.proofs.Stepping.{map_some, rule_parts, replay_parts}
+use Rattle.mps_machine.specs.Rule.{first_of, moved_by_effect, moved, type_after_effect, to_come_after, participant_after, view_after, rule, replay}
+use Rattle.mps_machine.proofs.Stepping.{participant_parts, rule_parts, replay_parts}
 use Rattle.mps_fidelity.specs.Duality.{To, From, direction, after_message}
 use Rattle.mps_fidelity.proofs.Coherence.{Coherent, coherent_turned, coherent_less, coherent_moves, coherent_sends, coherent_receives}
 
@@ -27,47 +26,47 @@ one_test : (a : Bool) (o : Option LocalType) (y : LocalType) → cond a o None �
 one_test true o y e = (refl, e)
 one_test false o y e = absurd cc
 
--- what an allowed act gives or takes is the message that the type begins with
-data Moves (t u : LocalType) : Act → Option Message → Type 0 where
-  sends : (to : ℕ) (m : Message) (x : Option Message) → direction t ≡ To to → after_message t m ≡ Some u → Moves t u (Out to m) x
-  receives : (from : ℕ) (slot : Option (List ℕ)) (m : Message) → direction t ≡ From from → after_message t m ≡ Some u → Moves t u (In from slot) (Some m)
+-- what an allowed effect gives or takes is the message that the type begins with
+data Moves (t u : LocalType) : Effect → Option Message → Type 0 where
+  sends : (to : ℕ) (m : Message) (x : Option Message) → direction t ≡ To to → after_message t m ≡ Some u → Moves t u (Gives to m) x
+  receives : (from : ℕ) (slot : Option (List ℕ)) (m : Message) → direction t ≡ From from → after_message t m ≡ Some u → Moves t u (Takes from slot) (Some m)
 
-moves : (t : LocalType) (act : Act) (m : Option Message) (u : LocalType) → type_after t act m ≡ Some u → Moves t u act m
-moves (Send peer sort next) (Out to (Plain v)) m u e =
+moves : (t : LocalType) (does : Effect) (m : Option Message) (u : LocalType) → type_after_effect t does m ≡ Some u → Moves t u does m
+moves (Send peer sort next) (Gives to (Plain v)) m u e =
     let k = two_tests (to == peer) (fits v sort) next u e in
     sends to (Plain v) m (ap To (sym (eqb-true to peer k.0))) k.1
-moves (Select peer branches) (Out to (Label l)) m u e =
+moves (Select peer branches) (Gives to (Label l)) m u e =
     let k = one_test (to == peer) (branch_at l branches) u e in
     sends to (Label l) m (ap To (sym (eqb-true to peer k.0))) k.1
-moves (Recv peer sort next) (In from (Some slot)) (Some (Plain v)) u e =
+moves (Recv peer sort next) (Takes from (Some slot)) (Some (Plain v)) u e =
     let k = two_tests (from == peer) (fits v sort) next u e in
     receives from (Some slot) (Plain v) (ap From (sym (eqb-true from peer k.0))) k.1
-moves (Branch peer branches) (In from None) (Some (Label l)) u e =
+moves (Branch peer branches) (Takes from None) (Some (Label l)) u e =
     let k = one_test (from == peer) (branch_at l branches) u e in
     receives from None (Label l) (ap From (sym (eqb-true from peer k.0))) k.1
-moves t act m u e = absurd cc
+moves t does m u e = absurd cc
 
--- what an act of p does to p's two queues with q: the one to q, and the one from q
-abbrev pub out_after : ℕ → Act → List Message → List Message
-out_after q act out = cond (goes_to q act) (out ++ given act) out
+-- what an effect of p does to p's two queues with q: the one to q, and the one from q
+abbrev pub out_after : ℕ → Effect → List Message → List Message
+out_after q does out = cond (gives_to q does) (out ++ messages_of does) out
 
-abbrev pub back_after : ℕ → Act → List Message → List Message
-back_after q act back = cond (comes_from q act) (drop 1 back) back
+abbrev pub back_after : ℕ → Effect → List Message → List Message
+back_after q does back = cond (takes_from q does) (drop 1 back) back
 
--- an act of p that moves a message keeps p and q coherent
-moves_coherent : (n p q : ℕ) (t x u : LocalType) (act : Act) (m : Option Message) (out back : List Message) → Moves t x act m → ((slot : Option (List ℕ)) → act ≡ In q slot → m ≡ first_of back) → Coherent (suc n) p q out back t u → Coherent n p q (out_after q act out) (back_after q act back) (unfolded x) u
-moves_coherent n p q t x u act mo out back (sends to m y a b) f d =
+-- an effect of p that moves a message keeps p and q coherent
+moves_coherent : (n p q : ℕ) (t x u : LocalType) (does : Effect) (m : Option Message) (out back : List Message) → Moves t x does m → ((slot : Option (List ℕ)) → does ≡ Takes q slot → m ≡ first_of back) → Coherent (suc n) p q out back t u → Coherent n p q (out_after q does out) (back_after q does back) (unfolded x) u
+moves_coherent n p q t x u does mo out back (sends to m y a b) f d =
     ⊎_elim
     (λ (e : (to == q) ≡ true). rw e (coherent_sends n p q out back t u m x d (a ∙ ap To (eqb-true to q e)) b))
     (λ (e : (to == q) ≡ false).
     let ne = eqb-false to q e in
     rw e (coherent_moves n p q out back t u m x d (record { not_to = λ k. ne cc; not_from = λ k. cc }) b))
     (cases_Bool (to == q))
-moves_coherent n p q t x u act mo out back (receives from slot m a b) f d =
+moves_coherent n p q t x u does mo out back (receives from slot m a b) f d =
     ⊎_elim
     (λ (e : (from == q) ≡ true).
     let same : from ≡ q = eqb-true from q e in
-    rw e (takes back (f slot (ap (λ (k : ℕ). In k slot) same)) d (a ∙ ap From same)))
+    rw e (takes back (f slot (ap (λ (k : ℕ). Takes k slot) same)) d (a ∙ ap From same)))
     (λ (e : (from == q) ≡ false).
     let ne = eqb-false from q e in
     rw e (coherent_moves n p q out back t u m x d (record { not_to = λ k. cc; not_from = λ k. ne cc }) b))
@@ -77,22 +76,19 @@ moves_coherent n p q t x u act mo out back (receives from slot m a b) f d =
     takes [] g k i = absurd cc
     takes (k ∷ l) g h i = coherent_receives n p q out l t u k x h i (let same : m ≡ k = cc in subst (λ (z : Message). after_message t z ≡ Some x) same b)
 
--- an allowed act of p keeps p and q coherent
-act_coherent : (n p q : ℕ) (c d : Participant) (u : LocalType) (act : Act) (m : Option Message) (out back : List Message) → participant_after c act m ≡ Some d → ((slot : Option (List ℕ)) → act ≡ In q slot → m ≡ first_of back) → Coherent (suc n) p q out back (unfolded c.to_come) u → Coherent n p q (out_after q act out) (back_after q act back) (unfolded d.to_come) u
-act_coherent n p q c d u act m out back e f i = by_act act e f
-  where
-    moved_so : (act : Act) → option_map (advanced c act m) (type_after (unfolded c.to_come) act m) ≡ Some d → ((slot : Option (List ℕ)) → act ≡ In q slot → m ≡ first_of back) → Coherent n p q (out_after q act out) (back_after q act back) (unfolded d.to_come) u
-    moved_so act e f =
-        let k = map_some (advanced c act m) (type_after (unfolded c.to_come) act m) d e in
-        subst (λ (part : Participant). Coherent n p q (out_after q act out) (back_after q act back) (unfolded part.to_come) u) k.2
-        (moves_coherent n p q (unfolded c.to_come) k.0 u act m out back (moves (unfolded c.to_come) act m k.0 k.1) f i)
+-- an allowed effect of p keeps p and q coherent
+effect_coherent : (n p q : ℕ) (t x u : LocalType) (does : Effect) (m : Option Message) (out back : List Message) → to_come_after t does m ≡ Some x → ((slot : Option (List ℕ)) → does ≡ Takes q slot → m ≡ first_of back) → Coherent (suc n) p q out back (unfolded t) u → Coherent n p q (out_after q does out) (back_after q does back) (unfolded x) u
+effect_coherent n p q t x u Idle m out back e f i =
+    subst (λ (k : LocalType). Coherent n p q out back (unfolded k) u) (let same : t ≡ x = cc in same) (coherent_less n p q out back (unfolded t) u i)
+effect_coherent n p q t x u (Gives to y) m out back e f i = moves_coherent n p q (unfolded t) x u (Gives to y) m out back (moves (unfolded t) (Gives to y) m x e) f i
+effect_coherent n p q t x u (Takes from slot) m out back e f i = moves_coherent n p q (unfolded t) x u (Takes from slot) m out back (moves (unfolded t) (Takes from slot) m x e) f i
 
-    by_act : (act : Act) → participant_after c act m ≡ Some d → ((slot : Option (List ℕ)) → act ≡ In q slot → m ≡ first_of back) → Coherent n p q (out_after q act out) (back_after q act back) (unfolded d.to_come) u
-    by_act (Mark name) e f =
-        subst (λ (part : Participant). Coherent n p q out back (unfolded part.to_come) u) (let same : advanced c (Mark name) m c.to_come ≡ d = cc in same)
-        (coherent_less n p q out back (unfolded c.to_come) u i)
-    by_act (Out to x) e f = moved_so (Out to x) e f
-    by_act (In from slot) e f = moved_so (In from slot) e f
+-- and so does an allowed act
+act_coherent : (n p q : ℕ) (c d : Participant) (u : LocalType) (act : Act) (m : Option Message) (out back : List Message) → participant_after c act m ≡ Some d → ((slot : Option (List ℕ)) → effect act ≡ Takes q slot → m ≡ first_of back) → Coherent (suc n) p q out back (unfolded c.to_come) u → Coherent n p q (out_after q (effect act) out) (back_after q (effect act) back) (unfolded d.to_come) u
+act_coherent n p q c d u act m out back e f i =
+    let k = participant_parts c d act m e in
+    subst (λ (part : Participant). Coherent n p q (out_after q (effect act) out) (back_after q (effect act) back) (unfolded part.to_come) u) k.2
+    (effect_coherent n p q c.to_come k.0 u (effect act) m out back k.1 f i)
 
 -- two roles of a view
 abbrev pub AreCoherent : ℕ → (p q : ℕ) → View → Type 0
@@ -109,7 +105,7 @@ own_step n p q v s c ne e k d =
     let own : (p == s.role) ≡ true = eq-eqb p s.role (sym e) in
     let other : (q == s.role) ≡ false = ne_eqb q s.role (λ f. ne (sym (f ∙ e))) in
     let k' : participant_after (v.participant p) s.act (moved v p s.act) ≡ Some c = subst (λ (r : ℕ). participant_after (v.participant r) s.act (moved v r s.act) ≡ Some c) e k in
-    let start = act_coherent n p q (v.participant p) c (unfolded (v.participant q).to_come) s.act (moved v p s.act) (v.queue p q) (v.queue q p) k' (λ slot f. ap (moved v p) f) d in
+    let start = act_coherent n p q (v.participant p) c (unfolded (v.participant q).to_come) s.act (moved v p s.act) (v.queue p q) (v.queue q p) k' (λ slot f. ap (moved_by_effect v p) f) d in
     rw at (rw off (rw own (rw other start)))
 
 -- a step of a third role

@@ -3,3 +3,4 @@ pub mod Reaching
 pub mod Removal
 pub mod Pairing
 pub mod Slots
+pub mod Commits

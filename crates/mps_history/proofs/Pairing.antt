@@ -4,10 +4,9 @@ use Rattle.std.specs.Prelude.{◌==◌, ◌&&◌, nat_lt}
 use Rattle.std.specs.List.{filter}
 use Rattle.std.proofs.lemmas.Bool.{cases_Bool, and_left, and_parts, and_right, lt-ltb, le-ltb, false≢true}
 use Rattle.std.proofs.lemmas.List.Elements.{filter-append}
-use Rattle.mps_base.specs.declared.action.Act.{Act}
-use Rattle.mps_base.specs.declared.action.Act.TheVariants.{Out, In, Mark}
+use Rattle.mps_base.specs.Effects.{Effect, Gives, Takes, Idle, effect}
 use Rattle.mps_base.specs.declared.action.Step.{Step}
-use Rattle.mps_history.specs.Steps.{IsRising, goes_to, comes_from, sends, receives}
+use Rattle.mps_history.specs.Steps.{IsRising, gives_to, takes_from, goes_to, comes_from, sends, receives}
 use Rattle.mps_history.specs.Dependence.{sent_before, received_before, is_matched}
 use Rattle.mps_history.specs.Swaps.{is_matched_after}
 use Rattle.mps_history.proofs.Order.{at_member, from_members, rising_apart, IsRising-append_right}
@@ -27,16 +26,16 @@ before_place p a l s r =
     ∙ filter-same f p a (from_members (λ x. f x ≡ p x) a (λ x i. ap (λ k. k && p x) (lt-ltb x.id s.id (rising_apart a (s ∷ l) x s r i (inl refl)))))
 
 -- what gives something takes nothing
-gives_only : (p q : ℕ) (act : Act) → goes_to q act ≡ true → comes_from p act ≡ false
-gives_only p q (Out to message) e = refl
-gives_only p q (In from slot) e = absurd (false≢true e)
-gives_only p q (Mark name) e = absurd (false≢true e)
+gives_only : (p q : ℕ) (effect : Effect) → gives_to q effect ≡ true → takes_from p effect ≡ false
+gives_only p q (Gives to message) e = refl
+gives_only p q (Takes from slot) e = absurd (false≢true e)
+gives_only p q Idle e = absurd (false≢true e)
 
 pub pairing : (a b : List Step) (s t : Step) → IsRising (a ++ s ∷ t ∷ b) → is_matched (a ++ s ∷ t ∷ b) s t ≡ is_matched_after a s t
 pairing a b s t r =
     ⊎_elim
     (λ (y : sends s.role t.role s ≡ true).
-    let quiet : receives s.role t.role s ≡ false = and_right (s.role == t.role) (comes_from s.role s.act) (gives_only s.role t.role s.act (and_parts (s.role == s.role) (goes_to t.role s.act) y).1) in
+    let quiet : receives s.role t.role s ≡ false = and_right (s.role == t.role) (comes_from s.role s.act) (gives_only s.role t.role (effect s.act) (and_parts (s.role == s.role) (goes_to t.role s.act) y).1) in
     let h = a ++ s ∷ t ∷ b in
     let split : (a ++ s ∷ []) ++ t ∷ b ≡ h = append_assoc a (s ∷ []) (t ∷ b) in
     let none : filter (receives s.role t.role) (s ∷ []) ≡ [] = filter-none (receives s.role t.role) (s ∷ []) (quiet, tt) in

@@ -1,8 +1,8 @@
 -- What filters keep, and what a new last step has to do with the others.
-use Rattle.std.proofs.Common.{◌≡◌, ◌<◌, Bool, true, false, List, [], ◌∷◌, ◌++◌, cond, refl, ap, ◌∙◌, arith, ⊎_elim, inl, eq-eqb, not, append-nil}
+use Rattle.std.proofs.Common.{◌≡◌, ◌<◌, Bool, true, false, List, [], ◌∷◌, ◌++◌, cond, refl, sym, ap, ◌∙◌, arith, ⊎_elim, inl, eq-eqb, not, append-nil}
 use Rattle.std.specs.Prelude.{◌==◌}
 use Rattle.std.specs.List.{filter, AllByRecursion}
-use Rattle.std.proofs.lemmas.Bool.{cond-true, cond-false, ne_eqb, false_from_ne_true}
+use Rattle.std.proofs.lemmas.Bool.{cases_Bool, cond-true, cond-false, ne_eqb, false≢true, false_from_ne_true}
 use Rattle.std.proofs.lemmas.List.Elements.{filter-append}
 use Rattle.mps_base.specs.declared.action.Step.{Step}
 use Rattle.mps_history.specs.Steps.{IsIn, IsRising, without, within}
@@ -22,6 +22,17 @@ filter-all p (x ∷ h) a = cond-true (p x) (x ∷ filter p h) (filter p h) a.0 �
 pub filter-same : (p q : Step → Bool) (h : List Step) → AllByRecursion (λ t. p t ≡ q t) h → filter p h ≡ filter q h
 filter-same p q [] a = refl
 filter-same p q (x ∷ h) a = ap (λ (l : List Step). cond (p x) (x ∷ l) l) (filter-same p q h a.1) ∙ ap (λ (b : Bool). cond b (x ∷ filter q h) (filter q h)) a.0
+
+-- a filter passes over what a weaker filter took out
+pub filter-filter : (f g : Step → Bool) (h : List Step) → AllByRecursion (λ t. f t ≡ true → g t ≡ true) h → filter f (filter g h) ≡ filter f h
+filter-filter f g [] a = refl
+filter-filter f g (x ∷ h) a =
+    ⊎_elim
+    (λ (y : g x ≡ true). rw y (ap (λ l. cond (f x) (x ∷ l) l) (filter-filter f g h a.1)))
+    (λ (n : g x ≡ false).
+    let no : f x ≡ false = false_from_ne_true (f x) (λ e. false≢true (sym n ∙ a.0 e)) in
+    rw n (filter-filter f g h a.1 ∙ sym (cond-false (f x) (x ∷ filter f h) (filter f h) no)))
+    (cases_Bool (g x))
 
 module _ (h : List Step) (s : Step) (rising : IsRising (h ++ s ∷ [])) where
   earlier_id : (t : Step) → IsIn t h → t.id < s.id

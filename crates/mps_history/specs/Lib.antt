@@ -2,3 +2,4 @@ pub mod Steps
 pub mod Dependence
 pub mod Swaps
 pub mod Slots
+pub mod Commits

@@ -3,21 +3,32 @@
 use Rattle.std.specs.Prelude.{◌≡◌, ℕ, ◌<◌, ◌⊎◌, Bool, false, ◌==◌, ◌&&◌, not, List, [], ◌∷◌, ◌++◌, map, length, drop, Option, ⊤}
 use Rattle.std.specs.List.{filter, find, AllByRecursion}
 use Rattle.mps_base.specs.declared.action.Act.{Act}
-use Rattle.mps_base.specs.declared.action.Act.TheVariants.{Out, In, Mark}
+use Rattle.mps_base.specs.Effects.{Effect, Gives, Takes, effect}
 use Rattle.mps_base.specs.declared.action.Message.{Message}
 use Rattle.mps_base.specs.declared.action.Step.{Step}
 
+-- the effect is to give q a value or a label
+abbrev pub gives_to : ℕ → Effect → Bool
+gives_to q (Gives to message) = to == q
+gives_to q effect = false
+
+-- the effect is to take a value or a label that came from p
+abbrev pub takes_from : ℕ → Effect → Bool
+takes_from p (Takes from slot) = from == p
+takes_from p effect = false
+
+-- the messages that come of the effect
+abbrev pub messages_of : Effect → List Message
+messages_of (Gives to message) = message ∷ []
+messages_of effect = []
+
 -- the act gives q a value or a label
 abbrev pub goes_to : ℕ → Act → Bool
-goes_to q (Out to message) = to == q
-goes_to q (In from slot) = false
-goes_to q (Mark name) = false
+goes_to q act = gives_to q (effect act)
 
 -- the act takes a value or a label that came from p
 abbrev pub comes_from : ℕ → Act → Bool
-comes_from p (Out to message) = false
-comes_from p (In from slot) = from == p
-comes_from p (Mark name) = false
+comes_from p act = takes_from p (effect act)
 
 -- p sends to q, a value or the label of a choice
 abbrev pub sends : ℕ → ℕ → Step → Bool
@@ -59,8 +70,7 @@ steps_of p h = filter (λ s. s.role == p) h
 
 -- the messages that an act gives
 abbrev pub given : Act → List Message
-given (Out to m) = m ∷ []
-given act = []
+given act = messages_of (effect act)
 
 -- the messages that the steps give, in order
 abbrev pub all_given : List Step → List Message

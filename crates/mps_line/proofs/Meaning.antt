@@ -13,7 +13,7 @@ use Rattle.mps_command.specs.declared.answer.Done.{Done}
 use Rattle.mps_command.specs.declared.answer.Answer.TheVariants.{Done as Accepted, Undone, News, Shown, Refused}
 use Rattle.mps_command.specs.declared.answer.Violation.TheVariants.{Ended, WrongAct, WrongPeer, WrongSort, NoLabel, NothingQueued, Mismatch}
 use Rattle.mps_command.specs.declared.answer.Refusal.{Refusal}
-use Rattle.mps_command.specs.declared.answer.Refusal.TheVariants.{Violation as Violates, NoStep, NotYours, Needed, NoMark, Full, Memory}
+use Rattle.mps_command.specs.declared.answer.Refusal.TheVariants.{Violation as Violates, NoStep, NotYours, Final, Needed, NoMark, Full, Memory}
 use Rattle.mps_line.specs.declared.reply.Reply.{Reply}
 use Rattle.mps_line.specs.declared.reply.Reply.TheVariants.{Answered, BadLine, Joined, NoSession, NoRole, Taken, Number as WrongNumber}
 use Rattle.mps_line.specs.Tokens.{Token, Word, Called, Number, Show, HasNoSpace, SpellsShow, SpellsToken, SpellsLine}
@@ -53,7 +53,7 @@ abbrev cause_tokens : Cause → List Token
 cause_tokens (Because r) = refusal_tokens r
 cause_tokens cause = Word (cause_word cause) ∷ []
 
--- the cause that the word is for, `needed` by step 0
+-- the cause that the word is for, `final` and `needed` by step 0
 abbrev meant : List ℕ → Option Cause
 meant word =
     if bytes_eq word (codes "ended") then Some (Because (Violates Ended))
@@ -65,6 +65,7 @@ meant word =
     else if bytes_eq word (codes "mismatch") then Some (Because (Violates Mismatch))
     else if bytes_eq word (codes "nostep") then Some (Because NoStep)
     else if bytes_eq word (codes "notyours") then Some (Because NotYours)
+    else if bytes_eq word (codes "final") then Some (Because (Final 0))
     else if bytes_eq word (codes "needed") then Some (Because (Needed 0))
     else if bytes_eq word (codes "nomark") then Some (Because NoMark)
     else if bytes_eq word (codes "full") then Some (Because Full)
@@ -78,6 +79,7 @@ meant word =
 
 -- the cause without its step
 abbrev plain : Cause → Cause
+plain (Because (Final by)) = Because (Final 0)
 plain (Because (Needed by)) = Because (Needed 0)
 plain c = c
 
@@ -91,6 +93,7 @@ meant_word (Because (Violates NothingQueued)) = refl
 meant_word (Because (Violates Mismatch)) = refl
 meant_word (Because NoStep) = refl
 meant_word (Because NotYours) = refl
+meant_word (Because (Final by)) = refl
 meant_word (Because (Needed by)) = refl
 meant_word (Because NoMark) = refl
 meant_word (Because Full) = refl
@@ -114,6 +117,7 @@ word_has_no_space (Violates NothingQueued) = search rules
 word_has_no_space (Violates Mismatch) = search rules
 word_has_no_space NoStep = search rules
 word_has_no_space NotYours = search rules
+word_has_no_space (Final by) = search rules
 word_has_no_space (Needed by) = search rules
 word_has_no_space NoMark = search rules
 word_has_no_space Full = search rules
@@ -129,6 +133,12 @@ cause_has_no_space Misnumbered = search rules
 
 pub done_has_no_space : HasNoSpace (codes "done")
 done_has_no_space = search rules
+
+pub final_has_no_space : HasNoSpace (codes "final")
+final_has_no_space = search rules
+
+pub needed_has_no_space : HasNoSpace (codes "needed")
+needed_has_no_space = search rules
 
 pub undone_has_no_space : HasNoSpace (codes "undone")
 undone_has_no_space = search rules
@@ -159,61 +169,77 @@ never_both a letters t u us p h k =
     let b = behind [] a t u us k in
     never_split letters b.1.front b.0 p (sym (alone [] a (Word letters) h) ∙ b.1.parts)
 
--- a cause has its word alone, or it is `needed` by a step
-alone_or_needed : (c : Cause) → (cause_tokens c ≡ Word (cause_word c) ∷ []) ⊎ ((by : ℕ) × (c ≡ Because (Needed by)))
-alone_or_needed (Because (Needed by)) = inr (by, refl)
-alone_or_needed (Because (Violates v)) = inl refl
-alone_or_needed (Because NoStep) = inl refl
-alone_or_needed (Because NotYours) = inl refl
-alone_or_needed (Because NoMark) = inl refl
-alone_or_needed (Because Full) = inl refl
-alone_or_needed (Because Memory) = inl refl
-alone_or_needed Unread = inl refl
-alone_or_needed Nowhere = inl refl
-alone_or_needed Nobody = inl refl
-alone_or_needed Used = inl refl
-alone_or_needed Misnumbered = inl refl
+-- a refusal has its word alone, or a step after it
+pub alone_or_step : (r : Refusal) → (refusal_tokens r ≡ Word (word_of r) ∷ []) ⊎ ((by : ℕ) × (refusal_tokens r ≡ Word (word_of r) ∷ Number by ∷ []))
+alone_or_step (Final by) = inr (by, refl)
+alone_or_step (Needed by) = inr (by, refl)
+alone_or_step (Violates v) = inl refl
+alone_or_step NoStep = inl refl
+alone_or_step NotYours = inl refl
+alone_or_step NoMark = inl refl
+alone_or_step Full = inl refl
+alone_or_step Memory = inl refl
 
--- a cause that names no step is plain
-is_plain : (c : Cause) → cause_tokens c ≡ Word (cause_word c) ∷ [] → plain c ≡ c
-is_plain (Because (Needed by)) e = absurd cc
-is_plain (Because (Violates v)) e = refl
-is_plain (Because NoStep) e = refl
-is_plain (Because NotYours) e = refl
-is_plain (Because NoMark) e = refl
-is_plain (Because Full) e = refl
-is_plain (Because Memory) e = refl
-is_plain Unread e = refl
-is_plain Nowhere e = refl
-is_plain Nobody e = refl
-is_plain Used e = refl
-is_plain Misnumbered e = refl
+-- the cause with this step, if it names one
+abbrev with_step : Cause → ℕ → Cause
+with_step (Because (Final by)) n = Because (Final n)
+with_step (Because (Needed by)) n = Because (Needed n)
+with_step c n = c
 
--- no line is such a word and `needed` with a step
-alone_nor_needed : (a : List ℕ) (c : Cause) (by : ℕ) → SpellsLine [] a (Word (cause_word c) ∷ []) → SpellsLine [] a (cause_tokens (Because (Needed by))) → ⊥
-alone_nor_needed a c by h k = never_both a (cause_word c) (Word (codes "needed")) (Number by) [] (cause_has_no_space c) h k
+-- a cause that names no step
+record Alone (c : Cause) : Type 0 where
+  tokens : cause_tokens c ≡ Word (cause_word c) ∷ []
+  is : plain c ≡ c
 
-one_step_needed : (a : List ℕ) (m n : ℕ) → SpellsLine [] a (cause_tokens (Because (Needed m))) → SpellsLine [] a (cause_tokens (Because (Needed n))) → m ≡ n
-one_step_needed a m n h k =
-    let b = one_word_first a (codes "needed") (Number m) [] (Number n) [] (word_has_no_space (Needed m)) h k in
-    one_number b.0 m n (alone [] b.0 (Number m) b.1) (alone [] b.0 (Number n) b.2)
+-- and one that names this step
+record Names (c : Cause) (by : ℕ) : Type 0 where
+  tokens : cause_tokens c ≡ Word (cause_word c) ∷ Number by ∷ []
+  is : with_step (plain c) by ≡ c
+
+names_or_not : (c : Cause) → Alone c ⊎ ((by : ℕ) × Names c by)
+names_or_not (Because (Final by)) = inr (by, record { tokens = refl; is = refl })
+names_or_not (Because (Needed by)) = inr (by, record { tokens = refl; is = refl })
+names_or_not (Because (Violates v)) = inl record { tokens = refl; is = refl }
+names_or_not (Because NoStep) = inl record { tokens = refl; is = refl }
+names_or_not (Because NotYours) = inl record { tokens = refl; is = refl }
+names_or_not (Because NoMark) = inl record { tokens = refl; is = refl }
+names_or_not (Because Full) = inl record { tokens = refl; is = refl }
+names_or_not (Because Memory) = inl record { tokens = refl; is = refl }
+names_or_not Unread = inl record { tokens = refl; is = refl }
+names_or_not Nowhere = inl record { tokens = refl; is = refl }
+names_or_not Nobody = inl record { tokens = refl; is = refl }
+names_or_not Used = inl record { tokens = refl; is = refl }
+names_or_not Misnumbered = inl record { tokens = refl; is = refl }
+
+-- no line is a word alone and a word with a step
+never_names : (a : List ℕ) (c d : Cause) (by : ℕ) → Alone c → Names d by → SpellsLine [] a (cause_tokens c) → SpellsLine [] a (cause_tokens d) → ⊥
+never_names a c d by e f h k =
+    never_both a (cause_word c) (Word (cause_word d)) (Number by) [] (cause_has_no_space c) (rw e.tokens at h) (rw f.tokens at k)
+
+-- a word and a step are one cause's
+one_named : (a : List ℕ) (c d : Cause) (m n : ℕ) → Names c m → Names d n → SpellsLine [] a (cause_tokens c) → SpellsLine [] a (cause_tokens d) → c ≡ d
+one_named a c d m n e f h k =
+    let b = word_behind [] a (cause_word c) (Number m) [] (rw e.tokens at h) in
+    let g = word_behind [] a (cause_word d) (Number n) [] (rw f.tokens at k) in
+    let same = one_split (cause_word c) (cause_word d) b.0 g.0 (cause_has_no_space c) (cause_has_no_space d) (sym b.1 ∙ g.1) in
+    let step = one_number b.0 m n (alone [] b.0 (Number m) b.2) (alone [] b.0 (Number n) (rw (sym same.1) at g.2)) in
+    sym e.is ∙ ap (λ (x : Cause). with_step x m) (one_word c d same.0) ∙ ap (with_step (plain d)) step ∙ f.is
 
 one_cause : (a : List ℕ) (c d : Cause) → SpellsLine [] a (cause_tokens c) → SpellsLine [] a (cause_tokens d) → c ≡ d
 one_cause a c d h k =
     ⊎_elim
-    (λ (e : cause_tokens c ≡ Word (cause_word c) ∷ []).
+    (λ (e : Alone c).
     ⊎_elim
-    (λ (f : cause_tokens d ≡ Word (cause_word d) ∷ []).
-    sym (is_plain c e) ∙ one_word c d (sym (alone [] a (Word (cause_word c)) (rw e at h)) ∙ alone [] a (Word (cause_word d)) (rw f at k)) ∙ is_plain d f)
-    (λ (n : (by : ℕ) × (d ≡ Because (Needed by))). absurd (alone_nor_needed a c n.0 (rw e at h) (subst (λ (x : Cause). SpellsLine [] a (cause_tokens x)) n.1 k)))
-    (alone_or_needed d))
-    (λ (m : (by : ℕ) × (c ≡ Because (Needed by))).
+    (λ (f : Alone d).
+    sym e.is ∙ one_word c d (sym (alone [] a (Word (cause_word c)) (rw e.tokens at h)) ∙ alone [] a (Word (cause_word d)) (rw f.tokens at k)) ∙ f.is)
+    (λ (n : (by : ℕ) × Names d by). absurd (never_names a c d n.0 e n.1 h k))
+    (names_or_not d))
+    (λ (m : (by : ℕ) × Names c by).
     ⊎_elim
-    (λ (f : cause_tokens d ≡ Word (cause_word d) ∷ []). absurd (alone_nor_needed a d m.0 (rw f at k) (subst (λ (x : Cause). SpellsLine [] a (cause_tokens x)) m.1 h)))
-    (λ (n : (by : ℕ) × (d ≡ Because (Needed by))).
-    m.1 ∙ ap (λ (by : ℕ). Because (Needed by)) (one_step_needed a m.0 n.0 (subst (λ (x : Cause). SpellsLine [] a (cause_tokens x)) m.1 h) (subst (λ (x : Cause). SpellsLine [] a (cause_tokens x)) n.1 k)) ∙ sym n.1)
-    (alone_or_needed d))
-    (alone_or_needed c)
+    (λ (f : Alone d). absurd (never_names a d c m.0 f m.1 k h))
+    (λ (n : (by : ℕ) × Names d by). one_named a c d m.0 n.0 m.1 n.1 h k)
+    (names_or_not d))
+    (names_or_not c)
 
 -- what stands after a number
 record SameNumber (m n : ℕ) (t : Token) (ts : List Token) (u : Token) (us : List Token) : Type 0 where
@@ -273,6 +299,7 @@ done_behind a letters id None h = word_behind [] a letters _ _ h
 done_behind a letters id (Some message) h = word_behind [] a letters _ _ h
 
 cause_behind : (a : List ℕ) (c : Cause) → SpellsReply a (reply_of c) → (rest : List ℕ) × (a ≡ spaced (codes "refused" ∷ rest ∷ [])) × SpellsLine [] rest (cause_tokens c)
+cause_behind a (Because (Final by)) h = word_behind [] a (codes "refused") _ _ h
 cause_behind a (Because (Needed by)) h = word_behind [] a (codes "refused") _ _ h
 cause_behind a (Because (Violates v)) h = word_behind [] a (codes "refused") _ _ h
 cause_behind a (Because NoStep) h = word_behind [] a (codes "refused") _ _ h

@@ -9,7 +9,7 @@ use Rattle.mps_base.specs.declared.value.Value.{Value}
 use Rattle.mps_command.specs.Changes.{change_of}
 use Rattle.mps_command.specs.declared.command.Command.{Command}
 use Rattle.mps_command.specs.declared.command.Command.TheVariants.{Forward, Undo, Rollback, Back, News, Show}
-use Rattle.mps_command.specs.declared.command.Forward.TheVariants.{Send, Choose, Receive, Pick, Mark}
+use Rattle.mps_command.specs.declared.command.Forward.TheVariants.{Send, Choose, Receive, Pick, Mark, Commit}
 use Rattle.mps_line.specs.declared.script.Verb.{Verb}
 use Rattle.mps_line.specs.declared.script.Verb.TheVariants as verbs
 use Rattle.mps_line.specs.Tokens.{Number, HasNoSpace, SpellsNumber, SpellsLine, BeginsWith}
@@ -32,6 +32,7 @@ letter_first verbs.Choose = omega arith
 letter_first verbs.Receive = omega arith
 letter_first verbs.Pick = omega arith
 letter_first verbs.Mark = omega arith
+letter_first verbs.Commit = omega arith
 letter_first verbs.Undo = omega arith
 letter_first verbs.Rollback = omega arith
 letter_first verbs.Back = omega arith
@@ -84,6 +85,7 @@ asks_is (Forward (Choose to label)) = refl
 asks_is (Forward (Receive from slot)) = refl
 asks_is (Forward (Pick from)) = refl
 asks_is (Forward (Mark name)) = refl
+asks_is (Forward Commit) = refl
 asks_is (Undo id) = refl
 asks_is (Rollback id) = refl
 asks_is (Back name) = refl

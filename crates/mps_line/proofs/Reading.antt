@@ -1,20 +1,20 @@
 -- What can't be read.
-use Rattle.std.proofs.Common.{arith, rules, ◌≡◌, ◌≢◌, ℕ, ◌<◌, ◌⊎◌, ⊎_elim, inl, inr, List, [], ◌∷◌, length, refl, sym, ap, ◌∙◌}
+use Rattle.std.proofs.Common.{arith, rules, ◌≡◌, ◌≢◌, ℕ, ◌<◌, ◌⊎◌, ⊎_elim, inl, inr, List, [], ◌∷◌, length, refl, sym, ap, subst, ◌∙◌}
 use Rattle.std.specs.Prelude.{Option, Some, None, Result, Ok, Err, IfOk, if◌then◌else◌, codes}
 use Rattle.std.specs.Str.{bytes_eq}
 use Rattle.std.proofs.lemmas.Option.{same_Some}
-use Rattle.mps_base.specs.Names.{IsName}
+use Rattle.mps_base.specs.Names.{IsName, IsNoneOf}
 use Rattle.mps_base.specs.Spaced.{spaced}
 use Rattle.mps_base.specs.declared.value.Value.{Value}
 use Rattle.mps_command.specs.declared.command.Command.{Command}
 use Rattle.mps_command.specs.declared.command.Command.TheVariants.{Forward, Undo, Rollback, Back, News, Show}
-use Rattle.mps_command.specs.declared.command.Forward.TheVariants.{Send, Choose, Receive, Pick, Mark}
+use Rattle.mps_command.specs.declared.command.Forward.TheVariants.{Send, Choose, Receive, Pick, Mark, Commit}
 use Rattle.mps_line.specs.declared.script.LineFault.{LineFault}
 use Rattle.mps_line.specs.declared.script.Verb.{Verb}
 use Rattle.mps_line.specs.declared.script.Verb.TheVariants as verbs
 use Rattle.mps_line.specs.Tokens.{Token, Word, RoleAt, Called, Number, Worth, HasNoSpace, SpellsRole, SpellsName, SpellsNumber, SpellsToken, SpellsLine, BeginsWith}
-use Rattle.mps_line.specs.Commands.{verb_word, verb_of, arguments, TakesArguments, SpellsCommand}
-use Rattle.mps_line.proofs.Splitting.{one_split, behind, joined, alone, line_of_one}
+use Rattle.mps_line.specs.Commands.{verb_word, verb_of, arguments, lone_verbs, TakesArguments, SpellsCommand}
+use Rattle.mps_line.proofs.Splitting.{one_split, never_split, behind, joined, alone, line_of_one}
 
 pub verb_has_no_space : (verb : Verb) → HasNoSpace (verb_word verb)
 verb_has_no_space verbs.Send = search rules
@@ -22,6 +22,7 @@ verb_has_no_space verbs.Choose = search rules
 verb_has_no_space verbs.Receive = search rules
 verb_has_no_space verbs.Pick = search rules
 verb_has_no_space verbs.Mark = search rules
+verb_has_no_space verbs.Commit = search rules
 verb_has_no_space verbs.Undo = search rules
 verb_has_no_space verbs.Rollback = search rules
 verb_has_no_space verbs.Back = search rules
@@ -36,6 +37,7 @@ meant word =
     else if bytes_eq word (codes "recv") then Some verbs.Receive
     else if bytes_eq word (codes "pick") then Some verbs.Pick
     else if bytes_eq word (codes "mark") then Some verbs.Mark
+    else if bytes_eq word (codes "commit") then Some verbs.Commit
     else if bytes_eq word (codes "undo") then Some verbs.Undo
     else if bytes_eq word (codes "rollback") then Some verbs.Rollback
     else if bytes_eq word (codes "back") then Some verbs.Back
@@ -49,6 +51,7 @@ meant_word verbs.Choose = refl
 meant_word verbs.Receive = refl
 meant_word verbs.Pick = refl
 meant_word verbs.Mark = refl
+meant_word verbs.Commit = refl
 meant_word verbs.Undo = refl
 meant_word verbs.Rollback = refl
 meant_word verbs.Back = refl
@@ -79,37 +82,40 @@ word_behind names bytes letters u ts h =
     let b = behind names bytes (Word letters) u ts h in
     (b.0, rw b.1.spelled at b.1.parts, b.2)
 
--- a command has an argument, or it is `show`
-pub shows_or_more : (command : Command) → (command ≡ Show) ⊎ TakesArguments command
-shows_or_more (Forward (Send to value)) = inr (omega arith)
-shows_or_more (Forward (Choose to label)) = inr (omega arith)
-shows_or_more (Forward (Receive from slot)) = inr (omega arith)
-shows_or_more (Forward (Pick from)) = inr (omega arith)
-shows_or_more (Forward (Mark name)) = inr (omega arith)
-shows_or_more (Undo id) = inr (omega arith)
-shows_or_more (Rollback id) = inr (omega arith)
-shows_or_more (Back name) = inr (omega arith)
-shows_or_more (News known) = inr (omega arith)
-shows_or_more Show = inl refl
+-- nothing stands after a command's verb, or something does
+pub alone_or_more : (command : Command) → (arguments command ≡ []) ⊎ TakesArguments command
+alone_or_more command = by_tokens (arguments command)
+  where
+    by_tokens : (ts : List Token) → (ts ≡ []) ⊎ (0 < length ts)
+    by_tokens [] = inl refl
+    by_tokens (t ∷ ts) = inr (omega arith)
 
-pub more_than_show : (command : Command) → (command ≡ Show → ⊥) → TakesArguments command
-more_than_show command other =
-    ⊎_elim (λ (e : command ≡ Show). absurd (other e)) (λ (k : TakesArguments command). k) (shows_or_more command)
+pub takes_none : (command : Command) → (TakesArguments command → ⊥) → arguments command ≡ []
+takes_none command none =
+    ⊎_elim (λ (e : arguments command ≡ []). e) (λ (more : TakesArguments command). absurd (none more)) (alone_or_more command)
 
--- the line of `show` is that word
-pub show_line : (names : List (List ℕ)) (bytes : List ℕ) → SpellsCommand names bytes Show → bytes ≡ codes "show"
-show_line names bytes h = alone names bytes (Word (codes "show")) h
+-- in the first case the line is that verb
+pub lone_line : (names : List (List ℕ)) (bytes : List ℕ) (command : Command) → arguments command ≡ [] → SpellsCommand names bytes command → bytes ≡ verb_word (verb_of command)
+lone_line names bytes command none h =
+    alone names bytes (Word (verb_word (verb_of command))) (subst (λ (ts : List Token). SpellsLine names bytes (Word (verb_word (verb_of command)) ∷ ts)) none h)
 
-pub show_read : (names : List (List ℕ)) (bytes : List ℕ) → bytes ≡ codes "show" → SpellsCommand names bytes Show
-show_read names bytes e = line_of_one names bytes (Word (codes "show")) e
+pub lone_read : (names : List (List ℕ)) (bytes : List ℕ) (command : Command) → arguments command ≡ [] → bytes ≡ verb_word (verb_of command) → SpellsCommand names bytes command
+lone_read names bytes command none e =
+    subst (λ (ts : List Token). SpellsLine names bytes (Word (verb_word (verb_of command)) ∷ ts)) (sym none) (line_of_one names bytes (Word (verb_word (verb_of command))) e)
 
--- another line has arguments
-pub some_arguments : (names : List (List ℕ)) (bytes : List ℕ) (command : Command) → bytes ≢ codes "show" → SpellsCommand names bytes command → TakesArguments command
-some_arguments names bytes command other h =
+-- and that verb is one of two
+no_lone : (bytes : List ℕ) (command : Command) → arguments command ≡ [] → IsNoneOf lone_verbs bytes → bytes ≢ verb_word (verb_of command)
+no_lone bytes (Forward Commit) none other e = other.0 e
+no_lone bytes Show none other e = other.1.0 e
+no_lone bytes command none other e = absurd cc
+
+-- a line with a space has arguments
+some_arguments : (names : List (List ℕ)) (bytes first rest : List ℕ) (command : Command) → bytes ≡ spaced (first ∷ rest ∷ []) → SpellsCommand names bytes command → TakesArguments command
+some_arguments names bytes first rest command e h =
     ⊎_elim
-    (λ (e : command ≡ Show). absurd (other (show_line names bytes (rw e at h))))
+    (λ (none : arguments command ≡ []). absurd (never_split (verb_word (verb_of command)) first rest (verb_has_no_space (verb_of command)) (sym (lone_line names bytes command none h) ∙ e)))
     (λ (k : TakesArguments command). k)
-    (shows_or_more command)
+    (alone_or_more command)
 
 pub command_parts : (names : List (List ℕ)) (bytes : List ℕ) (command : Command) → TakesArguments command → SpellsCommand names bytes command → HasVerb names bytes command
 command_parts names bytes command takes h = by_arguments (arguments command) takes h
@@ -127,18 +133,20 @@ command_of names bytes rest command e takes h = by_arguments (arguments command)
     by_arguments (u ∷ ts) some h = joined names bytes (Word (verb_word (verb_of command))) u ts rest (record { front = verb_word (verb_of command); parts = e; spelled = refl }) h
 
 -- a line of this verb with none of its arguments
-pub no_command : (names : List (List ℕ)) (bytes rest : List ℕ) (verb : Verb) → bytes ≡ spaced (verb_word verb ∷ rest ∷ []) → bytes ≢ codes "show" → ((command : Command) → verb_of command ≡ verb → TakesArguments command → SpellsLine names rest (arguments command) → ⊥) → (command : Command) → SpellsCommand names bytes command → ⊥
-no_command names bytes rest verb e other none command h =
-    let takes = some_arguments names bytes command other h in
+pub no_command : (names : List (List ℕ)) (bytes rest : List ℕ) (verb : Verb) → bytes ≡ spaced (verb_word verb ∷ rest ∷ []) → ((command : Command) → verb_of command ≡ verb → TakesArguments command → SpellsLine names rest (arguments command) → ⊥) → (command : Command) → SpellsCommand names bytes command → ⊥
+no_command names bytes rest verb e none command h =
+    let takes = some_arguments names bytes (verb_word verb) rest command e h in
     let k = command_parts names bytes command takes h in
     let same = one_verb bytes (verb_of command) verb k.rest rest k.parts e in
     none command same.0 takes (rw same.1 at k.spelled)
 
 -- a line of no verb
-pub no_verb : (names : List (List ℕ)) (bytes : List ℕ) → ((verb : Verb) (rest : List ℕ) → bytes ≢ spaced (verb_word verb ∷ rest ∷ [])) → bytes ≢ codes "show" → (command : Command) → SpellsCommand names bytes command → ⊥
+pub no_verb : (names : List (List ℕ)) (bytes : List ℕ) → ((verb : Verb) (rest : List ℕ) → bytes ≢ spaced (verb_word verb ∷ rest ∷ [])) → IsNoneOf lone_verbs bytes → (command : Command) → SpellsCommand names bytes command → ⊥
 no_verb names bytes none other command h =
-    let k = command_parts names bytes command (some_arguments names bytes command other h) h in
-    none (verb_of command) k.rest k.parts
+    ⊎_elim
+    (λ (e : arguments command ≡ []). no_lone bytes command e other (lone_line names bytes command e h))
+    (λ (takes : TakesArguments command). let k = command_parts names bytes command takes h in none (verb_of command) k.rest k.parts)
+    (alone_or_more command)
 
 -- none of the lines of this verb
 pub no_sending : (names : List (List ℕ)) (bytes : List ℕ) → ((to : ℕ) (value : Value) → SpellsLine names bytes (RoleAt to ∷ Worth value ∷ []) → ⊥) → (command : Command) → verb_of command ≡ verbs.Send → SpellsLine names bytes (arguments command) → ⊥

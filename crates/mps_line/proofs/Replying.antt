@@ -1,5 +1,5 @@
 -- What replies are read from.
-use Rattle.std.proofs.Common.{arith, ◌≡◌, ◌≢◌, ℕ, ◌<◌, List, [], ◌∷◌, ◌++◌, length, Some, get_or, append_assoc, refl, sym, ap, subst, ◌∙◌}
+use Rattle.std.proofs.Common.{arith, ◌≡◌, ◌≢◌, ℕ, ◌<◌, ◌⊎◌, ⊎_elim, List, [], ◌∷◌, ◌++◌, length, Some, get_or, append_assoc, refl, sym, ap, subst, ◌∙◌}
 use Rattle.std.specs.Prelude.{Option, None, IfSome, IfNone, map, codes}
 use Rattle.mps_base.specs.Names.{IsName, IsNoneOf}
 use Rattle.mps_base.specs.Spaced.{spaced}
@@ -12,7 +12,7 @@ use Rattle.mps_command.specs.declared.answer.Done.{Done}
 use Rattle.mps_command.specs.declared.answer.Answer.TheVariants.{Done as Accepted, Undone, News, Shown, Refused}
 use Rattle.mps_command.specs.declared.answer.Violation.{Violation}
 use Rattle.mps_command.specs.declared.answer.Refusal.{Refusal}
-use Rattle.mps_command.specs.declared.answer.Refusal.TheVariants.{Violation as Violates, NoStep, NotYours, Needed, NoMark, Full, Memory}
+use Rattle.mps_command.specs.declared.answer.Refusal.TheVariants.{Violation as Violates, NoStep, NotYours, Final, Needed, NoMark, Full, Memory}
 use Rattle.mps_line.specs.declared.reply.Reply.{Reply}
 use Rattle.mps_line.specs.declared.reply.Reply.TheVariants.{Answered, BadLine, Joined, NoSession, NoRole, Taken, Number as WrongNumber}
 use Rattle.mps_line.specs.Tokens.{Token, Word, Number, Show, HasNoSpace, SpellsNumber, SpellsToken, SpellsLine}
@@ -21,7 +21,7 @@ use Rattle.mps_line.proofs.Splitting.{one_split, never_split, digits_have_no_spa
 use Rattle.mps_line.proofs.Reading.{word_behind}
 use Rattle.mps_line.proofs.Shown.{some_reply}
 use Rattle.mps_line.proofs.Writing.{bad_line, no_session, no_role, taken, wrong_number}
-use Rattle.mps_line.proofs.Meaning.{letter, begins, word_has_no_space, undone_has_no_space, refused_has_no_space}
+use Rattle.mps_line.proofs.Meaning.{letter, begins, alone_or_step, word_has_no_space, undone_has_no_space, refused_has_no_space}
 
 -- ---- a word in front
 
@@ -203,29 +203,37 @@ parted_news rest front others n (i ∷ ids) e p h =
 -- ---- refusals
 
 pub some_refusal : (r : Refusal) → 0 < length (refusal_tokens r)
+some_refusal (Final by) = omega arith
 some_refusal (Needed by) = omega arith
 some_refusal r = omega arith
 
-pub needed_read : (bytes rest : List ℕ) (by : ℕ) → bytes ≡ spaced (codes "needed" ∷ rest ∷ []) → SpellsNumber rest by → SpellsLine [] bytes (refusal_tokens (Needed by))
-needed_read bytes rest by e h = word_in_front bytes (codes "needed") rest (Number by ∷ []) (omega arith) e (line_of_one [] rest (Number by) h)
+-- a word and a step after it
+pub step_read : (bytes rest letters : List ℕ) (by : ℕ) → bytes ≡ spaced (letters ∷ rest ∷ []) → SpellsNumber rest by → SpellsLine [] bytes (Word letters ∷ Number by ∷ [])
+step_read bytes rest letters by e h = word_in_front bytes letters rest (Number by ∷ []) (omega arith) e (line_of_one [] rest (Number by) h)
 
 pub violation_read : (bytes : List ℕ) (v : Violation) → bytes ≡ word_of (Violates v) → SpellsLine [] bytes (refusal_tokens (Violates v))
 violation_read bytes v e = line_of_one [] bytes (Word (word_of (Violates v))) e
 
--- `needed` with no number after it
-pub no_needed : (bytes rest : List ℕ) (r : Refusal) → bytes ≡ spaced (codes "needed" ∷ rest ∷ []) → ((n : ℕ) → SpellsNumber rest n → ⊥) → SpellsLine [] bytes (refusal_tokens r) → ⊥
-no_needed bytes rest (Needed by) e none h =
-    none by (alone [] rest (Number by) (rest_of_word bytes (codes "needed") rest (Number by ∷ []) (omega arith) (word_has_no_space (Needed by)) e h))
-no_needed bytes rest r e none h =
-    never_split (word_of r) (codes "needed") rest (word_has_no_space r) (sym (alone [] bytes (Word (word_of r)) h) ∙ e)
+-- a word with no number after it
+pub no_step_behind : (bytes letters rest : List ℕ) (r : Refusal) → HasNoSpace letters → bytes ≡ spaced (letters ∷ rest ∷ []) → ((n : ℕ) → SpellsNumber rest n → ⊥) → SpellsLine [] bytes (refusal_tokens r) → ⊥
+no_step_behind bytes letters rest r p e none h =
+    ⊎_elim
+    (λ (f : refusal_tokens r ≡ Word (word_of r) ∷ []).
+    never_split (word_of r) letters rest (word_has_no_space r) (sym (alone [] bytes (Word (word_of r)) (rw f at h)) ∙ e))
+    (λ (n : (by : ℕ) × (refusal_tokens r ≡ Word (word_of r) ∷ Number by ∷ [])).
+    let b = word_behind [] bytes (word_of r) (Number n.0) [] (rw n.1 at h) in
+    let same = one_split letters (word_of r) rest b.0 p (word_has_no_space r) (sym e ∙ b.1) in
+    none n.0 (alone [] rest (Number n.0) (rw (sym same.1) at b.2)))
+    (alone_or_step r)
 
 -- none of the refusals' words
-pub no_refusal : (bytes : List ℕ) (found : Option Refusal) → ((rest : List ℕ) → bytes ≢ spaced (codes "needed" ∷ rest ∷ [])) → ((v : Violation) → bytes ≢ word_of (Violates v)) → IfNone found (IsNoneOf lone_words bytes) → IfNone found ((r : Refusal) → SpellsLine [] bytes (refusal_tokens r) → ⊥)
-no_refusal bytes (Some r) needed violation none = tt
-no_refusal bytes None needed violation none = by_refusal
+pub no_refusal : (bytes : List ℕ) (found : Option Refusal) → ((rest : List ℕ) → bytes ≢ spaced (codes "needed" ∷ rest ∷ [])) → ((rest : List ℕ) → bytes ≢ spaced (codes "final" ∷ rest ∷ [])) → ((v : Violation) → bytes ≢ word_of (Violates v)) → IfNone found (IsNoneOf lone_words bytes) → IfNone found ((r : Refusal) → SpellsLine [] bytes (refusal_tokens r) → ⊥)
+no_refusal bytes (Some r) needed final violation none = tt
+no_refusal bytes None needed final violation none = by_refusal
   where
     by_refusal : (r : Refusal) → SpellsLine [] bytes (refusal_tokens r) → ⊥
     by_refusal (Needed by) h = no_word_in_front bytes (codes "needed") (Number by ∷ []) (omega arith) needed h
+    by_refusal (Final by) h = no_word_in_front bytes (codes "final") (Number by ∷ []) (omega arith) final h
     by_refusal (Violates v) h = violation v (alone [] bytes (Word (word_of (Violates v))) h)
     by_refusal NoStep h = none.0 (alone [] bytes (Word (codes "nostep")) h)
     by_refusal NotYours h = none.1.0 (alone [] bytes (Word (codes "notyours")) h)

@@ -13,13 +13,13 @@ use Rattle.mps_base.specs.declared.action.Message.TheVariants.{Value as Plain, L
 use Rattle.mps_base.proofs.Values.{shown}
 use Rattle.mps_command.specs.declared.answer.Violation.TheVariants.{Ended, WrongAct, WrongPeer, WrongSort, NoLabel, NothingQueued, Mismatch}
 use Rattle.mps_command.specs.declared.answer.Refusal.{Refusal}
-use Rattle.mps_command.specs.declared.answer.Refusal.TheVariants.{Violation as Violates, NoStep, NotYours, Needed, NoMark, Full, Memory}
+use Rattle.mps_command.specs.declared.answer.Refusal.TheVariants.{Violation as Violates, NoStep, NotYours, Final, Needed, NoMark, Full, Memory}
 use Rattle.mps_command.specs.declared.answer.Answer.{Answer}
 use Rattle.mps_command.specs.declared.answer.Answer.TheVariants.{Done, Undone, News, Shown, Refused}
 use Rattle.mps_command.specs.declared.command.Command.{Command}
 use Rattle.mps_command.specs.declared.command.Command.TheVariants.{Forward, Undo, Rollback, Back}
 use Rattle.mps_command.specs.declared.command.Command.TheVariants as commands
-use Rattle.mps_command.specs.declared.command.Forward.TheVariants.{Send, Choose, Receive, Pick, Mark}
+use Rattle.mps_command.specs.declared.command.Forward.TheVariants.{Send, Choose, Receive, Pick, Mark, Commit}
 use Rattle.mps_line.specs.declared.reply.Reply.{Reply}
 use Rattle.mps_line.specs.declared.reply.Reply.TheVariants.{Answered, BadLine, Joined, NoSession, NoRole, Taken, Number as WrongNumber}
 use Rattle.mps_line.specs.declared.script.Verb.{Verb}
@@ -84,6 +84,7 @@ shown_verb verbs.Choose = search rules
 shown_verb verbs.Receive = search rules
 shown_verb verbs.Pick = search rules
 shown_verb verbs.Mark = search rules
+shown_verb verbs.Commit = search rules
 shown_verb verbs.Undo = search rules
 shown_verb verbs.Rollback = search rules
 shown_verb verbs.Back = search rules
@@ -96,6 +97,7 @@ plain_arguments (Forward (Choose to label)) = (tt, (tt, tt))
 plain_arguments (Forward (Receive from slot)) = (tt, (tt, tt))
 plain_arguments (Forward (Pick from)) = (tt, tt)
 plain_arguments (Forward (Mark name)) = (tt, tt)
+plain_arguments (Forward Commit) = tt
 plain_arguments (Undo id) = (tt, tt)
 plain_arguments (Rollback id) = (tt, tt)
 plain_arguments (Back name) = (tt, tt)
@@ -127,6 +129,7 @@ shown_word (Violates NothingQueued) = search rules
 shown_word (Violates Mismatch) = search rules
 shown_word NoStep = search rules
 shown_word NotYours = search rules
+shown_word (Final by) = search rules
 shown_word (Needed by) = search rules
 shown_word NoMark = search rules
 shown_word Full = search rules
@@ -171,6 +174,7 @@ plain_done id None = (tt, tt)
 plain_done id (Some message) = (tt, (plain_message message, tt))
 
 plain_refusal : (r : Refusal) → AllByRecursion IsPlain (refusal_tokens r)
+plain_refusal (Final by) = (shown_word (Final by), (tt, tt))
 plain_refusal (Needed by) = (shown_word (Needed by), (tt, tt))
 plain_refusal r = (shown_word r, tt)
 

@@ -13,12 +13,11 @@ use Rattle.mps_base.proofs.Values.{same_spelling}
 use Rattle.mps_command.specs.declared.command.Command.{Command}
 use Rattle.mps_command.specs.declared.command.Command.TheVariants.{Forward, Undo, Rollback, Back, News}
 use Rattle.mps_command.specs.declared.command.Command.TheVariants as commands
-use Rattle.mps_command.specs.declared.command.Forward.TheVariants.{Send, Choose, Receive, Pick, Mark}
+use Rattle.mps_command.specs.declared.command.Forward.TheVariants.{Send, Choose, Receive, Pick, Mark, Commit}
 use Rattle.mps_line.specs.Tokens.{Token, Word, RoleAt, Called, Number, Worth, Show, SpellsRole, SpellsNumber, SpellsToken, SpellEach, SpellsLine, BeginsWith}
 use Rattle.mps_line.specs.Commands.{verb_word, verb_of, arguments, TakesArguments, SpellsCommand, SpellsScriptLine, NamesRolesOf}
 use Rattle.mps_line.proofs.Splitting.{one_split, never_split, name_has_no_space, behind, alone}
-use Rattle.mps_line.proofs.Reading.{verb_has_no_space, one_verb, shows_or_more, show_line, command_parts}
-use Rattle.mps_line.specs.declared.script.Verb.TheVariants as verbs
+use Rattle.mps_line.proofs.Reading.{verb_has_no_space, same_verb, one_verb, alone_or_more, lone_line, command_parts}
 
 -- ---- one spelling
 
@@ -102,6 +101,7 @@ module _ (one_value : (a : List ℕ) (v w : Value) → SpellsValue a v → Spell
   same_arguments names a (Back x) (Back y) distinct e h k = ap Back (one_name names a x y h k)
   same_arguments names a (News m) (News n) distinct e h k = ap News (one_step names a m n h k)
   same_arguments names a commands.Show commands.Show distinct e h k = refl
+  same_arguments names a (Forward Commit) (Forward Commit) distinct e h k = refl
   same_arguments names a (Undo m) (Forward (Mark y)) distinct e h k = absurd cc
   same_arguments names a (Rollback m) (Forward (Mark y)) distinct e h k = absurd cc
   same_arguments names a (Back x) (Forward (Mark y)) distinct e h k = absurd cc
@@ -116,26 +116,31 @@ module _ (one_value : (a : List ℕ) (v w : Value) → SpellsValue a v → Spell
       let same = one_verb a (verb_of c) (verb_of d) b.rest f.rest b.parts f.parts in
       same_arguments names b.rest c d distinct same.0 b.spelled (rw (sym same.1) at f.spelled)
 
-  -- no line is `show` and a command with arguments
-  never_shows : (names : List (List ℕ)) (a : List ℕ) (d : Command) → TakesArguments d → SpellsCommand names a commands.Show → SpellsCommand names a d → ⊥
-  never_shows names a d more h k =
+  -- no line is a verb alone and a command with arguments
+  never_both : (names : List (List ℕ)) (a : List ℕ) (c d : Command) → arguments c ≡ [] → TakesArguments d → SpellsCommand names a c → SpellsCommand names a d → ⊥
+  never_both names a c d none more h k =
       let f = command_parts names a d more k in
-      never_split (verb_word verbs.Show) (verb_word (verb_of d)) f.rest (verb_has_no_space verbs.Show) (sym (show_line names a h) ∙ f.parts)
+      never_split (verb_word (verb_of c)) (verb_word (verb_of d)) f.rest (verb_has_no_space (verb_of c)) (sym (lone_line names a c none h) ∙ f.parts)
+
+  same_lone : (names : List (List ℕ)) (a : List ℕ) (c d : Command) → AreDistinct names → arguments c ≡ [] → arguments d ≡ [] → SpellsCommand names a c → SpellsCommand names a d → c ≡ d
+  same_lone names a c d distinct none neither h k =
+      let nothing : SpellsLine names [] [] = record { spellings = []; joined = refl; each = tt } in
+      same_arguments names [] c d distinct (same_verb (verb_of c) (verb_of d) (sym (lone_line names a c none h) ∙ lone_line names a d neither k)) (subst (SpellsLine names []) (sym none) nothing) (subst (SpellsLine names []) (sym neither) nothing)
 
   pub same_command : (names : List (List ℕ)) (a : List ℕ) (c d : Command) → AreDistinct names → SpellsCommand names a c → SpellsCommand names a d → c ≡ d
   same_command names a c d distinct h k =
       ⊎_elim
-      (λ (e : c ≡ commands.Show).
+      (λ (none : arguments c ≡ []).
       ⊎_elim
-      (λ (f : d ≡ commands.Show). e ∙ sym f)
-      (λ (more : TakesArguments d). absurd (never_shows names a d more (rw e at h) k))
-      (shows_or_more d))
+      (λ (neither : arguments d ≡ []). same_lone names a c d distinct none neither h k)
+      (λ (more : TakesArguments d). absurd (never_both names a c d none more h k))
+      (alone_or_more d))
       (λ (more : TakesArguments c).
       ⊎_elim
-      (λ (f : d ≡ commands.Show). absurd (never_shows names a c more (rw f at k) h))
+      (λ (none : arguments d ≡ []). absurd (never_both names a d c none more k h))
       (λ (others : TakesArguments d). same_command_of_more names a c d distinct more others h k)
-      (shows_or_more d))
-      (shows_or_more c)
+      (alone_or_more d))
+      (alone_or_more c)
 
   pub same_line : (names : List (List ℕ)) (a : List ℕ) (p q : ℕ) (c d : Command) → AreDistinct names → SpellsScriptLine names a p c → SpellsScriptLine names a q d → (p ≡ q) × (c ≡ d)
   same_line names a p q c d distinct h k =
@@ -151,9 +156,9 @@ place_within names a role h peer e = rw (same_Some peer role (sym e)) (slice_get
 pub names_roles : (names : List (List ℕ)) (a : List ℕ) (c : Command) → SpellsCommand names a c → NamesRolesOf names c
 names_roles names a c h =
     ⊎_elim
-    (λ (e : c ≡ commands.Show). subst (NamesRolesOf names) (sym e) (λ peer f. absurd cc))
+    (λ (none : arguments c ≡ []). alone_names_none c none)
     (λ (more : TakesArguments c). let k = command_parts names a c more h in by_arguments c k.rest k.spelled)
-    (shows_or_more c)
+    (alone_or_more c)
   where
     first : (rest : List ℕ) (role : ℕ) (t : Token) → SpellsLine names rest (RoleAt role ∷ t ∷ []) → ForSome (Some role) (λ peer. peer < length names)
     first rest role t k = let b = behind names rest (RoleAt role) t [] k in place_within names b.1.front role b.1.spelled
@@ -164,3 +169,8 @@ names_roles names a c h =
     by_arguments (Forward (Receive from slot)) rest k = first rest from (Called slot) k
     by_arguments (Forward (Pick from)) rest k = place_within names rest from (alone names rest (RoleAt from) k)
     by_arguments c rest k = λ peer e. absurd cc
+
+    alone_names_none : (c : Command) → arguments c ≡ [] → NamesRolesOf names c
+    alone_names_none (Forward Commit) none = λ peer e. absurd cc
+    alone_names_none commands.Show none = λ peer e. absurd cc
+    alone_names_none c none = absurd cc

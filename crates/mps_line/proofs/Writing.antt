@@ -8,7 +8,7 @@ use Rattle.mps_base.specs.Appends.{Appends}
 use Rattle.mps_base.specs.declared.action.Message.{Message}
 use Rattle.mps_command.specs.Shown.{IsShownText}
 use Rattle.mps_command.specs.declared.answer.Answer.TheVariants.{Refused}
-use Rattle.mps_command.specs.declared.answer.Refusal.TheVariants.{Violation as Violates, NoStep, NotYours, Needed, NoMark, Full, Memory}
+use Rattle.mps_command.specs.declared.answer.Refusal.TheVariants.{Violation as Violates, NoStep, NotYours, NoMark, Full, Memory}
 use Rattle.mps_command.specs.declared.answer.Violation.{Violation}
 use Rattle.mps_line.specs.declared.reply.Reply.TheVariants.{Answered, BadLine, NoSession, NoRole, Taken, Number as WrongNumber}
 use Rattle.mps_line.specs.Replies.{word_of, done_tokens, news_tokens, SpellsReply}
@@ -63,12 +63,16 @@ show_written (Err e) old new bytes text h is shown = tt
 show_written (Ok x) old new bytes text h is shown =
     (bytes, h, line_of_one [] bytes (Show text) (record { is = is; allowed = rw is shown }))
 
+-- one token alone
+pub token_alone : {T E : Type 0} (names : List (List ℕ)) (r : Result T E) (old new : List ℕ) (t : Token) → OnOk r (Appends (λ text. SpellsToken names text t) old new) → OnOk r (Appends (λ text. SpellsLine names text (t ∷ [])) old new)
+token_alone names (Err e) old new t a = tt
+token_alone names (Ok x) old new t a = (a.0, a.1, line_of_one names a.0 t a.2)
+
 -- the step that stands in the way, after its words
-pub needed_before : {T E : Type 0} (r : Result T E) (old pushed new : List ℕ) (by : ℕ) → pushed ≡ old ++ codes "refused needed " → OnOk r (Appends (λ text. SpellsNumber text by) pushed new) → OnOk r (Appends (λ text. SpellsReply text (Answered (Refused (Needed by)))) old new)
-needed_before r old pushed new by e b =
-    written_more (λ text. SpellsNumber text by) (λ text. SpellsReply text (Answered (Refused (Needed by)))) r old pushed new (codes "refused needed ") e
-    (λ text k. joined [] (codes "refused needed " ++ text) (Word (codes "refused")) (Word (codes "needed")) (Number by ∷ []) (codes "needed " ++ text) (record { front = codes "refused"; parts = refl; spelled = refl })
-    (joined [] (codes "needed " ++ text) (Word (codes "needed")) (Number by) [] text (record { front = codes "needed"; parts = refl; spelled = refl }) (line_of_one [] text (Number by) k))) b
+pub step_before : {T E : Type 0} (r : Result T E) (old pushed new letters : List ℕ) (by : ℕ) → pushed ≡ old ++ (codes "refused " ++ (letters ++ 32 ∷ [])) → OnOk r (Appends (λ text. SpellsNumber text by) pushed new) → OnOk r (Appends (λ text. SpellsLine [] text (Word (codes "refused") ∷ Word letters ∷ Number by ∷ [])) old new)
+step_before r old pushed new letters by e b =
+    word_before [] r old (old ++ codes "refused ") new (codes "refused") (Word letters ∷ Number by ∷ []) (omega arith) refl
+    (word_before [] r (old ++ codes "refused ") pushed new letters (Number by ∷ []) (omega arith) (e ∙ sym (append_assoc old (codes "refused ") (letters ++ 32 ∷ []))) (token_alone [] r pushed new (Number by) b))
 
 -- a refusal that names no step
 pub no_step : SpellsReply (codes "refused nostep") (Answered (Refused NoStep))
@@ -104,11 +108,6 @@ taken = record { spellings = codes "refused" ∷ codes "taken" ∷ []; joined = 
 
 pub wrong_number : SpellsReply (codes "refused number") WrongNumber
 wrong_number = record { spellings = codes "refused" ∷ codes "number" ∷ []; joined = refl; each = (refl, (refl, tt)) }
-
--- one token alone
-pub token_alone : {T E : Type 0} (names : List (List ℕ)) (r : Result T E) (old new : List ℕ) (t : Token) → OnOk r (Appends (λ text. SpellsToken names text t) old new) → OnOk r (Appends (λ text. SpellsLine names text (t ∷ [])) old new)
-token_alone names (Err e) old new t a = tt
-token_alone names (Ok x) old new t a = (a.0, a.1, line_of_one names a.0 t a.2)
 
 -- a token after a line
 token_behind : (names : List (List ℕ)) (a b : List ℕ) (t : Token) (ts : List Token) (u : Token) → SpellsLine names a (t ∷ ts) → SpellsToken names b u → SpellsLine names (a ++ 32 ∷ b) (t ∷ (ts ++ u ∷ []))

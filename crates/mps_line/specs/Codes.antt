@@ -3,7 +3,7 @@ use Rattle.std.specs.Prelude.{ℕ}
 use Rattle.mps_command.specs.declared.answer.Violation.{Violation}
 use Rattle.mps_command.specs.declared.answer.Violation.TheVariants.{Ended, WrongAct, WrongPeer, WrongSort, NoLabel, NothingQueued, Mismatch}
 use Rattle.mps_command.specs.declared.answer.Refusal.{Refusal}
-use Rattle.mps_command.specs.declared.answer.Refusal.TheVariants.{Violation as Violates, NoStep, NotYours, Needed, NoMark, Full, Memory}
+use Rattle.mps_command.specs.declared.answer.Refusal.TheVariants.{Violation as Violates, NoStep, NotYours, Final, Needed, NoMark, Full, Memory}
 use Rattle.mps_command.specs.declared.answer.Answer.TheVariants.{Refused}
 use Rattle.mps_line.specs.declared.reply.Reply.{Reply}
 use Rattle.mps_line.specs.declared.reply.Reply.TheVariants.{Answered, BadLine, NoSession, NoRole, Taken, Number}
@@ -18,11 +18,12 @@ violation_code NoLabel = 5
 violation_code NothingQueued = 6
 violation_code Mismatch = 7
 
--- why a command was refused: 1 to 13
+-- why a command was refused: 1 to 13, or 18
 abbrev pub refusal_code : Refusal → ℕ
 refusal_code (Violates violation) = violation_code violation
 refusal_code NoStep = 8
 refusal_code NotYours = 9
+refusal_code (Final by) = 18
 refusal_code (Needed by) = 10
 refusal_code NoMark = 11
 refusal_code Full = 12

@@ -4,7 +4,7 @@ use Rattle.std.specs.Option.{ForSome}
 use Rattle.mps_command.specs.Changes.{change_of}
 use Rattle.mps_command.specs.declared.command.Command.{Command}
 use Rattle.mps_command.specs.declared.command.Command.TheVariants.{Forward, Undo, Rollback, Back, News, Show}
-use Rattle.mps_command.specs.declared.command.Forward.TheVariants.{Send, Choose, Receive, Pick, Mark}
+use Rattle.mps_command.specs.declared.command.Forward.TheVariants.{Send, Choose, Receive, Pick, Mark, Commit}
 use Rattle.mps_line.specs.declared.script.Verb.{Verb}
 use Rattle.mps_line.specs.declared.script.Verb.TheVariants as verbs
 use Rattle.mps_line.specs.Tokens.{Token, Word, RoleAt, Called, Number, Worth, SpellsLine}
@@ -16,6 +16,7 @@ verb_word verbs.Choose = codes "choose"
 verb_word verbs.Receive = codes "recv"
 verb_word verbs.Pick = codes "pick"
 verb_word verbs.Mark = codes "mark"
+verb_word verbs.Commit = codes "commit"
 verb_word verbs.Undo = codes "undo"
 verb_word verbs.Rollback = codes "rollback"
 verb_word verbs.Back = codes "back"
@@ -29,6 +30,7 @@ verb_of (Forward (Choose to label)) = verbs.Choose
 verb_of (Forward (Receive from slot)) = verbs.Receive
 verb_of (Forward (Pick from)) = verbs.Pick
 verb_of (Forward (Mark name)) = verbs.Mark
+verb_of (Forward Commit) = verbs.Commit
 verb_of (Undo id) = verbs.Undo
 verb_of (Rollback id) = verbs.Rollback
 verb_of (Back name) = verbs.Back
@@ -42,11 +44,16 @@ arguments (Forward (Choose to label)) = RoleAt to ∷ Called label ∷ []
 arguments (Forward (Receive from slot)) = RoleAt from ∷ Called slot ∷ []
 arguments (Forward (Pick from)) = RoleAt from ∷ []
 arguments (Forward (Mark name)) = Called name ∷ []
+arguments (Forward Commit) = []
 arguments (Undo id) = Number id ∷ []
 arguments (Rollback id) = Number id ∷ []
 arguments (Back name) = Called name ∷ []
 arguments (News known) = Number known ∷ []
 arguments Show = []
+
+-- the verbs after which nothing stands
+abbrev pub lone_verbs : List (List ℕ)
+lone_verbs = codes "commit" ∷ codes "show" ∷ []
 
 -- something stands after the verb
 abbrev pub TakesArguments : Command → Type 0
@@ -56,7 +63,7 @@ TakesArguments command = 0 < length (arguments command)
 abbrev pub command_tokens : Command → List Token
 command_tokens command = Word (verb_word (verb_of command)) ∷ arguments command
 
--- `send PEER VALUE`, `choose PEER LABEL`, `recv PEER SLOT`, `pick PEER`, `mark NAME`, `undo NUMBER`, `rollback NUMBER`, `back NAME`, `news NUMBER` or `show`
+-- `send PEER VALUE`, `choose PEER LABEL`, `recv PEER SLOT`, `pick PEER`, `mark NAME`, `commit`, `undo NUMBER`, `rollback NUMBER`, `back NAME`, `news NUMBER` or `show`
 abbrev pub SpellsCommand : (names : List (List ℕ)) → List ℕ → Command → Type 0
 SpellsCommand names bytes command = SpellsLine names bytes (command_tokens command)
 

@@ -4,7 +4,7 @@ use Rattle.mps_base.specs.declared.action.Message.{Message}
 use Rattle.mps_base.specs.declared.action.Message.TheVariants.{Value as Plain, Label}
 use Rattle.mps_command.specs.declared.answer.Violation.TheVariants.{Ended, WrongAct, WrongPeer, WrongSort, NoLabel, NothingQueued, Mismatch}
 use Rattle.mps_command.specs.declared.answer.Refusal.{Refusal}
-use Rattle.mps_command.specs.declared.answer.Refusal.TheVariants.{Violation as Violates, NoStep, NotYours, Needed, NoMark, Full, Memory}
+use Rattle.mps_command.specs.declared.answer.Refusal.TheVariants.{Violation as Violates, NoStep, NotYours, Final, Needed, NoMark, Full, Memory}
 use Rattle.mps_command.specs.declared.answer.Answer.{Answer}
 use Rattle.mps_command.specs.declared.answer.Answer.TheVariants.{Done, Undone, News, Shown, Refused}
 use Rattle.mps_line.specs.declared.reply.Reply.{Reply}
@@ -22,6 +22,7 @@ word_of (Violates NothingQueued) = codes "nothingqueued"
 word_of (Violates Mismatch) = codes "mismatch"
 word_of NoStep = codes "nostep"
 word_of NotYours = codes "notyours"
+word_of (Final by) = codes "final"
 word_of (Needed by) = codes "needed"
 word_of NoMark = codes "nomark"
 word_of Full = codes "full"
@@ -54,8 +55,9 @@ abbrev pub done_tokens : ℕ → Option Message → List Token
 done_tokens id None = Number id ∷ []
 done_tokens id (Some message) = Number id ∷ message_token message ∷ []
 
--- the word, and after `needed` the step's number
+-- the word, and after `final` or `needed` the step's number
 abbrev pub refusal_tokens : Refusal → List Token
+refusal_tokens (Final by) = Word (word_of (Final by)) ∷ Number by ∷ []
 refusal_tokens (Needed by) = Word (word_of (Needed by)) ∷ Number by ∷ []
 refusal_tokens refusal = Word (word_of refusal) ∷ []
 
@@ -68,7 +70,7 @@ abbrev pub news_tokens : ℕ → List ℕ → List Token
 news_tokens n ids = Word (codes "news") ∷ Number n ∷ map Number ids
 
 -- `done NUMBER`, `done NUMBER MESSAGE`, `undone NUMBER NUMBER ..`, `news NUMBER NUMBER ..`, a shown session,
--- `refused WORD` or `refused needed NUMBER`
+-- `refused WORD`, `refused final NUMBER` or `refused needed NUMBER`
 abbrev pub answer_tokens : Answer → List Token
 answer_tokens (Done done) = Word (codes "done") ∷ done_tokens done.id done.got
 answer_tokens (Undone ids) = undone_tokens ids

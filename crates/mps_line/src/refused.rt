@@ -55,7 +55,7 @@ fn own_reply(word: &[u8]) -> Option<Reply>
     }
 }
 
-// The refusal of that word, with its step after `needed`.
+// The refusal of that word, with its step after `final` or `needed`.
 fn read_refusal(bytes: &[u8]) -> Option<Refusal>
     ensures read { IfSome result (λ refusal. SpellsLine [] bytes.now (refusal_tokens refusal)) }
     ensures none { IfNone result ((refusal : Refusal)
@@ -64,6 +64,12 @@ fn read_refusal(bytes: &[u8]) -> Option<Refusal>
     if let Some(number) = behind(bytes, b"needed") {
         return match read_step(number) {
             Some(by) => Some(Refusal::Needed { by }),
+            None => None,
+        };
+    }
+    if let Some(number) = behind(bytes, b"final") {
+        return match read_step(number) {
+            Some(by) => Some(Refusal::Final { by }),
             None => None,
         };
     }

@@ -35,7 +35,7 @@ pub enum Reply {
 }
 
 impl Reply {
-    /// The code of a refusal, 1 to 17 or 19; of any other reply 0.
+    /// The code of a refusal, 1 to 19; of any other reply 0.
     pub fn code(&self) -> u8
         ensures { result ≡ code_of self.now }
     {
@@ -149,6 +149,10 @@ pub fn write_refused(refusal: &Refusal, out: &mut Vec<u8>) -> Result<(), AllocEr
         Refusal::Violation(violation) => write_violation(*violation, out),
         Refusal::NoStep => out.extend_from_slice(b"refused nostep"),
         Refusal::NotYours => out.extend_from_slice(b"refused notyours"),
+        Refusal::Final { by } => {
+            out.extend_from_slice(b"refused final ")?;
+            write_step(*by, out)
+        }
         Refusal::Needed { by } => {
             out.extend_from_slice(b"refused needed ")?;
             write_step(*by, out)
@@ -242,6 +246,7 @@ fn refusal_code(refusal: &Refusal) -> u8
         Refusal::Violation(violation) => violation_code(*violation),
         Refusal::NoStep => 8,
         Refusal::NotYours => 9,
+        Refusal::Final { .. } => 18,
         Refusal::Needed { .. } => 10,
         Refusal::NoMark => 11,
         Refusal::Full => 12,

@@ -1,5 +1,6 @@
 //! The lines of a script.
 ghost use Rattle.std.specs.Prelude.{◌≡◌, ◌≢◌, ℕ, List, [], ◌∷◌, IfOk, IfSome, IfNone, IsErrOf};
+ghost use Rattle.mps_base.specs.Names.{IsNoneOf};
 ghost use Rattle.mps_base.specs.Spaced.{spaced};
 ghost use Rattle.mps_base.specs.declared.value.Value.{Value};
 ghost use Rattle.mps_base.specs.declared.value.Value.TheVariants as values;
@@ -9,7 +10,7 @@ ghost use Rattle.mps_command.specs.declared.command.Forward.TheVariants as steps
 ghost use Rattle.mps_line.specs.declared.script.LineFault.TheVariants.{Memory as OutOfMemory};
 ghost use Rattle.mps_line.specs.declared.script.Verb.{Verb};
 ghost use Rattle.mps_line.specs.Tokens.{RoleAt, Called, Worth, SpellsLine};
-ghost use Rattle.mps_line.specs.Commands.{verb_word, verb_of, arguments, TakesArguments, SpellsCommand, SpellsScriptLine};
+ghost use Rattle.mps_line.specs.Commands.{verb_word, verb_of, arguments, lone_verbs, TakesArguments, SpellsCommand, SpellsScriptLine};
 
 use crate::parts::{behind, read_count, read_role, read_step, split_role};
 use mps_base::{Name, Role, Roles, Value, ValueFault};
@@ -50,6 +51,7 @@ pub enum Verb {
     Receive,
     Pick,
     Mark,
+    Commit,
     Undo,
     Rollback,
     Back,
@@ -89,13 +91,26 @@ pub fn read_command(alloc: Global, roles: &Roles, bytes: &[u8]) -> Result<Comman
     ensures memory { IsErrOf result LineFault.Memory → (to : ℕ) × (text : List ℕ)
         × SpellsCommand roles.now bytes.now (commands.Forward (steps.Send to (values.Text text))) }
 {
-    if bytes == b"show".as_slice() {
-        return Ok(Command::Show);
-    }
     let Some((verb, rest)) = split_verb(bytes) else {
-        return Err(LineFault::Bad);
+        return match lone_command(bytes) {
+            Some(command) => Ok(command),
+            None => Err(LineFault::Bad),
+        };
     };
     read_arguments(alloc, roles, verb, rest)
+}
+
+// The command of that verb, after which nothing stands.
+fn lone_command(verb: &[u8]) -> Option<Command>
+    ensures read { IfSome result (λ command. verb.now ≡ verb_word (verb_of command)) }
+    ensures alone { IfSome result (λ command. arguments command ≡ []) }
+    ensures none { IfNone result (IsNoneOf lone_verbs verb.now) }
+{
+    match verb {
+        b"commit" => Some(Command::Forward(Forward::Commit)),
+        b"show" => Some(Command::Show),
+        _ => None,
+    }
 }
 
 // The verb, and what stands after it and a space.
@@ -107,7 +122,7 @@ fn split_verb(bytes: &[u8]) -> Option<(Verb, &[u8])>
     match bytes {
         [b's', b'e', b'n', b'd', b' ', rest @ ..] => Some((Verb::Send, rest)),
         [b'r', b'e', b'c', b'v', b' ', rest @ ..] => Some((Verb::Receive, rest)),
-        [b'c', ..] => Some((Verb::Choose, behind(bytes, b"choose")?)),
+        [b'c', b'h', ..] => Some((Verb::Choose, behind(bytes, b"choose")?)),
         [b'p', ..] => Some((Verb::Pick, behind(bytes, b"pick")?)),
         [b'm', ..] => Some((Verb::Mark, behind(bytes, b"mark")?)),
         [b'u', ..] => Some((Verb::Undo, behind(bytes, b"undo")?)),
@@ -115,6 +130,7 @@ fn split_verb(bytes: &[u8]) -> Option<(Verb, &[u8])>
         [b'b', ..] => Some((Verb::Back, behind(bytes, b"back")?)),
         [b'n', ..] => Some((Verb::News, behind(bytes, b"news")?)),
         [b's', b'h', ..] => Some((Verb::Show, behind(bytes, b"show")?)),
+        [b'c', b'o', ..] => Some((Verb::Commit, behind(bytes, b"commit")?)),
         _ => None,
     }
 }

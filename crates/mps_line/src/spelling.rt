@@ -1,10 +1,10 @@
 //! How commands are written.
-ghost use Rattle.std.specs.Prelude.{◌≡◌, OnOk, OnErr};
+ghost use Rattle.std.specs.Prelude.{◌≡◌, OnOk, OnErr, IsTrue, ◌↔◌};
 ghost use Rattle.std.specs.Io.{StartsWith};
 ghost use Rattle.mps_base.specs.Appends.{Appends};
 ghost use Rattle.mps_command.specs.declared.command.Command.TheVariants as commands;
 ghost use Rattle.mps_line.specs.Tokens.{SpellsLine};
-ghost use Rattle.mps_line.specs.Commands.{verb_word, verb_of, arguments, SpellsCommand, NamesRolesOf};
+ghost use Rattle.mps_line.specs.Commands.{verb_word, verb_of, arguments, TakesArguments, SpellsCommand, NamesRolesOf};
 
 use crate::parts::{write_count, write_name, write_role, write_step};
 use crate::script::Verb;
@@ -35,7 +35,7 @@ fn write_parts(roles: &Roles, command: &Command, out: &mut Vec<u8>) -> Result<()
     ensures err { OnErr result (StartsWith out.new.items out.old.items) }
 {
     out.extend_from_slice(verb_word(verb_of(command)))?;
-    if let Command::Show = command {
+    if !takes_arguments(command) {
         return Ok(());
     }
     out.push(b' ')?;
@@ -85,6 +85,22 @@ fn write_forward(roles: &Roles, step: &Forward, out: &mut Vec<u8>) -> Result<(),
         }
         Forward::Pick { from } => write_role(roles, *from, out),
         Forward::Mark { name } => write_name(name, out),
+        Forward::Commit => Ok(()),
+    }
+}
+
+// Whether something stands after the verb.
+fn takes_arguments(command: &Command) -> bool
+    ensures { IsTrue result ↔ TakesArguments command.now }
+{
+    match command {
+        Command::Forward(Forward::Commit) => false,
+        Command::Forward(_) => true,
+        Command::Undo(_) => true,
+        Command::Rollback(_) => true,
+        Command::Back(_) => true,
+        Command::News(_) => true,
+        Command::Show => false,
     }
 }
 
@@ -112,6 +128,7 @@ fn forward_verb(step: &Forward) -> Verb
         Forward::Receive { .. } => Verb::Receive,
         Forward::Pick { .. } => Verb::Pick,
         Forward::Mark { .. } => Verb::Mark,
+        Forward::Commit => Verb::Commit,
     }
 }
 
@@ -125,6 +142,7 @@ fn verb_word(verb: Verb) -> &'static [u8]
         Verb::Receive => b"recv",
         Verb::Pick => b"pick",
         Verb::Mark => b"mark",
+        Verb::Commit => b"commit",
         Verb::Undo => b"undo",
         Verb::Rollback => b"rollback",
         Verb::Back => b"back",

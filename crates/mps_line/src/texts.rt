@@ -99,6 +99,9 @@ fn refusal_is_spellable(refusal: &Refusal)
     ensures { AreSpellable (answer_tokens (Refused refusal.now)) }
 {
     match refusal {
+        Refusal::Final { by } => {
+            let _number = by.number();
+        }
         Refusal::Needed { by } => {
             let _number = by.number();
         }

@@ -7,13 +7,14 @@ use Rattle.std.proofs.lemmas.Bool.{cases_Bool, cond-true, cond-false, ne_eqb, lt
 use Rattle.std.proofs.lemmas.List.{map-append}
 use Rattle.std.proofs.lemmas.List.Elements.{filter-append}
 use Rattle.mps_base.specs.declared.action.Step.{Step}
-use Rattle.mps_history.specs.Steps.{IsIn, IsRising, within, without, sends, receives, goes_to, comes_from}
-use Rattle.mps_history.specs.Dependence.{depends_on, is_matched, sent_before, received_before}
+use Rattle.mps_history.specs.Steps.{IsIn, IsRising, numbers, within, without, sends, receives, goes_to, comes_from}
+use Rattle.mps_history.specs.Dependence.{depends_on, is_matched, sent_before, received_before, consequences}
+use Rattle.mps_history.specs.Commits.{is_commit, commits_from}
 use Rattle.mps_history.proofs.Order.{rising_apart, IsIn-append, IsIn-append_left, IsIn-append_right}
 use Rattle.mps_arena.specs.Keys.{AreDistinct, last_key}
 use Rattle.mps_arena.specs.Entries.{Entry, steps, keys_of, any_step, entry_at, AreSound}
 use Rattle.mps_arena.proofs.Keeping.{others_are}
-use Rattle.mps_links.specs.Marks.{marked_keys, marked_steps, is_marked, AreMarksClosed, marked_by, unmarked, unmarked_steps}
+use Rattle.mps_links.specs.Marks.{marked_keys, marked_steps, is_marked, AreMarksClosed, marked_by, unmarked, unmarked_steps, marked_commits}
 use Rattle.mps_links.proofs.StepKeys.{steps_around, in_middle, none_passes}
 use Rattle.mps_links.proofs.Firsts.{entry_in, rising_behind}
 use Rattle.mps_links.proofs.Lasts.{IsLast, last_is}
@@ -158,6 +159,10 @@ pub marked_within : (es : List Entry) (set : ℕ → Bool) → marked_steps (map
 marked_within [] set = refl
 marked_within (y ∷ es) set =
     ⊎_elim (λ (t : set y.step.id ≡ true). rw t (ap (λ l. y.step ∷ l) (marked_within es set))) (λ (f : set y.step.id ≡ false). rw f (marked_within es set)) (cases_Bool (set y.step.id))
+
+-- the marked commits, where a step and all that depend on it are marked
+pub marked_commits_are : (es : List Entry) (n : ℕ) → marked_commits (map (marked_by (consequences (steps es) n)) es) ≡ commits_from (steps es) n
+marked_commits_are es n = ap (λ (h : List Step). numbers (filter (λ s. is_commit s.act) h)) (marked_within es (consequences (steps es) n))
 
 pub marked_count : (es : List Entry) (set : ℕ → Bool) → length (marked_keys (map (marked_by set) es)) ≡ length (within (steps es) set)
 marked_count [] set = refl

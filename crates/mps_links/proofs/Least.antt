@@ -10,10 +10,10 @@ use Rattle.mps_history.specs.Dependence.{depends_on, DependsOn, Directly, Throug
 use Rattle.mps_history.proofs.Order.{at_member, IsIn-append, IsIn-append_right, IsRising-append_right, IsRising-filter}
 use Rattle.mps_history.proofs.Reaching.{earlier, DependsOn-earlier, consequences_only, consequences_all}
 
-abbrev id_of : Option Step → Option ℕ
+abbrev pub id_of : Option Step → Option ℕ
 id_of o = option_map (λ (s : Step). s.id) o
 
-least_first : (l : List Step) → IsRising l → least (numbers l) ≡ id_of (slice_get l 0)
+pub least_first : (l : List Step) → IsRising l → least (numbers l) ≡ id_of (slice_get l 0)
 least_first [] r = refl
 least_first (s ∷ []) r = let e : min s.id s.id ≡ s.id = omega arith in ap Some e
 least_first (s ∷ t ∷ l) r =
@@ -22,11 +22,11 @@ least_first (s ∷ t ∷ l) r =
     let e : min s.id t.id ≡ s.id = omega arith in
     ap (λ (o : Option ℕ). Some (min s.id (unwrap_or o s.id))) next ∙ ap Some e
 
-first_filter : (p : Step → Bool) (h : List Step) → slice_get (filter p h) 0 ≡ find p h
+pub first_filter : (p : Step → Bool) (h : List Step) → slice_get (filter p h) 0 ≡ find p h
 first_filter p [] = refl
 first_filter p (x ∷ h) = ⊎_elim (λ (t : p x ≡ true). rw t refl) (λ (f : p x ≡ false). rw f (first_filter p h)) (cases_Bool (p x))
 
-find_filter : (p q : Step → Bool) (h : List Step) → find p (filter q h) ≡ find (λ x. q x && p x) h
+pub find_filter : (p q : Step → Bool) (h : List Step) → find p (filter q h) ≡ find (λ x. q x && p x) h
 find_filter p q [] = refl
 find_filter p q (x ∷ h) =
     ⊎_elim

@@ -14,3 +14,4 @@ pub mod Passing
 pub mod Turns
 pub mod Going
 pub mod Waiting
+pub mod Commits

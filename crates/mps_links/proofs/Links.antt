@@ -4,8 +4,7 @@ use mathlib.Core.Path.{ap₂}
 use Rattle.std.specs.Prelude.{◌==◌, ◌&&◌, ◌||◌, nat_lt, IsSomeAnd}
 use Rattle.std.specs.Option.{option_and_then}
 use Rattle.std.proofs.lemmas.Bool.{lt-ltb, le-ltb, and_left, or_parts}
-use Rattle.mps_base.specs.declared.action.Act.{Act}
-use Rattle.mps_base.specs.declared.action.Act.TheVariants.{Out, In, Mark}
+use Rattle.mps_base.specs.Effects.{Effect, Gives, Takes, Idle, effect}
 use Rattle.mps_base.specs.declared.action.Step.{Step}
 use Rattle.mps_history.specs.Steps.{IsIn, IsRising}
 use Rattle.mps_history.specs.Dependence.{is_matched, depends_on, least, dependents}
@@ -88,10 +87,10 @@ module _ (es : List Entry) (sound : AreSound es) (a b : List Entry) (x : Entry) 
       let neither = λ (t : Step) (i : IsIn t (steps b)). or_parts (of_role s.role t) (is_matched (steps es) s t) (sym (on_later t i) ∙ none_passes on_s b t none i) in
       let final : key_after x.key (keys_of (of_role s.role) es) ≡ None = next_after ∙ ap first_key (keys_none (of_role s.role) b (λ t i. (neither t i).0)) in
       let receipt : receipt_in es x.key ≡ None = receipt_is es sound a b x parts ∙ ap first_key (keys_none (is_matched (steps es) s) b (λ t i. (neither t i).1)) in
-      let mate : receipt_mate s.act (mate_of es x) ≡ None = sym (ap (option_and_then (λ (y : Entry). receipt_mate y.step.act (mate_of es y))) found) ∙ receipt in
-      subst (λ (o : Option Entry). IsSomeAnd o (IsFree es)) (sym found) (record { final = final; unreceived = unreceived s.act mate })
+      let mate : receipt_mate (effect s.act) (mate_of es x) ≡ None = sym (ap (option_and_then (λ (y : Entry). receipt_mate (effect y.step.act) (mate_of es y))) found) ∙ receipt in
+      subst (λ (o : Option Entry). IsSomeAnd o (IsFree es)) (sym found) (record { final = final; unreceived = unreceived (effect s.act) mate })
     where
-      unreceived : (c : Act) → receipt_mate c (mate_of es x) ≡ None → IsUnreceived es x c
-      unreceived (Out q m) e = e
-      unreceived (In from slot) e = tt
-      unreceived (Mark name) e = tt
+      unreceived : (c : Effect) → receipt_mate c (mate_of es x) ≡ None → IsUnreceived es x c
+      unreceived (Gives q m) e = e
+      unreceived (Takes from slot) e = tt
+      unreceived Idle e = tt

@@ -8,7 +8,7 @@ use Rattle.mps_history.specs.Steps.{IsIn, IsRising}
 use Rattle.mps_history.proofs.Order.{at_member}
 use Rattle.mps_arena.specs.Entries.{Entry, steps, keys_of}
 use Rattle.mps_arena.proofs.Chains.{keys_with, keys_without}
-use Rattle.mps_links.specs.Marks.{marked_keys, is_marked}
+use Rattle.mps_links.specs.Marks.{marked_keys, is_marked, marked_steps}
 use Rattle.mps_links.proofs.StepKeys.{in_middle}
 
 none_marked : (b : List Entry) (n : ℕ) → ((t : Step) → IsIn t (steps b) → (t.id == n) ≡ false) → is_marked b n ≡ false
@@ -50,3 +50,17 @@ keys_from es r a (y ∷ b) e =
 
 pub keys_marked : (es : List Entry) → IsRising (steps es) → keys_of (λ s. is_marked es s.id) es ≡ marked_keys es
 keys_marked es r = keys_from es r [] es refl
+
+-- the marked steps by their numbers
+steps_from : (es : List Entry) → IsRising (steps es) → (a b : List Entry) → es ≡ a ++ b → filter (λ s. is_marked es s.id) (steps b) ≡ marked_steps b
+steps_from es r a [] e = refl
+steps_from es r a (y ∷ b) e =
+    let here = marked_here es a b y r e in
+    let rest = steps_from es r (a ++ y ∷ []) b (e ∙ sym (append_assoc a (y ∷ []) b)) in
+    ⊎_elim
+    (λ (t : y.marked ≡ true). rw (here, t) (ap (λ l. y.step ∷ l) rest))
+    (λ (f : y.marked ≡ false). rw (here, f) rest)
+    (cases_Bool y.marked)
+
+pub steps_marked : (es : List Entry) → IsRising (steps es) → filter (λ s. is_marked es s.id) (steps es) ≡ marked_steps es
+steps_marked es r = steps_from es r [] es refl

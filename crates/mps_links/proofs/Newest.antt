@@ -50,21 +50,15 @@ module _ (es : List Entry) (sound : AreSound es) (closed : AreMarksClosed es) wh
   abbrev mark : ℕ → Bool
   mark n = is_marked es n
 
-  module _ (p : ℕ) (a b : List Entry) (x : Entry) (parts : es ≡ a ++ x ∷ b) (own : of_role p x.step ≡ true) (none : keys_of (of_role p) b ≡ []) where
+  module _ (p : ℕ) (a b : List Entry) (x : Entry) (parts : es ≡ a ++ x ∷ b) (own : of_role p x.step ≡ true) where
     abbrev q : Step → Bool
     q s = s.role == p && mark s.id
 
     here : mark x.step.id ≡ x.marked
     here = marked_here es a b x sound.rising parts
 
-    pub last_marked : x.marked ≡ true → last_key None (keys_of q es) ≡ Some x.key
-    last_marked m =
-        let rest : keys_of q b ≡ [] = keys_none q b (λ t i. and_left (t.role == p) (mark t.id) (none_passes (of_role p) b t none i)) in
-        ap (λ l. last_key None (keys_of q l)) parts
-        ∙ ap (last_key None) (keys_around q a b x (and_from (x.step.role == p) (mark x.step.id) own (here ∙ m)) ∙ ap (λ l. keys_of q a ++ x.key ∷ l) rest)
-        ∙ last-append None (keys_of q a) (x.key ∷ [])
-
-    earlier_marked : x.marked ≡ false → (t : Step) → IsIn t (steps a) → q t ≡ true → ⊥
+    -- before an unmarked step of the role none of the role is marked
+    pub earlier_marked : x.marked ≡ false → (t : Step) → IsIn t (steps a) → q t ≡ true → ⊥
     earlier_marked m t i e =
         let w = and_parts (t.role == p) (mark t.id) e in
         let r : IsRising (steps a ++ x.step ∷ steps b) = subst IsRising (ap steps parts ∙ steps_around a b x) sound.rising in
@@ -75,19 +69,27 @@ module _ (es : List Entry) (sound : AreSound es) (closed : AreMarksClosed es) wh
         let in_es : IsIn t (steps es) = subst (λ (l : List Step). IsIn t l) (sym (ap steps parts ∙ steps_around a b x)) (IsIn-append_left t (steps a) (x.step ∷ steps b) i) in
         both_ways x.marked m (sym here ∙ closed x.step t (in_middle es a b x parts) in_es w.1 on)
 
-    pub none_marked : x.marked ≡ false → keys_of q es ≡ []
-    none_marked m =
-        keys_none q es
-        (λ t i.
-        false_from_ne_true (q t)
-        (λ e.
-        ⊎_elim (λ (j : IsIn t (steps a)). earlier_marked m t j e)
-        (λ (k : (t ≡ x.step) ⊎ IsIn t (steps b)).
-        ⊎_elim
-        (λ (s : t ≡ x.step). both_ways x.marked m (sym here ∙ ap (λ (u : Step). mark u.id) (sym s) ∙ (and_parts (t.role == p) (mark t.id) e).1))
-        (λ (j : IsIn t (steps b)). both_ways (t.role == p) (none_passes (of_role p) b t none j) (and_parts (t.role == p) (mark t.id) e).0)
-        k)
-        (where_in es a b x t parts i)))
+    module _ (none : keys_of (of_role p) b ≡ []) where
+      pub last_marked : x.marked ≡ true → last_key None (keys_of q es) ≡ Some x.key
+      last_marked m =
+          let rest : keys_of q b ≡ [] = keys_none q b (λ t i. and_left (t.role == p) (mark t.id) (none_passes (of_role p) b t none i)) in
+          ap (λ l. last_key None (keys_of q l)) parts
+          ∙ ap (last_key None) (keys_around q a b x (and_from (x.step.role == p) (mark x.step.id) own (here ∙ m)) ∙ ap (λ l. keys_of q a ++ x.key ∷ l) rest)
+          ∙ last-append None (keys_of q a) (x.key ∷ [])
+
+      pub none_marked : x.marked ≡ false → keys_of q es ≡ []
+      none_marked m =
+          keys_none q es
+          (λ t i.
+          false_from_ne_true (q t)
+          (λ e.
+          ⊎_elim (λ (j : IsIn t (steps a)). earlier_marked m t j e)
+          (λ (k : (t ≡ x.step) ⊎ IsIn t (steps b)).
+          ⊎_elim
+          (λ (s : t ≡ x.step). both_ways x.marked m (sym here ∙ ap (λ (u : Step). mark u.id) (sym s) ∙ (and_parts (t.role == p) (mark t.id) e).1))
+          (λ (j : IsIn t (steps b)). both_ways (t.role == p) (none_passes (of_role p) b t none j) (and_parts (t.role == p) (mark t.id) e).0)
+          k)
+          (where_in es a b x t parts i)))
 
   pub next_role : (newest : Option ℕ) (r : ℕ) → newest ≡ last_key None (keys_of (λ s. nat_lt s.role r && mark s.id) es) → later es newest (last_key None (keys_of (λ s. s.role == r && mark s.id) es)) ≡ last_key None (keys_of (λ s. nat_lt s.role (r + 1) && mark s.id) es)
   next_role newest r e =

@@ -6,10 +6,9 @@ use Rattle.std.specs.List.{AllByRecursion}
 use Rattle.std.specs.Option.{option_map, unwrap_or}
 use Rattle.std.proofs.lemmas.Bool.{cases_Bool, cond-true, cond-false, ne_eqb, eqb-true, eqb-false, and_parts, and_from, and_left, and_right, or_cases, or_left, or_right, or_from, false_from_ne_true, both_ways, false≢true}
 use Rattle.std.proofs.lemmas.List.{get_or-set_same, get_or-set_other, length-set}
-use Rattle.mps_base.specs.declared.action.Act.{Act}
-use Rattle.mps_base.specs.declared.action.Act.TheVariants.{Out, In, Mark}
+use Rattle.mps_base.specs.Effects.{Effect, Gives, Takes, Idle, effect}
 use Rattle.mps_base.specs.declared.action.Step.{Step}
-use Rattle.mps_history.specs.Steps.{IsIn, within, sends, receives, goes_to}
+use Rattle.mps_history.specs.Steps.{IsIn, within, sends, receives, gives_to}
 use Rattle.mps_history.specs.Dependence.{depends_on, is_matched, with, joined, sent_before, received_before}
 use Rattle.mps_history.proofs.Order.{same_step}
 use Rattle.mps_history.proofs.Reaching.{joins, any_member, member_any}
@@ -191,18 +190,18 @@ module _ (now : List Entry) (sound : AreSound now) (set more : ℕ → Bool) (a 
 
       -- a receipt of the step is of one role
       one_role : (t : Step) → is_matched h y.step t ≡ true → t.role ≡ z.step.role
-      one_role t e = receiver y.step.act (goes t e) (goes z.step first.passes)
+      one_role t e = receiver (effect y.step.act) (goes t e) (goes z.step first.passes)
         where
-          goes : (u : Step) → is_matched h y.step u ≡ true → goes_to u.role y.step.act ≡ true
+          goes : (u : Step) → is_matched h y.step u ≡ true → gives_to u.role (effect y.step.act) ≡ true
           goes u e =
               let p = and_parts (sends y.step.role u.role y.step && receives y.step.role u.role u) (sent_before y.step.role u.role y.step.id h == received_before y.step.role u.role u.id h) e in
               let q = and_parts (sends y.step.role u.role y.step) (receives y.step.role u.role u) p.0 in
-              (and_parts (y.step.role == y.step.role) (goes_to u.role y.step.act) q.0).1
+              (and_parts (y.step.role == y.step.role) (gives_to u.role (effect y.step.act)) q.0).1
 
-          receiver : (c : Act) → goes_to t.role c ≡ true → goes_to z.step.role c ≡ true → t.role ≡ z.step.role
-          receiver (Out q m) e g = sym (eqb-true q t.role e) ∙ eqb-true q z.step.role g
-          receiver (In from slot) e g = absurd (false≢true e)
-          receiver (Mark name) e g = absurd (false≢true e)
+          receiver : (c : Effect) → gives_to t.role c ≡ true → gives_to z.step.role c ≡ true → t.role ≡ z.step.role
+          receiver (Gives q m) e g = sym (eqb-true q t.role e) ∙ eqb-true q z.step.role g
+          receiver (Takes from slot) e g = absurd (false≢true e)
+          receiver Idle e g = absurd (false≢true e)
 
       at_z : (f : Option ℕ → Option ℕ) (l : List (Option ℕ)) → at_role now k f l ≡ slice_set l z.step.role (f (slice_index_or l z.step.role None))
       at_z f l =

@@ -4,8 +4,7 @@ use Rattle.std.specs.Prelude.{◌==◌, IsSome, IfSome}
 use Rattle.std.specs.List.{AllByRecursion}
 use Rattle.std.specs.Option.{option_and_then}
 use Rattle.std.proofs.lemmas.Bool.{both_ways, false≢true}
-use Rattle.mps_base.specs.declared.action.Act.{Act}
-use Rattle.mps_base.specs.declared.action.Act.TheVariants.{Out, In, Mark}
+use Rattle.mps_base.specs.Effects.{Effect, Gives, Takes, Idle, effect}
 use Rattle.mps_base.specs.declared.action.Step.{Step}
 use Rattle.mps_arena.specs.Keys.{is_at, has, key_after}
 use Rattle.mps_arena.specs.Entries.{Entry, keys_of, of_role, like, unlike, entry_at, IsSmall}
@@ -40,21 +39,21 @@ chained_there p k es h =
     (λ (w : (e : Entry) × (entry_at k es ≡ Some e)). subst IsSome (sym w.1) cc)
     (cases_entry (entry_at k es))
 
-mate_is : (c : Act) (o : Option ℕ) (j : ℕ) → receipt_mate c o ≡ Some j → o ≡ Some j
-mate_is (Out q m) o j e = e
-mate_is (In from slot) o j e = absurd cc
-mate_is (Mark name) o j e = absurd cc
+mate_is : (c : Effect) (o : Option ℕ) (j : ℕ) → receipt_mate c o ≡ Some j → o ≡ Some j
+mate_is (Gives q m) o j e = e
+mate_is (Takes from slot) o j e = absurd cc
+mate_is Idle o j e = absurd cc
 
 -- the receipt of a step is there
 pub receipt_there : (es : List Entry) (k j : ℕ) → receipt_in es k ≡ Some j → IsSome (entry_at j es)
 receipt_there es k j e =
     ⊎_elim
-    (λ (n : entry_at k es ≡ None). let no : None ≡ Some j = sym (ap (option_and_then (λ (y : Entry). receipt_mate y.step.act (mate_of es y))) n) ∙ e in absurd cc)
+    (λ (n : entry_at k es ≡ None). let no : None ≡ Some j = sym (ap (option_and_then (λ (y : Entry). receipt_mate (effect y.step.act) (mate_of es y))) n) ∙ e in absurd cc)
     (λ (w : (y : Entry) × (entry_at k es ≡ Some y)).
     let y = w.0 in
-    let is = mate_is y.step.act (mate_of es y) j (sym (ap (option_and_then (λ (y : Entry). receipt_mate y.step.act (mate_of es y))) w.1) ∙ e) in
-    chained_there (unlike y.step.role y.step.act) j es
-    (partner_in y.key j (keys_of (like y.step.role y.step.act) es) (keys_of (unlike y.step.role y.step.act) es) (ap (λ o. is_at o j) is ∙ eq-eqb j j refl)))
+    let is = mate_is (effect y.step.act) (mate_of es y) j (sym (ap (option_and_then (λ (y : Entry). receipt_mate (effect y.step.act) (mate_of es y))) w.1) ∙ e) in
+    chained_there (unlike y.step.role (effect y.step.act)) j es
+    (partner_in y.key j (keys_of (like y.step.role (effect y.step.act)) es) (keys_of (unlike y.step.role (effect y.step.act)) es) (ap (λ o. is_at o j) is ∙ eq-eqb j j refl)))
     (cases_entry (entry_at k es))
 
 -- the next step of its role is there

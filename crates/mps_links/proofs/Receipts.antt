@@ -4,11 +4,10 @@ use Rattle.std.specs.Prelude.{◌==◌, ◌&&◌, nat_lt, slice_get}
 use Rattle.std.specs.List.{filter}
 use Rattle.std.specs.Option.{option_and_then}
 use Rattle.std.proofs.lemmas.Bool.{cases_Bool, ne_eqb, eqb-true, and_left, and_right, and_from}
-use Rattle.mps_base.specs.declared.action.Act.{Act}
-use Rattle.mps_base.specs.declared.action.Act.TheVariants.{Out, In, Mark}
+use Rattle.mps_base.specs.Effects.{Effect, Gives, Takes, Idle, effect}
 use Rattle.mps_base.specs.declared.action.Message.{Message}
 use Rattle.mps_base.specs.declared.action.Step.{Step}
-use Rattle.mps_history.specs.Steps.{IsRising, sends, receives, goes_to, comes_from}
+use Rattle.mps_history.specs.Steps.{IsRising, sends, receives, gives_to, takes_from}
 use Rattle.mps_history.specs.Dependence.{is_matched, sent_before, received_before}
 use Rattle.mps_arena.specs.Keys.{AreDistinct, first_key, partner}
 use Rattle.mps_arena.specs.Entries.{Entry, steps, keys_of, like, unlike, AreSound}
@@ -75,9 +74,9 @@ module _ (es : List Entry) (sound : AreSound es) (a b : List Entry) (x : Entry) 
         (at_place (c ++ y ∷ []) e (suc j) (shift c e y is) (ap (λ l. length l + suc j) (keys_kept got c y f) ∙ n)))
         (cases_Bool (got y.step))
 
-    module _ (m : Message) (act : s.act ≡ Out q m) where
+    module _ (m : Message) (act : effect s.act ≡ Gives q m) where
       sending : (t : Step) → sends s.role t.role s ≡ (q == t.role)
-      sending t = ap (λ k. k && goes_to t.role s.act) (eq-eqb s.role s.role refl) ∙ ap (goes_to t.role) act
+      sending t = ap (λ k. k && gives_to t.role (effect s.act)) (eq-eqb s.role s.role refl) ∙ ap (gives_to t.role) act
 
       match : (t : Step) → is_matched (steps es) s t ≡ fits t
       match t =
@@ -90,14 +89,14 @@ module _ (es : List Entry) (sound : AreSound es) (a b : List Entry) (x : Entry) 
           (λ (n : (q == t.role) ≡ false).
           let apart : (t.role == q) ≡ false = sym (eqb_turned q t.role) ∙ n in
           ap (λ k. k && receives s.role t.role t && sent_before s.role t.role s.id h == received_before s.role t.role t.id h) (sending t ∙ n)
-          ∙ sym (and_left (got t) (before == received_before s.role q t.id h) (and_left (t.role == q) (comes_from s.role t.act) apart)))
+          ∙ sym (and_left (got t) (before == received_before s.role q t.id h) (and_left (t.role == q) (takes_from s.role (effect t.act)) apart)))
           (cases_Bool (q == t.role))
 
       pub receipt_of_send : receipt_in es x.key ≡ first_key (keys_of (is_matched (steps es) s) b)
       receipt_of_send =
           let p = sends s.role q in
-          let self : p s ≡ true = ap (λ k. k && goes_to q s.act) (eq-eqb s.role s.role refl) ∙ ap (goes_to q) act ∙ eq-eqb q q refl in
-          let quiet : got s ≡ false = and_right (s.role == q) (comes_from s.role s.act) (ap (comes_from s.role) act) in
+          let self : p s ≡ true = ap (λ k. k && gives_to q (effect s.act)) (eq-eqb s.role s.role refl) ∙ ap (gives_to q) act ∙ eq-eqb q q refl in
+          let quiet : got s ≡ false = and_right (s.role == q) (takes_from s.role (effect s.act)) (ap (takes_from s.role) act) in
           let whole = ap (keys_of p) parts ∙ keys_around p a b x self in
           let o = once x.key (keys_of p a) (keys_of p b) (subst AreDistinct whole (distinct p es sound.distinct)) in
           let n : before ≡ length (keys_of p a) = count_before p es a b x sound.rising parts in
@@ -106,9 +105,9 @@ module _ (es : List Entry) (sound : AreSound es) (a b : List Entry) (x : Entry) 
           let at : length (keys_of got a) + j ≡ length (keys_of p a) = omega arith in
           let receipts : keys_of got es ≡ keys_of got a ++ keys_of got b = ap (keys_of got) parts ∙ keys_beside got a b x quiet ∙ keys-append got a b in
           let kept : keys_of got (a ++ x ∷ []) ≡ keys_of got a = keys_kept got a x quiet in
-          ap (option_and_then (λ (y : Entry). receipt_mate y.step.act (mate_of es y))) (entry_in es sound.distinct sound.rising a b x parts)
-          ∙ ap (λ (c : Act). receipt_mate c (mate_of es x)) act
-          ∙ ap (λ (c : Act). partner x.key (keys_of (like s.role c) es) (keys_of (unlike s.role c) es)) act
+          ap (option_and_then (λ (y : Entry). receipt_mate (effect y.step.act) (mate_of es y))) (entry_in es sound.distinct sound.rising a b x parts)
+          ∙ ap (λ (c : Effect). receipt_mate c (mate_of es x)) act
+          ∙ ap (λ (c : Effect). partner x.key (keys_of (like s.role c) es) (keys_of (unlike s.role c) es)) act
           ∙ ap (λ c. partner x.key c (keys_of got es)) whole
           ∙ partner_middle x.key (keys_of p a) (keys_of p b) (keys_of got es) o.0
           ∙ ap (λ l. slice_get l (length (keys_of p a))) receipts
@@ -117,19 +116,19 @@ module _ (es : List Entry) (sound : AreSound es) (a b : List Entry) (x : Entry) 
           ∙ ap first_key (keys_agree fits (is_matched (steps es) s) b (λ t i. sym (match t)))
 
   -- what sends nothing has no receipt, and nothing is matched with it
-  silent : ((q : ℕ) → goes_to q s.act ≡ false) → receipt_mate s.act (mate_of es x) ≡ None → receipt_in es x.key ≡ first_key (keys_of (is_matched (steps es) s) b)
+  silent : ((q : ℕ) → gives_to q (effect s.act) ≡ false) → receipt_mate (effect s.act) (mate_of es x) ≡ None → receipt_in es x.key ≡ first_key (keys_of (is_matched (steps es) s) b)
   silent quiet none =
       let h = steps es in
-      ap (option_and_then (λ (y : Entry). receipt_mate y.step.act (mate_of es y))) (entry_in es sound.distinct sound.rising a b x parts)
+      ap (option_and_then (λ (y : Entry). receipt_mate (effect y.step.act) (mate_of es y))) (entry_in es sound.distinct sound.rising a b x parts)
       ∙ none
       ∙ sym (ap first_key (keys_none (is_matched h s) b (λ t i.
       and_left (sends s.role t.role s && receives s.role t.role t) (sent_before s.role t.role s.id h == received_before s.role t.role t.id h)
-      (and_left (sends s.role t.role s) (receives s.role t.role t) (and_right (s.role == s.role) (goes_to t.role s.act) (quiet t.role))))))
+      (and_left (sends s.role t.role s) (receives s.role t.role t) (and_right (s.role == s.role) (gives_to t.role (effect s.act)) (quiet t.role))))))
 
-  by_act : (c : Act) → s.act ≡ c → receipt_in es x.key ≡ first_key (keys_of (is_matched (steps es) s) b)
-  by_act (Out q m) e = receipt_of_send q m e
-  by_act (In from slot) e = silent (λ q. ap (goes_to q) e) (ap (λ (c : Act). receipt_mate c (mate_of es x)) e)
-  by_act (Mark name) e = silent (λ q. ap (goes_to q) e) (ap (λ (c : Act). receipt_mate c (mate_of es x)) e)
+  by_act : (c : Effect) → effect s.act ≡ c → receipt_in es x.key ≡ first_key (keys_of (is_matched (steps es) s) b)
+  by_act (Gives q m) e = receipt_of_send q m e
+  by_act (Takes from slot) e = silent (λ q. ap (gives_to q) e) (ap (λ (c : Effect). receipt_mate c (mate_of es x)) e)
+  by_act Idle e = silent (λ q. ap (gives_to q) e) (ap (λ (c : Effect). receipt_mate c (mate_of es x)) e)
 
   pub receipt_is : receipt_in es x.key ≡ first_key (keys_of (is_matched (steps es) s) b)
-  receipt_is = by_act s.act refl
+  receipt_is = by_act (effect s.act) refl

@@ -4,7 +4,7 @@ use mathlib.Core.Path.{ap₂}
 use Rattle.std.specs.Prelude.{slice_get}
 use Rattle.std.specs.Option.{option_and_then}
 use Rattle.std.proofs.lemmas.Bool.{cases_Bool}
-use Rattle.mps_base.specs.declared.action.Act.{Act}
+use Rattle.mps_base.specs.Effects.{Effect, effect}
 use Rattle.mps_base.specs.declared.action.Step.{Step}
 use Rattle.mps_history.specs.Steps.{sends, receives}
 use Rattle.mps_arena.specs.Keys.{AreDistinct, is_at, has, first_key, last_key, key_before, partner}
@@ -97,8 +97,8 @@ module _ (es : List Entry) (sound : AreSound es) (p q : ℕ) where
       receipt_is =
           let e = entry.0 in
           let pair = sends_pair p q e.step sending in
-          ap (option_and_then (λ (y : Entry). receipt_mate y.step.act (mate_of es y))) entry.1
-          ∙ ap (λ (c : Act). receipt_mate c (partner e.key (keys_of (like e.step.role c) es) (keys_of (unlike e.step.role c) es))) pair.2
+          ap (option_and_then (λ (y : Entry). receipt_mate (effect y.step.act) (mate_of es y))) entry.1
+          ∙ ap (λ (c : Effect). receipt_mate c (partner e.key (keys_of (like e.step.role c) es) (keys_of (unlike e.step.role c) es))) pair.2
           ∙ ap (λ r. partner e.key (keys_of (sends r q) es) (keys_of (receives r q) es)) pair.1
           ∙ ap (λ j. partner j sent got) (entry_key k es e entry.1)
           ∙ ap (λ l. partner k l got) whole
@@ -115,7 +115,7 @@ module _ (es : List Entry) (sound : AreSound es) (p q : ℕ) where
             back = k ∷ w.back;
             parts = whole;
             key =
-                ap (option_and_then (λ (y : Entry). key_before None y.key (keys_of (like_sends y.step.role y.step.act) es))) entry.1
+                ap (option_and_then (λ (y : Entry). key_before None y.key (keys_of (like_sends y.step.role (effect y.step.act)) es))) entry.1
                 ∙ ap₂ (λ (j : ℕ) (f : Step → Bool). key_before None j (keys_of f es)) (entry_key k es entry.0 entry.1) (sends_chain p q entry.0.step sending)
                 ∙ ap (key_before None k) whole
                 ∙ before_absent None k before (k ∷ w.back) apart.0

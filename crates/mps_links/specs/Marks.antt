@@ -2,7 +2,9 @@
 use Rattle.std.specs.Prelude.{◌==◌, ◌&&◌, ℕ, Bool, false, List, map, not}
 use Rattle.std.specs.List.{filter, list_any}
 use Rattle.mps_base.specs.declared.action.Step.{Step}
+use Rattle.mps_history.specs.Steps.{numbers}
 use Rattle.mps_history.specs.Dependence.{IsClosed}
+use Rattle.mps_history.specs.Commits.{is_commit}
 use Rattle.mps_arena.specs.Entries.{Entry, steps}
 
 -- the keys of the marked steps, in order
@@ -32,3 +34,7 @@ unmarked_steps es = steps (filter (λ e. not e.marked) es)
 -- the steps that are marked, in order
 abbrev pub marked_steps : List Entry → List Step
 marked_steps es = steps (filter (λ e. e.marked) es)
+
+-- the numbers of the marked commits, in order
+abbrev pub marked_commits : List Entry → List ℕ
+marked_commits es = numbers (filter (λ s. is_commit s.act) (marked_steps es))

@@ -2,9 +2,11 @@
 ghost use Rattle.std.specs.Prelude.{◌≡◌, ◌==◌, ◌+◌, ◌++◌, ◌∷◌, [], ℕ, Bool, List, Some, None, not, map, length};
 ghost use Rattle.std.specs.List.{filter};
 ghost use Rattle.mps_history.specs.Steps.{within, without};
+ghost use Rattle.mps_history.specs.Dependence.{consequences};
+ghost use Rattle.mps_history.specs.Commits.{commits_from};
 ghost use Rattle.mps_arena.specs.Keys.{last_key};
 ghost use Rattle.mps_arena.specs.Entries.{Entry, steps, entry_at, AreSound};
-ghost use Rattle.mps_links.specs.Marks.{marked_keys, marked_steps, AreMarksClosed, marked_by, unmarked_steps};
+ghost use Rattle.mps_links.specs.Marks.{marked_keys, marked_steps, AreMarksClosed, marked_by, unmarked_steps, marked_commits};
 
 /// Where the newest marked step goes, each step that depends on a marked one is still marked.
 pub fn marks_stay_closed()
@@ -33,4 +35,6 @@ pub fn marked_steps_go()
         → marked_steps (map (marked_by set) es) ≡ within (steps es) set }
     ensures count { (es : List Entry) (set : ℕ → Bool)
         → length (marked_keys (map (marked_by set) es)) ≡ length (within (steps es) set) }
+    ensures commits { (es : List Entry) (n : ℕ)
+        → marked_commits (map (marked_by (consequences (steps es) n)) es) ≡ commits_from (steps es) n }
 {}

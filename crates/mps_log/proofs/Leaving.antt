@@ -1,9 +1,13 @@
--- A step that may go, and what stands last with it.
-use Rattle.std.proofs.Common.{◌≡◌, ℕ, Bool, true, List, Option, Some, None, sym, ap, ◌∙◌, subst, ⊎_elim}
+-- A step that may go, what stands last with it, and an act that moves no message.
+use Rattle.std.proofs.Common.{◌≡◌, ℕ, Bool, true, List, Option, Some, None, refl, sym, ap, ◌∙◌, subst, ⊎_elim}
 use Rattle.std.specs.Prelude.{IsSomeAnd}
 use Rattle.std.specs.List.{AllByRecursion}
 use Rattle.std.specs.Option.{option_map}
+use Rattle.mps_base.specs.declared.action.Act.{Act}
+use Rattle.mps_base.specs.declared.action.Act.TheVariants.{Out, In}
+use Rattle.mps_base.specs.declared.action.Message.{Message}
 use Rattle.mps_base.specs.declared.action.Step.{Step}
+use Rattle.mps_base.specs.Effects.{Idle, effect}
 use Rattle.mps_arena.specs.Keys.{AreDistinct, last_key, key_after}
 use Rattle.mps_arena.specs.Entries.{Entry, keys_of, any_step, of_role, entry_at, IsSmall, AreSound}
 use Rattle.mps_arena.specs.Sources.{CanGo, IsFree}
@@ -48,3 +52,9 @@ leaves es k s sound can is =
     } in
     r)
     (cases_entry (entry_at k es))
+
+-- an act that is no send and no receipt
+pub neither : (a : Act) → ((to : ℕ) (m : Message) → a ≡ Out to m → ⊥) → ((from : ℕ) (slot : Option (List ℕ)) → a ≡ In from slot → ⊥) → effect a ≡ Idle
+neither (Out to m) out got = absurd (out to m refl)
+neither (In from slot) out got = absurd (got from slot refl)
+neither a out got = refl

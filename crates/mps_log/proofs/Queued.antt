@@ -17,7 +17,7 @@ use Rattle.mps_arena.proofs.Nodes.{cases_entry}
 use Rattle.mps_queues.specs.Fronts.{waiting_keys}
 use Rattle.mps_queues.proofs.Moves.{get_drop_front, next_waiting}
 use Rattle.mps_log.specs.Queued.{place_of, left_of, IsQueue}
-use Rattle.mps_log.specs.Values.{given_by, message_of}
+use Rattle.mps_log.specs.Values.{message_in, given_by, message_of}
 use Rattle.mps_log.specs.declared.queue.Queue.TheInside.{Inside}
 use Rattle.mps_log.proofs.Waiting.{message_waits, waiting_entry}
 
@@ -72,7 +72,7 @@ module _ (es : List Entry) (sound : AreSound es) (p q : ℕ) where
       (λ (z : entry_at k es ≡ None). absurd (both_ways (has k sent) (absent (sends p q) k es z) in_chain))
       (λ (w : (y : Entry) × (entry_at k es ≡ Some y)).
       let pair = sends_pair p q w.0.step (passes (sends p q) k es w.0 sound.distinct w.1 in_chain) in
-      (pair.0, ap (option_and_then (λ (x : Entry). given_by x.step.act)) w.1 ∙ ap given_by pair.2))
+      (pair.0, ap (option_and_then (λ (x : Entry). given_by x.step.act)) w.1 ∙ ap message_in pair.2))
       (cases_entry (entry_at k es))
 
 module _ (w : Inside) (walk : IsQueue w) where

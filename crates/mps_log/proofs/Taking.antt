@@ -5,7 +5,8 @@ use Rattle.std.specs.Prelude.{◌==◌, slice_get, is_some}
 use Rattle.std.specs.Option.{option_and_then}
 use Rattle.std.proofs.lemmas.Bool.{cases_Bool, cond-false}
 use Rattle.mps_base.specs.declared.action.Act.{Act}
-use Rattle.mps_base.specs.declared.action.Act.TheVariants.{Out, In, Mark}
+use Rattle.mps_base.specs.declared.action.Act.TheVariants.{In}
+use Rattle.mps_base.specs.Effects.{Effect, Gives, Takes, Idle, effect}
 use Rattle.mps_base.specs.declared.action.Message.{Message}
 use Rattle.mps_base.specs.declared.value.Value.{Value}
 use Rattle.mps_base.specs.declared.action.Step.{Step}
@@ -65,18 +66,18 @@ module _ (es : List Entry) (e : Entry) (sound : AreSound es) (fresh : entry_at e
   source_stays : (k j : ℕ) → source_in es k ≡ Some j → source_in more k ≡ Some j
   source_stays k j h =
       ⊎_elim
-      (λ (z : entry_at k es ≡ None). let no : None ≡ Some j = sym (ap (option_and_then (λ (x : Entry). source_mate x.step.act (mate_of es x))) z) ∙ h in absurd cc)
+      (λ (z : entry_at k es ≡ None). let no : None ≡ Some j = sym (ap (option_and_then (λ (x : Entry). source_mate (effect x.step.act) (mate_of es x))) z) ∙ h in absurd cc)
       (λ (w : (y : Entry) × (entry_at k es ≡ Some y)).
       let y = w.0 in
       let here = subst (λ (i : ℕ). entry_at i es ≡ Some y) (sym (entry_key k es y w.1)) w.1 in
-      ap (option_and_then (λ (x : Entry). source_mate x.step.act (mate_of more x))) (entry_stays k y w.1)
-      ∙ of_act y here y.step.act (sym (ap (option_and_then (λ (x : Entry). source_mate x.step.act (mate_of es x))) w.1) ∙ h))
+      ap (option_and_then (λ (x : Entry). source_mate (effect x.step.act) (mate_of more x))) (entry_stays k y w.1)
+      ∙ of_act y here (effect y.step.act) (sym (ap (option_and_then (λ (x : Entry). source_mate (effect x.step.act) (mate_of es x))) w.1) ∙ h))
       (cases_entry (entry_at k es))
     where
-      of_act : (y : Entry) → entry_at y.key es ≡ Some y → (c : Act) → source_mate c (mate_of es y) ≡ Some j → source_mate c (mate_of more y) ≡ Some j
-      of_act y found (Out to message) g = absurd cc
-      of_act y found (In from slot) g = mate_stays y j found g
-      of_act y found (Mark name) g = absurd cc
+      of_act : (y : Entry) → entry_at y.key es ≡ Some y → (c : Effect) → source_mate c (mate_of es y) ≡ Some j → source_mate c (mate_of more y) ≡ Some j
+      of_act y found (Gives to message) g = absurd cc
+      of_act y found (Takes from slot) g = mate_stays y j found g
+      of_act y found Idle g = absurd cc
 
   pub taken_stays : (k : ℕ) (m : Message) → message_taken es k ≡ Some m → message_taken more k ≡ Some m
   taken_stays k m h =
@@ -99,8 +100,8 @@ module _ (es : List Entry) (e : Entry) (sound : AreSound es) (fresh : entry_at e
   pub taken_new : (from : ℕ) (slot : Option (List ℕ)) (m : Message) → e.step.act ≡ In from slot → option_and_then (message_of es) (waiting es from e.step.role) ≡ Some m → message_taken more e.key ≡ Some m
   taken_new from slot m act h =
       let source : source_in more e.key ≡ waiting es from e.step.role =
-      ap (option_and_then (λ (x : Entry). source_mate x.step.act (mate_of more x))) entry_joins
-      ∙ ap (λ (c : Act). source_mate c (mate_of more e)) act
+      ap (option_and_then (λ (x : Entry). source_mate (effect x.step.act) (mate_of more x))) entry_joins
+      ∙ ap (λ (c : Act). source_mate (effect c) (mate_of more e)) act
       ∙ mate_new es e sound.distinct fresh
       ∙ ap (λ (c : Act). taken_by es (record e.step { act = c })) act in
       ap (option_and_then (message_of more)) source ∙ and_then_stays (message_of es) (message_of more) (waiting es from e.step.role) m message_stays h

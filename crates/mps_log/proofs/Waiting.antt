@@ -4,13 +4,12 @@ use Rattle.std.specs.Prelude.{slice_get, IsSome}
 use Rattle.std.specs.List.{filter, AllByRecursion}
 use Rattle.std.specs.Option.{option_and_then, option_map}
 use Rattle.std.proofs.lemmas.Bool.{cases_Bool, both_ways}
-use Rattle.mps_base.specs.declared.action.Act.{Act}
-use Rattle.mps_base.specs.declared.action.Act.TheVariants.{Out, In, Mark}
+use Rattle.mps_base.specs.Effects.{Effect, Gives, Takes, Idle, effect}
 use Rattle.mps_base.specs.declared.action.Message.{Message}
 use Rattle.mps_base.specs.declared.action.Step.{Step}
-use Rattle.mps_history.specs.Steps.{sends, receives, given, all_given, unreceived}
+use Rattle.mps_history.specs.Steps.{sends, receives, given, messages_of, all_given, unreceived}
 use Rattle.mps_arena.specs.Keys.{is_at, has, AreDistinct}
-use Rattle.mps_arena.specs.Entries.{Entry, steps, keys_of, any_step, like, unlike, entry_at, IsSmall, IsSmallAct, AreSound}
+use Rattle.mps_arena.specs.Entries.{Entry, steps, keys_of, any_step, like, unlike, entry_at, IsSmall, HasSmallPeer, AreSound}
 use Rattle.mps_arena.specs.Sources.{mate_of, source_in, waiting}
 use Rattle.mps_arena.specs.Receipts.{source_mate}
 use Rattle.mps_arena.proofs.KeyLists.{get_in, partner_in}
@@ -20,7 +19,7 @@ use Rattle.mps_arena.proofs.Mates.{sends_pair}
 use Rattle.mps_arena.proofs.Nodes.{cases_entry}
 use Rattle.mps_queues.specs.Fronts.{waiting_keys}
 use Rattle.mps_queues.proofs.Moves.{get_drop_front, first_waiting}
-use Rattle.mps_log.specs.Values.{given_by, message_of}
+use Rattle.mps_log.specs.Values.{message_in, given_by, message_of}
 
 -- a key of a chain is an entry's
 pub has_entry : (p : Step → Bool) (es : List Entry) (k : ℕ) → has k (keys_of p es) ≡ true → IsSome (entry_at k es)
@@ -47,11 +46,11 @@ module _ (es : List Entry) (sound : AreSound es) (p q : ℕ) where
       with_message : sends p q y.step ≡ true → ((n : ℕ) → slice_get (all_given (filter (sends p q) (steps b))) n ≡ option_and_then (message_of es) (slice_get (keys_of (sends p q) b) n)) → (n : ℕ) → slice_get (given y.step.act ++ all_given (filter (sends p q) (steps b))) n ≡ option_and_then (message_of es) (slice_get (y.key ∷ keys_of (sends p q) b) n)
       with_message t rest zero =
           let w = sends_pair p q y.step t in
-          ap (λ (c : Act). slice_get (given c ++ all_given (filter (sends p q) (steps b))) 0) w.2
-          ∙ sym (ap (option_and_then (λ (x : Entry). given_by x.step.act)) found ∙ ap given_by w.2)
+          ap (λ (c : Effect). slice_get (messages_of c ++ all_given (filter (sends p q) (steps b))) 0) w.2
+          ∙ sym (ap (option_and_then (λ (x : Entry). given_by x.step.act)) found ∙ ap message_in w.2)
       with_message t rest (suc n) =
           let w = sends_pair p q y.step t in
-          ap (λ (c : Act). slice_get (given c ++ all_given (filter (sends p q) (steps b))) (suc n)) w.2
+          ap (λ (c : Effect). slice_get (messages_of c ++ all_given (filter (sends p q) (steps b))) (suc n)) w.2
           ∙ rest n
 
   -- so what waits is what the waiting sends gave
@@ -77,7 +76,7 @@ module _ (es : List Entry) (sound : AreSound es) (p q : ℕ) where
       ⊎_elim
       (λ (t : sends p q y.step ≡ true).
       let w = sends_pair p q y.step t in
-      absurd (far (subst (λ (r : ℕ). r < 8) w.1 small.0.0) (subst IsSmallAct w.2 small.0.1)))
+      absurd (far (subst (λ (r : ℕ). r < 8) w.1 small.0.0) (subst HasSmallPeer w.2 small.0.1)))
       (λ (f : sends p q y.step ≡ false). keys_without (sends p q) y b f ∙ no_stranger far b small.1)
       (cases_Bool (sends p q y.step))
 
@@ -113,15 +112,15 @@ steps_at es sound a (y ∷ b) e (suc n) = steps_at es sound (a ++ y ∷ []) b (e
 pub source_entry : (es : List Entry) (k j : ℕ) → source_in es k ≡ Some j → IsSome (entry_at j es)
 source_entry es k j e =
     ⊎_elim
-    (λ (z : entry_at k es ≡ None). let no : None ≡ Some j = sym (ap (option_and_then (λ (x : Entry). source_mate x.step.act (mate_of es x))) z) ∙ e in absurd cc)
+    (λ (z : entry_at k es ≡ None). let no : None ≡ Some j = sym (ap (option_and_then (λ (x : Entry). source_mate (effect x.step.act) (mate_of es x))) z) ∙ e in absurd cc)
     (λ (w : (y : Entry) × (entry_at k es ≡ Some y)).
-    of_act w.0 w.0.step.act (sym (ap (option_and_then (λ (x : Entry). source_mate x.step.act (mate_of es x))) w.1) ∙ e))
+    of_act w.0 (effect w.0.step.act) (sym (ap (option_and_then (λ (x : Entry). source_mate (effect x.step.act) (mate_of es x))) w.1) ∙ e))
     (cases_entry (entry_at k es))
   where
-    of_act : (y : Entry) (c : Act) → source_mate c (mate_of es y) ≡ Some j → IsSome (entry_at j es)
-    of_act y (Out to message) h = absurd cc
-    of_act y (In from slot) h =
-        let own = keys_of (like y.step.role y.step.act) es in
-        let other = keys_of (unlike y.step.role y.step.act) es in
-        has_entry (unlike y.step.role y.step.act) es j (partner_in y.key j own other (ap (λ (o : Option ℕ). is_at o j) h ∙ eq-eqb j j refl))
-    of_act y (Mark name) h = absurd cc
+    of_act : (y : Entry) (c : Effect) → source_mate c (mate_of es y) ≡ Some j → IsSome (entry_at j es)
+    of_act y (Gives to message) h = absurd cc
+    of_act y (Takes from slot) h =
+        let own = keys_of (like y.step.role (effect y.step.act)) es in
+        let other = keys_of (unlike y.step.role (effect y.step.act)) es in
+        has_entry (unlike y.step.role (effect y.step.act)) es j (partner_in y.key j own other (ap (λ (o : Option ℕ). is_at o j) h ∙ eq-eqb j j refl))
+    of_act y Idle h = absurd cc

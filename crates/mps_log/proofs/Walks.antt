@@ -4,8 +4,7 @@ use mathlib.Core.Path.{ap₂}
 use Rattle.std.specs.Prelude.{◌==◌, IsSome}
 use Rattle.std.specs.Option.{option_and_then, option_map, option_or}
 use Rattle.std.proofs.lemmas.Bool.{cond-true, cond-false, eqb-true, or_left, false_from_ne_true, both_ways}
-use Rattle.mps_base.specs.declared.action.Act.{Act}
-use Rattle.mps_base.specs.declared.action.Act.TheVariants.{Mark}
+use Rattle.mps_base.specs.Effects.{Effect, Idle, effect}
 use Rattle.mps_base.specs.declared.action.Step.{Step}
 use Rattle.mps_arena.specs.Keys.{has, AreDistinct, first_key, key_after}
 use Rattle.mps_arena.specs.Entries.{Entry, keys_of, any_step, entry_at}
@@ -107,12 +106,12 @@ moved_by_act es k s e = by_entry (entry_at k es) refl e
         let same : y.step ≡ s = cc in
         ap₂ (λ (t : Step) (j : ℕ). option_or (given_by t.act) (option_and_then (message_of es) (source_in es j))) same (entry_key k es y is)
 
--- a mark has no source
-pub mark_has_none : (es : List Entry) (k : ℕ) (s : Step) (name : List ℕ) → option_map (λ e. e.step) (entry_at k es) ≡ Some s → s.act ≡ Mark name → source_in es k ≡ None
-mark_has_none es k s name e mark = by_entry (entry_at k es) refl e
+-- what takes nothing has no source
+pub idle_has_none : (es : List Entry) (k : ℕ) (s : Step) → option_map (λ e. e.step) (entry_at k es) ≡ Some s → effect s.act ≡ Idle → source_in es k ≡ None
+idle_has_none es k s e idle = by_entry (entry_at k es) refl e
   where
-    by_entry : (o : Option Entry) → entry_at k es ≡ o → option_map (λ e. e.step) o ≡ Some s → option_and_then (λ (x : Entry). source_mate x.step.act (mate_of es x)) o ≡ None
+    by_entry : (o : Option Entry) → entry_at k es ≡ o → option_map (λ e. e.step) o ≡ Some s → option_and_then (λ (x : Entry). source_mate (effect x.step.act) (mate_of es x)) o ≡ None
     by_entry None is h = refl
     by_entry (Some y) is h =
         let same : y.step ≡ s = cc in
-        ap (λ (a : Act). source_mate a (mate_of es y)) (ap (λ (t : Step). t.act) same ∙ mark)
+        ap (λ (a : Effect). source_mate a (mate_of es y)) (ap (λ (t : Step). effect t.act) same ∙ idle)

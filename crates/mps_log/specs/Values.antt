@@ -2,7 +2,7 @@
 use Rattle.std.specs.Prelude.{ℕ, List, Option, Some, None}
 use Rattle.std.specs.Option.{option_and_then, option_map}
 use Rattle.mps_base.specs.declared.action.Act.{Act}
-use Rattle.mps_base.specs.declared.action.Act.TheVariants.{Out, In, Mark}
+use Rattle.mps_base.specs.Effects.{Effect, Gives, effect}
 use Rattle.mps_base.specs.declared.action.Message.{Message}
 use Rattle.mps_base.specs.declared.action.Message.TheVariants.{Value as Plain, Label}
 use Rattle.mps_base.specs.declared.value.Value.{Value}
@@ -11,11 +11,14 @@ use Rattle.mps_arena.specs.Entries.{Entry, entry_at}
 use Rattle.mps_arena.specs.Sources.{source_in}
 use Rattle.mps_stores.specs.Stores.{bindings, slot_of, mark_of}
 
+-- the message that comes of the effect
+abbrev pub message_in : Effect → Option Message
+message_in (Gives to message) = Some message
+message_in effect = None
+
 -- the message that an act gives
 abbrev pub given_by : Act → Option Message
-given_by (Out to message) = Some message
-given_by (In from slot) = None
-given_by (Mark name) = None
+given_by act = message_in (effect act)
 
 -- the value of a message
 abbrev pub value_of : Message → Option Value

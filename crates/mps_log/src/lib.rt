@@ -11,6 +11,7 @@
 //! ```
 #![tactic(auto)]
 
+mod links;
 mod log;
 mod marks;
 mod moves;
@@ -18,4 +19,5 @@ mod queue;
 
 pub use log::Log;
 pub use moves::Moves;
+pub use mps_arena::{Before, Key};
 pub use queue::Queue;

@@ -2,7 +2,7 @@
 ghost use Rattle.std.specs.Prelude.{◌≡◌, ◌<◌, ◌+◌, ◌^◌, ◌==◌, ℕ, List, [], ◌∷◌, ◌++◌, not, Some, None, IfOk, OnOk, OnErr, IsSome, length, slice_get};
 ghost use Rattle.std.specs.List.{filter};
 ghost use Rattle.std.specs.Option.{option_copied, option_map, option_and_then};
-ghost use Rattle.mps_base.specs.declared.action.Act.TheVariants.{Out, In, Mark};
+ghost use Rattle.mps_base.specs.declared.action.Act.TheVariants.{Out, In, Mark, Commit};
 ghost use Rattle.mps_history.specs.Steps.{without, unreceived};
 ghost use Rattle.mps_arena.specs.Entries.{Entry, steps, entry_at, AreSound};
 ghost use Rattle.mps_arena.specs.Sources.{waiting, CanGo};
@@ -12,7 +12,7 @@ ghost use Rattle.mps_base.specs.declared.value.Value.{Value};
 ghost use Rattle.mps_stores.specs.Stores.{Naming, slot_of, mark_of, bindings, AreStores};
 ghost use Rattle.mps_log.specs.Joins.{HasJoined};
 ghost use Rattle.mps_log.specs.Shown.{shown};
-ghost use Rattle.mps_log.specs.Values.{message_of, value_taken, kept_in, kept_by, last_mark};
+ghost use Rattle.mps_log.specs.Values.{message_of, message_taken, value_taken, kept_in, kept_by, last_mark};
 
 use crate::moves::Moves;
 use crate::queue::Queue;
@@ -62,7 +62,7 @@ fn give_back(queues: &mut Queues, arena: &Arena, key: Key)
     match &step.act {
         Act::Out { to, .. } => queues.drop_last(arena, step.role, *to),
         Act::In { from, .. } => queues.put_back(arena, *from, step.role),
-        Act::Mark(_) => {}
+        _ => {}
     }
 }
 
@@ -85,7 +85,7 @@ fn slot_in(act: &Act) -> Option<&Name>
 {
     match act {
         Act::In { slot, .. } => slot.as_ref(),
-        Act::Out { .. } | Act::Mark(_) => None,
+        _ => None,
     }
 }
 
@@ -95,7 +95,7 @@ fn mark_in(act: &Act) -> Option<&Name>
 {
     match act {
         Act::Mark(name) => Some(name),
-        Act::Out { .. } | Act::In { .. } => None,
+        _ => None,
     }
 }
 
@@ -110,12 +110,19 @@ pub(crate) fn message_at(arena: &Arena, key: Key) -> Option<&Message>
     }
 }
 
+// The message that the receipt of the key took: its source's; none where the key is no receipt's.
+pub(crate) fn taken_at(arena: &Arena, key: Key) -> Option<&Message>
+    ensures { option_copied result ≡ message_taken arena.now.entries key }
+{
+    let source = arena.source(key)?;
+    message_at(arena, source)
+}
+
 // The value that the receipt of the key took; none where it took a label, or the key is no receipt's.
 fn value_at(arena: &Arena, receipt: Key) -> Option<&Value>
     ensures { option_copied result ≡ value_taken arena.now.entries receipt }
 {
-    let source = arena.source(receipt)?;
-    match message_at(arena, source) {
+    match taken_at(arena, receipt) {
         Some(Message::Value(value)) => Some(value),
         _ => None,
     }
@@ -304,6 +311,21 @@ impl Log {
         let act = Act::Mark(name);
         self.arena
             .add(Step { id, role, act }, Before { at, bound }, None);
+        Ok(id)
+    }
+
+    /// Puts a commit after all other steps, with the next number. The role stood at the node `at`.
+    pub fn commit(&mut self, role: Role, at: u16) -> Result<StepId, AllocError>
+        requires { role < 8 }
+        ensures id { IfOk result (λ id. id ≡ self.old.issued + 1) }
+        ensures joined { OnOk result (HasJoined self.old self.new role Commit at) }
+        ensures err { OnErr result (self.new ≡ self.old) }
+    {
+        self.arena.reserve_one()?;
+        let id = next_id(&self.arena);
+        let act = Act::Commit;
+        self.arena
+            .add(Step { id, role, act }, Before { at, bound: None }, None);
         Ok(id)
     }
 

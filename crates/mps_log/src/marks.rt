@@ -1,13 +1,14 @@
 //! Marks on the steps of a log.
 ghost use Rattle.std.specs.Prelude.{◌≡◌, [], map, length, IsSome};
 ghost use Rattle.mps_history.specs.Steps.{step_of, within};
-ghost use Rattle.mps_history.specs.Dependence.{consequences};
+ghost use Rattle.mps_history.specs.Dependence.{consequences, least};
+ghost use Rattle.mps_history.specs.Commits.{commits_from};
 ghost use Rattle.mps_arena.specs.Entries.{steps, AreSound};
-ghost use Rattle.mps_links.specs.Marks.{marked_keys, AreMarksClosed, marked_by, unmarked};
+ghost use Rattle.mps_links.specs.Marks.{marked_keys, AreMarksClosed, marked_by, unmarked, marked_commits};
 
 use crate::log::Log;
 use mps_base::StepId;
-use mps_links::{mark_from, unmark};
+use mps_links::{least_final, mark_from, unmark};
 
 impl Log {
     /// Marks the step of that number and all that depend on it, and tells how many they are.
@@ -19,10 +20,20 @@ impl Log {
         ensures count { result ≡ length (within (steps self.old.entries)
             (consequences (steps self.old.entries) id)) }
         ensures closed { AreMarksClosed self.new.entries }
+        ensures commits { marked_commits self.new.entries ≡ commits_from (steps self.old.entries) id }
         ensures issued { self.new.issued ≡ self.old.issued }
         ensures sound { AreSound self.new.entries }
     {
         mark_from(&mut self.arena, id)
+    }
+
+    /// The least number of a marked commit, where each step that depends on a marked one is marked. It does not allocate.
+    #[inline(always)]
+    pub fn least_final(&self) -> Option<StepId>
+        requires closed { AreMarksClosed self.now.entries }
+        ensures least { result ≡ least (marked_commits self.now.entries) }
+    {
+        least_final(&self.arena)
     }
 
     /// Takes all marks off, where each step that depends on a marked one is marked.

@@ -5,13 +5,13 @@ ghost use Rattle.std.specs.Option.{option_copied, option_and_then};
 ghost use Rattle.mps_arena.specs.Entries.{entry_at, AreSound};
 ghost use Rattle.mps_log.specs.Shown.{moved_of, shown};
 
-use crate::log::message_at;
+use crate::log::taken_at;
 use mps_arena::{Arena, Key};
 use mps_base::{Act, Message, Step};
 use std::marker::Model;
 
 /// The steps of a log that are left to show, the oldest first, each with the message that it gave or took. A mark
-/// moves none.
+/// moves none, nor does a commit.
 #[derive(Drop)]
 pub struct Moves<'a> {
     arena: &'a Arena,
@@ -66,7 +66,7 @@ fn moved_at(arena: &Arena, key: Key) -> Option<&Message>
 {
     match &arena.get(key).act {
         Act::Out { message, .. } => Some(message),
-        Act::In { .. } => message_at(arena, arena.source(key)?),
-        Act::Mark(_) => None,
+        Act::In { .. } => taken_at(arena, key),
+        _ => None,
     }
 }

@@ -1,15 +1,15 @@
 -- What depends on a step, and the step, may be taken last: so it may be left out.
-use Rattle.std.proofs.Common.{◌≡◌, ◌≢◌, ℕ, ◌+◌, ◌<◌, Bool, true, false, not, List, [], ◌∷◌, ◌++◌, length, cond, Some, refl, sym, ap, ◌∙◌, subst, arith, ⊎_elim, inl, inr, length-append, append_assoc}
+use Rattle.std.proofs.Common.{◌≡◌, ◌≢◌, ℕ, ◌+◌, ◌<◌, Bool, true, false, not, List, [], ◌∷◌, ◌++◌, length, Some, refl, sym, ap, ◌∙◌, subst, arith, ⊎_elim, inl, inr, length-append, append_assoc}
 use Rattle.std.specs.Prelude.{◌==◌, ◌&&◌, ◌||◌, nat_lt, ⊤}
-use Rattle.std.specs.List.{filter, AllByRecursion}
-use Rattle.std.proofs.lemmas.Bool.{cases_Bool, cond-false, and_parts, and_from, and_left, ne_eqb, eqb-false, lt-ltb, le-ltb, or_left, or_parts, and_right, not-true, not_from_false, false≢true, false_from_ne_true}
+use Rattle.std.specs.List.{filter}
+use Rattle.std.proofs.lemmas.Bool.{cases_Bool, and_parts, and_from, and_left, ne_eqb, eqb-false, lt-ltb, le-ltb, or_left, or_parts, and_right, not-true, not_from_false, false≢true, false_from_ne_true}
 use Rattle.std.proofs.lemmas.List.Elements.{filter-append}
 use Rattle.mps_base.specs.declared.action.Step.{Step}
 use Rattle.mps_local.specs.Local.{LocalType}
 use Rattle.mps_history.specs.Steps.{IsIn, IsRising, sends, receives, without, within}
 use Rattle.mps_history.specs.Dependence.{sent_before, received_before, is_matched, depends_on, IsClosed}
 use Rattle.mps_history.proofs.Order.{at_member, from_members, rising_apart, filter-IsIn, IsIn-append_right, IsRising-append_right, IsRising-filter}
-use Rattle.mps_history.proofs.Removal.{filter-none, filter-same}
+use Rattle.mps_history.proofs.Removal.{filter-none, filter-same, filter-filter}
 use Rattle.mps_machine.specs.View.{View, opening}
 use Rattle.mps_machine.specs.Rule.{rule, replay}
 use Rattle.mps_machine.proofs.Stepping.{one_if, queue_step, queue_count, length_filter_step, replay_parts, replay_from, replay-append, replay_front}
@@ -60,17 +60,6 @@ passes_from (t ∷ b) v s r f =
                 there.1 y z (omega arith)),
           ))),
     )
-
--- a filter passes over what a weaker filter took out
-filter_filter : (f g : Step → Bool) (h : List Step) → AllByRecursion (λ t. f t ≡ true → g t ≡ true) h → filter f (filter g h) ≡ filter f h
-filter_filter f g [] a = refl
-filter_filter f g (x ∷ h) a =
-    ⊎_elim
-    (λ (y : g x ≡ true). rw y (ap (λ l. cond (f x) (x ∷ l) l) (filter_filter f g h a.1)))
-    (λ (n : g x ≡ false).
-    let no : f x ≡ false = false_from_ne_true (f x) (λ e. false≢true (sym n ∙ a.0 e)) in
-    rw n (filter_filter f g h a.1 ∙ sym (cond-false (f x) (x ∷ filter f h) (filter f h) no)))
-    (cases_Bool (g x))
 
 -- counting the sends before a step, by numbers and by places
 pub sent_before_place : (a l : List Step) (s : Step) (p q : ℕ) → IsRising (a ++ s ∷ l) → sent_before p q s.id (a ++ s ∷ l) ≡ length (filter (sends p q) a)
@@ -124,7 +113,7 @@ module _ (set : ℕ → Bool) (a l : List Step) (s : Step) (rising : IsRising (a
   -- the receipts of an outsider's role between s and it are none of the set
   kept_receipts : (t : Step) → IsIn t (without l set) → (p : ℕ) → received_before p t.role t.id (without l set) ≡ received_before p t.role t.id l
   kept_receipts t i p =
-      ap length (filter_filter (λ x. nat_lt x.id t.id && receives p t.role x) (λ x. not (set x.id)) l
+      ap length (filter-filter (λ x. nat_lt x.id t.id && receives p t.role x) (λ x. not (set x.id)) l
       (from_members (λ x. (nat_lt x.id t.id && receives p t.role x) ≡ true → not (set x.id) ≡ true) l
       (λ x j e.
       let parts = and_parts (nat_lt x.id t.id) (receives p t.role x) e in

@@ -3,29 +3,28 @@ use Rattle.std.proofs.Common.{◌≡◌, ◌≢◌, ℕ, ◌<◌, Bool, true, fa
 use Rattle.std.specs.Prelude.{◌==◌, ◌&&◌}
 use Rattle.std.proofs.lemmas.Bool.{cases_Bool, cond-true, cond-false, and_parts, and_from, and_left, ne_eqb, eqb-true, eq-eqb}
 use mathlib.Core.Path.{fun_ext, ap₂}
-use Rattle.mps_base.specs.declared.action.Act.{Act}
-use Rattle.mps_base.specs.declared.action.Act.TheVariants.{Out, In, Mark}
+use Rattle.mps_base.specs.Effects.{Effect, Gives, Takes, Idle, effect}
 use Rattle.mps_base.specs.declared.action.Message.{Message}
 use Rattle.mps_base.specs.declared.action.Step.{Step}
-use Rattle.mps_history.specs.Steps.{comes_from, sends, receives, given}
+use Rattle.mps_history.specs.Steps.{takes_from, sends, receives, given}
 use Rattle.mps_machine.specs.View.{Participant, View}
-use Rattle.mps_machine.specs.Rule.{first_of, moved, participant_after, queue_after, view_after, rule}
-use Rattle.mps_machine.proofs.Stepping.{rule_parts, rule_from, first_of-append, a_receipt_finds, a_receipt_waits}
+use Rattle.mps_machine.specs.Rule.{first_of, moved_by_effect, moved, participant_after, queue_after, view_after, rule}
+use Rattle.mps_machine.proofs.Stepping.{rule_parts, rule_from, first_of-append, a_receipt_waits, taken_there}
 
 -- t doesn't take what s sends: where s sends to t's role and t receives from it, something older waits
 abbrev pub Waits : View → Step → Step → Type 0
 Waits v s t = sends s.role t.role s ≡ true → receives s.role t.role t ≡ true → 0 < length (v.queue s.role t.role)
 
 -- s leaves what another role's act moves: it appends after the first message, or it has to do with another queue
-moved_stays : (v : View) (s : Step) (c : Participant) (r : ℕ) (act : Act) → s.role ≢ r → ((from : ℕ) (slot : Option (List ℕ)) → act ≡ In from slot → sends from r s ≡ true → 0 < length (v.queue from r)) → moved (view_after v s c) r act ≡ moved v r act
-moved_stays v s c r (Out to m) ne waits = refl
-moved_stays v s c r (In from slot) ne waits =
+moved_stays : (v : View) (s : Step) (c : Participant) (r : ℕ) (does : Effect) → s.role ≢ r → ((from : ℕ) (slot : Option (List ℕ)) → does ≡ Takes from slot → sends from r s ≡ true → 0 < length (v.queue from r)) → moved_by_effect (view_after v s c) r does ≡ moved_by_effect v r does
+moved_stays v s c r (Gives to m) ne waits = refl
+moved_stays v s c r (Takes from slot) ne waits =
     let no : receives from r s ≡ false = and_left (s.role == r) _ (ne_eqb s.role r ne) in
     ⊎_elim
     (λ (y : sends from r s ≡ true). ap first_of (cond-true (sends from r s) _ _ y) ∙ first_of-append (v.queue from r) (given s.act) (waits from slot refl y))
     (λ (n : sends from r s ≡ false). ap first_of (cond-false (sends from r s) _ _ n ∙ cond-false (receives from r s) _ _ no))
     (cases_Bool (sends from r s))
-moved_stays v s c r (Mark name) ne waits = refl
+moved_stays v s c r Idle ne waits = refl
 
 -- the other roles stay as they are
 other_role : (v : View) (s : Step) (c : Participant) (r : ℕ) → s.role ≢ r → (view_after v s c).participant r ≡ v.participant r
@@ -95,27 +94,22 @@ commute v v1 w s t es et ne waits =
     let pt = rule_parts (view_after v s c) w t et' in
     let d = pt.0 in
     let same_moved : moved (view_after v s c) t.role t.act ≡ moved v t.role t.act =
-    moved_stays v s c t.role t.act ne
+    moved_stays v s c t.role (effect t.act) ne
     (λ from slot is y.
     let p = eqb-true s.role from (and_parts (s.role == from) _ y).0 in
     let y' : sends s.role t.role s ≡ true = subst (λ (k : ℕ). sends k t.role s ≡ true) (sym p) y in
-    let z : receives s.role t.role t ≡ true = and_from (t.role == t.role) _ (eq-eqb t.role t.role refl) (receipt_from t.act from slot is (sym p)) in
+    let z : receives s.role t.role t ≡ true = and_from (t.role == t.role) _ (eq-eqb t.role t.role refl) (receipt_from (effect t.act) from slot is (sym p)) in
     subst (λ (k : ℕ). 0 < length (v.queue k t.role)) p (waits y' z)) in
     let allowed_t : participant_after (v.participant t.role) t.act (moved v t.role t.act) ≡ Some d =
     subst (λ (m : Option Message). participant_after (v.participant t.role) t.act m ≡ Some d) same_moved
     (subst (λ (k : Participant). participant_after k t.act (moved (view_after v s c) t.role t.act) ≡ Some d) (other_role v s c t.role ne) pt.1) in
     let back : moved (view_after v t d) s.role s.act ≡ moved v s.role s.act =
-    moved_stays v t d s.role s.act (λ f. ne (sym f))
-    (λ from slot is y. receipt_waits v c (v.participant s.role) s.role s.act from slot is ps.1) in
+    moved_stays v t d s.role (effect s.act) (λ f. ne (sym f))
+    (λ from slot is y. taken_there (v.participant s.role) c s.act v s.role from slot is ps.1) in
     let allowed_s : participant_after ((view_after v t d).participant s.role) s.act (moved (view_after v t d) s.role s.act) ≡ Some c =
     subst (λ (m : Option Message). participant_after ((view_after v t d).participant s.role) s.act m ≡ Some c) (sym back)
     (subst (λ (k : Participant). participant_after k s.act (moved v s.role s.act) ≡ Some c) (sym (other_role v t d s.role (λ f. ne (sym f)))) ps.1) in
     (view_after v t d, rule_from v t d allowed_t, rule_from (view_after v t d) s c allowed_s ∙ ap Some (sym (views_commute v v1 s t c d es ne waits) ∙ pt.2))
   where
-    receipt_from : (act : Act) (from : ℕ) (slot : Option (List ℕ)) {k : ℕ} → act ≡ In from slot → from ≡ k → comes_from k act ≡ true
-    receipt_from act from slot {k} is e = rw is (eq-eqb from k e)
-
-    receipt_waits : (v : View) (c b : Participant) (r : ℕ) (act : Act) (from : ℕ) (slot : Option (List ℕ)) → act ≡ In from slot → participant_after b act (moved v r act) ≡ Some c → 0 < length (v.queue from r)
-    receipt_waits v c b r act from slot is e =
-        let e' : participant_after b (In from slot) (first_of (v.queue from r)) ≡ Some c = subst (λ (a : Act). participant_after b a (moved v r a) ≡ Some c) is e in
-        a_receipt_finds b c (v.queue from r) from slot e'
+    receipt_from : (does : Effect) (from : ℕ) (slot : Option (List ℕ)) {k : ℕ} → does ≡ Takes from slot → from ≡ k → takes_from k does ≡ true
+    receipt_from does from slot {k} is e = rw is (eq-eqb from k e)

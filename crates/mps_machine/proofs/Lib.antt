@@ -11,3 +11,4 @@ pub mod TakingBack
 pub mod Marks
 pub mod Faults
 pub mod Answering
+pub mod Keeping

@@ -1,17 +1,20 @@
 -- What a sound state promises of returns to a mark.
 use Rattle.std.proofs.Common.{◌≡◌, ℕ, true, false, List, [], ◌∷◌, ◌++◌, Option, Some, None, Err, refl, sym, ap, ◌∙◌, subst, ⊎_elim, inl, inr, eq-eqb}
 use Rattle.std.specs.Prelude.{◌≢◌, ◌==◌, is_some, if◌then◌else◌}
+use Rattle.std.specs.Option.{option_map}
 use Rattle.std.proofs.lemmas.Bool.{cases_Bool, cond-true, cond-false, eqb-true}
 use Rattle.std.proofs.lemmas.Slice.Eq.{bytes_eq-Decides}
 use Rattle.mps_base.specs.declared.action.Act.{Act}
-use Rattle.mps_base.specs.declared.action.Act.TheVariants.{Out, In, Mark}
+use Rattle.mps_base.specs.declared.action.Act.TheVariants.{Mark}
 use Rattle.mps_base.specs.declared.action.Step.{Step}
 use Rattle.mps_command.specs.declared.answer.Refusal.{Refusal}
-use Rattle.mps_command.specs.declared.answer.Refusal.TheVariants.{NoMark}
+use Rattle.mps_command.specs.declared.answer.Refusal.TheVariants.{Final, NoMark}
+use Rattle.mps_history.specs.Commits.{commits_from}
+use Rattle.mps_history.specs.Dependence.{least}
 use Rattle.mps_history.specs.Steps.{IsIn, steps_of}
 use Rattle.mps_history.proofs.Order.{IsIn-append_right, IsIn-filter, filter-IsIn}
 use Rattle.mps_local.specs.Local.{LocalType}
-use Rattle.mps_machine.specs.Machine.{State, unless, rolled_back, is_mark, since_mark, back_to, IsSound}
+use Rattle.mps_machine.specs.Machine.{State, unless, rolled_back, rolled_back_unless_final, is_mark, since_mark, back_to, IsSound}
 use Rattle.mps_machine.specs.TakingBack.{IsOwn, IsLastMark, ReturnsToMarks}
 use Rattle.mps_machine.proofs.TakingBack.{own_allowed}
 
@@ -30,9 +33,8 @@ is_mark_itself : (name : List ℕ) (act : Act) → act ≡ Mark name → is_mark
 is_mark_itself name act e = ap (is_mark name) e ∙ (bytes_eq-Decides name name).1 refl
 
 mark_is : (name : List ℕ) (act : Act) → is_mark name act ≡ true → act ≡ Mark name
-mark_is name (Out to message) e = absurd cc
-mark_is name (In from slot) e = absurd cc
 mark_is name (Mark m) e = ap Mark ((bytes_eq-Decides m name).0 e)
+mark_is name act e = absurd cc
 
 no_mark_is : (name : List ℕ) (act : Act) → act ≢ Mark name → is_mark name act ≡ false
 no_mark_is name act other =
@@ -75,7 +77,11 @@ since_last h p name mark behind w =
 refused_none : (st : State) (o : Option (List Step)) → (back_to o st).0 ≡ Err NoMark → o ≡ None
 refused_none st None e = refl
 refused_none st (Some []) e = absurd cc
-refused_none st (Some (s ∷ h)) e = absurd cc
+refused_none st (Some (s ∷ h)) e = absurd (not_no_mark (least (commits_from st.history s.id)) e)
+  where
+    not_no_mark : (by : Option ℕ) → (unless (option_map Final by) st (rolled_back st s.id)).0 ≢ Err NoMark
+    not_no_mark None e = absurd cc
+    not_no_mark (Some n) e = absurd cc
 
 -- the first step after the mark is the role's own
 first_own : (h : List Step) (p : ℕ) (name : List ℕ) (mark s : Step) (behind : List Step) → IsLastMark h p name mark (s ∷ behind) → IsOwn h p s.id s
@@ -95,6 +101,6 @@ returns_to_marks types st ok =
       );
       first = λ p name mark s behind w.
           ap (λ (o : Option (List Step)). back_to o st) (since_last h p name mark (s ∷ behind) w)
-          ∙ sym (ap (λ (fault : Option Refusal). unless fault st (rolled_back st s.id)) (own_allowed h p s.id s ok.rising (first_own h p name mark s behind w)));
+          ∙ sym (ap (λ (fault : Option Refusal). unless fault st (rolled_back_unless_final st s.id)) (own_allowed h p s.id s ok.rising (first_own h p name mark s behind w)));
       nothing = λ p name mark w. ap (λ (o : Option (List Step)). back_to o st) (since_last h p name mark [] w);
     }

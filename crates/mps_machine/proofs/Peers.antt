@@ -1,12 +1,11 @@
 -- An allowed act names a peer of the type, and what is left of the type names no others.
 use Rattle.std.proofs.Common.{◌≡◌, ◌≢◌, ℕ, zero, suc, Bool, true, false, List, Option, Some, None, sym, subst, ⊎_elim, cond}
 use Rattle.std.specs.Prelude.{◌==◌, ◌&&◌}
-use Rattle.std.specs.Option.{option_map}
 use Rattle.std.specs.Str.{bytes_eq}
 use Rattle.std.proofs.lemmas.Bool.{cases_Bool, cond-true, cond-false, eqb-true, eqb-false}
 use Rattle.mps_base.specs.Sorts.{fits}
+use Rattle.mps_base.specs.Effects.{Effect, Gives, Takes, Idle, effect}
 use Rattle.mps_base.specs.declared.action.Act.{Act}
-use Rattle.mps_base.specs.declared.action.Act.TheVariants.{Out, In, Mark}
 use Rattle.mps_base.specs.declared.action.Message.{Message}
 use Rattle.mps_base.specs.declared.action.Message.TheVariants.{Value as Plain, Label}
 use Rattle.mps_base.specs.declared.action.Step.{Step}
@@ -14,9 +13,9 @@ use Rattle.mps_local.specs.Actions.{branch_at}
 use Rattle.mps_local.specs.Local.{LocalType, Branches, End, Var, Rec, Send, Recv, Select, Branch, NoMore, More}
 use Rattle.mps_local.specs.Shape.{AllPeers, AllBranchPeers}
 use Rattle.mps_local.specs.Unfolding.{replaced, replaced_in, opened, opened_times, leading, unfolded}
-use Rattle.mps_machine.specs.Rule.{type_after, advanced, participant_after, view_after}
+use Rattle.mps_machine.specs.Rule.{type_after_effect, to_come_after, participant_after, view_after}
 use Rattle.mps_machine.specs.View.{Participant, View}
-use Rattle.mps_machine.proofs.Stepping.{map_some}
+use Rattle.mps_machine.proofs.Stepping.{participant_parts}
 
 module _ (P : ℕ → Type 0) (x : List ℕ) (t : LocalType) (fine : AllPeers P t) where
   mutual
@@ -68,11 +67,15 @@ module _ (P : ℕ → Type 0) where
       (λ (n : bytes_eq l label ≡ false). let k = rw n at e in branch_peers label others t a.1 k)
       (cases_Bool (bytes_eq l label))
 
+  -- the peer of an effect is such a role
+  abbrev pub SpeaksWith : Effect → Type 0
+  SpeaksWith (Gives to m) = P to
+  SpeaksWith (Takes from slot) = P from
+  SpeaksWith Idle = Unit {0}
+
   -- the peer of an act is such a role
   abbrev pub Speaks : Act → Type 0
-  Speaks (Out to m) = P to
-  Speaks (In from slot) = P from
-  Speaks (Mark name) = Unit {0}
+  Speaks act = SpeaksWith (effect act)
 
   guarded_value : (to peer : ℕ) (b : Bool) (next t : LocalType) → cond (to == peer && b) (Some next) None ≡ Some t → P peer → AllPeers P next → P to × AllPeers P t
   guarded_value to peer b next t e p a =
@@ -98,24 +101,25 @@ module _ (P : ℕ → Type 0) where
       (λ (n : (to == peer) ≡ false). let k = rw n at e in absurd cc)
       (cases_Bool (to == peer))
 
-  left_peers : (t : LocalType) (act : Act) (m : Option Message) (u : LocalType) → AllPeers P t → type_after t act m ≡ Some u → Speaks act × AllPeers P u
-  left_peers (Send peer sort next) (Out to (Plain v)) m u a e = guarded_value to peer (fits v sort) next u e a.0 a.1
-  left_peers (Select peer branches) (Out to (Label l)) m u a e = guarded_label to peer l branches u e a.0 a.1
-  left_peers (Recv peer sort next) (In from (Some slot)) (Some (Plain v)) u a e = guarded_value from peer (fits v sort) next u e a.0 a.1
-  left_peers (Branch peer branches) (In from None) (Some (Label l)) u a e = guarded_label from peer l branches u e a.0 a.1
-  left_peers t act m u a e = absurd cc
+  left_peers : (t : LocalType) (does : Effect) (m : Option Message) (u : LocalType) → AllPeers P t → type_after_effect t does m ≡ Some u → SpeaksWith does × AllPeers P u
+  left_peers (Send peer sort next) (Gives to (Plain v)) m u a e = guarded_value to peer (fits v sort) next u e a.0 a.1
+  left_peers (Select peer branches) (Gives to (Label l)) m u a e = guarded_label to peer l branches u e a.0 a.1
+  left_peers (Recv peer sort next) (Takes from (Some slot)) (Some (Plain v)) u a e = guarded_value from peer (fits v sort) next u e a.0 a.1
+  left_peers (Branch peer branches) (Takes from None) (Some (Label l)) u a e = guarded_label from peer l branches u e a.0 a.1
+  left_peers t does m u a e = absurd cc
 
-  moved_peers : (before after : Participant) (act : Act) (m : Option Message) → AllPeers P before.to_come → option_map (advanced before act m) (type_after (unfolded before.to_come) act m) ≡ Some after → Speaks act × AllPeers P after.to_come
-  moved_peers before after act m a e =
-      let k = map_some (advanced before act m) (type_after (unfolded before.to_come) act m) after e in
-      let b = left_peers (unfolded before.to_come) act m k.0 (unfolded_peers before.to_come a) k.1 in
-      (b.0, subst (λ (c : Participant). AllPeers P c.to_come) k.2 b.1)
+  -- a type to come names no other peers
+  to_come_peers : (t : LocalType) (does : Effect) (m : Option Message) (u : LocalType) → AllPeers P t → to_come_after t does m ≡ Some u → SpeaksWith does × AllPeers P u
+  to_come_peers t Idle m u a e = (tt, subst (AllPeers P) (let is : t ≡ u = cc in is) a)
+  to_come_peers t (Gives to x) m u a e = left_peers (unfolded t) (Gives to x) m u (unfolded_peers t a) e
+  to_come_peers t (Takes from slot) m u a e = left_peers (unfolded t) (Takes from slot) m u (unfolded_peers t a) e
 
   -- so it is with an act of a participant
   pub after_peers : (before after : Participant) (act : Act) (m : Option Message) → AllPeers P before.to_come → participant_after before act m ≡ Some after → Speaks act × AllPeers P after.to_come
-  after_peers before after (Out to x) m a e = moved_peers before after (Out to x) m a e
-  after_peers before after (In from slot) m a e = moved_peers before after (In from slot) m a e
-  after_peers before after (Mark name) m a e = (tt, subst (λ (c : Participant). AllPeers P c.to_come) (let is : advanced before (Mark name) m before.to_come ≡ after = cc in is) a)
+  after_peers before after act m a e =
+      let parts = participant_parts before after act m e in
+      let b = to_come_peers before.to_come (effect act) m parts.0 a parts.1 in
+      (b.0, subst (λ (c : Participant). AllPeers P c.to_come) parts.2 b.1)
 
 -- what holds of the role of a step after it, and of the others before it, holds of each after it
 pub fact_by_role : (P : ℕ → Participant → Type 0) (v : View) (s : Step) (c : Participant) (r : ℕ) → P s.role c → (r ≢ s.role → P r (v.participant r)) → P r ((view_after v s c).participant r)

@@ -19,7 +19,7 @@ use Rattle.mps_machine.specs.Violations.{violation}
 use Rattle.mps_command.specs.Acts.{act_of}
 use Rattle.mps_command.specs.declared.command.Change.{Change}
 use Rattle.mps_command.specs.declared.command.Change.TheVariants.{Forward, Undo, Rollback, Back}
-use Rattle.mps_machine.specs.Machine.{State, initial, view_of, accepted, unless, full_fault, done_by, forward, owner_fault, undone, undo, rolled_back, rollback, since_mark, back_to, Request, serve, after, IsSound}
+use Rattle.mps_machine.specs.Machine.{State, initial, view_of, accepted, unless, full_fault, done_by, forward, owner_fault, commit_fault, final_fault, undone, undo, rolled_back, rolled_back_unless_final, rollback, since_mark, back_to, Request, serve, after, IsSound}
 use Rattle.mps_machine.proofs.Stepping.{replay-append, replay_from}
 use Rattle.mps_machine.proofs.Apart.{left_out}
 use Rattle.mps_machine.proofs.Defined.{allowed_step}
@@ -66,7 +66,7 @@ unless_sound : {A : Type 0} (types : List LocalType) (fault : Option Refusal) (s
 unless_sound types (Some refusal) st served ok next = ok
 unless_sound types None st served ok next = next refl
 
-none_under : {A B : Type 0} (f : A → B) (o : Option A) → option_map f o ≡ None → o ≡ None
+pub none_under : {A B : Type 0} (f : A → B) (o : Option A) → option_map f o ≡ None → o ≡ None
 none_under f None e = refl
 none_under f (Some x) e = absurd cc
 
@@ -100,16 +100,20 @@ alone_closed h n r none t s it is e d =
 undo_sound : (types : List LocalType) (st : State) (p n : ℕ) → IsSound types st → IsSound types (undo st p n).1
 undo_sound types st p n ok =
     let by = least (dependents st.history n) in
-    unless_sound types (owner_fault p (step_of st.history n)) st (unless (option_map Needed by) st (undone st n)) ok
+    let last = unless (option_map Needed by) st (undone st n) in
+    unless_sound types (owner_fault p (step_of st.history n)) st (unless (commit_fault (step_of st.history n)) st last) ok
+    (λ _. unless_sound types (commit_fault (step_of st.history n)) st last ok
     (λ _. unless_sound types (option_map Needed by) st (undone st n) ok
-    (λ e. without_sound types st (λ m. m == n) ok (alone_closed st.history n ok.rising (least_none (dependents st.history n) (none_under Needed by e)))))
+    (λ e. without_sound types st (λ m. m == n) ok (alone_closed st.history n ok.rising (least_none (dependents st.history n) (none_under Needed by e))))))
 
-rolled_back_sound : (types : List LocalType) (st : State) (n : ℕ) → IsSound types st → IsSound types (rolled_back st n).1
-rolled_back_sound types st n ok = without_sound types st (consequences st.history n) ok (consequences_closed st.history n ok.rising)
+rolled_back_sound : (types : List LocalType) (st : State) (n : ℕ) → IsSound types st → IsSound types (rolled_back_unless_final st n).1
+rolled_back_sound types st n ok =
+    unless_sound types (final_fault st.history n) st (rolled_back st n) ok
+    (λ _. without_sound types st (consequences st.history n) ok (consequences_closed st.history n ok.rising))
 
 rollback_sound : (types : List LocalType) (st : State) (p n : ℕ) → IsSound types st → IsSound types (rollback st p n).1
 rollback_sound types st p n ok =
-    unless_sound types (owner_fault p (step_of st.history n)) st (rolled_back st n) ok (λ _. rolled_back_sound types st n ok)
+    unless_sound types (owner_fault p (step_of st.history n)) st (rolled_back_unless_final st n) ok (λ _. rolled_back_sound types st n ok)
 
 back_sound : (types : List LocalType) (st : State) (found : Option (List Step)) → IsSound types st → IsSound types (back_to found st).1
 back_sound types st None ok = ok

@@ -4,15 +4,16 @@ use Rattle.std.specs.Prelude.{◌==◌, ◌&&◌, option_and_then}
 use Rattle.std.specs.Option.{option_map}
 use Rattle.std.specs.List.{filter}
 use Rattle.std.proofs.lemmas.Bool.{and_parts, eqb-true}
+use Rattle.mps_base.specs.Effects.{Effect, Gives, Takes, Idle, effect}
 use Rattle.mps_base.specs.declared.action.Act.{Act}
-use Rattle.mps_base.specs.declared.action.Act.TheVariants.{Out, In, Mark}
+use Rattle.mps_base.specs.declared.action.Act.TheVariants.{In}
 use Rattle.mps_base.specs.declared.action.Message.{Message}
 use Rattle.mps_base.specs.declared.action.Step.{Step}
 use Rattle.mps_local.specs.Local.{LocalType, End, Var, Rec, Send, Recv, Select, Branch}
-use Rattle.mps_history.specs.Steps.{sends, receives, given}
+use Rattle.mps_history.specs.Steps.{gives_to, takes_from, messages_of, sends, receives, given}
 use Rattle.mps_local.specs.Unfolding.{unfolded}
 use Rattle.mps_machine.specs.View.{Participant, View}
-use Rattle.mps_machine.specs.Rule.{first_of, moved, type_after, advanced, participant_after, view_after, rule, replay}
+use Rattle.mps_machine.specs.Rule.{first_of, moved_by_effect, moved, type_after_effect, to_come_after, advanced, participant_after, view_after, rule, replay}
 
 -- what `map` gives came from a value
 pub map_some : {A B : Type 0} (f : A → B) (o : Option A) (y : B) → option_map f o ≡ Some y → (x : A) × (o ≡ Some x) × (f x ≡ y)
@@ -53,24 +54,31 @@ replay_front v w (s ∷ a) b e =
     (r.0, replay_from v p.0 s a p.1 ∙ r.1, r.2)
 
 -- nothing is taken where nothing waits
-type_after_none : (t : LocalType) (from : ℕ) (slot : Option (List ℕ)) → type_after t (In from slot) None ≡ None
-type_after_none End from slot = refl
-type_after_none (Var x) from slot = refl
-type_after_none (Rec x t) from slot = refl
-type_after_none (Send p sort t) from slot = refl
-type_after_none (Recv p sort t) from None = refl
-type_after_none (Recv p sort t) from (Some x) = refl
-type_after_none (Select p bs) from slot = refl
-type_after_none (Branch p bs) from None = refl
-type_after_none (Branch p bs) from (Some x) = refl
+takes_nothing : (t : LocalType) (from : ℕ) (slot : Option (List ℕ)) → type_after_effect t (Takes from slot) None ≡ None
+takes_nothing End from slot = refl
+takes_nothing (Var x) from slot = refl
+takes_nothing (Rec x t) from slot = refl
+takes_nothing (Send p sort t) from slot = refl
+takes_nothing (Recv p sort t) from None = refl
+takes_nothing (Recv p sort t) from (Some x) = refl
+takes_nothing (Select p bs) from slot = refl
+takes_nothing (Branch p bs) from None = refl
+takes_nothing (Branch p bs) from (Some x) = refl
 
-takes_nothing : (c : Participant) (from : ℕ) (slot : Option (List ℕ)) → participant_after c (In from slot) None ≡ None
-takes_nothing c from slot = ap (option_map (advanced c (In from slot) None)) (type_after_none (unfolded c.to_come) from slot)
+-- what is taken, where that is allowed, is there
+takes_something : (t u : LocalType) (queue : List Message) (from : ℕ) (slot : Option (List ℕ)) → to_come_after t (Takes from slot) (first_of queue) ≡ Some u → 0 < length queue
+takes_something t u [] from slot e = absurd (let n = takes_nothing (unfolded t) from slot in let bad : None ≡ Some u = sym n ∙ e in cc)
+takes_something t u (m ∷ queue) from slot e = omega arith
+
+-- the parts of an allowed act: the type to come, and the role with it
+pub participant_parts : (c d : Participant) (act : Act) (m : Option Message) → participant_after c act m ≡ Some d → (u : LocalType) × (to_come_after c.to_come (effect act) m ≡ Some u) × (advanced c act m u ≡ d)
+participant_parts c d act m e = map_some (advanced c act m) (to_come_after c.to_come (effect act) m) d e
 
 -- a receipt that is allowed finds a message
 pub a_receipt_finds : (c d : Participant) (queue : List Message) (from : ℕ) (slot : Option (List ℕ)) → participant_after c (In from slot) (first_of queue) ≡ Some d → 0 < length queue
-a_receipt_finds c d [] from slot e = absurd (let n = takes_nothing c from slot in let bad : None ≡ Some d = sym n ∙ e in cc)
-a_receipt_finds c d (m ∷ queue) from slot e = omega arith
+a_receipt_finds c d queue from slot e =
+    let parts = participant_parts c d (In from slot) (first_of queue) e in
+    takes_something c.to_come parts.0 queue from slot parts.1
 
 pub first_of-append : (xs ys : List Message) → 0 < length xs → first_of (xs ++ ys) ≡ first_of xs
 first_of-append [] ys h = absurd (omega arith)
@@ -91,20 +99,34 @@ and_false : (b : Bool) → (b && false) ≡ false
 and_false true = refl
 and_false false = refl
 
+one_given : (p q r : ℕ) (does : Effect) → (r == p && gives_to q does) ≡ true → ((r == q && takes_from p does) ≡ false) × (length (messages_of does) ≡ 1)
+one_given p q r (Gives to m) e = (and_false (r == q), refl)
+one_given p q r (Takes from slot) e = let bad = sym (and_false (r == p)) ∙ e in absurd cc
+one_given p q r Idle e = let bad = sym (and_false (r == p)) ∙ e in absurd cc
+
 -- a send gives one message and is no receipt
 pub a_send_gives : (p q n r : ℕ) (act : Act) → let s : Step = record { id = n; role = r; act = act } in sends p q s ≡ true → (receives p q s ≡ false) × (length (given act) ≡ 1)
-a_send_gives p q n r (Out to m) e = (and_false (r == q), refl)
-a_send_gives p q n r (In from slot) e = let bad = sym (and_false (r == p)) ∙ e in absurd cc
-a_send_gives p q n r (Mark name) e = let bad = sym (and_false (r == p)) ∙ e in absurd cc
+a_send_gives p q n r act e = one_given p q r (effect act) e
+
+taken_waits : (p q r : ℕ) (does : Effect) (v : View) (t u : LocalType) → to_come_after t does (moved_by_effect v r does) ≡ Some u → (r == q && takes_from p does) ≡ true → 0 < length (v.queue p q)
+taken_waits p q r (Gives to m) v t u e y = let bad = sym (and_false (r == q)) ∙ y in absurd cc
+taken_waits p q r (Takes from slot) v t u e y =
+    let parts = and_parts (r == q) (from == p) y in
+    let finds = takes_something t u (v.queue from r) from slot e in
+    subst (λ (k : ℕ). 0 < length (v.queue p k)) (eqb-true r q parts.0) (subst (λ (k : ℕ). 0 < length (v.queue k r)) (eqb-true from p parts.1) finds)
+taken_waits p q r Idle v t u e y = let bad = sym (and_false (r == q)) ∙ y in absurd cc
 
 -- an allowed receipt finds a message in its queue
 pub a_receipt_waits : (p q n r : ℕ) (act : Act) (v : View) (c d : Participant) → participant_after c act (moved v r act) ≡ Some d → let s : Step = record { id = n; role = r; act = act } in receives p q s ≡ true → 0 < length (v.queue p q)
-a_receipt_waits p q n r (Out to m) v c d e t = let bad = sym (and_false (r == q)) ∙ t in absurd cc
-a_receipt_waits p q n r (In from slot) v c d e t =
-    let parts = and_parts (r == q) (from == p) t in
-    let finds = a_receipt_finds c d (v.queue from r) from slot e in
-    subst (λ (k : ℕ). 0 < length (v.queue p k)) (eqb-true r q parts.0) (subst (λ (k : ℕ). 0 < length (v.queue k r)) (eqb-true from p parts.1) finds)
-a_receipt_waits p q n r (Mark name) v c d e t = let bad = sym (and_false (r == q)) ∙ t in absurd cc
+a_receipt_waits p q n r act v c d e y =
+    let parts = participant_parts c d act (moved v r act) e in
+    taken_waits p q r (effect act) v c.to_come parts.0 parts.1 y
+
+-- what is taken by an allowed act waits
+pub taken_there : (c d : Participant) (act : Act) (v : View) (r from : ℕ) (slot : Option (List ℕ)) → effect act ≡ Takes from slot → participant_after c act (moved v r act) ≡ Some d → 0 < length (v.queue from r)
+taken_there c d act v r from slot is e =
+    let parts = participant_parts c d act (moved v r act) e in
+    takes_something c.to_come parts.0 (v.queue from r) from slot (subst (λ (does : Effect). to_come_after c.to_come does (moved_by_effect v r does) ≡ Some parts.0) is parts.1)
 
 -- what one step does to the length of a queue
 pub queue_step : (v w : View) (s : Step) (p q : ℕ) → rule v s ≡ Some w → length (w.queue p q) + one_if (receives p q s) ≡ length (v.queue p q) + one_if (sends p q s)

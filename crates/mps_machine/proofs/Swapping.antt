@@ -5,16 +5,14 @@ use Rattle.std.specs.List.{filter, AllByRecursion}
 use Rattle.std.proofs.lemmas.Bool.{cases_Bool, cond-true, cond-false, and_parts, and_left, ne_eqb, eqb-true, eqb-false, eq-eqb, false_from_ne_true}
 use Rattle.std.proofs.lemmas.List.{append_cancel_left}
 use Rattle.mps_base.specs.declared.action.Act.{Act}
-use Rattle.mps_base.specs.declared.action.Act.TheVariants.{Out, In, Mark}
 use Rattle.mps_base.specs.declared.action.Message.{Message}
 use Rattle.mps_base.specs.declared.action.Step.{Step}
 use Rattle.mps_local.specs.Local.{LocalType}
 use Rattle.mps_history.specs.Steps.{sends, receives}
 use Rattle.mps_history.specs.Swaps.{deeds, is_matched_after, Swaps, Same, Exchange}
-use Rattle.mps_local.specs.Unfolding.{unfolded}
 use Rattle.mps_machine.specs.View.{Deed, Participant, View, opening}
-use Rattle.mps_machine.specs.Rule.{moved, type_after, advanced, participant_after, view_after, rule, replay}
-use Rattle.mps_machine.proofs.Stepping.{rule_parts, replay_parts, replay_from, replay-append, queue_step, queue_count, a_receipt_waits, one_if, map_some}
+use Rattle.mps_machine.specs.Rule.{moved, participant_after, view_after, rule, replay}
+use Rattle.mps_machine.proofs.Stepping.{rule_parts, replay_parts, replay_from, replay-append, queue_step, queue_count, a_receipt_waits, one_if, participant_parts}
 use Rattle.mps_machine.proofs.Lawful.{exchanged}
 
 -- the rule doesn't look at numbers
@@ -55,9 +53,7 @@ swaps_lead_to_one_view types k h v w ek eh swaps = let kept = swaps_keep types v
 
 -- a step puts its deed last in the past of its role
 past_grows : (c d : Participant) (act : Act) (m : Option Message) → participant_after c act m ≡ Some d → d.past ≡ c.past ++ record { act = act; moved = m } ∷ []
-past_grows c d (Out to message) m e = let p = map_some (advanced c (Out to message) m) (type_after (unfolded c.to_come) (Out to message) m) d e in sym (ap (λ (x : Participant). x.past) p.2)
-past_grows c d (In from slot) m e = let p = map_some (advanced c (In from slot) m) (type_after (unfolded c.to_come) (In from slot) m) d e in sym (ap (λ (x : Participant). x.past) p.2)
-past_grows c d (Mark name) m e = let same : advanced c (Mark name) m c.to_come ≡ d = cc in sym (ap (λ (x : Participant). x.past) same)
+past_grows c d act m e = sym (ap (λ (x : Participant). x.past) (participant_parts c d act m e).2)
 
 abbrev pub past_of : View → ℕ → List Deed
 past_of v p = (v.participant p).past

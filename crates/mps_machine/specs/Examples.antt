@@ -9,7 +9,7 @@ use Rattle.mps_command.specs.declared.command.Forward.TheVariants as steps
 use Rattle.mps_command.specs.declared.command.Change.TheVariants.{Forward, Undo, Rollback, Back}
 use Rattle.mps_command.specs.declared.answer.Violation.{Violation}
 use Rattle.mps_command.specs.declared.answer.Violation.TheVariants.{Ended, WrongAct, WrongPeer, WrongSort, NoLabel, NothingQueued, Mismatch}
-use Rattle.mps_command.specs.declared.answer.Refusal.TheVariants.{Violation as Violates, NoStep, NotYours, Needed, NoMark, Full}
+use Rattle.mps_command.specs.declared.answer.Refusal.TheVariants.{Violation as Violates, NoStep, NotYours, Final, Needed, NoMark, Full}
 use Rattle.mps_command.specs.declared.answer.Answer.{Answer}
 use Rattle.mps_command.specs.declared.answer.Answer.TheVariants.{Done, Undone, Refused}
 use Rattle.mps_machine.specs.Machine.{State, initial, view_of, Request, answers, after}
@@ -42,6 +42,9 @@ picks q p = (q, Forward (steps.Pick p))
 
 abbrev pub marks : ℕ → List ℕ → Request
 marks p name = (p, Forward (steps.Mark name))
+
+abbrev pub commits : ℕ → Request
+commits p = (p, Forward steps.Commit)
 
 abbrev pub undoes : ℕ → ℕ → Request
 undoes p n = (p, Undo n)
@@ -267,3 +270,39 @@ abbrev pub ASlotKeepsItsPlace : Type 0
 ASlotKeepsItsPlace =
     let sent = sends_int a b 1 ∷ sends_int a b 2 ∷ sends_int a b 3 ∷ receives_into b a (codes "x") ∷ receives_into b a (codes "y") ∷ receives_into b a (codes "x") ∷ [] in
     ((view_of stream (after stream initial sent).history).participant b).store ≡ (codes "x", Int (pos 3)) ∷ (codes "y", Int (pos 2)) ∷ []
+
+-- whoever tries to take back a commit, or what it depends on, is told which commit stands in the way, and nothing changes
+abbrev pub ACommitStandsInTheWay : Type 0
+ACommitStandsInTheWay =
+    answers stream initial (marks a (codes "m") ∷ sends_int a b 1 ∷ receives_into b a (codes "x") ∷ commits b ∷ goes_back a (codes "m") ∷ rolls_back a 1 ∷ undoes a 2 ∷ undoes b 4 ∷ undoes b 3 ∷ undoes a 4 ∷ commits a ∷ rolls_back a 1 ∷ [])
+    ≡ done 1 ∷ done 2 ∷ done_with 3 1 ∷ done 4 ∷ Refused (Final 4) ∷ Refused (Final 4) ∷ Refused (Needed 3) ∷ Refused (Final 4) ∷ Refused (Needed 4) ∷ Refused NotYours ∷ done 5 ∷ Refused (Final 4) ∷ []
+
+-- a commit doesn't keep what it doesn't depend on
+abbrev pub ACommitLeavesTheStrangers : Type 0
+ACommitLeavesTheStrangers =
+    answers two_pairs initial (commits c ∷ sends_int a b 1 ∷ rolls_back a 2 ∷ [])
+    ≡ done 1 ∷ done 2 ∷ Undone (2 ∷ []) ∷ []
+
+-- what a role did after a commit can be taken back, the commit not
+abbrev pub WhatCameAfterACommitCanBeTakenBack : Type 0
+WhatCameAfterACommitCanBeTakenBack =
+    answers stream initial (sends_int a b 1 ∷ commits a ∷ sends_int a b 2 ∷ sends_int a b 3 ∷ undoes a 4 ∷ rolls_back a 3 ∷ undoes a 2 ∷ rolls_back a 2 ∷ rolls_back a 1 ∷ undoes a 1 ∷ [])
+    ≡ done 1 ∷ done 2 ∷ done 3 ∷ done 4 ∷ Undone (4 ∷ []) ∷ Undone (3 ∷ []) ∷ Refused (Final 2) ∷ Refused (Final 2) ∷ Refused (Final 2) ∷ Refused (Needed 2) ∷ []
+
+-- a commit is allowed where the role's part has ended, and may have the number 100000
+abbrev pub ACommitIsAllowedAtTheEnd : Type 0
+ACommitIsAllowedAtTheEnd =
+    (answers two_pairs initial (sends_int a b 1 ∷ commits a ∷ sends_int a b 2 ∷ []) ≡ done 1 ∷ done 2 ∷ violates Ended ∷ [])
+    × (answers two_pairs (from_number 100000) (commits a ∷ commits a ∷ undoes a 100000 ∷ []) ≡ done 100000 ∷ Refused Full ∷ Refused (Final 100000) ∷ [])
+
+-- a return that takes nothing is accepted after a commit too
+abbrev pub AnEmptyReturnIsNeverFinal : Type 0
+AnEmptyReturnIsNeverFinal =
+    answers stream initial (commits a ∷ marks a (codes "m") ∷ goes_back a (codes "m") ∷ [])
+    ≡ done 1 ∷ done 2 ∷ Undone [] ∷ []
+
+-- where several commits stand in the way, the least is named
+abbrev pub TheLeastCommitIsNamed : Type 0
+TheLeastCommitIsNamed =
+    answers stream initial (marks a (codes "m") ∷ sends_int a b 1 ∷ receives_into b a (codes "x") ∷ commits b ∷ commits a ∷ rolls_back a 2 ∷ goes_back a (codes "m") ∷ rolls_back b 3 ∷ rolls_back a 5 ∷ [])
+    ≡ done 1 ∷ done 2 ∷ done_with 3 1 ∷ done 4 ∷ done 5 ∷ Refused (Final 4) ∷ Refused (Final 4) ∷ Refused (Final 4) ∷ Refused (Final 5) ∷ []

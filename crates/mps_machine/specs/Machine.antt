@@ -1,21 +1,23 @@
 -- The plain machine: a list of steps and the next number, and its answers to commands. An undo is allowed only where
--- nothing that depends on the step survives (Danos, Krivine, CONCUR 2004).
+-- nothing that depends on the step survives (Danos, Krivine, CONCUR 2004). A commit is never taken back.
 use Rattle.std.specs.Prelude.{◌≡◌, ℕ, ◌+◌, ◌<◌, Bool, false, ◌==◌, nat_lt, if◌then◌else◌, List, [], ◌∷◌, ◌++◌, reverse, Option, Some, None, is_some, unwrap_or, Result, Ok, Err}
 use Rattle.std.specs.List.{AllByRecursion}
 use Rattle.std.specs.Option.{option_map}
 use Rattle.std.specs.Str.{bytes_eq}
+use Rattle.mps_base.specs.Effects.{Effect, Takes, effect}
 use Rattle.mps_base.specs.declared.action.Act.{Act}
-use Rattle.mps_base.specs.declared.action.Act.TheVariants.{In, Mark}
+use Rattle.mps_base.specs.declared.action.Act.TheVariants.{Mark}
 use Rattle.mps_base.specs.declared.action.Message.{Message}
 use Rattle.mps_base.specs.declared.action.Step.{Step}
 use Rattle.mps_local.specs.Local.{LocalType}
 use Rattle.mps_history.specs.Steps.{numbers, step_of, steps_of, within, without, IsRising}
 use Rattle.mps_history.specs.Dependence.{consequences, dependents, least}
+use Rattle.mps_history.specs.Commits.{is_commit, commits_from}
 use Rattle.mps_command.specs.Acts.{act_of}
 use Rattle.mps_command.specs.declared.command.Change.{Change}
 use Rattle.mps_command.specs.declared.command.Change.TheVariants.{Forward, Undo, Rollback, Back}
 use Rattle.mps_command.specs.declared.answer.Refusal.{Refusal}
-use Rattle.mps_command.specs.declared.answer.Refusal.TheVariants.{Violation as Violates, NoStep, NotYours, Needed, NoMark, Full}
+use Rattle.mps_command.specs.declared.answer.Refusal.TheVariants.{Violation as Violates, NoStep, NotYours, Final, Needed, NoMark, Full}
 use Rattle.mps_command.specs.declared.answer.Done.{Done}
 use Rattle.mps_command.specs.declared.answer.Answer.{Answer}
 use Rattle.mps_command.specs.declared.answer.Answer.TheVariants.{Done as Stepped, Undone, Refused}
@@ -40,10 +42,14 @@ most_numbers = 100000
 abbrev pub view_of : List LocalType → List Step → View
 view_of types h = unwrap_or (replay (opening types) h) (opening types)
 
+-- the message that an effect took, where it takes one
+abbrev pub taken_by_effect : Effect → Option Message → Option Message
+taken_by_effect (Takes from slot) m = m
+taken_by_effect effect m = None
+
 -- the message that a receipt or a pick took
 abbrev pub taken : Act → Option Message → Option Message
-taken (In from slot) m = m
-taken act m = None
+taken act m = taken_by_effect (effect act) m
 
 -- the step joins the end of the history with the next number
 abbrev pub accepted : State → ℕ → Act → State
@@ -73,15 +79,26 @@ abbrev pub owner_fault : ℕ → Option Step → Option Refusal
 owner_fault p None = Some NoStep
 owner_fault p (Some s) = if s.role == p then None else Some NotYours
 
+-- whether a step is a commit, which nothing takes back, and which
+abbrev pub commit_fault : Option Step → Option Refusal
+commit_fault None = None
+commit_fault (Some s) = if is_commit s.act then Some (Final s.id) else None
+
+-- whether there is a commit among step n and all that depend on it, and the least such
+abbrev pub final_fault : List Step → ℕ → Option Refusal
+final_fault h n = option_map Final (least (commits_from h n))
+
 -- step n is taken out
 abbrev pub undone : State → ℕ → Result (List ℕ) Refusal × State
 undone st n = (Ok (n ∷ []), record st { history = without st.history (λ m. m == n) })
 
--- the answer of role p's undo of step n: it is taken out where no other step depends on it, else the least that does is named
+-- the answer of role p's undo of step n: a commit stays, and is named; any other step is taken out where no other depends
+-- on it, else the least that does is named
 abbrev pub undo : State → ℕ → ℕ → Result (List ℕ) Refusal × State
 undo st p n =
     unless (owner_fault p (step_of st.history n)) st
-    (unless (option_map Needed (least (dependents st.history n))) st (undone st n))
+    (unless (commit_fault (step_of st.history n)) st
+    (unless (option_map Needed (least (dependents st.history n))) st (undone st n)))
 
 -- step n and all that depend on it are taken out, and the answer has their numbers, the newest first
 abbrev pub rolled_back : State → ℕ → Result (List ℕ) Refusal × State
@@ -89,9 +106,13 @@ rolled_back st n =
     let gone = consequences st.history n in
     (Ok (reverse (numbers (within st.history gone))), record st { history = without st.history gone })
 
+-- step n and all that depend on it are taken out where no commit is among them, else the least of these is named
+abbrev pub rolled_back_unless_final : State → ℕ → Result (List ℕ) Refusal × State
+rolled_back_unless_final st n = unless (final_fault st.history n) st (rolled_back st n)
+
 -- the answer of role p's rollback of step n
 abbrev pub rollback : State → ℕ → ℕ → Result (List ℕ) Refusal × State
-rollback st p n = unless (owner_fault p (step_of st.history n)) st (rolled_back st n)
+rollback st p n = unless (owner_fault p (step_of st.history n)) st (rolled_back_unless_final st n)
 
 -- whether the act marks a checkpoint of this name
 abbrev pub is_mark : List ℕ → Act → Bool
@@ -103,10 +124,11 @@ abbrev pub since_mark : List ℕ → List Step → Option (List Step)
 since_mark name [] = None
 since_mark name (s ∷ h) = if is_some (since_mark name h) then since_mark name h else if is_mark name s.act then Some h else None
 
+-- the answer of a return to a mark, by what comes after the mark: the first of these steps is rolled back
 abbrev pub back_to : Option (List Step) → State → Result (List ℕ) Refusal × State
 back_to None st = (Err NoMark, st)
 back_to (Some []) st = (Ok [], st)
-back_to (Some (s ∷ h)) st = rolled_back st s.id
+back_to (Some (s ∷ h)) st = rolled_back_unless_final st s.id
 
 -- the answer of role p's return to its last mark of the name: a rollback of p's first step after it
 abbrev pub back : State → ℕ → List ℕ → Result (List ℕ) Refusal × State

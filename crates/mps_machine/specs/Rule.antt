@@ -4,8 +4,8 @@
 -- rule is this project's.
 use Rattle.std.specs.Prelude.{ℕ, ◌==◌, ◌&&◌, if◌then◌else◌, List, [], ◌∷◌, ◌++◌, drop, Option, Some, None, option_and_then}
 use Rattle.std.specs.Option.{option_map}
+use Rattle.mps_base.specs.Effects.{Effect, Gives, Takes, Idle, effect}
 use Rattle.mps_base.specs.declared.action.Act.{Act}
-use Rattle.mps_base.specs.declared.action.Act.TheVariants.{Out, In, Mark}
 use Rattle.mps_base.specs.declared.action.Message.{Message}
 use Rattle.mps_base.specs.declared.action.Message.TheVariants.{Value as Plain, Label}
 use Rattle.mps_base.specs.declared.action.Step.{Step}
@@ -22,33 +22,50 @@ abbrev pub first_of : List Message → Option Message
 first_of [] = None
 first_of (m ∷ queue) = Some m
 
+-- the message that goes with an effect of role p: the one that it gives, or the first that waits where it takes one
+abbrev pub moved_by_effect : View → ℕ → Effect → Option Message
+moved_by_effect v p (Gives to m) = Some m
+moved_by_effect v p (Takes from slot) = first_of (v.queue from p)
+moved_by_effect v p Idle = None
+
 -- the message that the act of role p gives, or the one that it takes, if there is one
 abbrev pub moved : View → ℕ → Act → Option Message
-moved v p (Out to m) = Some m
-moved v p (In from slot) = first_of (v.queue from p)
-moved v p (Mark name) = None
+moved v p act = moved_by_effect v p (effect act)
+
+-- what may come after the effect, which moves this message, where the unfolded type allows it
+abbrev pub type_after_effect : LocalType → Effect → Option Message → Option LocalType
+type_after_effect (Send peer sort next) (Gives to (Plain v)) m = if to == peer && fits v sort then Some next else None
+type_after_effect (Select peer branches) (Gives to (Label l)) m = if to == peer then branch_at l branches else None
+type_after_effect (Recv peer sort next) (Takes from (Some slot)) (Some (Plain v)) = if from == peer && fits v sort then Some next else None
+type_after_effect (Branch peer branches) (Takes from None) (Some (Label l)) = if from == peer then branch_at l branches else None
+type_after_effect t effect m = None
 
 -- what may come after the act, which moves this message, where the unfolded type allows it
 abbrev pub type_after : LocalType → Act → Option Message → Option LocalType
-type_after (Send peer sort next) (Out to (Plain v)) m = if to == peer && fits v sort then Some next else None
-type_after (Select peer branches) (Out to (Label l)) m = if to == peer then branch_at l branches else None
-type_after (Recv peer sort next) (In from (Some slot)) (Some (Plain v)) = if from == peer && fits v sort then Some next else None
-type_after (Branch peer branches) (In from None) (Some (Label l)) = if from == peer then branch_at l branches else None
-type_after t act m = None
+type_after t act m = type_after_effect t (effect act) m
+
+-- the type to come after the effect, which moves this message, where it is allowed: an idle one leaves the type as it is
+abbrev pub to_come_after : LocalType → Effect → Option Message → Option LocalType
+to_come_after t Idle m = Some t
+to_come_after t effect m = type_after_effect (unfolded t) effect m
+
+-- where a value is taken into a slot, the slot is bound to it
+abbrev pub store_after_effect : Store → Effect → Option Message → Store
+store_after_effect store (Takes from (Some slot)) (Some (Plain v)) = bound slot v store
+store_after_effect store effect m = store
 
 -- a receipt binds its slot to the value that it takes
 abbrev pub store_after : Store → Act → Option Message → Store
-store_after store (In from (Some slot)) (Some (Plain v)) = bound slot v store
-store_after store act m = store
+store_after store act m = store_after_effect store (effect act) m
 
 -- the act joins the past
 abbrev pub advanced : Participant → Act → Option Message → LocalType → Participant
 advanced c act m t = record { past = c.past ++ record { act = act; moved = m } ∷ []; to_come = t; store = store_after c.store act m }
 
--- the role after the act, which moves this message, where its type allows it. A mark is allowed always, and the type stays
+-- the role after the act, which moves this message, where its type allows it. A mark and a commit are allowed always, and
+-- the type stays
 abbrev pub participant_after : Participant → Act → Option Message → Option Participant
-participant_after c (Mark name) m = Some (advanced c (Mark name) m c.to_come)
-participant_after c act m = option_map (advanced c act m) (type_after (unfolded c.to_come) act m)
+participant_after c act m = option_map (advanced c act m) (to_come_after c.to_come (effect act) m)
 
 -- the queue from p to q after the step: what p sends goes last, what q receives is taken from the front
 abbrev pub queue_after : ℕ → ℕ → Step → List Message → List Message

@@ -1,6 +1,7 @@
 //! Worked sessions, which show that the definitions say what they mean.
 ghost use Rattle.mps_machine.specs.Examples.{AnUndoWaitsForTheReceipt, ARollbackTakesAllThatDepends, ARollbackLeavesWhatCameBefore, ARollbackLeavesTheStrangers, AReceiptUndoneTakesTheSameMessageAgain, AnUndoneSendIsGone, AReceiptIntoAUsedSlotIsUndone, TheLeastDependentIsNamedASend, TheLeastDependentIsNamedAReceipt, AReturnToAMarkLeavesTheMark, NumbersAreNeverUsedAgain, RefusalsAreNamed, AChoiceIsMadeAndPicked, ALoopIsGoneRound, AMessageOfAnotherSortIsAMismatch, TheMessageWaitsAgain, TheSlotHasItsOldValue};
 ghost use Rattle.mps_machine.specs.Examples.{AHundredThousandNumbersAreGivenOut, AMarkMayHaveTheLastNumber, AReturnIsToTheLastMarkOfTheName, AnotherRolesStepIsNotYours, AChoiceIsOfOnePeer, AnUnexpectedMessageIsAMismatch, ASlotKeepsItsPlace};
+ghost use Rattle.mps_machine.specs.Examples.{ACommitStandsInTheWay, ACommitLeavesTheStrangers, WhatCameAfterACommitCanBeTakenBack, ACommitIsAllowedAtTheEnd, AnEmptyReturnIsNeverFinal, TheLeastCommitIsNamed};
 
 /// What the machine answers in short sessions, as worked out by hand.
 pub fn worked_sessions()
@@ -28,4 +29,10 @@ pub fn worked_sessions()
     ensures a_choice_is_of_one_peer { AChoiceIsOfOnePeer }
     ensures an_unexpected_message_is_a_mismatch { AnUnexpectedMessageIsAMismatch }
     ensures a_slot_keeps_its_place { ASlotKeepsItsPlace }
+    ensures a_commit_stands_in_the_way { ACommitStandsInTheWay }
+    ensures a_commit_leaves_the_strangers { ACommitLeavesTheStrangers }
+    ensures what_came_after_a_commit_can_be_taken_back { WhatCameAfterACommitCanBeTakenBack }
+    ensures a_commit_is_allowed_at_the_end { ACommitIsAllowedAtTheEnd }
+    ensures an_empty_return_is_never_final { AnEmptyReturnIsNeverFinal }
+    ensures the_least_commit_is_named { TheLeastCommitIsNamed }
 {}

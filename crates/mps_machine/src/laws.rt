@@ -12,7 +12,7 @@ ghost use Rattle.mps_machine.specs.View.{View, opening};
 ghost use Rattle.mps_machine.specs.Rule.{rule, replay};
 ghost use Rattle.mps_machine.specs.Violations.{violation};
 ghost use Rattle.mps_machine.specs.Machine.{State, initial, Request, serve, after, view_of, IsSound};
-ghost use Rattle.mps_machine.specs.TakingBack.{UndoesSteps, RefusesNeeded, TakesFutures, ReturnsToMarks};
+ghost use Rattle.mps_machine.specs.TakingBack.{UndoesSteps, RefusesNeeded, RefusesFinal, TakesFutures, ReturnsToMarks, KeepsCommits};
 
 /// The rule allows an act exactly where it has no violation.
 pub fn the_rule_is_defined()
@@ -81,18 +81,26 @@ pub fn a_state_is_its_replay()
 {}
 
 /// A step that was just taken can be undone by its role, and then the history is the one from before. The number isn't
-/// given out again.
+/// given out again. An undo of a commit is refused, names the commit, and changes nothing.
 pub fn an_undo_gives_the_old_history()
     ensures { (types : List LocalType) (st : State) → IsSound types st → UndoesSteps types st }
 {}
 
-/// An undo of a role's own surviving step is refused exactly where another surviving step depends on it, through any
-/// number of direct dependences. The least of these is named.
+/// An undo of a role's own surviving step, which is no commit, is refused exactly where another surviving step depends on
+/// it, through any number of direct dependences. The least of these is named.
 pub fn an_undo_is_refused_where_needed()
     ensures { (types : List LocalType) (st : State) → IsSound types st → RefusesNeeded st }
 {}
 
-/// A rollback takes exactly the chosen step and all that depend on it.
+/// An undo of a role's own surviving step is refused as final exactly where the step is a commit, which is named. A
+/// rollback of it is refused as final exactly where the step is a commit or a surviving commit depends on it, and the
+/// least of these is named. Such a refusal changes nothing.
+pub fn a_commit_is_refused_as_final()
+    ensures { (types : List LocalType) (st : State) → IsSound types st → RefusesFinal st }
+{}
+
+/// A rollback that no commit stands in the way of is accepted, and takes exactly the chosen step and all that depend on
+/// it.
 pub fn a_rollback_takes_the_causal_future()
     ensures { (types : List LocalType) (st : State) → IsSound types st → TakesFutures st }
 {}
@@ -101,4 +109,9 @@ pub fn a_rollback_takes_the_causal_future()
 /// there is none. It is refused exactly where no such mark survives.
 pub fn a_return_goes_to_the_last_mark()
     ensures { (types : List LocalType) (st : State) → IsSound types st → ReturnsToMarks st }
+{}
+
+/// Whatever any roles ask for, in any order, a surviving commit survives, and so does each step on which it depends.
+pub fn what_a_commit_rests_on_survives()
+    ensures { (types : List LocalType) (st : State) → IsSound types st → KeepsCommits types st }
 {}

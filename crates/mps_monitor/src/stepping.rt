@@ -8,7 +8,7 @@ ghost use Rattle.mps_machine.specs.Rule.{type_after};
 ghost use Rattle.mps_machine.specs.Violations.{act_fault};
 ghost use Rattle.mps_table.specs.Graph.{IsNode};
 ghost use Rattle.mps_table.specs.Standing.{StandsFor};
-ghost use Rattle.mps_monitor.specs.Verdicts.{moved_by, is_mark};
+ghost use Rattle.mps_monitor.specs.Verdicts.{moved_by, is_idle};
 
 use crate::verdict::{Advance, judge};
 use mps_base::{Message, Name, Role, Sort};
@@ -17,7 +17,7 @@ use mps_table::{Node, Table};
 
 /// The node at which a role goes on that stands at this one, or the first reason why the command is
 /// not allowed there. The message is the first that waits from the peer whom the command names, if
-/// one does.
+/// one does. After a mark or a commit the role stays where it is.
 #[inline(always)]
 pub fn next_node(
     table: &Table,
@@ -34,7 +34,7 @@ pub fn next_node(
         → act_fault (unfolded t) (act_of command.now)
         (moved_by command.now (option_copied first.entry))
         ≡ None) }
-    ensures mark { IsTrue (is_mark command.now) → result ≡ Ok node }
+    ensures idle { IsTrue (is_idle command.now) → result ≡ Ok node }
     ensures follows { IfOk result (λ next. (t u : LocalType) → StandsFor table.now node t
         → type_after (unfolded t) (act_of command.now)
         (moved_by command.now (option_copied first.entry))

@@ -11,7 +11,7 @@ ghost use Rattle.mps_machine.specs.Rule.{moved};
 ghost use Rattle.mps_machine.specs.View.{View};
 ghost use Rattle.mps_machine.specs.Violations.{act_fault};
 ghost use Rattle.mps_table.specs.Expects.{head_of};
-ghost use Rattle.mps_monitor.specs.Verdicts.{moved_by, peer_of, waiting_from, is_mark, place_of, GoesOn, IsOffered, IsVerdict};
+ghost use Rattle.mps_monitor.specs.Verdicts.{moved_by, peer_of, waiting_from, is_idle, place_of, GoesOn, IsOffered, IsVerdict};
 
 use mps_base::{Message, Name, Role, Sort, Value};
 use mps_command::{Forward, Violation};
@@ -20,7 +20,7 @@ use mps_table::Expect;
 /// How a role goes on in its part after an allowed command.
 #[derive(Clone, Copy, Debug, PartialEq, Eq)]
 pub enum Advance {
-    /// Not at all: a mark is no act of the type.
+    /// Not at all: a mark and a commit are no acts of the type.
     Stay,
     /// Past the value that it gives or takes.
     Next,
@@ -48,11 +48,11 @@ pub fn judge(
     ensures advance { IfOk result (λ a. (t : LocalType)
         → Begins (head_of expected.entry) t
         → GoesOn a t (act_of command.now) (moved_by command.now (option_copied first.entry))) }
-    ensures stay { (result ≡ Ok Advance.Stay) ↔ IsTrue (is_mark command.now) }
+    ensures stay { (result ≡ Ok Advance.Stay) ↔ IsTrue (is_idle command.now) }
     ensures offered { IfOk result (λ a. IsOffered a (head_of expected.entry)) }
 {
     match command {
-        Forward::Mark { .. } => Ok(Advance::Stay),
+        Forward::Mark { .. } | Forward::Commit => Ok(Advance::Stay),
         Forward::Send { to, value } => match expected {
             Expect::End => Err(Violation::Ended),
             Expect::Send(peer, sort) => judge_send(peer, sort, *to, value),

@@ -7,10 +7,9 @@ use Rattle.std.specs.Option.{option_and_then}
 use Rattle.std.proofs.lemmas.Bool.{cases_Bool, cond-false, eqb-true, and_parts, and_from, and_right, or_left, false_from_ne_true, both_ways}
 use Rattle.std.proofs.lemmas.List.{get_or-set_same, get_or-set_other, get_or_default}
 use Rattle.std.proofs.lemmas.Option.{slice_get_past}
-use Rattle.mps_base.specs.declared.action.Act.{Act}
-use Rattle.mps_base.specs.declared.action.Act.TheVariants.{Mark}
+use Rattle.mps_base.specs.Effects.{Effect, Idle, effect}
 use Rattle.mps_base.specs.declared.action.Step.{Step}
-use Rattle.mps_history.specs.Steps.{sends, receives, goes_to, comes_from}
+use Rattle.mps_history.specs.Steps.{sends, receives, gives_to, takes_from}
 use Rattle.mps_arena.specs.Keys.{is_at, has, AreDistinct, last_key, key_after, key_before}
 use Rattle.mps_arena.specs.Entries.{Entry, keys_of, any_step, like_sends, entry_at, AreSound}
 use Rattle.mps_arena.specs.Sources.{waiting, next_send_in, prev_send_in}
@@ -56,16 +55,16 @@ get_drop (j ∷ c) k (suc n) d = get_drop c k n d.1
 
 -- pairs of steps
 sends_at : (p q i j : ℕ) (s : Step) → sends p q s ≡ true → sends i j s ≡ (p == i && q == j)
-sends_at p q i j s e = let w = sends_pair p q s e in ap₂ (λ (r : ℕ) (a : _). r == i && goes_to j a) w.1 w.2
+sends_at p q i j s e = let w = sends_pair p q s e in ap₂ (λ (r : ℕ) (a : _). r == i && gives_to j a) w.1 w.2
 
 sends_takes : (p q i j : ℕ) (s : Step) → sends p q s ≡ true → receives i j s ≡ false
-sends_takes p q i j s e = let w = sends_pair p q s e in ap (λ (a : _). s.role == j && comes_from i a) w.2 ∙ and_right (s.role == j) false refl
+sends_takes p q i j s e = let w = sends_pair p q s e in ap (λ (a : _). s.role == j && takes_from i a) w.2 ∙ and_right (s.role == j) false refl
 
 receives_at : (p q i j : ℕ) (s : Step) → receives p q s ≡ true → receives i j s ≡ (q == j && p == i)
-receives_at p q i j s e = let w = receives_pair p q s e in ap₂ (λ (r : ℕ) (a : _). r == j && comes_from i a) w.1 w.2
+receives_at p q i j s e = let w = receives_pair p q s e in ap₂ (λ (r : ℕ) (a : _). r == j && takes_from i a) w.1 w.2
 
 receives_gives : (p q i j : ℕ) (s : Step) → receives p q s ≡ true → sends i j s ≡ false
-receives_gives p q i j s e = let w = receives_pair p q s e in ap (λ (a : _). s.role == i && goes_to j a) w.2 ∙ and_right (s.role == i) false refl
+receives_gives p q i j s e = let w = receives_pair p q s e in ap (λ (a : _). s.role == i && gives_to j a) w.2 ∙ and_right (s.role == i) false refl
 
 other_pair : (p q i j : ℕ) → (i ≡ p → j ≡ q → ⊥) → (p == i && q == j) ≡ false
 other_pair p q i j n = false_from_ne_true (p == i && q == j) (λ t. let w = and_parts (p == i) (q == j) t in n (sym (eqb-true p i w.0)) (sym (eqb-true q j w.1)))
@@ -115,8 +114,8 @@ module _ (es : List Entry) (sound : AreSound es) (p q : ℕ) where
       let y = w.0 in
       let key = entry_key k es y w.1 in
       let chain = sends_chain p q y.step (passes (sends p q) k es y sound.distinct w.1 h) in (
-        ap (option_and_then (λ (e : Entry). key_after e.key (keys_of (like_sends e.step.role e.step.act) es))) w.1 ∙ ap₂ (λ (i : ℕ) (g : Step → Bool). key_after i (keys_of g es)) key chain,
-        ap (option_and_then (λ (e : Entry). key_before None e.key (keys_of (like_sends e.step.role e.step.act) es))) w.1 ∙ ap₂ (λ (i : ℕ) (g : Step → Bool). key_before None i (keys_of g es)) key chain,
+        ap (option_and_then (λ (e : Entry). key_after e.key (keys_of (like_sends e.step.role (effect e.step.act)) es))) w.1 ∙ ap₂ (λ (i : ℕ) (g : Step → Bool). key_after i (keys_of g es)) key chain,
+        ap (option_and_then (λ (e : Entry). key_before None e.key (keys_of (like_sends e.step.role (effect e.step.act)) es))) w.1 ∙ ap₂ (λ (i : ℕ) (g : Step → Bool). key_before None i (keys_of g es)) key chain,
       ))
       (cases_entry (entry_at k es))
 
@@ -258,21 +257,21 @@ front_read fronts es p q at d long hp hq place f =
     get_or_default fronts at d None (omega (arith, long, hp, hq, place)) ∙ ap (λ (k : ℕ). slice_index_or fronts k None) place ∙ f.each p q hp hq
 
 -- what is neither a send nor a receipt leaves the fronts
-module _ (x : Entry) (name : List ℕ) (mark : x.step.act ≡ Mark name) where
+module _ (x : Entry) (idle : effect x.step.act ≡ Idle) where
   no_send : (p q : ℕ) → sends p q x.step ≡ false
-  no_send p q = ap (λ (a : Act). x.step.role == p && goes_to q a) mark ∙ and_right (x.step.role == p) false refl
+  no_send p q = ap (λ (a : Effect). x.step.role == p && gives_to q a) idle ∙ and_right (x.step.role == p) false refl
 
   no_receipt : (p q : ℕ) → receives p q x.step ≡ false
-  no_receipt p q = ap (λ (a : Act). x.step.role == q && comes_from p a) mark ∙ and_right (x.step.role == q) false refl
+  no_receipt p q = ap (λ (a : Effect). x.step.role == q && takes_from p a) idle ∙ and_right (x.step.role == q) false refl
 
-  pub mark_joins : (es : List Entry) (fronts : List (Option ℕ)) → AreFronts es fronts → AreFronts (es ++ x ∷ []) fronts
-  mark_joins es fronts f = record {
+  pub idle_joins : (es : List Entry) (fronts : List (Option ℕ)) → AreFronts es fronts → AreFronts (es ++ x ∷ []) fronts
+  idle_joins es fronts f = record {
     each = λ p q hp hq.
         f.each p q hp hq ∙ sym (ap₂ (λ (c d : List ℕ). slice_get c (length d)) (keys_kept (sends p q) es x (no_send p q)) (keys_kept (receives p q) es x (no_receipt p q)));
   }
 
-  pub mark_goes : (es : List Entry) (fronts : List (Option ℕ)) → AreSound es → entry_at x.key es ≡ Some x → AreFronts es fronts → AreFronts (filter (λ e. not (e.key == x.key)) es) fronts
-  mark_goes es fronts sound found f =
+  pub idle_goes : (es : List Entry) (fronts : List (Option ℕ)) → AreSound es → entry_at x.key es ≡ Some x → AreFronts es fronts → AreFronts (filter (λ e. not (e.key == x.key)) es) fronts
+  idle_goes es fronts sound found f =
       let w = entry_split x.key es x found in
       let d = subst (λ (l : List Entry). AreDistinct (keys_of any_step l)) w.2 sound.distinct in
       let left : filter (λ e. not (e.key == x.key)) es ≡ w.0 ++ w.1 = ap (filter (λ e. not (e.key == x.key))) w.2 ∙ others_are x.key w.0 w.1 x d refl in

@@ -19,7 +19,7 @@ use Rattle.mps_command.specs.declared.command.Change.TheVariants.{Forward, Undo,
 use Rattle.mps_history.specs.Steps.{step_of, steps_of}
 use Rattle.mps_history.specs.Dependence.{dependents, least}
 use Rattle.mps_local.specs.Local.{LocalType}
-use Rattle.mps_machine.specs.Machine.{State, most_numbers, view_of, unless, done_by, accepted, owner_fault, undone, rolled_back, since_mark, back_to, stepped, removed, undo, rollback, back, serve}
+use Rattle.mps_machine.specs.Machine.{State, most_numbers, view_of, unless, done_by, accepted, owner_fault, undone, rolled_back, rolled_back_unless_final, commit_fault, final_fault, since_mark, back_to, stepped, removed, undo, rollback, back, serve}
 use Rattle.mps_machine.specs.Violations.{violation}
 use Rattle.mps_room.specs.Journal.{gives, is_own, is_accepted}
 use Rattle.mps_room.specs.Kept.{owns, owners_after, AreOwners}
@@ -61,17 +61,21 @@ stays : {A : Type 0} (fault : Option Refusal) (st : State) (served : Result A Re
 stays (Some refusal) st served e = refl
 stays None st served e = e
 
+taken_stays : (st : State) (n : ℕ) → (rolled_back_unless_final st n).1.next ≡ st.next
+taken_stays st n = stays (final_fault st.history n) st (rolled_back st n) refl
+
 back_stays : (later : Option (List Step)) (st : State) → (back_to later st).1.next ≡ st.next
 back_stays None st = refl
 back_stays (Some []) st = refl
-back_stays (Some (s ∷ h)) st = refl
+back_stays (Some (s ∷ h)) st = taken_stays st s.id
 
 serve_stays : (types : List LocalType) (st : State) (p : ℕ) (change : Change) (ids : List ℕ) → Undone ids ≡ (serve types st p change).0 → (serve types st p change).1.next ≡ st.next
 serve_stays types st p (Forward step) ids e = absurd (none_removed ids _ e)
 serve_stays types st p (Undo n) ids e =
     let by = option_map Needed (least (dependents st.history n)) in
-    stays (owner_fault p (step_of st.history n)) st (unless by st (undone st n)) (stays by st (undone st n) refl)
-serve_stays types st p (Rollback n) ids e = stays (owner_fault p (step_of st.history n)) st (rolled_back st n) refl
+    let final = commit_fault (step_of st.history n) in
+    stays (owner_fault p (step_of st.history n)) st (unless final st (unless by st (undone st n))) (stays final st (unless by st (undone st n)) (stays by st (undone st n) refl))
+serve_stays types st p (Rollback n) ids e = stays (owner_fault p (step_of st.history n)) st (rolled_back_unless_final st n) (taken_stays st n)
 serve_stays types st p (Back name) ids e = back_stays (since_mark name (steps_of p st.history)) st
 
 -- ---- owners

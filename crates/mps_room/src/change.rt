@@ -100,16 +100,17 @@ impl Room {
 
     // The refusal of a change for which there is no room in the journal or no memory: the machine's, if it refuses, else
     // this one.
-    fn refused(&self, role: Role, command: &Command, refusal: Refusal) -> Refusal
-        requires role { role < length self.now.types }
+    fn refused(&mut self, role: Role, command: &Command, refusal: Refusal) -> Refusal
+        requires role { role < length self.old.types }
         requires change { IsSome (change_of command.now) }
-        requires short { IsShort self.now.journal refusal }
-        ensures { IsReply (Refused result)
-            (reply self.now.names self.now.types self.now.journal role command.now) }
+        requires short { IsShort self.old.journal refusal }
+        ensures refused { IsReply (Refused result)
+            (reply self.old.names self.old.types self.old.journal role command.now) }
+        ensures kept { self.new ≡ self.old }
     {
         match self.session.would(role, command) {
-            Err(refusal) => refusal,
-            Ok(()) => refusal,
+            Err(refusal) => return refusal,
+            Ok(()) => return refusal,
         }
     }
 }

@@ -5,16 +5,17 @@ use Rattle.std.specs.List.{AllByRecursion}
 use mathlib.Core.Path.{ap₂}
 use Rattle.std.proofs.lemmas.Bool.{cases_eq}
 use Rattle.std.proofs.lemmas.List.{get_or-set_same, get_or-set_other, length-set, map-append}
+use Rattle.mps_base.specs.Effects.{Effect, Gives, Takes, Idle, effect}
 use Rattle.mps_base.specs.RoleLists.{HasRoleCount}
 use Rattle.mps_base.specs.declared.action.Act.{Act}
-use Rattle.mps_base.specs.declared.action.Act.TheVariants.{Out, In, Mark}
+use Rattle.mps_base.specs.declared.action.Act.TheVariants.{Out, In, Mark, Commit}
 use Rattle.mps_base.specs.declared.action.Message.{Message}
 use Rattle.mps_base.specs.declared.action.Step.{Step}
 use Rattle.mps_history.specs.Steps.{unreceived}
 use Rattle.mps_local.specs.Local.{LocalType}
 use Rattle.mps_local.specs.Shape.{IsOtherRole}
 use Rattle.mps_machine.specs.View.{Participant, View, opening, type_at}
-use Rattle.mps_machine.specs.Rule.{first_of, moved, participant_after, view_after, replay}
+use Rattle.mps_machine.specs.Rule.{first_of, moved_by_effect, moved, participant_after, view_after, replay}
 use Rattle.mps_machine.specs.Violations.{violation}
 use Rattle.mps_machine.specs.Machine.{State, initial, most_numbers, view_of, accepted, IsSound}
 use Rattle.mps_machine.proofs.Defined.{allowed_step}
@@ -27,7 +28,7 @@ use Rattle.mps_arena.proofs.Mates.{sound_nil}
 use Rattle.mps_log.specs.Joins.{joining}
 use Rattle.mps_log.proofs.Waiting.{first_waits}
 use Rattle.mps_table.specs.Standing.{StandsFor}
-use Rattle.mps_session.specs.Configurations.{Configuration, cursor_of, state_of, logged, moved_in, IsReady, IsReadyAct, HasActed}
+use Rattle.mps_session.specs.Configurations.{Configuration, cursor_of, state_of, logged, moved_for, moved_in, IsReady, IsReadyEffect, HasActed}
 use Rattle.mps_session.specs.Cursors.{IsFor, nowhere, went}
 use Rattle.mps_session.specs.declared.cursor.Cursor.{Cursor}
 use Rattle.mps_session.specs.Held.{AreCursors, ArePlaced, Holds}
@@ -92,9 +93,12 @@ module _ (types : List LocalType) (c : Configuration) (holds : Holds types c) wh
 
   -- so an act moves the message that it moves in the view
   pub moves_the_same : (p : ℕ) (act : Act) → moved_in c p act ≡ moved v p act
-  moves_the_same p (Out to m) = refl
-  moves_the_same p (In from slot) = get_first (unreceived from p h) ∙ ap first_of (sym (waits_there from p))
-  moves_the_same p (Mark name) = refl
+  moves_the_same p act = by_effect (effect act)
+    where
+      by_effect : (e : Effect) → moved_for c p e ≡ moved_by_effect v p e
+      by_effect (Gives to m) = refl
+      by_effect (Takes from slot) = get_first (unreceived from p h) ∙ ap first_of (sym (waits_there from p))
+      by_effect Idle = refl
 
   module _ (p : ℕ) (act : Act) (fine : violation v p act ≡ None) where
     abbrev step : Step
@@ -108,7 +112,7 @@ module _ (types : List LocalType) (c : Configuration) (holds : Holds types c) wh
         (parts.0, subst (λ (m : Option Message). participant_after (v.participant p) act m ≡ Some parts.0) (sym (moves_the_same p act)) parts.1)
 
   -- an allowed act names a role of the session, and finds the message that it takes
-  ready_act : (p : ℕ) (before after : Participant) (act : Act) → Speaks (IsOtherRole n p) act → participant_after before act (moved_in c p act) ≡ Some after → IsReadyAct c p act
+  ready_act : (p : ℕ) (before after : Participant) (act : Act) → Speaks (IsOtherRole n p) act → participant_after before act (moved_in c p act) ≡ Some after → IsReadyEffect c p (effect act)
   ready_act p before after (Out to m) s e = omega (arith, holds.roles.few, s.0)
   ready_act p before after (In from slot) s e =
       let queue = unreceived from p h in
@@ -116,6 +120,7 @@ module _ (types : List LocalType) (c : Configuration) (holds : Holds types c) wh
       let some = first_is_some queue (a_receipt_finds before after queue from slot found) in
       (omega (arith, holds.roles.few, s.0), first_waits c.entries holds.kept from p some)
   ready_act p before after (Mark name) s e = tt
+  ready_act p before after Commit s e = tt
 
   module _ (p : ℕ) (act : Act) (less : p < n) (fine : violation v p act ≡ None) (after : Participant) (moves : participant_after (v.participant p) act (moved_in c p act) ≡ Some after) where
     abbrev then : Step

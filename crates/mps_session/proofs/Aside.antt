@@ -5,8 +5,7 @@ use Rattle.std.specs.Prelude.{◌==◌, ◌||◌, nat_lt, unwrap_or}
 use Rattle.std.specs.Option.{option_map, option_and_then}
 use Rattle.std.proofs.lemmas.Bool.{cond-false, ne_eqb, le-ltb, and_left}
 use Rattle.std.proofs.lemmas.List.{map-append}
-use Rattle.mps_base.specs.declared.action.Act.{Act}
-use Rattle.mps_base.specs.declared.action.Act.TheVariants.{Out, In, Mark}
+use Rattle.mps_base.specs.Effects.{Effect, Gives, Takes, Idle, effect}
 use Rattle.mps_base.specs.declared.action.Step.{Step}
 use Rattle.mps_local.specs.Local.{LocalType}
 use Rattle.mps_history.specs.Steps.{IsIn, IsRising, without}
@@ -54,15 +53,15 @@ module _ (a b : List Entry) (x : Entry) (sound : AreSound (a ++ x ∷ b)) (free 
   pub others_follow : (t : Step) → IsIn t (steps b) → (t.role == s.role) ≡ false
   others_follow t i = none_passes (of_role s.role) b t (role_ends a b x sound.distinct free.final) i
 
-  none_received : (act : Act) → IsUnreceived es x act → receipt_mate act (mate_of es x) ≡ None
-  none_received (Out to m) u = u
-  none_received (In from slot) u = refl
-  none_received (Mark name) u = refl
+  none_received : (e : Effect) → IsUnreceived es x e → receipt_mate e (mate_of es x) ≡ None
+  none_received (Gives to m) u = u
+  none_received (Takes from slot) u = refl
+  none_received Idle u = refl
 
   none_behind : keys_of (λ t. depends_on (steps es) t s) b ≡ []
   none_behind =
       let next : next_of_role_in es x.key ≡ None = ap (option_and_then (λ (e : Entry). _)) found ∙ free.final in
-      let receipt : receipt_in es x.key ≡ None = ap (option_and_then (λ (e : Entry). receipt_mate e.step.act (mate_of es e))) found ∙ none_received s.act free.unreceived in
+      let receipt : receipt_in es x.key ≡ None = ap (option_and_then (λ (e : Entry). receipt_mate (effect e.step.act) (mate_of es e))) found ∙ none_received (effect s.act) free.unreceived in
       nothing_first _ (first_dependent es sound a b x refl ∙ ap₂ (earlier es) next receipt)
 
   -- on a step that may go no step depends directly

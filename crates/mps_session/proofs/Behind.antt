@@ -6,7 +6,7 @@ use Rattle.std.specs.Option.{option_map, option_and_then}
 use Rattle.std.specs.Str.{bytes_eq}
 use Rattle.std.proofs.lemmas.Bool.{cases_Bool, cond-true, cond-false, eqb-true}
 use Rattle.mps_base.specs.declared.action.Act.{Act}
-use Rattle.mps_base.specs.declared.action.Act.TheVariants.{Out, In, Mark}
+use Rattle.mps_base.specs.declared.action.Act.TheVariants.{Out, In, Mark, Commit}
 use Rattle.mps_base.specs.declared.action.Step.{Step}
 use Rattle.mps_history.specs.Slots.{value_in}
 use Rattle.mps_history.specs.Steps.{IsIn, IsRising, step_of, steps_of}
@@ -89,6 +89,7 @@ module _ (name : List ℕ) (p : ℕ) where
       of : (act : Act) → x.step.act ≡ act → Binds store x
       of (Out to message) is = idle (ap mark_of is) (ap (is_mark name) is)
       of (In from slot) is = idle (ap mark_of is) (ap (is_mark name) is)
+      of Commit is = idle (ap mark_of is) (ap (is_mark name) is)
       of (Mark m) is =
           let got : value_in name (store_after mark_of p store x) ≡ (if bytes_eq m name then Some x.key else value_in name store) =
           ap (value_in name) (after_binding mark_of p m store x (eqb-true x.step.role p mine, ap mark_of is)) ∙ value_in-bound name m x.key store in

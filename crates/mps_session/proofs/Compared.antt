@@ -5,8 +5,9 @@ use Rattle.std.specs.Prelude.{◌↔◌, is_some, IsTrue}
 use Rattle.std.specs.Option.{option_map, option_or, option_and_then}
 use Rattle.std.proofs.lemmas.Bool.{eqb-true}
 use Rattle.std.proofs.lemmas.List.{append_cancel_right}
+use Rattle.mps_base.specs.Effects.{effect}
 use Rattle.mps_base.specs.declared.action.Act.{Act}
-use Rattle.mps_base.specs.declared.action.Act.TheVariants.{Out, In, Mark}
+use Rattle.mps_base.specs.declared.action.Act.TheVariants.{Out, In, Mark, Commit}
 use Rattle.mps_base.specs.declared.action.Message.{Message}
 use Rattle.mps_base.specs.declared.action.Step.{Step}
 use Rattle.mps_machine.specs.View.{Deed}
@@ -40,22 +41,23 @@ module _ (es : List Entry) (k : ℕ) (s : Step) (there : option_map (λ (e : Ent
           ap₂ (λ (t : Step) (j : ℕ). Some (record { act = t.act; moved = option_or (given_by t.act) (message_taken es j) })) same (entry_key k es y is)
 
   -- only a receipt has a source
-  no_source : ((m : Option ℕ) → source_mate s.act m ≡ None) → message_taken es k ≡ None
+  no_source : ((m : Option ℕ) → source_mate (effect s.act) m ≡ None) → message_taken es k ≡ None
   no_source none = ap (option_and_then (message_of es)) (by_entry (entry_at k es) there)
     where
-      by_entry : (o : Option Entry) → option_map (λ (e : Entry). e.step) o ≡ Some s → option_and_then (λ (e : Entry). source_mate e.step.act (mate_of es e)) o ≡ None
+      by_entry : (o : Option Entry) → option_map (λ (e : Entry). e.step) o ≡ Some s → option_and_then (λ (e : Entry). source_mate (effect e.step.act) (mate_of es e)) o ≡ None
       by_entry None h = refl
       by_entry (Some y) h =
           let same : y.step ≡ s = cc in
-          ap (λ (t : Step). source_mate t.act (mate_of es y)) same ∙ none (mate_of es y)
+          ap (λ (t : Step). source_mate (effect t.act) (mate_of es y)) same ∙ none (mate_of es y)
 
   taken_is : message_taken es k ≡ taken s.act deed_at.moved
   taken_is = by_act s.act refl
     where
       by_act : (act : Act) → s.act ≡ act → message_taken es k ≡ taken act (option_or (given_by act) (message_taken es k))
-      by_act (Out to m) is = no_source (λ o. ap (λ (a : Act). source_mate a o) is)
+      by_act (Out to m) is = no_source (λ o. ap (λ (a : Act). source_mate (effect a) o) is)
       by_act (In from slot) is = refl
-      by_act (Mark name) is = no_source (λ o. ap (λ (a : Act). source_mate a o) is)
+      by_act (Mark name) is = no_source (λ o. ap (λ (a : Act). source_mate (effect a) o) is)
+      by_act Commit is = no_source (λ o. ap (λ (a : Act). source_mate (effect a) o) is)
 
 module _ (a b : List Entry) (j k : ℕ) (s t : Step) (first : option_map (λ (e : Entry). e.step) (entry_at j a) ≡ Some s) (second : option_map (λ (e : Entry). e.step) (entry_at k b) ≡ Some t) where
   pub deeds_from : s.act ≡ t.act → message_taken a j ≡ message_taken b k → deed_in a j ≡ deed_in b k

@@ -2,7 +2,7 @@
 use Rattle.std.proofs.Common.{◌≡◌, ℕ, ◌<◌, List, [], ◌∷◌, ◌++◌, length, Some, subst}
 use Rattle.std.specs.List.{AllByRecursion}
 use Rattle.mps_base.specs.declared.action.Act.{Act}
-use Rattle.mps_base.specs.declared.action.Act.TheVariants.{Out, In, Mark}
+use Rattle.mps_base.specs.declared.action.Act.TheVariants.{Out, In, Mark, Commit}
 use Rattle.mps_base.specs.declared.action.Step.{Step}
 use Rattle.mps_local.specs.Actions.{Head, Ends, Sends, Receives, Chooses, Picks, Begins}
 use Rattle.mps_local.specs.Local.{LocalType}
@@ -19,6 +19,7 @@ speaks_known : (n p : ℕ) (act : Act) → Speaks (IsOtherRole n p) act → IsPe
 speaks_known n p (Out to m) h = h.0
 speaks_known n p (In from slot) h = h.0
 speaks_known n p (Mark name) h = tt
+speaks_known n p Commit h = tt
 
 -- a type with such peers begins with one
 pub head_known : (n p : ℕ) (h : Head) (t : LocalType) → Begins h t → AllPeers (IsOtherRole n p) t → IsHeadKnown n h

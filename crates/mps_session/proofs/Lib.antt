@@ -24,3 +24,4 @@ pub mod Compared
 pub mod Projected
 pub mod Known
 pub mod Refused
+pub mod Free

@@ -1,11 +1,12 @@
 -- The message that each step moved, by the entries and by the replay.
-use Rattle.std.proofs.Common.{◌≡◌, ℕ, ◌<◌, List, [], ◌∷◌, ◌++◌, length, Option, Some, refl, sym, ap, ◌∙◌, subst, arith, append_assoc}
+use Rattle.std.proofs.Common.{◌≡◌, ℕ, ◌<◌, List, [], ◌∷◌, ◌++◌, length, Option, Some, refl, sym, ap, ◌∙◌, subst, arith, append_assoc, None}
 use mathlib.Core.Path.{ap₂}
 use Rattle.std.specs.Prelude.{slice_get, unwrap_or}
 use Rattle.std.specs.Option.{option_and_then, option_or, option_map}
 use Rattle.std.proofs.lemmas.List.{map-append}
+use Rattle.mps_base.specs.Effects.{Idle, effect}
 use Rattle.mps_base.specs.declared.action.Act.{Act}
-use Rattle.mps_base.specs.declared.action.Act.TheVariants.{Out, In, Mark}
+use Rattle.mps_base.specs.declared.action.Act.TheVariants.{Out, In, Mark, Commit}
 use Rattle.mps_base.specs.declared.action.Message.{Message}
 use Rattle.mps_base.specs.declared.action.Step.{Step}
 use Rattle.mps_history.specs.Steps.{unreceived}
@@ -23,7 +24,7 @@ use Rattle.mps_log.specs.Shown.{Moved, moved_of, shown}
 use Rattle.mps_log.specs.Values.{given_by, message_of, message_taken}
 use Rattle.mps_log.proofs.Taking.{taken_stays, taken_new}
 use Rattle.mps_log.proofs.Waiting.{first_message}
-use Rattle.mps_log.proofs.Walks.{mark_has_none}
+use Rattle.mps_log.proofs.Walks.{idle_has_none}
 use Rattle.mps_session.specs.Seen.{moved_from}
 
 -- what a receipt took stays, whatever joins
@@ -57,9 +58,13 @@ module _ (types : List LocalType) where
     here : entry_at e.key es ≡ Some e
     here = entry_middle a b e sound.distinct
 
+    moves_nothing : effect e.step.act ≡ Idle → message_taken es e.key ≡ None
+    moves_nothing idle = ap (option_and_then (message_of es)) (idle_has_none es e.key e.step (ap (option_map (λ (x : Entry). x.step)) here) idle)
+
     same_message : (act : Act) → e.step.act ≡ act → participant_after (v.participant r) act (moved v r act) ≡ Some c → option_or (given_by act) (message_taken es e.key) ≡ moved v r act
     same_message (Out to m) is h = refl
-    same_message (Mark name) is h = ap (option_and_then (message_of es)) (mark_has_none es e.key e.step name (ap (option_map (λ (x : Entry). x.step)) here) is)
+    same_message (Mark name) is h = moves_nothing (ap effect is)
+    same_message Commit is h = moves_nothing (ap effect is)
     same_message (In from slot) is h =
         let first = first_is (v.queue from r) (a_receipt_finds (v.participant r) c (v.queue from r) from slot h) in
         let waits : option_and_then (message_of a) (waiting a from r) ≡ Some first.0 =

@@ -3,7 +3,7 @@ use Rattle.std.proofs.Common.{◌≡◌, ◌≢◌, ℕ, List, Some, ap}
 use Rattle.mps_command.specs.declared.answer.Answer.{Answer}
 use Rattle.mps_command.specs.declared.answer.Answer.TheVariants.{Done, Undone, News as Told, Shown, Refused}
 use Rattle.mps_command.specs.declared.answer.Refusal.{Refusal}
-use Rattle.mps_command.specs.declared.answer.Refusal.TheVariants.{Violation as Violates, NoStep, NotYours, Needed, NoMark, Full, Memory}
+use Rattle.mps_command.specs.declared.answer.Refusal.TheVariants.{Violation as Violates, NoStep, NotYours, Final, Needed, NoMark, Full, Memory}
 use Rattle.mps_command.specs.declared.answer.Violation.TheVariants.{Mismatch}
 use Rattle.mps_command.specs.declared.command.Change.TheVariants as changes
 use Rattle.mps_command.specs.declared.command.Command.{Command}
@@ -19,6 +19,7 @@ pub same_refusal : (a : Answer) (refusal : Refusal) → refusal_in a ≡ Some re
 same_refusal (Refused (Violates v)) refusal e = let is : Violates v ≡ refusal = cc in ap Refused is
 same_refusal (Refused NoStep) refusal e = let is : NoStep ≡ refusal = cc in ap Refused is
 same_refusal (Refused NotYours) refusal e = let is : NotYours ≡ refusal = cc in ap Refused is
+same_refusal (Refused (Final by)) refusal e = let is : Final by ≡ refusal = cc in ap Refused is
 same_refusal (Refused (Needed by)) refusal e = let is : Needed by ≡ refusal = cc in ap Refused is
 same_refusal (Refused NoMark) refusal e = let is : NoMark ≡ refusal = cc in ap Refused is
 same_refusal (Refused Memory) refusal e = let is : Memory ≡ refusal = cc in ap Refused is

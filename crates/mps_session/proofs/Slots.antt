@@ -5,8 +5,9 @@ use Rattle.std.specs.Option.{option_and_then, option_map}
 use Rattle.std.specs.Str.{bytes_eq}
 use Rattle.std.proofs.lemmas.Bool.{cases_Bool, ne_eqb}
 use Rattle.std.proofs.lemmas.List.{map-append}
+use Rattle.mps_base.specs.Effects.{effect}
 use Rattle.mps_base.specs.declared.action.Act.{Act}
-use Rattle.mps_base.specs.declared.action.Act.TheVariants.{Out, In, Mark}
+use Rattle.mps_base.specs.declared.action.Act.TheVariants.{Out, In, Mark, Commit}
 use Rattle.mps_base.specs.declared.action.Message.{Message}
 use Rattle.mps_base.specs.declared.action.Message.TheVariants.{Value as Plain, Label}
 use Rattle.mps_base.specs.declared.value.Value.{Value}
@@ -15,7 +16,7 @@ use Rattle.mps_history.specs.Steps.{unreceived}
 use Rattle.mps_local.specs.Local.{LocalType, End, Var, Rec, Send, Recv, Select, Branch}
 use Rattle.mps_local.specs.Unfolding.{unfolded}
 use Rattle.mps_machine.specs.View.{Store, Participant, View, opening}
-use Rattle.mps_machine.specs.Rule.{first_of, moved, type_after, advanced, participant_after, store_after, rule, replay}
+use Rattle.mps_machine.specs.Rule.{first_of, moved, type_after, to_come_after, advanced, participant_after, store_after, rule, replay}
 use Rattle.mps_machine.proofs.Stepping.{map_some, rule_parts, replay_parts, replay-append}
 use Rattle.mps_machine.proofs.Peers.{fact_by_role}
 use Rattle.mps_machine.proofs.Unreceived.{queue_is}
@@ -77,11 +78,7 @@ bound_stays f g (s ∷ store) (b ∷ keys) m h = (h.0, m b.1 s.1 h.1, bound_stay
 
 -- the store of an act's role after the act
 store_then : (before after : Participant) (act : Act) (m : Option Message) → participant_after before act m ≡ Some after → after.store ≡ store_after before.store act m
-store_then before after (Mark name) m e =
-    let is : advanced before (Mark name) m before.to_come ≡ after = cc in
-    sym (ap (λ (x : Participant). x.store) is)
-store_then before after (Out to x) m e = sym (ap (λ (x : Participant). x.store) (map_some (advanced before (Out to x) m) (type_after (unfolded before.to_come) (Out to x) m) after e).2)
-store_then before after (In from slot) m e = sym (ap (λ (x : Participant). x.store) (map_some (advanced before (In from slot) m) (type_after (unfolded before.to_come) (In from slot) m) after e).2)
+store_then before after act m e = sym (ap (λ (x : Participant). x.store) (map_some (advanced before act m) (to_come_after before.to_come (effect act) m) after e).2)
 
 -- a receipt into a slot takes a value
 takes_no_label : (t : LocalType) (from : ℕ) (slot : List ℕ) (l : List ℕ) → type_after t (In from (Some slot)) (Some (Label l)) ≡ None
@@ -126,6 +123,8 @@ module _ (types : List LocalType) where
     own_store (Out to m) is after h =
         rw (bindings_push slot_of e.step.role es e, after_idle slot_of e.step.role (bindings slot_of e.step.role es) e (ap slot_of is)) (stays e.step.role)
     own_store (Mark name) is after h =
+        rw (bindings_push slot_of e.step.role es e, after_idle slot_of e.step.role (bindings slot_of e.step.role es) e (ap slot_of is)) (stays e.step.role)
+    own_store Commit is after h =
         rw (bindings_push slot_of e.step.role es e, after_idle slot_of e.step.role (bindings slot_of e.step.role es) e (ap slot_of is)) (stays e.step.role)
     own_store (In from None) is after h =
         rw (bindings_push slot_of e.step.role es e, after_idle slot_of e.step.role (bindings slot_of e.step.role es) e (ap slot_of is)) (stays e.step.role)

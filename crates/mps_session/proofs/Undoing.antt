@@ -5,11 +5,9 @@ use mathlib.Core.Path.{ap₂}
 use Rattle.mps_base.specs.declared.action.Step.{Step}
 use Rattle.mps_command.specs.declared.answer.Refusal.{Refusal}
 use Rattle.mps_history.specs.Steps.{step_of, without}
-use Rattle.mps_history.specs.Dependence.{dependents, least}
 use Rattle.mps_local.specs.Local.{LocalType}
 use Rattle.mps_machine.specs.Rule.{rule}
-use Rattle.mps_machine.specs.Machine.{State, owner_fault, undo}
-use Rattle.mps_machine.proofs.TakingBack.{undo_is}
+use Rattle.mps_machine.specs.Machine.{State, owner_fault, undone, undo}
 use Rattle.mps_arena.specs.Entries.{Entry, steps, entry_at}
 use Rattle.mps_arena.specs.Sources.{CanGo}
 use Rattle.mps_links.specs.Marks.{marked_keys}
@@ -45,9 +43,8 @@ module _ (types : List LocalType) (c : Configuration) (holds : Holds types c) (n
     pub unmarked_then : marked_keys c.entries ≡ [] → marked_keys next.entries ≡ []
     unmarked_then none = ap marked_keys left.entries ∙ filter_unmarked (λ e. not (e.key == x.key)) c.entries none
 
-    pub state_then : least (dependents (steps c.entries) n) ≡ None → state_of next ≡ (undo now.state p n).1
-    state_then none =
-        let done = undo_is (state_of c) p n None None own none in
+    pub state_then : undo (state_of c) p n ≡ undone (state_of c) n → state_of next ≡ (undo now.state p n).1
+    state_then done =
         let history : steps next.entries ≡ without (steps c.entries) (λ m. m == n) =
         returning.history_then types c next k x holds found can left ∙ ap (λ (i : ℕ). without (steps c.entries) (λ m. m == i)) (numbered.number c.entries holds.kept n k at) in
         ap₂ (λ (h : List Step) (i : ℕ). let st : State = record { history = h; next = i + 1 } in st) history left.issued

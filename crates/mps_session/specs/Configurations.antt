@@ -1,7 +1,7 @@
 -- What a session keeps, as lists, and how an act changes it.
 use Rattle.std.specs.Prelude.{◌≡◌, ℕ, ◌+◌, ◌<◌, ◌≤◌, ⊤, Bool, true, false, List, Option, Some, None, slice_get, slice_index_or, slice_set, IsSome}
 use Rattle.mps_base.specs.declared.action.Act.{Act}
-use Rattle.mps_base.specs.declared.action.Act.TheVariants.{Out, In, Mark}
+use Rattle.mps_base.specs.Effects.{Effect, Gives, Takes, Idle, effect}
 use Rattle.mps_base.specs.declared.action.Message.{Message}
 use Rattle.mps_command.specs.declared.answer.Done.{Done}
 use Rattle.mps_command.specs.declared.answer.Refusal.{Refusal}
@@ -47,11 +47,15 @@ cursor_of c p = slice_index_or c.cursors p nowhere
 abbrev pub state_of : Configuration → State
 state_of c = record { history = steps c.entries; next = c.issued + 1 }
 
+-- the message that goes with an effect of role p: the one that it gives, or the first that waits where it takes one
+abbrev pub moved_for : Configuration → ℕ → Effect → Option Message
+moved_for c p (Gives to m) = Some m
+moved_for c p (Takes from slot) = slice_get (unreceived from p (steps c.entries)) 0
+moved_for c p Idle = None
+
 -- the message that an act of role p gives, or the one that it takes, if there is one
 abbrev pub moved_in : Configuration → ℕ → Act → Option Message
-moved_in c p (Out to m) = Some m
-moved_in c p (In from slot) = slice_get (unreceived from p (steps c.entries)) 0
-moved_in c p (Mark name) = None
+moved_in c p act = moved_for c p (effect act)
 
 -- role p stands at a node for the type
 abbrev pub StandsAt : Configuration → ℕ → LocalType → Type 0
@@ -66,14 +70,15 @@ abbrev pub LeadsTo : Configuration → ℕ → Act → ℕ → Type 0
 LeadsTo c p act node =
     (before after : Participant) → StandsAt c p before.to_come → participant_after before act (moved_in c p act) ≡ Some after → StandsFor (cursor_of c p).table node after.to_come
 
--- role and peer are below 8, and there is a message where the act takes one
-abbrev pub IsReadyAct : Configuration → ℕ → Act → Type 0
-IsReadyAct c p (Out to m) = to < 8
-IsReadyAct c p (In from slot) = (from < 8) × IsSome (waiting c.entries from p)
-IsReadyAct c p (Mark name) = ⊤
+-- the peer is below 8, and there is a message where one is taken
+abbrev pub IsReadyEffect : Configuration → ℕ → Effect → Type 0
+IsReadyEffect c p (Gives to m) = to < 8
+IsReadyEffect c p (Takes from slot) = (from < 8) × IsSome (waiting c.entries from p)
+IsReadyEffect c p Idle = ⊤
 
+-- role and peer are below 8, and there is a message where the act takes one
 abbrev pub IsReady : Configuration → ℕ → Act → Type 0
-IsReady c p act = (p < 8) × IsReadyAct c p act
+IsReady c p act = (p < 8) × IsReadyEffect c p (effect act)
 
 -- why the act of role p is refused, out of memory aside: its type doesn't allow it, or no number is left
 abbrev pub IsBarred : Configuration → ℕ → Act → Refusal → Type 0

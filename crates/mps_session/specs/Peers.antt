@@ -2,7 +2,7 @@
 use Rattle.std.specs.Prelude.{◌≡◌, ℕ, ◌<◌, ⊤, List, length, Some, None}
 use Rattle.mps_base.specs.RoleLists.{HasRoleCount}
 use Rattle.mps_base.specs.declared.action.Act.{Act}
-use Rattle.mps_base.specs.declared.action.Act.TheVariants.{Out, In, Mark}
+use Rattle.mps_base.specs.Effects.{Effect, Gives, Takes, Idle, effect}
 use Rattle.mps_base.specs.declared.action.Step.{Step}
 use Rattle.mps_local.specs.Actions.{Head, Ends, Sends, Receives, Chooses, Picks}
 use Rattle.mps_local.specs.Local.{LocalType}
@@ -46,11 +46,15 @@ pub record CanOpen (types : List LocalType) : Type 0 where
   pub peers : HavePeers types
   pub faultless : AreFaultless types
 
+-- the effect's peer, if it has one, is one of n roles
+abbrev pub IsEffectKnown : ℕ → Effect → Type 0
+IsEffectKnown n (Gives to message) = to < n
+IsEffectKnown n (Takes from slot) = from < n
+IsEffectKnown n Idle = ⊤
+
 -- the act's peer, if it has one, is one of n roles
 abbrev pub IsPeerKnown : ℕ → Act → Type 0
-IsPeerKnown n (Out to message) = to < n
-IsPeerKnown n (In from slot) = from < n
-IsPeerKnown n (Mark name) = ⊤
+IsPeerKnown n act = IsEffectKnown n (effect act)
 
 -- the step is of one of n roles, and so is its peer
 abbrev pub IsKnown : ℕ → Step → Type 0

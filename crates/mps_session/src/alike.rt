@@ -3,13 +3,12 @@ ghost use Rattle.std.specs.Prelude.{◌≡◌, ◌<◌, ◌↔◌, IsTrue, IsSom
 ghost use Rattle.std.specs.Option.{option_copied};
 ghost use Rattle.mps_history.specs.Swaps.{Swaps};
 ghost use Rattle.mps_arena.specs.Entries.{entry_at, AreSound};
-ghost use Rattle.mps_log.specs.Values.{message_taken};
 ghost use Rattle.mps_session.specs.Pasts.{deed_in, past_in};
 ghost use Rattle.mps_session.specs.Seen.{view_of};
 
 use crate::session::Session;
-use mps_arena::{Arena, Key};
 use mps_base::{Act, Message, Name, Role, Value};
+use mps_log::{Key, Log};
 
 // Whether the values are the same.
 fn same_value(a: &Value, b: &Value) -> bool
@@ -65,18 +64,8 @@ fn same_act(a: &Act, b: &Act) -> bool
             },
         ) => { from.is(*other) && same_slot(slot, place) }
         (Act::Mark(m), Act::Mark(n)) => m.is(n),
+        (Act::Commit, Act::Commit) => true,
         _ => false,
-    }
-}
-
-// The message that the receipt of the key took: its source's; none where the key is no receipt's.
-fn taken(arena: &Arena, key: Key) -> Option<&Message>
-    ensures { option_copied result ≡ message_taken arena.now.entries key }
-{
-    let source = arena.source(key)?;
-    match &arena.get(source).act {
-        Act::Out { message, .. } => Some(message),
-        Act::In { .. } | Act::Mark(_) => None,
     }
 }
 
@@ -92,16 +81,16 @@ fn same_taken(a: Option<&Message>, b: Option<&Message>) -> bool
 }
 
 // Whether the steps of the keys did the same.
-fn same_deed(a: &Arena, x: Key, b: &Arena, y: Key) -> bool
+fn same_deed(a: &Log, x: Key, b: &Log, y: Key) -> bool
     requires first { IsSome (entry_at x a.now.entries) }
     requires second { IsSome (entry_at y b.now.entries) }
     ensures { IsTrue result ↔ (deed_in a.now.entries x ≡ deed_in b.now.entries y) }
 {
-    same_act(&a.get(x).act, &b.get(y).act) && same_taken(taken(a, x), taken(b, y))
+    same_act(&a.get(x).act, &b.get(y).act) && same_taken(a.taken(x), b.taken(y))
 }
 
 // Whether the role did the same in both, looked at from its last step back.
-fn same_past(a: &Arena, b: &Arena, role: Role) -> bool
+fn same_past(a: &Log, b: &Log, role: Role) -> bool
     requires role { role < 8 }
     requires first { AreSound a.now.entries }
     requires second { AreSound b.now.entries }
@@ -133,8 +122,8 @@ pub fn same(a: &Session, b: &Session) -> bool
     ensures views { IsTrue result ↔ (view_of a.now ≡ view_of b.now) }
     ensures swaps { IsTrue result ↔ Swaps a.now.state.history b.now.state.history }
 {
-    let ours = a.configuration.log.steps();
-    let theirs = b.configuration.log.steps();
+    let ours = &a.configuration.log;
+    let theirs = &b.configuration.log;
     for role in 0..8 {
         if !same_past(ours, theirs, Role::new(role)) {
             return false;

@@ -2,7 +2,7 @@
 ghost use Rattle.std.specs.Prelude.{◌≡◌, ◌+◌, ◌<◌, true, false, Some, None, vec_len, slice_set, IfOk, OnOk, OnErr, IfErr};
 ghost use Rattle.std.specs.Bool.{then_some};
 ghost use Rattle.std.specs.Option.{option_copied};
-ghost use Rattle.mps_base.specs.declared.action.Act.TheVariants.{Out, In, Mark};
+ghost use Rattle.mps_base.specs.declared.action.Act.TheVariants.{Out, In, Mark, Commit};
 ghost use Rattle.mps_command.specs.Acts.{act_of};
 ghost use Rattle.mps_local.specs.Local.{LocalType};
 ghost use Rattle.mps_machine.specs.Machine.{most_numbers, taken};
@@ -40,7 +40,10 @@ impl Configuration {
             Forward::Receive { from, .. } | Forward::Pick { from } => {
                 self.log.message(*from, role, 0)
             }
-            Forward::Send { .. } | Forward::Choose { .. } | Forward::Mark { .. } => None,
+            Forward::Send { .. }
+            | Forward::Choose { .. }
+            | Forward::Mark { .. }
+            | Forward::Commit => None,
         }
     }
 
@@ -95,13 +98,13 @@ impl Configuration {
             Ok(node) => node,
             Err(fault) => return Err(Refusal::Violation(fault)),
         };
-        if self.log.steps().issued() as u64 >= MAX_NUMBERS {
+        if self.log.issued() as u64 >= MAX_NUMBERS {
             return Err(Refusal::Full);
         }
         Ok(node)
     }
 
-    /// Takes the step of a send, a choice or a mark, after which the role stands at the node. Nothing is changed where
+    /// Takes the step of a send, a choice, a mark or a commit, after which the role stands at the node. Nothing is changed where
     /// memory runs out.
     pub(crate) fn give(
         &mut self,
@@ -124,6 +127,7 @@ impl Configuration {
             }
             Forward::Choose { to, label } => self.send(role, *to, Message::Label(*label), node),
             Forward::Mark { name } => self.mark(role, *name, node),
+            Forward::Commit => self.commit(role, node),
             Forward::Receive { .. } | Forward::Pick { .. } => unreachable!(),
         }
     }
@@ -146,7 +150,10 @@ impl Configuration {
         match command {
             Forward::Receive { from, slot } => self.receive(role, *from, slot, node),
             Forward::Pick { from } => self.pick(role, *from, node),
-            Forward::Send { .. } | Forward::Choose { .. } | Forward::Mark { .. } => unreachable!(),
+            Forward::Send { .. }
+            | Forward::Choose { .. }
+            | Forward::Mark { .. }
+            | Forward::Commit => unreachable!(),
         }
     }
 
@@ -219,6 +226,21 @@ impl Configuration {
     {
         let at = self.cursors[role.index()].node.number();
         let id = self.log.mark(role, name, at)?;
+        self.stand_at(role, node);
+        Ok(id)
+    }
+
+    // Takes a step that nothing takes back.
+    fn commit(&mut self, role: Role, node: Node) -> Result<StepId, AllocError>
+        requires role { role < vec_len self.old.cursors }
+        requires ready { IsReady (lists_of self.old) role Commit }
+        ensures id { IfOk result (λ id. id ≡ (lists_of self.old).issued + 1) }
+        ensures acted { OnOk result (HasActed role Commit node
+            (lists_of self.old) (lists_of self.new)) }
+        ensures err { OnErr result (lists_of self.new ≡ lists_of self.old) }
+    {
+        let at = self.cursors[role.index()].node.number();
+        let id = self.log.commit(role, at)?;
         self.stand_at(role, node);
         Ok(id)
     }

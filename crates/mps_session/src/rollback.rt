@@ -1,17 +1,19 @@
 //! Steps taken back with all that depend on them.
-ghost use Rattle.std.specs.Prelude.{◌≡◌, ◌+◌, ◌<◌, ◌≤◌, ◌++◌, [], List, reverse, length, Some, is_some, vec_len, vec_capacity, IsSome, IfOk, IfSome, OnOk, OnErr, ⊤};
+ghost use Rattle.std.specs.Prelude.{◌≡◌, ◌+◌, ◌<◌, ◌≤◌, ◌++◌, [], List, reverse, length, Some, None, is_some, unwrap_or, vec_len, vec_capacity, IsSome, IfOk, IfErr, IfSome, OnOk, OnErr, ⊤};
 ghost use Rattle.std.specs.Bool.{then_some};
 ghost use Rattle.std.specs.List.{AllByRecursion};
 ghost use Rattle.std.specs.Option.{option_map};
+ghost use Rattle.std.specs.Result.{result_err};
+ghost use Rattle.mps_command.specs.declared.answer.Refusal.TheVariants.{Final, Memory};
 ghost use Rattle.mps_history.specs.Steps.{numbers, step_of, steps_of, within, without};
-ghost use Rattle.mps_history.specs.Dependence.{consequences};
+ghost use Rattle.mps_history.specs.Dependence.{consequences, least};
 ghost use Rattle.mps_local.specs.Local.{LocalType};
 ghost use Rattle.mps_machine.specs.Machine as machine;
-ghost use Rattle.mps_machine.specs.Machine.{since_mark};
+ghost use Rattle.mps_machine.specs.Machine.{since_mark, final_fault};
 ghost use Rattle.mps_machine.specs.Answering.{IsAnswer, IsServed};
 ghost use Rattle.mps_machine.specs.Rule.{replay};
 ghost use Rattle.mps_arena.specs.Entries.{steps};
-ghost use Rattle.mps_links.specs.Marks.{marked_keys, marked_steps, unmarked_steps, AreMarksClosed};
+ghost use Rattle.mps_links.specs.Marks.{marked_keys, marked_commits, marked_steps, unmarked_steps, AreMarksClosed};
 ghost use Rattle.mps_session.specs.Answers.{first_number, once};
 ghost use Rattle.mps_session.specs.Configurations.{lists_of};
 ghost use Rattle.mps_session.specs.Held.{Holds};
@@ -22,7 +24,6 @@ use crate::configuration::Configuration;
 use crate::session::Session;
 use mps_base::{Name, Role, StepId};
 use mps_command::{Refusal, StepIds};
-use mps_links::newest_marked;
 use std::alloc::{AllocError, Global};
 
 // Room for so many numbers, and once more where they are told again.
@@ -75,14 +76,41 @@ fn nothing(alloc: Global, again: bool) -> (StepIds, Option<StepIds>)
 }
 
 impl Configuration {
+    // Room for the numbers of the marked steps, so many, and once more where they are told again; or why the steps stay:
+    // the least commit among them, or else a lack of memory.
+    fn room_for_marked(
+        &self,
+        count: usize,
+        again: bool,
+    ) -> Result<(Vec<StepId>, Option<Vec<StepId>>), Refusal>
+        requires { AreMarksClosed (lists_of self.now).entries }
+        ensures none { IfOk result (λ room. vec_len room.0 ≡ 0) }
+        ensures first { IfOk result (λ room. room.0.items ≡ []) }
+        ensures first_room { IfOk result (λ room. count ≤ vec_capacity room.0) }
+        ensures again { IfOk result (λ room. is_some room.1 ≡ again) }
+        ensures empty_again { IfOk result (λ room. IfSome room.1 (λ more. more.items ≡ [])) }
+        ensures room_again { IfOk result (λ room. IfSome room.1 (λ more. count ≤ vec_capacity more)) }
+        ensures free { OnOk result
+            (least (marked_commits (lists_of self.now).entries) ≡ None) }
+        ensures fault { IfErr result (λ refusal. unwrap_or
+            (option_map Final (least (marked_commits (lists_of self.now).entries))) Memory
+            ≡ refusal) }
+    {
+        if let Some(by) = self.log.least_final() {
+            return Err(Refusal::Final { by });
+        }
+        Ok(room_for(self.alloc, count, again)?)
+    }
+
     /// Takes the step of that number out, and all that depend on it, the newest first, and tells their numbers, and
-    /// once more where that is asked for. Nothing is changed where memory runs out.
+    /// once more where that is asked for. Where a commit is among them, the least is named. Nothing is changed then, nor
+    /// where memory runs out.
     #[inline(never)]
     pub(crate) fn roll_back(
         &mut self,
         id: StepId,
         again: bool,
-    ) -> Result<(StepIds, Option<StepIds>), AllocError>
+    ) -> Result<(StepIds, Option<StepIds>), Refusal>
         requires present { IsSome (step_of (steps (lists_of self.old).entries) id) }
         requires unmarked { marked_keys (lists_of self.old).entries ≡ [] }
         requires members { AllByRecursion
@@ -98,18 +126,39 @@ impl Configuration {
         ensures unmarked { marked_keys (lists_of self.new).entries ≡ [] }
         ensures holds { (types : List LocalType) → Holds types (lists_of self.old)
             → Holds types (lists_of self.new) }
+        ensures free { OnOk result
+            (final_fault (steps (lists_of self.old).entries) id ≡ None) }
+        ensures fault { IfErr result (λ refusal. unwrap_or
+            (final_fault (steps (lists_of self.old).entries) id) Memory ≡ refusal) }
         ensures err { OnErr result (lists_of self.new ≡ lists_of self.old) }
     {
         let count = self.log.mark_from(id);
-        match room_for(self.alloc, count, again) {
+        match self.room_for_marked(count, again) {
             Ok((mut ids, room)) => {
                 self.take_marked(&mut ids);
                 Ok(told(ids, room))
             }
-            Err(error) => {
+            Err(refusal) => {
                 self.log.unmark();
-                Err(error)
+                Err(refusal)
             }
+        }
+    }
+
+    /// Whether no commit is among the step of that number and all that depend on it; else the least is named. It does
+    /// not allocate, and leaves no mark.
+    pub(crate) fn unless_final(&mut self, id: StepId) -> Result<(), Refusal>
+        requires present { IsSome (step_of (steps (lists_of self.old).entries) id) }
+        requires unmarked { marked_keys (lists_of self.old).entries ≡ [] }
+        ensures fault { result_err result ≡ final_fault (steps (lists_of self.old).entries) id }
+        ensures kept { lists_of self.new ≡ lists_of self.old }
+    {
+        self.log.mark_from(id);
+        let by = self.log.least_final();
+        self.log.unmark();
+        match by {
+            Some(by) => Err(Refusal::Final { by }),
+            None => Ok(()),
         }
     }
 
@@ -129,7 +178,7 @@ impl Configuration {
         ensures holds { (types : List LocalType) → Holds types (lists_of self.old)
             → Holds types (lists_of self.new) }
     {
-        while let Some(key) = newest_marked(self.log.steps()) {
+        while let Some(key) = self.log.newest_marked() {
             let id = self.take_out(key);
             ids.push_reserved(id);
         }
@@ -143,17 +192,16 @@ impl Configuration {
             (since_mark name.now (steps_of role (steps (lists_of self.now).entries))) }
     {
         let mark = self.log.last_mark(role, name)?;
-        let arena = self.log.steps();
-        let Some(next) = arena.next_of_role(mark) else {
+        let Some(next) = self.log.next_of_role(mark) else {
             return Some(None);
         };
-        Some(arena.id(next))
+        Some(self.log.id(next))
     }
 }
 
 impl Session {
     /// Takes back the role's own step of that number and all that depend on it, and tells their numbers, the newest
-    /// first. A refusal changes nothing.
+    /// first. A commit among them stands in the way. A refusal changes nothing.
     pub fn rollback(&mut self, role: Role, id: StepId) -> Result<StepIds, Refusal>
         requires { role < length self.old.types }
         ensures answer { IsAnswer result (machine.rollback self.old.state role id).0 }
@@ -188,7 +236,7 @@ impl Session {
             ≡ Some (view_of self.old)) }
     {
         self.configuration.own_step(role, id)?;
-        Ok(self.configuration.roll_back(id, again)?)
+        self.configuration.roll_back(id, again)
     }
 
     /// Takes the role back to its last mark of the name: its first step after the mark is taken back, and all that
@@ -227,7 +275,7 @@ impl Session {
         match self.configuration.first_behind(role, name) {
             None => Err(Refusal::NoMark),
             Some(None) => Ok(nothing(self.configuration.alloc, again)),
-            Some(Some(id)) => Ok(self.configuration.roll_back(id, again)?),
+            Some(Some(id)) => self.configuration.roll_back(id, again),
         }
     }
 }

@@ -5,7 +5,8 @@ ghost use Rattle.std.specs.Bool.{then_some};
 ghost use Rattle.std.specs.Option.{option_copied, option_map};
 ghost use Rattle.mps_base.specs.RoleLists.{HasRoleCount};
 ghost use Rattle.mps_command.specs.Acts.{act_of};
-ghost use Rattle.mps_command.specs.declared.answer.Refusal.TheVariants.{Violation as Violates};
+ghost use Rattle.mps_base.specs.declared.action.Act.TheVariants.{Commit};
+ghost use Rattle.mps_command.specs.declared.answer.Refusal.TheVariants.{Violation as Violates, Final};
 ghost use Rattle.mps_command.specs.declared.answer.Violation.TheVariants.{Mismatch};
 ghost use Rattle.mps_fidelity.specs.Fidelity.{AreOfOneProtocol};
 ghost use Rattle.mps_local.specs.Actions.{head};
@@ -119,9 +120,12 @@ impl Session {
         ensures state { OnOk result (self.new.state
             ≡ (machine.forward self.old.types self.old.state role (act_of command)).1) }
         ensures types { self.new.types ≡ self.old.types }
-        // A step and then its undo change nothing, but that the number isn't given out again.
-        ensures undone { IfOk result (λ done. machine.undo self.new.state role done.id
+        // A step that is no commit and then its undo change nothing, but that the number isn't given out again.
+        ensures undone { act_of command ≢ Commit → IfOk result (λ done. machine.undo self.new.state role done.id
             ≡ (Ok (done.id ∷ []), record self.old.state { next = self.old.state.next + 1 })) }
+        // An undo of a commit is refused, and names it.
+        ensures stays { act_of command ≡ Commit → IfOk result (λ done. machine.undo self.new.state role done.id
+            ≡ (Err (Final done.id), self.new.state)) }
         ensures err { OnErr result (self.new.state ≡ self.old.state) }
     {
         let _ = &self.types;
@@ -147,9 +151,10 @@ impl Session {
             Forward::Receive { .. } | Forward::Pick { .. } => {
                 self.take_message(role, command, again)
             }
-            Forward::Send { .. } | Forward::Choose { .. } | Forward::Mark { .. } => {
-                self.give(role, command, again)
-            }
+            Forward::Send { .. }
+            | Forward::Choose { .. }
+            | Forward::Mark { .. }
+            | Forward::Commit => { self.give(role, command, again) }
         }
     }
 
@@ -177,7 +182,7 @@ impl Session {
         Ok(told(id, got, more))
     }
 
-    // Takes the step of a send, a choice or a mark, with which no message comes.
+    // Takes the step of a send, a choice, a mark or a commit, with which no message comes.
     #[inline(always)]
     fn give(
         &mut self,
@@ -198,7 +203,8 @@ impl Session {
         Ok(told(id, None, more))
     }
 
-    /// What the role may do first; labels in the order of the branches. A mark it may leave always.
+    /// What the role may do first; labels in the order of the branches. A mark or a commit it may
+    /// make always.
     pub fn expect(&self, role: Role) -> Expect<'_>
         requires { role < length self.now.types }
         ensures head { head_of result ≡ head ((view_of self.now).participant role).to_come }
@@ -223,7 +229,7 @@ impl Session {
     pub fn issued(&self) -> u64
         ensures { result + 1 ≡ self.now.state.next }
     {
-        self.configuration.log.steps().issued() as u64
+        self.configuration.log.issued() as u64
     }
 
     /// How many steps survive. Their numbers rise and were given out, and the view that is shown is their replay.
@@ -231,7 +237,7 @@ impl Session {
         ensures count { result ≡ length self.now.state.history }
         ensures sound { machine.IsSound self.now.types self.now.state }
     {
-        self.configuration.log.steps().len()
+        self.configuration.log.len()
     }
 
     /// The k-th surviving step, from 0. It takes O(k) time.

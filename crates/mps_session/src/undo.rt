@@ -1,30 +1,40 @@
 //! Steps taken back.
-ghost use Rattle.std.specs.Prelude.{◌≡◌, ◌==◌, ◌+◌, ◌<◌, Some, None, length, vec_len, slice_set, IfOk, IfErr, IfSome, OnOk, OnErr};
+ghost use Rattle.std.specs.Prelude.{◌≡◌, ◌==◌, Ok, Err, ◌+◌, ◌<◌, Some, None, length, vec_len, slice_set, IfOk, IfErr, IfSome, OnOk, OnErr};
 ghost use Rattle.std.specs.Bool.{then_some};
 ghost use Rattle.std.specs.List.{find};
 ghost use Rattle.std.specs.Option.{option_map};
 ghost use Rattle.mps_base.specs.declared.action.Step.{Step};
 ghost use Rattle.mps_command.specs.Acts.{act_of};
+ghost use Rattle.mps_history.specs.Commits.{is_commit};
 ghost use Rattle.mps_history.specs.Steps.{step_of};
 ghost use Rattle.mps_machine.specs.Machine as machine;
 ghost use Rattle.mps_machine.specs.Machine.{owner_fault};
 ghost use Rattle.mps_machine.specs.Answering.{IsServed};
 ghost use Rattle.mps_machine.specs.Rule.{rule};
-ghost use Rattle.mps_arena.specs.Entries.{steps, entry_at};
+ghost use Rattle.mps_arena.specs.Entries.{steps, entry_at, AreSound};
 ghost use Rattle.mps_arena.specs.Sources.{CanGo};
 ghost use Rattle.mps_session.specs.Answers.{once, undo_answer};
-ghost use Rattle.mps_session.specs.Configurations.{lists_of, cursor_of};
+ghost use Rattle.mps_session.specs.Configurations.{lists_of, state_of, cursor_of};
 ghost use Rattle.mps_session.specs.Cursors.{went};
 ghost use Rattle.mps_session.specs.Leaving.{HasLeft};
 ghost use Rattle.mps_session.specs.Seen.{view_of};
 
 use crate::configuration::Configuration;
 use crate::session::Session;
-use mps_arena::Key;
-use mps_base::{Role, StepId};
+use mps_base::{Act, Role, StepId};
 use mps_command::{Done, Forward, Refusal, StepIds};
-use mps_links::least_dependent;
+use mps_log::Key;
 use mps_table::Node;
+
+// Whether the act is a commit.
+fn is_commit(act: &Act) -> bool
+    ensures { result ≡ is_commit act.now }
+{
+    match act {
+        Act::Commit => true,
+        Act::Out { .. } | Act::In { .. } | Act::Mark(_) => false,
+    }
+}
 
 impl Configuration {
     /// The key of the role's own step of that number, or why the role may not take it back.
@@ -34,17 +44,40 @@ impl Configuration {
         ensures key { IfOk result (λ key.
             option_map (λ e. e.key) (find (λ e. e.step.id == id) (lists_of self.now).entries)
             ≡ Some key) }
+        ensures sound { OnOk result (AreSound (lists_of self.now).entries) }
         ensures fault { IfErr result (λ refusal. owner_fault role
             (step_of (steps (lists_of self.now).entries) id) ≡ Some refusal) }
     {
-        let arena = self.log.steps();
-        let Some(key) = arena.by_id(id) else {
+        let Some(key) = self.log.by_id(id) else {
             return Err(Refusal::NoStep);
         };
-        if arena.get(key).role == role {
+        if self.log.get(key).role == role {
             Ok(key)
         } else {
             Err(Refusal::NotYours)
+        }
+    }
+
+    /// The key of the role's own step of that number, where it may be taken back by itself, or why not.
+    pub(crate) fn free_step(&self, role: Role, id: StepId) -> Result<Key, Refusal>
+        ensures own { OnOk result (owner_fault role
+            (step_of (steps (lists_of self.now).entries) id) ≡ None) }
+        ensures key { IfOk result (λ key.
+            option_map (λ e. e.key) (find (λ e. e.step.id == id) (lists_of self.now).entries)
+            ≡ Some key) }
+        ensures can { IfOk result (λ key. CanGo (lists_of self.now).entries key) }
+        ensures free { OnOk result (machine.undo (state_of (lists_of self.now)) role id
+            ≡ machine.undone (state_of (lists_of self.now)) id) }
+        ensures fault { IfErr result (λ refusal. machine.undo (state_of (lists_of self.now)) role id
+            ≡ (Err refusal, state_of (lists_of self.now))) }
+    {
+        let key = self.own_step(role, id)?;
+        if is_commit(&self.log.get(key).act) {
+            return Err(Refusal::Final { by: id });
+        }
+        match self.log.least_dependent(id) {
+            Some(by) => Err(Refusal::Needed { by }),
+            None => Ok(key),
         }
     }
 
@@ -59,17 +92,16 @@ impl Configuration {
         ensures left { IfSome (entry_at key (lists_of self.old).entries)
             (λ e. HasLeft e (lists_of self.old) (lists_of self.new)) }
     {
-        let arena = self.log.steps();
-        let role = arena.get(key).role;
-        let node = Node::new(arena.before(key).at);
+        let role = self.log.get(key).role;
+        let node = Node::new(self.log.before(key).at);
         self.stand_at(role, node);
         self.log.take_out(key).id
     }
 }
 
 impl Session {
-    /// Takes back the role's own step of that number, on which no other step depends, or says why not. It asks for no
-    /// memory, and the number isn't given out again. A refusal changes nothing.
+    /// Takes back the role's own step of that number, which is no commit and on which no other step depends, or says
+    /// why not. It does not allocate, and the number isn't given out again. A refusal changes nothing.
     pub fn undo(&mut self, role: Role, id: StepId) -> Result<(), Refusal>
         requires { role < length self.old.types }
         ensures answer { undo_answer id result ≡ (machine.undo self.old.state role id).0 }
@@ -80,10 +112,7 @@ impl Session {
             → rule (view_of self.new) s ≡ Some (view_of self.old)) }
         ensures err { OnErr result (self.new.state ≡ self.old.state) }
     {
-        let key = self.configuration.own_step(role, id)?;
-        if let Some(by) = least_dependent(self.configuration.log.steps(), id) {
-            return Err(Refusal::Needed { by });
-        }
+        let key = self.configuration.free_step(role, id)?;
         self.configuration.take_out(key);
         Ok(())
     }

@@ -14,25 +14,27 @@ ghost use Rattle.mps_command.specs.Acts.{act_of};
 use crate::session::Session;
 use mps_base::{Name, Role, StepId};
 use mps_command::{Command, Forward, Refusal, Violation};
-use mps_links::least_dependent;
 
 impl Session {
     /// Why the command of the role would be refused, before it is looked at whether there is room for what it brings.
-    /// How things stand may always be asked. It does not allocate.
-    pub fn would(&self, role: Role, command: &Command) -> Result<(), Refusal>
-        requires { role < length self.now.types }
+    /// How things stand may always be asked. It does not allocate. Steps are marked on the way, and nothing is changed when it
+    /// returns.
+    pub fn would(&mut self, role: Role, command: &Command) -> Result<(), Refusal>
+        requires { role < length self.old.types }
         // In a session of one protocol no answer is Mismatch.
-        ensures never_mismatch { AreOfOneProtocol self.now.types → result ≢ Err (Violates Mismatch) }
-        ensures fault { result_err result ≡ fault self.now.types self.now.state role command.now }
+        ensures never_mismatch { AreOfOneProtocol self.old.types → result ≢ Err (Violates Mismatch) }
+        ensures fault { result_err result ≡ fault self.old.types self.old.state role command.now }
+        ensures kept { self.new ≡ self.old }
     {
         let _ = &self.types;
         self.fault_of(role, command)
     }
 
     // The same, by the kind of command.
-    fn fault_of(&self, role: Role, command: &Command) -> Result<(), Refusal>
-        requires { role < length self.now.types }
-        ensures { result_err result ≡ fault self.now.types self.now.state role command.now }
+    fn fault_of(&mut self, role: Role, command: &Command) -> Result<(), Refusal>
+        requires { role < length self.old.types }
+        ensures fault { result_err result ≡ fault self.old.types self.old.state role command.now }
+        ensures kept { self.new ≡ self.old }
     {
         match command {
             Command::Forward(step) => self.would_take(role, step),
@@ -74,32 +76,32 @@ impl Session {
         ensures { result_err result ≡ refusal_in
             (machine.serve self.now.types self.now.state role (changes.Undo id)).0 }
     {
-        self.configuration.own_step(role, id)?;
-        match least_dependent(self.configuration.log.steps(), id) {
-            Some(by) => Err(Refusal::Needed { by }),
-            None => Ok(()),
-        }
-    }
-
-    // Why the rollback of the step of that number would be refused.
-    fn would_roll_back(&self, role: Role, id: StepId) -> Result<(), Refusal>
-        requires { role < length self.now.types }
-        ensures { result_err result ≡ refusal_in
-            (machine.serve self.now.types self.now.state role (changes.Rollback id)).0 }
-    {
-        self.configuration.own_step(role, id)?;
+        self.configuration.free_step(role, id)?;
         Ok(())
     }
 
+    // Why the rollback of the step of that number would be refused.
+    fn would_roll_back(&mut self, role: Role, id: StepId) -> Result<(), Refusal>
+        requires { role < length self.old.types }
+        ensures fault { result_err result ≡ refusal_in
+            (machine.serve self.old.types self.old.state role (changes.Rollback id)).0 }
+        ensures kept { self.new ≡ self.old }
+    {
+        self.configuration.own_step(role, id)?;
+        self.configuration.unless_final(id)
+    }
+
     // Why the return to the last mark of the name would be refused.
-    fn would_go_back(&self, role: Role, name: &Name) -> Result<(), Refusal>
-        requires { role < length self.now.types }
-        ensures { result_err result ≡ refusal_in
-            (machine.serve self.now.types self.now.state role (changes.Back name.now)).0 }
+    fn would_go_back(&mut self, role: Role, name: &Name) -> Result<(), Refusal>
+        requires { role < length self.old.types }
+        ensures fault { result_err result ≡ refusal_in
+            (machine.serve self.old.types self.old.state role (changes.Back name.now)).0 }
+        ensures kept { self.new ≡ self.old }
     {
         match self.configuration.first_behind(role, name) {
-            Some(_) => Ok(()),
             None => Err(Refusal::NoMark),
+            Some(None) => Ok(()),
+            Some(Some(id)) => self.configuration.unless_final(id),
         }
     }
 }

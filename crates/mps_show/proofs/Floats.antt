@@ -2,7 +2,7 @@
 use Rattle.std.proofs.Common.{◌≡◌, ℕ, false, pos, negsuc, List, [], ◌∷◌, map, length, Option, Some, None, refl}
 use Rattle.std.specs.List.{AllByRecursion, flat_map, range_with_len}
 use Rattle.mps_base.specs.declared.action.Act.{Act}
-use Rattle.mps_base.specs.declared.action.Act.TheVariants.{Out, In, Mark}
+use Rattle.mps_base.specs.declared.action.Act.TheVariants.{Out, In, Mark, Commit}
 use Rattle.mps_base.specs.declared.action.Message.{Message}
 use Rattle.mps_base.specs.declared.action.Message.TheVariants.{Value as Plain, Label}
 use Rattle.mps_base.specs.declared.action.Step.{Step}
@@ -64,6 +64,7 @@ in_act : (names : List (List ℕ)) (act : Act) (m : Option Message) → AllByRec
 in_act names (Out to message) m = in_out names to message
 in_act names (In from slot) m = in_in names from slot m
 in_act names (Mark name) m = (refl, (refl, tt))
+in_act names Commit m = (refl, tt)
 
 in_step : (names : List (List ℕ)) (m : Step × Option Message) → HasNone (step_shown names m)
 in_step names m = in_row (act_shown names m.0.act m.1) (in_act names m.0.act m.1)

@@ -4,7 +4,7 @@ use Rattle.std.specs.List.{flat_map, range_with_len}
 use Rattle.mps_base.specs.Sorts.{sort_word}
 use Rattle.mps_base.specs.Spaced.{spaced}
 use Rattle.mps_base.specs.declared.action.Act.{Act}
-use Rattle.mps_base.specs.declared.action.Act.TheVariants.{Out, In, Mark}
+use Rattle.mps_base.specs.declared.action.Act.TheVariants.{Out, In, Mark, Commit}
 use Rattle.mps_base.specs.declared.action.Message.{Message}
 use Rattle.mps_base.specs.declared.action.Message.TheVariants.{Value as Plain, Label}
 use Rattle.mps_base.specs.declared.action.Step.{Step}
@@ -65,6 +65,7 @@ abbrev pub act_shown : List (List ℕ) → Act → Option Message → List Data
 act_shown names (Out to message) m = out_shown names to message
 act_shown names (In from slot) m = in_shown names from slot m
 act_shown names (Mark name) m = string (codes "mark") ∷ string name ∷ []
+act_shown names Commit m = string (codes "commit") ∷ []
 
 -- a step, with the message that it gave or took
 abbrev pub step_shown : List (List ℕ) → Step × Option Message → Data

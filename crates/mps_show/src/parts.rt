@@ -151,6 +151,7 @@ fn put_act(
         Act::Out { to, message } => put_out(out, names, *to, message),
         Act::In { from, slot } => put_in(out, names, *from, slot, moved),
         Act::Mark(mark) => put_mark(out, mark),
+        Act::Commit => put_commit(out),
     }
 }
 
@@ -220,6 +221,17 @@ fn put_mark(out: &mut Vec<u8>, mark: &Name) -> Result<(), AllocError>
 {
     put_word(out, b"mark")?;
     put_name(out, mark)?;
+    Ok(out.push(b']')?)
+}
+
+// Writes a commit, after its role, and the end of the step.
+fn put_commit(out: &mut Vec<u8>) -> Result<(), AllocError>
+    ensures text { OnOk result (out.new.items
+        ≡ out.old.items ++ items_text true (items_of (string (codes "commit") ∷ []))) }
+    ensures plain { OnOk result (ArePlainItems (items_of (string (codes "commit") ∷ []))) }
+{
+    out.push(b',')?;
+    put_string(out, b"commit")?;
     Ok(out.push(b']')?)
 }
 

@@ -115,6 +115,7 @@ fn push_act(
         Act::Out { to, message } => push_out(alloc, names, *to, message, parts),
         Act::In { from, slot } => push_in(alloc, names, *from, slot, moved, parts),
         Act::Mark(mark) => push_mark(alloc, mark, parts),
+        Act::Commit => push_commit(alloc, parts),
     }
 }
 
@@ -189,5 +190,14 @@ fn push_mark(alloc: Global, mark: &Name, parts: &mut Vec<Json>) -> Result<(), Al
 {
     parts.push(Json::try_from_str(alloc, "mark")?)?;
     parts.push(name(alloc, mark)?)?;
+    Ok(())
+}
+
+// A commit.
+fn push_commit(alloc: Global, parts: &mut Vec<Json>) -> Result<(), AllocError>
+    ensures { OnOk result (map view parts.new.items
+        ≡ map view parts.old.items ++ string (codes "commit") ∷ []) }
+{
+    parts.push(Json::try_from_str(alloc, "commit")?)?;
     Ok(())
 }

@@ -2,7 +2,7 @@
 use Rattle.std.specs.Prelude.{◌≡◌, ℕ, ◌<◌, ◌==◌, if◌then◌else◌, List, [], ◌∷◌, ◌++◌, Option, None, Some, slice_index_or}
 use Rattle.std.specs.Option.{option_map_or}
 use Rattle.mps_base.specs.declared.action.Act.{Act}
-use Rattle.mps_base.specs.declared.action.Act.TheVariants.{Out, In, Mark}
+use Rattle.mps_base.specs.declared.action.Act.TheVariants.{In, Mark}
 use Rattle.mps_history.specs.Slots.{bound, value_in}
 use Rattle.mps_arena.specs.Entries.{Entry}
 
@@ -19,15 +19,13 @@ Naming = Act → Option (List ℕ)
 
 -- the slot into which the act receives a value
 abbrev pub slot_of : Naming
-slot_of (Out to message) = None
 slot_of (In from slot) = slot
-slot_of (Mark name) = None
+slot_of act = None
 
 -- the name that the act marks
 abbrev pub mark_of : Naming
-mark_of (Out to message) = None
-mark_of (In from slot) = None
 mark_of (Mark name) = Some name
+mark_of act = None
 
 -- a step of role p that binds the name
 abbrev pub IsBinding : Naming → ℕ → List ℕ → Entry → Type 0

@@ -12,9 +12,9 @@ use crate::parties::opened;
 use crate::rows::PROTOCOL;
 use mps_arena::{Arena, Before};
 use mps_base::{Act, Name, Role, RoleFault, Roles, Step, StepId};
-use mps_command::{Command, Refusal};
+use mps_command::{Command, Forward, Refusal};
 use mps_global::{Protocol, check};
-use mps_links::{least_dependent, mark_from};
+use mps_links::{least_dependent, least_final, mark_from};
 use mps_local::{Local, LocalFault, ProjectFault, project};
 use mps_session::{OpenFault, ProtocolFault, Session, open_protocol, same};
 use mps_table::compile;
@@ -155,17 +155,19 @@ pub fn opens_a_protocol(alloc: Global, until: Until) -> Option<Outcome> {
     }
 }
 
-/// Asks a session whether it would accept an undo.
+/// Asks a session whether it would accept a rollback that a commit stands in the way of.
 pub fn asks_whether(alloc: Global, until: Until) -> Option<Outcome> {
-    let (_, session) = opened(alloc)?;
+    let (_, mut session) = opened(alloc)?;
+    let first = StepId::new(1);
+    let id = session.forward(Role::new(0), Forward::Commit).ok()?.id;
     if until == Until::Before {
         return Some(Outcome::Reached);
     }
-    let would = session.would(Role::new(0), &Command::Undo(StepId::new(1)));
+    let would = session.would(Role::new(0), &Command::Rollback(first));
     if until == Until::After {
         return Some(Outcome::Reached);
     }
-    answered(would == Err(Refusal::NoStep))
+    answered(id.is(first) && would == Err(Refusal::Final { by: first }))
 }
 
 // A new session of the protocol.
@@ -244,6 +246,36 @@ pub fn finds_a_dependent(alloc: Global, until: Until) -> Option<Outcome> {
         return Some(Outcome::Reached);
     }
     answered(found.map(|by| by.number()) == Some(2))
+}
+
+// Puts a commit of the first role after all other steps.
+fn add_a_commit(arena: &mut Arena) -> Option<()>
+    requires none { marked_keys arena.old.entries ≡ [] }
+    ensures none { marked_keys arena.new.entries ≡ [] }
+{
+    arena.reserve_one().ok()?;
+    let id = StepId::new(arena.issued() as u64 + 1);
+    let before = Before { at: 0, bound: None };
+    let act = Act::Commit;
+    let role = Role::new(0);
+    arena.add(Step { id, role, act }, before, None);
+    Some(())
+}
+
+/// Looks for the least commit among a step and all that depend on it.
+pub fn finds_a_commit(alloc: Global, until: Until) -> Option<Outcome> {
+    let mut arena = three_marks(alloc)?;
+    add_a_commit(&mut arena)?;
+    let id = present(&arena, 2)?;
+    mark_from(&mut arena, id);
+    if until == Until::Before {
+        return Some(Outcome::Reached);
+    }
+    let found = least_final(&arena);
+    if until == Until::After {
+        return Some(Outcome::Reached);
+    }
+    answered(found.map(|by| by.number()) == Some(4))
 }
 
 /// Marks a step and all that depend on it.

@@ -55,6 +55,7 @@ enum Call {
     Front,
     LeastDependent,
     MarkFrom,
+    LeastFinal,
 }
 
 /// The other calls, with their names.
@@ -79,6 +80,7 @@ const CALLS: &[(&str, Call)] = &[
     ("Pass::front", Call::Front),
     ("least_dependent", Call::LeastDependent),
     ("mark_from", Call::MarkFrom),
+    ("least_final", Call::LeastFinal),
 ];
 
 /// The group of that word.
@@ -136,6 +138,7 @@ fn call_made<R: Wait + 'static>(
         Call::Front => asks_for_the_front(alloc, until),
         Call::LeastDependent => finds_a_dependent(alloc, until),
         Call::MarkFrom => marks_from(alloc, until),
+        Call::LeastFinal => finds_a_commit(alloc, until),
     }
 }
 

@@ -24,6 +24,8 @@ const MARK: &str = "a mark m";
 
 const BACK: &str = "a back m";
 
+const COMMIT: &str = "b commit";
+
 /// What a session is asked for.
 pub const ROWS: &[Row<'static>] = &[
     Row("send", &[], SEND),
@@ -42,6 +44,10 @@ pub const ROWS: &[Row<'static>] = &[
     ),
     Row("back", &[MARK, SEND, RECEIVE, SAY, HEAR], BACK),
     Row("back-of-nothing", &[MARK], BACK),
+    Row("commit", &[], COMMIT),
+    Row("final-undo", &[COMMIT], "b undo 1"),
+    Row("final-rollback", &[SEND, RECEIVE, COMMIT], "a rollback 1"),
+    Row("final-back", &[MARK, SEND, RECEIVE, COMMIT], BACK),
     Row("refused-act", &[], "a recv b x"),
     Row("refused-undo", &[], "a undo 9"),
     Row("needed-undo", &[SEND, RECEIVE], "a undo 1"),

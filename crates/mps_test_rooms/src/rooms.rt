@@ -129,6 +129,33 @@ const ROLLED_BACK: &[Row] = &[
     ("c news 18446744073709551615", "news 5"),
 ];
 
+const SETTLED_SHOWN: &str =
+    r#"{"history":[[1,"a","send","b",5],[2,"b","recv","a","x",5],[3,"b","commit"],[4,"b","send","c",7],[5,"c","recv","b","y",7],[6,"c","mark","m"],[7,"c","commit"],[8,"c","commit"]],"queues":[],"roles":[{"expects":"pick c ok no","past":[1],"role":"a","store":[]},{"expects":"end","past":[2,3,4],"role":"b","store":[["x",5]]},{"expects":"choose a ok no","past":[5,6,7,8],"role":"c","store":[["y",7]]}]}"#;
+
+// b settles what it took, and then c.
+const SETTLED: &[Row] = &[
+    ("a send b 5", "done 1"),
+    ("b recv a x", "done 2 5"),
+    ("b commit", "done 3"),
+    ("a rollback 1", "refused final 3"),
+    ("a undo 1", "refused needed 2"),
+    ("b undo 3", "refused final 3"),
+    ("b undo 2", "refused needed 3"),
+    ("b send c 7", "done 4"),
+    ("c recv b y", "done 5 7"),
+    ("c mark m", "done 6"),
+    ("c commit", "done 7"),
+    ("c back m", "refused final 7"),
+    ("b rollback 4", "refused final 7"),
+    ("c commit", "done 8"),
+    ("c mark k", "done 9"),
+    ("c back k", "undone"),
+    ("c undo 9", "undone 9"),
+    ("b rollback 2", "refused final 3"),
+    ("b news 0", "news 11"),
+    ("b show", SETTLED_SHOWN),
+];
+
 const UNDONE: &[Row] = &[
     ("a send b 5", "done 1"),
     ("b recv a x", "done 2 5"),
@@ -179,7 +206,7 @@ const REFUSED: &[Row] = &[
 
 #[test]
 fn relays_and_tells_a_verdict(rt: HostRuntime) -> Result<(), Fail> {
-    for rows in [ROLLED_BACK, UNDONE, TOLD, REFUSED] {
+    for rows in [ROLLED_BACK, SETTLED, UNDONE, TOLD, REFUSED] {
         play_anew(rt.alloc(), VERDICT, rows)?;
     }
     Ok(())
@@ -247,6 +274,25 @@ fn is_full_with_a_hundred_thousand_entries(rt: HostRuntime) -> Result<(), Fail> 
     mark_and_undo(&mut room, 49_999)?;
     assert_eq!(rt; room.entries(), 99_998);
     play(rt.alloc(), &mut room, FULL)
+}
+
+// A commit stands in the way before it is looked at whether the journal is full.
+const FULL_WITH_A_COMMIT: &[Row] = &[
+    ("a mark m", "done 50000"),
+    ("a commit", "done 50001"),
+    ("a commit", "refused full"),
+    ("a undo 50001", "refused final 50001"),
+    ("a undo 50000", "refused needed 50001"),
+    ("a rollback 50000", "refused final 50001"),
+    ("a back m", "refused final 50001"),
+    ("a news 0", "news 100000"),
+];
+
+#[test]
+fn names_a_commit_where_the_journal_is_full(rt: HostRuntime) -> Result<(), Fail> {
+    let mut room = room(rt.alloc(), TWO_PAIRS)?;
+    mark_and_undo(&mut room, 49_999)?;
+    play(rt.alloc(), &mut room, FULL_WITH_A_COMMIT)
 }
 
 // ---- out of memory

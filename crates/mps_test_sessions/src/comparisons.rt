@@ -86,6 +86,8 @@ const MARK_M: Ask = Ask::Mark("m");
 
 const MARK_K: Ask = Ask::Mark("k");
 
+const COMMIT: Ask = Ask::Commit;
+
 const SEND_5: Turn = Does(A, Ask::Send(B, "5"));
 
 const SEND_6: Turn = Does(A, Ask::Send(B, "6"));
@@ -119,6 +121,18 @@ const ROWS: &[Row] = &[
         &[Does(A, MARK_K), Does(A, MARK_M)],
         false,
     ),
+    Row(
+        &[Does(A, COMMIT), Does(A, MARK_M)],
+        &[Does(A, MARK_M), Does(A, COMMIT)],
+        false,
+    ),
+    // commits of two roles
+    Row(
+        &[Does(A, COMMIT), Does(C, COMMIT)],
+        &[Does(C, COMMIT), Does(A, COMMIT)],
+        true,
+    ),
+    Row(&[Does(A, COMMIT)], &[Does(A, MARK_M)], false),
     // a step that was taken back, and another number
     Row(&[SEND_5, Undoes(A, 1)], &[], true),
     Row(&[SEND_5, Undoes(A, 1), SEND_5], &[SEND_5], true),

@@ -25,9 +25,10 @@ enum Deed {
     Gives(u8, u8),
     Takes(u8, u8),
     Marks(u8),
+    Commits(u8),
 }
 
-use Deed::{Gives, Marks, Takes};
+use Deed::{Commits, Gives, Marks, Takes};
 
 // The first send of the pair that isn't received.
 fn first_waiting(arena: &Arena, from: Role, to: Role) -> Option<Key>
@@ -60,7 +61,7 @@ fn add(rt: &(impl Abort + AllocGlobal), arena: &mut Arena, deed: Deed)
     let id = StepId::new(arena.issued() as u64 + 1);
     let before = Before { at: 0, bound: None };
     let name = Name::read(b"x").expect(rt, "a name");
-    let (Gives(role, _) | Takes(role, _) | Marks(role)) = deed;
+    let (Gives(role, _) | Takes(role, _) | Marks(role) | Commits(role)) = deed;
     assert!(rt; role < 8);
     let role = Role::new(role);
     match deed {
@@ -82,6 +83,10 @@ fn add(rt: &(impl Abort + AllocGlobal), arena: &mut Arena, deed: Deed)
         }
         Marks(_) => {
             let act = Act::Mark(name);
+            arena.add(Step { id, role, act }, before, None);
+        }
+        Commits(_) => {
+            let act = Act::Commit;
             arena.add(Step { id, role, act }, before, None);
         }
     }
@@ -217,6 +222,53 @@ fn leaves_no_mark(rt: HostRuntime) {
             want,
             "from {second}"
         );
+    }
+}
+
+const SETTLED: &[Deed] = &[
+    Commits(C),
+    Gives(A, B),
+    Takes(B, A),
+    Commits(H),
+    Commits(B),
+    Gives(B, H),
+    Commits(B),
+    Takes(H, B),
+    Commits(H),
+    Commits(A),
+];
+
+// The least commit among the step and all that depend on it, and whether no mark is left; 0 where there is none.
+fn least_from(rt: &(impl Abort + AllocGlobal), arena: &mut Arena, number: u64) -> u64
+    requires none { marked_keys arena.old.entries ≡ [] }
+    ensures none { marked_keys arena.new.entries ≡ [] }
+{
+    let id = present(rt, arena, number);
+    mark_from(arena, id);
+    let least = least_final(arena);
+    unmark(arena);
+    match least {
+        Some(id) => id.number(),
+        None => 0,
+    }
+}
+
+#[test]
+fn finds_the_least_commit(rt: HostRuntime) {
+    for (deeds, number, want) in [
+        (CHAIN, 1, 0),
+        (WITH_MARKS, 1, 0),
+        (SETTLED, 1, 1),
+        (SETTLED, 2, 5),
+        (SETTLED, 3, 5),
+        (SETTLED, 4, 4),
+        (SETTLED, 6, 7),
+        (SETTLED, 8, 9),
+        (SETTLED, 9, 9),
+        (SETTLED, 10, 10),
+    ] {
+        let mut arena = play(&rt, deeds);
+        assert_eq!(&rt; least_from(&rt, &mut arena, number), want, "from {number}");
     }
 }
 

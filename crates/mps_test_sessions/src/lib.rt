@@ -4,6 +4,8 @@
 #[cfg(test)]
 mod choices;
 #[cfg(test)]
+mod commits;
+#[cfg(test)]
 mod comparisons;
 #[cfg(test)]
 mod dependents;

@@ -76,11 +76,14 @@ const TEN_AND_MORE: &[Row] = &[
     (A, Wish::Back("m"), "2 "),
     (A, Wish::Undo(2), "NoStep"),
     (A, Wish::Step(Ask::Send(B, "6")), "6 -"),
+    (A, Wish::Step(Ask::Commit), "7 -"),
+    (A, Wish::Undo(7), "Final 7"),
+    (A, Wish::Rollback(6), "Final 7"),
 ];
 
 const LEFT: &[Line] = &[
-    Moves("1 -; 6 6; "),
-    Count(2, 6),
+    Moves("1 -; 6 6; 7 -; "),
+    Count(3, 7),
     Waits(A, B, 0, "6"),
     Keeps(B, "x", "-"),
     Keeps(C, "y", "-"),

@@ -21,7 +21,7 @@ enum Word {
     Empty,
 }
 
-// What a role does: it sends a number, a text or a label, receives into a slot, picks, or marks.
+// What a role does: it sends a number, a text or a label, receives into a slot, picks, marks, or commits.
 #[derive(Clone, Copy)]
 enum Deed {
     Send(u8, i64),
@@ -30,9 +30,10 @@ enum Deed {
     Receive(u8, Word),
     Pick(u8),
     Mark(Word),
+    Commit,
 }
 
-use Deed::{Choose, Mark, Pick, Receive, Send, Tell};
+use Deed::{Choose, Commit, Mark, Pick, Receive, Send, Tell};
 
 // The letters of the word.
 fn letters(word: Word) -> &'static [u8] {
@@ -136,6 +137,7 @@ fn play(
             let joined = log.mark(role(place), name(rt, word), at);
             Some(joined.expect(rt, "memory"))
         }
+        Commit => Some(log.commit(role(place), at).expect(rt, "memory")),
     }
 }
 
@@ -182,6 +184,7 @@ fn is_act(act: &Act, deed: Deed) -> bool {
         },
         (Act::In { from, slot }, Pick(peer)) => from.is(Role::new(peer)) && slot.is_none(),
         (Act::Mark(name), Mark(word)) => name.is_spelled(letters(word)),
+        (Act::Commit, Commit) => true,
         _ => false,
     }
 }

@@ -25,6 +25,7 @@ pub(super) enum Ask {
     Receive(u8, &'static str),
     Pick(u8),
     Mark(&'static str),
+    Commit,
 }
 
 // The command that is asked for.
@@ -46,6 +47,7 @@ pub(super) fn command(alloc: Global, ask: Ask) -> Result<Forward, Fail> {
             from: Role::new(from),
         },
         Ask::Mark(mark) => Forward::Mark { name: name(mark)? },
+        Ask::Commit => Forward::Commit,
     })
 }
 
@@ -97,9 +99,13 @@ pub(super) fn answer(
     told(alloc, session.forward(role, command))
 }
 
-// The refusal of an undo, and the step that is in its way.
+// The refusal of an undo or a rollback, and the step that is in its way.
 fn refused(alloc: Global, refusal: Refusal) -> Result<String, Fail> {
     match refusal {
+        Refusal::Final { by } => {
+            let by = by.number();
+            Ok(format!(in alloc; "Final {by}")?)
+        }
         Refusal::Needed { by } => {
             let by = by.number();
             Ok(format!(in alloc; "Needed {by}")?)
@@ -182,6 +188,7 @@ fn step(alloc: Global, session: &Session, k: usize) -> Result<String, Fail> {
             let name = Message::Label(*name);
             ("left", role.index(), written(alloc, Some(&name))?)
         }
+        Act::Commit => ("settled", role.index(), written(alloc, None)?),
     };
     let (id, role) = (id.number(), role.index());
     Ok(format!(in alloc; "{id} {role} {did} {peer} {what}")?)

@@ -21,6 +21,7 @@ enum Ask {
     Receive(u8),
     Pick(u8),
     Mark,
+    Commit,
 }
 
 // What a message says: the label, or the value as it is spelled.
@@ -87,6 +88,7 @@ fn command(rt: &(impl Abort + AllocGlobal), ask: Ask) -> Forward {
         Ask::Mark => Forward::Mark {
             name: name(rt, "m"),
         },
+        Ask::Commit => Forward::Commit,
     }
 }
 
@@ -190,11 +192,12 @@ const AT_THE_END: &Judged<'static> = &Judged(
         Row(Kind::End, Ask::Pick(B), OK, ENDED),
         Row(Kind::End, Ask::Pick(B), None, ENDED),
         Row(Kind::End, Ask::Mark, None, STAY),
+        Row(Kind::End, Ask::Commit, None, STAY),
     ],
 );
 
 #[test]
-fn nothing_but_marks_after_the_end(rt: HostRuntime) {
+fn nothing_but_marks_and_commits_after_the_end(rt: HostRuntime) {
     are_answered(&rt, AT_THE_END);
 }
 
@@ -211,6 +214,7 @@ const GIVING: &Judged<'static> = &Judged(
         Row(GIVES, Ask::Receive(C), None, WRONG_ACT),
         Row(GIVES, Ask::Pick(B), OK, WRONG_ACT),
         Row(GIVES, Ask::Mark, None, STAY),
+        Row(GIVES, Ask::Commit, None, STAY),
     ],
 );
 
@@ -232,6 +236,7 @@ const TAKING: &Judged<'static> = &Judged(
         Row(TAKES, Ask::Pick(C), OK, WRONG_ACT),
         Row(TAKES, Ask::Send(C, "true"), INT, WRONG_ACT),
         Row(TAKES, Ask::Mark, INT, STAY),
+        Row(TAKES, Ask::Commit, INT, STAY),
     ],
 );
 
@@ -276,6 +281,7 @@ const CHOOSING: &Judged<'static> = &Judged(
         Row(CHOOSES, Ask::Pick(B), OK, WRONG_ACT),
         Row(CHOOSES, Ask::Receive(B), INT, WRONG_ACT),
         Row(CHOOSES, Ask::Mark, None, STAY),
+        Row(CHOOSES, Ask::Commit, None, STAY),
     ],
 );
 
@@ -299,6 +305,7 @@ const PICKING: &Judged<'static> = &Judged(
         Row(PICKS, Ask::Choose(B, "ok"), OK, WRONG_ACT),
         Row(PICKS, Ask::Send(B, "1"), None, WRONG_ACT),
         Row(PICKS, Ask::Mark, OKAY, STAY),
+        Row(PICKS, Ask::Commit, OKAY, STAY),
     ],
 );
 
@@ -548,6 +555,7 @@ const ROUNDS: &[Asked] = &[
     Asked(Ask::Choose(B, "ok"), None, None),
     Asked(Ask::Choose(B, "ok"), None, Some(Violation::WrongAct)),
     Asked(Ask::Mark, None, None),
+    Asked(Ask::Commit, None, None),
     Asked(Ask::Send(B, "1"), None, None),
     Asked(Ask::Choose(B, "more"), None, None),
     Asked(Ask::Choose(B, "more"), None, None),

@@ -40,6 +40,7 @@ fn copies_commands(rt: HostRuntime) -> Result<(), Fail> {
     }))?;
     commands.push(Command::Forward(Forward::Pick { from: b }))?;
     commands.push(Command::Forward(Forward::Mark { name: name(b"m")? }))?;
+    commands.push(Command::Forward(Forward::Commit))?;
     commands.push(Command::Undo(StepId::new(3)))?;
     commands.push(Command::Rollback(StepId::new(4)))?;
     commands.push(Command::Back(name(b"m")?))?;
@@ -58,6 +59,7 @@ fn copies_changes(rt: HostRuntime) -> Result<(), Fail> {
     let b = Role::new(1);
     let mut changes = Vec::new(alloc);
     changes.push(Change::Forward(Forward::Pick { from: b }))?;
+    changes.push(Change::Forward(Forward::Commit))?;
     changes.push(Change::Undo(StepId::new(3)))?;
     changes.push(Change::Rollback(StepId::new(4)))?;
     changes.push(Change::Back(name(b"m")?))?;
@@ -143,6 +145,7 @@ fn copies_answers(rt: HostRuntime) -> Result<(), Fail> {
         length: 9,
         ids: listed(alloc, &[5, 3])?,
     })?;
+    answers.push(Answer::Refused(Refusal::Final { by: id }))?;
     answers.push(Answer::Refused(Refusal::Needed { by: id }))?;
     answers.push(Answer::Refused(Refusal::Violation(Violation::Ended)))?;
     for answer in &answers {

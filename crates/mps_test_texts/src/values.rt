@@ -287,6 +287,7 @@ fn copied_steps(rt: HostRuntime) -> Result<(), Fail> {
     let slot = Some(label);
     assert!(rt; is_copied(alloc, Act::In { from, slot })?);
     assert!(rt; is_copied(alloc, Act::Mark(label))?);
+    assert!(rt; is_copied(alloc, Act::Commit)?);
     Ok(())
 }
 

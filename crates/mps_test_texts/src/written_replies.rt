@@ -132,6 +132,15 @@ fn refused(rt: HostRuntime) -> Result<(), Fail> {
     assert!(rt; is_refused(rt.alloc(), Refusal::Memory, "#refused memory")?);
     let by = StepId::new(2);
     assert!(rt; is_refused(rt.alloc(), Refusal::Needed { by }, "#refused needed 2")?);
+    assert!(rt; is_refused(rt.alloc(), Refusal::Final { by }, "#refused final 2")?);
+    let by = StepId::new(u64::MAX);
+    assert!(rt;
+        is_refused(
+            rt.alloc(),
+            Refusal::Final { by },
+            "#refused final 18446744073709551615"
+        )?
+    );
     Ok(())
 }
 

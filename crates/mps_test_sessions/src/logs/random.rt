@@ -1,5 +1,5 @@
 //! Operations at random: each look-up of a log gives what a walk over a plain list of steps does.
-use super::Deed::{self, Choose, Mark, Pick, Receive, Send, Tell};
+use super::Deed::{self, Choose, Commit, Mark, Pick, Receive, Send, Tell};
 use super::*;
 
 // A step of the plain list: its key and number, what it is, and the key to which its slot, or the
@@ -233,11 +233,12 @@ impl Dice {
     // Something to do with one of so many roles.
     fn deed(&mut self, roles: u8, n: i64) -> Deed {
         let peer = self.roll(roles);
-        match self.roll(10) {
+        match self.roll(11) {
             0..=2 => Send(peer, n),
             3 => Choose(peer, self.word()),
             4..=7 => Receive(peer, self.word()),
             8 => Pick(peer),
+            9 => Commit,
             _ => Mark(self.word()),
         }
     }

@@ -2,23 +2,21 @@ use Rattle.std.proofs.Common.{arith}
 use Rattle.mps_base.specs.declared.value.Value.TheVariants.{Text}
 use Rattle.mps_command.specs.declared.command.Command.TheVariants.{Forward}
 use Rattle.mps_command.specs.declared.command.Forward.TheVariants.{Send}
-use Rattle.mps_line.proofs.Reading.{show_read, no_command, no_verb, command_of, command_read}
-use Rattle.mps_line.proofs.Splitting.{is_word, is_no_word}
+use Rattle.mps_line.proofs.Reading.{lone_read, no_command, no_verb, command_of, command_read}
 use Rattle.mps_line.proofs.script.read_command.Goals as goal
 
-pub returns-then-eq-clause-read : goal.returns-then-eq-clause-read
-returns-then-eq-clause-read c = show_read _ _ (is_word _ _ _ _ c.eq.ensures c.if-eq.true c.as_slice.ensures)
+pub returns-in-Some-lone_command-clause-read : goal.returns-in-Some-lone_command-clause-read
+returns-in-Some-lone_command-clause-read c = lone_read _ _ _ c.in-Some-lone_command.ensures.alone c.in-Some-lone_command.ensures.read
 
-pub returns-in_default-clause-bad : goal.returns-in_default-clause-bad
-returns-in_default-clause-bad c = λ e command h.
-    no_verb _ _ c.in_default.ensures.none (is_no_word _ _ _ _ c.eq.ensures c.if-eq.false c.as_slice.ensures) command h
+pub returns-in-None-clause-bad : goal.returns-in-None-clause-bad
+returns-in-None-clause-bad c = λ e command h. no_verb _ _ c.in_default.ensures.none c.in-None.ensures.none command h
 
 pub returns-clause-read : goal.returns-clause-read
 returns-clause-read c = command_read _ _ _ _ _ c.in-Some.ensures.read c.read_arguments.ensures.verb c.read_arguments.ensures.some c.read_arguments.ensures.read
 
 pub returns-clause-bad : goal.returns-clause-bad
 returns-clause-bad c = λ e.
-    no_command _ _ _ _ c.in-Some.ensures.read (is_no_word _ _ _ _ c.eq.ensures c.if-eq.false c.as_slice.ensures) (c.read_arguments.ensures.bad e)
+    no_command _ _ _ _ c.in-Some.ensures.read (c.read_arguments.ensures.bad e)
 
 pub returns-clause-memory : goal.returns-clause-memory
 returns-clause-memory c = λ e.

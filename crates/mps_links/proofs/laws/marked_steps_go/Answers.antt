@@ -1,6 +1,6 @@
 use Rattle.mps_links.specs.Marks.{marked_keys}
 use Rattle.mps_links.proofs.Lasts.{nothing_last}
-use Rattle.mps_links.proofs.Going.{unmarked_stay, one_fewer, last_marked, none_go, unmarked_left, marked_within, marked_count}
+use Rattle.mps_links.proofs.Going.{unmarked_stay, one_fewer, last_marked, none_go, unmarked_left, marked_within, marked_count, marked_commits_are}
 use Rattle.mps_links.proofs.laws.marked_steps_go.Goals as goal
 
 pub returns-clause-stay : goal.returns-clause-stay
@@ -23,3 +23,6 @@ returns-clause-count c = marked_count
 
 pub returns-clause-marked : goal.returns-clause-marked
 returns-clause-marked c = marked_within
+
+pub returns-clause-commits : goal.returns-clause-commits
+returns-clause-commits c = marked_commits_are

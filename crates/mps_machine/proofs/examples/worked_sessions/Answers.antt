@@ -97,3 +97,27 @@ returns-clause-a_slot_keeps_its_place c = refl
 pub returns-clause-a_loop_is_gone_round : goal.returns-clause-a_loop_is_gone_round
 unfolding unfolded
 returns-clause-a_loop_is_gone_round c = refl
+
+pub returns-clause-a_commit_stands_in_the_way : goal.returns-clause-a_commit_stands_in_the_way
+unfolding unfolded
+returns-clause-a_commit_stands_in_the_way c = refl
+
+pub returns-clause-a_commit_leaves_the_strangers : goal.returns-clause-a_commit_leaves_the_strangers
+unfolding unfolded
+returns-clause-a_commit_leaves_the_strangers c = refl
+
+pub returns-clause-what_came_after_a_commit_can_be_taken_back : goal.returns-clause-what_came_after_a_commit_can_be_taken_back
+unfolding unfolded
+returns-clause-what_came_after_a_commit_can_be_taken_back c = refl
+
+pub returns-clause-a_commit_is_allowed_at_the_end : goal.returns-clause-a_commit_is_allowed_at_the_end
+unfolding unfolded
+returns-clause-a_commit_is_allowed_at_the_end c = (refl, refl)
+
+pub returns-clause-an_empty_return_is_never_final : goal.returns-clause-an_empty_return_is_never_final
+unfolding unfolded
+returns-clause-an_empty_return_is_never_final c = refl
+
+pub returns-clause-the_least_commit_is_named : goal.returns-clause-the_least_commit_is_named
+unfolding unfolded
+returns-clause-the_least_commit_is_named c = refl

@@ -2,6 +2,7 @@ use Rattle.std.proofs.Common.{◌≡◌, ℕ, ◌+◌, ◌∷◌, [], ◌++◌, 
 use Rattle.std.specs.Prelude.{◌==◌}
 use Rattle.std.specs.Option.{option_map}
 use Rattle.slab.specs.Slab.{get, slab_len}
+use Rattle.mps_base.specs.Effects.{effect}
 use Rattle.mps_arena.specs.declared.node.Node.{Node}
 use Rattle.mps_arena.specs.Entries.{Entries}
 use Rattle.mps_arena.specs.Kept.{IsKept}
@@ -25,7 +26,7 @@ kept c =
     (kept_add (get a.nodes) (get c.join.new.nodes) (slab_len a.nodes) a.ends.first a.ends.last a.ends.last_of a.ends.last_send a.index.items (entries_of a) c.self.invariant c.args.step c.args.before c.args.source key
     c.requires.small
     (subst (λ (v : Entries). c.args.step.id ≡ v.issued + 1) (sym c.self.view_is) c.requires.number)
-    (subst (λ (v : Entries). IsSource v.entries c.args.step.role c.args.step.act c.args.source) (sym c.self.view_is) c.requires.source)
+    (subst (λ (v : Entries). IsSource v.entries c.args.step.role (effect c.args.step.act) c.args.source) (sym c.self.view_is) c.requires.source)
     (subst (λ (i : ℕ). get a.nodes i ≡ None) place c.vacant_key.ensures.vacant)
     (subst (λ (n : Node). (i : ℕ) → get c.join.new.nodes i ≡ option_map (joined n key i) (cond (key == i) (Some n) (get a.nodes i))) c.node_behind-node.ensures is))
 

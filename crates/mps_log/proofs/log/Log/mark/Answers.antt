@@ -2,7 +2,7 @@ use Rattle.std.proofs.Common.{◌≡◌, [], ◌∷◌, ◌++◌, List, false, r
 use Rattle.mps_base.specs.declared.action.Act.TheVariants.{Mark}
 use Rattle.mps_arena.specs.Entries.{Entry}
 use Rattle.mps_queues.specs.Fronts.{AreFronts}
-use Rattle.mps_queues.proofs.Moves.{mark_joins}
+use Rattle.mps_queues.proofs.Moves.{idle_joins}
 use Rattle.mps_stores.specs.Stores.{AreStores, slot_of, mark_of}
 use Rattle.mps_stores.proofs.Bindings.{stores_idle_push}
 use Rattle.mps_log.proofs.log.Log.mark.Goals as goal
@@ -16,7 +16,7 @@ invariant_of-self-2 c =
     let whole : c.add.new.self.entries ≡ es ++ e ∷ [] = c.add.ensures.entries ∙ ap (λ (o : List Entry). o ++ e ∷ []) c.reserve_one.ensures.entries in
     record {
       sound = c.add.ensures.sound;
-      fronts = subst (λ (o : List Entry). AreFronts o l.queues) (sym whole) (mark_joins e c.args.name refl es l.queues k.fronts);
+      fronts = subst (λ (o : List Entry). AreFronts o l.queues) (sym whole) (idle_joins e refl es l.queues k.fronts);
       slots = subst (λ (o : List Entry). AreStores slot_of o l.slots) (sym whole) (stores_idle_push slot_of es e l.slots k.slots refl);
       marks = subst (λ (o : List Entry). AreStores mark_of o c.bind.new.self) (sym whole) (c.in_ok-bound.ensures.follows mark_of es e k.marks (refl, refl) (c.add.ensures.key ∙ sym c.in_ok-key.ensures.key) refl);
     }

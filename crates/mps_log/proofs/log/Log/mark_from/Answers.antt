@@ -1,8 +1,12 @@
-use Rattle.std.proofs.Common.{List, Bool, sym, subst}
+use Rattle.std.proofs.Common.{List, Bool, sym, ap, ◌∙◌, subst}
 use Rattle.mps_history.specs.Dependence.{consequences}
+use Rattle.mps_history.specs.Commits.{commits_from}
 use Rattle.mps_arena.specs.Entries.{Entry, steps, AreSound}
 use Rattle.mps_queues.specs.Fronts.{AreFronts}
 use Rattle.mps_stores.specs.Stores.{AreStores, slot_of, mark_of}
+use Rattle.mps_links.specs.Marks.{marked_commits}
+use Rattle.mps_links.proofs.Going.{marked_commits_are}
+use Rattle.mps_log.specs.Logged.{Logged}
 use Rattle.mps_log.proofs.Remarked.{sound_again, fronts_again, stores_again}
 use Rattle.mps_log.proofs.log.Log.mark_from.Goals as goal
 use Rattle.mps_log.proofs.log.Log.mark_from.Goals.{After-mark_from}
@@ -27,3 +31,10 @@ invariant_of-self c =
 
 pub returns-clause-sound : goal.returns-clause-sound
 returns-clause-sound c = sound ((goal.at.returns-clause-sound c).After-mark_from)
+
+pub returns-clause-commits : goal.returns-clause-commits
+returns-clause-commits c =
+    let es = c.self.inside.arena.entries in
+    ap marked_commits c.mark_from.ensures.marks
+    ∙ marked_commits_are es c.args.id
+    ∙ ap (λ (l : Logged). commits_from (steps l.entries) c.args.id) c.self.view_is

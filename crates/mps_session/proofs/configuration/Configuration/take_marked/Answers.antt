@@ -1,5 +1,4 @@
-use Rattle.std.proofs.Common.{◌≡◌, ◌+◌, ℕ, List, Some, None, length, sym, ap, ◌∙◌, subst, arith}
-use Rattle.mps_arena.specs.Entries.{Entry}
+use Rattle.std.proofs.Common.{◌≡◌, ◌+◌, ℕ, List, Some, None, length, sym, subst, arith}
 use Rattle.mps_arena.specs.Keys.{last_key}
 use Rattle.mps_arena.specs.Sources.{CanGo}
 use Rattle.mps_links.specs.Marks.{marked_keys}
@@ -10,15 +9,15 @@ use Rattle.mps_session.proofs.configuration.Configuration.take_marked.Goals as g
 use Rattle.mps_session.proofs.configuration.Configuration.take_marked.Goals.{After-push_reserved}
 
 newest : (c : After-push_reserved) → last_key None (marked_keys c.loop-key.self.log.entries) ≡ Some c.in-Some.key
-newest c = ap (λ (l : List Entry). last_key None (marked_keys l)) (sym c.steps.ensures.entries) ∙ sym c.in-Some.ensures.newest
+newest c = sym c.in-Some.ensures.newest
 
 can : (c : After-push_reserved) → CanGo c.loop-key.self.log.entries c.in-Some.key
-can c = subst (λ (l : List Entry). CanGo l c.in-Some.key) c.steps.ensures.entries c.in-Some.ensures.free
+can c = c.in-Some.ensures.free
 
 fewer : (c : After-push_reserved) → length (marked_keys c.take_out-id.new.self.log.entries) + 1 ≡ length (marked_keys c.loop-key.self.log.entries)
 fewer c =
     rolling.fewer_left (lists_of c.args.self.now) (lists_of c.loop-key.self) (lists_of c.take_out-id.new.self) c.args.ids.now.items c.loop-key.ids.items c.in-Some.key c.take_out-id.result
-    c.loop-key.invariant.going c.steps.ensures.sound (newest c) (can c) c.take_out-id.ensures.id c.take_out-id.ensures.left
+    c.loop-key.invariant.going c.newest_marked.ensures.sound (newest c) (can c) c.take_out-id.ensures.id c.take_out-id.ensures.left
 
 pub take_out-id-requires-clause-role : goal.take_out-id-requires-clause-role
 take_out-id-requires-clause-role c =
@@ -34,11 +33,10 @@ loop-key-preserved c =
       going =
           subst (λ (ids : List ℕ). AreGoing (lists_of c.args.self.now) (lists_of c.take_out-id.new.self) c.args.ids.now.items ids) (sym c.push_reserved.ensures.items)
           (rolling.turn (lists_of c.args.self.now) (lists_of c.loop-key.self) (lists_of c.take_out-id.new.self) c.args.ids.now.items c.loop-key.ids.items c.in-Some.key c.take_out-id.result
-          c.loop-key.invariant.going c.steps.ensures.sound (newest k) (can k) c.take_out-id.ensures.id c.take_out-id.ensures.left);
+          c.loop-key.invariant.going c.newest_marked.ensures.sound (newest k) (can k) c.take_out-id.ensures.id c.take_out-id.ensures.left);
       room = omega (arith, fewer k, c.loop-key.invariant.room, c.push_reserved.ensures.len, c.push_reserved.ensures.capacity);
     }
 
 pub returns-clause-history : goal.returns-clause-history
 returns-clause-history c =
-    let none = ap marked_keys (sym c.steps.ensures.entries) ∙ c.newest_marked.ensures.none c.in_default.is in
-    rolling.all_gone (lists_of c.args.self.now) (lists_of c.loop-key.self) c.args.ids.now.items c.loop-key.ids.items c.loop-key.invariant.going none
+    rolling.all_gone (lists_of c.args.self.now) (lists_of c.loop-key.self) c.args.ids.now.items c.loop-key.ids.items c.loop-key.invariant.going (c.newest_marked.ensures.none c.in_default.is)

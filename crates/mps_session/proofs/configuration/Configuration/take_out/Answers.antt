@@ -1,8 +1,6 @@
-use Rattle.std.proofs.Common.{◌≡◌, List, Some, not, ap, ◌∙◌, subst}
+use Rattle.std.proofs.Common.{not, ap, ◌∙◌}
 use Rattle.std.specs.Prelude.{◌==◌}
 use Rattle.std.specs.List.{filter}
-use Rattle.std.specs.Option.{option_map}
-use Rattle.mps_arena.specs.Entries.{Entry, entry_at}
 use Rattle.mps_log.specs.Logged.{Logged}
 use Rattle.mps_session.specs.Configurations.{lists_of}
 use Rattle.mps_session.proofs.Returning.{has_left}
@@ -10,10 +8,8 @@ use Rattle.mps_session.proofs.configuration.Configuration.take_out.Goals as goal
 
 pub returns-clause-left : goal.returns-clause-left
 returns-clause-left c =
-    let is = c.steps-arena.ensures.entries in
     has_left c.args.key (lists_of c.args.self.now) _ c.get.result.now c.before-2.result
-    (subst (λ (l : List Entry). option_map (λ e. e.step) (entry_at c.args.key l) ≡ Some c.get.result.now) is c.get.ensures)
-    (subst (λ (l : List Entry). option_map (λ e. e.before) (entry_at c.args.key l) ≡ Some c.before-2.result) is c.before-2.ensures)
+    c.get.ensures c.before-2.ensures
     (rw (← c.new-node.ensures) c.stand_at.ensures.cursors)
     (c.take_out.ensures.entries ∙ ap (λ (l : Logged). filter (λ e. not (e.key == c.args.key)) l.entries) c.stand_at.ensures.log)
     (c.take_out.ensures.issued ∙ ap (λ (l : Logged). l.issued) c.stand_at.ensures.log)

@@ -5,7 +5,7 @@ use Rattle.mps_command.specs.declared.answer.Refusal.{Refusal}
 use Rattle.mps_command.specs.declared.answer.Refusal.TheVariants.{Violation as Violates}
 use Rattle.mps_command.specs.declared.answer.Violation.TheVariants.{Mismatch}
 use Rattle.mps_machine.specs.Machine.{IsSound}
-use Rattle.mps_machine.proofs.TakingBack.{taken_back}
+use Rattle.mps_machine.proofs.TakingBack.{taken_back, stays_final}
 use Rattle.mps_session.specs.Seen.{Machine}
 use Rattle.mps_session.proofs.Accepted.{handed_on}
 use Rattle.mps_session.proofs.Opened.{no_mismatch}
@@ -20,8 +20,15 @@ returns-in_err-done-clause-never_mismatch c own =
     (λ e. let is : refusal ≡ Violates Mismatch = cc in no_mismatch m.types m.state c.args.role c.args.command refusal sound c.in_err-done.ensures.served.answer own is)
 
 pub returns-clause-undone : goal.returns-clause-undone
-returns-clause-undone c =
+returns-clause-undone c other =
     let m = c.args.self.now in
     let sound = subst (λ (k : Machine). IsSound k.types k.state) c.self.view_is c.self.invariant.holds.sound in
     let served = c.in_ok-done.ensures.served in
-    taken_back m.types m.state c.take.new.self.state c.args.role (act_of c.args.command) c.in_ok-done.done sound served.answer served.state
+    taken_back m.types m.state c.take.new.self.state c.args.role (act_of c.args.command) c.in_ok-done.done sound served.answer served.state other
+
+pub returns-clause-stays : goal.returns-clause-stays
+returns-clause-stays c commit =
+    let m = c.args.self.now in
+    let sound = subst (λ (k : Machine). IsSound k.types k.state) c.self.view_is c.self.invariant.holds.sound in
+    let served = c.in_ok-done.ensures.served in
+    stays_final m.types m.state c.take.new.self.state c.args.role (act_of c.args.command) c.in_ok-done.done sound served.answer served.state commit

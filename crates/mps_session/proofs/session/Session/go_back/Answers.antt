@@ -1,6 +1,7 @@
-use Rattle.std.proofs.Common.{◌≡◌, List, Some, map, sym, ap, subst, ◌∙◌}
+use Rattle.std.proofs.Common.{◌≡◌, List, Some, Result, Ok, Err, map, sym, ap, subst, ◌∙◌}
+use Rattle.std.specs.Prelude.{reverse, IfOk, OnOk}
 use Rattle.mps_base.specs.declared.action.Step.{Step}
-use Rattle.mps_history.specs.Steps.{within}
+use Rattle.mps_history.specs.Steps.{numbers, within, without}
 use Rattle.mps_history.specs.Dependence.{consequences}
 use Rattle.mps_local.specs.Local.{plain}
 use Rattle.mps_machine.specs.Machine as machine
@@ -13,6 +14,11 @@ use Rattle.mps_session.proofs.Behind.{first_there}
 use Rattle.mps_session.proofs.Rolling.{leads_back, members_there}
 use Rattle.mps_session.proofs.Told.{within_none, within_told}
 use Rattle.mps_session.proofs.session.Session.go_back.Goals as goal
+
+-- what holds of a value, and where there is one
+both : {X Y : Type 0} (r : Result X Y) (P R : X → Type 0) (Q : Type 0) → ((x : X) → P x → Q → R x) → IfOk r P → OnOk r Q → IfOk r R
+both (Ok x) P R Q f p q = f x p q
+both (Err e) P R Q f p q = tt
 
 pub roll_back-requires-clause-present : goal.roll_back-requires-clause-present
 roll_back-requires-clause-present c =
@@ -29,14 +35,15 @@ returns-in-Some-None-clause-back c =
     let m = c.args.self.now in
     ap (λ (l : List Step). replay (view_of m) l) (within_none m.state.history c.nothing.result.0 c.nothing.ensures.first)
 
-pub returns-in_ok-roll_back-in-Some-Some-clause-back : goal.returns-in_ok-roll_back-in-Some-Some-clause-back
-returns-in_ok-roll_back-in-Some-Some-clause-back c =
+pub returns-in-Some-Some-clause-back : goal.returns-in-Some-Some-clause-back
+returns-in-Some-Some-clause-back c =
     let s = c.self.inside in
     let types = map plain s.types.items in
     let h = steps s.configuration.log.entries in
     let left = steps c.roll_back.new.self.log.entries in
     let id = c.in-Some-Some.id in
-    let ids = c.in_ok-roll_back-in-Some-Some.field-0.0 in
-    subst (λ (m : Machine). replay (machine.view_of types left) (within m.state.history (told ids)) ≡ Some (view_of m)) c.self.view_is
-    (ap (λ (l : List Step). replay (machine.view_of types left) l) (within_told h (consequences h id) ids c.in_ok-roll_back-in-Some-Some.ensures.numbers)
-    ∙ leads_back types (state_of (lists_of s.configuration)) left id c.self.invariant.holds.sound c.in_ok-roll_back-in-Some-Some.ensures.history)
+    both c.roll_back.result (λ ids. ids.0 ≡ reverse (numbers (within h (consequences h id)))) (λ ids. replay (machine.view_of types left) (within c.args.self.now.state.history (told ids.0)) ≡ Some (view_of c.args.self.now)) (left ≡ without h (consequences h id))
+    (λ ids went stay. subst (λ (m : Machine). replay (machine.view_of types left) (within m.state.history (told ids.0)) ≡ Some (view_of m)) c.self.view_is
+    (ap (λ (l : List Step). replay (machine.view_of types left) l) (within_told h (consequences h id) ids.0 went)
+    ∙ leads_back types (state_of (lists_of s.configuration)) left id c.self.invariant.holds.sound stay))
+    c.roll_back.ensures.numbers c.roll_back.ensures.history

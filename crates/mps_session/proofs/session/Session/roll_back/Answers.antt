@@ -1,4 +1,5 @@
 use Rattle.std.proofs.Common.{◌≡◌, Some, map, subst}
+use Rattle.std.proofs.lemmas.Result.{on_ok_weaker}
 use Rattle.mps_history.specs.Steps.{within}
 use Rattle.mps_history.specs.Dependence.{consequences}
 use Rattle.mps_local.specs.Local.{plain}
@@ -15,5 +16,5 @@ returns-clause-back c =
     let s = c.self.inside in
     let types = map plain s.types.items in
     let left = steps c.roll_back.new.self.log.entries in
-    subst (λ (m : Machine). replay (machine.view_of types left) (within m.state.history (consequences m.state.history c.args.id)) ≡ Some (view_of m)) c.self.view_is
-    (leads_back types (state_of (lists_of s.configuration)) left c.args.id c.self.invariant.holds.sound c.in_ok-roll_back.ensures.history)
+    on_ok_weaker c.roll_back.result (λ history. subst (λ (m : Machine). replay (machine.view_of types left) (within m.state.history (consequences m.state.history c.args.id)) ≡ Some (view_of m)) c.self.view_is
+    (leads_back types (state_of (lists_of s.configuration)) left c.args.id c.self.invariant.holds.sound history)) c.roll_back.ensures.history

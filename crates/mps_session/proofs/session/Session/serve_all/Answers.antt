@@ -4,7 +4,8 @@ use Rattle.mps_command.specs.declared.answer.Answer.{Answer}
 use Rattle.mps_local.specs.Local.{LocalType}
 use Rattle.mps_machine.specs.Machine.{Request, IsSound}
 use Rattle.mps_machine.proofs.Sound.{serve_sound}
-use Rattle.mps_machine.proofs.TakingBack.{undoes_steps, refuses_needed, takes_futures}
+use Rattle.mps_machine.proofs.TakingBack.{undoes_steps, refuses_needed, refuses_final, takes_futures}
+use Rattle.mps_machine.proofs.Keeping.{keeps_commits}
 use Rattle.mps_machine.proofs.Marks.{returns_to_marks}
 use Rattle.mps_machine.specs.Answering.{IsChanged, result_of}
 use Rattle.mps_session.specs.Runs.{AreServed}
@@ -21,6 +22,12 @@ returns-in_err-answers-clause-undone c = undoes_steps c.args.self.now.types c.ar
 
 pub returns-in_err-answers-clause-refused : goal.returns-in_err-answers-clause-refused
 returns-in_err-answers-clause-refused c = refuses_needed c.args.self.now.types c.args.self.now.state (sound ((goal.at.returns-in_err-answers-clause-refused c).After-drop-requests))
+
+pub returns-in_err-answers-clause-refused_final : goal.returns-in_err-answers-clause-refused_final
+returns-in_err-answers-clause-refused_final c = refuses_final c.args.self.now.types c.args.self.now.state (sound ((goal.at.returns-in_err-answers-clause-refused_final c).After-drop-requests))
+
+pub returns-in_err-answers-clause-kept : goal.returns-in_err-answers-clause-kept
+returns-in_err-answers-clause-kept c = keeps_commits c.args.self.now.types c.args.self.now.state (sound ((goal.at.returns-in_err-answers-clause-kept c).After-drop-requests))
 
 pub returns-in_err-answers-clause-taken : goal.returns-in_err-answers-clause-taken
 returns-in_err-answers-clause-taken c = takes_futures c.args.self.now.types c.args.self.now.state (sound ((goal.at.returns-in_err-answers-clause-taken c).After-drop-requests))
@@ -66,6 +73,12 @@ returns-clause-undone c = undoes_steps c.loop-role.self.types c.loop-role.self.s
 
 pub returns-clause-refused : goal.returns-clause-refused
 returns-clause-refused c = refuses_needed c.loop-role.self.types c.loop-role.self.state (sound_after ((goal.at.returns-clause-refused c).After-drop-role-iterator))
+
+pub returns-clause-refused_final : goal.returns-clause-refused_final
+returns-clause-refused_final c = refuses_final c.loop-role.self.types c.loop-role.self.state (sound_after ((goal.at.returns-clause-refused_final c).After-drop-role-iterator))
+
+pub returns-clause-kept : goal.returns-clause-kept
+returns-clause-kept c = keeps_commits c.loop-role.self.types c.loop-role.self.state (sound_after ((goal.at.returns-clause-kept c).After-drop-role-iterator))
 
 pub returns-clause-taken : goal.returns-clause-taken
 returns-clause-taken c = takes_futures c.loop-role.self.types c.loop-role.self.state (sound_after ((goal.at.returns-clause-taken c).After-drop-role-iterator))

@@ -10,4 +10,4 @@ returns-clause-never_mismatch c own e =
     let m = c.args.self.now in
     never_a_mismatch m.types m.state c.args.role c.args.command.now
     (subst (λ (m : Machine). IsSound m.types m.state) c.self.view_is c.self.invariant.holds.sound) own
-    (sym c.fault_of.ensures ∙ ap (λ r. result_err r) e)
+    (sym c.fault_of.ensures.fault ∙ ap (λ r. result_err r) e)

@@ -1,0 +1,171 @@
+-- The least marked commit: of each role a walk from its last step back meets the marked ones.
+use Rattle.std.proofs.Common.{◌≡◌, ◌≤◌, ◌+◌, ℕ, Bool, true, false, List, [], ◌∷◌, ◌++◌, length, Option, Some, None, refl, sym, ap, ◌∙◌, subst, arith, ⊎_elim, ◌⊎◌, append_assoc, append-nil, length-append}
+use Rattle.std.specs.Prelude.{◌==◌, ◌&&◌, ◌||◌, nat_lt, IsSome, IfSome, if◌then◌else◌}
+use Rattle.std.specs.List.{filter}
+use Rattle.std.specs.Option.{option_map, option_and_then}
+use Rattle.std.proofs.lemmas.Bool.{cases_Bool, cond-true, cond-false, eqb-true, lt-ltb, and_from, and_left, and_right, and_parts, false_from_ne_true, both_ways}
+use Rattle.mps_base.specs.declared.action.Step.{Step}
+use Rattle.mps_history.specs.Steps.{IsIn, numbers}
+use Rattle.mps_history.specs.Dependence.{least}
+use Rattle.mps_history.specs.Commits.{is_commit}
+use Rattle.mps_history.proofs.Order.{IsRising-filter}
+use Rattle.mps_arena.specs.Keys.{first_key, last_key}
+use Rattle.mps_arena.specs.Entries.{Entry, steps, keys_of, of_role, entry_at, AreSound}
+use Rattle.mps_arena.specs.Sources.{id_in, prev_of_role_in}
+use Rattle.mps_arena.proofs.Chains.{keys-append, keys_with, keys_without}
+use Rattle.mps_links.specs.declared.order.Numbered.{Numbered}
+use Rattle.mps_links.specs.Numbered.{key_of, HasNumber}
+use Rattle.mps_links.specs.Order.{earlier}
+use Rattle.mps_links.specs.Marks.{is_marked, AreMarksClosed, marked_commits}
+use Rattle.mps_links.proofs.StepKeys.{keys_agree, keys_none, none_passes}
+use Rattle.mps_links.proofs.Present.{if_some}
+use Rattle.mps_links.proofs.Firsts.{first_is, first_or, entry_in, id_first}
+use Rattle.mps_links.proofs.Lasts.{IsLast, last_is, nothing_last}
+use Rattle.mps_links.proofs.Least.{id_of, least_first, first_filter, find_filter}
+use Rattle.mps_links.proofs.Links.{prev_is}
+use Rattle.mps_links.proofs.Marked.{marked_here, steps_marked}
+use Rattle.mps_links.proofs.Newest.{below_next, spread_left, small_in, where_in, earlier_marked}
+
+-- a marked commit
+abbrev pub is_final : List Entry → Step → Bool
+is_final es s = is_marked es s.id && is_commit s.act
+
+module _ (es : List Entry) (p : ℕ) where
+  abbrev own_final : Step → Bool
+  own_final s = s.role == p && is_final es s
+
+  -- the role's steps were looked at from some place on, and the key is that of its last step before
+  pub record IsSearch (at found : Option ℕ) (turns : ℕ) : Type 0 where
+    pub front : List Entry
+    pub rest : List Entry
+    pub parts : es ≡ front ++ rest
+    pub key : at ≡ last_key None (keys_of (of_role p) front)
+    pub first : found ≡ first_key (keys_of own_final rest)
+    pub count : turns ≤ length rest
+
+  pub search_starts : IsSearch (last_key None (keys_of (of_role p) es)) None 0
+  search_starts = record { front = es; rest = []; parts = sym (append-nil es); key = refl; first = refl; count = omega arith }
+
+  other_role : (b : List Entry) → keys_of (of_role p) b ≡ [] → keys_of own_final b ≡ []
+  other_role b none = keys_none own_final b (λ t i. and_left (t.role == p) (is_final es t) (none_passes (of_role p) b t none i))
+
+  module _ (at found : Option ℕ) (turns : ℕ) (w : IsSearch at found turns) where
+    ended : keys_of own_final w.front ≡ [] → found ≡ first_key (keys_of own_final es)
+    ended e = w.first ∙ sym (ap first_key (ap (keys_of own_final) w.parts ∙ keys-append own_final w.front w.rest ∙ ap (λ l. l ++ keys_of own_final w.rest) e))
+
+    pub ends_at_first : at ≡ None → found ≡ first_key (keys_of own_final es)
+    ends_at_first e = ended (other_role w.front (nothing_last (keys_of (of_role p) w.front) (sym w.key ∙ e)))
+
+    pub ends_by_count : length es ≤ turns → found ≡ first_key (keys_of own_final es)
+    ends_by_count long =
+        ended (empty w.front (λ x l e. omega (arith, long, w.count, ap length w.parts, length-append w.front w.rest, ap length e)))
+      where
+        empty : (l : List Entry) → ((x : Entry) (m : List Entry) → l ≡ x ∷ m → ⊥) → keys_of own_final l ≡ []
+        empty [] h = refl
+        empty (x ∷ m) h = absurd (h x m refl)
+
+    module _ (k : ℕ) (is : at ≡ Some k) (sound : AreSound es) where
+      pub last : IsLast (of_role p) w.front k
+      last = last_is (of_role p) w.front k (sym w.key ∙ is)
+
+      abbrev x : Entry
+      x = last.entry
+
+      parts : es ≡ last.before ++ x ∷ (last.behind ++ w.rest)
+      parts = w.parts ∙ ap (λ l. l ++ w.rest) last.parts ∙ append_assoc last.before (x ∷ last.behind) w.rest
+
+      pub search_at : entry_at k es ≡ Some x
+      search_at = ap (λ j. entry_at j es) (sym last.key) ∙ entry_in es sound.distinct sound.rising last.before (last.behind ++ w.rest) x parts
+
+      here : is_marked es x.step.id ≡ x.marked
+      here = marked_here es last.before (last.behind ++ w.rest) x sound.rising parts
+
+      pub ends_unmarked : AreMarksClosed es → x.marked ≡ false → found ≡ first_key (keys_of own_final es)
+      ends_unmarked closed m =
+          ended
+          (keys_none own_final w.front
+          (λ t i.
+          false_from_ne_true (own_final t)
+          (λ e.
+          let role = and_parts (t.role == p) (is_final es t) e in
+          let mark = (and_parts (is_marked es t.id) (is_commit t.act) role.1).0 in
+          ⊎_elim
+          (λ (j : IsIn t (steps last.before)).
+          earlier_marked es sound closed p last.before (last.behind ++ w.rest) x parts last.passes m t j (and_from (t.role == p) (is_marked es t.id) role.0 mark))
+          (λ (j : (t ≡ x.step) ⊎ IsIn t (steps last.behind)).
+          ⊎_elim
+          (λ (s : t ≡ x.step). both_ways x.marked m (sym here ∙ ap (λ (u : Step). is_marked es u.id) (sym s) ∙ mark))
+          (λ (h : IsIn t (steps last.behind)). both_ways (t.role == p) (none_passes (of_role p) last.behind t last.none h) role.0)
+          j)
+          (where_in w.front last.before last.behind x t last.parts i))))
+
+      first_here : x.marked ≡ true → (if is_commit x.step.act then Some k else found) ≡ first_key (keys_of own_final (x ∷ (last.behind ++ w.rest)))
+      first_here m =
+          let others : keys_of own_final (last.behind ++ w.rest) ≡ keys_of own_final w.rest = keys-append own_final last.behind w.rest ∙ ap (λ l. l ++ keys_of own_final w.rest) (other_role last.behind last.none) in
+          ⊎_elim
+          (λ (t : is_commit x.step.act ≡ true).
+          cond-true (is_commit x.step.act) (Some k) found t
+          ∙ ap Some (sym last.key)
+          ∙ sym (ap first_key (keys_with own_final x (last.behind ++ w.rest) (and_from (x.step.role == p) (is_final es x.step) last.passes (and_from (is_marked es x.step.id) (is_commit x.step.act) (here ∙ m) t)))))
+          (λ (f : is_commit x.step.act ≡ false).
+          cond-false (is_commit x.step.act) (Some k) found f
+          ∙ w.first
+          ∙ sym (ap first_key (keys_without own_final x (last.behind ++ w.rest) (and_right (x.step.role == p) (is_final es x.step) (and_right (is_marked es x.step.id) (is_commit x.step.act) f)) ∙ others)))
+          (cases_Bool (is_commit x.step.act))
+
+      pub search_goes : x.marked ≡ true → IsSearch (prev_of_role_in es k) (if is_commit x.step.act then Some k else found) (turns + 1)
+      search_goes m =
+          record {
+            front = last.before;
+            rest = x ∷ (last.behind ++ w.rest);
+            parts = parts;
+            key =
+                ap (prev_of_role_in es) (sym last.key)
+                ∙ prev_is es sound last.before (last.behind ++ w.rest) x parts
+                ∙ ap (λ r. last_key None (keys_of (of_role r) last.before)) (eqb-true x.step.role p last.passes);
+            first = first_here m;
+            count = omega (arith, w.count, length-append last.behind w.rest);
+          }
+
+module _ (es : List Entry) (sound : AreSound es) where
+  -- what is found is there
+  pub first_there : (f : Step → Bool) (o : Option ℕ) → o ≡ first_key (keys_of f es) → IfSome o (λ key. IsSome (entry_at key es))
+  first_there f o e =
+      if_some (λ key. IsSome (entry_at key es)) o
+      (λ k is.
+      let w = first_is f es k (sym e ∙ is) in
+      subst (λ (j : ℕ). IsSome (entry_at j es)) w.key (subst (λ (q : Option Entry). IsSome q) (sym (entry_in es sound.distinct sound.rising w.before w.behind w.entry w.parts)) cc))
+
+  pub next_role : (first : Option ℕ) (r : ℕ) → first ≡ first_key (keys_of (λ s. nat_lt s.role r && is_final es s) es) → earlier es first (first_key (keys_of (λ s. s.role == r && is_final es s) es)) ≡ first_key (keys_of (λ s. nat_lt s.role (r + 1) && is_final es s) es)
+  next_role first r e =
+      let f = λ (s : Step). nat_lt s.role r && is_final es s in
+      let g = λ (s : Step). s.role == r && is_final es s in
+      ap (λ o. earlier es o (first_key (keys_of g es))) e
+      ∙ sym (first_or es sound.distinct sound.rising f g [] es refl)
+      ∙ ap first_key (keys_agree (λ s. f s || g s) (λ s. nat_lt s.role (r + 1) && is_final es s) es
+      (λ t i. sym (ap (λ k. k && is_final es t) (below_next t.role r) ∙ spread_left (nat_lt t.role r) (t.role == r) (is_final es t))))
+
+  pub all_roles : first_key (keys_of (λ s. nat_lt s.role 8 && is_final es s) es) ≡ first_key (keys_of (is_final es) es)
+  all_roles =
+      ap first_key (keys_agree (λ s. nat_lt s.role 8 && is_final es s) (is_final es) es (λ t i. ap (λ k. k && is_final es t) (lt-ltb t.role 8 (small_in es t sound.small i))))
+
+  -- the first marked commit has the least number
+  pub least_is_first : least (marked_commits es) ≡ option_and_then (id_in es) (first_key (keys_of (is_final es) es))
+  least_is_first =
+      let p = λ (s : Step). is_commit s.act in
+      let q = λ (s : Step). is_marked es s.id in
+      ap (λ (h : List Step). least (numbers (filter p h))) (sym (steps_marked es sound.rising))
+      ∙ least_first (filter p (filter q (steps es))) (IsRising-filter p (filter q (steps es)) (IsRising-filter q (steps es) sound.rising))
+      ∙ ap id_of (first_filter p (filter q (steps es)) ∙ find_filter p q (steps es))
+      ∙ sym (id_first es sound.distinct sound.rising (is_final es) [] es refl)
+
+  ids : (o : Option Numbered) → HasNumber es o → option_map (λ n. n.id) o ≡ option_and_then (id_in es) (key_of o)
+  ids None h = refl
+  ids (Some n) h = sym h
+
+  -- the first of the roles' first ones, with its number
+  pub least_number : (first : Option Numbered) (r : ℕ) → r ≡ 8 → key_of first ≡ first_key (keys_of (λ s. nat_lt s.role r && is_final es s) es) → HasNumber es first → option_map (λ n. n.id) first ≡ least (marked_commits es)
+  least_number first r end e h =
+      ids first h
+      ∙ ap (option_and_then (id_in es)) (e ∙ ap (λ (n : ℕ). first_key (keys_of (λ s. nat_lt s.role n && is_final es s) es)) end ∙ all_roles)
+      ∙ sym least_is_first

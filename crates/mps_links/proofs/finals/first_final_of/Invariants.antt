@@ -1,0 +1,9 @@
+use Rattle.std.proofs.Common.{◌≡◌, length}
+use Rattle.mps_links.proofs.Commits.{IsSearch}
+use Rattle.mps_links.proofs.finals.first_final_of.Given as goal
+
+abbrev pub invariant-loop : goal.invariant-loop
+invariant-loop l = record {
+  search : IsSearch l.arena.entries l.fn.role l.at l.first l.counter;
+  end : l.end ≡ length l.arena.entries;
+}

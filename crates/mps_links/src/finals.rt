@@ -1,0 +1,63 @@
+//! The least marked commit.
+ghost use Rattle.std.specs.Prelude.{◌≡◌, ◌<◌, ◌==◌, ◌&&◌, IsSome, Some, if◌then◌else◌};
+ghost use Rattle.mps_history.specs.Commits.{is_commit};
+ghost use Rattle.mps_history.specs.Dependence.{least};
+ghost use Rattle.mps_arena.specs.Keys.{first_key};
+ghost use Rattle.mps_arena.specs.Entries.{Entry, keys_of, entry_at};
+ghost use Rattle.mps_links.specs.Marks.{is_marked, AreMarksClosed, marked_commits};
+
+use crate::order::{earlier, with_number};
+use mps_arena::{Arena, Key};
+use mps_base::{Act, Role, StepId};
+
+// the key itself where its step is a commit, else the other one
+fn commit_or(arena: &Arena, key: Key, other: Option<Key>) -> Option<Key>
+    requires { IsSome (entry_at key arena.now.entries) }
+    ensures { (e : Entry) → entry_at key arena.now.entries ≡ Some e
+        → result ≡ (if is_commit e.step.act then Some key else other) }
+{
+    match &arena.get(key).act {
+        Act::Commit => Some(key),
+        _ => other,
+    }
+}
+
+// the role's first marked commit, by a walk from its last step back
+fn first_final_of(arena: &Arena, role: Role) -> Option<Key>
+    requires small { role < 8 }
+    requires closed { AreMarksClosed arena.now.entries }
+    ensures { result ≡ first_key (keys_of
+        (λ s. s.role == role && (is_marked arena.now.entries s.id && is_commit s.act)) arena.now.entries) }
+{
+    let mut first = None;
+    let mut at = arena.last_of(role);
+    for _ in 0..arena.len() {
+        let Some(key) = at else {
+            return first;
+        };
+        prove!(arena.len() > 0);
+        if !arena.marked(key) {
+            return first;
+        }
+        first = commit_or(arena, key, first);
+        at = arena.prev_of_role(key);
+    }
+    first
+}
+
+/// The least number of a marked commit, if one is marked, where each step that depends on a marked one is marked. It
+/// does not allocate, and by the code it looks at no unmarked step but at one of each role.
+pub fn least_final(arena: &Arena) -> Option<StepId>
+    requires closed { AreMarksClosed arena.now.entries }
+    ensures least { result ≡ least (marked_commits arena.now.entries) }
+{
+    if arena.len() == 0 {
+        return None;
+    }
+    let mut first = None;
+    for role in 0..8 {
+        let own = first_final_of(arena, Role::new(role));
+        first = earlier(first, with_number(arena, own));
+    }
+    Some(first?.id)
+}

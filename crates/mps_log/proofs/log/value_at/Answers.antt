@@ -1,6 +1,0 @@
-use Rattle.std.proofs.Common.{sym, ◌∙◌}
-use Rattle.mps_log.proofs.Waiting.{source_entry}
-use Rattle.mps_log.proofs.log.value_at.Goals as goal
-
-pub message_at-requires : goal.message_at-requires
-message_at-requires c = source_entry c.args.arena.now.entries c.args.receipt c.in_ok-source.source (sym c.source.ensures ∙ c.in_ok-source.was)

@@ -1,0 +1,131 @@
+//! The steps of a log by their keys: which step comes next or before, what a receipt took, and what depends on what.
+ghost use Rattle.std.specs.Prelude.{◌≡◌, ◌<◌, ◌==◌, ℕ, None, Some, IsSome, IfSome, [], length};
+ghost use Rattle.std.specs.List.{find};
+ghost use Rattle.std.specs.Option.{option_copied, option_map};
+ghost use Rattle.mps_history.specs.Steps.{step_of};
+ghost use Rattle.mps_history.specs.Dependence.{least, dependents};
+ghost use Rattle.mps_arena.specs.Keys.{last_key};
+ghost use Rattle.mps_arena.specs.Entries.{steps, keys_of, of_role, entry_at, AreSound};
+ghost use Rattle.mps_arena.specs.Sources.{next_of_role_in, prev_of_role_in, id_in, CanGo};
+ghost use Rattle.mps_links.specs.Marks.{marked_keys, AreMarksClosed};
+ghost use Rattle.mps_log.specs.Values.{message_taken};
+
+use crate::log::{Log, taken_at};
+use mps_arena::{Before, Key};
+use mps_base::{Message, Role, Step, StepId};
+use mps_links::{least_dependent, newest_marked};
+
+impl Log {
+    /// How many numbers were given out.
+    #[inline(always)]
+    pub fn issued(&self) -> usize
+        ensures { result ≡ self.now.issued }
+    {
+        self.arena.issued()
+    }
+
+    /// How many steps there are.
+    #[inline(always)]
+    pub fn len(&self) -> usize
+        ensures count { result ≡ length self.now.entries }
+        ensures sound { AreSound self.now.entries }
+    {
+        self.arena.len()
+    }
+
+    /// The key of the step that has the number.
+    #[inline(always)]
+    pub fn by_id(&self, id: StepId) -> Option<Key>
+        ensures key { result
+            ≡ option_map (λ e. e.key) (find (λ e. e.step.id == id) self.now.entries) }
+        ensures sound { AreSound self.now.entries }
+    {
+        self.arena.by_id(id)
+    }
+
+    /// The step's number; none where no step has the key.
+    #[inline(always)]
+    pub fn id(&self, key: Key) -> Option<StepId>
+        ensures { result ≡ id_in self.now.entries key }
+    {
+        self.arena.id(key)
+    }
+
+    /// The step of the key.
+    #[inline(always)]
+    pub fn get(&self, key: Key) -> &Step
+        requires { IsSome (entry_at key self.now.entries) }
+        ensures { option_map (λ e. e.step) (entry_at key self.now.entries) ≡ Some result.now }
+    {
+        self.arena.get(key)
+    }
+
+    /// What was there before the step of the key.
+    #[inline(always)]
+    pub fn before(&self, key: Key) -> Before
+        requires { IsSome (entry_at key self.now.entries) }
+        ensures { option_map (λ e. e.before) (entry_at key self.now.entries) ≡ Some result }
+    {
+        self.arena.before(key)
+    }
+
+    /// The newest step of the role.
+    #[inline(always)]
+    pub fn last_of(&self, role: Role) -> Option<Key>
+        requires { role < 8 }
+        ensures { result ≡ last_key None (keys_of (of_role role) self.now.entries) }
+    {
+        self.arena.last_of(role)
+    }
+
+    /// The role's next step; none where no step has the key.
+    #[inline(always)]
+    pub fn next_of_role(&self, key: Key) -> Option<Key>
+        ensures next { result ≡ next_of_role_in self.now.entries key }
+        ensures sound { AreSound self.now.entries }
+    {
+        self.arena.next_of_role(key)
+    }
+
+    /// The role's step before; none where no step has the key.
+    #[inline(always)]
+    pub fn prev_of_role(&self, key: Key) -> Option<Key>
+        ensures { result ≡ prev_of_role_in self.now.entries key }
+    {
+        self.arena.prev_of_role(key)
+    }
+
+    /// The message that the receipt of the key took: its source's; none where the key is no receipt's.
+    #[inline(always)]
+    pub fn taken(&self, key: Key) -> Option<&Message>
+        ensures { option_copied result ≡ message_taken self.now.entries key }
+    {
+        taken_at(&self.arena, key)
+    }
+
+    /// The least number of another step that depends on this one.
+    #[inline(always)]
+    pub fn least_dependent(&self, id: StepId) -> Option<StepId>
+        requires present { IsSome (step_of (steps self.now.entries) id) }
+        ensures least { result ≡ least (dependents (steps self.now.entries) id) }
+        // a step on which nothing depends may be taken out
+        ensures free { result ≡ None → (k : ℕ)
+            → option_map (λ e. e.key) (find (λ e. e.step.id == id) self.now.entries) ≡ Some k
+            → CanGo self.now.entries k }
+    {
+        least_dependent(&self.arena, id)
+    }
+
+    /// The newest marked step, where each step that depends on a marked one is marked. So nothing depends on it, and it
+    /// may be taken out.
+    #[inline(always)]
+    pub fn newest_marked(&self) -> Option<Key>
+        requires closed { AreMarksClosed self.now.entries }
+        ensures newest { result ≡ last_key None (marked_keys self.now.entries) }
+        ensures none { result ≡ None → marked_keys self.now.entries ≡ [] }
+        ensures free { IfSome result (λ key. CanGo self.now.entries key) }
+        ensures sound { AreSound self.now.entries }
+    {
+        newest_marked(&self.arena)
+    }
+}

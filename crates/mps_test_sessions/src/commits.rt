@@ -1,0 +1,132 @@
+use crate::choices::giving;
+use crate::steps::Line::{Asks, Count, GoesBack, Keeps, Moves, RollsBack, Step, Undoes, Waits};
+use crate::steps::{A, A_TO_B_TO_C, Ask, B, C, FROM_A, Line, Row, TO_B, play, play_anew, role_of};
+use mps_base::{Sort, StepId};
+use mps_command::Command;
+use mps_session::*;
+use std::test::Fail;
+
+const D: u8 = 3;
+
+// Where a gives b ints, b settles what it took, and then a.
+const SETTLED: &[Line] = &[
+    Asks(A, Ask::Mark("m"), "1 -"),
+    Asks(A, Ask::Send(B, "1"), "2 -"),
+    Asks(B, Ask::Receive(A, "x"), "3 1"),
+    Asks(B, Ask::Commit, "4 -"),
+    GoesBack(A, "m", "Final 4"),
+    RollsBack(A, 1, "Final 4"),
+    Undoes(A, 2, "Needed 3"),
+    Undoes(B, 4, "Final 4"),
+    Undoes(B, 3, "Needed 4"),
+    Undoes(A, 4, "NotYours"),
+    Asks(A, Ask::Commit, "5 -"),
+    RollsBack(A, 1, "Final 4"),
+    Count(5, 5),
+    Step(3, "4 1 settled 1 -"),
+    Moves("1 -; 2 1; 3 1; 4 -; 5 -; "),
+    Keeps(B, "x", "1"),
+];
+
+// What comes after a commit goes as ever, and what stands in no relation to one.
+const AFTER_A_COMMIT: &[Line] = &[
+    Asks(A, Ask::Send(B, "1"), "1 -"),
+    Asks(A, Ask::Commit, "2 -"),
+    Asks(A, Ask::Mark("m"), "3 -"),
+    GoesBack(A, "m", ""),
+    Asks(A, Ask::Send(B, "2"), "4 -"),
+    Asks(B, Ask::Receive(A, "x"), "5 1"),
+    Asks(B, Ask::Receive(A, "y"), "6 2"),
+    GoesBack(A, "m", "6 4 "),
+    Waits(A, B, 0, "-"),
+    RollsBack(B, 5, "5 "),
+    Waits(A, B, 0, "1"),
+    RollsBack(A, 1, "Final 2"),
+    Undoes(A, 3, "Ok"),
+    Undoes(A, 2, "Final 2"),
+    Count(2, 6),
+];
+
+// Of two commits the lesser number is named, whichever role's it is.
+const THE_LEAST_IS_NAMED: &[Line] = &[
+    Asks(A, Ask::Mark("m"), "1 -"),
+    Asks(A, Ask::Send(B, "1"), "2 -"),
+    Asks(B, Ask::Receive(A, "x"), "3 1"),
+    Asks(B, Ask::Mark("k"), "4 -"),
+    Asks(A, Ask::Commit, "5 -"),
+    Asks(B, Ask::Commit, "6 -"),
+    Asks(B, Ask::Commit, "7 -"),
+    RollsBack(B, 3, "Final 6"),
+    GoesBack(B, "k", "Final 6"),
+    RollsBack(A, 2, "Final 5"),
+    GoesBack(A, "m", "Final 5"),
+    RollsBack(B, 7, "Final 7"),
+    Count(7, 7),
+];
+
+#[test]
+fn settles_what_was_given(rt: HostRuntime) -> Result<(), Fail> {
+    for lines in [SETTLED, AFTER_A_COMMIT, THE_LEAST_IS_NAMED] {
+        let mut session = Session::open(rt.alloc(), giving(rt.alloc())?)?;
+        play(rt.alloc(), &mut session, lines)?;
+    }
+    Ok(())
+}
+
+const TWO_PAIRS: &[&[Row]] = &[
+    &[TO_B],
+    &[FROM_A],
+    &[(true, D, Sort::Int)],
+    &[(false, C, Sort::Int)],
+];
+
+// A commit of a role that has nothing to do with the step.
+const A_STRANGERS: &[Line] = &[
+    Asks(C, Ask::Commit, "1 -"),
+    Asks(A, Ask::Send(B, "1"), "2 -"),
+    RollsBack(A, 2, "2 "),
+    Count(1, 2),
+];
+
+// A commit at the end of a role's part.
+const AT_THE_END: &[Line] = &[
+    Asks(A, Ask::Send(B, "1"), "1 -"),
+    Asks(A, Ask::Send(B, "2"), "Ended"),
+    Asks(A, Ask::Commit, "2 -"),
+    Undoes(A, 1, "Needed 2"),
+    RollsBack(A, 1, "Final 2"),
+];
+
+#[test]
+fn commits_are_the_roles_own(rt: HostRuntime) -> Result<(), Fail> {
+    play_anew(rt.alloc(), TWO_PAIRS, A_STRANGERS)?;
+    play_anew(rt.alloc(), TWO_PAIRS, AT_THE_END)
+}
+
+const RELAYED: &[Line] = &[
+    Asks(A, Ask::Send(B, "5"), "1 -"),
+    Asks(B, Ask::Receive(A, "x"), "2 5"),
+    Asks(B, Ask::Send(C, "7"), "3 -"),
+    Asks(C, Ask::Receive(B, "y"), "4 7"),
+    Asks(C, Ask::Commit, "5 -"),
+];
+
+// A refused rollback leaves the session as one that never tried, without a mark, and `would` says the same before.
+#[test]
+fn a_refused_rollback_changes_nothing(rt: HostRuntime) -> Result<(), Fail> {
+    let mut tried = Session::open(rt.alloc(), crate::steps::types(rt.alloc(), A_TO_B_TO_C)?)?;
+    let mut untried = Session::open(rt.alloc(), crate::steps::types(rt.alloc(), A_TO_B_TO_C)?)?;
+    play(rt.alloc(), &mut tried, RELAYED)?;
+    play(rt.alloc(), &mut untried, RELAYED)?;
+    let role = role_of(&tried, A)?;
+    let by = StepId::new(5);
+    let would = tried.would(role, &Command::Rollback(StepId::new(1)));
+    assert_eq!(&rt; would, Err(Refusal::Final { by }));
+    play(rt.alloc(), &mut tried, &[RollsBack(A, 1, "Final 5")])?;
+    assert!(&rt; same(&tried, &untried));
+    play(
+        rt.alloc(),
+        &mut tried,
+        &[Count(5, 5), RollsBack(B, 3, "Final 5")],
+    )
+}
