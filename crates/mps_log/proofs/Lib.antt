@@ -4,3 +4,4 @@ pub mod Taking
 pub mod Walks
 pub mod Queued
 pub mod Remarked
+pub mod Settled

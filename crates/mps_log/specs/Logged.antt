@@ -1,5 +1,7 @@
 -- What a caller sees of a log, and what holds of its parts.
-use Rattle.std.specs.Prelude.{ℕ, List}
+use Rattle.std.specs.Prelude.{◌≡◌, ℕ, false, List}
+use Rattle.std.specs.List.{AllByRecursion}
+use Rattle.mps_history.specs.Commits.{is_commit}
 use Rattle.mps_arena.specs.Entries.{Entry, AreSound}
 use Rattle.mps_queues.specs.Fronts.{AreFronts}
 use Rattle.mps_stores.specs.Stores.{AreStores, slot_of, mark_of}
@@ -13,9 +15,14 @@ pub record Logged : Type 0 where
 abbrev pub view_of : Inside → Logged
 view_of l = record { entries = l.arena.entries; issued = l.arena.issued }
 
--- queues, slots and marks are those of the steps
+-- no step is a commit
+abbrev pub HasNoCommit : List Entry → Type 0
+HasNoCommit es = AllByRecursion (λ e. is_commit e.step.act ≡ false) es
+
+-- queues, slots and marks are those of the steps, and no step is a commit before the first that joins
 pub record IsLog (l : Inside) : Type 0 where
   pub sound : AreSound l.arena.entries
   pub fronts : AreFronts l.arena.entries l.queues
   pub slots : AreStores slot_of l.arena.entries l.slots
   pub marks : AreStores mark_of l.arena.entries l.marks
+  pub settled : l.has_commits ≡ false → HasNoCommit l.arena.entries

@@ -31,6 +31,8 @@ pub struct Log {
     queues: Queues,
     slots: Stores,
     marks: Stores,
+    // whether a commit has ever joined: where none has, a rollback needn't look for one
+    pub(crate) has_commits: bool,
 }
 
 impl Model for Log {
@@ -139,6 +141,7 @@ impl Log {
             queues: Queues::new(),
             slots: Stores::new(alloc)?,
             marks: Stores::new(alloc)?,
+            has_commits: false,
         })
     }
 
@@ -326,6 +329,7 @@ impl Log {
         let act = Act::Commit;
         self.arena
             .add(Step { id, role, act }, Before { at, bound: None }, None);
+        self.has_commits = true;
         Ok(id)
     }
 

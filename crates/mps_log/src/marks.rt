@@ -28,11 +28,15 @@ impl Log {
     }
 
     /// The least number of a marked commit, where each step that depends on a marked one is marked. It does not allocate.
+    /// Where no commit has ever joined, no step is looked at.
     #[inline(always)]
     pub fn least_final(&self) -> Option<StepId>
         requires closed { AreMarksClosed self.now.entries }
         ensures least { result ≡ least (marked_commits self.now.entries) }
     {
+        if !self.has_commits {
+            return None;
+        }
         least_final(&self.arena)
     }
 

@@ -27,6 +27,7 @@ use mps_log::Key;
 use mps_table::Node;
 
 // Whether the act is a commit.
+#[inline(always)]
 fn is_commit(act: &Act) -> bool
     ensures { result ≡ is_commit act.now }
 {

@@ -1,11 +1,12 @@
 //! Cells and their passes.
-ghost use Rattle.std.specs.Prelude.{◌≡◌, false, IfSome};
+ghost use Rattle.std.specs.Prelude.{◌≡◌, false, IfSome, All};
 
 use crate::outcomes::{Outcome, Until, answered, refused};
 use crate::parties::{Passes, compared, names, opened};
 use crate::rows::Row;
-use mps_cell::{Cell, Pass, PassFault};
+use mps_cell::{Cell, Pass, PassFault, meet};
 use std::alloc::Global;
+use std::cmp::Ordering;
 use std::sync::Wait;
 
 // A new cell of the protocol.
@@ -100,4 +101,32 @@ pub fn asks_for_the_front(alloc: Global, until: Until) -> Option<Outcome> {
         return Some(Outcome::Reached);
     }
     answered(front == 0)
+}
+
+// The last of these passes of the cell.
+#[tactic(auto, using(crate::proofs::Popping::popped_rest, crate::proofs::Popping::popped_last))]
+fn last<'a>(cell: &'a Cell, all: &mut Vec<Pass<'a>>) -> Option<Pass<'a>>
+    requires all { All (λ p. p.cell ≡ cell.now.cell) all.old.items }
+    ensures rest { All (λ p. p.cell ≡ cell.now.cell) all.new.items }
+    ensures last { IfSome result (λ p. p.cell ≡ cell.now.cell) }
+{
+    let _ = cell;
+    all.pop()
+}
+
+/// Has two passes of a cell meet.
+pub fn has_two_meet(alloc: Global, until: Until) -> Option<Outcome> {
+    let mut cell = cell(alloc)?;
+    let deal = cell.deal()?;
+    let mut all = cell.passes_of(deal).ok()?;
+    let mut second = last(&cell, &mut all)?;
+    let mut first = last(&cell, &mut all)?;
+    if until == Until::Before {
+        return Some(Outcome::Reached);
+    }
+    let order = meet(&mut first, &mut second);
+    if until == Until::After {
+        return Some(Outcome::Reached);
+    }
+    answered(order == Ordering::Equal)
 }

@@ -1,7 +1,7 @@
 //! The calls that are made, by groups.
 
 use crate::calls::*;
-use crate::cells::{asks_for_the_front, hands_out_passes, opens_a_cell, pass_asked};
+use crate::cells::{asks_for_the_front, hands_out_passes, has_two_meet, opens_a_cell, pass_asked};
 use crate::lines::{
     TOLD, attends, converses, reads_a_command, reads_an_answer, writes_a_show, writes_an_answer,
 };
@@ -53,6 +53,7 @@ enum Call {
     Would,
     Same,
     Front,
+    Meet,
     LeastDependent,
     MarkFrom,
     LeastFinal,
@@ -78,6 +79,7 @@ const CALLS: &[(&str, Call)] = &[
     ("Session::would", Call::Would),
     ("same", Call::Same),
     ("Pass::front", Call::Front),
+    ("meet", Call::Meet),
     ("least_dependent", Call::LeastDependent),
     ("mark_from", Call::MarkFrom),
     ("least_final", Call::LeastFinal),
@@ -136,6 +138,7 @@ fn call_made<R: Wait + 'static>(
         Call::Would => asks_whether(alloc, until),
         Call::Same => compares(alloc, until),
         Call::Front => asks_for_the_front(alloc, until),
+        Call::Meet => has_two_meet(alloc, until),
         Call::LeastDependent => finds_a_dependent(alloc, until),
         Call::MarkFrom => marks_from(alloc, until),
         Call::LeastFinal => finds_a_commit(alloc, until),

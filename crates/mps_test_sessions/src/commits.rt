@@ -1,6 +1,8 @@
 use crate::choices::giving;
 use crate::steps::Line::{Asks, Count, GoesBack, Keeps, Moves, RollsBack, Step, Undoes, Waits};
-use crate::steps::{A, A_TO_B_TO_C, Ask, B, C, FROM_A, Line, Row, TO_B, play, play_anew, role_of};
+use crate::steps::{
+    A, A_TO_B_TO_C, Ask, B, C, FROM_A, Line, Row, TO_B, play, play_anew, role_of, types,
+};
 use mps_base::{Sort, StepId};
 use mps_command::Command;
 use mps_session::*;
@@ -111,22 +113,21 @@ const RELAYED: &[Line] = &[
     Asks(C, Ask::Commit, "5 -"),
 ];
 
-// A refused rollback leaves the session as one that never tried, without a mark, and `would` says the same before.
+const STILL_RELAYED: &[Line] = &[
+    Count(5, 5),
+    RollsBack(A, 1, "Final 5"),
+    RollsBack(B, 3, "Final 5"),
+    Count(5, 5),
+];
+
+// `would` names the commit, and marks nothing: the rollback is refused as before.
 #[test]
-fn a_refused_rollback_changes_nothing(rt: HostRuntime) -> Result<(), Fail> {
-    let mut tried = Session::open(rt.alloc(), crate::steps::types(rt.alloc(), A_TO_B_TO_C)?)?;
-    let mut untried = Session::open(rt.alloc(), crate::steps::types(rt.alloc(), A_TO_B_TO_C)?)?;
-    play(rt.alloc(), &mut tried, RELAYED)?;
-    play(rt.alloc(), &mut untried, RELAYED)?;
-    let role = role_of(&tried, A)?;
+fn tells_of_a_commit_beforehand(rt: HostRuntime) -> Result<(), Fail> {
+    let mut session = Session::open(rt.alloc(), types(rt.alloc(), A_TO_B_TO_C)?)?;
+    play(rt.alloc(), &mut session, RELAYED)?;
+    let role = role_of(&session, A)?;
+    let would = session.would(role, &Command::Rollback(StepId::new(1)));
     let by = StepId::new(5);
-    let would = tried.would(role, &Command::Rollback(StepId::new(1)));
-    assert_eq!(&rt; would, Err(Refusal::Final { by }));
-    play(rt.alloc(), &mut tried, &[RollsBack(A, 1, "Final 5")])?;
-    assert!(&rt; same(&tried, &untried));
-    play(
-        rt.alloc(),
-        &mut tried,
-        &[Count(5, 5), RollsBack(B, 3, "Final 5")],
-    )
+    assert!(rt; would == Err(Refusal::Final { by }));
+    play(rt.alloc(), &mut session, STILL_RELAYED)
 }

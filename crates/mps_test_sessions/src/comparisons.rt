@@ -210,3 +210,29 @@ fn rolls_back_after_a_refusal(rt: HostRuntime) -> Result<(), Fail> {
     }
     Ok(())
 }
+
+// Why a may not roll its first step back. The session is then the same as one that never tried.
+fn refused(alloc: alloc::Global, protocol: &Protocol, turns: &[Turn]) -> Result<Refusal, Fail> {
+    let mut session = open_protocol(alloc, protocol)?;
+    let mut untried = open_protocol(alloc, protocol)?;
+    take_all(alloc, &mut session, turns)?;
+    take_all(alloc, &mut untried, turns)?;
+    let role = role_of(&session, A)?;
+    let Err(refusal) = session.rollback(role, StepId::new(1)) else {
+        return Err("it is accepted".into());
+    };
+    if !same(&session, &untried) || session.issued() != untried.issued() {
+        return Err("a refusal changed something".into());
+    }
+    Ok(refusal)
+}
+
+#[test]
+fn a_refused_rollback_changes_nothing(rt: HostRuntime) -> Result<(), Fail> {
+    let alloc = rt.alloc();
+    let turns = [SEND_5, TAKE, Does(B, COMMIT), SAY_X];
+    let refusal = refused(alloc, &two_pairs(alloc)?, &turns)?;
+    let by = StepId::new(3);
+    assert!(rt; refusal == Refusal::Final { by });
+    Ok(())
+}

@@ -19,4 +19,5 @@ invariant_of-self-2 c =
       fronts = subst (λ (o : List Entry). AreFronts o l.queues) (sym whole) (idle_joins e refl es l.queues k.fronts);
       slots = subst (λ (o : List Entry). AreStores slot_of o l.slots) (sym whole) (stores_idle_push slot_of es e l.slots k.slots refl);
       marks = subst (λ (o : List Entry). AreStores mark_of o l.marks) (sym whole) (stores_idle_push mark_of es e l.marks k.marks refl);
+      settled = λ none. absurd cc;
     }

@@ -5,6 +5,8 @@ use Rattle.mps_queues.specs.Fronts.{AreFronts}
 use Rattle.mps_queues.proofs.Moves.{idle_joins}
 use Rattle.mps_stores.specs.Stores.{AreStores, slot_of, mark_of}
 use Rattle.mps_stores.proofs.Bindings.{stores_idle_push}
+use Rattle.mps_log.specs.Logged.{HasNoCommit}
+use Rattle.mps_log.proofs.Settled.{no_commit_joins}
 use Rattle.mps_log.proofs.log.Log.mark.Goals as goal
 
 pub invariant_of-self-2 : goal.invariant_of-self-2
@@ -19,4 +21,5 @@ invariant_of-self-2 c =
       fronts = subst (λ (o : List Entry). AreFronts o l.queues) (sym whole) (idle_joins e refl es l.queues k.fronts);
       slots = subst (λ (o : List Entry). AreStores slot_of o l.slots) (sym whole) (stores_idle_push slot_of es e l.slots k.slots refl);
       marks = subst (λ (o : List Entry). AreStores mark_of o c.bind.new.self) (sym whole) (c.in_ok-bound.ensures.follows mark_of es e k.marks (refl, refl) (c.add.ensures.key ∙ sym c.in_ok-key.ensures.key) refl);
+      settled = λ none. subst HasNoCommit (sym whole) (no_commit_joins es e refl (k.settled none));
     }

@@ -1,13 +1,13 @@
-use Rattle.std.proofs.Common.{List, Bool, sym, ap, ◌∙◌, subst}
+use Rattle.std.proofs.Common.{◌≡◌, List, Bool, false, sym, ap, ◌∙◌, subst}
 use Rattle.mps_history.specs.Dependence.{consequences}
-use Rattle.mps_history.specs.Commits.{commits_from}
+use Rattle.mps_history.specs.Commits.{is_commit, commits_from}
 use Rattle.mps_arena.specs.Entries.{Entry, steps, AreSound}
 use Rattle.mps_queues.specs.Fronts.{AreFronts}
 use Rattle.mps_stores.specs.Stores.{AreStores, slot_of, mark_of}
 use Rattle.mps_links.specs.Marks.{marked_commits}
 use Rattle.mps_links.proofs.Going.{marked_commits_are}
-use Rattle.mps_log.specs.Logged.{Logged}
-use Rattle.mps_log.proofs.Remarked.{sound_again, fronts_again, stores_again}
+use Rattle.mps_log.specs.Logged.{Logged, HasNoCommit}
+use Rattle.mps_log.proofs.Remarked.{all_again, sound_again, fronts_again, stores_again}
 use Rattle.mps_log.proofs.log.Log.mark_from.Goals as goal
 use Rattle.mps_log.proofs.log.Log.mark_from.Goals.{After-mark_from}
 
@@ -27,6 +27,7 @@ invariant_of-self c =
       fronts = subst (λ (es : List Entry). AreFronts es l.queues) (sym c.mark_from.ensures.marks) (fronts_again (marks k) l.arena.entries l.queues c.self.invariant.fronts);
       slots = subst (λ (es : List Entry). AreStores slot_of es l.slots) (sym c.mark_from.ensures.marks) (stores_again (marks k) slot_of l.arena.entries l.slots c.self.invariant.slots);
       marks = subst (λ (es : List Entry). AreStores mark_of es l.marks) (sym c.mark_from.ensures.marks) (stores_again (marks k) mark_of l.arena.entries l.marks c.self.invariant.marks);
+      settled = λ none. subst HasNoCommit (sym c.mark_from.ensures.marks) (all_again (marks k) (λ s. is_commit s.act ≡ false) l.arena.entries (c.self.invariant.settled none));
     }
 
 pub returns-clause-sound : goal.returns-clause-sound

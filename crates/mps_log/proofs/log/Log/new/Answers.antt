@@ -3,6 +3,7 @@ use Rattle.mps_arena.specs.Entries.{Entry, AreSound}
 use Rattle.mps_arena.proofs.Mates.{sound_nil}
 use Rattle.mps_queues.specs.Fronts.{AreFronts}
 use Rattle.mps_stores.specs.Stores.{slot_of, mark_of, AreStores}
+use Rattle.mps_log.specs.Logged.{HasNoCommit}
 use Rattle.mps_log.proofs.log.Log.new.Goals as goal
 
 pub invariant_of-result : goal.invariant_of-result
@@ -11,4 +12,5 @@ invariant_of-result c = record {
   fronts = subst (λ (es : List Entry). AreFronts es c.new-2.result) (sym c.new.ensures.entries) c.new-2.ensures;
   slots = subst (λ (es : List Entry). AreStores slot_of es c.in_ok-new.field-0) (sym c.new.ensures.entries) (c.in_ok-new.ensures.stores slot_of);
   marks = subst (λ (es : List Entry). AreStores mark_of es c.in_ok-new-2.field-0) (sym c.new.ensures.entries) (c.in_ok-new-2.ensures.stores mark_of);
+  settled = λ none. subst HasNoCommit (sym c.new.ensures.entries) tt;
 }

@@ -6,6 +6,8 @@ use Rattle.mps_arena.specs.Entries.{Entry}
 use Rattle.mps_queues.specs.Fronts.{AreFronts}
 use Rattle.mps_stores.specs.Stores.{AreStores, slot_of, mark_of}
 use Rattle.mps_stores.proofs.Bindings.{stores_idle_push}
+use Rattle.mps_log.specs.Logged.{HasNoCommit}
+use Rattle.mps_log.proofs.Settled.{no_commit_joins}
 use Rattle.mps_log.proofs.log.Log.send.Goals as goal
 
 pub invariant_of-self-2 : goal.invariant_of-self-2
@@ -23,4 +25,5 @@ invariant_of-self-2 c =
       fronts = subst (λ (o : List Entry). AreFronts o c.push.new.self) (sym whole) (c.push.ensures es e k.fronts k.sound sent (c.add.ensures.key ∙ sym c.in_ok-key.ensures.key));
       slots = subst (λ (o : List Entry). AreStores slot_of o l.slots) (sym whole) (stores_idle_push slot_of es e l.slots k.slots refl);
       marks = subst (λ (o : List Entry). AreStores mark_of o l.marks) (sym whole) (stores_idle_push mark_of es e l.marks k.marks refl);
+      settled = λ none. subst HasNoCommit (sym whole) (no_commit_joins es e refl (k.settled none));
     }

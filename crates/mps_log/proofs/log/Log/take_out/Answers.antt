@@ -1,9 +1,12 @@
-use Rattle.std.proofs.Common.{◌≡◌, ℕ, List, Option, Some, None, sym, ap, ◌∙◌, subst}
+use Rattle.std.proofs.Common.{◌≡◌, ℕ, List, not, Option, Some, None, sym, ap, ◌∙◌, subst}
+use Rattle.std.specs.Prelude.{◌==◌}
 use Rattle.std.specs.Option.{option_map, option_copied}
 use Rattle.mps_base.specs.declared.action.Step.{Step}
 use Rattle.mps_arena.specs.Entries.{Entry, entry_at}
 use Rattle.mps_queues.specs.Fronts.{AreFronts}
 use Rattle.mps_stores.specs.Stores.{Naming, slot_of, mark_of, AreStores}
+use Rattle.mps_log.specs.Logged.{HasNoCommit}
+use Rattle.mps_log.proofs.Settled.{no_commit_left}
 use Rattle.mps_log.proofs.log.Log.take_out.Goals as goal
 
 -- what the act of a key's step binds
@@ -25,4 +28,5 @@ invariant_of-self c =
           (c.unbind.ensures slot_of c.self.invariant.slots (bound slot_of es k c.get.result.now (option_copied c.slot_in.result) c.get.ensures c.slot_in.ensures));
       marks = subst (λ (l : List Entry). AreStores mark_of l c.unbind-2.new.stores) (sym c.remove.ensures.entries)
           (c.unbind-2.ensures mark_of c.self.invariant.marks (bound mark_of es k c.get.result.now (option_copied c.mark_in.result) c.get.ensures c.mark_in.ensures));
+      settled = λ none. subst HasNoCommit (sym c.remove.ensures.entries) (no_commit_left (λ e. not (e.key == k)) es (c.self.invariant.settled none));
     }
