@@ -1,6 +1,11 @@
 pub mod Growing
 pub mod Accepting
 pub mod Owning
+pub mod Hearing
+pub mod Telling
+pub mod Halving
+pub mod Lists
+pub mod Losing
 pub mod Refusing
 pub mod Recording
 pub mod Faithful

@@ -33,7 +33,7 @@ id_of answer = 0
 
 -- a step gets the next number
 module _ (types : List LocalType) (st : State) (p : ℕ) (act : Act) (done : Done) where
-  abbrev step_served : Option Violation → Bool → Result Done Refusal × State
+  abbrev pub step_served : Option Violation → Bool → Result Done Refusal × State
   step_served fault full = unless (option_map Violates fault) st (unless (if full then Some Full else None) st (Ok (done_by types st p act), accepted st p act))
 
   step_next : (fault : Option Violation) (full : Bool) → Stepped done ≡ stepped (step_served fault full).0 → (done.id ≡ st.next) × ((step_served fault full).1.next ≡ st.next + 1)
@@ -41,7 +41,7 @@ module _ (types : List LocalType) (st : State) (p : ℕ) (act : Act) (done : Don
   step_next None true e = absurd cc
   step_next None false e = (ap id_of e, refl)
 
-none_stepped : (done : Done) (r : Result (List ℕ) Refusal) → Stepped done ≡ removed r → ⊥
+pub none_stepped : (done : Done) (r : Result (List ℕ) Refusal) → Stepped done ≡ removed r → ⊥
 none_stepped done (Ok ids) e = absurd cc
 none_stepped done (Err refusal) e = absurd cc
 
@@ -53,7 +53,7 @@ serve_next types st p (Rollback n) done e = absurd (none_stepped done (rollback 
 serve_next types st p (Back name) done e = absurd (none_stepped done (back st p name).0 e)
 
 -- other changes give out none
-none_removed : (ids : List ℕ) (r : Result Done Refusal) → Undone ids ≡ stepped r → ⊥
+pub none_removed : (ids : List ℕ) (r : Result Done Refusal) → Undone ids ≡ stepped r → ⊥
 none_removed ids (Ok done) e = absurd cc
 none_removed ids (Err refusal) e = absurd cc
 
@@ -80,14 +80,14 @@ serve_stays types st p (Back name) ids e = back_stays (since_mark name (steps_of
 
 -- ---- owners
 
-abbrev own_at : List ℕ → ℕ → ℕ → Bool
+abbrev pub own_at : List ℕ → ℕ → ℕ → Bool
 own_at owners p k = option_map_or (λ owner. owner == p) (slice_get owners k) false
 
 last_of_all : (b : Bool) → b ≡ (false || ((b && true) || false))
 last_of_all true = refl
 last_of_all false = refl
 
-not_this : (x b : Bool) → x ≡ (x || ((b && false) || false))
+pub not_this : (x b : Bool) → x ≡ (x || ((b && false) || false))
 not_this true true = refl
 not_this true false = refl
 not_this false true = refl
@@ -108,7 +108,7 @@ never_next : (a : ℕ) → (0 == suc a) ≡ false
 never_next a = ne_eqb 0 (suc a) (λ (e : 0 ≡ suc a). absurd (omega (arith, e)))
 
 -- an owner at this place, or the last one
-abbrev or_last : Bool → Bool → Bool → Bool
+abbrev pub or_last : Bool → Bool → Bool → Bool
 or_last here own last = here || ((own && last) || false)
 
 -- one owner more
@@ -118,7 +118,7 @@ owned_more [] r p (suc k) = not_this false (r == p) ∙ ap (or_last false (r == 
 owned_more (q ∷ owners) r p zero = not_this (q == p) (r == p) ∙ ap (or_last (q == p) (r == p)) (sym (none_next (length owners)))
 owned_more (q ∷ owners) r p (suc k) = owned_more owners r p k ∙ ap (or_last (own_at owners p k) (r == p)) (sym (same_next (length owners) k))
 
-owns_more : (owners : List ℕ) (r p n : ℕ) → owns (owners ++ r ∷ []) p n ≡ or_last (owns owners p n) (r == p) (suc (length owners) == n)
+pub owns_more : (owners : List ℕ) (r p n : ℕ) → owns (owners ++ r ∷ []) p n ≡ or_last (owns owners p n) (r == p) (suc (length owners) == n)
 owns_more owners r p zero = not_this false (r == p) ∙ ap (or_last false (r == p)) (sym (none_next (length owners)))
 owns_more owners r p (suc k) = owned_more owners r p k ∙ ap (or_last (own_at owners p k) (r == p)) (sym (same_next (length owners) k))
 

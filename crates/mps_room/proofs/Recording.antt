@@ -1,6 +1,6 @@
 -- What a room keeps, one entry later.
-use Rattle.std.proofs.Common.{◌≡◌, ℕ, ◌<◌, true, List, [], ◌∷◌, ◌++◌, Err, sym, ap, ◌∙◌, subst}
-use Rattle.std.specs.Prelude.{length}
+use Rattle.std.proofs.Common.{◌≡◌, ℕ, ◌<◌, true, false, List, [], ◌∷◌, ◌++◌, Err, sym, ap, ◌∙◌, subst}
+use Rattle.std.specs.Prelude.{length, slice_index_or}
 use Rattle.mps_command.specs.Changes.{command_of}
 use Rattle.mps_command.specs.declared.answer.Answer.{Answer}
 use Rattle.mps_command.specs.declared.answer.Answer.TheVariants.{Refused}
@@ -11,20 +11,21 @@ use Rattle.mps_local.specs.Local.{LocalType}
 use Rattle.mps_machine.specs.Answering.{IsChanged}
 use Rattle.mps_machine.specs.Machine.{State, serve}
 use Rattle.mps_session.specs.Seen.{Machine}
-use Rattle.mps_room.specs.Journal.{most_entries, run, is_accepted, grown, limited, reply, IsLegal, IsReply}
-use Rattle.mps_room.specs.Kept.{AreOwners, owners_after, IsRecorded}
+use Rattle.mps_room.specs.Journal.{most_entries, run, undone_by, is_accepted, grown, limited, reply, IsLegal, IsReply}
+use Rattle.mps_room.specs.Kept.{owns, AreOwners, AreGiven, AreHeard, owners_after, hears, with_place, takes_others, IsRecorded}
 use Rattle.mps_room.specs.declared.entry.Entry.{Entry}
 use Rattle.mps_room.proofs.Growing as growing
 use Rattle.mps_room.proofs.Refusing.{refused_too}
 use Rattle.mps_room.proofs.Owning.{owners_with}
+use Rattle.mps_room.proofs.Telling.{given_with, heard_with}
 
-module _ (names : List (List ℕ)) (m : Machine) (owners : List ℕ) (j : List Entry) (old : IsRecorded names m owners j) (p : ℕ) (known : p < length m.types) (change : Change) (a : Answer) (is : a ≡ (serve m.types m.state p change).0) (kept : is_accepted a ≡ true) (space : length j < most_entries) where
+module _ (names : List (List ℕ)) (m : Machine) (owners : List ℕ) (count : ℕ) (lists : List (List ℕ)) (j : List Entry) (old : IsRecorded names m owners count lists j) (p : ℕ) (known : p < length m.types) (change : Change) (a : Answer) (is : a ≡ (serve m.types m.state p change).0) (kept : is_accepted a ≡ true) (space : length j < most_entries) where
   abbrev pub one_more : List Entry
   one_more = j ++ record { role = p; command = command_of change; answer = a } ∷ []
 
   -- the session after the change is that of the journal with its entry
-  pub recorded_with : (now : Machine) → now.types ≡ m.types → now.state ≡ (serve m.types m.state p change).1 → IsRecorded names now (owners_after owners p a) one_more
-  recorded_with now types state =
+  pub recorded_with : (now : Machine) (heard : List (List ℕ)) → now.types ≡ m.types → now.state ≡ (serve m.types m.state p change).1 → AreHeard count heard one_more → IsRecorded names now (owners_after owners p a) count heard one_more
+  recorded_with now heard types state hears =
       let by_run = is ∙ ap (λ (st : State). (serve m.types st p change).0) old.state in
       let legal = growing.legal_with names m.types j p change a by_run known old.legal space kept in
       let ran = growing.state_with names m.types j p change a by_run now.state (state ∙ ap (λ (st : State). (serve m.types st p change).1) old.state) in
@@ -34,7 +35,20 @@ module _ (names : List (List ℕ)) (m : Machine) (owners : List ℕ) (j : List E
         legal = subst (λ (t : List LocalType). IsLegal names t one_more) (sym types) legal;
         state = subst (λ (t : List LocalType). now.state ≡ run t one_more) (sym types) ran;
         owners = subst (λ (n : ℕ). AreOwners (owners_after owners p a) n one_more) (ap (λ (st : State). st.next) (sym state)) owned;
+        given = subst (λ (st : State). AreGiven (owners_after owners p a) st.history one_more) (sym state) (given_with m.types m.state j p change owners old.owners old.given a is kept);
+        roles = old.roles ∙ ap (λ (t : List LocalType). length t) (sym types);
+        heard = hears;
       }
+
+  -- the lists after the change
+  pub heard_as : (command : Command) → command ≡ command_of change → (heard : List (List ℕ)) → length heard ≡ 8
+      → (takes_others command ≡ true → (q : ℕ) → q < count → slice_index_or heard q [] ≡ with_place (hears (owns owners q) q p (undone_by a)) (length j) (slice_index_or lists q []))
+      → (takes_others command ≡ false → heard ≡ lists)
+      → AreHeard count heard one_more
+  heard_as command asks heard each told same =
+      heard_with m.types m.state j p change owners old.owners old.given a is kept (owners_with m.types m.state j p change owners old.owners a is kept) count lists heard old.heard each
+      (λ q known others. told (ap takes_others asks ∙ others) q known)
+      (λ own. same (ap takes_others asks ∙ own))
 
   -- the answer is the one that is wanted
   pub replied : reply names m.types j p (command_of change) ≡ a
@@ -52,10 +66,11 @@ module _ (names : List (List ℕ)) (m : Machine) (owners : List ℕ) (j : List E
     entered : j ++ entry ∷ [] ≡ one_more
     entered = ap (λ (k : Command). let e : Entry = record { role = p; command = k; answer = a } in j ++ e ∷ []) asks
 
-    pub recorded_as : (now : Machine) (o : List ℕ) (l : List Entry) → now.types ≡ m.types → now.state ≡ (serve m.types m.state p change).1 → o ≡ owners_after owners p a → l ≡ j ++ entry ∷ [] → IsRecorded names now o l
-    recorded_as now o l types state owned joined =
-        subst (λ (q : List ℕ). IsRecorded names now q l) (sym owned)
-        (subst (λ (q : List Entry). IsRecorded names now (owners_after owners p a) q) (sym (joined ∙ entered)) (recorded_with now types state))
+    pub recorded_as : (now : Machine) (o : List ℕ) (n : ℕ) (heard : List (List ℕ)) (l : List Entry) → now.types ≡ m.types → now.state ≡ (serve m.types m.state p change).1 → o ≡ owners_after owners p a → n ≡ count → AreHeard count heard one_more → l ≡ j ++ entry ∷ [] → IsRecorded names now o n heard l
+    recorded_as now o n heard l types state owned counted hears joined =
+        subst (λ (q : List ℕ). IsRecorded names now q n heard l) (sym owned)
+        (subst (λ (q : ℕ). IsRecorded names now (owners_after owners p a) q heard l) (sym counted)
+        (subst (λ (q : List Entry). IsRecorded names now (owners_after owners p a) count heard q) (sym (joined ∙ entered)) (recorded_with now heard types state hears)))
 
     pub grown_as : (l : List Entry) → l ≡ j ++ entry ∷ [] → l ≡ grown j p command a
     grown_as l joined =
@@ -65,7 +80,7 @@ module _ (names : List (List ℕ)) (m : Machine) (owners : List ℕ) (j : List E
     replied_as = ap (reply names m.types j p) asks ∙ replied
 
 -- a refusal of the session is the room's
-module _ (names : List (List ℕ)) (m : Machine) (owners : List ℕ) (j : List Entry) (old : IsRecorded names m owners j) (p : ℕ) (change : Change) (command : Command) (asks : command ≡ command_of change) (space : length j < most_entries) where
+module _ (names : List (List ℕ)) (m : Machine) (owners : List ℕ) (count : ℕ) (lists : List (List ℕ)) (j : List Entry) (old : IsRecorded names m owners count lists j) (p : ℕ) (change : Change) (command : Command) (asks : command ≡ command_of change) (space : length j < most_entries) where
   pub refused_as : (new : State) (refusal : Refusal) → IsChanged m.types p change (Err refusal) m.state new → IsReply (Refused refusal) (reply names m.types j p command)
   refused_as new refusal h =
       subst (λ (w : Answer). IsReply (Refused refusal) w)

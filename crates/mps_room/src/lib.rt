@@ -14,6 +14,7 @@
 pub mod caller;
 mod change;
 pub mod entry;
+mod heard;
 pub mod laws;
 mod news;
 pub mod numbers;

@@ -1,47 +1,58 @@
 //! What others took back.
-ghost use Rattle.std.specs.Prelude.{◌≡◌, ◌++◌, ℕ, IfOk, OnOk, drop};
-ghost use Rattle.std.specs.List.{filter};
-ghost use Rattle.mps_room.specs.Journal.{undone_by, is_own, taken_from, news};
-ghost use Rattle.mps_room.specs.Kept.{owns};
+ghost use Rattle.std.specs.Prelude.{◌≡◌, ◌++◌, ℕ, ◌<◌, ◌≤◌, List, IfOk, OnOk};
+ghost use Rattle.std.specs.List.{filter, AllByRecursion};
+ghost use Rattle.mps_room.specs.Journal.{undone_by, is_own, news};
+ghost use Rattle.mps_room.specs.Kept.{owns, places, undone_at};
 
 use crate::entry::Entry;
+use crate::heard::owner_of;
 use mps_base::{Role, StepId};
 use mps_command::Answer;
 use std::alloc::{AllocError, Global};
 
-/// The numbers of the role's steps that entries of other roles took back, after the first few entries.
+/// The numbers of the role's steps that entries of other roles took back, after the first few entries. It goes through
+/// those entries alone that the role hears of.
 pub(crate) fn news(
     alloc: Global,
     journal: &[Entry],
     owners: &[Role],
+    heard: &[u32],
     role: Role,
     known: u64,
 ) -> Result<Vec<StepId>, AllocError>
-    requires { (p n : ℕ) → is_own journal.now p n ≡ owns owners.now p n }
+    requires owned { (p n : ℕ) → is_own journal.now p n ≡ owns owners.now p n }
+    requires heard { heard.now ≡ places journal.now role }
     ensures { IfOk result (λ ids. ids.items ≡ news journal.now role known) }
 {
     let mut ids = Vec::new(alloc);
-    for entry in after(journal, known) {
-        if !entry.role.is(role) {
-            push_own(owners, role, undone_by(&entry.answer), &mut ids)?;
-        }
+    let told = after(heard, known);
+    for place in told {
+        push_own(owners, role, undone_at(journal, *place), &mut ids)?;
     }
     Ok(ids)
 }
 
-// The entries after the first few.
-fn after(journal: &[Entry], known: u64) -> &[Entry]
-    ensures { result.now ≡ drop known journal.now }
+// The places after the first few entries.
+fn after(places: &[u32], known: u64) -> &[u32]
+    ensures { (early late : List ℕ) → places.now ≡ early ++ late → AllByRecursion (λ k. k < known) early
+        → AllByRecursion (λ k. known ≤ k) late → result.now ≡ late }
 {
-    if known < journal.len() as u64 {
-        &journal[known as usize..]
-    } else {
-        &[]
+    let first = places.partition_point(|place| u64::from(*place) < known);
+    &places[first..]
+}
+
+// The numbers of the steps that the entry at the place took back.
+fn undone_at(journal: &[Entry], place: u32) -> &[StepId]
+    ensures { result.now ≡ undone_at journal.now place }
+{
+    match journal.get(place as usize) {
+        Some(entry) => undone_by(&entry.answer),
+        None => &[],
     }
 }
 
-// The numbers of the steps that an answer says were taken back.
-fn undone_by(answer: &Answer) -> &[StepId]
+/// The numbers of the steps that an answer says were taken back.
+pub(crate) fn undone_by(answer: &Answer) -> &[StepId]
     ensures { result.now ≡ undone_by answer.now }
 {
     match answer {
@@ -71,10 +82,5 @@ fn push_own(
 fn owns(owners: &[Role], role: Role, id: StepId) -> bool
     ensures { result ≡ owns owners.now role id }
 {
-    match id.number().checked_sub(1) {
-        Some(place) => owners
-            .get(place as usize)
-            .is_some_and(|owner| owner.is(role)),
-        None => false,
-    }
+    owner_of(owners, id).is_some_and(|owner| owner.is(role))
 }

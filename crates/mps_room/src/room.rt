@@ -10,6 +10,7 @@ ghost use Rattle.serde_json.specs.View.{view};
 ghost use Rattle.serde_json.specs.Written.{compact_text};
 
 use crate::entry::Entry;
+use crate::heard::Heard;
 use crate::news::news;
 use crate::shown::shown_text;
 use mps_base::{Role, Roles};
@@ -31,11 +32,14 @@ pub struct Room {
     pub(crate) journal: Vec<Entry>,
     // whose steps they are, in the order of their numbers
     pub(crate) owners: Vec<Role>,
+    // what each role hears of
+    pub(crate) heard: Heard,
     pub(crate) alloc: Global,
 }
 
 impl Model for Room {
     ghost use Rattle.std.specs.Coded.{codes};
+    ghost use Rattle.std.specs.Prelude.{map};
     ghost use Rattle.mps_local.specs.Codes.{coded_local};
     ghost use Rattle.mps_room.specs.Kept.{Record, IsRecorded};
 
@@ -45,7 +49,7 @@ impl Model for Room {
 
     ghost view = { λ r. record { names = r.names; types = r.session.types; journal = r.journal.items } };
 
-    ghost invariant = { λ r. IsRecorded r.names r.session r.owners.items r.journal.items };
+    ghost invariant = { λ r. IsRecorded r.names r.session r.owners.items r.heard.count (map (λ l. l.items) r.heard.lists) r.journal.items };
 }
 
 impl Room {
@@ -55,11 +59,13 @@ impl Room {
         requires fresh { session.state ≡ initial }
         ensures { result ≡ record { names = names; types = session.types; journal = [] } }
     {
+        let heard = Heard::new(alloc, names.count());
         Room {
             names,
             session,
             journal: Vec::new(alloc),
             owners: Vec::new(alloc),
+            heard,
             alloc,
         }
     }
@@ -99,7 +105,7 @@ impl Room {
     }
 
     /// How many entries the journal has, and which of the role's steps the entries of others took back, after the
-    /// first few entries. It goes through the entries after those.
+    /// first few entries. It goes through those entries alone in which one of the role's steps was taken back.
     pub fn news(&self, role: Role, known: u64) -> Result<(u64, StepIds), AllocError>
         ensures length { IfOk result (λ told. told.0 ≡ length self.now.journal) }
         ensures ids { IfOk result (λ told. told.1 ≡ news self.now.journal role known) }
@@ -108,6 +114,7 @@ impl Room {
             self.alloc,
             self.journal.as_slice(),
             self.owners.as_slice(),
+            self.heard.list(role),
             role,
             known,
         )?;

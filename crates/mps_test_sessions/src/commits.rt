@@ -1,14 +1,11 @@
 use crate::choices::giving;
+use crate::rollbacks::TWO_PAIRS;
 use crate::steps::Line::{Asks, Count, GoesBack, Keeps, Moves, RollsBack, Step, Undoes, Waits};
-use crate::steps::{
-    A, A_TO_B_TO_C, Ask, B, C, FROM_A, Line, Row, TO_B, play, play_anew, role_of, types,
-};
-use mps_base::{Sort, StepId};
+use crate::steps::{A, A_TO_B_TO_C, Ask, B, C, Line, play, play_anew, role_of, types};
+use mps_base::StepId;
 use mps_command::Command;
 use mps_session::*;
 use std::test::Fail;
-
-const D: u8 = 3;
 
 // Where a gives b ints, b settles what it took, and then a.
 const SETTLED: &[Line] = &[
@@ -74,13 +71,6 @@ fn settles_what_was_given(rt: HostRuntime) -> Result<(), Fail> {
     }
     Ok(())
 }
-
-const TWO_PAIRS: &[&[Row]] = &[
-    &[TO_B],
-    &[FROM_A],
-    &[(true, D, Sort::Int)],
-    &[(false, C, Sort::Int)],
-];
 
 // A commit of a role that has nothing to do with the step.
 const A_STRANGERS: &[Line] = &[

@@ -218,8 +218,9 @@ fn refused(alloc: alloc::Global, protocol: &Protocol, turns: &[Turn]) -> Result<
     take_all(alloc, &mut session, turns)?;
     take_all(alloc, &mut untried, turns)?;
     let role = role_of(&session, A)?;
-    let Err(refusal) = session.rollback(role, StepId::new(1)) else {
-        return Err("it is accepted".into());
+    let refusal = match session.rollback(role, StepId::new(1)) {
+        Err(refusal) => refusal,
+        Ok(_) => return Err("it is accepted".into()),
     };
     if !same(&session, &untried) || session.issued() != untried.issued() {
         return Err("a refusal changed something".into());

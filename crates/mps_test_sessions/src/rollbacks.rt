@@ -56,7 +56,7 @@ fn rolls_back_in_a_relay(rt: HostRuntime) -> Result<(), Fail> {
     Ok(())
 }
 
-const TWO_PAIRS: &[&[Row]] = &[
+pub(super) const TWO_PAIRS: &[&[Row]] = &[
     &[TO_B],
     &[FROM_A],
     &[(true, D, Sort::Int)],

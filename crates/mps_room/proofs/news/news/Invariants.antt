@@ -1,9 +1,9 @@
--- What was told, and what comes of the entries that are left, is all.
+-- What was told, and what comes of the listed entries that are left, is all.
 use Rattle.std.proofs.Common.{◌≡◌, ◌++◌, drop}
-use Rattle.mps_room.specs.Journal.{taken_from}
-use Rattle.mps_room.specs.Kept.{owns}
+use Rattle.std.specs.List.{filter, flat_map}
+use Rattle.mps_room.specs.Kept.{owns, undone_at}
 use Rattle.mps_room.proofs.news.news.Given as goal
 
-abbrev pub invariant-loop-entry : goal.invariant-loop-entry
-invariant-loop-entry l =
-    l.ids.items ++ taken_from (owns l.owners l.role) l.role (drop l.entry-index (drop l.known l.journal)) ≡ taken_from (owns l.owners l.role) l.role (drop l.known l.journal)
+abbrev pub invariant-loop-place : goal.invariant-loop-place
+invariant-loop-place l =
+    l.ids.items ++ flat_map (λ k. filter (owns l.owners l.role) (undone_at l.journal k)) (drop l.place-index l.told) ≡ flat_map (λ k. filter (owns l.owners l.role) (undone_at l.journal k)) l.told

@@ -1,4 +1,4 @@
-use Rattle.std.proofs.Common.{◌≡◌, Some, None, sym, ap, ◌∙◌, subst, arith}
+use Rattle.std.proofs.Common.{◌≡◌, Some, None, sym, ap, ◌∙◌, arith}
 use Rattle.std.specs.Prelude.{length}
 use Rattle.mps_machine.specs.Faults.{fault}
 use Rattle.mps_machine.specs.Machine.{State}

@@ -1,0 +1,139 @@
+//! What each role hears of: the entries in which another role took back steps of its own.
+ghost use Rattle.std.specs.Prelude.{◌≡◌, ◌≢◌, ℕ, ◌+◌, ◌<◌, ◌≤◌, ◌==◌, [], ◌∷◌, ◌++◌, false, map, length, vec_len, vec_capacity, slice_index_or, OnOk};
+ghost use Rattle.std.specs.List.{list_any};
+ghost use Rattle.std.specs.Option.{option_map_or};
+ghost use Rattle.mps_room.specs.Kept.{owns, hears, with_place};
+
+use mps_base::{Role, StepId};
+use std::alloc::{AllocError, Global};
+
+/// For each role a list of the places of the entries that it hears of, in order.
+#[derive(Drop)]
+pub(crate) struct Heard {
+    pub(crate) lists: [Vec<u32>; 8],
+    // how many roles there are
+    pub(crate) count: usize,
+}
+
+impl Heard {
+    /// The lists of so many roles, which heard of nothing. It does not allocate.
+    pub(crate) fn new(alloc: Global, count: usize) -> Heard
+        ensures count { result.count ≡ count }
+        ensures each { length result.lists ≡ 8 }
+        ensures lists { (p : ℕ) → slice_index_or (map (λ l. l.items) result.lists) p [] ≡ [] }
+    {
+        Heard {
+            lists: [
+                Vec::new(alloc),
+                Vec::new(alloc),
+                Vec::new(alloc),
+                Vec::new(alloc),
+                Vec::new(alloc),
+                Vec::new(alloc),
+                Vec::new(alloc),
+                Vec::new(alloc),
+            ],
+            count,
+        }
+    }
+
+    /// The role's list. A role that there isn't hears of nothing.
+    pub(crate) fn list(&self, role: Role) -> &[u32]
+        requires few { self.now.count ≤ 8 }
+        requires each { length self.now.lists ≡ 8 }
+        ensures role { role < self.now.count
+            → result.now ≡ slice_index_or (map (λ l. l.items) self.now.lists) role [] }
+        ensures none { self.now.count ≤ role → result.now ≡ [] }
+    {
+        if role.index() >= self.count {
+            return &[];
+        }
+        self.lists[role.index()].as_slice()
+    }
+
+    /// Makes room for one place more in the list of each role but this one.
+    #[inline(never)]
+    pub(crate) fn reserve(&mut self, asker: Role) -> Result<(), AllocError>
+        requires few { self.old.count ≤ 8 }
+        requires each { length self.old.lists ≡ 8 }
+        ensures count { self.new.count ≡ self.old.count }
+        ensures each { length self.new.lists ≡ 8 }
+        ensures lists { map (λ l. l.items) self.new.lists ≡ map (λ l. l.items) self.old.lists }
+        ensures room { OnOk result ((k : ℕ) (d : _) → k < self.old.count → k ≢ asker
+            → vec_len (slice_index_or self.new.lists k d) < vec_capacity (slice_index_or self.new.lists k d)) }
+    {
+        for k in 0..self.count {
+            if k != asker.index() {
+                reserve_at(&mut self.lists, k)?;
+            }
+        }
+        Ok(())
+    }
+
+    /// Adds the place of an entry to the list of each role that hears of it: one of these steps, which the asker took
+    /// back, was its own.
+    #[inline(never)]
+    pub(crate) fn note(&mut self, owners: &[Role], asker: Role, ids: &[StepId], place: u32)
+        requires few { self.old.count ≤ 8 }
+        requires each { length self.old.lists ≡ 8 }
+        requires room { (k : ℕ) (d : _) → k < self.old.count → k ≢ asker
+            → vec_len (slice_index_or self.old.lists k d) < vec_capacity (slice_index_or self.old.lists k d) }
+        ensures count { self.new.count ≡ self.old.count }
+        ensures each { length self.new.lists ≡ 8 }
+        ensures lists { (p : ℕ) (d : _) → p < self.old.count → (slice_index_or self.new.lists p d).items
+            ≡ with_place (hears (owns owners.now p) p asker ids.now) place (slice_index_or self.old.lists p d).items }
+    {
+        let lost = losers(owners, ids);
+        for k in 0..self.count {
+            if lost[k] && k != asker.index() {
+                push_at(&mut self.lists, k, place);
+            }
+        }
+    }
+}
+
+// Makes room for one place more in one list.
+fn reserve_at(lists: &mut [Vec<u32>; 8], k: usize) -> Result<(), AllocError>
+    requires { k < length lists.old }
+    ensures each { length lists.new ≡ length lists.old }
+    ensures here { (d : _) → (slice_index_or lists.new k d).items ≡ (slice_index_or lists.old k d).items }
+    ensures others { (i : ℕ) (d : _) → i ≢ k → slice_index_or lists.new i d ≡ slice_index_or lists.old i d }
+    ensures room { OnOk result ((d : _) → vec_len (slice_index_or lists.new k d) < vec_capacity (slice_index_or lists.new k d)) }
+{
+    lists[k].reserve(1)
+}
+
+// Adds a place to one list.
+fn push_at(lists: &mut [Vec<u32>; 8], k: usize, place: u32)
+    requires list { k < length lists.old }
+    requires room { (d : _) → vec_len (slice_index_or lists.old k d) < vec_capacity (slice_index_or lists.old k d) }
+    ensures each { length lists.new ≡ length lists.old }
+    ensures here { (d : _) → (slice_index_or lists.new k d).items ≡ (slice_index_or lists.old k d).items ++ place ∷ [] }
+    ensures others { (i : ℕ) (d : _) → i ≢ k → slice_index_or lists.new i d ≡ slice_index_or lists.old i d }
+{
+    lists[k].push_reserved(place);
+}
+
+// Whether each role owns one of the steps.
+fn losers(owners: &[Role], ids: &[StepId]) -> [bool; 8]
+    ensures { (p : ℕ) → p < 8 → slice_index_or result p false ≡ list_any (owns owners.now p) ids.now }
+{
+    let mut lost = [false; 8];
+    for id in ids {
+        if let Some(owner) = owner_of(owners, *id) {
+            let place = owner.index();
+            if place < 8 {
+                lost[place] = true;
+            }
+        }
+    }
+    lost
+}
+
+/// Whose step it is.
+pub(crate) fn owner_of(owners: &[Role], id: StepId) -> Option<Role>
+    ensures { (p : ℕ) → owns owners.now p id ≡ option_map_or (λ owner. owner == p) result false }
+{
+    let place = id.number().checked_sub(1)?;
+    owners.get(place as usize).copied()
+}

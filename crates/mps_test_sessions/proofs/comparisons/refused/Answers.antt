@@ -1,0 +1,14 @@
+use Rattle.std.proofs.Common.{sym, ◌∙◌}
+use Rattle.mps_global.specs.Global.{plain}
+use Rattle.mps_session.proofs.Projected.{one_projection}
+use Rattle.mps_test_sessions.proofs.comparisons.refused.Goals as goal
+
+pub same-requires : goal.same-requires
+same-requires c =
+    let protocol = c.args.protocol.now in
+    record {
+      types =
+          c.rollback.ensures.types ∙ c.take_all.ensures
+          ∙ one_projection protocol.roles.items (plain protocol.body) c.in_ok-session.session.types c.in_ok-untried.untried.types c.in_ok-session.ensures.types c.in_ok-untried.ensures.types
+          ∙ sym c.take_all-2.ensures;
+    }
