@@ -10,8 +10,8 @@ use mps_base::{Role, StepId};
 use mps_command::Answer;
 use std::alloc::{AllocError, Global};
 
-/// The numbers of the role's steps that entries of other roles took back, after the first few entries. It goes through
-/// those entries alone that the role hears of.
+/// The numbers of the role's steps that entries of other roles took back, after the first `known` entries. It goes
+/// through those entries alone that the role hears of.
 pub(crate) fn news(
     alloc: Global,
     journal: &[Entry],
@@ -32,7 +32,7 @@ pub(crate) fn news(
     Ok(ids)
 }
 
-// The places after the first few entries.
+// The places after the first `known` entries.
 fn after(places: &[u32], known: u64) -> &[u32]
     ensures { (early late : List ℕ) → places.now ≡ early ++ late → AllByRecursion (λ k. k < known) early
         → AllByRecursion (λ k. known ≤ k) late → result.now ≡ late }

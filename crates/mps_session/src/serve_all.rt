@@ -30,7 +30,7 @@ impl Session {
             ≡ Some (view_of self.new) }
         // a step and then its undo change nothing but the next number; a commit stays
         ensures undone { UndoesSteps self.new.types self.new.state }
-        // an undo is refused as needed exactly where another surviving step depends on the step
+        // an undo is refused as needed exactly where another surviving step depends on the step, which is no commit
         ensures refused { RefusesNeeded self.new.state }
         // an undo is refused as final exactly where the step is a commit, and a rollback exactly where it would take one
         ensures refused_final { RefusesFinal self.new.state }
