@@ -82,6 +82,9 @@ const NUMBERED: &[Row<'static>] = &[
     ("3 undo 2", "Kept", 3, "undone 2"),
     ("4 back m", "Refused(NoMark)", 3, "undone 2"),
     ("4 rollback 1", "Fresh", 4, "undone 1"),
+    ("5 commit", "Fresh", 5, "done 3"),
+    ("5 commit", "Kept", 5, "done 3"),
+    ("6 undo 3", "Refused(Final { by: StepId(3) })", 5, "done 3"),
 ];
 
 // The caller of a in a new room.
@@ -99,10 +102,10 @@ fn calls_with_numbers(rt: HostRuntime) -> Result<(), Fail> {
     for row in NUMBERED {
         assert!(rt; is_numbered(rt.alloc(), &mut solo, *row)?, "{}", row.0);
     }
-    assert_eq!(rt; solo.room.entries(), 4);
+    assert_eq!(rt; solo.room.entries(), 5);
     let answer = solo.call(Command::News(0));
-    assert_eq!(rt; told(rt.alloc(), &answer)?.as_str(), "news 4");
-    assert_eq!(rt; solo.last(), 4);
+    assert_eq!(rt; told(rt.alloc(), &answer)?.as_str(), "news 5");
+    assert_eq!(rt; solo.last(), 5);
     assert_eq!(rt; solo.roles().count(), 3);
     Ok(())
 }
