@@ -1,6 +1,6 @@
 ghost use Rattle.std.specs.Prelude.{◌≡◌, [], OnOk};
 
-use bytes::Bytes;
+use Told::{NotAscii, Text, TooLong};
 use mps_lines::{Line, Lines, MOST_KEPT, keep, line_end};
 use std::alloc::Global;
 use std::test::Fail;
@@ -11,19 +11,43 @@ const TEXT: &[u8] = b"a send b 5\n\nb recv a x\ncaf\xC3\xA9\na undo 1";
 // A line of the most bytes.
 const LONGEST: &[u8] = &[b'x'; 512];
 
-fn text(bytes: &'static [u8]) -> Line {
-    Line::Text(Bytes::from_static(bytes))
+// What a line is reported as.
+#[derive(Clone, Copy)]
+enum Told {
+    Text(&'static [u8]),
+    TooLong,
+    NotAscii,
 }
 
 // What TEXT is reported as.
-fn lines_of_text() -> [Line; 5] {
-    [
-        text(b"a send b 5"),
-        text(b""),
-        text(b"b recv a x"),
-        Line::NotAscii,
-        text(b"a undo 1"),
-    ]
+const LINES_OF_TEXT: &[Told] = &[
+    Text(b"a send b 5"),
+    Text(b""),
+    Text(b"b recv a x"),
+    NotAscii,
+    Text(b"a undo 1"),
+];
+
+// Whether the line is reported so.
+fn is_told(line: &Line, want: Told) -> bool {
+    match (line, want) {
+        (Line::Text(bytes), Text(text)) => **bytes == *text,
+        (Line::TooLong, TooLong) | (Line::NotAscii, NotAscii) => true,
+        _ => false,
+    }
+}
+
+// Whether the lines are reported so, one after the other.
+fn all_told(lines: &[Line], want: &[Told]) -> bool {
+    if lines.len() != want.len() {
+        return false;
+    }
+    for k in 0..want.len() {
+        if !is_told(&lines[k], want[k]) {
+            return false;
+        }
+    }
+    true
 }
 
 // Takes each line that waits.
@@ -37,7 +61,7 @@ fn take_waiting(lines: &mut Lines, told: &mut Vec<Line>) -> Result<(), Fail>
 }
 
 // The lines of bytes that come in these pieces, each taken as soon as it waits.
-fn told(alloc: Global, pieces: &[&[u8]]) -> Result<Vec<Line>, Fail> {
+fn lines_of(alloc: Global, pieces: &[&[u8]]) -> Result<Vec<Line>, Fail> {
     let mut lines = Lines::new(alloc);
     let mut told = Vec::new(alloc);
     for piece in pieces {
@@ -52,19 +76,19 @@ fn told(alloc: Global, pieces: &[&[u8]]) -> Result<Vec<Line>, Fail> {
 }
 
 // Whether these bytes are told so, in pieces of so many.
-fn are_told(alloc: Global, bytes: &[u8], size: usize, want: &[Line]) -> Result<bool, Fail> {
+fn are_told(alloc: Global, bytes: &[u8], size: usize, want: &[Told]) -> Result<bool, Fail> {
     let mut pieces = Vec::new(alloc);
     for piece in bytes.chunks(size.max(1)) {
         pieces.push(piece)?;
     }
-    Ok(told(alloc, &pieces)?.as_slice() == want)
+    Ok(all_told(&lines_of(alloc, &pieces)?, want))
 }
 
 // Whether they are told so, wherever they are cut in two.
-fn are_told_in_two(alloc: Global, bytes: &[u8], want: &[Line]) -> Result<bool, Fail> {
+fn are_told_in_two(alloc: Global, bytes: &[u8], want: &[Told]) -> Result<bool, Fail> {
     for cut in 0..bytes.len() {
         let (front, back) = bytes.split_at(cut);
-        if told(alloc, &[front, back])?.as_slice() != want {
+        if !all_told(&lines_of(alloc, &[front, back])?, want) {
             return Ok(false);
         }
     }
@@ -78,37 +102,38 @@ fn letters(alloc: Global, count: usize, end: &[u8]) -> Result<Vec<u8>, Fail> {
     Ok(bytes)
 }
 
+// Whether so many letters and then these bytes are told so, wherever they are cut in two.
+fn letters_are_told(alloc: Global, count: usize, end: &[u8], want: &[Told]) -> Result<bool, Fail> {
+    are_told_in_two(alloc, &letters(alloc, count, end)?, want)
+}
+
 #[test]
 fn pieces_of_one_byte(rt: HostRuntime) -> Result<(), Fail> {
-    assert!(rt; are_told(rt.alloc(), TEXT, 1, &lines_of_text())?);
+    assert!(rt; are_told(rt.alloc(), TEXT, 1, LINES_OF_TEXT)?);
     Ok(())
 }
 
 #[test]
 fn every_two_pieces(rt: HostRuntime) -> Result<(), Fail> {
-    assert!(rt; are_told_in_two(rt.alloc(), TEXT, &lines_of_text())?);
+    assert!(rt; are_told_in_two(rt.alloc(), TEXT, LINES_OF_TEXT)?);
     Ok(())
 }
 
-#[test]
-fn a_line_and_a_rest_of_512_bytes(rt: HostRuntime) -> Result<(), Fail> {
-    let bytes = letters(rt.alloc(), 512, b"\n")?;
-    assert!(rt; are_told_in_two(rt.alloc(), &bytes, &[text(LONGEST)])?);
-    assert!(rt; are_told_in_two(rt.alloc(), LONGEST, &[text(LONGEST)])?);
-    Ok(())
-}
+// How many letters stand in front of which bytes, and what they are told as.
+const LETTERS: &[(usize, &[u8], Told)] = &[
+    (512, b"\n", Text(LONGEST)),
+    (512, b"", Text(LONGEST)),
+    (513, b"\n", TooLong),
+    (513, b"", TooLong),
+    (511, b"\x80\n", NotAscii),
+    (512, b"\x80\n", TooLong),
+];
 
 #[test]
-fn a_line_and_a_rest_of_513_bytes(rt: HostRuntime) -> Result<(), Fail> {
-    let bytes = letters(rt.alloc(), 513, b"\n")?;
-    assert!(rt; are_told_in_two(rt.alloc(), &bytes, &[Line::TooLong])?);
-    assert!(rt;
-        are_told_in_two(
-            rt.alloc(),
-            &letters(rt.alloc(), 513, b"")?,
-            &[Line::TooLong]
-        )?
-    );
+fn lines_and_rests_of_512_bytes_and_more(rt: HostRuntime) -> Result<(), Fail> {
+    for (count, end, want) in LETTERS {
+        assert!(rt; letters_are_told(rt.alloc(), *count, end, &[*want])?);
+    }
     Ok(())
 }
 
@@ -116,41 +141,56 @@ fn a_line_and_a_rest_of_513_bytes(rt: HostRuntime) -> Result<(), Fail> {
 fn a_line_of_100_000_bytes(rt: HostRuntime) -> Result<(), Fail> {
     let bytes = letters(rt.alloc(), 100_000, b"\npick a\n")?;
     for size in [1, 512, 513, 65_536, 100_000, 200_000] {
-        assert!(rt; are_told(rt.alloc(), &bytes, size, &[Line::TooLong, text(b"pick a")])?);
+        assert!(rt; are_told(rt.alloc(), &bytes, size, &[TooLong, Text(b"pick a")])?);
     }
     Ok(())
 }
 
 #[test]
 fn bytes_from_128_on(rt: HostRuntime) -> Result<(), Fail> {
-    let want = [text(b"\x7F"), Line::NotAscii, Line::NotAscii];
+    let want = [Text(b"\x7F"), NotAscii, NotAscii];
     assert!(rt; are_told(rt.alloc(), b"\x7F\n\x80\n\xFF", 100, &want)?);
-    let most = letters(rt.alloc(), 511, b"\x80\n")?;
-    assert!(rt; are_told_in_two(rt.alloc(), &most, &[Line::NotAscii])?);
-    let more = letters(rt.alloc(), 512, b"\x80\n")?;
-    assert!(rt; are_told_in_two(rt.alloc(), &more, &[Line::TooLong])?);
     Ok(())
 }
 
 #[test]
 fn empty_lines(rt: HostRuntime) -> Result<(), Fail> {
-    assert!(rt; told(rt.alloc(), &[b"", b""])?.is_empty());
-    assert!(rt; are_told(rt.alloc(), b"\n\n\n", 2, &[text(b""), text(b""), text(b"")])?);
+    assert!(rt; are_told(rt.alloc(), b"", 1, &[])?);
+    assert!(rt; are_told(rt.alloc(), b"\n\n\n", 2, &[Text(b""); 3])?);
     Ok(())
+}
+
+// What the next line is reported as, if one waits, is this.
+fn next_is(lines: &mut Lines, want: Option<Told>) -> Result<bool, Fail> {
+    Ok(is_waiting(lines.next_line()?.as_ref(), want))
+}
+
+// What the rest is reported as, if there is one, is this.
+fn rest_is(lines: &mut Lines, want: Option<Told>) -> Result<bool, Fail> {
+    Ok(is_waiting(lines.finish()?.as_ref(), want))
+}
+
+// Whether a line that may be there is reported so.
+fn is_waiting(line: Option<&Line>, want: Option<Told>) -> bool {
+    match (line, want) {
+        (Some(line), Some(want)) => is_told(line, want),
+        (None, None) => true,
+        _ => false,
+    }
 }
 
 #[test]
 fn finishes_and_begins_again(rt: HostRuntime) -> Result<(), Fail> {
     let mut lines = Lines::new(rt.alloc());
-    assert!(rt; lines.finish()?.is_none());
+    assert!(rt; rest_is(&mut lines, None)?);
     lines.feed(b"mark m")?;
-    assert!(rt; lines.next_line()?.is_none());
-    assert!(rt; lines.finish()? == Some(text(b"mark m")));
-    assert!(rt; lines.finish()?.is_none());
+    assert!(rt; next_is(&mut lines, None)?);
+    assert!(rt; rest_is(&mut lines, Some(Text(b"mark m")))?);
+    assert!(rt; rest_is(&mut lines, None)?);
     lines.feed(b"ba")?;
     lines.feed(b"ck m\nnews")?;
-    assert!(rt; lines.next_line()? == Some(text(b"back m")));
-    assert!(rt; lines.next_line()?.is_none());
+    assert!(rt; next_is(&mut lines, Some(Text(b"back m")))?);
+    assert!(rt; next_is(&mut lines, None)?);
     Ok(())
 }
 
@@ -165,7 +205,7 @@ fn many_lines_wait(rt: HostRuntime) -> Result<(), Fail> {
     take_waiting(&mut lines, &mut told)?;
     assert!(rt; told.len() == 2_000);
     for pair in told.chunks(2) {
-        assert!(rt; pair == [text(b"pick a"), text(b"show")].as_slice());
+        assert!(rt; all_told(pair, &[Text(b"pick a"), Text(b"show")]));
     }
     Ok(())
 }
@@ -187,8 +227,6 @@ fn fronts_of_lines(rt: HostRuntime) -> Result<(), Fail> {
 #[test]
 fn a_piece_of_a_megabyte(rt: HostRuntime) -> Result<(), Fail> {
     let bytes = letters(rt.alloc(), 1_100_000, b"\npick a\n")?;
-    assert!(rt;
-        told(rt.alloc(), &[&bytes])?.as_slice() == [Line::TooLong, text(b"pick a")].as_slice()
-    );
+    assert!(rt; are_told(rt.alloc(), &bytes, 2_000_000, &[TooLong, Text(b"pick a")])?);
     Ok(())
 }
