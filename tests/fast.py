@@ -26,7 +26,7 @@ class FastRoom(reference.Room):
             self.kept = None
         return super().without(role, places, reason)
 
-    def place_of(self, role, number):
+    def place_of_step(self, role, number):
         """The same; the numbers of the steps rise."""
         place = bisect.bisect_left(self.history, number, key=lambda step: step.number)
         if place == len(self.history) or self.history[place].number != number:

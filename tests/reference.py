@@ -473,7 +473,7 @@ class Room:
         self.journal.append(Entry(role, []))
         return f"done {step.number}" + (f" {taken}" if taken else "")
 
-    def place_of(self, role, number):
+    def place_of_step(self, role, number):
         """The place of the step of that number, or why the role can't take it back."""
         places = [place for place, step in enumerate(self.history) if step.number == number]
         if not places:
@@ -487,7 +487,7 @@ class Room:
 
     def undo(self, role, number):
         """The answer to an undo."""
-        place, reason = self.place_of(role, number)
+        place, reason = self.place_of_step(role, number)
         if reason is None:
             needed = self.consequences(place)[1:]
             reason = self.final([place]) or (f"needed {self.history[needed[0]].number}" if needed else None)
@@ -495,7 +495,7 @@ class Room:
 
     def rollback(self, role, number):
         """The answer to a rollback."""
-        place, reason = self.place_of(role, number)
+        place, reason = self.place_of_step(role, number)
         places = [] if reason else self.consequences(place)
         return self.without(role, places, reason or self.final(places))
 

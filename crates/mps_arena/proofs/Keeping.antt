@@ -13,28 +13,28 @@ use Rattle.mps_history.specs.Steps.{gives_to, takes_from, sends, receives}
 use Rattle.mps_arena.specs.declared.node.Before.{Before}
 use Rattle.mps_arena.specs.declared.node.Node.{Node}
 use Rattle.mps_arena.specs.Keys.{has, AreDistinct, first_key, last_key, key_after, key_before}
-use Rattle.mps_arena.specs.Entries.{Entry, keys_of, any_step, of_role, like_sends, like, unlike, entry_at, IsSmall, HasSmallPeer, AreSound}
+use Rattle.mps_arena.specs.Entries.{KeyedStep, keys_of, any_step, of_role, like_sends, like, unlike, entry_at, IsSmall, HasSmallPeer, AreSound}
 use Rattle.mps_arena.specs.Ends.{receiver, end_at, with_end}
 use Rattle.mps_arena.specs.Links.{node_of, AreNodes, joined, parted}
-use Rattle.mps_arena.specs.Sources.{mate_of, IsFree, IsSource, IsUnreceived, CanGo}
+use Rattle.mps_arena.specs.Neighbours.{matched_with, IsFree, IsSource, IsUnreceived, CanGo}
 use Rattle.mps_arena.specs.Kept.{IsIndexed, IsKept}
 use Rattle.mps_arena.specs.Walks.{walk}
 use Rattle.mps_arena.proofs.KeyLists.{has-append_right, last-append, first_without, last_without}
 use Rattle.mps_arena.proofs.Chains.{keys-append, keys_push, keys_kept, keys_around, keys_beside, distinct, entry_key, entry_push, entry_without, entry_gone}
-use Rattle.mps_arena.proofs.Mates.{source_in, sends_like, sends_chain, matched_of}
+use Rattle.mps_arena.proofs.Matched.{new_match, sends_like, sends_chain, matched_of}
 use Rattle.mps_arena.proofs.Rising.{rising_push, rising_without}
 use Rattle.mps_arena.proofs.Nodes.{same_node, sends_ends, cases_entry, walk_is, newcomer, nodes_push, nodes_without}
 
 -- the walk over the nodes gives the entries
-pub kept_view : (look : ℕ → Option Node) (size : ℕ) (f l : Option ℕ) (r p : List (Option ℕ)) (index : List ℕ) (es : List Entry) → IsKept look size f l r p index es → walk look size f ≡ es
+pub kept_view : (look : ℕ → Option Node) (size : ℕ) (f l : Option ℕ) (r p : List (Option ℕ)) (index : List ℕ) (es : List KeyedStep) → IsKept look size f l r p index es → walk look size f ≡ es
 kept_view look size f l r p index es k = ap₂ (λ (n : ℕ) (o : Option ℕ). walk look n o) k.count k.first ∙ walk_is look es k.linked
 
 -- what callers may know of the entries
-pub kept_sound : (look : ℕ → Option Node) (size : ℕ) (f l : Option ℕ) (r p : List (Option ℕ)) (index : List ℕ) (es : List Entry) → IsKept look size f l r p index es → AreSound es
+pub kept_sound : (look : ℕ → Option Node) (size : ℕ) (f l : Option ℕ) (r p : List (Option ℕ)) (index : List ℕ) (es : List KeyedStep) → IsKept look size f l r p index es → AreSound es
 kept_sound look size f l r p index es k = record { distinct = k.linked.distinct; fed = k.linked.fed; rising = k.rising; small = k.small }
 
-pub kept_whole : (look : ℕ → Option Node) (size : ℕ) (f l : Option ℕ) (r p : List (Option ℕ)) (index : List ℕ) (es : List Entry) → IsKept look size f l r p index es → IsKept look size f l r p index (walk look size f)
-kept_whole look size f l r p index es k = subst (λ (e : List Entry). IsKept look size f l r p index e) (sym (kept_view look size f l r p index es k)) k
+pub kept_whole : (look : ℕ → Option Node) (size : ℕ) (f l : Option ℕ) (r p : List (Option ℕ)) (index : List ℕ) (es : List KeyedStep) → IsKept look size f l r p index es → IsKept look size f l r p index (walk look size f)
+kept_whole look size f l r p index es k = subst (λ (e : List KeyedStep). IsKept look size f l r p index e) (sym (kept_view look size f l r p index es k)) k
 
 first_push : (c : List ℕ) (k : ℕ) → first_key (c ++ k ∷ []) ≡ option_or (first_key c) (Some k)
 first_push [] k = refl
@@ -49,11 +49,11 @@ get_end : (c : List ℕ) (v : ℕ) → slice_get (c ++ v ∷ []) (length c) ≡ 
 get_end [] v = refl
 get_end (j ∷ c) v = get_end c v
 
-all_push : (P : Entry → Type 0) (es : List Entry) (e : Entry) → AllByRecursion P es → P e → AllByRecursion P (es ++ e ∷ [])
+all_push : (P : KeyedStep → Type 0) (es : List KeyedStep) (e : KeyedStep) → AllByRecursion P es → P e → AllByRecursion P (es ++ e ∷ [])
 all_push P [] e a p = (p, tt)
 all_push P (x ∷ es) e a p = (a.0, all_push P es e a.1 p)
 
-all_without : (P : Entry → Type 0) (a b : List Entry) (x : Entry) → AllByRecursion P (a ++ x ∷ b) → AllByRecursion P (a ++ b)
+all_without : (P : KeyedStep → Type 0) (a b : List KeyedStep) (x : KeyedStep) → AllByRecursion P (a ++ x ∷ b) → AllByRecursion P (a ++ b)
 all_without P [] b x h = h.1
 all_without P (y ∷ a) b x h = (h.0, all_without P a b x h.1)
 
@@ -123,14 +123,14 @@ length_with_end : (ends : List (Option ℕ)) (p : ℕ) (q key : Option ℕ) → 
 length_with_end ends p None key = refl
 length_with_end ends p (Some q) key = length-set ends (p * 8 + q) key
 
-module _ (look after : ℕ → Option Node) (size : ℕ) (f l : Option ℕ) (r p : List (Option ℕ)) (index : List ℕ) (es : List Entry) (k : IsKept look size f l r p index es) where
-  pub kept_push : (e : Entry) → IsSmall e.step → e.step.id ≡ length index + 1 → entry_at e.key es ≡ None
+module _ (look after : ℕ → Option Node) (size : ℕ) (f l : Option ℕ) (r p : List (Option ℕ)) (index : List ℕ) (es : List KeyedStep) (k : IsKept look size f l r p index es) where
+  pub kept_push : (e : KeyedStep) → IsSmall e.step → e.step.id ≡ length index + 1 → entry_at e.key es ≡ None
       → ((k : ℕ) → after k ≡ option_map (joined (newcomer es e) e.key k) (cond (e.key == k) (Some (newcomer es e)) (look k)))
-      → ((p q : ℕ) → receives p q e.step ≡ true → (k : ℕ) × (source_in es e.step ≡ Some k))
+      → ((p q : ℕ) → receives p q e.step ≡ true → (k : ℕ) × (new_match es e.step ≡ Some k))
       → IsKept after (size + 1) (option_or f (Some e.key)) (Some e.key) (slice_set r e.step.role (Some e.key)) (with_end p e.step.role (receiver (effect e.step.act)) (Some e.key)) (index ++ e.key ∷ []) (es ++ e ∷ [])
-  kept_push e small number fresh is sourced =
+  kept_push e small number fresh is has_match =
       record {
-        linked = nodes_push look after es e k.linked fresh is sourced;
+        linked = nodes_push look after es e k.linked fresh is has_match;
         count = omega (arith, k.count, length-append es (e ∷ []));
         first = rw (keys_push any_step es e refl, first_push (keys_of any_step es) e.key, k.first) refl;
         last = rw (keys_push any_step es e refl, last-append None (keys_of any_step es) (e.key ∷ [])) refl;
@@ -145,7 +145,7 @@ module _ (look after : ℕ → Option Node) (size : ℕ) (f l : Option ℕ) (r p
         indexed = indexed;
       }
     where
-      indexed : (j : ℕ) (y : Entry) → entry_at j (es ++ e ∷ []) ≡ Some y → IsIndexed (index ++ e.key ∷ []) j y
+      indexed : (j : ℕ) (y : KeyedStep) → entry_at j (es ++ e ∷ []) ≡ Some y → IsIndexed (index ++ e.key ∷ []) j y
       indexed j y found =
           ⊎_elim
           (λ (n : entry_at j es ≡ None).
@@ -156,33 +156,33 @@ module _ (look after : ℕ → Option Node) (size : ℕ) (f l : Option ℕ) (r p
           let same : e ≡ y = cc in
           record {
             place = length index;
-            number = ap (λ (z : Entry). z.step.id) (sym same) ∙ number;
+            number = ap (λ (z : KeyedStep). z.step.id) (sym same) ∙ number;
             key = get_end index e.key ∙ ap Some (eqb-true e.key j t);
           })
           (λ (f : (e.key == j) ≡ false). let none : None ≡ Some y = sym (cond-false (e.key == j) (Some e) None f) ∙ was in absurd cc)
           (cases_Bool (e.key == j)))
-          (λ (w : (z : Entry) × (entry_at j es ≡ Some z)).
+          (λ (w : (z : KeyedStep) × (entry_at j es ≡ Some z)).
           let one : Some w.0 ≡ Some y = sym (rw w.1 at (entry_push j es e)) ∙ found in
           let same : w.0 ≡ y = cc in
           let i = k.indexed j w.0 w.1 in
-          record { place = i.place; number = ap (λ (z : Entry). z.step.id) (sym same) ∙ i.number; key = get_front index (e.key ∷ []) i.place j i.key })
+          record { place = i.place; number = ap (λ (z : KeyedStep). z.step.id) (sym same) ∙ i.number; key = get_front index (e.key ∷ []) i.place j i.key })
           (cases_entry (entry_at j es))
 
 -- the last of a chain whose last entry goes
-last_goes : (q : Step → Bool) (a b : List Entry) (x : Entry) → AreDistinct (keys_of any_step (a ++ x ∷ b)) → q x.step ≡ true → key_after x.key (keys_of q (a ++ x ∷ b)) ≡ None → last_key None (keys_of q (a ++ b)) ≡ key_before None x.key (keys_of q (a ++ x ∷ b))
+last_goes : (q : Step → Bool) (a b : List KeyedStep) (x : KeyedStep) → AreDistinct (keys_of any_step (a ++ x ∷ b)) → q x.step ≡ true → key_after x.key (keys_of q (a ++ x ∷ b)) ≡ None → last_key None (keys_of q (a ++ b)) ≡ key_before None x.key (keys_of q (a ++ x ∷ b))
 last_goes q a b x d t final =
     let is = keys_around q a b x t in
     let parts : AreDistinct (keys_of q a ++ x.key ∷ keys_of q b) = subst AreDistinct is (distinct q (a ++ x ∷ b) d) in
     let none : key_after x.key (keys_of q a ++ x.key ∷ keys_of q b) ≡ None = sym (ap (key_after x.key) is) ∙ final in
     rw (keys-append q a b, is, last_without x.key (keys_of q a) (keys_of q b) parts, none) refl
 
-module _ (look after : ℕ → Option Node) (size : ℕ) (f l : Option ℕ) (r p : List (Option ℕ)) (index : List ℕ) (a b : List Entry) (x : Entry) (k : IsKept look size f l r p index (a ++ x ∷ b)) where
-  abbrev old : List Entry
+module _ (look after : ℕ → Option Node) (size : ℕ) (f l : Option ℕ) (r p : List (Option ℕ)) (index : List ℕ) (a b : List KeyedStep) (x : KeyedStep) (k : IsKept look size f l r p index (a ++ x ∷ b)) where
+  abbrev old : List KeyedStep
   old = a ++ x ∷ b
 
   pub kept_without : (left : ℕ) → left + 1 ≡ size → IsSmall x.step
       → key_after x.key (keys_of (of_role x.step.role) old) ≡ None
-      → ((i j : ℕ) → sends i j x.step ≡ true → mate_of old x ≡ None)
+      → ((i j : ℕ) → sends i j x.step ≡ true → matched_with old x ≡ None)
       → ((i : ℕ) → after i ≡ option_map (parted (node_of old x) i) (cond (x.key == i) None (look i)))
       → IsKept after left (cond (is_none (node_of old x).prev) (node_of old x).next f) (cond (is_none (node_of old x).next) (node_of old x).prev l) (slice_set r x.step.role (node_of old x).prev_of_role) (with_end p x.step.role (receiver (effect x.step.act)) (node_of old x).prev_send) index (a ++ b)
   kept_without left fewer small final unreceived is =
@@ -210,7 +210,7 @@ module _ (look after : ℕ → Option Node) (size : ℕ) (f l : Option ℕ) (r p
         indexed = indexed;
       }
     where
-      indexed : (j : ℕ) (y : Entry) → entry_at j (a ++ b) ≡ Some y → IsIndexed index j y
+      indexed : (j : ℕ) (y : KeyedStep) → entry_at j (a ++ b) ≡ Some y → IsIndexed index j y
       indexed j y found =
           ⊎_elim
           (λ (t : (x.key == j) ≡ true). let none : None ≡ Some y = sym (entry_gone j a b x k.linked.distinct t) ∙ found in absurd cc)
@@ -218,29 +218,29 @@ module _ (look after : ℕ → Option Node) (size : ℕ) (f l : Option ℕ) (r p
           (cases_Bool (x.key == j))
 
 -- an entry found stands somewhere
-pub entry_split : (j : ℕ) (es : List Entry) (y : Entry) → entry_at j es ≡ Some y → (a : List Entry) × (b : List Entry) × (es ≡ a ++ y ∷ b)
+pub entry_split : (j : ℕ) (es : List KeyedStep) (y : KeyedStep) → entry_at j es ≡ Some y → (a : List KeyedStep) × (b : List KeyedStep) × (es ≡ a ++ y ∷ b)
 entry_split j [] y found = absurd cc
 entry_split j (x ∷ es) y found =
     ⊎_elim
     (λ (t : (x.key == j) ≡ true).
     let one : Some x ≡ Some y = sym (cond-true (x.key == j) (Some x) (entry_at j es) t) ∙ found in
     let same : x ≡ y = cc in
-    ([], es, ap (λ (z : Entry). z ∷ es) same))
+    ([], es, ap (λ (z : KeyedStep). z ∷ es) same))
     (λ (n : (x.key == j) ≡ false).
     let w = entry_split j es y (sym (cond-false (x.key == j) (Some x) (entry_at j es) n) ∙ found) in
     (x ∷ w.0, w.1, ap (λ l. x ∷ l) w.2))
     (cases_Bool (x.key == j))
 
-pub all_at : (P : Entry → Type 0) (a b : List Entry) (x : Entry) → AllByRecursion P (a ++ x ∷ b) → P x
+pub all_at : (P : KeyedStep → Type 0) (a b : List KeyedStep) (x : KeyedStep) → AllByRecursion P (a ++ x ∷ b) → P x
 all_at P [] b x h = h.0
 all_at P (y ∷ a) b x h = all_at P a b x h.1
 
 -- the entries but the one of a key
-pub others_are : (j : ℕ) (a b : List Entry) (x : Entry) → AreDistinct (keys_of any_step (a ++ x ∷ b)) → x.key ≡ j → filter (λ e. not (e.key == j)) (a ++ x ∷ b) ≡ a ++ b
+pub others_are : (j : ℕ) (a b : List KeyedStep) (x : KeyedStep) → AreDistinct (keys_of any_step (a ++ x ∷ b)) → x.key ≡ j → filter (λ e. not (e.key == j)) (a ++ x ∷ b) ≡ a ++ b
 others_are j [] b x d e =
     rw (eq-eqb x.key j e) (all_others j b (subst (λ (i : ℕ). has i (keys_of any_step b) ≡ false) e d.0))
   where
-    all_others : (j : ℕ) (es : List Entry) → has j (keys_of any_step es) ≡ false → filter (λ e. not (e.key == j)) es ≡ es
+    all_others : (j : ℕ) (es : List KeyedStep) → has j (keys_of any_step es) ≡ false → filter (λ e. not (e.key == j)) es ≡ es
     all_others j [] h = refl
     all_others j (y ∷ es) h =
         let w = or_parts (y.key == j) (has j (keys_of any_step es)) h in
@@ -259,28 +259,28 @@ some_of : (o : Option ℕ) → IsSome o → (k : ℕ) × (o ≡ Some k)
 some_of None h = absurd (false≢true h)
 some_of (Some k) h = (k, refl)
 
-no_keys : (es : List Entry) → keys_of (λ s. false) es ≡ []
+no_keys : (es : List KeyedStep) → keys_of (λ s. false) es ≡ []
 no_keys [] = refl
 no_keys (x ∷ es) = no_keys es
 
-module _ (es : List Entry) (m : (p q : ℕ) → length (keys_of (receives p q) es) ≤ length (keys_of (sends p q) es)) where
+module _ (es : List KeyedStep) (m : (p q : ℕ) → length (keys_of (receives p q) es) ≤ length (keys_of (sends p q) es)) where
   source_at : (p : ℕ) (a : Effect) (source : Option ℕ) → IsSource es p a source → source ≡ slice_get (keys_of (unlike p a) es) (length (keys_of (like p a) es))
   source_at p (Gives to message) source h = h ∙ sym (slice_get_past (keys_of (receives p to) es) (length (keys_of (sends p to) es)) (m p to))
   source_at p (Takes from slot) source h = h.0
   source_at p Idle source h = h ∙ sym (ap (λ c. slice_get c (length (keys_of (λ s. false) es))) (no_keys es))
 
-  sourced_at : (p : ℕ) (a : Effect) (source : Option ℕ) → IsSource es p a source → (from : ℕ) → takes_from from a ≡ true → (k : ℕ) × (source ≡ Some k)
-  sourced_at p (Gives to message) source h from e = absurd (false≢true e)
-  sourced_at p (Takes i slot) source h from e = some_of source h.1
-  sourced_at p Idle source h from e = absurd (false≢true e)
+  match_at : (p : ℕ) (a : Effect) (source : Option ℕ) → IsSource es p a source → (from : ℕ) → takes_from from a ≡ true → (k : ℕ) × (source ≡ Some k)
+  match_at p (Gives to message) source h from e = absurd (false≢true e)
+  match_at p (Takes i slot) source h from e = some_of source h.1
+  match_at p Idle source h from e = absurd (false≢true e)
 
-end_is : (p : List (Option ℕ)) (es : List Entry) → ((i j : ℕ) → i < 8 → j < 8 → slice_index_or p (i * 8 + j) None ≡ last_key None (keys_of (sends i j) es)) → (r : ℕ) (a : Effect) → r < 8 → HasSmallPeer a → end_at p r (receiver a) ≡ last_key None (keys_of (like_sends r a) es)
+end_is : (p : List (Option ℕ)) (es : List KeyedStep) → ((i j : ℕ) → i < 8 → j < 8 → slice_index_or p (i * 8 + j) None ≡ last_key None (keys_of (sends i j) es)) → (r : ℕ) (a : Effect) → r < 8 → HasSmallPeer a → end_at p r (receiver a) ≡ last_key None (keys_of (like_sends r a) es)
 end_is p es h r (Gives to message) lr la = h r to lr la
 end_is p es h r (Takes from slot) lr la = sym (ap (last_key None) (no_keys es))
 end_is p es h r Idle lr la = sym (ap (last_key None) (no_keys es))
 
-module _ (look after : ℕ → Option Node) (size : ℕ) (f l : Option ℕ) (r p : List (Option ℕ)) (index : List ℕ) (es : List Entry) (k : IsKept look size f l r p index es) (s : Step) (before : Before) (source : Option ℕ) (key : ℕ) where
-  abbrev pub entry : Entry
+module _ (look after : ℕ → Option Node) (size : ℕ) (f l : Option ℕ) (r p : List (Option ℕ)) (index : List ℕ) (es : List KeyedStep) (k : IsKept look size f l r p index es) (s : Step) (before : Before) (source : Option ℕ) (key : ℕ) where
+  abbrev pub entry : KeyedStep
   entry = record { key = key; step = s; before = before; marked = false }
 
   abbrev pub behind : Node
@@ -294,7 +294,7 @@ module _ (look after : ℕ → Option Node) (size : ℕ) (f l : Option ℕ) (r p
     prev_of_role = slice_index_or r s.role None;
     next_send = None;
     prev_send = end_at p s.role (receiver (effect s.act));
-    mate = source;
+    matched = source;
     marked = false;
   }
 
@@ -310,44 +310,44 @@ module _ (look after : ℕ → Option Node) (size : ℕ) (f l : Option ℕ) (r p
       let fresh : entry_at key es ≡ None = none_at (node_of es) (entry_at key es) (sym (k.linked.nodes key) ∙ vacant) in
       kept_push look after size f l r p index es k entry small number fresh
       (subst (λ (n : Node). (i : ℕ) → after i ≡ option_map (joined n key i) (cond (key == i) (Some n) (look i))) same is)
-      (λ i j t. let w = sourced_at es (matched_of es k.linked.fed) s.role (effect s.act) source h i (and_parts (s.role == j) (takes_from i (effect s.act)) t).1 in
+      (λ i j t. let w = match_at es (matched_of es k.linked.fed) s.role (effect s.act) source h i (and_parts (s.role == j) (takes_from i (effect s.act)) t).1 in
       (w.0, sym (source_at es (matched_of es k.linked.fed) s.role (effect s.act) source h) ∙ w.1))
 
-unreceived_at : (es : List Entry) (x : Entry) (a : Effect) → IsUnreceived es x a → (q : ℕ) → gives_to q a ≡ true → mate_of es x ≡ None
+unreceived_at : (es : List KeyedStep) (x : KeyedStep) (a : Effect) → IsUnreceived es x a → (q : ℕ) → gives_to q a ≡ true → matched_with es x ≡ None
 unreceived_at es x (Gives to message) h q e = h
 unreceived_at es x (Takes from slot) h q e = absurd (false≢true e)
 unreceived_at es x Idle h q e = absurd (false≢true e)
 
 -- the entry of a node
-pub record Stands (es : List Entry) (j : ℕ) (node : Node) : Type 0 where
-  pub entry : Entry
+pub record Stands (es : List KeyedStep) (j : ℕ) (node : Node) : Type 0 where
+  pub entry : KeyedStep
   pub found : entry_at j es ≡ Some entry
   pub node_is : node ≡ node_of es entry
-  pub before : List Entry
-  pub behind : List Entry
+  pub before : List KeyedStep
+  pub behind : List KeyedStep
   pub parts : es ≡ before ++ entry ∷ behind
 
-pub stands : (look : ℕ → Option Node) (es : List Entry) (j : ℕ) (node : Node) → AreNodes look es → look j ≡ Some node → Stands es j node
+pub stands : (look : ℕ → Option Node) (es : List KeyedStep) (j : ℕ) (node : Node) → AreNodes look es → look j ≡ Some node → Stands es j node
 stands look es j node n e =
     ⊎_elim
     (λ (z : entry_at j es ≡ None). let no : Some node ≡ None = sym e ∙ n.nodes j ∙ ap (option_map (node_of es)) z in absurd cc)
-    (λ (w : (y : Entry) × (entry_at j es ≡ Some y)).
+    (λ (w : (y : KeyedStep) × (entry_at j es ≡ Some y)).
     let one : Some node ≡ Some (node_of es w.0) = sym e ∙ n.nodes j ∙ ap (option_map (node_of es)) w.1 in
     let split = entry_split j es w.0 w.1 in
     let same : node ≡ node_of es w.0 = cc in
     record { entry = w.0; found = w.1; node_is = same; before = split.0; behind = split.1; parts = split.2 })
     (cases_entry (entry_at j es))
 
-pub small_of : (look : ℕ → Option Node) (size : ℕ) (f l : Option ℕ) (r p : List (Option ℕ)) (index : List ℕ) (es : List Entry) → IsKept look size f l r p index es → (j : ℕ) (node : Node) → look j ≡ Some node → IsSmall node.step
+pub small_of : (look : ℕ → Option Node) (size : ℕ) (f l : Option ℕ) (r p : List (Option ℕ)) (index : List ℕ) (es : List KeyedStep) → IsKept look size f l r p index es → (j : ℕ) (node : Node) → look j ≡ Some node → IsSmall node.step
 small_of look size f l r p index es k j node e =
     let s = stands look es j node k.linked e in
-    subst (λ (n : Node). IsSmall n.step) (sym s.node_is) (all_at (λ x. IsSmall x.step) s.before s.behind s.entry (subst (λ (l : List Entry). AllByRecursion (λ x. IsSmall x.step) l) s.parts k.small))
+    subst (λ (n : Node). IsSmall n.step) (sym s.node_is) (all_at (λ x. IsSmall x.step) s.before s.behind s.entry (subst (λ (l : List KeyedStep). AllByRecursion (λ x. IsSmall x.step) l) s.parts k.small))
 
 -- what is left where a node goes
-abbrev pub Left : (ℕ → Option Node) → ℕ → Option ℕ → Option ℕ → List (Option ℕ) → List (Option ℕ) → List ℕ → Node → List Entry → Type 0
+abbrev pub Left : (ℕ → Option Node) → ℕ → Option ℕ → Option ℕ → List (Option ℕ) → List (Option ℕ) → List ℕ → Node → List KeyedStep → Type 0
 Left after left f l r p index node es = IsKept after left (cond (is_none node.prev) node.next f) (cond (is_none node.next) node.prev l) (slice_set r node.step.role node.prev_of_role) (with_end p node.step.role (receiver (effect node.step.act)) node.prev_send) index es
 
-pub kept_remove : (look after : ℕ → Option Node) (size : ℕ) (f l : Option ℕ) (r p : List (Option ℕ)) (index : List ℕ) (es : List Entry) → IsKept look size f l r p index es
+pub kept_remove : (look after : ℕ → Option Node) (size : ℕ) (f l : Option ℕ) (r p : List (Option ℕ)) (index : List ℕ) (es : List KeyedStep) → IsKept look size f l r p index es
     → (left : ℕ) → left + 1 ≡ size → (j : ℕ) (node : Node) → look j ≡ Some node → CanGo es j
     → ((i : ℕ) → after i ≡ option_map (parted node i) (cond (j == i) None (look i)))
     → Left after left f l r p index node (filter (λ e. not (e.key == j)) es)
@@ -355,11 +355,11 @@ kept_remove look after size f l r p index es k left fewer j node e can is =
     let s = stands look es j node k.linked e in
     let x = s.entry in
     let key = entry_key j es x s.found in
-    let free : IsFree es x = subst (λ (o : Option Entry). IsSomeAnd o (IsFree es)) s.found can in
+    let free : IsFree es x = subst (λ (o : Option KeyedStep). IsSomeAnd o (IsFree es)) s.found can in
     let whole = s.before ++ x ∷ s.behind in
-    let kw : IsKept look size f l r p index whole = subst (λ (l' : List Entry). IsKept look size f l r p index l') s.parts k in
-    let fw : IsFree whole x = subst (λ (l' : List Entry). IsFree l' x) s.parts free in
-    let nw : node ≡ node_of whole x = s.node_is ∙ ap (λ (l' : List Entry). node_of l' x) s.parts in
+    let kw : IsKept look size f l r p index whole = subst (λ (l' : List KeyedStep). IsKept look size f l r p index l') s.parts k in
+    let fw : IsFree whole x = subst (λ (l' : List KeyedStep). IsFree l' x) s.parts free in
+    let nw : node ≡ node_of whole x = s.node_is ∙ ap (λ (l' : List KeyedStep). node_of l' x) s.parts in
     let small = all_at (λ y. IsSmall y.step) s.before s.behind x kw.small in
     let now : (i : ℕ) → after i ≡ option_map (parted (node_of whole x) i) (cond (x.key == i) None (look i)) =
     subst (λ (n : Node). (i : ℕ) → after i ≡ option_map (parted n i) (cond (x.key == i) None (look i))) nw
@@ -370,4 +370,4 @@ kept_remove look after size f l r p index es k left fewer j node e can is =
     let rest : s.before ++ s.behind ≡ filter (λ e. not (e.key == j)) es =
     sym (others_are j s.before s.behind x kw.linked.distinct key) ∙ ap (filter (λ e. not (e.key == j))) (sym s.parts) in
     subst (λ (n : Node). Left after left f l r p index n (filter (λ e. not (e.key == j)) es)) (sym nw)
-    (subst (λ (l' : List Entry). Left after left f l r p index (node_of whole x) l') rest result)
+    (subst (λ (l' : List KeyedStep). Left after left f l r p index (node_of whole x) l') rest result)

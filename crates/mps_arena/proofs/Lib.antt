@@ -1,6 +1,6 @@
 pub mod KeyLists
 pub mod Chains
-pub mod Mates
+pub mod Matched
 pub mod Nodes
 pub mod Updating
 pub mod Keeping

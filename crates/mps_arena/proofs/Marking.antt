@@ -10,18 +10,18 @@ use Rattle.mps_base.specs.Effects.{effect}
 use Rattle.mps_base.specs.declared.action.Step.{Step}
 use Rattle.mps_history.specs.Steps.{sends, receives, IsRising}
 use Rattle.mps_arena.specs.declared.node.Node.{Node}
-use Rattle.mps_arena.specs.Keys.{key_after, key_before, partner}
-use Rattle.mps_arena.specs.Entries.{Entry, steps, keys_of, any_step, of_role, like_sends, like, unlike, entry_at, with_mark, IsSmall}
+use Rattle.mps_arena.specs.Keys.{key_after, key_before, matched_key}
+use Rattle.mps_arena.specs.Entries.{KeyedStep, steps, keys_of, any_step, of_role, like_sends, like, unlike, entry_at, with_mark, IsSmall}
 use Rattle.mps_arena.specs.Links.{node_of, node_at}
 use Rattle.mps_arena.specs.Kept.{IsIndexed, IsKept}
 use Rattle.mps_arena.proofs.Chains.{keys_with, keys_without, entry_key}
 use Rattle.mps_arena.proofs.Nodes.{same_node, cases_entry}
 
 module _ (j : ℕ) (m : Bool) where
-  abbrev marks : List Entry → List Entry
+  abbrev marks : List KeyedStep → List KeyedStep
   marks es = map (with_mark j m) es
 
-  keys_marked : (p : Step → Bool) (es : List Entry) → keys_of p (marks es) ≡ keys_of p es
+  keys_marked : (p : Step → Bool) (es : List KeyedStep) → keys_of p (marks es) ≡ keys_of p es
   keys_marked p [] = refl
   keys_marked p (x ∷ es) =
       ⊎_elim
@@ -29,32 +29,32 @@ module _ (j : ℕ) (m : Bool) where
       (λ (f : p x.step ≡ false). keys_without p (with_mark j m x) (marks es) f ∙ keys_marked p es ∙ sym (keys_without p x es f))
       (cases_Bool (p x.step))
 
-  pub steps_marked : (es : List Entry) → steps (marks es) ≡ steps es
+  pub steps_marked : (es : List KeyedStep) → steps (marks es) ≡ steps es
   steps_marked [] = refl
   steps_marked (x ∷ es) = ap (λ l. x.step ∷ l) (steps_marked es)
 
-  entry_marked : (k : ℕ) (es : List Entry) → entry_at k (marks es) ≡ option_map (with_mark j m) (entry_at k es)
+  entry_marked : (k : ℕ) (es : List KeyedStep) → entry_at k (marks es) ≡ option_map (with_mark j m) (entry_at k es)
   entry_marked k [] = refl
   entry_marked k (x ∷ es) =
       ⊎_elim (λ (t : (x.key == k) ≡ true). rw t refl) (λ (f : (x.key == k) ≡ false). rw f (entry_marked k es)) (cases_Bool (x.key == k))
 
-  all_marked : (es : List Entry) → AllByRecursion (λ e. IsSmall e.step) es → AllByRecursion (λ e. IsSmall e.step) (marks es)
+  all_marked : (es : List KeyedStep) → AllByRecursion (λ e. IsSmall e.step) es → AllByRecursion (λ e. IsSmall e.step) (marks es)
   all_marked [] a = tt
   all_marked (x ∷ es) a = (a.0, all_marked es a.1)
 
-  marks_split : (es c d : List Entry) → marks es ≡ c ++ d → (a : List Entry) × (b : List Entry) × ((es ≡ a ++ b) × (c ≡ marks a))
+  marks_split : (es c d : List KeyedStep) → marks es ≡ c ++ d → (a : List KeyedStep) × (b : List KeyedStep) × ((es ≡ a ++ b) × (c ≡ marks a))
   marks_split es [] d e = ([], es, (refl, refl))
   marks_split [] (y ∷ c) d e = absurd cc
   marks_split (x ∷ es) (y ∷ c) d e =
       let head : with_mark j m x ≡ y = cc in
       let tail : marks es ≡ c ++ d = cc in
       let w = marks_split es c d tail in
-      (x ∷ w.0, w.1, (ap (λ l. x ∷ l) w.2.0, ap₂ (λ (z : Entry) (l : List Entry). z ∷ l) (sym head) w.2.1))
+      (x ∷ w.0, w.1, (ap (λ l. x ∷ l) w.2.0, ap₂ (λ (z : KeyedStep) (l : List KeyedStep). z ∷ l) (sym head) w.2.1))
 
   abbrev marked_node : ℕ → Node → Node
   marked_node k n = record n { marked = if k == j then m else n.marked }
 
-  node_marked : (es : List Entry) (y : Entry) → node_of (marks es) (with_mark j m y) ≡ marked_node y.key (node_of es y)
+  node_marked : (es : List KeyedStep) (y : KeyedStep) → node_of (marks es) (with_mark j m y) ≡ marked_node y.key (node_of es y)
   node_marked es y =
       same_node (node_of (marks es) (with_mark j m y)) (marked_node y.key (node_of es y))
       refl
@@ -66,10 +66,10 @@ module _ (j : ℕ) (m : Bool) where
       (ap (key_before None y.key) (keys_marked (of_role y.step.role) es))
       (ap (key_after y.key) (keys_marked (like_sends y.step.role (effect y.step.act)) es))
       (ap (key_before None y.key) (keys_marked (like_sends y.step.role (effect y.step.act)) es))
-      (ap₂ (partner y.key) (keys_marked (like y.step.role (effect y.step.act)) es) (keys_marked (unlike y.step.role (effect y.step.act)) es))
+      (ap₂ (matched_key y.key) (keys_marked (like y.step.role (effect y.step.act)) es) (keys_marked (unlike y.step.role (effect y.step.act)) es))
       refl
 
-  module _ (look after : ℕ → Option Node) (size now : ℕ) (f l : Option ℕ) (r p : List (Option ℕ)) (index : List ℕ) (es : List Entry) (k : IsKept look size f l r p index es) where
+  module _ (look after : ℕ → Option Node) (size now : ℕ) (f l : Option ℕ) (r p : List (Option ℕ)) (index : List ℕ) (es : List KeyedStep) (k : IsKept look size f l r p index es) where
     pub kept_marked : now ≡ size → ((i : ℕ) → after i ≡ option_map (marked_node i) (look i)) → IsKept after now f l r p index (marks es)
     kept_marked same is =
         record {
@@ -94,20 +94,20 @@ module _ (j : ℕ) (m : Bool) where
         at i =
             ⊎_elim
             (λ (z : entry_at i es ≡ None). is i ∙ rw (k.linked.nodes i, entry_marked i es, z) refl)
-            (λ (w : (y : Entry) × (entry_at i es ≡ Some y)).
+            (λ (w : (y : KeyedStep) × (entry_at i es ≡ Some y)).
             let key : w.0.key ≡ i = entry_key i es w.0 w.1 in
             let here : marked_node i (node_of es w.0) ≡ node_of (marks es) (with_mark j m w.0) =
             subst (λ (n : ℕ). marked_node n (node_of es w.0) ≡ node_of (marks es) (with_mark j m w.0)) key (sym (node_marked es w.0)) in
             is i ∙ rw (k.linked.nodes i, entry_marked i es, w.1) (ap Some here))
             (cases_entry (entry_at i es))
 
-        indexed : (i : ℕ) (y : Entry) → entry_at i (marks es) ≡ Some y → IsIndexed index i y
+        indexed : (i : ℕ) (y : KeyedStep) → entry_at i (marks es) ≡ Some y → IsIndexed index i y
         indexed i y found =
             ⊎_elim
             (λ (z : entry_at i es ≡ None). let no : None ≡ Some y = sym (rw z at (entry_marked i es)) ∙ found in absurd cc)
-            (λ (w : (x : Entry) × (entry_at i es ≡ Some x)).
+            (λ (w : (x : KeyedStep) × (entry_at i es ≡ Some x)).
             let one : Some (with_mark j m w.0) ≡ Some y = sym (rw w.1 at (entry_marked i es)) ∙ found in
             let same : with_mark j m w.0 ≡ y = cc in
             let g = k.indexed i w.0 w.1 in
-            record { place = g.place; number = ap (λ (x : Entry). x.step.id) (sym same) ∙ g.number; key = g.key })
+            record { place = g.place; number = ap (λ (x : KeyedStep). x.step.id) (sym same) ∙ g.number; key = g.key })
             (cases_entry (entry_at i es))

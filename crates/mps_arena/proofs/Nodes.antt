@@ -8,16 +8,16 @@ use Rattle.mps_base.specs.declared.action.Step.{Step}
 use Rattle.mps_history.specs.Steps.{sends, receives}
 use Rattle.mps_arena.specs.declared.node.Node.{Node}
 use Rattle.mps_arena.specs.Keys.{is_at, has, AreDistinct, first_key, last_key, key_after}
-use Rattle.mps_arena.specs.Entries.{Entry, keys_of, any_step, of_role, entry_at}
+use Rattle.mps_arena.specs.Entries.{KeyedStep, keys_of, any_step, of_role, entry_at}
 use Rattle.mps_arena.specs.Links.{node_of, node_at, AreNodes, joined, parted}
-use Rattle.mps_arena.specs.Sources.{mate_of}
+use Rattle.mps_arena.specs.Neighbours.{matched_with}
 use Rattle.mps_arena.specs.Walks.{walk}
 use Rattle.mps_arena.proofs.KeyLists.{not_at, last_in, last-append, get_in, once, after_absent, AreDistinct-push, AreDistinct-without}
 use Rattle.mps_arena.proofs.Chains.{keys-append, keys_with, keys_without, distinct, chain_empty, keys_push, keys_around, absent, after_push, before_push, after_new, before_new, after_removal, before_removal, entry_key, entry_push, entry_middle, entry_without, entry_gone}
-use Rattle.mps_arena.proofs.Mates.{sends_like, own_role, sends_role, own, other, source_in, mate_push, mate_new, mate_removal, fed_push, fed_removal, role_alike, role_back, sends_alike, sends_back}
+use Rattle.mps_arena.proofs.Matched.{sends_like, own_role, sends_role, own, other, new_match, matched_with_push, matched_with_new, matched_with_removal, fed_push, fed_removal, role_alike, role_back, sends_alike, sends_back}
 
 -- a walk from the first key gives the entries
-walk_from : (look : ℕ → Option Node) (a b : List Entry) → AreNodes look (a ++ b) → walk look (length b) (first_key (keys_of any_step b)) ≡ b
+walk_from : (look : ℕ → Option Node) (a b : List KeyedStep) → AreNodes look (a ++ b) → walk look (length b) (first_key (keys_of any_step b)) ≡ b
 walk_from look a [] n = refl
 walk_from look a (x ∷ b) n =
     let es = a ++ x ∷ b in
@@ -29,20 +29,20 @@ walk_from look a (x ∷ b) n =
     let rest = walk_from look (a ++ x ∷ []) b (subst (AreNodes look) (sym (append_assoc a (x ∷ []) b)) n) in
     rw (here, next) (ap (λ l. x ∷ l) rest)
 
-pub walk_is : (look : ℕ → Option Node) (es : List Entry) → AreNodes look es → walk look (length es) (first_key (keys_of any_step es)) ≡ es
+pub walk_is : (look : ℕ → Option Node) (es : List KeyedStep) → AreNodes look es → walk look (length es) (first_key (keys_of any_step es)) ≡ es
 walk_is look es n = walk_from look [] es n
 
-pub same_node : (n m : Node) → n.step ≡ m.step → n.at ≡ m.at → n.bound ≡ m.bound → n.next ≡ m.next → n.prev ≡ m.prev → n.next_of_role ≡ m.next_of_role → n.prev_of_role ≡ m.prev_of_role → n.next_send ≡ m.next_send → n.prev_send ≡ m.prev_send → n.mate ≡ m.mate → n.marked ≡ m.marked → n ≡ m
+pub same_node : (n m : Node) → n.step ≡ m.step → n.at ≡ m.at → n.bound ≡ m.bound → n.next ≡ m.next → n.prev ≡ m.prev → n.next_of_role ≡ m.next_of_role → n.prev_of_role ≡ m.prev_of_role → n.next_send ≡ m.next_send → n.prev_send ≡ m.prev_send → n.matched ≡ m.matched → n.marked ≡ m.marked → n ≡ m
 same_node n m a j k b c d e f g h i =
-    let t : ◌≡◌ {A = Node} (record { step = n.step; at = n.at; bound = n.bound; next = n.next; prev = n.prev; next_of_role = n.next_of_role; prev_of_role = n.prev_of_role; next_send = n.next_send; prev_send = n.prev_send; mate = n.mate; marked = n.marked }) (record { step = m.step; at = m.at; bound = m.bound; next = m.next; prev = m.prev; next_of_role = m.next_of_role; prev_of_role = m.prev_of_role; next_send = m.next_send; prev_send = m.prev_send; mate = m.mate; marked = m.marked }) = cc in
+    let t : ◌≡◌ {A = Node} (record { step = n.step; at = n.at; bound = n.bound; next = n.next; prev = n.prev; next_of_role = n.next_of_role; prev_of_role = n.prev_of_role; next_send = n.next_send; prev_send = n.prev_send; matched = n.matched; marked = n.marked }) (record { step = m.step; at = m.at; bound = m.bound; next = m.next; prev = m.prev; next_of_role = m.next_of_role; prev_of_role = m.prev_of_role; next_send = m.next_send; prev_send = m.prev_send; matched = m.matched; marked = m.marked }) = cc in
     t
 
-pub cases_entry : (o : Option Entry) → (o ≡ None) ⊎ ((y : Entry) × (o ≡ Some y))
+pub cases_entry : (o : Option KeyedStep) → (o ≡ None) ⊎ ((y : KeyedStep) × (o ≡ Some y))
 cases_entry None = inl refl
 cases_entry (Some y) = inr (y, refl)
 
 -- the node of a new last entry
-abbrev pub newcomer : List Entry → Entry → Node
+abbrev pub newcomer : List KeyedStep → KeyedStep → Node
 newcomer es e = record {
   step = e.step;
   at = e.before.at;
@@ -53,17 +53,17 @@ newcomer es e = record {
   prev_of_role = last_key None (keys_of (of_role e.step.role) es);
   next_send = None;
   prev_send = last_key None (keys_of (sends_like e.step) es);
-  mate = source_in es e.step;
+  matched = new_match es e.step;
   marked = e.marked;
 }
 
-module _ (look after : ℕ → Option Node) (es : List Entry) (e : Entry) (n : AreNodes look es) (fresh : entry_at e.key es ≡ None) where
+module _ (look after : ℕ → Option Node) (es : List KeyedStep) (e : KeyedStep) (n : AreNodes look es) (fresh : entry_at e.key es ≡ None) where
   not_last : (p : Step → Bool) → is_at (last_key None (keys_of p es)) e.key ≡ false
   not_last p = not_at (last_key None (keys_of p es)) e.key (λ t. both_ways (has e.key (keys_of p es)) (absent p e.key es fresh) (last_in (keys_of p es) e.key t))
 
   new_node : joined (newcomer es e) e.key e.key (newcomer es e) ≡ node_of (es ++ e ∷ []) e
   new_node =
-      let away : is_at (source_in es e.step) e.key ≡ false = not_at (source_in es e.step) e.key (λ t.
+      let away : is_at (new_match es e.step) e.key ≡ false = not_at (new_match es e.step) e.key (λ t.
       both_ways (has e.key (keys_of (other e.step) es)) (absent (other e.step) e.key es fresh) (get_in (keys_of (other e.step) es) (length (keys_of (own e.step) es)) e.key t)) in
       same_node (joined (newcomer es e) e.key e.key (newcomer es e)) (node_of (es ++ e ∷ []) e)
       refl
@@ -75,10 +75,10 @@ module _ (look after : ℕ → Option Node) (es : List Entry) (e : Entry) (n : A
       (sym (before_new (λ s. of_role s.role) role_alike role_back es e n.distinct fresh))
       (rw (not_last (sends_like e.step)) (sym (after_new sends_like sends_alike sends_back es e n.distinct fresh)))
       (sym (before_new sends_like sends_alike sends_back es e n.distinct fresh))
-      (rw away (sym (mate_new es e n.distinct fresh)))
+      (rw away (sym (matched_with_new es e n.distinct fresh)))
       refl
 
-  old_node : (y : Entry) → entry_at y.key es ≡ Some y → joined (newcomer es e) e.key y.key (node_of es y) ≡ node_of (es ++ e ∷ []) y
+  old_node : (y : KeyedStep) → entry_at y.key es ≡ Some y → joined (newcomer es e) e.key y.key (node_of es y) ≡ node_of (es ++ e ∷ []) y
   old_node y found =
       same_node (joined (newcomer es e) e.key y.key (node_of es y)) (node_of (es ++ e ∷ []) y)
       refl
@@ -90,15 +90,15 @@ module _ (look after : ℕ → Option Node) (es : List Entry) (e : Entry) (n : A
       (sym (before_push (λ s. of_role s.role) role_alike role_back es e n.distinct fresh y.key y found))
       (sym (after_push sends_like sends_alike sends_back es e n.distinct fresh y.key y found))
       (sym (before_push sends_like sends_alike sends_back es e n.distinct fresh y.key y found))
-      (sym (mate_push es e n.distinct fresh y.key y found))
+      (sym (matched_with_push es e n.distinct fresh y.key y found))
       refl
 
-  pub nodes_push : ((k : ℕ) → after k ≡ option_map (joined (newcomer es e) e.key k) (cond (e.key == k) (Some (newcomer es e)) (look k))) → ((p q : ℕ) → receives p q e.step ≡ true → (k : ℕ) × (source_in es e.step ≡ Some k)) → AreNodes after (es ++ e ∷ [])
-  nodes_push is sourced =
+  pub nodes_push : ((k : ℕ) → after k ≡ option_map (joined (newcomer es e) e.key k) (cond (e.key == k) (Some (newcomer es e)) (look k))) → ((p q : ℕ) → receives p q e.step ≡ true → (k : ℕ) × (new_match es e.step ≡ Some k)) → AreNodes after (es ++ e ∷ [])
+  nodes_push is has_match =
       record {
         nodes = at;
         distinct = rw (keys_push any_step es e refl) (AreDistinct-push (keys_of any_step es) e.key n.distinct (absent any_step e.key es fresh));
-        fed = fed_push es e n.fed sourced;
+        fed = fed_push es e n.fed has_match;
       }
     where
       at : (k : ℕ) → after k ≡ node_at (es ++ e ∷ []) k
@@ -111,7 +111,7 @@ module _ (look after : ℕ → Option Node) (es : List Entry) (e : Entry) (n : A
           (λ (f : (e.key == k) ≡ false).
           ⊎_elim
           (λ (z : entry_at k es ≡ None). is k ∙ rw (f, n.nodes k, entry_push k es e, z, f) refl)
-          (λ (w : (y : Entry) × (entry_at k es ≡ Some y)).
+          (λ (w : (y : KeyedStep) × (entry_at k es ≡ Some y)).
           let key : w.0.key ≡ k = entry_key k es w.0 w.1 in
           let here : joined (newcomer es e) e.key k (node_of es w.0) ≡ node_of (es ++ e ∷ []) w.0 =
           subst (λ (i : ℕ). joined (newcomer es e) e.key i (node_of es w.0) ≡ node_of (es ++ e ∷ []) w.0) key (old_node w.0 (subst (λ (i : ℕ). entry_at i es ≡ Some w.0) (sym key) w.1)) in
@@ -120,7 +120,7 @@ module _ (look after : ℕ → Option Node) (es : List Entry) (e : Entry) (n : A
           (cases_Bool (e.key == k))
 
 -- where no later step of a chain comes, none of a part of the chain does
-none_of : (p q : Step → Bool) (es : List Entry) → ((s : Step) → q s ≡ true → p s ≡ true) → keys_of p es ≡ [] → keys_of q es ≡ []
+none_of : (p q : Step → Bool) (es : List KeyedStep) → ((s : Step) → q s ≡ true → p s ≡ true) → keys_of p es ≡ [] → keys_of q es ≡ []
 none_of p q [] sub e = refl
 none_of p q (x ∷ es) sub e =
     ⊎_elim
@@ -135,7 +135,7 @@ nothing_first [] e = refl
 nothing_first (k ∷ c) e = absurd cc
 
 -- after the last step of a role there is none of the role
-pub role_ends : (a b : List Entry) (x : Entry) → AreDistinct (keys_of any_step (a ++ x ∷ b)) → key_after x.key (keys_of (of_role x.step.role) (a ++ x ∷ b)) ≡ None → keys_of (of_role x.step.role) b ≡ []
+pub role_ends : (a b : List KeyedStep) (x : KeyedStep) → AreDistinct (keys_of any_step (a ++ x ∷ b)) → key_after x.key (keys_of (of_role x.step.role) (a ++ x ∷ b)) ≡ None → keys_of (of_role x.step.role) b ≡ []
 role_ends a b x d final =
     let p = of_role x.step.role in
     let is = keys_around p a b x (eq-eqb x.step.role x.step.role refl) in
@@ -144,13 +144,13 @@ role_ends a b x d final =
     nothing_first (keys_of p b) (sym next ∙ final)
 
 -- so it is the last of each chain of its role that it stands in
-pub last_of_chain : (f : Step → Bool) (a b : List Entry) (x : Entry) → AreDistinct (keys_of any_step (a ++ x ∷ b)) → key_after x.key (keys_of (of_role x.step.role) (a ++ x ∷ b)) ≡ None → ((s : Step) → f s ≡ true → of_role x.step.role s ≡ true) → f x.step ≡ true → last_key None (keys_of f (a ++ x ∷ b)) ≡ Some x.key
+pub last_of_chain : (f : Step → Bool) (a b : List KeyedStep) (x : KeyedStep) → AreDistinct (keys_of any_step (a ++ x ∷ b)) → key_after x.key (keys_of (of_role x.step.role) (a ++ x ∷ b)) ≡ None → ((s : Step) → f s ≡ true → of_role x.step.role s ≡ true) → f x.step ≡ true → last_key None (keys_of f (a ++ x ∷ b)) ≡ Some x.key
 last_of_chain f a b x d final sub t =
     ap (last_key None) (keys_around f a b x t ∙ ap (λ (l : List ℕ). keys_of f a ++ x.key ∷ l) (none_of (of_role x.step.role) f b sub (role_ends a b x d final)))
     ∙ last-append None (keys_of f a) (x.key ∷ [])
 
-module _ (look after : ℕ → Option Node) (a b : List Entry) (x : Entry) (n : AreNodes look (a ++ x ∷ b)) (final : key_after x.key (keys_of (of_role x.step.role) (a ++ x ∷ b)) ≡ None) where
-  abbrev whole : List Entry
+module _ (look after : ℕ → Option Node) (a b : List KeyedStep) (x : KeyedStep) (n : AreNodes look (a ++ x ∷ b)) (final : key_after x.key (keys_of (of_role x.step.role) (a ++ x ∷ b)) ≡ None) where
+  abbrev whole : List KeyedStep
   whole = a ++ x ∷ b
 
   -- no later step of the role
@@ -172,7 +172,7 @@ module _ (look after : ℕ → Option Node) (a b : List Entry) (x : Entry) (n : 
       (λ (f : p x.step ≡ false). ap (key_after x.key) (chain_empty sends_like sends_alike sends_back x.step whole f))
       (cases_Bool (p x.step))
 
-  kept_node : (y : Entry) → entry_at y.key whole ≡ Some y → (x.key == y.key) ≡ false → parted (node_of whole x) y.key (node_of whole y) ≡ node_of (a ++ b) y
+  kept_node : (y : KeyedStep) → entry_at y.key whole ≡ Some y → (x.key == y.key) ≡ false → parted (node_of whole x) y.key (node_of whole y) ≡ node_of (a ++ b) y
   kept_node y found apart =
       same_node (parted (node_of whole x) y.key (node_of whole y)) (node_of (a ++ b) y)
       refl
@@ -184,10 +184,10 @@ module _ (look after : ℕ → Option Node) (a b : List Entry) (x : Entry) (n : 
       (sym (rw final at (before_removal (λ s. of_role s.role) role_alike role_back a b x n.distinct y.key y found apart)))
       (sym (rw sends_ends at (after_removal sends_like sends_alike sends_back a b x n.distinct y.key y found apart)))
       (sym (rw sends_ends at (before_removal sends_like sends_alike sends_back a b x n.distinct y.key y found apart)))
-      (sym (mate_removal a b x n.distinct own_ends y.key y found apart))
+      (sym (matched_with_removal a b x n.distinct own_ends y.key y found apart))
       refl
 
-  pub nodes_without : ((k : ℕ) → after k ≡ option_map (parted (node_of whole x) k) (cond (x.key == k) None (look k))) → ((p q : ℕ) → sends p q x.step ≡ true → mate_of whole x ≡ None) → AreNodes after (a ++ b)
+  pub nodes_without : ((k : ℕ) → after k ≡ option_map (parted (node_of whole x) k) (cond (x.key == k) None (look k))) → ((p q : ℕ) → sends p q x.step ≡ true → matched_with whole x ≡ None) → AreNodes after (a ++ b)
   nodes_without is unreceived =
       record {
         nodes = at;
@@ -202,7 +202,7 @@ module _ (look after : ℕ → Option Node) (a b : List Entry) (x : Entry) (n : 
           (λ (f : (x.key == k) ≡ false).
           ⊎_elim
           (λ (z : entry_at k whole ≡ None). is k ∙ rw (f, n.nodes k, entry_without k a b x f, z) refl)
-          (λ (w : (y : Entry) × (entry_at k whole ≡ Some y)).
+          (λ (w : (y : KeyedStep) × (entry_at k whole ≡ Some y)).
           let key : w.0.key ≡ k = entry_key k whole w.0 w.1 in
           let here : parted (node_of whole x) k (node_of whole w.0) ≡ node_of (a ++ b) w.0 =
           subst (λ (i : ℕ). parted (node_of whole x) i (node_of whole w.0) ≡ node_of (a ++ b) w.0) key

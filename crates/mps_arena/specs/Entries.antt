@@ -7,7 +7,7 @@ use Rattle.mps_history.specs.Steps.{sends, receives, IsRising}
 use Rattle.mps_arena.specs.declared.node.Before.{Before}
 use Rattle.mps_arena.specs.Keys.{AreDistinct}
 
-pub record Entry : Type 0 where
+pub record KeyedStep : Type 0 where
   pub key : ℕ
   pub step : Step
   pub before : Before
@@ -15,16 +15,16 @@ pub record Entry : Type 0 where
 
 -- the entries, the oldest first; how many numbers were given out; the key of the next entry; whether that needs no allocation
 pub record Entries : Type 0 where
-  pub entries : List Entry
+  pub entries : List KeyedStep
   pub issued : ℕ
   pub next_key : ℕ
   pub is_ready : Bool
 
-abbrev pub steps : List Entry → List Step
+abbrev pub steps : List KeyedStep → List Step
 steps es = map (λ e. e.step) es
 
 -- the keys of the steps that pass, in order
-abbrev pub keys_of : (Step → Bool) → List Entry → List ℕ
+abbrev pub keys_of : (Step → Bool) → List KeyedStep → List ℕ
 keys_of p es = map (λ e. e.key) (filter (λ e. p e.step) es)
 
 abbrev pub any_step : Step → Bool
@@ -44,13 +44,13 @@ like p (Gives to message) = sends p to
 like p (Takes from slot) = receives from p
 like p Idle = λ s. false
 
--- the other ends of these: receipts of what p gives, sends of what it takes
+-- what these may be matched with: receipts of what p gives, sends of what it takes
 abbrev pub unlike : ℕ → Effect → Step → Bool
 unlike p (Gives to message) = receives p to
 unlike p (Takes from slot) = sends from p
 unlike p Idle = λ s. false
 
-abbrev pub entry_at : ℕ → List Entry → Option Entry
+abbrev pub entry_at : ℕ → List KeyedStep → Option KeyedStep
 entry_at k es = find (λ e. e.key == k) es
 
 -- peers and roles are below 8
@@ -63,16 +63,16 @@ abbrev pub IsSmall : Step → Type 0
 IsSmall s = (s.role < 8) × HasSmallPeer (effect s.act)
 
 -- the entry, marked or not where it has that key
-abbrev pub with_mark : ℕ → Bool → Entry → Entry
+abbrev pub with_mark : ℕ → Bool → KeyedStep → KeyedStep
 with_mark k m e = record e { marked = if e.key == k then m else e.marked }
 
 -- at no point of the history a pair had more receipts than sends
-abbrev pub IsFed : List Entry → Type 0
-IsFed es = (c d : List Entry) → es ≡ c ++ d → (p q : ℕ) → length (keys_of (receives p q) c) ≤ length (keys_of (sends p q) c)
+abbrev pub IsFed : List KeyedStep → Type 0
+IsFed es = (c d : List KeyedStep) → es ≡ c ++ d → (p q : ℕ) → length (keys_of (receives p q) c) ≤ length (keys_of (sends p q) c)
 
 -- what holds of the entries of each arena: no key stands twice, no pair ever had more receipts than sends, numbers rise,
 -- roles and peers are below 8
-pub record AreSound (es : List Entry) : Type 0 where
+pub record AreSound (es : List KeyedStep) : Type 0 where
   pub distinct : AreDistinct (keys_of any_step es)
   pub fed : IsFed es
   pub rising : IsRising (steps es)

@@ -2,15 +2,16 @@
 use Rattle.std.specs.Prelude.{nat_lt, ◌+◌, ◌&&◌, ◌^◌, length, vec_len, vec_capacity, List}
 use Rattle.slab.specs.Slab.{get, slab_len}
 use Rattle.mps_arena.specs.declared.arena.Arena.TheInside.{Inside}
-use Rattle.mps_arena.specs.Entries.{Entry, Entries}
+use Rattle.mps_arena.specs.Entries.{KeyedStep, Entries}
 use Rattle.mps_arena.specs.Walks.{walk}
 use Rattle.mps_arena.specs.Kept.{IsKept}
 
-abbrev pub entries_of : Inside → List Entry
+abbrev pub entries_of : Inside → List KeyedStep
 entries_of a = walk (get a.nodes) (slab_len a.nodes) a.ends.first
 
-abbrev pub view_of : Inside → Entries
-view_of a = record {
+-- an arena, as contracts see it
+abbrev pub arena_value : Inside → Entries
+arena_value a = record {
   entries = entries_of a;
   issued = length a.index.items;
   next_key = a.nodes.vacant_key;

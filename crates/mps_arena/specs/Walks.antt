@@ -2,9 +2,9 @@
 use Rattle.std.specs.Prelude.{ℕ, zero, suc, List, [], ◌∷◌, Option, Some, None}
 use Rattle.std.specs.Option.{option_map, unwrap_or}
 use Rattle.mps_arena.specs.declared.node.Node.{Node}
-use Rattle.mps_arena.specs.Entries.{Entry}
+use Rattle.mps_arena.specs.Entries.{KeyedStep}
 
-abbrev pub walk : (ℕ → Option Node) → ℕ → Option ℕ → List Entry
+abbrev pub walk : (ℕ → Option Node) → ℕ → Option ℕ → List KeyedStep
 walk look zero at = []
 walk look (suc n) None = []
 walk look (suc n) (Some k) =

@@ -6,7 +6,7 @@ ghost use Rattle.mps_base.specs.Effects.{effect};
 ghost use Rattle.mps_history.specs.Steps.{sends, without};
 ghost use Rattle.mps_arena.specs.Keys.{first_key, last_key};
 ghost use Rattle.mps_arena.specs.Entries.{steps, any_step, of_role, keys_of, entry_at, with_mark, IsSmall, AreSound};
-ghost use Rattle.mps_arena.specs.Sources.{IsSource, CanGo, next_in, prev_in, next_of_role_in, prev_of_role_in, next_send_in, prev_send_in, receipt_in, source_in, id_in};
+ghost use Rattle.mps_arena.specs.Neighbours.{IsSource, CanGo, next_in, prev_in, next_of_role_in, prev_of_role_in, next_send_in, prev_send_in, receipt_in, source_in, id_in};
 
 use crate::ends::Ends;
 use crate::links::{join, key_of, part, set_marked};
@@ -30,9 +30,9 @@ impl Model for Arena {
 
     ghost Value = { Entries };
 
-    ghost use Rattle.mps_arena.specs.Views.{view_of, IsArena};
+    ghost use Rattle.mps_arena.specs.Views.{arena_value, IsArena};
 
-    ghost view = { view_of };
+    ghost view = { arena_value };
 
     ghost invariant = { IsArena };
 }
@@ -66,7 +66,7 @@ impl Arena {
         Key::of(self.nodes.vacant_key())
     }
 
-    /// Puts a step after all others, unmarked. A receipt or a pick comes with its source: the first send of its pair
+    /// Puts a step after all others, unmarked. A receipt or a pick comes with the send that it is matched with: the first of its pair
     /// that isn't received.
     pub fn add(&mut self, step: Step, before: Before, source: Option<Key>) -> Key
         requires ready { IsTrue self.old.is_ready }
@@ -88,7 +88,7 @@ impl Arena {
         key
     }
 
-    /// Takes a step out that is the last of its role and, if it is a send or a choice, isn't received.
+    /// Removes a step that is the last of its role and, if it is a send or a choice, isn't received.
     pub fn remove(&mut self, key: Key) -> Step
         requires { CanGo self.old.entries key }
         ensures step { option_map (λ e. e.step) (entry_at key self.old.entries) ≡ Some result }
@@ -201,7 +201,7 @@ impl Arena {
         ensures { result ≡ receipt_in self.now.entries key }
     {
         match self.nodes.get(key.place()) {
-            Some(node) => receipt_at(&node.step.act, node.mate),
+            Some(node) => receipt_at(&node.step.act, node.matched),
             None => None,
         }
     }
@@ -211,7 +211,7 @@ impl Arena {
         ensures { result ≡ source_in self.now.entries key }
     {
         match self.nodes.get(key.place()) {
-            Some(node) => source_at(&node.step.act, node.mate),
+            Some(node) => source_at(&node.step.act, node.matched),
             None => None,
         }
     }

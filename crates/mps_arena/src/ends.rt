@@ -52,7 +52,7 @@ impl Ends {
           prev_of_role = slice_index_or self.now.last_of step.role None;
           next_send = None;
           prev_send = end_at self.now.last_send step.role (receiver (effect step.act));
-          mate = source;
+          matched = source;
           marked = false;
         } }
     {
@@ -71,7 +71,7 @@ impl Ends {
             prev_of_role: self.last_of[role],
             next_send: Link::none(),
             prev_send,
-            mate: Link::of(source),
+            matched: Link::of(source),
             marked: false,
         }
     }

@@ -58,14 +58,14 @@ pub(crate) fn set_next_send(nodes: &mut Slab<Node>, at: Link, to: Link)
     }
 }
 
-/// Writes the other end of that node, if there is one.
-pub(crate) fn set_mate(nodes: &mut Slab<Node>, at: Link, to: Link)
+/// Writes what that node is matched with, if there is one.
+pub(crate) fn set_matched(nodes: &mut Slab<Node>, at: Link, to: Link)
     ensures { Rewrites nodes.old nodes.new (λ k n.
-        record n { mate = if is_at at k then to else n.mate }) }
+        record n { matched = if is_at at k then to else n.matched }) }
 {
     if let Some(key) = at.key() {
         if let Some(node) = nodes.get_mut(key.place()) {
-            node.mate = to;
+            node.matched = to;
         }
     }
 }
@@ -80,7 +80,7 @@ pub(crate) fn set_marked(nodes: &mut Slab<Node>, key: Key, marked: bool)
     }
 }
 
-/// Takes a node in, after the last of each of its chains and against its source, and tells its key.
+/// Takes a node in, after the last of each of its chains and matched with its send, and tells its key.
 #[inline(never)]
 pub(crate) fn join(nodes: &mut Slab<Node>, node: Node) -> Key
     requires room { HasRoomFor nodes.old 1 }
@@ -94,17 +94,17 @@ pub(crate) fn join(nodes: &mut Slab<Node>, node: Node) -> Key
     let prev = node.prev;
     let prev_of_role = node.prev_of_role;
     let prev_send = node.prev_send;
-    let mate = node.mate;
+    let matched = node.matched;
     let key = Key::small(nodes.insert_reserved(node));
     let link = Link::to(key);
     set_next(nodes, prev, link);
     set_next_of_role(nodes, prev_of_role, link);
     set_next_send(nodes, prev_send, link);
-    set_mate(nodes, mate, link);
+    set_matched(nodes, matched, link);
     key
 }
 
-/// Takes out a node that is the last of its role, and joins its neighbours.
+/// Removes a node that is the last of its role, and joins its neighbours.
 pub(crate) fn part(nodes: &mut Slab<Node>, key: Key) -> Node
     requires { ContainsKey nodes.old key }
     ensures node { get nodes.old key ≡ Some result }
@@ -121,7 +121,7 @@ pub(crate) fn part(nodes: &mut Slab<Node>, key: Key) -> Node
     set_prev(nodes, node.next, node.prev);
     set_next_of_role(nodes, node.prev_of_role, none);
     set_next_send(nodes, node.prev_send, none);
-    set_mate(nodes, node.mate, none);
+    set_matched(nodes, node.matched, none);
     node
 }
 

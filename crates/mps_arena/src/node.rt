@@ -1,7 +1,7 @@
 //! Nodes: steps with their neighbours.
 ghost use Rattle.std.specs.Prelude.{◌≡◌, ◌<◌, ◌+◌, ◌^◌, ◌==◌, Some, None, is_none, IfOk, IsOk};
 ghost use Rattle.mps_base.specs.Effects.{effect};
-ghost use Rattle.mps_arena.specs.Receipts.{receipt_mate, source_mate};
+ghost use Rattle.mps_arena.specs.Matched.{matched_receipt, matched_source};
 
 use mps_base::{Act, Step};
 use std::alloc::AllocError;
@@ -148,27 +148,27 @@ pub(crate) struct Node {
     pub(crate) prev_of_role: Link,
     pub(crate) next_send: Link,
     pub(crate) prev_send: Link,
-    // the receipt of a send, the send of a receipt
-    pub(crate) mate: Link,
+    // what the step is matched with: the receipt of a send, the send of a receipt
+    pub(crate) matched: Link,
     pub(crate) marked: bool,
 }
 
-/// The other end of a send.
-pub(crate) fn receipt_at(act: &Act, mate: Link) -> Option<Key>
-    ensures { result ≡ receipt_mate (effect act.now) mate }
+/// The receipt that a send is matched with.
+pub(crate) fn receipt_at(act: &Act, matched: Link) -> Option<Key>
+    ensures { result ≡ matched_receipt (effect act.now) matched }
 {
     match act {
-        Act::Out { .. } => mate.key(),
+        Act::Out { .. } => matched.key(),
         _ => None,
     }
 }
 
-/// The other end of a receipt.
-pub(crate) fn source_at(act: &Act, mate: Link) -> Option<Key>
-    ensures { result ≡ source_mate (effect act.now) mate }
+/// The send that a receipt is matched with.
+pub(crate) fn source_at(act: &Act, matched: Link) -> Option<Key>
+    ensures { result ≡ matched_source (effect act.now) matched }
 {
     match act {
-        Act::In { .. } => mate.key(),
+        Act::In { .. } => matched.key(),
         _ => None,
     }
 }

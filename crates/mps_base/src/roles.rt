@@ -92,7 +92,7 @@ impl Roles {
         ensures none { IfNone result (All (λ other. other ≢ bytes.now) self.now) }
         ensures only { (role : ℕ) → slice_get self.now role ≡ Some bytes.now → result ≡ Some role }
     {
-        let place = place_of(&self.names, bytes)?;
+        let place = find_name(&self.names, bytes)?;
         let _name = self.names[place].as_bytes();
         Some(Role::new(place as u8))
     }
@@ -116,7 +116,7 @@ impl Roles {
 }
 
 // Where the name that is spelled so stands, if it does.
-fn place_of(names: &[Name], bytes: &[u8]) -> Option<usize>
+fn find_name(names: &[Name], bytes: &[u8]) -> Option<usize>
     ensures found { IfSome result (λ place. slice_get names.now place ≡ Some bytes.now) }
     ensures none { IfNone result (All (λ other. other ≢ bytes.now) names.now) }
 {
@@ -129,6 +129,6 @@ fn are_distinct(names: &[Name]) -> bool
 {
     match names {
         [] => true,
-        [first, rest @ ..] => place_of(rest, first.as_bytes()).is_none() && are_distinct(rest),
+        [first, rest @ ..] => find_name(rest, first.as_bytes()).is_none() && are_distinct(rest),
     }
 }

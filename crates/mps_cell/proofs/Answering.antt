@@ -8,7 +8,7 @@ use Rattle.mps_command.specs.declared.command.Command.{Command}
 use Rattle.mps_machine.proofs.Answering.{from_ok}
 use Rattle.mps_room.specs.Callers.{entry}
 use Rattle.mps_room.specs.Journal.{is_accepted, grown, IsReply}
-use Rattle.mps_room.specs.Kept.{Record}
+use Rattle.mps_room.specs.Kept.{RoomState}
 use Rattle.mps_room.specs.Solos.{own_entry}
 use Rattle.mps_room.specs.declared.entry.Entry.{Entry}
 use Rattle.mps_room.specs.declared.numbers.Numbered.{Numbered}
@@ -18,7 +18,7 @@ use Rattle.mps_cell.specs.Rule.{Shows, resting, holding, journal_in, Took, Gave}
 use Rattle.mps_cell.specs.Calls.{Known, known, carried, IsAccepted, IsAnswered, Calls}
 
 abbrev M : Type 0
-M = Me Record View
+M = Me RoomState View
 
 -- an answer that accepts is the one that is wanted
 accepted_is : (a wanted : Answer) → IsReply a wanted → is_accepted a ≡ true → a ≡ wanted

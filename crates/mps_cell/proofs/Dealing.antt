@@ -5,7 +5,7 @@ use Rattle.std.proofs.lemmas.List.Elements.{All-nil, All-push, All-same}
 use mathlib.Core.Option as maybe
 use lib.ListN.{get_elem?}
 use Rattle.atomic_table.specs.Table.{Me, State, Splits, Final, Seen}
-use Rattle.mps_room.specs.Kept.{Record}
+use Rattle.mps_room.specs.Kept.{RoomState}
 use Rattle.mps_room.specs.declared.entry.Entry.{Entry}
 use Rattle.mps_cell.specs.Openings.{Opening, room_of, IsLegalIn}
 use Rattle.mps_cell.specs.Views.{View, newcomer, newcomers, dealing, part_of, without_first, first_alone}
@@ -17,7 +17,7 @@ use Rattle.mps_cell.specs.Cells.{Closes, fresh, fresh_below}
 use Rattle.mps_cell.proofs.Keeping.{deals}
 
 abbrev M : Type 0
-M = Me Record View
+M = Me RoomState View
 
 one_more : (i n : ℕ) → i < n → n - i ≡ suc (n - (i + 1))
 one_more i n h = omega arith
@@ -38,20 +38,20 @@ home_even : (a : Option ℕ) (j : List Entry) → word_of a j % 2 ≡ 0 → a �
 home_even None j e = refl
 home_even (Some t) j e = absurd (omega arith)
 
-module _ (o : Opening) (s : State Record View) (r : Kept o s) (ws : List ℕ) (xs : List Record) (w : ℕ) (y : Record) (same : s.words ≡ ws)
-    (homes : (k : ℕ) (x : Record) → get_elem? s.homes k ≡ maybe.some (maybe.some x) → get_elem? xs k ≡ maybe.some x) (word : get_elem? ws 0 ≡ maybe.some w) (even : w % 2 ≡ 0) (room : get_elem? xs 0 ≡ maybe.some y) where
+module _ (o : Opening) (s : State RoomState View) (r : Kept o s) (ws : List ℕ) (xs : List RoomState) (w : ℕ) (y : RoomState) (same : s.words ≡ ws)
+    (homes : (k : ℕ) (x : RoomState) → get_elem? s.homes k ≡ maybe.some (maybe.some x) → get_elem? xs k ≡ maybe.some x) (word : get_elem? ws 0 ≡ maybe.some w) (even : w % 2 ≡ 0) (room : get_elem? xs 0 ≡ maybe.some y) where
   at_home : r.away ≡ None
   at_home = let e : word_of r.away r.log ≡ w = maybe.some-injective (word_of r.away r.log) w (sym (ap (λ (l : List ℕ). get_elem? l 0) r.words) ∙ (ap (λ (l : List ℕ). get_elem? l 0) same ∙ word)) in
       home_even r.away r.log (ap (λ (n : ℕ). n % 2) e ∙ even)
 
   pub ends_as : y ≡ room_of o r.log
-  ends_as = let h = homes 0 (room_of o r.log) (ap (λ (l : List (maybe.Option Record)). get_elem? l 0) (r.homes ∙ ap (λ (a : Option ℕ). home_of o a r.log ∷ []) at_home)) in
+  ends_as = let h = homes 0 (room_of o r.log) (ap (λ (l : List (maybe.Option RoomState)). get_elem? l 0) (r.homes ∙ ap (λ (a : Option ℕ). home_of o a r.log ∷ []) at_home)) in
       maybe.some-injective y (room_of o r.log) (sym room ∙ h)
 
   pub closes : Closes o y
-  closes = record { names = ap (λ (m : Record). m.names) ends_as; types = ap (λ (m : Record). m.types) ends_as; legal = subst (λ (m : Record). IsLegalIn o m.journal) (sym ends_as) r.legal }
+  closes = record { names = ap (λ (m : RoomState). m.names) ends_as; types = ap (λ (m : RoomState). m.types) ends_as; legal = subst (λ (m : RoomState). IsLegalIn o m.journal) (sym ends_as) r.legal }
 
-pub closed : (o : Opening) (ws : List ℕ) (xs : List Record) (w : ℕ) (y : Record) → Final (Kept o) ws xs → get_elem? ws 0 ≡ maybe.some w → w % 2 ≡ 0 → get_elem? xs 0 ≡ maybe.some y → Closes o y
+pub closed : (o : Opening) (ws : List ℕ) (xs : List RoomState) (w : ℕ) (y : RoomState) → Final (Kept o) ws xs → get_elem? ws 0 ≡ maybe.some w → w % 2 ≡ 0 → get_elem? xs 0 ≡ maybe.some y → Closes o y
 closed o ws xs w y f word even room = closes o f.0 f.1 ws xs w y f.2 f.4 word even room
 
 more : (id : TableId) (o : Opening) (n : ℕ) → fresh_below id o (n + 1) ≡ fresh_below id o n ++ fresh id o n ∷ []
@@ -64,11 +64,11 @@ dealt_more id id' o o' i all all' k now was new is is' = let e : k ≡ fresh id 
 shown_in : (j : List Entry) (m : M) → IsFree m → AllShow j m.0.parts → Shows j (part_of m.0.parts)
 shown_in j m free all = (subst (λ (x : M). AllShow j x.0.parts) free all).0
 
-pub closed_with : (o : Opening) (id : ℕ) (m : M) (t : TableId) (ws : List ℕ) (xs : List Record) (w : ℕ) (y : Record) → IsFree m → Final (Seen (Kept o) id m.0) ws xs → get_elem? ws 0 ≡ maybe.some w → w % 2 ≡ 0 → get_elem? xs 0 ≡ maybe.some y
+pub closed_with : (o : Opening) (id : ℕ) (m : M) (t : TableId) (ws : List ℕ) (xs : List RoomState) (w : ℕ) (y : RoomState) → IsFree m → Final (Seen (Kept o) id m.0) ws xs → get_elem? ws 0 ≡ maybe.some w → w % 2 ≡ 0 → get_elem? xs 0 ≡ maybe.some y
     → Closes o y × Holds (known t m.0) y.journal
 closed_with o id m t ws xs w y free f word even room = let r = f.1.0 in let e = ends_as o f.0 r ws xs w y f.2 f.4 word even room in
     let s : Shows r.log (part_of m.0.parts) = shown_in r.log m free (r.seats id m.0 f.1.1).shows in let h : Holds (known t m.0) r.log = record { begins = s.begins; reached = s.reached; own = s.own } in
-    (closes o f.0 r ws xs w y f.2 f.4 word even room, subst (λ (x : Record). Holds (known t m.0) x.journal) (sym e) h)
+    (closes o f.0 r ws xs w y f.2 f.4 word even room, subst (λ (x : RoomState). Holds (known t m.0) x.journal) (sym e) h)
 
 -- the seat of a role that was dealt is a newcomer's
 pub fresh_seat : (o : Opening) (i role : ℕ) (m : M) → m ≡ resting (newcomer o i) false → role ≡ i → m ≡ resting (newcomer (part_of m.0.parts).opening role) false

@@ -6,7 +6,7 @@ use mathlib.Core.Option as maybe
 use lib.ListN.{get_elem?}
 use Rattle.atomic_table.specs.Table.{State, Me, Act, Valid, carried_after, keeps, takes, gives, step, stepped, Allows, Splits, Joins, opening}
 use Rattle.atomic_table.proofs.Lists.{exchanged, set_else}
-use Rattle.mps_room.specs.Kept.{Record}
+use Rattle.mps_room.specs.Kept.{RoomState}
 use Rattle.mps_room.specs.declared.entry.Entry.{Entry}
 use Rattle.mps_cell.specs.Openings.{Opening, opening_of, room_of, IsLegalIn}
 use Rattle.mps_cell.specs.Views.{Part, View, newcomers, first_view, part_of, looked, took, gave, without_first_part, first_part_alone, without_first, first_alone, spent}
@@ -14,10 +14,10 @@ use Rattle.mps_cell.specs.Rule.{Kept, Rests, AllShow, AllHere, AllOther, AllApar
 use Rattle.mps_cell.proofs.Lists.{inside, at_end, seats_stay, raise_all, raise_here, raise_apart, grow_all, elsewhere, moved, moved_here, still_here}
 
 abbrev St : Type 0
-St = State Record View
+St = State RoomState View
 
 abbrev M : Type 0
-M = Me Record View
+M = Me RoomState View
 
 word_half : (a : Option ℕ) (j : List Entry) → word_of a j / 2 ≡ length j
 word_half None j = omega arith
@@ -67,10 +67,10 @@ noted_here t j = ap (λ (b : Bool). if b then Some j else None) (eq-eqb t t refl
 pub tries : (o : Opening) (slots id : ℕ) (me : M) (p : Part) (ps : List Part) (old new : ℕ) → me.0.parts ≡ p ∷ ps → old % 2 ≡ 0 → new ≡ old + 1
     → Allows (Kept o) slots id me 0 (λ n. if n == old then new else n) (Tries (step slots 0 old new maybe.none) me)
 tries o slots id me p ps old new some_part even next s r _ at _ = let n : ℕ = get_or s.words 0 0 in let late : Bool = old == 2 * (part_of me.0.parts).floor in let mine = r.seats id me.0 at in
-    let F : ℕ → Type 0 = λ k. (w : View) × (a : Act Record) × Valid s.homes me.1 a × Kept o (stepped s 0 k id me.1 w a)
+    let F : ℕ → Type 0 = λ k. (w : View) × (a : Act RoomState) × Valid s.homes me.1 a × Kept o (stepped s 0 k id me.1 w a)
     × Tries (step slots 0 old new maybe.none) me n (w, carried_after me.1 a) in
     exchanged n old new F
-    (λ hit. let w : View = took r.log me.0 in let y : Record = room_of (part_of me.0.parts).opening r.log in
+    (λ hit. let w : View = took r.log me.0 in let y : RoomState = room_of (part_of me.0.parts).opening r.log in
     let here : AllHere o r.owner id (p ∷ ps) = subst (AllHere o r.owner id) some_part mine.here in
     let opening : (part_of me.0.parts).opening ≡ o = ap (λ l. (part_of l).opening) some_part ∙ here.0.0 in
     let out : r.away ≡ None = home_at_even r.away r.log (ap (λ (k : ℕ). k % 2) (sym (word_is o s r) ∙ hit) ∙ even) in
@@ -78,14 +78,14 @@ tries o slots id me p ps old new some_part even next s r _ at _ = let n : ℕ = 
     let word : n ≡ 2 * length r.log = word_is o s r ∙ ap (λ (a : Option ℕ). word_of a r.log) out in (
       w,
       takes 0 y,
-      ap (λ (hs : List (maybe.Option Record)). get_elem? hs 0) homes ∙ ap (λ (m : Opening). maybe.some (maybe.some (room_of m r.log))) (sym opening),
+      ap (λ (hs : List (maybe.Option RoomState)). get_elem? hs 0) homes ∙ ap (λ (m : Opening). maybe.some (maybe.some (room_of m r.log))) (sym opening),
       record {
         log = r.log;
         away = Some id;
         owner = r.owner;
         legal = r.legal;
         words = ap (λ (ws : List ℕ). set ws 0 new) r.words ∙ ap (λ (k : ℕ). k ∷ []) (let z : new ≡ 2 * length r.log + 1 = omega arith in z);
-        homes = ap (λ (hs : List (maybe.Option Record)). set hs 0 maybe.none) homes;
+        homes = ap (λ (hs : List (maybe.Option RoomState)). set hs 0 maybe.none) homes;
         placed = λ t e. let i = inside s.views id me.0 at in let same : id ≡ t = cc in omega (arith, length-set s.views id w);
         seats = seats_stay (Rests o r.log (Some id) r.owner) s.views id w record {
           shows = mine.shows;
@@ -132,7 +132,7 @@ gives_back o slots id p k j new grows legal is s r _ at _ =
         owner = r.owner;
         legal = now;
         words = ap (λ (ws : List ℕ). set ws 0 new) r.words ∙ ap (λ (n : ℕ). n ∷ []) is;
-        homes = ap (λ (hs : List (maybe.Option Record)). set hs 0 (maybe.some (room_of p.opening j))) r.homes ∙ ap (λ (m : Opening). maybe.some (room_of m j) ∷ []) opening;
+        homes = ap (λ (hs : List (maybe.Option RoomState)). set hs 0 (maybe.some (room_of p.opening j))) r.homes ∙ ap (λ (m : Opening). maybe.some (room_of m j) ∷ []) opening;
         placed = λ t e. absurd cc;
         seats = seats_stay (Rests o j None r.owner) s.views id w record {
           shows = (record { legal = legal; begins = ([], sym (append-nil j)); reached = le_refl (length j); own = refl; all_seen = refl }, tt);
@@ -286,9 +286,9 @@ opens o = record {
   seats = first_rests o;
 }
 
-pub opens_with : (m x : Record) (n : ℕ) (items rest : List Record) → m.journal ≡ [] → x ≡ m → items ≡ rest ++ m ∷ [] → rest ≡ [] → Kept (opening_of x n) (opening (0 ∷ []) items (first_view (opening_of x n)))
+pub opens_with : (m x : RoomState) (n : ℕ) (items rest : List RoomState) → m.journal ≡ [] → x ≡ m → items ≡ rest ++ m ∷ [] → rest ≡ [] → Kept (opening_of x n) (opening (0 ∷ []) items (first_view (opening_of x n)))
 opens_with m x n items rest blank is now none_else =
-    let P : Record × List Record → Type 0 = λ y. Kept (opening_of y.0 n) (opening (0 ∷ []) y.1 (first_view (opening_of y.0 n))) in
+    let P : RoomState × List RoomState → Type 0 = λ y. Kept (opening_of y.0 n) (opening (0 ∷ []) y.1 (first_view (opening_of y.0 n))) in
     let e : items ≡ m ∷ [] = now ∙ ap (λ l. l ++ m ∷ []) none_else in
     let new : room_of (opening_of m n) [] ≡ m = ap (λ (j : List Entry). room_of (opening_of m n) j) (sym blank) in
-    subst P (λ i. (sym is i, sym e i)) (subst (λ (y : Record). P (m, y ∷ [])) new (opens (opening_of m n)))
+    subst P (λ i. (sym is i, sym e i)) (subst (λ (y : RoomState). P (m, y ∷ [])) new (opens (opening_of m n)))

@@ -6,7 +6,7 @@ use mathlib.Core.Option as maybe
 use Rattle.atomic_table.specs.Table.{Me, Step, step, Splits, Joins}
 use Rattle.atomic_table.specs.Seated.{TableId}
 use Rattle.mps_room.specs.Callers.{entries_of}
-use Rattle.mps_room.specs.Kept.{Record}
+use Rattle.mps_room.specs.Kept.{RoomState}
 use Rattle.mps_room.specs.declared.entry.Entry.{Entry}
 use Rattle.mps_room.specs.declared.numbers.Numbered.{Numbered}
 use Rattle.mps_cell.specs.Openings.{Opening}
@@ -17,7 +17,7 @@ use Rattle.mps_cell.specs.Meetings.{HasSeen, ReachesBoth}
 use Rattle.mps_cell.proofs.Keeping.{deals, divides, gathers, pair}
 
 abbrev M : Type 0
-M = Me Record View
+M = Me RoomState View
 
 abbrev part : M → Part
 part m = part_of m.0.parts
@@ -36,7 +36,7 @@ gathers_part o id other m m' q free is = let P : M × M → Type 0 = λ x. Joins
 pub gathered : (m m' m2 : M) (q : Part) → IsFree m → m' ≡ resting q false → m2 ≡ (both_parts m.0 m'.0, m.1) → m2 ≡ pair (part m) q m.0.barred
 gathered m m' m2 q free is now = now ∙ (λ i. (both_parts (free i).0 (is i).0, (free i).1))
 
-pub looked_pair : (st : Step Record) (m m' : M) (p q : Part) (b : Bool) (r : ℕ) → m ≡ pair p q b → Looks st m r m'
+pub looked_pair : (st : Step RoomState) (m m' : M) (p q : Part) (b : Bool) (r : ℕ) → m ≡ pair p q b → Looks st m r m'
     → (j : List Entry) × (b' : Bool) × Shows j p × Shows j q × (m' ≡ pair (raised (length j) p) (raised (length j) q) b')
 looked_pair st m m' p q b r is l = let k = subst (λ (x : M). Looks st x r m') is l in
     (k.0.0, r % 2 == 1, k.0.1.1.0, k.0.1.1.1.0, k.1 ∙ ap (λ (n : ℕ). pair (raised n p) (raised n q) (r % 2 == 1)) (sym k.0.1.0))
@@ -44,7 +44,7 @@ looked_pair st m m' p q b r is l = let k = subst (λ (x : M). Looks st x r m') i
 pub divides_pair : (o : Opening) (id : ℕ) (m : M) (p q : Part) (b : Bool) → m ≡ pair p q b → Splits (Kept o) id m.0 (first_stays m.0) (others_go m.0)
 divides_pair o id m p q b is = subst (λ (x : M). Splits (Kept o) id x.0 (first_stays x.0) (others_go x.0)) (sym is) (divides o id p q b)
 
-pub met : (st : Step Record) (m l other m1 m2 m3 l3 : M) (r : ℕ) → IsFree m → IsFree l → other ≡ (first_alone l.0, []) → m1 ≡ (both_parts m.0 other.0, m.1) → Looks st m1 r m2
+pub met : (st : Step RoomState) (m l other m1 m2 m3 l3 : M) (r : ℕ) → IsFree m → IsFree l → other ≡ (first_alone l.0, []) → m1 ≡ (both_parts m.0 other.0, m.1) → Looks st m1 r m2
     → m3 ≡ (first_stays m2.0, m2.1) → l3 ≡ (others_go m2.0, []) → Met m l m3 l3
 met st m l other m1 m2 m3 l3 r free free' lent joined looks mine its =
     let k = looked_pair st m1 m2 (part m) (part l) m.0.barred r (gathered m other m1 (part l) free (lent_part l other free' lent) joined) looks in

@@ -7,7 +7,7 @@ use Rattle.mps_command.specs.declared.answer.Answer.{Answer}
 use Rattle.mps_command.specs.declared.command.Command.{Command}
 use Rattle.mps_room.specs.Callers.{entry}
 use Rattle.mps_room.specs.Journal.{is_accepted, grown}
-use Rattle.mps_room.specs.Kept.{Record}
+use Rattle.mps_room.specs.Kept.{RoomState}
 use Rattle.mps_room.specs.declared.entry.Entry.{Entry}
 use Rattle.mps_cell.specs.Openings.{Opening, room_of, IsLegalIn}
 use Rattle.mps_cell.specs.Views.{Part, View, part_of, raised}
@@ -15,15 +15,15 @@ use Rattle.mps_cell.specs.Rule.{Kept, Shows, resting, holding, journal_in, IsFre
 use Rattle.mps_cell.proofs.Keeping.{gives_back}
 
 abbrev M : Type 0
-M = Me Record View
+M = Me RoomState View
 
 abbrev here : M → Bool → M
 here m b = resting (part_of m.0.parts) b
 
-looked_at : (st : Step Record) (m m' : M) (r : ℕ) → IsFree m → Looks st m r m' → Looks st (here m m.0.barred) r m'
+looked_at : (st : Step RoomState) (m m' : M) (r : ℕ) → IsFree m → Looks st m r m' → Looks st (here m m.0.barred) r m'
 looked_at st m m' r free l = subst (λ (x : M). Looks st x r m') free l
 
-pub missed_look : (st : Step Record) (m m' : M) (r : ℕ) → IsFree m → Looks st m r m' → r % 2 ≡ 1 → Missed m (r / 2) m'
+pub missed_look : (st : Step RoomState) (m m' : M) (r : ℕ) → IsFree m → Looks st m r m' → r % 2 ≡ 1 → Missed m (r / 2) m'
 missed_look st m m' r free l odd = let k = looked_at st m m' r free l in
     (k.0.0, k.0.1.0, k.0.1.1.0, k.1 ∙ ap (λ (b : Bool). resting (raised (r / 2) (part_of m.0.parts)) b) (eq-eqb (r % 2) 1 odd))
 
@@ -34,7 +34,7 @@ by_cases : {P Q : Type 0} (b : Bool) → (b ≡ true → P) → (b ≡ false →
 by_cases true f g = f refl
 by_cases false f g = g refl
 
-pub tried : (st st2 : Step Record) (m m1 m2 : M) (r r2 : ℕ) → IsFree m → Looks st m r m1 → Tries st2 m1 r2 m2 → st2.first ≡ r → r % 2 ≡ 0 → MatchBool (r2 == r) (Took m m2) (Missed m (r2 / 2) m2)
+pub tried : (st st2 : Step RoomState) (m m1 m2 : M) (r r2 : ℕ) → IsFree m → Looks st m r m1 → Tries st2 m1 r2 m2 → st2.first ≡ r → r % 2 ≡ 0 → MatchBool (r2 == r) (Took m m2) (Missed m (r2 / 2) m2)
 tried st st2 m m1 m2 r r2 free l t first even =
     let k = looked_at st m m1 r free l in let p : Part = part_of m.0.parts in
     let len : length k.0.0 ≡ r / 2 = k.0.1.0 in let low : p.floor ≤ length k.0.0 = k.0.1.1.0.reached in
@@ -59,9 +59,9 @@ waited_on m m1 m2 found w t = let f : ℕ = w.0 in let h = subst (λ (x : M). Mi
 pub waited_took : (m m1 m2 : M) → Waited m m1 → Took m1 m2 → Took m m2
 waited_took m m1 m2 w t = let h = subst (λ (x : M). Took x m2) w.3 t in (h.0, lower h.0 w.0 (part_of m.0.parts) w.2 h.1, h.2)
 
-pub room_taken : (m : M) → HasRoom m → (y : Record) × (m.1 ≡ (0, y) ∷ rest m.1)
-room_taken m h = let y : Record = room_of (part_of m.0.parts).opening (journal_in m.1) in let e : m.1 ≡ (0, y) ∷ [] = ap (λ (x : M). x.1) h in
-    (y, e ∙ ap (λ (l : List (ℕ × Record)). (0, y) ∷ l) (sym (ap rest e)))
+pub room_taken : (m : M) → HasRoom m → (y : RoomState) × (m.1 ≡ (0, y) ∷ rest m.1)
+room_taken m h = let y : RoomState = room_of (part_of m.0.parts).opening (journal_in m.1) in let e : m.1 ≡ (0, y) ∷ [] = ap (λ (x : M). x.1) h in
+    (y, e ∙ ap (λ (l : List (ℕ × RoomState)). (0, y) ∷ l) (sym (ap rest e)))
 
 pub grows_by : (j : List Entry) (role r : ℕ) (c : Command) (a : Answer) → role ≡ r → Grows r j (grown j role c a)
 grows_by j role r c a is = elim (is_accepted a) as (λ (b : Bool). Grows r j (if b then j ++ entry role c a ∷ [] else j)) [ true ↦ inr (entry role c a, is, refl) | false ↦ inl refl ]
@@ -81,7 +81,7 @@ gives_answered o slots id m new h is =
     subst (λ (x : M). Allows (Kept o) slots id x 0 (λ _. new) (λ _. Gives (step slots 0 new 0 maybe.none) x new)) (sym h.room)
     (gives_back o slots id (part_of m.0.parts) h.before (journal_in m.1) new h.grows h.legal is)
 
-pub gave_answered : (st : Step Record) (m m' : M) (r : ℕ) → HasAnswered m → Gives st m r m' → Gave m (journal_in m.1) m'
+pub gave_answered : (st : Step RoomState) (m m' : M) (r : ℕ) → HasAnswered m → Gives st m r m' → Gave m (journal_in m.1) m'
 gave_answered st m m' r h g = let p : Part = part_of m.0.parts in let j : List Entry = journal_in m.1 in
     let g' : Gave (holding p h.before (room_of p.opening j)) j m' = subst (λ (x : M). Gives st x r m') h.room g in
     subst (λ (x : M). Gave x (journal_in x.1) m') (sym h.room) g'

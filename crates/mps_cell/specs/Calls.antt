@@ -6,7 +6,7 @@ use Rattle.mps_command.specs.declared.answer.Answer.{Answer}
 use Rattle.mps_command.specs.declared.command.Command.{Command}
 use Rattle.mps_room.specs.Callers.{entry, entries_of}
 use Rattle.mps_room.specs.Journal.{is_accepted, grown}
-use Rattle.mps_room.specs.Kept.{Record}
+use Rattle.mps_room.specs.Kept.{RoomState}
 use Rattle.mps_room.specs.declared.entry.Entry.{Entry}
 use Rattle.mps_room.specs.declared.numbers.Numbered.{Numbered}
 use Rattle.mps_cell.specs.Openings.{Opening, IsLegalIn, IsReplyIn, reply_in}
@@ -34,7 +34,7 @@ abbrev pub carried : Known → Option Numbered → Known
 carried k newest = record k { newest = newest }
 
 -- how the parts of a pass fit: its seat is one of the cell's with one part, which is of the role
-pub record IsSeated (seat : TableId) (me : Me Record View) (table : TableId) (role seen : ℕ) (names : List (List ℕ)) : Type 0 where
+pub record IsSeated (seat : TableId) (me : Me RoomState View) (table : TableId) (role seen : ℕ) (names : List (List ℕ)) : Type 0 where
   pub cell : seat ≡ table
   pub word : table.words ≡ 1
   pub free : IsFree me

@@ -3,7 +3,7 @@ use Rattle.std.specs.Prelude.{◌≡◌, ℕ, zero, suc, Bool, false, List, [], 
 use Rattle.atomic_table.specs.Seated.{TableId}
 use Rattle.atomic_table.specs.declared.shared.Seat.{Seat}
 use Rattle.mps_local.specs.Local.{LocalType}
-use Rattle.mps_room.specs.Kept.{Record}
+use Rattle.mps_room.specs.Kept.{RoomState}
 use Rattle.mps_cell.specs.Openings.{Opening, IsLegalIn}
 use Rattle.mps_cell.specs.Views.{View, first_view, newcomer}
 use Rattle.mps_cell.specs.Rule.{resting}
@@ -16,7 +16,7 @@ pub record Opened : Type 0 where
   pub given : Bool
 
 -- how the parts of a cell fit: its table has one word and one slot, the names are those of the opening, one for each type, and the first seat, where it is there, has all roles
-pub record IsOpened (table : TableId) (o : Opening) (names : List (List ℕ)) (first : Option (Seat Record View)) : Type 0 where
+pub record IsOpened (table : TableId) (o : Opening) (names : List (List ℕ)) (first : Option (Seat RoomState View)) : Type 0 where
   pub word : table.words ≡ 1
   pub slot : table.slots ≡ 1
   pub count : length names ≡ length o.types
@@ -47,7 +47,7 @@ fresh_below id o zero = []
 fresh_below id o (suc n) = fresh_below id o n ++ fresh id o n ∷ []
 
 -- a room of this opening, with a legal journal
-pub record Closes (o : Opening) (m : Record) : Type 0 where
+pub record Closes (o : Opening) (m : RoomState) : Type 0 where
   pub names : m.names ≡ o.names
   pub types : m.types ≡ o.types
   pub legal : IsLegalIn o m.journal

@@ -4,7 +4,7 @@ use Rattle.mps_command.specs.declared.answer.Answer.{Answer}
 use Rattle.mps_command.specs.declared.command.Command.{Command}
 use Rattle.mps_local.specs.Local.{LocalType}
 use Rattle.mps_room.specs.Journal.{reply, IsReply, IsLegal}
-use Rattle.mps_room.specs.Kept.{Record}
+use Rattle.mps_room.specs.Kept.{RoomState}
 use Rattle.mps_room.specs.declared.entry.Entry.{Entry}
 
 -- what a cell was opened with: the names and the opening types of the roles, and the number of its session
@@ -14,11 +14,11 @@ pub record Opening : Type 0 where
   pub session : ℕ
 
 -- the opening of a cell that begins with this room and this number
-abbrev pub opening_of : Record → ℕ → Opening
+abbrev pub opening_of : RoomState → ℕ → Opening
 opening_of m n = record { names = m.names; types = m.types; session = n }
 
 -- the room of this opening with this journal
-abbrev pub room_of : Opening → List Entry → Record
+abbrev pub room_of : Opening → List Entry → RoomState
 room_of o j = record { names = o.names; types = o.types; journal = j }
 
 -- the journal is legal in a room of this opening

@@ -4,7 +4,7 @@ use mathlib.Core.Option as maybe
 use lib.ListN.{get_elem?}
 use Rattle.atomic_table.specs.Table.{State, Me, Step, rest}
 use Rattle.mps_room.specs.Callers.{entries_of}
-use Rattle.mps_room.specs.Kept.{Record}
+use Rattle.mps_room.specs.Kept.{RoomState}
 use Rattle.mps_room.specs.declared.entry.Entry.{Entry}
 use Rattle.mps_cell.specs.Openings.{Opening, room_of, IsLegalIn}
 use Rattle.mps_cell.specs.Views.{Part, View, part_of, raised, showing, looked, took, gave}
@@ -60,12 +60,12 @@ word_of None j = 2 * length j
 word_of (Some t) j = 2 * length j + 1
 
 -- the room, where it is at home
-abbrev pub home_of : Opening → Option ℕ → List Entry → maybe.Option Record
+abbrev pub home_of : Opening → Option ℕ → List Entry → maybe.Option RoomState
 home_of o None j = maybe.some (room_of o j)
 home_of o (Some t) j = maybe.none
 
 -- There is one legal journal. At twice its length the room is at home with it, and no seat notes a journal. At one more the room is out, and one seat alone notes it. What each seat knows is true of it
-pub record Kept (o : Opening) (s : State Record View) : Type 0 where
+pub record Kept (o : Opening) (s : State RoomState View) : Type 0 where
   pub log : List Entry
   pub away : Option ℕ
   pub owner : ℕ → ℕ
@@ -82,40 +82,40 @@ abbrev pub Told : View → ℕ → List Entry → Type 0
 Told v word j = (length j ≡ word / 2) × AllShow j v.parts × AllApart v.parts
 
 -- a look tells the length, and whether the room is out
-abbrev pub Looks : Step Record → Me Record View → ℕ → Me Record View → Type 0
+abbrev pub Looks : Step RoomState → Me RoomState View → ℕ → Me RoomState View → Type 0
 Looks st m r m' = ((j : List Entry) × Told m.0 r j) × (m' ≡ (looked r (r % 2 == 1) m.0, m.1))
 
 -- a try that wins takes the room; one that fails tells that the room was out, or that another call came between, only where it expected twice the floor
-abbrev pub Tries : Step Record → Me Record View → ℕ → Me Record View → Type 0
+abbrev pub Tries : Step RoomState → Me RoomState View → ℕ → Me RoomState View → Type 0
 Tries st m r m' =
     (r ≡ st.first → (j : List Entry) × Told m.0 r j × (m' ≡ (took j m.0, (0, room_of (part_of m.0.parts).opening j) ∷ m.1)))
     × (r ≢ st.first → ((j : List Entry) × Told m.0 r j) × (m' ≡ (looked r (st.first == 2 * (part_of m.0.parts).floor) m.0, m.1)))
 
 -- the journal of the room that the seat has
-abbrev pub journal_in : List (ℕ × Record) → List Entry
+abbrev pub journal_in : List (ℕ × RoomState) → List Entry
 journal_in [] = []
 journal_in (x ∷ xs) = x.1.journal
 
 -- a give back shows the journal that the room has by then
-abbrev pub Gives : Step Record → Me Record View → ℕ → Me Record View → Type 0
+abbrev pub Gives : Step RoomState → Me RoomState View → ℕ → Me RoomState View → Type 0
 Gives st m r m' = m' ≡ (gave (journal_in m.1) m.0, rest m.1)
 
 -- ---- the seat of a pass
 
 -- a seat with one part
-abbrev pub resting : Part → Bool → Me Record View
+abbrev pub resting : Part → Bool → Me RoomState View
 resting p b = (record { parts = p ∷ []; noted = None; barred = b }, [])
 
 -- the same, which has the room
-abbrev pub holding : Part → List Entry → Record → Me Record View
+abbrev pub holding : Part → List Entry → RoomState → Me RoomState View
 holding p j m = (record { parts = p ∷ []; noted = Some j; barred = false }, (0, m) ∷ [])
 
 -- the seat has one part, and no room
-abbrev pub IsFree : Me Record View → Type 0
+abbrev pub IsFree : Me RoomState View → Type 0
 IsFree m = m ≡ resting (part_of m.0.parts) m.0.barred
 
 -- the seat has one part, and the room
-abbrev pub HasRoom : Me Record View → Type 0
+abbrev pub HasRoom : Me RoomState View → Type 0
 HasRoom m = let p : Part = part_of m.0.parts in m ≡ holding p (journal_in m.1) (room_of p.opening (journal_in m.1))
 
 -- the journal stayed, or has one entry of the role more
@@ -123,29 +123,29 @@ abbrev pub Grows : ℕ → List Entry → List Entry → Type 0
 Grows role k j = (j ≡ k) ⊎ ((e : Entry) × (e.role ≡ role) × (j ≡ k ++ e ∷ []))
 
 -- the seat has one part, and the room with a legal journal: the one that it took, or that with one entry of its role more
-pub record HasAnswered (m : Me Record View) : Type 0 where
+pub record HasAnswered (m : Me RoomState View) : Type 0 where
   pub before : List Entry
   pub room : m ≡ holding (part_of m.0.parts) before (room_of (part_of m.0.parts).opening (journal_in m.1))
   pub grows : Grows (part_of m.0.parts).role before (journal_in m.1)
   pub legal : IsLegalIn (part_of m.0.parts).opening (journal_in m.1)
 
 -- one look and one try took the room
-abbrev pub Took : Me Record View → Me Record View → Type 0
+abbrev pub Took : Me RoomState View → Me RoomState View → Type 0
 Took m m' = let p : Part = part_of m.0.parts in (j : List Entry) × Shows j p × (m' ≡ holding (raised (length j) p) j (room_of p.opening j))
 
 -- or they missed it, and told this length
-abbrev pub Missed : Me Record View → ℕ → Me Record View → Type 0
+abbrev pub Missed : Me RoomState View → ℕ → Me RoomState View → Type 0
 Missed m found m' = let p : Part = part_of m.0.parts in (j : List Entry) × (length j ≡ found) × Shows j p × (m' ≡ resting (raised found p) true)
 
 -- any number of looks and tries missed it
-abbrev pub Waited : Me Record View → Me Record View → Type 0
+abbrev pub Waited : Me RoomState View → Me RoomState View → Type 0
 Waited m m' = let p : Part = part_of m.0.parts in (f : ℕ) × (b : Bool) × (p.floor ≤ f) × (m' ≡ resting (raised f p) b)
 
 -- the room was given back with this journal
-abbrev pub Gave : Me Record View → List Entry → Me Record View → Type 0
+abbrev pub Gave : Me RoomState View → List Entry → Me RoomState View → Type 0
 Gave m j m' = m' ≡ resting (showing j (part_of m.0.parts)) false
 
 -- two seats with one part each met, over this journal
-abbrev pub Met : Me Record View → Me Record View → Me Record View → Me Record View → Type 0
+abbrev pub Met : Me RoomState View → Me RoomState View → Me RoomState View → Me RoomState View → Type 0
 Met m l m' l' = let p : Part = part_of m.0.parts in let q : Part = part_of l.0.parts in
     (j : List Entry) × (b : Bool) × Shows j p × Shows j q × (m' ≡ resting (raised (length j) p) b) × (l' ≡ resting (raised (length j) q) false)

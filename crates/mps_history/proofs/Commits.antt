@@ -27,8 +27,8 @@ is_no_commit act e same = let yes : is_commit act ≡ true = ap is_commit same i
 -- a closed set goes
 module _ (h : List Step) (set : ℕ → Bool) (closed : IsClosed h set) where
   -- a step of which one that stays depends stays
-  source_stays : (t s : Step) → IsIn t h → IsIn s h → set t.id ≡ false → depends_on h t s ≡ true → set s.id ≡ false
-  source_stays t s it is stays d = false_from_ne_true (set s.id) (λ m. false≢true (sym stays ∙ closed t s it is m d))
+  earlier_stays : (t s : Step) → IsIn t h → IsIn s h → set t.id ≡ false → depends_on h t s ≡ true → set s.id ≡ false
+  earlier_stays t s it is stays d = false_from_ne_true (set s.id) (λ m. false≢true (sym stays ∙ closed t s it is m d))
 
   -- as many steps of its role come before a step that stays
   before_stays : (f : Step → Bool) (t : Step) → IsIn t h → set t.id ≡ false → ((x : Step) → f x ≡ true → (x.role == t.role) ≡ true) → length (filter (λ x. nat_lt x.id t.id && f x) (without h set)) ≡ length (filter (λ x. nat_lt x.id t.id && f x) h)
@@ -38,7 +38,7 @@ module _ (h : List Step) (set : ℕ → Bool) (closed : IsClosed h set) where
       (λ x i e.
       let parts = and_parts (nat_lt x.id t.id) (f x) e in
       not_from_false (set x.id)
-      (source_stays t x it i stays (and_from (nat_lt x.id t.id) (x.role == t.role || is_matched h x t) parts.0 (or_left (x.role == t.role) (is_matched h x t) (own x parts.1)))))))
+      (earlier_stays t x it i stays (and_from (nat_lt x.id t.id) (x.role == t.role || is_matched h x t) parts.0 (or_left (x.role == t.role) (is_matched h x t) (own x parts.1)))))))
 
   link_stays : (t s : Step) → IsIn t h → IsIn s h → set t.id ≡ false → set s.id ≡ false → depends_on (without h set) t s ≡ depends_on h t s
   link_stays t s it is t_stays s_stays =
@@ -51,10 +51,10 @@ module _ (h : List Step) (set : ℕ → Bool) (closed : IsClosed h set) where
   -- so dependence of a step that stays does
   pub DependsOn-without : {t s : Step} → IsIn t h → IsIn s h → set t.id ≡ false → DependsOn h t s → (set s.id ≡ false) × DependsOn (without h set) t s
   DependsOn-without it is stays (Directly t s e) =
-      let source = source_stays t s it is stays e in
-      (source, Directly t s (link_stays t s it is stays source ∙ e))
+      let earlier = earlier_stays t s it is stays e in
+      (earlier, Directly t s (link_stays t s it is stays earlier ∙ e))
   DependsOn-without it is stays (Through t u s i e d) =
-      let between = source_stays t u it i stays e in
+      let between = earlier_stays t u it i stays e in
       let rest = DependsOn-without i is between d in
       (rest.0, Through t u s (IsIn-filter (λ x. not (set x.id)) u h i (not_from_false (set u.id) between)) (link_stays t u it i stays between ∙ e) rest.1)
 

@@ -1,4 +1,4 @@
--- What a slot is bound to after a binding, that a binding can be taken back, and lists whose values are mapped.
+-- What a slot is bound to after a binding, that a binding can be undone, and lists whose values are mapped.
 use Rattle.std.proofs.Common.{◌≡◌, ℕ, true, false, List, [], ◌∷◌, map, Option, Some, None, refl, sym, ap, ◌∙◌, ⊎_elim}
 use Rattle.std.specs.Prelude.{if◌then◌else◌}
 use Rattle.std.specs.Option.{option_map, option_map_or}
@@ -37,7 +37,7 @@ module _ {A : Type 0} (slot : List ℕ) where
       (cases_Bool (bytes_eq other slot)))
       (cases_Bool (bytes_eq entry.0 other))
 
-  -- a binding is taken back by what the slot was bound to before
+  -- a binding is undone by what the slot was bound to before
   pub unbound-bound : (v : A) (s : List (List ℕ × A)) → unbound slot (value_in slot s) (bound slot v s) ≡ s
   unbound-bound v [] = rw (slot_itself slot) refl
   unbound-bound v (entry ∷ s) =

@@ -1,4 +1,4 @@
--- Commits: steps that nothing takes back.
+-- Commits: steps that nothing undoes.
 use Rattle.std.specs.Prelude.{ℕ, Bool, true, false, List}
 use Rattle.std.specs.List.{filter}
 use Rattle.mps_base.specs.declared.action.Act.{Act}

@@ -14,7 +14,7 @@ abbrev pub value_in : {A : Type 0} → List ℕ → List (List ℕ × A) → Opt
 value_in slot [] = None
 value_in slot (entry ∷ entries) = if bytes_eq entry.0 slot then Some entry.1 else value_in slot entries
 
--- the list with a known slot bound to an older value, in its place, or taken out where there was none
+-- the list with a known slot bound to an older value, in its place, or removed where there was none
 abbrev pub unbound : {A : Type 0} → List ℕ → Option A → List (List ℕ × A) → List (List ℕ × A)
 unbound slot older [] = []
 unbound slot older (entry ∷ entries) =

@@ -32,11 +32,11 @@ pub fn consequences_are_reaching()
     ensures closed { (h : List Step) (n : ℕ) → IsRising h → IsClosed h (consequences h n) }
 {}
 
-/// Nothing depends on a step that has just joined, and taking it out again gives the old history.
+/// Nothing depends on a step that has just joined, and removing it again gives the old history.
 pub fn a_last_step_is_alone()
     ensures alone { (h : List Step) (s : Step) → IsRising (h ++ s ∷ []) →
         within (h ++ s ∷ []) (consequences (h ++ s ∷ []) s.id) ≡ s ∷ [] }
-    ensures taken_out { (h : List Step) (s : Step) → IsRising (h ++ s ∷ []) →
+    ensures removed { (h : List Step) (s : Step) → IsRising (h ++ s ∷ []) →
         without (h ++ s ∷ []) (λ m. m == s.id) ≡ h }
 {}
 

@@ -4,8 +4,8 @@ use Rattle.std.specs.Prelude.{slice_get, All, IfSome}
 use Rattle.std.proofs.lemmas.Option.{slice_get_within, slice_get-get_or}
 use Rattle.std.proofs.lemmas.List.Elements.{All-nil, All-push, All-get_or}
 use Rattle.mps_local.specs.Local.{LocalType}
-use Rattle.mps_session.specs.Seen.{Machine}
-use Rattle.mps_room.specs.Kept.{Record}
+use Rattle.mps_session.specs.SessionState.{SessionState}
+use Rattle.mps_room.specs.Kept.{RoomState}
 use Rattle.mps_cell.specs.Openings.{Opening}
 use Rattle.mps_cell.specs.Calls.{Known}
 use Rattle.mps_cell.specs.Cells.{Opened, Closes, Dealt, IsDealOf, fresh, fresh_below, opened_with}
@@ -33,7 +33,7 @@ at_home_none o xs h i k e =
     ⊎_elim (λ (old : slice_get xs i ≡ Some (Some k)). h i k old) (λ (new : (i ≡ length xs) × (None ≡ Some k)). let n = new.1 in absurd cc) (get_push xs None i (Some k) e)
 
 -- one session more, and its cell
-pub cells_push : (names : List (List ℕ)) (sessions : List Machine) (cells : List Opened) (s : Machine) (c : Opened) → AreCellsOf names sessions cells → c.opening ≡ opened_with names s.types (length cells + 1)
+pub cells_push : (names : List (List ℕ)) (sessions : List SessionState) (cells : List Opened) (s : SessionState) (c : Opened) → AreCellsOf names sessions cells → c.opening ≡ opened_with names s.types (length cells + 1)
     → AreCellsOf names (sessions ++ s ∷ []) (cells ++ c ∷ [])
 cells_push names sessions cells s c h is = record {
   count = omega (arith, length-append cells (c ∷ []), length-append sessions (s ∷ []), h.count);
@@ -48,23 +48,23 @@ cells_push names sessions cells s c h is = record {
       (get_push cells c i o e);
 }
 
-pub numbered : (names : List (List ℕ)) (sessions : List Machine) (cells : List Opened) → AreCellsOf names sessions cells → AreNumbered names cells
+pub numbered : (names : List (List ℕ)) (sessions : List SessionState) (cells : List Opened) → AreCellsOf names sessions cells → AreNumbered names cells
 numbered names sessions cells h i o e = let is = (h.each i o e).2 in (ap (λ (x : Opening). x.names) is, ap (λ (x : Opening). x.session) is)
 
 -- cells of sessions that are all alike
-pub all_alike : (names : List (List ℕ)) (types : List LocalType) (n : ℕ) (sessions : List Machine) (cells : List Opened) (m : Machine) → All (λ (s : Machine). s ≡ m) sessions → m.types ≡ types → length sessions ≡ n → AreCellsOf names sessions cells → AreCellsWith names types n cells
+pub all_alike : (names : List (List ℕ)) (types : List LocalType) (n : ℕ) (sessions : List SessionState) (cells : List Opened) (m : SessionState) → All (λ (s : SessionState). s ≡ m) sessions → m.types ≡ types → length sessions ≡ n → AreCellsOf names sessions cells → AreCellsWith names types n cells
 all_alike names types n sessions cells m all is count h = record {
   count = h.count ∙ count;
   each = λ i o e. let was = h.each i o e in
       let alike : was.0 ≡ m = one_of sessions m i was.0 all was.1 in
-      was.2 ∙ ap (λ (t : List LocalType). opened_with names t (i + 1)) (ap (λ (s : Machine). s.types) alike ∙ is);
+      was.2 ∙ ap (λ (t : List LocalType). opened_with names t (i + 1)) (ap (λ (s : SessionState). s.types) alike ∙ is);
 }
   where
-    one_of : (sessions : List Machine) (m : Machine) (i : ℕ) (s : Machine) → All (λ (s : Machine). s ≡ m) sessions → slice_get sessions i ≡ Some s → s ≡ m
+    one_of : (sessions : List SessionState) (m : SessionState) (i : ℕ) (s : SessionState) → All (λ (s : SessionState). s ≡ m) sessions → slice_get sessions i ≡ Some s → s ≡ m
     one_of sessions m i s all at =
         let less = slice_get_within sessions i s at in
         let read = slice_get-get_or sessions i s less in
-        let same = All-get_or (λ (s : Machine). s ≡ m) sessions i s less all in
+        let same = All-get_or (λ (s : SessionState). s ≡ m) sessions i s less all in
         cc
 
 pub deals_push : (cells : List Opened) (deals : List Dealt) (c : Opened) (d : Dealt) → AreDeals cells deals → IsDealOf c.cell c.opening d → AreDeals (cells ++ c ∷ []) (deals ++ d ∷ [])
@@ -86,7 +86,7 @@ deals_push cells deals c d h is = record {
 }
 
 -- one cell more, and what it closed with
-pub closed_push : (cells : List Opened) (rooms : List (Option Record)) (c : Opened) (r : Option Record) → AreClosed cells rooms → ((m : Record) → r ≡ Some m → Closes c.opening m) → AreClosed (cells ++ c ∷ []) (rooms ++ r ∷ [])
+pub closed_push : (cells : List Opened) (rooms : List (Option RoomState)) (c : Opened) (r : Option RoomState) → AreClosed cells rooms → ((m : RoomState) → r ≡ Some m → Closes c.opening m) → AreClosed (cells ++ c ∷ []) (rooms ++ r ∷ [])
 closed_push cells rooms c r h is = record {
   count = omega (arith, length-append cells (c ∷ []), length-append rooms (r ∷ []), h.count);
   each = λ i o m at there.
@@ -104,8 +104,8 @@ closed_push cells rooms c r h is = record {
       (get_push cells c i o at);
 }
 
-pub closed_where : (c : Opened) (r : Option Record) → IfSome r (λ (m : Record). Closes c.opening m) → (m : Record) → r ≡ Some m → Closes c.opening m
-closed_where c (Some x) h m is = subst (λ (r : Option Record). IfSome r (λ (m : Record). Closes c.opening m)) is h
+pub closed_where : (c : Opened) (r : Option RoomState) → IfSome r (λ (m : RoomState). Closes c.opening m) → (m : RoomState) → r ≡ Some m → Closes c.opening m
+closed_where c (Some x) h m is = subst (λ (r : Option RoomState). IfSome r (λ (m : RoomState). Closes c.opening m)) is h
 closed_where c None h m is = absurd cc
 
 -- each fresh pass is of its cell

@@ -2,8 +2,8 @@
 use Rattle.std.specs.Prelude.{◌≡◌, ℕ, ◌+◌, Bool, List, Option, Some, slice_get, length}
 use Rattle.mps_local.specs.Local.{LocalType}
 use Rattle.mps_machine.specs.Machine.{initial}
-use Rattle.mps_session.specs.Seen.{Machine}
-use Rattle.mps_room.specs.Kept.{Record}
+use Rattle.mps_session.specs.SessionState.{SessionState}
+use Rattle.mps_room.specs.Kept.{RoomState}
 use Rattle.mps_cell.specs.Cells.{Opened, Closes, Dealt, IsDealOf, opened_with}
 
 -- the names of the roles, a cell for each session, and whether the passes were given
@@ -13,13 +13,13 @@ pub record Hall : Type 0 where
   pub given : Bool
 
 -- nothing was done in the session, and it has as many roles as there are names
-abbrev pub IsNew : List (List ℕ) → Machine → Type 0
+abbrev pub IsNew : List (List ℕ) → SessionState → Type 0
 IsNew names s = (s.state ≡ initial) × (length names ≡ length s.types)
 
 -- there is a cell for each session, in order, opened with these names, the session's types and its number
-pub record AreCellsOf (names : List (List ℕ)) (sessions : List Machine) (cells : List Opened) : Type 0 where
+pub record AreCellsOf (names : List (List ℕ)) (sessions : List SessionState) (cells : List Opened) : Type 0 where
   pub count : length cells ≡ length sessions
-  pub each : (i : ℕ) (o : Opened) → slice_get cells i ≡ Some o → (s : Machine) × (slice_get sessions i ≡ Some s) × (o.opening ≡ opened_with names s.types (i + 1))
+  pub each : (i : ℕ) (o : Opened) → slice_get cells i ≡ Some o → (s : SessionState) × (slice_get sessions i ≡ Some s) × (o.opening ≡ opened_with names s.types (i + 1))
 
 -- there are so many cells, each opened with these names, these types and its number
 pub record AreCellsWith (names : List (List ℕ)) (types : List LocalType) (n : ℕ) (cells : List Opened) : Type 0 where
@@ -32,6 +32,6 @@ pub record AreDeals (cells : List Opened) (deals : List Dealt) : Type 0 where
   pub each : (i : ℕ) (o : Opened) (d : Dealt) → slice_get cells i ≡ Some o → slice_get deals i ≡ Some d → IsDealOf o.cell o.opening d
 
 -- what each cell closed with, in order
-pub record AreClosed (cells : List Opened) (rooms : List (Option Record)) : Type 0 where
+pub record AreClosed (cells : List Opened) (rooms : List (Option RoomState)) : Type 0 where
   pub count : length rooms ≡ length cells
-  pub each : (i : ℕ) (o : Opened) (m : Record) → slice_get cells i ≡ Some o → slice_get rooms i ≡ Some (Some m) → Closes o.opening m
+  pub each : (i : ℕ) (o : Opened) (m : RoomState) → slice_get cells i ≡ Some o → slice_get rooms i ≡ Some (Some m) → Closes o.opening m

@@ -9,9 +9,9 @@ use Rattle.mps_base.specs.declared.value.Value.{Value}
 use Rattle.mps_command.specs.declared.command.Command.{Command}
 use Rattle.mps_command.specs.declared.command.Command.TheVariants.{Forward, Undo, Rollback, Back, News, Show}
 use Rattle.mps_command.specs.declared.command.Forward.TheVariants.{Send, Choose, Receive, Pick, Mark, Commit}
-use Rattle.mps_line.specs.declared.script.LineFault.{LineFault}
-use Rattle.mps_line.specs.declared.script.Verb.{Verb}
-use Rattle.mps_line.specs.declared.script.Verb.TheVariants as verbs
+use Rattle.mps_line.specs.declared.read_commands.LineFault.{LineFault}
+use Rattle.mps_line.specs.declared.read_commands.Verb.{Verb}
+use Rattle.mps_line.specs.declared.read_commands.Verb.TheVariants as verbs
 use Rattle.mps_line.specs.Tokens.{Token, Word, RoleAt, Called, Number, Worth, HasNoSpace, SpellsRole, SpellsName, SpellsNumber, SpellsToken, SpellsLine, BeginsWith}
 use Rattle.mps_line.specs.Commands.{verb_word, verb_of, arguments, lone_verbs, TakesArguments, SpellsCommand}
 use Rattle.mps_line.proofs.Splitting.{one_split, never_split, behind, joined, alone, line_of_one}

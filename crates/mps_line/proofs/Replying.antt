@@ -13,8 +13,8 @@ use Rattle.mps_command.specs.declared.answer.Answer.TheVariants.{Done as Accepte
 use Rattle.mps_command.specs.declared.answer.Violation.{Violation}
 use Rattle.mps_command.specs.declared.answer.Refusal.{Refusal}
 use Rattle.mps_command.specs.declared.answer.Refusal.TheVariants.{Violation as Violates, NoStep, NotYours, Final, Needed, NoMark, Full, Memory}
-use Rattle.mps_line.specs.declared.reply.Reply.{Reply}
-use Rattle.mps_line.specs.declared.reply.Reply.TheVariants.{Answered, BadLine, Joined, NoSession, NoRole, Taken, Number as WrongNumber}
+use Rattle.mps_line.specs.declared.write_replies.Reply.{Reply}
+use Rattle.mps_line.specs.declared.write_replies.Reply.TheVariants.{Answered, BadLine, Joined, NoSession, NoRole, Taken, Number as WrongNumber}
 use Rattle.mps_line.specs.Tokens.{Token, Word, Number, Show, HasNoSpace, SpellsNumber, SpellsToken, SpellsLine}
 use Rattle.mps_line.specs.Replies.{lone_words, own_word, word_of, message_token, done_tokens, refusal_tokens, SpellsReply, SpellsSteps}
 use Rattle.mps_line.proofs.Splitting.{one_split, never_split, digits_have_no_space, behind, joined, alone, line_of_one}

@@ -5,8 +5,8 @@ use Rattle.mps_command.specs.declared.answer.Violation.TheVariants.{Ended, Wrong
 use Rattle.mps_command.specs.declared.answer.Refusal.{Refusal}
 use Rattle.mps_command.specs.declared.answer.Refusal.TheVariants.{Violation as Violates, NoStep, NotYours, Final, Needed, NoMark, Full, Memory}
 use Rattle.mps_command.specs.declared.answer.Answer.TheVariants.{Refused}
-use Rattle.mps_line.specs.declared.reply.Reply.{Reply}
-use Rattle.mps_line.specs.declared.reply.Reply.TheVariants.{Answered, BadLine, NoSession, NoRole, Taken, Number}
+use Rattle.mps_line.specs.declared.write_replies.Reply.{Reply}
+use Rattle.mps_line.specs.declared.write_replies.Reply.TheVariants.{Answered, BadLine, NoSession, NoRole, Taken, Number}
 
 -- what a role's type doesn't allow: 1 to 7
 abbrev pub violation_code : Violation → ℕ

@@ -4,7 +4,7 @@ ghost use Rattle.std.specs.List.{AllByRecursion};
 ghost use Rattle.mps_base.specs.RoleLists.{AreDistinct};
 ghost use Rattle.mps_base.specs.Values.{IsShown};
 ghost use Rattle.mps_command.specs.declared.command.Command.{Command};
-ghost use Rattle.mps_line.specs.declared.reply.Reply.{Reply};
+ghost use Rattle.mps_line.specs.declared.write_replies.Reply.{Reply};
 ghost use Rattle.mps_line.specs.Commands.{SpellsCommand, SpellsScriptLine, SpellsNumbered, NamesRolesOf};
 ghost use Rattle.mps_line.specs.Replies.{SpellsReply};
 

@@ -10,19 +10,19 @@
 //! ```
 #![tactic(auto)]
 
+mod answer_texts;
 pub mod laws;
-pub mod numbered;
-pub mod parts;
-pub mod reader;
-pub mod refused;
-pub mod reply;
-pub mod script;
-pub mod spelling;
-mod texts;
+pub mod line_parts;
+pub mod read_commands;
+pub mod read_conversations;
+pub mod read_refusals;
+pub mod read_replies;
+pub mod write_commands;
+pub mod write_replies;
 
-pub use numbered::read_numbered;
-pub use reader::{read_answer, read_join};
-pub use reply::{Reply, write_answer, write_bad_line, write_refused};
-pub use script::{LineFault, read_command, read_script_line};
-pub use spelling::write_command;
-pub use texts::answer_has_text;
+pub use answer_texts::answer_has_text;
+pub use read_commands::{LineFault, read_command, read_script_line};
+pub use read_conversations::read_numbered;
+pub use read_replies::{read_answer, read_join};
+pub use write_commands::write_command;
+pub use write_replies::{Reply, write_answer, write_bad_line, write_refused};

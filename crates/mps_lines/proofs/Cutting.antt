@@ -263,13 +263,13 @@ kept_rest items p kept new n k e =
     (k.is_long ∙ ap (λ (l : List ℕ). length l) (sym now), omega (arith, k.is_long, length-take most_kept (cut ((cut items).rest ++ p)).rest))
 
 -- a cut, as it is seen
-abbrev view_of : Cut → Pending
-view_of c = record { waiting = map line_of c.lines; rest = c.rest }
+abbrev pending_of_cut : Cut → Pending
+pending_of_cut c = record { waiting = map line_of c.lines; rest = c.rest }
 
 -- the lines and the rest, once a piece is kept
 pub kept_view : (items p kept new : List ℕ) (n : ℕ) → IsKept (cut items).rest p kept n → new ≡ items ++ kept → record { waiting = map line_of (cut new).lines; rest = (cut new).rest } ≡ fed (record { waiting = map line_of (cut items).lines; rest = (cut items).rest }) p
 kept_view items p kept new n k e =
-    ap (λ (l : List ℕ). view_of (cut l)) e
-    ∙ ap view_of (cut_more items kept)
+    ap (λ (l : List ℕ). pending_of_cut (cut l)) e
+    ∙ ap pending_of_cut (cut_more items kept)
     ∙ ap (λ (c : Cut). let s : Pending = record { waiting = map line_of ((cut items).lines ++ c.lines); rest = c.rest } in s) k.is_cut
     ∙ ap (λ (l : List Line). let s : Pending = record { waiting = l; rest = front (cut ((cut items).rest ++ p)).rest } in s) (map-append line_of (cut items).lines (cut ((cut items).rest ++ p)).lines)

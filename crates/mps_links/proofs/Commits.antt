@@ -10,8 +10,8 @@ use Rattle.mps_history.specs.Dependence.{least}
 use Rattle.mps_history.specs.Commits.{is_commit}
 use Rattle.mps_history.proofs.Order.{IsRising-filter}
 use Rattle.mps_arena.specs.Keys.{first_key, last_key}
-use Rattle.mps_arena.specs.Entries.{Entry, steps, keys_of, of_role, entry_at, AreSound}
-use Rattle.mps_arena.specs.Sources.{id_in, prev_of_role_in}
+use Rattle.mps_arena.specs.Entries.{KeyedStep, steps, keys_of, of_role, entry_at, AreSound}
+use Rattle.mps_arena.specs.Neighbours.{id_in, prev_of_role_in}
 use Rattle.mps_arena.proofs.Chains.{keys-append, keys_with, keys_without}
 use Rattle.mps_links.specs.declared.order.Numbered.{Numbered}
 use Rattle.mps_links.specs.Numbered.{key_of, HasNumber}
@@ -27,17 +27,17 @@ use Rattle.mps_links.proofs.Marked.{marked_here, steps_marked}
 use Rattle.mps_links.proofs.Newest.{below_next, spread_left, small_in, where_in, earlier_marked}
 
 -- a marked commit
-abbrev pub is_final : List Entry → Step → Bool
+abbrev pub is_final : List KeyedStep → Step → Bool
 is_final es s = is_marked es s.id && is_commit s.act
 
-module _ (es : List Entry) (p : ℕ) where
+module _ (es : List KeyedStep) (p : ℕ) where
   abbrev own_final : Step → Bool
   own_final s = s.role == p && is_final es s
 
   -- the role's steps were looked at from some place on, and the key is that of its last step before
   pub record IsSearch (at found : Option ℕ) (turns : ℕ) : Type 0 where
-    pub front : List Entry
-    pub rest : List Entry
+    pub front : List KeyedStep
+    pub rest : List KeyedStep
     pub parts : es ≡ front ++ rest
     pub key : at ≡ last_key None (keys_of (of_role p) front)
     pub first : found ≡ first_key (keys_of own_final rest)
@@ -46,7 +46,7 @@ module _ (es : List Entry) (p : ℕ) where
   pub search_starts : IsSearch (last_key None (keys_of (of_role p) es)) None 0
   search_starts = record { front = es; rest = []; parts = sym (append-nil es); key = refl; first = refl; count = omega arith }
 
-  other_role : (b : List Entry) → keys_of (of_role p) b ≡ [] → keys_of own_final b ≡ []
+  other_role : (b : List KeyedStep) → keys_of (of_role p) b ≡ [] → keys_of own_final b ≡ []
   other_role b none = keys_none own_final b (λ t i. and_left (t.role == p) (is_final es t) (none_passes (of_role p) b t none i))
 
   module _ (at found : Option ℕ) (turns : ℕ) (w : IsSearch at found turns) where
@@ -60,7 +60,7 @@ module _ (es : List Entry) (p : ℕ) where
     ends_by_count long =
         ended (empty w.front (λ x l e. omega (arith, long, w.count, ap length w.parts, length-append w.front w.rest, ap length e)))
       where
-        empty : (l : List Entry) → ((x : Entry) (m : List Entry) → l ≡ x ∷ m → ⊥) → keys_of own_final l ≡ []
+        empty : (l : List KeyedStep) → ((x : KeyedStep) (m : List KeyedStep) → l ≡ x ∷ m → ⊥) → keys_of own_final l ≡ []
         empty [] h = refl
         empty (x ∷ m) h = absurd (h x m refl)
 
@@ -68,7 +68,7 @@ module _ (es : List Entry) (p : ℕ) where
       pub last : IsLast (of_role p) w.front k
       last = last_is (of_role p) w.front k (sym w.key ∙ is)
 
-      abbrev x : Entry
+      abbrev x : KeyedStep
       x = last.entry
 
       parts : es ≡ last.before ++ x ∷ (last.behind ++ w.rest)
@@ -127,14 +127,14 @@ module _ (es : List Entry) (p : ℕ) where
             count = omega (arith, w.count, length-append last.behind w.rest);
           }
 
-module _ (es : List Entry) (sound : AreSound es) where
+module _ (es : List KeyedStep) (sound : AreSound es) where
   -- what is found is there
   pub first_there : (f : Step → Bool) (o : Option ℕ) → o ≡ first_key (keys_of f es) → IfSome o (λ key. IsSome (entry_at key es))
   first_there f o e =
       if_some (λ key. IsSome (entry_at key es)) o
       (λ k is.
       let w = first_is f es k (sym e ∙ is) in
-      subst (λ (j : ℕ). IsSome (entry_at j es)) w.key (subst (λ (q : Option Entry). IsSome q) (sym (entry_in es sound.distinct sound.rising w.before w.behind w.entry w.parts)) cc))
+      subst (λ (j : ℕ). IsSome (entry_at j es)) w.key (subst (λ (q : Option KeyedStep). IsSome q) (sym (entry_in es sound.distinct sound.rising w.before w.behind w.entry w.parts)) cc))
 
   pub next_role : (first : Option ℕ) (r : ℕ) → first ≡ first_key (keys_of (λ s. nat_lt s.role r && is_final es s) es) → earlier es first (first_key (keys_of (λ s. s.role == r && is_final es s) es)) ≡ first_key (keys_of (λ s. nat_lt s.role (r + 1) && is_final es s) es)
   next_role first r e =

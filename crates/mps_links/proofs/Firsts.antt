@@ -8,23 +8,23 @@ use Rattle.mps_base.specs.declared.action.Step.{Step}
 use Rattle.mps_history.specs.Steps.{IsIn, IsRising}
 use Rattle.mps_history.proofs.Order.{at_member, IsRising-append_right}
 use Rattle.mps_arena.specs.Keys.{AreDistinct, first_key}
-use Rattle.mps_arena.specs.Entries.{Entry, steps, keys_of, any_step, entry_at}
-use Rattle.mps_arena.specs.Sources.{id_in}
+use Rattle.mps_arena.specs.Entries.{KeyedStep, steps, keys_of, any_step, entry_at}
+use Rattle.mps_arena.specs.Neighbours.{id_in}
 use Rattle.mps_arena.proofs.Chains.{keys_with, keys_without, entry_middle}
 use Rattle.mps_links.specs.Order.{is_before, earlier}
 use Rattle.mps_links.proofs.StepKeys.{cases_key, steps_around, in_middle}
 
 -- the first entry of the list that passes, where it stands
-pub record IsFirst (p : Step → Bool) (b : List Entry) (k : ℕ) : Type 0 where
-  pub before : List Entry
-  pub entry : Entry
-  pub behind : List Entry
+pub record IsFirst (p : Step → Bool) (b : List KeyedStep) (k : ℕ) : Type 0 where
+  pub before : List KeyedStep
+  pub entry : KeyedStep
+  pub behind : List KeyedStep
   pub parts : b ≡ before ++ entry ∷ behind
   pub key : entry.key ≡ k
   pub passes : p entry.step ≡ true
   pub none : keys_of p before ≡ []
 
-pub first_is : (p : Step → Bool) (b : List Entry) (k : ℕ) → first_key (keys_of p b) ≡ Some k → IsFirst p b k
+pub first_is : (p : Step → Bool) (b : List KeyedStep) (k : ℕ) → first_key (keys_of p b) ≡ Some k → IsFirst p b k
 first_is p [] k e = absurd cc
 first_is p (y ∷ b) k e =
     ⊎_elim
@@ -41,21 +41,21 @@ pub same_either : {A : Type 0} (b : Bool) (x : A) → x ≡ cond b x x
 same_either true x = refl
 same_either false x = refl
 
-module _ (es : List Entry) (d : AreDistinct (keys_of any_step es)) (rising : IsRising (steps es)) where
-  pub entry_in : (a b : List Entry) (x : Entry) → es ≡ a ++ x ∷ b → entry_at x.key es ≡ Some x
-  entry_in a b x e = subst (λ (l : List Entry). entry_at x.key l ≡ Some x) (sym e) (entry_middle a b x (subst (λ (l : List Entry). AreDistinct (keys_of any_step l)) e d))
+module _ (es : List KeyedStep) (d : AreDistinct (keys_of any_step es)) (rising : IsRising (steps es)) where
+  pub entry_in : (a b : List KeyedStep) (x : KeyedStep) → es ≡ a ++ x ∷ b → entry_at x.key es ≡ Some x
+  entry_in a b x e = subst (λ (l : List KeyedStep). entry_at x.key l ≡ Some x) (sym e) (entry_middle a b x (subst (λ (l : List KeyedStep). AreDistinct (keys_of any_step l)) e d))
 
-  pub id_middle : (a b : List Entry) (x : Entry) → es ≡ a ++ x ∷ b → id_in es x.key ≡ Some x.step.id
-  id_middle a b x e = ap (option_map (λ (y : Entry). y.step.id)) (entry_in a b x e)
+  pub id_middle : (a b : List KeyedStep) (x : KeyedStep) → es ≡ a ++ x ∷ b → id_in es x.key ≡ Some x.step.id
+  id_middle a b x e = ap (option_map (λ (y : KeyedStep). y.step.id)) (entry_in a b x e)
 
   -- the steps after a step have larger numbers
-  pub rising_behind : (a b : List Entry) (x : Entry) (t : Step) → es ≡ a ++ x ∷ b → IsIn t (steps b) → x.step.id < t.id
+  pub rising_behind : (a b : List KeyedStep) (x : KeyedStep) (t : Step) → es ≡ a ++ x ∷ b → IsIn t (steps b) → x.step.id < t.id
   rising_behind a b x t e i =
       let r = IsRising-append_right (steps a) (x.step ∷ steps b) (subst IsRising (ap steps e ∙ steps_around a b x) rising) in
       at_member (λ u. x.step.id < u.id) (steps b) t r.0 i
 
   -- a first entry after another has a larger number
-  pub first_behind : (p : Step → Bool) (a b : List Entry) (y : Entry) (k : ℕ) → es ≡ a ++ y ∷ b → first_key (keys_of p b) ≡ Some k → (n : ℕ) × ((id_in es k ≡ Some n) × (y.step.id < n))
+  pub first_behind : (p : Step → Bool) (a b : List KeyedStep) (y : KeyedStep) (k : ℕ) → es ≡ a ++ y ∷ b → first_key (keys_of p b) ≡ Some k → (n : ℕ) × ((id_in es k ≡ Some n) × (y.step.id < n))
   first_behind p a b y k e first =
       let w = first_is p b k first in
       let whole : es ≡ (a ++ y ∷ w.before) ++ w.entry ∷ w.behind = e ∙ ap (λ l. a ++ y ∷ l) w.parts ∙ sym (append_assoc a (y ∷ w.before) (w.entry ∷ w.behind)) in (
@@ -63,7 +63,7 @@ module _ (es : List Entry) (d : AreDistinct (keys_of any_step es)) (rising : IsR
         (ap (id_in es) (sym w.key) ∙ id_middle (a ++ y ∷ w.before) w.behind w.entry whole, rising_behind a b y w.entry.step e (in_middle b w.before w.behind w.entry w.parts)),
       )
 
-  pub id_first : (p : Step → Bool) (a b : List Entry) → es ≡ a ++ b → option_and_then (id_in es) (first_key (keys_of p b)) ≡ option_map (λ (s : Step). s.id) (find p (steps b))
+  pub id_first : (p : Step → Bool) (a b : List KeyedStep) → es ≡ a ++ b → option_and_then (id_in es) (first_key (keys_of p b)) ≡ option_map (λ (s : Step). s.id) (find p (steps b))
   id_first p a [] e = refl
   id_first p a (x ∷ b) e =
       ⊎_elim
@@ -72,7 +72,7 @@ module _ (es : List Entry) (d : AreDistinct (keys_of any_step es)) (rising : IsR
       (cases_Bool (p x.step))
 
   -- the first entry that passes has a number
-  pub first_numbered : (p : Step → Bool) (a b : List Entry) → es ≡ a ++ b → option_and_then (id_in es) (first_key (keys_of p b)) ≡ None → first_key (keys_of p b) ≡ None
+  pub first_numbered : (p : Step → Bool) (a b : List KeyedStep) → es ≡ a ++ b → option_and_then (id_in es) (first_key (keys_of p b)) ≡ None → first_key (keys_of p b) ≡ None
   first_numbered p a b e n =
       ⊎_elim (λ (z : first_key (keys_of p b) ≡ None). z)
       (λ (w : (k : ℕ) × (first_key (keys_of p b) ≡ Some k)).
@@ -84,7 +84,7 @@ module _ (es : List Entry) (d : AreDistinct (keys_of any_step es)) (rising : IsR
       (cases_key (first_key (keys_of p b)))
 
   -- the first entry that passes one of two tests is the earlier of the first that pass each
-  pub first_or : (f g : Step → Bool) (a b : List Entry) → es ≡ a ++ b → first_key (keys_of (λ t. f t || g t) b) ≡ earlier es (first_key (keys_of f b)) (first_key (keys_of g b))
+  pub first_or : (f g : Step → Bool) (a b : List KeyedStep) → es ≡ a ++ b → first_key (keys_of (λ t. f t || g t) b) ≡ earlier es (first_key (keys_of f b)) (first_key (keys_of g b))
   first_or f g a [] e = refl
   first_or f g a (y ∷ b) e =
       let both = λ (t : Step). f t || g t in

@@ -12,7 +12,7 @@ use Rattle.mps_history.specs.Dependence.{depends_on, is_matched, sent_before, re
 use Rattle.mps_history.specs.Commits.{is_commit, commits_from}
 use Rattle.mps_history.proofs.Order.{rising_apart, IsIn-append, IsIn-append_left, IsIn-append_right}
 use Rattle.mps_arena.specs.Keys.{AreDistinct, last_key}
-use Rattle.mps_arena.specs.Entries.{Entry, steps, keys_of, any_step, entry_at, AreSound}
+use Rattle.mps_arena.specs.Entries.{KeyedStep, steps, keys_of, any_step, entry_at, AreSound}
 use Rattle.mps_arena.proofs.Keeping.{others_are}
 use Rattle.mps_links.specs.Marks.{marked_keys, marked_steps, is_marked, AreMarksClosed, marked_by, unmarked, unmarked_steps, marked_commits}
 use Rattle.mps_links.proofs.StepKeys.{steps_around, in_middle, none_passes}
@@ -23,25 +23,25 @@ use Rattle.mps_links.proofs.Marked.{marked_here, marked_with, marked_without, ke
 filter_beside : (p : Step → Bool) (a b : List Step) (x : Step) → p x ≡ false → filter p (a ++ x ∷ b) ≡ filter p (a ++ b)
 filter_beside p a b x f = filter-append p a (x ∷ b) ∙ ap (λ l. filter p a ++ l) (cond-false (p x) (x ∷ filter p b) (filter p b) f) ∙ sym (filter-append p a b)
 
-marked_beside : (a b : List Entry) (x : Entry) (n : ℕ) → (x.step.id == n) ≡ false → is_marked (a ++ x ∷ b) n ≡ is_marked (a ++ b) n
+marked_beside : (a b : List KeyedStep) (x : KeyedStep) (n : ℕ) → (x.step.id == n) ≡ false → is_marked (a ++ x ∷ b) n ≡ is_marked (a ++ b) n
 marked_beside [] b x n f = ap (λ k. k || is_marked b n) (and_right x.marked (x.step.id == n) f)
 marked_beside (y ∷ a) b x n f = ap (λ k. (y.marked && y.step.id == n) || k) (marked_beside a b x n f)
 
-module _ (es : List Entry) (k : ℕ) (sound : AreSound es) (newest : last_key None (marked_keys es) ≡ Some k) where
+module _ (es : List KeyedStep) (k : ℕ) (sound : AreSound es) (newest : last_key None (marked_keys es) ≡ Some k) where
   last : IsLast (λ s. is_marked es s.id) es k
   last = last_is (λ s. is_marked es s.id) es k (ap (last_key None) (keys_marked es sound.rising) ∙ newest)
 
-  abbrev a : List Entry
+  abbrev a : List KeyedStep
   a = last.before
 
-  abbrev b : List Entry
+  abbrev b : List KeyedStep
   b = last.behind
 
-  abbrev x : Entry
+  abbrev x : KeyedStep
   x = last.entry
 
   left : filter (λ e. not (e.key == k)) es ≡ a ++ b
-  left = ap (filter (λ e. not (e.key == k))) last.parts ∙ others_are k a b x (subst (λ (l : List Entry). AreDistinct (keys_of any_step l)) last.parts sound.distinct) last.key
+  left = ap (filter (λ e. not (e.key == k))) last.parts ∙ others_are k a b x (subst (λ (l : List KeyedStep). AreDistinct (keys_of any_step l)) last.parts sound.distinct) last.key
 
   x_marked : x.marked ≡ true
   x_marked = sym (marked_here es a b x sound.rising last.parts) ∙ last.passes
@@ -51,7 +51,7 @@ module _ (es : List Entry) (k : ℕ) (sound : AreSound es) (newest : last_key No
 
   pub unmarked_stay : unmarked_steps (filter (λ e. not (e.key == k)) es) ≡ unmarked_steps es
   unmarked_stay =
-      let p = λ (e : Entry). not e.marked in
+      let p = λ (e : KeyedStep). not e.marked in
       ap unmarked_steps left
       ∙ ap steps (filter-append p a b ∙ ap (λ l. filter p a ++ l) (sym (cond-false (p x) (x ∷ filter p b) (filter p b) (ap not x_marked))) ∙ sym (filter-append p a (x ∷ b)))
       ∙ sym (ap unmarked_steps last.parts)
@@ -67,13 +67,13 @@ module _ (es : List Entry) (k : ℕ) (sound : AreSound es) (newest : last_key No
         length-append (marked_keys a) (x.key ∷ marked_keys b),
       )
     where
-      marked-append : (l m : List Entry) → marked_keys (l ++ m) ≡ marked_keys l ++ marked_keys m
+      marked-append : (l m : List KeyedStep) → marked_keys (l ++ m) ≡ marked_keys l ++ marked_keys m
       marked-append l m = ap (map (λ e. e.key)) (filter-append (λ e. e.marked) l m) ∙ map-append (λ e. e.key) (filter (λ e. e.marked) l) (filter (λ e. e.marked) m)
 
   -- the step of that key is the last of the marked ones
-  pub last_marked : (y : Entry) → entry_at k es ≡ Some y → marked_steps es ≡ marked_steps (filter (λ e. not (e.key == k)) es) ++ y.step ∷ []
+  pub last_marked : (y : KeyedStep) → entry_at k es ≡ Some y → marked_steps es ≡ marked_steps (filter (λ e. not (e.key == k)) es) ++ y.step ∷ []
   last_marked y found =
-      let p = λ (e : Entry). e.marked in
+      let p = λ (e : KeyedStep). e.marked in
       let here : entry_at x.key es ≡ Some x = entry_in es sound.distinct sound.rising a b x last.parts in
       let one : Some x ≡ Some y = sym here ∙ ap (λ j. entry_at j es) last.key ∙ found in
       let same : x ≡ y = cc in
@@ -82,16 +82,16 @@ module _ (es : List Entry) (k : ℕ) (sound : AreSound es) (newest : last_key No
       let front : marked_steps (a ++ b) ≡ steps (filter p a) = ap steps (filter-append p a b ∙ ap (λ l. filter p a ++ l) none ∙ append-nil (filter p a)) in
       ap marked_steps last.parts
       ∙ ap steps (filter-append p a (x ∷ b) ∙ ap (λ l. filter p a ++ l) (cond-true x.marked (x ∷ filter p b) (filter p b) x_marked ∙ ap (λ l. x ∷ l) none))
-      ∙ map-append (λ (e : Entry). e.step) (filter p a) (x ∷ [])
-      ∙ ap₂ (λ (l : List Step) (e : Entry). l ++ e.step ∷ []) (sym (ap marked_steps left ∙ front)) same
+      ∙ map-append (λ (e : KeyedStep). e.step) (filter p a) (x ∷ [])
+      ∙ ap₂ (λ (l : List Step) (e : KeyedStep). l ++ e.step ∷ []) (sym (ap marked_steps left ∙ front)) same
     where
-      none_in : (l : List Entry) → map (λ e. e.key) l ≡ [] → l ≡ []
+      none_in : (l : List KeyedStep) → map (λ e. e.key) l ≡ [] → l ≡ []
       none_in [] e = refl
       none_in (z ∷ l) e = absurd cc
 
   module _ (closed : AreMarksClosed es) where
     new_steps : steps (a ++ b) ≡ steps a ++ steps b
-    new_steps = map-append (λ (e : Entry). e.step) a b
+    new_steps = map-append (λ (e : KeyedStep). e.step) a b
 
     in_old : (u : Step) → IsIn u (steps (a ++ b)) → IsIn u (steps es)
     in_old u i =
@@ -141,7 +141,7 @@ module _ (es : List Entry) (k : ℕ) (sound : AreSound es) (newest : last_key No
         (λ t s it is m d.
         sym (mark_same t it) ∙ closed t s (in_old t it) (in_old s is) (mark_same s is ∙ m) (on_same t s it is ∙ d))
 
-pub none_go : (es : List Entry) → marked_keys es ≡ [] → unmarked_steps es ≡ steps es
+pub none_go : (es : List KeyedStep) → marked_keys es ≡ [] → unmarked_steps es ≡ steps es
 none_go [] e = refl
 none_go (y ∷ es) e =
     ⊎_elim
@@ -150,25 +150,25 @@ none_go (y ∷ es) e =
     ap steps (cond-true (not y.marked) (y ∷ filter (λ e. not e.marked) es) (filter (λ e. not e.marked) es) (ap not f)) ∙ ap (λ l. y.step ∷ l) (none_go es (sym (marked_without y es f) ∙ e)))
     (cases_Bool y.marked)
 
-pub unmarked_left : (es : List Entry) (set : ℕ → Bool) → unmarked_steps (map (marked_by set) es) ≡ without (steps es) set
+pub unmarked_left : (es : List KeyedStep) (set : ℕ → Bool) → unmarked_steps (map (marked_by set) es) ≡ without (steps es) set
 unmarked_left [] set = refl
 unmarked_left (y ∷ es) set =
     ⊎_elim (λ (t : set y.step.id ≡ true). rw t (unmarked_left es set)) (λ (f : set y.step.id ≡ false). rw f (ap (λ l. y.step ∷ l) (unmarked_left es set))) (cases_Bool (set y.step.id))
 
-pub marked_within : (es : List Entry) (set : ℕ → Bool) → marked_steps (map (marked_by set) es) ≡ within (steps es) set
+pub marked_within : (es : List KeyedStep) (set : ℕ → Bool) → marked_steps (map (marked_by set) es) ≡ within (steps es) set
 marked_within [] set = refl
 marked_within (y ∷ es) set =
     ⊎_elim (λ (t : set y.step.id ≡ true). rw t (ap (λ l. y.step ∷ l) (marked_within es set))) (λ (f : set y.step.id ≡ false). rw f (marked_within es set)) (cases_Bool (set y.step.id))
 
 -- the marked commits, where a step and all that depend on it are marked
-pub marked_commits_are : (es : List Entry) (n : ℕ) → marked_commits (map (marked_by (consequences (steps es) n)) es) ≡ commits_from (steps es) n
+pub marked_commits_are : (es : List KeyedStep) (n : ℕ) → marked_commits (map (marked_by (consequences (steps es) n)) es) ≡ commits_from (steps es) n
 marked_commits_are es n = ap (λ (h : List Step). numbers (filter (λ s. is_commit s.act) h)) (marked_within es (consequences (steps es) n))
 
-pub marked_count : (es : List Entry) (set : ℕ → Bool) → length (marked_keys (map (marked_by set) es)) ≡ length (within (steps es) set)
+pub marked_count : (es : List KeyedStep) (set : ℕ → Bool) → length (marked_keys (map (marked_by set) es)) ≡ length (within (steps es) set)
 marked_count [] set = refl
 marked_count (y ∷ es) set =
     ⊎_elim (λ (t : set y.step.id ≡ true). rw t (ap suc (marked_count es set))) (λ (f : set y.step.id ≡ false). rw f (marked_count es set)) (cases_Bool (set y.step.id))
 
-pub none_unmarked : (es : List Entry) → marked_keys (map unmarked es) ≡ []
+pub none_unmarked : (es : List KeyedStep) → marked_keys (map unmarked es) ≡ []
 none_unmarked [] = refl
 none_unmarked (y ∷ es) = none_unmarked es

@@ -5,25 +5,25 @@ use Rattle.std.specs.Option.{option_map, unwrap_or}
 use Rattle.std.proofs.lemmas.Bool.{cases_Bool}
 use Rattle.std.proofs.lemmas.List.{map_more}
 use Rattle.std.proofs.lemmas.List.Sums.{fold-append}
-use Rattle.mps_arena.specs.Entries.{Entry, with_mark}
-use Rattle.mps_arena.specs.Sources.{id_in}
+use Rattle.mps_arena.specs.Entries.{KeyedStep, with_mark}
+use Rattle.mps_arena.specs.Neighbours.{id_in}
 use Rattle.mps_links.specs.Numbered.{key_of, keys_alone, HasNumber, HaveNumbers}
 use Rattle.mps_links.specs.Order.{earlier}
 use Rattle.mps_links.specs.Pending.{earliest}
 use Rattle.mps_links.specs.declared.order.Numbered.{Numbered}
 
-pub number_at : (es : List Entry) (l : List (Option Numbered)) (i : ℕ) (d : Option Numbered) → i < length l → HaveNumbers es l → HasNumber es (slice_index_or l i d)
+pub number_at : (es : List KeyedStep) (l : List (Option Numbered)) (i : ℕ) (d : Option Numbered) → i < length l → HaveNumbers es l → HasNumber es (slice_index_or l i d)
 number_at es [] i d small h = absurd (omega arith)
 number_at es (x ∷ l) zero d small h = h.0
 number_at es (x ∷ l) (suc i) d small h = number_at es l i d (omega arith) h.1
 
-pub numbers_set : (es : List Entry) (l : List (Option Numbered)) (i : ℕ) (n : Option Numbered) → HaveNumbers es l → HasNumber es n → HaveNumbers es (slice_set l i n)
+pub numbers_set : (es : List KeyedStep) (l : List (Option Numbered)) (i : ℕ) (n : Option Numbered) → HaveNumbers es l → HasNumber es n → HaveNumbers es (slice_set l i n)
 numbers_set es [] i n h own = tt
 numbers_set es (x ∷ l) zero n h own = (own, h.1)
 numbers_set es (x ∷ l) (suc i) n h own = (h.0, numbers_set es l i n h.1 own)
 
 -- a mark changes no number
-pub id_marked : (k : ℕ) (m : Bool) (j : ℕ) (es : List Entry) → id_in (map (with_mark k m) es) j ≡ id_in es j
+pub id_marked : (k : ℕ) (m : Bool) (j : ℕ) (es : List KeyedStep) → id_in (map (with_mark k m) es) j ≡ id_in es j
 id_marked k m j [] = refl
 id_marked k m j (e ∷ es) =
     ⊎_elim
@@ -31,22 +31,22 @@ id_marked k m j (e ∷ es) =
     (λ (f : (e.key == j) ≡ false). rw f (id_marked k m j es))
     (cases_Bool (e.key == j))
 
-number_marked : (k : ℕ) (m : Bool) (es : List Entry) (o : Option Numbered) → HasNumber es o → HasNumber (map (with_mark k m) es) o
+number_marked : (k : ℕ) (m : Bool) (es : List KeyedStep) (o : Option Numbered) → HasNumber es o → HasNumber (map (with_mark k m) es) o
 number_marked k m es None h = tt
 number_marked k m es (Some n) h = id_marked k m n.key es ∙ h
 
-pub numbers_marked : (k : ℕ) (m : Bool) (es : List Entry) (l : List (Option Numbered)) → HaveNumbers es l → HaveNumbers (map (with_mark k m) es) l
+pub numbers_marked : (k : ℕ) (m : Bool) (es : List KeyedStep) (l : List (Option Numbered)) → HaveNumbers es l → HaveNumbers (map (with_mark k m) es) l
 numbers_marked k m es [] h = tt
 numbers_marked k m es (x ∷ l) h = (number_marked k m es x h.0, numbers_marked k m es l h.1)
 
 -- where f changes what is pending of the step's role
-pub role_is : (o : Option Entry) (r : ℕ) (l : List (Option ℕ)) (f : Option ℕ → Option ℕ) → option_map (λ e. e.step.role) o ≡ Some r
+pub role_is : (o : Option KeyedStep) (r : ℕ) (l : List (Option ℕ)) (f : Option ℕ → Option ℕ) → option_map (λ e. e.step.role) o ≡ Some r
     → unwrap_or (option_map (λ e. slice_set l e.step.role (f (slice_index_or l e.step.role None))) o) l ≡ slice_set l r (f (slice_index_or l r None))
 role_is None r l f is = absurd cc
 role_is (Some e) r l f is = let same : e.step.role ≡ r = cc in ap (λ (i : ℕ). slice_set l i (f (slice_index_or l i None))) same
 
 -- one more is looked at
-pub one_more : (es : List Entry) (l : List (Option Numbered)) (i : ℕ) (d : Option Numbered) → i < length l
+pub one_more : (es : List KeyedStep) (l : List (Option Numbered)) (i : ℕ) (d : Option Numbered) → i < length l
     → earliest es (keys_alone (take (i + 1) l)) ≡ earlier es (earliest es (keys_alone (take i l))) (key_of (slice_index_or l i d))
 one_more es l i d small =
     ap (earliest es) (map_more key_of l i d small)

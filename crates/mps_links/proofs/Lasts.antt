@@ -7,8 +7,8 @@ use Rattle.std.proofs.lemmas.Bool.{cases_Bool, lt-ltb, le-ltb, or_left, or_right
 use Rattle.mps_base.specs.declared.action.Step.{Step}
 use Rattle.mps_history.specs.Steps.{IsRising}
 use Rattle.mps_arena.specs.Keys.{AreDistinct, last_key}
-use Rattle.mps_arena.specs.Entries.{Entry, steps, keys_of, any_step}
-use Rattle.mps_arena.specs.Sources.{id_in}
+use Rattle.mps_arena.specs.Entries.{KeyedStep, steps, keys_of, any_step}
+use Rattle.mps_arena.specs.Neighbours.{id_in}
 use Rattle.mps_arena.proofs.Chains.{keys_with, keys_without}
 use Rattle.mps_links.specs.Order.{is_before, later}
 use Rattle.mps_links.proofs.StepKeys.{cases_key, in_middle}
@@ -31,23 +31,23 @@ last_from before (j ∷ c) = last_from (Some j) c ∙ kept (last_key None c) ∙
     kept (Some i) = refl
 
 -- the last entry of the list that passes, where it stands
-pub record IsLast (p : Step → Bool) (b : List Entry) (k : ℕ) : Type 0 where
-  pub before : List Entry
-  pub entry : Entry
-  pub behind : List Entry
+pub record IsLast (p : Step → Bool) (b : List KeyedStep) (k : ℕ) : Type 0 where
+  pub before : List KeyedStep
+  pub entry : KeyedStep
+  pub behind : List KeyedStep
   pub parts : b ≡ before ++ entry ∷ behind
   pub key : entry.key ≡ k
   pub passes : p entry.step ≡ true
   pub none : keys_of p behind ≡ []
 
 -- the last key, where one more stands before
-last_with : (p : Step → Bool) (y : Entry) (b : List Entry) → p y.step ≡ true → last_key None (keys_of p (y ∷ b)) ≡ option_or (last_key None (keys_of p b)) (Some y.key)
+last_with : (p : Step → Bool) (y : KeyedStep) (b : List KeyedStep) → p y.step ≡ true → last_key None (keys_of p (y ∷ b)) ≡ option_or (last_key None (keys_of p b)) (Some y.key)
 last_with p y b t = ap (last_key None) (keys_with p y b t) ∙ last_from (Some y.key) (keys_of p b)
 
-last_without : (p : Step → Bool) (y : Entry) (b : List Entry) → p y.step ≡ false → last_key None (keys_of p (y ∷ b)) ≡ last_key None (keys_of p b)
+last_without : (p : Step → Bool) (y : KeyedStep) (b : List KeyedStep) → p y.step ≡ false → last_key None (keys_of p (y ∷ b)) ≡ last_key None (keys_of p b)
 last_without p y b f = ap (last_key None) (keys_without p y b f)
 
-pub last_is : (p : Step → Bool) (b : List Entry) (k : ℕ) → last_key None (keys_of p b) ≡ Some k → IsLast p b k
+pub last_is : (p : Step → Bool) (b : List KeyedStep) (k : ℕ) → last_key None (keys_of p b) ≡ Some k → IsLast p b k
 last_is p [] k e = absurd cc
 last_is p (y ∷ b) k e =
     ⊎_elim
@@ -67,12 +67,12 @@ last_is p (y ∷ b) k e =
     record { before = y ∷ r.before; entry = r.entry; behind = r.behind; parts = ap (λ l. y ∷ l) r.parts; key = r.key; passes = r.passes; none = r.none })
     (cases_Bool (p y.step))
 
-module _ (es : List Entry) (d : AreDistinct (keys_of any_step es)) (rising : IsRising (steps es)) where
+module _ (es : List KeyedStep) (d : AreDistinct (keys_of any_step es)) (rising : IsRising (steps es)) where
   -- the key is that of a later step, if it is there
   abbrev IsLater : ℕ → Option ℕ → Type 0
   IsLater y o = (k : ℕ) → o ≡ Some k → (is_before (id_in es y) (id_in es k) ≡ true) × (is_before (id_in es k) (id_in es y) ≡ false)
 
-  last_later : (p : Step → Bool) (a b : List Entry) (y : Entry) → es ≡ a ++ y ∷ b → IsLater y.key (last_key None (keys_of p b))
+  last_later : (p : Step → Bool) (a b : List KeyedStep) (y : KeyedStep) → es ≡ a ++ y ∷ b → IsLater y.key (last_key None (keys_of p b))
   last_later p a b y e k last =
       let w = last_is p b k last in
       let whole : es ≡ (a ++ y ∷ w.before) ++ w.entry ∷ w.behind = e ∙ ap (λ l. a ++ y ∷ l) w.parts ∙ sym (append_assoc a (y ∷ w.before) (w.entry ∷ w.behind)) in
@@ -107,7 +107,7 @@ module _ (es : List Entry) (d : AreDistinct (keys_of any_step es)) (rising : IsR
   later_right y (Some j) (Some k) f = some_kept j k y
 
   -- the last entry that passes one of two tests is the later of the last that pass each
-  pub last_or : (f g : Step → Bool) (a b : List Entry) → es ≡ a ++ b → last_key None (keys_of (λ t. f t || g t) b) ≡ later es (last_key None (keys_of f b)) (last_key None (keys_of g b))
+  pub last_or : (f g : Step → Bool) (a b : List KeyedStep) → es ≡ a ++ b → last_key None (keys_of (λ t. f t || g t) b) ≡ later es (last_key None (keys_of f b)) (last_key None (keys_of g b))
   last_or f g a [] e = refl
   last_or f g a (y ∷ b) e =
       let both = λ (t : Step). f t || g t in

@@ -10,9 +10,9 @@ use Rattle.mps_history.specs.Steps.{IsIn, IsRising}
 use Rattle.mps_history.specs.Dependence.{is_matched, depends_on, least, dependents}
 use Rattle.mps_history.proofs.Order.{rising_apart}
 use Rattle.mps_arena.specs.Keys.{AreDistinct, first_key, last_key, key_after, key_before}
-use Rattle.mps_arena.specs.Entries.{Entry, steps, keys_of, of_role, entry_at, AreSound}
-use Rattle.mps_arena.specs.Receipts.{receipt_mate}
-use Rattle.mps_arena.specs.Sources.{id_in, next_of_role_in, prev_of_role_in, receipt_in, mate_of, CanGo, IsFree, IsUnreceived}
+use Rattle.mps_arena.specs.Entries.{KeyedStep, steps, keys_of, of_role, entry_at, AreSound}
+use Rattle.mps_arena.specs.Matched.{matched_receipt}
+use Rattle.mps_arena.specs.Neighbours.{id_in, next_of_role_in, prev_of_role_in, receipt_in, matched_with, CanGo, IsFree, IsUnreceived}
 use Rattle.mps_arena.proofs.KeyLists.{once, after_absent, before_absent}
 use Rattle.mps_arena.proofs.Chains.{keys-append, keys_without, keys_around, distinct}
 use Rattle.mps_links.specs.Order.{earlier}
@@ -21,7 +21,7 @@ use Rattle.mps_links.proofs.Firsts.{entry_in, rising_behind, id_first, first_or}
 use Rattle.mps_links.proofs.Least.{least_is}
 use Rattle.mps_links.proofs.Receipts.{receipt_is}
 
-module _ (es : List Entry) (sound : AreSound es) (a b : List Entry) (x : Entry) (parts : es ≡ a ++ x ∷ b) where
+module _ (es : List KeyedStep) (sound : AreSound es) (a b : List KeyedStep) (x : KeyedStep) (parts : es ≡ a ++ x ∷ b) where
   abbrev s : Step
   s = x.step
 
@@ -39,14 +39,14 @@ module _ (es : List Entry) (sound : AreSound es) (a b : List Entry) (x : Entry) 
       ap (key_after x.key) whole ∙ after_absent x.key (keys_of p a) (x.key ∷ keys_of p b) o.0 ∙ rw (eq-eqb x.key x.key refl) refl
 
   pub next_is : next_of_role_in es x.key ≡ first_key (keys_of (of_role s.role) b)
-  next_is = ap (option_and_then (λ (e : Entry). key_after e.key (keys_of (of_role e.step.role) es))) found ∙ next_after
+  next_is = ap (option_and_then (λ (e : KeyedStep). key_after e.key (keys_of (of_role e.step.role) es))) found ∙ next_after
 
   pub prev_is : prev_of_role_in es x.key ≡ last_key None (keys_of (of_role s.role) a)
   prev_is =
       let p = of_role s.role in
       let whole = ap (keys_of p) parts ∙ keys_around p a b x (eq-eqb s.role s.role refl) in
       let o = once x.key (keys_of p a) (keys_of p b) (subst AreDistinct whole (distinct p es sound.distinct)) in
-      ap (option_and_then (λ (e : Entry). key_before None e.key (keys_of (of_role e.step.role) es))) found
+      ap (option_and_then (λ (e : KeyedStep). key_before None e.key (keys_of (of_role e.step.role) es))) found
       ∙ ap (key_before None x.key) whole
       ∙ before_absent None x.key (keys_of p a) (x.key ∷ keys_of p b) o.0
       ∙ rw (eq-eqb x.key x.key refl) refl
@@ -87,10 +87,10 @@ module _ (es : List Entry) (sound : AreSound es) (a b : List Entry) (x : Entry) 
       let neither = λ (t : Step) (i : IsIn t (steps b)). or_parts (of_role s.role t) (is_matched (steps es) s t) (sym (on_later t i) ∙ none_passes on_s b t none i) in
       let final : key_after x.key (keys_of (of_role s.role) es) ≡ None = next_after ∙ ap first_key (keys_none (of_role s.role) b (λ t i. (neither t i).0)) in
       let receipt : receipt_in es x.key ≡ None = receipt_is es sound a b x parts ∙ ap first_key (keys_none (is_matched (steps es) s) b (λ t i. (neither t i).1)) in
-      let mate : receipt_mate (effect s.act) (mate_of es x) ≡ None = sym (ap (option_and_then (λ (y : Entry). receipt_mate (effect y.step.act) (mate_of es y))) found) ∙ receipt in
-      subst (λ (o : Option Entry). IsSomeAnd o (IsFree es)) (sym found) (record { final = final; unreceived = unreceived (effect s.act) mate })
+      let matched : matched_receipt (effect s.act) (matched_with es x) ≡ None = sym (ap (option_and_then (λ (y : KeyedStep). matched_receipt (effect y.step.act) (matched_with es y))) found) ∙ receipt in
+      subst (λ (o : Option KeyedStep). IsSomeAnd o (IsFree es)) (sym found) (record { final = final; unreceived = unreceived (effect s.act) matched })
     where
-      unreceived : (c : Effect) → receipt_mate c (mate_of es x) ≡ None → IsUnreceived es x c
+      unreceived : (c : Effect) → matched_receipt c (matched_with es x) ≡ None → IsUnreceived es x c
       unreceived (Gives q m) e = e
       unreceived (Takes from slot) e = tt
       unreceived Idle e = tt

@@ -8,8 +8,8 @@ use Rattle.mps_history.specs.Steps.{IsIn, IsRising}
 use Rattle.mps_history.specs.Dependence.{depends_on, is_matched}
 use Rattle.mps_history.proofs.Order.{rising_apart, IsIn-append, IsIn-append_left, IsIn-append_right}
 use Rattle.mps_arena.specs.Keys.{first_key, last_key}
-use Rattle.mps_arena.specs.Entries.{Entry, steps, keys_of, of_role, AreSound, IsSmall}
-use Rattle.mps_arena.specs.Sources.{CanGo}
+use Rattle.mps_arena.specs.Entries.{KeyedStep, steps, keys_of, of_role, AreSound, IsSmall}
+use Rattle.mps_arena.specs.Neighbours.{CanGo}
 use Rattle.mps_arena.proofs.KeyLists.{last-append}
 use Rattle.mps_arena.proofs.Chains.{keys_around}
 use Rattle.mps_links.specs.Order.{later}
@@ -19,7 +19,7 @@ use Rattle.mps_links.proofs.Lasts.{last_is, last_or}
 use Rattle.mps_links.proofs.Links.{alone_can_go}
 use Rattle.mps_links.proofs.Marked.{marked_here, keys_marked}
 
-pub small_in : (es : List Entry) (t : Step) → AllByRecursion (λ e. IsSmall e.step) es → IsIn t (steps es) → t.role < 8
+pub small_in : (es : List KeyedStep) (t : Step) → AllByRecursion (λ e. IsSmall e.step) es → IsIn t (steps es) → t.role < 8
 small_in [] t h i = absurd i
 small_in (y ∷ es) t h (inl e) = subst (λ (s : Step). s.role < 8) (sym e) h.0.0
 small_in (y ∷ es) t h (inr i) = small_in es t h.1 i
@@ -43,14 +43,14 @@ spread_left true true false = refl
 spread_left true false false = refl
 spread_left false b m = refl
 
-pub where_in : (es a b : List Entry) (x : Entry) (t : Step) → es ≡ a ++ x ∷ b → IsIn t (steps es) → IsIn t (steps a) ⊎ ((t ≡ x.step) ⊎ IsIn t (steps b))
+pub where_in : (es a b : List KeyedStep) (x : KeyedStep) (t : Step) → es ≡ a ++ x ∷ b → IsIn t (steps es) → IsIn t (steps a) ⊎ ((t ≡ x.step) ⊎ IsIn t (steps b))
 where_in es a b x t e i = IsIn-append t (steps a) (x.step ∷ steps b) (subst (λ (l : List Step). IsIn t l) (ap steps e ∙ steps_around a b x) i)
 
-module _ (es : List Entry) (sound : AreSound es) (closed : AreMarksClosed es) where
+module _ (es : List KeyedStep) (sound : AreSound es) (closed : AreMarksClosed es) where
   abbrev mark : ℕ → Bool
   mark n = is_marked es n
 
-  module _ (p : ℕ) (a b : List Entry) (x : Entry) (parts : es ≡ a ++ x ∷ b) (own : of_role p x.step ≡ true) where
+  module _ (p : ℕ) (a b : List KeyedStep) (x : KeyedStep) (parts : es ≡ a ++ x ∷ b) (own : of_role p x.step ≡ true) where
     abbrev q : Step → Bool
     q s = s.role == p && mark s.id
 

@@ -6,10 +6,10 @@ use Rattle.std.specs.Option.{option_map}
 use Rattle.std.proofs.lemmas.Bool.{cases_Bool, cond-true, cond-false, eqb-true, false≢true}
 use Rattle.mps_base.specs.declared.action.Step.{Step}
 use Rattle.mps_history.specs.Steps.{step_of}
-use Rattle.mps_arena.specs.Entries.{Entry, steps}
+use Rattle.mps_arena.specs.Entries.{KeyedStep, steps}
 use Rattle.mps_arena.proofs.Numbers.{find_split}
 
-found_by_number : (es : List Entry) (n : ℕ) → IsSome (step_of (steps es) n) → (y : Entry) × (find (λ e. e.step.id == n) es ≡ Some y)
+found_by_number : (es : List KeyedStep) (n : ℕ) → IsSome (step_of (steps es) n) → (y : KeyedStep) × (find (λ e. e.step.id == n) es ≡ Some y)
 found_by_number [] n h = absurd (false≢true h)
 found_by_number (x ∷ es) n h =
     ⊎_elim
@@ -20,26 +20,26 @@ found_by_number (x ∷ es) n h =
     (cases_Bool (x.step.id == n))
 
 -- where the entry of a number stands
-pub record IsNumbered (es : List Entry) (n : ℕ) : Type 0 where
-  pub before : List Entry
-  pub entry : Entry
-  pub behind : List Entry
+pub record IsNumbered (es : List KeyedStep) (n : ℕ) : Type 0 where
+  pub before : List KeyedStep
+  pub entry : KeyedStep
+  pub behind : List KeyedStep
   pub parts : es ≡ before ++ entry ∷ behind
   pub number : entry.step.id ≡ n
   pub key : option_map (λ e. e.key) (find (λ e. e.step.id == n) es) ≡ Some entry.key
 
-pub numbered : (es : List Entry) (n : ℕ) → IsSome (step_of (steps es) n) → IsNumbered es n
+pub numbered : (es : List KeyedStep) (n : ℕ) → IsSome (step_of (steps es) n) → IsNumbered es n
 numbered es n h =
     let w = found_by_number es n h in
     let s = find_split (λ e. e.step.id == n) es w.0 w.1 in
-    record { before = s.1.0; entry = w.0; behind = s.1.1; parts = s.1.2; number = eqb-true w.0.step.id n s.0; key = ap (option_map (λ (e : Entry). e.key)) w.1 }
+    record { before = s.1.0; entry = w.0; behind = s.1.1; parts = s.1.2; number = eqb-true w.0.step.id n s.0; key = ap (option_map (λ (e : KeyedStep). e.key)) w.1 }
 
 -- a number that leads to a key is that of a step
-pub step_there : (es : List Entry) (n k : ℕ) → option_map (λ e. e.key) (find (λ e. e.step.id == n) es) ≡ Some k → IsSome (step_of (steps es) n)
+pub step_there : (es : List KeyedStep) (n k : ℕ) → option_map (λ e. e.key) (find (λ e. e.step.id == n) es) ≡ Some k → IsSome (step_of (steps es) n)
 step_there [] n k e = absurd cc
 step_there (x ∷ es) n k e =
     ⊎_elim
     (λ (t : (x.step.id == n) ≡ true). rw t cc)
     (λ (f : (x.step.id == n) ≡ false).
-    rw f (step_there es n k (sym (ap (option_map (λ (y : Entry). y.key)) (cond-false (x.step.id == n) (Some x) (find (λ e. e.step.id == n) es) f)) ∙ e)))
+    rw f (step_there es n k (sym (ap (option_map (λ (y : KeyedStep). y.key)) (cond-false (x.step.id == n) (Some x) (find (λ e. e.step.id == n) es) f)) ∙ e)))
     (cases_Bool (x.step.id == n))

@@ -13,8 +13,8 @@ use Rattle.mps_history.specs.Dependence.{depends_on, is_matched, with, joined, s
 use Rattle.mps_history.proofs.Order.{same_step}
 use Rattle.mps_history.proofs.Reaching.{joins, any_member, member_any}
 use Rattle.mps_arena.specs.Keys.{first_key}
-use Rattle.mps_arena.specs.Entries.{Entry, steps, keys_of, of_role, entry_at, AreSound}
-use Rattle.mps_arena.specs.Sources.{next_of_role_in, receipt_in}
+use Rattle.mps_arena.specs.Entries.{KeyedStep, steps, keys_of, of_role, entry_at, AreSound}
+use Rattle.mps_arena.specs.Neighbours.{next_of_role_in, receipt_in}
 use Rattle.mps_arena.proofs.Chains.{keys_without}
 use Rattle.mps_links.specs.Order.{earlier}
 use Rattle.mps_links.specs.Marks.{unmarked}
@@ -29,15 +29,15 @@ abbrev pub joins_of : List Step → (ℕ → Bool) → ℕ → Step → Bool
 joins_of h set r t = t.role == r && joins h set t
 
 -- for each role the first step of the list that depends directly on one of the set
-pub record ArePending (h : List Step) (set : ℕ → Bool) (rest : List Entry) (firsts : List (Option ℕ)) : Type 0 where
+pub record ArePending (h : List Step) (set : ℕ → Bool) (rest : List KeyedStep) (firsts : List (Option ℕ)) : Type 0 where
   pub size : length firsts ≡ 8
   pub each : (r : ℕ) → r < 8 → slice_index_or firsts r None ≡ first_key (keys_of (joins_of h set r) rest)
 
 -- which entries are marked, which are to be looked at, and what is pending of them
-pub record IsMarking (es now : List Entry) (whole : ℕ → Bool) (firsts : List (Option ℕ)) (count : ℕ) : Type 0 where
+pub record IsMarking (es now : List KeyedStep) (whole : ℕ → Bool) (firsts : List (Option ℕ)) (count : ℕ) : Type 0 where
   pub set : ℕ → Bool
-  pub past : List Entry
-  pub rest : List Entry
+  pub past : List KeyedStep
+  pub rest : List KeyedStep
   pub parts : now ≡ past ++ rest
   pub alike : map unmarked now ≡ map unmarked es
   pub marks : AllByRecursion (λ e. e.marked ≡ set e.step.id) now
@@ -56,12 +56,12 @@ passed h set [] l n = refl
 passed h set (t ∷ a) l n =
     ap (λ (f : ℕ → Bool). joined h f (a ++ l)) (cond-false (joins h set t) (with set t.id) set (n t (inl refl))) ∙ passed h set a l (λ u i. n u (inr i))
 
-earlier_none : (es : List Entry) (o : Option ℕ) → earlier es o None ≡ o
+earlier_none : (es : List KeyedStep) (o : Option ℕ) → earlier es o None ≡ o
 earlier_none es None = refl
 earlier_none es (Some j) = refl
 
 -- one step more is in the set
-module _ (now : List Entry) (sound : AreSound now) (set more : ℕ → Bool) (a d : List Entry) (y : Entry) (parts : now ≡ a ++ y ∷ d)
+module _ (now : List KeyedStep) (sound : AreSound now) (set more : ℕ → Bool) (a d : List KeyedStep) (y : KeyedStep) (parts : now ≡ a ++ y ∷ d)
     (grown : (m : ℕ) → more m ≡ (m == y.step.id || set m)) where
   abbrev h : List Step
   h = steps now
@@ -139,7 +139,7 @@ module _ (now : List Entry) (sound : AreSound now) (set more : ℕ → Bool) (a 
 
   module _ (firsts : List (Option ℕ)) (pending : ArePending h set (y ∷ d) firsts) where
     at_y : (f : Option ℕ → Option ℕ) (l : List (Option ℕ)) → at_role now y.key f l ≡ slice_set l y.step.role (f (slice_index_or l y.step.role None))
-    at_y f l = ap (λ (o : Option Entry). unwrap_or (option_map (λ e. slice_set l e.step.role (f (slice_index_or l e.step.role None))) o) l) (entry_in now sound.distinct sound.rising a d y parts)
+    at_y f l = ap (λ (o : Option KeyedStep). unwrap_or (option_map (λ e. slice_set l e.step.role (f (slice_index_or l e.step.role None))) o) l) (entry_in now sound.distinct sound.rising a d y parts)
 
     abbrev next : List (Option ℕ)
     next = at_role now y.key (λ o. next_of_role_in now y.key) firsts
@@ -182,7 +182,7 @@ module _ (now : List Entry) (sound : AreSound now) (set more : ℕ → Bool) (a 
       first : IsFirst (is_matched h y.step) d k
       first = first_is (is_matched h y.step) d k (sym (receipt_is now sound a d y parts) ∙ is)
 
-      abbrev z : Entry
+      abbrev z : KeyedStep
       z = first.entry
 
       z_parts : now ≡ (a ++ y ∷ first.before) ++ z ∷ first.behind
@@ -205,7 +205,7 @@ module _ (now : List Entry) (sound : AreSound now) (set more : ℕ → Bool) (a 
 
       at_z : (f : Option ℕ → Option ℕ) (l : List (Option ℕ)) → at_role now k f l ≡ slice_set l z.step.role (f (slice_index_or l z.step.role None))
       at_z f l =
-          ap (λ (o : Option Entry). unwrap_or (option_map (λ e. slice_set l e.step.role (f (slice_index_or l e.step.role None))) o) l)
+          ap (λ (o : Option KeyedStep). unwrap_or (option_map (λ e. slice_set l e.step.role (f (slice_index_or l e.step.role None))) o) l)
           (ap (λ j. entry_at j now) (sym first.key) ∙ entry_in now sound.distinct sound.rising (a ++ y ∷ first.before) first.behind z z_parts)
 
       abbrev last : List (Option ℕ)

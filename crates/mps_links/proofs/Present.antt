@@ -7,63 +7,63 @@ use Rattle.std.proofs.lemmas.Bool.{both_ways, false≢true}
 use Rattle.mps_base.specs.Effects.{Effect, Gives, Takes, Idle, effect}
 use Rattle.mps_base.specs.declared.action.Step.{Step}
 use Rattle.mps_arena.specs.Keys.{is_at, has, key_after}
-use Rattle.mps_arena.specs.Entries.{Entry, keys_of, of_role, like, unlike, entry_at, IsSmall}
-use Rattle.mps_arena.specs.Receipts.{receipt_mate}
-use Rattle.mps_arena.specs.Sources.{receipt_in, next_of_role_in, mate_of}
-use Rattle.mps_arena.proofs.KeyLists.{partner_in, after_in}
+use Rattle.mps_arena.specs.Entries.{KeyedStep, keys_of, of_role, like, unlike, entry_at, IsSmall}
+use Rattle.mps_arena.specs.Matched.{matched_receipt}
+use Rattle.mps_arena.specs.Neighbours.{receipt_in, next_of_role_in, matched_with}
+use Rattle.mps_arena.proofs.KeyLists.{matched_key_in, after_in}
 use Rattle.mps_arena.proofs.Chains.{absent}
 use Rattle.mps_arena.proofs.Numbers.{find_split}
 
-pub cases_entry : (o : Option Entry) → (o ≡ None) ⊎ ((e : Entry) × (o ≡ Some e))
+pub cases_entry : (o : Option KeyedStep) → (o ≡ None) ⊎ ((e : KeyedStep) × (o ≡ Some e))
 cases_entry None = inl refl
 cases_entry (Some e) = inr (e, refl)
 
-pub there : (k : ℕ) (es : List Entry) → IsSome (entry_at k es) → (e : Entry) × (entry_at k es ≡ Some e)
+pub there : (k : ℕ) (es : List KeyedStep) → IsSome (entry_at k es) → (e : KeyedStep) × (entry_at k es ≡ Some e)
 there k es h =
-    ⊎_elim (λ (n : entry_at k es ≡ None). absurd (false≢true (subst IsSome n h))) (λ (w : (e : Entry) × (entry_at k es ≡ Some e)). w) (cases_entry (entry_at k es))
+    ⊎_elim (λ (n : entry_at k es ≡ None). absurd (false≢true (subst IsSome n h))) (λ (w : (e : KeyedStep) × (entry_at k es ≡ Some e)). w) (cases_entry (entry_at k es))
 
-pub at_middle : (P : Entry → Type 0) (a b : List Entry) (x : Entry) → AllByRecursion P (a ++ x ∷ b) → P x
+pub at_middle : (P : KeyedStep → Type 0) (a b : List KeyedStep) (x : KeyedStep) → AllByRecursion P (a ++ x ∷ b) → P x
 at_middle P [] b x h = h.0
 at_middle P (y ∷ a) b x h = at_middle P a b x h.1
 
-pub small_at : (k : ℕ) (es : List Entry) (e : Entry) → AllByRecursion (λ e. IsSmall e.step) es → entry_at k es ≡ Some e → e.step.role < 8
+pub small_at : (k : ℕ) (es : List KeyedStep) (e : KeyedStep) → AllByRecursion (λ e. IsSmall e.step) es → entry_at k es ≡ Some e → e.step.role < 8
 small_at k es e small found =
     let s = find_split (λ x. x.key == k) es e found in
     (at_middle (λ x. IsSmall x.step) s.1.0 s.1.1 e (subst (AllByRecursion (λ x. IsSmall x.step)) s.1.2 small)).0
 
 -- what has a key in a chain is there
-pub chained_there : (p : Step → Bool) (k : ℕ) (es : List Entry) → has k (keys_of p es) ≡ true → IsSome (entry_at k es)
+pub chained_there : (p : Step → Bool) (k : ℕ) (es : List KeyedStep) → has k (keys_of p es) ≡ true → IsSome (entry_at k es)
 chained_there p k es h =
     ⊎_elim
     (λ (n : entry_at k es ≡ None). absurd (both_ways (has k (keys_of p es)) (absent p k es n) h))
-    (λ (w : (e : Entry) × (entry_at k es ≡ Some e)). subst IsSome (sym w.1) cc)
+    (λ (w : (e : KeyedStep) × (entry_at k es ≡ Some e)). subst IsSome (sym w.1) cc)
     (cases_entry (entry_at k es))
 
-mate_is : (c : Effect) (o : Option ℕ) (j : ℕ) → receipt_mate c o ≡ Some j → o ≡ Some j
-mate_is (Gives q m) o j e = e
-mate_is (Takes from slot) o j e = absurd cc
-mate_is Idle o j e = absurd cc
+matched_with_is : (c : Effect) (o : Option ℕ) (j : ℕ) → matched_receipt c o ≡ Some j → o ≡ Some j
+matched_with_is (Gives q m) o j e = e
+matched_with_is (Takes from slot) o j e = absurd cc
+matched_with_is Idle o j e = absurd cc
 
 -- the receipt of a step is there
-pub receipt_there : (es : List Entry) (k j : ℕ) → receipt_in es k ≡ Some j → IsSome (entry_at j es)
+pub receipt_there : (es : List KeyedStep) (k j : ℕ) → receipt_in es k ≡ Some j → IsSome (entry_at j es)
 receipt_there es k j e =
     ⊎_elim
-    (λ (n : entry_at k es ≡ None). let no : None ≡ Some j = sym (ap (option_and_then (λ (y : Entry). receipt_mate (effect y.step.act) (mate_of es y))) n) ∙ e in absurd cc)
-    (λ (w : (y : Entry) × (entry_at k es ≡ Some y)).
+    (λ (n : entry_at k es ≡ None). let no : None ≡ Some j = sym (ap (option_and_then (λ (y : KeyedStep). matched_receipt (effect y.step.act) (matched_with es y))) n) ∙ e in absurd cc)
+    (λ (w : (y : KeyedStep) × (entry_at k es ≡ Some y)).
     let y = w.0 in
-    let is = mate_is (effect y.step.act) (mate_of es y) j (sym (ap (option_and_then (λ (y : Entry). receipt_mate (effect y.step.act) (mate_of es y))) w.1) ∙ e) in
+    let is = matched_with_is (effect y.step.act) (matched_with es y) j (sym (ap (option_and_then (λ (y : KeyedStep). matched_receipt (effect y.step.act) (matched_with es y))) w.1) ∙ e) in
     chained_there (unlike y.step.role (effect y.step.act)) j es
-    (partner_in y.key j (keys_of (like y.step.role (effect y.step.act)) es) (keys_of (unlike y.step.role (effect y.step.act)) es) (ap (λ o. is_at o j) is ∙ eq-eqb j j refl)))
+    (matched_key_in y.key j (keys_of (like y.step.role (effect y.step.act)) es) (keys_of (unlike y.step.role (effect y.step.act)) es) (ap (λ o. is_at o j) is ∙ eq-eqb j j refl)))
     (cases_entry (entry_at k es))
 
 -- the next step of its role is there
-pub next_there : (es : List Entry) (k j : ℕ) → next_of_role_in es k ≡ Some j → IsSome (entry_at j es)
+pub next_there : (es : List KeyedStep) (k j : ℕ) → next_of_role_in es k ≡ Some j → IsSome (entry_at j es)
 next_there es k j e =
     ⊎_elim
-    (λ (n : entry_at k es ≡ None). let no : None ≡ Some j = sym (ap (option_and_then (λ (y : Entry). key_after y.key (keys_of (of_role y.step.role) es))) n) ∙ e in absurd cc)
-    (λ (w : (y : Entry) × (entry_at k es ≡ Some y)).
+    (λ (n : entry_at k es ≡ None). let no : None ≡ Some j = sym (ap (option_and_then (λ (y : KeyedStep). key_after y.key (keys_of (of_role y.step.role) es))) n) ∙ e in absurd cc)
+    (λ (w : (y : KeyedStep) × (entry_at k es ≡ Some y)).
     let y = w.0 in
-    let is = sym (ap (option_and_then (λ (y : Entry). key_after y.key (keys_of (of_role y.step.role) es))) w.1) ∙ e in
+    let is = sym (ap (option_and_then (λ (y : KeyedStep). key_after y.key (keys_of (of_role y.step.role) es))) w.1) ∙ e in
     chained_there (of_role y.step.role) j es (after_in y.key j (keys_of (of_role y.step.role) es) (ap (λ o. is_at o j) is ∙ eq-eqb j j refl)))
     (cases_entry (entry_at k es))
 

@@ -9,11 +9,11 @@ use Rattle.mps_base.specs.declared.action.Message.{Message}
 use Rattle.mps_base.specs.declared.action.Step.{Step}
 use Rattle.mps_history.specs.Steps.{IsRising, sends, receives, gives_to, takes_from}
 use Rattle.mps_history.specs.Dependence.{is_matched, sent_before, received_before}
-use Rattle.mps_arena.specs.Keys.{AreDistinct, first_key, partner}
-use Rattle.mps_arena.specs.Entries.{Entry, steps, keys_of, like, unlike, AreSound}
-use Rattle.mps_arena.specs.Receipts.{receipt_mate}
-use Rattle.mps_arena.specs.Sources.{receipt_in, mate_of}
-use Rattle.mps_arena.proofs.KeyLists.{once, partner_middle}
+use Rattle.mps_arena.specs.Keys.{AreDistinct, first_key, matched_key}
+use Rattle.mps_arena.specs.Entries.{KeyedStep, steps, keys_of, like, unlike, AreSound}
+use Rattle.mps_arena.specs.Matched.{matched_receipt}
+use Rattle.mps_arena.specs.Neighbours.{receipt_in, matched_with}
+use Rattle.mps_arena.proofs.KeyLists.{once, matched_key_middle}
 use Rattle.mps_arena.proofs.Chains.{keys-append, keys_with, keys_without, keys_push, keys_kept, keys_around, keys_beside, distinct}
 use Rattle.mps_history.proofs.Pairing.{before_place}
 use Rattle.mps_arena.proofs.Histories.{count_steps}
@@ -21,7 +21,7 @@ use Rattle.mps_links.proofs.StepKeys.{eqb_turned, steps_around, keys_agree, keys
 use Rattle.mps_links.proofs.Firsts.{entry_in}
 
 -- how many steps that pass stand before an entry
-count_before : (p : Step → Bool) (es a b : List Entry) (x : Entry) → IsRising (steps es) → es ≡ a ++ x ∷ b → length (filter (λ y. nat_lt y.id x.step.id && p y) (steps es)) ≡ length (keys_of p a)
+count_before : (p : Step → Bool) (es a b : List KeyedStep) (x : KeyedStep) → IsRising (steps es) → es ≡ a ++ x ∷ b → length (filter (λ y. nat_lt y.id x.step.id && p y) (steps es)) ≡ length (keys_of p a)
 count_before p es a b x r parts =
     let e = ap steps parts ∙ steps_around a b x in
     ap (λ (l : List Step). length (filter (λ y. nat_lt y.id x.step.id && p y) l)) e ∙ ap length (before_place p (steps a) (steps b) x.step (subst IsRising e r)) ∙ count_steps p a
@@ -31,7 +31,7 @@ get_behind [] d j n e = let same : n ≡ j = omega arith in ap (slice_get d) sam
 get_behind (k ∷ c) d j zero e = absurd (omega arith)
 get_behind (k ∷ c) d j (suc n) e = get_behind c d j n (omega arith)
 
-module _ (es : List Entry) (sound : AreSound es) (a b : List Entry) (x : Entry) (parts : es ≡ a ++ x ∷ b) where
+module _ (es : List KeyedStep) (sound : AreSound es) (a b : List KeyedStep) (x : KeyedStep) (parts : es ≡ a ++ x ∷ b) where
   abbrev s : Step
   s = x.step
 
@@ -47,10 +47,10 @@ module _ (es : List Entry) (sound : AreSound es) (a b : List Entry) (x : Entry) 
     abbrev fits : Step → Bool
     fits t = got t && before == received_before s.role q t.id (steps es)
 
-    shift : (c e : List Entry) (y : Entry) → es ≡ c ++ y ∷ e → es ≡ (c ++ y ∷ []) ++ e
+    shift : (c e : List KeyedStep) (y : KeyedStep) → es ≡ c ++ y ∷ e → es ≡ (c ++ y ∷ []) ++ e
     shift c e y is = is ∙ sym (append_assoc c (y ∷ []) e)
 
-    at_place : (c e : List Entry) (j : ℕ) → es ≡ c ++ e → length (keys_of got c) + j ≡ before → slice_get (keys_of got e) j ≡ first_key (keys_of fits e)
+    at_place : (c e : List KeyedStep) (j : ℕ) → es ≡ c ++ e → length (keys_of got c) + j ≡ before → slice_get (keys_of got e) j ≡ first_key (keys_of fits e)
     at_place c [] j is n = refl
     at_place c (y ∷ e) zero is n =
         let place : received_before s.role q y.step.id (steps es) ≡ length (keys_of got c) = count_before got es c e y sound.rising is in
@@ -105,21 +105,21 @@ module _ (es : List Entry) (sound : AreSound es) (a b : List Entry) (x : Entry) 
           let at : length (keys_of got a) + j ≡ length (keys_of p a) = omega arith in
           let receipts : keys_of got es ≡ keys_of got a ++ keys_of got b = ap (keys_of got) parts ∙ keys_beside got a b x quiet ∙ keys-append got a b in
           let kept : keys_of got (a ++ x ∷ []) ≡ keys_of got a = keys_kept got a x quiet in
-          ap (option_and_then (λ (y : Entry). receipt_mate (effect y.step.act) (mate_of es y))) (entry_in es sound.distinct sound.rising a b x parts)
-          ∙ ap (λ (c : Effect). receipt_mate c (mate_of es x)) act
-          ∙ ap (λ (c : Effect). partner x.key (keys_of (like s.role c) es) (keys_of (unlike s.role c) es)) act
-          ∙ ap (λ c. partner x.key c (keys_of got es)) whole
-          ∙ partner_middle x.key (keys_of p a) (keys_of p b) (keys_of got es) o.0
+          ap (option_and_then (λ (y : KeyedStep). matched_receipt (effect y.step.act) (matched_with es y))) (entry_in es sound.distinct sound.rising a b x parts)
+          ∙ ap (λ (c : Effect). matched_receipt c (matched_with es x)) act
+          ∙ ap (λ (c : Effect). matched_key x.key (keys_of (like s.role c) es) (keys_of (unlike s.role c) es)) act
+          ∙ ap (λ c. matched_key x.key c (keys_of got es)) whole
+          ∙ matched_key_middle x.key (keys_of p a) (keys_of p b) (keys_of got es) o.0
           ∙ ap (λ l. slice_get l (length (keys_of p a))) receipts
           ∙ get_behind (keys_of got a) (keys_of got b) j (length (keys_of p a)) at
           ∙ at_place (a ++ x ∷ []) b j (shift a b x parts) (ap (λ l. length l + j) kept ∙ at ∙ sym n)
           ∙ ap first_key (keys_agree fits (is_matched (steps es) s) b (λ t i. sym (match t)))
 
   -- what sends nothing has no receipt, and nothing is matched with it
-  silent : ((q : ℕ) → gives_to q (effect s.act) ≡ false) → receipt_mate (effect s.act) (mate_of es x) ≡ None → receipt_in es x.key ≡ first_key (keys_of (is_matched (steps es) s) b)
+  silent : ((q : ℕ) → gives_to q (effect s.act) ≡ false) → matched_receipt (effect s.act) (matched_with es x) ≡ None → receipt_in es x.key ≡ first_key (keys_of (is_matched (steps es) s) b)
   silent quiet none =
       let h = steps es in
-      ap (option_and_then (λ (y : Entry). receipt_mate (effect y.step.act) (mate_of es y))) (entry_in es sound.distinct sound.rising a b x parts)
+      ap (option_and_then (λ (y : KeyedStep). matched_receipt (effect y.step.act) (matched_with es y))) (entry_in es sound.distinct sound.rising a b x parts)
       ∙ none
       ∙ sym (ap first_key (keys_none (is_matched h s) b (λ t i.
       and_left (sends s.role t.role s && receives s.role t.role t) (sent_before s.role t.role s.id h == received_before s.role t.role t.id h)
@@ -127,8 +127,8 @@ module _ (es : List Entry) (sound : AreSound es) (a b : List Entry) (x : Entry) 
 
   by_act : (c : Effect) → effect s.act ≡ c → receipt_in es x.key ≡ first_key (keys_of (is_matched (steps es) s) b)
   by_act (Gives q m) e = receipt_of_send q m e
-  by_act (Takes from slot) e = silent (λ q. ap (gives_to q) e) (ap (λ (c : Effect). receipt_mate c (mate_of es x)) e)
-  by_act Idle e = silent (λ q. ap (gives_to q) e) (ap (λ (c : Effect). receipt_mate c (mate_of es x)) e)
+  by_act (Takes from slot) e = silent (λ q. ap (gives_to q) e) (ap (λ (c : Effect). matched_receipt c (matched_with es x)) e)
+  by_act Idle e = silent (λ q. ap (gives_to q) e) (ap (λ (c : Effect). matched_receipt c (matched_with es x)) e)
 
   pub receipt_is : receipt_in es x.key ≡ first_key (keys_of (is_matched (steps es) s) b)
   receipt_is = by_act (effect s.act) refl

@@ -7,7 +7,7 @@ use Rattle.mps_base.specs.declared.action.Step.{Step}
 use Rattle.mps_history.specs.Steps.{IsIn}
 use Rattle.mps_history.proofs.Order.{IsIn-append_right}
 use Rattle.mps_arena.specs.Keys.{first_key}
-use Rattle.mps_arena.specs.Entries.{Entry, steps, keys_of}
+use Rattle.mps_arena.specs.Entries.{KeyedStep, steps, keys_of}
 use Rattle.mps_arena.proofs.Chains.{keys_with, keys_without}
 
 pub cases_key : (o : Option ℕ) → (o ≡ None) ⊎ ((k : ℕ) × (o ≡ Some k))
@@ -18,14 +18,14 @@ pub eqb_turned : (a b : ℕ) → (a == b) ≡ (b == a)
 eqb_turned a b =
     ⊎_elim (λ (t : (a == b) ≡ true). t ∙ sym (eq-eqb b a (sym (eqb-true a b t)))) (λ (f : (a == b) ≡ false). f ∙ sym (ne_eqb b a (λ e. eqb-false a b f (sym e)))) (cases_Bool (a == b))
 
-pub steps_around : (a b : List Entry) (x : Entry) → steps (a ++ x ∷ b) ≡ steps a ++ x.step ∷ steps b
-steps_around a b x = map-append (λ (e : Entry). e.step) a (x ∷ b)
+pub steps_around : (a b : List KeyedStep) (x : KeyedStep) → steps (a ++ x ∷ b) ≡ steps a ++ x.step ∷ steps b
+steps_around a b x = map-append (λ (e : KeyedStep). e.step) a (x ∷ b)
 
-pub in_middle : (es a b : List Entry) (x : Entry) → es ≡ a ++ x ∷ b → IsIn x.step (steps es)
+pub in_middle : (es a b : List KeyedStep) (x : KeyedStep) → es ≡ a ++ x ∷ b → IsIn x.step (steps es)
 in_middle es a b x e = subst (λ (l : List Step). IsIn x.step l) (sym (ap steps e ∙ steps_around a b x)) (IsIn-append_right x.step (steps a) (x.step ∷ steps b) (inl refl))
 
 -- tests that agree on the steps
-pub keys_agree : (p q : Step → Bool) (b : List Entry) → ((t : Step) → IsIn t (steps b) → p t ≡ q t) → keys_of p b ≡ keys_of q b
+pub keys_agree : (p q : Step → Bool) (b : List KeyedStep) → ((t : Step) → IsIn t (steps b) → p t ≡ q t) → keys_of p b ≡ keys_of q b
 keys_agree p q [] e = refl
 keys_agree p q (y ∷ b) e =
     let rest = keys_agree p q b (λ t i. e t (inr i)) in
@@ -35,11 +35,11 @@ keys_agree p q (y ∷ b) e =
     (λ (f : q y.step ≡ false). keys_without p y b (here ∙ f) ∙ rest ∙ sym (keys_without q y b f))
     (cases_Bool (q y.step))
 
-pub keys_none : (p : Step → Bool) (b : List Entry) → ((t : Step) → IsIn t (steps b) → p t ≡ false) → keys_of p b ≡ []
+pub keys_none : (p : Step → Bool) (b : List KeyedStep) → ((t : Step) → IsIn t (steps b) → p t ≡ false) → keys_of p b ≡ []
 keys_none p [] n = refl
 keys_none p (y ∷ b) n = keys_without p y b (n y.step (inl refl)) ∙ keys_none p b (λ t i. n t (inr i))
 
-pub none_passes : (p : Step → Bool) (b : List Entry) (t : Step) → keys_of p b ≡ [] → IsIn t (steps b) → p t ≡ false
+pub none_passes : (p : Step → Bool) (b : List KeyedStep) (t : Step) → keys_of p b ≡ [] → IsIn t (steps b) → p t ≡ false
 none_passes p [] t e i = absurd i
 none_passes p (y ∷ b) t e i =
     ⊎_elim

@@ -13,7 +13,7 @@ use Rattle.mps_history.proofs.Order.{at_member, from_members, rising_apart, IsRi
 use Rattle.mps_history.proofs.Reaching.{joins, any_member, earlier as earlier_step, consequences_closed}
 use Rattle.mps_history.proofs.Removal.{filter-same}
 use Rattle.mps_arena.specs.Keys.{AreDistinct, first_key}
-use Rattle.mps_arena.specs.Entries.{Entry, steps, keys_of, any_step, with_mark, AreSound}
+use Rattle.mps_arena.specs.Entries.{KeyedStep, steps, keys_of, any_step, with_mark, AreSound}
 use Rattle.mps_arena.proofs.Chains.{keys-append}
 use Rattle.mps_links.specs.Order.{earlier}
 use Rattle.mps_links.specs.Marks.{marked_keys, is_marked, AreMarksClosed, unmarked, marked_by}
@@ -27,7 +27,7 @@ use Rattle.mps_links.proofs.Unmarking.{marked_as, mark_middle}
 use Rattle.mps_links.proofs.Passing.{joins_of, ArePending, IsMarking, passed, pending_more, fresh_more}
 
 -- what is pending of all roles comes first of all
-module _ (es : List Entry) (sound : AreSound es) (p : Step → Bool) (a b : List Entry) (parts : es ≡ a ++ b) where
+module _ (es : List KeyedStep) (sound : AreSound es) (p : Step → Bool) (a b : List KeyedStep) (parts : es ≡ a ++ b) where
   abbrev first_below : ℕ → Option ℕ
   first_below r = first_key (keys_of (λ t. nat_lt t.role r && p t) b)
 
@@ -57,36 +57,36 @@ module _ (es : List Entry) (sound : AreSound es) (p : Step → Bool) (a b : List
       let all : 0 + length firsts ≡ 8 = omega (arith, size) in
       fold_firsts 0 firsts None none (λ i less. let small : i < 8 = omega (arith, size, less) in let zero_more : i ≡ 0 + i = omega arith in each i small ∙ ap (λ n. first_key (keys_of (λ t. t.role == n && p t) b)) zero_more)
       ∙ ap first_below all
-      ∙ ap first_key (keys_agree (λ t. nat_lt t.role 8 && p t) p b (λ t i. ap (λ k. k && p t) (lt-ltb t.role 8 (small_in es t sound.small (subst (λ (l : List Step). IsIn t l) (sym (ap steps parts ∙ map-append (λ (e : Entry). e.step) a b)) (IsIn-append_right t (steps a) (steps b) i))))))
+      ∙ ap first_key (keys_agree (λ t. nat_lt t.role 8 && p t) p b (λ t i. ap (λ k. k && p t) (lt-ltb t.role 8 (small_in es t sound.small (subst (λ (l : List Step). IsIn t l) (sym (ap steps parts ∙ map-append (λ (e : KeyedStep). e.step) a b)) (IsIn-append_right t (steps a) (steps b) i))))))
 
-plain_steps : (l : List Entry) → steps (map unmarked l) ≡ steps l
+plain_steps : (l : List KeyedStep) → steps (map unmarked l) ≡ steps l
 plain_steps [] = refl
 plain_steps (e ∷ l) = ap (λ m. e.step ∷ m) (plain_steps l)
 
 -- entries that differ in their marks alone have the same steps
-pub same_steps : (l m : List Entry) → map unmarked l ≡ map unmarked m → steps l ≡ steps m
+pub same_steps : (l m : List KeyedStep) → map unmarked l ≡ map unmarked m → steps l ≡ steps m
 same_steps l m e = sym (plain_steps l) ∙ ap steps e ∙ plain_steps m
 
-marked_plain : (set : ℕ → Bool) (l : List Entry) → map (marked_by set) (map unmarked l) ≡ map (marked_by set) l
+marked_plain : (set : ℕ → Bool) (l : List KeyedStep) → map (marked_by set) (map unmarked l) ≡ map (marked_by set) l
 marked_plain set [] = refl
 marked_plain set (e ∷ l) = ap (λ m. marked_by set e ∷ m) (marked_plain set l)
 
-marked_same : (set : ℕ → Bool) (l : List Entry) → AllByRecursion (λ e. e.marked ≡ set e.step.id) l → l ≡ map (marked_by set) l
+marked_same : (set : ℕ → Bool) (l : List KeyedStep) → AllByRecursion (λ e. e.marked ≡ set e.step.id) l → l ≡ map (marked_by set) l
 marked_same set [] h = refl
-marked_same set (e ∷ l) h = ap₂ (λ (z : Entry) (m : List Entry). z ∷ m) (ap (λ v. marked_as v e) h.0) (marked_same set l h.1)
+marked_same set (e ∷ l) h = ap₂ (λ (z : KeyedStep) (m : List KeyedStep). z ∷ m) (ap (λ v. marked_as v e) h.0) (marked_same set l h.1)
 
 -- entries marked by a set are those of the other list, marked by the set
-pub marked_from : (set : ℕ → Bool) (l m : List Entry) → map unmarked l ≡ map unmarked m → AllByRecursion (λ e. e.marked ≡ set e.step.id) l → l ≡ map (marked_by set) m
+pub marked_from : (set : ℕ → Bool) (l m : List KeyedStep) → map unmarked l ≡ map unmarked m → AllByRecursion (λ e. e.marked ≡ set e.step.id) l → l ≡ map (marked_by set) m
 marked_from set l m e h = marked_same set l h ∙ sym (marked_plain set l) ∙ ap (map (marked_by set)) e ∙ marked_plain set m
 
 -- one step more is marked
 module _ (set more : ℕ → Bool) where
-  marks_kept : (n : ℕ) → ((m : ℕ) → more m ≡ (m == n || set m)) → (l : List Entry) → ((t : Step) → IsIn t (steps l) → (t.id == n) ≡ false) → AllByRecursion (λ e. e.marked ≡ set e.step.id) l → AllByRecursion (λ e. e.marked ≡ more e.step.id) l
+  marks_kept : (n : ℕ) → ((m : ℕ) → more m ≡ (m == n || set m)) → (l : List KeyedStep) → ((t : Step) → IsIn t (steps l) → (t.id == n) ≡ false) → AllByRecursion (λ e. e.marked ≡ set e.step.id) l → AllByRecursion (λ e. e.marked ≡ more e.step.id) l
   marks_kept n grown [] apart h = tt
   marks_kept n grown (e ∷ l) apart h =
       (h.0 ∙ sym (grown e.step.id ∙ ap (λ b. b || set e.step.id) (apart e.step (inl refl))), marks_kept n grown l (λ t i. apart t (inr i)) h.1)
 
-  marks_more : (a d : List Entry) (y : Entry) → ((m : ℕ) → more m ≡ (m == y.step.id || set m)) → IsRising (steps (a ++ y ∷ d)) → AllByRecursion (λ e. e.marked ≡ set e.step.id) (a ++ y ∷ d) → AllByRecursion (λ e. e.marked ≡ more e.step.id) (a ++ marked_as true y ∷ d)
+  marks_more : (a d : List KeyedStep) (y : KeyedStep) → ((m : ℕ) → more m ≡ (m == y.step.id || set m)) → IsRising (steps (a ++ y ∷ d)) → AllByRecursion (λ e. e.marked ≡ set e.step.id) (a ++ y ∷ d) → AllByRecursion (λ e. e.marked ≡ more e.step.id) (a ++ marked_as true y ∷ d)
   marks_more [] d y grown r h = (
     sym (grown y.step.id ∙ or_left (y.step.id == y.step.id) (set y.step.id) (eq-eqb y.step.id y.step.id refl)),
     marks_kept y.step.id grown d (λ t i. let less = at_member (λ u. y.step.id < u.id) (steps d) t r.0 i in ne_eqb t.id y.step.id (λ e. omega arith)) h.1,
@@ -143,7 +143,7 @@ lacks_one (s ∷ l) set t (inr i) e =
     (cases_Bool (set s.id))
 
 -- the first turn
-module _ (es : List Entry) (sound : AreSound es) (none : marked_keys es ≡ []) (a d : List Entry) (y : Entry) (parts : es ≡ a ++ y ∷ d) where
+module _ (es : List KeyedStep) (sound : AreSound es) (none : marked_keys es ≡ []) (a d : List KeyedStep) (y : KeyedStep) (parts : es ≡ a ++ y ∷ d) where
   abbrev empty : ℕ → Bool
   empty m = false
 
@@ -154,7 +154,7 @@ module _ (es : List Entry) (sound : AreSound es) (none : marked_keys es ≡ []) 
   nothing_joins h [] t = refl
   nothing_joins h (s ∷ l) t = nothing_joins h l t
 
-  none_marked : (l : List Entry) → marked_keys l ≡ [] → AllByRecursion (λ e. e.marked ≡ empty e.step.id) l
+  none_marked : (l : List KeyedStep) → marked_keys l ≡ [] → AllByRecursion (λ e. e.marked ≡ empty e.step.id) l
   none_marked [] e = tt
   none_marked (x ∷ l) e =
       ⊎_elim
@@ -199,7 +199,7 @@ module _ (es : List Entry) (sound : AreSound es) (none : marked_keys es ≡ []) 
       let h = steps es in
       let whole : h ≡ steps a ++ y.step ∷ steps d = ap steps parts ∙ steps_around a d y in
       let r : IsRising (steps a ++ y.step ∷ steps d) = subst IsRising whole sound.rising in
-      let now : map (with_mark y.key true) es ≡ a ++ marked_as true y ∷ d = ap (map (with_mark y.key true)) parts ∙ mark_middle true a d y (subst (λ (l : List Entry). AreDistinct (keys_of any_step l)) parts sound.distinct) in
+      let now : map (with_mark y.key true) es ≡ a ++ marked_as true y ∷ d = ap (map (with_mark y.key true)) parts ∙ mark_middle true a d y (subst (λ (l : List KeyedStep). AreDistinct (keys_of any_step l)) parts sound.distinct) in
       record {
         set = single;
         past = a ++ marked_as true y ∷ [];
@@ -207,7 +207,7 @@ module _ (es : List Entry) (sound : AreSound es) (none : marked_keys es ≡ []) 
         parts = now ∙ sym (append_assoc a (marked_as true y ∷ []) d);
         alike = ap (map unmarked) now ∙ map-append unmarked a (marked_as true y ∷ d) ∙ sym (ap (map unmarked) parts ∙ map-append unmarked a (y ∷ d));
         marks = subst (AllByRecursion (λ e. e.marked ≡ single e.step.id)) (sym now)
-            (marks_more empty single a d y grown (subst (λ (l : List Entry). IsRising (steps l)) parts sound.rising) (none_marked (a ++ y ∷ d) (ap marked_keys (sym parts) ∙ none)));
+            (marks_more empty single a d y grown (subst (λ (l : List KeyedStep). IsRising (steps l)) parts sound.rising) (none_marked (a ++ y ∷ d) (ap marked_keys (sym parts) ∙ none)));
         pending = pending_more es sound empty single a d y parts grown (replicate 8 None) none_pending;
         fresh = fresh_more es sound empty single a d y parts grown (λ t i. refl);
         same =
@@ -230,7 +230,7 @@ module _ (es : List Entry) (sound : AreSound es) (none : marked_keys es ≡ []) 
       no_one (t ∷ l) = no_one l
 
 -- a turn, and the end
-module _ (es now : List Entry) (whole : ℕ → Bool) (firsts : List (Option ℕ)) (count : ℕ) (w : IsMarking es now whole firsts count) (sound : AreSound now) where
+module _ (es now : List KeyedStep) (whole : ℕ → Bool) (firsts : List (Option ℕ)) (count : ℕ) (w : IsMarking es now whole firsts count) (sound : AreSound now) where
   abbrev h : List Step
   h = steps es
 
@@ -244,13 +244,13 @@ module _ (es now : List Entry) (whole : ℕ → Bool) (firsts : List (Option ℕ
     pub first : IsFirst (joins h w.set) w.rest k
     first = first_is (joins h w.set) w.rest k (sym first_pending ∙ is)
 
-    abbrev y : Entry
+    abbrev y : KeyedStep
     y = first.entry
 
     abbrev more : ℕ → Bool
     more = with w.set y.step.id
 
-    abbrev front : List Entry
+    abbrev front : List KeyedStep
     front = w.past ++ first.before
 
     pub split : now ≡ front ++ y ∷ first.behind
@@ -285,8 +285,8 @@ module _ (es now : List Entry) (whole : ℕ → Bool) (firsts : List (Option ℕ
     pub turns : IsMarking es (map (with_mark k true) now) whole (followed now k firsts) (count + 1)
     turns =
         let marked : map (with_mark k true) now ≡ front ++ marked_as true y ∷ first.behind =
-        ap₂ (λ (j : ℕ) (l : List Entry). map (with_mark j true) l) (sym first.key) split
-        ∙ mark_middle true front first.behind y (subst (λ (l : List Entry). AreDistinct (keys_of any_step l)) split sound.distinct) in
+        ap₂ (λ (j : ℕ) (l : List KeyedStep). map (with_mark j true) l) (sym first.key) split
+        ∙ mark_middle true front first.behind y (subst (λ (l : List KeyedStep). AreDistinct (keys_of any_step l)) split sound.distinct) in
         let r : IsRising (steps front ++ y.step ∷ steps first.behind) = subst IsRising (steps_are ∙ steps_split) sound.rising in
         record {
           set = more;
@@ -295,7 +295,7 @@ module _ (es now : List Entry) (whole : ℕ → Bool) (firsts : List (Option ℕ
           parts = marked ∙ sym (append_assoc front (marked_as true y ∷ []) first.behind);
           alike = ap (map unmarked) marked ∙ map-append unmarked front (marked_as true y ∷ first.behind) ∙ sym (ap (map unmarked) split ∙ map-append unmarked front (y ∷ first.behind)) ∙ w.alike;
           marks = subst (AllByRecursion (λ e. e.marked ≡ more e.step.id)) (sym marked)
-              (marks_more w.set more front first.behind y (λ m. refl) (subst (λ (l : List Entry). IsRising (steps l)) split sound.rising) (subst (AllByRecursion (λ e. e.marked ≡ w.set e.step.id)) split w.marks));
+              (marks_more w.set more front first.behind y (λ m. refl) (subst (λ (l : List KeyedStep). IsRising (steps l)) split sound.rising) (subst (AllByRecursion (λ e. e.marked ≡ w.set e.step.id)) split w.marks));
           pending =
               subst (λ (j : ℕ). ArePending h more first.behind (followed now j firsts)) first.key
               (subst (λ (l : List Step). ArePending l more first.behind (followed now y.key firsts)) steps_are
@@ -320,25 +320,25 @@ module _ (es now : List Entry) (whole : ℕ → Bool) (firsts : List (Option ℕ
   ends e = settled (λ t i. none_passes (joins h w.set) w.rest t (nothing_first (keys_of (joins h w.set) w.rest) (sym first_pending ∙ e)) i)
 
 -- where all are marked, the set is whole
-pub ends_by_count : (es now : List Entry) (whole : ℕ → Bool) (firsts : List (Option ℕ)) (count : ℕ) (w : IsMarking es now whole firsts count) → length es ≤ count → w.set ≡ whole
+pub ends_by_count : (es now : List KeyedStep) (whole : ℕ → Bool) (firsts : List (Option ℕ)) (count : ℕ) (w : IsMarking es now whole firsts count) → length es ≤ count → w.set ≡ whole
 ends_by_count es now whole firsts count w long =
-    sym (passed (steps es) w.set (steps w.rest) [] (λ t i. let few = lacks_one (steps es) w.set t (there t i) (w.fresh t i) in absurd (omega (arith, long, few, w.counted, length-map es (λ (e : Entry). e.step)))))
+    sym (passed (steps es) w.set (steps w.rest) [] (λ t i. let few = lacks_one (steps es) w.set t (there t i) (w.fresh t i) in absurd (omega (arith, long, few, w.counted, length-map es (λ (e : KeyedStep). e.step)))))
     ∙ ap (joined (steps es) w.set) (append-nil (steps w.rest))
     ∙ w.same
   where
     there : (t : Step) → IsIn t (steps w.rest) → IsIn t (steps es)
     there t i =
-        subst (λ (l : List Step). IsIn t l) (sym (ap steps w.parts ∙ map-append (λ (e : Entry). e.step) w.past w.rest) ∙ same_steps now es w.alike)
+        subst (λ (l : List Step). IsIn t l) (sym (ap steps w.parts ∙ map-append (λ (e : KeyedStep). e.step) w.past w.rest) ∙ same_steps now es w.alike)
         (IsIn-append_right t (steps w.past) (steps w.rest) i)
 
 -- the entry of a step
-entry_of : (l : List Entry) (t : Step) → IsIn t (steps l) → (a : List Entry) × (x : Entry) × (b : List Entry) × ((l ≡ a ++ x ∷ b) × (t ≡ x.step))
+entry_of : (l : List KeyedStep) (t : Step) → IsIn t (steps l) → (a : List KeyedStep) × (x : KeyedStep) × (b : List KeyedStep) × ((l ≡ a ++ x ∷ b) × (t ≡ x.step))
 entry_of [] t i = absurd i
 entry_of (e ∷ l) t (inl q) = ([], e, l, (refl, q))
 entry_of (e ∷ l) t (inr i) = let w = entry_of l t i in (e ∷ w.0, w.1, w.2, (ap (λ m. e ∷ m) w.3.0, w.3.1))
 
 -- entries marked by the consequences of a step are closed
-pub marks_closed : (es now : List Entry) (n : ℕ) (set : ℕ → Bool) → IsRising (steps es) → map unmarked now ≡ map unmarked es → AllByRecursion (λ e. e.marked ≡ set e.step.id) now → set ≡ consequences (steps es) n → AreMarksClosed now
+pub marks_closed : (es now : List KeyedStep) (n : ℕ) (set : ℕ → Bool) → IsRising (steps es) → map unmarked now ≡ map unmarked es → AllByRecursion (λ e. e.marked ≡ set e.step.id) now → set ≡ consequences (steps es) n → AreMarksClosed now
 marks_closed es now n set rising alike marks whole t s it is m d =
     let same = same_steps now es alike in
     let r : IsRising (steps now) = subst IsRising (sym same) rising in

@@ -7,8 +7,8 @@ use Rattle.std.proofs.lemmas.Bool.{cases_Bool, cond-true, cond-false, eqb-true, 
 use Rattle.std.proofs.lemmas.List.{map-append}
 use Rattle.mps_history.specs.Dependence.{depends_on, is_matched}
 use Rattle.mps_arena.specs.Keys.{has, AreDistinct, last_key}
-use Rattle.mps_arena.specs.Entries.{Entry, steps, keys_of, any_step, of_role, entry_at, with_mark, AreSound, IsSmall}
-use Rattle.mps_arena.specs.Sources.{prev_of_role_in}
+use Rattle.mps_arena.specs.Entries.{KeyedStep, steps, keys_of, any_step, of_role, entry_at, with_mark, AreSound, IsSmall}
+use Rattle.mps_arena.specs.Neighbours.{prev_of_role_in}
 use Rattle.mps_arena.proofs.KeyLists.{has-append_right}
 use Rattle.mps_arena.proofs.Chains.{keys_without, keys_around}
 use Rattle.mps_links.specs.Marks.{AreMarksClosed, unmarked}
@@ -22,43 +22,43 @@ use Rattle.mps_links.proofs.Marked.{marked_here}
 use Rattle.mps_links.proofs.Newest.{below_next}
 
 -- the entry with that mark
-abbrev pub marked_as : Bool → Entry → Entry
+abbrev pub marked_as : Bool → KeyedStep → KeyedStep
 marked_as m e = record e { marked = m }
 
-others_kept : (k : ℕ) (m : Bool) (b : List Entry) → has k (keys_of any_step b) ≡ false → map (with_mark k m) b ≡ b
+others_kept : (k : ℕ) (m : Bool) (b : List KeyedStep) → has k (keys_of any_step b) ≡ false → map (with_mark k m) b ≡ b
 others_kept k m [] e = refl
 others_kept k m (y ∷ b) e =
     let p = or_parts (y.key == k) (has k (keys_of any_step b)) e in
-    ap₂ (λ (z : Entry) (l : List Entry). z ∷ l) (ap (λ v. marked_as v y) (cond-false (y.key == k) m y.marked p.0)) (others_kept k m b p.1)
+    ap₂ (λ (z : KeyedStep) (l : List KeyedStep). z ∷ l) (ap (λ v. marked_as v y) (cond-false (y.key == k) m y.marked p.0)) (others_kept k m b p.1)
 
 -- a mark written in the middle
-pub mark_middle : (m : Bool) (a b : List Entry) (x : Entry) → AreDistinct (keys_of any_step (a ++ x ∷ b)) → map (with_mark x.key m) (a ++ x ∷ b) ≡ a ++ marked_as m x ∷ b
+pub mark_middle : (m : Bool) (a b : List KeyedStep) (x : KeyedStep) → AreDistinct (keys_of any_step (a ++ x ∷ b)) → map (with_mark x.key m) (a ++ x ∷ b) ≡ a ++ marked_as m x ∷ b
 mark_middle m [] b x d =
-    ap₂ (λ (z : Entry) (l : List Entry). z ∷ l) (ap (λ v. marked_as v x) (cond-true (x.key == x.key) m x.marked (eq-eqb x.key x.key refl))) (others_kept x.key m b d.0)
+    ap₂ (λ (z : KeyedStep) (l : List KeyedStep). z ∷ l) (ap (λ v. marked_as v x) (cond-true (x.key == x.key) m x.marked (eq-eqb x.key x.key refl))) (others_kept x.key m b d.0)
 mark_middle m (y ∷ a) b x d =
     let n : (y.key == x.key) ≡ false = false_from_ne_true (y.key == x.key) (λ t.
     both_ways (has y.key (keys_of any_step (a ++ x ∷ b))) d.0
     (rw (keys_around any_step a b x refl) (has-append_right y.key (keys_of any_step a) (x.key ∷ keys_of any_step b) (or_left (x.key == y.key) (has y.key (keys_of any_step b)) (eq-eqb x.key y.key (sym (eqb-true y.key x.key t))))))) in
-    ap₂ (λ (z : Entry) (l : List Entry). z ∷ l) (ap (λ v. marked_as v y) (cond-false (y.key == x.key) m y.marked n)) (mark_middle m a b x d.1)
+    ap₂ (λ (z : KeyedStep) (l : List KeyedStep). z ∷ l) (ap (λ v. marked_as v y) (cond-false (y.key == x.key) m y.marked n)) (mark_middle m a b x d.1)
 
 module _ (p : ℕ) where
-  abbrev off : List Entry → List Entry
+  abbrev off : List KeyedStep → List KeyedStep
   off es = map (unmarked_of p) es
 
-  other_role : (y : Entry) → (y.step.role == p) ≡ false → unmarked_of p y ≡ y
+  other_role : (y : KeyedStep) → (y.step.role == p) ≡ false → unmarked_of p y ≡ y
   other_role y f = ap (λ v. marked_as v y) (cond-false (y.step.role == p) false y.marked f)
 
-  own_role : (y : Entry) → (y.step.role == p) ≡ true → unmarked_of p y ≡ marked_as false y
+  own_role : (y : KeyedStep) → (y.step.role == p) ≡ true → unmarked_of p y ≡ marked_as false y
   own_role y t = ap (λ v. marked_as v y) (cond-true (y.step.role == p) false y.marked t)
 
-  none_of_role : (b : List Entry) → keys_of (of_role p) b ≡ [] → off b ≡ b
+  none_of_role : (b : List KeyedStep) → keys_of (of_role p) b ≡ [] → off b ≡ b
   none_of_role [] e = refl
   none_of_role (y ∷ b) e =
       let f : (y.step.role == p) ≡ false = none_passes (of_role p) (y ∷ b) y.step e (inl refl) in
-      ap₂ (λ (z : Entry) (l : List Entry). z ∷ l) (other_role y f) (none_of_role b (sym (keys_without (of_role p) y b f) ∙ e))
+      ap₂ (λ (z : KeyedStep) (l : List KeyedStep). z ∷ l) (other_role y f) (none_of_role b (sym (keys_without (of_role p) y b f) ∙ e))
 
   -- before an unmarked step of the role none is marked
-  none_before : (a b : List Entry) (x : Entry) → AreLastMarked p (a ++ x ∷ b) → x.step.role ≡ p → x.marked ≡ false → off a ≡ a
+  none_before : (a b : List KeyedStep) (x : KeyedStep) → AreLastMarked p (a ++ x ∷ b) → x.step.role ≡ p → x.marked ≡ false → off a ≡ a
   none_before [] b x h own m = refl
   none_before (y ∷ a) b x h own m =
       let rest = none_before a b x h.1 own m in
@@ -67,24 +67,24 @@ module _ (p : ℕ) where
       ⊎_elim
       (λ (u : y.marked ≡ true).
       absurd (both_ways x.marked m (at_middle (λ f. f.step.role ≡ p → f.marked ≡ true) a b x (h.0 (eqb-true y.step.role p t) u) own)))
-      (λ (v : y.marked ≡ false). ap₂ (λ (z : Entry) (l : List Entry). z ∷ l) (own_role y t ∙ ap (λ k. marked_as k y) (sym v)) rest)
+      (λ (v : y.marked ≡ false). ap₂ (λ (z : KeyedStep) (l : List KeyedStep). z ∷ l) (own_role y t ∙ ap (λ k. marked_as k y) (sym v)) rest)
       (cases_Bool y.marked))
-      (λ (f : (y.step.role == p) ≡ false). ap₂ (λ (z : Entry) (l : List Entry). z ∷ l) (other_role y f) rest)
+      (λ (f : (y.step.role == p) ≡ false). ap₂ (λ (z : KeyedStep) (l : List KeyedStep). z ∷ l) (other_role y f) rest)
       (cases_Bool (y.step.role == p))
 
   -- the marks of the role are off from some place on, and the key is that of its last step before
-  pub record IsWalk (es now : List Entry) (at : Option ℕ) (turns : ℕ) : Type 0 where
-    pub front : List Entry
-    pub rest : List Entry
+  pub record IsWalk (es now : List KeyedStep) (at : Option ℕ) (turns : ℕ) : Type 0 where
+    pub front : List KeyedStep
+    pub rest : List KeyedStep
     pub parts : es ≡ front ++ rest
     pub left : now ≡ front ++ off rest
     pub key : at ≡ last_key None (keys_of (of_role p) front)
     pub count : turns ≤ length rest
 
-  pub walk_starts : (es : List Entry) → IsWalk es es (last_key None (keys_of (of_role p) es)) 0
+  pub walk_starts : (es : List KeyedStep) → IsWalk es es (last_key None (keys_of (of_role p) es)) 0
   walk_starts es = record { front = es; rest = []; parts = sym (append-nil es); left = sym (append-nil es); key = refl; count = omega arith }
 
-  module _ (es now : List Entry) (at : Option ℕ) (turns : ℕ) (w : IsWalk es now at turns) where
+  module _ (es now : List KeyedStep) (at : Option ℕ) (turns : ℕ) (w : IsWalk es now at turns) where
     ended : off w.front ≡ w.front → now ≡ off es
     ended e = w.left ∙ ap (λ l. l ++ off w.rest) (sym e) ∙ sym (ap off w.parts ∙ map-append (unmarked_of p) w.front w.rest)
 
@@ -95,7 +95,7 @@ module _ (p : ℕ) where
     ends_by_count long =
         ended (empty w.front (λ x l e. omega (arith, long, w.count, ap length w.parts, length-append w.front w.rest, ap length e)))
       where
-        empty : (l : List Entry) → ((x : Entry) (m : List Entry) → l ≡ x ∷ m → ⊥) → off l ≡ l
+        empty : (l : List KeyedStep) → ((x : KeyedStep) (m : List KeyedStep) → l ≡ x ∷ m → ⊥) → off l ≡ l
         empty [] h = refl
         empty (x ∷ m) h = absurd (h x m refl)
 
@@ -103,7 +103,7 @@ module _ (p : ℕ) where
       pub last : IsLast (of_role p) w.front k
       last = last_is (of_role p) w.front k (sym w.key ∙ is)
 
-      abbrev x : Entry
+      abbrev x : KeyedStep
       x = last.entry
 
       now_is : now ≡ last.before ++ x ∷ (last.behind ++ off w.rest)
@@ -124,7 +124,7 @@ module _ (p : ℕ) where
           ended
           (ap off last.parts
           ∙ map-append (unmarked_of p) last.before (x ∷ last.behind)
-          ∙ ap₂ (λ (l r : List Entry). l ++ r) front (ap₂ (λ (z : Entry) (l : List Entry). z ∷ l) (own_role x last.passes ∙ ap (λ v. marked_as v x) (sym m)) (none_of_role last.behind last.none))
+          ∙ ap₂ (λ (l r : List KeyedStep). l ++ r) front (ap₂ (λ (z : KeyedStep) (l : List KeyedStep). z ∷ l) (own_role x last.passes ∙ ap (λ v. marked_as v x) (sym m)) (none_of_role last.behind last.none))
           ∙ sym last.parts)
 
       pub walk_goes : AreSound now → IsWalk es (map (with_mark k false) now) (prev_of_role_in now k) (turns + 1)
@@ -134,10 +134,10 @@ module _ (p : ℕ) where
             rest = x ∷ (last.behind ++ w.rest);
             parts = es_is;
             left =
-                ap₂ (λ (j : ℕ) (l : List Entry). map (with_mark j false) l) (sym last.key) now_is
-                ∙ mark_middle false last.before (last.behind ++ off w.rest) x (subst (λ (l : List Entry). AreDistinct (keys_of any_step l)) now_is sound.distinct)
+                ap₂ (λ (j : ℕ) (l : List KeyedStep). map (with_mark j false) l) (sym last.key) now_is
+                ∙ mark_middle false last.before (last.behind ++ off w.rest) x (subst (λ (l : List KeyedStep). AreDistinct (keys_of any_step l)) now_is sound.distinct)
                 ∙ ap (λ l. last.before ++ l)
-                (ap₂ (λ (z : Entry) (l : List Entry). z ∷ l) (sym (own_role x last.passes)) (ap (λ l. l ++ off w.rest) (sym (none_of_role last.behind last.none)) ∙ sym (map-append (unmarked_of p) last.behind w.rest)));
+                (ap₂ (λ (z : KeyedStep) (l : List KeyedStep). z ∷ l) (sym (own_role x last.passes)) (ap (λ l. l ++ off w.rest) (sym (none_of_role last.behind last.none)) ∙ sym (map-append (unmarked_of p) last.behind w.rest)));
             key =
                 ap (prev_of_role_in now) (sym last.key)
                 ∙ prev_is now sound last.before (last.behind ++ off w.rest) x now_is
@@ -146,13 +146,13 @@ module _ (p : ℕ) where
           }
 
 -- the marks of the roles below r are off
-abbrev pub unmarked_below : ℕ → Entry → Entry
+abbrev pub unmarked_below : ℕ → KeyedStep → KeyedStep
 unmarked_below r e = marked_as (if nat_lt e.step.role r then false else e.marked) e
 
-pub below_none : (es : List Entry) → map (unmarked_below 0) es ≡ es
+pub below_none : (es : List KeyedStep) → map (unmarked_below 0) es ≡ es
 below_none [] = refl
 below_none (y ∷ es) =
-    ap₂ (λ (z : Entry) (l : List Entry). z ∷ l) (ap (λ v. marked_as v y) (cond-false (nat_lt y.step.role 0) false y.marked (le-ltb y.step.role 0 (omega arith)))) (below_none es)
+    ap₂ (λ (z : KeyedStep) (l : List KeyedStep). z ∷ l) (ap (λ v. marked_as v y) (cond-false (nat_lt y.step.role 0) false y.marked (le-ltb y.step.role 0 (omega arith)))) (below_none es)
 
 role_off : (n r : ℕ) (m : Bool) → cond (n == r) false (cond (nat_lt n r) false m) ≡ cond (nat_lt n (r + 1)) false m
 role_off n r m =
@@ -162,20 +162,20 @@ role_off n r m =
     ⊎_elim (λ (t : nat_lt n r ≡ true). rw (below_next n r, f, t) refl) (λ (g : nat_lt n r ≡ false). rw (below_next n r, f, g) refl) (cases_Bool (nat_lt n r)))
     (cases_Bool (n == r))
 
-pub below_more : (r : ℕ) (es : List Entry) → map (unmarked_of r) (map (unmarked_below r) es) ≡ map (unmarked_below (r + 1)) es
+pub below_more : (r : ℕ) (es : List KeyedStep) → map (unmarked_of r) (map (unmarked_below r) es) ≡ map (unmarked_below (r + 1)) es
 below_more r [] = refl
-below_more r (y ∷ es) = ap₂ (λ (z : Entry) (l : List Entry). z ∷ l) (ap (λ v. marked_as v y) (role_off y.step.role r y.marked)) (below_more r es)
+below_more r (y ∷ es) = ap₂ (λ (z : KeyedStep) (l : List KeyedStep). z ∷ l) (ap (λ v. marked_as v y) (role_off y.step.role r y.marked)) (below_more r es)
 
-pub below_all : (es : List Entry) → AllByRecursion (λ e. IsSmall e.step) es → map (unmarked_below 8) es ≡ map unmarked es
+pub below_all : (es : List KeyedStep) → AllByRecursion (λ e. IsSmall e.step) es → map (unmarked_below 8) es ≡ map unmarked es
 below_all [] h = refl
 below_all (y ∷ es) h =
-    ap₂ (λ (z : Entry) (l : List Entry). z ∷ l) (ap (λ v. marked_as v y) (cond-true (nat_lt y.step.role 8) false y.marked (lt-ltb y.step.role 8 h.0.0))) (below_all es h.1)
+    ap₂ (λ (z : KeyedStep) (l : List KeyedStep). z ∷ l) (ap (λ v. marked_as v y) (cond-true (nat_lt y.step.role 8) false y.marked (lt-ltb y.step.role 8 h.0.0))) (below_all es h.1)
 
-module _ (es : List Entry) (sound : AreSound es) (closed : AreMarksClosed es) (r : ℕ) where
-  own_mark : (y : Entry) → y.step.role ≡ r → (unmarked_below r y).marked ≡ y.marked
+module _ (es : List KeyedStep) (sound : AreSound es) (closed : AreMarksClosed es) (r : ℕ) where
+  own_mark : (y : KeyedStep) → y.step.role ≡ r → (unmarked_below r y).marked ≡ y.marked
   own_mark y e = cond-false (nat_lt y.step.role r) false y.marked (le-ltb y.step.role r (omega arith))
 
-  behind_marked : (a b : List Entry) (x : Entry) → es ≡ a ++ x ∷ b → x.step.role ≡ r → x.marked ≡ true → (c e : List Entry) → b ≡ c ++ e → AllByRecursion (λ f. f.step.role ≡ r → f.marked ≡ true) (map (unmarked_below r) e)
+  behind_marked : (a b : List KeyedStep) (x : KeyedStep) → es ≡ a ++ x ∷ b → x.step.role ≡ r → x.marked ≡ true → (c e : List KeyedStep) → b ≡ c ++ e → AllByRecursion (λ f. f.step.role ≡ r → f.marked ≡ true) (map (unmarked_below r) e)
   behind_marked a b x is same_role m c [] parts = tt
   behind_marked a b x is same_role m c (z ∷ e) parts = (
     λ same.
@@ -190,7 +190,7 @@ module _ (es : List Entry) (sound : AreSound es) (closed : AreMarksClosed es) (r
     behind_marked a b x is same_role m (c ++ z ∷ []) e (parts ∙ sym (append_assoc c (z ∷ []) e)),
   )
 
-  last_from : (a b : List Entry) → es ≡ a ++ b → AreLastMarked r (map (unmarked_below r) b)
+  last_from : (a b : List KeyedStep) → es ≡ a ++ b → AreLastMarked r (map (unmarked_below r) b)
   last_from a [] e = tt
   last_from a (y ∷ b) e =
       (λ own m. behind_marked a b y e own (sym (own_mark y own) ∙ m) [] b refl, last_from (a ++ y ∷ []) b (e ∙ sym (append_assoc a (y ∷ []) b)))

@@ -7,18 +7,18 @@ use Rattle.std.proofs.lemmas.Bool.{cases_Bool}
 use Rattle.mps_base.specs.Effects.{Effect, effect}
 use Rattle.mps_base.specs.declared.action.Step.{Step}
 use Rattle.mps_history.specs.Steps.{sends, receives}
-use Rattle.mps_arena.specs.Keys.{AreDistinct, is_at, has, first_key, last_key, key_before, partner}
-use Rattle.mps_arena.specs.Entries.{Entry, keys_of, entry_at, like, unlike, like_sends, AreSound}
-use Rattle.mps_arena.specs.Receipts.{receipt_mate}
-use Rattle.mps_arena.specs.Sources.{waiting, receipt_in, prev_send_in, mate_of}
-use Rattle.mps_arena.proofs.KeyLists.{once, before_absent, partner_middle, get_none, get_some, last_in, has-append_left}
+use Rattle.mps_arena.specs.Keys.{AreDistinct, is_at, has, first_key, last_key, key_before, matched_key}
+use Rattle.mps_arena.specs.Entries.{KeyedStep, keys_of, entry_at, like, unlike, like_sends, AreSound}
+use Rattle.mps_arena.specs.Matched.{matched_receipt}
+use Rattle.mps_arena.specs.Neighbours.{waiting, receipt_in, prev_send_in, matched_with}
+use Rattle.mps_arena.proofs.KeyLists.{once, before_absent, matched_key_middle, get_none, get_some, last_in, has-append_left}
 use Rattle.mps_arena.proofs.Chains.{keys_with, keys_without, distinct, passes, entry_key}
-use Rattle.mps_arena.proofs.Mates.{matched_of, sends_pair, sends_chain}
+use Rattle.mps_arena.proofs.Matched.{matched_of, sends_pair, sends_chain}
 use Rattle.mps_links.proofs.Lasts.{nothing_last}
 use Rattle.mps_links.proofs.Present.{there, chained_there}
 use Rattle.mps_links.proofs.Receipts.{get_behind}
 
-few : (p : Step → Bool) (es : List Entry) → length (keys_of p es) ≤ length es
+few : (p : Step → Bool) (es : List KeyedStep) → length (keys_of p es) ≤ length es
 few p [] = omega arith
 few p (y ∷ es) =
     let rest = few p es in
@@ -30,7 +30,7 @@ but_last k [] e = absurd cc
 but_last k (j ∷ []) e = let same : j ≡ k = cc in ([], ap (λ n. n ∷ []) same)
 but_last k (j ∷ i ∷ l) e = let w = but_last k (i ∷ l) e in (j ∷ w.0, ap (λ m. j ∷ m) w.1)
 
-module _ (es : List Entry) (sound : AreSound es) (p q : ℕ) where
+module _ (es : List KeyedStep) (sound : AreSound es) (p q : ℕ) where
   abbrev sent : List ℕ
   sent = keys_of (sends p q) es
 
@@ -87,7 +87,7 @@ module _ (es : List Entry) (sound : AreSound es) (p q : ℕ) where
       chained : has k sent ≡ true
       chained = ap (has k) w.parts ∙ has-append_left k w.front w.back (last_in w.front k (ap (λ o. is_at o k) (sym w.key ∙ is) ∙ eq-eqb k k refl))
 
-      entry : (e : Entry) × (entry_at k es ≡ Some e)
+      entry : (e : KeyedStep) × (entry_at k es ≡ Some e)
       entry = there k es (chained_there (sends p q) k es chained)
 
       sending : sends p q entry.0.step ≡ true
@@ -97,12 +97,12 @@ module _ (es : List Entry) (sound : AreSound es) (p q : ℕ) where
       receipt_is =
           let e = entry.0 in
           let pair = sends_pair p q e.step sending in
-          ap (option_and_then (λ (y : Entry). receipt_mate (effect y.step.act) (mate_of es y))) entry.1
-          ∙ ap (λ (c : Effect). receipt_mate c (partner e.key (keys_of (like e.step.role c) es) (keys_of (unlike e.step.role c) es))) pair.2
-          ∙ ap (λ r. partner e.key (keys_of (sends r q) es) (keys_of (receives r q) es)) pair.1
-          ∙ ap (λ j. partner j sent got) (entry_key k es e entry.1)
-          ∙ ap (λ l. partner k l got) whole
-          ∙ partner_middle k before w.back got apart.0
+          ap (option_and_then (λ (y : KeyedStep). matched_receipt (effect y.step.act) (matched_with es y))) entry.1
+          ∙ ap (λ (c : Effect). matched_receipt c (matched_key e.key (keys_of (like e.step.role c) es) (keys_of (unlike e.step.role c) es))) pair.2
+          ∙ ap (λ r. matched_key e.key (keys_of (sends r q) es) (keys_of (receives r q) es)) pair.1
+          ∙ ap (λ j. matched_key j sent got) (entry_key k es e entry.1)
+          ∙ ap (λ l. matched_key k l got) whole
+          ∙ matched_key_middle k before w.back got apart.0
 
       pub found_received : (r : ℕ) → receipt_in es k ≡ Some r → first ≡ waiting es p q
       found_received r e = let less = get_some got (length before) r (sym receipt_is ∙ e) in found (omega (arith, less, size, w.enough))
@@ -115,7 +115,7 @@ module _ (es : List Entry) (sound : AreSound es) (p q : ℕ) where
             back = k ∷ w.back;
             parts = whole;
             key =
-                ap (option_and_then (λ (y : Entry). key_before None y.key (keys_of (like_sends y.step.role (effect y.step.act)) es))) entry.1
+                ap (option_and_then (λ (y : KeyedStep). key_before None y.key (keys_of (like_sends y.step.role (effect y.step.act)) es))) entry.1
                 ∙ ap₂ (λ (j : ℕ) (f : Step → Bool). key_before None j (keys_of f es)) (entry_key k es entry.0 entry.1) (sends_chain p q entry.0.step sending)
                 ∙ ap (key_before None k) whole
                 ∙ before_absent None k before (k ∷ w.back) apart.0

@@ -5,7 +5,7 @@ ghost use Rattle.std.specs.Option.{option_map};
 ghost use Rattle.mps_history.specs.Steps.{step_of};
 ghost use Rattle.mps_history.specs.Dependence.{least, dependents};
 ghost use Rattle.mps_arena.specs.Entries.{steps};
-ghost use Rattle.mps_arena.specs.Sources.{CanGo};
+ghost use Rattle.mps_arena.specs.Neighbours.{CanGo};
 
 use crate::order::{earlier, with_number};
 use mps_arena::Arena;
@@ -21,6 +21,7 @@ pub fn least_dependent(arena: &Arena, id: StepId) -> Option<StepId>
         → option_map (λ e. e.key) (find (λ e. e.step.id == id) arena.now.entries) ≡ Some k
         → CanGo arena.now.entries k }
 {
+    // the clauses of `len` say that the entries are sound, and in a `prove!` a call costs nothing
     prove!(arena.len() > 0);
     let key = arena.by_id(id)?;
     let next = with_number(arena, arena.next_of_role(key));

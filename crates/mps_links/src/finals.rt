@@ -3,7 +3,7 @@ ghost use Rattle.std.specs.Prelude.{◌≡◌, ◌<◌, ◌==◌, ◌&&◌, IsSo
 ghost use Rattle.mps_history.specs.Commits.{is_commit};
 ghost use Rattle.mps_history.specs.Dependence.{least};
 ghost use Rattle.mps_arena.specs.Keys.{first_key};
-ghost use Rattle.mps_arena.specs.Entries.{Entry, keys_of, entry_at};
+ghost use Rattle.mps_arena.specs.Entries.{KeyedStep, keys_of, entry_at};
 ghost use Rattle.mps_links.specs.Marks.{is_marked, AreMarksClosed, marked_commits};
 
 use crate::order::{earlier, with_number};
@@ -13,7 +13,7 @@ use mps_base::{Act, Role, StepId};
 // the key itself where its step is a commit, else the other one
 fn commit_or(arena: &Arena, key: Key, other: Option<Key>) -> Option<Key>
     requires { IsSome (entry_at key arena.now.entries) }
-    ensures { (e : Entry) → entry_at key arena.now.entries ≡ Some e
+    ensures { (e : KeyedStep) → entry_at key arena.now.entries ≡ Some e
         → result ≡ (if is_commit e.step.act then Some key else other) }
 {
     match &arena.get(key).act {
@@ -35,6 +35,7 @@ fn first_final_of(arena: &Arena, role: Role) -> Option<Key>
         let Some(key) = at else {
             return first;
         };
+        // the clauses of `len` say that the entries are sound, and in a `prove!` a call costs nothing
         prove!(arena.len() > 0);
         if !arena.marked(key) {
             return first;

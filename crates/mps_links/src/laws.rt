@@ -1,16 +1,16 @@
-//! Laws of marks, for whoever takes the marked steps out, the newest first.
+//! Laws of marks, for whoever removes the marked steps, the newest first.
 ghost use Rattle.std.specs.Prelude.{◌≡◌, ◌==◌, ◌+◌, ◌++◌, ◌∷◌, [], ℕ, Bool, List, Some, None, not, map, length};
 ghost use Rattle.std.specs.List.{filter};
 ghost use Rattle.mps_history.specs.Steps.{within, without};
 ghost use Rattle.mps_history.specs.Dependence.{consequences};
 ghost use Rattle.mps_history.specs.Commits.{commits_from};
 ghost use Rattle.mps_arena.specs.Keys.{last_key};
-ghost use Rattle.mps_arena.specs.Entries.{Entry, steps, entry_at, AreSound};
+ghost use Rattle.mps_arena.specs.Entries.{KeyedStep, steps, entry_at, AreSound};
 ghost use Rattle.mps_links.specs.Marks.{marked_keys, marked_steps, AreMarksClosed, marked_by, unmarked_steps, marked_commits};
 
 /// Where the newest marked step goes, each step that depends on a marked one is still marked.
 pub fn marks_stay_closed()
-    ensures { (es : List Entry) (k : ℕ) → AreSound es → AreMarksClosed es
+    ensures { (es : List KeyedStep) (k : ℕ) → AreSound es → AreMarksClosed es
         → last_key None (marked_keys es) ≡ Some k
         → AreMarksClosed (filter (λ e. not (e.key == k)) es) }
 {}
@@ -18,23 +18,23 @@ pub fn marks_stay_closed()
 /// Where the newest marked step goes, the unmarked ones stay, and of the marked ones all but the
 /// last. So in the end the history is left without the marked ones.
 pub fn marked_steps_go()
-    ensures stay { (es : List Entry) (k : ℕ) → AreSound es
+    ensures stay { (es : List KeyedStep) (k : ℕ) → AreSound es
         → last_key None (marked_keys es) ≡ Some k
         → unmarked_steps (filter (λ e. not (e.key == k)) es) ≡ unmarked_steps es }
-    ensures fewer { (es : List Entry) (k : ℕ) → AreSound es
+    ensures fewer { (es : List KeyedStep) (k : ℕ) → AreSound es
         → last_key None (marked_keys es) ≡ Some k
         → length (marked_keys (filter (λ e. not (e.key == k)) es)) + 1 ≡ length (marked_keys es) }
-    ensures last { (es : List Entry) (k : ℕ) (e : Entry) → AreSound es
+    ensures last { (es : List KeyedStep) (k : ℕ) (e : KeyedStep) → AreSound es
         → last_key None (marked_keys es) ≡ Some k → entry_at k es ≡ Some e
         → marked_steps es ≡ marked_steps (filter (λ e. not (e.key == k)) es) ++ e.step ∷ [] }
-    ensures left { (es : List Entry) → last_key None (marked_keys es) ≡ None
+    ensures left { (es : List KeyedStep) → last_key None (marked_keys es) ≡ None
         → unmarked_steps es ≡ steps es }
-    ensures unmarked { (es : List Entry) (set : ℕ → Bool)
+    ensures unmarked { (es : List KeyedStep) (set : ℕ → Bool)
         → unmarked_steps (map (marked_by set) es) ≡ without (steps es) set }
-    ensures marked { (es : List Entry) (set : ℕ → Bool)
+    ensures marked { (es : List KeyedStep) (set : ℕ → Bool)
         → marked_steps (map (marked_by set) es) ≡ within (steps es) set }
-    ensures count { (es : List Entry) (set : ℕ → Bool)
+    ensures count { (es : List KeyedStep) (set : ℕ → Bool)
         → length (marked_keys (map (marked_by set) es)) ≡ length (within (steps es) set) }
-    ensures commits { (es : List Entry) (n : ℕ)
+    ensures commits { (es : List KeyedStep) (n : ℕ)
         → marked_commits (map (marked_by (consequences (steps es) n)) es) ≡ commits_from (steps es) n }
 {}

@@ -1,7 +1,7 @@
 //! What depends on a step of an arena, found from link to link.
 //!
 //! `least_dependent` names the least step that depends on a step. `mark_from` marks a step and all that depend on it,
-//! `newest_marked` gives them one by one, so that they can be taken out, the newest first, and `least_final` names the
+//! `newest_marked` gives them one by one, so that they can be removed, the newest first, and `least_final` names the
 //! least commit among them.
 //!
 //! ```

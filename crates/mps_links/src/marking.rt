@@ -4,7 +4,7 @@ ghost use Rattle.mps_history.specs.Steps.{step_of, within};
 ghost use Rattle.mps_history.specs.Dependence.{consequences};
 ghost use Rattle.mps_arena.specs.Keys.{last_key};
 ghost use Rattle.mps_arena.specs.Entries.{steps, keys_of};
-ghost use Rattle.mps_arena.specs.Sources.{CanGo};
+ghost use Rattle.mps_arena.specs.Neighbours.{CanGo};
 ghost use Rattle.mps_links.specs.Marks.{marked_keys, is_marked, AreMarksClosed, marked_by, unmarked};
 ghost use Rattle.mps_links.specs.Numbered.{key_of, HasNumber};
 ghost use Rattle.mps_links.specs.RoleMarks.{unmarked_of, AreLastMarked};
@@ -35,6 +35,7 @@ pub fn mark_from(arena: &mut Arena, id: StepId) -> usize
     pending.follow(arena, first);
     arena.set_mark(first, true);
     for count in 1..len {
+        // the clauses of `len` say that the entries are sound, and in a `prove!` a call costs nothing
         prove!(arena.len() > 0);
         let Some(key) = pending.earliest() else {
             return count;
@@ -54,6 +55,7 @@ fn newest_marked_of(arena: &Arena, role: Role) -> Option<Numbered>
     ensures number { HasNumber arena.now.entries result }
 {
     let key = arena.last_of(role)?;
+    // the clauses of `len` say that the entries are sound, and in a `prove!` a call costs nothing
     prove!(arena.len() > 0);
     if !arena.marked(key) {
         return None;
@@ -93,6 +95,7 @@ fn unmark_role(arena: &mut Arena, role: Role)
         let Some(key) = at else {
             return;
         };
+        // the clauses of `len` say that the entries are sound, and in a `prove!` a call costs nothing
         prove!(arena.len() > 0);
         if !arena.marked(key) {
             return;

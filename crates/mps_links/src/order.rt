@@ -1,6 +1,6 @@
 //! Of two steps the one that comes earlier, and the one that comes later.
 ghost use Rattle.std.specs.Prelude.{◌≡◌, List, IfSome, IsSome};
-ghost use Rattle.mps_arena.specs.Entries.{Entry, entry_at};
+ghost use Rattle.mps_arena.specs.Entries.{KeyedStep, entry_at};
 ghost use Rattle.mps_links.specs.Numbered.{key_of, HasNumber};
 ghost use Rattle.mps_links.specs.Order.{earlier, later};
 
@@ -21,6 +21,7 @@ pub(crate) fn with_number(arena: &Arena, key: Option<Key>) -> Option<Numbered>
     ensures number { HasNumber arena.now.entries result }
 {
     let key = key?;
+    // the clauses of `len` say that the entries are sound, and in a `prove!` a call costs nothing
     prove!(arena.len() > 0);
     let id = arena.get(key).id;
     Some(Numbered { key, id })
@@ -35,7 +36,7 @@ pub(crate) fn key_of(newest: Option<Numbered>) -> Option<Key>
 
 /// Of two steps the one with the smaller number.
 pub(crate) fn earlier(a: Option<Numbered>, b: Option<Numbered>) -> Option<Numbered>
-    ensures { (es : List Entry) → HasNumber es a → HasNumber es b
+    ensures { (es : List KeyedStep) → HasNumber es a → HasNumber es b
         → (key_of result ≡ earlier es (key_of a) (key_of b)) × HasNumber es result }
 {
     match (a, b) {
@@ -47,7 +48,7 @@ pub(crate) fn earlier(a: Option<Numbered>, b: Option<Numbered>) -> Option<Number
 
 /// Of two steps the one with the larger number.
 pub(crate) fn later(a: Option<Numbered>, b: Option<Numbered>) -> Option<Numbered>
-    ensures { (es : List Entry) → HasNumber es a → HasNumber es b
+    ensures { (es : List KeyedStep) → HasNumber es a → HasNumber es b
         → (key_of result ≡ later es (key_of a) (key_of b)) × HasNumber es result }
 {
     match (a, b) {

@@ -1,7 +1,7 @@
 //! What is still to be marked.
 ghost use Rattle.std.specs.Prelude.{◌≡◌, ◌<◌, List, IsSome, Some, None, length, replicate};
 ghost use Rattle.std.specs.Option.{option_map};
-ghost use Rattle.mps_arena.specs.Entries.{Entry, entry_at};
+ghost use Rattle.mps_arena.specs.Entries.{KeyedStep, entry_at};
 ghost use Rattle.mps_links.specs.Numbered.{keys_alone, HaveNumbers};
 ghost use Rattle.mps_links.specs.Pending.{followed, earliest};
 
@@ -14,6 +14,7 @@ fn role_at(arena: &Arena, key: Key) -> usize
     ensures role { option_map (λ e. e.step.role) (entry_at key arena.now.entries) ≡ Some result }
     ensures small { result < 8 }
 {
+    // the clauses of `len` say that the entries are sound, and in a `prove!` a call costs nothing
     prove!(arena.len() > 0);
     arena.get(key).role.index()
 }
@@ -29,7 +30,7 @@ impl Pending {
     pub(crate) fn new() -> Pending
         ensures size { length result.firsts ≡ 8 }
         ensures keys { keys_alone result.firsts ≡ replicate 8 None }
-        ensures numbers { (es : List Entry) → HaveNumbers es result.firsts }
+        ensures numbers { (es : List KeyedStep) → HaveNumbers es result.firsts }
     {
         Pending { firsts: [None; 8] }
     }
@@ -37,7 +38,7 @@ impl Pending {
     /// The earliest of all.
     pub(crate) fn earliest(&self) -> Option<Key>
         requires size { length self.now.firsts ≡ 8 }
-        ensures { (es : List Entry) → HaveNumbers es self.now.firsts
+        ensures { (es : List KeyedStep) → HaveNumbers es self.now.firsts
             → result ≡ earliest es (keys_alone self.now.firsts) }
     {
         let mut first = None;

@@ -8,15 +8,15 @@ use Rattle.std.proofs.lemmas.Option.{slice_get_cases, slice_get_past, slice_get_
 use Rattle.mps_base.specs.declared.action.Message.{Message}
 use Rattle.mps_history.specs.Steps.{sends, receives, unreceived}
 use Rattle.mps_arena.specs.Keys.{is_at, has, AreDistinct}
-use Rattle.mps_arena.specs.Entries.{Entry, steps, keys_of, entry_at, AreSound}
-use Rattle.mps_arena.specs.Sources.{next_send_in}
+use Rattle.mps_arena.specs.Entries.{KeyedStep, steps, keys_of, entry_at, AreSound}
+use Rattle.mps_arena.specs.Neighbours.{next_send_in}
 use Rattle.mps_arena.proofs.KeyLists.{get_in, AreDistinct-right}
 use Rattle.mps_arena.proofs.Chains.{absent, passes, distinct}
-use Rattle.mps_arena.proofs.Mates.{sends_pair}
+use Rattle.mps_arena.proofs.Matched.{sends_pair}
 use Rattle.mps_arena.proofs.Nodes.{cases_entry}
 use Rattle.mps_queues.specs.Fronts.{waiting_keys}
 use Rattle.mps_queues.proofs.Moves.{get_drop_front, next_waiting}
-use Rattle.mps_log.specs.Queued.{place_of, left_of, IsQueue}
+use Rattle.mps_log.specs.Queued.{place_of_key, left_of, IsQueue}
 use Rattle.mps_log.specs.Values.{message_in, given_by, message_of}
 use Rattle.mps_log.specs.declared.queue.Queue.TheInside.{Inside}
 use Rattle.mps_log.proofs.Waiting.{message_waits, waiting_entry}
@@ -31,14 +31,14 @@ next_at xs k x at =
     let within : k < length xs = slice_get_within xs k x at in
     drop-cons xs k x within ∙ ap (λ y. y ∷ drop (suc k) xs) (get_or_from_slice_get xs k x x at)
 
-place_at : (ks : List ℕ) (n k : ℕ) → AreDistinct ks → slice_get ks n ≡ Some k → place_of (Some k) ks ≡ n
+place_at : (ks : List ℕ) (n k : ℕ) → AreDistinct ks → slice_get ks n ≡ Some k → place_of_key (Some k) ks ≡ n
 place_at [] n k d e = absurd cc
-place_at (j ∷ ks) zero k d e = let same : j ≡ k = cc in cond-true (j == k) 0 (suc (place_of (Some k) ks)) (eq-eqb j k same)
+place_at (j ∷ ks) zero k d e = let same : j ≡ k = cc in cond-true (j == k) 0 (suc (place_of_key (Some k) ks)) (eq-eqb j k same)
 place_at (j ∷ ks) (suc n) k d e =
     let ne : (j == k) ≡ false = false_from_ne_true (j == k) (λ t. both_ways (has k ks) (subst (λ (m : ℕ). has m ks ≡ false) (eqb-true j k t) d.0) (get_in ks n k (ap (λ (o : Option ℕ). is_at o k) e ∙ eq-eqb k k refl))) in
-    cond-false (j == k) 0 (suc (place_of (Some k) ks)) ne ∙ ap suc (place_at ks n k d.1 e)
+    cond-false (j == k) 0 (suc (place_of_key (Some k) ks)) ne ∙ ap suc (place_at ks n k d.1 e)
 
-module _ (es : List Entry) (sound : AreSound es) (p q : ℕ) where
+module _ (es : List KeyedStep) (sound : AreSound es) (p q : ℕ) where
   abbrev keys : List ℕ
   keys = waiting_keys es p q
 
@@ -57,7 +57,7 @@ module _ (es : List Entry) (sound : AreSound es) (p q : ℕ) where
       drop_all n queue (over queue n (message_waits es sound p q n ∙ ap (option_and_then (message_of es)) e))
 
   -- what is left from the key of a place on is what is left from that place on
-  pub left_from : (at : Option ℕ) (n : ℕ) → at ≡ slice_get keys n → drop (place_of at keys) queue ≡ drop n queue
+  pub left_from : (at : Option ℕ) (n : ℕ) → at ≡ slice_get keys n → drop (place_of_key at keys) queue ≡ drop n queue
   left_from None n e = queue_over (length keys) (slice_get_past keys (length keys) (omega arith)) ∙ sym (queue_over n (sym e))
   left_from (Some k) n e = ap (λ (m : ℕ). drop m queue) (place_at keys n k distinct_keys (sym e))
 
@@ -70,13 +70,13 @@ module _ (es : List Entry) (sound : AreSound es) (p q : ℕ) where
       let in_chain = get_in sent (got + n) k (ap (λ (o : Option ℕ). is_at o k) place ∙ eq-eqb k k refl) in
       ⊎_elim
       (λ (z : entry_at k es ≡ None). absurd (both_ways (has k sent) (absent (sends p q) k es z) in_chain))
-      (λ (w : (y : Entry) × (entry_at k es ≡ Some y)).
+      (λ (w : (y : KeyedStep) × (entry_at k es ≡ Some y)).
       let pair = sends_pair p q w.0.step (passes (sends p q) k es w.0 sound.distinct w.1 in_chain) in
-      (pair.0, ap (option_and_then (λ (x : Entry). given_by x.step.act)) w.1 ∙ ap message_in pair.2))
+      (pair.0, ap (option_and_then (λ (x : KeyedStep). given_by x.step.act)) w.1 ∙ ap message_in pair.2))
       (cases_entry (entry_at k es))
 
 module _ (w : Inside) (walk : IsQueue w) where
-  abbrev pub es_of : List Entry
+  abbrev pub es_of : List KeyedStep
   es_of = w.arena.now.entries
 
   abbrev pub left : List Message

@@ -5,17 +5,17 @@ use Rattle.std.proofs.lemmas.Bool.{cases_Bool, cond-false}
 use Rattle.mps_base.specs.declared.action.Step.{Step}
 use Rattle.mps_history.specs.Commits.{is_commit}
 use Rattle.mps_history.specs.Steps.{numbers}
-use Rattle.mps_arena.specs.Entries.{Entry}
+use Rattle.mps_arena.specs.Entries.{KeyedStep}
 use Rattle.mps_links.specs.Marks.{marked_steps, marked_commits}
 use Rattle.mps_log.specs.Logged.{HasNoCommit}
 
 -- a step joins that is no commit
-pub no_commit_joins : (es : List Entry) (e : Entry) → is_commit e.step.act ≡ false → HasNoCommit es → HasNoCommit (es ++ e ∷ [])
+pub no_commit_joins : (es : List KeyedStep) (e : KeyedStep) → is_commit e.step.act ≡ false → HasNoCommit es → HasNoCommit (es ++ e ∷ [])
 no_commit_joins [] e other all = (other, tt)
 no_commit_joins (x ∷ es) e other all = (all.0, no_commit_joins es e other all.1)
 
 -- some steps go
-pub no_commit_left : (p : Entry → Bool) (es : List Entry) → HasNoCommit es → HasNoCommit (filter p es)
+pub no_commit_left : (p : KeyedStep → Bool) (es : List KeyedStep) → HasNoCommit es → HasNoCommit (filter p es)
 no_commit_left p [] all = tt
 no_commit_left p (x ∷ es) all =
     ⊎_elim
@@ -24,7 +24,7 @@ no_commit_left p (x ∷ es) all =
     (cases_Bool (p x))
 
 -- no marked step is a commit
-pub none_marked : (es : List Entry) → HasNoCommit es → marked_commits es ≡ []
+pub none_marked : (es : List KeyedStep) → HasNoCommit es → marked_commits es ≡ []
 none_marked [] all = refl
 none_marked (x ∷ es) all =
     ⊎_elim

@@ -9,29 +9,29 @@ use Rattle.mps_base.specs.declared.action.Message.{Message}
 use Rattle.mps_base.specs.declared.action.Step.{Step}
 use Rattle.mps_history.specs.Steps.{sends, receives, given, messages_of, all_given, unreceived}
 use Rattle.mps_arena.specs.Keys.{is_at, has, AreDistinct}
-use Rattle.mps_arena.specs.Entries.{Entry, steps, keys_of, any_step, like, unlike, entry_at, IsSmall, HasSmallPeer, AreSound}
-use Rattle.mps_arena.specs.Sources.{mate_of, source_in, waiting}
-use Rattle.mps_arena.specs.Receipts.{source_mate}
-use Rattle.mps_arena.proofs.KeyLists.{get_in, partner_in}
+use Rattle.mps_arena.specs.Entries.{KeyedStep, steps, keys_of, any_step, like, unlike, entry_at, IsSmall, HasSmallPeer, AreSound}
+use Rattle.mps_arena.specs.Neighbours.{matched_with, source_in, waiting}
+use Rattle.mps_arena.specs.Matched.{matched_source}
+use Rattle.mps_arena.proofs.KeyLists.{get_in, matched_key_in}
 use Rattle.mps_arena.proofs.Chains.{keys_without, absent, entry_middle}
 use Rattle.mps_arena.proofs.Histories.{count_steps}
-use Rattle.mps_arena.proofs.Mates.{sends_pair}
+use Rattle.mps_arena.proofs.Matched.{sends_pair}
 use Rattle.mps_arena.proofs.Nodes.{cases_entry}
 use Rattle.mps_queues.specs.Fronts.{waiting_keys}
 use Rattle.mps_queues.proofs.Moves.{get_drop_front, first_waiting}
 use Rattle.mps_log.specs.Values.{message_in, given_by, message_of}
 
 -- a key of a chain is an entry's
-pub has_entry : (p : Step → Bool) (es : List Entry) (k : ℕ) → has k (keys_of p es) ≡ true → IsSome (entry_at k es)
+pub has_entry : (p : Step → Bool) (es : List KeyedStep) (k : ℕ) → has k (keys_of p es) ≡ true → IsSome (entry_at k es)
 has_entry p es k h =
     ⊎_elim
     (λ (z : entry_at k es ≡ None). absurd (both_ways (has k (keys_of p es)) (absent p k es z) h))
-    (λ (w : (y : Entry) × (entry_at k es ≡ Some y)). rw w.1 refl)
+    (λ (w : (y : KeyedStep) × (entry_at k es ≡ Some y)). rw w.1 refl)
     (cases_entry (entry_at k es))
 
-module _ (es : List Entry) (sound : AreSound es) (p q : ℕ) where
+module _ (es : List KeyedStep) (sound : AreSound es) (p q : ℕ) where
   -- the messages of a chain of sends are those of its keys, in order
-  messages_at : (a b : List Entry) → es ≡ a ++ b → (n : ℕ) → slice_get (all_given (filter (sends p q) (steps b))) n ≡ option_and_then (message_of es) (slice_get (keys_of (sends p q) b) n)
+  messages_at : (a b : List KeyedStep) → es ≡ a ++ b → (n : ℕ) → slice_get (all_given (filter (sends p q) (steps b))) n ≡ option_and_then (message_of es) (slice_get (keys_of (sends p q) b) n)
   messages_at a [] e n = refl
   messages_at a (y ∷ b) e n =
       let shifted = e ∙ sym (append_assoc a (y ∷ []) b) in
@@ -41,13 +41,13 @@ module _ (es : List Entry) (sound : AreSound es) (p q : ℕ) where
       (cases_Bool (sends p q y.step))
     where
       found : entry_at y.key es ≡ Some y
-      found = subst (λ (l : List Entry). entry_at y.key l ≡ Some y) (sym e) (entry_middle a b y (subst (λ (l : List Entry). AreDistinct (keys_of any_step l)) e sound.distinct))
+      found = subst (λ (l : List KeyedStep). entry_at y.key l ≡ Some y) (sym e) (entry_middle a b y (subst (λ (l : List KeyedStep). AreDistinct (keys_of any_step l)) e sound.distinct))
 
       with_message : sends p q y.step ≡ true → ((n : ℕ) → slice_get (all_given (filter (sends p q) (steps b))) n ≡ option_and_then (message_of es) (slice_get (keys_of (sends p q) b) n)) → (n : ℕ) → slice_get (given y.step.act ++ all_given (filter (sends p q) (steps b))) n ≡ option_and_then (message_of es) (slice_get (y.key ∷ keys_of (sends p q) b) n)
       with_message t rest zero =
           let w = sends_pair p q y.step t in
           ap (λ (c : Effect). slice_get (messages_of c ++ all_given (filter (sends p q) (steps b))) 0) w.2
-          ∙ sym (ap (option_and_then (λ (x : Entry). given_by x.step.act)) found ∙ ap message_in w.2)
+          ∙ sym (ap (option_and_then (λ (x : KeyedStep). given_by x.step.act)) found ∙ ap message_in w.2)
       with_message t rest (suc n) =
           let w = sends_pair p q y.step t in
           ap (λ (c : Effect). slice_get (messages_of c ++ all_given (filter (sends p q) (steps b))) (suc n)) w.2
@@ -70,7 +70,7 @@ module _ (es : List Entry) (sound : AreSound es) (p q : ℕ) where
       has_entry (sends p q) es k (get_in c (g + n) k (ap (λ (o : Option ℕ). is_at o k) at ∙ eq-eqb k k refl))
 
   -- roles past the eighth have no chains
-  pub no_stranger : (p < 8 → q < 8 → ⊥) → (b : List Entry) → AllByRecursion (λ e. IsSmall e.step) b → keys_of (sends p q) b ≡ []
+  pub no_stranger : (p < 8 → q < 8 → ⊥) → (b : List KeyedStep) → AllByRecursion (λ e. IsSmall e.step) b → keys_of (sends p q) b ≡ []
   no_stranger far [] small = refl
   no_stranger far (y ∷ b) small =
       ⊎_elim
@@ -102,25 +102,25 @@ module _ (es : List Entry) (sound : AreSound es) (p q : ℕ) where
       was_some (Some x) k = refl
 
 -- the k-th step is that of the k-th key
-pub steps_at : (es : List Entry) → AreSound es → (a b : List Entry) → es ≡ a ++ b → (n : ℕ) → slice_get (steps b) n ≡ option_and_then (λ k. option_map (λ (e : Entry). e.step) (entry_at k es)) (slice_get (keys_of any_step b) n)
+pub steps_at : (es : List KeyedStep) → AreSound es → (a b : List KeyedStep) → es ≡ a ++ b → (n : ℕ) → slice_get (steps b) n ≡ option_and_then (λ k. option_map (λ (e : KeyedStep). e.step) (entry_at k es)) (slice_get (keys_of any_step b) n)
 steps_at es sound a [] e n = refl
 steps_at es sound a (y ∷ b) e zero =
-    sym (ap (option_map (λ (x : Entry). x.step)) (subst (λ (l : List Entry). entry_at y.key l ≡ Some y) (sym e) (entry_middle a b y (subst (λ (l : List Entry). AreDistinct (keys_of any_step l)) e sound.distinct))))
+    sym (ap (option_map (λ (x : KeyedStep). x.step)) (subst (λ (l : List KeyedStep). entry_at y.key l ≡ Some y) (sym e) (entry_middle a b y (subst (λ (l : List KeyedStep). AreDistinct (keys_of any_step l)) e sound.distinct))))
 steps_at es sound a (y ∷ b) e (suc n) = steps_at es sound (a ++ y ∷ []) b (e ∙ sym (append_assoc a (y ∷ []) b)) n
 
--- the source of a receipt is an entry's
-pub source_entry : (es : List Entry) (k j : ℕ) → source_in es k ≡ Some j → IsSome (entry_at j es)
+-- the send that a receipt is matched with is an entry's
+pub source_entry : (es : List KeyedStep) (k j : ℕ) → source_in es k ≡ Some j → IsSome (entry_at j es)
 source_entry es k j e =
     ⊎_elim
-    (λ (z : entry_at k es ≡ None). let no : None ≡ Some j = sym (ap (option_and_then (λ (x : Entry). source_mate (effect x.step.act) (mate_of es x))) z) ∙ e in absurd cc)
-    (λ (w : (y : Entry) × (entry_at k es ≡ Some y)).
-    of_act w.0 (effect w.0.step.act) (sym (ap (option_and_then (λ (x : Entry). source_mate (effect x.step.act) (mate_of es x))) w.1) ∙ e))
+    (λ (z : entry_at k es ≡ None). let no : None ≡ Some j = sym (ap (option_and_then (λ (x : KeyedStep). matched_source (effect x.step.act) (matched_with es x))) z) ∙ e in absurd cc)
+    (λ (w : (y : KeyedStep) × (entry_at k es ≡ Some y)).
+    of_act w.0 (effect w.0.step.act) (sym (ap (option_and_then (λ (x : KeyedStep). matched_source (effect x.step.act) (matched_with es x))) w.1) ∙ e))
     (cases_entry (entry_at k es))
   where
-    of_act : (y : Entry) (c : Effect) → source_mate c (mate_of es y) ≡ Some j → IsSome (entry_at j es)
+    of_act : (y : KeyedStep) (c : Effect) → matched_source c (matched_with es y) ≡ Some j → IsSome (entry_at j es)
     of_act y (Gives to message) h = absurd cc
     of_act y (Takes from slot) h =
         let own = keys_of (like y.step.role (effect y.step.act)) es in
         let other = keys_of (unlike y.step.role (effect y.step.act)) es in
-        has_entry (unlike y.step.role (effect y.step.act)) es j (partner_in y.key j own other (ap (λ (o : Option ℕ). is_at o j) h ∙ eq-eqb j j refl))
+        has_entry (unlike y.step.role (effect y.step.act)) es j (matched_key_in y.key j own other (ap (λ (o : Option ℕ). is_at o j) h ∙ eq-eqb j j refl))
     of_act y Idle h = absurd cc

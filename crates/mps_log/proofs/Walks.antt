@@ -7,16 +7,16 @@ use Rattle.std.proofs.lemmas.Bool.{cond-true, cond-false, eqb-true, or_left, fal
 use Rattle.mps_base.specs.Effects.{Effect, Idle, effect}
 use Rattle.mps_base.specs.declared.action.Step.{Step}
 use Rattle.mps_arena.specs.Keys.{has, AreDistinct, first_key, key_after}
-use Rattle.mps_arena.specs.Entries.{Entry, keys_of, any_step, entry_at}
-use Rattle.mps_arena.specs.Receipts.{source_mate}
-use Rattle.mps_arena.specs.Sources.{next_in, source_in, mate_of}
+use Rattle.mps_arena.specs.Entries.{KeyedStep, keys_of, any_step, entry_at}
+use Rattle.mps_arena.specs.Matched.{matched_source}
+use Rattle.mps_arena.specs.Neighbours.{next_in, source_in, matched_with}
 use Rattle.mps_arena.proofs.KeyLists.{once, after_absent, has-append_right}
 use Rattle.mps_arena.proofs.Chains.{keys_around, entry_middle, entry_key}
 use Rattle.mps_log.specs.Shown.{moved_of, shown, from_key, left_of, IsWalk}
 use Rattle.mps_log.specs.Values.{given_by, message_of}
 use Rattle.mps_log.specs.declared.moves.Moves.TheInside.{Inside}
 
-from_middle : (a b : List Entry) (y : Entry) → AreDistinct (keys_of any_step (a ++ y ∷ b)) → from_key (Some y.key) (a ++ y ∷ b) ≡ y ∷ b
+from_middle : (a b : List KeyedStep) (y : KeyedStep) → AreDistinct (keys_of any_step (a ++ y ∷ b)) → from_key (Some y.key) (a ++ y ∷ b) ≡ y ∷ b
 from_middle [] b y d = cond-true (y.key == y.key) (y ∷ b) (from_key (Some y.key) b) (eq-eqb y.key y.key refl)
 from_middle (x ∷ a) b y d =
     let n : (x.key == y.key) ≡ false = false_from_ne_true (x.key == y.key) (λ t.
@@ -25,41 +25,41 @@ from_middle (x ∷ a) b y d =
     cond-false (x.key == y.key) (x ∷ (a ++ y ∷ b)) (from_key (Some y.key) (a ++ y ∷ b)) n ∙ from_middle a b y d.1
 
 -- the entries from the first key of a part on are that part
-pub from_part : (a b : List Entry) → AreDistinct (keys_of any_step (a ++ b)) → from_key (first_key (keys_of any_step b)) (a ++ b) ≡ b
+pub from_part : (a b : List KeyedStep) → AreDistinct (keys_of any_step (a ++ b)) → from_key (first_key (keys_of any_step b)) (a ++ b) ≡ b
 from_part a [] d = refl
 from_part a (y ∷ b) d = from_middle a b y d
 
 -- a part that has a first key has a first entry
-pub split_first : (part : List Entry) (k : ℕ) → first_key (keys_of any_step part) ≡ Some k → (y : Entry) × (b : List Entry) × (part ≡ y ∷ b) × (y.key ≡ k)
+pub split_first : (part : List KeyedStep) (k : ℕ) → first_key (keys_of any_step part) ≡ Some k → (y : KeyedStep) × (b : List KeyedStep) × (part ≡ y ∷ b) × (y.key ≡ k)
 split_first [] k e = absurd cc
 split_first (y ∷ b) k e = let same : y.key ≡ k = cc in (y, b, refl, same)
 
 module _ (m : Inside) (walk : IsWalk m) where
-  abbrev pub es : List Entry
+  abbrev pub es : List KeyedStep
   es = m.arena.now.entries
 
   distinct_parts : AreDistinct (keys_of any_step (walk.before ++ walk.left))
-  distinct_parts = subst (λ (l : List Entry). AreDistinct (keys_of any_step l)) walk.parts walk.sound.distinct
+  distinct_parts = subst (λ (l : List KeyedStep). AreDistinct (keys_of any_step l)) walk.parts walk.sound.distinct
 
   -- what is left is that part
   pub left_is : left_of m ≡ shown es walk.left
   left_is = ap (shown es) (ap₂ from_key walk.at walk.parts ∙ from_part walk.before walk.left distinct_parts)
 
   module _ (k : ℕ) (here : m.at ≡ Some k) where
-    pub first : (y : Entry) × (b : List Entry) × (walk.left ≡ y ∷ b) × (y.key ≡ k)
+    pub first : (y : KeyedStep) × (b : List KeyedStep) × (walk.left ≡ y ∷ b) × (y.key ≡ k)
     first = split_first walk.left k (sym walk.at ∙ here)
 
-    abbrev pub y : Entry
+    abbrev pub y : KeyedStep
     y = first.0
 
-    abbrev pub b : List Entry
+    abbrev pub b : List KeyedStep
     b = first.1
 
     whole : es ≡ walk.before ++ y ∷ b
     whole = walk.parts ∙ ap (λ l. walk.before ++ l) first.2
 
     parts_distinct : AreDistinct (keys_of any_step (walk.before ++ y ∷ b))
-    parts_distinct = subst (λ (l : List Entry). AreDistinct (keys_of any_step l)) whole walk.sound.distinct
+    parts_distinct = subst (λ (l : List KeyedStep). AreDistinct (keys_of any_step l)) whole walk.sound.distinct
 
     pub found : entry_at k es ≡ Some y
     found = ap₂ entry_at (sym first.3) whole ∙ entry_middle walk.before b y parts_distinct
@@ -70,8 +70,8 @@ module _ (m : Inside) (walk : IsWalk m) where
     next_is : next_in es k ≡ first_key (keys_of any_step b)
     next_is =
         let o = once y.key (keys_of any_step walk.before) (keys_of any_step b) (subst AreDistinct (keys_around any_step walk.before b y refl) parts_distinct) in
-        ap (option_and_then (λ (x : Entry). key_after x.key (keys_of any_step es))) found
-        ∙ ap (λ (l : List Entry). key_after y.key (keys_of any_step l)) whole
+        ap (option_and_then (λ (x : KeyedStep). key_after x.key (keys_of any_step es))) found
+        ∙ ap (λ (l : List KeyedStep). key_after y.key (keys_of any_step l)) whole
         ∙ ap (key_after y.key) (keys_around any_step walk.before b y refl)
         ∙ after_absent y.key (keys_of any_step walk.before) (y.key ∷ keys_of any_step b) o.0
         ∙ cond-true (y.key == y.key) (first_key (keys_of any_step b)) (key_after y.key (keys_of any_step b)) (eq-eqb y.key y.key refl)
@@ -90,28 +90,28 @@ module _ (m : Inside) (walk : IsWalk m) where
     pub shows_then : (next : Option ℕ) → next ≡ next_in es k → left_of (record { arena = m.arena; at = next }) ≡ shown es b
     shows_then next e =
         let parts : es ≡ (walk.before ++ y ∷ []) ++ b = whole ∙ sym (append_assoc walk.before (y ∷ []) b) in
-        ap (shown es) (ap₂ from_key (e ∙ next_is) parts ∙ from_part (walk.before ++ y ∷ []) b (subst (λ (l : List Entry). AreDistinct (keys_of any_step l)) parts walk.sound.distinct))
+        ap (shown es) (ap₂ from_key (e ∙ next_is) parts ∙ from_part (walk.before ++ y ∷ []) b (subst (λ (l : List KeyedStep). AreDistinct (keys_of any_step l)) parts walk.sound.distinct))
 
     -- what was left began with that step
     pub shows : left_of m ≡ (y.step, moved_of es y) ∷ shown es b
     shows = left_is ∙ ap (shown es) first.2
 
 -- what a step moved, by its act
-pub moved_by_act : (es : List Entry) (k : ℕ) (s : Step) → option_map (λ e. e.step) (entry_at k es) ≡ Some s → option_and_then (moved_of es) (entry_at k es) ≡ option_or (given_by s.act) (option_and_then (message_of es) (source_in es k))
+pub moved_by_act : (es : List KeyedStep) (k : ℕ) (s : Step) → option_map (λ e. e.step) (entry_at k es) ≡ Some s → option_and_then (moved_of es) (entry_at k es) ≡ option_or (given_by s.act) (option_and_then (message_of es) (source_in es k))
 moved_by_act es k s e = by_entry (entry_at k es) refl e
   where
-    by_entry : (o : Option Entry) → entry_at k es ≡ o → option_map (λ e. e.step) o ≡ Some s → option_and_then (moved_of es) o ≡ option_or (given_by s.act) (option_and_then (message_of es) (source_in es k))
+    by_entry : (o : Option KeyedStep) → entry_at k es ≡ o → option_map (λ e. e.step) o ≡ Some s → option_and_then (moved_of es) o ≡ option_or (given_by s.act) (option_and_then (message_of es) (source_in es k))
     by_entry None is h = absurd cc
     by_entry (Some y) is h =
         let same : y.step ≡ s = cc in
         ap₂ (λ (t : Step) (j : ℕ). option_or (given_by t.act) (option_and_then (message_of es) (source_in es j))) same (entry_key k es y is)
 
--- what takes nothing has no source
-pub idle_has_none : (es : List Entry) (k : ℕ) (s : Step) → option_map (λ e. e.step) (entry_at k es) ≡ Some s → effect s.act ≡ Idle → source_in es k ≡ None
+-- what takes nothing has no match
+pub idle_has_none : (es : List KeyedStep) (k : ℕ) (s : Step) → option_map (λ e. e.step) (entry_at k es) ≡ Some s → effect s.act ≡ Idle → source_in es k ≡ None
 idle_has_none es k s e idle = by_entry (entry_at k es) refl e
   where
-    by_entry : (o : Option Entry) → entry_at k es ≡ o → option_map (λ e. e.step) o ≡ Some s → option_and_then (λ (x : Entry). source_mate (effect x.step.act) (mate_of es x)) o ≡ None
+    by_entry : (o : Option KeyedStep) → entry_at k es ≡ o → option_map (λ e. e.step) o ≡ Some s → option_and_then (λ (x : KeyedStep). matched_source (effect x.step.act) (matched_with es x)) o ≡ None
     by_entry None is h = refl
     by_entry (Some y) is h =
         let same : y.step ≡ s = cc in
-        ap (λ (a : Effect). source_mate a (mate_of es y)) (ap (λ (t : Step). effect t.act) same ∙ idle)
+        ap (λ (a : Effect). matched_source a (matched_with es y)) (ap (λ (t : Step). effect t.act) same ∙ idle)

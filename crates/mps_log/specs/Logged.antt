@@ -2,21 +2,22 @@
 use Rattle.std.specs.Prelude.{◌≡◌, ℕ, false, List}
 use Rattle.std.specs.List.{AllByRecursion}
 use Rattle.mps_history.specs.Commits.{is_commit}
-use Rattle.mps_arena.specs.Entries.{Entry, AreSound}
+use Rattle.mps_arena.specs.Entries.{KeyedStep, AreSound}
 use Rattle.mps_queues.specs.Fronts.{AreFronts}
 use Rattle.mps_stores.specs.Stores.{AreStores, slot_of, mark_of}
 use Rattle.mps_log.specs.declared.log.Log.TheInside.{Inside}
 
 -- the steps, the oldest first; how many numbers were given out
 pub record Logged : Type 0 where
-  pub entries : List Entry
+  pub entries : List KeyedStep
   pub issued : ℕ
 
-abbrev pub view_of : Inside → Logged
-view_of l = record { entries = l.arena.entries; issued = l.arena.issued }
+-- a log, as contracts see it
+abbrev pub log_value : Inside → Logged
+log_value l = record { entries = l.arena.entries; issued = l.arena.issued }
 
 -- no step is a commit
-abbrev pub HasNoCommit : List Entry → Type 0
+abbrev pub HasNoCommit : List KeyedStep → Type 0
 HasNoCommit es = AllByRecursion (λ e. is_commit e.step.act ≡ false) es
 
 -- queues, slots and marks are those of the steps, and no step is a commit before the first that joins

@@ -7,16 +7,16 @@ use Rattle.mps_queues.specs.Fronts.{waiting_keys}
 use Rattle.mps_log.specs.declared.queue.Queue.TheInside.{Inside}
 
 -- how many keys stand in front of that one: all where there is none
-abbrev pub place_of : Option ℕ → List ℕ → ℕ
-place_of None keys = length keys
-place_of (Some k) [] = 0
-place_of (Some k) (j ∷ keys) = if j == k then 0 else suc (place_of (Some k) keys)
+abbrev pub place_of_key : Option ℕ → List ℕ → ℕ
+place_of_key None keys = length keys
+place_of_key (Some k) [] = 0
+place_of_key (Some k) (j ∷ keys) = if j == k then 0 else suc (place_of_key (Some k) keys)
 
 -- what waits, from the message of that send on
 abbrev pub left_of : Inside → List Message
 left_of w =
     let es = w.arena.now.entries in
-    drop (place_of w.at (waiting_keys es w.from w.to)) (unreceived w.from w.to (steps es))
+    drop (place_of_key w.at (waiting_keys es w.from w.to)) (unreceived w.from w.to (steps es))
 
 -- the key is that of a send that waits, or there is none
 pub record IsQueue (w : Inside) : Type 0 where

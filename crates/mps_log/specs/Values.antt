@@ -7,8 +7,8 @@ use Rattle.mps_base.specs.declared.action.Message.{Message}
 use Rattle.mps_base.specs.declared.action.Message.TheVariants.{Value as Plain, Label}
 use Rattle.mps_base.specs.declared.value.Value.{Value}
 use Rattle.mps_history.specs.Slots.{value_in}
-use Rattle.mps_arena.specs.Entries.{Entry, entry_at}
-use Rattle.mps_arena.specs.Sources.{source_in}
+use Rattle.mps_arena.specs.Entries.{KeyedStep, entry_at}
+use Rattle.mps_arena.specs.Neighbours.{source_in}
 use Rattle.mps_stores.specs.Stores.{bindings, slot_of, mark_of}
 
 -- the message that comes of the effect
@@ -26,25 +26,25 @@ value_of (Plain value) = Some value
 value_of (Label label) = None
 
 -- the message that the step of the key gave
-abbrev pub message_of : List Entry → ℕ → Option Message
+abbrev pub message_of : List KeyedStep → ℕ → Option Message
 message_of es k = option_and_then (λ e. given_by e.step.act) (entry_at k es)
 
--- the message that the receipt of the key took: its source's
-abbrev pub message_taken : List Entry → ℕ → Option Message
+-- the message that the receipt of the key took: that of the send that it is matched with
+abbrev pub message_taken : List KeyedStep → ℕ → Option Message
 message_taken es k = option_and_then (message_of es) (source_in es k)
 
 -- the value that it took
-abbrev pub value_taken : List Entry → ℕ → Option Value
+abbrev pub value_taken : List KeyedStep → ℕ → Option Value
 value_taken es k = option_and_then value_of (message_taken es k)
 
 -- what role p keeps in the slot: the value that the receipt took to which the slot is bound
-abbrev pub kept_in : List Entry → ℕ → List ℕ → Option Value
+abbrev pub kept_in : List KeyedStep → ℕ → List ℕ → Option Value
 kept_in es p slot = option_and_then (value_taken es) (value_in slot (bindings slot_of p es))
 
 -- a slot with the value that the receipt took to which it is bound
-abbrev pub kept_by : List Entry → List ℕ × ℕ → Option (List ℕ × Value)
+abbrev pub kept_by : List KeyedStep → List ℕ × ℕ → Option (List ℕ × Value)
 kept_by es binding = option_map (λ value. (binding.0, value)) (value_taken es binding.1)
 
 -- the key of role p's last mark of the name
-abbrev pub last_mark : List Entry → ℕ → List ℕ → Option ℕ
+abbrev pub last_mark : List KeyedStep → ℕ → List ℕ → Option ℕ
 last_mark es p name = value_in name (bindings mark_of p es)

@@ -1,7 +1,7 @@
 //! The surviving steps of a session with all that leads from one to another: the links of steps, the queues and the
 //! slots.
 //!
-//! The main type is `Log`. A step joins with its message, and a step on which no other depends is taken out; queues
+//! The main type is `Log`. A step joins with its message, and a step on which no other depends is removed; queues
 //! and slots follow.
 //!
 //! ```

@@ -6,7 +6,7 @@ ghost use Rattle.mps_history.specs.Steps.{step_of};
 ghost use Rattle.mps_history.specs.Dependence.{least, dependents};
 ghost use Rattle.mps_arena.specs.Keys.{last_key};
 ghost use Rattle.mps_arena.specs.Entries.{steps, keys_of, of_role, entry_at, AreSound};
-ghost use Rattle.mps_arena.specs.Sources.{next_of_role_in, prev_of_role_in, id_in, CanGo};
+ghost use Rattle.mps_arena.specs.Neighbours.{next_of_role_in, prev_of_role_in, id_in, CanGo};
 ghost use Rattle.mps_links.specs.Marks.{marked_keys, AreMarksClosed};
 ghost use Rattle.mps_log.specs.Values.{message_taken};
 
@@ -95,7 +95,7 @@ impl Log {
         self.arena.prev_of_role(key)
     }
 
-    /// The message that the receipt of the key took: its source's; none where the key is no receipt's.
+    /// The message that the receipt of the key took: that of the send that it is matched with; none where the key is no receipt's.
     #[inline(always)]
     pub fn taken(&self, key: Key) -> Option<&Message>
         ensures { option_copied result ≡ message_taken self.now.entries key }
@@ -108,7 +108,7 @@ impl Log {
     pub fn least_dependent(&self, id: StepId) -> Option<StepId>
         requires present { IsSome (step_of (steps self.now.entries) id) }
         ensures least { result ≡ least (dependents (steps self.now.entries) id) }
-        // a step on which nothing depends may be taken out
+        // a step on which nothing depends may be removed
         ensures free { result ≡ None → (k : ℕ)
             → option_map (λ e. e.key) (find (λ e. e.step.id == id) self.now.entries) ≡ Some k
             → CanGo self.now.entries k }
@@ -117,7 +117,7 @@ impl Log {
     }
 
     /// The newest marked step, where each step that depends on a marked one is marked. So nothing depends on it, and it
-    /// may be taken out.
+    /// may be removed.
     #[inline(always)]
     pub fn newest_marked(&self) -> Option<Key>
         requires closed { AreMarksClosed self.now.entries }

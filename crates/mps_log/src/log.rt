@@ -4,8 +4,8 @@ ghost use Rattle.std.specs.List.{filter};
 ghost use Rattle.std.specs.Option.{option_copied, option_map, option_and_then};
 ghost use Rattle.mps_base.specs.declared.action.Act.TheVariants.{Out, In, Mark, Commit};
 ghost use Rattle.mps_history.specs.Steps.{without, unreceived};
-ghost use Rattle.mps_arena.specs.Entries.{Entry, steps, entry_at, AreSound};
-ghost use Rattle.mps_arena.specs.Sources.{waiting, CanGo};
+ghost use Rattle.mps_arena.specs.Entries.{KeyedStep, steps, entry_at, AreSound};
+ghost use Rattle.mps_arena.specs.Neighbours.{waiting, CanGo};
 ghost use Rattle.mps_queues.specs.Fronts.{AreFronts};
 ghost use Rattle.std.specs.Map.Iter.{deref_pair};
 ghost use Rattle.mps_base.specs.declared.value.Value.{Value};
@@ -36,11 +36,11 @@ pub struct Log {
 }
 
 impl Model for Log {
-    ghost use Rattle.mps_log.specs.Logged.{Logged, view_of, IsLog};
+    ghost use Rattle.mps_log.specs.Logged.{Logged, log_value, IsLog};
 
     ghost Value = { Logged };
 
-    ghost view = { view_of };
+    ghost view = { log_value };
 
     ghost invariant = { IsLog };
 }
@@ -112,7 +112,7 @@ pub(crate) fn message_at(arena: &Arena, key: Key) -> Option<&Message>
     }
 }
 
-// The message that the receipt of the key took: its source's; none where the key is no receipt's.
+// The message that the receipt of the key took: that of the send that it is matched with; none where the key is no receipt's.
 pub(crate) fn taken_at(arena: &Arena, key: Key) -> Option<&Message>
     ensures { option_copied result ≡ message_taken arena.now.entries key }
 {
@@ -335,7 +335,7 @@ impl Log {
 
     /// Takes a step out that is the last of its role and, if it is a send or a choice, isn't received. Its message
     /// leaves the queue, or comes back to its front; its slot, or the name that it marks, gets back what it was bound to.
-    pub fn take_out(&mut self, key: Key) -> Step
+    pub fn remove(&mut self, key: Key) -> Step
         requires { CanGo self.old.entries key }
         ensures step { option_map (λ e. e.step) (entry_at key self.old.entries) ≡ Some result }
         ensures entries { self.new.entries ≡ filter (λ e. not (e.key == key)) self.old.entries }

@@ -3,7 +3,7 @@ ghost use Rattle.std.specs.Prelude.{◌≡◌};
 ghost use Rattle.std.specs.Iterator.{YieldsFirstRef, item_count};
 ghost use Rattle.mps_history.specs.Steps.{unreceived};
 ghost use Rattle.mps_arena.specs.Entries.{steps, AreSound};
-ghost use Rattle.mps_arena.specs.Sources.{waiting};
+ghost use Rattle.mps_arena.specs.Neighbours.{waiting};
 
 use crate::log::message_at;
 use mps_arena::{Arena, Key};

@@ -20,10 +20,10 @@ use Rattle.mps_history.proofs.Order.{at_member, IsIn-append_left, IsIn-filter, s
 use Rattle.mps_history.proofs.Reaching.{consequences_closed}
 use Rattle.mps_local.specs.Local.{LocalType}
 use Rattle.mps_machine.specs.Machine.{State, view_of, accepted, unless, full_fault, done_by, forward, owner_fault, commit_fault, final_fault, undone, undo, rolled_back, rolled_back_unless_final, rollback, since_mark, back_to, Request, serve, after, IsSound}
-use Rattle.mps_machine.specs.TakingBack.{KeepsCommits}
+use Rattle.mps_machine.specs.Undoing.{KeepsCommits}
 use Rattle.mps_machine.specs.Violations.{violation}
 use Rattle.mps_machine.proofs.Sound.{none_under, least_none, no_member, alone_closed, serve_sound}
-use Rattle.mps_machine.proofs.TakingBack.{commit_named}
+use Rattle.mps_machine.proofs.Undoing.{commit_named}
 
 -- c is still there, and depends on what it depended on, which is there too
 abbrev Keeps : List Step → List Step → Step → Type 0

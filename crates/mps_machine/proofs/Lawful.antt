@@ -54,8 +54,8 @@ within_one (x ∷ h) s r (inr i) =
     cond-false (x.id == s.id) (x ∷ within h (λ m. m == s.id)) (within h (λ m. m == s.id)) (ne_eqb x.id s.id (λ k. omega arith))
     ∙ within_one h s r.1 i
 
-pub taken_out : (types : List LocalType) (h : List Step) (s : Step) (w : View) → IsRising h → IsIn s h → ((t : Step) → IsIn t h → depends_on h t s ≡ false) → replay (opening types) h ≡ Some w → (x : View) × (replay (opening types) (without h (λ m. m == s.id)) ≡ Some x) × (rule x s ≡ Some w)
-taken_out types h s w r i none e =
+pub step_removed : (types : List LocalType) (h : List Step) (s : Step) (w : View) → IsRising h → IsIn s h → ((t : Step) → IsIn t h → depends_on h t s ≡ false) → replay (opening types) h ≡ Some w → (x : View) × (replay (opening types) (without h (λ m. m == s.id)) ≡ Some x) × (rule x s ≡ Some w)
+step_removed types h s w r i none e =
     let closed : IsClosed h (λ m. m == s.id) = λ t u it iu m d.
     let same = same_step h u s r iu i (eqb-true u.id s.id m) in
     let off = none t it in

@@ -7,7 +7,7 @@ pub mod Lawful
 pub mod Swapping
 pub mod Peers
 pub mod Unreceived
-pub mod TakingBack
+pub mod Undoing
 pub mod Marks
 pub mod Faults
 pub mod Answering

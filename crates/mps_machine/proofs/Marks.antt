@@ -15,8 +15,8 @@ use Rattle.mps_history.specs.Steps.{IsIn, steps_of}
 use Rattle.mps_history.proofs.Order.{IsIn-append_right, IsIn-filter, filter-IsIn}
 use Rattle.mps_local.specs.Local.{LocalType}
 use Rattle.mps_machine.specs.Machine.{State, unless, rolled_back, rolled_back_unless_final, is_mark, since_mark, back_to, IsSound}
-use Rattle.mps_machine.specs.TakingBack.{IsOwn, IsLastMark, ReturnsToMarks}
-use Rattle.mps_machine.proofs.TakingBack.{own_allowed}
+use Rattle.mps_machine.specs.Undoing.{IsOwn, IsLastMark, ReturnsToMarks}
+use Rattle.mps_machine.proofs.Undoing.{own_allowed}
 
 -- what comes after the last mark of a part comes after the last of the whole
 pub since_append : (name : List ℕ) (a b c : List Step) → since_mark name b ≡ Some c → since_mark name (a ++ b) ≡ Some c

@@ -125,13 +125,13 @@ AnUndoWaitsForTheReceipt =
     answers verdict initial (sends_int a b 5 ∷ receives_into b a (codes "x") ∷ undoes a 1 ∷ undoes b 2 ∷ undoes a 1 ∷ [])
     ≡ done 1 ∷ done_with 2 5 ∷ Refused (Needed 2) ∷ Undone (2 ∷ []) ∷ Undone (1 ∷ []) ∷ []
 
--- a rollback of the first step takes all that depends on it, the newest first
-abbrev pub ARollbackTakesAllThatDepends : Type 0
-ARollbackTakesAllThatDepends =
+-- a rollback of the first step removes all that depends on it, the newest first
+abbrev pub ARollbackRemovesAllThatDepends : Type 0
+ARollbackRemovesAllThatDepends =
     answers verdict initial (relayed_then (rolls_back a 1 ∷ []))
     ≡ relay_done_then (Undone (4 ∷ 3 ∷ 2 ∷ 1 ∷ []) ∷ [])
 
--- a rollback of the second step takes that step and what depends on it, and leaves the first
+-- a rollback of the second step removes that step and what depends on it, and leaves the first
 abbrev pub ARollbackLeavesWhatCameBefore : Type 0
 ARollbackLeavesWhatCameBefore =
     answers verdict initial (relayed_then (rolls_back b 2 ∷ []))
@@ -174,7 +174,7 @@ TheLeastDependentIsNamedAReceipt =
     answers stream initial (sends_int a b 1 ∷ receives_into b a (codes "x") ∷ sends_int a b 2 ∷ undoes a 1 ∷ [])
     ≡ done 1 ∷ done_with 2 1 ∷ done 3 ∷ Refused (Needed 2) ∷ []
 
--- a return to a mark takes what came after it, then nothing, and needs the mark
+-- a return to a mark removes what came after it, then nothing, and needs the mark
 abbrev pub AReturnToAMarkLeavesTheMark : Type 0
 AReturnToAMarkLeavesTheMark =
     answers stream initial (marks a (codes "m") ∷ sends_int a b 1 ∷ receives_into b a (codes "x") ∷ goes_back a (codes "m") ∷ goes_back a (codes "m") ∷ undoes a 1 ∷ goes_back a (codes "m") ∷ [])
@@ -271,7 +271,7 @@ ASlotKeepsItsPlace =
     let sent = sends_int a b 1 ∷ sends_int a b 2 ∷ sends_int a b 3 ∷ receives_into b a (codes "x") ∷ receives_into b a (codes "y") ∷ receives_into b a (codes "x") ∷ [] in
     ((view_of stream (after stream initial sent).history).participant b).store ≡ (codes "x", Int (pos 3)) ∷ (codes "y", Int (pos 2)) ∷ []
 
--- whoever tries to take back a commit, or what it depends on, is told which commit stands in the way, and nothing changes
+-- whoever tries to undo a commit, or what it depends on, is told which commit stands in the way, and nothing changes
 abbrev pub ACommitStandsInTheWay : Type 0
 ACommitStandsInTheWay =
     answers stream initial (marks a (codes "m") ∷ sends_int a b 1 ∷ receives_into b a (codes "x") ∷ commits b ∷ goes_back a (codes "m") ∷ rolls_back a 1 ∷ undoes a 2 ∷ undoes b 4 ∷ undoes b 3 ∷ undoes a 4 ∷ commits a ∷ rolls_back a 1 ∷ [])
@@ -283,9 +283,9 @@ ACommitLeavesTheStrangers =
     answers two_pairs initial (commits c ∷ sends_int a b 1 ∷ rolls_back a 2 ∷ [])
     ≡ done 1 ∷ done 2 ∷ Undone (2 ∷ []) ∷ []
 
--- what a role did after a commit can be taken back, the commit not
-abbrev pub WhatCameAfterACommitCanBeTakenBack : Type 0
-WhatCameAfterACommitCanBeTakenBack =
+-- what a role did after a commit can be undone, the commit not
+abbrev pub WhatCameAfterACommitCanBeUndone : Type 0
+WhatCameAfterACommitCanBeUndone =
     answers stream initial (sends_int a b 1 ∷ commits a ∷ sends_int a b 2 ∷ sends_int a b 3 ∷ undoes a 4 ∷ rolls_back a 3 ∷ undoes a 2 ∷ rolls_back a 2 ∷ rolls_back a 1 ∷ undoes a 1 ∷ [])
     ≡ done 1 ∷ done 2 ∷ done 3 ∷ done 4 ∷ Undone (4 ∷ []) ∷ Undone (3 ∷ []) ∷ Refused (Final 2) ∷ Refused (Final 2) ∷ Refused (Final 2) ∷ Refused (Needed 2) ∷ []
 
@@ -295,7 +295,7 @@ ACommitIsAllowedAtTheEnd =
     (answers two_pairs initial (sends_int a b 1 ∷ commits a ∷ sends_int a b 2 ∷ []) ≡ done 1 ∷ done 2 ∷ violates Ended ∷ [])
     × (answers two_pairs (from_number 100000) (commits a ∷ commits a ∷ undoes a 100000 ∷ []) ≡ done 100000 ∷ Refused Full ∷ Refused (Final 100000) ∷ [])
 
--- a return that takes nothing is accepted after a commit too
+-- a return that removes nothing is accepted after a commit too
 abbrev pub AnEmptyReturnIsNeverFinal : Type 0
 AnEmptyReturnIsNeverFinal =
     answers stream initial (commits a ∷ marks a (codes "m") ∷ goes_back a (codes "m") ∷ [])

@@ -3,6 +3,6 @@ pub mod Rule
 pub mod Violations
 pub mod Machine
 pub mod Examples
-pub mod TakingBack
+pub mod Undoing
 pub mod Faults
 pub mod Answering

@@ -1,5 +1,5 @@
 -- The plain machine: a list of steps and the next number, and its answers to commands. An undo is allowed only where
--- nothing that depends on the step survives (Danos, Krivine, CONCUR 2004). A commit is never taken back.
+-- nothing that depends on the step survives (Danos, Krivine, CONCUR 2004). A commit is never undone.
 use Rattle.std.specs.Prelude.{◌≡◌, ℕ, ◌+◌, ◌<◌, Bool, false, ◌==◌, nat_lt, if◌then◌else◌, List, [], ◌∷◌, ◌++◌, reverse, Option, Some, None, is_some, unwrap_or, Result, Ok, Err}
 use Rattle.std.specs.List.{AllByRecursion}
 use Rattle.std.specs.Option.{option_map}
@@ -74,12 +74,12 @@ forward types st p act =
     unless (option_map Violates (violation (view_of types st.history) p act)) st
     (unless (full_fault st) st (Ok (done_by types st p act), accepted st p act))
 
--- whether role p may take back the step: it survives and is p's
+-- whether role p may undo the step: it survives and is p's
 abbrev pub owner_fault : ℕ → Option Step → Option Refusal
 owner_fault p None = Some NoStep
 owner_fault p (Some s) = if s.role == p then None else Some NotYours
 
--- whether a step is a commit, which nothing takes back, and which
+-- whether a step is a commit, which nothing undoes, and which
 abbrev pub commit_fault : Option Step → Option Refusal
 commit_fault None = None
 commit_fault (Some s) = if is_commit s.act then Some (Final s.id) else None
@@ -88,11 +88,11 @@ commit_fault (Some s) = if is_commit s.act then Some (Final s.id) else None
 abbrev pub final_fault : List Step → ℕ → Option Refusal
 final_fault h n = option_map Final (least (commits_from h n))
 
--- step n is taken out
+-- step n is removed
 abbrev pub undone : State → ℕ → Result (List ℕ) Refusal × State
 undone st n = (Ok (n ∷ []), record st { history = without st.history (λ m. m == n) })
 
--- the answer of role p's undo of step n: a commit stays, and is named; any other step is taken out where no other depends
+-- the answer of role p's undo of step n: a commit stays, and is named; any other step is removed where no other depends
 -- on it, else the least that does is named
 abbrev pub undo : State → ℕ → ℕ → Result (List ℕ) Refusal × State
 undo st p n =
@@ -100,13 +100,13 @@ undo st p n =
     (unless (commit_fault (step_of st.history n)) st
     (unless (option_map Needed (least (dependents st.history n))) st (undone st n)))
 
--- step n and all that depend on it are taken out, and the answer has their numbers, the newest first
+-- step n and all that depend on it are removed, and the answer has their numbers, the newest first
 abbrev pub rolled_back : State → ℕ → Result (List ℕ) Refusal × State
 rolled_back st n =
     let gone = consequences st.history n in
     (Ok (reverse (numbers (within st.history gone))), record st { history = without st.history gone })
 
--- step n and all that depend on it are taken out where no commit is among them, else the least of these is named
+-- step n and all that depend on it are removed where no commit is among them, else the least of these is named
 abbrev pub rolled_back_unless_final : State → ℕ → Result (List ℕ) Refusal × State
 rolled_back_unless_final st n = unless (final_fault st.history n) st (rolled_back st n)
 
@@ -134,7 +134,7 @@ back_to (Some (s ∷ h)) st = rolled_back_unless_final st s.id
 abbrev pub back : State → ℕ → List ℕ → Result (List ℕ) Refusal × State
 back st p name = back_to (since_mark name (steps_of p st.history)) st
 
--- a new step or a refusal as an answer, and the same of steps that were taken out
+-- a new step or a refusal as an answer, and the same of steps that were removed
 abbrev pub stepped : Result Done Refusal → Answer
 stepped (Ok done) = Stepped done
 stepped (Err refusal) = Refused refusal

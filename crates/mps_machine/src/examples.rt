@@ -1,12 +1,12 @@
 //! Worked sessions, which show that the definitions say what they mean.
-ghost use Rattle.mps_machine.specs.Examples.{AnUndoWaitsForTheReceipt, ARollbackTakesAllThatDepends, ARollbackLeavesWhatCameBefore, ARollbackLeavesTheStrangers, AReceiptUndoneTakesTheSameMessageAgain, AnUndoneSendIsGone, AReceiptIntoAUsedSlotIsUndone, TheLeastDependentIsNamedASend, TheLeastDependentIsNamedAReceipt, AReturnToAMarkLeavesTheMark, NumbersAreNeverUsedAgain, RefusalsAreNamed, AChoiceIsMadeAndPicked, ALoopIsGoneRound, AMessageOfAnotherSortIsAMismatch, TheMessageWaitsAgain, TheSlotHasItsOldValue};
+ghost use Rattle.mps_machine.specs.Examples.{AnUndoWaitsForTheReceipt, ARollbackRemovesAllThatDepends, ARollbackLeavesWhatCameBefore, ARollbackLeavesTheStrangers, AReceiptUndoneTakesTheSameMessageAgain, AnUndoneSendIsGone, AReceiptIntoAUsedSlotIsUndone, TheLeastDependentIsNamedASend, TheLeastDependentIsNamedAReceipt, AReturnToAMarkLeavesTheMark, NumbersAreNeverUsedAgain, RefusalsAreNamed, AChoiceIsMadeAndPicked, ALoopIsGoneRound, AMessageOfAnotherSortIsAMismatch, TheMessageWaitsAgain, TheSlotHasItsOldValue};
 ghost use Rattle.mps_machine.specs.Examples.{AHundredThousandNumbersAreGivenOut, AMarkMayHaveTheLastNumber, AReturnIsToTheLastMarkOfTheName, AnotherRolesStepIsNotYours, AChoiceIsOfOnePeer, AnUnexpectedMessageIsAMismatch, ASlotKeepsItsPlace};
-ghost use Rattle.mps_machine.specs.Examples.{ACommitStandsInTheWay, ACommitLeavesTheStrangers, WhatCameAfterACommitCanBeTakenBack, ACommitIsAllowedAtTheEnd, AnEmptyReturnIsNeverFinal, TheLeastCommitIsNamed};
+ghost use Rattle.mps_machine.specs.Examples.{ACommitStandsInTheWay, ACommitLeavesTheStrangers, WhatCameAfterACommitCanBeUndone, ACommitIsAllowedAtTheEnd, AnEmptyReturnIsNeverFinal, TheLeastCommitIsNamed};
 
 /// What the machine answers in short sessions, as worked out by hand.
 pub fn worked_sessions()
     ensures an_undo_waits_for_the_receipt { AnUndoWaitsForTheReceipt }
-    ensures a_rollback_takes_all_that_depends { ARollbackTakesAllThatDepends }
+    ensures a_rollback_removes_all_that_depends { ARollbackRemovesAllThatDepends }
     ensures a_rollback_leaves_what_came_before { ARollbackLeavesWhatCameBefore }
     ensures a_rollback_leaves_the_strangers { ARollbackLeavesTheStrangers }
     ensures a_receipt_undone_takes_the_same_message_again { AReceiptUndoneTakesTheSameMessageAgain }
@@ -31,7 +31,7 @@ pub fn worked_sessions()
     ensures a_slot_keeps_its_place { ASlotKeepsItsPlace }
     ensures a_commit_stands_in_the_way { ACommitStandsInTheWay }
     ensures a_commit_leaves_the_strangers { ACommitLeavesTheStrangers }
-    ensures what_came_after_a_commit_can_be_taken_back { WhatCameAfterACommitCanBeTakenBack }
+    ensures what_came_after_a_commit_can_be_undone { WhatCameAfterACommitCanBeUndone }
     ensures a_commit_is_allowed_at_the_end { ACommitIsAllowedAtTheEnd }
     ensures an_empty_return_is_never_final { AnEmptyReturnIsNeverFinal }
     ensures the_least_commit_is_named { TheLeastCommitIsNamed }

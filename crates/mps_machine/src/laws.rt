@@ -12,7 +12,7 @@ ghost use Rattle.mps_machine.specs.View.{View, opening};
 ghost use Rattle.mps_machine.specs.Rule.{rule, replay};
 ghost use Rattle.mps_machine.specs.Violations.{violation};
 ghost use Rattle.mps_machine.specs.Machine.{State, initial, Request, serve, after, view_of, IsSound};
-ghost use Rattle.mps_machine.specs.TakingBack.{UndoesSteps, RefusesNeeded, RefusesFinal, TakesFutures, ReturnsToMarks, KeepsCommits};
+ghost use Rattle.mps_machine.specs.Undoing.{UndoesSteps, RefusesNeeded, RefusesFinal, RemovesFutures, ReturnsToMarks, KeepsCommits};
 
 /// The rule allows an act exactly where it has no violation.
 pub fn the_rule_is_defined()
@@ -42,7 +42,7 @@ pub fn neighbours_commute()
 
 /// Where no step of a history depends on s, the history without s has a replay too, and the rule allows s after it
 /// and gives the view of the whole (Danos, Krivine, CONCUR 2004).
-pub fn an_unneeded_step_can_be_taken_out()
+pub fn an_unneeded_step_can_be_removed()
     ensures { (types : List LocalType) (h : List Step) (s : Step) (w : View)
         → IsRising h → IsIn s h → ((t : Step) → IsIn t h → depends_on h t s ≡ false) → replay (opening types) h ≡ Some w →
         (x : View) × (replay (opening types) (without h (λ m. m == s.id)) ≡ Some x)
@@ -51,7 +51,7 @@ pub fn an_unneeded_step_can_be_taken_out()
 
 /// The history without a step and all that depends on it has a replay, and these steps lead on from there to the
 /// view of the whole.
-pub fn consequences_can_be_taken_out()
+pub fn consequences_can_be_removed()
     ensures { (types : List LocalType) (h : List Step) (n : ℕ) (w : View)
         → IsRising h → replay (opening types) h ≡ Some w →
         (x : View) × (replay (opening types) (without h (consequences h n)) ≡ Some x)
@@ -80,7 +80,7 @@ pub fn a_state_is_its_replay()
         → replay (opening types) st.history ≡ Some (view_of types st.history) }
 {}
 
-/// A step that was just taken can be undone by its role, and then the history is the one from before. The number isn't
+/// A step that was just done can be undone by its role, and then the history is the one from before. The number isn't
 /// given out again. An undo of a commit is refused, names the commit, and changes nothing.
 pub fn an_undo_gives_the_old_history()
     ensures { (types : List LocalType) (st : State) → IsSound types st → UndoesSteps types st }
@@ -99,13 +99,13 @@ pub fn a_commit_is_refused_as_final()
     ensures { (types : List LocalType) (st : State) → IsSound types st → RefusesFinal st }
 {}
 
-/// A rollback that no commit stands in the way of is accepted, and takes exactly the chosen step and all that depend on
+/// A rollback that no commit stands in the way of is accepted, and removes exactly the chosen step and all that depend on
 /// it.
-pub fn a_rollback_takes_the_causal_future()
-    ensures { (types : List LocalType) (st : State) → IsSound types st → TakesFutures st }
+pub fn a_rollback_removes_the_causal_future()
+    ensures { (types : List LocalType) (st : State) → IsSound types st → RemovesFutures st }
 {}
 
-/// A return to a mark is a rollback of the role's first step after its last mark of the name, and takes nothing where
+/// A return to a mark is a rollback of the role's first step after its last mark of the name, and removes nothing where
 /// there is none. It is refused exactly where no such mark survives.
 pub fn a_return_goes_to_the_last_mark()
     ensures { (types : List LocalType) (st : State) → IsSound types st → ReturnsToMarks st }

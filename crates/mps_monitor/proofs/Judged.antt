@@ -14,7 +14,7 @@ use Rattle.mps_local.specs.Actions.{Head, Ends, Sends, Receives, Chooses, Picks,
 use Rattle.mps_local.specs.Local.{LocalType, Branches, End, Send, Recv, Select, Branch}
 use Rattle.mps_machine.specs.Rule.{type_after_effect}
 use Rattle.mps_machine.specs.Violations.{is_label_of, waiting_fault, effect_fault, act_fault}
-use Rattle.mps_monitor.specs.Verdicts.{labels_of, place_of, GoesOn, IsOffered, ending, one_of, Suits, IsVerdict}
+use Rattle.mps_monitor.specs.Verdicts.{labels_of, place_of_label, GoesOn, IsOffered, ending, one_of, Suits, IsVerdict}
 use Rattle.mps_monitor.specs.declared.verdict.Advance.{Advance}
 use Rattle.mps_monitor.specs.declared.verdict.Advance.TheVariants.{Stay, Next, Into}
 use Rattle.mps_monitor.proofs.Labels.{LeadsTo, leads, same_labels}
@@ -117,11 +117,11 @@ branch_left : (t : LocalType) (b : Branches) (label : List ℕ) (does : Effect) 
 branch_left t b label does m true k e f p l = (e ∙ l.follows ∙ sym (f ∙ l.stands), ap is_some (f ∙ l.stands))
 branch_left t b label does m false k e f p l = absurd cc
 
-led : (names : List (List ℕ)) (b : Branches) (label : List ℕ) (k : ℕ) → names ≡ labels b → place_of names label ≡ Some k → LeadsTo b label k
-led names b label k e f = leads b label k (ap (λ (ns : List (List ℕ)). place_of ns label) (sym e) ∙ f)
+led : (names : List (List ℕ)) (b : Branches) (label : List ℕ) (k : ℕ) → names ≡ labels b → place_of_label names label ≡ Some k → LeadsTo b label k
+led names b label k e f = leads b label k (ap (λ (ns : List (List ℕ)). place_of_label ns label) (sym e) ∙ f)
 
 -- and after a label what stands at its place
-into_left : (h : Head) (t : LocalType) → Begins h t → (does : Effect) (label : List ℕ) (k : ℕ) → MovesOwn does (Some (Label label)) → effect_fault (one_of h) does (Some (Label label)) ≡ None → place_of (labels_of h) label ≡ Some k → IsEffectLeft t does (Some (Label label)) (Some k)
+into_left : (h : Head) (t : LocalType) → Begins h t → (does : Effect) (label : List ℕ) (k : ℕ) → MovesOwn does (Some (Label label)) → effect_fault (one_of h) does (Some (Label label)) ≡ None → place_of_label (labels_of h) label ≡ Some k → IsEffectLeft t does (Some (Label label)) (Some k)
 into_left h t b Idle label k o e p = absurd o
 into_left Ends t b does label k o e p = absurd cc
 into_left (Sends peer sort) t b does label k o e p = absurd cc
@@ -132,7 +132,7 @@ into_left (Chooses peer names) t b (Gives to (Label l)) label k o e p =
     let to_peer = two_true (to == peer) (is_some (branch_at l (ending names))) NoLabel WrongPeer e in
     subst (λ (x : LocalType). IsEffectLeft x (Gives to (Label l)) (Some (Label label)) (Some k)) (sym b.1)
     (branch_left (Select peer b.0) b.0 l (Gives to (Label l)) (Some (Label label)) (to == peer) k refl refl to_peer.0
-    (led names b.0 l k b.2 (subst (λ (x : List ℕ). place_of names x ≡ Some k) same p)))
+    (led names b.0 l k b.2 (subst (λ (x : List ℕ). place_of_label names x ≡ Some k) same p)))
 into_left (Chooses peer names) t b (Takes from slot) label k o e p = absurd cc
 into_left (Picks peer names) t b (Gives to x) label k o e p = absurd cc
 into_left (Picks peer names) t b (Takes from (Some slot)) label k o e p = absurd cc

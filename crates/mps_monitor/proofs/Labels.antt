@@ -6,13 +6,13 @@ use Rattle.std.specs.Str.{bytes_eq}
 use Rattle.std.proofs.lemmas.Iterator.Adapters.{position_from-zero}
 use Rattle.mps_local.specs.Actions.{branch_at, labels, nexts}
 use Rattle.mps_local.specs.Local.{LocalType, Branches, End, NoMore, More}
-use Rattle.mps_monitor.specs.Verdicts.{place_of, ending}
+use Rattle.mps_monitor.specs.Verdicts.{place_of_label, ending}
 
 -- the first place, counted from i
 abbrev pub place_from : List (List ℕ) → List ℕ → ℕ → Option ℕ
 place_from names label i = position_from (λ other. bytes_eq other label) i names
 
-counted : (names : List (List ℕ)) (label : List ℕ) → place_of names label ≡ place_from names label 0
+counted : (names : List (List ℕ)) (label : List ℕ) → place_of_label names label ≡ place_from names label 0
 counted names label = position_from-zero (λ other. bytes_eq other label) names
 
 -- the type at that place among these follows the label
@@ -33,7 +33,7 @@ leads_from (More l t others) label i k e = by_test (bytes_eq l label) refl e (le
         (suc r.0, omega (arith, n), record { next = r.2.next; follows = rw h r.2.follows; stands = r.2.stands })
 
 -- a label leads to what stands at its first place
-pub leads : (b : Branches) (label : List ℕ) (k : ℕ) → place_of (labels b) label ≡ Some k → LeadsTo b label k
+pub leads : (b : Branches) (label : List ℕ) (k : ℕ) → place_of_label (labels b) label ≡ Some k → LeadsTo b label k
 leads b label k e =
     let r = leads_from b label 0 k (sym (counted (labels b) label) ∙ e) in
     let n = r.1 in
@@ -52,16 +52,16 @@ labels_ending : (names : List (List ℕ)) → labels (ending names) ≡ names
 labels_ending [] = refl
 labels_ending (name ∷ names) = ap (λ (ns : List (List ℕ)). name ∷ ns) (labels_ending names)
 
-placed_ending : (names : List (List ℕ)) (label : List ℕ) → place_of (labels (ending names)) label ≡ place_of names label
-placed_ending names label = ap (λ (ns : List (List ℕ)). place_of ns label) (labels_ending names)
+placed_ending : (names : List (List ℕ)) (label : List ℕ) → place_of_label (labels (ending names)) label ≡ place_of_label names label
+placed_ending names label = ap (λ (ns : List (List ℕ)). place_of_label ns label) (labels_ending names)
 
 -- a name that has no place is no label
-pub not_a_label : (names : List (List ℕ)) (label : List ℕ) → place_of names label ≡ None → is_some (branch_at label (ending names)) ≡ false
+pub not_a_label : (names : List (List ℕ)) (label : List ℕ) → place_of_label names label ≡ None → is_some (branch_at label (ending names)) ≡ false
 not_a_label names label e =
     ap is_some (nowhere (ending names) label 0 (sym (counted (labels (ending names)) label) ∙ placed_ending names label ∙ e))
 
 -- and one that has a place is one
-pub a_label : (names : List (List ℕ)) (label : List ℕ) (k : ℕ) → place_of names label ≡ Some k → is_some (branch_at label (ending names)) ≡ true
+pub a_label : (names : List (List ℕ)) (label : List ℕ) (k : ℕ) → place_of_label names label ≡ Some k → is_some (branch_at label (ending names)) ≡ true
 a_label names label k e = ap is_some (leads (ending names) label k (placed_ending names label ∙ e)).follows
 
 -- whether a label is there does not depend on what follows

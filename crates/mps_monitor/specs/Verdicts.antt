@@ -58,8 +58,8 @@ labels_of (Picks peer labels) = labels
 labels_of h = []
 
 -- the first place at which the label stands
-abbrev pub place_of : List (List ℕ) → List ℕ → Option ℕ
-place_of labels label = position (λ other. bytes_eq other label) labels
+abbrev pub place_of_label : List (List ℕ) → List ℕ → Option ℕ
+place_of_label labels label = position (λ other. bytes_eq other label) labels
 
 -- where the type goes on after the act that moves this message: what is left then is what follows its first action
 abbrev pub IsLeft : LocalType → Act → Option Message → Option ℕ → Type 0
@@ -92,7 +92,7 @@ one_of (Picks peer labels) = Branch peer (ending labels)
 
 -- a way to go on that suits what a type begins with, for the message that is moved
 abbrev pub Suits : Head → Option Message → Advance → Type 0
-Suits h (Some (messages.Label label)) (Into k) = place_of (labels_of h) label ≡ Some k
+Suits h (Some (messages.Label label)) (Into k) = place_of_label (labels_of h) label ≡ Some k
 Suits h (Some (messages.Value value)) Next = Unit {0}
 Suits h m a = ⊥
 

@@ -11,7 +11,7 @@ ghost use Rattle.mps_machine.specs.Rule.{moved};
 ghost use Rattle.mps_machine.specs.View.{View};
 ghost use Rattle.mps_machine.specs.Violations.{act_fault};
 ghost use Rattle.mps_table.specs.Expects.{head_of};
-ghost use Rattle.mps_monitor.specs.Verdicts.{moved_by, peer_of, waiting_from, is_idle, place_of, GoesOn, IsOffered, IsVerdict};
+ghost use Rattle.mps_monitor.specs.Verdicts.{moved_by, peer_of, waiting_from, is_idle, place_of_label, GoesOn, IsOffered, IsVerdict};
 
 use mps_base::{Message, Name, Role, Sort, Value};
 use mps_command::{Forward, Violation};
@@ -106,7 +106,7 @@ fn judge_choice(peer: Role, labels: &[Name], to: Role, label: &Name) -> Result<A
     if !to.is(peer) {
         return Err(Violation::WrongPeer);
     }
-    match place_of(labels, label) {
+    match place_of_label(labels, label) {
         None => Err(Violation::NoLabel),
         Some(place) => Ok(Advance::Into(place)),
     }
@@ -149,7 +149,7 @@ fn judge_pick(
     match first {
         None => Err(Violation::NothingQueued),
         Some(Message::Value(_)) => Err(Violation::Mismatch),
-        Some(Message::Label(label)) => match place_of(labels, label) {
+        Some(Message::Label(label)) => match place_of_label(labels, label) {
             None => Err(Violation::Mismatch),
             Some(place) => Ok(Advance::Into(place)),
         },
@@ -157,8 +157,8 @@ fn judge_pick(
 }
 
 // The first place at which the label stands.
-fn place_of(labels: &[Name], label: &Name) -> Option<usize>
-    ensures { result ≡ place_of labels.now label.now }
+fn place_of_label(labels: &[Name], label: &Name) -> Option<usize>
+    ensures { result ≡ place_of_label labels.now label.now }
 {
     labels.iter().position(|other| other.is(label))
 }

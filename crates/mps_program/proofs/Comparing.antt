@@ -3,15 +3,15 @@ use Rattle.std.proofs.Common.{◌≡◌, ℕ, List, inl, inr, subst}
 use Rattle.mps_local.specs.Local.{LocalType}
 use Rattle.mps_room.specs.Journal.{run}
 use Rattle.mps_room.specs.declared.entry.Entry.{Entry}
-use Rattle.mps_session.specs.Seen.{Machine}
+use Rattle.mps_session.specs.SessionState.{SessionState}
 use Rattle.mps_wire.specs.Streams.{Streams}
 use Rattle.mps_program.specs.Compared.{CantCompare, CantFollow, HasCompared, HasFollowed, HasReplayed}
 use Rattle.mps_program.specs.declared.faults.ToolFault.{ToolFault}
 
 -- what is told of a session and of the one that the second script left is told of the two scripts, where the first left that session
-pub followed : (names : List (List ℕ)) (types : List LocalType) (first : List Entry) (session : Machine) → session ≡ record { types = types; state = run types first } → (before after before' after' : Streams) (line : List ℕ) (status : ℕ) → HasReplayed names types before after first → HasFollowed names session before' after' line status → HasCompared names types before after before' after' line status
+pub followed : (names : List (List ℕ)) (types : List LocalType) (first : List Entry) (session : SessionState) → session ≡ record { types = types; state = run types first } → (before after before' after' : Streams) (line : List ℕ) (status : ℕ) → HasReplayed names types before after first → HasFollowed names session before' after' line status → HasCompared names types before after before' after' line status
 followed names types first session is before after before' after' line status replayed h =
-    let seen = subst (λ (m : Machine). HasFollowed names m before' after' line status) is h in
+    let seen = subst (λ (m : SessionState). HasFollowed names m before' after' line status) is h in
     record {
       first = first;
       second = seen.second;

@@ -1,12 +1,12 @@
 -- From the parts of what a server tells to the whole.
 use Rattle.std.proofs.Common.{◌≡◌, ℕ, suc, zero, ◌+◌, ◌<◌, ◌≤◌, List, [], ◌∷◌, ◌++◌, Option, Some, None, Result, Ok, Err, IfErr, IsErrAnd, OnOk, length, refl, sym, subst, arith}
 use Rattle.std.specs.Io.KnownBytes.{Appends}
-use Rattle.mps_room.specs.Kept.{Record}
+use Rattle.mps_room.specs.Kept.{RoomState}
 use Rattle.mps_cell.specs.Cells.{Opened}
 use Rattle.mps_hub.specs.Halls.{AreCellsOf, AreCellsWith, AreClosed, Hall}
 use Rattle.mps_hub.proofs.Cells.{all_alike}
 use Rattle.mps_machine.specs.Machine.{initial}
-use Rattle.mps_session.specs.Seen.{Machine}
+use Rattle.mps_session.specs.SessionState.{SessionState}
 use Rattle.mps_program.specs.Streams.{HasLoaded, HasLoadedMany}
 use Rattle.mps_wire.proofs.Bytes.{Appends-none, Appends-trans}
 use Rattle.mps_program.specs.Served.{IsListeningLine, IsSessionLine, AreSessionLines, AreLinesUpTo, TookOne, HasOpened, HasServed, HasServedUpTo, IfLost, IsTellFault, IsOutFault, IsHubFault}
@@ -15,7 +15,7 @@ use Rattle.mps_program.specs.declared.faults.ToolFault.{ToolFault}
 use Rattle.mps_program.specs.declared.faults.ToolFault.TheVariants.{Write, Bind, Accept, Lost, Memory}
 
 -- a hub of the sessions that were loaded
-pub opened_hub : (given left : Option (List ℕ)) (n : ℕ) (roles : List (List ℕ)) (sessions : List Machine) (hub : Hall) → HasLoadedMany given left roles n sessions → hub.names ≡ roles → AreCellsOf roles sessions hub.cells → HasOpened given left n hub
+pub opened_hub : (given left : Option (List ℕ)) (n : ℕ) (roles : List (List ℕ)) (sessions : List SessionState) (hub : Hall) → HasLoadedMany given left roles n sessions → hub.names ≡ roles → AreCellsOf roles sessions hub.cells → HasOpened given left n hub
 opened_hub given left n roles sessions hub loaded names cells =
     let types = loaded.read.types in
     record {
@@ -35,19 +35,19 @@ on_err (Ok x) P Q f h = tt
 on_err (Err e) P Q f h = f e h
 
 -- one session's line, and those after it
-pub one_more : (session : ℕ) (m : Record) (rooms : List (Option Record)) (took mid taken : Option (List ℕ)) → TookOne (IsSessionLine session (length m.journal)) took mid → TookOne (AreSessionLines (suc session) rooms) mid taken → TookOne (AreSessionLines session (Some m ∷ rooms)) took taken
+pub one_more : (session : ℕ) (m : RoomState) (rooms : List (Option RoomState)) (took mid taken : Option (List ℕ)) → TookOne (IsSessionLine session (length m.journal)) took mid → TookOne (AreSessionLines (suc session) rooms) mid taken → TookOne (AreSessionLines session (Some m ∷ rooms)) took taken
 one_more session m rooms took mid taken (line, is, sent) (others, are, more) = (line ++ others, (line, others, is, refl, are), Appends-trans took mid taken line others sent more)
 
 -- the same, where the lines after it may not all be told
-pub told_rest : {A : Type 0} (r : Result A ToolFault) (session next : ℕ) (m : Record) (rooms later : List (Option Record)) (took mid taken : Option (List ℕ)) → rooms ≡ Some m ∷ later → next ≡ session + 1 → TookOne (IsSessionLine session (length m.journal)) took mid → OnOk r (TookOne (AreSessionLines next later) mid taken) → OnOk r (TookOne (AreSessionLines session rooms) took taken)
+pub told_rest : {A : Type 0} (r : Result A ToolFault) (session next : ℕ) (m : RoomState) (rooms later : List (Option RoomState)) (took mid taken : Option (List ℕ)) → rooms ≡ Some m ∷ later → next ≡ session + 1 → TookOne (IsSessionLine session (length m.journal)) took mid → OnOk r (TookOne (AreSessionLines next later) mid taken) → OnOk r (TookOne (AreSessionLines session rooms) took taken)
 told_rest r session next m rooms later took mid taken split at first rest =
     let step : next ≡ suc session = omega (arith, at) in
     on_ok r (TookOne (AreSessionLines next later) mid taken) (TookOne (AreSessionLines session rooms) took taken)
-    (λ h. subst (λ (l : List (Option Record)). TookOne (AreSessionLines session l) took taken) (sym split)
+    (λ h. subst (λ (l : List (Option RoomState)). TookOne (AreSessionLines session l) took taken) (sym split)
     (one_more session m later took mid taken first (subst (λ (n : ℕ). TookOne (AreSessionLines n later) mid taken) step h))) rest
 
 -- the port's line, and those of the sessions
-pub served : (cells cells' : List Opened) (took mid taken : Option (List ℕ)) (port : ℕ) (rooms slice : List (Option Record)) → cells' ≡ cells → slice ≡ rooms → TookOne (IsListeningLine port) took mid → AreClosed cells' rooms → TookOne (AreSessionLines 1 slice) mid taken → HasServed cells took taken
+pub served : (cells cells' : List Opened) (took mid taken : Option (List ℕ)) (port : ℕ) (rooms slice : List (Option RoomState)) → cells' ≡ cells → slice ≡ rooms → TookOne (IsListeningLine port) took mid → AreClosed cells' rooms → TookOne (AreSessionLines 1 slice) mid taken → HasServed cells took taken
 served cells cells' took mid taken port rooms slice same value (first, listening, sent) closed (lines, told, more) = record {
   port = port;
   rooms = rooms;
@@ -55,7 +55,7 @@ served cells cells' took mid taken port rooms slice same value (first, listening
   lines = lines;
   listening = listening;
   closed = subst (λ (c : List Opened). AreClosed c rooms) same closed;
-  told = subst (λ (r : List (Option Record)). AreSessionLines 1 r lines) value told;
+  told = subst (λ (r : List (Option RoomState)). AreSessionLines 1 r lines) value told;
   sent = Appends-trans took mid taken first lines sent more;
 }
 
@@ -73,23 +73,23 @@ if_lost P Q f (Lost k) h = f k h
 if_lost P Q f fault h = tt
 
 -- the first session is lost
-pub first_lost : (session : ℕ) (rooms later : List (Option Record)) (took : Option (List ℕ)) → rooms ≡ None ∷ later → TookOne (AreLinesUpTo session rooms session) took took
-first_lost session rooms later took split = ([], subst (λ (l : List (Option Record)). AreLinesUpTo session l session []) (sym split) (refl, refl), Appends-none took)
+pub first_lost : (session : ℕ) (rooms later : List (Option RoomState)) (took : Option (List ℕ)) → rooms ≡ None ∷ later → TookOne (AreLinesUpTo session rooms session) took took
+first_lost session rooms later took split = ([], subst (λ (l : List (Option RoomState)). AreLinesUpTo session l session []) (sym split) (refl, refl), Appends-none took)
 
 -- one session's line, and those after it up to the first that is lost
-pub lost_rest : {A : Type 0} (r : Result A ToolFault) (session next : ℕ) (m : Record) (rooms later : List (Option Record)) (took mid taken : Option (List ℕ)) → rooms ≡ Some m ∷ later → next ≡ session + 1 → TookOne (IsSessionLine session (length m.journal)) took mid
+pub lost_rest : {A : Type 0} (r : Result A ToolFault) (session next : ℕ) (m : RoomState) (rooms later : List (Option RoomState)) (took mid taken : Option (List ℕ)) → rooms ≡ Some m ∷ later → next ≡ session + 1 → TookOne (IsSessionLine session (length m.journal)) took mid
     → IfErr r (IfLost (λ k. TookOne (AreLinesUpTo next later k) mid taken)) → IfErr r (IfLost (λ k. TookOne (AreLinesUpTo session rooms k) took taken))
 lost_rest r session next m rooms later took mid taken split at (line, is, sent) rest =
     let step : next ≡ suc session = omega (arith, at) in
     on_err r (IfLost (λ k. TookOne (AreLinesUpTo next later k) mid taken)) (IfLost (λ k. TookOne (AreLinesUpTo session rooms k) took taken))
     (if_lost (λ k. TookOne (AreLinesUpTo next later k) mid taken) (λ k. TookOne (AreLinesUpTo session rooms k) took taken) (λ k h. (
       line ++ h.0,
-      subst (λ (l : List (Option Record)). AreLinesUpTo session l k (line ++ h.0)) (sym split) (line, h.0, is, refl, subst (λ (n : ℕ). AreLinesUpTo n later k h.0) step h.1),
+      subst (λ (l : List (Option RoomState)). AreLinesUpTo session l k (line ++ h.0)) (sym split) (line, h.0, is, refl, subst (λ (n : ℕ). AreLinesUpTo n later k h.0) step h.1),
       Appends-trans took mid taken line h.0 sent h.2,
     ))) rest
 
 -- the port's line, and those of the sessions up to the first that is lost
-pub served_in_part : {A : Type 0} (r : Result A ToolFault) (cells cells' : List Opened) (took mid taken : Option (List ℕ)) (port : ℕ) (rooms slice : List (Option Record)) → cells' ≡ cells → slice ≡ rooms → TookOne (IsListeningLine port) took mid → AreClosed cells' rooms
+pub served_in_part : {A : Type 0} (r : Result A ToolFault) (cells cells' : List Opened) (took mid taken : Option (List ℕ)) (port : ℕ) (rooms slice : List (Option RoomState)) → cells' ≡ cells → slice ≡ rooms → TookOne (IsListeningLine port) took mid → AreClosed cells' rooms
     → IfErr r (IfLost (λ k. TookOne (AreLinesUpTo 1 slice k) mid taken)) → IfErr r (IfLost (HasServedUpTo cells took taken))
 served_in_part r cells cells' took mid taken port rooms slice same value (first, listening, sent) closed rest =
     on_err r (IfLost (λ k. TookOne (AreLinesUpTo 1 slice k) mid taken)) (IfLost (HasServedUpTo cells took taken))
@@ -100,7 +100,7 @@ served_in_part r cells cells' took mid taken port rooms slice same value (first,
       lines = h.0;
       listening = listening;
       closed = subst (λ (c : List Opened). AreClosed c rooms) same closed;
-      told = subst (λ (l : List (Option Record)). AreLinesUpTo 1 l k h.0) value h.1;
+      told = subst (λ (l : List (Option RoomState)). AreLinesUpTo 1 l k h.0) value h.1;
       sent = Appends-trans took mid taken first h.0 sent h.2;
     })) rest
 

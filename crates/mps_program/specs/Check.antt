@@ -7,7 +7,7 @@ use Rattle.mps_local.specs.Local.{LocalType}
 use Rattle.mps_local.specs.Outcome.{AreProjections, IsFirstUnmerged}
 use Rattle.mps_local.specs.Text.{name_at, local_text}
 use Rattle.mps_machine.specs.Machine.{initial}
-use Rattle.mps_session.specs.Seen.{Machine}
+use Rattle.mps_session.specs.SessionState.{SessionState}
 use Rattle.mps_text.specs.Grammar.{SpellsText, IsWithinLimits}
 use Rattle.mps_text.specs.Faults.{IsFirstFault}
 use Rattle.mps_text.specs.declared.fault.TextKind.{TextKind}
@@ -29,7 +29,7 @@ pub record AreTypesOf (text : List ℕ) (roles : List (List ℕ)) (types : List 
   pub projected : AreProjections roles tree types
 
 -- the text is a protocol without faults, and these are so many new sessions of it
-pub record AreSessionsOf (text : List ℕ) (roles : List (List ℕ)) (n : ℕ) (sessions : List Machine) : Type 0 where
+pub record AreSessionsOf (text : List ℕ) (roles : List (List ℕ)) (n : ℕ) (sessions : List SessionState) : Type 0 where
   pub types : List LocalType
   pub read : AreTypesOf text roles types
   pub one : AreOfOneProtocol types

@@ -8,7 +8,7 @@ use Rattle.mps_room.specs.Journal.{run}
 use Rattle.mps_room.specs.declared.entry.Entry.{Entry}
 use Rattle.mps_lines.specs.Lines.{ended}
 use Rattle.mps_wire.specs.Runs.{Ran}
-use Rattle.mps_session.specs.Seen.{Machine}
+use Rattle.mps_session.specs.SessionState.{SessionState}
 use Rattle.mps_wire.specs.Script.{AnswersLine}
 use Rattle.mps_wire.specs.Streams.{Streams}
 use Rattle.mps_wire.specs.declared.script.ReplayFault.{ReplayFault}
@@ -71,7 +71,7 @@ module _ (names : List (List ℕ)) (types : List LocalType) where
         ⊎ ((first : List Entry) × (second : List Entry) × HasReplayed before after first × HasReplayed before' after' second × (fault ≡ Memory)))
 
 -- The script was replayed to its end on a session of these names, with the types of the first session; and this is told of the first and of the one that it left: whether their views are equal, and whether exchanges of independent neighbours turn one history into the other, numbers aside.
-pub record HasFollowed (names : List (List ℕ)) (first : Machine) (before after : Streams) (line : List ℕ) (status : ℕ) : Type 0 where
+pub record HasFollowed (names : List (List ℕ)) (first : SessionState) (before after : Streams) (line : List ℕ) (status : ℕ) : Type 0 where
   pub second : List Entry
   pub replayed : HasReplayed names first.types before after second
   pub views : Tells (view_of first.types first.state.history ≡ view_of first.types (run first.types second).history) line status

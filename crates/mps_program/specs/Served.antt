@@ -2,7 +2,7 @@
 use Rattle.std.specs.Prelude.{◌≡◌, ◌+◌, ◌<◌, ◌≤◌, ◌⊎◌, ⊤, ℕ, suc, List, [], ◌∷◌, ◌++◌, Option, Some, None, codes, length}
 use Rattle.std.specs.Io.KnownBytes.{Appends}
 use Rattle.mps_base.specs.Numbers.{IsNumberText}
-use Rattle.mps_room.specs.Kept.{Record}
+use Rattle.mps_room.specs.Kept.{RoomState}
 use Rattle.mps_cell.specs.Cells.{Opened}
 use Rattle.mps_hub.specs.Halls.{AreCellsWith, AreClosed, Hall}
 use Rattle.mps_local.specs.Local.{LocalType}
@@ -29,14 +29,14 @@ IsSessionLine session entries line = (number : List ℕ) × (count : List ℕ) �
     × (line ≡ codes "session " ++ number ++ codes " " ++ count ++ 10 ∷ [])
 
 -- a line for each session from this one on, of which none is lost
-abbrev pub AreSessionLines : ℕ → List (Option Record) → List ℕ → Type 0
+abbrev pub AreSessionLines : ℕ → List (Option RoomState) → List ℕ → Type 0
 AreSessionLines session [] lines = lines ≡ []
 AreSessionLines session (None ∷ rooms) lines = ⊥
 AreSessionLines session (Some m ∷ rooms) lines =
     (line : List ℕ) × (others : List ℕ) × IsSessionLine session (length m.journal) line × (lines ≡ line ++ others) × AreSessionLines (suc session) rooms others
 
 -- a line for each session from this one on, up to the first that is lost
-abbrev pub AreLinesUpTo : ℕ → List (Option Record) → ℕ → List ℕ → Type 0
+abbrev pub AreLinesUpTo : ℕ → List (Option RoomState) → ℕ → List ℕ → Type 0
 AreLinesUpTo session [] lost lines = ⊥
 AreLinesUpTo session (None ∷ rooms) lost lines = (lost ≡ session) × (lines ≡ [])
 AreLinesUpTo session (Some m ∷ rooms) lost lines =
@@ -49,7 +49,7 @@ TookOne P took taken = (text : List ℕ) × P text × Appends took taken text
 -- all was told: the port, and how many entries the room has that each session's cell closed with
 pub record HasServed (cells : List Opened) (took taken : Option (List ℕ)) : Type 0 where
   pub port : ℕ
-  pub rooms : List (Option Record)
+  pub rooms : List (Option RoomState)
   pub first : List ℕ
   pub lines : List ℕ
   pub listening : IsListeningLine port first
@@ -60,7 +60,7 @@ pub record HasServed (cells : List Opened) (took taken : Option (List ℕ)) : Ty
 -- a session is lost: the port was told, and how many entries the rooms have that the cells before it closed with
 pub record HasServedUpTo (cells : List Opened) (took taken : Option (List ℕ)) (lost : ℕ) : Type 0 where
   pub port : ℕ
-  pub rooms : List (Option Record)
+  pub rooms : List (Option RoomState)
   pub first : List ℕ
   pub lines : List ℕ
   pub listening : IsListeningLine port first

@@ -1,7 +1,7 @@
 -- The types of a protocol from a source, and to a sink: given is what the source had left at first, took what the sink had taken.
 use Rattle.std.specs.Prelude.{◌≡◌, ◌≤◌, ℕ, ⊤, List, Option, length}
 use Rattle.mps_local.specs.Local.{LocalType}
-use Rattle.mps_session.specs.Seen.{Machine}
+use Rattle.mps_session.specs.SessionState.{SessionState}
 use Rattle.std.specs.Io.KnownBytes.{Appends, Consumes, IsAtEnd}
 use Rattle.mps_program.specs.Check.{AreSessionsOf, AreTypesOf, AreLinesOf, GivesNoTypes}
 use Rattle.mps_program.specs.Files.{longest, most_read}
@@ -32,7 +32,7 @@ pub record HasLoaded (given left : Option (List ℕ)) (roles : List (List ℕ)) 
   pub read : AreTypesOf text roles types
 
 -- the source gave a protocol without faults to its end, with these roles and so many new sessions
-pub record HasLoadedMany (given left : Option (List ℕ)) (roles : List (List ℕ)) (n : ℕ) (sessions : List Machine) : Type 0 where
+pub record HasLoadedMany (given left : Option (List ℕ)) (roles : List (List ℕ)) (n : ℕ) (sessions : List SessionState) : Type 0 where
   pub text : List ℕ
   pub bytes : Consumes given left text
   pub over : IsAtEnd left

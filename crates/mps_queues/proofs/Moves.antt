@@ -11,11 +11,11 @@ use Rattle.mps_base.specs.Effects.{Effect, Idle, effect}
 use Rattle.mps_base.specs.declared.action.Step.{Step}
 use Rattle.mps_history.specs.Steps.{sends, receives, gives_to, takes_from}
 use Rattle.mps_arena.specs.Keys.{is_at, has, AreDistinct, last_key, key_after, key_before}
-use Rattle.mps_arena.specs.Entries.{Entry, keys_of, any_step, like_sends, entry_at, AreSound}
-use Rattle.mps_arena.specs.Sources.{waiting, next_send_in, prev_send_in}
+use Rattle.mps_arena.specs.Entries.{KeyedStep, keys_of, any_step, like_sends, entry_at, AreSound}
+use Rattle.mps_arena.specs.Neighbours.{waiting, next_send_in, prev_send_in}
 use Rattle.mps_arena.proofs.KeyLists.{get_after, get_in, get_none, has-append_right}
 use Rattle.mps_arena.proofs.Chains.{keys-append, keys_with, keys_without, keys_push, keys_kept, keys_around, keys_beside, distinct, absent, passes, entry_key}
-use Rattle.mps_arena.proofs.Mates.{matched_of, sends_pair, receives_pair, sends_chain}
+use Rattle.mps_arena.proofs.Matched.{matched_of, sends_pair, receives_pair, sends_chain}
 use Rattle.mps_arena.proofs.Nodes.{cases_entry}
 use Rattle.mps_arena.proofs.Keeping.{others_are, entry_split}
 use Rattle.mps_queues.specs.Fronts.{front_at, waiting_keys, AreFronts, pushed, taken, returned, dropped}
@@ -73,7 +73,7 @@ other_pair_turned : (p q i j : ℕ) → (i ≡ p → j ≡ q → ⊥) → (q == 
 other_pair_turned p q i j n = false_from_ne_true (q == j && p == i) (λ t. let w = and_parts (q == j) (p == i) t in n (sym (eqb-true p i w.1)) (sym (eqb-true q j w.0)))
 
 -- one front changes
-pub front_set : (fronts : List (Option ℕ)) (es now : List Entry) (p q at : ℕ) (v : Option ℕ) → length fronts ≡ 64 → p < 8 → q < 8 → at ≡ p * 8 + q → AreFronts es fronts → waiting now p q ≡ v → ((i j : ℕ) → (i ≡ p → j ≡ q → ⊥) → waiting now i j ≡ waiting es i j) → AreFronts now (slice_set fronts at v)
+pub front_set : (fronts : List (Option ℕ)) (es now : List KeyedStep) (p q at : ℕ) (v : Option ℕ) → length fronts ≡ 64 → p < 8 → q < 8 → at ≡ p * 8 + q → AreFronts es fronts → waiting now p q ≡ v → ((i j : ℕ) → (i ≡ p → j ≡ q → ⊥) → waiting now i j ≡ waiting es i j) → AreFronts now (slice_set fronts at v)
 front_set fronts es now p q at v long hp hq place f here others = record { each = each }
   where
     each : (i j : ℕ) → i < 8 → j < 8 → front_at (slice_set fronts at v) i j ≡ waiting now i j
@@ -92,17 +92,17 @@ front_set fronts es now p q at v long hp hq place f here others = record { each 
         get_or-set_other fronts at (i * 8 + j) v None away ∙ f.each i j hi hj ∙ sym (others i j differ))
         (cases_Bool (p == i && q == j))
 
-module _ (es : List Entry) (sound : AreSound es) (p q : ℕ) where
+module _ (es : List KeyedStep) (sound : AreSound es) (p q : ℕ) where
   abbrev sent : List ℕ
   sent = keys_of (sends p q) es
 
   abbrev got : List ℕ
   got = keys_of (receives p q) es
 
-  pub waiting_push : (e : Entry) → sends p q e.step ≡ true → waiting (es ++ e ∷ []) p q ≡ pushed e.key (waiting es p q)
+  pub waiting_push : (e : KeyedStep) → sends p q e.step ≡ true → waiting (es ++ e ∷ []) p q ≡ pushed e.key (waiting es p q)
   waiting_push e t = rw (keys_push (sends p q) es e t, keys_kept (receives p q) es e (sends_takes p q p q e.step t)) (get_push sent (length got) e.key (matched_of es sound.fed p q))
 
-  pub others_push : (e : Entry) → sends p q e.step ≡ true → (i j : ℕ) → (i ≡ p → j ≡ q → ⊥) → waiting (es ++ e ∷ []) i j ≡ waiting es i j
+  pub others_push : (e : KeyedStep) → sends p q e.step ≡ true → (i j : ℕ) → (i ≡ p → j ≡ q → ⊥) → waiting (es ++ e ∷ []) i j ≡ waiting es i j
   others_push e t i j n = rw (keys_kept (sends i j) es e (sends_at p q i j e.step t ∙ other_pair p q i j n), keys_kept (receives i j) es e (sends_takes p q i j e.step t)) refl
 
   -- a send's neighbours in its chain
@@ -110,12 +110,12 @@ module _ (es : List Entry) (sound : AreSound es) (p q : ℕ) where
   send_links k h =
       ⊎_elim
       (λ (z : entry_at k es ≡ None). absurd (both_ways (has k sent) (absent (sends p q) k es z) h))
-      (λ (w : (y : Entry) × (entry_at k es ≡ Some y)).
+      (λ (w : (y : KeyedStep) × (entry_at k es ≡ Some y)).
       let y = w.0 in
       let key = entry_key k es y w.1 in
       let chain = sends_chain p q y.step (passes (sends p q) k es y sound.distinct w.1 h) in (
-        ap (option_and_then (λ (e : Entry). key_after e.key (keys_of (like_sends e.step.role (effect e.step.act)) es))) w.1 ∙ ap₂ (λ (i : ℕ) (g : Step → Bool). key_after i (keys_of g es)) key chain,
-        ap (option_and_then (λ (e : Entry). key_before None e.key (keys_of (like_sends e.step.role (effect e.step.act)) es))) w.1 ∙ ap₂ (λ (i : ℕ) (g : Step → Bool). key_before None i (keys_of g es)) key chain,
+        ap (option_and_then (λ (e : KeyedStep). key_after e.key (keys_of (like_sends e.step.role (effect e.step.act)) es))) w.1 ∙ ap₂ (λ (i : ℕ) (g : Step → Bool). key_after i (keys_of g es)) key chain,
+        ap (option_and_then (λ (e : KeyedStep). key_before None e.key (keys_of (like_sends e.step.role (effect e.step.act)) es))) w.1 ∙ ap₂ (λ (i : ℕ) (g : Step → Bool). key_before None i (keys_of g es)) key chain,
       ))
       (cases_entry (entry_at k es))
 
@@ -126,7 +126,7 @@ module _ (es : List Entry) (sound : AreSound es) (p q : ℕ) where
   cases_key None = inl refl
   cases_key (Some k) = inr (k, refl)
 
-  pub waiting_take : (e : Entry) → receives p q e.step ≡ true → waiting (es ++ e ∷ []) p q ≡ taken es (waiting es p q)
+  pub waiting_take : (e : KeyedStep) → receives p q e.step ≡ true → waiting (es ++ e ∷ []) p q ≡ taken es (waiting es p q)
   waiting_take e t =
       let n = length got in
       let more : length (got ++ e.key ∷ []) ≡ suc n = omega (arith, length-append got (e.key ∷ [])) in
@@ -136,7 +136,7 @@ module _ (es : List Entry) (sound : AreSound es) (p q : ℕ) where
       (λ (w : (k : ℕ) × (slice_get sent n ≡ Some k)). rw w.1 (sym ((send_links w.0 (at_place n w.0 w.1)).0 ∙ get_after sent n w.0 (distinct (sends p q) es sound.distinct) w.1)))
       (cases_key (slice_get sent n)))
 
-  pub others_take : (e : Entry) → receives p q e.step ≡ true → (i j : ℕ) → (i ≡ p → j ≡ q → ⊥) → waiting (es ++ e ∷ []) i j ≡ waiting es i j
+  pub others_take : (e : KeyedStep) → receives p q e.step ≡ true → (i j : ℕ) → (i ≡ p → j ≡ q → ⊥) → waiting (es ++ e ∷ []) i j ≡ waiting es i j
   others_take e t i j n = rw (keys_kept (sends i j) es e (receives_gives p q i j e.step t), keys_kept (receives i j) es e (receives_at p q i j e.step t ∙ other_pair_turned p q i j n)) refl
 
 -- a place after the first ones
@@ -146,7 +146,7 @@ get_drop_front [] (suc g) n m e = refl
 get_drop_front (j ∷ c) (suc g) n zero e = absurd (omega (arith, e))
 get_drop_front (j ∷ c) (suc g) n (suc m) e = get_drop_front c g n m (omega (arith, e))
 
-module _ (es : List Entry) (sound : AreSound es) (p q : ℕ) where
+module _ (es : List KeyedStep) (sound : AreSound es) (p q : ℕ) where
   abbrev left_in : List ℕ
   left_in = waiting_keys es p q
 
@@ -167,10 +167,10 @@ module _ (es : List Entry) (sound : AreSound es) (p q : ℕ) where
   none_waits n m h e = let few = get_none left_in n e in slice_get_past left_in m (omega (arith, few, h))
 
 -- the last step that passes a test
-pub record StandsLast (f : Step → Bool) (es : List Entry) (k : ℕ) : Type 0 where
-  pub before : List Entry
-  pub behind : List Entry
-  pub entry : Entry
+pub record StandsLast (f : Step → Bool) (es : List KeyedStep) (k : ℕ) : Type 0 where
+  pub before : List KeyedStep
+  pub behind : List KeyedStep
+  pub entry : KeyedStep
   pub parts : es ≡ before ++ entry ∷ behind
   pub key : entry.key ≡ k
   pub passes : f entry.step ≡ true
@@ -180,7 +180,7 @@ nil_or : (c : List ℕ) → (c ≡ []) ⊎ ((o : Option ℕ) → last_key o c �
 nil_or [] = inl refl
 nil_or (j ∷ c) = inr (λ o. refl)
 
-pub stands_last : (f : Step → Bool) (es : List Entry) (k : ℕ) → last_key None (keys_of f es) ≡ Some k → StandsLast f es k
+pub stands_last : (f : Step → Bool) (es : List KeyedStep) (k : ℕ) → last_key None (keys_of f es) ≡ Some k → StandsLast f es k
 stands_last f [] k e = absurd cc
 stands_last f (x ∷ es) k e =
     let later = λ (h : last_key None (keys_of f es) ≡ Some k).
@@ -201,7 +201,7 @@ stands_last f (x ∷ es) k e =
     (λ (n : f x.step ≡ false). later (sym (ap (last_key None) (keys_without f x es n)) ∙ e))
     (cases_Bool (f x.step))
 
-module _ (es : List Entry) (sound : AreSound es) (p q k : ℕ) where
+module _ (es : List KeyedStep) (sound : AreSound es) (p q k : ℕ) where
   -- what is left of a chain without its last
   front_part : (f : Step → Bool) (s : StandsLast f es k) → (keys_of f es ≡ keys_of f s.before ++ k ∷ []) × (keys_of f (s.before ++ s.behind) ≡ keys_of f s.before)
   front_part f s = (
@@ -213,7 +213,7 @@ module _ (es : List Entry) (sound : AreSound es) (p q k : ℕ) where
   beside f g s n = sym (ap (keys_of g) s.parts ∙ keys_beside g s.before s.behind s.entry n)
 
   left : (f : Step → Bool) (s : StandsLast f es k) → filter (λ e. not (e.key == k)) es ≡ s.before ++ s.behind
-  left f s = ap (filter (λ e. not (e.key == k))) s.parts ∙ others_are k s.before s.behind s.entry (subst (λ (l : List Entry). AreDistinct (keys_of any_step l)) s.parts sound.distinct) s.key
+  left f s = ap (filter (λ e. not (e.key == k))) s.parts ∙ others_are k s.before s.behind s.entry (subst (λ (l : List KeyedStep). AreDistinct (keys_of any_step l)) s.parts sound.distinct) s.key
 
   pub waiting_return : last_key None (keys_of (receives p q) es) ≡ Some k → waiting (filter (λ e. not (e.key == k)) es) p q ≡ returned es (last_key None (keys_of (sends p q) es)) (waiting es p q)
   waiting_return e =
@@ -252,28 +252,28 @@ module _ (es : List Entry) (sound : AreSound es) (p q k : ℕ) where
       rw (left f s, beside f (sends i j) s (sends_at p q i j s.entry.step s.passes ∙ other_pair p q i j n), beside f (receives i j) s (sends_takes p q i j s.entry.step s.passes)) refl
 
 -- the front that is read
-pub front_read : (fronts : List (Option ℕ)) (es : List Entry) (p q at : ℕ) (d : Option ℕ) → length fronts ≡ 64 → p < 8 → q < 8 → at ≡ p * 8 + q → AreFronts es fronts → slice_index_or fronts at d ≡ waiting es p q
+pub front_read : (fronts : List (Option ℕ)) (es : List KeyedStep) (p q at : ℕ) (d : Option ℕ) → length fronts ≡ 64 → p < 8 → q < 8 → at ≡ p * 8 + q → AreFronts es fronts → slice_index_or fronts at d ≡ waiting es p q
 front_read fronts es p q at d long hp hq place f =
     get_or_default fronts at d None (omega (arith, long, hp, hq, place)) ∙ ap (λ (k : ℕ). slice_index_or fronts k None) place ∙ f.each p q hp hq
 
 -- what is neither a send nor a receipt leaves the fronts
-module _ (x : Entry) (idle : effect x.step.act ≡ Idle) where
+module _ (x : KeyedStep) (idle : effect x.step.act ≡ Idle) where
   no_send : (p q : ℕ) → sends p q x.step ≡ false
   no_send p q = ap (λ (a : Effect). x.step.role == p && gives_to q a) idle ∙ and_right (x.step.role == p) false refl
 
   no_receipt : (p q : ℕ) → receives p q x.step ≡ false
   no_receipt p q = ap (λ (a : Effect). x.step.role == q && takes_from p a) idle ∙ and_right (x.step.role == q) false refl
 
-  pub idle_joins : (es : List Entry) (fronts : List (Option ℕ)) → AreFronts es fronts → AreFronts (es ++ x ∷ []) fronts
+  pub idle_joins : (es : List KeyedStep) (fronts : List (Option ℕ)) → AreFronts es fronts → AreFronts (es ++ x ∷ []) fronts
   idle_joins es fronts f = record {
     each = λ p q hp hq.
         f.each p q hp hq ∙ sym (ap₂ (λ (c d : List ℕ). slice_get c (length d)) (keys_kept (sends p q) es x (no_send p q)) (keys_kept (receives p q) es x (no_receipt p q)));
   }
 
-  pub idle_goes : (es : List Entry) (fronts : List (Option ℕ)) → AreSound es → entry_at x.key es ≡ Some x → AreFronts es fronts → AreFronts (filter (λ e. not (e.key == x.key)) es) fronts
+  pub idle_goes : (es : List KeyedStep) (fronts : List (Option ℕ)) → AreSound es → entry_at x.key es ≡ Some x → AreFronts es fronts → AreFronts (filter (λ e. not (e.key == x.key)) es) fronts
   idle_goes es fronts sound found f =
       let w = entry_split x.key es x found in
-      let d = subst (λ (l : List Entry). AreDistinct (keys_of any_step l)) w.2 sound.distinct in
+      let d = subst (λ (l : List KeyedStep). AreDistinct (keys_of any_step l)) w.2 sound.distinct in
       let left : filter (λ e. not (e.key == x.key)) es ≡ w.0 ++ w.1 = ap (filter (λ e. not (e.key == x.key))) w.2 ∙ others_are x.key w.0 w.1 x d refl in
       let same : (g : Step → Bool) → g x.step ≡ false → keys_of g es ≡ keys_of g (filter (λ e. not (e.key == x.key)) es) =
       λ g n. ap (keys_of g) w.2 ∙ keys_beside g w.0 w.1 x n ∙ ap (keys_of g) (sym left) in

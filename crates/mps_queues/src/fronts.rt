@@ -3,8 +3,8 @@ ghost use Rattle.std.specs.Prelude.{◌≡◌, ℕ, ◌<◌, ◌+◌, ◌*◌, �
 ghost use Rattle.std.specs.List.{filter};
 ghost use Rattle.mps_history.specs.Steps.{sends, receives};
 ghost use Rattle.mps_arena.specs.Keys.{last_key};
-ghost use Rattle.mps_arena.specs.Entries.{Entry, keys_of, AreSound};
-ghost use Rattle.mps_arena.specs.Sources.{waiting};
+ghost use Rattle.mps_arena.specs.Entries.{KeyedStep, keys_of, AreSound};
+ghost use Rattle.mps_arena.specs.Neighbours.{waiting};
 ghost use Rattle.mps_queues.specs.Fronts.{front_at, waiting_keys, AreFronts, pushed, taken, returned, dropped};
 
 use mps_arena::{Arena, Key, Link};
@@ -91,7 +91,7 @@ impl Queues {
     pub fn front(&self, from: Role, to: Role) -> Option<Key>
         requires from { from < 8 }
         requires to { to < 8 }
-        ensures { (es : List Entry) → AreFronts es self.now → result ≡ waiting es from to }
+        ensures { (es : List KeyedStep) → AreFronts es self.now → result ≡ waiting es from to }
     {
         self.fronts[from.index() * 8 + to.index()].key()
     }
@@ -115,7 +115,7 @@ impl Queues {
     pub fn push(&mut self, from: Role, to: Role, key: Key)
         requires from { from < 8 }
         requires to { to < 8 }
-        ensures { (es : List Entry) (e : Entry) → AreFronts es self.old → AreSound es
+        ensures { (es : List KeyedStep) (e : KeyedStep) → AreFronts es self.old → AreSound es
             → IsTrue (sends from to e.step) → e.key ≡ key → AreFronts (es ++ e ∷ []) self.new }
     {
         let at = from.index() * 8 + to.index();
@@ -129,7 +129,7 @@ impl Queues {
         requires to { to < 8 }
         requires fronts { AreFronts arena.now.entries self.old }
         ensures first { result ≡ waiting arena.now.entries from to }
-        ensures fronts { (e : Entry) → IsTrue (receives from to e.step)
+        ensures fronts { (e : KeyedStep) → IsTrue (receives from to e.step)
             → AreFronts (arena.now.entries ++ e ∷ []) self.new }
     {
         sound(arena);

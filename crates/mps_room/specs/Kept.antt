@@ -10,12 +10,12 @@ use Rattle.mps_command.specs.declared.answer.Refusal.TheVariants.{Full, Memory}
 use Rattle.mps_command.specs.declared.command.Command.{Command}
 use Rattle.mps_command.specs.declared.command.Command.TheVariants.{Rollback, Back}
 use Rattle.mps_local.specs.Local.{LocalType}
-use Rattle.mps_session.specs.Seen.{Machine}
+use Rattle.mps_session.specs.SessionState.{SessionState}
 use Rattle.mps_room.specs.Journal.{most_entries, run, undone_by, is_own, IsLegal}
 use Rattle.mps_room.specs.declared.entry.Entry.{Entry}
 
 -- a room, as contracts see it: the names and the opening types of the roles, and the journal
-pub record Record : Type 0 where
+pub record RoomState : Type 0 where
   pub names : List (List ℕ)
   pub types : List LocalType
   pub journal : List Entry
@@ -84,7 +84,7 @@ pub record AreHeard (count : ℕ) (lists : List (List ℕ)) (j : List Entry) : T
   pub listed : (p : ℕ) → p < count → slice_index_or lists p [] ≡ places j p
 
 -- the journal is legal, the session is as its commands leave it, and the owners and what each role hears of are known
-pub record IsRecorded (names : List (List ℕ)) (session : Machine) (owned : List ℕ) (hearers : ℕ) (lists : List (List ℕ)) (j : List Entry) : Type 0 where
+pub record IsRecorded (names : List (List ℕ)) (session : SessionState) (owned : List ℕ) (hearers : ℕ) (lists : List (List ℕ)) (j : List Entry) : Type 0 where
   pub count : length names ≡ length session.types
   pub legal : IsLegal names session.types j
   pub state : session.state ≡ run session.types j

@@ -14,7 +14,7 @@ use crate::heard::Heard;
 use crate::news::news;
 use crate::shown::shown_text;
 use mps_base::{Role, Roles};
-use mps_command::{Answer, Command, Refusal, ShownText, StepIds};
+use mps_command::{Answer, Command, Refusal, StepIds};
 use mps_session::Session;
 use mps_show::show;
 use serde_json::Value as Json;
@@ -41,9 +41,9 @@ impl Model for Room {
     ghost use Rattle.std.specs.Coded.{codes};
     ghost use Rattle.std.specs.Prelude.{map};
     ghost use Rattle.mps_local.specs.Codes.{coded_local};
-    ghost use Rattle.mps_room.specs.Kept.{Record, IsRecorded};
+    ghost use Rattle.mps_room.specs.Kept.{RoomState, IsRecorded};
 
-    ghost Value = { Record };
+    ghost Value = { RoomState };
 
     ghost coded = { Prim.hlevel (codes, coded_local) };
 
@@ -182,17 +182,9 @@ impl Room {
             (reply self.now.names self.now.types self.now.journal role commands.Show) }
         ensures asked { is_accepted result ≡ false }
     {
-        match self.text() {
+        match shown_text(self.alloc, &self.names, &self.session) {
             Ok(text) => Answer::Shown(text),
             Err(_) => Answer::Refused(Refusal::Memory),
         }
-    }
-
-    // The session as text.
-    fn text(&self) -> Result<ShownText, AllocError>
-        ensures { IfOk result (λ text. text ≡ show_text self.now.names self.now.types
-            (run self.now.types self.now.journal).history) }
-    {
-        shown_text(self.alloc, &self.names, &self.session)
     }
 }

@@ -13,16 +13,16 @@ use Rattle.mps_machine.specs.Rule.{moved, replay}
 use Rattle.mps_machine.specs.Machine.{view_of}
 use Rattle.mps_machine.proofs.Stepping.{replay_parts, replay_from, replay-append}
 use Rattle.mps_machine.proofs.Swapping.{past_of, past_step, past_stays, one_past_is_one_view, one_view_by_swaps, swaps_lead_to_one_view}
-use Rattle.mps_arena.specs.Entries.{Entry, steps, keys_of, of_role, IsSmall, AreSound}
+use Rattle.mps_arena.specs.Entries.{KeyedStep, steps, keys_of, of_role, IsSmall, AreSound}
 use Rattle.mps_arena.proofs.Chains.{keys_without}
 use Rattle.mps_links.proofs.StepKeys.{none_passes}
 use Rattle.mps_log.specs.Shown.{Moved, moved_of, shown}
 use Rattle.mps_session.specs.Pasts.{deed_of, deeds_of, past_in}
 use Rattle.mps_session.specs.Configurations.{Configuration, state_of}
-use Rattle.mps_session.specs.Held.{Holds}
-use Rattle.mps_session.specs.Seen.{Machine, moved_from, view_of as seen}
-use Rattle.mps_session.proofs.Accepting.{v, replayed}
-use Rattle.mps_session.proofs.Moved.{moved_is}
+use Rattle.mps_session.specs.Invariant.{Holds}
+use Rattle.mps_session.specs.SessionState.{SessionState, moved_from, session_view}
+use Rattle.mps_session.proofs.HoldsAfterAct.{v, replayed}
+use Rattle.mps_session.proofs.MovedMessages.{moved_is}
 
 module _ (p : ℕ) where
   deeds_with : (m : Moved) (moves : List Moved) → (m.0.role == p) ≡ true → deeds_of p (m ∷ moves) ≡ deed_of m ∷ deeds_of p moves
@@ -32,29 +32,29 @@ module _ (p : ℕ) where
   deeds_without m moves f = ap (λ (l : List Moved). map deed_of l) (cond-false (m.0.role == p) (m ∷ filter (λ k. k.0.role == p) moves) (filter (λ k. k.0.role == p) moves) f)
 
   -- what role p did in a part of the entries
-  abbrev pub did : List Entry → List Entry → List Deed
+  abbrev pub did : List KeyedStep → List KeyedStep → List Deed
   did es part = deeds_of p (shown es part)
 
-  pub did-append : (es a b : List Entry) → did es (a ++ b) ≡ did es a ++ did es b
+  pub did-append : (es a b : List KeyedStep) → did es (a ++ b) ≡ did es a ++ did es b
   did-append es a b =
-      ap (deeds_of p) (map-append (λ (e : Entry). (e.step, moved_of es e)) a b)
+      ap (deeds_of p) (map-append (λ (e : KeyedStep). (e.step, moved_of es e)) a b)
       ∙ ap (λ (l : List Moved). map deed_of l) (filter-append (λ (m : Moved). m.0.role == p) (shown es a) (shown es b))
       ∙ map-append deed_of (filter (λ (m : Moved). m.0.role == p) (shown es a)) (filter (λ (m : Moved). m.0.role == p) (shown es b))
 
-  pub did_own : (es b : List Entry) (y : Entry) → (y.step.role == p) ≡ true → did es (y ∷ b) ≡ deed_of (y.step, moved_of es y) ∷ did es b
+  pub did_own : (es b : List KeyedStep) (y : KeyedStep) → (y.step.role == p) ≡ true → did es (y ∷ b) ≡ deed_of (y.step, moved_of es y) ∷ did es b
   did_own es b y t = deeds_with (y.step, moved_of es y) (shown es b) t
 
-  did_other : (es b : List Entry) (y : Entry) → (y.step.role == p) ≡ false → did es (y ∷ b) ≡ did es b
+  did_other : (es b : List KeyedStep) (y : KeyedStep) → (y.step.role == p) ≡ false → did es (y ∷ b) ≡ did es b
   did_other es b y f = deeds_without (y.step, moved_of es y) (shown es b) f
 
-  pub did_nothing : (es b : List Entry) → keys_of (of_role p) b ≡ [] → did es b ≡ []
+  pub did_nothing : (es b : List KeyedStep) → keys_of (of_role p) b ≡ [] → did es b ≡ []
   did_nothing es [] e = refl
   did_nothing es (y ∷ b) e =
       let f : (y.step.role == p) ≡ false = none_passes (of_role p) (y ∷ b) y.step e (inl refl) in
       did_other es b y f ∙ did_nothing es b (sym (keys_without (of_role p) y b f) ∙ e)
 
   -- a role that no session has did nothing
-  did_stranger : (es b : List Entry) → 8 ≤ p → AllByRecursion (λ e. IsSmall e.step) b → did es b ≡ []
+  did_stranger : (es b : List KeyedStep) → 8 ≤ p → AllByRecursion (λ e. IsSmall e.step) b → did es b ≡ []
   did_stranger es [] large small = refl
   did_stranger es (y ∷ b) large small =
       let few : y.step.role < 8 = small.0.0 in
@@ -89,10 +89,10 @@ module _ (p : ℕ) where
       (cases_Bool (s.role == p))
 
   -- what the entries say that a role did is its past
-  past_is : (types : List LocalType) (es : List Entry) (v : View) → AreSound es → replay (opening types) (steps es) ≡ Some v → past_in p es ≡ past_of v p
+  past_is : (types : List LocalType) (es : List KeyedStep) (v : View) → AreSound es → replay (opening types) (steps es) ≡ Some v → past_in p es ≡ past_of v p
   past_is types es v sound e = ap (deeds_of p) (moved_is types es v sound e) ∙ sym (past_from types [] (steps es) (opening types) v refl e)
 
-module _ (types : List LocalType) (a b : List Entry) (v w : View) (sa : AreSound a) (sb : AreSound b) (ea : replay (opening types) (steps a) ≡ Some v) (eb : replay (opening types) (steps b) ≡ Some w) where
+module _ (types : List LocalType) (a b : List KeyedStep) (v w : View) (sa : AreSound a) (sb : AreSound b) (ea : replay (opening types) (steps a) ≡ Some v) (eb : replay (opening types) (steps b) ≡ Some w) where
   -- where each of eight roles did the same, so did each role
   each_past : ((p : ℕ) → p < 8 → past_in p a ≡ past_in p b) → (p : ℕ) → past_in p a ≡ past_in p b
   each_past same p =
@@ -108,11 +108,11 @@ module _ (types : List LocalType) (a b : List Entry) (v w : View) (sa : AreSound
   one_past same p = past_is p types a v sa ea ∙ ap (λ (u : View). past_of u p) same ∙ sym (past_is p types b w sb eb)
 
 -- two sessions have one view just where each role did the same in both, and just where swaps join their histories
-pub record AreTold (a b : List Entry) (m n : Machine) : Type 0 where
-  pub views : ((p : ℕ) → p < 8 → past_in p a ≡ past_in p b) → seen m ≡ seen n
-  pub pasts : seen m ≡ seen n → (p : ℕ) → past_in p a ≡ past_in p b
-  pub swaps : seen m ≡ seen n → Swaps m.state.history n.state.history
-  pub swapped : Swaps m.state.history n.state.history → seen m ≡ seen n
+pub record AreTold (a b : List KeyedStep) (m n : SessionState) : Type 0 where
+  pub views : ((p : ℕ) → p < 8 → past_in p a ≡ past_in p b) → session_view m ≡ session_view n
+  pub pasts : session_view m ≡ session_view n → (p : ℕ) → past_in p a ≡ past_in p b
+  pub swaps : session_view m ≡ session_view n → Swaps m.state.history n.state.history
+  pub swapped : Swaps m.state.history n.state.history → session_view m ≡ session_view n
 
 told_of : (types : List LocalType) (c d : Configuration) → Holds types c → Holds types d → AreTold c.entries d.entries (record { types = types; state = state_of c }) (record { types = types; state = state_of d })
 told_of types c d hc hd =
@@ -124,10 +124,10 @@ told_of types c d hc hd =
       swapped = swaps_lead_to_one_view types (steps c.entries) (steps d.entries) (v types c hc) (v types d hd) ec ed;
     }
 
-pub told : (types others : List LocalType) (c d : Configuration) (m n : Machine) → Holds types c → Holds others d → record { types = types; state = state_of c } ≡ m → record { types = others; state = state_of d } ≡ n → m.types ≡ n.types → AreTold c.entries d.entries m n
+pub told : (types others : List LocalType) (c d : Configuration) (m n : SessionState) → Holds types c → Holds others d → record { types = types; state = state_of c } ≡ m → record { types = others; state = state_of d } ≡ n → m.types ≡ n.types → AreTold c.entries d.entries m n
 told types others c d m n hc hd is js same =
-    let one : others ≡ types = ap (λ (k : Machine). k.types) js ∙ sym same ∙ sym (ap (λ (k : Machine). k.types) is) in
+    let one : others ≡ types = ap (λ (k : SessionState). k.types) js ∙ sym same ∙ sym (ap (λ (k : SessionState). k.types) is) in
     let hd' = subst (λ (l : List LocalType). Holds l d) one hd in
     let js' : record { types = types; state = state_of d } ≡ n = ap (λ (l : List LocalType). record { types = l; state = state_of d }) (sym one) ∙ js in
-    subst (λ (k : Machine). AreTold c.entries d.entries k n) is
-    (subst (λ (k : Machine). AreTold c.entries d.entries (record { types = types; state = state_of c }) k) js' (told_of types c d hc hd'))
+    subst (λ (k : SessionState). AreTold c.entries d.entries k n) is
+    (subst (λ (k : SessionState). AreTold c.entries d.entries (record { types = types; state = state_of c }) k) js' (told_of types c d hc hd'))

@@ -20,9 +20,9 @@ use Rattle.mps_machine.specs.Rule.{first_of, moved, type_after, to_come_after, a
 use Rattle.mps_machine.proofs.Stepping.{map_some, rule_parts, replay_parts, replay-append}
 use Rattle.mps_machine.proofs.Peers.{fact_by_role}
 use Rattle.mps_machine.proofs.Unreceived.{queue_is}
-use Rattle.mps_arena.specs.Entries.{Entry, steps, entry_at, AreSound}
-use Rattle.mps_arena.specs.Sources.{waiting}
-use Rattle.mps_arena.proofs.Mates.{sound_left, last_fresh}
+use Rattle.mps_arena.specs.Entries.{KeyedStep, steps, entry_at, AreSound}
+use Rattle.mps_arena.specs.Neighbours.{waiting}
+use Rattle.mps_arena.proofs.Matched.{sound_left, last_fresh}
 use Rattle.mps_stores.specs.Stores.{Keys, slot_of, bindings}
 use Rattle.mps_stores.proofs.Bindings.{bindings_push, after_binding, after_other, after_idle}
 use Rattle.mps_log.specs.Values.{value_of, message_of, value_taken, kept_in, kept_by}
@@ -108,11 +108,11 @@ took_value before after from slot (Some (Label l)) e =
 
 module _ (types : List LocalType) where
   -- the stores of the view are those of the entries
-  abbrev Bind : List Entry → View → Type 0
+  abbrev Bind : List KeyedStep → View → Type 0
   Bind es v = (p : ℕ) → AreBound (value_taken es) (v.participant p).store (bindings slot_of p es)
 
-  module _ (es : List Entry) (e : Entry) (v w : View) (sound : AreSound es) (fresh : entry_at e.key es ≡ None) (before : replay (opening types) (steps es) ≡ Some v) (next : rule v e.step ≡ Some w) (was : Bind es v) where
-    abbrev now : List Entry
+  module _ (es : List KeyedStep) (e : KeyedStep) (v w : View) (sound : AreSound es) (fresh : entry_at e.key es ≡ None) (before : replay (opening types) (steps es) ≡ Some v) (next : rule v e.step ≡ Some w) (was : Bind es v) where
+    abbrev now : List KeyedStep
     now = es ++ e ∷ []
 
     stays : (p : ℕ) → AreBound (value_taken now) (v.participant p).store (bindings slot_of p es)
@@ -151,7 +151,7 @@ module _ (types : List LocalType) where
         (subst (λ (s : Store). AreBound (value_taken now) s (bindings slot_of e.step.role now)) (sym (store_then (v.participant e.step.role) c e.step.act (moved v e.step.role e.step.act) parts.1)) (own_store e.step.act refl c parts.1))
         (λ ne. rw (bindings_push slot_of p es e, after_other slot_of p (bindings slot_of p es) e (ne_eqb e.step.role p (λ k. ne (sym k)))) (stays p)))
 
-  bind_from : (a b : List Entry) (v w : View) → AreSound (a ++ b) → replay (opening types) (steps a) ≡ Some v → replay v (steps b) ≡ Some w → Bind a v → Bind (a ++ b) w
+  bind_from : (a b : List KeyedStep) (v w : View) → AreSound (a ++ b) → replay (opening types) (steps a) ≡ Some v → replay v (steps b) ≡ Some w → Bind a v → Bind (a ++ b) w
   bind_from a [] v w sound before rest was =
       let same : v ≡ w = cc in
       rw (append-nil a) (subst (Bind a) same was)
@@ -159,7 +159,7 @@ module _ (types : List LocalType) where
       let parts = replay_parts v w e.step (steps b) rest in
       let whole = append_assoc a (e ∷ []) b in
       let next : replay (opening types) (steps (a ++ e ∷ [])) ≡ Some parts.0 =
-      ap (replay (opening types)) (map-append (λ (x : Entry). x.step) a (e ∷ []))
+      ap (replay (opening types)) (map-append (λ (x : KeyedStep). x.step) a (e ∷ []))
       ∙ replay-append (opening types) v (steps a) (e.step ∷ []) before
       ∙ ap (λ (o : Option View). option_and_then (λ u. Some u) o) parts.1 in
       rw (← whole)
@@ -167,16 +167,16 @@ module _ (types : List LocalType) where
       (bind_step a e v parts.0 (sound_left a (e ∷ b) sound) (last_fresh a b e sound) before parts.1 was))
 
   -- what a role keeps in a slot is what the entries say
-  pub slot_is : (es : List Entry) (v : View) (p : ℕ) (slot : List ℕ) → AreSound es → replay (opening types) (steps es) ≡ Some v → value_in slot (v.participant p).store ≡ kept_in es p slot
+  pub slot_is : (es : List KeyedStep) (v : View) (p : ℕ) (slot : List ℕ) → AreSound es → replay (opening types) (steps es) ≡ Some v → value_in slot (v.participant p).store ≡ kept_in es p slot
   slot_is es v p slot sound h =
       value_both (value_taken es) (v.participant p).store (bindings slot_of p es) slot (bind_from [] es (opening types) v sound refl h (λ q. tt) p)
 
   -- so it is with the slots of each place
-  pub binding_is : (es : List Entry) (v : View) (p k : ℕ) → AreSound es → replay (opening types) (steps es) ≡ Some v → slice_get (v.participant p).store k ≡ option_and_then (kept_by es) (slice_get (bindings slot_of p es) k)
+  pub binding_is : (es : List KeyedStep) (v : View) (p k : ℕ) → AreSound es → replay (opening types) (steps es) ≡ Some v → slice_get (v.participant p).store k ≡ option_and_then (kept_by es) (slice_get (bindings slot_of p es) k)
   binding_is es v p k sound h =
       binding_both (value_taken es) (v.participant p).store (bindings slot_of p es) k (bind_from [] es (opening types) v sound refl h (λ q. tt) p)
 
   -- and with how many there are
-  pub slots_are : (es : List Entry) (v : View) (p : ℕ) → AreSound es → replay (opening types) (steps es) ≡ Some v → length (v.participant p).store ≡ length (bindings slot_of p es)
+  pub slots_are : (es : List KeyedStep) (v : View) (p : ℕ) → AreSound es → replay (opening types) (steps es) ≡ Some v → length (v.participant p).store ≡ length (bindings slot_of p es)
   slots_are es v p sound h =
       long_both (value_taken es) (v.participant p).store (bindings slot_of p es) (bind_from [] es (opening types) v sound refl h (λ q. tt) p)

@@ -16,8 +16,8 @@ use Rattle.mps_machine.specs.View.{Participant}
 use Rattle.mps_machine.specs.Rule.{participant_after}
 use Rattle.mps_machine.specs.Violations.{act_fault}
 use Rattle.mps_machine.specs.Machine.{State, most_numbers, taken}
-use Rattle.mps_arena.specs.Entries.{Entry, steps}
-use Rattle.mps_arena.specs.Sources.{waiting}
+use Rattle.mps_arena.specs.Entries.{KeyedStep, steps}
+use Rattle.mps_arena.specs.Neighbours.{waiting}
 use Rattle.mps_log.specs.Joins.{HasJoined}
 use Rattle.mps_log.specs.Logged.{Logged}
 use Rattle.mps_table.specs.Standing.{StandsFor}
@@ -28,7 +28,7 @@ use Rattle.mps_session.specs.declared.configuration.Configuration.{Configuration
 -- for each role where it stands; the steps that survive, with what each keeps, and how many numbers were given out
 pub record Configuration : Type 0 where
   pub cursors : List Cursor
-  pub entries : List Entry
+  pub entries : List KeyedStep
   pub issued : ℕ
 
 -- the lists that are kept

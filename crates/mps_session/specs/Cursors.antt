@@ -10,7 +10,7 @@ IsFor c t = StandsFor c.table c.node t
 
 -- where nobody stands
 abbrev pub nowhere : Cursor
-nowhere = record { table = record { entries = []; labels = []; targets = []; first = 0 }; node = 0 }
+nowhere = record { table = record { rows = []; labels = []; targets = []; first = 0 }; node = 0 }
 
 -- the role goes on at the node
 abbrev pub went : ℕ → Cursor → Cursor

@@ -1,12 +1,12 @@
--- What a session keeps after a step was taken out.
+-- What a session keeps after a step was removed.
 use Rattle.std.specs.Prelude.{◌≡◌, ◌==◌, not, slice_set}
 use Rattle.std.specs.List.{filter}
-use Rattle.mps_arena.specs.Entries.{Entry, AreSound}
+use Rattle.mps_arena.specs.Entries.{KeyedStep, AreSound}
 use Rattle.mps_session.specs.Configurations.{Configuration, cursor_of}
 use Rattle.mps_session.specs.Cursors.{went}
 
--- the step of the entry is taken out, and its role stands where it stood before
-pub record HasLeft (e : Entry) (old new : Configuration) : Type 0 where
+-- the step of the entry is removed, and its role stands where it stood before
+pub record HasLeft (e : KeyedStep) (old new : Configuration) : Type 0 where
   pub cursors : new.cursors ≡ slice_set old.cursors e.step.role (went e.before.at (cursor_of old e.step.role))
   pub entries : new.entries ≡ filter (λ other. not (other.key == e.key)) old.entries
   pub issued : new.issued ≡ old.issued

@@ -1,12 +1,12 @@
-pub mod Seen
+pub mod SessionState
 pub mod Peers
 pub mod Cursors
 pub mod Configurations
-pub mod Held
+pub mod Invariant
 pub mod Answers
 pub mod Opening
 pub mod Protocols
 pub mod Leaving
 pub mod Runs
 pub mod Pasts
-pub mod Told
+pub mod NumberSets

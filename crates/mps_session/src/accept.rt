@@ -26,7 +26,7 @@ fn done(told: (Done, Option<Done>)) -> (Answer, Option<Answer>)
     (Answer::Done(done), again)
 }
 
-// Steps that were taken back as an answer, as often as they are told.
+// Steps that were undone as an answer, as often as they are told.
 #[inline(always)]
 fn undone(told: (StepIds, Option<StepIds>)) -> (Answer, Option<Answer>)
     ensures first { result.0 ≡ machine.removed (Ok told.0) }
@@ -60,10 +60,10 @@ impl Session {
         ensures err { OnErr result (self.new.state ≡ self.old.state) }
     {
         match command {
-            Command::Forward(step) => Ok(done(self.take(role, step, again)?)),
-            Command::Undo(id) => Ok(undone(self.take_back(role, *id, again)?)),
-            Command::Rollback(id) => Ok(undone(self.roll_back(role, *id, again)?)),
-            Command::Back(name) => Ok(undone(self.go_back(role, name, again)?)),
+            Command::Forward(step) => Ok(done(self.accept_forward(role, step, again)?)),
+            Command::Undo(id) => Ok(undone(self.accept_undo(role, *id, again)?)),
+            Command::Rollback(id) => Ok(undone(self.accept_rollback(role, *id, again)?)),
+            Command::Back(name) => Ok(undone(self.accept_back(role, name, again)?)),
             Command::News(_) | Command::Show => unreachable!(),
         }
     }

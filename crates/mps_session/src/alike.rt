@@ -4,7 +4,7 @@ ghost use Rattle.std.specs.Option.{option_copied};
 ghost use Rattle.mps_history.specs.Swaps.{Swaps};
 ghost use Rattle.mps_arena.specs.Entries.{entry_at, AreSound};
 ghost use Rattle.mps_session.specs.Pasts.{deed_in, past_in};
-ghost use Rattle.mps_session.specs.Seen.{view_of};
+ghost use Rattle.mps_session.specs.SessionState.{session_view};
 
 use crate::session::Session;
 use mps_base::{Act, Message, Name, Role, Value};
@@ -119,7 +119,7 @@ fn same_past(a: &Log, b: &Log, role: Role) -> bool
 /// and nothing else.
 pub fn same(a: &Session, b: &Session) -> bool
     requires types { a.now.types ≡ b.now.types }
-    ensures views { IsTrue result ↔ (view_of a.now ≡ view_of b.now) }
+    ensures views { IsTrue result ↔ (session_view a.now ≡ session_view b.now) }
     ensures swaps { IsTrue result ↔ Swaps a.now.state.history b.now.state.history }
 {
     let ours = &a.configuration.log;

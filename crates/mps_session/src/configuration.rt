@@ -8,7 +8,7 @@ ghost use Rattle.mps_local.specs.Local.{LocalType};
 ghost use Rattle.mps_machine.specs.Machine.{most_numbers, taken};
 ghost use Rattle.mps_monitor.specs.Verdicts.{moved_by};
 ghost use Rattle.mps_table.specs.Graph.{IsNode};
-ghost use Rattle.mps_session.specs.Configurations.{lists_of, IsReady, cursor_of, moved_in, StandsAt, fault_in, LeadsTo, HasActed, IsBarred, takes_message};
+ghost use Rattle.mps_session.specs.Configurations.{lists_of, IsReady, cursor_of, moved_in, StandsAt, fault_in, LeadsTo, HasActed, IsBarred};
 ghost use Rattle.mps_session.specs.Cursors.{went};
 
 use crate::cursor::Cursor;
@@ -104,16 +104,16 @@ impl Configuration {
         Ok(node)
     }
 
-    /// Takes the step of a send, a choice, a mark or a commit, after which the role stands at the node. Nothing is changed where
-    /// memory runs out.
-    pub(crate) fn give(
+    /// Does the step that the command asks for, after which the role stands at the node. Nothing is changed where memory
+    /// runs out.
+    #[inline(always)]
+    pub(crate) fn act(
         &mut self,
         role: Role,
         command: &Forward,
         node: Node,
     ) -> Result<StepId, AllocError>
         requires role { role < vec_len self.old.cursors }
-        requires gives { takes_message command.now ≡ false }
         requires ready { IsReady (lists_of self.old) role (act_of command.now) }
         ensures id { IfOk result (λ id. id ≡ (lists_of self.old).issued + 1) }
         ensures acted { OnOk result (HasActed role (act_of command.now) node
@@ -126,34 +126,10 @@ impl Configuration {
                 self.send(role, *to, Message::Value(value), node)
             }
             Forward::Choose { to, label } => self.send(role, *to, Message::Label(*label), node),
-            Forward::Mark { name } => self.mark(role, *name, node),
-            Forward::Commit => self.commit(role, node),
-            Forward::Receive { .. } | Forward::Pick { .. } => unreachable!(),
-        }
-    }
-
-    /// Takes the step of a receipt or a pick, as `give` does that of another command.
-    pub(crate) fn take(
-        &mut self,
-        role: Role,
-        command: &Forward,
-        node: Node,
-    ) -> Result<StepId, AllocError>
-        requires role { role < vec_len self.old.cursors }
-        requires takes { takes_message command.now ≡ true }
-        requires ready { IsReady (lists_of self.old) role (act_of command.now) }
-        ensures id { IfOk result (λ id. id ≡ (lists_of self.old).issued + 1) }
-        ensures acted { OnOk result (HasActed role (act_of command.now) node
-            (lists_of self.old) (lists_of self.new)) }
-        ensures err { OnErr result (lists_of self.new ≡ lists_of self.old) }
-    {
-        match command {
             Forward::Receive { from, slot } => self.receive(role, *from, slot, node),
             Forward::Pick { from } => self.pick(role, *from, node),
-            Forward::Send { .. }
-            | Forward::Choose { .. }
-            | Forward::Mark { .. }
-            | Forward::Commit => unreachable!(),
+            Forward::Mark { name } => self.mark(role, *name, node),
+            Forward::Commit => self.commit(role, node),
         }
     }
 
@@ -230,7 +206,7 @@ impl Configuration {
         Ok(id)
     }
 
-    // Takes a step that nothing takes back.
+    // Does a step that nothing undoes.
     fn commit(&mut self, role: Role, node: Node) -> Result<StepId, AllocError>
         requires role { role < vec_len self.old.cursors }
         requires ready { IsReady (lists_of self.old) role Commit }

@@ -1,4 +1,4 @@
-//! Sessions: what roles send and receive, each step remembered, and what they take back.
+//! Sessions: what roles send and receive, each step remembered, and what they undo.
 //!
 //! The main type is `Session`. `open_protocol` opens one for a protocol, and `Session::open` one for types of one's
 //! own.

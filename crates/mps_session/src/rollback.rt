@@ -1,4 +1,4 @@
-//! Steps taken back with all that depend on them.
+//! Steps undone with all that depend on them.
 ghost use Rattle.std.specs.Prelude.{◌≡◌, ◌+◌, ◌<◌, ◌≤◌, ◌++◌, [], List, reverse, length, Some, None, is_some, unwrap_or, vec_len, vec_capacity, IsSome, IfOk, IfErr, IfSome, OnOk, OnErr, ⊤};
 ghost use Rattle.std.specs.Bool.{then_some};
 ghost use Rattle.std.specs.List.{AllByRecursion};
@@ -16,9 +16,9 @@ ghost use Rattle.mps_arena.specs.Entries.{steps};
 ghost use Rattle.mps_links.specs.Marks.{marked_keys, marked_commits, marked_steps, unmarked_steps, AreMarksClosed};
 ghost use Rattle.mps_session.specs.Answers.{first_number, once};
 ghost use Rattle.mps_session.specs.Configurations.{lists_of};
-ghost use Rattle.mps_session.specs.Held.{Holds};
-ghost use Rattle.mps_session.specs.Seen.{view_of};
-ghost use Rattle.mps_session.specs.Told.{told};
+ghost use Rattle.mps_session.specs.Invariant.{Holds};
+ghost use Rattle.mps_session.specs.SessionState.{session_view};
+ghost use Rattle.mps_session.specs.NumberSets.{told};
 
 use crate::configuration::Configuration;
 use crate::session::Session;
@@ -102,7 +102,7 @@ impl Configuration {
         Ok(room_for(self.alloc, count, again)?)
     }
 
-    /// Takes the step of that number out, and all that depend on it, the newest first, and tells their numbers, and
+    /// Removes the step of that number and all that depend on it, the newest first, and tells their numbers, and
     /// once more where that is asked for. Where a commit is among them, the least is named. Nothing is changed then, nor
     /// where memory runs out.
     #[inline(never)]
@@ -135,7 +135,7 @@ impl Configuration {
         let count = self.log.mark_from(id);
         match self.room_for_marked(count, again) {
             Ok((mut ids, room)) => {
-                self.take_marked(&mut ids);
+                self.remove_marked(&mut ids);
                 Ok(told(ids, room))
             }
             Err(refusal) => {
@@ -162,8 +162,8 @@ impl Configuration {
         }
     }
 
-    /// Takes the marked steps out, the newest first, and adds their numbers to the others.
-    pub(crate) fn take_marked(&mut self, ids: &mut Vec<StepId>)
+    /// Removes the marked steps, the newest first, and adds their numbers to the others.
+    pub(crate) fn remove_marked(&mut self, ids: &mut Vec<StepId>)
         requires closed { AreMarksClosed (lists_of self.old).entries }
         requires members { AllByRecursion
             (λ e. e.step.role < length (lists_of self.old).cursors) (lists_of self.old).entries }
@@ -179,7 +179,7 @@ impl Configuration {
             → Holds types (lists_of self.new) }
     {
         while let Some(key) = self.log.newest_marked() {
-            let id = self.take_out(key);
+            let id = self.remove(key);
             ids.push_reserved(id);
         }
     }
@@ -200,7 +200,7 @@ impl Configuration {
 }
 
 impl Session {
-    /// Takes back the role's own step of that number and all that depend on it, and tells their numbers, the newest
+    /// Undoes the role's own step of that number and all that depend on it, and tells their numbers, the newest
     /// first. A commit among them stands in the way. A refusal changes nothing.
     pub fn rollback(&mut self, role: Role, id: StepId) -> Result<StepIds, Refusal>
         requires { role < length self.old.types }
@@ -208,19 +208,19 @@ impl Session {
         ensures state { OnOk result (self.new.state
             ≡ (machine.rollback self.old.state role id).1) }
         ensures types { self.new.types ≡ self.old.types }
-        // the steps that were taken back are allowed in the view that is left, and lead back to the view from before
-        ensures back { OnOk result (replay (view_of self.new)
+        // the steps that were undone are allowed in the view that is left, and lead back to the view from before
+        ensures back { OnOk result (replay (session_view self.new)
             (within self.old.state.history (consequences self.old.state.history id))
-            ≡ Some (view_of self.old)) }
+            ≡ Some (session_view self.old)) }
         ensures err { OnErr result (self.new.state ≡ self.old.state) }
     {
-        let (ids, _) = self.roll_back(role, id, false)?;
+        let (ids, _) = self.accept_rollback(role, id, false)?;
         Ok(ids)
     }
 
-    /// Takes back what `rollback` does, and tells the numbers once more where that is asked for.
+    /// Does what `rollback` does, and tells the numbers once more where that is asked for.
     #[inline(always)]
-    pub(crate) fn roll_back(
+    pub(crate) fn accept_rollback(
         &mut self,
         role: Role,
         id: StepId,
@@ -231,15 +231,15 @@ impl Session {
             (machine.rollback self.old.state role id) }
         ensures again { IfOk result (λ ids. ids.1 ≡ then_some again ids.0) }
         ensures types { self.new.types ≡ self.old.types }
-        ensures back { OnOk result (replay (view_of self.new)
+        ensures back { OnOk result (replay (session_view self.new)
             (within self.old.state.history (consequences self.old.state.history id))
-            ≡ Some (view_of self.old)) }
+            ≡ Some (session_view self.old)) }
     {
         self.configuration.own_step(role, id)?;
         self.configuration.roll_back(id, again)
     }
 
-    /// Takes the role back to its last mark of the name: its first step after the mark is taken back, and all that
+    /// Returns the role to its last mark of the name: its first step after the mark is undone, and all that
     /// depend on it. The mark stays. A refusal changes nothing.
     pub fn back(&mut self, role: Role, name: &Name) -> Result<StepIds, Refusal>
         requires { role < length self.old.types }
@@ -247,18 +247,18 @@ impl Session {
         ensures state { OnOk result (self.new.state
             ≡ (machine.back self.old.state role name.now).1) }
         ensures types { self.new.types ≡ self.old.types }
-        // the steps that were taken back are allowed in the view that is left, and lead back to the view from before
-        ensures back { IfOk result (λ ids. replay (view_of self.new)
-            (within self.old.state.history (told ids)) ≡ Some (view_of self.old)) }
+        // the steps that were undone are allowed in the view that is left, and lead back to the view from before
+        ensures back { IfOk result (λ ids. replay (session_view self.new)
+            (within self.old.state.history (told ids)) ≡ Some (session_view self.old)) }
         ensures err { OnErr result (self.new.state ≡ self.old.state) }
     {
-        let (ids, _) = self.go_back(role, name, false)?;
+        let (ids, _) = self.accept_back(role, name, false)?;
         Ok(ids)
     }
 
-    /// Takes back what `back` does, and tells the numbers once more where that is asked for.
+    /// Does what `back` does, and tells the numbers once more where that is asked for.
     #[inline(always)]
-    pub(crate) fn go_back(
+    pub(crate) fn accept_back(
         &mut self,
         role: Role,
         name: &Name,
@@ -269,8 +269,8 @@ impl Session {
             (machine.back self.old.state role name.now) }
         ensures again { IfOk result (λ ids. ids.1 ≡ then_some again ids.0) }
         ensures types { self.new.types ≡ self.old.types }
-        ensures back { IfOk result (λ ids. replay (view_of self.new)
-            (within self.old.state.history (told ids.0)) ≡ Some (view_of self.old)) }
+        ensures back { IfOk result (λ ids. replay (session_view self.new)
+            (within self.old.state.history (told ids.0)) ≡ Some (session_view self.old)) }
     {
         match self.configuration.first_behind(role, name) {
             None => Err(Refusal::NoMark),

@@ -2,10 +2,10 @@
 ghost use Rattle.std.specs.Prelude.{◌≡◌, ◌<◌, Some, length, IfOk, OnErr, vec_len};
 ghost use Rattle.std.specs.List.{AllByRecursion};
 ghost use Rattle.mps_machine.specs.Rule.{replay};
-ghost use Rattle.mps_machine.specs.TakingBack.{UndoesSteps, RefusesNeeded, RefusesFinal, TakesFutures, ReturnsToMarks, KeepsCommits};
+ghost use Rattle.mps_machine.specs.Undoing.{UndoesSteps, RefusesNeeded, RefusesFinal, RemovesFutures, ReturnsToMarks, KeepsCommits};
 ghost use Rattle.mps_machine.specs.View.{opening};
 ghost use Rattle.mps_session.specs.Runs.{AreServed};
-ghost use Rattle.mps_session.specs.Seen.{view_of};
+ghost use Rattle.mps_session.specs.SessionState.{session_view};
 
 use crate::session::Session;
 use mps_base::Role;
@@ -16,7 +16,7 @@ impl Session {
     /// Answers commands, each of its role, in turn. The list of answers is allocated before the first command is served.
     ///
     /// What binds the code is `served`: with the clauses of `forward`, `undo`, `rollback` and `back` it says what is
-    /// answered and what is left. `undone`, `refused`, `refused_final`, `kept`, `taken` and `returned` are laws of the machine, said here of the
+    /// answered and what is left. `undone`, `refused`, `refused_final`, `kept`, `removed` and `returned` are laws of the machine, said here of the
     /// state that is reached.
     pub fn serve_all(&mut self, requests: Vec<(Role, Change)>) -> Result<Vec<Answer>, AllocError>
         requires { AllByRecursion (λ request. request.0 < length self.old.types) requests.items }
@@ -27,17 +27,17 @@ impl Session {
         ensures types { self.new.types ≡ self.old.types }
         // after them the session is what replaying its surviving steps gives
         ensures replayed { replay (opening self.new.types) self.new.state.history
-            ≡ Some (view_of self.new) }
+            ≡ Some (session_view self.new) }
         // a step and then its undo change nothing but the next number; a commit stays
         ensures undone { UndoesSteps self.new.types self.new.state }
         // an undo is refused as needed exactly where another surviving step depends on the step, which is no commit
         ensures refused { RefusesNeeded self.new.state }
-        // an undo is refused as final exactly where the step is a commit, and a rollback exactly where it would take one
+        // an undo is refused as final exactly where the step is a commit, and a rollback exactly where it would remove one
         ensures refused_final { RefusesFinal self.new.state }
         // whatever is asked for later, a surviving commit stays, and so does all that it depends on
         ensures kept { KeepsCommits self.new.types self.new.state }
-        // a rollback takes exactly the chosen step and all that depend on it
-        ensures taken { TakesFutures self.new.state }
+        // a rollback removes exactly the chosen step and all that depend on it
+        ensures removed { RemovesFutures self.new.state }
         // a return to a mark is a rollback of the role's first step after its last mark of the name
         ensures returned { ReturnsToMarks self.new.state }
         ensures err { OnErr result (self.new.state ≡ self.old.state) }

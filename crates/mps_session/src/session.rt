@@ -18,7 +18,7 @@ ghost use Rattle.mps_history.specs.Slots.{value_in};
 ghost use Rattle.mps_session.specs.Answers.{as_step, once};
 ghost use Rattle.mps_session.specs.Configurations.{takes_message};
 ghost use Rattle.mps_session.specs.Peers.{IsFirstBad, IsFirstFaulty, CanOpen, IsKnown, IsHeadKnown};
-ghost use Rattle.mps_session.specs.Seen.{view_of, moves_of};
+ghost use Rattle.mps_session.specs.SessionState.{session_view, moves_of};
 ghost use Rattle.mps_table.specs.Expects.{head_of};
 
 use crate::configuration::{Configuration, once_more, once_more_again};
@@ -34,7 +34,7 @@ use std::marker::Model;
 /// How many numbers a session gives out.
 pub const MAX_NUMBERS: u64 = 100_000;
 
-/// One conversation of 2 to 8 roles: their types, and the steps that they took.
+/// One conversation of 2 to 8 roles: their types, and the steps that they did.
 #[derive(Drop)]
 pub struct Session {
     pub(crate) types: Vec<Local>,
@@ -46,14 +46,14 @@ impl Model for Session {
     ghost use Rattle.std.specs.Coded.{codes};
     ghost use Rattle.mps_local.specs.Local.{plain};
     ghost use Rattle.mps_local.specs.Codes.{coded_local};
-    ghost use Rattle.mps_session.specs.Seen.{Machine};
+    ghost use Rattle.mps_session.specs.SessionState.{SessionState};
 
-    ghost Value = { Machine };
+    ghost Value = { SessionState };
 
     ghost coded = { Prim.hlevel (codes, coded_local) };
 
     ghost use Rattle.mps_session.specs.Configurations.{lists_of, state_of};
-    ghost use Rattle.mps_session.specs.Held.{IsAtRest};
+    ghost use Rattle.mps_session.specs.Invariant.{IsAtRest};
 
     ghost view = { λ s. record { types = map plain s.types.items; state = state_of (lists_of s.configuration) } };
 
@@ -110,7 +110,7 @@ impl Session {
         })
     }
 
-    /// Takes a step of the role, or says why not. A refusal changes nothing.
+    /// Does a step of the role, or says why not. A refusal changes nothing.
     pub fn forward(&mut self, role: Role, command: Forward) -> Result<Done, Refusal>
         requires { role < length self.old.types }
         // In a session of one protocol no answer is Mismatch.
@@ -129,13 +129,13 @@ impl Session {
         ensures err { OnErr result (self.new.state ≡ self.old.state) }
     {
         let _ = &self.types;
-        let (done, _) = self.take(role, &command, false)?;
+        let (done, _) = self.accept_forward(role, &command, false)?;
         Ok(done)
     }
 
-    /// Takes a step of the role, as `forward` does, and tells the answer, and once more where that is asked for.
+    /// Does a step of the role, as `forward` does, and tells the answer, and once more where that is asked for.
     #[inline(always)]
-    pub(crate) fn take(
+    pub(crate) fn accept_forward(
         &mut self,
         role: Role,
         command: &Forward,
@@ -158,7 +158,8 @@ impl Session {
         }
     }
 
-    // Takes the step of a receipt or a pick. What waits is looked up once, for the verdict and for each copy.
+    // Does the step of a receipt or a pick, which takes a message. What waits is looked up once, for the verdict and for
+    // each copy.
     #[inline(always)]
     fn take_message(
         &mut self,
@@ -167,7 +168,6 @@ impl Session {
         again: bool,
     ) -> Result<(Done, Option<Done>), Refusal>
         requires role { role < length self.old.types }
-        requires takes { takes_message command.now ≡ true }
         ensures served { IsServed ⊤ (once result) self.old.state self.new.state
             (machine.forward self.old.types self.old.state role (act_of command.now)) }
         ensures again { IfOk result (λ done. done.1 ≡ then_some again done.0) }
@@ -178,11 +178,11 @@ impl Session {
         let node = kept.allowed(role, command, first)?;
         let got = once_more(kept.alloc, first)?;
         let more = once_more_again(kept.alloc, first, again)?;
-        let id = self.configuration.take(role, command, node)?;
+        let id = self.configuration.act(role, command, node)?;
         Ok(told(id, got, more))
     }
 
-    // Takes the step of a send, a choice, a mark or a commit, with which no message comes.
+    // Does the step of a send, a choice, a mark or a commit, which takes none.
     #[inline(always)]
     fn give(
         &mut self,
@@ -198,7 +198,7 @@ impl Session {
         ensures types { self.new.types ≡ self.old.types }
     {
         let node = self.configuration.allowed(role, command, None)?;
-        let id = self.configuration.give(role, command, node)?;
+        let id = self.configuration.act(role, command, node)?;
         let more = if again { Some(None) } else { None };
         Ok(told(id, None, more))
     }
@@ -207,7 +207,7 @@ impl Session {
     /// make always.
     pub fn expect(&self, role: Role) -> Expect<'_>
         requires { role < length self.now.types }
-        ensures head { head_of result ≡ head ((view_of self.now).participant role).to_come }
+        ensures head { head_of result ≡ head ((session_view self.now).participant role).to_come }
         ensures known { IsHeadKnown (length self.now.types) (head_of result) }
     {
         // what an `Expect` may hold: the prover covers a function with one only where it names these
@@ -260,7 +260,7 @@ impl Session {
     pub fn slot(&self, role: Role, slot: &Name) -> Option<&Value>
         requires { role < length self.now.types }
         ensures { option_copied result
-            ≡ value_in slot.now ((view_of self.now).participant role).store }
+            ≡ value_in slot.now ((session_view self.now).participant role).store }
     {
         self.configuration.log.value(role, slot)
     }
@@ -269,7 +269,7 @@ impl Session {
     /// of the session. It takes O(k) time.
     pub fn message(&self, from: Role, to: Role, k: usize) -> Option<&Message>
         ensures { option_copied result
-            ≡ slice_get ((view_of self.now).queue from to) k }
+            ≡ slice_get ((session_view self.now).queue from to) k }
     {
         self.configuration.log.message(from, to, k)
     }

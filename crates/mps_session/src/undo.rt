@@ -1,4 +1,4 @@
-//! Steps taken back.
+//! Steps undone.
 ghost use Rattle.std.specs.Prelude.{◌≡◌, ◌==◌, Ok, Err, ◌+◌, ◌<◌, Some, None, length, vec_len, slice_set, IfOk, IfErr, IfSome, OnOk, OnErr};
 ghost use Rattle.std.specs.Bool.{then_some};
 ghost use Rattle.std.specs.List.{find};
@@ -12,12 +12,12 @@ ghost use Rattle.mps_machine.specs.Machine.{owner_fault};
 ghost use Rattle.mps_machine.specs.Answering.{IsServed};
 ghost use Rattle.mps_machine.specs.Rule.{rule};
 ghost use Rattle.mps_arena.specs.Entries.{steps, entry_at, AreSound};
-ghost use Rattle.mps_arena.specs.Sources.{CanGo};
+ghost use Rattle.mps_arena.specs.Neighbours.{CanGo};
 ghost use Rattle.mps_session.specs.Answers.{once, undo_answer};
 ghost use Rattle.mps_session.specs.Configurations.{lists_of, state_of, cursor_of};
 ghost use Rattle.mps_session.specs.Cursors.{went};
 ghost use Rattle.mps_session.specs.Leaving.{HasLeft};
-ghost use Rattle.mps_session.specs.Seen.{view_of};
+ghost use Rattle.mps_session.specs.SessionState.{session_view};
 
 use crate::configuration::Configuration;
 use crate::session::Session;
@@ -38,7 +38,7 @@ fn is_commit(act: &Act) -> bool
 }
 
 impl Configuration {
-    /// The key of the role's own step of that number, or why the role may not take it back.
+    /// The key of the role's own step of that number, or why the role may not undo it.
     pub(crate) fn own_step(&self, role: Role, id: StepId) -> Result<Key, Refusal>
         ensures own { OnOk result (owner_fault role
             (step_of (steps (lists_of self.now).entries) id) ≡ None) }
@@ -59,7 +59,7 @@ impl Configuration {
         }
     }
 
-    /// The key of the role's own step of that number, where it may be taken back by itself, or why not.
+    /// The key of the role's own step of that number, where it may be undone by itself, or why not.
     pub(crate) fn free_step(&self, role: Role, id: StepId) -> Result<Key, Refusal>
         ensures own { OnOk result (owner_fault role
             (step_of (steps (lists_of self.now).entries) id) ≡ None) }
@@ -82,9 +82,9 @@ impl Configuration {
         }
     }
 
-    /// Takes a step out that is the last of its role and, if it is a send or a choice, isn't received. Its role stands
+    /// Removes a step that is the last of its role and, if it is a send or a choice, isn't received. Its role stands
     /// again where it stood before the step. Tells the step's number.
-    pub(crate) fn take_out(&mut self, key: Key) -> StepId
+    pub(crate) fn remove(&mut self, key: Key) -> StepId
         requires can { CanGo (lists_of self.old).entries key }
         requires role { IfSome (entry_at key (lists_of self.old).entries)
             (λ e. e.step.role < vec_len self.old.cursors) }
@@ -96,12 +96,12 @@ impl Configuration {
         let role = self.log.get(key).role;
         let node = Node::new(self.log.before(key).at);
         self.stand_at(role, node);
-        self.log.take_out(key).id
+        self.log.remove(key).id
     }
 }
 
 impl Session {
-    /// Takes back the role's own step of that number, which is no commit and on which no other step depends, or says
+    /// Undoes the role's own step of that number, which is no commit and on which no other step depends, or says
     /// why not. It does not allocate, and the number isn't given out again. A refusal changes nothing.
     pub fn undo(&mut self, role: Role, id: StepId) -> Result<(), Refusal>
         requires { role < length self.old.types }
@@ -110,17 +110,17 @@ impl Session {
         ensures types { self.new.types ≡ self.old.types }
         // the undone act is allowed in the view that is left, and leads back to the view from before
         ensures back { OnOk result ((s : Step) → step_of self.old.state.history id ≡ Some s
-            → rule (view_of self.new) s ≡ Some (view_of self.old)) }
+            → rule (session_view self.new) s ≡ Some (session_view self.old)) }
         ensures err { OnErr result (self.new.state ≡ self.old.state) }
     {
         let key = self.configuration.free_step(role, id)?;
-        self.configuration.take_out(key);
+        self.configuration.remove(key);
         Ok(())
     }
 
-    /// Takes back what `undo` does, and tells its number, and once more where that is asked for.
+    /// Does what `undo` does, and tells its number, and once more where that is asked for.
     #[inline(always)]
-    pub(crate) fn take_back(
+    pub(crate) fn accept_undo(
         &mut self,
         role: Role,
         id: StepId,

@@ -8,7 +8,7 @@ ghost use Rattle.mps_fidelity.specs.Fidelity.{AreOfOneProtocol};
 ghost use Rattle.mps_machine.specs.Faults.{fault, refusal_in};
 ghost use Rattle.mps_machine.specs.Machine as machine;
 ghost use Rattle.mps_machine.specs.Violations.{violation};
-ghost use Rattle.mps_session.specs.Seen.{view_of};
+ghost use Rattle.mps_session.specs.SessionState.{session_view};
 ghost use Rattle.mps_command.specs.Acts.{act_of};
 
 use crate::session::Session;
@@ -37,7 +37,7 @@ impl Session {
         ensures kept { self.new ≡ self.old }
     {
         match command {
-            Command::Forward(step) => self.would_take(role, step),
+            Command::Forward(step) => self.would_forward(role, step),
             Command::Undo(id) => self.would_undo(role, *id),
             Command::Rollback(id) => self.would_roll_back(role, *id),
             Command::Back(name) => self.would_go_back(role, name),
@@ -46,7 +46,7 @@ impl Session {
     }
 
     // Why the step would be refused.
-    fn would_take(&self, role: Role, step: &Forward) -> Result<(), Refusal>
+    fn would_forward(&self, role: Role, step: &Forward) -> Result<(), Refusal>
         requires { role < length self.now.types }
         ensures { result_err result ≡ refusal_in
             (machine.serve self.now.types self.now.state role (changes.Forward step.now)).0 }
@@ -60,7 +60,7 @@ impl Session {
     /// Why the role's type doesn't allow the step, if it doesn't.
     pub(crate) fn violation(&self, role: Role, step: &Forward) -> Option<Violation>
         requires { role < length self.now.types }
-        ensures { result ≡ violation (view_of self.now) role (act_of step.now) }
+        ensures { result ≡ violation (session_view self.now) role (act_of step.now) }
     {
         let kept = &self.configuration;
         let first = kept.first_for(role, step);

@@ -12,7 +12,7 @@ use Rattle.mps_local.specs.Local.{LocalType}
 use Rattle.mps_history.specs.Steps.{numbers, steps_of}
 use Rattle.mps_machine.specs.View.{Participant}
 use Rattle.mps_machine.specs.Machine.{view_of}
-use Rattle.mps_session.specs.Seen.{moved_from}
+use Rattle.mps_session.specs.SessionState.{moved_from}
 use Rattle.mps_show.specs.Shown.{value_shown, moved_shown, waiting_shown, taken_shown, out_shown, in_shown, act_shown, step_shown, queue_shown, queues_from, queues_shown, number_shown, binding_shown, role_shown, roles_shown, shown}
 use Rattle.mps_show.proofs.Rows.{all-append}
 use Rattle.serde_json.specs.Data.{Data}

@@ -16,7 +16,7 @@ use Rattle.mps_local.specs.Text.{name_at}
 use Rattle.mps_history.specs.Steps.{numbers, steps_of}
 use Rattle.mps_machine.specs.View.{View, Participant}
 use Rattle.mps_machine.specs.Machine.{view_of}
-use Rattle.mps_session.specs.Seen.{moved_from}
+use Rattle.mps_session.specs.SessionState.{moved_from}
 use Rattle.serde_json.specs.Data.{Data, boolean, number, string, array, object, unsigned, member, no_members}
 use Rattle.serde_json.specs.Find.{of_integer}
 use Rattle.serde_json.specs.View.{items_of}

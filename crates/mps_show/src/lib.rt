@@ -9,14 +9,14 @@
 #![tactic(auto)]
 
 mod examples;
-mod heads;
+mod json_parts;
+mod json_state;
 mod laws;
-mod object;
-mod parts;
-mod state;
-mod values;
+mod text_heads;
+mod text_parts;
+mod text_state;
 
 pub use examples::worked_states;
+pub use json_state::show;
 pub use laws::{a_shown_text_is_one_line, a_shown_value_has_one_text};
-pub use object::show;
-pub use state::write_show;
+pub use text_state::write_show;

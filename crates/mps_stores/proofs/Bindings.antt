@@ -10,7 +10,7 @@ use Rattle.std.proofs.lemmas.List.{get_or-set_same, get_or-set_other, get_or_def
 use Rattle.mps_history.specs.Slots.{bound, unbound, value_in}
 use Rattle.mps_history.proofs.Slots.{same_slot, value_in-bound, unbound-bound}
 use Rattle.mps_arena.specs.Keys.{is_at, has, AreDistinct, last_key}
-use Rattle.mps_arena.specs.Entries.{Entry, keys_of, any_step, of_role, entry_at, with_mark, AreSound}
+use Rattle.mps_arena.specs.Entries.{KeyedStep, keys_of, any_step, of_role, entry_at, with_mark, AreSound}
 use Rattle.mps_arena.proofs.KeyLists.{last-append, last_in, once}
 use Rattle.mps_arena.proofs.Chains.{keys_with, keys_without, keys_around, distinct, entry_middle}
 use Rattle.mps_arena.proofs.Keeping.{entry_split, others_are}
@@ -23,13 +23,13 @@ store_is stores p i store same long small is = is ∙ ap (λ (k : ℕ). get_or s
 -- of each kind of names
 module _ (naming : Naming) where
   -- one entry
-  pub after_binding : (p : ℕ) (slot : List ℕ) (store : Keys) (e : Entry) → IsBinding naming p slot e → store_after naming p store e ≡ bound slot e.key store
+  pub after_binding : (p : ℕ) (slot : List ℕ) (store : Keys) (e : KeyedStep) → IsBinding naming p slot e → store_after naming p store e ≡ bound slot e.key store
   after_binding p slot store e is = rw (eq-eqb e.step.role p is.0, is.1) refl
 
-  pub after_other : (p : ℕ) (store : Keys) (e : Entry) → (e.step.role == p) ≡ false → store_after naming p store e ≡ store
+  pub after_other : (p : ℕ) (store : Keys) (e : KeyedStep) → (e.step.role == p) ≡ false → store_after naming p store e ≡ store
   after_other p store e n = cond-false (e.step.role == p) (option_map_or (λ slot. bound slot e.key store) (naming e.step.act) store) store n
 
-  pub after_idle : (p : ℕ) (store : Keys) (e : Entry) → naming e.step.act ≡ None → store_after naming p store e ≡ store
+  pub after_idle : (p : ℕ) (store : Keys) (e : KeyedStep) → naming e.step.act ≡ None → store_after naming p store e ≡ store
   after_idle p store e n =
       ⊎_elim
       (λ (t : (e.step.role == p) ≡ true). rw (t, n) refl)
@@ -37,11 +37,11 @@ module _ (naming : Naming) where
       (cases_Bool (e.step.role == p))
 
   -- many entries
-  pub rebound-append : (p : ℕ) (store : Keys) (a b : List Entry) → rebound naming p store (a ++ b) ≡ rebound naming p (rebound naming p store a) b
+  pub rebound-append : (p : ℕ) (store : Keys) (a b : List KeyedStep) → rebound naming p store (a ++ b) ≡ rebound naming p (rebound naming p store a) b
   rebound-append p store [] b = refl
   rebound-append p store (x ∷ a) b = rebound-append p (store_after naming p store x) a b
 
-  pub rebound_others : (p : ℕ) (store : Keys) (es : List Entry) → keys_of (of_role p) es ≡ [] → rebound naming p store es ≡ store
+  pub rebound_others : (p : ℕ) (store : Keys) (es : List KeyedStep) → keys_of (of_role p) es ≡ [] → rebound naming p store es ≡ store
   rebound_others p store [] none = refl
   rebound_others p store (x ∷ es) none =
       ⊎_elim
@@ -50,74 +50,74 @@ module _ (naming : Naming) where
       ap (λ (s : Keys). rebound naming p s es) (after_other p store x f) ∙ rebound_others p store es (sym (keys_without (of_role p) x es f) ∙ none))
       (cases_Bool (of_role p x.step))
 
-  pub bindings_push : (p : ℕ) (es : List Entry) (e : Entry) → bindings naming p (es ++ e ∷ []) ≡ store_after naming p (bindings naming p es) e
+  pub bindings_push : (p : ℕ) (es : List KeyedStep) (e : KeyedStep) → bindings naming p (es ++ e ∷ []) ≡ store_after naming p (bindings naming p es) e
   bindings_push p es e = rebound-append p [] es (e ∷ [])
 
   -- an entry in the middle that leaves the store
-  pub bindings_beside : (p : ℕ) (a b : List Entry) (x : Entry) → ((store : Keys) → store_after naming p store x ≡ store) → bindings naming p (a ++ x ∷ b) ≡ bindings naming p (a ++ b)
+  pub bindings_beside : (p : ℕ) (a b : List KeyedStep) (x : KeyedStep) → ((store : Keys) → store_after naming p store x ≡ store) → bindings naming p (a ++ x ∷ b) ≡ bindings naming p (a ++ b)
   bindings_beside p a b x same = rebound-append p [] a (x ∷ b) ∙ ap (λ (s : Keys). rebound naming p s b) (same (bindings naming p a)) ∙ sym (rebound-append p [] a b)
 
   -- where an entry of one part stands in the whole
-  place_cases : (a b c d : List Entry) (y : Entry) → a ++ b ≡ c ++ y ∷ d → ((m : List Entry) × (a ≡ c ++ y ∷ m)) ⊎ ((m : List Entry) × ((c ≡ a ++ m) × (b ≡ m ++ y ∷ d)))
+  place_cases : (a b c d : List KeyedStep) (y : KeyedStep) → a ++ b ≡ c ++ y ∷ d → ((m : List KeyedStep) × (a ≡ c ++ y ∷ m)) ⊎ ((m : List KeyedStep) × ((c ≡ a ++ m) × (b ≡ m ++ y ∷ d)))
   place_cases [] b c d y e = inr (c, (refl, e))
-  place_cases (x ∷ a) b [] d y e = let head : x ≡ y = cc in inl (a, ap (λ (z : Entry). z ∷ a) head)
+  place_cases (x ∷ a) b [] d y e = let head : x ≡ y = cc in inl (a, ap (λ (z : KeyedStep). z ∷ a) head)
   place_cases (x ∷ a) b (z ∷ c) d y e =
       let head : x ≡ z = cc in
       let tail : a ++ b ≡ c ++ y ∷ d = cc in
       ⊎_elim
-      (λ (w : (m : List Entry) × (a ≡ c ++ y ∷ m)). inl (w.0, ap₂ (λ (v : Entry) (l : List Entry). v ∷ l) head w.1))
-      (λ (w : (m : List Entry) × ((c ≡ a ++ m) × (b ≡ m ++ y ∷ d))). inr (w.0, (ap₂ (λ (v : Entry) (l : List Entry). v ∷ l) (sym head) w.1.0, w.1.1)))
+      (λ (w : (m : List KeyedStep) × (a ≡ c ++ y ∷ m)). inl (w.0, ap₂ (λ (v : KeyedStep) (l : List KeyedStep). v ∷ l) head w.1))
+      (λ (w : (m : List KeyedStep) × ((c ≡ a ++ m) × (b ≡ m ++ y ∷ d))). inr (w.0, (ap₂ (λ (v : KeyedStep) (l : List KeyedStep). v ∷ l) (sym head) w.1.0, w.1.1)))
       (place_cases a b c d y tail)
 
-  only : (e y : Entry) (m d : List Entry) → e ∷ [] ≡ m ++ y ∷ d → (m ≡ []) × (y ≡ e)
+  only : (e y : KeyedStep) (m d : List KeyedStep) → e ∷ [] ≡ m ++ y ∷ d → (m ≡ []) × (y ≡ e)
   only e y [] d h = let same : y ≡ e = cc in (refl, same)
   only e y (z ∷ []) d h = absurd cc
   only e y (z ∷ v ∷ m) d h = absurd cc
 
-  pub traced_push : (es : List Entry) (e : Entry) → AreTraced naming es → ((p : ℕ) (slot : List ℕ) → IsBinding naming p slot e → e.before.bound ≡ value_in slot (bindings naming p es)) → AreTraced naming (es ++ e ∷ [])
+  pub traced_push : (es : List KeyedStep) (e : KeyedStep) → AreTraced naming es → ((p : ℕ) (slot : List ℕ) → IsBinding naming p slot e → e.before.bound ≡ value_in slot (bindings naming p es)) → AreTraced naming (es ++ e ∷ [])
   traced_push es e was new p slot a b y whole is =
       ⊎_elim
-      (λ (w : (m : List Entry) × (es ≡ a ++ y ∷ m)). was p slot a w.0 y w.1 is)
-      (λ (w : (m : List Entry) × ((a ≡ es ++ m) × (e ∷ [] ≡ m ++ y ∷ b))).
+      (λ (w : (m : List KeyedStep) × (es ≡ a ++ y ∷ m)). was p slot a w.0 y w.1 is)
+      (λ (w : (m : List KeyedStep) × ((a ≡ es ++ m) × (e ∷ [] ≡ m ++ y ∷ b))).
       let o = only e y w.0 b w.1.1 in
-      let here : a ≡ es = w.1.0 ∙ ap (λ (l : List Entry). es ++ l) o.0 ∙ append-nil es in
-      ap (λ (z : Entry). z.before.bound) o.1 ∙ new p slot (subst (IsBinding naming p slot) o.1 is) ∙ ap (λ (l : List Entry). value_in slot (bindings naming p l)) (sym here))
+      let here : a ≡ es = w.1.0 ∙ ap (λ (l : List KeyedStep). es ++ l) o.0 ∙ append-nil es in
+      ap (λ (z : KeyedStep). z.before.bound) o.1 ∙ new p slot (subst (IsBinding naming p slot) o.1 is) ∙ ap (λ (l : List KeyedStep). value_in slot (bindings naming p l)) (sym here))
       (place_cases es (e ∷ []) a b y whole)
 
   -- an entry goes that no later entry's store shows
-  pub traced_without : (a b : List Entry) (x : Entry) → AreTraced naming (a ++ x ∷ b) → ((c d : List Entry) (y : Entry) → b ≡ c ++ y ∷ d → (store : Keys) → store_after naming y.step.role store x ≡ store) → AreTraced naming (a ++ b)
+  pub traced_without : (a b : List KeyedStep) (x : KeyedStep) → AreTraced naming (a ++ x ∷ b) → ((c d : List KeyedStep) (y : KeyedStep) → b ≡ c ++ y ∷ d → (store : Keys) → store_after naming y.step.role store x ≡ store) → AreTraced naming (a ++ b)
   traced_without a b x was unseen p slot c d y whole is =
       ⊎_elim
-      (λ (w : (m : List Entry) × (a ≡ c ++ y ∷ m)). was p slot c (w.0 ++ x ∷ b) y (ap (λ (l : List Entry). l ++ x ∷ b) w.1 ∙ append_assoc c (y ∷ w.0) (x ∷ b)) is)
-      (λ (w : (m : List Entry) × ((c ≡ a ++ m) × (b ≡ m ++ y ∷ d))).
-      let found = was p slot (a ++ x ∷ w.0) d y (ap (λ (l : List Entry). a ++ x ∷ l) w.1.1 ∙ sym (append_assoc a (x ∷ w.0) (y ∷ d))) is in
+      (λ (w : (m : List KeyedStep) × (a ≡ c ++ y ∷ m)). was p slot c (w.0 ++ x ∷ b) y (ap (λ (l : List KeyedStep). l ++ x ∷ b) w.1 ∙ append_assoc c (y ∷ w.0) (x ∷ b)) is)
+      (λ (w : (m : List KeyedStep) × ((c ≡ a ++ m) × (b ≡ m ++ y ∷ d))).
+      let found = was p slot (a ++ x ∷ w.0) d y (ap (λ (l : List KeyedStep). a ++ x ∷ l) w.1.1 ∙ sym (append_assoc a (x ∷ w.0) (y ∷ d))) is in
       let same : (store : Keys) → store_after naming p store x ≡ store = subst (λ (i : ℕ). (store : Keys) → store_after naming i store x ≡ store) is.0 (unseen w.0 d y w.1.1) in
-      found ∙ ap (value_in slot) (bindings_beside p a w.0 x same) ∙ ap (λ (l : List Entry). value_in slot (bindings naming p l)) (sym w.1.0))
+      found ∙ ap (value_in slot) (bindings_beside p a w.0 x same) ∙ ap (λ (l : List KeyedStep). value_in slot (bindings naming p l)) (sym w.1.0))
       (place_cases a b c d y whole)
 
   -- an idle entry
-  pub stores_idle_push : (es : List Entry) (e : Entry) (stores : List Keys) → AreStores naming es stores → naming e.step.act ≡ None → AreStores naming (es ++ e ∷ []) stores
+  pub stores_idle_push : (es : List KeyedStep) (e : KeyedStep) (stores : List Keys) → AreStores naming es stores → naming e.step.act ≡ None → AreStores naming (es ++ e ∷ []) stores
   stores_idle_push es e stores s idle = record {
     each = λ p small. s.each p small ∙ sym (bindings_push p es e ∙ after_idle p (bindings naming p es) e idle);
     traced = traced_push es e s.traced (λ p slot is. let no : None ≡ Some slot = sym idle ∙ is.1 in absurd cc);
   }
 
-  pub stores_idle_without : (es : List Entry) (e : Entry) (stores : List Keys) → AreStores naming es stores → AreSound es → entry_at e.key es ≡ Some e → naming e.step.act ≡ None → AreStores naming (filter (λ other. not (other.key == e.key)) es) stores
+  pub stores_idle_without : (es : List KeyedStep) (e : KeyedStep) (stores : List Keys) → AreStores naming es stores → AreSound es → entry_at e.key es ≡ Some e → naming e.step.act ≡ None → AreStores naming (filter (λ other. not (other.key == e.key)) es) stores
   stores_idle_without es e stores s sound found idle =
       let w = entry_split e.key es e found in
       let a = w.0 in
       let b = w.1 in
-      let d : AreDistinct (keys_of any_step (a ++ e ∷ b)) = subst (λ (l : List Entry). AreDistinct (keys_of any_step l)) w.2 sound.distinct in
-      let left : filter (λ other. not (other.key == e.key)) es ≡ a ++ b = ap (filter (λ (other : Entry). not (other.key == e.key))) w.2 ∙ others_are e.key a b e d refl in
+      let d : AreDistinct (keys_of any_step (a ++ e ∷ b)) = subst (λ (l : List KeyedStep). AreDistinct (keys_of any_step l)) w.2 sound.distinct in
+      let left : filter (λ other. not (other.key == e.key)) es ≡ a ++ b = ap (filter (λ (other : KeyedStep). not (other.key == e.key))) w.2 ∙ others_are e.key a b e d refl in
       let t : AreTraced naming (a ++ e ∷ b) = subst (AreTraced naming) w.2 s.traced in
       let r : AreStores naming (a ++ b) stores = record {
         each = λ p small. s.each p small ∙ ap (bindings naming p) w.2 ∙ bindings_beside p a b e (λ store. after_idle p store e idle);
         traced = traced_without a b e t (λ c l y is store. after_idle y.step.role store e idle);
       } in
-      subst (λ (l : List Entry). AreStores naming l stores) (sym left) r
+      subst (λ (l : List KeyedStep). AreStores naming l stores) (sym left) r
 
   -- a receipt joins
-  pub stores_bind : (es : List Entry) (e : Entry) (p : ℕ) (slot : List ℕ) (stores : List Keys) → length stores ≡ 8 → p < 8 → AreStores naming es stores → IsBinding naming p slot e → e.before.bound ≡ value_in slot (store_at stores p) → AreStores naming (es ++ e ∷ []) (slice_set stores p (bound slot e.key (store_at stores p)))
+  pub stores_bind : (es : List KeyedStep) (e : KeyedStep) (p : ℕ) (slot : List ℕ) (stores : List Keys) → length stores ≡ 8 → p < 8 → AreStores naming es stores → IsBinding naming p slot e → e.before.bound ≡ value_in slot (store_at stores p) → AreStores naming (es ++ e ∷ []) (slice_set stores p (bound slot e.key (store_at stores p)))
   stores_bind es e p slot stores long small s is kept = record { each = each; traced = traced_push es e s.traced own }
     where
       own : (q : ℕ) (x : List ℕ) → IsBinding naming q x e → e.before.bound ≡ value_in x (bindings naming q es)
@@ -149,7 +149,7 @@ module _ (naming : Naming) where
       absurd (both_ways (has k (j ∷ d)) (once k c (j ∷ d) apart).1 (last_in (j ∷ d) k (ap (λ (o : Option ℕ). is_at o k) is ∙ eq-eqb k k refl)))
 
   -- no entry of the role stands there
-  not_of : (p : ℕ) (c d : List Entry) (y : Entry) → keys_of (of_role p) (c ++ y ∷ d) ≡ [] → (y.step.role == p) ≡ false
+  not_of : (p : ℕ) (c d : List KeyedStep) (y : KeyedStep) → keys_of (of_role p) (c ++ y ∷ d) ≡ [] → (y.step.role == p) ≡ false
   not_of p c d y none =
       false_from_ne_true (y.step.role == p) (λ t.
       let some : keys_of (of_role p) c ++ y.key ∷ keys_of (of_role p) d ≡ [] = sym (keys_around (of_role p) c d y t) ∙ none in
@@ -160,20 +160,20 @@ module _ (naming : Naming) where
       not_nil (j ∷ c) d k e = absurd cc
 
   -- the last entry of its role goes, which is a receipt
-  pub stores_unbind : (es : List Entry) (e : Entry) (p : ℕ) (slot : List ℕ) (older : Option ℕ) (stores : List Keys) → length stores ≡ 8 → p < 8 → AreStores naming es stores → AreSound es → entry_at e.key es ≡ Some e → last_key None (keys_of (of_role p) es) ≡ Some e.key → IsBinding naming p slot e → e.before.bound ≡ older
+  pub stores_unbind : (es : List KeyedStep) (e : KeyedStep) (p : ℕ) (slot : List ℕ) (older : Option ℕ) (stores : List Keys) → length stores ≡ 8 → p < 8 → AreStores naming es stores → AreSound es → entry_at e.key es ≡ Some e → last_key None (keys_of (of_role p) es) ≡ Some e.key → IsBinding naming p slot e → e.before.bound ≡ older
       → AreStores naming (filter (λ other. not (other.key == e.key)) es) (slice_set stores p (unbound slot older (store_at stores p)))
   stores_unbind es e p slot older stores long small s sound found last is kept =
       let w = entry_split e.key es e found in
       let a = w.0 in
       let b = w.1 in
       let now = slice_set stores p (unbound slot older (store_at stores p)) in
-      let d : AreDistinct (keys_of any_step (a ++ e ∷ b)) = subst (λ (l : List Entry). AreDistinct (keys_of any_step l)) w.2 sound.distinct in
-      let left : filter (λ other. not (other.key == e.key)) es ≡ a ++ b = ap (filter (λ (other : Entry). not (other.key == e.key))) w.2 ∙ others_are e.key a b e d refl in
+      let d : AreDistinct (keys_of any_step (a ++ e ∷ b)) = subst (λ (l : List KeyedStep). AreDistinct (keys_of any_step l)) w.2 sound.distinct in
+      let left : filter (λ other. not (other.key == e.key)) es ≡ a ++ b = ap (filter (λ (other : KeyedStep). not (other.key == e.key))) w.2 ∙ others_are e.key a b e d refl in
       let t : AreTraced naming (a ++ e ∷ b) = subst (AreTraced naming) w.2 s.traced in
       let mine : of_role p e.step ≡ true = eq-eqb e.step.role p is.0 in
       let chain = keys_around (of_role p) a b e mine in
       let apart : AreDistinct (keys_of (of_role p) a ++ e.key ∷ keys_of (of_role p) b) = subst AreDistinct chain (distinct (of_role p) (a ++ e ∷ b) d) in
-      let final : keys_of (of_role p) b ≡ [] = none_behind (keys_of (of_role p) a) (keys_of (of_role p) b) e.key apart (ap (last_key None) (sym chain) ∙ ap (λ (l : List Entry). last_key None (keys_of (of_role p) l)) (sym w.2) ∙ last) in
+      let final : keys_of (of_role p) b ≡ [] = none_behind (keys_of (of_role p) a) (keys_of (of_role p) b) e.key apart (ap (last_key None) (sym chain) ∙ ap (λ (l : List KeyedStep). last_key None (keys_of (of_role p) l)) (sym w.2) ∙ last) in
       let was : store_at stores p ≡ bound slot e.key (bindings naming p a) =
       s.each p small ∙ ap (bindings naming p) w.2 ∙ rebound-append p [] a (e ∷ b) ∙ rebound_others p (store_after naming p (bindings naming p a) e) b final ∙ after_binding p slot (bindings naming p a) e is in
       let older_is : older ≡ value_in slot (bindings naming p a) = sym kept ∙ t p slot a b e refl is in
@@ -194,26 +194,26 @@ module _ (naming : Naming) where
             let other = not_of p c l y (ap (keys_of (of_role p)) (sym parts) ∙ final) in
             after_other y.step.role store e (ap (λ (i : ℕ). i == y.step.role) is.0 ∙ ne_eqb p y.step.role (λ z. both_ways (y.step.role == p) other (eq-eqb y.step.role p (sym z)))));
       } in
-      subst (λ (l : List Entry). AreStores naming l now) (sym left) r
+      subst (λ (l : List KeyedStep). AreStores naming l now) (sym left) r
 
   -- marks
   module _ (k : ℕ) (m : Bool) where
-    abbrev marks : List Entry → List Entry
+    abbrev marks : List KeyedStep → List KeyedStep
     marks es = map (with_mark k m) es
 
-    rebound_marked : (p : ℕ) (store : Keys) (es : List Entry) → rebound naming p store (marks es) ≡ rebound naming p store es
+    rebound_marked : (p : ℕ) (store : Keys) (es : List KeyedStep) → rebound naming p store (marks es) ≡ rebound naming p store es
     rebound_marked p store [] = refl
     rebound_marked p store (x ∷ es) = rebound_marked p (store_after naming p store x) es
 
     -- where an entry of the marked list stands in the other
-    abbrev Place : List Entry → List Entry → Entry → Type 0
-    Place es c y = (a : List Entry) × (b : List Entry) × (x : Entry) × ((es ≡ a ++ x ∷ b) × (c ≡ marks a) × (y ≡ with_mark k m x))
+    abbrev Place : List KeyedStep → List KeyedStep → KeyedStep → Type 0
+    Place es c y = (a : List KeyedStep) × (b : List KeyedStep) × (x : KeyedStep) × ((es ≡ a ++ x ∷ b) × (c ≡ marks a) × (y ≡ with_mark k m x))
 
-    behind : (x z : Entry) (es c : List Entry) (y : Entry) → z ≡ with_mark k m x → Place es c y → Place (x ∷ es) (z ∷ c) y
+    behind : (x z : KeyedStep) (es c : List KeyedStep) (y : KeyedStep) → z ≡ with_mark k m x → Place es c y → Place (x ∷ es) (z ∷ c) y
     behind x z es c y head w =
-        (x ∷ w.0, w.1, w.2, (ap (λ (l : List Entry). x ∷ l) w.3.0, ap₂ (λ (v : Entry) (l : List Entry). v ∷ l) head w.3.1, w.3.2))
+        (x ∷ w.0, w.1, w.2, (ap (λ (l : List KeyedStep). x ∷ l) w.3.0, ap₂ (λ (v : KeyedStep) (l : List KeyedStep). v ∷ l) head w.3.1, w.3.2))
 
-    marks_place : (es c d : List Entry) (y : Entry) → marks es ≡ c ++ y ∷ d → Place es c y
+    marks_place : (es c d : List KeyedStep) (y : KeyedStep) → marks es ≡ c ++ y ∷ d → Place es c y
     marks_place [] [] d y e = absurd cc
     marks_place [] (z ∷ c) d y e = absurd cc
     marks_place (x ∷ es) [] d y e = let head : y ≡ with_mark k m x = cc in ([], es, x, (refl, refl, head))
@@ -222,21 +222,21 @@ module _ (naming : Naming) where
         let tail : marks es ≡ c ++ y ∷ d = cc in
         behind x z es c y head (marks_place es c d y tail)
 
-    pub stores_marked : (es : List Entry) (stores : List Keys) → AreStores naming es stores → AreStores naming (marks es) stores
+    pub stores_marked : (es : List KeyedStep) (stores : List Keys) → AreStores naming es stores → AreStores naming (marks es) stores
     stores_marked es stores s = record {
       each = λ p small. s.each p small ∙ sym (rebound_marked p [] es);
       traced = λ p slot a b e whole is.
           let w = marks_place es a b e whole in
           let unmarked : IsBinding naming p slot w.2 = subst (IsBinding naming p slot) w.3.2 is in
-          ap (λ (z : Entry). z.before.bound) w.3.2 ∙ s.traced p slot w.0 w.1 w.2 w.3.0 unmarked
-          ∙ ap (value_in slot) (sym (rebound_marked p [] w.0)) ∙ ap (λ (l : List Entry). value_in slot (bindings naming p l)) (sym w.3.1);
+          ap (λ (z : KeyedStep). z.before.bound) w.3.2 ∙ s.traced p slot w.0 w.1 w.2 w.3.0 unmarked
+          ∙ ap (value_in slot) (sym (rebound_marked p [] w.0)) ∙ ap (λ (l : List KeyedStep). value_in slot (bindings naming p l)) (sym w.3.1);
     }
 
   -- what a slot is bound to
-  pub record Bound (p : ℕ) (slot : List ℕ) (k : ℕ) (es : List Entry) : Type 0 where
-    pub before : List Entry
-    pub behind : List Entry
-    pub entry : Entry
+  pub record Bound (p : ℕ) (slot : List ℕ) (k : ℕ) (es : List KeyedStep) : Type 0 where
+    pub before : List KeyedStep
+    pub behind : List KeyedStep
+    pub entry : KeyedStep
     pub parts : es ≡ before ++ entry ∷ behind
     pub key : entry.key ≡ k
     pub receipt : IsBinding naming p slot entry
@@ -246,7 +246,7 @@ module _ (naming : Naming) where
   cases_slot (Some x) = inr (x, refl)
 
   -- by an entry, or before it
-  bound_here : (p : ℕ) (slot : List ℕ) (k : ℕ) (store : Keys) (e : Entry) → value_in slot (store_after naming p store e) ≡ Some k → ((e.key ≡ k) × IsBinding naming p slot e) ⊎ (value_in slot store ≡ Some k)
+  bound_here : (p : ℕ) (slot : List ℕ) (k : ℕ) (store : Keys) (e : KeyedStep) → value_in slot (store_after naming p store e) ≡ Some k → ((e.key ≡ k) × IsBinding naming p slot e) ⊎ (value_in slot store ≡ Some k)
   bound_here p slot k store e h =
       ⊎_elim
       (λ (t : (e.step.role == p) ≡ true).
@@ -267,12 +267,12 @@ module _ (naming : Naming) where
       (λ (f : (e.step.role == p) ≡ false). inr (sym (ap (value_in slot) (after_other p store e f)) ∙ h))
       (cases_Bool (e.step.role == p))
 
-  bound_in : (p : ℕ) (slot : List ℕ) (k : ℕ) (store : Keys) (es : List Entry) → value_in slot (rebound naming p store es) ≡ Some k → Bound p slot k es ⊎ (value_in slot store ≡ Some k)
+  bound_in : (p : ℕ) (slot : List ℕ) (k : ℕ) (store : Keys) (es : List KeyedStep) → value_in slot (rebound naming p store es) ≡ Some k → Bound p slot k es ⊎ (value_in slot store ≡ Some k)
   bound_in p slot k store [] h = inr h
   bound_in p slot k store (x ∷ es) h =
       ⊎_elim
       (λ (w : Bound p slot k es).
-      let r : Bound p slot k (x ∷ es) = record { before = x ∷ w.before; behind = w.behind; entry = w.entry; parts = ap (λ (l : List Entry). x ∷ l) w.parts; key = w.key; receipt = w.receipt } in
+      let r : Bound p slot k (x ∷ es) = record { before = x ∷ w.before; behind = w.behind; entry = w.entry; parts = ap (λ (l : List KeyedStep). x ∷ l) w.parts; key = w.key; receipt = w.receipt } in
       inl r)
       (λ (g : value_in slot (store_after naming p store x) ≡ Some k).
       ⊎_elim
@@ -283,11 +283,11 @@ module _ (naming : Naming) where
       (bound_here p slot k store x g))
       (bound_in p slot k (store_after naming p store x) es h)
 
-  pub binding_is_step : (es : List Entry) (p k : ℕ) (slot : List ℕ) → AreSound es → value_in slot (bindings naming p es) ≡ Some k → (e : Entry) × (entry_at k es ≡ Some e) × IsBinding naming p slot e
+  pub binding_is_step : (es : List KeyedStep) (p k : ℕ) (slot : List ℕ) → AreSound es → value_in slot (bindings naming p es) ≡ Some k → (e : KeyedStep) × (entry_at k es ≡ Some e) × IsBinding naming p slot e
   binding_is_step es p k slot sound h =
       ⊎_elim
       (λ (w : Bound p slot k es).
-      let d : AreDistinct (keys_of any_step (w.before ++ w.entry ∷ w.behind)) = subst (λ (l : List Entry). AreDistinct (keys_of any_step l)) w.parts sound.distinct in
+      let d : AreDistinct (keys_of any_step (w.before ++ w.entry ∷ w.behind)) = subst (λ (l : List KeyedStep). AreDistinct (keys_of any_step l)) w.parts sound.distinct in
       let found : entry_at k es ≡ Some w.entry = ap₂ entry_at (sym w.key) w.parts ∙ entry_middle w.before w.behind w.entry d in
       (w.entry, found, w.receipt))
       (λ (z : value_in slot [] ≡ Some k). absurd cc)

@@ -54,7 +54,7 @@ module _ (slot : List ℕ) where
       (λ (no : bytes_eq entry.0 slot ≡ false). rw (turned slot entry.0, no) (ap (λ (l : Keys). entry ∷ l) (remove_is_unbound store)))
       (cases_Bool (bytes_eq entry.0 slot))
 
-  -- where the slot isn't bound, there is nothing to take back
+  -- where the slot isn't bound, there is nothing to undo
   pub unbound_stays : (older : Option ℕ) (store : Keys) → value_in slot store ≡ None → unbound slot older store ≡ store
   unbound_stays older [] none = refl
   unbound_stays older (entry ∷ store) none =

@@ -4,7 +4,7 @@ use Rattle.std.specs.Option.{option_map_or}
 use Rattle.mps_base.specs.declared.action.Act.{Act}
 use Rattle.mps_base.specs.declared.action.Act.TheVariants.{In, Mark}
 use Rattle.mps_history.specs.Slots.{bound, value_in}
-use Rattle.mps_arena.specs.Entries.{Entry}
+use Rattle.mps_arena.specs.Entries.{KeyedStep}
 
 abbrev pub Keys : Type 0
 Keys = List (List ℕ × ℕ)
@@ -28,28 +28,28 @@ mark_of (Mark name) = Some name
 mark_of act = None
 
 -- a step of role p that binds the name
-abbrev pub IsBinding : Naming → ℕ → List ℕ → Entry → Type 0
+abbrev pub IsBinding : Naming → ℕ → List ℕ → KeyedStep → Type 0
 IsBinding naming p name e = (e.step.role ≡ p) × (naming e.step.act ≡ Some name)
 
 -- the store of role p after the entry: a step of p that binds a name binds it to the entry's key
-abbrev pub store_after : Naming → ℕ → Keys → Entry → Keys
+abbrev pub store_after : Naming → ℕ → Keys → KeyedStep → Keys
 store_after naming p store e =
     if e.step.role == p then option_map_or (λ name. bound name e.key store) (naming e.step.act) store else store
 
 -- the store of role p after the entries, the oldest first
-abbrev pub rebound : Naming → ℕ → Keys → List Entry → Keys
+abbrev pub rebound : Naming → ℕ → Keys → List KeyedStep → Keys
 rebound naming p store [] = store
 rebound naming p store (e ∷ es) = rebound naming p (store_after naming p store e) es
 
 -- the same, from an empty one
-abbrev pub bindings : Naming → ℕ → List Entry → Keys
+abbrev pub bindings : Naming → ℕ → List KeyedStep → Keys
 bindings naming p es = rebound naming p [] es
 
 -- each step that binds a name keeps to what the name was bound right before it
-abbrev pub AreTraced : Naming → List Entry → Type 0
-AreTraced naming es = (p : ℕ) (name : List ℕ) (a b : List Entry) (e : Entry) → es ≡ a ++ e ∷ b → IsBinding naming p name e → e.before.bound ≡ value_in name (bindings naming p a)
+abbrev pub AreTraced : Naming → List KeyedStep → Type 0
+AreTraced naming es = (p : ℕ) (name : List ℕ) (a b : List KeyedStep) (e : KeyedStep) → es ≡ a ++ e ∷ b → IsBinding naming p name e → e.before.bound ≡ value_in name (bindings naming p a)
 
--- the stores are those of these entries, and each binding can be taken back
-pub record AreStores (naming : Naming) (es : List Entry) (stores : List Keys) : Type 0 where
+-- the stores are those of these entries, and each binding can be undone
+pub record AreStores (naming : Naming) (es : List KeyedStep) (stores : List Keys) : Type 0 where
   pub each : (p : ℕ) → p < 8 → store_at stores p ≡ bindings naming p es
   pub traced : AreTraced naming es

@@ -2,10 +2,10 @@
 ghost use Rattle.std.specs.Prelude.{◌≡◌, ℕ, Bool, ◌==◌, not, List, [], ◌∷◌, ◌++◌, map, Some, None};
 ghost use Rattle.std.specs.List.{filter};
 ghost use Rattle.mps_history.specs.Slots.{bound, unbound, value_in};
-ghost use Rattle.mps_arena.specs.Entries.{Entry, entry_at, with_mark, AreSound};
+ghost use Rattle.mps_arena.specs.Entries.{KeyedStep, entry_at, with_mark, AreSound};
 ghost use Rattle.mps_stores.specs.Stores.{Keys, Naming, bindings, IsBinding, AreStores};
 
-/// A binding that is taken back leaves the store as it was, in the same order.
+/// A binding that is undone leaves the store as it was, in the same order.
 pub fn bindings_come_back()
     ensures { (name : List ℕ) (key : ℕ) (store : Keys) →
         unbound name (value_in name store) (bound name key store) ≡ store }
@@ -13,26 +13,26 @@ pub fn bindings_come_back()
 
 /// A step that binds no name of the kind may join: the stores stay.
 pub fn idle_steps_may_join()
-    ensures { (naming : Naming) (es : List Entry) (e : Entry) (stores : List Keys) →
+    ensures { (naming : Naming) (es : List KeyedStep) (e : KeyedStep) (stores : List Keys) →
         AreStores naming es stores → naming e.step.act ≡ None → AreStores naming (es ++ e ∷ []) stores }
 {}
 
 /// A step that binds no name of the kind may go, wherever it stands: the stores stay.
 pub fn idle_steps_may_go()
-    ensures { (naming : Naming) (es : List Entry) (e : Entry) (stores : List Keys) →
+    ensures { (naming : Naming) (es : List KeyedStep) (e : KeyedStep) (stores : List Keys) →
         AreStores naming es stores → AreSound es → entry_at e.key es ≡ Some e → naming e.step.act ≡ None →
         AreStores naming (filter (λ other. not (other.key == e.key)) es) stores }
 {}
 
 /// An entry may be marked, or its mark taken off: the stores stay.
 pub fn marks_leave_stores()
-    ensures { (naming : Naming) (es : List Entry) (key : ℕ) (marked : Bool) (stores : List Keys) →
+    ensures { (naming : Naming) (es : List KeyedStep) (key : ℕ) (marked : Bool) (stores : List Keys) →
         AreStores naming es stores → AreStores naming (map (with_mark key marked) es) stores }
 {}
 
 /// What a name is bound to is the key of a step of its role that binds it.
 pub fn bindings_are_steps()
-    ensures { (naming : Naming) (es : List Entry) (p key : ℕ) (name : List ℕ) →
+    ensures { (naming : Naming) (es : List KeyedStep) (p key : ℕ) (name : List ℕ) →
         AreSound es → value_in name (bindings naming p es) ≡ Some key →
-        (e : Entry) × (entry_at key es ≡ Some e) × IsBinding naming p name e }
+        (e : KeyedStep) × (entry_at key es ≡ Some e) × IsBinding naming p name e }
 {}

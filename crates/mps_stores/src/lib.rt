@@ -1,7 +1,7 @@
 //! The names that each role's steps bind, each with the key of the step that bound it last: the slots of its receipts,
 //! or the names of its marks.
 //!
-//! The main type is `Stores`. A step that binds a name again remembers which one did before, so it can be taken back.
+//! The main type is `Stores`. A step that binds a name again remembers which one did before, so it can be undone.
 //!
 //! ```
 //! let older = stores.bind(role, &name, arena.reserve_one()?)?;

@@ -105,7 +105,7 @@ impl Store {
         Some(mem::replace(bound, key))
     }
 
-    /// Takes the binding of a name back. Where the name isn't bound, nothing changes.
+    /// Undoes the binding of a name. Where the name isn't bound, nothing changes.
     pub(crate) fn unbind(&mut self, name: &Name, older: Option<Key>)
         ensures { self.new ≡ unbound name.now older self.old }
     {

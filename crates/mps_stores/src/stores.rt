@@ -5,7 +5,7 @@ ghost use Rattle.std.specs.Option.{option_map};
 ghost use Rattle.std.specs.Map.Iter.{ShowsInOrder, deref_pair};
 ghost use Rattle.mps_history.specs.Slots.{bound, unbound, value_in};
 ghost use Rattle.mps_arena.specs.Keys.{last_key};
-ghost use Rattle.mps_arena.specs.Entries.{Entry, keys_of, of_role, entry_at, AreSound};
+ghost use Rattle.mps_arena.specs.Entries.{KeyedStep, keys_of, of_role, entry_at, AreSound};
 ghost use Rattle.mps_stores.specs.Stores.{Naming, store_at, IsBinding, AreStores};
 
 use crate::store::Store;
@@ -87,7 +87,7 @@ impl Stores {
         ensures replaced { IfOk result (λ older. older ≡ value_in name.now (store_at self.old role)) }
         ensures bound { OnOk result (self.new
             ≡ slice_set self.old role (bound name.now key (store_at self.old role))) }
-        ensures follows { IfOk result (λ older. (naming : Naming) (es : List Entry) (e : Entry) →
+        ensures follows { IfOk result (λ older. (naming : Naming) (es : List KeyedStep) (e : KeyedStep) →
             AreStores naming es self.old → IsBinding naming role name.now e →
             e.key ≡ key → e.before.bound ≡ older → AreStores naming (es ++ e ∷ []) self.new) }
         ensures err { OnErr result (self.new ≡ self.old) }
@@ -97,13 +97,13 @@ impl Stores {
         store.bind(name, key)
     }
 
-    /// Takes the binding of a name back: it is bound to the older step, in its place, or taken out where there is none.
+    /// Undoes the binding of a name: it is bound to the older step, in its place, or removed where there is none.
     /// Where the name isn't bound, nothing changes.
     pub fn unbind(&mut self, role: Role, name: &Name, older: Option<Key>)
         requires { role < 8 }
         ensures unbound { self.new
             ≡ slice_set self.old role (unbound name.now older (store_at self.old role)) }
-        ensures returns { (naming : Naming) (es : List Entry) (e : Entry) →
+        ensures returns { (naming : Naming) (es : List KeyedStep) (e : KeyedStep) →
             AreStores naming es self.old → AreSound es → entry_at e.key es ≡ Some e →
             last_key None (keys_of (of_role role) es) ≡ Some e.key →
             IsBinding naming role name.now e → e.before.bound ≡ older →

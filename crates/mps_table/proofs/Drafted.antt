@@ -4,97 +4,97 @@ use Rattle.std.specs.Prelude.{◌++◌, OnOk, Ok, Err}
 use Rattle.mps_base.specs.declared.value.Sort.{Sort}
 use Rattle.mps_local.specs.Local.{LocalType, Branches, End, Var, Rec, Send, Recv, Select, Branch, NoMore, More}
 use Rattle.mps_local.specs.Actions.{labels}
-use Rattle.mps_table.specs.declared.entry.Entry.{Entry}
-use Rattle.mps_table.specs.declared.entry.Entry.TheVariants as entries
+use Rattle.mps_table.specs.declared.row.TableRow.{TableRow}
+use Rattle.mps_table.specs.declared.row.TableRow.TheVariants as rows
 use Rattle.mps_table.specs.declared.laying.Draft.{Draft}
-use Rattle.mps_table.specs.Laying.{Places, put_node, size, branch_size, start, all_entries, branch_entries, all_labels, branch_labels, all_targets, branch_targets}
-use Rattle.mps_table.specs.Drafts.{Adds, Lays, LaysBranches, entry_count, label_count}
+use Rattle.mps_table.specs.Laying.{Places, put_node, size, branch_size, start, all_rows, branch_rows, all_labels, branch_labels, all_targets, branch_targets}
+use Rattle.mps_table.specs.Drafts.{Adds, Lays, LaysBranches, row_count, label_count}
 
 mutual
-  pub length-all_entries : (places : Places) (at first : ℕ) (t : LocalType) → length (all_entries places at first t) ≡ size t
-  length-all_entries places at first End = refl
-  length-all_entries places at first (Var x) = refl
-  length-all_entries places at first (Rec x u) = length-all_entries (put_node x (start places at u) places) at first u
-  length-all_entries places at first (Send peer sort u) = let k = length-all_entries places (at + 1) first u in omega (arith, k)
-  length-all_entries places at first (Recv peer sort u) = let k = length-all_entries places (at + 1) first u in omega (arith, k)
-  length-all_entries places at first (Select peer b) = let k = length-branch_entries places (at + 1) (first + length (labels b)) b in omega (arith, k)
-  length-all_entries places at first (Branch peer b) = let k = length-branch_entries places (at + 1) (first + length (labels b)) b in omega (arith, k)
+  pub length-all_rows : (places : Places) (at first : ℕ) (t : LocalType) → length (all_rows places at first t) ≡ size t
+  length-all_rows places at first End = refl
+  length-all_rows places at first (Var x) = refl
+  length-all_rows places at first (Rec x u) = length-all_rows (put_node x (start places at u) places) at first u
+  length-all_rows places at first (Send peer sort u) = let k = length-all_rows places (at + 1) first u in omega (arith, k)
+  length-all_rows places at first (Recv peer sort u) = let k = length-all_rows places (at + 1) first u in omega (arith, k)
+  length-all_rows places at first (Select peer b) = let k = length-branch_rows places (at + 1) (first + length (labels b)) b in omega (arith, k)
+  length-all_rows places at first (Branch peer b) = let k = length-branch_rows places (at + 1) (first + length (labels b)) b in omega (arith, k)
 
-  length-branch_entries : (places : Places) (at first : ℕ) (b : Branches) → length (branch_entries places at first b) ≡ branch_size b
-  length-branch_entries places at first NoMore = refl
-  length-branch_entries places at first (More label u others) =
+  length-branch_rows : (places : Places) (at first : ℕ) (b : Branches) → length (branch_rows places at first b) ≡ branch_size b
+  length-branch_rows places at first NoMore = refl
+  length-branch_rows places at first (More label u others) =
       omega (
         arith,
-        length-append (all_entries places at first u) (branch_entries places (at + size u) (first + length (all_labels u)) others),
-        length-all_entries places at first u,
-        length-branch_entries places (at + size u) (first + length (all_labels u)) others,
+        length-append (all_rows places at first u) (branch_rows places (at + size u) (first + length (all_labels u)) others),
+        length-all_rows places at first u,
+        length-branch_rows places (at + size u) (first + length (all_labels u)) others,
       )
 
 -- one after the other
-adds_both : (a b c : Draft) (es fs : List Entry) (ls ms : List (List ℕ)) (ns os : List ℕ) → Adds a b es ls ns → Adds b c fs ms os → Adds a c (es ++ fs) (ls ++ ms) (ns ++ os)
+adds_both : (a b c : Draft) (es fs : List TableRow) (ls ms : List (List ℕ)) (ns os : List ℕ) → Adds a b es ls ns → Adds b c fs ms os → Adds a c (es ++ fs) (ls ++ ms) (ns ++ os)
 adds_both a b c es fs ls ms ns os p q =
     record {
-      entries = q.entries ∙ ap (λ (xs : List Entry). xs ++ fs) p.entries ∙ append_assoc a.entries.items es fs;
+      rows = q.rows ∙ ap (λ (xs : List TableRow). xs ++ fs) p.rows ∙ append_assoc a.rows.items es fs;
       labels = q.labels ∙ ap (λ (xs : List (List ℕ)). xs ++ ms) p.labels ∙ append_assoc a.labels.items ls ms;
       targets = q.targets ∙ ap (λ (xs : List ℕ). xs ++ os) p.targets ∙ append_assoc a.targets.items ns os;
     }
 
-more_entries : (a b : Draft) (es : List Entry) (ls : List (List ℕ)) (ns : List ℕ) → Adds a b es ls ns → entry_count b ≡ entry_count a + length es
-more_entries a b es ls ns p = ap length p.entries ∙ length-append a.entries.items es
+more_rows : (a b : Draft) (es : List TableRow) (ls : List (List ℕ)) (ns : List ℕ) → Adds a b es ls ns → row_count b ≡ row_count a + length es
+more_rows a b es ls ns p = ap length p.rows ∙ length-append a.rows.items es
 
-more_labels : (a b : Draft) (es : List Entry) (ls : List (List ℕ)) (ns : List ℕ) → Adds a b es ls ns → label_count b ≡ label_count a + length ls
+more_labels : (a b : Draft) (es : List TableRow) (ls : List (List ℕ)) (ns : List ℕ) → Adds a b es ls ns → label_count b ≡ label_count a + length ls
 more_labels a b es ls ns p = ap length p.labels ∙ length-append a.labels.items ls
 
--- how many entries and labels are there then
-pub entries_then : (a b : Draft) (places : Places) (t : LocalType) → Lays a b places t → entry_count b ≡ entry_count a + size t
-entries_then a b places t p =
-    let k = more_entries a b (all_entries places (entry_count a) (label_count a) t) (all_labels t) (all_targets places (entry_count a) t) p in
-    omega (arith, k, length-all_entries places (entry_count a) (label_count a) t)
+-- how many rows and labels are there then
+pub rows_then : (a b : Draft) (places : Places) (t : LocalType) → Lays a b places t → row_count b ≡ row_count a + size t
+rows_then a b places t p =
+    let k = more_rows a b (all_rows places (row_count a) (label_count a) t) (all_labels t) (all_targets places (row_count a) t) p in
+    omega (arith, k, length-all_rows places (row_count a) (label_count a) t)
 
 pub labels_then : (a b : Draft) (places : Places) (t : LocalType) → Lays a b places t → label_count b ≡ label_count a + length (all_labels t)
 labels_then a b places t p =
-    more_labels a b (all_entries places (entry_count a) (label_count a) t) (all_labels t) (all_targets places (entry_count a) t) p
+    more_labels a b (all_rows places (row_count a) (label_count a) t) (all_labels t) (all_targets places (row_count a) t) p
 
--- where a draft has so many entries and labels
-lays_at : (b c : Draft) (places : Places) (t : LocalType) (at first : ℕ) → entry_count b ≡ at → label_count b ≡ first → Lays b c places t → Adds b c (all_entries places at first t) (all_labels t) (all_targets places at t)
+-- where a draft has so many rows and labels
+lays_at : (b c : Draft) (places : Places) (t : LocalType) (at first : ℕ) → row_count b ≡ at → label_count b ≡ first → Lays b c places t → Adds b c (all_rows places at first t) (all_labels t) (all_targets places at t)
 lays_at b c places t at first e f p =
-    subst (λ (n : ℕ). Adds b c (all_entries places n first t) (all_labels t) (all_targets places n t)) e
-    (subst (λ (m : ℕ). Adds b c (all_entries places (entry_count b) m t) (all_labels t) (all_targets places (entry_count b) t)) f p)
+    subst (λ (n : ℕ). Adds b c (all_rows places n first t) (all_labels t) (all_targets places n t)) e
+    (subst (λ (m : ℕ). Adds b c (all_rows places (row_count b) m t) (all_labels t) (all_targets places (row_count b) t)) f p)
 
-branches_at : (b c : Draft) (places : Places) (bs : Branches) (at first : ℕ) → entry_count b ≡ at → label_count b ≡ first → LaysBranches b c places bs → Adds b c (branch_entries places at first bs) (branch_labels bs) (branch_targets places at bs)
+branches_at : (b c : Draft) (places : Places) (bs : Branches) (at first : ℕ) → row_count b ≡ at → label_count b ≡ first → LaysBranches b c places bs → Adds b c (branch_rows places at first bs) (branch_labels bs) (branch_targets places at bs)
 branches_at b c places bs at first e f p =
-    subst (λ (n : ℕ). Adds b c (branch_entries places n first bs) (branch_labels bs) (branch_targets places n bs)) e
-    (subst (λ (m : ℕ). Adds b c (branch_entries places (entry_count b) m bs) (branch_labels bs) (branch_targets places (entry_count b) bs)) f p)
+    subst (λ (n : ℕ). Adds b c (branch_rows places n first bs) (branch_labels bs) (branch_targets places n bs)) e
+    (subst (λ (m : ℕ). Adds b c (branch_rows places (row_count b) m bs) (branch_labels bs) (branch_targets places (row_count b) bs)) f p)
 
--- an entry and then what follows it
-pub entry_first : (a b c : Draft) (places : Places) (entry : Entry) (u : LocalType) → Adds a b (entry ∷ []) [] [] → Lays b c places u → Adds a c (entry ∷ all_entries places (entry_count a + 1) (label_count a) u) (all_labels u) (all_targets places (entry_count a + 1) u)
-entry_first a b c places entry u p q =
-    adds_both a b c (entry ∷ []) (all_entries places (entry_count a + 1) (label_count a) u) [] (all_labels u) [] (all_targets places (entry_count a + 1) u) p
-    (lays_at b c places u (entry_count a + 1) (label_count a) (more_entries a b (entry ∷ []) [] [] p) (let k = more_labels a b (entry ∷ []) [] [] p in omega (arith, k)) q)
+-- a row and then what follows it
+pub row_first : (a b c : Draft) (places : Places) (row : TableRow) (u : LocalType) → Adds a b (row ∷ []) [] [] → Lays b c places u → Adds a c (row ∷ all_rows places (row_count a + 1) (label_count a) u) (all_labels u) (all_targets places (row_count a + 1) u)
+row_first a b c places row u p q =
+    adds_both a b c (row ∷ []) (all_rows places (row_count a + 1) (label_count a) u) [] (all_labels u) [] (all_targets places (row_count a + 1) u) p
+    (lays_at b c places u (row_count a + 1) (label_count a) (more_rows a b (row ∷ []) [] [] p) (let k = more_labels a b (row ∷ []) [] [] p in omega (arith, k)) q)
 
--- an output, whose entry leads to the start of what follows
-pub send_lays : (a b c : Draft) (places : Places) (peer : ℕ) (sort : Sort) (node at : ℕ) (t u v w : LocalType) → t ≡ Send peer sort u → v ≡ u → w ≡ u → at ≡ entry_count a → node ≡ start places (at + 1) v → Adds a b (entries.Send peer sort node ∷ []) [] [] → Lays b c places w → Lays a c places t
+-- an output, whose row leads to the start of what follows
+pub send_lays : (a b c : Draft) (places : Places) (peer : ℕ) (sort : Sort) (node at : ℕ) (t u v w : LocalType) → t ≡ Send peer sort u → v ≡ u → w ≡ u → at ≡ row_count a → node ≡ start places (at + 1) v → Adds a b (rows.Send peer sort node ∷ []) [] [] → Lays b c places w → Lays a c places t
 send_lays a b c places peer sort node at t u v w is same next place from p q =
-    let node_is : node ≡ start places (entry_count a + 1) u = rw (← place, ← same) from in
-    let first = subst (λ (n : ℕ). Adds a b (entries.Send peer sort n ∷ []) [] []) node_is p in
+    let node_is : node ≡ start places (row_count a + 1) u = rw (← place, ← same) from in
+    let first = subst (λ (n : ℕ). Adds a b (rows.Send peer sort n ∷ []) [] []) node_is p in
     let rest = subst (λ (x : LocalType). Lays b c places x) next q in
-    subst (λ (x : LocalType). Lays a c places x) (sym is) (entry_first a b c places (entries.Send peer sort (start places (entry_count a + 1) u)) u first rest)
+    subst (λ (x : LocalType). Lays a c places x) (sym is) (row_first a b c places (rows.Send peer sort (start places (row_count a + 1) u)) u first rest)
 
 -- an input likewise
-pub recv_lays : (a b c : Draft) (places : Places) (peer : ℕ) (sort : Sort) (node at : ℕ) (t u v w : LocalType) → t ≡ Recv peer sort u → v ≡ u → w ≡ u → at ≡ entry_count a → node ≡ start places (at + 1) v → Adds a b (entries.Recv peer sort node ∷ []) [] [] → Lays b c places w → Lays a c places t
+pub recv_lays : (a b c : Draft) (places : Places) (peer : ℕ) (sort : Sort) (node at : ℕ) (t u v w : LocalType) → t ≡ Recv peer sort u → v ≡ u → w ≡ u → at ≡ row_count a → node ≡ start places (at + 1) v → Adds a b (rows.Recv peer sort node ∷ []) [] [] → Lays b c places w → Lays a c places t
 recv_lays a b c places peer sort node at t u v w is same next place from p q =
-    let node_is : node ≡ start places (entry_count a + 1) u = rw (← place, ← same) from in
-    let first = subst (λ (n : ℕ). Adds a b (entries.Recv peer sort n ∷ []) [] []) node_is p in
+    let node_is : node ≡ start places (row_count a + 1) u = rw (← place, ← same) from in
+    let first = subst (λ (n : ℕ). Adds a b (rows.Recv peer sort n ∷ []) [] []) node_is p in
     let rest = subst (λ (x : LocalType). Lays b c places x) next q in
-    subst (λ (x : LocalType). Lays a c places x) (sym is) (entry_first a b c places (entries.Recv peer sort (start places (entry_count a + 1) u)) u first rest)
+    subst (λ (x : LocalType). Lays a c places x) (sym is) (row_first a b c places (rows.Recv peer sort (start places (row_count a + 1) u)) u first rest)
 
 -- a branch and then the others
 pub branch_first : (a b c : Draft) (places : Places) (label : List ℕ) (u : LocalType) (others : Branches) → Lays a b places u → LaysBranches b c places others → LaysBranches a c places (More label u others)
 branch_first a b c places label u others p q =
-    adds_both a b c (all_entries places (entry_count a) (label_count a) u)
-    (branch_entries places (entry_count a + size u) (label_count a + length (all_labels u)) others)
-    (all_labels u) (branch_labels others) (all_targets places (entry_count a) u) (branch_targets places (entry_count a + size u) others) p
-    (branches_at b c places others (entry_count a + size u) (label_count a + length (all_labels u)) (entries_then a b places u p) (labels_then a b places u p) q)
+    adds_both a b c (all_rows places (row_count a) (label_count a) u)
+    (branch_rows places (row_count a + size u) (label_count a + length (all_labels u)) others)
+    (all_labels u) (branch_labels others) (all_targets places (row_count a) u) (branch_targets places (row_count a + size u) others) p
+    (branches_at b c places others (row_count a + size u) (label_count a + length (all_labels u)) (rows_then a b places u p) (labels_then a b places u p) q)
 
 -- the same, of a list of branches that begins so
 pub more_lays : (a b c : Draft) (places : Places) (label : List ℕ) (bs : Branches) (u v : LocalType) (others rest : Branches) → bs ≡ More label u others → v ≡ u → rest ≡ others → Lays a b places v → LaysBranches b c places rest → LaysBranches a c places bs
@@ -104,12 +104,12 @@ more_lays a b c places label bs u v others rest is same left p q =
     subst (λ (x : Branches). LaysBranches a c places x) (sym is) (branch_first a b c places label u others first then)
 
 -- what fits for a type and then for other branches, fits for those once the type is laid out
-pub fits_then : (a b : Draft) (places : Places) (label : List ℕ) (bs : Branches) (u v : LocalType) (others rest : Branches) → bs ≡ More label u others → v ≡ u → rest ≡ others → Lays a b places v → entry_count a + branch_size bs ≤ 256 → label_count a + length (branch_labels bs) ≤ 256 → (entry_count b + branch_size rest ≤ 256) × (label_count b + length (branch_labels rest) ≤ 256)
+pub fits_then : (a b : Draft) (places : Places) (label : List ℕ) (bs : Branches) (u v : LocalType) (others rest : Branches) → bs ≡ More label u others → v ≡ u → rest ≡ others → Lays a b places v → row_count a + branch_size bs ≤ 256 → label_count a + length (branch_labels bs) ≤ 256 → (row_count b + branch_size rest ≤ 256) × (label_count b + length (branch_labels rest) ≤ 256)
 fits_then a b places label bs u v others rest is same left p f g =
     let laid = subst (λ (x : LocalType). Lays a b places x) same p in
-    let fits : entry_count a + branch_size (More label u others) ≤ 256 = subst (λ (x : Branches). entry_count a + branch_size x ≤ 256) is f in
+    let fits : row_count a + branch_size (More label u others) ≤ 256 = subst (λ (x : Branches). row_count a + branch_size x ≤ 256) is f in
     let fits_labels : label_count a + length (branch_labels (More label u others)) ≤ 256 = subst (λ (x : Branches). label_count a + length (branch_labels x) ≤ 256) is g in (
-      subst (λ (x : Branches). entry_count b + branch_size x ≤ 256) (sym left) (omega (arith, entries_then a b places u laid, fits)),
+      subst (λ (x : Branches). row_count b + branch_size x ≤ 256) (sym left) (omega (arith, rows_then a b places u laid, fits)),
       subst (λ (x : Branches). label_count b + length (branch_labels x) ≤ 256) (sym left) (omega (arith, labels_then a b places u laid, fits_labels, length-append (all_labels u) (branch_labels others))),
     )
 

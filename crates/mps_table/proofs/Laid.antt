@@ -14,14 +14,14 @@ use Rattle.mps_local.specs.Shape.{node_count, branch_nodes}
 use Rattle.mps_local.specs.Unfolding.{unfolded}
 use Rattle.mps_local.proofs.Equal.{name_same, name_is, name_turned}
 use Rattle.mps_local.proofs.Filling.{Env, put, filled, filled_in, AreWhole, whole_put, whole_filled, loop_unfolds, filled_same}
-use Rattle.mps_table.specs.declared.entry.Entry.{Entry}
-use Rattle.mps_table.specs.declared.entry.Entry.TheVariants as entries
+use Rattle.mps_table.specs.declared.row.TableRow.{TableRow}
+use Rattle.mps_table.specs.declared.row.TableRow.TheVariants as rows
 use Rattle.mps_table.specs.Graph.{Graph, IsWithin, LeadsWithin, IsSound}
-use Rattle.mps_table.specs.Standing.{HasFrom, StandsIn, StandFrom, HasBranches, AreEntriesOf, StandsFor}
-use Rattle.mps_table.specs.Laying.{size, branch_size, all_labels, branch_labels, Places, put_node, start, starts, all_targets, branch_targets, all_entries, branch_entries}
+use Rattle.mps_table.specs.Standing.{HasFrom, StandsIn, StandFrom, HasBranches, AreRowsOf, StandsFor}
+use Rattle.mps_table.specs.Laying.{size, branch_size, all_labels, branch_labels, Places, put_node, start, starts, all_targets, branch_targets, all_rows, branch_rows}
 
 abbrev mutual
-  -- the types of the entries: what each action or end of the type is, with closed types in the places of its variables
+  -- the types of the rows: what each action or end of the type is, with closed types in the places of its variables
   pub flat : Env → LocalType → List LocalType
   flat env End = End ∷ []
   flat env (Var x) = []
@@ -171,11 +171,11 @@ labels-filled_in : (env : Env) (b : Branches) → labels (filled_in env b) ≡ l
 labels-filled_in env NoMore = refl
 labels-filled_in env (More label u others) = ap (λ (ls : List (List ℕ)). label ∷ ls) (labels-filled_in env others)
 
-both_entries : (g : Graph) (types : List LocalType) (xs ys : List Entry) (ts us : List LocalType) → AreEntriesOf g types xs ts → AreEntriesOf g types ys us → AreEntriesOf g types (xs ++ ys) (ts ++ us)
-both_entries g types [] ys [] us a b = b
-both_entries g types [] ys (t ∷ ts) us a b = absurd a
-both_entries g types (x ∷ xs) ys [] us a b = absurd a
-both_entries g types (x ∷ xs) ys (t ∷ ts) us a b = (a.0, both_entries g types xs ys ts us a.1 b)
+both_rows : (g : Graph) (types : List LocalType) (xs ys : List TableRow) (ts us : List LocalType) → AreRowsOf g types xs ts → AreRowsOf g types ys us → AreRowsOf g types (xs ++ ys) (ts ++ us)
+both_rows g types [] ys [] us a b = b
+both_rows g types [] ys (t ∷ ts) us a b = absurd a
+both_rows g types (x ∷ xs) ys [] us a b = absurd a
+both_rows g types (x ∷ xs) ys (t ∷ ts) us a b = (a.0, both_rows g types xs ys ts us a.1 b)
 
 put_agrees : (types : List LocalType) (b : Bool) (n m : ℕ) (t u : LocalType) → StandsIn types n t → (b ≡ false → StandsIn types m u) → StandsIn types (cond b n m) (cond b t u)
 put_agrees types true n m t u f g = f
@@ -187,33 +187,33 @@ rec_agrees types places env bound at x u w a g c h z e =
     put_agrees types (bytes_eq z x) (start places at u) (places z) (filled env (Rec x u)) (env z)
     (starts_stand types places env bound at (Rec x u) w a g c h) (λ f. a z (rw f at e))
 
--- a choice's labels and the nodes after them are where its entry says
+-- a choice's labels and the nodes after them are where its row says
 choice_stands : (g : Graph) (types : List LocalType) (places : Places) (env : Env) (bound : List (List ℕ)) (at first : ℕ) (b : Branches) → AreWhole env → Agree types bound places env → are_guarded b ≡ true → are_closed bound b ≡ true → HasFrom types at (flat_in env b) → HasFrom g.labels first (labels b) → HasFrom g.targets first (starts places at b) → HasBranches g types first (length (labels b)) (filled_in env b)
 choice_stands g types places env bound at first b w a gs cs h k l =
     record { as_many = ap length (sym (labels-filled_in env b)); labels = subst (λ (ls : List (List ℕ)). HasFrom g.labels first ls) (sym (labels-filled_in env b)) k; targets = branches_stand types g.targets places env bound at first b w a gs cs h l }
 
 mutual
-  -- the entries of a closed and guarded type are those of its parts, wherever they stand
-  pub entries_laid : (g : Graph) (types : List LocalType) (places : Places) (env : Env) (bound : List (List ℕ)) (at first : ℕ) (t : LocalType) → AreWhole env → Agree types bound places env → is_guarded t ≡ true → is_closed bound t ≡ true → HasFrom types at (flat env t) → HasFrom g.labels first (all_labels t) → HasFrom g.targets first (all_targets places at t) → AreEntriesOf g types (all_entries places at first t) (flat env t)
-  entries_laid g types places env bound at first End w a gs cs h k l = (refl, tt)
-  entries_laid g types places env bound at first (Var x) w a gs cs h k l = tt
-  entries_laid g types places env bound at first (Rec x u) w a gs cs h k l =
+  -- the rows of a closed and guarded type are those of its parts, wherever they stand
+  pub rows_laid : (g : Graph) (types : List LocalType) (places : Places) (env : Env) (bound : List (List ℕ)) (at first : ℕ) (t : LocalType) → AreWhole env → Agree types bound places env → is_guarded t ≡ true → is_closed bound t ≡ true → HasFrom types at (flat env t) → HasFrom g.labels first (all_labels t) → HasFrom g.targets first (all_targets places at t) → AreRowsOf g types (all_rows places at first t) (flat env t)
+  rows_laid g types places env bound at first End w a gs cs h k l = (refl, tt)
+  rows_laid g types places env bound at first (Var x) w a gs cs h k l = tt
+  rows_laid g types places env bound at first (Rec x u) w a gs cs h k l =
       let t = filled env (Rec x u) in
-      entries_laid g types (put_node x (start places at u) places) (put x t env) (x ∷ bound) at first u
+      rows_laid g types (put_node x (start places at u) places) (put x t env) (x ∷ bound) at first u
       (whole_put x t env (whole_filled env w (Rec x u)) w)
       (rec_agrees types places env bound at x u w a gs cs h)
       (guard_of x u gs).1 cs h k l
-  entries_laid g types places env bound at first (Send peer sort u) w a gs cs h k l =
+  rows_laid g types places env bound at first (Send peer sort u) w a gs cs h k l =
       let rest = has_at types (suc at) (at + 1) (flat env u) (sym (add-one at)) h.1 in (
         (filled env u, refl, starts_stand types places env bound (at + 1) u w a gs cs rest),
-        entries_laid g types places env bound (at + 1) first u w a gs cs rest k l,
+        rows_laid g types places env bound (at + 1) first u w a gs cs rest k l,
       )
-  entries_laid g types places env bound at first (Recv peer sort u) w a gs cs h k l =
+  rows_laid g types places env bound at first (Recv peer sort u) w a gs cs h k l =
       let rest = has_at types (suc at) (at + 1) (flat env u) (sym (add-one at)) h.1 in (
         (filled env u, refl, starts_stand types places env bound (at + 1) u w a gs cs rest),
-        entries_laid g types places env bound (at + 1) first u w a gs cs rest k l,
+        rows_laid g types places env bound (at + 1) first u w a gs cs rest k l,
       )
-  entries_laid g types places env bound at first (Select peer b) w a gs cs h k l =
+  rows_laid g types places env bound at first (Select peer b) w a gs cs h k l =
       let rest = has_at types (suc at) (at + 1) (flat_in env b) (sym (add-one at)) h.1 in
       let ks = has_both g.labels first (labels b) (branch_labels b) k in
       let ls = has_both g.targets first (starts places (at + 1) b) (branch_targets places (at + 1) b) l in (
@@ -221,7 +221,7 @@ mutual
         branches_laid g types places env bound (at + 1) (first + length (labels b)) b w a gs cs rest ks.1
             (has_at g.targets (first + length (starts places (at + 1) b)) (first + length (labels b)) (branch_targets places (at + 1) b) (ap (λ (n : ℕ). first + n) (length-starts places (at + 1) b)) ls.1),
       )
-  entries_laid g types places env bound at first (Branch peer b) w a gs cs h k l =
+  rows_laid g types places env bound at first (Branch peer b) w a gs cs h k l =
       let rest = has_at types (suc at) (at + 1) (flat_in env b) (sym (add-one at)) h.1 in
       let ks = has_both g.labels first (labels b) (branch_labels b) k in
       let ls = has_both g.targets first (starts places (at + 1) b) (branch_targets places (at + 1) b) l in (
@@ -230,7 +230,7 @@ mutual
             (has_at g.targets (first + length (starts places (at + 1) b)) (first + length (labels b)) (branch_targets places (at + 1) b) (ap (λ (n : ℕ). first + n) (length-starts places (at + 1) b)) ls.1),
       )
 
-  branches_laid : (g : Graph) (types : List LocalType) (places : Places) (env : Env) (bound : List (List ℕ)) (at first : ℕ) (b : Branches) → AreWhole env → Agree types bound places env → are_guarded b ≡ true → are_closed bound b ≡ true → HasFrom types at (flat_in env b) → HasFrom g.labels first (branch_labels b) → HasFrom g.targets first (branch_targets places at b) → AreEntriesOf g types (branch_entries places at first b) (flat_in env b)
+  branches_laid : (g : Graph) (types : List LocalType) (places : Places) (env : Env) (bound : List (List ℕ)) (at first : ℕ) (b : Branches) → AreWhole env → Agree types bound places env → are_guarded b ≡ true → are_closed bound b ≡ true → HasFrom types at (flat_in env b) → HasFrom g.labels first (branch_labels b) → HasFrom g.targets first (branch_targets places at b) → AreRowsOf g types (branch_rows places at first b) (flat_in env b)
   branches_laid g types places env bound at first NoMore w a gs cs h k l = tt
   branches_laid g types places env bound at first (More label u others) w a gs cs h k l =
       let gp = and_parts (is_guarded u) (are_guarded others) gs in
@@ -238,8 +238,8 @@ mutual
       let hs = has_both types at (flat env u) (flat_in env others) h in
       let ks = has_both g.labels first (all_labels u) (branch_labels others) k in
       let ls = has_both g.targets first (all_targets places at u) (branch_targets places (at + size u) others) l in
-      both_entries g types (all_entries places at first u) (branch_entries places (at + size u) (first + length (all_labels u)) others) (flat env u) (flat_in env others)
-      (entries_laid g types places env bound at first u w a gp.0 cp.0 hs.0 ks.0 ls.0)
+      both_rows g types (all_rows places at first u) (branch_rows places (at + size u) (first + length (all_labels u)) others) (flat env u) (flat_in env others)
+      (rows_laid g types places env bound at first u w a gp.0 cp.0 hs.0 ks.0 ls.0)
       (branches_laid g types places env bound (at + size u) (first + length (all_labels u)) others w a gp.1 cp.1
       (has_at types (at + length (flat env u)) (at + size u) (flat_in env others) (ap (λ (n : ℕ). at + n) (length-flat env u)) hs.1)
       ks.1
@@ -254,47 +254,47 @@ has_all [] = tt
 has_all (x ∷ xs) = (refl, has_behind x xs 0 xs (has_all xs))
 
 -- what is laid out from the start is a table of the type
-pub laid_stands : (g : Graph) (places : Places) (t : LocalType) → is_closed [] t ≡ true → is_guarded t ≡ true → g.entries ≡ all_entries places 0 0 t → g.labels ≡ all_labels t → g.targets ≡ all_targets places 0 t → g.first ≡ start places 0 t → StandsFor g g.first t
+pub laid_stands : (g : Graph) (places : Places) (t : LocalType) → is_closed [] t ≡ true → is_guarded t ≡ true → g.rows ≡ all_rows places 0 0 t → g.labels ≡ all_labels t → g.targets ≡ all_targets places 0 t → g.first ≡ start places 0 t → StandsFor g g.first t
 laid_stands g places t c guarded e l m f =
     let env : Env = λ z. End in
     let types = flat env t in
     let whole : AreWhole env = λ z x s. refl in
     let agree : Agree types [] places env = λ z k. absurd (let bad : false ≡ true = k in cc) in
     let same : filled env t ≡ t = filled_same env [] (λ z k. absurd (let bad : false ≡ true = k in cc)) t c in
-    let laid = entries_laid g types places env [] 0 0 t whole agree guarded c (has_all types)
+    let laid = rows_laid g types places env [] 0 0 t whole agree guarded c (has_all types)
     (subst (λ (xs : List (List ℕ)). HasFrom xs 0 (all_labels t)) (sym l) (has_all (all_labels t)))
     (subst (λ (xs : List ℕ). HasFrom xs 0 (all_targets places 0 t)) (sym m) (has_all (all_targets places 0 t))) in
     let stands = starts_stand types places env [] 0 t whole agree guarded c (has_all types) in (
       types,
-      subst (λ (xs : List Entry). AreEntriesOf g types xs types) (sym e) laid,
+      subst (λ (xs : List TableRow). AreRowsOf g types xs types) (sym e) laid,
       subst (λ (n : ℕ). StandsIn types n t) (sym f) (subst (λ (u : LocalType). StandsIn types (start places 0 t) u) same stands),
     )
 
-both_within : (many : ℕ) (xs ys : List Entry) → AllByRecursion (IsWithin many) xs → AllByRecursion (IsWithin many) ys → AllByRecursion (IsWithin many) (xs ++ ys)
+both_within : (many : ℕ) (xs ys : List TableRow) → AllByRecursion (IsWithin many) xs → AllByRecursion (IsWithin many) ys → AllByRecursion (IsWithin many) (xs ++ ys)
 both_within many [] ys a b = b
 both_within many (x ∷ xs) ys a b = (a.0, both_within many xs ys a.1 b)
 
 mutual
   -- each choice has its labels among so many, where all labels are
-  entries_within : (many : ℕ) (places : Places) (at first : ℕ) (t : LocalType) → first + length (all_labels t) ≤ many → AllByRecursion (IsWithin many) (all_entries places at first t)
-  entries_within many places at first End h = (tt, tt)
-  entries_within many places at first (Var x) h = tt
-  entries_within many places at first (Rec x u) h = entries_within many (put_node x (start places at u) places) at first u h
-  entries_within many places at first (Send peer sort u) h = (tt, entries_within many places (at + 1) first u h)
-  entries_within many places at first (Recv peer sort u) h = (tt, entries_within many places (at + 1) first u h)
-  entries_within many places at first (Select peer b) h =
+  rows_within : (many : ℕ) (places : Places) (at first : ℕ) (t : LocalType) → first + length (all_labels t) ≤ many → AllByRecursion (IsWithin many) (all_rows places at first t)
+  rows_within many places at first End h = (tt, tt)
+  rows_within many places at first (Var x) h = tt
+  rows_within many places at first (Rec x u) h = rows_within many (put_node x (start places at u) places) at first u h
+  rows_within many places at first (Send peer sort u) h = (tt, rows_within many places (at + 1) first u h)
+  rows_within many places at first (Recv peer sort u) h = (tt, rows_within many places (at + 1) first u h)
+  rows_within many places at first (Select peer b) h =
       let k = length-append (labels b) (branch_labels b) in
       (omega arith, branches_within many places (at + 1) (first + length (labels b)) b (omega arith))
-  entries_within many places at first (Branch peer b) h =
+  rows_within many places at first (Branch peer b) h =
       let k = length-append (labels b) (branch_labels b) in
       (omega arith, branches_within many places (at + 1) (first + length (labels b)) b (omega arith))
 
-  branches_within : (many : ℕ) (places : Places) (at first : ℕ) (b : Branches) → first + length (branch_labels b) ≤ many → AllByRecursion (IsWithin many) (branch_entries places at first b)
+  branches_within : (many : ℕ) (places : Places) (at first : ℕ) (b : Branches) → first + length (branch_labels b) ≤ many → AllByRecursion (IsWithin many) (branch_rows places at first b)
   branches_within many places at first NoMore h = tt
   branches_within many places at first (More label u others) h =
       let k = length-append (all_labels u) (branch_labels others) in
-      both_within many (all_entries places at first u) (branch_entries places (at + size u) (first + length (all_labels u)) others)
-      (entries_within many places at first u (omega arith))
+      both_within many (all_rows places at first u) (branch_rows places (at + size u) (first + length (all_labels u)) others)
+      (rows_within many places at first u (omega arith))
       (branches_within many places (at + size u) (first + length (all_labels u)) others (omega arith))
 
 both_known : (n : ℕ) (xs ys : List ℕ) → AllByRecursion (λ m. m < n) xs → AllByRecursion (λ m. m < n) ys → AllByRecursion (λ m. m < n) (xs ++ ys)
@@ -348,45 +348,45 @@ mutual
       (branch_targets_known types places env bound (at + size u) others w a gs.1 cs.1
       (has_at types (at + length (flat env u)) (at + size u) (flat_in env others) (ap (λ (n : ℕ). at + n) (length-flat env u)) hs.1))
 
--- entries of types lead to nodes
-entries_lead : (g : Graph) (types : List LocalType) (es : List Entry) (ts : List LocalType) → AreEntriesOf g types es ts → AllByRecursion (LeadsWithin (length types)) es
-entries_lead g types [] [] a = tt
-entries_lead g types [] (t ∷ ts) a = absurd a
-entries_lead g types (e ∷ es) [] a = absurd a
-entries_lead g types (entries.End ∷ es) (t ∷ ts) a = (tt, entries_lead g types es ts a.1)
-entries_lead g types (entries.Send peer sort next ∷ es) (t ∷ ts) a =
-    (slice_get_within types next (unfolded a.0.0) a.0.2, entries_lead g types es ts a.1)
-entries_lead g types (entries.Recv peer sort next ∷ es) (t ∷ ts) a =
-    (slice_get_within types next (unfolded a.0.0) a.0.2, entries_lead g types es ts a.1)
-entries_lead g types (entries.Select peer first count ∷ es) (t ∷ ts) a = (tt, entries_lead g types es ts a.1)
-entries_lead g types (entries.Branch peer first count ∷ es) (t ∷ ts) a = (tt, entries_lead g types es ts a.1)
+-- rows of types lead to nodes
+rows_lead : (g : Graph) (types : List LocalType) (es : List TableRow) (ts : List LocalType) → AreRowsOf g types es ts → AllByRecursion (LeadsWithin (length types)) es
+rows_lead g types [] [] a = tt
+rows_lead g types [] (t ∷ ts) a = absurd a
+rows_lead g types (e ∷ es) [] a = absurd a
+rows_lead g types (rows.End ∷ es) (t ∷ ts) a = (tt, rows_lead g types es ts a.1)
+rows_lead g types (rows.Send peer sort next ∷ es) (t ∷ ts) a =
+    (slice_get_within types next (unfolded a.0.0) a.0.2, rows_lead g types es ts a.1)
+rows_lead g types (rows.Recv peer sort next ∷ es) (t ∷ ts) a =
+    (slice_get_within types next (unfolded a.0.0) a.0.2, rows_lead g types es ts a.1)
+rows_lead g types (rows.Select peer first count ∷ es) (t ∷ ts) a = (tt, rows_lead g types es ts a.1)
+rows_lead g types (rows.Branch peer first count ∷ es) (t ∷ ts) a = (tt, rows_lead g types es ts a.1)
 
-as_many : (g : Graph) (types : List LocalType) (es : List Entry) (ts : List LocalType) → AreEntriesOf g types es ts → length ts ≡ length es
+as_many : (g : Graph) (types : List LocalType) (es : List TableRow) (ts : List LocalType) → AreRowsOf g types es ts → length ts ≡ length es
 as_many g types [] [] a = refl
 as_many g types [] (t ∷ ts) a = absurd a
 as_many g types (e ∷ es) [] a = absurd a
 as_many g types (e ∷ es) (t ∷ ts) a = ap suc (as_many g types es ts a.1)
 
 -- what is laid out of a closed and guarded type is a sound table
-pub laid_sound : (t : LocalType) → is_closed [] t ≡ true → is_guarded t ≡ true → IsSound (all_entries nowhere 0 0 t) (all_labels t) (all_targets nowhere 0 t) (start nowhere 0 t)
+pub laid_sound : (t : LocalType) → is_closed [] t ≡ true → is_guarded t ≡ true → IsSound (all_rows nowhere 0 0 t) (all_labels t) (all_targets nowhere 0 t) (start nowhere 0 t)
 laid_sound t c guarded =
-    let g : Graph = record { entries = all_entries nowhere 0 0 t; labels = all_labels t; targets = all_targets nowhere 0 t; first = start nowhere 0 t } in
+    let g : Graph = record { rows = all_rows nowhere 0 0 t; labels = all_labels t; targets = all_targets nowhere 0 t; first = start nowhere 0 t } in
     let env : Env = λ z. End in
     let types = flat env t in
     let whole : AreWhole env = λ z x s. refl in
     let agree : Agree types [] nowhere env = λ z k. absurd (let bad : false ≡ true = k in cc) in
-    let laid = entries_laid g types nowhere env [] 0 0 t whole agree guarded c (has_all types) (has_all (all_labels t)) (has_all (all_targets nowhere 0 t)) in
-    let many = as_many g types (all_entries nowhere 0 0 t) types laid in
+    let laid = rows_laid g types nowhere env [] 0 0 t whole agree guarded c (has_all types) (has_all (all_labels t)) (has_all (all_targets nowhere 0 t)) in
+    let many = as_many g types (all_rows nowhere 0 0 t) types laid in
     record {
       paired = sym (length-all_targets nowhere 0 t);
-      within = entries_within (length (all_labels t)) nowhere 0 0 t (omega arith);
-      leads = subst (λ (n : ℕ). AllByRecursion (LeadsWithin n) (all_entries nowhere 0 0 t)) many (entries_lead g types (all_entries nowhere 0 0 t) types laid);
+      within = rows_within (length (all_labels t)) nowhere 0 0 t (omega arith);
+      leads = subst (λ (n : ℕ). AllByRecursion (LeadsWithin n) (all_rows nowhere 0 0 t)) many (rows_lead g types (all_rows nowhere 0 0 t) types laid);
       targets_known = subst (λ (n : ℕ). AllByRecursion (λ m. m < n) (all_targets nowhere 0 t)) many (targets_known types nowhere env [] 0 t whole agree guarded c (has_all types));
       first_known = subst (λ (n : ℕ). start nowhere 0 t < n) many (slice_get_within types (start nowhere 0 t) (unfolded (filled env t)) (starts_stand types nowhere env [] 0 t whole agree guarded c (has_all types)));
     }
 
 mutual
-  -- it has no more entries and fewer labels than the type has nodes
+  -- it has no more rows and fewer labels than the type has nodes
   pub size_small : (t : LocalType) → (size t ≤ node_count t) × (length (all_labels t) < node_count t)
   size_small End = (omega arith, omega arith)
   size_small (Var x) = (omega arith, omega arith)

@@ -9,14 +9,14 @@ use Rattle.mps_local.specs.LocalFaults.{Place, places, branch_places}
 use Rattle.mps_table.specs.declared.laying.Draft.{Draft}
 use Rattle.mps_table.specs.Drafts.{IsLaidOut, nowhere}
 use Rattle.mps_table.specs.Laying.{size, branch_size, all_labels, branch_labels}
-use Rattle.mps_table.specs.Sizes.{has_entry, node_labels, acts_and_ends, labels_of_choices}
-use Rattle.mps_table.proofs.Drafted.{length-all_entries}
+use Rattle.mps_table.specs.Sizes.{has_row, node_labels, acts_and_ends, labels_of_choices}
+use Rattle.mps_table.proofs.Drafted.{length-all_rows}
 
 abbrev acts : List Place → List Place
-acts ps = filter (λ p. has_entry p.node) ps
+acts ps = filter (λ p. has_row p.node) ps
 
 mutual
-  -- a type has as many actions and ends as it has entries
+  -- a type has as many actions and ends as it has rows
   as_many : (above : List LocalType) (t : LocalType) → length (acts (places above t)) ≡ size t
   as_many above End = refl
   as_many above (Var x) = refl
@@ -31,7 +31,7 @@ mutual
   branches_as_many above (More label u others) =
       omega (
         arith,
-        ap length (filter-append (λ p. has_entry p.node) (places above u) (branch_places above others)),
+        ap length (filter-append (λ p. has_row p.node) (places above u) (branch_places above others)),
         length-append (acts (places above u)) (acts (branch_places above others)),
         as_many above u,
         branches_as_many above others,
@@ -59,9 +59,9 @@ mutual
       let rest = same_branch_labels above others in
       cc (both, one, rest)
 
--- the draft of a type has an entry for each action and end
-pub draft_entries : (d : Draft) (node : ℕ) (t : LocalType) → IsLaidOut d node t → length d.entries.items ≡ length (acts_and_ends t)
-draft_entries d node t p = ap length p.entries ∙ length-all_entries nowhere 0 0 t ∙ sym (as_many [] t)
+-- the draft of a type has a row for each action and end
+pub draft_rows : (d : Draft) (node : ℕ) (t : LocalType) → IsLaidOut d node t → length d.rows.items ≡ length (acts_and_ends t)
+draft_rows d node t p = ap length p.rows ∙ length-all_rows nowhere 0 0 t ∙ sym (as_many [] t)
 
 -- and the labels of its choices
 pub draft_labels : (d : Draft) (node : ℕ) (t : LocalType) → IsLaidOut d node t → length d.labels.items ≡ length (labels_of_choices t)

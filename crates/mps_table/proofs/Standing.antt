@@ -1,4 +1,4 @@
--- What an entry says of the types that its node stands for.
+-- What a row says of the types that its node stands for.
 use Rattle.std.proofs.Common.{◌≡◌, ℕ, zero, suc, ◌+◌, ◌<◌, List, [], ◌∷◌, length, length-take, take, drop, Option, None, Some, refl, sym, ap, subst, arith, add-zero, ◌-◌}
 use Rattle.std.specs.Prelude.{slice_get, slice_range}
 use Rattle.std.specs.List.{AllByRecursion}
@@ -8,11 +8,11 @@ use Rattle.mps_local.specs.Actions.{Head, Ends, Sends, Receives, Chooses, Picks,
 use Rattle.mps_local.proofs.Leading.{paired}
 use Rattle.std.proofs.lemmas.Option.{slice_get_within}
 use Rattle.mps_local.specs.Unfolding.{unfolded}
-use Rattle.mps_table.specs.declared.entry.Entry.{Entry}
-use Rattle.mps_table.specs.declared.entry.Entry.TheVariants.{End, Send, Recv, Select, Branch}
+use Rattle.mps_table.specs.declared.row.TableRow.{TableRow}
+use Rattle.mps_table.specs.declared.row.TableRow.TheVariants.{End, Send, Recv, Select, Branch}
 use Rattle.mps_table.specs.Expects.{Allows}
 use Rattle.mps_table.specs.Graph.{Graph, IsNode, HasNext, shown, next_of, IsFollowed}
-use Rattle.mps_table.specs.Standing.{HasFrom, StandsIn, StandFrom, HasBranches, IsEntryOf, AreEntriesOf, StandsFor}
+use Rattle.mps_table.specs.Standing.{HasFrom, StandsIn, StandFrom, HasBranches, IsRowOf, AreRowsOf, StandsFor}
 
 -- what all are, the one at that place is
 pub all_at : {A : Type 0} (P : A → Type 0) (xs : List A) (n : ℕ) (x : A) → AllByRecursion P xs → slice_get xs n ≡ Some x → P x
@@ -20,15 +20,15 @@ all_at P [] n x a e = absurd cc
 all_at P (y ∷ xs) zero x a e = subst P (let k : y ≡ x = cc in k) a.0
 all_at P (y ∷ xs) (suc n) x a e = all_at P xs n x a.1 e
 
--- the entry of a node is that of its type
-pub entry_at : (g : Graph) (types : List LocalType) (entries : List Entry) (ts : List LocalType) (n : ℕ) (entry : Entry) (t : LocalType) → AreEntriesOf g types entries ts → slice_get entries n ≡ Some entry → slice_get ts n ≡ Some t → IsEntryOf g types entry t
-entry_at g types [] ts n entry t a e f = absurd cc
-entry_at g types (x ∷ xs) [] n entry t a e f = absurd cc
-entry_at g types (x ∷ xs) (u ∷ us) zero entry t a e f =
-    let k : x ≡ entry = cc in
+-- the row of a node is that of its type
+pub row_at : (g : Graph) (types : List LocalType) (rows : List TableRow) (ts : List LocalType) (n : ℕ) (row : TableRow) (t : LocalType) → AreRowsOf g types rows ts → slice_get rows n ≡ Some row → slice_get ts n ≡ Some t → IsRowOf g types row t
+row_at g types [] ts n row t a e f = absurd cc
+row_at g types (x ∷ xs) [] n row t a e f = absurd cc
+row_at g types (x ∷ xs) (u ∷ us) zero row t a e f =
+    let k : x ≡ row = cc in
     let l : u ≡ t = cc in
-    subst (λ (y : LocalType). IsEntryOf g types entry y) l (subst (λ (y : Entry). IsEntryOf g types y u) k a.0)
-entry_at g types (x ∷ xs) (u ∷ us) (suc n) entry t a e f = entry_at g types xs us n entry t a.1 e f
+    subst (λ (y : LocalType). IsRowOf g types row y) l (subst (λ (y : TableRow). IsRowOf g types y u) k a.0)
+row_at g types (x ∷ xs) (u ∷ us) (suc n) row t a e f = row_at g types xs us n row t a.1 e f
 
 has_behind : {A : Type 0} (y : A) (ys : List A) (from : ℕ) (xs : List A) → HasFrom (y ∷ ys) (suc from) xs → HasFrom ys from xs
 has_behind y ys from [] h = tt
@@ -50,18 +50,18 @@ labels_shown g types first count b h =
     let size : (first + count) - first ≡ length (labels b) = omega (arith, h.as_many) in
     rw size (from_is g.labels first (labels b) h.labels)
 
--- what an entry shows is how its type begins
-entry_begins : (g : Graph) (types : List LocalType) (entry : Entry) (t : LocalType) → IsEntryOf g types entry t → Begins (shown g entry) t
-entry_begins g types End t h = h
-entry_begins g types (Send peer sort next) t h = (h.0, h.1)
-entry_begins g types (Recv peer sort next) t h = (h.0, h.1)
-entry_begins g types (Select peer first count) t h = (h.0, h.1, labels_shown g types first count h.0 h.2)
-entry_begins g types (Branch peer first count) t h = (h.0, h.1, labels_shown g types first count h.0 h.2)
+-- what a row shows is how its type begins
+row_begins : (g : Graph) (types : List LocalType) (row : TableRow) (t : LocalType) → IsRowOf g types row t → Begins (shown g row) t
+row_begins g types End t h = h
+row_begins g types (Send peer sort next) t h = (h.0, h.1)
+row_begins g types (Recv peer sort next) t h = (h.0, h.1)
+row_begins g types (Select peer first count) t h = (h.0, h.1, labels_shown g types first count h.0 h.2)
+row_begins g types (Branch peer first count) t h = (h.0, h.1, labels_shown g types first count h.0 h.2)
 
--- what a node's entry shows is how each type begins for which it stands
-pub begins : (g : Graph) (node : ℕ) (entry : Entry) (t : LocalType) → slice_get g.entries node ≡ Some entry → StandsFor g node t → Begins (shown g entry) (unfolded t)
-begins g node entry t e s =
-    entry_begins g s.0 entry (unfolded t) (entry_at g s.0 g.entries s.0 node entry (unfolded t) s.1 e s.2)
+-- what a node's row shows is how each type begins for which it stands
+pub begins : (g : Graph) (node : ℕ) (row : TableRow) (t : LocalType) → slice_get g.rows node ≡ Some row → StandsFor g node t → Begins (shown g row) (unfolded t)
+begins g node row t e s =
+    row_begins g s.0 row (unfolded t) (row_at g s.0 g.rows s.0 node row (unfolded t) s.1 e s.2)
 
 -- the node after the label of a place has the type after it
 target_at : (types : List LocalType) (targets : List ℕ) (first : ℕ) (ts : List LocalType) (place node : ℕ) (u : LocalType) → StandFrom types targets first ts → slice_get ts place ≡ Some u → slice_get targets (first + place) ≡ Some node → StandsIn types node u
@@ -74,76 +74,76 @@ target_at types targets first (t ∷ ts) zero node u s e f =
 target_at types targets first (t ∷ ts) (suc place) node u s e f =
     target_at types targets (suc first) ts place node u s.1 e (let k : first + suc place ≡ suc first + place = omega arith in rw k at f)
 
--- the node that follows an entry has the type that follows
-entry_follows : (g : Graph) (types : List LocalType) (choice : Option ℕ) (entry : Entry) (t u : LocalType) (node : ℕ) → IsEntryOf g types entry t → continuation t choice ≡ Some u → next_of g choice entry ≡ Some node → StandsIn types node u
-entry_follows g types None End t u node h e f = absurd cc
-entry_follows g types (Some place) End t u node h e f = absurd cc
-entry_follows g types None (Send peer sort next) t u node h e f =
+-- the node that follows a row has the type that follows
+row_follows : (g : Graph) (types : List LocalType) (choice : Option ℕ) (row : TableRow) (t u : LocalType) (node : ℕ) → IsRowOf g types row t → continuation t choice ≡ Some u → next_of g choice row ≡ Some node → StandsIn types node u
+row_follows g types None End t u node h e f = absurd cc
+row_follows g types (Some place) End t u node h e f = absurd cc
+row_follows g types None (Send peer sort next) t u node h e f =
     let same : Some h.0 ≡ Some u = (let k : continuation t None ≡ Some h.0 = rw h.1 refl in cc) in
     let l : h.0 ≡ u = cc in
     let m : next ≡ node = cc in
     subst (λ (n : ℕ). StandsIn types n u) m (subst (λ (y : LocalType). StandsIn types next y) l h.2)
-entry_follows g types (Some place) (Send peer sort next) t u node h e f = absurd cc
-entry_follows g types None (Recv peer sort next) t u node h e f =
+row_follows g types (Some place) (Send peer sort next) t u node h e f = absurd cc
+row_follows g types None (Recv peer sort next) t u node h e f =
     let same : Some h.0 ≡ Some u = (let k : continuation t None ≡ Some h.0 = rw h.1 refl in cc) in
     let l : h.0 ≡ u = cc in
     let m : next ≡ node = cc in
     subst (λ (n : ℕ). StandsIn types n u) m (subst (λ (y : LocalType). StandsIn types next y) l h.2)
-entry_follows g types (Some place) (Recv peer sort next) t u node h e f = absurd cc
-entry_follows g types None (Select peer first count) t u node h e f = absurd cc
-entry_follows g types (Some place) (Select peer first count) t u node h e f =
+row_follows g types (Some place) (Recv peer sort next) t u node h e f = absurd cc
+row_follows g types None (Select peer first count) t u node h e f = absurd cc
+row_follows g types (Some place) (Select peer first count) t u node h e f =
     target_at types g.targets first (nexts h.0) place node u h.2.targets (let k : slice_get (nexts h.0) place ≡ Some u = rw h.1 at e in k) f
-entry_follows g types None (Branch peer first count) t u node h e f = absurd cc
-entry_follows g types (Some place) (Branch peer first count) t u node h e f =
+row_follows g types None (Branch peer first count) t u node h e f = absurd cc
+row_follows g types (Some place) (Branch peer first count) t u node h e f =
     target_at types g.targets first (nexts h.0) place node u h.2.targets (let k : slice_get (nexts h.0) place ≡ Some u = rw h.1 at e in k) f
 
 -- the node that follows stands for what is left of each type for which the node stands
-pub follows : (g : Graph) (node after : ℕ) (choice : Option ℕ) (entry : Entry) (t u : LocalType) → slice_get g.entries node ≡ Some entry → next_of g choice entry ≡ Some after → StandsFor g node t → type_left t choice ≡ Some u → StandsFor g after u
-follows g node after choice entry t u e f s left =
-    (s.0, s.1, entry_follows g s.0 choice entry (unfolded t) u after (entry_at g s.0 g.entries s.0 node entry (unfolded t) s.1 e s.2) left f)
+pub follows : (g : Graph) (node after : ℕ) (choice : Option ℕ) (row : TableRow) (t u : LocalType) → slice_get g.rows node ≡ Some row → next_of g choice row ≡ Some after → StandsFor g node t → type_left t choice ≡ Some u → StandsFor g after u
+follows g node after choice row t u e f s left =
+    (s.0, s.1, row_follows g s.0 choice row (unfolded t) u after (row_at g s.0 g.rows s.0 node row (unfolded t) s.1 e s.2) left f)
 
 -- the same, of what is shown
-pub shown_begins : (g : Graph) (node : ℕ) (entry : Entry) (h : Head) (t : LocalType) → slice_get g.entries node ≡ Some entry → h ≡ shown g entry → StandsFor g node t → Begins h (unfolded t)
-shown_begins g node entry h t e f s = subst (λ (x : Head). Begins x (unfolded t)) (sym f) (begins g node entry t e s)
+pub shown_begins : (g : Graph) (node : ℕ) (row : TableRow) (h : Head) (t : LocalType) → slice_get g.rows node ≡ Some row → h ≡ shown g row → StandsFor g node t → Begins h (unfolded t)
+shown_begins g node row h t e f s = subst (λ (x : Head). Begins x (unfolded t)) (sym f) (begins g node row t e s)
 
--- each type has its entry
-entry_of : (g : Graph) (types : List LocalType) (entries : List Entry) (ts : List LocalType) (n : ℕ) (t : LocalType) → AreEntriesOf g types entries ts → slice_get ts n ≡ Some t → (entry : Entry) × (slice_get entries n ≡ Some entry) × IsEntryOf g types entry t
-entry_of g types [] [] n t a e = absurd cc
-entry_of g types [] (u ∷ us) n t a e = absurd a
-entry_of g types (x ∷ xs) [] n t a e = absurd a
-entry_of g types (x ∷ xs) (u ∷ us) zero t a e = (x, refl, subst (λ (y : LocalType). IsEntryOf g types x y) (let k : u ≡ t = cc in k) a.0)
-entry_of g types (x ∷ xs) (u ∷ us) (suc n) t a e = entry_of g types xs us n t a.1 e
+-- each type has its row
+row_of : (g : Graph) (types : List LocalType) (rows : List TableRow) (ts : List LocalType) (n : ℕ) (t : LocalType) → AreRowsOf g types rows ts → slice_get ts n ≡ Some t → (row : TableRow) × (slice_get rows n ≡ Some row) × IsRowOf g types row t
+row_of g types [] [] n t a e = absurd cc
+row_of g types [] (u ∷ us) n t a e = absurd a
+row_of g types (x ∷ xs) [] n t a e = absurd a
+row_of g types (x ∷ xs) (u ∷ us) zero t a e = (x, refl, subst (λ (y : LocalType). IsRowOf g types x y) (let k : u ≡ t = cc in k) a.0)
+row_of g types (x ∷ xs) (u ∷ us) (suc n) t a e = row_of g types xs us n t a.1 e
 
 -- a node that stands for a type is one of the table
 pub node_stands : (g : Graph) (node : ℕ) (t : LocalType) → StandsFor g node t → IsNode g node
 node_stands g node t s =
-    let entry = entry_of g s.0 g.entries s.0 node (unfolded t) s.1 s.2 in
-    slice_get_within g.entries node entry.0 entry.1
+    let row = row_of g s.0 g.rows s.0 node (unfolded t) s.1 s.2 in
+    slice_get_within g.rows node row.0 row.1
 
 place_within : (b : Branches) (place count : ℕ) (u : LocalType) → count ≡ length (labels b) → slice_get (nexts b) place ≡ Some u → place < count
 place_within b place count u e f = omega (arith, slice_get_within (nexts b) place u f, paired b)
 
--- an entry is followed where its type is
-entry_followed : (g : Graph) (types : List LocalType) (choice : Option ℕ) (entry : Entry) (t u : LocalType) → IsEntryOf g types entry t → continuation t choice ≡ Some u → IsFollowed choice entry
-entry_followed g types None End t u h e = absurd (let k : continuation local.End None ≡ Some u = rw h at e in cc)
-entry_followed g types (Some place) End t u h e = absurd (let k : continuation local.End (Some place) ≡ Some u = rw h at e in cc)
-entry_followed g types None (Send peer sort next) t u h e = tt
-entry_followed g types (Some place) (Send peer sort next) t u h e = absurd (let k : continuation (local.Send peer sort h.0) (Some place) ≡ Some u = rw h.1 at e in cc)
-entry_followed g types None (Recv peer sort next) t u h e = tt
-entry_followed g types (Some place) (Recv peer sort next) t u h e = absurd (let k : continuation (local.Recv peer sort h.0) (Some place) ≡ Some u = rw h.1 at e in cc)
-entry_followed g types None (Select peer first count) t u h e = absurd (let k : continuation (local.Select peer h.0) None ≡ Some u = rw h.1 at e in cc)
-entry_followed g types (Some place) (Select peer first count) t u h e =
+-- a row is followed where its type is
+row_followed : (g : Graph) (types : List LocalType) (choice : Option ℕ) (row : TableRow) (t u : LocalType) → IsRowOf g types row t → continuation t choice ≡ Some u → IsFollowed choice row
+row_followed g types None End t u h e = absurd (let k : continuation local.End None ≡ Some u = rw h at e in cc)
+row_followed g types (Some place) End t u h e = absurd (let k : continuation local.End (Some place) ≡ Some u = rw h at e in cc)
+row_followed g types None (Send peer sort next) t u h e = tt
+row_followed g types (Some place) (Send peer sort next) t u h e = absurd (let k : continuation (local.Send peer sort h.0) (Some place) ≡ Some u = rw h.1 at e in cc)
+row_followed g types None (Recv peer sort next) t u h e = tt
+row_followed g types (Some place) (Recv peer sort next) t u h e = absurd (let k : continuation (local.Recv peer sort h.0) (Some place) ≡ Some u = rw h.1 at e in cc)
+row_followed g types None (Select peer first count) t u h e = absurd (let k : continuation (local.Select peer h.0) None ≡ Some u = rw h.1 at e in cc)
+row_followed g types (Some place) (Select peer first count) t u h e =
     place_within h.0 place count u h.2.as_many (let k : slice_get (nexts h.0) place ≡ Some u = rw h.1 at e in k)
-entry_followed g types None (Branch peer first count) t u h e = absurd (let k : continuation (local.Branch peer h.0) None ≡ Some u = rw h.1 at e in cc)
-entry_followed g types (Some place) (Branch peer first count) t u h e =
+row_followed g types None (Branch peer first count) t u h e = absurd (let k : continuation (local.Branch peer h.0) None ≡ Some u = rw h.1 at e in cc)
+row_followed g types (Some place) (Branch peer first count) t u h e =
     place_within h.0 place count u h.2.as_many (let k : slice_get (nexts h.0) place ≡ Some u = rw h.1 at e in k)
 
 -- where something is left of the type, the node has a next one
 pub next_stands : (g : Graph) (node : ℕ) (choice : Option ℕ) (t u : LocalType) → StandsFor g node t → type_left t choice ≡ Some u → HasNext g node choice
 next_stands g node choice t u s e =
-    let entry = entry_of g s.0 g.entries s.0 node (unfolded t) s.1 s.2 in
-    let follows = entry_followed g s.0 choice entry.0 (unfolded t) u entry.2 e in
-    rw entry.1 follows
+    let row = row_of g s.0 g.rows s.0 node (unfolded t) s.1 s.2 in
+    let follows = row_followed g s.0 choice row.0 (unfolded t) u row.2 e in
+    rw row.1 follows
 
 -- a type begins in one way only
 pub head_begins : (h : Head) (t : LocalType) → Begins h t → first_action t ≡ h
@@ -158,8 +158,8 @@ range_within list first count place h =
     let k = length-take ((first + count) - first) (drop first list) in
     omega (arith, k)
 
--- what may follow what is shown of an entry, may follow the entry
-allowed : (g : Graph) (choice : Option ℕ) (entry : Entry) → Allows choice (shown g entry) → IsFollowed choice entry
+-- what may follow what is shown of a row, may follow the row
+allowed : (g : Graph) (choice : Option ℕ) (row : TableRow) → Allows choice (shown g row) → IsFollowed choice row
 allowed g None End h = h
 allowed g (Some place) End h = h
 allowed g None (Send peer sort next) h = tt
@@ -171,7 +171,7 @@ allowed g (Some place) (Select peer first count) h = range_within g.labels first
 allowed g None (Branch peer first count) h = h
 allowed g (Some place) (Branch peer first count) h = range_within g.labels first count place h
 
-pub next_allowed : (g : Graph) (node : ℕ) (entry : Entry) (h : Head) (choice : Option ℕ) → slice_get g.entries node ≡ Some entry → h ≡ shown g entry → Allows choice h → HasNext g node choice
-next_allowed g node entry h choice e f a =
-    let follows = allowed g choice entry (subst (λ (x : Head). Allows choice x) f a) in
+pub next_allowed : (g : Graph) (node : ℕ) (row : TableRow) (h : Head) (choice : Option ℕ) → slice_get g.rows node ≡ Some row → h ≡ shown g row → Allows choice h → HasNext g node choice
+next_allowed g node row h choice e f a =
+    let follows = allowed g choice row (subst (λ (x : Head). Allows choice x) f a) in
     rw e follows

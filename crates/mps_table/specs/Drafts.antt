@@ -1,10 +1,10 @@
 -- A table in the making.
 use Rattle.std.specs.Prelude.{◌≡◌, ℕ, List, ◌++◌, length}
 use Rattle.mps_local.specs.Local.{LocalType, Branches}
-use Rattle.mps_table.specs.declared.entry.Entry.{Entry}
+use Rattle.mps_table.specs.declared.row.TableRow.{TableRow}
 use Rattle.mps_table.specs.declared.laying.Bound.{Bound, Nothing, Inside'}
 use Rattle.mps_table.specs.declared.laying.Draft.{Draft}
-use Rattle.mps_table.specs.Laying.{Places, put_node, start, all_entries, branch_entries, all_labels, branch_labels, all_targets, branch_targets}
+use Rattle.mps_table.specs.Laying.{Places, put_node, start, all_rows, branch_rows, all_labels, branch_labels, all_targets, branch_targets}
 
 -- the nodes of the variables of the `rec`s around a tree, the nearest first
 abbrev pub places_of : Bound → Places
@@ -12,14 +12,14 @@ places_of Nothing z = 0
 places_of (Inside' name node p outer) z = put_node name.now node (places_of outer) z
 
 -- the new draft has these after what the old one has
-pub record Adds (old new : Draft) (es : List Entry) (ls : List (List ℕ)) (ns : List ℕ) : Type 0 where
-  pub entries : new.entries.items ≡ old.entries.items ++ es
+pub record Adds (old new : Draft) (es : List TableRow) (ls : List (List ℕ)) (ns : List ℕ) : Type 0 where
+  pub rows : new.rows.items ≡ old.rows.items ++ es
   pub labels : new.labels.items ≡ old.labels.items ++ ls
   pub targets : new.targets.items ≡ old.targets.items ++ ns
 
--- how many entries, and how many labels, the draft has
-abbrev pub entry_count : Draft → ℕ
-entry_count d = length d.entries.items
+-- how many rows, and how many labels, the draft has
+abbrev pub row_count : Draft → ℕ
+row_count d = length d.rows.items
 
 abbrev pub label_count : Draft → ℕ
 label_count d = length d.labels.items
@@ -27,12 +27,12 @@ label_count d = length d.labels.items
 -- the type is laid out after what the old draft has
 abbrev pub Lays : (old new : Draft) → Places → LocalType → Type 0
 Lays old new places t =
-    Adds old new (all_entries places (entry_count old) (label_count old) t) (all_labels t) (all_targets places (entry_count old) t)
+    Adds old new (all_rows places (row_count old) (label_count old) t) (all_labels t) (all_targets places (row_count old) t)
 
 -- the branches are
 abbrev pub LaysBranches : (old new : Draft) → Places → Branches → Type 0
 LaysBranches old new places b =
-    Adds old new (branch_entries places (entry_count old) (label_count old) b) (branch_labels b) (branch_targets places (entry_count old) b)
+    Adds old new (branch_rows places (row_count old) (label_count old) b) (branch_labels b) (branch_targets places (row_count old) b)
 
 -- where no variable is bound
 abbrev pub nowhere : Places
@@ -40,7 +40,7 @@ nowhere z = 0
 
 -- the type alone is laid out, and begins at that node
 pub record IsLaidOut (d : Draft) (node : ℕ) (t : LocalType) : Type 0 where
-  pub entries : d.entries.items ≡ all_entries nowhere 0 0 t
+  pub rows : d.rows.items ≡ all_rows nowhere 0 0 t
   pub labels : d.labels.items ≡ all_labels t
   pub targets : d.targets.items ≡ all_targets nowhere 0 t
   pub first : node ≡ start nowhere 0 t

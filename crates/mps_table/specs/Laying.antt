@@ -1,15 +1,15 @@
 -- A local type laid out as a table: actions and ends in preorder, each choice's own labels before those of its branches.
--- A `rec` has no entry: its node is that of its body, and a variable's that of its `rec`.
+-- A `rec` has no row: its node is that of its body, and a variable's that of its `rec`.
 use Rattle.std.specs.Prelude.{ℕ, ◌+◌, if◌then◌else◌, List, [], ◌∷◌, ◌++◌, length}
 use Rattle.std.specs.Str.{bytes_eq}
 use Rattle.mps_local.specs.Local as local
 use Rattle.mps_local.specs.Local.{LocalType, Branches}
 use Rattle.mps_local.specs.Actions.{labels}
-use Rattle.mps_table.specs.declared.entry.Entry.{Entry}
-use Rattle.mps_table.specs.declared.entry.Entry.TheVariants.{End, Send, Recv, Select, Branch}
+use Rattle.mps_table.specs.declared.row.TableRow.{TableRow}
+use Rattle.mps_table.specs.declared.row.TableRow.TheVariants.{End, Send, Recv, Select, Branch}
 
 abbrev mutual
-  -- how many entries a type has
+  -- how many rows a type has
   pub size : LocalType → ℕ
   size local.End = 1
   size (local.Var x) = 0
@@ -47,13 +47,13 @@ Places = List ℕ → ℕ
 abbrev pub put_node : List ℕ → ℕ → Places → Places
 put_node x node places z = if bytes_eq z x then node else places z
 
--- the node of a type whose entries begin at that place
+-- the node of a type whose rows begin at that place
 abbrev pub start : Places → ℕ → LocalType → ℕ
 start places at (local.Var x) = places x
 start places at (local.Rec x u) = start places at u
 start places at t = at
 
--- the nodes of branches whose entries begin at that place
+-- the nodes of branches whose rows begin at that place
 abbrev pub starts : Places → ℕ → Branches → List ℕ
 starts places at local.NoMore = []
 starts places at (local.More label u others) = start places at u ∷ starts places (at + size u) others
@@ -77,21 +77,21 @@ abbrev mutual
       all_targets places at u ++ branch_targets places (at + size u) others
 
 abbrev mutual
-  -- its entries, from that place on, with the labels from that place on
-  pub all_entries : Places → (at first : ℕ) → LocalType → List Entry
-  all_entries places at first local.End = End ∷ []
-  all_entries places at first (local.Var x) = []
-  all_entries places at first (local.Rec x u) = all_entries (put_node x (start places at u) places) at first u
-  all_entries places at first (local.Send peer sort u) =
-      Send peer sort (start places (at + 1) u) ∷ all_entries places (at + 1) first u
-  all_entries places at first (local.Recv peer sort u) =
-      Recv peer sort (start places (at + 1) u) ∷ all_entries places (at + 1) first u
-  all_entries places at first (local.Select peer branches) =
-      Select peer first (length (labels branches)) ∷ branch_entries places (at + 1) (first + length (labels branches)) branches
-  all_entries places at first (local.Branch peer branches) =
-      Branch peer first (length (labels branches)) ∷ branch_entries places (at + 1) (first + length (labels branches)) branches
+  -- its rows, from that place on, with the labels from that place on
+  pub all_rows : Places → (at first : ℕ) → LocalType → List TableRow
+  all_rows places at first local.End = End ∷ []
+  all_rows places at first (local.Var x) = []
+  all_rows places at first (local.Rec x u) = all_rows (put_node x (start places at u) places) at first u
+  all_rows places at first (local.Send peer sort u) =
+      Send peer sort (start places (at + 1) u) ∷ all_rows places (at + 1) first u
+  all_rows places at first (local.Recv peer sort u) =
+      Recv peer sort (start places (at + 1) u) ∷ all_rows places (at + 1) first u
+  all_rows places at first (local.Select peer branches) =
+      Select peer first (length (labels branches)) ∷ branch_rows places (at + 1) (first + length (labels branches)) branches
+  all_rows places at first (local.Branch peer branches) =
+      Branch peer first (length (labels branches)) ∷ branch_rows places (at + 1) (first + length (labels branches)) branches
 
-  pub branch_entries : Places → (at first : ℕ) → Branches → List Entry
-  branch_entries places at first local.NoMore = []
-  branch_entries places at first (local.More label u others) =
-      all_entries places at first u ++ branch_entries places (at + size u) (first + length (all_labels u)) others
+  pub branch_rows : Places → (at first : ℕ) → Branches → List TableRow
+  branch_rows places at first local.NoMore = []
+  branch_rows places at first (local.More label u others) =
+      all_rows places at first u ++ branch_rows places (at + size u) (first + length (all_labels u)) others

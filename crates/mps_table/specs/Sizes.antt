@@ -6,10 +6,10 @@ use Rattle.mps_local.specs.Actions.{labels}
 use Rattle.mps_local.specs.LocalFaults.{Place, places}
 
 -- whether a node of a type is an action or an end: it is neither a variable nor a `rec`
-abbrev pub has_entry : LocalType → Bool
-has_entry (local.Var x) = false
-has_entry (local.Rec x u) = false
-has_entry t = true
+abbrev pub has_row : LocalType → Bool
+has_row (local.Var x) = false
+has_row (local.Rec x u) = false
+has_row t = true
 
 -- the labels of a node, where it is a choice
 abbrev pub node_labels : LocalType → List (List ℕ)
@@ -19,7 +19,7 @@ node_labels t = []
 
 -- the actions and ends of a type
 abbrev pub acts_and_ends : LocalType → List Place
-acts_and_ends t = filter (λ p. has_entry p.node) (places [] t)
+acts_and_ends t = filter (λ p. has_row p.node) (places [] t)
 
 -- the labels of all its choices
 abbrev pub labels_of_choices : LocalType → List (List ℕ)

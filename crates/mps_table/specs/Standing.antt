@@ -4,8 +4,8 @@ use Rattle.mps_local.specs.Local as local
 use Rattle.mps_local.specs.Local.{LocalType, Branches}
 use Rattle.mps_local.specs.Actions as actions
 use Rattle.mps_local.specs.Unfolding.{unfolded}
-use Rattle.mps_table.specs.declared.entry.Entry.{Entry}
-use Rattle.mps_table.specs.declared.entry.Entry.TheVariants.{End, Send, Recv, Select, Branch}
+use Rattle.mps_table.specs.declared.row.TableRow.{TableRow}
+use Rattle.mps_table.specs.declared.row.TableRow.TheVariants.{End, Send, Recv, Select, Branch}
 use Rattle.mps_table.specs.Graph.{Graph}
 
 -- from that place on the list has these
@@ -29,23 +29,23 @@ pub record HasBranches (g : Graph) (types : List LocalType) (first count : ℕ) 
   pub labels : HasFrom g.labels first (actions.labels b)
   pub targets : StandFrom types g.targets first (actions.nexts b)
 
--- the entry says how the type begins, and its nodes have the types that follow
-abbrev pub IsEntryOf : Graph → List LocalType → Entry → LocalType → Type 0
-IsEntryOf g types End t = t ≡ local.End
-IsEntryOf g types (Send peer sort next) t = (u : LocalType) × (t ≡ local.Send peer sort u) × StandsIn types next u
-IsEntryOf g types (Recv peer sort next) t = (u : LocalType) × (t ≡ local.Recv peer sort u) × StandsIn types next u
-IsEntryOf g types (Select peer first count) t = (b : Branches) × (t ≡ local.Select peer b) × HasBranches g types first count b
-IsEntryOf g types (Branch peer first count) t = (b : Branches) × (t ≡ local.Branch peer b) × HasBranches g types first count b
+-- the row says how the type begins, and its nodes have the types that follow
+abbrev pub IsRowOf : Graph → List LocalType → TableRow → LocalType → Type 0
+IsRowOf g types End t = t ≡ local.End
+IsRowOf g types (Send peer sort next) t = (u : LocalType) × (t ≡ local.Send peer sort u) × StandsIn types next u
+IsRowOf g types (Recv peer sort next) t = (u : LocalType) × (t ≡ local.Recv peer sort u) × StandsIn types next u
+IsRowOf g types (Select peer first count) t = (b : Branches) × (t ≡ local.Select peer b) × HasBranches g types first count b
+IsRowOf g types (Branch peer first count) t = (b : Branches) × (t ≡ local.Branch peer b) × HasBranches g types first count b
 
--- these are entries of those types, each of the one in its place
-abbrev pub AreEntriesOf : Graph → List LocalType → List Entry → List LocalType → Type 0
-AreEntriesOf g types [] [] = ⊤
-AreEntriesOf g types (entry ∷ entries) (t ∷ ts) = IsEntryOf g types entry t × AreEntriesOf g types entries ts
-AreEntriesOf g types entries ts = ⊥
+-- these are rows of those types, each of the one in its place
+abbrev pub AreRowsOf : Graph → List LocalType → List TableRow → List LocalType → Type 0
+AreRowsOf g types [] [] = ⊤
+AreRowsOf g types (row ∷ rows) (t ∷ ts) = IsRowOf g types row t × AreRowsOf g types rows ts
+AreRowsOf g types rows ts = ⊥
 
 -- the table can be read so: each node has such a type
 abbrev pub Explains : Graph → List LocalType → Type 0
-Explains g types = AreEntriesOf g types g.entries types
+Explains g types = AreRowsOf g types g.rows types
 
 -- the node stands for the type: the table can be read so that what may be done from the node on, as far as one looks,
 -- is what the type allows

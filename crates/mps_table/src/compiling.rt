@@ -19,8 +19,8 @@ use std::alloc::{AllocError, Global};
 /// The table of a local type, or the type's first fault. The type may be of any size.
 pub fn compile(alloc: Global, tree: &Local) -> Result<Table, LocalFault>
     ensures table { IfOk result (λ table. StandsFor table table.first (plain tree.now)) }
-    ensures entries { IfOk result
-        (λ table. length table.entries ≡ length (acts_and_ends (plain tree.now))) }
+    ensures rows { IfOk result
+        (λ table. length table.rows ≡ length (acts_and_ends (plain tree.now))) }
     ensures labels { IfOk result
         (λ table. length table.labels ≡ length (labels_of_choices (plain tree.now))) }
     ensures ok { OnOk result (local_fault_of (plain tree.now) ≡ None) }
@@ -49,19 +49,19 @@ fn table_of(alloc: Global, tree: &Local) -> Result<Table, AllocError>
     requires closed { is_closed [] (plain tree.now) ≡ true }
     requires guarded { is_guarded (plain tree.now) ≡ true }
     ensures table { IfOk result (λ table. StandsFor table table.first (plain tree.now)) }
-    ensures entries { IfOk result
-        (λ table. length table.entries ≡ length (acts_and_ends (plain tree.now))) }
+    ensures rows { IfOk result
+        (λ table. length table.rows ≡ length (acts_and_ends (plain tree.now))) }
     ensures labels { IfOk result
         (λ table. length table.labels ≡ length (labels_of_choices (plain tree.now))) }
 {
     let (draft, first) = laid_out(alloc, tree)?;
     let Draft {
-        entries,
+        rows,
         labels,
         targets,
     } = draft;
     Ok(Table {
-        entries,
+        rows,
         labels,
         targets,
         first,

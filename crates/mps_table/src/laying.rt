@@ -3,10 +3,10 @@ ghost use Rattle.std.specs.Prelude.{◌≡◌, ◌+◌, ◌<◌, ◌≤◌, ◌^
 ghost use Rattle.mps_local.specs.Local.{plain, plain_branches};
 ghost use Rattle.mps_local.specs.Actions.{labels};
 ghost use Rattle.mps_table.specs.Laying.{size, branch_size, all_labels, branch_labels, start, starts};
-ghost use Rattle.mps_table.specs.Drafts.{places_of, Adds, Lays, LaysBranches, IsLaidOut, entry_count, label_count};
+ghost use Rattle.mps_table.specs.Drafts.{places_of, Adds, Lays, LaysBranches, IsLaidOut, row_count, label_count};
 
-use crate::entry::Entry;
 use crate::expect::Node;
+use crate::row::TableRow;
 use mps_base::{Name, VarName};
 use mps_local::{Branches, Local};
 use std::alloc::{AllocError, Global};
@@ -21,7 +21,7 @@ enum Bound<'a> {
 /// The lists of a table, as far as they are made.
 #[derive(Drop)]
 pub(crate) struct Draft {
-    pub(crate) entries: Vec<Entry>,
+    pub(crate) rows: Vec<TableRow>,
     pub(crate) labels: Vec<Name>,
     pub(crate) targets: Vec<Node>,
 }
@@ -42,7 +42,7 @@ fn node_of(name: &VarName, bound: &Bound<'_>) -> Node
     }
 }
 
-// The node of a type whose entries begin at that place.
+// The node of a type whose rows begin at that place.
 fn start(tree: &Local, bound: &Bound<'_>, at: usize) -> Node
     requires few { at ≤ 256 }
     ensures { result ≡ start (places_of bound.now) at (plain tree.now) }
@@ -54,7 +54,7 @@ fn start(tree: &Local, bound: &Bound<'_>, at: usize) -> Node
     }
 }
 
-// How many entries a type has.
+// How many rows a type has.
 #[cycle(size)]
 fn size(tree: &Local) -> usize
     requires few { size (plain tree.now) ≤ 256 }
@@ -84,7 +84,7 @@ fn branch_size(branches: &Branches) -> usize
 
 /// A closed type laid out, and its node.
 pub(crate) fn laid_out(alloc: Global, tree: &Local) -> Result<(Draft, Node), AllocError>
-    requires entries { size (plain tree.now) ≤ 256 }
+    requires rows { size (plain tree.now) ≤ 256 }
     requires labels { length (all_labels (plain tree.now)) ≤ 256 }
     ensures { IfOk result (λ r. IsLaidOut r.0 r.1 (plain tree.now)) }
 {
@@ -97,12 +97,12 @@ pub(crate) fn laid_out(alloc: Global, tree: &Local) -> Result<(Draft, Node), All
 impl Draft {
     // With nothing in it.
     fn new(alloc: Global) -> Draft
-        ensures entries { result.entries.items ≡ [] }
+        ensures rows { result.rows.items ≡ [] }
         ensures labels { result.labels.items ≡ [] }
         ensures targets { result.targets.items ≡ [] }
     {
         Draft {
-            entries: Vec::new(alloc),
+            rows: Vec::new(alloc),
             labels: Vec::new(alloc),
             targets: Vec::new(alloc),
         }
@@ -111,20 +111,20 @@ impl Draft {
     // Lays a type out, in which the variables that are bound outside have these nodes.
     #[cycle(lay)]
     fn lay(&mut self, tree: &Local, bound: &Bound<'_>) -> Result<(), AllocError>
-        requires entries { entry_count self.old + size (plain tree.now) ≤ 256 }
+        requires rows { row_count self.old + size (plain tree.now) ≤ 256 }
         requires labels { label_count self.old + length (all_labels (plain tree.now)) ≤ 256 }
         ensures { OnOk result (Lays self.old self.new (places_of bound.now) (plain tree.now)) }
     {
         match tree {
-            Local::End => self.push_entry(Entry::End),
+            Local::End => self.push_row(TableRow::End),
             Local::Var(_) => Ok(()),
             Local::Rec(name, body) => {
-                let node = start(body, &*bound, self.entries.len());
+                let node = start(body, &*bound, self.rows.len());
                 self.lay(body, &Bound::Inside(name.as_bytes(), node, &*bound))
             }
             Local::Send { peer, sort, next } => {
-                let node = start(next, &*bound, self.entries.len() + 1);
-                self.push_entry(Entry::Send {
+                let node = start(next, &*bound, self.rows.len() + 1);
+                self.push_row(TableRow::Send {
                     peer: *peer,
                     sort: *sort,
                     next: node,
@@ -132,8 +132,8 @@ impl Draft {
                 self.lay(next, &*bound)
             }
             Local::Recv { peer, sort, next } => {
-                let node = start(next, &*bound, self.entries.len() + 1);
-                self.push_entry(Entry::Recv {
+                let node = start(next, &*bound, self.rows.len() + 1);
+                self.push_row(TableRow::Recv {
                     peer: *peer,
                     sort: *sort,
                     next: node,
@@ -142,7 +142,7 @@ impl Draft {
             }
             Local::Select { peer, branches } => {
                 let (first, count) = self.lay_labels(branches, &*bound)?;
-                self.push_entry(Entry::Select {
+                self.push_row(TableRow::Select {
                     peer: *peer,
                     first,
                     count,
@@ -151,7 +151,7 @@ impl Draft {
             }
             Local::Branch { peer, branches } => {
                 let (first, count) = self.lay_labels(branches, &*bound)?;
-                self.push_entry(Entry::Branch {
+                self.push_row(TableRow::Branch {
                     peer: *peer,
                     first,
                     count,
@@ -164,7 +164,7 @@ impl Draft {
     // Lays the types after the labels out.
     #[cycle(lay)]
     fn lay_branches(&mut self, branches: &Branches, bound: &Bound<'_>) -> Result<(), AllocError>
-        requires entries { entry_count self.old + branch_size (plain_branches branches.now) ≤ 256 }
+        requires rows { row_count self.old + branch_size (plain_branches branches.now) ≤ 256 }
         requires labels { label_count self.old
             + length (branch_labels (plain_branches branches.now)) ≤ 256 }
         ensures { OnOk result
@@ -179,29 +179,29 @@ impl Draft {
         }
     }
 
-    // Adds the labels of the choice whose entry comes next, and says where the first stands and how
+    // Adds the labels of the choice whose row comes next, and says where the first stands and how
     // many there are.
     fn lay_labels(
         &mut self,
         branches: &Branches,
         bound: &Bound<'_>,
     ) -> Result<(u16, u16), AllocError>
-        requires entries { entry_count self.old + branch_size (plain_branches branches.now) < 256 }
+        requires rows { row_count self.old + branch_size (plain_branches branches.now) < 256 }
         requires labels { label_count self.old + length (labels (plain_branches branches.now)) ≤ 256 }
         ensures adds { OnOk result (Adds self.old self.new [] (labels (plain_branches branches.now))
-            (starts (places_of bound.now) (entry_count self.old + 1)
+            (starts (places_of bound.now) (row_count self.old + 1)
             (plain_branches branches.now))) }
         ensures place { IfOk result (λ r. r.0 ≡ label_count self.old) }
         ensures count { IfOk result (λ r. r.1 ≡ length (labels (plain_branches branches.now))) }
     {
         let first = self.labels.len();
-        let at = self.entries.len() + 1;
+        let at = self.rows.len() + 1;
         self.push_labels(branches, bound, at)?;
         let count = self.labels.len() - first;
         Ok((first as u16, count as u16))
     }
 
-    // Adds the labels of branches whose entries begin at that place, with their nodes.
+    // Adds the labels of branches whose rows begin at that place, with their nodes.
     fn push_labels(
         &mut self,
         branches: &Branches,
@@ -225,11 +225,11 @@ impl Draft {
         }
     }
 
-    // Adds an entry.
-    fn push_entry(&mut self, entry: Entry) -> Result<(), AllocError>
-        ensures { OnOk result (Adds self.old self.new (entry ∷ []) [] []) }
+    // Adds a row.
+    fn push_row(&mut self, row: TableRow) -> Result<(), AllocError>
+        ensures { OnOk result (Adds self.old self.new (row ∷ []) [] []) }
     {
-        Ok(self.entries.push(entry)?)
+        Ok(self.rows.push(row)?)
     }
 
     // Adds a label with the node after it.

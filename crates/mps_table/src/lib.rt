@@ -12,10 +12,10 @@
 #![tactic(auto)]
 
 pub mod compiling;
-mod entry;
 pub mod expect;
 pub mod laws;
 mod laying;
+mod row;
 pub mod table;
 
 pub use compiling::compile;

@@ -7,8 +7,8 @@ ghost use Rattle.mps_table.specs.Graph.{IsNode, HasNext, IsFollowed, IsWithin, L
 ghost use Rattle.mps_table.specs.Standing.{StandsFor};
 ghost use Rattle.mps_table.specs.Expects.{head_of, Allows};
 
-use crate::entry::Entry;
 use crate::expect::{Expect, Node};
+use crate::row::TableRow;
 use mps_base::Name;
 use std::marker::Model;
 
@@ -16,7 +16,7 @@ use std::marker::Model;
 /// without walking.
 #[derive(Debug, Drop)]
 pub struct Table {
-    pub(crate) entries: Vec<Entry>,
+    pub(crate) rows: Vec<TableRow>,
     pub(crate) labels: Vec<Name>,
     pub(crate) targets: Vec<Node>,
     pub(crate) first: Node,
@@ -28,13 +28,13 @@ impl Model for Table {
     ghost Value = { Graph };
 
     ghost view = { λ t. record {
-      entries = t.entries.items;
+      rows = t.rows.items;
       labels = t.labels.items;
       targets = t.targets.items;
       first = t.first;
     } };
 
-    ghost invariant = { λ t. IsSound t.entries.items t.labels.items t.targets.items t.first };
+    ghost invariant = { λ t. IsSound t.rows.items t.labels.items t.targets.items t.first };
 }
 
 impl Table {
@@ -49,14 +49,14 @@ impl Table {
     /// What a role may do first at a node.
     pub fn expect(&self, node: Node) -> Expect<'_>
         requires node { IsNode self.now node }
-        ensures entry { option_map (shown self.now) (slice_get self.now.entries node)
+        ensures row { option_map (shown self.now) (slice_get self.now.rows node)
             ≡ Some (head_of result) }
         ensures next { (choice : Option ℕ) → Allows choice (head_of result)
             → HasNext self.now node choice }
         ensures begins { (t : LocalType) → StandsFor self.now node t
             → Begins (head_of result) (unfolded t) }
     {
-        self.shown(self.entry(node))
+        self.shown(self.row(node))
     }
 
     /// The node of what comes then: after a value with no choice, after a choice with the place of
@@ -64,60 +64,60 @@ impl Table {
     pub fn after(&self, node: Node, choice: Option<usize>) -> Node
         requires action { HasNext self.now node choice }
         ensures node { IsNode self.now result }
-        ensures next { option_and_then (next_of self.now choice) (slice_get self.now.entries node)
+        ensures next { option_and_then (next_of self.now choice) (slice_get self.now.rows node)
             ≡ Some result }
         ensures follows { (t u : LocalType) → StandsFor self.now node t
             → type_left t choice ≡ Some u → StandsFor self.now result u }
     {
-        self.next(self.entry(node), choice)
+        self.next(self.row(node), choice)
     }
 
     // What stands at a node.
-    fn entry(&self, node: Node) -> Entry
+    fn row(&self, node: Node) -> TableRow
         requires { IsNode self.now node }
-        ensures entry { slice_get self.now.entries node ≡ Some result }
+        ensures row { slice_get self.now.rows node ≡ Some result }
         ensures labels { IsWithin (length self.now.labels) result }
         ensures targets { IsWithin (length self.now.targets) result }
-        ensures leads { LeadsWithin (length self.now.entries) result }
+        ensures leads { LeadsWithin (length self.now.rows) result }
     {
-        self.entries[node.index()]
+        self.rows[node.index()]
     }
 
-    // What an entry shows.
-    fn shown(&self, entry: Entry) -> Expect<'_>
-        requires within { IsWithin (length self.now.labels) entry }
-        ensures { head_of result ≡ shown self.now entry }
+    // What a row shows.
+    fn shown(&self, row: TableRow) -> Expect<'_>
+        requires within { IsWithin (length self.now.labels) row }
+        ensures { head_of result ≡ shown self.now row }
     {
-        match entry {
-            Entry::End => Expect::End,
-            Entry::Send { peer, sort, .. } => Expect::Send(peer, sort),
-            Entry::Recv { peer, sort, .. } => Expect::Recv(peer, sort),
-            Entry::Select { peer, first, count } => Expect::Select(
+        match row {
+            TableRow::End => Expect::End,
+            TableRow::Send { peer, sort, .. } => Expect::Send(peer, sort),
+            TableRow::Recv { peer, sort, .. } => Expect::Recv(peer, sort),
+            TableRow::Select { peer, first, count } => Expect::Select(
                 peer,
                 self.labels_at(first, count),
             ),
-            Entry::Branch { peer, first, count } => Expect::Branch(
+            TableRow::Branch { peer, first, count } => Expect::Branch(
                 peer,
                 self.labels_at(first, count),
             ),
         }
     }
 
-    // The node that follows an entry.
-    fn next(&self, entry: Entry, choice: Option<usize>) -> Node
-        requires within { IsWithin (length self.now.targets) entry }
-        requires leads { LeadsWithin (length self.now.entries) entry }
-        requires followed { IsFollowed choice entry }
-        ensures next { next_of self.now choice entry ≡ Some result }
+    // The node that follows a row.
+    fn next(&self, row: TableRow, choice: Option<usize>) -> Node
+        requires within { IsWithin (length self.now.targets) row }
+        requires leads { LeadsWithin (length self.now.rows) row }
+        requires followed { IsFollowed choice row }
+        ensures next { next_of self.now choice row ≡ Some result }
         ensures node { IsNode self.now result }
     {
         match choice {
-            None => match entry {
-                Entry::Send { next, .. } | Entry::Recv { next, .. } => next,
+            None => match row {
+                TableRow::Send { next, .. } | TableRow::Recv { next, .. } => next,
                 _ => unreachable!(),
             },
-            Some(place) => match entry {
-                Entry::Select { first, .. } | Entry::Branch { first, .. } => {
+            Some(place) => match row {
+                TableRow::Select { first, .. } | TableRow::Branch { first, .. } => {
                     self.targets[usize::from(first) + place]
                 }
                 _ => unreachable!(),

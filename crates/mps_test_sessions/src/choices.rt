@@ -63,6 +63,7 @@ type Shown<'a> = (&'a str, u8, Option<Sort>, &'a [&'a str]);
 
 // Whether the session shows this for the role at that place.
 fn shows(session: &Session, place: u8, wanted: &Shown<'_>) -> Result<bool, Fail> {
+    // what an `Expect` may hold: the prover covers a function with one only where it names these
     let _held: Option<(Role, Sort, Name)> = None;
     let role = role_of(session, place)?;
     let none: &[Name] = &[];

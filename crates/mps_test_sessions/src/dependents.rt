@@ -1,7 +1,7 @@
 ghost use Rattle.std.specs.Prelude.{◌≡◌, ◌<◌, [], IsTrue, IsSome};
 ghost use Rattle.mps_history.specs.Steps.{step_of};
 ghost use Rattle.mps_arena.specs.Entries.{steps};
-ghost use Rattle.mps_arena.specs.Sources.{waiting};
+ghost use Rattle.mps_arena.specs.Neighbours.{waiting};
 ghost use Rattle.mps_links.specs.Marks.{marked_keys, AreMarksClosed};
 
 use mps_arena::{Arena, Before, Key};
@@ -185,7 +185,7 @@ fn finds_the_least_dependent(rt: HostRuntime) {
 }
 
 #[test]
-fn takes_out_what_depends_on_a_step(rt: HostRuntime) {
+fn removes_what_depends_on_a_step(rt: HostRuntime) {
     for (deeds, number, want) in [
         (CHAIN, 1, &[4, 3, 2, 1][..]),
         (CHAIN, 2, &[4, 3, 2]),

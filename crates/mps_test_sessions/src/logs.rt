@@ -1,5 +1,5 @@
 ghost use Rattle.std.specs.Prelude.{◌<◌, IsTrue, IsSome};
-ghost use Rattle.mps_arena.specs.Sources.{waiting, CanGo};
+ghost use Rattle.mps_arena.specs.Neighbours.{waiting, CanGo};
 
 use mps_arena::{Arena, Before, Key};
 use mps_base::{Act, Message, Name, Role, Step, StepId, Text, Value};
@@ -142,9 +142,9 @@ fn play(
 }
 
 // Takes the step of the key out, if it may go. It tells the number.
-fn take_out(log: &mut Log, key: Key) -> Option<StepId> {
+fn remove(log: &mut Log, key: Key) -> Option<StepId> {
     if may_go(log.steps(), key) {
-        Some(log.take_out(key).id)
+        Some(log.remove(key).id)
     } else {
         None
     }
@@ -327,7 +327,7 @@ fn outer(arena: &Arena) -> [u64; 2] {
 fn take_all_out(rt: &impl Abort, log: &mut Log, ids: &[u64]) {
     for id in ids {
         let key = log.steps().by_id(StepId::new(*id)).expect(rt, "a key");
-        let gone = take_out(log, key).expect(rt, "it may go");
+        let gone = remove(log, key).expect(rt, "it may go");
         assert_eq!(rt; gone.number(), *id);
     }
 }

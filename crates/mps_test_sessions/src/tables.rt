@@ -181,6 +181,7 @@ fn is_shown(expect: Expect<'_>, shown: &Shown<'_>) -> bool {
 
 // Whether this stands at the node that the choices lead to.
 fn shows(table: &Table, choices: &[Option<usize>], shown: &Shown<'_>) -> bool {
+    // what an `Expect` may hold: the prover covers a function with one only where it names these
     let _held: Option<(Role, Sort, Name)> = None;
     match reached(table, choices) {
         Some(node) => is_shown(table.expect(node), shown),

@@ -169,6 +169,7 @@ struct Judged<'a>(&'a [&'a str], &'a [Row]);
 
 // Whether the command of the row is answered so, where a choice has these labels.
 fn is_answered(rt: &(impl Abort + AllocGlobal), labels: &[Name], row: &Row) -> bool {
+    // what an `Expect` may hold: the prover covers a function with one only where it names these
     let _held: Option<(Role, Sort, Name)> = None;
     let command = command(rt, row.1);
     let first = message(rt, row.2);

@@ -2,7 +2,7 @@
 use Rattle.std.proofs.Common.{◌≡◌, ℕ, ◌⊎◌, ◌<◌, ◌≤◌, List, [], ◌∷◌, ◌++◌, length, min, refl, sym, ap, ◌∙◌, subst, arith, ⊎_elim, inl, append_assoc, append-nil, length-take}
 use Rattle.std.proofs.lemmas.Bool.{cases_lt}
 use Rattle.mps_local.specs.Local.{LocalType}
-use Rattle.mps_line.specs.declared.reply.Reply.{Reply}
+use Rattle.mps_line.specs.declared.write_replies.Reply.{Reply}
 use Rattle.mps_room.specs.declared.entry.Entry.{Entry}
 use Rattle.mps_wire.specs.Answers.{Answering, AnswersLines, Answered, AnsweredAll}
 use Rattle.mps_lines.specs.Lines.{HasNoBreak, ended, with_last, most_kept, front}

@@ -7,7 +7,7 @@ use Rattle.std.specs.List.{AllByRecursion}
 use Rattle.mps_base.specs.Values.{IsShown}
 use Rattle.mps_command.specs.declared.command.Command.{Command}
 use Rattle.mps_line.specs.Commands.{SpellsNumbered}
-use Rattle.mps_line.specs.declared.reply.Reply.{Reply}
+use Rattle.mps_line.specs.declared.write_replies.Reply.{Reply}
 use Rattle.mps_lines.specs.Lines.{ended, max_line, most_kept, front}
 use Rattle.mps_lines.proofs.Splitting.{front_short}
 use Rattle.mps_room.specs.declared.caller.Caller.{Ghosts}

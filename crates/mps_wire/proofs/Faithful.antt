@@ -7,8 +7,8 @@ use Rattle.mps_command.specs.declared.answer.Answer.{Answer}
 use Rattle.mps_command.specs.declared.answer.Answer.TheVariants.{Refused}
 use Rattle.mps_command.specs.declared.command.Command.{Command}
 use Rattle.mps_line.specs.Replies.{SpellsReply}
-use Rattle.mps_line.specs.declared.reply.Reply.{Reply}
-use Rattle.mps_line.specs.declared.reply.Reply.TheVariants.{Answered}
+use Rattle.mps_line.specs.declared.write_replies.Reply.{Reply}
+use Rattle.mps_line.specs.declared.write_replies.Reply.TheVariants.{Answered}
 use Rattle.mps_line.proofs.Shown.{no_line_feed}
 use Rattle.mps_local.specs.Local.{LocalType}
 use Rattle.mps_room.specs.Journal.{is_accepted}

@@ -6,7 +6,7 @@ use Rattle.mps_base.specs.RoleLists.{HasRoleCount}
 use Rattle.mps_local.specs.declared.faults.LocalFault.{LocalFault}
 use Rattle.mps_session.specs.Peers.{IsFirstBad, IsFirstFaulty, CanOpen}
 use Rattle.mps_session.specs.declared.open.OpenFault.{OpenFault}
-use Rattle.mps_room.specs.Kept.{Record}
+use Rattle.mps_room.specs.Kept.{RoomState}
 use Rattle.mps_session.specs.declared.open.OpenFault.TheVariants.{RoleCount, BadPeer, Local, Memory as OutOfMemory}
 use Rattle.mps_wire.specs.declared.script.ReplayFault.{ReplayFault}
 use Rattle.mps_wire.specs.declared.script.ReplayFault.TheVariants.{Open, ReadFault, WriteFault, Turns, Memory}
@@ -75,7 +75,7 @@ module _ (names : List (List ℕ)) (types : List LocalType) where
   not_begun s Turns h = absurd h
 
   -- the run is on a session that could be opened
-  pub opened_first : (before after : Streams) (r : Result Record ReplayFault) → CanOpen types → Replayed names types before after r → Outcome names types before after r
+  pub opened_first : (before after : Streams) (r : Result RoomState ReplayFault) → CanOpen types → Replayed names types before after r → Outcome names types before after r
   opened_first before after (Ok room) can h = (can, h)
   opened_first before after (Err ReadFault) can h = (can, h)
   opened_first before after (Err WriteFault) can h = (can, h)

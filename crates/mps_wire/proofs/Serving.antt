@@ -9,14 +9,14 @@ use Rattle.mps_base.specs.Values.{IsShown}
 use Rattle.mps_base.specs.Appends.{Appends}
 use Rattle.mps_local.specs.Local.{LocalType}
 use Rattle.mps_command.specs.declared.command.Command.{Command}
-use Rattle.mps_line.specs.declared.reply.Reply.{Reply}
+use Rattle.mps_line.specs.declared.write_replies.Reply.{Reply}
 use Rattle.mps_line.specs.Replies.{SpellsReply}
 use Rattle.mps_line.specs.Commands.{SpellsScriptLine, command_tokens}
 use Rattle.mps_line.specs.Tokens.{RoleAt, SpellEach}
 use Rattle.mps_line.proofs.Shown.{shown_line}
 use Rattle.mps_room.specs.declared.entry.Entry.{Entry}
 use Rattle.mps_room.specs.Journal.{grown, reply, is_accepted, IsReply}
-use Rattle.mps_line.specs.declared.reply.Reply.TheVariants.{Answered}
+use Rattle.mps_line.specs.declared.write_replies.Reply.TheVariants.{Answered}
 use Rattle.mps_command.specs.declared.answer.Answer.{Answer}
 use Rattle.mps_wire.specs.Script.{IsReadable, IsAnswered, RepliesTo, AnswersLine}
 

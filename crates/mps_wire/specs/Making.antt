@@ -2,7 +2,7 @@
 use Rattle.std.specs.Prelude.{ℕ, List, [], ◌∷◌, ◌++◌, if◌then◌else◌}
 use Rattle.mps_command.specs.declared.answer.Answer.{Answer}
 use Rattle.mps_command.specs.declared.command.Command.{Command}
-use Rattle.mps_line.specs.declared.reply.Reply.{Reply}
+use Rattle.mps_line.specs.declared.write_replies.Reply.{Reply}
 use Rattle.mps_room.specs.Callers.{entry}
 use Rattle.mps_room.specs.Journal.{is_accepted}
 use Rattle.mps_room.specs.Numbers.{IsNumbered}

@@ -6,7 +6,7 @@ use Rattle.mps_base.specs.RoleLists.{HasRoleCount}
 use Rattle.mps_session.specs.Peers.{IsFirstBad, IsFirstFaulty, CanOpen}
 use Rattle.mps_session.specs.declared.open.OpenFault.{OpenFault}
 use Rattle.mps_session.specs.declared.open.OpenFault.TheVariants.{RoleCount, BadPeer, Local, Memory as OutOfMemory}
-use Rattle.mps_room.specs.Kept.{Record}
+use Rattle.mps_room.specs.Kept.{RoomState}
 use Rattle.mps_wire.specs.declared.script.ReplayFault.{ReplayFault}
 use Rattle.mps_wire.specs.declared.script.ReplayFault.TheVariants.{Open, ReadFault, WriteFault, Turns, Memory}
 use Rattle.mps_wire.specs.Answers.{Answering, Answered, AnsweredAll, AnsweredInPart, AnsweredAllInPart}
@@ -124,14 +124,14 @@ KeepsFromBeginning types Turns = ⊥
 
 module _ (names : List (List ℕ)) (types : List LocalType) (before after : Streams) where
   -- what the run of a script comes to in a new room of these names and types
-  abbrev pub Replayed : Result Record ReplayFault → Type 0
+  abbrev pub Replayed : Result RoomState ReplayFault → Type 0
   Replayed (Ok room) = Ran (AnswersLine names types) [] before after (Ok room.journal)
       × (room.names ≡ names) × (room.types ≡ types)
   Replayed (Err fault) = Ran (AnswersLine names types) [] before after (Err fault)
 
   -- what the run of a script comes to where the session is opened first: it is opened with the types and the
   -- script run; or it can't be opened, and nothing is read or written
-  abbrev pub Outcome : Result Record ReplayFault → Type 0
+  abbrev pub Outcome : Result RoomState ReplayFault → Type 0
   Outcome (Ok room) = CanOpen types × Replayed (Ok room)
   Outcome (Err (Open fault)) = KeepsShut types fault × (after ≡ before)
   Outcome (Err fault) = CanOpen types × Replayed (Err fault)

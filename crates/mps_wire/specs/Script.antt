@@ -12,8 +12,8 @@ use Rattle.mps_command.specs.declared.answer.Answer.TheVariants.{Refused}
 use Rattle.mps_command.specs.declared.answer.Refusal.TheVariants.{Memory}
 use Rattle.mps_line.specs.Commands.{SpellsScriptLine}
 use Rattle.mps_line.specs.Replies.{SpellsReply}
-use Rattle.mps_line.specs.declared.reply.Reply.{Reply}
-use Rattle.mps_line.specs.declared.reply.Reply.TheVariants.{Answered, BadLine}
+use Rattle.mps_line.specs.declared.write_replies.Reply.{Reply}
+use Rattle.mps_line.specs.declared.write_replies.Reply.TheVariants.{Answered, BadLine}
 use Rattle.mps_room.specs.Journal as journals
 use Rattle.mps_room.specs.Journal.{grown, IsReply}
 use Rattle.mps_room.specs.declared.entry.Entry.{Entry}
@@ -76,8 +76,8 @@ abbrev pub lines_of : Run → Answering (List Entry)
 lines_of run = AnswersLine run.room.names run.room.types
 
 -- where a run is among its lines
-abbrev pub place_of : Run → Place (List Entry)
-place_of run = record {
+abbrev pub place_of_run : Run → Place (List Entry)
+place_of_run run = record {
   kept = run.line.items;
   state = run.room.journal;
   waiting = run.answers.items;

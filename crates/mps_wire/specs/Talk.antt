@@ -10,8 +10,8 @@ use Rattle.mps_command.specs.declared.command.Command.TheVariants.{Forward}
 use Rattle.mps_command.specs.declared.command.Forward.TheVariants.{Send}
 use Rattle.mps_line.specs.Commands.{SpellsNumbered}
 use Rattle.mps_line.specs.Replies.{SpellsReply}
-use Rattle.mps_line.specs.declared.reply.Reply.{Reply}
-use Rattle.mps_line.specs.declared.reply.Reply.TheVariants.{Answered, BadLine, Number}
+use Rattle.mps_line.specs.declared.write_replies.Reply.{Reply}
+use Rattle.mps_line.specs.declared.write_replies.Reply.TheVariants.{Answered, BadLine, Number}
 use Rattle.mps_lines.specs.Lines.{IsSplit, ended, max_line}
 use Rattle.mps_room.specs.Numbers.{IsNumbered}
 use Rattle.mps_room.specs.declared.caller.Caller.{Ghosts}

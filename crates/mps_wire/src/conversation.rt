@@ -4,7 +4,7 @@ ghost use Rattle.mps_command.specs.Changes.{change_of};
 ghost use Rattle.mps_command.specs.declared.answer.Answer.{Answer as Response};
 ghost use Rattle.mps_command.specs.declared.command.Command.{Command as Asked};
 ghost use Rattle.mps_line.specs.Replies.{SpellsReply};
-ghost use Rattle.mps_line.specs.declared.reply.Reply.TheVariants.{Answered};
+ghost use Rattle.mps_line.specs.declared.write_replies.Reply.TheVariants.{Answered};
 ghost use Rattle.mps_lines.specs.Lines.{ended, front, most_kept};
 ghost use Rattle.mps_wire.specs.declared.conversation.Broken.TheVariants.{Memory as NoMemory};
 ghost use Rattle.mps_wire.specs.Endings.{EndedAs, IsPartly, IsWholly, TakesOn, TakesToPart, TurnedTo, begun_or, failed_by};
@@ -240,43 +240,6 @@ fn turn<C: Caller, R: Source, W: Sink>(
     }
 }
 
-/// As `converse`.
-fn run_lines<C: Caller, R: Source, W: Sink>(
-    alloc: Global,
-    caller: &mut C,
-    reader: &mut R,
-    writer: &mut W,
-) -> Ending
-    requires reads { R.calls reader.old < 2 ^ 62 }
-    requires writes { W.failed_calls writer.old < 2 ^ 62 }
-    ensures ending { EndedAs (talks C.Caller) (talks_to_part C.Caller) caller.old
-        (streams R.Source W.Sink reader.old writer.old) (streams R.Source W.Sink reader.new writer.new)
-        caller.new result }
-    ensures reads { R.calls reader.new ≤ R.calls reader.old + max_reads }
-{
-    let mut line = Vec::new(alloc);
-    let mut text = Vec::new(alloc);
-    let Ok(mut block) = vec![in alloc; 0u8; PIECE] else {
-        return Ending::Memory;
-    };
-    for _ in 0..MAX_READS {
-        let ended = turn(
-            alloc,
-            caller,
-            reader,
-            writer,
-            &mut line,
-            &mut text,
-            block.as_mut_slice(),
-        );
-        match ended {
-            Some(ending) => return ending,
-            None => {}
-        }
-    }
-    Ending::Turns
-}
-
 /// Runs each line of the reader as a command of the caller, and writes its answer before it looks at the next line.
 ///
 /// A line may begin with a number and a space (`read_numbered`). A client that lost an answer sends the same line again:
@@ -301,5 +264,25 @@ pub fn converse<C: Caller, R: Source, W: Sink>(
     ensures fixed { (f : C → ℕ)
         → ((c : C) (x : Asked) (a : Response) (d : C) → C.calls c x a d → f d ≡ f c) → f caller.new ≡ f caller.old }
 {
-    run_lines(alloc, caller, reader, writer)
+    let mut line = Vec::new(alloc);
+    let mut text = Vec::new(alloc);
+    let Ok(mut block) = vec![in alloc; 0u8; PIECE] else {
+        return Ending::Memory;
+    };
+    for _ in 0..MAX_READS {
+        let ended = turn(
+            alloc,
+            caller,
+            reader,
+            writer,
+            &mut line,
+            &mut text,
+            block.as_mut_slice(),
+        );
+        match ended {
+            Some(ending) => return ending,
+            None => {}
+        }
+    }
+    Ending::Turns
 }

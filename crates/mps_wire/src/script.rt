@@ -9,7 +9,7 @@ ghost use Rattle.mps_wire.specs.Answers.{TakesBytes, TakesEnd};
 ghost use Rattle.mps_wire.specs.Flow.{TookFront};
 ghost use Rattle.mps_lines.specs.Lines.{ended, front, most_kept};
 ghost use Rattle.mps_wire.specs.Runs.{Going, Outcome, Replayed, Turned, max_reads, of_opening};
-ghost use Rattle.mps_wire.specs.Script.{AnswersLine, IsAnswered, lines_of, place_of};
+ghost use Rattle.mps_wire.specs.Script.{AnswersLine, IsAnswered, lines_of, place_of_run};
 ghost use Rattle.mps_wire.specs.Streams.{streams};
 ghost use Rattle.mps_wire.specs.declared.script.ReplayFault.TheVariants.{Memory as OutOfMemory};
 
@@ -214,7 +214,7 @@ impl Run {
         ensures types { self.new.room.types ≡ self.old.room.types }
         ensures kept { OnOk result (length self.new.line.items ≤ most_kept) }
         ensures answered { OnOk result (TakesBytes (lines_of self.old) [] bytes.now
-            (place_of self.old) (place_of self.new)) }
+            (place_of_run self.old) (place_of_run self.new)) }
     {
         let mut rest = bytes;
         while let Some(k) = line_end(rest) {
@@ -229,7 +229,7 @@ impl Run {
         ensures names { self.new.room.names ≡ self.old.room.names }
         ensures types { self.new.room.types ≡ self.old.room.types }
         ensures answered { OnOk result (TakesEnd (lines_of self.old) []
-            (place_of self.old) (place_of self.new)) }
+            (place_of_run self.old) (place_of_run self.new)) }
         ensures kept { OnOk result (self.new.line.items ≡ []) }
     {
         if self.line.is_empty() {

@@ -4,5 +4,5 @@ use Rattle.mps_history.proofs.a_last_step_is_alone.Goals as goal
 pub returns-clause-alone : goal.returns-clause-alone
 returns-clause-alone c = last_alone
 
-pub returns-clause-taken_out : goal.returns-clause-taken_out
-returns-clause-taken_out c = without_last
+pub returns-clause-removed : goal.returns-clause-removed
+returns-clause-removed c = without_last

@@ -306,7 +306,7 @@ fn leave(rt: &impl Abort, log: &mut Log, steps: &mut Vec<Plain>, from: usize) {
         return;
     }
     let step = steps[place];
-    let gone = take_out(log, step.key).expect(rt, "it goes");
+    let gone = remove(log, step.key).expect(rt, "it goes");
     assert_eq!(rt; gone, step.id);
     steps.remove(place);
     assert!(rt; is_unknown(log.steps(), step.key), "it is gone");

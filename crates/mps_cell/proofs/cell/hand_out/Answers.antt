@@ -1,6 +1,6 @@
 use Rattle.std.proofs.Common.{rules, arith, false, ap, sym, ◌≡◌, ◌∙◌}
 use Rattle.atomic_table.specs.Table.{Me}
-use Rattle.mps_room.specs.Kept.{Record}
+use Rattle.mps_room.specs.Kept.{RoomState}
 use Rattle.mps_cell.specs.Origins.{opening_in}
 use Rattle.mps_cell.specs.Openings.{Opening}
 use Rattle.mps_cell.specs.Views.{View, newcomer, part_of}
@@ -23,7 +23,7 @@ loop-place-preserved c =
       rest = dealt_rest o c.loop-place.place c.args.count _ _ (omega arith) v.rest s.2;
       dealt = dealt_more c.args.shared.now.table_id c.split_seat-seat.result.table_id o (part_of c.split_seat-seat.result.me.0.parts).opening c.loop-place.place _ _ _ c.push_reserved.ensures.items v.dealt
           (c.fresh.ensures.fresh ∙ ap (fresh c.split_seat-seat.result.table_id (part_of c.split_seat-seat.result.me.0.parts).opening) c.new.ensures) (s.3 ∙ v.same)
-          (ap (λ (m : Me Record View). (part_of m.0.parts).opening) seat);
+          (ap (λ (m : Me RoomState View). (part_of m.0.parts).opening) seat);
       counted = let l = c.push_reserved.ensures.len in omega arith;
       room = let l = c.push_reserved.ensures.capacity in omega arith;
     }
@@ -42,4 +42,4 @@ pub fresh-requires-clause-names : goal.fresh-requires-clause-names
 fresh-requires-clause-names c =
     let o : Opening = opening_in c.args.shared.now.key in
     let seat = dealt_one o c.loop-place.place c.args.count _ _ (omega arith) c.loop-place.invariant.rest c.split_seat-seat.ensures.4 in
-    c.requires.names ∙ sym (ap (λ (m : Me Record View). (part_of m.0.parts).opening.names) seat)
+    c.requires.names ∙ sym (ap (λ (m : Me RoomState View). (part_of m.0.parts).opening.names) seat)

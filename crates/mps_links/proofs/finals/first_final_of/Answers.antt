@@ -1,7 +1,7 @@
 use Rattle.std.proofs.Common.{◌≡◌, Some, sym, ap, ◌∙◌, subst}
 use Rattle.std.specs.Prelude.{IsSome}
 use Rattle.std.specs.Option.{option_map}
-use Rattle.mps_arena.specs.Entries.{Entry, entry_at}
+use Rattle.mps_arena.specs.Entries.{KeyedStep, entry_at}
 use Rattle.mps_links.proofs.Commits.{last, search_at, search_goes, ends_at_first, ends_unmarked}
 use Rattle.mps_links.proofs.finals.first_final_of.Goals as goal
 use Rattle.mps_links.proofs.finals.first_final_of.Goals.{After-len}
@@ -9,10 +9,10 @@ use Rattle.mps_links.proofs.finals.first_final_of.Goals.{After-len}
 found : (c : After-len) → entry_at c.in-Some.key c.args.arena.now.entries ≡ Some (last c.args.arena.now.entries c.args.role _ _ _ c.loop.invariant.search c.in-Some.key c.in-Some.is c.len.ensures.sound).entry
 found c = search_at c.args.arena.now.entries c.args.role _ _ _ c.loop.invariant.search c.in-Some.key c.in-Some.is c.len.ensures.sound
 
-is_marked : (c : After-len) (m : _) → option_map (λ (e : Entry). e.marked) (entry_at c.in-Some.key c.args.arena.now.entries) ≡ Some m → (last c.args.arena.now.entries c.args.role _ _ _ c.loop.invariant.search c.in-Some.key c.in-Some.is c.len.ensures.sound).entry.marked ≡ m
+is_marked : (c : After-len) (m : _) → option_map (λ (e : KeyedStep). e.marked) (entry_at c.in-Some.key c.args.arena.now.entries) ≡ Some m → (last c.args.arena.now.entries c.args.role _ _ _ c.loop.invariant.search c.in-Some.key c.in-Some.is c.len.ensures.sound).entry.marked ≡ m
 is_marked c m e =
     let x = (last c.args.arena.now.entries c.args.role _ _ _ c.loop.invariant.search c.in-Some.key c.in-Some.is c.len.ensures.sound).entry in
-    let is : Some x.marked ≡ Some m = ap (option_map (λ (e : Entry). e.marked)) (sym (found c)) ∙ e in
+    let is : Some x.marked ≡ Some m = ap (option_map (λ (e : KeyedStep). e.marked)) (sym (found c)) ∙ e in
     cc
 
 pub returns-in_default : goal.returns-in_default

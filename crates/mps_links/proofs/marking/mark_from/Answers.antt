@@ -2,7 +2,7 @@ use Rattle.std.proofs.Common.{◌≡◌, ℕ, Bool, true, List, Option, ◌∷�
 use Rattle.std.specs.Prelude.{IsSome}
 use Rattle.mps_history.specs.Steps.{within}
 use Rattle.mps_history.specs.Dependence.{consequences}
-use Rattle.mps_arena.specs.Entries.{Entry, steps, with_mark, entry_at}
+use Rattle.mps_arena.specs.Entries.{KeyedStep, steps, with_mark, entry_at}
 use Rattle.mps_links.specs.Marks.{marked_by}
 use Rattle.mps_links.specs.Pending.{followed}
 use Rattle.mps_links.specs.Numbered.{HaveNumbers}
@@ -48,7 +48,7 @@ loop-count-init c =
     record {
       marking = rw (c.set_mark.ensures.entries, c.follow.ensures.keys, c.new-pending.ensures.keys) at_number;
       size = c.follow.ensures.size;
-      numbers = subst (λ (now : List Entry). HaveNumbers now c.follow.new.self.firsts) (sym c.set_mark.ensures.entries) (numbers_marked c.unwrap-first.result true es c.follow.new.self.firsts c.follow.ensures.numbers);
+      numbers = subst (λ (now : List KeyedStep). HaveNumbers now c.follow.new.self.firsts) (sym c.set_mark.ensures.entries) (numbers_marked c.unwrap-first.result true es c.follow.new.self.firsts c.follow.ensures.numbers);
       issued = c.set_mark.ensures.issued;
       ready = c.set_mark.ensures.ready;
       key = c.set_mark.ensures.key;
@@ -73,16 +73,16 @@ loop-count-preserved c =
     record {
       marking = rw (set.entries, follow.ensures.keys) (turns _ _ _ _ _ i.marking c.len.ensures.sound c.in-Some.key (sym (c.earliest.ensures c.loop-count.arena.entries i.numbers) ∙ c.in-Some.is));
       size = follow.ensures.size;
-      numbers = subst (λ (now : List Entry). HaveNumbers now follow.new.self.firsts) (sym set.entries) (numbers_marked c.in-Some.key true c.loop-count.arena.entries follow.new.self.firsts follow.ensures.numbers);
+      numbers = subst (λ (now : List KeyedStep). HaveNumbers now follow.new.self.firsts) (sym set.entries) (numbers_marked c.in-Some.key true c.loop-count.arena.entries follow.new.self.firsts follow.ensures.numbers);
       issued = set.issued ∙ i.issued;
       ready = set.ready ∙ i.ready;
       key = set.key ∙ i.key;
     }
 
-marks_are : (es now : List Entry) (n : ℕ) (firsts : List (Option ℕ)) (count : ℕ) (w : IsMarking es now (consequences (steps es) n) firsts count) → w.set ≡ consequences (steps es) n → now ≡ map (marked_by (consequences (steps es) n)) es
+marks_are : (es now : List KeyedStep) (n : ℕ) (firsts : List (Option ℕ)) (count : ℕ) (w : IsMarking es now (consequences (steps es) n) firsts count) → w.set ≡ consequences (steps es) n → now ≡ map (marked_by (consequences (steps es) n)) es
 marks_are es now n firsts count w whole = marked_from w.set now es w.alike w.marks ∙ ap (λ (f : ℕ → Bool). map (marked_by f) es) whole
 
-count_is : (es now : List Entry) (n : ℕ) (firsts : List (Option ℕ)) (count : ℕ) (w : IsMarking es now (consequences (steps es) n) firsts count) → w.set ≡ consequences (steps es) n → count ≡ length (within (steps es) (consequences (steps es) n))
+count_is : (es now : List KeyedStep) (n : ℕ) (firsts : List (Option ℕ)) (count : ℕ) (w : IsMarking es now (consequences (steps es) n) firsts count) → w.set ≡ consequences (steps es) n → count ≡ length (within (steps es) (consequences (steps es) n))
 count_is es now n firsts count w whole = w.counted ∙ ap (λ (f : ℕ → Bool). length (within (steps es) f)) whole
 
 pub returns-in_default-clause-marks : goal.returns-in_default-clause-marks

@@ -3,7 +3,7 @@ use Rattle.std.specs.Prelude.{IsSome}
 use Rattle.std.specs.Option.{option_map}
 use Rattle.std.proofs.lemmas.Bool.{and_left}
 use Rattle.mps_arena.specs.Keys.{last_key}
-use Rattle.mps_arena.specs.Entries.{Entry, of_role, entry_at, keys_of}
+use Rattle.mps_arena.specs.Entries.{KeyedStep, of_role, entry_at, keys_of}
 use Rattle.mps_links.specs.Numbered.{key_of}
 use Rattle.mps_links.specs.Marks.{is_marked}
 use Rattle.mps_links.proofs.StepKeys.{keys_none, none_passes}
@@ -37,7 +37,7 @@ pub returns-clause-newest : goal.returns-clause-newest
 returns-clause-newest c =
     let es = c.args.arena.now.entries in
     let w = last ((goal.at.returns-clause-newest c).After-len) in
-    let is : Some w.entry.marked ≡ Some c.marked.result = ap (option_map (λ (e : Entry). e.marked)) (sym (found ((goal.at.returns-clause-newest c).After-len))) ∙ c.marked.ensures in
+    let is : Some w.entry.marked ≡ Some c.marked.result = ap (option_map (λ (e : KeyedStep). e.marked)) (sym (found ((goal.at.returns-clause-newest c).After-len))) ∙ c.marked.ensures in
     let m : w.entry.marked ≡ c.marked.result = cc in
     c.with_number.ensures.key
     ∙ ap Some (sym w.key)
@@ -47,6 +47,6 @@ pub returns-then-not-marked-clause-newest : goal.returns-then-not-marked-clause-
 returns-then-not-marked-clause-newest c =
     let es = c.args.arena.now.entries in
     let w = last ((goal.at.returns-then-not-marked-clause-newest c).After-len) in
-    let is : Some w.entry.marked ≡ Some c.marked.result = ap (option_map (λ (e : Entry). e.marked)) (sym (found ((goal.at.returns-then-not-marked-clause-newest c).After-len))) ∙ c.marked.ensures in
+    let is : Some w.entry.marked ≡ Some c.marked.result = ap (option_map (λ (e : KeyedStep). e.marked)) (sym (found ((goal.at.returns-then-not-marked-clause-newest c).After-len))) ∙ c.marked.ensures in
     let m : w.entry.marked ≡ c.marked.result = cc in
     sym (ap (last_key None) (none_marked es c.len.ensures.sound c.requires.closed c.args.role w.before w.behind w.entry w.parts w.passes w.none (m ∙ c.if-not-marked.true)))

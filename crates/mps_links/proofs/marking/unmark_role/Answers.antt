@@ -1,7 +1,7 @@
 use Rattle.std.proofs.Common.{◌≡◌, false, Some, sym, ap, ◌∙◌, subst, arith}
 use Rattle.std.specs.Prelude.{IsSome}
 use Rattle.std.specs.Option.{option_map}
-use Rattle.mps_arena.specs.Entries.{Entry, entry_at}
+use Rattle.mps_arena.specs.Entries.{KeyedStep, entry_at}
 use Rattle.mps_links.proofs.Unmarking.{last, walk_at, walk_goes, ends_at_first, ends_by_count, ends_unmarked}
 use Rattle.mps_links.proofs.marking.unmark_role.Goals as goal
 use Rattle.mps_links.proofs.marking.unmark_role.Goals.{After-len}
@@ -19,7 +19,7 @@ pub returns-then-not-marked-clause-entries : goal.returns-then-not-marked-clause
 returns-then-not-marked-clause-entries c =
     let w = c.loop.invariant.walk in
     let x = (last c.args.role _ _ _ _ w c.in-Some.key c.in-Some.is).entry in
-    let is : Some x.marked ≡ Some c.marked.result = ap (option_map (λ (e : Entry). e.marked)) (sym (found ((goal.at.returns-then-not-marked-clause-entries c).After-len))) ∙ c.marked.ensures in
+    let is : Some x.marked ≡ Some c.marked.result = ap (option_map (λ (e : KeyedStep). e.marked)) (sym (found ((goal.at.returns-then-not-marked-clause-entries c).After-len))) ∙ c.marked.ensures in
     let off : x.marked ≡ false = cc in
     ends_unmarked c.args.role _ _ _ _ w c.in-Some.key c.in-Some.is c.requires.last off
 

@@ -5,7 +5,7 @@ use Rattle.std.proofs.lemmas.Bool.{and_from, and_parts}
 use Rattle.mps_base.specs.declared.action.Act.{Act}
 use Rattle.mps_base.specs.Effects.{effect}
 use Rattle.mps_history.specs.Steps.{sends, receives, gives_to, takes_from}
-use Rattle.mps_arena.specs.Entries.{Entry, entry_at, HasSmallPeer}
+use Rattle.mps_arena.specs.Entries.{KeyedStep, entry_at, HasSmallPeer}
 use Rattle.mps_queues.specs.Fronts.{AreFronts}
 use Rattle.mps_queues.proofs.Moves.{idle_goes}
 use Rattle.mps_log.proofs.Leaving.{leaves, neither}
@@ -62,5 +62,5 @@ returns-in_default c =
     let l = leaves es c.args.key c.get-step.result.now c.requires.sound c.requires.can c.get-step.ensures in
     let here = subst (λ (k : ℕ). ◌≡◌ (entry_at k es) (Some l.entry)) (sym l.key) l.found in
     let idle = ap (λ s. effect s.act) l.step ∙ neither c.get-step.result.now.act c.in_default.not-Out c.in_default.not-In in
-    subst (λ (k : ℕ). AreFronts (filter (λ (e : Entry). not (e.key == k)) es) c.args.queues.now) l.key
+    subst (λ (k : ℕ). AreFronts (filter (λ (e : KeyedStep). not (e.key == k)) es) c.args.queues.now) l.key
     (idle_goes l.entry idle es c.args.queues.now c.requires.sound here c.requires.fronts)

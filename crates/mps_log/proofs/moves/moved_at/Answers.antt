@@ -2,7 +2,7 @@ use Rattle.std.proofs.Common.{sym, ap, ◌∙◌}
 use Rattle.std.specs.Option.{option_and_then, option_or}
 use Rattle.mps_base.specs.declared.action.Act.{Act}
 use Rattle.mps_base.specs.Effects.{Effect}
-use Rattle.mps_arena.specs.Sources.{source_in}
+use Rattle.mps_arena.specs.Neighbours.{source_in}
 use Rattle.mps_log.specs.Values.{message_in, given_by, message_of}
 use Rattle.mps_log.proofs.Leaving.{neither}
 use Rattle.mps_log.proofs.Walks.{moved_by_act, idle_has_none}

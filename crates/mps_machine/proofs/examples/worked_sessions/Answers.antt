@@ -6,9 +6,9 @@ pub returns-clause-an_undo_waits_for_the_receipt : goal.returns-clause-an_undo_w
 unfolding unfolded
 returns-clause-an_undo_waits_for_the_receipt c = refl
 
-pub returns-clause-a_rollback_takes_all_that_depends : goal.returns-clause-a_rollback_takes_all_that_depends
+pub returns-clause-a_rollback_removes_all_that_depends : goal.returns-clause-a_rollback_removes_all_that_depends
 unfolding unfolded
-returns-clause-a_rollback_takes_all_that_depends c = refl
+returns-clause-a_rollback_removes_all_that_depends c = refl
 
 pub returns-clause-a_rollback_leaves_the_strangers : goal.returns-clause-a_rollback_leaves_the_strangers
 unfolding unfolded
@@ -106,9 +106,9 @@ pub returns-clause-a_commit_leaves_the_strangers : goal.returns-clause-a_commit_
 unfolding unfolded
 returns-clause-a_commit_leaves_the_strangers c = refl
 
-pub returns-clause-what_came_after_a_commit_can_be_taken_back : goal.returns-clause-what_came_after_a_commit_can_be_taken_back
+pub returns-clause-what_came_after_a_commit_can_be_undone : goal.returns-clause-what_came_after_a_commit_can_be_undone
 unfolding unfolded
-returns-clause-what_came_after_a_commit_can_be_taken_back c = refl
+returns-clause-what_came_after_a_commit_can_be_undone c = refl
 
 pub returns-clause-a_commit_is_allowed_at_the_end : goal.returns-clause-a_commit_is_allowed_at_the_end
 unfolding unfolded

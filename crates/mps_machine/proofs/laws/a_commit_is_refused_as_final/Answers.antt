@@ -1,4 +1,4 @@
-use Rattle.mps_machine.proofs.TakingBack.{refuses_final}
+use Rattle.mps_machine.proofs.Undoing.{refuses_final}
 use Rattle.mps_machine.proofs.laws.a_commit_is_refused_as_final.Goals as goal
 
 pub returns : goal.returns

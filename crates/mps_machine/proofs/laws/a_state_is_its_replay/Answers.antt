@@ -1,4 +1,4 @@
-use Rattle.mps_machine.proofs.TakingBack.{is_replayed}
+use Rattle.mps_machine.proofs.Undoing.{is_replayed}
 use Rattle.mps_machine.proofs.laws.a_state_is_its_replay.Goals as goal
 
 pub returns : goal.returns

@@ -1,4 +1,4 @@
-use Rattle.mps_machine.proofs.TakingBack.{undoes_steps}
+use Rattle.mps_machine.proofs.Undoing.{undoes_steps}
 use Rattle.mps_machine.proofs.laws.an_undo_gives_the_old_history.Goals as goal
 
 pub returns : goal.returns

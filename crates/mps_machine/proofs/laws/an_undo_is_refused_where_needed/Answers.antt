@@ -1,4 +1,4 @@
-use Rattle.mps_machine.proofs.TakingBack.{refuses_needed}
+use Rattle.mps_machine.proofs.Undoing.{refuses_needed}
 use Rattle.mps_machine.proofs.laws.an_undo_is_refused_where_needed.Goals as goal
 
 pub returns : goal.returns

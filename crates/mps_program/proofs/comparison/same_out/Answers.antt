@@ -5,15 +5,15 @@ use Rattle.mps_local.specs.Local.{LocalType}
 use Rattle.mps_machine.specs.Machine.{State}
 use Rattle.mps_room.specs.Journal.{run}
 use Rattle.mps_room.specs.declared.entry.Entry.{Entry}
-use Rattle.mps_session.specs.Seen.{Machine}
+use Rattle.mps_session.specs.SessionState.{SessionState}
 use Rattle.mps_program.specs.Compared.{CantCompare, CantFollow, HasCompared, HasFollowed, unheard}
 use Rattle.mps_program.proofs.Comparing.{cant_follow, followed}
 use Rattle.mps_program.proofs.comparison.same_out.Goals as goal
 
 -- a session as a journal leaves it
-left_as : (session : Machine) (types : List LocalType) (journal : List Entry) → session.types ≡ types → session.state ≡ run types journal → session ≡ record { types = types; state = run types journal }
+left_as : (session : SessionState) (types : List LocalType) (journal : List Entry) → session.types ≡ types → session.state ≡ run types journal → session ≡ record { types = types; state = run types journal }
 left_as session types journal e f =
-    let machine : List LocalType → State → Machine = λ types state. record { types = types; state = state } in
+    let machine : List LocalType → State → SessionState = λ types state. record { types = types; state = state } in
     ap₂ machine e f
 
 pub returns-clause-verdict : goal.returns-clause-verdict

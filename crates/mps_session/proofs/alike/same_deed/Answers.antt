@@ -1,5 +1,5 @@
 use Rattle.std.proofs.Common.{sym, ◌∙◌}
-use Rattle.mps_session.proofs.Compared.{deeds_from, same_taken}
+use Rattle.mps_session.proofs.SamePast.{deeds_from, same_taken}
 use Rattle.mps_session.proofs.alike.same_deed.Goals as goal
 
 pub returns-then-same_act : goal.returns-then-same_act

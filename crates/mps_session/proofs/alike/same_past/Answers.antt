@@ -1,6 +1,6 @@
 use Rattle.std.proofs.Common.{refl, arith}
 use Rattle.std.proofs.lemmas.Bool.{iff_false}
-use Rattle.mps_session.proofs.Compared.{alike_starts, first_ends, ends_by_count, first_longer, first_here, second_here, must_be_same, alike_goes}
+use Rattle.mps_session.proofs.SamePast.{alike_starts, first_ends, ends_by_count, first_longer, first_here, second_here, must_be_same, alike_goes}
 use Rattle.mps_session.proofs.alike.same_past.Goals as goal
 
 pub loop-init : goal.loop-init

@@ -1,4 +1,4 @@
-use Rattle.mps_session.proofs.Compared.{AreAlike}
+use Rattle.mps_session.proofs.SamePast.{AreAlike}
 use Rattle.mps_session.proofs.alike.same_past.Given as goal
 
 abbrev pub invariant-loop : goal.invariant-loop

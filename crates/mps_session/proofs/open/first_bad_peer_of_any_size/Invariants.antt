@@ -2,7 +2,7 @@ use Rattle.std.proofs.Common.{◌≡◌, List, ◌++◌, length, map}
 use Rattle.std.specs.Prelude.{IfSome, IfNone}
 use Rattle.mps_local.specs.declared.Local.{Local}
 use Rattle.mps_local.specs.Local.{plain}
-use Rattle.mps_session.proofs.Strangers.{AreFrom, IsFirstBadFrom}
+use Rattle.mps_session.proofs.FirstBadPeer.{AreFrom, IsFirstBadFrom}
 use Rattle.mps_session.proofs.open.first_bad_peer_of_any_size.Given as goal
 
 abbrev pub invariant-loop-t : goal.invariant-loop-t

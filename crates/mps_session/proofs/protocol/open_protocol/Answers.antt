@@ -2,7 +2,7 @@ use Rattle.std.proofs.Common.{◌∙◌, Err, map, refl, ap}
 use Rattle.mps_global.specs.Global.{plain as global_type}
 use Rattle.mps_local.specs.Local.{plain}
 use Rattle.mps_fidelity.specs.Fidelity.{AreOfOneProtocol}
-use Rattle.mps_session.proofs.Opened.{no_bad_peer, no_fault}
+use Rattle.mps_session.proofs.OneProtocol.{no_bad_peer, no_fault}
 use Rattle.mps_session.proofs.protocol.open_protocol.Goals as goal
 
 pub unreachable-requires-in-Err-BadPeer : goal.unreachable-requires-in-Err-BadPeer

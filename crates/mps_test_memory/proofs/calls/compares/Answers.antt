@@ -1,5 +1,5 @@
 use Rattle.mps_global.specs.Global.{plain}
-use Rattle.mps_session.proofs.Projected.{one_projection}
+use Rattle.mps_session.proofs.SameProjections.{one_projection}
 use Rattle.mps_test_memory.proofs.calls.compares.Goals as goal
 
 pub same-is_same-requires : goal.same-is_same-requires

@@ -1,6 +1,6 @@
 use Rattle.std.proofs.Common.{sym, ◌∙◌}
 use Rattle.mps_global.specs.Global.{plain}
-use Rattle.mps_session.proofs.Projected.{one_projection}
+use Rattle.mps_session.proofs.SameProjections.{one_projection}
 use Rattle.mps_test_sessions.proofs.comparisons.are_same.Goals as goal
 
 pub same-requires : goal.same-requires

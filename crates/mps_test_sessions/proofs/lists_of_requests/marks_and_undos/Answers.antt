@@ -1,7 +1,7 @@
 use Rattle.std.proofs.Common.{ℕ, ◌<◌, length, List, sym, subst}
 use Rattle.std.specs.List.{AllByRecursion}
 use Rattle.mps_machine.specs.Machine.{Request}
-use Rattle.mps_session.proofs.Accepting.{all_push}
+use Rattle.mps_session.proofs.HoldsAfterAct.{all_push}
 use Rattle.mps_test_sessions.proofs.lists_of_requests.marks_and_undos.Goals as goal
 
 pub loop-turn-preserved : goal.loop-turn-preserved

@@ -1,7 +1,7 @@
 use Rattle.std.proofs.Common.{◌<◌, length, List, sym, subst}
 use Rattle.std.specs.List.{AllByRecursion}
 use Rattle.mps_machine.specs.Machine.{Request}
-use Rattle.mps_session.proofs.Accepting.{all_push}
+use Rattle.mps_session.proofs.HoldsAfterAct.{all_push}
 use Rattle.mps_test_sessions.proofs.lists_of_requests.requests.Goals as goal
 
 pub loop-place-preserved : goal.loop-place-preserved

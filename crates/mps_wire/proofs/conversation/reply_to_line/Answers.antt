@@ -5,7 +5,7 @@ use Rattle.mps_command.specs.declared.answer.Refusal.TheVariants.{Memory}
 use Rattle.mps_command.specs.declared.command.Command.TheVariants.{Forward}
 use Rattle.mps_command.specs.declared.command.Forward.TheVariants.{Send}
 use Rattle.mps_line.specs.Commands.{SpellsNumbered}
-use Rattle.mps_line.specs.declared.reply.Reply.TheVariants.{Answered, BadLine}
+use Rattle.mps_line.specs.declared.write_replies.Reply.TheVariants.{Answered, BadLine}
 use Rattle.mps_wire.specs.Talk.{Unread, Called, Numbered, Starved}
 use Rattle.mps_wire.proofs.Calling.{request}
 use Rattle.mps_wire.proofs.conversation.reply_to_line.Goals as goal

@@ -1,5 +1,5 @@
 use Rattle.std.proofs.Common.{refl}
-use Rattle.mps_line.specs.declared.reply.Reply.TheVariants.{Answered}
+use Rattle.mps_line.specs.declared.write_replies.Reply.TheVariants.{Answered}
 use Rattle.mps_room.specs.declared.numbers.Told.TheVariants.{Fresh, Kept}
 use Rattle.mps_wire.proofs.conversation.reply_to_numbered.Goals as goal
 

@@ -1,10 +1,10 @@
 use Rattle.std.proofs.Common.{length, map, sym, ap, subst, ◌∙◌}
 use Rattle.std.proofs.lemmas.List.{length-map}
 use Rattle.mps_local.specs.Local.{plain}
-use Rattle.mps_session.specs.Seen.{Machine}
+use Rattle.mps_session.specs.SessionState.{SessionState}
 use Rattle.mps_wire.specs.Runs.{Outcome, Replayed}
 use Rattle.mps_wire.specs.Streams.{streams}
-use Rattle.mps_session.proofs.Accepted.{handed_on}
+use Rattle.mps_session.proofs.HandedOn.{handed_on}
 use Rattle.mps_wire.proofs.Outcomes.{not_begun, opened_first, shut}
 use Rattle.mps_wire.proofs.script.replay.Goals as goal
 
@@ -26,4 +26,4 @@ returns-clause-outcome g c =
     let first = streams g.R.Source g.W.Sink c.args.reader.now c.args.writer.now in
     let now = streams g.R.Source g.W.Sink c.replay_session.new.reader c.replay_session.new.writer in
     opened_first c.args.roles types first now c.replay_session.result c.in_ok-session.ensures.can
-    (subst (λ (m : Machine). Replayed c.args.roles m.types first now c.replay_session.result) c.in_ok-session.ensures.opened c.replay_session.ensures.outcome)
+    (subst (λ (m : SessionState). Replayed c.args.roles m.types first now c.replay_session.result) c.in_ok-session.ensures.opened c.replay_session.ensures.outcome)

@@ -1,12 +1,12 @@
 use Rattle.std.proofs.Common.{◌≡◌, [], length, Ok, Err, ap, ◌∙◌, arith}
-use Rattle.mps_room.specs.Kept.{Record}
+use Rattle.mps_room.specs.Kept.{RoomState}
 use Rattle.mps_wire.specs.Runs.{Replayed, max_reads}
 use Rattle.mps_wire.specs.Script.{AnswersLine}
 use Rattle.mps_wire.specs.Streams.{streams}
 use Rattle.mps_wire.specs.declared.script.TheConstants.{BLOCK}
 use Rattle.mps_wire.proofs.Bytes.{same_room}
 use Rattle.mps_wire.proofs.Carrying.{turned}
-use Rattle.mps_session.proofs.Accepted.{handed_on}
+use Rattle.mps_session.proofs.HandedOn.{handed_on}
 use Rattle.mps_wire.proofs.Outcomes.{same_counts, counts_more, breaks, at_end, before_end, starts_starved}
 use Rattle.mps_wire.proofs.Turning.{begun, gave_none, gave_more, gave_fewer}
 use Rattle.mps_wire.proofs.script.replay_session.Goals as goal
@@ -21,18 +21,18 @@ pub loop-init : goal.loop-init
 loop-init g c =
     let first = streams g.R.Source g.W.Sink c.args.reader.now c.args.writer.now in
     let types = c.args.session.types in
-    let new : Record = record { names = c.args.roles; types = types; journal = [] } in
+    let new : RoomState = record { names = c.args.roles; types = types; journal = [] } in
     let room : c.begin-run.result.room ≡ new = c.begin-run.ensures.room ∙ c.open.ensures in
     record {
-      names = ap (λ (r : Record). r.names) room;
-      types = ap (λ (r : Record). r.types) room;
+      names = ap (λ (r : RoomState). r.names) room;
+      types = ap (λ (r : RoomState). r.types) room;
       short = omega (arith, ap length c.begin-run.ensures.line);
       none_waits = c.begin-run.ensures.answers;
       room = omega (arith, c.in_ok-block.block.ok.0, c.in_ok-block.ensures.len);
       reads = omega arith;
       counts = same_counts first;
       gave = gave_none first;
-      going = begun (AnswersLine c.args.roles types) [] first _ _ c.begin-run.ensures.line (ap (λ (r : Record). r.journal) room);
+      going = begun (AnswersLine c.args.roles types) [] first _ _ c.begin-run.ensures.line (ap (λ (r : RoomState). r.journal) room);
     }
 
 pub returns-in_err-turn-clause-outcome : goal.returns-in_err-turn-clause-outcome

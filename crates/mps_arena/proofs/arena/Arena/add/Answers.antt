@@ -7,7 +7,7 @@ use Rattle.mps_arena.specs.declared.node.Node.{Node}
 use Rattle.mps_arena.specs.Entries.{Entries}
 use Rattle.mps_arena.specs.Kept.{IsKept}
 use Rattle.mps_arena.specs.Links.{joined}
-use Rattle.mps_arena.specs.Sources.{IsSource}
+use Rattle.mps_arena.specs.Neighbours.{IsSource}
 use Rattle.mps_arena.specs.Views.{entries_of}
 use Rattle.mps_arena.proofs.Keeping.{kept_view, kept_whole, kept_sound, kept_add}
 use Rattle.mps_arena.proofs.arena.Arena.add.Goals as goal

@@ -1,5 +1,5 @@
 use Rattle.std.proofs.Common.{rules, ◌+◌, ◌*◌}
-use Rattle.mps_arena.proofs.Mates.{fed_nil}
+use Rattle.mps_arena.proofs.Matched.{fed_nil}
 use Rattle.mps_arena.proofs.arena.Arena.new.Goals as goal
 
 pub invariant_of-result : goal.invariant_of-result

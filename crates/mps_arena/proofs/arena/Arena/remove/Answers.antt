@@ -2,12 +2,12 @@ use Rattle.std.proofs.Common.{◌≡◌, Some, not, sym, ap, ◌∙◌, subst}
 use Rattle.std.specs.Prelude.{◌==◌}
 use Rattle.std.specs.List.{filter}
 use Rattle.slab.specs.Slab.{get, slab_len}
-use Rattle.mps_arena.specs.Entries.{Entry, Entries, steps, entry_at}
+use Rattle.mps_arena.specs.Entries.{KeyedStep, Entries, steps, entry_at}
 use Rattle.std.specs.Option.{option_map}
 use Rattle.mps_history.specs.Steps.{without}
 use Rattle.mps_arena.specs.declared.node.Node.{Node}
 use Rattle.mps_arena.specs.Kept.{IsKept}
-use Rattle.mps_arena.specs.Sources.{CanGo}
+use Rattle.mps_arena.specs.Neighbours.{CanGo}
 use Rattle.mps_arena.specs.Views.{entries_of}
 use Rattle.mps_arena.proofs.Keeping.{stands, kept_view, kept_whole, kept_sound, kept_remove, small_of}
 use Rattle.mps_arena.proofs.Histories.{steps_without}
@@ -42,7 +42,7 @@ returns-clause-history c =
     let es = entries_of a in
     let node = c.part-node.result in
     let s = stands (get a.nodes) es c.args.key node c.self.invariant.linked c.part-node.ensures.node in
-    let step : option_map (λ e. e.step) (entry_at c.args.key es) ≡ Some node.step = ap (option_map (λ (e : Entry). e.step)) s.found ∙ ap (λ (n : Node). Some n.step) (sym s.node_is) in
+    let step : option_map (λ e. e.step) (entry_at c.args.key es) ≡ Some node.step = ap (option_map (λ (e : KeyedStep). e.step)) s.found ∙ ap (λ (n : Node). Some n.step) (sym s.node_is) in
     let now = kept_view _ _ _ _ _ _ _ _ (kept ((goal.at.returns-clause-history c).After-part)) in
     subst (λ (v : Entries). steps (entries_of (record { nodes = c.part-node.new.nodes; ends = c.part.new.self; index = a.index })) ≡ without (steps v.entries) (λ m. m == node.step.id)) c.self.view_is
     (ap steps now ∙ steps_without es c.args.key node.step c.self.invariant.linked.distinct c.self.invariant.rising step)

@@ -1,7 +1,7 @@
 use Rattle.std.proofs.Common.{◌<◌, List, length, sym, ap, ◌∙◌, arith}
 use Rattle.std.specs.Prelude.{slice_index_or}
 use Rattle.std.proofs.lemmas.List.{take_all}
-use Rattle.mps_arena.specs.Entries.{Entry}
+use Rattle.mps_arena.specs.Entries.{KeyedStep}
 use Rattle.mps_links.specs.Numbered.{key_of, keys_alone}
 use Rattle.mps_links.specs.Order.{earlier}
 use Rattle.mps_links.specs.Pending.{earliest}
@@ -9,7 +9,7 @@ use Rattle.mps_links.proofs.Kept.{number_at, one_more}
 use Rattle.mps_links.proofs.pending.Pending.earliest.Goals as goal
 
 pub loop-pending-preserved : goal.loop-pending-preserved
-loop-pending-preserved c = λ (es : List Entry) numbers.
+loop-pending-preserved c = λ (es : List KeyedStep) numbers.
     let firsts = c.args.self.now.firsts in
     let i = c.loop-pending.pending-index in
     let d = c.pending-item.result in
@@ -19,7 +19,7 @@ loop-pending-preserved c = λ (es : List Entry) numbers.
     (both.0 ∙ ap (λ o. earlier es o (key_of (slice_index_or firsts i d))) before.0 ∙ sym (one_more es firsts i d small), both.1)
 
 pub returns : goal.returns
-returns c = λ (es : List Entry) numbers.
+returns c = λ (es : List KeyedStep) numbers.
     c.key_of.ensures
     ∙ (c.loop-pending.invariant es numbers).0
     ∙ ap (λ l. earliest es (keys_alone l)) (take_all c.loop-pending.pending-index c.args.self.now.firsts (omega arith))

@@ -1,10 +1,10 @@
 use Rattle.std.proofs.Common.{◌≡◌, List, take}
-use Rattle.mps_arena.specs.Entries.{Entry}
+use Rattle.mps_arena.specs.Entries.{KeyedStep}
 use Rattle.mps_links.specs.Numbered.{key_of, keys_alone, HasNumber, HaveNumbers}
 use Rattle.mps_links.specs.Pending.{earliest}
 use Rattle.mps_links.proofs.pending.Pending.earliest.Given as goal
 
 abbrev pub invariant-loop-pending : goal.invariant-loop-pending
 invariant-loop-pending l =
-    (es : List Entry) → HaveNumbers es l.self.firsts
+    (es : List KeyedStep) → HaveNumbers es l.self.firsts
     → (key_of l.first ≡ earliest es (keys_alone (take l.pending-index l.self.firsts))) × HasNumber es l.first

@@ -2,7 +2,7 @@ use Rattle.std.proofs.Common.{◌≡◌, ◌<◌, ℕ, Option, Some, None, lengt
 use Rattle.std.specs.Prelude.{IsSome, slice_index_or, slice_set}
 use Rattle.std.proofs.lemmas.List.{map-set, get_or-map, length-set}
 use Rattle.mps_arena.specs.Entries.{entry_at}
-use Rattle.mps_arena.specs.Sources.{next_of_role_in}
+use Rattle.mps_arena.specs.Neighbours.{next_of_role_in}
 use Rattle.mps_links.specs.Numbered.{key_of, keys_alone}
 use Rattle.mps_links.specs.Order.{earlier}
 use Rattle.mps_links.specs.Pending.{at_role, with_pending}

@@ -1,6 +1,6 @@
 use Rattle.std.proofs.Common.{◌≡◌, [], ◌∷◌, ◌++◌, List, None, false, refl, sym, ap, ◌∙◌, subst}
 use Rattle.mps_base.specs.declared.action.Act.TheVariants.{Commit}
-use Rattle.mps_arena.specs.Entries.{Entry}
+use Rattle.mps_arena.specs.Entries.{KeyedStep}
 use Rattle.mps_queues.specs.Fronts.{AreFronts}
 use Rattle.mps_queues.proofs.Moves.{idle_joins}
 use Rattle.mps_stores.specs.Stores.{AreStores, slot_of, mark_of}
@@ -12,12 +12,12 @@ invariant_of-self-2 c =
     let l = c.self.inside in
     let k = c.self.invariant in
     let es = l.arena.entries in
-    let e : Entry = record { key = c.add.result; step = record { id = c.next_id-id.result; role = c.args.role; act = Commit }; before = record { at = c.args.at; bound = None }; marked = false } in
-    let whole : c.add.new.self.entries ≡ es ++ e ∷ [] = c.add.ensures.entries ∙ ap (λ (o : List Entry). o ++ e ∷ []) c.reserve_one.ensures.entries in
+    let e : KeyedStep = record { key = c.add.result; step = record { id = c.next_id-id.result; role = c.args.role; act = Commit }; before = record { at = c.args.at; bound = None }; marked = false } in
+    let whole : c.add.new.self.entries ≡ es ++ e ∷ [] = c.add.ensures.entries ∙ ap (λ (o : List KeyedStep). o ++ e ∷ []) c.reserve_one.ensures.entries in
     record {
       sound = c.add.ensures.sound;
-      fronts = subst (λ (o : List Entry). AreFronts o l.queues) (sym whole) (idle_joins e refl es l.queues k.fronts);
-      slots = subst (λ (o : List Entry). AreStores slot_of o l.slots) (sym whole) (stores_idle_push slot_of es e l.slots k.slots refl);
-      marks = subst (λ (o : List Entry). AreStores mark_of o l.marks) (sym whole) (stores_idle_push mark_of es e l.marks k.marks refl);
+      fronts = subst (λ (o : List KeyedStep). AreFronts o l.queues) (sym whole) (idle_joins e refl es l.queues k.fronts);
+      slots = subst (λ (o : List KeyedStep). AreStores slot_of o l.slots) (sym whole) (stores_idle_push slot_of es e l.slots k.slots refl);
+      marks = subst (λ (o : List KeyedStep). AreStores mark_of o l.marks) (sym whole) (stores_idle_push mark_of es e l.marks k.marks refl);
       settled = λ none. absurd cc;
     }

@@ -2,7 +2,7 @@ use Rattle.std.proofs.Common.{◌≡◌, ℕ, None, Some, subst}
 use Rattle.std.specs.Prelude.{◌==◌}
 use Rattle.std.specs.List.{find}
 use Rattle.std.specs.Option.{option_map}
-use Rattle.mps_arena.specs.Sources.{CanGo}
+use Rattle.mps_arena.specs.Neighbours.{CanGo}
 use Rattle.mps_log.specs.Logged.{Logged}
 use Rattle.mps_log.proofs.log.Log.least_dependent.Goals as goal
 

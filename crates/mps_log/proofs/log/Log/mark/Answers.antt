@@ -1,6 +1,6 @@
 use Rattle.std.proofs.Common.{◌≡◌, [], ◌∷◌, ◌++◌, List, false, refl, sym, ap, ◌∙◌, subst}
 use Rattle.mps_base.specs.declared.action.Act.TheVariants.{Mark}
-use Rattle.mps_arena.specs.Entries.{Entry}
+use Rattle.mps_arena.specs.Entries.{KeyedStep}
 use Rattle.mps_queues.specs.Fronts.{AreFronts}
 use Rattle.mps_queues.proofs.Moves.{idle_joins}
 use Rattle.mps_stores.specs.Stores.{AreStores, slot_of, mark_of}
@@ -14,12 +14,12 @@ invariant_of-self-2 c =
     let l = c.self.inside in
     let k = c.self.invariant in
     let es = l.arena.entries in
-    let e : Entry = record { key = c.add.result; step = record { id = c.next_id-id.result; role = c.args.role; act = Mark c.args.name }; before = record { at = c.args.at; bound = c.in_ok-bound.bound }; marked = false } in
-    let whole : c.add.new.self.entries ≡ es ++ e ∷ [] = c.add.ensures.entries ∙ ap (λ (o : List Entry). o ++ e ∷ []) c.reserve_one.ensures.entries in
+    let e : KeyedStep = record { key = c.add.result; step = record { id = c.next_id-id.result; role = c.args.role; act = Mark c.args.name }; before = record { at = c.args.at; bound = c.in_ok-bound.bound }; marked = false } in
+    let whole : c.add.new.self.entries ≡ es ++ e ∷ [] = c.add.ensures.entries ∙ ap (λ (o : List KeyedStep). o ++ e ∷ []) c.reserve_one.ensures.entries in
     record {
       sound = c.add.ensures.sound;
-      fronts = subst (λ (o : List Entry). AreFronts o l.queues) (sym whole) (idle_joins e refl es l.queues k.fronts);
-      slots = subst (λ (o : List Entry). AreStores slot_of o l.slots) (sym whole) (stores_idle_push slot_of es e l.slots k.slots refl);
-      marks = subst (λ (o : List Entry). AreStores mark_of o c.bind.new.self) (sym whole) (c.in_ok-bound.ensures.follows mark_of es e k.marks (refl, refl) (c.add.ensures.key ∙ sym c.in_ok-key.ensures.key) refl);
+      fronts = subst (λ (o : List KeyedStep). AreFronts o l.queues) (sym whole) (idle_joins e refl es l.queues k.fronts);
+      slots = subst (λ (o : List KeyedStep). AreStores slot_of o l.slots) (sym whole) (stores_idle_push slot_of es e l.slots k.slots refl);
+      marks = subst (λ (o : List KeyedStep). AreStores mark_of o c.bind.new.self) (sym whole) (c.in_ok-bound.ensures.follows mark_of es e k.marks (refl, refl) (c.add.ensures.key ∙ sym c.in_ok-key.ensures.key) refl);
       settled = λ none. subst HasNoCommit (sym whole) (no_commit_joins es e refl (k.settled none));
     }

@@ -1,7 +1,7 @@
 use Rattle.std.proofs.Common.{◌≡◌, List, Bool, false, sym, ap, ◌∙◌, subst}
 use Rattle.mps_history.specs.Dependence.{consequences}
 use Rattle.mps_history.specs.Commits.{is_commit, commits_from}
-use Rattle.mps_arena.specs.Entries.{Entry, steps, AreSound}
+use Rattle.mps_arena.specs.Entries.{KeyedStep, steps, AreSound}
 use Rattle.mps_queues.specs.Fronts.{AreFronts}
 use Rattle.mps_stores.specs.Stores.{AreStores, slot_of, mark_of}
 use Rattle.mps_links.specs.Marks.{marked_commits}
@@ -12,7 +12,7 @@ use Rattle.mps_log.proofs.log.Log.mark_from.Goals as goal
 use Rattle.mps_log.proofs.log.Log.mark_from.Goals.{After-mark_from}
 
 -- which entries are marked
-abbrev marks : After-mark_from → Entry → Bool
+abbrev marks : After-mark_from → KeyedStep → Bool
 marks c e = consequences (steps c.self.inside.arena.entries) c.args.id e.step.id
 
 sound : (c : After-mark_from) → AreSound c.mark_from.new.arena.entries
@@ -24,9 +24,9 @@ invariant_of-self c =
     let l = c.self.inside in
     record {
       sound = sound k;
-      fronts = subst (λ (es : List Entry). AreFronts es l.queues) (sym c.mark_from.ensures.marks) (fronts_again (marks k) l.arena.entries l.queues c.self.invariant.fronts);
-      slots = subst (λ (es : List Entry). AreStores slot_of es l.slots) (sym c.mark_from.ensures.marks) (stores_again (marks k) slot_of l.arena.entries l.slots c.self.invariant.slots);
-      marks = subst (λ (es : List Entry). AreStores mark_of es l.marks) (sym c.mark_from.ensures.marks) (stores_again (marks k) mark_of l.arena.entries l.marks c.self.invariant.marks);
+      fronts = subst (λ (es : List KeyedStep). AreFronts es l.queues) (sym c.mark_from.ensures.marks) (fronts_again (marks k) l.arena.entries l.queues c.self.invariant.fronts);
+      slots = subst (λ (es : List KeyedStep). AreStores slot_of es l.slots) (sym c.mark_from.ensures.marks) (stores_again (marks k) slot_of l.arena.entries l.slots c.self.invariant.slots);
+      marks = subst (λ (es : List KeyedStep). AreStores mark_of es l.marks) (sym c.mark_from.ensures.marks) (stores_again (marks k) mark_of l.arena.entries l.marks c.self.invariant.marks);
       settled = λ none. subst HasNoCommit (sym c.mark_from.ensures.marks) (all_again (marks k) (λ s. is_commit s.act ≡ false) l.arena.entries (c.self.invariant.settled none));
     }
 

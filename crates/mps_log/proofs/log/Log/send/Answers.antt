@@ -2,7 +2,7 @@ use Rattle.std.proofs.Common.{◌≡◌, [], ◌∷◌, ◌++◌, List, None, fa
 use Rattle.std.specs.Prelude.{◌==◌}
 use Rattle.std.proofs.lemmas.Bool.{and_from}
 use Rattle.mps_base.specs.declared.action.Act.TheVariants.{Out}
-use Rattle.mps_arena.specs.Entries.{Entry}
+use Rattle.mps_arena.specs.Entries.{KeyedStep}
 use Rattle.mps_queues.specs.Fronts.{AreFronts}
 use Rattle.mps_stores.specs.Stores.{AreStores, slot_of, mark_of}
 use Rattle.mps_stores.proofs.Bindings.{stores_idle_push}
@@ -17,13 +17,13 @@ invariant_of-self-2 c =
     let es = l.arena.entries in
     let p = c.args.role in
     let q = c.args.to in
-    let e : Entry = record { key = c.add.result; step = record { id = c.next_id-id.result; role = p; act = Out q c.args.message }; before = record { at = c.args.at; bound = None }; marked = false } in
-    let whole : c.add.new.self.entries ≡ es ++ e ∷ [] = c.add.ensures.entries ∙ ap (λ (o : List Entry). o ++ e ∷ []) c.reserve_one.ensures.entries in
+    let e : KeyedStep = record { key = c.add.result; step = record { id = c.next_id-id.result; role = p; act = Out q c.args.message }; before = record { at = c.args.at; bound = None }; marked = false } in
+    let whole : c.add.new.self.entries ≡ es ++ e ∷ [] = c.add.ensures.entries ∙ ap (λ (o : List KeyedStep). o ++ e ∷ []) c.reserve_one.ensures.entries in
     let sent = and_from (p == p) (q == q) (eq-eqb p p refl) (eq-eqb q q refl) in
     record {
       sound = c.add.ensures.sound;
-      fronts = subst (λ (o : List Entry). AreFronts o c.push.new.self) (sym whole) (c.push.ensures es e k.fronts k.sound sent (c.add.ensures.key ∙ sym c.in_ok-key.ensures.key));
-      slots = subst (λ (o : List Entry). AreStores slot_of o l.slots) (sym whole) (stores_idle_push slot_of es e l.slots k.slots refl);
-      marks = subst (λ (o : List Entry). AreStores mark_of o l.marks) (sym whole) (stores_idle_push mark_of es e l.marks k.marks refl);
+      fronts = subst (λ (o : List KeyedStep). AreFronts o c.push.new.self) (sym whole) (c.push.ensures es e k.fronts k.sound sent (c.add.ensures.key ∙ sym c.in_ok-key.ensures.key));
+      slots = subst (λ (o : List KeyedStep). AreStores slot_of o l.slots) (sym whole) (stores_idle_push slot_of es e l.slots k.slots refl);
+      marks = subst (λ (o : List KeyedStep). AreStores mark_of o l.marks) (sym whole) (stores_idle_push mark_of es e l.marks k.marks refl);
       settled = λ none. subst HasNoCommit (sym whole) (no_commit_joins es e refl (k.settled none));
     }

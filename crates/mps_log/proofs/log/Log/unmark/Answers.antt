@@ -1,6 +1,6 @@
 use Rattle.std.proofs.Common.{◌≡◌, List, Bool, false, sym, subst}
 use Rattle.mps_history.specs.Commits.{is_commit}
-use Rattle.mps_arena.specs.Entries.{Entry, AreSound}
+use Rattle.mps_arena.specs.Entries.{KeyedStep, AreSound}
 use Rattle.mps_queues.specs.Fronts.{AreFronts}
 use Rattle.mps_stores.specs.Stores.{AreStores, slot_of, mark_of}
 use Rattle.mps_log.specs.Logged.{HasNoCommit}
@@ -8,7 +8,7 @@ use Rattle.mps_log.proofs.Remarked.{all_again, sound_again, fronts_again, stores
 use Rattle.mps_log.proofs.log.Log.unmark.Goals as goal
 use Rattle.mps_log.proofs.log.Log.unmark.Goals.{After-unmark}
 
-abbrev nowhere : Entry → Bool
+abbrev nowhere : KeyedStep → Bool
 nowhere e = false
 
 sound : (c : After-unmark) → AreSound c.unmark.new.arena.entries
@@ -19,9 +19,9 @@ invariant_of-self c =
     let l = c.self.inside in
     record {
       sound = sound ((goal.at.invariant_of-self c).After-unmark);
-      fronts = subst (λ (es : List Entry). AreFronts es l.queues) (sym c.unmark.ensures.entries) (fronts_again nowhere l.arena.entries l.queues c.self.invariant.fronts);
-      slots = subst (λ (es : List Entry). AreStores slot_of es l.slots) (sym c.unmark.ensures.entries) (stores_again nowhere slot_of l.arena.entries l.slots c.self.invariant.slots);
-      marks = subst (λ (es : List Entry). AreStores mark_of es l.marks) (sym c.unmark.ensures.entries) (stores_again nowhere mark_of l.arena.entries l.marks c.self.invariant.marks);
+      fronts = subst (λ (es : List KeyedStep). AreFronts es l.queues) (sym c.unmark.ensures.entries) (fronts_again nowhere l.arena.entries l.queues c.self.invariant.fronts);
+      slots = subst (λ (es : List KeyedStep). AreStores slot_of es l.slots) (sym c.unmark.ensures.entries) (stores_again nowhere slot_of l.arena.entries l.slots c.self.invariant.slots);
+      marks = subst (λ (es : List KeyedStep). AreStores mark_of es l.marks) (sym c.unmark.ensures.entries) (stores_again nowhere mark_of l.arena.entries l.marks c.self.invariant.marks);
       settled = λ none. subst HasNoCommit (sym c.unmark.ensures.entries) (all_again nowhere (λ s. is_commit s.act ≡ false) l.arena.entries (c.self.invariant.settled none));
     }
 

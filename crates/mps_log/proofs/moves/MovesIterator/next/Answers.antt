@@ -3,7 +3,7 @@ use mathlib.Core.Path.{ap₂}
 use Rattle.std.specs.Option.{option_map, option_and_then}
 use Rattle.mps_base.specs.declared.action.Message.{Message}
 use Rattle.mps_base.specs.declared.action.Step.{Step}
-use Rattle.mps_arena.specs.Entries.{Entry}
+use Rattle.mps_arena.specs.Entries.{KeyedStep}
 use Rattle.mps_log.specs.Shown.{Moved, moved_of}
 use Rattle.mps_log.proofs.Walks.{y, there, goes_on, shows, shows_then, found}
 use Rattle.mps_log.proofs.moves.MovesIterator.next.Goals as goal
@@ -20,7 +20,7 @@ returns-clause-steps c =
     let es = m.arena.now.entries in
     let at = found m c.self.invariant c.in_ok-key.key c.in_ok-key.was in
     let head = y m c.self.invariant c.in_ok-key.key c.in_ok-key.was in
-    let one : Some head.step ≡ Some c.get.result.now = sym (ap (option_map (λ (e : Entry). e.step)) at) ∙ c.get.ensures in
+    let one : Some head.step ≡ Some c.get.result.now = sym (ap (option_map (λ (e : KeyedStep). e.step)) at) ∙ c.get.ensures in
     let moved = sym (ap (option_and_then (moved_of es)) at) ∙ sym c.moved_at.ensures in
     let after = shows_then m c.self.invariant c.in_ok-key.key c.in_ok-key.was c.next-self-inside.result c.next-self-inside.ensures in
     sym c.self.view_is

@@ -2,7 +2,7 @@ use Rattle.std.proofs.Common.{◌≡◌, ℕ, ◌+◌, ◌*◌, List, not, Optio
 use mathlib.Core.Path.{ap₂}
 use Rattle.std.specs.Prelude.{◌==◌}
 use Rattle.std.specs.List.{filter}
-use Rattle.mps_arena.specs.Entries.{Entry}
+use Rattle.mps_arena.specs.Entries.{KeyedStep}
 use Rattle.mps_queues.specs.Fronts.{AreFronts, returned}
 use Rattle.mps_queues.proofs.Moves.{front_set, front_read, waiting_return, others_return}
 use Rattle.mps_queues.proofs.fronts.Queues.put_back.Goals as goal
@@ -12,7 +12,7 @@ returns c k e =
     let p = c.args.from in
     let q = c.args.to in
     let es = c.args.arena.now.entries in
-    let now = filter (λ (x : Entry). not (x.key == k)) es in
+    let now = filter (λ (x : KeyedStep). not (x.key == k)) es in
     let fronts = c.self.inside.fronts in
     let was : AreFronts es fronts = subst (λ (l : List (Option ℕ)). AreFronts es l) (sym c.self.view_is) c.requires.fronts in
     let at = c.index.result * 8 + c.index-2.result in

@@ -9,9 +9,9 @@ use Rattle.mps_machine.specs.Machine.{serve}
 use Rattle.mps_machine.specs.Answering.{IsChanged}
 use Rattle.mps_machine.proofs.Answering.{from_ok}
 use Rattle.mps_room.specs.Journal.{undone_by, is_accepted, grown, reply, HasEntered, IsReply}
-use Rattle.mps_room.specs.Kept.{Record, AreHeard, owns, owners_after, hears, with_place}
+use Rattle.mps_room.specs.Kept.{RoomState, AreHeard, owns, owners_after, hears, with_place}
 use Rattle.mps_room.specs.declared.entry.Entry.{Entry}
-use Rattle.mps_session.proofs.Accepted.{handed_on}
+use Rattle.mps_session.proofs.HandedOn.{handed_on}
 use Rattle.mps_room.proofs.Accepting.{accepting, told_as, told_where}
 use Rattle.mps_room.proofs.Growing.{asked}
 use Rattle.mps_room.proofs.Lists.{map_each}
@@ -40,7 +40,7 @@ kept c =
     accepting s.types s.state c.args.role (change_in c) c.in_ok-answer.answer (served c).answer
 
 known : (c : After-keep) → c.args.role < length c.self.inside.session.types
-known c = subst (λ (m : Record). c.args.role < length m.types) (sym c.self.view_is) c.requires.role
+known c = subst (λ (m : RoomState). c.args.role < length m.types) (sym c.self.view_is) c.requires.role
 
 joined : (c : After-keep) → c.keep.new.journal.items ≡ c.self.inside.journal.items ++ record { role = c.args.role; command = c.args.command; answer = c.in_ok-answer.answer } ∷ []
 joined c =
@@ -85,7 +85,7 @@ returns-clause-entered c =
     let r = c.self.inside in
     let a = c.in_ok-answer.answer in
     let is = recording.replied_as r.names r.session r.owners.items r.heard.count (map (λ v. v.items) r.heard.lists.items) r.journal.items c.self.invariant c.args.role (known l) (change_in l) a (answered l) (kept l) c.in_default.ensures.few c.args.command (is_asked l) in
-    subst (λ (m : Record). HasEntered m.names m.types m.journal c.args.role c.args.command c.keep.new.journal.items) c.self.view_is
+    subst (λ (m : RoomState). HasEntered m.names m.types m.journal c.args.role c.args.command c.keep.new.journal.items) c.self.view_is
     (record {
       answer = a;
       wanted = subst (λ (w : Answer). IsReply a w) (sym is) (accepted_reply a (kept l));
@@ -103,7 +103,7 @@ returns-clause-answer c =
     let a = c.in_ok-answer.answer in
     let is = recording.replied_as r.names r.session r.owners.items r.heard.count (map (λ v. v.items) r.heard.lists.items) r.journal.items c.self.invariant c.args.role (known l) (change_in l) a (answered l) (kept l) c.in_default.ensures.few c.args.command (is_asked l) in
     told_as (λ (t : Answer). IsReply t (reply c.args.self.now.names c.args.self.now.types c.args.self.now.journal c.args.role c.args.command)) c.args.told a c.in_ok-answer.told c.in_ok-answer.ensures.again
-    (subst (λ (m : Record). IsReply a (reply m.names m.types m.journal c.args.role c.args.command)) c.self.view_is
+    (subst (λ (m : RoomState). IsReply a (reply m.names m.types m.journal c.args.role c.args.command)) c.self.view_is
     (subst (λ (w : Answer). IsReply a w) (sym is) (accepted_reply a (kept l))))
 
 pub returns-clause-journal : goal.returns-clause-journal
@@ -113,7 +113,7 @@ returns-clause-journal c =
     let a = c.in_ok-answer.answer in
     told_as (λ (t : Answer). c.keep.new.journal.items ≡ grown c.args.self.now.journal c.args.role c.args.command t) c.args.told a c.in_ok-answer.told c.in_ok-answer.ensures.again
     (recording.grown_as r.names r.session r.owners.items r.heard.count (map (λ v. v.items) r.heard.lists.items) r.journal.items c.self.invariant c.args.role (known l) (change_in l) a (answered l) (kept l) c.in_default.ensures.few c.args.command (is_asked l) c.keep.new.journal.items (joined l)
-    ∙ ap (λ (m : Record). grown m.journal c.args.role c.args.command a) c.self.view_is)
+    ∙ ap (λ (m : RoomState). grown m.journal c.args.role c.args.command a) c.self.view_is)
 
 pub returns-in_err-answer-clause-refused : goal.returns-in_err-answer-clause-refused
 returns-in_err-answer-clause-refused c =
@@ -121,5 +121,5 @@ returns-in_err-answer-clause-refused c =
     let found = asked c.args.command c.requires.change in
     let refusal = c.in_err-answer.field-0.0 in
     handed_on _ refusal (λ (a : Result (Option Answer) Refusal). IfErr a (λ e. IsReply (Refused e) (reply c.args.self.now.names c.args.self.now.types c.args.self.now.journal c.args.role c.args.command))) c.from_residual.ensures.1
-    (subst (λ (m : Record). IsReply (Refused refusal) (reply m.names m.types m.journal c.args.role c.args.command)) c.self.view_is
+    (subst (λ (m : RoomState). IsReply (Refused refusal) (reply m.names m.types m.journal c.args.role c.args.command)) c.self.view_is
     (recording.refused_as r.names r.session r.owners.items r.heard.count (map (λ v. v.items) r.heard.lists.items) r.journal.items c.self.invariant c.args.role found.0 c.args.command found.2 c.in_default.ensures.few c.accept.new.self.state refusal (c.in_err-answer.ensures.accepted found.0 found.1)))

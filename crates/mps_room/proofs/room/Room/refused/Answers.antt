@@ -3,7 +3,7 @@ use Rattle.std.specs.Prelude.{length}
 use Rattle.mps_machine.specs.Faults.{fault}
 use Rattle.mps_machine.specs.Machine.{State}
 use Rattle.mps_room.specs.Journal.{run}
-use Rattle.mps_room.specs.Kept.{Record}
+use Rattle.mps_room.specs.Kept.{RoomState}
 use Rattle.mps_room.proofs.Refusing.{refused, short_reply}
 use Rattle.mps_room.proofs.room.Room.refused.Goals as goal
 
@@ -14,7 +14,7 @@ returns-in-Err-clause-refused c =
     let command = c.args.command.now in
     let told : fault r.session.types r.session.state c.args.role command ≡ Some c.in-Err.refusal = sym c.in-Err.ensures.fault in
     refused m.names m.types m.journal c.args.role command c.in-Err.refusal
-    (ap (λ (k : Record). fault k.types (run k.types k.journal) c.args.role command) (sym c.self.view_is)
+    (ap (λ (k : RoomState). fault k.types (run k.types k.journal) c.args.role command) (sym c.self.view_is)
     ∙ ap (λ (st : State). fault r.session.types st c.args.role command) (sym c.self.invariant.state)
     ∙ told)
 
@@ -25,7 +25,7 @@ returns-in-Ok-clause-refused c =
     let command = c.args.command.now in
     let told : fault r.session.types r.session.state c.args.role command ≡ None = sym c.in-Ok.ensures.fault in
     short_reply m.names m.types m.journal c.args.role command c.args.refusal c.requires.change c.requires.short
-    (λ room. omega (arith, room, ap (λ (k : Record). length k.journal) c.self.view_is, c.self.invariant.owners.few, c.self.invariant.owners.next, ap (λ (k : Record). (run k.types k.journal).next) c.self.view_is, ap (λ (st : State). st.next) c.self.invariant.state))
-    (ap (λ (k : Record). fault k.types (run k.types k.journal) c.args.role command) (sym c.self.view_is)
+    (λ room. omega (arith, room, ap (λ (k : RoomState). length k.journal) c.self.view_is, c.self.invariant.owners.few, c.self.invariant.owners.next, ap (λ (k : RoomState). (run k.types k.journal).next) c.self.view_is, ap (λ (st : State). st.next) c.self.invariant.state))
+    (ap (λ (k : RoomState). fault k.types (run k.types k.journal) c.args.role command) (sym c.self.view_is)
     ∙ ap (λ (st : State). fault r.session.types st c.args.role command) (sym c.self.invariant.state)
     ∙ told)

@@ -2,10 +2,10 @@ use Rattle.std.proofs.Common.{◌≡◌, Some, refl, sym, ap, ◌∙◌}
 use Rattle.std.specs.Option.{option_map}
 use Rattle.mps_base.specs.declared.action.Step.{Step}
 use Rattle.mps_history.specs.Commits.{is_commit}
-use Rattle.mps_arena.specs.Entries.{Entry}
+use Rattle.mps_arena.specs.Entries.{KeyedStep}
 use Rattle.mps_session.specs.Configurations.{lists_of}
-use Rattle.mps_session.proofs.Free as free
-use Rattle.mps_session.proofs.Numbered as numbered
+use Rattle.mps_session.proofs.FreeStep as free
+use Rattle.mps_session.proofs.OwnStep as numbered
 use Rattle.mps_session.proofs.configuration.Configuration.free_step.Goals as goal
 use Rattle.mps_session.proofs.configuration.Configuration.free_step.Goals.{After-is_commit}
 
@@ -20,7 +20,7 @@ same c =
     let es = c.args.self.now.log.entries in
     let x = numbered.entry es c.in_ok-key.ensures.sound c.args.id c.in_ok-key.key c.in_ok-key.ensures.key in
     let found = numbered.found es c.in_ok-key.ensures.sound c.args.id c.in_ok-key.key c.in_ok-key.ensures.key in
-    let one : Some x.step ≡ Some c.get.result.now = sym (ap (option_map (λ (e : Entry). e.step)) found) ∙ c.get.ensures in
+    let one : Some x.step ≡ Some c.get.result.now = sym (ap (option_map (λ (e : KeyedStep). e.step)) found) ∙ c.get.ensures in
     let step : x.step ≡ c.get.result.now = cc in
     ap (λ (s : Step). is_commit s.act) step ∙ sym c.is_commit.ensures
 

@@ -3,24 +3,24 @@ use Rattle.std.specs.Prelude.{◌==◌}
 use Rattle.std.specs.Option.{option_map}
 use Rattle.mps_base.specs.declared.action.Step.{Step}
 use Rattle.mps_machine.specs.Machine.{owner_fault}
-use Rattle.mps_arena.specs.Entries.{Entry, entry_at}
-use Rattle.mps_session.proofs.Numbered as numbered
-use Rattle.mps_session.proofs.Numbered.{key_of}
+use Rattle.mps_arena.specs.Entries.{KeyedStep, entry_at}
+use Rattle.mps_session.proofs.OwnStep as numbered
+use Rattle.mps_session.proofs.OwnStep.{key_of}
 use Rattle.mps_session.proofs.configuration.Configuration.own_step.Goals as goal
 use Rattle.mps_session.proofs.configuration.Configuration.own_step.Goals.{In-Some}
 
 at : (c : In-Some) → key_of c.args.self.now.log.entries c.args.id ≡ Some c.in-Some.key
 at c = sym c.by_id.ensures.key ∙ c.in-Some.is
 
-abbrev entry : In-Some → Entry
+abbrev entry : In-Some → KeyedStep
 entry c = numbered.entry c.args.self.now.log.entries c.by_id.ensures.sound c.args.id c.in-Some.key (at c)
 
 there : (c : In-Some) → entry_at c.in-Some.key c.args.self.now.log.entries ≡ Some (entry c)
 there c = numbered.found c.args.self.now.log.entries c.by_id.ensures.sound c.args.id c.in-Some.key (at c)
 
-step : (c : In-Some) (s : Step) → option_map (λ (e : Entry). e.step) (entry_at c.in-Some.key c.args.self.now.log.entries) ≡ Some s → (entry c).step ≡ s
+step : (c : In-Some) (s : Step) → option_map (λ (e : KeyedStep). e.step) (entry_at c.in-Some.key c.args.self.now.log.entries) ≡ Some s → (entry c).step ≡ s
 step c s is =
-    let one : Some (entry c).step ≡ Some s = sym (ap (option_map (λ (e : Entry). e.step)) (there c)) ∙ is in
+    let one : Some (entry c).step ≡ Some s = sym (ap (option_map (λ (e : KeyedStep). e.step)) (there c)) ∙ is in
     cc
 
 pub returns-in_default-clause-fault : goal.returns-in_default-clause-fault

@@ -6,63 +6,63 @@ use Rattle.std.specs.List.{AllByRecursion}
 use Rattle.mps_base.specs.declared.action.Step.{Step}
 use Rattle.mps_history.specs.Dependence.{consequences}
 use Rattle.mps_history.specs.Steps.{numbers, within}
-use Rattle.mps_arena.specs.Entries.{Entry, steps}
+use Rattle.mps_arena.specs.Entries.{KeyedStep, steps}
 use Rattle.mps_links.specs.Marks.{marked_keys, marked_steps, unmarked_steps, unmarked}
 use Rattle.mps_links.proofs.Going.{unmarked_left, marked_count, marked_within}
 use Rattle.mps_log.proofs.Remarked.{all_again}
 use Rattle.mps_session.specs.Configurations.{Configuration, lists_of}
-use Rattle.mps_session.specs.Held.{Holds}
+use Rattle.mps_session.specs.Invariant.{Holds}
 use Rattle.std.proofs.lemmas.List.{length-reverse}
-use Rattle.mps_session.proofs.Types.{length_map}
-use Rattle.mps_session.proofs.Rolling as rolling
+use Rattle.mps_session.proofs.TypesByPlace.{length_map}
+use Rattle.mps_session.proofs.RemoveMarked as rolling
 use Rattle.mps_session.proofs.configuration.Configuration.roll_back.Goals as goal
-use Rattle.mps_session.proofs.configuration.Configuration.roll_back.Goals.{After-mark_from-count, After-take_marked, After-unmark}
+use Rattle.mps_session.proofs.configuration.Configuration.roll_back.Goals.{After-mark_from-count, After-remove_marked, After-unmark}
 
 -- what is marked
 abbrev set : After-mark_from-count → ℕ → Bool
 set c = consequences (steps c.args.self.now.log.entries) c.args.id
 
-abbrev marks : After-mark_from-count → Entry → Bool
+abbrev marks : After-mark_from-count → KeyedStep → Bool
 marks c e = set c e.step.id
 
-pub take_marked-requires-clause-members : goal.take_marked-requires-clause-members
-take_marked-requires-clause-members c =
-    let k = (goal.at.take_marked-requires-clause-members c).After-mark_from-count in
+pub remove_marked-requires-clause-members : goal.remove_marked-requires-clause-members
+remove_marked-requires-clause-members c =
+    let k = (goal.at.remove_marked-requires-clause-members c).After-mark_from-count in
     let n = length c.args.self.now.cursors.items in
-    subst (AllByRecursion (λ (e : Entry). e.step.role < n)) (sym c.mark_from-count.ensures.marks) (all_again (marks k) (λ s. s.role < n) c.args.self.now.log.entries c.requires.members)
+    subst (AllByRecursion (λ (e : KeyedStep). e.step.role < n)) (sym c.mark_from-count.ensures.marks) (all_again (marks k) (λ s. s.role < n) c.args.self.now.log.entries c.requires.members)
 
-pub take_marked-requires-clause-room : goal.take_marked-requires-clause-room
-take_marked-requires-clause-room c =
-    let k = (goal.at.take_marked-requires-clause-room c).After-mark_from-count in
-    let marked = ap (λ (l : List Entry). length (marked_keys l)) c.mark_from-count.ensures.marks ∙ marked_count c.args.self.now.log.entries (set k) in
+pub remove_marked-requires-clause-room : goal.remove_marked-requires-clause-room
+remove_marked-requires-clause-room c =
+    let k = (goal.at.remove_marked-requires-clause-room c).After-mark_from-count in
+    let marked = ap (λ (l : List KeyedStep). length (marked_keys l)) c.mark_from-count.ensures.marks ∙ marked_count c.args.self.now.log.entries (set k) in
     omega (arith, marked, c.mark_from-count.ensures.count, c.in-Ok.ensures.none, c.in-Ok.ensures.first_room)
 
 -- the numbers that were told
-all : (c : After-take_marked) → c.take_marked.new.ids.items ≡ reverse (numbers (within (steps c.args.self.now.log.entries) (consequences (steps c.args.self.now.log.entries) c.args.id)))
+all : (c : After-remove_marked) → c.remove_marked.new.ids.items ≡ reverse (numbers (within (steps c.args.self.now.log.entries) (consequences (steps c.args.self.now.log.entries) c.args.id)))
 all c =
-    c.take_marked.ensures.numbers
+    c.remove_marked.ensures.numbers
     ∙ ap₂ (λ (ids : List ℕ) (h : List Step). ids ++ reverse (numbers h)) c.in-Ok.ensures.first
     (ap marked_steps c.mark_from-count.ensures.marks ∙ marked_within c.args.self.now.log.entries (consequences (steps c.args.self.now.log.entries) c.args.id))
 
 pub told-requires-clause-space : goal.told-requires-clause-space
 told-requires-clause-space c =
-    let k = (goal.at.told-requires-clause-space c).After-take_marked in
+    let k = (goal.at.told-requires-clause-space c).After-remove_marked in
     let gone = within (steps c.args.self.now.log.entries) (consequences (steps c.args.self.now.log.entries) c.args.id) in
     let long = ap (λ (l : List ℕ). length l) (all k) ∙ length-reverse (numbers gone) ∙ length_map (λ (s : Step). s.id) gone in
-    IfSome_then c.in-Ok.room c.in-Ok.ensures.room_again (λ more fits. omega (arith, fits, long, c.take_marked.new.ids.ok.0, c.mark_from-count.ensures.count))
+    IfSome_then c.in-Ok.room c.in-Ok.ensures.room_again (λ more fits. omega (arith, fits, long, c.remove_marked.new.ids.ok.0, c.mark_from-count.ensures.count))
 
 pub returns-in-Ok-clause-numbers : goal.returns-in-Ok-clause-numbers
-returns-in-Ok-clause-numbers c = c.told.ensures.first ∙ all ((goal.at.returns-in-Ok-clause-numbers c).After-take_marked)
+returns-in-Ok-clause-numbers c = c.told.ensures.first ∙ all ((goal.at.returns-in-Ok-clause-numbers c).After-remove_marked)
 
 pub returns-in-Ok-clause-history : goal.returns-in-Ok-clause-history
 returns-in-Ok-clause-history c =
     let k = (goal.at.returns-in-Ok-clause-history c).After-mark_from-count in
-    c.take_marked.ensures.history ∙ ap unmarked_steps c.mark_from-count.ensures.marks ∙ unmarked_left c.args.self.now.log.entries (set k)
+    c.remove_marked.ensures.history ∙ ap unmarked_steps c.mark_from-count.ensures.marks ∙ unmarked_left c.args.self.now.log.entries (set k)
 
 pub returns-in-Ok-clause-holds : goal.returns-in-Ok-clause-holds
 returns-in-Ok-clause-holds c types holds =
     let k = (goal.at.returns-in-Ok-clause-holds c).After-mark_from-count in
-    c.take_marked.ensures.holds types
+    c.remove_marked.ensures.holds types
     (rolling.again_holds_as types (lists_of c.args.self.now) (marks k) holds c.mark_from-count.new.self.entries c.mark_from-count.new.self.issued c.mark_from-count.ensures.marks c.mark_from-count.ensures.issued)
 
 -- where memory runs out all is as it was
@@ -73,7 +73,7 @@ entries c =
 
 same : (c : After-unmark) → ◌≡◌ {A = Configuration} (record { cursors = c.args.self.now.cursors.items; entries = c.unmark.new.self.entries; issued = c.unmark.new.self.issued }) (lists_of c.args.self.now)
 same c =
-    ap₂ (λ (l : List Entry) (i : ℕ). let d : Configuration = record { cursors = c.args.self.now.cursors.items; entries = l; issued = i } in d) (entries c) (c.unmark.ensures.issued ∙ c.mark_from-count.ensures.issued)
+    ap₂ (λ (l : List KeyedStep) (i : ℕ). let d : Configuration = record { cursors = c.args.self.now.cursors.items; entries = l; issued = i } in d) (entries c) (c.unmark.ensures.issued ∙ c.mark_from-count.ensures.issued)
 
 pub returns-in-Err-clause-unmarked : goal.returns-in-Err-clause-unmarked
 returns-in-Err-clause-unmarked c = ap marked_keys (entries ((goal.at.returns-in-Err-clause-unmarked c).After-unmark)) ∙ c.requires.unmarked

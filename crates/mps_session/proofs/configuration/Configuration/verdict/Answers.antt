@@ -9,8 +9,8 @@ use Rattle.mps_machine.specs.View.{Participant}
 use Rattle.mps_table.specs.Standing.{StandsFor}
 use Rattle.mps_session.specs.Configurations.{lists_of, moved_in}
 use Rattle.mps_session.specs.declared.cursor.Cursor.{Cursor}
-use Rattle.mps_session.proofs.Cursors.{cursor_at}
-use Rattle.mps_session.proofs.Following.{follows_all}
+use Rattle.mps_session.proofs.CursorByPlace.{cursor_at}
+use Rattle.mps_session.proofs.NodeAfterAct.{follows_all}
 use Rattle.mps_session.proofs.configuration.Configuration.verdict.Goals as goal
 
 pub returns-clause-follows : goal.returns-clause-follows

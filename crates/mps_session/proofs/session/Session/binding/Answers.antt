@@ -2,8 +2,8 @@ use Rattle.std.proofs.Common.{map, sym, ap, ◌∙◌}
 use Rattle.std.specs.Prelude.{slice_get}
 use Rattle.mps_local.specs.Local.{plain}
 use Rattle.mps_session.specs.Configurations.{lists_of}
-use Rattle.mps_session.specs.Seen.{Machine, view_of}
-use Rattle.mps_session.proofs.Accepting.{replayed, v}
+use Rattle.mps_session.specs.SessionState.{SessionState, session_view}
+use Rattle.mps_session.proofs.HoldsAfterAct.{replayed, v}
 use Rattle.mps_session.proofs.Slots.{binding_is}
 use Rattle.mps_session.proofs.session.Session.binding.Goals as goal
 
@@ -14,4 +14,4 @@ returns c =
     let kept = lists_of s.configuration in
     c.binding.ensures
     ∙ sym (binding_is types kept.entries (v types kept c.self.invariant.holds) c.args.role c.args.k c.self.invariant.holds.kept (replayed types kept c.self.invariant.holds))
-    ∙ ap (λ (m : Machine). slice_get ((view_of m).participant c.args.role).store c.args.k) c.self.view_is
+    ∙ ap (λ (m : SessionState). slice_get ((session_view m).participant c.args.role).store c.args.k) c.self.view_is

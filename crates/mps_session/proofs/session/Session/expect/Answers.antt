@@ -9,12 +9,12 @@ use Rattle.mps_arena.specs.Entries.{steps}
 use Rattle.mps_machine.specs.Machine.{view_of}
 use Rattle.mps_session.specs.Configurations.{lists_of}
 use Rattle.mps_session.specs.Cursors.{IsFor}
-use Rattle.mps_session.specs.Seen.{Machine, view_of as seen}
+use Rattle.mps_session.specs.SessionState.{SessionState, session_view}
 use Rattle.mps_session.specs.declared.cursor.Cursor.{Cursor}
 use Rattle.mps_session.specs.Peers.{IsHeadKnown}
-use Rattle.mps_session.proofs.Cursors.{cursor_at}
-use Rattle.mps_session.proofs.Known.{head_known}
-use Rattle.mps_session.proofs.Serving.{in_cursors, is_node, stands}
+use Rattle.mps_session.proofs.CursorByPlace.{cursor_at}
+use Rattle.mps_session.proofs.StepsNameRoles.{head_known}
+use Rattle.mps_session.proofs.ForwardAnswers.{in_cursors, is_node, stands}
 use Rattle.mps_session.proofs.session.Session.expect.Goals as goal
 
 -- a type that begins so has that head
@@ -46,7 +46,7 @@ returns-clause-head c =
     let at = c.index-cursor.ensures ∙ ap (λ (i : ℕ). get_or all i cursor) c.index.ensures.place in
     let here = cursor_at all c.args.role cursor (in_cursors types k c.self.invariant.holds c.args.self.now c.self.view_is c.args.role c.requires) at in
     let begins = c.expect.ensures.begins _ (subst (λ (x : Cursor). IsFor x ((view_of types (steps k.entries)).participant c.args.role).to_come) here (stands types k c.self.invariant.holds c.args.self.now c.self.view_is c.args.role c.requires)) in
-    begins_first (head_of c.expect.result) _ begins ∙ ap (λ (m : Machine). head ((seen m).participant c.args.role).to_come) c.self.view_is
+    begins_first (head_of c.expect.result) _ begins ∙ ap (λ (m : SessionState). head ((session_view m).participant c.args.role).to_come) c.self.view_is
 
 pub returns-clause-known : goal.returns-clause-known
 returns-clause-known c =
@@ -61,5 +61,5 @@ returns-clause-known c =
     let holds = c.self.invariant.holds in
     let less : c.args.role < length types = omega (arith, holds.cursors.long, in_cursors types k holds c.args.self.now c.self.view_is c.args.role c.requires) in
     let peers = unfolded_peers (IsOtherRole (length types) c.args.role) _ (holds.cursors.peers c.args.role less) in
-    subst (λ (m : Machine). IsHeadKnown (length m.types) (head_of c.expect.result)) c.self.view_is
+    subst (λ (m : SessionState). IsHeadKnown (length m.types) (head_of c.expect.result)) c.self.view_is
     (head_known (length types) c.args.role (head_of c.expect.result) _ begins peers)

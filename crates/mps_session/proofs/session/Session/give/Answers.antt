@@ -3,10 +3,10 @@ use Rattle.mps_local.specs.Local.{plain}
 use Rattle.mps_links.specs.Marks.{marked_keys}
 use Rattle.mps_command.specs.Acts.{act_of}
 use Rattle.mps_session.specs.Configurations.{lists_of, state_of}
-use Rattle.mps_session.specs.Seen.{Machine}
-use Rattle.mps_session.proofs.Rolling.{push_unmarked}
-use Rattle.mps_session.proofs.Serving as serving
-use Rattle.mps_session.proofs.Taking as taking
+use Rattle.mps_session.specs.SessionState.{SessionState}
+use Rattle.mps_session.proofs.RemoveMarked.{push_unmarked}
+use Rattle.mps_session.proofs.ForwardAnswers as serving
+use Rattle.mps_session.proofs.ForwardServed as forwarding
 use Rattle.mps_session.proofs.session.Session.give.Goals as goal
 
 pub allowed-requires-clause-stands : goal.allowed-requires-clause-stands
@@ -17,11 +17,11 @@ allowed-requires-clause-stands c =
 pub returns-in_err-node-clause-served : goal.returns-in_err-node-clause-served
 returns-in_err-node-clause-served c =
     let s = c.self.inside in
-    taking.refused_by (map plain s.types.items) (lists_of s.configuration) c.self.invariant.holds c.args.self.now c.self.view_is c.args.role c.requires.role c.args.command.now
+    forwarding.refused_by (map plain s.types.items) (lists_of s.configuration) c.self.invariant.holds c.args.self.now c.self.view_is c.args.role c.requires.role c.args.command.now
     c.from_residual.result _ c.from_residual.ensures.1 c.in_err-node.ensures.barred c.args.self.now.state refl
 
-pub give-requires-clause-ready : goal.give-requires-clause-ready
-give-requires-clause-ready c =
+pub act-requires-clause-ready : goal.act-requires-clause-ready
+act-requires-clause-ready c =
     let s = c.self.inside in
     serving.ready (map plain s.types.items) (lists_of s.configuration) c.self.invariant.holds c.args.self.now c.self.view_is c.args.role c.requires.role (act_of c.args.command.now) c.in_ok-node.ensures.allowed
 
@@ -29,21 +29,21 @@ pub returns-in_err-id-clause-served : goal.returns-in_err-id-clause-served
 returns-in_err-id-clause-served c =
     let s = c.self.inside in
     let types = map plain s.types.items in
-    taking.starved types (lists_of s.configuration) c.self.invariant.holds c.args.self.now c.self.view_is c.args.role c.requires.role c.args.command.now c.in_ok-node.ensures.allowed c.in_ok-node.ensures.room
-    c.from_residual-in_err-id.result c.from_residual-in_err-id.ensures.1 _ (ap state_of c.in_err-id.ensures.err ∙ ap (λ (m : Machine). m.state) c.self.view_is)
+    forwarding.starved types (lists_of s.configuration) c.self.invariant.holds c.args.self.now c.self.view_is c.args.role c.requires.role c.args.command.now c.in_ok-node.ensures.allowed c.in_ok-node.ensures.room
+    c.from_residual-in_err-id.result c.from_residual-in_err-id.ensures.1 _ (ap state_of c.in_err-id.ensures.err ∙ ap (λ (m : SessionState). m.state) c.self.view_is)
 
 pub invariant_of-self-2 : goal.invariant_of-self-2
 invariant_of-self-2 c =
     let s = c.self.inside in
     let acted = c.in_ok-id.ensures.acted in
     record {
-      holds = taking.holds_then (map plain s.types.items) (lists_of s.configuration) c.self.invariant.holds c.args.self.now c.self.view_is c.args.role c.requires.role c.args.command.now c.in_ok-node.ensures.allowed c.in_ok-node.ensures.room
-          c.in_ok-node.node c.in_ok-node.ensures.follows (lists_of c.give.new.self) acted;
+      holds = forwarding.holds_then (map plain s.types.items) (lists_of s.configuration) c.self.invariant.holds c.args.self.now c.self.view_is c.args.role c.requires.role c.args.command.now c.in_ok-node.ensures.allowed c.in_ok-node.ensures.room
+          c.in_ok-node.node c.in_ok-node.ensures.follows (lists_of c.act.new.self) acted;
       unmarked = ap marked_keys acted.joined.entries ∙ push_unmarked s.configuration.log.entries _ refl c.self.invariant.unmarked;
     }
 
 pub returns-clause-served : goal.returns-clause-served
 returns-clause-served c =
     let s = c.self.inside in
-    taking.done (map plain s.types.items) (lists_of s.configuration) c.self.invariant.holds c.args.self.now c.self.view_is c.args.role c.requires.role c.args.command.now c.in_ok-node.ensures.allowed c.in_ok-node.ensures.room
-    c.in_ok-node.node c.in_ok-node.ensures.follows (lists_of c.give.new.self) c.in_ok-id.ensures.acted c.in_ok-id.id None c.told.result.0 c.told.ensures.first c.in_ok-id.ensures.id (taking.none_taken c.args.command.now _ c.requires.gives)
+    forwarding.done (map plain s.types.items) (lists_of s.configuration) c.self.invariant.holds c.args.self.now c.self.view_is c.args.role c.requires.role c.args.command.now c.in_ok-node.ensures.allowed c.in_ok-node.ensures.room
+    c.in_ok-node.node c.in_ok-node.ensures.follows (lists_of c.act.new.self) c.in_ok-id.ensures.acted c.in_ok-id.id None c.told.result.0 c.told.ensures.first c.in_ok-id.ensures.id (forwarding.none_taken c.args.command.now _ c.requires.gives)

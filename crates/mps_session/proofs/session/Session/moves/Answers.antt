@@ -4,10 +4,10 @@ use Rattle.mps_local.specs.Local.{plain}
 use Rattle.mps_session.specs.Configurations.{lists_of}
 use Rattle.mps_log.specs.Shown.{Moved}
 use Rattle.mps_session.specs.Peers.{IsKnown}
-use Rattle.mps_session.specs.Seen.{Machine, moves_of}
-use Rattle.mps_session.proofs.Accepting.{replayed, v}
-use Rattle.mps_session.proofs.Known.{all_known}
-use Rattle.mps_session.proofs.Moved.{moved_is}
+use Rattle.mps_session.specs.SessionState.{SessionState, moves_of}
+use Rattle.mps_session.proofs.HoldsAfterAct.{replayed, v}
+use Rattle.mps_session.proofs.StepsNameRoles.{all_known}
+use Rattle.mps_session.proofs.MovedMessages.{moved_is}
 use Rattle.mps_session.proofs.session.Session.moves.Goals as goal
 
 pub returns-clause-moves : goal.returns-clause-moves
@@ -27,5 +27,5 @@ returns-clause-known c =
     let holds = c.self.invariant.holds in
     let is = c.moves.ensures ∙ moved_is types kept.entries (v types kept holds) holds.kept (replayed types kept holds) in
     let known = all_known types kept.entries (v types kept holds) holds.peers holds.members (replayed types kept holds) in
-    subst (λ (m : Machine). AllByRecursion (λ x. IsKnown (length m.types) x.0) c.moves.result) c.self.view_is
+    subst (λ (m : SessionState). AllByRecursion (λ x. IsKnown (length m.types) x.0) c.moves.result) c.self.view_is
     (subst (λ (l : List Moved). AllByRecursion (λ x. IsKnown (length types) x.0) l) (sym is) known)

@@ -4,18 +4,18 @@ use Rattle.mps_command.specs.declared.answer.Answer.{Answer}
 use Rattle.mps_local.specs.Local.{LocalType}
 use Rattle.mps_machine.specs.Machine.{Request, IsSound}
 use Rattle.mps_machine.proofs.Sound.{serve_sound}
-use Rattle.mps_machine.proofs.TakingBack.{undoes_steps, refuses_needed, refuses_final, takes_futures}
+use Rattle.mps_machine.proofs.Undoing.{undoes_steps, refuses_needed, refuses_final, removes_futures}
 use Rattle.mps_machine.proofs.Keeping.{keeps_commits}
 use Rattle.mps_machine.proofs.Marks.{returns_to_marks}
 use Rattle.mps_machine.specs.Answering.{IsChanged, result_of}
 use Rattle.mps_session.specs.Runs.{AreServed}
-use Rattle.mps_session.specs.Seen.{Machine}
-use Rattle.mps_session.proofs.Runs.{one_more, as_many, still_sound}
+use Rattle.mps_session.specs.SessionState.{SessionState}
+use Rattle.mps_session.proofs.ServeAll.{one_more, as_many, still_sound}
 use Rattle.mps_session.proofs.session.Session.serve_all.Goals as goal
 use Rattle.mps_session.proofs.session.Session.serve_all.Goals.{After-drop-requests, After-drop-role-iterator, After-push_reserved}
 
 sound : (c : After-drop-requests) → IsSound c.args.self.now.types c.args.self.now.state
-sound c = subst (λ (m : Machine). IsSound m.types m.state) c.self.view_is c.self.invariant.holds.sound
+sound c = subst (λ (m : SessionState). IsSound m.types m.state) c.self.view_is c.self.invariant.holds.sound
 
 pub returns-in_err-answers-clause-undone : goal.returns-in_err-answers-clause-undone
 returns-in_err-answers-clause-undone c = undoes_steps c.args.self.now.types c.args.self.now.state (sound ((goal.at.returns-in_err-answers-clause-undone c).After-drop-requests))
@@ -29,8 +29,8 @@ returns-in_err-answers-clause-refused_final c = refuses_final c.args.self.now.ty
 pub returns-in_err-answers-clause-kept : goal.returns-in_err-answers-clause-kept
 returns-in_err-answers-clause-kept c = keeps_commits c.args.self.now.types c.args.self.now.state (sound ((goal.at.returns-in_err-answers-clause-kept c).After-drop-requests))
 
-pub returns-in_err-answers-clause-taken : goal.returns-in_err-answers-clause-taken
-returns-in_err-answers-clause-taken c = takes_futures c.args.self.now.types c.args.self.now.state (sound ((goal.at.returns-in_err-answers-clause-taken c).After-drop-requests))
+pub returns-in_err-answers-clause-removed : goal.returns-in_err-answers-clause-removed
+returns-in_err-answers-clause-removed c = removes_futures c.args.self.now.types c.args.self.now.state (sound ((goal.at.returns-in_err-answers-clause-removed c).After-drop-requests))
 
 pub returns-in_err-answers-clause-returned : goal.returns-in_err-answers-clause-returned
 returns-in_err-answers-clause-returned c = returns_to_marks c.args.self.now.types c.args.self.now.state (sound ((goal.at.returns-in_err-answers-clause-returned c).After-drop-requests))
@@ -80,8 +80,8 @@ returns-clause-refused_final c = refuses_final c.loop-role.self.types c.loop-rol
 pub returns-clause-kept : goal.returns-clause-kept
 returns-clause-kept c = keeps_commits c.loop-role.self.types c.loop-role.self.state (sound_after ((goal.at.returns-clause-kept c).After-drop-role-iterator))
 
-pub returns-clause-taken : goal.returns-clause-taken
-returns-clause-taken c = takes_futures c.loop-role.self.types c.loop-role.self.state (sound_after ((goal.at.returns-clause-taken c).After-drop-role-iterator))
+pub returns-clause-removed : goal.returns-clause-removed
+returns-clause-removed c = removes_futures c.loop-role.self.types c.loop-role.self.state (sound_after ((goal.at.returns-clause-removed c).After-drop-role-iterator))
 
 pub returns-clause-returned : goal.returns-clause-returned
 returns-clause-returned c = returns_to_marks c.loop-role.self.types c.loop-role.self.state (sound_after ((goal.at.returns-clause-returned c).After-drop-role-iterator))

@@ -1,8 +1,8 @@
 use Rattle.std.proofs.Common.{length, map, sym, ap, ◌∙◌}
 use Rattle.mps_local.specs.Local.{plain}
 use Rattle.mps_session.specs.Configurations.{lists_of}
-use Rattle.mps_session.specs.Seen.{Machine, view_of}
-use Rattle.mps_session.proofs.Accepting.{replayed, v}
+use Rattle.mps_session.specs.SessionState.{SessionState, session_view}
+use Rattle.mps_session.proofs.HoldsAfterAct.{replayed, v}
 use Rattle.mps_session.proofs.Slots.{slots_are}
 use Rattle.mps_session.proofs.session.Session.slots.Goals as goal
 
@@ -13,4 +13,4 @@ returns c =
     let kept = lists_of s.configuration in
     c.slots.ensures
     ∙ sym (slots_are types kept.entries (v types kept c.self.invariant.holds) c.args.role c.self.invariant.holds.kept (replayed types kept c.self.invariant.holds))
-    ∙ ap (λ (m : Machine). length ((view_of m).participant c.args.role).store) c.self.view_is
+    ∙ ap (λ (m : SessionState). length ((session_view m).participant c.args.role).store) c.self.view_is

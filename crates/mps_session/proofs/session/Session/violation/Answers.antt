@@ -3,8 +3,8 @@ use Rattle.mps_command.specs.Acts.{act_of}
 use Rattle.mps_local.specs.Local.{plain}
 use Rattle.mps_machine.specs.Violations.{violation}
 use Rattle.mps_session.specs.Configurations.{lists_of}
-use Rattle.mps_session.specs.Seen.{Machine, view_of}
-use Rattle.mps_session.proofs.Serving as serving
+use Rattle.mps_session.specs.SessionState.{SessionState, session_view}
+use Rattle.mps_session.proofs.ForwardAnswers as serving
 use Rattle.mps_session.proofs.session.Session.violation.Goals as goal
 
 pub verdict-requires-clause-stands : goal.verdict-requires-clause-stands
@@ -17,11 +17,11 @@ returns-in-Ok c =
     let s = c.self.inside in
     let act = act_of c.args.step.now in
     sym (serving.found (map plain s.types.items) (lists_of s.configuration) c.self.invariant.holds c.args.self.now c.self.view_is c.args.role c.requires act None c.in-Ok.ensures.allowed)
-    ∙ ap (λ (m : Machine). violation (view_of m) c.args.role act) c.self.view_is
+    ∙ ap (λ (m : SessionState). violation (session_view m) c.args.role act) c.self.view_is
 
 pub returns-in-Err : goal.returns-in-Err
 returns-in-Err c =
     let s = c.self.inside in
     let act = act_of c.args.step.now in
     sym (serving.found (map plain s.types.items) (lists_of s.configuration) c.self.invariant.holds c.args.self.now c.self.view_is c.args.role c.requires act (Some c.in-Err.fault) c.in-Err.ensures.violation)
-    ∙ ap (λ (m : Machine). violation (view_of m) c.args.role act) c.self.view_is
+    ∙ ap (λ (m : SessionState). violation (session_view m) c.args.role act) c.self.view_is

@@ -1,8 +1,8 @@
 use Rattle.std.proofs.Common.{map, sym, ap, ◌∙◌}
 use Rattle.mps_local.specs.Local.{plain}
 use Rattle.mps_session.specs.Configurations.{lists_of}
-use Rattle.mps_session.specs.Seen.{Machine, view_of}
-use Rattle.mps_session.proofs.Accepting.{waits_there}
+use Rattle.mps_session.specs.SessionState.{SessionState, session_view}
+use Rattle.mps_session.proofs.HoldsAfterAct.{waits_there}
 use Rattle.mps_session.proofs.session.Session.waiting.Goals as goal
 
 pub returns : goal.returns
@@ -10,4 +10,4 @@ returns c =
     let s = c.self.inside in
     c.waiting.ensures
     ∙ sym (waits_there (map plain s.types.items) (lists_of s.configuration) c.self.invariant.holds c.args.from c.args.to)
-    ∙ ap (λ (m : Machine). (view_of m).queue c.args.from c.args.to) c.self.view_is
+    ∙ ap (λ (m : SessionState). (session_view m).queue c.args.from c.args.to) c.self.view_is

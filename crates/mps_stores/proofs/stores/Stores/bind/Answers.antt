@@ -1,14 +1,14 @@
 use Rattle.std.proofs.Common.{◌≡◌, ℕ, ◌<◌, List, [], ◌∷◌, ◌++◌, length, Option, sym, ap, ◌∙◌, subst}
 use Rattle.std.specs.Prelude.{Result, Ok, Err, IfOk, OnOk, slice_set}
 use Rattle.mps_history.specs.Slots.{bound, value_in}
-use Rattle.mps_arena.specs.Entries.{Entry}
+use Rattle.mps_arena.specs.Entries.{KeyedStep}
 use Rattle.mps_stores.specs.Stores.{Keys, Naming, store_at, IsBinding, AreStores}
 use Rattle.mps_stores.proofs.Bindings.{stores_bind, store_is}
 use Rattle.mps_stores.proofs.stores.Stores.bind.Goals as goal
 
 follows_from : {E : Type 0} (r : Result (Option ℕ) E) (stores : List Keys) (p key : ℕ) (name : List ℕ) (now : Keys) → length stores ≡ 8 → p < 8
     → IfOk r (λ older. older ≡ value_in name (store_at stores p)) → OnOk r (now ≡ bound name key (store_at stores p))
-    → IfOk r (λ older. (naming : Naming) (es : List Entry) (e : Entry) → AreStores naming es stores → IsBinding naming p name e → e.key ≡ key → e.before.bound ≡ older → AreStores naming (es ++ e ∷ []) (slice_set stores p now))
+    → IfOk r (λ older. (naming : Naming) (es : List KeyedStep) (e : KeyedStep) → AreStores naming es stores → IsBinding naming p name e → e.key ≡ key → e.before.bound ≡ older → AreStores naming (es ++ e ∷ []) (slice_set stores p now))
 follows_from (Err error) stores p key name now long small replaced bound_is = tt
 follows_from (Ok older) stores p key name now long small replaced bound_is = λ naming es e s is same kept.
     let now_is : now ≡ bound name e.key (store_at stores p) = bound_is ∙ ap (λ (k : ℕ). bound name k (store_at stores p)) (sym same) in

@@ -1,5 +1,5 @@
 use Rattle.std.proofs.Common.{◌≡◌, ℕ, zero, suc, [], ◌∷◌, ◌++◌, List, replicate, refl, ap, ◌∙◌}
-use Rattle.mps_arena.specs.Entries.{Entry}
+use Rattle.mps_arena.specs.Entries.{KeyedStep}
 use Rattle.mps_stores.specs.Stores.{store_at}
 use Rattle.mps_stores.proofs.stores.Stores.new.Goals as goal
 
@@ -8,7 +8,7 @@ nothing zero p = refl
 nothing (suc n) zero = refl
 nothing (suc n) (suc p) = nothing n p
 
-none_in : (a b : List Entry) (e : Entry) → [] ≡ a ++ e ∷ b → ⊥
+none_in : (a b : List KeyedStep) (e : KeyedStep) → [] ≡ a ++ e ∷ b → ⊥
 none_in [] b e whole = absurd cc
 none_in (x ∷ a) b e whole = absurd cc
 

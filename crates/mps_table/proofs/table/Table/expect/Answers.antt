@@ -4,8 +4,8 @@ use Rattle.mps_table.proofs.table.Table.expect.Goals as goal
 
 pub returns-clause-begins : goal.returns-clause-begins
 returns-clause-begins c =
-    λ t stands. shown_begins c.args.self.now c.args.node c.entry.result (head_of c.shown.result) t c.entry.ensures.entry c.shown.ensures stands
+    λ t stands. shown_begins c.args.self.now c.args.node c.row.result (head_of c.shown.result) t c.row.ensures.row c.shown.ensures stands
 
 pub returns-clause-next : goal.returns-clause-next
 returns-clause-next c =
-    λ choice may. next_allowed c.args.self.now c.args.node c.entry.result (head_of c.shown.result) choice c.entry.ensures.entry c.shown.ensures may
+    λ choice may. next_allowed c.args.self.now c.args.node c.row.result (head_of c.shown.result) choice c.row.ensures.row c.shown.ensures may

@@ -3,7 +3,7 @@ use Rattle.std.proofs.lemmas.Result.{on_ok_weaker}
 use Rattle.mps_room.specs.declared.entry.Entry.{Entry}
 use Rattle.mps_wire.specs.Answers.{Answering}
 use Rattle.mps_lines.specs.Lines.{most_kept, front}
-use Rattle.mps_wire.specs.Script.{lines_of, place_of}
+use Rattle.mps_wire.specs.Script.{lines_of, place_of_run}
 use Rattle.mps_wire.proofs.Answering.{by_front}
 use Rattle.mps_wire.proofs.Carrying.{carried}
 use Rattle.mps_wire.proofs.Feeding.{feeding_begins, feeds_on, feeding_ends}
@@ -17,7 +17,7 @@ loop-k-init c = record {
   names = refl;
   types = refl;
   short = c.requires;
-  feeding = feeding_begins (lines_of c.args.self.now) [] (place_of c.args.self.now) c.args.bytes.now;
+  feeding = feeding_begins (lines_of c.args.self.now) [] (place_of_run c.args.self.now) c.args.bytes.now;
 }
 
 pub loop-k-preserved : goal.loop-k-preserved
@@ -33,8 +33,8 @@ loop-k-preserved c =
       types = c.in_ok-end_line.ensures.types ∙ i.types;
       short = omega (arith, ap length c.in_ok-end_line.ensures.next);
       feeding =
-          feeds_on answers [] (place_of c.args.self.now) c.args.bytes.now (by_front c.args.self.now.room.names c.args.self.now.room.types)
-          c.loop-k.rest.now (front (c.loop-k.self.line.items ++ take c.in-Some.k c.loop-k.rest.now)) a.0 c.in-Some.k (place_of c.loop-k.self) (place_of c.end_line.new.self) i.feeding
+          feeds_on answers [] (place_of_run c.args.self.now) c.args.bytes.now (by_front c.args.self.now.room.names c.args.self.now.room.types)
+          c.loop-k.rest.now (front (c.loop-k.self.line.items ++ take c.in-Some.k c.loop-k.rest.now)) a.0 c.in-Some.k (place_of_run c.loop-k.self) (place_of_run c.end_line.new.self) i.feeding
           c.in-Some.ensures.within c.in-Some.ensures.end c.in-Some.ensures.before refl line a.1 c.in_ok-end_line.ensures.next;
     }
 
@@ -44,7 +44,7 @@ returns-clause-kept c = on_ok_weaker c.keep.result (λ e. front_short_enough _ _
 pub returns-clause-answered : goal.returns-clause-answered
 returns-clause-answered c =
     on_ok_weaker c.keep.result
-    (λ e. feeding_ends (lines_of c.args.self.now) [] (place_of c.args.self.now) c.args.bytes.now c.loop-k.rest.now (place_of c.loop-k.self)
+    (λ e. feeding_ends (lines_of c.args.self.now) [] (place_of_run c.args.self.now) c.args.bytes.now c.loop-k.rest.now (place_of_run c.loop-k.self)
     (record { kept = c.keep.new.line.items; state = c.loop-k.self.room.journal; waiting = c.loop-k.self.answers.items })
     c.loop-k.invariant.feeding c.in_default.ensures.none e refl refl)
     c.keep.ensures.ok

@@ -1,0 +1,54 @@
+//! The lines of a conversation.
+ghost use Rattle.std.specs.Prelude.{ℕ, List, Option, IfOk, IsErrOf, IsTrue, ◌↔◌};
+ghost use Rattle.mps_base.specs.declared.value.Value.TheVariants as values;
+ghost use Rattle.mps_command.specs.declared.command.Command.{Command};
+ghost use Rattle.mps_command.specs.declared.command.Command.TheVariants as commands;
+ghost use Rattle.mps_command.specs.declared.command.Forward.TheVariants as steps;
+ghost use Rattle.mps_line.specs.Commands.{MayHaveNumber, SpellsNumbered};
+
+use crate::line_parts::split_number;
+use crate::read_commands::{LineFault, read_command};
+use mps_base::Roles;
+use mps_command::Command;
+use std::alloc::Global;
+
+/// Reads a line of a conversation: a command, or a number and a command that asks for a change. Whoever lost an answer
+/// sends the same line with the same number again.
+pub fn read_numbered(
+    alloc: Global,
+    roles: &Roles,
+    bytes: &[u8],
+) -> Result<(Option<u64>, Command), LineFault>
+    ensures read { IfOk result (λ r. SpellsNumbered roles.now bytes.now r.0 r.1) }
+    ensures bad { IsErrOf result LineFault.Bad → (number : Option ℕ) (command : Command)
+        → SpellsNumbered roles.now bytes.now number command → ⊥ }
+
+    // Only the sending of a text takes memory.
+    ensures memory { IsErrOf result LineFault.Memory → (number : Option ℕ) × (to : ℕ) × (text : List ℕ)
+        × SpellsNumbered roles.now bytes.now number (commands.Forward (steps.Send to (values.Text text))) }
+{
+    let Some(parts) = split_number(bytes) else {
+        let command = read_command(alloc, roles, bytes)?;
+        return Ok((None, command));
+    };
+    let (number, rest) = parts;
+    let command = read_command(alloc, roles, rest)?;
+    if !may_have_number(&command) {
+        return Err(LineFault::Bad);
+    }
+    Ok((Some(number), command))
+}
+
+// Whether a number may stand in front of the command.
+fn may_have_number(command: &Command) -> bool
+    ensures { IsTrue result ↔ MayHaveNumber command.now }
+{
+    match command {
+        Command::Forward(_) => true,
+        Command::Undo(_) => true,
+        Command::Rollback(_) => true,
+        Command::Back(_) => true,
+        Command::News(_) => false,
+        Command::Show => false,
+    }
+}

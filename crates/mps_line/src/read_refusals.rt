@@ -1,0 +1,114 @@
+//! How refusals are read.
+ghost use Rattle.std.specs.Prelude.{◌≡◌, ◌≢◌, ◌<◌, [], ◌∷◌, length, IfOk, IfSome, IfNone, IsErrOf};
+ghost use Rattle.mps_base.specs.Names.{IsNoneOf};
+ghost use Rattle.mps_command.specs.declared.answer.Answer.TheVariants.{Refused};
+ghost use Rattle.mps_command.specs.declared.answer.Refusal.{Refusal};
+ghost use Rattle.mps_command.specs.declared.answer.Refusal.TheVariants.{Violation as Violates};
+ghost use Rattle.mps_command.specs.declared.answer.Violation.{Violation};
+ghost use Rattle.mps_line.specs.Replies.{SpellsReply, lone_words, own_word, own_words, refusal_tokens, word_of};
+ghost use Rattle.mps_line.specs.Tokens.{Word, SpellsLine};
+ghost use Rattle.mps_line.specs.declared.write_replies.Reply.TheVariants.{Answered, BadLine, NoSession, NoRole, Taken, Number};
+
+use crate::line_parts::{behind, read_step};
+use crate::read_commands::LineFault;
+use crate::write_replies::Reply;
+use mps_command::{Answer, Refusal, Violation};
+
+// `refused` and why.
+#[tactic(auto, using(crate::proofs::Replying::own_line))]
+pub(crate) fn refused_reply(bytes: &[u8]) -> Result<Reply, LineFault>
+    ensures read { IfOk result (SpellsReply bytes.now) }
+    ensures refusal { IsErrOf result LineFault.Bad → (refusal : Refusal)
+        → SpellsReply bytes.now (Answered (Refused refusal)) → ⊥ }
+    ensures line { IsErrOf result LineFault.Bad → SpellsReply bytes.now BadLine → ⊥ }
+    ensures session { IsErrOf result LineFault.Bad → SpellsReply bytes.now NoSession → ⊥ }
+    ensures role { IsErrOf result LineFault.Bad → SpellsReply bytes.now NoRole → ⊥ }
+    ensures pass { IsErrOf result LineFault.Bad → SpellsReply bytes.now Taken → ⊥ }
+    ensures number { IsErrOf result LineFault.Bad → SpellsReply bytes.now Number → ⊥ }
+    ensures memory { IsErrOf result LineFault.Memory → ⊥ }
+{
+    let Some(rest) = behind(bytes, b"refused") else {
+        return Err(LineFault::Bad);
+    };
+    if let Some(refusal) = read_refusal(rest) {
+        return Ok(Reply::Answered(Answer::Refused(refusal)));
+    }
+    match own_reply(rest) {
+        Some(reply) => Ok(reply),
+        None => Err(LineFault::Bad),
+    }
+}
+
+// The reply that no command has, of that word.
+fn own_reply(word: &[u8]) -> Option<Reply>
+    ensures read { IfSome result (λ reply. word.now ≡ own_word reply) }
+    ensures some { IfSome result (λ reply. 0 < length (own_word reply)) }
+    ensures none { IfNone result (IsNoneOf own_words word.now) }
+{
+    match word {
+        b"line" => Some(Reply::BadLine),
+        b"nosession" => Some(Reply::NoSession),
+        b"norole" => Some(Reply::NoRole),
+        b"taken" => Some(Reply::Taken),
+        b"number" => Some(Reply::Number),
+        _ => None,
+    }
+}
+
+// The refusal of that word, with its step after `final` or `needed`.
+fn read_refusal(bytes: &[u8]) -> Option<Refusal>
+    ensures read { IfSome result (λ refusal. SpellsLine [] bytes.now (refusal_tokens refusal)) }
+    ensures none { IfNone result ((refusal : Refusal)
+        → SpellsLine [] bytes.now (refusal_tokens refusal) → ⊥) }
+{
+    if let Some(number) = behind(bytes, b"needed") {
+        return match read_step(number) {
+            Some(by) => Some(Refusal::Needed { by }),
+            None => None,
+        };
+    }
+    if let Some(number) = behind(bytes, b"final") {
+        return match read_step(number) {
+            Some(by) => Some(Refusal::Final { by }),
+            None => None,
+        };
+    }
+    match read_violation(bytes) {
+        Some(violation) => Some(Refusal::Violation(violation)),
+        None => lone_refusal(bytes),
+    }
+}
+
+// The refusal of that word, after which no step stands.
+fn lone_refusal(word: &[u8]) -> Option<Refusal>
+    ensures read { IfSome result (λ refusal. word.now ≡ word_of refusal) }
+    ensures alone { IfSome result (λ refusal. refusal_tokens refusal ≡ Word (word_of refusal) ∷ []) }
+    ensures none { IfNone result (IsNoneOf lone_words word.now) }
+{
+    match word {
+        b"nostep" => Some(Refusal::NoStep),
+        b"notyours" => Some(Refusal::NotYours),
+        b"nomark" => Some(Refusal::NoMark),
+        b"full" => Some(Refusal::Full),
+        b"memory" => Some(Refusal::Memory),
+        _ => None,
+    }
+}
+
+// What a role's type doesn't allow, of that word.
+fn read_violation(word: &[u8]) -> Option<Violation>
+    ensures read { IfSome result (λ violation. word.now ≡ word_of (Violates violation)) }
+    ensures none { IfNone result ((violation : Violation)
+        → word.now ≢ word_of (Violates violation)) }
+{
+    match word {
+        b"ended" => Some(Violation::Ended),
+        b"wrongact" => Some(Violation::WrongAct),
+        b"wrongpeer" => Some(Violation::WrongPeer),
+        b"wrongsort" => Some(Violation::WrongSort),
+        b"nolabel" => Some(Violation::NoLabel),
+        b"nothingqueued" => Some(Violation::NothingQueued),
+        b"mismatch" => Some(Violation::Mismatch),
+        _ => None,
+    }
+}

@@ -1,0 +1,263 @@
+//! How replies are read, and the first line of a connection.
+ghost use Rattle.std.specs.Prelude.{◌≡◌, ℕ, List, [], ◌∷◌, IfOk, IfSome, IfNone, IsErrOf, IsTrue, IsFalse, ◌↔◌};
+ghost use Rattle.mps_base.specs.declared.action.Message.{Message};
+ghost use Rattle.mps_base.specs.Values.{IsShown};
+ghost use Rattle.mps_command.specs.Shown.{IsShownText};
+ghost use Rattle.mps_command.specs.declared.answer.Answer.TheVariants.{Done as Accepted, Undone, News, Shown};
+ghost use Rattle.mps_command.specs.declared.answer.Done.{Done};
+ghost use Rattle.mps_line.specs.Replies.{SpellsJoin, SpellsReply, SpellsSteps, done_tokens, message_token};
+ghost use Rattle.mps_line.specs.Tokens.{Called, Number, SpellsLine, SpellsToken};
+ghost use Rattle.mps_line.specs.declared.write_replies.Reply.{Reply};
+ghost use Rattle.mps_line.specs.declared.write_replies.Reply.TheVariants.{Answered, Joined};
+
+use crate::line_parts::{behind, read_count, read_step, split_at_space};
+use crate::read_commands::LineFault;
+use crate::read_refusals::refused_reply;
+use crate::write_replies::Reply;
+use mps_base::{Message, Name, StepId, Value, ValueFault};
+use mps_command::{Answer, Done, ShownText, StepIds};
+use std::alloc::Global;
+
+/// Reads a reply that takes all of the bytes, without a line break. What a shown session says isn't
+/// read.
+///
+/// Lists of numbers, texts and shown sessions take memory. A line that spells no reply is `Bad`, also
+/// where memory runs out.
+pub fn read_answer(alloc: Global, bytes: &[u8]) -> Result<Reply, LineFault>
+    ensures read { IfOk result (SpellsReply bytes.now) }
+    ensures bad { IsErrOf result LineFault.Bad → (reply : Reply) → SpellsReply bytes.now reply → ⊥ }
+    ensures memory { IsErrOf result LineFault.Memory → (reply : Reply) × SpellsReply bytes.now reply }
+{
+    match bytes {
+        [b'd', ..] => done_reply(alloc, bytes),
+        [b'u', ..] => undone_reply(alloc, bytes),
+        [b'n', ..] => news_reply(alloc, bytes),
+        [b'{', ..] => shown_reply(alloc, bytes),
+        [b'j', ..] => joined_reply(bytes),
+        [b'r', ..] => refused_reply(bytes),
+        _ => Err(LineFault::Bad),
+    }
+}
+
+/// Reads the first line of a connection: `join`, the number of a session and a role's name. It takes
+/// no memory.
+pub fn read_join(bytes: &[u8]) -> Result<(u64, Name), LineFault>
+    ensures read { IfOk result (λ r. SpellsJoin bytes.now r.0 r.1) }
+    ensures bad { IsErrOf result LineFault.Bad → (session : ℕ) (name : List ℕ)
+        → SpellsJoin bytes.now session name → ⊥ }
+    ensures memory { IsErrOf result LineFault.Memory → ⊥ }
+{
+    let Some(rest) = behind(bytes, b"join") else {
+        return Err(LineFault::Bad);
+    };
+    match read_number_and_name(rest) {
+        Some(pass) => Ok(pass),
+        None => Err(LineFault::Bad),
+    }
+}
+
+// The number and the name after it.
+fn read_number_and_name(bytes: &[u8]) -> Option<(u64, Name)>
+    ensures read { IfSome result (λ r. SpellsLine [] bytes.now (Number r.0 ∷ Called r.1 ∷ [])) }
+    ensures none { IfNone result ((n : ℕ) (name : List ℕ)
+        → SpellsLine [] bytes.now (Number n ∷ Called name ∷ []) → ⊥) }
+{
+    let parts = split_at_space(bytes)?;
+    let number = read_count(parts.0)?;
+    let name = Name::read(parts.1)?;
+    Some((number, name))
+}
+
+// `joined` with a session's number and a role's name.
+fn joined_reply(bytes: &[u8]) -> Result<Reply, LineFault>
+    ensures read { IfOk result (SpellsReply bytes.now) }
+    ensures bad { IsErrOf result LineFault.Bad → (session : ℕ) (name : List ℕ)
+        → SpellsReply bytes.now (Joined session name) → ⊥ }
+    ensures memory { IsErrOf result LineFault.Memory → ⊥ }
+{
+    let Some(rest) = behind(bytes, b"joined") else {
+        return Err(LineFault::Bad);
+    };
+    let Some(pass) = read_number_and_name(rest) else {
+        return Err(LineFault::Bad);
+    };
+    let (session, name) = pass;
+    Ok(Reply::Joined { session, name })
+}
+
+// The text of a shown session.
+fn shown_reply(alloc: Global, bytes: &[u8]) -> Result<Reply, LineFault>
+    ensures read { IfOk result (SpellsReply bytes.now) }
+    ensures bad { IsErrOf result LineFault.Bad → (text : List ℕ)
+        → SpellsReply bytes.now (Answered (Shown text)) → ⊥ }
+    ensures memory { IsErrOf result LineFault.Memory → (reply : Reply) × SpellsReply bytes.now reply }
+{
+    if !is_shown_text(bytes) {
+        return Err(LineFault::Bad);
+    }
+    match Vec::from_slice(alloc, bytes) {
+        Ok(text) => Ok(Reply::Answered(Answer::Shown(ShownText::of(text)))),
+        Err(_) => Err(LineFault::Memory),
+    }
+}
+
+// Whether the bytes are the text of a shown session.
+fn is_shown_text(bytes: &[u8]) -> bool
+    ensures { IsTrue result ↔ IsShownText bytes.now }
+{
+    bytes.first() == Some(&b'{') && bytes.iter().all(|&byte| is_shown(byte))
+}
+
+// Whether the byte stands for a character that is shown.
+fn is_shown(byte: u8) -> bool
+    ensures { IsTrue result ↔ IsShown byte }
+{
+    (b' '..=b'~').contains(&byte)
+}
+
+// `done` with the number of a step, and what it took.
+fn done_reply(alloc: Global, bytes: &[u8]) -> Result<Reply, LineFault>
+    ensures read { IfOk result (SpellsReply bytes.now) }
+    ensures bad { IsErrOf result LineFault.Bad → (done : Done)
+        → SpellsReply bytes.now (Answered (Accepted done)) → ⊥ }
+    ensures memory { IsErrOf result LineFault.Memory → (reply : Reply) × SpellsReply bytes.now reply }
+{
+    let Some(rest) = behind(bytes, b"done") else {
+        return Err(LineFault::Bad);
+    };
+    let done = read_done(alloc, rest)?;
+    Ok(Reply::Answered(Answer::Done(done)))
+}
+
+// The step of that number, and after it the message that it took, if there is one.
+fn read_done(alloc: Global, bytes: &[u8]) -> Result<Done, LineFault>
+    ensures read { IfOk result (λ done. SpellsLine [] bytes.now (done_tokens done.id done.got)) }
+    ensures bad { IsErrOf result LineFault.Bad → (done : Done)
+        → SpellsLine [] bytes.now (done_tokens done.id done.got) → ⊥ }
+    ensures memory { IsErrOf result LineFault.Memory → (done : Done)
+        × SpellsLine [] bytes.now (done_tokens done.id done.got) }
+{
+    let Some(parts) = split_at_space(bytes) else {
+        return match read_step(bytes) {
+            Some(id) => Ok(Done { id, got: None }),
+            None => Err(LineFault::Bad),
+        };
+    };
+    let Some(id) = read_step(parts.0) else {
+        return Err(LineFault::Bad);
+    };
+    let message = read_message(alloc, parts.1)?;
+    Ok(Done {
+        id,
+        got: Some(message),
+    })
+}
+
+// The value or the label.
+fn read_message(alloc: Global, bytes: &[u8]) -> Result<Message, LineFault>
+    ensures read { IfOk result (λ message. SpellsToken [] bytes.now (message_token message)) }
+    ensures bad { IsErrOf result LineFault.Bad → (message : Message)
+        → SpellsToken [] bytes.now (message_token message) → ⊥ }
+    ensures memory { IsErrOf result LineFault.Memory → (message : Message)
+        × SpellsToken [] bytes.now (message_token message) }
+{
+    if let Some(label) = Name::read(bytes) {
+        return Ok(Message::Label(label));
+    }
+    match Value::read(alloc, bytes) {
+        Ok(value) => Ok(Message::Value(value)),
+        Err(ValueFault::Bad) => Err(LineFault::Bad),
+        Err(ValueFault::Memory) => Err(LineFault::Memory),
+    }
+}
+
+// `undone` with the numbers of some steps, or of none.
+fn undone_reply(alloc: Global, bytes: &[u8]) -> Result<Reply, LineFault>
+    ensures read { IfOk result (SpellsReply bytes.now) }
+    ensures bad { IsErrOf result LineFault.Bad → (ids : List ℕ)
+        → SpellsReply bytes.now (Answered (Undone ids)) → ⊥ }
+    ensures memory { IsErrOf result LineFault.Memory → (reply : Reply) × SpellsReply bytes.now reply }
+{
+    if bytes == b"undone".as_slice() {
+        return Ok(Reply::Answered(Answer::Undone(StepIds::of(Vec::new(alloc)))));
+    }
+    let Some(rest) = behind(bytes, b"undone") else {
+        return Err(LineFault::Bad);
+    };
+    let ids = read_steps(alloc, rest)?;
+    Ok(Reply::Answered(Answer::Undone(StepIds::of(ids))))
+}
+
+// `news` with the length of the journal, and the numbers of some steps, or of none.
+fn news_reply(alloc: Global, bytes: &[u8]) -> Result<Reply, LineFault>
+    ensures read { IfOk result (SpellsReply bytes.now) }
+    ensures bad { IsErrOf result LineFault.Bad → (n : ℕ) (ids : List ℕ)
+        → SpellsReply bytes.now (Answered (News n ids)) → ⊥ }
+    ensures memory { IsErrOf result LineFault.Memory → (reply : Reply) × SpellsReply bytes.now reply }
+{
+    let Some(rest) = behind(bytes, b"news") else {
+        return Err(LineFault::Bad);
+    };
+    let Some(parts) = split_at_space(rest) else {
+        return match read_count(rest) {
+            Some(length) => Ok(news_of(length, Vec::new(alloc))),
+            None => Err(LineFault::Bad),
+        };
+    };
+    let Some(length) = read_count(parts.0) else {
+        return Err(LineFault::Bad);
+    };
+    let ids = read_steps(alloc, parts.1)?;
+    Ok(news_of(length, ids))
+}
+
+// The news of so long a journal, and of these steps.
+fn news_of(length: u64, ids: Vec<StepId>) -> Reply
+    ensures { result ≡ Answered (News length ids.items) }
+{
+    Reply::Answered(Answer::News {
+        length,
+        ids: StepIds::of(ids),
+    })
+}
+
+// The steps of these numbers, of which there is one at least. Memory is taken once it is known that
+// there are no others.
+fn read_steps(alloc: Global, bytes: &[u8]) -> Result<Vec<StepId>, LineFault>
+    ensures read { IfOk result (λ ids. SpellsSteps bytes.now ids.items) }
+    ensures bad { IsErrOf result LineFault.Bad → (ids : List ℕ) → SpellsSteps bytes.now ids → ⊥ }
+    ensures memory { IsErrOf result LineFault.Memory → (ids : List ℕ) × SpellsSteps bytes.now ids }
+{
+    if !are_steps(bytes) {
+        return Err(LineFault::Bad);
+    }
+    let mut ids = Vec::new(alloc);
+    let mut rest = bytes;
+    while let Some(parts) = split_at_space(rest) {
+        let Some(id) = read_step(parts.0) else {
+            return Err(LineFault::Bad);
+        };
+        ids.push(id)?;
+        rest = parts.1;
+    }
+    let Some(id) = read_step(rest) else {
+        return Err(LineFault::Bad);
+    };
+    ids.push(id)?;
+    Ok(ids)
+}
+
+// Whether these are the numbers of some steps, of one at least.
+fn are_steps(bytes: &[u8]) -> bool
+    ensures yes { IsTrue result → (ids : List ℕ) × SpellsSteps bytes.now ids }
+    ensures no { IsFalse result → (ids : List ℕ) → SpellsSteps bytes.now ids → ⊥ }
+{
+    let mut rest = bytes;
+    while let Some(parts) = split_at_space(rest) {
+        if read_step(parts.0).is_none() {
+            return false;
+        }
+        rest = parts.1;
+    }
+    read_step(rest).is_some()
+}

@@ -1,0 +1,152 @@
+//! How commands are written.
+ghost use Rattle.std.specs.Prelude.{◌≡◌, OnOk, OnErr, IsTrue, ◌↔◌};
+ghost use Rattle.std.specs.Io.{StartsWith};
+ghost use Rattle.mps_base.specs.Appends.{Appends};
+ghost use Rattle.mps_command.specs.declared.command.Command.TheVariants as commands;
+ghost use Rattle.mps_line.specs.Tokens.{SpellsLine};
+ghost use Rattle.mps_line.specs.Commands.{verb_word, verb_of, arguments, TakesArguments, SpellsCommand, NamesRolesOf};
+
+use crate::line_parts::{write_count, write_name, write_role, write_step};
+use crate::read_commands::Verb;
+use mps_base::Roles;
+use mps_command::{Command, Forward};
+use std::alloc::AllocError;
+
+/// Writes the command at the end, without a line break.
+pub fn write_command(roles: &Roles, command: &Command, out: &mut Vec<u8>) -> Result<(), AllocError>
+    requires known { NamesRolesOf roles.now command.now }
+    ensures ok { OnOk result (Appends
+        (λ text. SpellsCommand roles.now text command.now) out.old.items out.new.items) }
+    ensures err { OnErr result (out.new.items ≡ out.old.items) }
+{
+    let before = out.len();
+    let written = write_parts(roles, command, out);
+    if written.is_err() {
+        out.truncate(before);
+    }
+    written
+}
+
+// Writes the command, or a part of it.
+fn write_parts(roles: &Roles, command: &Command, out: &mut Vec<u8>) -> Result<(), AllocError>
+    requires known { NamesRolesOf roles.now command.now }
+    ensures ok { OnOk result (Appends
+        (λ text. SpellsCommand roles.now text command.now) out.old.items out.new.items) }
+    ensures err { OnErr result (StartsWith out.new.items out.old.items) }
+{
+    out.extend_from_slice(verb_word(verb_of(command)))?;
+    if !takes_arguments(command) {
+        return Ok(());
+    }
+    out.push(b' ')?;
+    write_arguments(roles, command, out)
+}
+
+// Writes what stands after the verb, or a part of it.
+fn write_arguments(roles: &Roles, command: &Command, out: &mut Vec<u8>) -> Result<(), AllocError>
+    requires known { NamesRolesOf roles.now command.now }
+    ensures ok { OnOk result (Appends
+        (λ text. SpellsLine roles.now text (arguments command.now)) out.old.items out.new.items) }
+    ensures err { OnErr result (StartsWith out.new.items out.old.items) }
+{
+    match command {
+        Command::Forward(step) => write_forward(roles, step, out),
+        Command::Undo(id) => write_step(*id, out),
+        Command::Rollback(id) => write_step(*id, out),
+        Command::Back(name) => write_name(name, out),
+        Command::News(known) => write_count(*known, out),
+        Command::Show => Ok(()),
+    }
+}
+
+// Writes what stands after the verb of the step that a role wants to take, or a part of it.
+fn write_forward(roles: &Roles, step: &Forward, out: &mut Vec<u8>) -> Result<(), AllocError>
+    requires known { NamesRolesOf roles.now (commands.Forward step.now) }
+    ensures ok { OnOk result (Appends
+        (λ text. SpellsLine roles.now text (arguments (commands.Forward step.now)))
+        out.old.items out.new.items) }
+    ensures err { OnErr result (StartsWith out.new.items out.old.items) }
+{
+    match step {
+        Forward::Send { to, value } => {
+            write_role(roles, *to, out)?;
+            out.push(b' ')?;
+            value.write(out)
+        }
+        Forward::Choose { to, label } => {
+            write_role(roles, *to, out)?;
+            out.push(b' ')?;
+            write_name(label, out)
+        }
+        Forward::Receive { from, slot } => {
+            write_role(roles, *from, out)?;
+            out.push(b' ')?;
+            write_name(slot, out)
+        }
+        Forward::Pick { from } => write_role(roles, *from, out),
+        Forward::Mark { name } => write_name(name, out),
+        Forward::Commit => Ok(()),
+    }
+}
+
+// Whether something stands after the verb.
+fn takes_arguments(command: &Command) -> bool
+    ensures { IsTrue result ↔ TakesArguments command.now }
+{
+    match command {
+        Command::Forward(Forward::Commit) => false,
+        Command::Forward(_) => true,
+        Command::Undo(_) => true,
+        Command::Rollback(_) => true,
+        Command::Back(_) => true,
+        Command::News(_) => true,
+        Command::Show => false,
+    }
+}
+
+// The verb of the command.
+fn verb_of(command: &Command) -> Verb
+    ensures { result ≡ verb_of command.now }
+{
+    match command {
+        Command::Forward(step) => forward_verb(step),
+        Command::Undo(_) => Verb::Undo,
+        Command::Rollback(_) => Verb::Rollback,
+        Command::Back(_) => Verb::Back,
+        Command::News(_) => Verb::News,
+        Command::Show => Verb::Show,
+    }
+}
+
+// The verb of the step that a role wants to take.
+fn forward_verb(step: &Forward) -> Verb
+    ensures { result ≡ verb_of (commands.Forward step.now) }
+{
+    match step {
+        Forward::Send { .. } => Verb::Send,
+        Forward::Choose { .. } => Verb::Choose,
+        Forward::Receive { .. } => Verb::Receive,
+        Forward::Pick { .. } => Verb::Pick,
+        Forward::Mark { .. } => Verb::Mark,
+        Forward::Commit => Verb::Commit,
+    }
+}
+
+// The first word of such a command.
+fn verb_word(verb: Verb) -> &'static [u8]
+    ensures { result.now ≡ verb_word verb }
+{
+    match verb {
+        Verb::Send => b"send",
+        Verb::Choose => b"choose",
+        Verb::Receive => b"recv",
+        Verb::Pick => b"pick",
+        Verb::Mark => b"mark",
+        Verb::Commit => b"commit",
+        Verb::Undo => b"undo",
+        Verb::Rollback => b"rollback",
+        Verb::Back => b"back",
+        Verb::News => b"news",
+        Verb::Show => b"show",
+    }
+}

@@ -1,0 +1,270 @@
+//! The lines that answer others.
+ghost use Rattle.std.specs.Prelude.{◌≡◌, ℕ, List, [], IsTrue, OnOk, OnErr};
+ghost use Rattle.std.specs.Io.{StartsWith};
+ghost use Rattle.mps_base.specs.Appends.{Appends};
+ghost use Rattle.mps_command.specs.declared.answer.Answer.TheVariants.{Refused};
+ghost use Rattle.mps_command.specs.declared.answer.Refusal.TheVariants.{Violation as Violates};
+ghost use Rattle.mps_line.specs.Tokens.{SpellsToken, SpellsLine};
+ghost use Rattle.mps_line.specs.Replies.{SpellsReply, message_token, done_tokens, undone_tokens, news_tokens};
+ghost use Rattle.mps_line.specs.declared.write_replies.Reply.TheVariants.{Answered, BadLine, Joined};
+ghost use Rattle.mps_line.specs.Codes.{code_of, refusal_code, violation_code};
+
+use crate::answer_texts::{answer_has_text, pass_has_text};
+use crate::line_parts::{write_count, write_name, write_step};
+use mps_base::{Message, Name, StepId};
+use mps_command::{Answer, Done, Refusal, Violation};
+use std::alloc::AllocError;
+
+/// The reply to a line.
+#[derive(Debug, Drop)]
+pub enum Reply {
+    /// The answer to the command that the line spells.
+    Answered(Answer),
+    /// The line is spelled like none that may come.
+    BadLine,
+    /// The connection acts for the role of that name in that session from now on.
+    Joined { session: u64, name: Name },
+    /// No session has that number.
+    NoSession,
+    /// The session has no role of that name.
+    NoRole,
+    /// Another connection acts for the role.
+    Taken,
+    /// The number of the line is neither that of the last accepted one nor the one after it.
+    Number,
+}
+
+impl Reply {
+    /// The code of a refusal, 1 to 19; of any other reply 0.
+    pub fn code(&self) -> u8
+        ensures { result ≡ code_of self.now }
+    {
+        match self {
+            Reply::Answered(Answer::Refused(refusal)) => refusal_code(refusal),
+            Reply::BadLine => 14,
+            Reply::NoSession => 15,
+            Reply::NoRole => 16,
+            Reply::Taken => 17,
+            Reply::Number => 19,
+            Reply::Answered(_) | Reply::Joined { .. } => 0,
+        }
+    }
+
+    /// Whether the reply has a text, which each reply has. It does not allocate, so it can be asked where
+    /// there is none left to write the text.
+    pub fn has_text(&self) -> bool
+        ensures always { IsTrue result }
+        ensures text { (text : List ℕ) × SpellsReply text self.now }
+    {
+        match self {
+            Reply::Answered(answer) => answer_has_text(answer),
+            Reply::BadLine => true,
+            Reply::Joined { session, name } => pass_has_text(*session, name),
+            Reply::NoSession => true,
+            Reply::NoRole => true,
+            Reply::Taken => true,
+            Reply::Number => true,
+        }
+    }
+
+    /// Writes the reply at the end, without a line break.
+    pub fn write(&self, out: &mut Vec<u8>) -> Result<(), AllocError>
+        ensures ok { OnOk result
+            (Appends (λ text. SpellsReply text self.now) out.old.items out.new.items) }
+        ensures err { OnErr result (out.new.items ≡ out.old.items) }
+    {
+        let before = out.len();
+        let written = self.write_parts(out);
+        if written.is_err() {
+            out.truncate(before);
+        }
+        written
+    }
+
+    // Writes the reply, or a part of it.
+    fn write_parts(&self, out: &mut Vec<u8>) -> Result<(), AllocError>
+        ensures ok { OnOk result
+            (Appends (λ text. SpellsReply text self.now) out.old.items out.new.items) }
+        ensures err { OnErr result (StartsWith out.new.items out.old.items) }
+    {
+        match self {
+            Reply::Answered(answer) => write_answer(answer, out),
+            Reply::BadLine => write_bad_line(out),
+            Reply::Joined { session, name } => write_joined(*session, name, out),
+            Reply::NoSession => out.extend_from_slice(b"refused nosession"),
+            Reply::NoRole => out.extend_from_slice(b"refused norole"),
+            Reply::Taken => out.extend_from_slice(b"refused taken"),
+            Reply::Number => out.extend_from_slice(b"refused number"),
+        }
+    }
+}
+
+/// Writes that a line is spelled like none that may come, at the end, without a line break.
+pub fn write_bad_line(out: &mut Vec<u8>) -> Result<(), AllocError>
+    ensures ok { OnOk result
+        (Appends (λ text. SpellsReply text BadLine) out.old.items out.new.items) }
+    ensures err { OnErr result (out.new.items ≡ out.old.items) }
+{
+    out.extend_from_slice(b"refused line")
+}
+
+// Writes the session's number and the role's name, or a part of it.
+fn write_joined(session: u64, name: &Name, out: &mut Vec<u8>) -> Result<(), AllocError>
+    ensures ok { OnOk result (Appends
+        (λ text. SpellsReply text (Joined session name.now)) out.old.items out.new.items) }
+    ensures err { OnErr result (StartsWith out.new.items out.old.items) }
+{
+    out.extend_from_slice(b"joined ")?;
+    write_count(session, out)?;
+    out.push(b' ')?;
+    write_name(name, out)
+}
+
+/// Writes the answer at the end, without a line break. Where memory runs out, a part of it may stand there.
+pub fn write_answer(answer: &Answer, out: &mut Vec<u8>) -> Result<(), AllocError>
+    ensures ok { OnOk result (Appends
+        (λ text. SpellsReply text (Answered answer.now)) out.old.items out.new.items) }
+    ensures err { OnErr result (StartsWith out.new.items out.old.items) }
+{
+    match answer {
+        Answer::Done(done) => {
+            out.extend_from_slice(b"done ")?;
+            write_done(done, out)
+        }
+        Answer::Undone(ids) => write_undone(ids.as_slice(), out),
+        Answer::News { length, ids } => write_news(*length, ids.as_slice(), out),
+        Answer::Shown(text) => out.extend_from_slice(text.as_bytes()),
+        Answer::Refused(refusal) => write_refused(refusal, out),
+    }
+}
+
+/// Writes that a command is refused, at the end, without a line break: what `write_answer` writes of such an answer.
+/// Where memory runs out, a part of it may stand there.
+pub fn write_refused(refusal: &Refusal, out: &mut Vec<u8>) -> Result<(), AllocError>
+    ensures ok { OnOk result (Appends
+        (λ text. SpellsReply text (Answered (Refused refusal.now))) out.old.items out.new.items) }
+    ensures err { OnErr result (StartsWith out.new.items out.old.items) }
+{
+    match refusal {
+        Refusal::Violation(violation) => write_violation(*violation, out),
+        Refusal::NoStep => out.extend_from_slice(b"refused nostep"),
+        Refusal::NotYours => out.extend_from_slice(b"refused notyours"),
+        Refusal::Final { by } => {
+            out.extend_from_slice(b"refused final ")?;
+            write_step(*by, out)
+        }
+        Refusal::Needed { by } => {
+            out.extend_from_slice(b"refused needed ")?;
+            write_step(*by, out)
+        }
+        Refusal::NoMark => out.extend_from_slice(b"refused nomark"),
+        Refusal::Full => out.extend_from_slice(b"refused full"),
+        Refusal::Memory => out.extend_from_slice(b"refused memory"),
+    }
+}
+
+// Writes that a role's type doesn't allow the command, or nothing.
+fn write_violation(violation: Violation, out: &mut Vec<u8>) -> Result<(), AllocError>
+    ensures ok { OnOk result (Appends
+        (λ text. SpellsReply text (Answered (Refused (Violates violation)))) out.old.items out.new.items) }
+    ensures err { OnErr result (out.new.items ≡ out.old.items) }
+{
+    match violation {
+        Violation::Ended => out.extend_from_slice(b"refused ended"),
+        Violation::WrongAct => out.extend_from_slice(b"refused wrongact"),
+        Violation::WrongPeer => out.extend_from_slice(b"refused wrongpeer"),
+        Violation::WrongSort => out.extend_from_slice(b"refused wrongsort"),
+        Violation::NoLabel => out.extend_from_slice(b"refused nolabel"),
+        Violation::NothingQueued => out.extend_from_slice(b"refused nothingqueued"),
+        Violation::Mismatch => out.extend_from_slice(b"refused mismatch"),
+    }
+}
+
+// Writes the number of the step and the message that it took, or a part of them.
+fn write_done(done: &Done, out: &mut Vec<u8>) -> Result<(), AllocError>
+    ensures ok { OnOk result (Appends
+        (λ text. SpellsLine [] text (done_tokens done.now.id done.now.got))
+        out.old.items out.new.items) }
+    ensures err { OnErr result (StartsWith out.new.items out.old.items) }
+{
+    write_step(done.id, out)?;
+    match &done.got {
+        Some(message) => {
+            out.push(b' ')?;
+            write_message(message, out)
+        }
+        None => Ok(()),
+    }
+}
+
+// Writes the message, or a part of it.
+fn write_message(message: &Message, out: &mut Vec<u8>) -> Result<(), AllocError>
+    ensures ok { OnOk result (Appends
+        (λ text. SpellsToken [] text (message_token message.now)) out.old.items out.new.items) }
+    ensures err { OnErr result (StartsWith out.new.items out.old.items) }
+{
+    match message {
+        Message::Value(value) => value.write(out),
+        Message::Label(label) => out.extend_from_slice(label.as_bytes()),
+    }
+}
+
+// Writes the word and the numbers of the steps, or a part of them.
+fn write_undone(ids: &[StepId], out: &mut Vec<u8>) -> Result<(), AllocError>
+    ensures ok { OnOk result (Appends
+        (λ text. SpellsLine [] text (undone_tokens ids.now)) out.old.items out.new.items) }
+    ensures err { OnErr result (StartsWith out.new.items out.old.items) }
+{
+    out.extend_from_slice(b"undone")?;
+    for id in ids {
+        out.push(b' ')?;
+        write_step(*id, out)?;
+    }
+    Ok(())
+}
+
+// Writes the word, the length of the journal and the numbers of the steps, or a part of them.
+fn write_news(length: u64, ids: &[StepId], out: &mut Vec<u8>) -> Result<(), AllocError>
+    ensures ok { OnOk result (Appends
+        (λ text. SpellsLine [] text (news_tokens length ids.now)) out.old.items out.new.items) }
+    ensures err { OnErr result (StartsWith out.new.items out.old.items) }
+{
+    out.extend_from_slice(b"news ")?;
+    write_count(length, out)?;
+    for step in ids {
+        out.push(b' ')?;
+        write_step(*step, out)?;
+    }
+    Ok(())
+}
+
+// The code of a refusal.
+fn refusal_code(refusal: &Refusal) -> u8
+    ensures { result ≡ refusal_code refusal.now }
+{
+    match refusal {
+        Refusal::Violation(violation) => violation_code(*violation),
+        Refusal::NoStep => 8,
+        Refusal::NotYours => 9,
+        Refusal::Final { .. } => 18,
+        Refusal::Needed { .. } => 10,
+        Refusal::NoMark => 11,
+        Refusal::Full => 12,
+        Refusal::Memory => 13,
+    }
+}
+
+// The code of what a role's type doesn't allow.
+fn violation_code(violation: Violation) -> u8
+    ensures { result ≡ violation_code violation }
+{
+    match violation {
+        Violation::Ended => 1,
+        Violation::WrongAct => 2,
+        Violation::WrongPeer => 3,
+        Violation::WrongSort => 4,
+        Violation::NoLabel => 5,
+        Violation::NothingQueued => 6,
+        Violation::Mismatch => 7,
+    }
+}

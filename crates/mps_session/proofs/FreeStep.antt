@@ -1,0 +1,39 @@
+-- What the machine answers to an undo of a role's own step.
+use Rattle.std.proofs.Common.{◌≡◌, ℕ, true, false, Some, None, Err, refl, sym, ap, ◌∙◌}
+use Rattle.std.specs.Prelude.{if◌then◌else◌}
+use Rattle.std.proofs.lemmas.Bool.{cond-true, cond-false}
+use Rattle.mps_command.specs.declared.answer.Refusal.TheVariants.{Final, Needed}
+use Rattle.mps_history.specs.Commits.{is_commit}
+use Rattle.mps_history.specs.Dependence.{dependents, least}
+use Rattle.mps_history.specs.Steps.{step_of}
+use Rattle.mps_machine.specs.Machine.{owner_fault, commit_fault, undone, undo}
+use Rattle.mps_machine.proofs.Undoing.{undo_is}
+use Rattle.mps_arena.specs.Entries.{KeyedStep, steps, AreSound}
+use Rattle.mps_session.specs.Configurations.{Configuration, state_of}
+use Rattle.mps_session.proofs.OwnStep as numbered
+use Rattle.mps_session.proofs.OwnStep.{key_of}
+
+module _ (c : Configuration) (kept : AreSound c.entries) (p n k : ℕ) (at : key_of c.entries n ≡ Some k) (own : owner_fault p (step_of (steps c.entries) n) ≡ None) where
+  abbrev pub x : KeyedStep
+  x = numbered.entry c.entries kept n k at
+
+  fault_is : commit_fault (step_of (steps c.entries) n) ≡ (if is_commit x.step.act then Some (Final n) else None)
+  fault_is =
+      ap commit_fault (numbered.step_found c.entries kept n k at)
+      ∙ ap (λ (i : ℕ). if is_commit x.step.act then Some (Final i) else None) (numbered.number c.entries kept n k at)
+
+  pub committed : is_commit x.step.act ≡ true → undo (state_of c) p n ≡ (Err (Final n), state_of c)
+  committed holds =
+      undo_is (state_of c) p n None (Some (Final n)) (least (dependents (steps c.entries) n)) own
+      (fault_is ∙ cond-true (is_commit x.step.act) (Some (Final n)) None holds) refl
+
+  module _ (other : is_commit x.step.act ≡ false) where
+    pub needed : (by : ℕ) → Some by ≡ least (dependents (steps c.entries) n) → undo (state_of c) p n ≡ (Err (Needed by), state_of c)
+    needed by e =
+        undo_is (state_of c) p n None None (Some by) own
+        (fault_is ∙ cond-false (is_commit x.step.act) (Some (Final n)) None other) (sym e)
+
+    pub free : None ≡ least (dependents (steps c.entries) n) → undo (state_of c) p n ≡ undone (state_of c) n
+    free e =
+        undo_is (state_of c) p n None None None own
+        (fault_is ∙ cond-false (is_commit x.step.act) (Some (Final n)) None other) (sym e)

@@ -1,0 +1,229 @@
+-- What a session keeps after a step was removed is what the view has then.
+use Rattle.std.proofs.Common.{◌≡◌, ◌≢◌, ℕ, ◌<◌, List, [], ◌∷◌, ◌++◌, length, get_or, set, not, Option, Some, None, refl, sym, ap, ◌∙◌, subst, arith, ⊎_elim, ◌⊎◌, inl, inr, append_assoc, append-nil, ◌+◌}
+use mathlib.Core.Path.{ap₂}
+use Rattle.std.specs.Prelude.{◌==◌, IfSome, IsSomeAnd}
+use Rattle.std.specs.List.{filter, AllByRecursion}
+use Rattle.std.specs.Option.{option_map}
+use Rattle.std.proofs.lemmas.Bool.{cases_eq, eqb-false}
+use Rattle.std.proofs.lemmas.List.{get_or-set_same, get_or-set_other, length-set}
+use Rattle.mps_base.specs.declared.action.Step.{Step}
+use Rattle.mps_history.specs.Steps.{IsIn, without}
+use Rattle.mps_history.proofs.Order.{AllByRecursion-filter}
+use Rattle.mps_local.specs.Local.{LocalType}
+use Rattle.mps_local.specs.Shape.{IsOtherRole}
+use Rattle.mps_machine.specs.View.{View, opening}
+use Rattle.mps_machine.specs.Rule.{moved, rule, replay}
+use Rattle.mps_machine.specs.Machine.{view_of, IsSound}
+use Rattle.mps_machine.proofs.Peers.{after_peers, fact_by_role}
+use Rattle.mps_machine.proofs.Stepping.{rule_parts, replay_parts}
+use Rattle.mps_arena.specs.Entries.{KeyedStep, steps, entry_at, AreSound}
+use Rattle.mps_arena.specs.Neighbours.{IsFree, CanGo}
+use Rattle.mps_arena.specs.declared.node.Before.{Before}
+use Rattle.mps_arena.proofs.Chains.{entry_key, entry_middle}
+use Rattle.mps_arena.proofs.Histories.{steps_without}
+use Rattle.mps_arena.proofs.Keeping.{all_at, entry_split, others_are}
+use Rattle.mps_links.proofs.StepKeys.{in_middle}
+use Rattle.mps_table.specs.Standing.{StandsFor}
+use Rattle.mps_session.specs.Configurations.{Configuration, cursor_of, state_of}
+use Rattle.mps_session.specs.Cursors.{IsFor, nowhere, went}
+use Rattle.mps_session.specs.declared.cursor.Cursor.{Cursor}
+use Rattle.mps_session.specs.Invariant.{AreCursors, ArePlaced, Holds}
+use Rattle.mps_session.specs.Leaving.{HasLeft}
+use Rattle.mps_session.specs.Peers.{HasPeers}
+use Rattle.mps_session.proofs.HoldsAfterAct.{same_table}
+use Rattle.mps_session.proofs.ViewWithoutStep as aside
+use Rattle.mps_session.proofs.ViewWithoutStep.{IsAside}
+
+-- steps lead to no peer that the opening types don't name
+peers_stay : (n : ℕ) (h : List Step) (v w : View) → replay v h ≡ Some w → ((p : ℕ) → p < n → HasPeers n p (v.participant p).to_come) → (p : ℕ) → p < n → HasPeers n p (w.participant p).to_come
+peers_stay n [] v w e has p less = let same : v ≡ w = cc in subst (λ (u : View). HasPeers n p (u.participant p).to_come) same (has p less)
+peers_stay n (s ∷ h) v w e has p less =
+    let parts = replay_parts v w s h e in
+    let ruled = rule_parts v parts.0 s parts.1 in
+    peers_stay n h parts.0 w parts.2
+    (λ q l. subst (λ (u : View). HasPeers n q (u.participant q).to_come) ruled.2
+    (fact_by_role (λ k part. k < n → HasPeers n k part.to_come) v s ruled.0 q
+    (λ own. (after_peers (IsOtherRole n s.role) (v.participant s.role) ruled.0 s.act (moved v s.role s.act) (has s.role own) ruled.1).1)
+    (λ ne own. has q own) l))
+    p less
+
+all_without : (P : KeyedStep → Type 0) (a b : List KeyedStep) (x : KeyedStep) → AllByRecursion P (a ++ x ∷ b) → AllByRecursion P (a ++ b)
+all_without P [] b x h = h.1
+all_without P (y ∷ a) b x h = (h.0, all_without P a b x h.1)
+
+-- an entry that is left stood before the one that is gone, or after it
+left_cases : (a b c d : List KeyedStep) (y : KeyedStep) → a ++ b ≡ c ++ y ∷ d → ((m : List KeyedStep) × (a ≡ c ++ y ∷ m)) ⊎ ((m : List KeyedStep) × ((c ≡ a ++ m) × (b ≡ m ++ y ∷ d)))
+left_cases [] b c d y e = inr (c, (refl, e))
+left_cases (z ∷ a) b [] d y e = let same : z ≡ y = cc in inl (a, ap (λ (w : KeyedStep). w ∷ a) same)
+left_cases (z ∷ a) b (w ∷ c) d y e =
+    let head : z ≡ w = cc in
+    let tail : a ++ b ≡ c ++ y ∷ d = cc in
+    ⊎_elim
+    (λ (k : (m : List KeyedStep) × (a ≡ c ++ y ∷ m)). inl (k.0, ap₂ (λ (u : KeyedStep) (l : List KeyedStep). u ∷ l) head k.1))
+    (λ (k : (m : List KeyedStep) × ((c ≡ a ++ m) × (b ≡ m ++ y ∷ d))). inr (k.0, (ap₂ (λ (u : KeyedStep) (l : List KeyedStep). u ∷ l) (sym head) k.1.0, k.1.1)))
+    (left_cases a b c d y tail)
+
+module _ (types : List LocalType) (cursors : List Cursor) (issued : ℕ) (a b : List KeyedStep) (x : KeyedStep) where
+  -- with the entry, and without it
+  abbrev old : Configuration
+  old = record { cursors = cursors; entries = a ++ x ∷ b; issued = issued }
+
+  abbrev p : ℕ
+  p = x.step.role
+
+  abbrev n : ℕ
+  n = length types
+
+  abbrev again : Cursor
+  again = went x.before.at (cursor_of old p)
+
+  abbrev new : Configuration
+  new = record { cursors = set cursors p again; entries = a ++ b; issued = issued }
+
+  module _ (holds : Holds types old) (free : IsFree (a ++ x ∷ b) x) (sound : AreSound (a ++ b)) where
+    abbrev v : View
+    v = holds.sound.view
+
+    member : p < n
+    member = all_at (λ y. y.step.role < n) a b x holds.members
+
+    inside : p < length cursors
+    inside = omega (arith, member, holds.cursors.long)
+
+    -- where the entries after it are d and m
+    from : (d m : List KeyedStep) → b ≡ d ++ m → IsAside types a d x
+    from d m e =
+        let same : a ++ x ∷ b ≡ a ++ x ∷ (d ++ m) = ap (λ (l : List KeyedStep). a ++ x ∷ l) e in
+        aside.aside types a d m x v (subst AreSound same holds.kept) (subst (λ (l : List KeyedStep). IsFree l x) same free)
+        (subst (λ (l : List KeyedStep). replay (opening types) (steps l) ≡ Some v) same holds.sound.replayed)
+
+    pub all : IsAside types a b x
+    all = from b [] (sym (append-nil b))
+
+    -- the others stand where they stood, and the role where it stood before the step
+    stands : (r : ℕ) → r < n → IsFor (get_or (set cursors p again) r nowhere) (all.left.participant r).to_come
+    stands r less =
+        ⊎_elim
+        (λ (e : r ≡ p).
+        subst (λ (k : ℕ). IsFor (get_or (set cursors p again) k nowhere) (all.left.participant k).to_come) (sym e)
+        (rw (get_or-set_same cursors p again nowhere inside, all.own) (holds.placed a b x refl)))
+        (λ (ne : r ≢ p).
+        rw (get_or-set_other cursors p r again nowhere ne, aside.others_stay types a b x all r ne)
+        (subst (λ (u : View). IsFor (get_or cursors r nowhere) (u.participant r).to_come) (aside.full_view types a b x all) (holds.cursors.each r less)))
+        (cases_eq r p)
+
+    cursors_then : AreCursors n (set cursors p again) all.left
+    cursors_then = record {
+      long = length-set cursors p again ∙ holds.cursors.long;
+      peers = peers_stay n (steps (a ++ b)) (opening types) all.left all.without_it holds.peers;
+      each = stands;
+    }
+
+    table_then : (r : ℕ) → (cursor_of new r).table ≡ (cursor_of old r).table
+    table_then r = same_table cursors p r x.before.at inside
+
+    placed_then : ArePlaced types new
+    placed_then c d y e =
+        ⊎_elim
+        (λ (w : (m : List KeyedStep) × (a ≡ c ++ y ∷ m)).
+        rw (table_then y.step.role) (holds.placed c (w.0 ++ x ∷ b) y (ap (λ (l : List KeyedStep). l ++ x ∷ b) w.1 ∙ append_assoc c (y ∷ w.0) (x ∷ b))))
+        (λ (w : (m : List KeyedStep) × ((c ≡ a ++ m) × (b ≡ m ++ y ∷ d))).
+        let m = w.0 in
+        let k = from m (y ∷ d) w.1.1 in
+        let behind : IsIn y.step (steps b) = in_middle b m d y w.1.1 in
+        let ne : y.step.role ≢ p = eqb-false y.step.role p (aside.others_follow a b x holds.kept free y.step behind) in
+        let was = holds.placed (a ++ x ∷ m) d y (ap (λ (l : List KeyedStep). a ++ x ∷ l) w.1.1 ∙ sym (append_assoc a (x ∷ m) (y ∷ d))) in
+        rw (table_then y.step.role, w.1.0, aside.left_view types a m x k, aside.others_stay types a m x k y.step.role ne)
+        (subst (λ (u : View). StandsFor (cursor_of old y.step.role).table y.before.at (u.participant y.step.role).to_come) (aside.full_view types a m x k) was))
+        (left_cases a b c d y e)
+
+    steps_left : steps (a ++ b) ≡ without (steps (a ++ x ∷ b)) (λ i. i == x.step.id)
+    steps_left =
+        ap steps (sym (others_are x.key a b x holds.kept.distinct refl))
+        ∙ steps_without (a ++ x ∷ b) x.key x.step holds.kept.distinct holds.kept.rising (ap (option_map (λ (e : KeyedStep). e.step)) (entry_middle a b x holds.kept.distinct))
+
+    sound_then : IsSound types (state_of new)
+    sound_then = record {
+      rising = sound.rising;
+      below = subst (AllByRecursion (λ (s : Step). s.id < issued + 1)) (sym steps_left) (AllByRecursion-filter (λ s. s.id < issued + 1) (λ s. not (s.id == x.step.id)) (steps (a ++ x ∷ b)) holds.sound.below);
+      view = all.left;
+      replayed = all.without_it;
+    }
+
+    pub holds_then : Holds types new
+    holds_then = record {
+      sound = sound_then;
+      roles = holds.roles;
+      peers = holds.peers;
+      members = all_without (λ y. y.step.role < n) a b x holds.members;
+      kept = sound;
+      cursors = rw (aside.left_view types a b x all) cursors_then;
+      placed = placed_then;
+      few = holds.few;
+    }
+
+-- what is kept after a step was removed is the view of the others
+module _ (types : List LocalType) (c next : Configuration) (k : ℕ) (x : KeyedStep) (holds : Holds types c) (found : entry_at k c.entries ≡ Some x) (can : CanGo c.entries k) (left : HasLeft x c next) where
+  abbrev at : (a : List KeyedStep) × (b : List KeyedStep) × (c.entries ≡ a ++ x ∷ b)
+  at = entry_split k c.entries x found
+
+  abbrev a : List KeyedStep
+  a = at.0
+
+  abbrev b : List KeyedStep
+  b = at.1
+
+  free : IsFree (a ++ x ∷ b) x
+  free = subst (λ (l : List KeyedStep). IsFree l x) at.2 (subst (λ (o : Option KeyedStep). IsSomeAnd o (IsFree c.entries)) found can)
+
+  was : Holds types (record c { entries = a ++ x ∷ b })
+  was = subst (λ (l : List KeyedStep). Holds types (record c { entries = l })) at.2 holds
+
+  entries_then : next.entries ≡ a ++ b
+  entries_then =
+      left.entries ∙ ap (filter (λ y. not (y.key == x.key))) at.2
+      ∙ others_are x.key a b x (was.kept.distinct) refl
+
+  sound : AreSound (a ++ b)
+  sound = subst AreSound entries_then left.sound
+
+  is_then : next ≡ new types c.cursors c.issued a b x
+  is_then =
+      ap₂ (λ (l : List Cursor) (i : ℕ). let d : Configuration = record { cursors = l; entries = next.entries; issued = i } in d) left.cursors left.issued
+      ∙ ap (λ (l : List KeyedStep). let d : Configuration = record { cursors = set c.cursors x.step.role (went x.before.at (cursor_of c x.step.role)); entries = l; issued = c.issued } in d) entries_then
+
+  pub returned_holds : Holds types next
+  returned_holds = subst (Holds types) (sym is_then) (holds_then types c.cursors c.issued a b x was free sound)
+
+  -- the step is allowed in the view that is left, and leads back to the view from before
+  pub rule_back : rule (view_of types (steps next.entries)) x.step ≡ Some (view_of types (steps c.entries))
+  rule_back =
+      let w = all types c.cursors c.issued a b x was free sound in
+      ap (λ (l : List KeyedStep). rule (view_of types (steps l)) x.step) entries_then
+      ∙ ap (λ (u : View). rule u x.step) (aside.left_view types a b x w)
+      ∙ w.ruled
+      ∙ ap Some (sym (aside.full_view types a b x w))
+      ∙ ap (λ (l : List KeyedStep). Some (view_of types (steps l))) (sym at.2)
+
+  pub history_then : steps next.entries ≡ without (steps c.entries) (λ i. i == x.step.id)
+  history_then =
+      ap steps entries_then ∙ steps_left types c.cursors c.issued a b x was free sound
+      ∙ ap (λ (l : List KeyedStep). without (steps l) (λ i. i == x.step.id)) (sym at.2)
+
+-- what was written and removed is what the entry says
+pub has_left : (k : ℕ) (old next : Configuration) (s : Step) (before : Before) → option_map (λ e. e.step) (entry_at k old.entries) ≡ Some s → option_map (λ e. e.before) (entry_at k old.entries) ≡ Some before
+    → next.cursors ≡ set old.cursors s.role (went before.at (cursor_of old s.role)) → next.entries ≡ filter (λ e. not (e.key == k)) old.entries → next.issued ≡ old.issued → AreSound next.entries
+    → IfSome (entry_at k old.entries) (λ e. HasLeft e old next)
+has_left k old next s before is stood moved gone same sound = by_cases (entry_at k old.entries) refl
+  where
+    by_cases : (o : Option KeyedStep) → entry_at k old.entries ≡ o → IfSome o (λ e. HasLeft e old next)
+    by_cases None e = tt
+    by_cases (Some x) e =
+        let step_is : x.step ≡ s = let one : Some x.step ≡ Some s = sym (ap (option_map (λ (y : KeyedStep). y.step)) e) ∙ is in cc in
+        let before_is : x.before ≡ before = let one : Some x.before ≡ Some before = sym (ap (option_map (λ (y : KeyedStep). y.before)) e) ∙ stood in cc in
+        record {
+          cursors = rw (step_is, before_is) moved;
+          entries = rw (entry_key k old.entries x e) gone;
+          issued = same;
+          sound = sound;
+        }

@@ -1,0 +1,203 @@
+-- Marked steps removed, the newest first.
+use Rattle.std.proofs.Common.{◌≡◌, ℕ, ◌+◌, ◌<◌, Bool, true, false, List, [], ◌∷◌, ◌++◌, length, map, not, Option, Some, None, refl, sym, ap, ◌∙◌, subst, arith, ⊎_elim, append_assoc, append-nil}
+use mathlib.Core.Path.{ap₂}
+use Rattle.std.specs.Prelude.{◌==◌, reverse, unwrap_or, IfSome, IsSomeAnd}
+use Rattle.std.specs.List.{filter, AllByRecursion}
+use Rattle.std.proofs.lemmas.Bool.{cases_Bool}
+use Rattle.std.proofs.lemmas.List.{map-append, length-set, reverse-append}
+use Rattle.mps_base.specs.declared.action.Step.{Step}
+use Rattle.mps_history.specs.Steps.{numbers, within, without}
+use Rattle.mps_history.specs.Dependence.{consequences}
+use Rattle.mps_local.specs.Local.{LocalType}
+use Rattle.mps_history.proofs.Reaching.{consequences_closed}
+use Rattle.mps_machine.specs.View.{View, opening}
+use Rattle.mps_machine.specs.Rule.{replay}
+use Rattle.mps_machine.proofs.Apart.{left_out}
+use Rattle.mps_machine.proofs.Sound.{view_is}
+use Rattle.mps_machine.specs.Machine.{State, view_of, IsSound}
+use Rattle.mps_arena.specs.Entries.{KeyedStep, steps, entry_at, AreSound}
+use Rattle.mps_arena.specs.Keys.{last_key}
+use Rattle.mps_arena.specs.Neighbours.{CanGo, IsFree}
+use Rattle.mps_arena.proofs.Chains.{entry_key}
+use Rattle.mps_arena.proofs.Keeping.{all_at, entry_split}
+use Rattle.mps_links.specs.Marks.{marked_keys, marked_steps, unmarked_steps, AreMarksClosed, marked_by, unmarked}
+use Rattle.mps_links.proofs.Going.{unmarked_stay, one_fewer, last_marked, still_closed, none_go}
+use Rattle.mps_links.proofs.Marked.{marked_with, marked_without}
+use Rattle.mps_log.proofs.Remarked as remarking
+use Rattle.mps_table.specs.Standing.{StandsFor}
+use Rattle.mps_session.specs.Configurations.{Configuration, cursor_of}
+use Rattle.mps_session.specs.Invariant.{AreCursors, ArePlaced, Holds}
+use Rattle.mps_session.specs.Leaving.{HasLeft}
+use Rattle.mps_session.proofs.HoldsAfterRemoval.{returned_holds}
+
+-- what is kept doesn't depend on marks
+module _ (types : List LocalType) (c : Configuration) (m : KeyedStep → Bool) (holds : Holds types c) where
+  abbrev now : Configuration
+  now = record c { entries = remarking.again m c.entries }
+
+  same : steps now.entries ≡ steps c.entries
+  same = remarking.steps_again m c.entries
+
+  placed : ArePlaced types now
+  placed a b e is =
+      let w = remarking.place_again m c.entries a b e is in
+      subst (λ (y : KeyedStep). StandsFor (cursor_of c y.step.role).table y.before.at ((view_of types (steps a)).participant y.step.role).to_come) (sym w.same)
+      (subst (λ (h : List Step). StandsFor (cursor_of c w.entry.step.role).table w.entry.before.at ((view_of types h).participant w.entry.step.role).to_come) (sym (ap steps w.front ∙ remarking.steps_again m w.before))
+      (holds.placed w.before w.behind w.entry w.parts))
+
+  pub again_holds : Holds types now
+  again_holds = record {
+    sound = subst (λ (h : List Step). let st : State = record { history = h; next = c.issued + 1 } in IsSound types st) (sym same) holds.sound;
+    roles = holds.roles;
+    peers = holds.peers;
+    members = remarking.all_again m (λ s. s.role < length types) c.entries holds.members;
+    kept = remarking.sound_again m c.entries holds.kept;
+    cursors = subst (λ (h : List Step). AreCursors (length types) c.cursors (view_of types h)) (sym same) holds.cursors;
+    placed = placed;
+    few = holds.few;
+  }
+
+  -- the same, where that is what was written
+  pub again_holds_as : (entries : List KeyedStep) (issued : ℕ) → entries ≡ remarking.again m c.entries → issued ≡ c.issued → Holds types (record { cursors = c.cursors; entries = entries; issued = issued })
+  again_holds_as entries issued is same =
+      subst (λ (l : List KeyedStep). Holds types (record { cursors = c.cursors; entries = l; issued = issued })) (sym is)
+      (subst (λ (i : ℕ). Holds types (record { cursors = c.cursors; entries = remarking.again m c.entries; issued = i })) (sym same) again_holds)
+
+all_filter : (P : KeyedStep → Type 0) (p : KeyedStep → Bool) (es : List KeyedStep) → AllByRecursion P es → AllByRecursion P (filter p es)
+all_filter P p [] a = tt
+all_filter P p (x ∷ es) a =
+    ⊎_elim
+    (λ (t : p x ≡ true). rw t (a.0, all_filter P p es a.1))
+    (λ (f : p x ≡ false). rw f (all_filter P p es a.1))
+    (cases_Bool (p x))
+
+none_marked : (l : List KeyedStep) → map (λ e. e.key) l ≡ [] → l ≡ []
+none_marked [] e = refl
+none_marked (x ∷ l) e = absurd cc
+
+-- where no step is marked, none is when some go
+pub filter_unmarked : (p : KeyedStep → Bool) (es : List KeyedStep) → marked_keys es ≡ [] → marked_keys (filter p es) ≡ []
+filter_unmarked p [] e = refl
+filter_unmarked p (x ∷ es) e =
+    ⊎_elim
+    (λ (t : x.marked ≡ true). let no : x.key ∷ marked_keys es ≡ [] = sym (marked_with x es t) ∙ e in absurd cc)
+    (λ (f : x.marked ≡ false).
+    let rest = filter_unmarked p es (sym (marked_without x es f) ∙ e) in
+    ⊎_elim
+    (λ (y : p x ≡ true). rw y (marked_without x (filter p es) f ∙ rest))
+    (λ (n : p x ≡ false). rw n rest)
+    (cases_Bool (p x)))
+    (cases_Bool x.marked)
+
+-- nor when one joins
+pub push_unmarked : (es : List KeyedStep) (x : KeyedStep) → x.marked ≡ false → marked_keys es ≡ [] → marked_keys (es ++ x ∷ []) ≡ []
+push_unmarked [] x f e = marked_without x [] f
+push_unmarked (y ∷ es) x f e =
+    ⊎_elim
+    (λ (t : y.marked ≡ true). let no : y.key ∷ marked_keys es ≡ [] = sym (marked_with y es t) ∙ e in absurd cc)
+    (λ (g : y.marked ≡ false). marked_without y (es ++ x ∷ []) g ∙ push_unmarked es x f (sym (marked_without y es g) ∙ e))
+    (cases_Bool y.marked)
+
+-- marks that were put on and taken off leave nothing
+pub unmarked_again : (es : List KeyedStep) (set : ℕ → Bool) → marked_keys es ≡ [] → map unmarked (map (marked_by set) es) ≡ es
+unmarked_again [] set e = refl
+unmarked_again (x ∷ es) set e =
+    ⊎_elim
+    (λ (t : x.marked ≡ true). let no : x.key ∷ marked_keys es ≡ [] = sym (marked_with x es t) ∙ e in absurd cc)
+    (λ (f : x.marked ≡ false).
+    ap₂ (λ (m : Bool) (l : List KeyedStep). let y : KeyedStep = record x { marked = m } in y ∷ l) (sym f) (unmarked_again es set (sym (marked_without x es f) ∙ e)))
+    (cases_Bool x.marked)
+
+-- what the marked steps leave so far, and their numbers
+pub record AreGoing (first now : Configuration) (earlier ids : List ℕ) : Type 0 where
+  pub closed : AreMarksClosed now.entries
+  pub members : AllByRecursion (λ e. e.step.role < length now.cursors) now.entries
+  pub told : ids ++ reverse (numbers (marked_steps now.entries)) ≡ earlier ++ reverse (numbers (marked_steps first.entries))
+  pub left : unmarked_steps now.entries ≡ unmarked_steps first.entries
+  pub issued : now.issued ≡ first.issued
+  pub holds : (types : List LocalType) → Holds types first → Holds types now
+
+module _ (first now next : Configuration) (earlier ids : List ℕ) (k : ℕ) (x : KeyedStep) (going : AreGoing first now earlier ids) (sound : AreSound now.entries) (newest : last_key None (marked_keys now.entries) ≡ Some k) (found : entry_at k now.entries ≡ Some x) (can : CanGo now.entries k) (left : HasLeft x now next) where
+  gone : next.entries ≡ filter (λ e. not (e.key == k)) now.entries
+  gone = left.entries ∙ ap (λ (j : ℕ). filter (λ e. not (e.key == j)) now.entries) (entry_key k now.entries x found)
+
+  long : length next.cursors ≡ length now.cursors
+  long = ap length left.cursors ∙ length-set now.cursors x.step.role _
+
+  pub going_on : AreGoing first next earlier (ids ++ x.step.id ∷ [])
+  going_on = record {
+    closed = subst AreMarksClosed (sym gone) (still_closed now.entries k sound newest going.closed);
+    members = rw (long, gone) (all_filter (λ e. e.step.role < length now.cursors) (λ e. not (e.key == k)) now.entries going.members);
+    told =
+        append_assoc ids (x.step.id ∷ []) (reverse (numbers (marked_steps next.entries)))
+        ∙ ap (λ (l : List ℕ). ids ++ l)
+        (ap (λ (l : List KeyedStep). x.step.id ∷ reverse (numbers (marked_steps l))) gone
+        ∙ sym (ap (λ (h : List Step). reverse (numbers h)) (last_marked now.entries k sound newest x found)
+        ∙ ap reverse (map-append (λ (s : Step). s.id) (marked_steps (filter (λ e. not (e.key == k)) now.entries)) (x.step ∷ []))
+        ∙ reverse-append (numbers (marked_steps (filter (λ e. not (e.key == k)) now.entries))) (x.step.id ∷ [])))
+        ∙ going.told;
+    left = ap unmarked_steps gone ∙ unmarked_stay now.entries k sound newest ∙ going.left;
+    issued = left.issued ∙ going.issued;
+    holds = λ types h. returned_holds types now next k x (going.holds types h) found can left;
+  }
+
+  pub fewer : length (marked_keys next.entries) + 1 ≡ length (marked_keys now.entries)
+  fewer = ap (λ (l : List KeyedStep). length (marked_keys l) + 1) gone ∙ one_fewer now.entries k sound newest
+
+-- at the end no step is marked
+module _ (first now : Configuration) (earlier ids : List ℕ) (going : AreGoing first now earlier ids) (none : marked_keys now.entries ≡ []) where
+  pub all_gone : steps now.entries ≡ unmarked_steps first.entries
+  all_gone = sym (none_go now.entries none) ∙ going.left
+
+  pub all_told : ids ≡ earlier ++ reverse (numbers (marked_steps first.entries))
+  all_told =
+      sym (append-nil ids)
+      ∙ ap (λ (l : List KeyedStep). ids ++ reverse (numbers (steps l))) (sym (none_marked _ none))
+      ∙ going.told
+
+-- a step that can go is there
+there : (es : List KeyedStep) (k : ℕ) → CanGo es k → (x : KeyedStep) × (entry_at k es ≡ Some x)
+there es k can = by_cases (entry_at k es) can refl
+  where
+    by_cases : (o : Option KeyedStep) → IsSomeAnd o (IsFree es) → entry_at k es ≡ o → (x : KeyedStep) × (entry_at k es ≡ Some x)
+    by_cases None c e = absurd c
+    by_cases (Some x) c e = (x, e)
+
+-- what holds of all holds of the entry of a key
+pub role_there : (es : List KeyedStep) (k n len : ℕ) → len ≡ n → AllByRecursion (λ e. e.step.role < n) es → IfSome (entry_at k es) (λ e. e.step.role < len)
+role_there es k n len same all = by_cases (entry_at k es) refl
+  where
+    by_cases : (o : Option KeyedStep) → entry_at k es ≡ o → IfSome o (λ e. e.step.role < len)
+    by_cases None e = tt
+    by_cases (Some x) e =
+        let w = entry_split k es x e in
+        let here = all_at (λ y. y.step.role < n) w.0 w.1 x (subst (AllByRecursion (λ (y : KeyedStep). y.step.role < n)) w.2 all) in
+        omega (arith, same, here)
+
+-- what was removed leads on from the view that is left
+pub leads_back : (types : List LocalType) (st : State) (h : List Step) (n : ℕ) → IsSound types st → h ≡ without st.history (consequences st.history n) → replay (view_of types h) (within st.history (consequences st.history n)) ≡ Some (view_of types st.history)
+leads_back types st h n ok is =
+    let out = left_out (consequences st.history n) types st.history ok.view ok.rising (consequences_closed st.history n ok.rising) ok.replayed in
+    let there : view_of types h ≡ out.0 = ap (view_of types) is ∙ ap (λ (o : Option View). unwrap_or o (opening types)) out.1 in
+    rw (there, view_is types st ok) out.2
+
+-- each step is of a role that has a cursor
+pub members_there : (types : List LocalType) (c : Configuration) → Holds types c → AllByRecursion (λ e. e.step.role < length c.cursors) c.entries
+members_there types c holds = subst (λ (n : ℕ). AllByRecursion (λ (e : KeyedStep). e.step.role < n) c.entries) (sym holds.cursors.long) holds.members
+
+-- one turn, as the code takes it
+module _ (first now next : Configuration) (earlier ids : List ℕ) (k id : ℕ) (going : AreGoing first now earlier ids) (sound : AreSound now.entries) (newest : last_key None (marked_keys now.entries) ≡ Some k) (can : CanGo now.entries k) (told : IfSome (entry_at k now.entries) (λ e. id ≡ e.step.id)) (gone : IfSome (entry_at k now.entries) (λ e. HasLeft e now next)) where
+  abbrev x : (y : KeyedStep) × (entry_at k now.entries ≡ Some y)
+  x = there now.entries k can
+
+  left : HasLeft x.0 now next
+  left = subst (λ (o : Option KeyedStep). IfSome o (λ e. HasLeft e now next)) x.1 gone
+
+  number : id ≡ x.0.step.id
+  number = subst (λ (o : Option KeyedStep). IfSome o (λ e. id ≡ e.step.id)) x.1 told
+
+  pub turn : AreGoing first next earlier (ids ++ id ∷ [])
+  turn = subst (λ (i : ℕ). AreGoing first next earlier (ids ++ i ∷ [])) (sym number) (going_on first now next earlier ids k x.0 going sound newest x.1 can left)
+
+  pub fewer_left : length (marked_keys next.entries) + 1 ≡ length (marked_keys now.entries)
+  fewer_left = fewer first now next earlier ids k x.0 going sound newest x.1 can left

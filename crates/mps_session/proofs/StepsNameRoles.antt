@@ -1,0 +1,57 @@
+-- The steps of a session name its roles.
+use Rattle.std.proofs.Common.{◌≡◌, ℕ, ◌<◌, List, [], ◌∷◌, ◌++◌, length, Some, subst}
+use Rattle.std.specs.List.{AllByRecursion}
+use Rattle.mps_base.specs.declared.action.Act.{Act}
+use Rattle.mps_base.specs.declared.action.Act.TheVariants.{Out, In, Mark, Commit}
+use Rattle.mps_base.specs.declared.action.Step.{Step}
+use Rattle.mps_local.specs.Actions.{Head, Ends, Sends, Receives, Chooses, Picks, Begins}
+use Rattle.mps_local.specs.Local.{LocalType}
+use Rattle.mps_local.specs.Shape.{AllPeers, IsOtherRole}
+use Rattle.mps_arena.specs.Entries.{KeyedStep, steps}
+use Rattle.mps_machine.specs.View.{View, opening}
+use Rattle.mps_machine.specs.Rule.{moved, replay}
+use Rattle.mps_machine.proofs.Stepping.{rule_parts, replay_parts}
+use Rattle.mps_machine.proofs.Peers.{Speaks, after_peers, fact_by_role}
+use Rattle.mps_session.specs.Peers.{HasPeers, HavePeers, IsPeerKnown, IsKnown, IsHeadKnown}
+use Rattle.mps_session.specs.SessionState.{moved_from}
+
+speaks_known : (n p : ℕ) (act : Act) → Speaks (IsOtherRole n p) act → IsPeerKnown n act
+speaks_known n p (Out to m) h = h.0
+speaks_known n p (In from slot) h = h.0
+speaks_known n p (Mark name) h = tt
+speaks_known n p Commit h = tt
+
+-- a type with such peers begins with one
+pub head_known : (n p : ℕ) (h : Head) (t : LocalType) → Begins h t → AllPeers (IsOtherRole n p) t → IsHeadKnown n h
+head_known n p Ends t b a = tt
+head_known n p (Sends peer sort) t b a = (subst (AllPeers (IsOtherRole n p)) b.1 a).0.0
+head_known n p (Receives peer sort) t b a = (subst (AllPeers (IsOtherRole n p)) b.1 a).0.0
+head_known n p (Chooses peer names) t b a = (subst (AllPeers (IsOtherRole n p)) b.1 a).0.0
+head_known n p (Picks peer names) t b a = (subst (AllPeers (IsOtherRole n p)) b.1 a).0.0
+
+module _ (n : ℕ) where
+  -- of each role the peers that are left
+  abbrev Peers : View → Type 0
+  Peers v = (p : ℕ) → p < n → HasPeers n p (v.participant p).to_come
+
+  known_from : (v w : View) (h : List Step) → Peers v → AllByRecursion (λ s. s.role < n) h → replay v h ≡ Some w → AllByRecursion (IsKnown n) h
+  known_from v w [] peers roles e = tt
+  known_from v w (s ∷ h) peers roles e =
+      let parts = replay_parts v w s h e in
+      let ruled = rule_parts v parts.0 s parts.1 in
+      let then = after_peers (IsOtherRole n s.role) (v.participant s.role) ruled.0 s.act (moved v s.role s.act) (peers s.role roles.0) ruled.1 in
+      let later : Peers parts.0 = λ p less. subst (λ (u : View). HasPeers n p (u.participant p).to_come) ruled.2 (fact_by_role (λ k part. HasPeers n k part.to_come) v s ruled.0 p then.1 (λ ne. peers p less)) in
+      ((roles.0, speaks_known n s.role s.act then.0), known_from parts.0 w h later roles.1 parts.2)
+
+  roles_known : (es : List KeyedStep) → AllByRecursion (λ e. e.step.role < n) es → AllByRecursion (λ s. s.role < n) (steps es)
+  roles_known [] a = tt
+  roles_known (e ∷ es) a = (a.0, roles_known es a.1)
+
+moves_known : (n : ℕ) (types : List LocalType) (done h : List Step) → AllByRecursion (IsKnown n) h → AllByRecursion (λ m. IsKnown n m.0) (moved_from types done h)
+moves_known n types done [] a = tt
+moves_known n types done (s ∷ h) a = (a.0, moves_known n types (done ++ s ∷ []) h a.1)
+
+-- so it is with each step of a session
+pub all_known : (types : List LocalType) (es : List KeyedStep) (v : View) → HavePeers types → AllByRecursion (λ e. e.step.role < length types) es → replay (opening types) (steps es) ≡ Some v → AllByRecursion (λ m. IsKnown (length types) m.0) (moved_from types [] (steps es))
+all_known types es v peers roles h =
+    moves_known (length types) types [] (steps es) (known_from (length types) (opening types) v (steps es) peers (roles_known (length types) es roles) h)

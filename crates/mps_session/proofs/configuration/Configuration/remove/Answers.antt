@@ -1,0 +1,16 @@
+use Rattle.std.proofs.Common.{not, ap, ◌∙◌}
+use Rattle.std.specs.Prelude.{◌==◌}
+use Rattle.std.specs.List.{filter}
+use Rattle.mps_log.specs.Logged.{Logged}
+use Rattle.mps_session.specs.Configurations.{lists_of}
+use Rattle.mps_session.proofs.HoldsAfterRemoval.{has_left}
+use Rattle.mps_session.proofs.configuration.Configuration.remove.Goals as goal
+
+pub returns-clause-left : goal.returns-clause-left
+returns-clause-left c =
+    has_left c.args.key (lists_of c.args.self.now) _ c.get.result.now c.before-2.result
+    c.get.ensures c.before-2.ensures
+    (rw (← c.new-node.ensures) c.stand_at.ensures.cursors)
+    (c.remove.ensures.entries ∙ ap (λ (l : Logged). filter (λ e. not (e.key == c.args.key)) l.entries) c.stand_at.ensures.log)
+    (c.remove.ensures.issued ∙ ap (λ (l : Logged). l.issued) c.stand_at.ensures.log)
+    c.remove.ensures.sound

@@ -1,0 +1,15 @@
+use Rattle.std.proofs.Common.{◌+◌, ◌≤◌, length, vec_len}
+use Rattle.std.specs.Prelude.{vec_capacity}
+use Rattle.mps_links.specs.Marks.{marked_keys}
+use Rattle.mps_session.specs.Configurations.{lists_of}
+use Rattle.mps_session.proofs.RemoveMarked.{AreGoing}
+use Rattle.mps_session.proofs.configuration.Configuration.remove_marked.Given as goal
+
+abbrev pub invariant-loop-key : goal.invariant-loop-key
+invariant-loop-key l = record {
+  going : AreGoing (lists_of l.initial.self) (lists_of l.self) l.initial.ids.items l.ids.items;
+  room : vec_len l.ids + length (marked_keys l.self.log.entries) ≤ vec_capacity l.ids;
+}
+
+abbrev pub decreases-loop-key : goal.decreases-loop-key
+decreases-loop-key l = length (marked_keys l.self.log.entries)

@@ -1,8 +1,0 @@
-use Rattle.std.proofs.Common.{◌≡◌, ◌++◌, map}
-use Rattle.mps_session.specs.Seen.{view_of}
-use Rattle.mps_show.specs.Shown.{waiting_shown}
-use Rattle.serde_json.specs.View.{view}
-use Rattle.mps_show.proofs.object.messages.Given as goal
-
-abbrev pub invariant-loop-message : goal.invariant-loop-message
-invariant-loop-message l = map view l.all.items ++ map waiting_shown l.message-iterator ≡ map waiting_shown ((view_of l.fn.session).queue l.fn.from l.fn.to)

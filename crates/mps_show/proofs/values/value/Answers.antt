@@ -1,7 +1,0 @@
-use Rattle.std.proofs.Common.{subst, sym}
-use Rattle.std.specs.Str.{IsAscii}
-use Rattle.mps_show.proofs.Texts.{plain_is_ascii}
-use Rattle.mps_show.proofs.values.value.Goals as goal
-
-pub text-requires : goal.text-requires
-text-requires c = subst IsAscii (sym c.as_bytes.ensures.bytes) (plain_is_ascii _ c.as_bytes.ensures.text.each)

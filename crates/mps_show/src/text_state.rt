@@ -1,0 +1,270 @@
+//! The shown state, written as text at once.
+ghost use Rattle.std.specs.Prelude.{◌≡◌, ◌<◌, ◌++◌, ◌∷◌, [], ℕ, List, IfOk, OnOk, OnErr, length, map, codes, false};
+ghost use Rattle.std.specs.List.{flat_map, range_with_len};
+ghost use Rattle.mps_history.specs.Steps.{numbers, steps_of};
+ghost use Rattle.mps_local.specs.Actions.{head};
+ghost use Rattle.mps_session.specs.SessionState.{session_view, moves_of};
+ghost use Rattle.mps_show.specs.Plain.{IsPlain, ArePlainItems, AreShown};
+ghost use Rattle.mps_show.specs.Rows.{joined, behind, own_number};
+ghost use Rattle.mps_show.specs.Shown.{row, role_name, step_shown, queue_shown, queues_from, queues_shown, waiting_shown, head_shown, number_shown, binding_shown, role_shown, roles_shown, shown, show_text};
+ghost use Rattle.serde_json.specs.View.{items_of};
+ghost use Rattle.serde_json.specs.Written.{compact_text};
+
+use crate::text_heads::put_head;
+use crate::text_parts::{put_binding, put_comma, put_number, put_role, put_step, put_waiting};
+use mps_base::{Message, Role, Roles, Step};
+use mps_session::{Queue, Session};
+use std::alloc::AllocError;
+
+/// Appends what the session shows, as compact JSON: its history, its queues, and each role. Where memory runs out,
+/// nothing is appended.
+pub fn write_show(names: &Roles, session: &Session, out: &mut Vec<u8>) -> Result<(), AllocError>
+    requires { length names.now ≡ length session.now.types }
+    ensures text { OnOk result (out.new.items ≡ out.old.items
+        ++ show_text names.now session.now.types session.now.state.history) }
+    ensures shown { OnOk result (AreShown (show_text names.now session.now.types session.now.state.history)) }
+    ensures err { OnErr result (out.new.items ≡ out.old.items) }
+{
+    let mut text = Vec::new(*out.allocator());
+    put_state(&mut text, names, session)?;
+    out.extend_from_slice(&text)
+}
+
+// Writes the whole.
+fn put_state(out: &mut Vec<u8>, names: &Roles, session: &Session) -> Result<(), AllocError>
+    requires { length names.now ≡ length session.now.types }
+    ensures text { OnOk result (out.new.items ≡ out.old.items
+        ++ compact_text (shown names.now session.now.types session.now.state.history)) }
+    ensures plain { OnOk result (IsPlain (shown names.now session.now.types session.now.state.history)) }
+{
+    out.extend_from_slice(b"{\"history\":")?;
+    put_history(out, names, session)?;
+    out.extend_from_slice(b",\"queues\":")?;
+    put_queues(out, names, session)?;
+    out.extend_from_slice(b",\"roles\":")?;
+    put_roles(out, names, session)?;
+    Ok(out.push(b'}')?)
+}
+
+// Writes the surviving steps, each with what it gave or took.
+fn put_history(out: &mut Vec<u8>, names: &Roles, session: &Session) -> Result<(), AllocError>
+    requires { length names.now ≡ length session.now.types }
+    ensures text { OnOk result (out.new.items ≡ out.old.items
+        ++ compact_text (row (map (step_shown names.now) (moves_of session.now)))) }
+    ensures plain { OnOk result (IsPlain (row (map (step_shown names.now) (moves_of session.now)))) }
+{
+    out.push(b'[')?;
+    let mut later = false;
+    for moved in session.moves() {
+        put_comma(out, later)?;
+        put_step(out, names, moved.0, moved.1)?;
+        later = true;
+    }
+    Ok(out.push(b']')?)
+}
+
+// Writes the queues in which something waits, by sender and then by receiver.
+fn put_queues(out: &mut Vec<u8>, names: &Roles, session: &Session) -> Result<(), AllocError>
+    requires { length names.now ≡ length session.now.types }
+    ensures text { OnOk result (out.new.items ≡ out.old.items
+        ++ compact_text (row (queues_shown names.now (length session.now.types) (session_view session.now)))) }
+    ensures plain { OnOk result (IsPlain (row (queues_shown names.now (length session.now.types) (session_view session.now)))) }
+{
+    out.push(b'[')?;
+    let n = session.roles();
+    let mut later = false;
+    for p in 0..n {
+        later = put_queues_from(out, names, session, Role::new(p as u8), later)?;
+    }
+    Ok(out.push(b']')?)
+}
+
+// Writes the queues from one role, and tells whether something stands in the array then.
+fn put_queues_from(
+    out: &mut Vec<u8>,
+    names: &Roles,
+    session: &Session,
+    from: Role,
+    later: bool,
+) -> Result<bool, AllocError>
+    requires count { length names.now ≡ length session.now.types }
+    requires from { from < length session.now.types }
+    ensures text { OnOk result (out.new.items ≡ out.old.items
+        ++ joined later (queues_from names.now (length session.now.types) (session_view session.now) from)) }
+    ensures behind { IfOk result (λ now. now
+        ≡ behind later (queues_from names.now (length session.now.types) (session_view session.now) from)) }
+    ensures plain { OnOk result (ArePlainItems
+        (items_of (queues_from names.now (length session.now.types) (session_view session.now) from))) }
+{
+    let n = session.roles();
+    let mut now = later;
+    for q in 0..n {
+        now = put_queue(out, names, session, from, Role::new(q as u8), now)?;
+    }
+    Ok(now)
+}
+
+// Writes the queue from one role to another, where something waits in it, and tells whether something stands in the
+// array then.
+fn put_queue(
+    out: &mut Vec<u8>,
+    names: &Roles,
+    session: &Session,
+    from: Role,
+    to: Role,
+    later: bool,
+) -> Result<bool, AllocError>
+    requires count { length names.now ≡ length session.now.types }
+    requires from { from < length session.now.types }
+    requires to { to < length session.now.types }
+    ensures text { OnOk result (out.new.items ≡ out.old.items
+        ++ joined later (queue_shown names.now from to ((session_view session.now).queue from to))) }
+    ensures behind { IfOk result (λ now. now
+        ≡ behind later (queue_shown names.now from to ((session_view session.now).queue from to))) }
+    ensures plain { OnOk result (ArePlainItems
+        (items_of (queue_shown names.now from to ((session_view session.now).queue from to)))) }
+{
+    let mut waiting = session.waiting(from, to);
+    let Some(first) = waiting.next() else {
+        return Ok(later);
+    };
+    put_comma(out, later)?;
+    put_messages(out, names, from, to, first, waiting)?;
+    Ok(true)
+}
+
+// Writes a queue with this first message and these others.
+fn put_messages(
+    out: &mut Vec<u8>,
+    names: &Roles,
+    from: Role,
+    to: Role,
+    first: &Message,
+    others: Queue<'_>,
+) -> Result<(), AllocError>
+    requires from { from < length names.now }
+    requires to { to < length names.now }
+    ensures text { OnOk result (out.new.items ≡ out.old.items ++ compact_text (row
+        (role_name names.now from ∷ role_name names.now to
+        ∷ row (map waiting_shown (first.now ∷ others.entry)) ∷ []))) }
+    ensures plain { OnOk result (IsPlain (row (role_name names.now from ∷ role_name names.now to
+        ∷ row (map waiting_shown (first.now ∷ others.entry)) ∷ []))) }
+{
+    out.push(b'[')?;
+    put_role(out, names, from)?;
+    out.push(b',')?;
+    put_role(out, names, to)?;
+    out.extend_from_slice(b",[")?;
+    put_waiting(out, first)?;
+    for message in others {
+        out.push(b',')?;
+        put_waiting(out, message)?;
+    }
+    out.extend_from_slice(b"]]")
+}
+
+// Writes the roles in order.
+fn put_roles(out: &mut Vec<u8>, names: &Roles, session: &Session) -> Result<(), AllocError>
+    requires { length names.now ≡ length session.now.types }
+    ensures text { OnOk result (out.new.items ≡ out.old.items
+        ++ compact_text (row (roles_shown names.now session.now.types session.now.state.history))) }
+    ensures plain { OnOk result (IsPlain (row (roles_shown names.now session.now.types session.now.state.history))) }
+{
+    out.push(b'[')?;
+    let n = session.roles();
+    for p in 0..n {
+        put_comma(out, p > 0)?;
+        put_participant(out, names, session, Role::new(p as u8))?;
+    }
+    Ok(out.push(b']')?)
+}
+
+// Writes a role: what it may do next, what it did, its name, and what it keeps.
+fn put_participant(
+    out: &mut Vec<u8>,
+    names: &Roles,
+    session: &Session,
+    role: Role,
+) -> Result<(), AllocError>
+    requires count { length names.now ≡ length session.now.types }
+    requires role { role < length session.now.types }
+    ensures text { OnOk result (out.new.items ≡ out.old.items ++ compact_text
+        (role_shown names.now (numbers (steps_of role session.now.state.history)) role
+        ((session_view session.now).participant role))) }
+    ensures plain { OnOk result (IsPlain (role_shown names.now (numbers (steps_of role session.now.state.history)) role
+        ((session_view session.now).participant role))) }
+{
+    out.extend_from_slice(b"{\"expects\":")?;
+    put_expects(out, names, session, role)?;
+    out.extend_from_slice(b",\"past\":")?;
+    put_past(out, session, role)?;
+    out.extend_from_slice(b",\"role\":")?;
+    put_role(out, names, role)?;
+    out.extend_from_slice(b",\"store\":")?;
+    put_store(out, session, role)?;
+    Ok(out.push(b'}')?)
+}
+
+// Writes what the role may do next.
+fn put_expects(
+    out: &mut Vec<u8>,
+    names: &Roles,
+    session: &Session,
+    role: Role,
+) -> Result<(), AllocError>
+    requires count { length names.now ≡ length session.now.types }
+    requires role { role < length session.now.types }
+    ensures text { OnOk result (out.new.items ≡ out.old.items
+        ++ compact_text (head_shown names.now (head ((session_view session.now).participant role).to_come))) }
+    ensures plain { OnOk result (IsPlain
+        (head_shown names.now (head ((session_view session.now).participant role).to_come))) }
+{
+    out.push(b'"')?;
+    put_head(out, names, session, role)?;
+    Ok(out.push(b'"')?)
+}
+
+// Writes the numbers of the role's surviving steps.
+fn put_past(out: &mut Vec<u8>, session: &Session, role: Role) -> Result<(), AllocError>
+    ensures { OnOk result (out.new.items ≡ out.old.items
+        ++ compact_text (row (map number_shown (numbers (steps_of role session.now.state.history))))) }
+{
+    out.push(b'[')?;
+    let mut later = false;
+    for moved in session.moves() {
+        later = put_own(out, role, moved.0, later)?;
+    }
+    Ok(out.push(b']')?)
+}
+
+// Writes the number of a step of the role, and tells whether something stands in the array then.
+fn put_own(out: &mut Vec<u8>, role: Role, step: &Step, later: bool) -> Result<bool, AllocError>
+    ensures text { OnOk result (out.new.items ≡ out.old.items ++ joined later (own_number role step.now)) }
+    ensures behind { IfOk result (λ now. now ≡ behind later (own_number role step.now)) }
+{
+    if !step.role.is(role) {
+        return Ok(later);
+    }
+    put_comma(out, later)?;
+    put_number(out, step.id)?;
+    Ok(true)
+}
+
+// Writes the slots of the role, each with its value.
+fn put_store(out: &mut Vec<u8>, session: &Session, role: Role) -> Result<(), AllocError>
+    requires { role < length session.now.types }
+    ensures text { OnOk result (out.new.items ≡ out.old.items
+        ++ compact_text (row (map binding_shown ((session_view session.now).participant role).store))) }
+    ensures plain { OnOk result (IsPlain (row (map binding_shown ((session_view session.now).participant role).store))) }
+{
+    out.push(b'[')?;
+    let count = session.slots(role);
+    for k in 0..count {
+        let Some(binding) = session.binding(role, k) else {
+            unreachable!()
+        };
+        put_comma(out, k > 0)?;
+        put_binding(out, binding.0, binding.1)?;
+    }
+    Ok(out.push(b']')?)
+}
