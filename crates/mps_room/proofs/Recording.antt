@@ -41,14 +41,14 @@ module _ (names : List (List ℕ)) (m : SessionState) (owners : List ℕ) (count
       }
 
   -- the lists after the change
-  pub heard_as : (command : Command) → command ≡ command_of change → (heard : List (List ℕ))
+  pub heard_as : (command : Command) → command ≡ command_of change → (heard : List (List ℕ)) → length heard ≡ 8
       → (takes_others command ≡ true → (q : ℕ) → q < count → slice_index_or heard q [] ≡ with_place (hears (owns owners q) q p (undone_by a)) (length j) (slice_index_or lists q []))
-      → (takes_others command ≡ false → (q : ℕ) → slice_index_or heard q [] ≡ slice_index_or lists q [])
+      → (takes_others command ≡ false → heard ≡ lists)
       → AreHeard count heard one_more
-  heard_as command asks heard told same =
-      heard_with m.types m.state j p change owners old.owners old.given a is kept (owners_with m.types m.state j p change owners old.owners a is kept) count lists heard old.heard
+  heard_as command asks heard each told same =
+      heard_with m.types m.state j p change owners old.owners old.given a is kept (owners_with m.types m.state j p change owners old.owners a is kept) count lists heard old.heard each
       (λ q known others. told (ap takes_others asks ∙ others) q known)
-      (λ own q. same (ap takes_others asks ∙ own) q)
+      (λ own. same (ap takes_others asks ∙ own))
 
   -- the answer is the one that is wanted
   pub replied : reply names m.types j p (command_of change) ≡ a

@@ -102,13 +102,14 @@ module _ (types : List LocalType) (st : State) (j : List Entry) (p : ℕ) (chang
     unheard_entry q own = ap (λ (b : Answer). hears_of (owns owners q) q (entry_of b)) is ∙ unheard owners st given.surviving types p q change own
 
     -- the lists after the answer to a change
-    pub heard_with : (count : ℕ) (lists new : List (List ℕ)) → AreHeard count lists j
+    pub heard_with : (count : ℕ) (lists new : List (List ℕ)) → AreHeard count lists j → length new ≡ 8
         → ((q : ℕ) → q < count → takes_others (command_of change) ≡ true → slice_index_or new q [] ≡ with_place (hears_of (owns owners q) q (entry_of a)) (length j) (slice_index_or lists q []))
-        → (takes_others (command_of change) ≡ false → (q : ℕ) → slice_index_or new q [] ≡ slice_index_or lists q [])
+        → (takes_others (command_of change) ≡ false → new ≡ lists)
         → AreHeard count new (one_more a)
-    heard_with count lists new old heard same =
+    heard_with count lists new old each heard same =
         record {
           few = old.few;
+          each = each;
           listed = λ q known. by_case q known (takes_others (command_of change)) refl;
         }
       where
@@ -118,7 +119,7 @@ module _ (types : List LocalType) (st : State) (j : List Entry) (p : ℕ) (chang
             ∙ ap (with_place (hears_of (owns owners q) q (entry_of a)) (length j)) (old.listed q known)
             ∙ sym (places_later q)
         by_case q known false e =
-            same e q
+            ap (λ (l : List (List ℕ)). slice_index_or l q []) (same e)
             ∙ old.listed q known
             ∙ ap (λ (b : Bool). with_place b (length j) (places j q)) (sym (unheard_entry q e))
             ∙ sym (places_later q)

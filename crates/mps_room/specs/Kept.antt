@@ -78,9 +78,10 @@ pub record AreGiven (owners : List ℕ) (h : List Step) (j : List Entry) : Type 
   pub surviving : AllByRecursion (λ s. owns owners s.role s.id ≡ true) h
   pub undone : AllByRecursion (λ e. AllByRecursion (λ n. n ≤ length owners) (undone_by e.answer)) j
 
--- each of so many roles, at most 8, has its list: the places of the entries that it hears of. Lists that aren't there yet are empty
+-- there is a list for each of so many roles, at most 8: the places of the entries that it hears of
 pub record AreHeard (count : ℕ) (lists : List (List ℕ)) (j : List Entry) : Type 0 where
   pub few : count ≤ 8
+  pub each : length lists ≡ 8
   pub listed : (p : ℕ) → p < count → slice_index_or lists p [] ≡ places j p
 
 -- the journal is legal, the session is as its commands leave it, and the owners and what each role hears of are known

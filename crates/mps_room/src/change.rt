@@ -11,7 +11,6 @@ use crate::news::undone_by;
 use crate::room::{MAX_ENTRIES, Room};
 use mps_base::Role;
 use mps_command::{Answer, Command, Refusal};
-use std::alloc::Global;
 
 // Whether the command may take back steps of other roles. An undo takes back the role's own step alone.
 fn takes_others(command: &Command) -> bool
@@ -20,26 +19,27 @@ fn takes_others(command: &Command) -> bool
     matches!(command, Command::Rollback(_) | Command::Back(_))
 }
 
-// Makes room for one entry more and for the owner of its step, and where it may take back steps of others for its place
-// in each role's list, or says what is missing.
+// Makes room for one entry more and for the owner of its step, and where the role may take back steps of others for the
+// place of the entry in their lists, or says what is missing.
 fn make_room(
     journal: &mut Vec<Entry>,
     owners: &mut Vec<Role>,
     heard: &mut Heard,
-    alloc: Global,
+    role: Role,
     command: &Command,
 ) -> Result<(), Refusal>
+    requires hearers { heard.old.count ≤ 8 }
+    requires lists { length heard.old.lists ≡ 8 }
     ensures journal { journal.new.items ≡ journal.old.items }
     ensures owners { owners.new.items ≡ owners.old.items }
     ensures hearers { heard.new.count ≡ heard.old.count }
-    ensures heard { (p : ℕ) → slice_index_or (map (λ l. l.items) heard.new.lists.items) p []
-        ≡ slice_index_or (map (λ l. l.items) heard.old.lists.items) p [] }
+    ensures lists { length heard.new.lists ≡ 8 }
+    ensures heard { map (λ l. l.items) heard.new.lists ≡ map (λ l. l.items) heard.old.lists }
     ensures few { OnOk result (length journal.old.items < most_entries) }
     ensures place { OnOk result (vec_len journal.new + 1 ≤ vec_capacity journal.new) }
     ensures owner_place { OnOk result (vec_len owners.new + 1 ≤ vec_capacity owners.new) }
-    ensures lists { OnOk result (takes_others command.now ≡ true → heard.new.count ≤ length heard.new.lists.items) }
-    ensures heard_place { OnOk result (takes_others command.now ≡ true → (k : ℕ) (d : _) → k < heard.new.count
-        → vec_len (slice_index_or heard.new.lists.items k d) < vec_capacity (slice_index_or heard.new.lists.items k d)) }
+    ensures heard_place { OnOk result (takes_others command.now ≡ true → (k : ℕ) (d : _) → k < heard.new.count → k ≢ role
+        → vec_len (slice_index_or heard.new.lists k d) < vec_capacity (slice_index_or heard.new.lists k d)) }
     ensures short { IfErr result (IsShort journal.old.items) }
 {
     if journal.len() >= MAX_ENTRIES {
@@ -48,7 +48,7 @@ fn make_room(
     journal.reserve(1)?;
     owners.reserve(1)?;
     if takes_others(command) {
-        heard.reserve(alloc)?;
+        heard.reserve(role)?;
     }
     Ok(())
 }
@@ -60,17 +60,17 @@ fn keep(journal: &mut Vec<Entry>, owners: &mut Vec<Role>, heard: &mut Heard, ent
     requires place { vec_len journal.old + 1 ≤ vec_capacity journal.old }
     requires owner_place { vec_len owners.old + 1 ≤ vec_capacity owners.old }
     requires hearers { heard.old.count ≤ 8 }
-    requires lists { takes_others entry.command ≡ true → heard.old.count ≤ length heard.old.lists.items }
-    requires heard_place { takes_others entry.command ≡ true → (k : ℕ) (d : _) → k < heard.old.count
-        → vec_len (slice_index_or heard.old.lists.items k d) < vec_capacity (slice_index_or heard.old.lists.items k d) }
+    requires lists { length heard.old.lists ≡ 8 }
+    requires heard_place { takes_others entry.command ≡ true → (k : ℕ) (d : _) → k < heard.old.count → k ≢ entry.role
+        → vec_len (slice_index_or heard.old.lists k d) < vec_capacity (slice_index_or heard.old.lists k d) }
     ensures journal { journal.new.items ≡ journal.old.items ++ entry ∷ [] }
     ensures owners { owners.new.items ≡ owners_after owners.old.items entry.role entry.answer }
     ensures hearers { heard.new.count ≡ heard.old.count }
-    ensures lists { length heard.new.lists.items ≡ length heard.old.lists.items }
+    ensures lists { length heard.new.lists ≡ 8 }
     ensures heard { takes_others entry.command ≡ true → (p : ℕ) (d : _) → p < heard.old.count
-        → (slice_index_or heard.new.lists.items p d).items
-        ≡ with_place (hears_of (owns owners.old.items p) p entry) (length journal.old.items) (slice_index_or heard.old.lists.items p d).items }
-    ensures unheard { takes_others entry.command ≡ false → heard.new.lists.items ≡ heard.old.lists.items }
+        → (slice_index_or heard.new.lists p d).items
+        ≡ with_place (hears_of (owns owners.old.items p) p entry) (length journal.old.items) (slice_index_or heard.old.lists p d).items }
+    ensures unheard { takes_others entry.command ≡ false → heard.new.lists ≡ heard.old.lists }
 {
     let role = entry.role;
     if takes_others(&entry.command) {
@@ -113,7 +113,7 @@ impl Room {
             &mut self.journal,
             &mut self.owners,
             &mut self.heard,
-            self.alloc,
+            role,
             &command,
         ) {
             return Err(self.refused(role, &command, refusal));

@@ -8,68 +8,64 @@ use mps_base::{Role, StepId};
 use std::alloc::{AllocError, Global};
 
 /// For each role a list of the places of the entries that it hears of, in order.
-///
-/// There are no lists until a role may take back steps of others, so a new one does not allocate.
 #[derive(Drop)]
 pub(crate) struct Heard {
-    pub(crate) lists: Vec<Vec<u32>>,
+    pub(crate) lists: [Vec<u32>; 8],
     // how many roles there are
     pub(crate) count: usize,
 }
 
 impl Heard {
-    /// What so many roles hear of that heard of nothing. It does not allocate.
+    /// The lists of so many roles, which heard of nothing. It does not allocate.
     pub(crate) fn new(alloc: Global, count: usize) -> Heard
         ensures count { result.count ≡ count }
-        ensures lists { result.lists.items ≡ [] }
+        ensures each { length result.lists ≡ 8 }
+        ensures lists { (p : ℕ) → slice_index_or (map (λ l. l.items) result.lists) p [] ≡ [] }
     {
         Heard {
-            lists: Vec::new(alloc),
+            lists: [
+                Vec::new(alloc),
+                Vec::new(alloc),
+                Vec::new(alloc),
+                Vec::new(alloc),
+                Vec::new(alloc),
+                Vec::new(alloc),
+                Vec::new(alloc),
+                Vec::new(alloc),
+            ],
             count,
         }
     }
 
     /// The role's list. A role that there isn't hears of nothing.
     pub(crate) fn list(&self, role: Role) -> &[u32]
+        requires few { self.now.count ≤ 8 }
+        requires each { length self.now.lists ≡ 8 }
         ensures role { role < self.now.count
-            → result.now ≡ slice_index_or (map (λ l. l.items) self.now.lists.items) role [] }
+            → result.now ≡ slice_index_or (map (λ l. l.items) self.now.lists) role [] }
         ensures none { self.now.count ≤ role → result.now ≡ [] }
     {
         if role.index() >= self.count {
             return &[];
         }
-        match self.lists.get(role.index()) {
-            Some(list) => list.as_slice(),
-            None => &[],
-        }
+        self.lists[role.index()].as_slice()
     }
 
-    // Has a list for each role.
-    fn fill(&mut self, alloc: Global) -> Result<(), AllocError>
-        ensures count { self.new.count ≡ self.old.count }
-        ensures lists { (p : ℕ) → slice_index_or (map (λ l. l.items) self.new.lists.items) p []
-            ≡ slice_index_or (map (λ l. l.items) self.old.lists.items) p [] }
-        ensures each { OnOk result (self.old.count ≤ length self.new.lists.items) }
-    {
-        for _ in self.lists.len()..self.count {
-            self.lists.push(Vec::new(alloc))?;
-        }
-        Ok(())
-    }
-
-    /// Makes room for one place more in the list of each role.
+    /// Makes room for one place more in the list of each role but this one.
     #[inline(never)]
-    pub(crate) fn reserve(&mut self, alloc: Global) -> Result<(), AllocError>
+    pub(crate) fn reserve(&mut self, asker: Role) -> Result<(), AllocError>
+        requires few { self.old.count ≤ 8 }
+        requires each { length self.old.lists ≡ 8 }
         ensures count { self.new.count ≡ self.old.count }
-        ensures lists { (p : ℕ) → slice_index_or (map (λ l. l.items) self.new.lists.items) p []
-            ≡ slice_index_or (map (λ l. l.items) self.old.lists.items) p [] }
-        ensures each { OnOk result (self.old.count ≤ length self.new.lists.items) }
-        ensures room { OnOk result ((k : ℕ) (d : _) → k < self.old.count
-            → vec_len (slice_index_or self.new.lists.items k d) < vec_capacity (slice_index_or self.new.lists.items k d)) }
+        ensures each { length self.new.lists ≡ 8 }
+        ensures lists { map (λ l. l.items) self.new.lists ≡ map (λ l. l.items) self.old.lists }
+        ensures room { OnOk result ((k : ℕ) (d : _) → k < self.old.count → k ≢ asker
+            → vec_len (slice_index_or self.new.lists k d) < vec_capacity (slice_index_or self.new.lists k d)) }
     {
-        self.fill(alloc)?;
         for k in 0..self.count {
-            reserve_at(&mut self.lists, k)?;
+            if k != asker.index() {
+                reserve_at(&mut self.lists, k)?;
+            }
         }
         Ok(())
     }
@@ -79,13 +75,13 @@ impl Heard {
     #[inline(never)]
     pub(crate) fn note(&mut self, owners: &[Role], asker: Role, ids: &[StepId], place: u32)
         requires few { self.old.count ≤ 8 }
-        requires each { self.old.count ≤ length self.old.lists.items }
-        requires room { (k : ℕ) (d : _) → k < self.old.count
-            → vec_len (slice_index_or self.old.lists.items k d) < vec_capacity (slice_index_or self.old.lists.items k d) }
+        requires each { length self.old.lists ≡ 8 }
+        requires room { (k : ℕ) (d : _) → k < self.old.count → k ≢ asker
+            → vec_len (slice_index_or self.old.lists k d) < vec_capacity (slice_index_or self.old.lists k d) }
         ensures count { self.new.count ≡ self.old.count }
-        ensures each { length self.new.lists.items ≡ length self.old.lists.items }
-        ensures lists { (p : ℕ) (d : _) → p < self.old.count → (slice_index_or self.new.lists.items p d).items
-            ≡ with_place (hears (owns owners.now p) p asker ids.now) place (slice_index_or self.old.lists.items p d).items }
+        ensures each { length self.new.lists ≡ 8 }
+        ensures lists { (p : ℕ) (d : _) → p < self.old.count → (slice_index_or self.new.lists p d).items
+            ≡ with_place (hears (owns owners.now p) p asker ids.now) place (slice_index_or self.old.lists p d).items }
     {
         let lost = losers(owners, ids);
         for k in 0..self.count {
@@ -97,23 +93,23 @@ impl Heard {
 }
 
 // Makes room for one place more in one list.
-fn reserve_at(lists: &mut Vec<Vec<u32>>, k: usize) -> Result<(), AllocError>
-    requires { k < length lists.old.items }
-    ensures each { length lists.new.items ≡ length lists.old.items }
-    ensures here { (d : _) → (slice_index_or lists.new.items k d).items ≡ (slice_index_or lists.old.items k d).items }
-    ensures others { (i : ℕ) (d : _) → i ≢ k → slice_index_or lists.new.items i d ≡ slice_index_or lists.old.items i d }
-    ensures room { OnOk result ((d : _) → vec_len (slice_index_or lists.new.items k d) < vec_capacity (slice_index_or lists.new.items k d)) }
+fn reserve_at(lists: &mut [Vec<u32>; 8], k: usize) -> Result<(), AllocError>
+    requires { k < length lists.old }
+    ensures each { length lists.new ≡ length lists.old }
+    ensures here { (d : _) → (slice_index_or lists.new k d).items ≡ (slice_index_or lists.old k d).items }
+    ensures others { (i : ℕ) (d : _) → i ≢ k → slice_index_or lists.new i d ≡ slice_index_or lists.old i d }
+    ensures room { OnOk result ((d : _) → vec_len (slice_index_or lists.new k d) < vec_capacity (slice_index_or lists.new k d)) }
 {
     lists[k].reserve(1)
 }
 
 // Adds a place to one list.
-fn push_at(lists: &mut Vec<Vec<u32>>, k: usize, place: u32)
-    requires list { k < length lists.old.items }
-    requires room { (d : _) → vec_len (slice_index_or lists.old.items k d) < vec_capacity (slice_index_or lists.old.items k d) }
-    ensures each { length lists.new.items ≡ length lists.old.items }
-    ensures here { (d : _) → (slice_index_or lists.new.items k d).items ≡ (slice_index_or lists.old.items k d).items ++ place ∷ [] }
-    ensures others { (i : ℕ) (d : _) → i ≢ k → slice_index_or lists.new.items i d ≡ slice_index_or lists.old.items i d }
+fn push_at(lists: &mut [Vec<u32>; 8], k: usize, place: u32)
+    requires list { k < length lists.old }
+    requires room { (d : _) → vec_len (slice_index_or lists.old k d) < vec_capacity (slice_index_or lists.old k d) }
+    ensures each { length lists.new ≡ length lists.old }
+    ensures here { (d : _) → (slice_index_or lists.new k d).items ≡ (slice_index_or lists.old k d).items ++ place ∷ [] }
+    ensures others { (i : ℕ) (d : _) → i ≢ k → slice_index_or lists.new i d ≡ slice_index_or lists.old i d }
 {
     lists[k].push_reserved(place);
 }

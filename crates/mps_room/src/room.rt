@@ -49,7 +49,7 @@ impl Model for Room {
 
     ghost view = { λ r. record { names = r.names; types = r.session.types; journal = r.journal.items } };
 
-    ghost invariant = { λ r. IsRecorded r.names r.session r.owners.items r.heard.count (map (λ l. l.items) r.heard.lists.items) r.journal.items };
+    ghost invariant = { λ r. IsRecorded r.names r.session r.owners.items r.heard.count (map (λ l. l.items) r.heard.lists) r.journal.items };
 }
 
 impl Room {

@@ -7,7 +7,7 @@ abbrev pub invariant-loop-k : goal.invariant-loop-k
 invariant-loop-k l =
     record {
       count : l.self.count ≡ l.fn.self.count;
-      each : length l.self.lists.items ≡ length l.fn.self.lists.items;
-      done : (p : ℕ) (d : _) → p < l.k → (slice_index_or l.self.lists.items p d).items ≡ with_place (hears (owns l.owners p) p l.asker l.ids) l.place (slice_index_or l.fn.self.lists.items p d).items;
-      left : (p : ℕ) (d : _) → l.k ≤ p → slice_index_or l.self.lists.items p d ≡ slice_index_or l.fn.self.lists.items p d;
+      each : length l.self.lists ≡ 8;
+      done : (p : ℕ) (d : _) → p < l.k → (slice_index_or l.self.lists p d).items ≡ with_place (hears (owns l.owners p) p l.asker l.ids) l.place (slice_index_or l.fn.self.lists p d).items;
+      left : (p : ℕ) (d : _) → l.k ≤ p → slice_index_or l.self.lists p d ≡ slice_index_or l.fn.self.lists p d;
     }

@@ -1,4 +1,5 @@
 use Rattle.std.proofs.Common.{◌≡◌, ◌<◌, ◌∷◌, [], ◌++◌, true, List, ℕ, Ok, length, map, sym, ap, ◌∙◌, subst, arith}
+use Rattle.std.proofs.lemmas.List.{length-map}
 use Rattle.std.specs.Prelude.{Option, Result, IfErr, slice_index_or}
 use Rattle.mps_command.specs.Changes.{command_of}
 use Rattle.mps_command.specs.declared.answer.Refusal.{Refusal}
@@ -48,32 +49,33 @@ joined c =
     c.keep.ensures.journal ∙ ap (λ (l : List Entry). l ++ e ∷ []) c.make_room.ensures.journal
 
 -- the lists after it
-heard_lists : (c : After-keep) → AreHeard c.self.inside.heard.count (map (λ v. v.items) c.keep.new.heard.lists.items)
+heard_lists : (c : After-keep) → AreHeard c.self.inside.heard.count (map (λ v. v.items) c.keep.new.heard.lists)
     (c.self.inside.journal.items ++ record { role = c.args.role; command = command_of (change_in c); answer = c.in_ok-answer.answer } ∷ [])
 heard_lists c =
     let r = c.self.inside in
     let a = c.in_ok-answer.answer in
     let room = c.make_room.ensures in
     let hear = λ (owners : List ℕ) (q : ℕ). hears (owns owners q) q c.args.role (undone_by a) in
-    recording.heard_as r.names r.session r.owners.items r.heard.count (map (λ v. v.items) r.heard.lists.items) r.journal.items c.self.invariant c.args.role (known c) (change_in c) a (answered c) (kept c) c.in_default.ensures.few
-    c.args.command (is_asked c) (map (λ v. v.items) c.keep.new.heard.lists.items)
+    recording.heard_as r.names r.session r.owners.items r.heard.count (map (λ v. v.items) r.heard.lists) r.journal.items c.self.invariant c.args.role (known c) (change_in c) a (answered c) (kept c) c.in_default.ensures.few
+    c.args.command (is_asked c) (map (λ v. v.items) c.keep.new.heard.lists)
+    (length-map c.keep.new.heard.lists (λ v. v.items) ∙ c.keep.ensures.lists)
     (λ others q there.
     map_each (λ v. v.items) (λ p. p < c.make_room.new.heard.count) (λ p l. with_place (hear c.make_room.new.owners.items p) (length c.make_room.new.journal.items) l)
-    c.make_room.new.heard.lists.items c.keep.new.heard.lists.items c.keep.ensures.lists
+    c.make_room.new.heard.lists c.keep.new.heard.lists (c.keep.ensures.lists ∙ sym room.lists)
     (λ p d inside. c.keep.ensures.heard others p d inside) q (subst (λ (n : ℕ). q < n) (sym room.hearers) there)
-    (omega (arith, there, room.hearers, c.in_default.ensures.lists others))
-    ∙ ap (λ (o : List ℕ). with_place (hear o q) (length c.make_room.new.journal.items) (slice_index_or (map (λ v. v.items) c.make_room.new.heard.lists.items) q [])) room.owners
-    ∙ ap (λ (l : List Entry). with_place (hear r.owners.items q) (length l) (slice_index_or (map (λ v. v.items) c.make_room.new.heard.lists.items) q [])) room.journal
-    ∙ ap (λ (l : List ℕ). with_place (hear r.owners.items q) (length r.journal.items) l) (room.heard q))
-    (λ own q. ap (λ l. slice_index_or (map (λ v. v.items) l) q []) (c.keep.ensures.unheard own) ∙ room.heard q)
+    (omega (arith, there, room.lists, c.self.invariant.heard.few))
+    ∙ ap (λ (o : List ℕ). with_place (hear o q) (length c.make_room.new.journal.items) (slice_index_or (map (λ v. v.items) c.make_room.new.heard.lists) q [])) room.owners
+    ∙ ap (λ (l : List Entry). with_place (hear r.owners.items q) (length l) (slice_index_or (map (λ v. v.items) c.make_room.new.heard.lists) q [])) room.journal
+    ∙ ap (λ (l : List (List ℕ)). with_place (hear r.owners.items q) (length r.journal.items) (slice_index_or l q [])) room.heard)
+    (λ own. ap (λ l. map (λ v. v.items) l) (c.keep.ensures.unheard own) ∙ room.heard)
 
 pub invariant_of-self-2 : goal.invariant_of-self-2
 invariant_of-self-2 c =
     let l = (goal.at.invariant_of-self-2 c).After-keep in
     let r = c.self.inside in
     let a = c.in_ok-answer.answer in
-    recording.recorded_as r.names r.session r.owners.items r.heard.count (map (λ v. v.items) r.heard.lists.items) r.journal.items c.self.invariant c.args.role (known l) (change_in l) a (answered l) (kept l) c.in_default.ensures.few c.args.command (is_asked l)
-    c.accept.new.self c.keep.new.owners.items c.keep.new.heard.count (map (λ v. v.items) c.keep.new.heard.lists.items) c.keep.new.journal.items c.in_ok-answer.ensures.types (served l).state
+    recording.recorded_as r.names r.session r.owners.items r.heard.count (map (λ v. v.items) r.heard.lists) r.journal.items c.self.invariant c.args.role (known l) (change_in l) a (answered l) (kept l) c.in_default.ensures.few c.args.command (is_asked l)
+    c.accept.new.self c.keep.new.owners.items c.keep.new.heard.count (map (λ v. v.items) c.keep.new.heard.lists) c.keep.new.journal.items c.in_ok-answer.ensures.types (served l).state
     (c.keep.ensures.owners ∙ ap (λ (o : List ℕ). owners_after o c.args.role a) c.make_room.ensures.owners)
     (c.keep.ensures.hearers ∙ c.make_room.ensures.hearers)
     (heard_lists l)
@@ -84,7 +86,7 @@ returns-clause-entered c =
     let l = (goal.at.returns-clause-entered c).After-keep in
     let r = c.self.inside in
     let a = c.in_ok-answer.answer in
-    let is = recording.replied_as r.names r.session r.owners.items r.heard.count (map (λ v. v.items) r.heard.lists.items) r.journal.items c.self.invariant c.args.role (known l) (change_in l) a (answered l) (kept l) c.in_default.ensures.few c.args.command (is_asked l) in
+    let is = recording.replied_as r.names r.session r.owners.items r.heard.count (map (λ v. v.items) r.heard.lists) r.journal.items c.self.invariant c.args.role (known l) (change_in l) a (answered l) (kept l) c.in_default.ensures.few c.args.command (is_asked l) in
     subst (λ (m : RoomState). HasEntered m.names m.types m.journal c.args.role c.args.command c.keep.new.journal.items) c.self.view_is
     (record {
       answer = a;
@@ -101,7 +103,7 @@ returns-clause-answer c =
     let l = (goal.at.returns-clause-answer c).After-keep in
     let r = c.self.inside in
     let a = c.in_ok-answer.answer in
-    let is = recording.replied_as r.names r.session r.owners.items r.heard.count (map (λ v. v.items) r.heard.lists.items) r.journal.items c.self.invariant c.args.role (known l) (change_in l) a (answered l) (kept l) c.in_default.ensures.few c.args.command (is_asked l) in
+    let is = recording.replied_as r.names r.session r.owners.items r.heard.count (map (λ v. v.items) r.heard.lists) r.journal.items c.self.invariant c.args.role (known l) (change_in l) a (answered l) (kept l) c.in_default.ensures.few c.args.command (is_asked l) in
     told_as (λ (t : Answer). IsReply t (reply c.args.self.now.names c.args.self.now.types c.args.self.now.journal c.args.role c.args.command)) c.args.told a c.in_ok-answer.told c.in_ok-answer.ensures.again
     (subst (λ (m : RoomState). IsReply a (reply m.names m.types m.journal c.args.role c.args.command)) c.self.view_is
     (subst (λ (w : Answer). IsReply a w) (sym is) (accepted_reply a (kept l))))
@@ -112,7 +114,7 @@ returns-clause-journal c =
     let r = c.self.inside in
     let a = c.in_ok-answer.answer in
     told_as (λ (t : Answer). c.keep.new.journal.items ≡ grown c.args.self.now.journal c.args.role c.args.command t) c.args.told a c.in_ok-answer.told c.in_ok-answer.ensures.again
-    (recording.grown_as r.names r.session r.owners.items r.heard.count (map (λ v. v.items) r.heard.lists.items) r.journal.items c.self.invariant c.args.role (known l) (change_in l) a (answered l) (kept l) c.in_default.ensures.few c.args.command (is_asked l) c.keep.new.journal.items (joined l)
+    (recording.grown_as r.names r.session r.owners.items r.heard.count (map (λ v. v.items) r.heard.lists) r.journal.items c.self.invariant c.args.role (known l) (change_in l) a (answered l) (kept l) c.in_default.ensures.few c.args.command (is_asked l) c.keep.new.journal.items (joined l)
     ∙ ap (λ (m : RoomState). grown m.journal c.args.role c.args.command a) c.self.view_is)
 
 pub returns-in_err-answer-clause-refused : goal.returns-in_err-answer-clause-refused
@@ -122,4 +124,4 @@ returns-in_err-answer-clause-refused c =
     let refusal = c.in_err-answer.field-0.0 in
     handed_on _ refusal (λ (a : Result (Option Answer) Refusal). IfErr a (λ e. IsReply (Refused e) (reply c.args.self.now.names c.args.self.now.types c.args.self.now.journal c.args.role c.args.command))) c.from_residual.ensures.1
     (subst (λ (m : RoomState). IsReply (Refused refusal) (reply m.names m.types m.journal c.args.role c.args.command)) c.self.view_is
-    (recording.refused_as r.names r.session r.owners.items r.heard.count (map (λ v. v.items) r.heard.lists.items) r.journal.items c.self.invariant c.args.role found.0 c.args.command found.2 c.in_default.ensures.few c.accept.new.self.state refusal (c.in_err-answer.ensures.accepted found.0 found.1)))
+    (recording.refused_as r.names r.session r.owners.items r.heard.count (map (λ v. v.items) r.heard.lists) r.journal.items c.self.invariant c.args.role found.0 c.args.command found.2 c.in_default.ensures.few c.accept.new.self.state refusal (c.in_err-answer.ensures.accepted found.0 found.1)))
