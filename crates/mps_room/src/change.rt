@@ -21,6 +21,7 @@ fn takes_others(command: &Command) -> bool
 
 // Makes room for one entry more and for the owner of its step, and where the role may take back steps of others for the
 // place of the entry in their lists, or says what is missing.
+#[inline(always)]
 fn make_room(
     journal: &mut Vec<Entry>,
     owners: &mut Vec<Role>,

@@ -156,6 +156,7 @@ impl Configuration {
     }
 
     // Takes the message that came first from the peer, and binds the slot to its value.
+    #[inline(always)]
     fn receive(
         &mut self,
         role: Role,
