@@ -6,7 +6,7 @@ use Rattle.std.proofs.lemmas.List.{length-take}
 use Rattle.mps_dev.specs.declared.traits.Source.{Ghosts}
 use Rattle.mps_lines.specs.Lines.{front, max_line, most_kept}
 use Rattle.mps_lines.proofs.Splitting.{AllByRecursion-append, front_front, front_short}
-use Rattle.mps_hub.specs.First.{Gave, HasStopped, HasNoFirstLine, IsBegun, IsFirstLine, IsJoin, max_reads}
+use Rattle.mps_hub.specs.First.{Gave, HasStopped, HasGoneOn, HasNoFirstLine, IsBegun, IsFirstLine, IsJoin, max_reads}
 
 -- what is kept is short
 pub short_kept : {R : Type 0} (source : Ghosts R) (old new : R) (kept : List ℕ) → IsBegun source old new kept → length kept ≤ most_kept
@@ -33,12 +33,13 @@ module _ {R : Type 0} (source : Ghosts R) (old mid new : R) (kept : List ℕ) (b
   }
 
   -- the byte that ends it
-  pub last_one : (byte : ℕ) → Gave source mid new (byte ∷ []) → byte ≡ 10 → IsFirstLine source old new kept
-  last_one byte gave is = record {
+  pub last_one : (byte : ℕ) → Gave source mid new (byte ∷ []) → byte ≡ 10 → HasGoneOn source old new → IsFirstLine source old new kept
+  last_one byte gave is gone_on = record {
     line = begun.read;
     gave = subst (λ (b : ℕ). Gave source old new (begun.read ++ b ∷ [])) is (more_read (byte ∷ []) gave);
     unbroken = begun.unbroken;
     front_kept = begun.front_kept;
+    gone_on = gone_on;
   }
 
   -- no byte more, since a read failed or found the end
@@ -54,8 +55,8 @@ module _ {R : Type 0} (source : Ghosts R) (old mid new : R) (kept : List ℕ) (b
   }
 
 -- it was read from as often as it may be
-pub most_read : {R : Type 0} (source : Ghosts R) (old new : R) (kept : List ℕ) → IsBegun source old new kept → source.calls new ≡ source.calls old + max_reads → HasNoFirstLine source old new
-most_read source old new kept begun reads = record { read = begun.read; gave = begun.gave; unbroken = begun.unbroken; stopped = inr reads }
+pub most_read : {R : Type 0} (source : Ghosts R) (old new : R) (kept : List ℕ) → IsBegun source old new kept → source.calls new ≡ source.calls old + max_reads → source.failed_calls new ≡ source.failed_calls old → source.ends new ≡ source.ends old → HasNoFirstLine source old new
+most_read source old new kept begun reads failed ends = record { read = begun.read; gave = begun.gave; unbroken = begun.unbroken; stopped = inr (record { no_failure = failed; no_end = ends }, reads) }
 
 -- a short front is the whole line
 front_whole : (line kept : List ℕ) → kept ≡ front line → length kept ≤ max_line → kept ≡ line

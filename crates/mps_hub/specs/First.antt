@@ -20,6 +20,11 @@ module _ {R : Type 0} (source : Ghosts R) (old new : R) where
   HasStopped = (source.failed_calls new ≡ source.failed_calls old + 1)
       ⊎ ((source.ends new ≡ source.ends old + 1) × IsAtEnd (source.remaining new))
 
+  -- no read failed, and none found the end
+  pub record HasGoneOn : Type 0 where
+    pub no_failure : source.failed_calls new ≡ source.failed_calls old
+    pub no_end : source.ends new ≡ source.ends old
+
   -- no byte that was given ends a line; of them the front is kept
   pub record IsBegun (kept : List ℕ) : Type 0 where
     pub read : List ℕ
@@ -27,19 +32,20 @@ module _ {R : Type 0} (source : Ghosts R) (old new : R) where
     pub unbroken : HasNoBreak read
     pub front_kept : kept ≡ front read
 
-  -- a line and its LF were given, and no byte more; of the line the front is kept
+  -- a line and its LF were given, and no byte more, and no read failed or found the end; of the line the front is kept
   pub record IsFirstLine (kept : List ℕ) : Type 0 where
     pub line : List ℕ
     pub gave : Gave (ended line)
     pub unbroken : HasNoBreak line
     pub front_kept : kept ≡ front line
+    pub gone_on : HasGoneOn
 
   -- no LF was given before a read failed, the end came, or there were as many reads as there may be
   pub record HasNoFirstLine : Type 0 where
     pub read : List ℕ
     pub gave : Gave read
     pub unbroken : HasNoBreak read
-    pub stopped : HasStopped ⊎ (source.calls new ≡ source.calls old + max_reads)
+    pub stopped : HasStopped ⊎ (HasGoneOn × (source.calls new ≡ source.calls old + max_reads))
 
 -- the line joins the session of this number as the role of this name
 pub record IsJoin (line : List ℕ) (session : ℕ) (name : List ℕ) : Type 0 where

@@ -4,7 +4,9 @@ use Rattle.mps_hub.proofs.first.first_line.Goals as goal
 
 pub returns-then-byte-eq10-clause-line : goal.returns-then-byte-eq10-clause-line
 returns-then-byte-eq10-clause-line g c =
+    let counted = c.in-Some.ensures.counted in
     last_one g.R.Source c.args.reader.now c.loop.reader c.read_byte.new.reader c.loop.line.items c.loop.invariant.begun c.in-Some.byte c.in-Some.ensures.byte c.if-byte-eq10.true
+    (record { no_failure = counted.0 ∙ c.loop.invariant.failed; no_end = counted.1 ∙ c.loop.invariant.ends })
 
 pub keep-requires : goal.keep-requires
 keep-requires g c = short_kept g.R.Source c.args.reader.now c.loop.reader c.loop.line.items c.loop.invariant.begun
