@@ -121,6 +121,7 @@ fn write_joined(session: u64, name: &Name, out: &mut Vec<u8>) -> Result<(), Allo
 }
 
 /// Writes the answer at the end, without a line break. Where memory runs out, a part of it may stand there.
+#[inline(always)]
 pub fn write_answer(answer: &Answer, out: &mut Vec<u8>) -> Result<(), AllocError>
     ensures ok { OnOk result (Appends
         (λ text. SpellsReply text (Answered answer.now)) out.old.items out.new.items) }
@@ -181,6 +182,7 @@ fn write_violation(violation: Violation, out: &mut Vec<u8>) -> Result<(), AllocE
 }
 
 // Writes the number of the step and the message that it took, or a part of them.
+#[inline(always)]
 fn write_done(done: &Done, out: &mut Vec<u8>) -> Result<(), AllocError>
     ensures ok { OnOk result (Appends
         (λ text. SpellsLine [] text (done_tokens done.now.id done.now.got))

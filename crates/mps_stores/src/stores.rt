@@ -82,6 +82,7 @@ impl Stores {
 
     /// Binds the role's name to a step, and tells to which one it was bound: what the step's entry keeps as
     /// `before.bound`. A known name keeps its place, and does not allocate.
+    #[inline(always)]
     pub fn bind(&mut self, role: Role, name: &Name, key: Key) -> Result<Option<Key>, AllocError>
         requires { role < 8 }
         ensures replaced { IfOk result (λ older. older ≡ value_in name.now (store_at self.old role)) }
