@@ -160,16 +160,6 @@ fn empty_lines(rt: HostRuntime) -> Result<(), Fail> {
     Ok(())
 }
 
-// What the next line is reported as, if one waits, is this.
-fn next_is(lines: &mut Lines, want: Option<Told>) -> Result<bool, Fail> {
-    Ok(is_waiting(lines.next_line()?.as_ref(), want))
-}
-
-// What the rest is reported as, if there is one, is this.
-fn rest_is(lines: &mut Lines, want: Option<Told>) -> Result<bool, Fail> {
-    Ok(is_waiting(lines.finish()?.as_ref(), want))
-}
-
 // Whether a line that may be there is reported so.
 fn is_waiting(line: Option<&Line>, want: Option<Told>) -> bool {
     match (line, want) {
@@ -182,15 +172,15 @@ fn is_waiting(line: Option<&Line>, want: Option<Told>) -> bool {
 #[test]
 fn finishes_and_begins_again(rt: HostRuntime) -> Result<(), Fail> {
     let mut lines = Lines::new(rt.alloc());
-    assert!(rt; rest_is(&mut lines, None)?);
+    assert!(rt; is_waiting(lines.finish()?.as_ref(), None));
     lines.feed(b"mark m")?;
-    assert!(rt; next_is(&mut lines, None)?);
-    assert!(rt; rest_is(&mut lines, Some(Text(b"mark m")))?);
-    assert!(rt; rest_is(&mut lines, None)?);
+    assert!(rt; is_waiting(lines.next_line()?.as_ref(), None));
+    assert!(rt; is_waiting(lines.finish()?.as_ref(), Some(Text(b"mark m"))));
+    assert!(rt; is_waiting(lines.finish()?.as_ref(), None));
     lines.feed(b"ba")?;
     lines.feed(b"ck m\nnews")?;
-    assert!(rt; next_is(&mut lines, Some(Text(b"back m")))?);
-    assert!(rt; next_is(&mut lines, None)?);
+    assert!(rt; is_waiting(lines.next_line()?.as_ref(), Some(Text(b"back m"))));
+    assert!(rt; is_waiting(lines.next_line()?.as_ref(), None));
     Ok(())
 }
 
