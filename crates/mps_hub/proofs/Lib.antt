@@ -1,4 +1,5 @@
 pub mod Bytewise
+pub mod Shutting
 pub mod Locking
 pub mod Joining
 pub mod Cells

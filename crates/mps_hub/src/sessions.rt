@@ -1,9 +1,10 @@
 //! The sessions of a server.
-ghost use Rattle.std.specs.Prelude.{◌≡◌, ◌+◌, ◌≤◌, ◌↔◌, [], true, false, map, length, vec_capacity, IfOk, IfSome, IsSome, IsErrOf, All};
+ghost use Rattle.std.specs.Prelude.{◌≡◌, ◌≢◌, ◌+◌, ◌≤◌, ◌↔◌, [], true, false, map, length, vec_capacity, IfOk, IfErr, IfSome, IsSome, IsErrOf, All};
 ghost use Rattle.mps_local.specs.Local.{plain};
 ghost use Rattle.mps_machine.specs.Machine.{initial};
 ghost use Rattle.mps_cell.specs.Cells.{IsDealOf, opened_with};
 ghost use Rattle.mps_cell.specs.declared.cell.PassFault.TheVariants.{Given};
+ghost use Rattle.mps_wire.specs.Runs.{KeepsShut};
 ghost use Rattle.mps_hub.specs.Halls.{AreCellsOf, AreCellsWith, AreClosed, AreDeals, IsNew};
 ghost use Rattle.mps_hub.specs.Places.{IsOfCell};
 
@@ -92,7 +93,8 @@ fn copies(alloc: Global, types: &[Local]) -> Result<Vec<Local>, AllocError>
 
 /// A session with these types, in which nothing was done yet.
 fn session_of(alloc: Global, types: &[Local]) -> Result<Session, OpenFault>
-    ensures { IfOk result (λ s. s ≡ record { types = map plain types.now; state = initial }) }
+    ensures new { IfOk result (λ s. s ≡ record { types = map plain types.now; state = initial }) }
+    ensures fault { IfErr result (λ fault. fault ≢ OpenFault.Memory → KeepsShut (map plain types.now) fault) }
 {
     Session::open(alloc, copies(alloc, types)?)
 }
@@ -101,6 +103,7 @@ fn session_of(alloc: Global, types: &[Local]) -> Result<Session, OpenFault>
 fn sessions_of(alloc: Global, types: &[Local], n: u64) -> Result<Vec<Session>, OpenFault>
     ensures count { IfOk result (λ v. length v.items ≡ n) }
     ensures all { IfOk result (λ v. All (λ s. s ≡ record { types = map plain types.now; state = initial }) v.items) }
+    ensures fault { IfErr result (λ fault. fault ≢ OpenFault.Memory → KeepsShut (map plain types.now) fault) }
 {
     let mut made = Vec::with_capacity(alloc, n as usize)?;
     for _ in 0..n {
@@ -110,7 +113,8 @@ fn sessions_of(alloc: Global, types: &[Local], n: u64) -> Result<Vec<Session>, O
 }
 
 impl Hub {
-    /// Opens so many sessions of these roles with these types.
+    /// Opens so many sessions of these roles with these types. A fault says why no session has these types, or that memory
+    /// ran out.
     pub fn open(
         alloc: Global,
         names: &Roles,
@@ -122,6 +126,7 @@ impl Hub {
         ensures names { IfOk result (λ h. h.names ≡ names.now) }
         ensures given { IfOk result (λ h. h.given ≡ false) }
         ensures cells { IfOk result (λ h. AreCellsWith names.now (map plain types.now) sessions h.cells) }
+        ensures fault { IfErr result (λ fault. fault ≢ OpenFault.Memory → KeepsShut (map plain types.now) fault) }
     {
         let made = sessions_of(alloc, types, sessions)?;
         Ok(Hub::of(alloc, names, made)?)

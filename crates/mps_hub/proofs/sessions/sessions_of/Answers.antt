@@ -14,5 +14,5 @@ loop-preserved c =
     record {
       count = omega (arith, p.len, h.count);
       room = omega (arith, p.capacity, h.room);
-      all = subst (All (λ (s : SessionState). s ≡ m)) (sym {A = List SessionState} p.items) (All-push (λ (s : SessionState). s ≡ m) c.loop.made.items c.in_ok-session_of.field-0 h.all c.in_ok-session_of.ensures);
+      all = subst (All (λ (s : SessionState). s ≡ m)) (sym {A = List SessionState} p.items) (All-push (λ (s : SessionState). s ≡ m) c.loop.made.items c.in_ok-session_of.field-0 h.all c.in_ok-session_of.ensures.new);
     }
