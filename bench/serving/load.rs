@@ -3,7 +3,8 @@
 //! usage: load PORT CLIENTS ROUNDS FIRST LINE..
 //!
 //! Each client, a thread of its own, connects, sends FIRST with its role in the place of `@` (a for the first client, b for
-//! the next), and then the lines by turns. It waits for each answer before it sends the next line.
+//! the next) and its number in the place of `#` (1 for the first), and then the lines by turns. It waits for each answer
+//! before it sends the next line.
 use std::io::{BufRead, BufReader, Write};
 use std::net::TcpStream;
 use std::sync::Barrier;
@@ -17,7 +18,7 @@ fn main() {
     let end = Barrier::new(clients + 1);
     std::thread::scope(|scope| {
         for client in 0..clients {
-            let first = words[4].replace('@', &char::from(b'a' + client as u8).to_string());
+            let first = words[4].replace('@', &char::from(b'a' + client as u8).to_string()).replace('#', &(client + 1).to_string());
             let (start, end) = (&start, &end);
             scope.spawn(move || {
                 let mut stream = TcpStream::connect(format!("127.0.0.1:{port}")).unwrap();
