@@ -14,6 +14,7 @@ pub mod attending;
 pub mod desk;
 pub mod first;
 pub mod gates;
+pub mod laws;
 pub(crate) mod lock;
 pub mod server;
 pub mod sessions;

@@ -2,7 +2,7 @@ use crate::pieces::{
     Way, cut_long_line, empty_lines, fails_from, in_one_piece, in_single_bytes, in_two_pieces,
     refused_lines, room, told_by,
 };
-use crate::protocols::{RELAY, opened};
+use crate::protocols::{VERDICT, opened};
 use mps_base::Role;
 use mps_dev::{Pieces, Short};
 use mps_lines::MAX_LINE;
@@ -13,7 +13,7 @@ use std::test::Fail;
 
 // A new room, called by a.
 fn new_solo(alloc: Global) -> Result<Solo, Fail> {
-    let (names, session) = opened(alloc, RELAY)?;
+    let (names, session) = opened(alloc, VERDICT)?;
     if session.roles() == 0 {
         return Err("a role".into());
     }
@@ -138,71 +138,114 @@ fn runs_a_number_once(rt: HostRuntime) -> Result<(), Fail> {
     Ok(())
 }
 
-// The same lines as one text, and their answers.
+// The same lines as one text.
 const ASKED: &str = concat!(
     "1 send b 5\n1 send b 5\n3 mark m\n2 mark m\n1 mark m\n0 mark m\n2 undo 9\nmark k\n",
     "3 undo 9\n3 undo 3\n3 undo 3\n4 show\n04 mark m\n"
 );
 
-const TOLD: &str = concat!(
-    "done 1\ndone 1\nrefused number\ndone 2\nrefused number\nrefused number\ndone 2\ndone 3\n",
-    "refused nostep\nundone 3\nundone 3\nrefused line\nrefused line\n"
-);
+// What is said in a conversation, its whole lines with their answers, and how many entries there are then.
+#[derive(Clone, Copy)]
+struct Talk(&'static str, &'static [(&'static str, &'static str)], u64);
+
+impl Talk {
+    // The answers to its first so many bytes.
+    fn told(&self, alloc: Global, bytes: usize) -> Result<Vec<u8>, Fail> {
+        told_by(alloc, self.1, bytes)
+    }
+
+    // How many bytes answer it.
+    fn answer_bytes(&self) -> usize {
+        let mut bytes = 0usize;
+        for (_, want) in self.1 {
+            bytes = bytes.saturating_add(want.len()).saturating_add(1);
+        }
+        bytes
+    }
+}
+
+const TALKS: &[Talk] = &[
+    Talk(ASKED, NUMBERED, 4),
+    Talk("send b 5\nund", &[("send b 5", "done 1")], 1),
+    Talk(
+        "send b 5\nmark m\n",
+        &[("send b 5", "done 1"), ("mark m", "done 2")],
+        2,
+    ),
+    Talk("und\n", &[("und", "refused line")], 0),
+];
+
+// Whether the conversation goes so where it comes in two pieces.
+fn is_told_in_two(alloc: Global, talk: &Talk, at: usize) -> Result<bool, Fail> {
+    let pieces = in_two_pieces(alloc, talk.0, at)?;
+    let told = talk.told(alloc, talk.0.len())?;
+    let entries = entries_after(alloc, pieces, room(1_000), &told, Ending::Closed)?;
+    Ok(entries == Some(talk.2))
+}
 
 #[test]
 fn talks_in_any_two_pieces(rt: HostRuntime) -> Result<(), Fail> {
-    for at in 0..ASKED.len() + 1 {
-        let pieces = in_two_pieces(rt.alloc(), ASKED, at)?;
-        let told = TOLD.as_bytes();
-        let entries = entries_after(rt.alloc(), pieces, room(1_000), told, Ending::Closed)?;
-        assert_eq!(rt; entries, Some(4), "cut at {at}");
+    for talk in TALKS {
+        for at in 0..talk.0.len() + 1 {
+            assert!(rt; is_told_in_two(rt.alloc(), talk, at)?, "cut at {at}");
+        }
     }
     Ok(())
 }
 
 // Whether the first so many bytes are answered line by line.
-fn is_answered_up_to(alloc: Global, at: usize) -> Result<bool, Fail> {
-    let text = ASKED.get(..at).ok_or("a place")?;
-    let told = told_by(alloc, NUMBERED, at)?;
+fn is_answered_up_to(alloc: Global, talk: &Talk, at: usize) -> Result<bool, Fail> {
+    let text = talk.0.get(..at).ok_or("a place")?;
+    let told = talk.told(alloc, at)?;
     let pieces = in_one_piece(alloc, text)?;
     Ok(entries_after(alloc, pieces, room(1_000), &told, Ending::Closed)?.is_some())
 }
 
 #[test]
 fn ends_after_any_byte(rt: HostRuntime) -> Result<(), Fail> {
-    for at in 0..ASKED.len() + 1 {
-        assert!(rt; is_answered_up_to(rt.alloc(), at)?, "ended at {at}");
+    for talk in TALKS {
+        for at in 0..talk.0.len() + 1 {
+            assert!(rt; is_answered_up_to(rt.alloc(), talk, at)?, "ended at {at}");
+        }
     }
     Ok(())
 }
 
-// Whether a conversation ends where the call after so many reads of one byte fails.
-fn ends_after_reads(alloc: Global, at: usize) -> Result<bool, Fail> {
-    let told = told_by(alloc, NUMBERED, at)?;
-    let pieces = in_single_bytes(alloc, ASKED)?;
+// Whether the conversation ends where the call after so many reads of one byte fails.
+fn ends_after_reads(alloc: Global, talk: &Talk, at: usize) -> Result<bool, Fail> {
+    let told = talk.told(alloc, at)?;
+    let pieces = in_single_bytes(alloc, talk.0)?;
     let way = fails_from(at.saturating_add(1));
     Ok(entries_after(alloc, pieces, way, &told, Ending::ReadFault)?.is_some())
 }
 
 #[test]
 fn ends_where_a_read_fails(rt: HostRuntime) -> Result<(), Fail> {
-    for at in 0..ASKED.len() + 1 {
-        assert!(rt; ends_after_reads(rt.alloc(), at)?, "failed after {at}");
+    for talk in TALKS {
+        for at in 0..talk.0.len() + 1 {
+            assert!(rt;
+                ends_after_reads(rt.alloc(), talk, at)?,
+                "failed after {at}"
+            );
+        }
     }
     Ok(())
 }
 
-// Whether a conversation ends where a write fails after so many bytes.
-fn ends_after_bytes(alloc: Global, space: usize) -> Result<bool, Fail> {
-    let told = TOLD.as_bytes().get(..space).ok_or("a place")?;
-    let pieces = in_one_piece(alloc, ASKED)?;
+// Whether the conversation ends where a write fails after so many bytes.
+fn ends_after_bytes(alloc: Global, talk: &Talk, space: usize) -> Result<bool, Fail> {
+    let told = talk.told(alloc, talk.0.len())?;
+    let told = told.as_slice().get(..space).ok_or("a place")?;
+    let pieces = in_one_piece(alloc, talk.0)?;
     Ok(entries_after(alloc, pieces, room(space), told, Ending::WriteFault)?.is_some())
 }
 
 #[test]
 fn ends_where_a_write_fails(rt: HostRuntime) -> Result<(), Fail> {
-    for space in 0..TOLD.len() {
-        assert!(rt; ends_after_bytes(rt.alloc(), space)?, "{space}");
+    for talk in TALKS {
+        for space in 0..talk.answer_bytes() {
+            assert!(rt; ends_after_bytes(rt.alloc(), talk, space)?, "{space}");
+        }
     }
     Ok(())
 }

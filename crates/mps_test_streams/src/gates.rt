@@ -147,7 +147,7 @@ fn two_connections_meet_at_the_gate(rt: HostRuntime) -> Result<(), Fail> {
     let alloc = rt.alloc();
     let listener = TcpListener::bind(&rt, "127.0.0.1:0")?;
     let addr = listener.local_addr()?;
-    let first = sent(&rt, addr, b"join 1 a\nsend b 1\n")?;
+    let first = sent(&rt, addr, b"join 1 a\n1 send b 1\n")?;
     let second = sent(&rt, addr, b"join 1 c\nsend d 2\n")?;
     let gate = Meeting {
         first: AtomicU64::new(0),
