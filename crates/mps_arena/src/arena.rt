@@ -67,8 +67,8 @@ impl Arena {
         Key::of(self.nodes.vacant_key())
     }
 
-    /// Puts a step after all others, unmarked. A receipt or a pick comes with the send that it is matched with: the first of its pair
-    /// that isn't received.
+    /// Puts a step after all others, unmarked. A receipt or a pick comes with the send that it is matched with: the first
+    /// of its pair that isn't received.
     #[inline(always)]
     pub fn add(&mut self, step: Step, before: Before, source: Option<Key>) -> Key
         requires ready { IsTrue self.old.is_ready }

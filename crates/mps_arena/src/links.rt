@@ -80,7 +80,7 @@ pub(crate) fn set_marked(nodes: &mut Slab<Node>, key: Key, marked: bool)
     }
 }
 
-/// Takes a node in, after the last of each of its chains and matched with its send, and tells its key.
+/// Adds a node, after the last of each of its chains and matched with its send, and tells its key.
 #[inline(always)]
 pub(crate) fn join(nodes: &mut Slab<Node>, node: Node) -> Key
     requires room { HasRoomFor nodes.old 1 }

@@ -93,6 +93,7 @@ impl Roles {
         ensures only { (role : ℕ) → slice_get self.now role ≡ Some bytes.now → result ≡ Some role }
     {
         let place = find_name(&self.names, bytes)?;
+        // reads the name, so that its bytes are known to be a name's
         let _name = self.names[place].as_bytes();
         Some(Role::new(place as u8))
     }

@@ -60,7 +60,7 @@ pub record IsAccepted (k : Known) (c : Command) (a : Answer) (k' : Known) : Type
   pub joined : k'.seen ≡ before ++ entry k.role c a ∷ []
   pub made : k'.made ≡ k.made ++ entry k.role c a ∷ []
 
--- any other command leaves a journal that begins with all that was seen, and that is no shorter than was told; its answer is the reply after it, memory aside
+-- any other command leaves a journal that begins with all that was seen, and that is no shorter than was told; its answer is the reply after it, unless memory runs out
 pub record IsAnswered (k : Known) (c : Command) (a : Answer) (k' : Known) : Type 0 where
   pub begins : StartsWith k'.seen k.seen
   pub reached : k.floor ≤ length k'.seen

@@ -166,8 +166,8 @@ impl Cell {
         ))
     }
 
-    /// Both in one: a pass for each role, in order, once in the cell's life. After an out-of-memory answer none was handed out,
-    /// and later calls are told that the passes were given.
+    /// Both in one: a pass for each role, in order, once in the cell's life. Where it reports out of memory none was handed
+    /// out, and later calls are told that the passes were given.
     pub fn passes(&mut self) -> Result<Vec<Pass<'_>>, PassFault>
         ensures given { IsErrOf result Given ↔ (self.old.given ≡ true) }
         ensures passes { IfOk result (λ v. v.items

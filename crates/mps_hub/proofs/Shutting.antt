@@ -9,7 +9,7 @@ use Rattle.mps_session.specs.declared.open.OpenFault.{OpenFault}
 use Rattle.mps_session.specs.declared.open.OpenFault.TheVariants.{RoleCount, BadPeer, Local, Memory}
 use Rattle.mps_wire.specs.Runs.{KeepsShut}
 
--- what opening a session tells says it, memory aside
+-- what opening a session tells says it, unless memory ran out
 pub shut : {S : Type 0} (types : List LocalType) (r : Result S OpenFault)
     → (IsErrOf r RoleCount ↔ ¬ HasRoleCount types)
     → ((role : ℕ) → IsErrOf r (BadPeer role) → IsFirstBad types role)

@@ -71,7 +71,7 @@ impl<'a> Row<'a> {
         self.passes[role].take()
     }
 
-    // Takes a pass of the session, to its own place.
+    // Puts a pass of the session to its own place.
     pub(crate) fn give(&mut self, pass: Pass<'a>)
         requires { IsOfCell self.old pass }
         ensures { self.new ≡ self.old }
@@ -113,7 +113,7 @@ impl<'a> Places<'a> {
         self.rows[session as usize - 1].take(role)
     }
 
-    // Takes a pass of this session, to its own place.
+    // Puts a pass of this session to its own place.
     fn give(&mut self, session: u64, pass: Pass<'a>)
         requires session { IsSession (length self.old) session }
         requires pass { IsOfSession self.old session pass }
@@ -195,7 +195,7 @@ impl<'a> Desk<'a> {
         }
     }
 
-    /// Takes a pass of that session back. It waits as `take` does, and does not allocate.
+    /// Puts a pass of that session back. It waits as `take` does, and does not allocate.
     pub fn give<R: Wait>(&self, rt: &R, session: u64, pass: Pass<'a>)
         requires session { IsSession (length self.now.cells) session }
         requires pass { IsOfSession self.now.cells session pass }

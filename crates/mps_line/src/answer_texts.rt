@@ -1,4 +1,5 @@
-//! That answers have texts.
+//! That answers have texts. A local such as `_number` reads what the proof needs to know: that a number is in its range,
+//! or that bytes are a name's or a text's.
 ghost use Rattle.std.specs.Prelude.{ℕ, ◌<◌, ◌^◌, List, IsTrue};
 ghost use Rattle.std.specs.List.{AllByRecursion};
 ghost use Rattle.mps_base.specs.declared.value.Value.TheVariants as values;

@@ -1,4 +1,4 @@
-//! The lines of a script.
+//! Command lines, and the lines of a script.
 ghost use Rattle.std.specs.Prelude.{◌≡◌, ◌≢◌, ℕ, List, [], ◌∷◌, IfOk, IfSome, IfNone, IsErrOf};
 ghost use Rattle.mps_base.specs.Names.{IsNoneOf};
 ghost use Rattle.mps_base.specs.Spaced.{spaced};

@@ -47,7 +47,7 @@ fn first_final_of(arena: &Arena, role: Role) -> Option<Key>
 }
 
 /// The least number of a marked commit, if one is marked, where each step that depends on a marked one is marked. It
-/// does not allocate, and by the code it looks at no unmarked step but at one of each role.
+/// does not allocate, and (unproved) looks at no unmarked step but at one of each role.
 pub fn least_final(arena: &Arena) -> Option<StepId>
     requires closed { AreMarksClosed arena.now.entries }
     ensures least { result ≡ least (marked_commits arena.now.entries) }

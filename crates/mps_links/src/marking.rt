@@ -105,7 +105,7 @@ fn unmark_role(arena: &mut Arena, role: Role)
     }
 }
 
-/// Takes all marks off, where each step that depends on a marked one is marked. By the code no
+/// Takes all marks off, where each step that depends on a marked one is marked. Unproved: no
 /// unmarked step is looked at but one of each role.
 pub fn unmark(arena: &mut Arena)
     requires closed { AreMarksClosed arena.old.entries }

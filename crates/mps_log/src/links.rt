@@ -95,7 +95,8 @@ impl Log {
         self.arena.prev_of_role(key)
     }
 
-    /// The message that the receipt of the key took: that of the send that it is matched with; none where the key is no receipt's.
+    /// The message that the receipt of the key took: that of the send that it is matched with; none where the key is no
+    /// receipt's.
     #[inline(always)]
     pub fn taken(&self, key: Key) -> Option<&Message>
         ensures { option_copied result ≡ message_taken self.now.entries key }

@@ -333,7 +333,7 @@ impl Log {
         Ok(id)
     }
 
-    /// Takes a step out that is the last of its role and, if it is a send or a choice, isn't received. Its message
+    /// Removes a step that is the last of its role and, if it is a send or a choice, isn't received. Its message
     /// leaves the queue, or comes back to its front; its slot, or the name that it marks, gets back what it was bound to.
     pub fn remove(&mut self, key: Key) -> Step
         requires { CanGo self.old.entries key }

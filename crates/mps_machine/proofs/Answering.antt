@@ -122,7 +122,7 @@ module _ (bad : Refusal) (strange : IsStrange bad) where
   never types st p (changes.Back name) full =
       answer_named removed (λ a e. absurd cc) (λ e. refl) (back st p name).0 (back_named (since_mark name (steps_of p st.history)) st)
 
--- the machine's own refusals are never for lack of memory
+-- the machine itself never runs out of memory
 full_named : (full : Bool) → IfSome (if full then Some Full else None) (λ refusal. refusal ≢ Memory)
 full_named true = λ e. absurd cc
 full_named false = tt

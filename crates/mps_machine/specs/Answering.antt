@@ -1,4 +1,4 @@
--- What a program answers to a change, against the machine: the same, memory aside.
+-- What a program answers to a change, against the machine: the same, unless memory runs out.
 use Rattle.std.specs.Prelude.{◌≡◌, ℕ, ⊤, List, Result, Ok, Err, IsOk, OnOk, OnErr}
 use Rattle.mps_local.specs.Local.{LocalType}
 use Rattle.mps_command.specs.declared.command.Change.{Change}
@@ -14,7 +14,7 @@ abbrev pub IsAnswer : {A : Type 0} → Result A Refusal → Result A Refusal →
 IsAnswer (Err Memory) wanted = IsOk wanted
 IsAnswer result wanted = result ≡ wanted
 
--- The result is the machine's, memory aside, and the state after it too; a refusal changes nothing. Memory runs out only
+-- The result is the machine's, unless memory runs out, and the state after it too; a refusal changes nothing. Memory runs out only
 -- where it may.
 pub record IsServed {A : Type 0} (may_starve : Type 0) (result : Result A Refusal) (old new : State) (served : Result A Refusal × State) : Type 0 where
   pub answer : IsAnswer result served.0
@@ -36,6 +36,6 @@ result_of answer = Ok answer
 abbrev pub outcome : List LocalType → State → ℕ → Change → Result Answer Refusal × State
 outcome types st p change = let served = serve types st p change in (result_of served.0, served.1)
 
--- the result is the machine's answer to role p's change, memory aside, and the state after it is the machine's
+-- the result is the machine's answer to role p's change, unless memory runs out, and the state after it is the machine's
 abbrev pub IsChanged : List LocalType → ℕ → Change → Result Answer Refusal → (old new : State) → Type 0
 IsChanged types p change result old new = IsServed (MayStarve change) result old new (outcome types old p change)

@@ -156,7 +156,7 @@ impl Queues {
         self.fronts[at] = returned_front(arena, last, front);
     }
 
-    /// Takes the pair's last send off, before it is removed.
+    /// Drops the pair's last send, before it is removed.
     pub fn drop_last(&mut self, arena: &Arena, from: Role, to: Role)
         requires from { from < 8 }
         requires to { to < 8 }

@@ -105,7 +105,7 @@ impl Room {
     }
 
     /// How many entries the journal has, and which of the role's steps the entries of others took back, after the
-    /// first `known` entries. By the code it goes through those entries alone in which another role took back one of its
+    /// first `known` entries. Unproved: it goes through those entries alone in which another role took back one of its
     /// steps.
     pub fn news(&self, role: Role, known: u64) -> Result<(u64, StepIds), AllocError>
         ensures length { IfOk result (λ told. told.0 ≡ length self.now.journal) }

@@ -1,4 +1,4 @@
--- What the machine answers to an undo, from what a session keeps.
+-- What comes of an undo that a session does, or refuses.
 use Rattle.std.proofs.Common.{◌≡◌, [], ◌+◌, ℕ, ◌<◌, List, length, not, Option, Some, None, Result, sym, ap, ◌∙◌, subst, arith}
 use Rattle.std.specs.Prelude.{◌==◌, IfSome}
 use mathlib.Core.Path.{ap₂}

@@ -80,7 +80,7 @@ IsReadyEffect c p Idle = ⊤
 abbrev pub IsReady : Configuration → ℕ → Act → Type 0
 IsReady c p act = (p < 8) × IsReadyEffect c p (effect act)
 
--- why the act of role p is refused, out of memory aside: its type doesn't allow it, or no number is left
+-- why the act of role p is refused, unless memory runs out: its type doesn't allow it, or no number is left
 abbrev pub IsBarred : Configuration → ℕ → Act → Refusal → Type 0
 IsBarred c p act (Violates fault) = (t : LocalType) → StandsAt c p t → fault_in c p act t ≡ Some fault
 IsBarred c p act Full = (most_numbers ≤ c.issued) × ((t : LocalType) → StandsAt c p t → fault_in c p act t ≡ None)

@@ -115,7 +115,7 @@ fn same_past(a: &Log, b: &Log, role: Role) -> bool
 }
 
 /// Whether two sessions of the same types are causally the same: each role did the same in both, whatever
-/// the order across roles and the numbers. By the code each role's acts are compared, with what its receipts took,
+/// the order across roles and the numbers. Unproved: each role's acts are compared, with what its receipts took,
 /// and nothing else.
 pub fn same(a: &Session, b: &Session) -> bool
     requires types { a.now.types ≡ b.now.types }

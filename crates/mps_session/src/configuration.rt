@@ -73,7 +73,7 @@ impl Configuration {
         next_node(&cursor.table, cursor.node, command, first)
     }
 
-    /// The node at which the role goes on after the command, or why it is refused, out of memory aside. The message is
+    /// The node at which the role goes on after the command, or why it is refused, unless memory runs out. The message is
     /// the first that waits for the role, if it would take one.
     #[inline(always)]
     pub(crate) fn allowed(

@@ -77,7 +77,7 @@ fn nothing(alloc: Global, again: bool) -> (StepIds, Option<StepIds>)
 
 impl Configuration {
     // Room for the numbers of the marked steps, so many, and once more where they are told again; or why the steps stay:
-    // the least commit among them, or else a lack of memory.
+    // the least commit among them, or else out of memory.
     fn room_for_marked(
         &self,
         count: usize,

@@ -1,4 +1,4 @@
-//! Commands of all kinds.
+//! Changes of all kinds.
 ghost use Rattle.std.specs.Prelude.{◌≡◌, ◌<◌, length};
 ghost use Rattle.mps_command.specs.Changes.{command_of};
 ghost use Rattle.mps_machine.specs.Answering.{IsChanged, result_of};

@@ -16,8 +16,8 @@ impl Session {
     /// Answers commands, each of its role, in turn. The list of answers is allocated before the first command is served.
     ///
     /// What binds the code is `served`: with the clauses of `forward`, `undo`, `rollback` and `back` it says what is
-    /// answered and what is left. `undone`, `refused`, `refused_final`, `kept`, `removed` and `returned` are laws of the machine, said here of the
-    /// state that is reached.
+    /// answered and what is left. `undone`, `refused`, `refused_final`, `kept`, `removed` and `returned` are laws of the
+    /// machine, said here of the state that is reached.
     pub fn serve_all(&mut self, requests: Vec<(Role, Change)>) -> Result<Vec<Answer>, AllocError>
         requires { AllByRecursion (λ request. request.0 < length self.old.types) requests.items }
         // each is answered as the machine answers it, in the state that the one before it left

@@ -128,6 +128,7 @@ impl Session {
             ≡ (Err (Final done.id), self.new.state)) }
         ensures err { OnErr result (self.new.state ≡ self.old.state) }
     {
+        // reads a field, since the proof needs what the session keeps, and not its value alone
         let _ = &self.types;
         let (done, _) = self.accept_forward(role, &command, false)?;
         Ok(done)

@@ -17,8 +17,8 @@ use mps_command::{Command, Forward, Refusal, Violation};
 
 impl Session {
     /// Why the command of the role would be refused, before it is looked at whether there is room for what it brings.
-    /// How things stand may always be asked. It does not allocate. Steps are marked on the way, and nothing is changed when it
-    /// returns.
+    /// How things stand may always be asked. It does not allocate. Steps are marked on the way, and nothing is changed when
+    /// it returns.
     pub fn would(&mut self, role: Role, command: &Command) -> Result<(), Refusal>
         requires { role < length self.old.types }
         // In a session of one protocol no answer is Mismatch.
@@ -26,6 +26,7 @@ impl Session {
         ensures fault { result_err result ≡ fault self.old.types self.old.state role command.now }
         ensures kept { self.new ≡ self.old }
     {
+        // reads a field, since the proof needs what the session keeps, and not its value alone
         let _ = &self.types;
         self.fault_of(role, command)
     }

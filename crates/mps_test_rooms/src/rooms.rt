@@ -307,7 +307,7 @@ fn answered_at_last(alloc: Global, room: &mut Room, line: &str) -> Result<Answer
         return Ok(answer);
     }
     if counts(room) != before {
-        return Err("want of memory changes something".into());
+        return Err("out of memory changes something".into());
     }
     answered(room, role, again)
 }
