@@ -82,10 +82,10 @@ impl Arena {
         ensures issued { self.new.issued ≡ self.old.issued + 1 }
         ensures sound { AreSound self.new.entries }
     {
-        let node = self.ends.node_behind(step, before, source);
         let key = Key::small(self.nodes.vacant_key());
+        let node = self.ends.node_after(step, before, source);
         self.ends.push(&node.step, key);
-        join(&mut self.nodes, node);
+        join(&mut self.nodes, key, node);
         self.index.push_reserved(key);
         key
     }

@@ -38,7 +38,7 @@ impl Ends {
     }
 
     /// The node of a step that comes after all others.
-    pub(crate) fn node_behind(&self, step: Step, before: Before, source: Option<Key>) -> Node
+    pub(crate) fn node_after(&self, step: Step, before: Before, source: Option<Key>) -> Node
         requires small { IsSmall step }
         requires role_count { length self.now.last_of ≡ 8 }
         requires pair_count { length self.now.last_send ≡ 64 }
@@ -64,6 +64,7 @@ impl Ends {
         Node {
             step,
             at: before.at,
+            marked: false,
             bound: Link::of(before.bound),
             next: Link::none(),
             prev: self.last,
@@ -72,7 +73,6 @@ impl Ends {
             next_send: Link::none(),
             prev_send,
             matched: Link::of(source),
-            marked: false,
         }
     }
 

@@ -12,8 +12,10 @@
 
 mod arena;
 mod ends;
+mod laws;
 mod links;
 mod node;
 
 pub use arena::Arena;
+pub use laws::steps_are_sound;
 pub use node::{Before, Key, Link};

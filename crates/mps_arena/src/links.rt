@@ -80,28 +80,26 @@ pub(crate) fn set_marked(nodes: &mut Slab<Node>, key: Key, marked: bool)
     }
 }
 
-/// Adds a node, after the last of each of its chains and matched with its send, and tells its key.
+/// Adds a node under the next key, after the last of each of its chains and matched with its send.
 #[inline(always)]
-pub(crate) fn join(nodes: &mut Slab<Node>, node: Node) -> Key
+pub(crate) fn join(nodes: &mut Slab<Node>, key: Key, node: Node)
     requires room { HasRoomFor nodes.old 1 }
-    requires small { nodes.old.vacant_key + 1 < 2 ^ 32 }
-    ensures key { result ≡ nodes.old.vacant_key }
-    ensures vacant { get nodes.old result ≡ None }
+    requires next { key ≡ nodes.old.vacant_key }
+    ensures vacant { get nodes.old key ≡ None }
     ensures nodes { (k : ℕ) → get nodes.new k
-        ≡ option_map (joined node result k) (if result == k then Some node else get nodes.old k) }
+        ≡ option_map (joined node key k) (if key == k then Some node else get nodes.old k) }
     ensures len { slab_len nodes.new ≡ slab_len nodes.old + 1 }
 {
     let prev = node.prev;
     let prev_of_role = node.prev_of_role;
     let prev_send = node.prev_send;
     let matched = node.matched;
-    let key = Key::small(nodes.insert_reserved(node));
+    nodes.insert_reserved(node);
     let link = Link::to(key);
     set_next(nodes, prev, link);
     set_next_of_role(nodes, prev_of_role, link);
     set_next_send(nodes, prev_send, link);
     set_matched(nodes, matched, link);
-    key
 }
 
 /// Removes a node that is the last of its role, and joins its neighbours.

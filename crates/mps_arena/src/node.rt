@@ -140,6 +140,7 @@ pub(crate) struct Node {
     pub(crate) step: Step,
     // the node of its role's table at which the role stood
     pub(crate) at: u16,
+    pub(crate) marked: bool,
     // the step to which a receipt's slot, or the name of a mark, was bound
     pub(crate) bound: Link,
     pub(crate) next: Link,
@@ -150,7 +151,6 @@ pub(crate) struct Node {
     pub(crate) prev_send: Link,
     // what the step is matched with: the receipt of a send, the send of a receipt
     pub(crate) matched: Link,
-    pub(crate) marked: bool,
 }
 
 /// The receipt that a send is matched with.

@@ -8,7 +8,7 @@ ghost use Rattle.mps_arena.specs.Entries.{steps};
 ghost use Rattle.mps_arena.specs.Neighbours.{CanGo};
 
 use crate::order::{earlier, with_number};
-use mps_arena::Arena;
+use mps_arena::{Arena, steps_are_sound};
 use mps_base::StepId;
 
 /// The least number of another step that depends on this one. It is the number of its role's next
@@ -21,8 +21,7 @@ pub fn least_dependent(arena: &Arena, id: StepId) -> Option<StepId>
         → option_map (λ e. e.key) (find (λ e. e.step.id == id) arena.now.entries) ≡ Some k
         → CanGo arena.now.entries k }
 {
-    // the clauses of `len` say that the entries are sound, and in a `prove!` a call costs nothing
-    prove!(arena.len() > 0);
+    steps_are_sound(arena);
     let key = arena.by_id(id)?;
     let next = with_number(arena, arena.next_of_role(key));
     let receipt = with_number(arena, arena.receipt(key));

@@ -7,7 +7,7 @@ ghost use Rattle.mps_arena.specs.Entries.{KeyedStep, keys_of, entry_at};
 ghost use Rattle.mps_links.specs.Marks.{is_marked, AreMarksClosed, marked_commits};
 
 use crate::order::{earlier, with_number};
-use mps_arena::{Arena, Key};
+use mps_arena::{Arena, Key, steps_are_sound};
 use mps_base::{Act, Role, StepId};
 
 // the key itself where its step is a commit, else the other one
@@ -35,8 +35,7 @@ fn first_final_of(arena: &Arena, role: Role) -> Option<Key>
         let Some(key) = at else {
             return first;
         };
-        // the clauses of `len` say that the entries are sound, and in a `prove!` a call costs nothing
-        prove!(arena.len() > 0);
+        steps_are_sound(arena);
         if !arena.marked(key) {
             return first;
         }

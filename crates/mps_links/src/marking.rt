@@ -11,7 +11,7 @@ ghost use Rattle.mps_links.specs.RoleMarks.{unmarked_of, AreLastMarked};
 
 use crate::order::{Numbered, key_of, later, with_number};
 use crate::pending::Pending;
-use mps_arena::{Arena, Key};
+use mps_arena::{Arena, Key, steps_are_sound};
 use mps_base::{Role, StepId};
 
 /// Marks the step of that number and all that depend on it, and tells how many they are. It goes
@@ -35,8 +35,7 @@ pub fn mark_from(arena: &mut Arena, id: StepId) -> usize
     pending.follow(arena, first);
     arena.set_mark(first, true);
     for count in 1..len {
-        // the clauses of `len` say that the entries are sound, and in a `prove!` a call costs nothing
-        prove!(arena.len() > 0);
+        steps_are_sound(arena);
         let Some(key) = pending.earliest() else {
             return count;
         };
@@ -55,8 +54,7 @@ fn newest_marked_of(arena: &Arena, role: Role) -> Option<Numbered>
     ensures number { HasNumber arena.now.entries result }
 {
     let key = arena.last_of(role)?;
-    // the clauses of `len` say that the entries are sound, and in a `prove!` a call costs nothing
-    prove!(arena.len() > 0);
+    steps_are_sound(arena);
     if !arena.marked(key) {
         return None;
     }
@@ -95,8 +93,7 @@ fn unmark_role(arena: &mut Arena, role: Role)
         let Some(key) = at else {
             return;
         };
-        // the clauses of `len` say that the entries are sound, and in a `prove!` a call costs nothing
-        prove!(arena.len() > 0);
+        steps_are_sound(arena);
         if !arena.marked(key) {
             return;
         }

@@ -4,7 +4,7 @@ ghost use Rattle.mps_arena.specs.Entries.{KeyedStep, entry_at};
 ghost use Rattle.mps_links.specs.Numbered.{key_of, HasNumber};
 ghost use Rattle.mps_links.specs.Order.{earlier, later};
 
-use mps_arena::{Arena, Key};
+use mps_arena::{Arena, Key, steps_are_sound};
 use mps_base::StepId;
 
 /// A step's key, with its number.
@@ -21,8 +21,7 @@ pub(crate) fn with_number(arena: &Arena, key: Option<Key>) -> Option<Numbered>
     ensures number { HasNumber arena.now.entries result }
 {
     let key = key?;
-    // the clauses of `len` say that the entries are sound, and in a `prove!` a call costs nothing
-    prove!(arena.len() > 0);
+    steps_are_sound(arena);
     let id = arena.get(key).id;
     Some(Numbered { key, id })
 }

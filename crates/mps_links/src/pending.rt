@@ -6,7 +6,7 @@ ghost use Rattle.mps_links.specs.Numbered.{keys_alone, HaveNumbers};
 ghost use Rattle.mps_links.specs.Pending.{followed, earliest};
 
 use crate::order::{Numbered, earlier, key_of, with_number};
-use mps_arena::{Arena, Key};
+use mps_arena::{Arena, Key, steps_are_sound};
 
 // the place of the step's role
 fn role_at(arena: &Arena, key: Key) -> usize
@@ -14,8 +14,7 @@ fn role_at(arena: &Arena, key: Key) -> usize
     ensures role { option_map (λ e. e.step.role) (entry_at key arena.now.entries) ≡ Some result }
     ensures small { result < 8 }
 {
-    // the clauses of `len` say that the entries are sound, and in a `prove!` a call costs nothing
-    prove!(arena.len() > 0);
+    steps_are_sound(arena);
     arena.get(key).role.index()
 }
 

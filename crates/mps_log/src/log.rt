@@ -255,49 +255,33 @@ impl Log {
         Ok(id)
     }
 
-    /// Puts a receipt after all other steps, with the next number. It takes the first message that waits, and its
-    /// slot is bound to it. The role stood at the node `at`.
+    /// Puts a receipt or a pick after all other steps, with the next number. It takes the first message that waits. A
+    /// receipt has a slot, which is bound to it. The role stood at the node `at`.
     pub fn receive(
         &mut self,
         role: Role,
         from: Role,
-        slot: &Name,
+        slot: Option<&Name>,
         at: u16,
     ) -> Result<StepId, AllocError>
         requires role { role < 8 }
         requires from { from < 8 }
         requires waits { IsSome (waiting self.old.entries from role) }
         ensures id { IfOk result (λ id. id ≡ self.old.issued + 1) }
-        ensures joined { OnOk result (HasJoined self.old self.new role (In from (Some slot.now)) at) }
+        ensures joined { OnOk result (HasJoined self.old self.new role (In from (option_copied slot.entry)) at) }
         ensures err { OnErr result (self.new ≡ self.old) }
     {
         let key = self.arena.reserve_one()?;
-        let bound = self.slots.bind(role, slot, key)?;
+        let bound = match slot {
+            Some(slot) => self.slots.bind(role, slot, key)?,
+            None => None,
+        };
         let source = self.queues.take(&self.arena, from, role);
         let id = next_id(&self.arena);
-        let slot = Some(*slot);
+        let slot = slot.copied();
         let act = Act::In { from, slot };
         self.arena
             .add(Step { id, role, act }, Before { at, bound }, source);
-        Ok(id)
-    }
-
-    /// Puts a pick after all other steps, with the next number. It takes the first message that waits. The role
-    /// stood at the node `at`.
-    pub fn pick(&mut self, role: Role, from: Role, at: u16) -> Result<StepId, AllocError>
-        requires role { role < 8 }
-        requires from { from < 8 }
-        requires waits { IsSome (waiting self.old.entries from role) }
-        ensures id { IfOk result (λ id. id ≡ self.old.issued + 1) }
-        ensures joined { OnOk result (HasJoined self.old self.new role (In from None) at) }
-        ensures err { OnErr result (self.new ≡ self.old) }
-    {
-        self.arena.reserve_one()?;
-        let source = self.queues.take(&self.arena, from, role);
-        let id = next_id(&self.arena);
-        let act = Act::In { from, slot: None };
-        self.arena
-            .add(Step { id, role, act }, Before { at, bound: None }, source);
         Ok(id)
     }
 

@@ -7,7 +7,7 @@ ghost use Rattle.mps_arena.specs.Entries.{KeyedStep, keys_of, AreSound};
 ghost use Rattle.mps_arena.specs.Neighbours.{waiting};
 ghost use Rattle.mps_queues.specs.Fronts.{front_at, waiting_keys, AreFronts, pushed, taken, returned, dropped};
 
-use mps_arena::{Arena, Key, Link};
+use mps_arena::{Arena, Key, Link, steps_are_sound};
 use mps_base::Role;
 use std::marker::Model;
 
@@ -71,13 +71,6 @@ fn dropped_front(last: Option<Key>, front: Link) -> Link
     }
 }
 
-// What holds of each arena, for the proofs.
-fn sound(arena: &Arena)
-    ensures { AreSound arena.now.entries }
-{
-    let _ = arena.len();
-}
-
 impl Queues {
     /// Queues in which nothing waits.
     pub fn new() -> Queues
@@ -103,7 +96,7 @@ impl Queues {
         requires fronts { AreFronts arena.now.entries self.now }
         ensures { result ≡ slice_get (waiting_keys arena.now.entries from to) k }
     {
-        sound(arena);
+        steps_are_sound(arena);
         let mut at = self.front(from, to)?;
         for _ in 0..k {
             at = arena.next_send(at)?;
@@ -132,12 +125,11 @@ impl Queues {
         ensures fronts { (e : KeyedStep) → IsTrue (receives from to e.step)
             → AreFronts (arena.now.entries ++ e ∷ []) self.new }
     {
-        sound(arena);
-        let first = self.front(from, to);
+        steps_are_sound(arena);
         let at = from.index() * 8 + to.index();
         let front = self.fronts[at];
         self.fronts[at] = taken_front(arena, front);
-        first
+        front.key()
     }
 
     /// Puts the send of the pair's last receipt back in front, before the receipt is removed.
@@ -149,7 +141,7 @@ impl Queues {
         ensures { (k : ℕ) → last_key None (keys_of (receives from to) arena.now.entries) ≡ Some k
             → AreFronts (filter (λ e. not (e.key == k)) arena.now.entries) self.new }
     {
-        sound(arena);
+        steps_are_sound(arena);
         let at = from.index() * 8 + to.index();
         let front = self.fronts[at];
         let last = arena.last_send(from, to);
@@ -165,7 +157,7 @@ impl Queues {
         ensures { (k : ℕ) → last_key None (keys_of (sends from to) arena.now.entries) ≡ Some k
             → AreFronts (filter (λ e. not (e.key == k)) arena.now.entries) self.new }
     {
-        sound(arena);
+        steps_are_sound(arena);
         let at = from.index() * 8 + to.index();
         let front = self.fronts[at];
         let last = arena.last_send(from, to);

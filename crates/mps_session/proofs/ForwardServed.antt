@@ -16,15 +16,15 @@ use Rattle.mps_local.specs.Local.{LocalType}
 use Rattle.mps_machine.specs.Machine.{State, most_numbers, taken, forward}
 use Rattle.mps_machine.specs.Answering.{IsAnswer, IsServed}
 use Rattle.mps_session.specs.Answers.{once}
-use Rattle.mps_session.specs.Configurations.{Configuration, state_of, moved_in, StandsAt, fault_in, LeadsTo, HasActed, IsBarred, takes_message}
+use Rattle.mps_session.specs.Configurations.{Configuration, state_of, moved_in, StandsAt, fault_in, LeadsTo, HasActed, IsBarred, taken_from}
 use Rattle.mps_session.specs.Invariant.{Holds}
 use Rattle.mps_session.specs.SessionState.{SessionState}
 use Rattle.mps_session.proofs.ForwardAnswers as serving
 
 -- where no message is taken
-pub none_taken : (command : Forward) (m : Option Message) → takes_message command ≡ false → None ≡ taken (act_of command) m
-none_taken (Receive from slot) m e = absurd (false≢true (sym e))
-none_taken (Pick from) m e = absurd (false≢true (sym e))
+pub none_taken : (command : Forward) (m : Option Message) → taken_from command ≡ None → None ≡ taken (act_of command) m
+none_taken (Receive from slot) m e = cc
+none_taken (Pick from) m e = cc
 none_taken command m e = refl
 
 module _ (types : List LocalType) (c : Configuration) (holds : Holds types c) (now : SessionState) (is : ◌≡◌ {A = SessionState} (record { types = types; state = state_of c }) now) (p : ℕ) (within : p < length now.types) (command : Forward) where

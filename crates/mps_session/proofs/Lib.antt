@@ -6,6 +6,7 @@ pub mod NodeAfterAct
 pub mod Slots
 pub mod MovedMessages
 pub mod ForwardAnswers
+pub mod FirstMessage
 pub mod ForwardServed
 pub mod OpeningCursors
 pub mod OneProtocol

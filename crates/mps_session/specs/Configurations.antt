@@ -1,5 +1,5 @@
 -- What a session keeps, as lists, and how an act changes it.
-use Rattle.std.specs.Prelude.{◌≡◌, ℕ, ◌+◌, ◌<◌, ◌≤◌, ⊤, Bool, true, false, List, Option, Some, None, slice_get, slice_index_or, slice_set, IsSome}
+use Rattle.std.specs.Prelude.{◌≡◌, ℕ, ◌+◌, ◌<◌, ◌≤◌, ⊤, List, Option, Some, None, slice_get, slice_index_or, slice_set, IsSome}
 use Rattle.mps_base.specs.declared.action.Act.{Act}
 use Rattle.mps_base.specs.Effects.{Effect, Gives, Takes, Idle, effect}
 use Rattle.mps_base.specs.declared.action.Message.{Message}
@@ -86,11 +86,11 @@ IsBarred c p act (Violates fault) = (t : LocalType) → StandsAt c p t → fault
 IsBarred c p act Full = (most_numbers ≤ c.issued) × ((t : LocalType) → StandsAt c p t → fault_in c p act t ≡ None)
 IsBarred c p act refusal = ⊥
 
--- whether a command takes a message
-abbrev pub takes_message : Forward → Bool
-takes_message (Receive from slot) = true
-takes_message (Pick from) = true
-takes_message command = false
+-- the peer of whom a command takes a message, if it takes one
+abbrev pub taken_from : Forward → Option ℕ
+taken_from (Receive from slot) = Some from
+taken_from (Pick from) = Some from
+taken_from command = None
 
 -- the act of role p is the newest step, and the role goes on at the node
 pub record HasActed (p : ℕ) (act : Act) (node : ℕ) (old new : Configuration) : Type 0 where

@@ -120,104 +120,20 @@ impl Configuration {
             (lists_of self.old) (lists_of self.new)) }
         ensures err { OnErr result (lists_of self.new ≡ lists_of self.old) }
     {
-        match command {
+        let at = self.cursors[role.index()].node.number();
+        let id = match command {
             Forward::Send { to, value } => {
                 let value = value.copy(self.alloc)?;
-                self.send(role, *to, Message::Value(value), node)
+                self.log.send(role, *to, Message::Value(value), at)?
             }
-            Forward::Choose { to, label } => self.send(role, *to, Message::Label(*label), node),
-            Forward::Receive { from, slot } => self.receive(role, *from, slot, node),
-            Forward::Pick { from } => self.pick(role, *from, node),
-            Forward::Mark { name } => self.mark(role, *name, node),
-            Forward::Commit => self.commit(role, node),
-        }
-    }
-
-    // Sends the message, which then waits after all others.
-    #[inline(always)]
-    fn send(
-        &mut self,
-        role: Role,
-        to: Role,
-        message: Message,
-        node: Node,
-    ) -> Result<StepId, AllocError>
-        requires role { role < vec_len self.old.cursors }
-        requires ready { IsReady (lists_of self.old) role (Out to message) }
-        ensures id { IfOk result (λ id. id ≡ (lists_of self.old).issued + 1) }
-        ensures acted { OnOk result (HasActed role (Out to message) node
-            (lists_of self.old) (lists_of self.new)) }
-        ensures err { OnErr result (lists_of self.new ≡ lists_of self.old) }
-    {
-        let at = self.cursors[role.index()].node.number();
-        let id = self.log.send(role, to, message, at)?;
-        self.stand_at(role, node);
-        Ok(id)
-    }
-
-    // Takes the message that came first from the peer, and binds the slot to its value.
-    #[inline(always)]
-    fn receive(
-        &mut self,
-        role: Role,
-        from: Role,
-        slot: &Name,
-        node: Node,
-    ) -> Result<StepId, AllocError>
-        requires role { role < vec_len self.old.cursors }
-        requires ready { IsReady (lists_of self.old) role (In from (Some slot.now)) }
-        ensures id { IfOk result (λ id. id ≡ (lists_of self.old).issued + 1) }
-        ensures acted { OnOk result (HasActed role (In from (Some slot.now)) node
-            (lists_of self.old) (lists_of self.new)) }
-        ensures err { OnErr result (lists_of self.new ≡ lists_of self.old) }
-    {
-        let at = self.cursors[role.index()].node.number();
-        let id = self.log.receive(role, from, slot, at)?;
-        self.stand_at(role, node);
-        Ok(id)
-    }
-
-    // Takes the label that came first from the peer.
-    fn pick(&mut self, role: Role, from: Role, node: Node) -> Result<StepId, AllocError>
-        requires role { role < vec_len self.old.cursors }
-        requires ready { IsReady (lists_of self.old) role (In from None) }
-        ensures id { IfOk result (λ id. id ≡ (lists_of self.old).issued + 1) }
-        ensures acted { OnOk result (HasActed role (In from None) node
-            (lists_of self.old) (lists_of self.new)) }
-        ensures err { OnErr result (lists_of self.new ≡ lists_of self.old) }
-    {
-        let at = self.cursors[role.index()].node.number();
-        let id = self.log.pick(role, from, at)?;
-        self.stand_at(role, node);
-        Ok(id)
-    }
-
-    // Leaves a mark.
-    fn mark(&mut self, role: Role, name: Name, node: Node) -> Result<StepId, AllocError>
-        requires role { role < vec_len self.old.cursors }
-        requires ready { IsReady (lists_of self.old) role (Mark name) }
-        ensures id { IfOk result (λ id. id ≡ (lists_of self.old).issued + 1) }
-        ensures acted { OnOk result (HasActed role (Mark name) node
-            (lists_of self.old) (lists_of self.new)) }
-        ensures err { OnErr result (lists_of self.new ≡ lists_of self.old) }
-    {
-        let at = self.cursors[role.index()].node.number();
-        let id = self.log.mark(role, name, at)?;
-        self.stand_at(role, node);
-        Ok(id)
-    }
-
-    // Does a step that nothing undoes.
-    fn commit(&mut self, role: Role, node: Node) -> Result<StepId, AllocError>
-        requires role { role < vec_len self.old.cursors }
-        requires ready { IsReady (lists_of self.old) role Commit }
-        ensures id { IfOk result (λ id. id ≡ (lists_of self.old).issued + 1) }
-        ensures acted { OnOk result (HasActed role Commit node
-            (lists_of self.old) (lists_of self.new)) }
-        ensures err { OnErr result (lists_of self.new ≡ lists_of self.old) }
-    {
-        let at = self.cursors[role.index()].node.number();
-        let id = self.log.commit(role, at)?;
+            Forward::Choose { to, label } => {
+                self.log.send(role, *to, Message::Label(*label), at)?
+            }
+            Forward::Receive { from, slot } => self.log.receive(role, *from, Some(slot), at)?,
+            Forward::Pick { from } => self.log.receive(role, *from, None, at)?,
+            Forward::Mark { name } => self.log.mark(role, *name, at)?,
+            Forward::Commit => self.log.commit(role, at)?,
+        };
         self.stand_at(role, node);
         Ok(id)
     }

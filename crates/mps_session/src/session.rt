@@ -1,5 +1,5 @@
 //! The session.
-ghost use Rattle.std.specs.Prelude.{◌≡◌, ◌≢◌, ◌↔◌, ◌+◌, ◌<◌, ◌≤◌, ℕ, Bool, true, false, length, map, IfOk, IsErrOf, OnOk, OnErr, Err, slice_get, [], ◌∷◌, Ok, ⊤};
+ghost use Rattle.std.specs.Prelude.{◌≡◌, ◌≢◌, ◌↔◌, ◌+◌, ◌<◌, ◌≤◌, ℕ, Bool, true, false, length, map, IfOk, IsErrOf, OnOk, OnErr, Err, slice_get, [], ◌∷◌, Ok, ⊤, Some, None};
 ghost use Rattle.std.specs.List.{AllByRecursion};
 ghost use Rattle.std.specs.Bool.{then_some};
 ghost use Rattle.std.specs.Option.{option_copied, option_map};
@@ -16,7 +16,7 @@ ghost use Rattle.mps_machine.specs.Answering.{IsAnswer, IsServed};
 ghost use Rattle.mps_machine.specs.Machine as machine;
 ghost use Rattle.mps_history.specs.Slots.{value_in};
 ghost use Rattle.mps_session.specs.Answers.{as_step, once};
-ghost use Rattle.mps_session.specs.Configurations.{takes_message};
+ghost use Rattle.mps_session.specs.Configurations.{taken_from};
 ghost use Rattle.mps_session.specs.Peers.{IsFirstBad, IsFirstFaulty, CanOpen, IsKnown, IsHeadKnown};
 ghost use Rattle.mps_session.specs.SessionState.{session_view, moves_of};
 ghost use Rattle.mps_table.specs.Expects.{head_of};
@@ -149,33 +149,34 @@ impl Session {
         ensures types { self.new.types ≡ self.old.types }
     {
         match command {
-            Forward::Receive { .. } | Forward::Pick { .. } => {
-                self.take_message(role, command, again)
+            Forward::Receive { from, .. } | Forward::Pick { from } => {
+                self.accept_receipt(role, *from, command, again)
             }
             Forward::Send { .. }
             | Forward::Choose { .. }
             | Forward::Mark { .. }
-            | Forward::Commit => { self.give(role, command, again) }
+            | Forward::Commit => { self.accept_other(role, command, again) }
         }
     }
 
-    // Does the step of a receipt or a pick, which takes a message. What waits is looked up once, for the verdict and for
-    // each copy.
+    // Does the step of a receipt or a pick. The message that waits is looked at once, for the verdict and for each copy.
     #[inline(always)]
-    fn take_message(
+    fn accept_receipt(
         &mut self,
         role: Role,
+        from: Role,
         command: &Forward,
         again: bool,
     ) -> Result<(Done, Option<Done>), Refusal>
         requires role { role < length self.old.types }
+        requires takes { taken_from command.now ≡ Some from }
         ensures served { IsServed ⊤ (once result) self.old.state self.new.state
             (machine.forward self.old.types self.old.state role (act_of command.now)) }
         ensures again { IfOk result (λ done. done.1 ≡ then_some again done.0) }
         ensures types { self.new.types ≡ self.old.types }
     {
         let kept = &self.configuration;
-        let first = kept.first_for(role, command);
+        let first = kept.log.message(from, role, 0);
         let node = kept.allowed(role, command, first)?;
         let got = once_more(kept.alloc, first)?;
         let more = once_more_again(kept.alloc, first, again)?;
@@ -183,16 +184,16 @@ impl Session {
         Ok(told(id, got, more))
     }
 
-    // Does the step of a send, a choice, a mark or a commit, which takes none.
+    // Does the step of a send, a choice, a mark or a commit, which take no message.
     #[inline(always)]
-    fn give(
+    fn accept_other(
         &mut self,
         role: Role,
         command: &Forward,
         again: bool,
     ) -> Result<(Done, Option<Done>), Refusal>
         requires role { role < length self.old.types }
-        requires gives { takes_message command.now ≡ false }
+        requires takes { taken_from command.now ≡ None }
         ensures served { IsServed ⊤ (once result) self.old.state self.new.state
             (machine.forward self.old.types self.old.state role (act_of command.now)) }
         ensures again { IfOk result (λ done. done.1 ≡ then_some again done.0) }

@@ -36,14 +36,14 @@ least_is c =
     let es = c.args.arena.now.entries in
     let s = step c in
     ap (λ (n : ℕ). least (dependents (steps es) n)) (sym s.number)
-    ∙ least_by_links es c.len.ensures.sound s.before s.behind s.entry s.parts
+    ∙ least_by_links es c.steps_are_sound.ensures s.before s.behind s.entry s.parts
     ∙ ap (option_and_then (id_in es)) (sym (first c))
 
 alone : (c : After-earlier) → option_and_then (id_in c.args.arena.now.entries) (key_of c.earlier.result) ≡ None → (k : ℕ) → option_map (λ e. e.key) (find (λ e. e.step.id == c.args.id) c.args.arena.now.entries) ≡ Some k → CanGo c.args.arena.now.entries k
 alone c none k at =
     let es = c.args.arena.now.entries in
     let s = step c in
-    let sound = c.len.ensures.sound in
+    let sound = c.steps_are_sound.ensures in
     let on = λ (t : Step). depends_on (steps es) t s.entry.step in
     let whole : es ≡ (s.before ++ s.entry ∷ []) ++ s.behind = s.parts ∙ sym (append_assoc s.before (s.entry ∷ []) s.behind) in
     let is = first_dependent es sound s.before s.behind s.entry s.parts ∙ sym (first c) in

@@ -4,14 +4,14 @@ use Rattle.std.specs.Option.{option_map}
 use Rattle.mps_arena.specs.Entries.{KeyedStep, entry_at}
 use Rattle.mps_links.proofs.Commits.{last, search_at, search_goes, ends_at_first, ends_unmarked}
 use Rattle.mps_links.proofs.finals.first_final_of.Goals as goal
-use Rattle.mps_links.proofs.finals.first_final_of.Goals.{After-len}
+use Rattle.mps_links.proofs.finals.first_final_of.Goals.{After-steps_are_sound}
 
-found : (c : After-len) → entry_at c.in-Some.key c.args.arena.now.entries ≡ Some (last c.args.arena.now.entries c.args.role _ _ _ c.loop.invariant.search c.in-Some.key c.in-Some.is c.len.ensures.sound).entry
-found c = search_at c.args.arena.now.entries c.args.role _ _ _ c.loop.invariant.search c.in-Some.key c.in-Some.is c.len.ensures.sound
+found : (c : After-steps_are_sound) → entry_at c.in-Some.key c.args.arena.now.entries ≡ Some (last c.args.arena.now.entries c.args.role _ _ _ c.loop.invariant.search c.in-Some.key c.in-Some.is c.steps_are_sound.ensures).entry
+found c = search_at c.args.arena.now.entries c.args.role _ _ _ c.loop.invariant.search c.in-Some.key c.in-Some.is c.steps_are_sound.ensures
 
-is_marked : (c : After-len) (m : _) → option_map (λ (e : KeyedStep). e.marked) (entry_at c.in-Some.key c.args.arena.now.entries) ≡ Some m → (last c.args.arena.now.entries c.args.role _ _ _ c.loop.invariant.search c.in-Some.key c.in-Some.is c.len.ensures.sound).entry.marked ≡ m
+is_marked : (c : After-steps_are_sound) (m : _) → option_map (λ (e : KeyedStep). e.marked) (entry_at c.in-Some.key c.args.arena.now.entries) ≡ Some m → (last c.args.arena.now.entries c.args.role _ _ _ c.loop.invariant.search c.in-Some.key c.in-Some.is c.steps_are_sound.ensures).entry.marked ≡ m
 is_marked c m e =
-    let x = (last c.args.arena.now.entries c.args.role _ _ _ c.loop.invariant.search c.in-Some.key c.in-Some.is c.len.ensures.sound).entry in
+    let x = (last c.args.arena.now.entries c.args.role _ _ _ c.loop.invariant.search c.in-Some.key c.in-Some.is c.steps_are_sound.ensures).entry in
     let is : Some x.marked ≡ Some m = ap (option_map (λ (e : KeyedStep). e.marked)) (sym (found c)) ∙ e in
     cc
 
@@ -19,20 +19,20 @@ pub returns-in_default : goal.returns-in_default
 returns-in_default c = ends_at_first c.args.arena.now.entries c.args.role _ _ _ c.loop.invariant.search c.in_default.is
 
 pub marked-requires : goal.marked-requires
-marked-requires c = subst IsSome (sym (found ((goal.at.marked-requires c).After-len))) cc
+marked-requires c = subst IsSome (sym (found ((goal.at.marked-requires c).After-steps_are_sound))) cc
 
 pub returns-then-not-marked : goal.returns-then-not-marked
 returns-then-not-marked c =
-    let off = is_marked ((goal.at.returns-then-not-marked c).After-len) c.marked.result c.marked.ensures ∙ c.if-not-marked.true in
-    ends_unmarked c.args.arena.now.entries c.args.role _ _ _ c.loop.invariant.search c.in-Some.key c.in-Some.is c.len.ensures.sound c.requires.closed off
+    let off = is_marked ((goal.at.returns-then-not-marked c).After-steps_are_sound) c.marked.result c.marked.ensures ∙ c.if-not-marked.true in
+    ends_unmarked c.args.arena.now.entries c.args.role _ _ _ c.loop.invariant.search c.in-Some.key c.in-Some.is c.steps_are_sound.ensures c.requires.closed off
 
 pub loop-preserved : goal.loop-preserved
 loop-preserved c =
     let es = c.args.arena.now.entries in
-    let at = (goal.at.loop-preserved c).After-len in
+    let at = (goal.at.loop-preserved c).After-steps_are_sound in
     let on = is_marked at c.marked.result c.marked.ensures ∙ c.if-not-marked.false in
-    let x = (last es c.args.role _ _ _ c.loop.invariant.search c.in-Some.key c.in-Some.is c.len.ensures.sound).entry in
+    let x = (last es c.args.role _ _ _ c.loop.invariant.search c.in-Some.key c.in-Some.is c.steps_are_sound.ensures).entry in
     record {
-      search = rw (c.prev_of_role-at.ensures, c.commit_or-first.ensures x (found at)) (search_goes es c.args.role _ _ _ c.loop.invariant.search c.in-Some.key c.in-Some.is c.len.ensures.sound on);
+      search = rw (c.prev_of_role-at.ensures, c.commit_or-first.ensures x (found at)) (search_goes es c.args.role _ _ _ c.loop.invariant.search c.in-Some.key c.in-Some.is c.steps_are_sound.ensures on);
       end = c.loop.invariant.end;
     }

@@ -57,7 +57,7 @@ loop-count-init c =
 pub follow-requires-in-loop-count-clause-present : goal.follow-requires-in-loop-count-clause-present
 follow-requires-in-loop-count-clause-present c =
     let now = c.loop-count.arena.entries in
-    let sound = c.len.ensures.sound in
+    let sound = c.steps_are_sound.ensures in
     let w = c.loop-count.invariant.marking in
     let is = sym (c.earliest.ensures c.loop-count.arena.entries c.loop-count.invariant.numbers) ∙ c.in-Some.is in
     let f = first _ _ _ _ _ w sound c.in-Some.key is in
@@ -71,7 +71,7 @@ loop-count-preserved c =
     let set = c.set_mark-in-loop-count.ensures in
     let follow = c.follow-in-loop-count in
     record {
-      marking = rw (set.entries, follow.ensures.keys) (turns _ _ _ _ _ i.marking c.len.ensures.sound c.in-Some.key (sym (c.earliest.ensures c.loop-count.arena.entries i.numbers) ∙ c.in-Some.is));
+      marking = rw (set.entries, follow.ensures.keys) (turns _ _ _ _ _ i.marking c.steps_are_sound.ensures c.in-Some.key (sym (c.earliest.ensures c.loop-count.arena.entries i.numbers) ∙ c.in-Some.is));
       size = follow.ensures.size;
       numbers = subst (λ (now : List KeyedStep). HaveNumbers now follow.new.self.firsts) (sym set.entries) (numbers_marked c.in-Some.key true c.loop-count.arena.entries follow.new.self.firsts follow.ensures.numbers);
       issued = set.issued ∙ i.issued;
@@ -88,17 +88,17 @@ count_is es now n firsts count w whole = w.counted ∙ ap (λ (f : ℕ → Bool)
 pub returns-in_default-clause-marks : goal.returns-in_default-clause-marks
 returns-in_default-clause-marks c =
     let w = c.loop-count.invariant.marking in
-    marks_are _ _ _ _ _ w (ends _ _ _ _ _ w c.len.ensures.sound (sym (c.earliest.ensures c.loop-count.arena.entries c.loop-count.invariant.numbers) ∙ c.in_default.is))
+    marks_are _ _ _ _ _ w (ends _ _ _ _ _ w c.steps_are_sound.ensures (sym (c.earliest.ensures c.loop-count.arena.entries c.loop-count.invariant.numbers) ∙ c.in_default.is))
 
 pub returns-in_default-clause-count : goal.returns-in_default-clause-count
 returns-in_default-clause-count c =
     let w = c.loop-count.invariant.marking in
-    count_is _ _ _ _ _ w (ends _ _ _ _ _ w c.len.ensures.sound (sym (c.earliest.ensures c.loop-count.arena.entries c.loop-count.invariant.numbers) ∙ c.in_default.is))
+    count_is _ _ _ _ _ w (ends _ _ _ _ _ w c.steps_are_sound.ensures (sym (c.earliest.ensures c.loop-count.arena.entries c.loop-count.invariant.numbers) ∙ c.in_default.is))
 
 pub returns-in_default-clause-closed : goal.returns-in_default-clause-closed
 returns-in_default-clause-closed c =
     let w = c.loop-count.invariant.marking in
-    marks_closed _ _ c.args.id w.set c.len-len.ensures.sound.rising w.alike w.marks (ends _ _ _ _ _ w c.len.ensures.sound (sym (c.earliest.ensures c.loop-count.arena.entries c.loop-count.invariant.numbers) ∙ c.in_default.is))
+    marks_closed _ _ c.args.id w.set c.len-len.ensures.sound.rising w.alike w.marks (ends _ _ _ _ _ w c.steps_are_sound.ensures (sym (c.earliest.ensures c.loop-count.arena.entries c.loop-count.invariant.numbers) ∙ c.in_default.is))
 
 pub returns-clause-marks : goal.returns-clause-marks
 returns-clause-marks c =

@@ -11,16 +11,16 @@ use Rattle.mps_links.proofs.Firsts.{entry_in}
 use Rattle.mps_links.proofs.Lasts.{IsLast, last_is, nothing_last}
 use Rattle.mps_links.proofs.Newest.{last_marked, none_marked}
 use Rattle.mps_links.proofs.marking.newest_marked_of.Goals as goal
-use Rattle.mps_links.proofs.marking.newest_marked_of.Goals.{After-len}
+use Rattle.mps_links.proofs.marking.newest_marked_of.Goals.{After-steps_are_sound}
 
-last : (c : After-len) → IsLast (of_role c.args.role) c.args.arena.now.entries c.in_ok-key.key
+last : (c : After-steps_are_sound) → IsLast (of_role c.args.role) c.args.arena.now.entries c.in_ok-key.key
 last c = last_is (of_role c.args.role) c.args.arena.now.entries c.in_ok-key.key (sym c.last_of.ensures ∙ c.in_ok-key.was)
 
-found : (c : After-len) → entry_at c.in_ok-key.key c.args.arena.now.entries ≡ Some (last c).entry
+found : (c : After-steps_are_sound) → entry_at c.in_ok-key.key c.args.arena.now.entries ≡ Some (last c).entry
 found c =
     let es = c.args.arena.now.entries in
     let w = last c in
-    ap (λ k. entry_at k es) (sym w.key) ∙ entry_in es c.len.ensures.sound.distinct c.len.ensures.sound.rising w.before w.behind w.entry w.parts
+    ap (λ k. entry_at k es) (sym w.key) ∙ entry_in es c.steps_are_sound.ensures.distinct c.steps_are_sound.ensures.rising w.before w.behind w.entry w.parts
 
 pub returns-in_err-key-clause-newest : goal.returns-in_err-key-clause-newest
 returns-in_err-key-clause-newest c =
@@ -31,22 +31,22 @@ returns-in_err-key-clause-newest c =
     ∙ sym (ap (last_key None) (keys_none (λ s. s.role == p && is_marked es s.id) es (λ t i. and_left (t.role == p) (is_marked es t.id) (none_passes (of_role p) es t none i))))
 
 pub marked-requires : goal.marked-requires
-marked-requires c = subst IsSome (sym (found ((goal.at.marked-requires c).After-len))) cc
+marked-requires c = subst IsSome (sym (found ((goal.at.marked-requires c).After-steps_are_sound))) cc
 
 pub returns-clause-newest : goal.returns-clause-newest
 returns-clause-newest c =
     let es = c.args.arena.now.entries in
-    let w = last ((goal.at.returns-clause-newest c).After-len) in
-    let is : Some w.entry.marked ≡ Some c.marked.result = ap (option_map (λ (e : KeyedStep). e.marked)) (sym (found ((goal.at.returns-clause-newest c).After-len))) ∙ c.marked.ensures in
+    let w = last ((goal.at.returns-clause-newest c).After-steps_are_sound) in
+    let is : Some w.entry.marked ≡ Some c.marked.result = ap (option_map (λ (e : KeyedStep). e.marked)) (sym (found ((goal.at.returns-clause-newest c).After-steps_are_sound))) ∙ c.marked.ensures in
     let m : w.entry.marked ≡ c.marked.result = cc in
     c.with_number.ensures.key
     ∙ ap Some (sym w.key)
-    ∙ sym (last_marked es c.len.ensures.sound c.requires.closed c.args.role w.before w.behind w.entry w.parts w.passes w.none (m ∙ c.if-not-marked.false))
+    ∙ sym (last_marked es c.steps_are_sound.ensures c.requires.closed c.args.role w.before w.behind w.entry w.parts w.passes w.none (m ∙ c.if-not-marked.false))
 
 pub returns-then-not-marked-clause-newest : goal.returns-then-not-marked-clause-newest
 returns-then-not-marked-clause-newest c =
     let es = c.args.arena.now.entries in
-    let w = last ((goal.at.returns-then-not-marked-clause-newest c).After-len) in
-    let is : Some w.entry.marked ≡ Some c.marked.result = ap (option_map (λ (e : KeyedStep). e.marked)) (sym (found ((goal.at.returns-then-not-marked-clause-newest c).After-len))) ∙ c.marked.ensures in
+    let w = last ((goal.at.returns-then-not-marked-clause-newest c).After-steps_are_sound) in
+    let is : Some w.entry.marked ≡ Some c.marked.result = ap (option_map (λ (e : KeyedStep). e.marked)) (sym (found ((goal.at.returns-then-not-marked-clause-newest c).After-steps_are_sound))) ∙ c.marked.ensures in
     let m : w.entry.marked ≡ c.marked.result = cc in
-    sym (ap (last_key None) (none_marked es c.len.ensures.sound c.requires.closed c.args.role w.before w.behind w.entry w.parts w.passes w.none (m ∙ c.if-not-marked.true)))
+    sym (ap (last_key None) (none_marked es c.steps_are_sound.ensures c.requires.closed c.args.role w.before w.behind w.entry w.parts w.passes w.none (m ∙ c.if-not-marked.true)))

@@ -11,4 +11,4 @@ returns-clause-small c =
     let w = there c.args.key es c.requires in
     let one : Some w.0.step ≡ Some c.get.result.now = ap (option_map (λ (e : KeyedStep). e.step)) (sym w.1) ∙ c.get.ensures in
     let same : w.0.step ≡ c.get.result.now = cc in
-    subst (λ (n : ℕ). n < 8) (ap (λ (s : Step). s.role) same ∙ sym c.index.ensures.place) (small_at c.args.key es w.0 c.len.ensures.sound.small w.1)
+    subst (λ (n : ℕ). n < 8) (ap (λ (s : Step). s.role) same ∙ sym c.index.ensures.place) (small_at c.args.key es w.0 c.steps_are_sound.ensures.small w.1)

@@ -17,18 +17,15 @@ kept : (c : After-push_reserved) → IsKept (get c.join.new.nodes) (slab_len c.j
 kept c =
     let a = c.self.inside in
     let key = c.small-key.result in
-    let node = c.node_behind-node.result in
-    let place : c.vacant_key.result ≡ key = sym c.small-key.ensures in
-    let same : c.join.result ≡ key = c.join.ensures.key ∙ sym c.vacant_key.ensures.value ∙ place in
-    let is : (i : ℕ) → get c.join.new.nodes i ≡ option_map (joined node key i) (cond (key == i) (Some node) (get a.nodes i)) =
-    subst (λ (j : ℕ). (i : ℕ) → get c.join.new.nodes i ≡ option_map (joined node j i) (cond (j == i) (Some node) (get a.nodes i))) same c.join.ensures.nodes in
-    rw (c.join.ensures.len, c.push.ensures.first, c.push.ensures.last, c.push.ensures.last_of, c.push.ensures.last_send, c.push_reserved.ensures.items, c.node_behind-node.ensures)
+    let node = c.node_after-node.result in
+    let is : (i : ℕ) → get c.join.new.nodes i ≡ option_map (joined node key i) (cond (key == i) (Some node) (get a.nodes i)) = c.join.ensures.nodes in
+    rw (c.join.ensures.len, c.push.ensures.first, c.push.ensures.last, c.push.ensures.last_of, c.push.ensures.last_send, c.push_reserved.ensures.items, c.node_after-node.ensures)
     (kept_add (get a.nodes) (get c.join.new.nodes) (slab_len a.nodes) a.ends.first a.ends.last a.ends.last_of a.ends.last_send a.index.items (entries_of a) c.self.invariant c.args.step c.args.before c.args.source key
     c.requires.small
     (subst (λ (v : Entries). c.args.step.id ≡ v.issued + 1) (sym c.self.view_is) c.requires.number)
     (subst (λ (v : Entries). IsSource v.entries c.args.step.role (effect c.args.step.act) c.args.source) (sym c.self.view_is) c.requires.source)
-    (subst (λ (i : ℕ). get a.nodes i ≡ None) place c.vacant_key.ensures.vacant)
-    (subst (λ (n : Node). (i : ℕ) → get c.join.new.nodes i ≡ option_map (joined n key i) (cond (key == i) (Some n) (get a.nodes i))) c.node_behind-node.ensures is))
+    c.join.ensures.vacant
+    (subst (λ (n : Node). (i : ℕ) → get c.join.new.nodes i ≡ option_map (joined n key i) (cond (key == i) (Some n) (get a.nodes i))) c.node_after-node.ensures is))
 
 pub invariant_of-self : goal.invariant_of-self
 invariant_of-self c = kept_whole _ _ _ _ _ _ _ _ (kept c)

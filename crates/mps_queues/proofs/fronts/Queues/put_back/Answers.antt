@@ -17,5 +17,5 @@ returns c k e =
     let was : AreFronts es fronts = subst (λ (l : List (Option ℕ)). AreFronts es l) (sym c.self.view_is) c.requires.fronts in
     let at = c.index.result * 8 + c.index-2.result in
     let place : at ≡ c.args.from * 8 + c.args.to = ap₂ (λ (x y : ℕ). x * 8 + y) c.index.ensures.place c.index-2.ensures.place in
-    let is = c.returned_front.ensures ∙ ap₂ (returned es) c.last_send-last.ensures (front_read fronts es p q at _ c.self.invariant c.requires.from c.requires.to place was) ∙ sym (waiting_return es c.sound.ensures p q k e) in
-    front_set fronts es now p q at c.returned_front.result c.self.invariant c.requires.from c.requires.to place was (sym is) (others_return es c.sound.ensures p q k e)
+    let is = c.returned_front.ensures ∙ ap₂ (returned es) c.last_send-last.ensures (front_read fronts es p q at _ c.self.invariant c.requires.from c.requires.to place was) ∙ sym (waiting_return es c.steps_are_sound.ensures p q k e) in
+    front_set fronts es now p q at c.returned_front.result c.self.invariant c.requires.from c.requires.to place was (sym is) (others_return es c.steps_are_sound.ensures p q k e)

@@ -13,5 +13,5 @@ returns-clause-fronts c e t =
     let was : AreFronts es fronts = subst (λ (l : List (Option ℕ)). AreFronts es l) (sym c.self.view_is) c.requires.fronts in
     let at = c.index.result * 8 + c.index-2.result in
     let place : at ≡ c.args.from * 8 + c.args.to = ap₂ (λ (x y : ℕ). x * 8 + y) c.index.ensures.place c.index-2.ensures.place in
-    let is = c.taken_front.ensures ∙ ap (taken es) (front_read fronts es p q at _ c.self.invariant c.requires.from c.requires.to place was) ∙ sym (waiting_take es c.sound.ensures p q e t) in
-    front_set fronts es (es ++ e ∷ []) p q at c.taken_front.result c.self.invariant c.requires.from c.requires.to place was (sym is) (others_take es c.sound.ensures p q e t)
+    let is = c.taken_front.ensures ∙ ap (taken es) (front_read fronts es p q at _ c.self.invariant c.requires.from c.requires.to place was) ∙ sym (waiting_take es c.steps_are_sound.ensures p q e t) in
+    front_set fronts es (es ++ e ∷ []) p q at c.taken_front.result c.self.invariant c.requires.from c.requires.to place was (sym is) (others_take es c.steps_are_sound.ensures p q e t)

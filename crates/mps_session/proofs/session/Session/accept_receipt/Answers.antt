@@ -4,15 +4,19 @@ use Rattle.mps_links.specs.Marks.{marked_keys}
 use Rattle.mps_command.specs.Acts.{act_of}
 use Rattle.mps_session.specs.Configurations.{lists_of, state_of}
 use Rattle.mps_session.specs.SessionState.{SessionState}
+use Rattle.mps_session.proofs.FirstMessage.{moved_first, taken_first}
 use Rattle.mps_session.proofs.RemoveMarked.{push_unmarked}
 use Rattle.mps_session.proofs.ForwardAnswers as serving
 use Rattle.mps_session.proofs.ForwardServed as forwarding
-use Rattle.mps_session.proofs.session.Session.take_message.Goals as goal
+use Rattle.mps_session.proofs.session.Session.accept_receipt.Goals as goal
 
 pub allowed-requires-clause-stands : goal.allowed-requires-clause-stands
 allowed-requires-clause-stands c =
     let s = c.self.inside in
     serving.is_node (map plain s.types.items) (lists_of s.configuration) c.self.invariant.holds c.args.self.now c.self.view_is c.args.role c.requires.role
+
+pub allowed-requires-clause-first : goal.allowed-requires-clause-first
+allowed-requires-clause-first c = moved_first (lists_of c.self.inside.configuration) c.args.role c.args.from _ c.message-first.ensures c.args.command.now c.requires.takes
 
 pub returns-in_err-node-clause-served : goal.returns-in_err-node-clause-served
 returns-in_err-node-clause-served c =
@@ -58,4 +62,4 @@ pub returns-clause-served : goal.returns-clause-served
 returns-clause-served c =
     let s = c.self.inside in
     forwarding.done (map plain s.types.items) (lists_of s.configuration) c.self.invariant.holds c.args.self.now c.self.view_is c.args.role c.requires.role c.args.command.now c.in_ok-node.ensures.allowed c.in_ok-node.ensures.room
-    c.in_ok-node.node c.in_ok-node.ensures.follows (lists_of c.act.new.self) c.in_ok-id.ensures.acted c.in_ok-id.id c.in_ok-got.got c.told.result.0 c.told.ensures.first c.in_ok-id.ensures.id (c.in_ok-got.ensures ∙ c.first_for-first.ensures.taken)
+    c.in_ok-node.node c.in_ok-node.ensures.follows (lists_of c.act.new.self) c.in_ok-id.ensures.acted c.in_ok-id.id c.in_ok-got.got c.told.result.0 c.told.ensures.first c.in_ok-id.ensures.id (c.in_ok-got.ensures ∙ taken_first (lists_of c.self.inside.configuration) c.args.role c.args.from _ c.message-first.ensures c.args.command.now c.requires.takes)

@@ -1,0 +1,26 @@
+-- The message that a receipt or a pick takes is the first that waits from its peer.
+use Rattle.std.proofs.Common.{◌≡◌, ℕ, Option, Some, None, sym, ap, ◌∙◌}
+use Rattle.std.specs.Prelude.{slice_get}
+use Rattle.mps_base.specs.declared.action.Message.{Message}
+use Rattle.mps_command.specs.Acts.{act_of}
+use Rattle.mps_command.specs.declared.command.Forward.{Forward}
+use Rattle.mps_command.specs.declared.command.Forward.TheVariants.{Receive, Pick}
+use Rattle.mps_history.specs.Steps.{unreceived}
+use Rattle.mps_machine.specs.Machine.{taken}
+use Rattle.mps_monitor.specs.Verdicts.{moved_by}
+use Rattle.mps_arena.specs.Entries.{steps}
+use Rattle.mps_session.specs.Configurations.{Configuration, moved_in, taken_from}
+
+module _ (c : Configuration) (p from : ℕ) (first : Option Message) (is : first ≡ slice_get (unreceived from p (steps c.entries)) 0) where
+  from_peer : (q : ℕ) → Some q ≡ Some from → first ≡ slice_get (unreceived q p (steps c.entries)) 0
+  from_peer q same = let peer : from ≡ q = cc in is ∙ ap (λ (r : ℕ). slice_get (unreceived r p (steps c.entries)) 0) peer
+
+  pub moved_first : (command : Forward) → taken_from command ≡ Some from → moved_by command first ≡ moved_in c p (act_of command)
+  moved_first (Receive q slot) same = from_peer q same
+  moved_first (Pick q) same = from_peer q same
+  moved_first command same = cc
+
+  pub taken_first : (command : Forward) → taken_from command ≡ Some from → first ≡ taken (act_of command) (moved_in c p (act_of command))
+  taken_first (Receive q slot) same = from_peer q same
+  taken_first (Pick q) same = from_peer q same
+  taken_first command same = cc
