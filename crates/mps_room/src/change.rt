@@ -24,10 +24,10 @@ fn takes_others(command: &Command) -> bool
 #[inline(always)]
 fn make_room(
     journal: &mut Vec<Entry>,
-    owners: &mut Vec<Role>,
+    owners: &mut Vec<u8>,
     heard: &mut Heard,
     role: Role,
-    command: &Command,
+    others: bool,
 ) -> Result<(), Refusal>
     requires hearers { heard.old.count ≤ 8 }
     requires lists { length heard.old.lists ≡ 8 }
@@ -39,7 +39,7 @@ fn make_room(
     ensures few { OnOk result (length journal.old.items < most_entries) }
     ensures place { OnOk result (vec_len journal.new + 1 ≤ vec_capacity journal.new) }
     ensures owner_place { OnOk result (vec_len owners.new + 1 ≤ vec_capacity owners.new) }
-    ensures heard_place { OnOk result (takes_others command.now ≡ true → (k : ℕ) (d : _) → k < heard.new.count → k ≢ role
+    ensures heard_place { OnOk result (others ≡ true → (k : ℕ) (d : _) → k < heard.new.count → k ≢ role
         → vec_len (slice_index_or heard.new.lists k d) < vec_capacity (slice_index_or heard.new.lists k d)) }
     ensures short { IfErr result (IsShort journal.old.items) }
 {
@@ -48,7 +48,7 @@ fn make_room(
     }
     journal.reserve(1)?;
     owners.reserve(1)?;
-    if takes_others(command) {
+    if others {
         heard.reserve(role)?;
     }
     Ok(())
@@ -56,13 +56,20 @@ fn make_room(
 
 // Adds the entry, the owner of its step, if its answer gives one a number, and its place to the lists of the roles that
 // hear of it.
-fn keep(journal: &mut Vec<Entry>, owners: &mut Vec<Role>, heard: &mut Heard, entry: Entry)
+fn keep(
+    journal: &mut Vec<Entry>,
+    owners: &mut Vec<u8>,
+    heard: &mut Heard,
+    entry: Entry,
+    others: bool,
+)
+    requires kind { others ≡ takes_others entry.command }
     requires few { length journal.old.items < most_entries }
     requires place { vec_len journal.old + 1 ≤ vec_capacity journal.old }
     requires owner_place { vec_len owners.old + 1 ≤ vec_capacity owners.old }
     requires hearers { heard.old.count ≤ 8 }
     requires lists { length heard.old.lists ≡ 8 }
-    requires heard_place { takes_others entry.command ≡ true → (k : ℕ) (d : _) → k < heard.old.count → k ≢ entry.role
+    requires heard_place { others ≡ true → (k : ℕ) (d : _) → k < heard.old.count → k ≢ entry.role
         → vec_len (slice_index_or heard.old.lists k d) < vec_capacity (slice_index_or heard.old.lists k d) }
     ensures journal { journal.new.items ≡ journal.old.items ++ entry ∷ [] }
     ensures owners { owners.new.items ≡ owners_after owners.old.items entry.role entry.answer }
@@ -74,14 +81,14 @@ fn keep(journal: &mut Vec<Entry>, owners: &mut Vec<Role>, heard: &mut Heard, ent
     ensures unheard { takes_others entry.command ≡ false → heard.new.lists ≡ heard.old.lists }
 {
     let role = entry.role;
-    if takes_others(&entry.command) {
+    if others {
         let place = journal.len() as u32;
         heard.note(owners.as_slice(), role, undone_by(&entry.answer), place);
     }
     let is_step = matches!(&entry.answer, Answer::Done(_));
     journal.push_reserved(entry);
     if is_step {
-        owners.push_reserved(role);
+        owners.push_reserved(role.index() as u8);
     }
 }
 
@@ -93,13 +100,13 @@ impl Room {
         &mut self,
         role: Role,
         command: Command,
-        told: bool,
+        again: bool,
     ) -> Result<Option<Answer>, Refusal>
         requires role { role < length self.old.types }
         requires change { IsSome (change_of command) }
         ensures entered { OnOk result (HasEntered self.old.names self.old.types self.old.journal role command
             self.new.journal) }
-        ensures told { IfOk result (λ answer. is_some answer ≡ told) }
+        ensures told { IfOk result (λ answer. is_some answer ≡ again) }
         ensures answer { IfOk result (λ answer. IfSome answer (λ told. IsReply told
             (reply self.old.names self.old.types self.old.journal role command))) }
         ensures journal { IfOk result (λ answer. IfSome answer (λ told. self.new.journal
@@ -110,23 +117,30 @@ impl Room {
         ensures names { self.new.names ≡ self.old.names }
         ensures types { self.new.types ≡ self.old.types }
     {
-        if let Err(refusal) = make_room(
+        let others = takes_others(&command);
+        if let Err(lack) = make_room(
             &mut self.journal,
             &mut self.owners,
             &mut self.heard,
             role,
-            &command,
+            others,
         ) {
-            return Err(self.refused(role, &command, refusal));
+            return Err(self.refused(role, &command, lack));
         }
-        let (answer, told) = self.session.accept(role, &command, told)?;
+        let (answer, more) = self.session.accept(role, &command, again)?;
         let entry = Entry {
             role,
             command,
             answer,
         };
-        keep(&mut self.journal, &mut self.owners, &mut self.heard, entry);
-        Ok(told)
+        keep(
+            &mut self.journal,
+            &mut self.owners,
+            &mut self.heard,
+            entry,
+            others,
+        );
+        Ok(more)
     }
 
     /// Does the change that the command asks for, or says why not, as `apply` does, but tells the answer by the journal
@@ -149,17 +163,17 @@ impl Room {
 
     // The refusal of a change for which there is no room in the journal or no memory: the machine's, if it refuses, else
     // this one.
-    fn refused(&mut self, role: Role, command: &Command, refusal: Refusal) -> Refusal
+    fn refused(&mut self, role: Role, command: &Command, lack: Refusal) -> Refusal
         requires role { role < length self.old.types }
         requires change { IsSome (change_of command.now) }
-        requires short { IsShort self.old.journal refusal }
+        requires short { IsShort self.old.journal lack }
         ensures refused { IsReply (Refused result)
             (reply self.old.names self.old.types self.old.journal role command.now) }
         ensures kept { self.new ≡ self.old }
     {
         match self.session.would(role, command) {
             Err(refusal) => return refusal,
-            Ok(()) => return refusal,
+            Ok(()) => return lack,
         }
     }
 }

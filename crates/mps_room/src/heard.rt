@@ -73,7 +73,7 @@ impl Heard {
     /// Adds the place of an entry to the list of each role that hears of it: one of these steps, which the asker took
     /// back, was its own.
     #[inline(never)]
-    pub(crate) fn note(&mut self, owners: &[Role], asker: Role, ids: &[StepId], place: u32)
+    pub(crate) fn note(&mut self, owners: &[u8], asker: Role, ids: &[StepId], place: u32)
         requires few { self.old.count ≤ 8 }
         requires each { length self.old.lists ≡ 8 }
         requires room { (k : ℕ) (d : _) → k < self.old.count → k ≢ asker
@@ -115,7 +115,7 @@ fn push_at(lists: &mut [Vec<u32>; 8], k: usize, place: u32)
 }
 
 // Whether each role owns one of the steps.
-fn losers(owners: &[Role], ids: &[StepId]) -> [bool; 8]
+fn losers(owners: &[u8], ids: &[StepId]) -> [bool; 8]
     ensures { (p : ℕ) → p < 8 → slice_index_or result p false ≡ list_any (owns owners.now p) ids.now }
 {
     let mut lost = [false; 8];
@@ -131,9 +131,9 @@ fn losers(owners: &[Role], ids: &[StepId]) -> [bool; 8]
 }
 
 /// Whose step it is.
-pub(crate) fn owner_of(owners: &[Role], id: StepId) -> Option<Role>
+pub(crate) fn owner_of(owners: &[u8], id: StepId) -> Option<Role>
     ensures { (p : ℕ) → owns owners.now p id ≡ option_map_or (λ owner. owner == p) result false }
 {
     let place = id.number().checked_sub(1)?;
-    owners.get(place as usize).copied()
+    Some(Role::new(*owners.get(place as usize)?))
 }

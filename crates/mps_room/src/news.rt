@@ -15,7 +15,7 @@ use std::alloc::{AllocError, Global};
 pub(crate) fn news(
     alloc: Global,
     journal: &[Entry],
-    owners: &[Role],
+    owners: &[u8],
     heard: &[u32],
     role: Role,
     known: u64,
@@ -63,7 +63,7 @@ pub(crate) fn undone_by(answer: &Answer) -> &[StepId]
 
 // Adds those of the numbers that are of the role's steps.
 fn push_own(
-    owners: &[Role],
+    owners: &[u8],
     role: Role,
     ids: &[StepId],
     out: &mut Vec<StepId>,
@@ -79,7 +79,7 @@ fn push_own(
 }
 
 // Whether the step is the role's.
-fn owns(owners: &[Role], role: Role, id: StepId) -> bool
+fn owns(owners: &[u8], role: Role, id: StepId) -> bool
     ensures { result ≡ owns owners.now role id }
 {
     owner_of(owners, id).is_some_and(|owner| owner.is(role))

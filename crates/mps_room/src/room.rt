@@ -31,7 +31,7 @@ pub struct Room {
     pub(crate) session: Session,
     pub(crate) journal: Vec<Entry>,
     // whose steps they are, in the order of their numbers
-    pub(crate) owners: Vec<Role>,
+    pub(crate) owners: Vec<u8>,
     // what each role hears of
     pub(crate) heard: Heard,
     pub(crate) alloc: Global,

@@ -186,7 +186,7 @@ impl Configuration {
 
     /// The number of the role's first step after its last mark of the name; none where there is no such step, and
     /// none of that where there is no such mark.
-    pub(crate) fn first_behind(&self, role: Role, name: &Name) -> Option<Option<StepId>>
+    pub(crate) fn first_after(&self, role: Role, name: &Name) -> Option<Option<StepId>>
         requires { role < 8 }
         ensures { result ≡ option_map first_number
             (since_mark name.now (steps_of role (steps (lists_of self.now).entries))) }
@@ -272,7 +272,7 @@ impl Session {
         ensures back { IfOk result (λ ids. replay (session_view self.new)
             (within self.old.state.history (told ids.0)) ≡ Some (session_view self.old)) }
     {
-        match self.configuration.first_behind(role, name) {
+        match self.configuration.first_after(role, name) {
             None => Err(Refusal::NoMark),
             Some(None) => Ok(nothing(self.configuration.alloc, again)),
             Some(Some(id)) => self.configuration.roll_back(id, again),

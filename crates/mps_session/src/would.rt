@@ -7,13 +7,10 @@ ghost use Rattle.mps_command.specs.declared.command.Change.TheVariants as change
 ghost use Rattle.mps_fidelity.specs.Fidelity.{AreOfOneProtocol};
 ghost use Rattle.mps_machine.specs.Faults.{fault, refusal_in};
 ghost use Rattle.mps_machine.specs.Machine as machine;
-ghost use Rattle.mps_machine.specs.Violations.{violation};
-ghost use Rattle.mps_session.specs.SessionState.{session_view};
-ghost use Rattle.mps_command.specs.Acts.{act_of};
 
 use crate::session::Session;
 use mps_base::{Name, Role, StepId};
-use mps_command::{Command, Forward, Refusal, Violation};
+use mps_command::{Command, Forward, Refusal};
 
 impl Session {
     /// Why the command of the role would be refused, before it is looked at whether there is room for what it brings.
@@ -28,15 +25,6 @@ impl Session {
     {
         // reads a field, since the proof needs what the session keeps, and not its value alone
         let _ = &self.types;
-        self.fault_of(role, command)
-    }
-
-    // The same, by the kind of command.
-    fn fault_of(&mut self, role: Role, command: &Command) -> Result<(), Refusal>
-        requires { role < length self.old.types }
-        ensures fault { result_err result ≡ fault self.old.types self.old.state role command.now }
-        ensures kept { self.new ≡ self.old }
-    {
         match command {
             Command::Forward(step) => self.would_forward(role, step),
             Command::Undo(id) => self.would_undo(role, *id),
@@ -52,22 +40,11 @@ impl Session {
         ensures { result_err result ≡ refusal_in
             (machine.serve self.now.types self.now.state role (changes.Forward step.now)).0 }
     {
-        match self.violation(role, step) {
-            None => Ok(()),
-            Some(fault) => Err(Refusal::Violation(fault)),
-        }
-    }
-
-    /// Why the role's type doesn't allow the step, if it doesn't.
-    pub(crate) fn violation(&self, role: Role, step: &Forward) -> Option<Violation>
-        requires { role < length self.now.types }
-        ensures { result ≡ violation (session_view self.now) role (act_of step.now) }
-    {
         let kept = &self.configuration;
         let first = kept.first_for(role, step);
         match kept.verdict(role, step, first) {
-            Ok(_) => None,
-            Err(fault) => Some(fault),
+            Ok(_) => Ok(()),
+            Err(fault) => Err(Refusal::Violation(fault)),
         }
     }
 
@@ -99,7 +76,7 @@ impl Session {
             (machine.serve self.old.types self.old.state role (changes.Back name.now)).0 }
         ensures kept { self.new ≡ self.old }
     {
-        match self.configuration.first_behind(role, name) {
+        match self.configuration.first_after(role, name) {
             None => Err(Refusal::NoMark),
             Some(None) => Ok(()),
             Some(Some(id)) => self.configuration.unless_final(id),

@@ -101,8 +101,8 @@ fn take(
         return None;
     }
     let joined = match slot {
-        Some(word) => log.receive(own, from, &name(rt, word), at),
-        None => log.pick(own, from, at),
+        Some(word) => log.receive(own, from, Some(&name(rt, word)), at),
+        None => log.receive(own, from, None, at),
     };
     Some(joined.expect(rt, "memory"))
 }

@@ -96,7 +96,7 @@ returns-clause-entered c =
     })
 
 pub returns-clause-told : goal.returns-clause-told
-returns-clause-told c = told_where c.args.told c.in_ok-answer.answer c.in_ok-answer.told c.in_ok-answer.ensures.again
+returns-clause-told c = told_where c.args.again c.in_ok-answer.answer c.in_ok-answer.more c.in_ok-answer.ensures.again
 
 pub returns-clause-answer : goal.returns-clause-answer
 returns-clause-answer c =
@@ -104,7 +104,7 @@ returns-clause-answer c =
     let r = c.self.inside in
     let a = c.in_ok-answer.answer in
     let is = recording.replied_as r.names r.session r.owners.items r.heard.count (map (λ v. v.items) r.heard.lists) r.journal.items c.self.invariant c.args.role (known l) (change_in l) a (answered l) (kept l) c.in_default.ensures.few c.args.command (is_asked l) in
-    told_as (λ (t : Answer). IsReply t (reply c.args.self.now.names c.args.self.now.types c.args.self.now.journal c.args.role c.args.command)) c.args.told a c.in_ok-answer.told c.in_ok-answer.ensures.again
+    told_as (λ (t : Answer). IsReply t (reply c.args.self.now.names c.args.self.now.types c.args.self.now.journal c.args.role c.args.command)) c.args.again a c.in_ok-answer.more c.in_ok-answer.ensures.again
     (subst (λ (m : RoomState). IsReply a (reply m.names m.types m.journal c.args.role c.args.command)) c.self.view_is
     (subst (λ (w : Answer). IsReply a w) (sym is) (accepted_reply a (kept l))))
 
@@ -113,7 +113,7 @@ returns-clause-journal c =
     let l = (goal.at.returns-clause-journal c).After-keep in
     let r = c.self.inside in
     let a = c.in_ok-answer.answer in
-    told_as (λ (t : Answer). c.keep.new.journal.items ≡ grown c.args.self.now.journal c.args.role c.args.command t) c.args.told a c.in_ok-answer.told c.in_ok-answer.ensures.again
+    told_as (λ (t : Answer). c.keep.new.journal.items ≡ grown c.args.self.now.journal c.args.role c.args.command t) c.args.again a c.in_ok-answer.more c.in_ok-answer.ensures.again
     (recording.grown_as r.names r.session r.owners.items r.heard.count (map (λ v. v.items) r.heard.lists) r.journal.items c.self.invariant c.args.role (known l) (change_in l) a (answered l) (kept l) c.in_default.ensures.few c.args.command (is_asked l) c.keep.new.journal.items (joined l)
     ∙ ap (λ (m : RoomState). grown m.journal c.args.role c.args.command a) c.self.view_is)
 

@@ -24,7 +24,7 @@ returns-in-Ok-clause-refused c =
     let m = c.args.self.now in
     let command = c.args.command.now in
     let told : fault r.session.types r.session.state c.args.role command ≡ None = sym c.in-Ok.ensures.fault in
-    short_reply m.names m.types m.journal c.args.role command c.args.refusal c.requires.change c.requires.short
+    short_reply m.names m.types m.journal c.args.role command c.args.lack c.requires.change c.requires.short
     (λ room. omega (arith, room, ap (λ (k : RoomState). length k.journal) c.self.view_is, c.self.invariant.owners.few, c.self.invariant.owners.next, ap (λ (k : RoomState). (run k.types k.journal).next) c.self.view_is, ap (λ (st : State). st.next) c.self.invariant.state))
     (ap (λ (k : RoomState). fault k.types (run k.types k.journal) c.args.role command) (sym c.self.view_is)
     ∙ ap (λ (st : State). fault r.session.types st c.args.role command) (sym c.self.invariant.state)

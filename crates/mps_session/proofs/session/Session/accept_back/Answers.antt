@@ -23,7 +23,7 @@ both (Err e) P R Q f p q = tt
 pub roll_back-requires-clause-present : goal.roll_back-requires-clause-present
 roll_back-requires-clause-present c =
     first_there c.args.name.now c.args.role (steps c.self.inside.configuration.log.entries) c.in-Some-Some.id c.self.invariant.holds.sound.rising
-    (ap Some (sym c.in-Some-Some.field-0-is) ∙ sym c.in-Some-Some.is ∙ c.first_behind.ensures)
+    (ap Some (sym c.in-Some-Some.field-0-is) ∙ sym c.in-Some-Some.is ∙ c.first_after.ensures)
 
 pub roll_back-requires-clause-members : goal.roll_back-requires-clause-members
 roll_back-requires-clause-members c =

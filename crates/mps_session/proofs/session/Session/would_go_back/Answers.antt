@@ -6,4 +6,4 @@ use Rattle.mps_session.proofs.session.Session.would_go_back.Goals as goal
 pub unless_final-requires-clause-present : goal.unless_final-requires-clause-present
 unless_final-requires-clause-present c =
     first_there c.args.name.now c.args.role (steps c.self.inside.configuration.log.entries) c.in-Some-Some.id c.self.invariant.holds.sound.rising
-    (ap Some (sym c.in-Some-Some.field-0-is) ∙ sym c.in-Some-Some.is ∙ c.first_behind.ensures)
+    (ap Some (sym c.in-Some-Some.field-0-is) ∙ sym c.in-Some-Some.is ∙ c.first_after.ensures)

@@ -3,8 +3,8 @@ use Rattle.std.specs.Option.{option_map, option_and_then}
 use Rattle.mps_arena.specs.Neighbours.{id_in}
 use Rattle.mps_session.specs.Answers.{first_number}
 use Rattle.mps_session.proofs.AfterLastMark as behind
-use Rattle.mps_session.proofs.configuration.Configuration.first_behind.Goals as goal
-use Rattle.mps_session.proofs.configuration.Configuration.first_behind.Goals.{After-next_of_role}
+use Rattle.mps_session.proofs.configuration.Configuration.first_after.Goals as goal
+use Rattle.mps_session.proofs.configuration.Configuration.first_after.Goals.{After-next_of_role}
 
 pub returns-in_err-mark : goal.returns-in_err-mark
 returns-in_err-mark c =
