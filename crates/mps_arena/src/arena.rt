@@ -256,7 +256,7 @@ impl Arena {
         self.nodes[key.place()].marked
     }
 
-    /// Marks the step of the key, or takes its mark off. Where no step has the key, nothing changes.
+    /// Marks the step of the key, or removes its mark. Where no step has the key, nothing changes.
     pub fn set_mark(&mut self, key: Key, marked: bool)
         ensures entries { self.new.entries ≡ map (with_mark key marked) self.old.entries }
         ensures issued { self.new.issued ≡ self.old.issued }

@@ -70,7 +70,7 @@ pub(crate) fn set_matched(nodes: &mut Slab<Node>, at: Link, to: Link)
     }
 }
 
-/// Marks that node, if there is one, or takes its mark off.
+/// Marks that node, if there is one, or removes its mark.
 pub(crate) fn set_marked(nodes: &mut Slab<Node>, key: Key, marked: bool)
     ensures { Rewrites nodes.old nodes.new (λ k n.
         record n { marked = if k == key then marked else n.marked }) }

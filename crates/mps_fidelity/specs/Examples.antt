@@ -24,8 +24,8 @@ abbrev pub DoInIt : GlobalType → List LocalType → Type 0
 DoInIt tree types = (fault_of three tree ≡ None) × AreProjections three tree types
 
 -- what is held after requests
-abbrev pub view_after : List LocalType → List Request → View
-view_after types requests = view_of types (after types initial requests).history
+abbrev pub view_reached : List LocalType → List Request → View
+view_reached types requests = view_of types (after types initial requests).history
 
 -- a loop in a loop: a is ahead of b, who takes part in the inner one, and of c, who does in the outer one
 abbrev pub loop_types : List LocalType
@@ -84,7 +84,7 @@ EitherBranchIsTaken =
 
 -- where the types aren't of one protocol, a message need not be the expected one: b expects a bool
 abbrev pub TypesHaveToFit : Type 0
-TypesHaveToFit = ¬ (IsFaithful (view_after unfitting (sends_int a b 5 ∷ [])))
+TypesHaveToFit = ¬ (IsFaithful (view_reached unfitting (sends_int a b 5 ∷ [])))
 
 -- and these types aren't dual
 abbrev pub SortsHaveToAgree : Type 0
@@ -102,11 +102,11 @@ first_branch_types =
     ∷ []
 
 abbrev pub BranchesHaveToAgree : Type 0
-BranchesHaveToAgree = ¬ (IsFaithful (view_after first_branch_types (chooses a b (codes "r") ∷ (a, Forward (steps.Send c (Truth true))) ∷ [])))
+BranchesHaveToAgree = ¬ (IsFaithful (view_reached first_branch_types (chooses a b (codes "r") ∷ (a, Forward (steps.Send c (Truth true))) ∷ [])))
 
 -- two roles that each send before they receive: messages wait in both directions
 abbrev pub both_send_first : List LocalType
 both_send_first = Send b IntSort (Recv b IntSort End) ∷ Send a IntSort (Recv a IntSort End) ∷ []
 
 abbrev pub OneHasToReceiveFirst : Type 0
-OneHasToReceiveFirst = ¬ (IsHalfDuplex (view_after both_send_first (sends_int a b 1 ∷ sends_int b a 2 ∷ [])) a b)
+OneHasToReceiveFirst = ¬ (IsHalfDuplex (view_reached both_send_first (sends_int a b 1 ∷ sends_int b a 2 ∷ [])) a b)

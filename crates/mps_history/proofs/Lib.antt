@@ -1,6 +1,6 @@
 pub mod Order
 pub mod Reaching
 pub mod Removal
-pub mod Pairing
+pub mod MatchingByPlace
 pub mod Slots
 pub mod Commits

@@ -42,7 +42,7 @@ pub fn a_last_step_is_alone()
 
 /// In a history whose numbers rise, a receipt is matched with the send right before it, by their numbers, exactly
 /// where it is by their places.
-pub fn neighbours_pair_by_place()
+pub fn neighbours_match_by_place()
     ensures { (a b : List Step) (s t : Step) → IsRising (a ++ s ∷ t ∷ b) →
         is_matched (a ++ s ∷ t ∷ b) s t ≡ is_matched_after a s t }
 {}

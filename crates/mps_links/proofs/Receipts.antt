@@ -15,7 +15,7 @@ use Rattle.mps_arena.specs.Matched.{matched_receipt}
 use Rattle.mps_arena.specs.Neighbours.{receipt_in, matched_with}
 use Rattle.mps_arena.proofs.KeyLists.{once, matched_key_middle}
 use Rattle.mps_arena.proofs.Chains.{keys-append, keys_with, keys_without, keys_push, keys_kept, keys_around, keys_beside, distinct}
-use Rattle.mps_history.proofs.Pairing.{before_place}
+use Rattle.mps_history.proofs.MatchingByPlace.{before_place}
 use Rattle.mps_arena.proofs.Histories.{count_steps}
 use Rattle.mps_links.proofs.StepKeys.{eqb_turned, steps_around, keys_agree, keys_none}
 use Rattle.mps_links.proofs.Firsts.{entry_in}

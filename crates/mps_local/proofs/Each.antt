@@ -63,6 +63,6 @@ not_all roles tree types place (faults.Unmergeable role choice) l n each h =
     subst (λ (r : ℕ). IsFirstUnmerged roles tree r choice) (sym named) first
 
 -- a fault that `?` hands on
-pub handed_on : {A F : Type 0} (r : Result A F) (P : F → Type 0) (e : F) → IsErrAnd r (λ x. x ≡ e) → P e → IfErr r P
-handed_on (Ok x) P e is h = absurd is
-handed_on (Err x) P e is h = subst P (sym is) h
+pub passed_on : {A F : Type 0} (r : Result A F) (P : F → Type 0) (e : F) → IsErrAnd r (λ x. x ≡ e) → P e → IfErr r P
+passed_on (Ok x) P e is h = absurd is
+passed_on (Err x) P e is h = subst P (sym is) h

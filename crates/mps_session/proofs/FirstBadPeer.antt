@@ -5,7 +5,7 @@ use Rattle.std.proofs.lemmas.Bool.{cases_eq}
 use Rattle.mps_local.specs.Local.{LocalType}
 use Rattle.mps_machine.specs.View.{type_at}
 use Rattle.mps_session.specs.Peers.{HasPeers}
-use Rattle.mps_session.proofs.TypesByPlace.{length_map}
+use Rattle.mps_session.proofs.TypeAt.{length_map}
 
 -- from that role on each has the peers that it may
 abbrev pub AreFrom : List LocalType → ℕ → Type 0

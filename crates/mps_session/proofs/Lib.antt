@@ -1,4 +1,4 @@
-pub mod TypesByPlace
+pub mod TypeAt
 pub mod FirstBadPeer
 pub mod HoldsAfterAct
 pub mod CursorByPlace
@@ -10,7 +10,7 @@ pub mod FirstMessage
 pub mod ForwardServed
 pub mod OpeningCursors
 pub mod OneProtocol
-pub mod DependsInFront
+pub mod PrefixDependence
 pub mod OwnStep
 pub mod ViewWithoutStep
 pub mod HoldsAfterRemoval
@@ -18,7 +18,7 @@ pub mod UndoServed
 pub mod RemoveMarked
 pub mod AfterLastMark
 pub mod NumbersOfSet
-pub mod HandedOn
+pub mod PassedOn
 pub mod ServeAll
 pub mod Pasts
 pub mod SamePast

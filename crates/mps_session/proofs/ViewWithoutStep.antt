@@ -27,7 +27,7 @@ use Rattle.mps_arena.proofs.Nodes.{role_ends}
 use Rattle.mps_links.specs.Order.{earlier}
 use Rattle.mps_links.proofs.Links.{first_dependent}
 use Rattle.mps_links.proofs.StepKeys.{eqb_turned, steps_around, in_middle, none_passes, nothing_first}
-use Rattle.mps_session.proofs.DependsInFront.{depends_in_front}
+use Rattle.mps_session.proofs.PrefixDependence.{depends_in_prefix}
 
 -- steps of other roles leave a role as it was
 role_stays : (h : List Step) (v w : View) (p : ℕ) → replay v h ≡ Some w → ((t : Step) → IsIn t h → (t.role == p) ≡ false) → w.participant p ≡ v.participant p
@@ -105,7 +105,7 @@ module _ (types : List LocalType) (a d m : List KeyedStep) (x : KeyedStep) (v : 
 
   front_alone : (t : Step) → IsIn t (steps front) → depends_on (steps front) t x.step ≡ false
   front_alone t i =
-      sym (depends_in_front (steps front) (steps m) t x.step (subst IsRising parted sound.rising) i x_in)
+      sym (depends_in_prefix (steps front) (steps m) t x.step (subst IsRising parted sound.rising) i x_in)
       ∙ ap (λ (h : List Step). depends_on h t x.step) (sym parted)
       ∙ alone a (d ++ m) x sound free t (subst (λ (h : List Step). IsIn t h) (sym parted) (IsIn-append_left t (steps front) (steps m) i))
 

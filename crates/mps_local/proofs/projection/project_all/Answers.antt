@@ -5,7 +5,7 @@ use Rattle.mps_local.specs.Local.{plain}
 use Rattle.mps_local.specs.Outcome.{IsUnmerged, AreNotAll}
 use Rattle.mps_local.specs.Projection.{projection}
 use Rattle.mps_local.specs.Shape.{AllPeers}
-use Rattle.mps_local.proofs.Each.{one_more, one_more_holds, not_all, handed_on}
+use Rattle.mps_local.proofs.Each.{one_more, one_more_holds, not_all, passed_on}
 use Rattle.mps_local.proofs.projection.project_all.Goals as goal
 
 pub loop-place-preserved : goal.loop-place-preserved
@@ -22,6 +22,6 @@ pub returns-in_err-t-clause-fault : goal.returns-in_err-t-clause-fault
 returns-in_err-t-clause-fault c =
     let roles = c.args.protocol.now.roles.items in
     let tree = global_type c.args.protocol.now.body in
-    handed_on c.from_residual-in_err-t.result (AreNotAll roles tree) _ c.from_residual-in_err-t.ensures.1
+    passed_on c.from_residual-in_err-t.result (AreNotAll roles tree) _ c.from_residual-in_err-t.ensures.1
     (not_all roles tree c.loop-place.types.items c.loop-place.place _ (search rules) c.loop-place.invariant.count c.loop-place.invariant.each
     (subst (λ (p : ℕ). IsUnmerged roles p 0 tree c.in_err-t.field-0.0) c.new.ensures c.in_err-t.ensures.fault))

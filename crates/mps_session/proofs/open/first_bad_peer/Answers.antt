@@ -3,7 +3,7 @@ use Rattle.std.proofs.lemmas.Bool.{false≢true}
 use Rattle.mps_local.specs.Local.{LocalType, plain}
 use Rattle.mps_machine.specs.View.{type_at}
 use Rattle.mps_session.specs.Peers.{HasPeers, IsFirstBad}
-use Rattle.mps_session.proofs.TypesByPlace.{type_at-map, length_map}
+use Rattle.mps_session.proofs.TypeAt.{type_at-map, length_map}
 use Rattle.mps_session.proofs.open.first_bad_peer.Goals as goal
 
 pub returns-then-not-has_peers-clause-bad : goal.returns-then-not-has_peers-clause-bad

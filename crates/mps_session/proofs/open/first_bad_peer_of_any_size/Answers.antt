@@ -6,7 +6,7 @@ use Rattle.mps_local.specs.declared.Local.{Local}
 use Rattle.mps_local.specs.Local.{plain}
 use Rattle.mps_session.specs.Peers.{HasPeers}
 use Rattle.mps_session.proofs.FirstBadPeer.{AreFrom, IsFirstBadFrom, bad_here, fine_from, fine_all}
-use Rattle.mps_session.proofs.TypesByPlace.{length_map}
+use Rattle.mps_session.proofs.TypeAt.{length_map}
 use Rattle.mps_session.proofs.open.first_bad_peer_of_any_size.Goals as goal
 use Rattle.mps_session.proofs.open.first_bad_peer_of_any_size.Goals.{After-names_others}
 

@@ -3,7 +3,7 @@ use Rattle.mps_local.specs.Local.{plain}
 use Rattle.mps_local.specs.LocalFaults.{local_fault_of}
 use Rattle.mps_machine.specs.View.{type_at}
 use Rattle.mps_session.specs.Peers.{IsLeastFaulty}
-use Rattle.mps_session.proofs.TypesByPlace.{type_at-map, length_map}
+use Rattle.mps_session.proofs.TypeAt.{type_at-map, length_map}
 use Rattle.mps_session.proofs.open.first_faulty.Goals as goal
 
 pub returns-in-Some-clause-faulty : goal.returns-in-Some-clause-faulty

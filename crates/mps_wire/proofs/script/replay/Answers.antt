@@ -4,7 +4,7 @@ use Rattle.mps_local.specs.Local.{plain}
 use Rattle.mps_session.specs.SessionState.{SessionState}
 use Rattle.mps_wire.specs.Runs.{Outcome, Replayed}
 use Rattle.mps_wire.specs.Streams.{streams}
-use Rattle.mps_session.proofs.HandedOn.{handed_on}
+use Rattle.mps_session.proofs.PassedOn.{passed_on}
 use Rattle.mps_wire.proofs.Outcomes.{not_begun, opened_first, shut}
 use Rattle.mps_wire.proofs.script.replay.Goals as goal
 
@@ -13,7 +13,7 @@ returns-in_err-session-clause-outcome g c =
     let types = map plain c.args.types.items in
     let first = streams g.R.Source g.W.Sink c.args.reader.now c.args.writer.now in
     let e = c.in_err-session.ensures in
-    handed_on _ _ (Outcome c.args.roles types first first) c.from_residual.ensures.1
+    passed_on _ _ (Outcome c.args.roles types first first) c.from_residual.ensures.1
     (not_begun c.args.roles types first _ (shut types c.in_err-session.field-0.0 e.count e.peer e.local e.memory))
 
 pub replay_session-requires-clause-named : goal.replay_session-requires-clause-named

@@ -6,7 +6,7 @@ use Rattle.mps_wire.specs.Streams.{streams}
 use Rattle.mps_wire.specs.declared.script.TheConstants.{BLOCK}
 use Rattle.mps_wire.proofs.Bytes.{same_room}
 use Rattle.mps_wire.proofs.Carrying.{turned}
-use Rattle.mps_session.proofs.HandedOn.{handed_on}
+use Rattle.mps_session.proofs.PassedOn.{passed_on}
 use Rattle.mps_wire.proofs.Outcomes.{same_counts, counts_more, breaks, at_end, before_end, starts_starved}
 use Rattle.mps_wire.proofs.Turning.{begun, gave_none, gave_more, gave_fewer}
 use Rattle.mps_wire.proofs.script.replay_session.Goals as goal
@@ -15,7 +15,7 @@ pub returns-in_err-block-clause-outcome : goal.returns-in_err-block-clause-outco
 returns-in_err-block-clause-outcome g c =
     let types = c.args.session.types in
     let first = streams g.R.Source g.W.Sink c.args.reader.now c.args.writer.now in
-    handed_on _ _ (Replayed c.args.roles types first first) c.from_residual.ensures.1 (starts_starved (AnswersLine c.args.roles types) [] first)
+    passed_on _ _ (Replayed c.args.roles types first first) c.from_residual.ensures.1 (starts_starved (AnswersLine c.args.roles types) [] first)
 
 pub loop-init : goal.loop-init
 loop-init g c =
@@ -42,7 +42,7 @@ returns-in_err-turn-clause-outcome g c =
     let old = streams g.R.Source g.W.Sink c.loop.reader c.loop.writer in
     let now = streams g.R.Source g.W.Sink c.turn.new.reader c.turn.new.writer in
     let i = c.loop.invariant in
-    handed_on _ _ (Replayed c.args.roles types first now) c.from_residual-in_err-turn.ensures.1
+    passed_on _ _ (Replayed c.args.roles types first now) c.from_residual-in_err-turn.ensures.1
     (breaks first old now i.counts (AnswersLine c.args.roles types) [] c.turn.new.run.line.items c.turn.new.run.room.journal c.in_err-turn.field-0.0
     (turned c.args.roles c.loop.run.room.names types c.loop.run.room.types i.names i.types old now c.loop.run.line.items c.turn.new.run.line.items c.loop.run.room.journal c.turn.new.run.room.journal (Err c.in_err-turn.field-0.0) c.in_err-turn.ensures.step first i.going))
 

@@ -12,7 +12,7 @@ use Rattle.mps_machine.proofs.Answering.{from_ok}
 use Rattle.mps_room.specs.Journal.{undone_by, is_accepted, grown, reply, HasEntered, IsReply}
 use Rattle.mps_room.specs.Kept.{RoomState, AreHeard, owns, owners_after, hears, with_place}
 use Rattle.mps_room.specs.declared.entry.Entry.{Entry}
-use Rattle.mps_session.proofs.HandedOn.{handed_on}
+use Rattle.mps_session.proofs.PassedOn.{passed_on}
 use Rattle.mps_room.proofs.Accepting.{accepting, told_as, told_where}
 use Rattle.mps_room.proofs.Growing.{asked}
 use Rattle.mps_room.proofs.Lists.{map_each}
@@ -122,6 +122,6 @@ returns-in_err-answer-clause-refused c =
     let r = c.self.inside in
     let found = asked c.args.command c.requires.change in
     let refusal = c.in_err-answer.field-0.0 in
-    handed_on _ refusal (λ (a : Result (Option Answer) Refusal). IfErr a (λ e. IsReply (Refused e) (reply c.args.self.now.names c.args.self.now.types c.args.self.now.journal c.args.role c.args.command))) c.from_residual.ensures.1
+    passed_on _ refusal (λ (a : Result (Option Answer) Refusal). IfErr a (λ e. IsReply (Refused e) (reply c.args.self.now.names c.args.self.now.types c.args.self.now.journal c.args.role c.args.command))) c.from_residual.ensures.1
     (subst (λ (m : RoomState). IsReply (Refused refusal) (reply m.names m.types m.journal c.args.role c.args.command)) c.self.view_is
     (recording.refused_as r.names r.session r.owners.items r.heard.count (map (λ v. v.items) r.heard.lists) r.journal.items c.self.invariant c.args.role found.0 c.args.command found.2 c.in_default.ensures.few c.accept.new.self.state refusal (c.in_err-answer.ensures.accepted found.0 found.1)))

@@ -13,7 +13,7 @@ use Rattle.mps_log.proofs.Remarked.{all_again}
 use Rattle.mps_session.specs.Configurations.{Configuration, lists_of}
 use Rattle.mps_session.specs.Invariant.{Holds}
 use Rattle.std.proofs.lemmas.List.{length-reverse}
-use Rattle.mps_session.proofs.TypesByPlace.{length_map}
+use Rattle.mps_session.proofs.TypeAt.{length_map}
 use Rattle.mps_session.proofs.RemoveMarked as rolling
 use Rattle.mps_session.proofs.configuration.Configuration.roll_back.Goals as goal
 use Rattle.mps_session.proofs.configuration.Configuration.roll_back.Goals.{After-mark_from-count, After-remove_marked, After-unmark}

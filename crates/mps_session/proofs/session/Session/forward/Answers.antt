@@ -7,7 +7,7 @@ use Rattle.mps_command.specs.declared.answer.Violation.TheVariants.{Mismatch}
 use Rattle.mps_machine.specs.Machine.{IsSound}
 use Rattle.mps_machine.proofs.Undoing.{newest_undone, stays_final}
 use Rattle.mps_session.specs.SessionState.{SessionState}
-use Rattle.mps_session.proofs.HandedOn.{handed_on}
+use Rattle.mps_session.proofs.PassedOn.{passed_on}
 use Rattle.mps_session.proofs.OneProtocol.{no_mismatch}
 use Rattle.mps_session.proofs.session.Session.forward.Goals as goal
 
@@ -16,7 +16,7 @@ returns-in_err-done-clause-never_mismatch c own =
     let m = c.args.self.now in
     let refusal = c.in_err-done.field-0.0 in
     let sound = subst (λ (k : SessionState). IsSound k.types k.state) c.self.view_is c.self.invariant.holds.sound in
-    handed_on _ refusal (λ (r : Result Done Refusal). r ≢ Err (Violates Mismatch)) c.from_residual.ensures.1
+    passed_on _ refusal (λ (r : Result Done Refusal). r ≢ Err (Violates Mismatch)) c.from_residual.ensures.1
     (λ e. let is : refusal ≡ Violates Mismatch = cc in no_mismatch m.types m.state c.args.role c.args.command refusal sound c.in_err-done.ensures.served.answer own is)
 
 pub returns-clause-undone : goal.returns-clause-undone

@@ -7,7 +7,7 @@ use Rattle.mps_session.specs.Configurations.{lists_of}
 use Rattle.mps_session.specs.Opening.{IsOpening}
 use Rattle.mps_session.specs.Peers.{HavePeers, AreFaultless}
 use Rattle.mps_session.proofs.HoldsAfterAct.{opened_holds}
-use Rattle.mps_session.proofs.TypesByPlace.{length_map}
+use Rattle.mps_session.proofs.TypeAt.{length_map}
 use Rattle.mps_session.proofs.session.Session.open.Goals as goal
 
 pub invariant_of-result : goal.invariant_of-result

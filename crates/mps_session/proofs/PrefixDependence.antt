@@ -18,8 +18,8 @@ before_front f n a b later =
     ap length (filter-append g a b ∙ ap (λ l. filter g a ++ l) none ∙ append-nil (filter g a))
 
 -- so what is later doesn't count
-pub depends_in_front : (a b : List Step) (t s : Step) → IsRising (a ++ b) → IsIn t a → IsIn s a → depends_on (a ++ b) t s ≡ depends_on a t s
-depends_in_front a b t s r it is =
+pub depends_in_prefix : (a b : List Step) (t s : Step) → IsRising (a ++ b) → IsIn t a → IsIn s a → depends_on (a ++ b) t s ≡ depends_on a t s
+depends_in_prefix a b t s r it is =
     let sent = before_front (sends s.role t.role) s.id a b (λ u i. let less = rising_apart a b s u r is i in omega arith) in
     let got = before_front (receives s.role t.role) t.id a b (λ u i. let less = rising_apart a b t u r it i in omega arith) in
     ap (λ n. nat_lt s.id t.id && (s.role == t.role || (sends s.role t.role s && receives s.role t.role t && n == received_before s.role t.role t.id (a ++ b)))) sent
