@@ -16,8 +16,8 @@ use Rattle.mps_command.specs.declared.command.Command.TheVariants as commands
 use Rattle.mps_command.specs.declared.command.Forward.TheVariants.{Send, Choose, Receive, Pick, Mark, Commit}
 use Rattle.mps_line.specs.Tokens.{Token, Word, RoleAt, Called, Number, Worth, Show, SpellsRole, SpellsNumber, SpellsToken, SpellEach, SpellsLine, BeginsWith}
 use Rattle.mps_line.specs.Commands.{verb_word, verb_of, arguments, TakesArguments, SpellsCommand, SpellsScriptLine, NamesRolesOf}
-use Rattle.mps_line.proofs.Splitting.{one_split, never_split, name_has_no_space, behind, alone}
-use Rattle.mps_line.proofs.Reading.{verb_has_no_space, same_verb, one_verb, alone_or_more, lone_line, command_parts}
+use Rattle.mps_line.proofs.Splitting.{one_split, never_split, name_has_no_space, after_token, alone}
+use Rattle.mps_line.proofs.CommandLines.{verb_has_no_space, same_verb, one_verb, alone_or_more, lone_line, command_parts}
 
 -- ---- one spelling
 
@@ -61,8 +61,8 @@ record SameRole (names : List (List ℕ)) (p q : ℕ) (t : Token) (ts : List Tok
 
 same_role : (names : List (List ℕ)) (a : List ℕ) (p q : ℕ) (t : Token) (ts : List Token) (u : Token) (us : List Token) → AreDistinct names → SpellsLine names a (RoleAt p ∷ t ∷ ts) → SpellsLine names a (RoleAt q ∷ u ∷ us) → SameRole names p q t ts u us
 same_role names a p q t ts u us distinct h k =
-    let b = behind names a (RoleAt p) t ts h in
-    let d = behind names a (RoleAt q) u us k in
+    let b = after_token names a (RoleAt p) t ts h in
+    let d = after_token names a (RoleAt q) u us k in
     let same = begins_once names a p q b.0 d.0 distinct b.1 d.1 in
     record { role = same.0; rest = b.0; one = b.2; other = rw (sym same.1) at d.2 }
 
@@ -161,7 +161,7 @@ names_roles names a c h =
     (alone_or_more c)
   where
     first : (rest : List ℕ) (role : ℕ) (t : Token) → SpellsLine names rest (RoleAt role ∷ t ∷ []) → ForSome (Some role) (λ peer. peer < length names)
-    first rest role t k = let b = behind names rest (RoleAt role) t [] k in place_within names b.1.front role b.1.spelled
+    first rest role t k = let b = after_token names rest (RoleAt role) t [] k in place_within names b.1.front role b.1.spelled
 
     by_arguments : (c : Command) (rest : List ℕ) → SpellsLine names rest (arguments c) → NamesRolesOf names c
     by_arguments (Forward (Send to value)) rest k = first rest to (Worth value) k

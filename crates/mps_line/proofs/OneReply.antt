@@ -18,9 +18,9 @@ use Rattle.mps_line.specs.declared.write_replies.Reply.{Reply}
 use Rattle.mps_line.specs.declared.write_replies.Reply.TheVariants.{Answered, BadLine, Joined, NoSession, NoRole, Taken, Number as WrongNumber}
 use Rattle.mps_line.specs.Tokens.{Token, Word, Called, Number, Show, HasNoSpace, SpellsShow, SpellsToken, SpellsLine}
 use Rattle.mps_line.specs.Replies.{word_of, message_token, done_tokens, undone_tokens, news_tokens, refusal_tokens, SpellsReply}
-use Rattle.mps_line.proofs.Splitting.{one_split, never_split, digits_have_no_space, first_word, behind, alone}
-use Rattle.mps_line.proofs.Reading.{word_behind}
-use Rattle.mps_line.proofs.Unique.{one_number}
+use Rattle.mps_line.proofs.Splitting.{one_split, never_split, digits_have_no_space, first_word, after_token, alone}
+use Rattle.mps_line.proofs.CommandLines.{after_word}
+use Rattle.mps_line.proofs.OneSpelling.{one_number}
 
 -- why a line is refused: by the machine's reason, or by one that no command has
 data Cause : Type 0 where
@@ -158,15 +158,15 @@ refused_has_no_space = search rules
 -- two lines that begin with this word
 one_word_first : (a letters : List ℕ) (t : Token) (ts : List Token) (u : Token) (us : List Token) → HasNoSpace letters → SpellsLine [] a (Word letters ∷ t ∷ ts) → SpellsLine [] a (Word letters ∷ u ∷ us) → (rest : List ℕ) × SpellsLine [] rest (t ∷ ts) × SpellsLine [] rest (u ∷ us)
 one_word_first a letters t ts u us p h k =
-    let b = word_behind [] a letters t ts h in
-    let d = word_behind [] a letters u us k in
+    let b = after_word [] a letters t ts h in
+    let d = after_word [] a letters u us k in
     let same = one_split letters letters b.0 d.0 p p (sym b.1 ∙ d.1) in
     (b.0, b.2, rw (sym same.1) at d.2)
 
 -- no line is one word and two tokens
 never_both : (a letters : List ℕ) (t u : Token) (us : List Token) → HasNoSpace letters → SpellsLine [] a (Word letters ∷ []) → SpellsLine [] a (t ∷ u ∷ us) → ⊥
 never_both a letters t u us p h k =
-    let b = behind [] a t u us k in
+    let b = after_token [] a t u us k in
     never_split letters b.1.front b.0 p (sym (alone [] a (Word letters) h) ∙ b.1.parts)
 
 -- a refusal has its word alone, or a step after it
@@ -219,8 +219,8 @@ never_names a c d by e f h k =
 -- a word and a step are one cause's
 one_named : (a : List ℕ) (c d : Cause) (m n : ℕ) → Names c m → Names d n → SpellsLine [] a (cause_tokens c) → SpellsLine [] a (cause_tokens d) → c ≡ d
 one_named a c d m n e f h k =
-    let b = word_behind [] a (cause_word c) (Number m) [] (rw e.tokens at h) in
-    let g = word_behind [] a (cause_word d) (Number n) [] (rw f.tokens at k) in
+    let b = after_word [] a (cause_word c) (Number m) [] (rw e.tokens at h) in
+    let g = after_word [] a (cause_word d) (Number n) [] (rw f.tokens at k) in
     let same = one_split (cause_word c) (cause_word d) b.0 g.0 (cause_has_no_space c) (cause_has_no_space d) (sym b.1 ∙ g.1) in
     let step = one_number b.0 m n (alone [] b.0 (Number m) b.2) (alone [] b.0 (Number n) (rw (sym same.1) at g.2)) in
     sym e.is ∙ ap (λ (x : Cause). with_step x m) (one_word c d same.0) ∙ ap (with_step (plain d)) step ∙ f.is
@@ -250,8 +250,8 @@ record SameNumber (m n : ℕ) (t : Token) (ts : List Token) (u : Token) (us : Li
 
 same_number : (a : List ℕ) (m n : ℕ) (t : Token) (ts : List Token) (u : Token) (us : List Token) → SpellsLine [] a (Number m ∷ t ∷ ts) → SpellsLine [] a (Number n ∷ u ∷ us) → SameNumber m n t ts u us
 same_number a m n t ts u us h k =
-    let b = behind [] a (Number m) t ts h in
-    let d = behind [] a (Number n) u us k in
+    let b = after_token [] a (Number m) t ts h in
+    let d = after_token [] a (Number n) u us k in
     let same = one_split b.1.front d.1.front b.0 d.0 (digits_have_no_space b.1.front b.1.spelled.number.digits) (digits_have_no_space d.1.front d.1.spelled.number.digits) (sym b.1.parts ∙ d.1.parts) in
     record {
       number = one_number b.1.front m n b.1.spelled (rw (sym same.0) at d.1.spelled);
@@ -263,7 +263,7 @@ same_number a m n t ts u us h k =
 -- no line is one number and two tokens
 number_or_two : (a : List ℕ) (m n : ℕ) (u : Token) (us : List Token) → SpellsLine [] a (Number m ∷ []) → SpellsLine [] a (Number n ∷ u ∷ us) → ⊥
 number_or_two a m n u us h k =
-    let b = behind [] a (Number n) u us k in
+    let b = after_token [] a (Number n) u us k in
     never_split a b.1.front b.0 (digits_have_no_space a (alone [] a (Number m) h).number.digits) b.1.parts
 
 -- numbers have one line
@@ -294,30 +294,30 @@ one_news a m n ms ns h k =
     (cc, cc)
 
 -- what stands after the first word of a reply
-done_behind : (a letters : List ℕ) (id : ℕ) (got : Option Message) → SpellsLine [] a (Word letters ∷ done_tokens id got) → (rest : List ℕ) × (a ≡ spaced (letters ∷ rest ∷ [])) × SpellsLine [] rest (done_tokens id got)
-done_behind a letters id None h = word_behind [] a letters _ _ h
-done_behind a letters id (Some message) h = word_behind [] a letters _ _ h
+after_done : (a letters : List ℕ) (id : ℕ) (got : Option Message) → SpellsLine [] a (Word letters ∷ done_tokens id got) → (rest : List ℕ) × (a ≡ spaced (letters ∷ rest ∷ [])) × SpellsLine [] rest (done_tokens id got)
+after_done a letters id None h = after_word [] a letters _ _ h
+after_done a letters id (Some message) h = after_word [] a letters _ _ h
 
-cause_behind : (a : List ℕ) (c : Cause) → SpellsReply a (reply_of c) → (rest : List ℕ) × (a ≡ spaced (codes "refused" ∷ rest ∷ [])) × SpellsLine [] rest (cause_tokens c)
-cause_behind a (Because (Final by)) h = word_behind [] a (codes "refused") _ _ h
-cause_behind a (Because (Needed by)) h = word_behind [] a (codes "refused") _ _ h
-cause_behind a (Because (Violates v)) h = word_behind [] a (codes "refused") _ _ h
-cause_behind a (Because NoStep) h = word_behind [] a (codes "refused") _ _ h
-cause_behind a (Because NotYours) h = word_behind [] a (codes "refused") _ _ h
-cause_behind a (Because NoMark) h = word_behind [] a (codes "refused") _ _ h
-cause_behind a (Because Full) h = word_behind [] a (codes "refused") _ _ h
-cause_behind a (Because Memory) h = word_behind [] a (codes "refused") _ _ h
-cause_behind a Unread h = word_behind [] a (codes "refused") _ _ h
-cause_behind a Nowhere h = word_behind [] a (codes "refused") _ _ h
-cause_behind a Nobody h = word_behind [] a (codes "refused") _ _ h
-cause_behind a Used h = word_behind [] a (codes "refused") _ _ h
-cause_behind a Misnumbered h = word_behind [] a (codes "refused") _ _ h
+after_cause : (a : List ℕ) (c : Cause) → SpellsReply a (reply_of c) → (rest : List ℕ) × (a ≡ spaced (codes "refused" ∷ rest ∷ [])) × SpellsLine [] rest (cause_tokens c)
+after_cause a (Because (Final by)) h = after_word [] a (codes "refused") _ _ h
+after_cause a (Because (Needed by)) h = after_word [] a (codes "refused") _ _ h
+after_cause a (Because (Violates v)) h = after_word [] a (codes "refused") _ _ h
+after_cause a (Because NoStep) h = after_word [] a (codes "refused") _ _ h
+after_cause a (Because NotYours) h = after_word [] a (codes "refused") _ _ h
+after_cause a (Because NoMark) h = after_word [] a (codes "refused") _ _ h
+after_cause a (Because Full) h = after_word [] a (codes "refused") _ _ h
+after_cause a (Because Memory) h = after_word [] a (codes "refused") _ _ h
+after_cause a Unread h = after_word [] a (codes "refused") _ _ h
+after_cause a Nowhere h = after_word [] a (codes "refused") _ _ h
+after_cause a Nobody h = after_word [] a (codes "refused") _ _ h
+after_cause a Used h = after_word [] a (codes "refused") _ _ h
+after_cause a Misnumbered h = after_word [] a (codes "refused") _ _ h
 
 -- a line has one cause
 same_cause : (a : List ℕ) (c d : Cause) → SpellsReply a (reply_of c) → SpellsReply a (reply_of d) → reply_of c ≡ reply_of d
 same_cause a c d h k =
-    let b = cause_behind a c h in
-    let f = cause_behind a d k in
+    let b = after_cause a c h in
+    let f = after_cause a d k in
     let same = one_split (codes "refused") (codes "refused") b.0 f.0 refused_has_no_space refused_has_no_space (sym b.1 ∙ f.1) in
     ap reply_of (one_cause b.0 c d b.2 (rw (sym same.1) at f.2))
 
@@ -414,8 +414,8 @@ module _ (one_value : (a : List ℕ) (v w : Value) → SpellsValue a v → Spell
   -- replies that refuse nothing
   one_other : (a : List ℕ) (r s : Reply) → letter r ≡ letter s → letter r ≢ 114 → SpellsReply a r → SpellsReply a s → r ≡ s
   one_other a (Answered (Accepted d)) (Answered (Accepted e)) l other h k =
-      let b = done_behind a (codes "done") d.id d.got h in
-      let f = done_behind a (codes "done") e.id e.got k in
+      let b = after_done a (codes "done") d.id d.got h in
+      let f = after_done a (codes "done") e.id e.got k in
       let same = one_split (codes "done") (codes "done") b.0 f.0 done_has_no_space done_has_no_space (sym b.1 ∙ f.1) in
       ap (λ (done : Done). Answered (Accepted done)) (same_done d e (one_done b.0 d.id e.id d.got e.got b.2 (rw (sym same.1) at f.2)))
   one_other a (Answered (Undone ms)) (Answered (Undone ns)) l other h k = ap (λ (ids : List ℕ). Answered (Undone ids)) (one_undone a ms ns h k)

@@ -1,6 +1,6 @@
 use Rattle.std.proofs.Common.{◌≢◌, List, ℕ, ◌∷◌, ◌++◌, ap, ◌∙◌}
 use Rattle.mps_line.proofs.Splitting.{if_none, in_front, not_in_front}
-use Rattle.mps_line.proofs.line_parts.behind.Goals as goal
+use Rattle.mps_line.proofs.line_parts.after_word.Goals as goal
 
 pub returns-in_err-strip_prefix-clause-none : goal.returns-in_err-strip_prefix-clause-none
 returns-in_err-strip_prefix-clause-none c =

@@ -10,13 +10,13 @@ use Rattle.mps_command.specs.Changes.{change_of}
 use Rattle.mps_command.specs.declared.command.Command.{Command}
 use Rattle.mps_command.specs.declared.command.Command.TheVariants.{Forward, Undo, Rollback, Back, News, Show}
 use Rattle.mps_command.specs.declared.command.Forward.TheVariants.{Send, Choose, Receive, Pick, Mark, Commit}
-use Rattle.mps_line.specs.declared.read_commands.Verb.{Verb}
-use Rattle.mps_line.specs.declared.read_commands.Verb.TheVariants as verbs
+use Rattle.mps_line.specs.declared.write_commands.Verb.{Verb}
+use Rattle.mps_line.specs.declared.write_commands.Verb.TheVariants as verbs
 use Rattle.mps_line.specs.Tokens.{Number, HasNoSpace, SpellsNumber, SpellsLine, BeginsWith}
 use Rattle.mps_line.specs.Commands.{verb_word, verb_of, arguments, command_tokens, SpellsCommand, MayHaveNumber, numbered_tokens, SpellsNumbered, NamesRolesOf}
-use Rattle.mps_line.proofs.Splitting.{one_split, one_first, digits_have_no_space, first_word, behind, joined}
-use Rattle.mps_line.proofs.Reading.{verb_has_no_space, same_verb}
-use Rattle.mps_line.proofs.Unique.{one_number, line_spelling, same_command, names_roles}
+use Rattle.mps_line.proofs.Splitting.{one_split, one_first, digits_have_no_space, first_word, after_token, joined}
+use Rattle.mps_line.proofs.CommandLines.{verb_has_no_space, same_verb}
+use Rattle.mps_line.proofs.OneSpelling.{one_number, line_spelling, same_command, names_roles}
 
 -- ---- a number in front
 
@@ -62,9 +62,9 @@ one_front bytes m n x y b d =
     (one_number b.front m n b.spelled (rw (sym same.0) at d.spelled), same.1)
 
 -- the number in front of a command
-number_behind : (names : List (List ℕ)) (bytes : List ℕ) (n : ℕ) (command : Command) → SpellsLine names bytes (Number n ∷ command_tokens command) → (rest : List ℕ) × BeginsWith [] bytes (Number n) rest × SpellsCommand names rest command
-number_behind names bytes n command h =
-    let b = behind names bytes (Number n) _ (arguments command) h in
+after_number : (names : List (List ℕ)) (bytes : List ℕ) (n : ℕ) (command : Command) → SpellsLine names bytes (Number n ∷ command_tokens command) → (rest : List ℕ) × BeginsWith [] bytes (Number n) rest × SpellsCommand names rest command
+after_number names bytes n command h =
+    let b = after_token names bytes (Number n) _ (arguments command) h in
     (b.0, record { front = b.1.front; parts = b.1.parts; spelled = b.1.spelled }, b.2)
 
 number_before : (names : List (List ℕ)) (bytes rest : List ℕ) (n : ℕ) (command : Command) → BeginsWith [] bytes (Number n) rest → SpellsCommand names rest command → SpellsLine names bytes (Number n ∷ command_tokens command)
@@ -107,7 +107,7 @@ may_as_well names bytes c d h k may = asks_is c ∙ ap asks (one_verb_of names b
 -- with no number in front
 pub none_alone : (names : List (List ℕ)) (bytes : List ℕ) → ((n : ℕ) (rest : List ℕ) → BeginsWith [] bytes (Number n) rest → ⊥) → ((command : Command) → SpellsCommand names bytes command → ⊥) → (number : Option ℕ) (command : Command) → SpellsNumbered names bytes number command → ⊥
 none_alone names bytes whole none None command h = none command h.line
-none_alone names bytes whole none (Some n) command h = let p = number_behind names bytes n command h.line in whole n p.0 p.1
+none_alone names bytes whole none (Some n) command h = let p = after_number names bytes n command h.line in whole n p.0 p.1
 
 -- after a number
 pub command_numbered : (names : List (List ℕ)) (bytes rest : List ℕ) (n : ℕ) (command : Command) → BeginsWith [] bytes (Number n) rest → MayHaveNumber command → SpellsCommand names rest command → SpellsNumbered names bytes (Some n) command
@@ -116,18 +116,18 @@ command_numbered names bytes rest n command b may h = record { line = number_bef
 pub none_numbered : (names : List (List ℕ)) (bytes rest : List ℕ) (n : ℕ) → BeginsWith [] bytes (Number n) rest → ((command : Command) → MayHaveNumber command → SpellsCommand names rest command → ⊥) → (number : Option ℕ) (command : Command) → SpellsNumbered names bytes number command → ⊥
 none_numbered names bytes rest n b none None command h = never_numbered names bytes n rest command b h.line
 none_numbered names bytes rest n b none (Some m) command h =
-    let p = number_behind names bytes m command h.line in
+    let p = after_number names bytes m command h.line in
     none command h.allowed (rw (one_front bytes m n p.0 rest p.1 b).1 at p.2)
 
 -- ---- what is spelled, and by what, is unique
 
 pub same_number : (names : List (List ℕ)) (a : List ℕ) (m n : Option ℕ) (c d : Command) → SpellsNumbered names a m c → SpellsNumbered names a n d → m ≡ n
 same_number names a None None c d h k = refl
-same_number names a None (Some n) c d h k = let q = number_behind names a n d k.line in absurd (never_numbered names a n q.0 c q.1 h.line)
-same_number names a (Some m) None c d h k = let p = number_behind names a m c h.line in absurd (never_numbered names a m p.0 d p.1 k.line)
+same_number names a None (Some n) c d h k = let q = after_number names a n d k.line in absurd (never_numbered names a n q.0 c q.1 h.line)
+same_number names a (Some m) None c d h k = let p = after_number names a m c h.line in absurd (never_numbered names a m p.0 d p.1 k.line)
 same_number names a (Some m) (Some n) c d h k =
-    let p = number_behind names a m c h.line in
-    let q = number_behind names a n d k.line in
+    let p = after_number names a m c h.line in
+    let q = after_number names a n d k.line in
     ap Some (one_front a m n p.0 q.0 p.1 q.1).0
 
 pub same_numbered : ((a : List ℕ) (v w : Value) → SpellsValue a v → SpellsValue a w → v ≡ w) → (names : List (List ℕ)) (a : List ℕ) (m n : Option ℕ) (c d : Command) → AreDistinct names → SpellsNumbered names a m c → SpellsNumbered names a n d → c ≡ d
@@ -135,8 +135,8 @@ same_numbered one_value names a None None c d distinct h k = same_command one_va
 same_numbered one_value names a None (Some n) c d distinct h k = absurd (let e : None ≡ Some n = same_number names a None (Some n) c d h k in cc)
 same_numbered one_value names a (Some m) None c d distinct h k = absurd (let e : Some m ≡ None = same_number names a (Some m) None c d h k in cc)
 same_numbered one_value names a (Some m) (Some n) c d distinct h k =
-    let p = number_behind names a m c h.line in
-    let q = number_behind names a n d k.line in
+    let p = after_number names a m c h.line in
+    let q = after_number names a n d k.line in
     same_command one_value names p.0 c d distinct p.2 (rw (sym (one_front a m n p.0 q.0 p.1 q.1).1) at q.2)
 
 pub numbered_spelling : (names : List (List ℕ)) (a b : List ℕ) (n : Option ℕ) (c : Command) → SpellsNumbered names a n c → SpellsNumbered names b n c → a ≡ b
@@ -145,4 +145,4 @@ numbered_spelling names a b n c h k = line_spelling names a b (numbered_tokens n
 -- the role that is named is one of these
 pub numbered_names_roles : (names : List (List ℕ)) (a : List ℕ) (n : Option ℕ) (c : Command) → SpellsNumbered names a n c → NamesRolesOf names c
 numbered_names_roles names a None c h = names_roles names a c h.line
-numbered_names_roles names a (Some n) c h = let p = number_behind names a n c h.line in names_roles names p.0 c p.2
+numbered_names_roles names a (Some n) c h = let p = after_number names a n c h.line in names_roles names p.0 c p.2

@@ -1,5 +1,5 @@
 -- What replies are read from.
-use Rattle.std.proofs.Common.{arith, ◌≡◌, ◌≢◌, ℕ, ◌<◌, ◌⊎◌, ⊎_elim, List, [], ◌∷◌, ◌++◌, length, Some, get_or, append_assoc, refl, sym, ap, subst, ◌∙◌}
+use Rattle.std.proofs.Common.{arith, ◌≡◌, ◌≢◌, ℕ, ◌<◌, ⊎_elim, List, [], ◌∷◌, ◌++◌, length, Some, get_or, append_assoc, refl, sym, ap, subst, ◌∙◌}
 use Rattle.std.specs.Prelude.{Option, None, IfSome, IfNone, map, codes}
 use Rattle.mps_base.specs.Names.{IsName, IsNoneOf}
 use Rattle.mps_base.specs.Spaced.{spaced}
@@ -17,11 +17,11 @@ use Rattle.mps_line.specs.declared.write_replies.Reply.{Reply}
 use Rattle.mps_line.specs.declared.write_replies.Reply.TheVariants.{Answered, BadLine, Joined, NoSession, NoRole, Taken, Number as WrongNumber}
 use Rattle.mps_line.specs.Tokens.{Token, Word, Number, Show, HasNoSpace, SpellsNumber, SpellsToken, SpellsLine}
 use Rattle.mps_line.specs.Replies.{lone_words, own_word, word_of, message_token, done_tokens, refusal_tokens, SpellsReply, SpellsSteps}
-use Rattle.mps_line.proofs.Splitting.{one_split, never_split, digits_have_no_space, behind, joined, alone, line_of_one}
-use Rattle.mps_line.proofs.Reading.{word_behind}
-use Rattle.mps_line.proofs.Shown.{some_reply}
+use Rattle.mps_line.proofs.Splitting.{one_split, never_split, digits_have_no_space, after_token, joined, alone, line_of_one}
+use Rattle.mps_line.proofs.CommandLines.{after_word}
+use Rattle.mps_line.proofs.ShownLines.{some_reply}
 use Rattle.mps_line.proofs.Writing.{bad_line, no_session, no_role, taken, wrong_number}
-use Rattle.mps_line.proofs.Meaning.{letter, begins, alone_or_step, word_has_no_space, undone_has_no_space, refused_has_no_space}
+use Rattle.mps_line.proofs.OneReply.{letter, begins, alone_or_step, word_has_no_space, undone_has_no_space, refused_has_no_space}
 
 -- ---- a word in front
 
@@ -32,13 +32,13 @@ word_in_front bytes letters rest (u ∷ ts) some e h = joined [] bytes (Word let
 pub rest_of_word : (bytes letters rest : List ℕ) (ts : List Token) → 0 < length ts → HasNoSpace letters → bytes ≡ spaced (letters ∷ rest ∷ []) → SpellsLine [] bytes (Word letters ∷ ts) → SpellsLine [] rest ts
 rest_of_word bytes letters rest [] some p e h = absurd (omega (arith, some))
 rest_of_word bytes letters rest (u ∷ ts) some p e h =
-    let b = word_behind [] bytes letters u ts h in
+    let b = after_word [] bytes letters u ts h in
     let same = one_split letters letters rest b.0 p p (sym e ∙ b.1) in
     rw (sym same.1) at b.2
 
 pub no_word_in_front : (bytes letters : List ℕ) (ts : List Token) → 0 < length ts → ((rest : List ℕ) → bytes ≢ spaced (letters ∷ rest ∷ [])) → SpellsLine [] bytes (Word letters ∷ ts) → ⊥
 no_word_in_front bytes letters [] some none h = absurd (omega (arith, some))
-no_word_in_front bytes letters (u ∷ ts) some none h = let b = word_behind [] bytes letters u ts h in none b.0 b.1
+no_word_in_front bytes letters (u ∷ ts) some none h = let b = after_word [] bytes letters u ts h in none b.0 b.1
 
 -- ---- a number in front
 
@@ -52,12 +52,12 @@ pub record Split (front rest : List ℕ) (n : ℕ) (u : Token) (us : List Token)
 
 pub split_number : (bytes front rest : List ℕ) (n : ℕ) (u : Token) (us : List Token) → bytes ≡ spaced (front ∷ rest ∷ []) → HasNoSpace front → SpellsLine [] bytes (Number n ∷ u ∷ us) → Split front rest n u us
 split_number bytes front rest n u us e p h =
-    let b = behind [] bytes (Number n) u us h in
+    let b = after_token [] bytes (Number n) u us h in
     let same = one_split front b.1.front rest b.0 p (digits_have_no_space b.1.front b.1.spelled.number.digits) (sym e ∙ b.1.parts) in
     record { number = rw (sym same.0) at b.1.spelled; others = rw (sym same.1) at b.2 }
 
 pub never_parted : (bytes : List ℕ) (t u : Token) (us : List Token) → ((first rest : List ℕ) → bytes ≢ spaced (first ∷ rest ∷ [])) → SpellsLine [] bytes (t ∷ u ∷ us) → ⊥
-never_parted bytes t u us none h = let b = behind [] bytes t u us h in none b.1.front b.0 b.1.parts
+never_parted bytes t u us none h = let b = after_token [] bytes t u us h in none b.1.front b.0 b.1.parts
 
 pub never_alone : (bytes front rest : List ℕ) (n : ℕ) → bytes ≡ spaced (front ∷ rest ∷ []) → SpellsLine [] bytes (Number n ∷ []) → ⊥
 never_alone bytes front rest n e h =
@@ -80,10 +80,10 @@ step_in_front bytes front rest n (m ∷ ns) e h k =
     record { some = omega arith; line = number_in_front bytes front rest n (Number m) (map Number ns) e h k.line }
 
 -- the steps after the first
-steps_behind : (bytes front rest : List ℕ) (ns : List ℕ) → bytes ≡ spaced (front ∷ rest ∷ []) → HasNoSpace front → SpellsSteps bytes ns → (n : ℕ) × (others : List ℕ) × SpellsNumber front n × SpellsSteps rest others
-steps_behind bytes front rest [] e p k = let some = k.some in absurd (omega (arith, some))
-steps_behind bytes front rest (n ∷ []) e p k = absurd (never_alone bytes front rest n e k.line)
-steps_behind bytes front rest (n ∷ m ∷ ns) e p k =
+steps_after : (bytes front rest : List ℕ) (ns : List ℕ) → bytes ≡ spaced (front ∷ rest ∷ []) → HasNoSpace front → SpellsSteps bytes ns → (n : ℕ) × (others : List ℕ) × SpellsNumber front n × SpellsSteps rest others
+steps_after bytes front rest [] e p k = let some = k.some in absurd (omega (arith, some))
+steps_after bytes front rest (n ∷ []) e p k = absurd (never_alone bytes front rest n e k.line)
+steps_after bytes front rest (n ∷ m ∷ ns) e p k =
     let s = split_number bytes front rest n (Number m) (map Number ns) e p k.line in
     (n, m ∷ ns, s.number, record { some = omega arith; line = s.others })
 
@@ -92,7 +92,7 @@ reads_more bytes ids rest front others n ids' r e p h is = record {
   more = λ ns k. subst (SpellsSteps bytes) (sym (ap (λ (l : List ℕ). l ++ ns) is ∙ append_assoc ids (n ∷ []) ns)) (r.more (n ∷ ns) (step_in_front rest front others n ns e h k));
   others = λ ms k.
       let old = r.others ms k in
-      let s = steps_behind rest front others old.0 e p old.1 in
+      let s = steps_after rest front others old.0 e p old.1 in
       (s.1, s.3);
 }
 
@@ -100,7 +100,7 @@ reads_more bytes ids rest front others n ids' r e p h is = record {
 pub no_next_step : (bytes ids rest front others : List ℕ) → Reads bytes ids rest → rest ≡ spaced (front ∷ others ∷ []) → HasNoSpace front → ((n : ℕ) → SpellsNumber front n → ⊥) → (ms : List ℕ) → SpellsSteps bytes ms → ⊥
 no_next_step bytes ids rest front others r e p none ms k =
     let old = r.others ms k in
-    let s = steps_behind rest front others old.0 e p old.1 in
+    let s = steps_after rest front others old.0 e p old.1 in
     none s.0 s.2
 
 last_step : (rest : List ℕ) (ns : List ℕ) → ((first others : List ℕ) → rest ≢ spaced (first ∷ others ∷ [])) → SpellsSteps rest ns → (n : ℕ) × SpellsNumber rest n
@@ -170,7 +170,7 @@ undone_some bytes rest (i ∷ ids) e k = word_in_front bytes (codes "undone") re
 pub undone_steps : (bytes ids : List ℕ) → bytes ≢ codes "undone" → SpellsReply bytes (Answered (Undone ids)) → (rest : List ℕ) × (bytes ≡ spaced (codes "undone" ∷ rest ∷ [])) × SpellsSteps rest ids
 undone_steps bytes [] other h = absurd (other (alone [] bytes (Word (codes "undone")) h))
 undone_steps bytes (i ∷ ids) other h =
-    let b = word_behind [] bytes (codes "undone") (Number i) (map Number ids) h in
+    let b = after_word [] bytes (codes "undone") (Number i) (map Number ids) h in
     (b.0, b.1, record { some = omega arith; line = b.2 })
 
 pub steps_of_undone : (bytes rest ids : List ℕ) → bytes ≢ codes "undone" → bytes ≡ spaced (codes "undone" ∷ rest ∷ []) → SpellsReply bytes (Answered (Undone ids)) → SpellsSteps rest ids
@@ -215,13 +215,13 @@ pub violation_read : (bytes : List ℕ) (v : Violation) → bytes ≡ word_of (V
 violation_read bytes v e = line_of_one [] bytes (Word (word_of (Violates v))) e
 
 -- a word with no number after it
-pub no_step_behind : (bytes letters rest : List ℕ) (r : Refusal) → HasNoSpace letters → bytes ≡ spaced (letters ∷ rest ∷ []) → ((n : ℕ) → SpellsNumber rest n → ⊥) → SpellsLine [] bytes (refusal_tokens r) → ⊥
-no_step_behind bytes letters rest r p e none h =
+pub no_step_after : (bytes letters rest : List ℕ) (r : Refusal) → HasNoSpace letters → bytes ≡ spaced (letters ∷ rest ∷ []) → ((n : ℕ) → SpellsNumber rest n → ⊥) → SpellsLine [] bytes (refusal_tokens r) → ⊥
+no_step_after bytes letters rest r p e none h =
     ⊎_elim
     (λ (f : refusal_tokens r ≡ Word (word_of r) ∷ []).
     never_split (word_of r) letters rest (word_has_no_space r) (sym (alone [] bytes (Word (word_of r)) (rw f at h)) ∙ e))
     (λ (n : (by : ℕ) × (refusal_tokens r ≡ Word (word_of r) ∷ Number by ∷ [])).
-    let b = word_behind [] bytes (word_of r) (Number n.0) [] (rw n.1 at h) in
+    let b = after_word [] bytes (word_of r) (Number n.0) [] (rw n.1 at h) in
     let same = one_split letters (word_of r) rest b.0 p (word_has_no_space r) (sym e ∙ b.1) in
     none n.0 (alone [] rest (Number n.0) (rw (sym same.1) at b.2)))
     (alone_or_step r)
