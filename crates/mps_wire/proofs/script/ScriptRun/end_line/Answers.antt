@@ -4,7 +4,7 @@ use Rattle.std.proofs.lemmas.Result.{on_ok_weaker}
 use Rattle.mps_lines.specs.Lines.{front}
 use Rattle.mps_wire.specs.Script.{lines_of}
 use Rattle.mps_wire.proofs.Answering.{to_front}
-use Rattle.mps_wire.proofs.script.Run.end_line.Goals as goal
+use Rattle.mps_wire.proofs.script.ScriptRun.end_line.Goals as goal
 
 nothing : (line : List ℕ) (len : ℕ) (empty : Bool) → len ≡ length line → empty ≡ (len == 0) → empty ≡ true → line ≡ []
 nothing [] len empty n e t = refl

@@ -9,7 +9,7 @@ use Rattle.mps_wire.proofs.Carrying.{turned}
 use Rattle.mps_session.proofs.HandedOn.{handed_on}
 use Rattle.mps_wire.proofs.Outcomes.{same_counts, counts_more, breaks, at_end, before_end, starts_starved}
 use Rattle.mps_wire.proofs.Turning.{begun, gave_none, gave_more, gave_fewer}
-use Rattle.mps_wire.proofs.script.replay_session.Goals as goal
+use Rattle.mps_wire.proofs.script.run_script.Goals as goal
 
 pub returns-in_err-block-clause-outcome : goal.returns-in_err-block-clause-outcome
 returns-in_err-block-clause-outcome g c =
@@ -22,17 +22,17 @@ loop-init g c =
     let first = streams g.R.Source g.W.Sink c.args.reader.now c.args.writer.now in
     let types = c.args.session.types in
     let new : RoomState = record { names = c.args.roles; types = types; journal = [] } in
-    let room : c.begin-run.result.room ≡ new = c.begin-run.ensures.room ∙ c.open.ensures in
+    let room : c.open.result ≡ new = c.open.ensures in
     record {
       names = ap (λ (r : RoomState). r.names) room;
       types = ap (λ (r : RoomState). r.types) room;
-      short = omega (arith, ap length c.begin-run.ensures.line);
-      none_waits = c.begin-run.ensures.answers;
+      short = omega (arith, ap length c.new.ensures.items);
+      none_waits = c.new-2.ensures.items;
       room = omega (arith, c.in_ok-block.block.ok.0, c.in_ok-block.ensures.len);
       reads = omega arith;
       counts = same_counts first;
       gave = gave_none first;
-      going = begun (AnswersLine c.args.roles types) [] first _ _ c.begin-run.ensures.line (ap (λ (r : RoomState). r.journal) room);
+      going = begun (AnswersLine c.args.roles types) [] first _ _ c.new.ensures.items (ap (λ (r : RoomState). r.journal) room);
     }
 
 pub returns-in_err-turn-clause-outcome : goal.returns-in_err-turn-clause-outcome

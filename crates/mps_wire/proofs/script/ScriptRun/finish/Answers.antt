@@ -3,7 +3,7 @@ use Rattle.std.proofs.lemmas.Result.{on_ok_weaker}
 use Rattle.mps_lines.specs.Lines.{ended}
 use Rattle.mps_wire.specs.Script.{lines_of}
 use Rattle.mps_wire.proofs.Answering.{all_with_rest, by_front}
-use Rattle.mps_wire.proofs.script.Run.finish.Goals as goal
+use Rattle.mps_wire.proofs.script.ScriptRun.finish.Goals as goal
 
 not_empty : (line : List ℕ) (len : ℕ) (empty : Bool) → len ≡ length line → empty ≡ (len == 0) → empty ≡ false → line ≡ [] → ⊥
 not_empty line len empty n e f l = cc

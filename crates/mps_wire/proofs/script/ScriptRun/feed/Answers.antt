@@ -7,7 +7,7 @@ use Rattle.mps_wire.specs.Script.{lines_of, place_of_run}
 use Rattle.mps_wire.proofs.Answering.{by_front}
 use Rattle.mps_wire.proofs.Carrying.{carried}
 use Rattle.mps_wire.proofs.Feeding.{feeding_begins, feeds_on, feeding_ends}
-use Rattle.mps_wire.proofs.script.Run.feed.Goals as goal
+use Rattle.mps_wire.proofs.script.ScriptRun.feed.Goals as goal
 
 front_short_enough : (line new : List ℕ) → new ≡ front line → length new ≤ most_kept
 front_short_enough line new e = omega (arith, ap length e, length-take most_kept line)
