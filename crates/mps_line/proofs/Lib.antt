@@ -1,9 +1,9 @@
 pub mod Splitting
-pub mod Reading
+pub mod CommandLines
 pub mod Writing
-pub mod Unique
-pub mod Shown
-pub mod Meaning
-pub mod Replying
-pub mod Numbering
-pub mod Existing
+pub mod OneSpelling
+pub mod ShownLines
+pub mod OneReply
+pub mod ReplyLines
+pub mod NumberedLines
+pub mod Spellings

@@ -87,8 +87,8 @@ pub no_role_alone : (names : List (List ℕ)) (bytes : List ℕ) → ((first res
 no_role_alone names bytes none role rest b = none b.front rest b.parts
 
 -- a line of two tokens and more begins with the first, and what stands after it is a line of the others
-pub behind : (names : List (List ℕ)) (bytes : List ℕ) (t u : Token) (ts : List Token) → SpellsLine names bytes (t ∷ u ∷ ts) → (rest : List ℕ) × BeginsWith names bytes t rest × SpellsLine names rest (u ∷ ts)
-behind names bytes t u ts h = by_spellings h.spellings h.joined h.each
+pub after_token : (names : List (List ℕ)) (bytes : List ℕ) (t u : Token) (ts : List Token) → SpellsLine names bytes (t ∷ u ∷ ts) → (rest : List ℕ) × BeginsWith names bytes t rest × SpellsLine names rest (u ∷ ts)
+after_token names bytes t u ts h = by_spellings h.spellings h.joined h.each
   where
     by_spellings : (ss : List (List ℕ)) → bytes ≡ spaced ss → SpellEach names ss (t ∷ u ∷ ts) → (rest : List ℕ) × BeginsWith names bytes t rest × SpellsLine names rest (u ∷ ts)
     by_spellings [] e k = absurd k
@@ -127,8 +127,8 @@ line_of_one names bytes t h = record { spellings = bytes ∷ []; joined = refl; 
 
 -- a word in front of bytes, as their front is compared with it
 pub in_front : (bytes word rest : List ℕ) → bytes_eq (take (length word) bytes) word ≡ true → rest ≡ drop (length word) bytes → bytes ≡ word ++ rest
-in_front bytes word rest same behind =
-    sym (take-append-drop (length word) bytes) ∙ ap₂ (λ (a b : List ℕ). a ++ b) ((bytes_eq-Decides (take (length word) bytes) word).0 same) (sym behind)
+in_front bytes word rest same last =
+    sym (take-append-drop (length word) bytes) ∙ ap₂ (λ (a b : List ℕ). a ++ b) ((bytes_eq-Decides (take (length word) bytes) word).0 same) (sym last)
 
 pub not_in_front : (bytes word rest : List ℕ) → bytes_eq (take (length word) bytes) word ≡ false → bytes ≢ word ++ rest
 not_in_front bytes word rest other is =

@@ -13,7 +13,7 @@ use Rattle.mps_command.specs.declared.answer.Violation.{Violation}
 use Rattle.mps_line.specs.declared.write_replies.Reply.TheVariants.{Answered, BadLine, NoSession, NoRole, Taken, Number as WrongNumber}
 use Rattle.mps_line.specs.Replies.{word_of, done_tokens, news_tokens, SpellsReply}
 use Rattle.mps_line.specs.Tokens.{Token, Word, Number, Show, SpellsNumber, SpellsToken, SpellsLine}
-use Rattle.mps_line.proofs.Splitting.{behind, joined, alone, line_of_one}
+use Rattle.mps_line.proofs.Splitting.{after_token, joined, alone, line_of_one}
 
 -- what is written after what was written
 pub written_more : {T E : Type 0} (P Q : List ℕ → Type 0) (r : Result T E) (old pushed new front : List ℕ) → pushed ≡ old ++ front → ((text : List ℕ) → P text → Q (front ++ text)) → OnOk r (Appends P pushed new) → OnOk r (Appends Q old new)
@@ -110,14 +110,14 @@ pub wrong_number : SpellsReply (codes "refused number") WrongNumber
 wrong_number = record { spellings = codes "refused" ∷ codes "number" ∷ []; joined = refl; each = (refl, (refl, tt)) }
 
 -- a token after a line
-token_behind : (names : List (List ℕ)) (a b : List ℕ) (t : Token) (ts : List Token) (u : Token) → SpellsLine names a (t ∷ ts) → SpellsToken names b u → SpellsLine names (a ++ 32 ∷ b) (t ∷ (ts ++ u ∷ []))
-token_behind names a b t [] u h k =
+token_after : (names : List (List ℕ)) (a b : List ℕ) (t : Token) (ts : List Token) (u : Token) → SpellsLine names a (t ∷ ts) → SpellsToken names b u → SpellsLine names (a ++ 32 ∷ b) (t ∷ (ts ++ u ∷ []))
+token_after names a b t [] u h k =
     joined names (a ++ 32 ∷ b) t u [] b (record { front = a; parts = refl; spelled = alone names a t h }) (line_of_one names b u k)
-token_behind names a b t (v ∷ ts) u h k =
-    let s = behind names a t v ts h in
+token_after names a b t (v ∷ ts) u h k =
+    let s = after_token names a t v ts h in
     joined names (a ++ 32 ∷ b) t v (ts ++ u ∷ []) (s.0 ++ 32 ∷ b)
     (record { front = s.1.front; parts = ap (λ l. l ++ 32 ∷ b) s.1.parts ∙ append_assoc s.1.front (32 ∷ s.0) (32 ∷ b); spelled = s.1.spelled })
-    (token_behind names s.0 b v ts u s.2 k)
+    (token_after names s.0 b v ts u s.2 k)
 
 -- one more number after the tokens and the numbers that were written
 pub number_written : (t : Token) (ts : List Token) (ids : List ℕ) (k d : ℕ) (old before pushed new : List ℕ) → k < length ids → Appends (λ text. SpellsLine [] text (t ∷ (ts ++ map Number (take k ids)))) old before → pushed ≡ before ++ 32 ∷ [] → Appends (λ text. SpellsNumber text (get_or ids k d)) pushed new → Appends (λ text. SpellsLine [] text (t ∷ (ts ++ map Number (take (k + 1) ids)))) old new
@@ -129,7 +129,7 @@ number_written t ts ids k d old before pushed new less a p b =
       b.1 ∙ ap (λ (m : List ℕ). m ++ b.0) (p ∙ ap (λ (m : List ℕ). m ++ 32 ∷ []) a.1)
           ∙ append_assoc (old ++ a.0) (32 ∷ []) b.0 ∙ append_assoc old a.0 (32 ∷ b.0),
       subst (λ (l : List Token). SpellsLine [] (a.0 ++ 32 ∷ b.0) (t ∷ l)) (sym more)
-          (token_behind [] a.0 b.0 t (ts ++ map Number (take k ids)) (Number (get_or ids k d)) a.2 b.2),
+          (token_after [] a.0 b.0 t (ts ++ map Number (take k ids)) (Number (get_or ids k d)) a.2 b.2),
     )
 
 -- what was there before stays in front

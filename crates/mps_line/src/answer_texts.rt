@@ -74,7 +74,7 @@ fn message_is_spellable(message: &Message)
 }
 
 // Each value has a spelling.
-#[tactic(auto, using(crate::proofs::Existing::text))]
+#[tactic(auto, using(crate::proofs::Spellings::text))]
 fn value_is_spellable(value: &Value)
     ensures { IsSpellable (Worth value.now) }
 {
@@ -88,7 +88,7 @@ fn value_is_spellable(value: &Value)
 }
 
 // Each integer of 64 bits has a spelling.
-#[tactic(auto, using(crate::proofs::Existing::int))]
+#[tactic(auto, using(crate::proofs::Spellings::int))]
 fn int_is_spellable(number: i64)
     ensures { IsSpellable (Worth (values.Int number)) }
 {

@@ -1,4 +1,4 @@
-//! The parts of a line.
+//! The parts of a line. The contracts are of its tokens (`specs/Tokens.antt`).
 ghost use Rattle.std.specs.Prelude.{◌≡◌, ◌≢◌, ℕ, List, [], ◌∷◌, IfSome, IfNone, OnOk, OnErr, ◌<◌, All, length, slice_index, take};
 ghost use Rattle.mps_base.specs.Appends.{Appends};
 ghost use Rattle.mps_base.specs.Spaced.{spaced};
@@ -31,20 +31,12 @@ pub(crate) fn split_at_space(bytes: &[u8]) -> Option<(&[u8], &[u8])>
 }
 
 // What stands after the word and a space.
-pub(crate) fn behind<'a>(bytes: &'a [u8], word: &[u8]) -> Option<&'a [u8]>
+pub(crate) fn after_word<'a>(bytes: &'a [u8], word: &[u8]) -> Option<&'a [u8]>
     ensures read { IfSome result (λ rest. bytes.now ≡ spaced (word.now ∷ rest.now ∷ [])) }
     ensures none { IfNone result ((rest : List ℕ) → bytes.now ≢ spaced (word.now ∷ rest ∷ [])) }
 {
     let (first, rest) = bytes.strip_prefix(word)?.split_first()?;
     if *first == b' ' { Some(rest) } else { None }
-}
-
-// The role of that name.
-pub(crate) fn read_role(roles: &Roles, bytes: &[u8]) -> Option<Role>
-    ensures read { IfSome result (SpellsRole roles.now bytes.now) }
-    ensures none { IfNone result ((role : ℕ) → SpellsRole roles.now bytes.now role → ⊥) }
-{
-    roles.find_spelled(bytes)
 }
 
 // The step of that number.
@@ -55,7 +47,7 @@ pub(crate) fn read_step(bytes: &[u8]) -> Option<StepId>
     Some(StepId::new(read_count(bytes)?))
 }
 
-// The number.
+// The number, as `read_number` reads it. Its contract is of the token: a number below 2^64.
 pub(crate) fn read_count(bytes: &[u8]) -> Option<u64>
     ensures read { IfSome result (SpellsNumber bytes.now) }
     ensures none { IfNone result ((n : ℕ) → SpellsNumber bytes.now n → ⊥) }
@@ -74,7 +66,7 @@ pub(crate) fn split_role<'a>(roles: &Roles, bytes: &'a [u8]) -> Option<(Role, &'
         → BeginsWith roles.now bytes.now (RoleAt role) rest → ⊥) }
 {
     let (name, rest) = split_at_space(bytes)?;
-    Some((read_role(roles, name)?, rest))
+    Some((roles.find_spelled(name)?, rest))
 }
 
 // The number that stands before the first space, and what stands after it. Of bytes that begin with no digit the first
@@ -102,7 +94,7 @@ pub(crate) fn write_role(roles: &Roles, role: Role, out: &mut Vec<u8>) -> Result
     out.extend_from_slice(roles.name(role).as_bytes())
 }
 
-// Writes the name.
+// Writes the bytes of the name. Its contract is of the token: they are a name's.
 pub(crate) fn write_name(name: &Name, out: &mut Vec<u8>) -> Result<(), AllocError>
     ensures ok { OnOk result
         (Appends (λ text. SpellsName text name.now) out.old.items out.new.items) }
@@ -120,7 +112,7 @@ pub(crate) fn write_step(id: StepId, out: &mut Vec<u8>) -> Result<(), AllocError
     write_count(id.number(), out)
 }
 
-// Writes the number.
+// Writes the number, as `write_number` does. Its contract is of the token: a number below 2^64.
 pub(crate) fn write_count(n: u64, out: &mut Vec<u8>) -> Result<(), AllocError>
     ensures ok { OnOk result
         (Appends (λ text. SpellsNumber text n) out.old.items out.new.items) }

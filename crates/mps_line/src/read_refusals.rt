@@ -9,13 +9,13 @@ ghost use Rattle.mps_line.specs.Replies.{SpellsReply, lone_words, own_word, own_
 ghost use Rattle.mps_line.specs.Tokens.{Word, SpellsLine};
 ghost use Rattle.mps_line.specs.declared.write_replies.Reply.TheVariants.{Answered, BadLine, NoSession, NoRole, Taken, Number};
 
-use crate::line_parts::{behind, read_step};
+use crate::line_parts::{after_word, read_step};
 use crate::read_commands::LineFault;
 use crate::write_replies::Reply;
 use mps_command::{Answer, Refusal, Violation};
 
 // `refused` and why.
-#[tactic(auto, using(crate::proofs::Replying::own_line))]
+#[tactic(auto, using(crate::proofs::ReplyLines::own_line))]
 pub(crate) fn refused_reply(bytes: &[u8]) -> Result<Reply, LineFault>
     ensures read { IfOk result (SpellsReply bytes.now) }
     ensures refusal { IsErrOf result LineFault.Bad → (refusal : Refusal)
@@ -27,7 +27,7 @@ pub(crate) fn refused_reply(bytes: &[u8]) -> Result<Reply, LineFault>
     ensures number { IsErrOf result LineFault.Bad → SpellsReply bytes.now Number → ⊥ }
     ensures memory { IsErrOf result LineFault.Memory → ⊥ }
 {
-    let Some(rest) = behind(bytes, b"refused") else {
+    let Some(rest) = after_word(bytes, b"refused") else {
         return Err(LineFault::Bad);
     };
     if let Some(refusal) = read_refusal(rest) {
@@ -61,13 +61,13 @@ fn read_refusal(bytes: &[u8]) -> Option<Refusal>
     ensures none { IfNone result ((refusal : Refusal)
         → SpellsLine [] bytes.now (refusal_tokens refusal) → ⊥) }
 {
-    if let Some(number) = behind(bytes, b"needed") {
+    if let Some(number) = after_word(bytes, b"needed") {
         return match read_step(number) {
             Some(by) => Some(Refusal::Needed { by }),
             None => None,
         };
     }
-    if let Some(number) = behind(bytes, b"final") {
+    if let Some(number) = after_word(bytes, b"final") {
         return match read_step(number) {
             Some(by) => Some(Refusal::Final { by }),
             None => None,

@@ -10,7 +10,7 @@ ghost use Rattle.mps_line.specs.Tokens.{Called, Number, SpellsLine, SpellsToken}
 ghost use Rattle.mps_line.specs.declared.write_replies.Reply.{Reply};
 ghost use Rattle.mps_line.specs.declared.write_replies.Reply.TheVariants.{Answered, Joined};
 
-use crate::line_parts::{behind, read_count, read_step, split_at_space};
+use crate::line_parts::{after_word, read_count, read_step, split_at_space};
 use crate::read_commands::LineFault;
 use crate::read_refusals::refused_reply;
 use crate::write_replies::Reply;
@@ -18,8 +18,8 @@ use mps_base::{Message, Name, StepId, Value, ValueFault};
 use mps_command::{Answer, Done, ShownText, StepIds};
 use std::alloc::Global;
 
-/// Reads a reply that takes all of the bytes, without a line break. What a shown session says isn't
-/// read.
+/// Reads a reply of any kind that takes all of the bytes, without a line break: an answer to a command, or any other
+/// `Reply`. What a shown session says isn't read.
 ///
 /// Lists of numbers, texts and shown sessions take memory. A line that spells no reply is `Bad`, also
 /// where memory runs out.
@@ -47,7 +47,7 @@ pub fn read_join(bytes: &[u8]) -> Result<(u64, Name), LineFault>
         → SpellsJoin bytes.now session name → ⊥ }
     ensures memory { IsErrOf result LineFault.Memory → ⊥ }
 {
-    let Some(rest) = behind(bytes, b"join") else {
+    let Some(rest) = after_word(bytes, b"join") else {
         return Err(LineFault::Bad);
     };
     match read_number_and_name(rest) {
@@ -75,7 +75,7 @@ fn joined_reply(bytes: &[u8]) -> Result<Reply, LineFault>
         → SpellsReply bytes.now (Joined session name) → ⊥ }
     ensures memory { IsErrOf result LineFault.Memory → ⊥ }
 {
-    let Some(rest) = behind(bytes, b"joined") else {
+    let Some(rest) = after_word(bytes, b"joined") else {
         return Err(LineFault::Bad);
     };
     let Some(pass) = read_number_and_name(rest) else {
@@ -122,7 +122,7 @@ fn done_reply(alloc: Global, bytes: &[u8]) -> Result<Reply, LineFault>
         → SpellsReply bytes.now (Answered (Accepted done)) → ⊥ }
     ensures memory { IsErrOf result LineFault.Memory → (reply : Reply) × SpellsReply bytes.now reply }
 {
-    let Some(rest) = behind(bytes, b"done") else {
+    let Some(rest) = after_word(bytes, b"done") else {
         return Err(LineFault::Bad);
     };
     let done = read_done(alloc, rest)?;
@@ -181,7 +181,7 @@ fn undone_reply(alloc: Global, bytes: &[u8]) -> Result<Reply, LineFault>
     if bytes == b"undone".as_slice() {
         return Ok(Reply::Answered(Answer::Undone(StepIds::of(Vec::new(alloc)))));
     }
-    let Some(rest) = behind(bytes, b"undone") else {
+    let Some(rest) = after_word(bytes, b"undone") else {
         return Err(LineFault::Bad);
     };
     let ids = read_steps(alloc, rest)?;
@@ -195,7 +195,7 @@ fn news_reply(alloc: Global, bytes: &[u8]) -> Result<Reply, LineFault>
         → SpellsReply bytes.now (Answered (News n ids)) → ⊥ }
     ensures memory { IsErrOf result LineFault.Memory → (reply : Reply) × SpellsReply bytes.now reply }
 {
-    let Some(rest) = behind(bytes, b"news") else {
+    let Some(rest) = after_word(bytes, b"news") else {
         return Err(LineFault::Bad);
     };
     let Some(parts) = split_at_space(rest) else {

@@ -207,7 +207,7 @@ fn write_message(message: &Message, out: &mut Vec<u8>) -> Result<(), AllocError>
 {
     match message {
         Message::Value(value) => value.write(out),
-        Message::Label(label) => out.extend_from_slice(label.as_bytes()),
+        Message::Label(label) => write_name(label, out),
     }
 }
 

@@ -1,4 +1,4 @@
--- Two scripts, each replayed in a room of its own, and what is told of them.
+-- Two scripts, each run in a room of its own, and what is told of them.
 use Rattle.std.specs.Prelude.{◌≡◌, ◌⊎◌, ℕ, List, [], None, Ok, Err, codes}
 use Rattle.mps_dev.specs.declared.traits.Source.{Ghosts as SourceGhosts}
 use Rattle.mps_history.specs.Swaps.{Swaps}
@@ -35,9 +35,9 @@ Tells alike line status =
 
 -- Scripts of roles with these names and types.
 module _ (names : List (List ℕ)) (types : List LocalType) where
-  -- the script was replayed to its end, and the room has that journal
-  abbrev pub HasReplayed : (before after : Streams) → List Entry → Type 0
-  HasReplayed before after journal = Ran (AnswersLine names types) [] before after (Ok journal)
+  -- the script was run to its end, and the room has that journal
+  abbrev pub HasRun : (before after : Streams) → List Entry → Type 0
+  HasRun before after journal = Ran (AnswersLine names types) [] before after (Ok journal)
 
   -- its run broke off, as the fault tells
   abbrev pub HasStopped : (before after : Streams) → ToolFault → Type 0
@@ -46,33 +46,33 @@ module _ (names : List (List ℕ)) (types : List LocalType) where
 
   -- Of a script after which two sessions are compared.
   module _ (before after : Streams) where
-    -- why nothing is told of the two: its run broke off, or it was replayed and memory ran out
+    -- why nothing is told of the two: its run broke off, or it was run to its end and memory ran out
     abbrev pub CantFollow : ToolFault → Type 0
     CantFollow fault =
         HasStopped before after fault
-        ⊎ ((second : List Entry) × HasReplayed before after second × (fault ≡ Memory))
+        ⊎ ((second : List Entry) × HasRun before after second × (fault ≡ Memory))
 
   -- Of the first script and then of the second.
   module _ (before after before' after' : Streams) where
-    -- both were replayed to their ends, and this is told of the sessions that they left: whether their views are equal, and whether exchanges of independent neighbours turn one history into the other, numbers aside
+    -- both were run to their ends, and this is told of the sessions that they left: whether their views are equal, and whether exchanges of independent neighbours turn one history into the other, numbers aside
     pub record HasCompared (line : List ℕ) (status : ℕ) : Type 0 where
       pub first : List Entry
       pub second : List Entry
-      pub first_replayed : HasReplayed before after first
-      pub second_replayed : HasReplayed before' after' second
+      pub first_ran : HasRun before after first
+      pub second_ran : HasRun before' after' second
       pub views : Tells (view_of types (run types first).history ≡ view_of types (run types second).history) line status
       pub swaps : Tells (Swaps (run types first).history (run types second).history) line status
 
-    -- why nothing is told: the run of the first broke off, and nothing of the second was read; or the first was replayed, and the run of the second broke off; or both were replayed, and memory ran out
+    -- why nothing is told: the run of the first broke off, and nothing of the second was read; or the first was run to its end, and the run of the second broke off; or both were ran, and memory ran out
     abbrev pub CantCompare : ToolFault → Type 0
     CantCompare fault =
         (HasStopped before after fault × (after' ≡ before'))
-        ⊎ (((first : List Entry) × HasReplayed before after first × HasStopped before' after' fault)
-        ⊎ ((first : List Entry) × (second : List Entry) × HasReplayed before after first × HasReplayed before' after' second × (fault ≡ Memory)))
+        ⊎ (((first : List Entry) × HasRun before after first × HasStopped before' after' fault)
+        ⊎ ((first : List Entry) × (second : List Entry) × HasRun before after first × HasRun before' after' second × (fault ≡ Memory)))
 
--- The script was replayed to its end on a session of these names, with the types of the first session; and this is told of the first and of the one that it left: whether their views are equal, and whether exchanges of independent neighbours turn one history into the other, numbers aside.
+-- The script was run to its end on a session of these names, with the types of the first session; and this is told of the first and of the one that it left: whether their views are equal, and whether exchanges of independent neighbours turn one history into the other, numbers aside.
 pub record HasFollowed (names : List (List ℕ)) (first : SessionState) (before after : Streams) (line : List ℕ) (status : ℕ) : Type 0 where
   pub second : List Entry
-  pub replayed : HasReplayed names first.types before after second
+  pub ran : HasRun names first.types before after second
   pub views : Tells (view_of first.types first.state.history ≡ view_of first.types (run first.types second).history) line status
   pub swaps : Tells (Swaps first.state.history (run first.types second).history) line status

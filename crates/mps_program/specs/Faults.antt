@@ -132,8 +132,8 @@ IsBreak Memory = ⊤
 IsBreak fault = ⊥
 
 -- how the script of this file may fail to be run: the file can't be opened, or the run breaks off
-abbrev pub IsReplayFault : List ℕ → ToolFault → Type 0
-IsReplayFault script fault = IsFileFault script fault ⊎ IsBreak fault
+abbrev pub IsScriptFault : List ℕ → ToolFault → Type 0
+IsScriptFault script fault = IsFileFault script fault ⊎ IsBreak fault
 
 -- how a protocol may fail to be had from this file: it can't be opened, or gives no types
 abbrev pub IsLoadFault : List ℕ → ToolFault → Type 0
@@ -142,11 +142,11 @@ IsLoadFault file fault =
 
 -- how a run of these two files may fail: the first gives no protocol, or the script fails to be run
 abbrev pub IsRunFault : List ℕ → List ℕ → ToolFault → Type 0
-IsRunFault file script fault = IsLoadFault file fault ⊎ IsReplayFault script fault
+IsRunFault file script fault = IsLoadFault file fault ⊎ IsScriptFault script fault
 
 -- how the scripts of these two files may fail to be compared: one fails to be run, or what is said of them can't be written
 abbrev pub IsScriptsFault : List ℕ → List ℕ → ToolFault → Type 0
-IsScriptsFault script other fault = IsReplayFault script fault ⊎ (IsReplayFault other fault ⊎ (fault ≡ Write))
+IsScriptsFault script other fault = IsScriptFault script fault ⊎ (IsScriptFault other fault ⊎ (fault ≡ Write))
 
 -- how a comparison of the scripts of two files may fail: the protocol isn't had, or the scripts fail to be compared
 abbrev pub IsCompareFault : List ℕ → List ℕ → List ℕ → ToolFault → Type 0

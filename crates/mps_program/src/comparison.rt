@@ -2,7 +2,7 @@
 ghost use Rattle.std.specs.Prelude.{◌⊎◌, ◌≡◌, ◌+◌, ◌<◌, ◌≤◌, ◌^◌, length, IsTrue, IfOk, IfErr};
 ghost use Rattle.mps_dev.specs.Standard.{calls_of};
 ghost use Rattle.mps_machine.specs.Machine.{initial};
-ghost use Rattle.mps_program.specs.Compared.{CantCompare, CantFollow, HasCompared, HasFollowed, HasReplayed, HasStopped, Tells, unheard};
+ghost use Rattle.mps_program.specs.Compared.{CantCompare, CantFollow, HasCompared, HasFollowed, HasRun, HasStopped, Tells, unheard};
 ghost use Rattle.mps_program.specs.Faults.{IsCompareFault, IsFileFault, IsScriptsFault};
 ghost use Rattle.mps_program.specs.declared.faults.ToolFault.TheVariants.{Write as NotWritten};
 ghost use Rattle.mps_wire.specs.Runs.{max_reads};
@@ -15,13 +15,13 @@ use mps_dev::{Discard, OverRead, OverWrite, Source};
 use mps_room::Room;
 use mps_session::{Session, same};
 use mps_wire::flow::send_all;
-use mps_wire::script::replay_session;
+use mps_wire::script::run_script;
 use std::alloc::{AllocError, Global};
 use std::io;
 use std::rt::Files;
 
 /// Runs the script in a room of the session, and gives the room. Nobody hears the answers.
-fn replay_unheard<'a, R: Source>(
+fn run_unheard<'a, R: Source>(
     alloc: Global,
     reader: &mut R,
     roles: Roles,
@@ -30,18 +30,18 @@ fn replay_unheard<'a, R: Source>(
     requires new { session.state ≡ initial }
     requires named { length roles ≡ length session.types }
     requires reads { R.calls reader.old < 2 ^ 62 }
-    ensures replayed { IfOk result (λ room. HasReplayed roles session.types
+    ensures ran { IfOk result (λ room. HasRun roles session.types
         (unheard R.Source reader.old) (unheard R.Source reader.new) room.journal) }
     ensures types { IfOk result (λ room. room.types ≡ session.types) }
     ensures fault { IfErr result (HasStopped roles session.types
         (unheard R.Source reader.old) (unheard R.Source reader.new)) }
     ensures reads { R.calls reader.new ≤ R.calls reader.old + max_reads }
 {
-    Ok(replay_session(alloc, reader, &mut Discard, roles, session)?)
+    Ok(run_script(alloc, reader, &mut Discard, roles, session)?)
 }
 
 /// The same in a room with a copy of the roles.
-fn replay_on<'a, R: Source>(
+fn run_on_copy<'a, R: Source>(
     alloc: Global,
     reader: &mut R,
     roles: &Roles,
@@ -50,7 +50,7 @@ fn replay_on<'a, R: Source>(
     requires new { session.state ≡ initial }
     requires named { length roles.now ≡ length session.types }
     requires reads { R.calls reader.old < 2 ^ 62 }
-    ensures replayed { IfOk result (λ room. HasReplayed roles.now session.types
+    ensures ran { IfOk result (λ room. HasRun roles.now session.types
         (unheard R.Source reader.old) (unheard R.Source reader.new) room.journal) }
     ensures types { IfOk result (λ room. room.types ≡ session.types) }
     ensures fault { IfErr result (HasStopped roles.now session.types
@@ -58,7 +58,7 @@ fn replay_on<'a, R: Source>(
     ensures reads { R.calls reader.new ≤ R.calls reader.old + max_reads }
 {
     match roles.copy(alloc) {
-        Ok(names) => replay_unheard(alloc, reader, names, session),
+        Ok(names) => run_unheard(alloc, reader, names, session),
         Err(_) => Err(ToolFault::Memory),
     }
 }
@@ -74,7 +74,7 @@ fn told(alloc: Global, alike: bool) -> Result<(Vec<u8>, u8), AllocError>
     }
 }
 
-/// Replays the script on a new session, and says whether it is then the same as the first.
+/// Runs the script on a new session, and says whether it is then the same as the first.
 fn compared<'a, S: Source>(
     alloc: Global,
     roles: &Roles,
@@ -92,14 +92,14 @@ fn compared<'a, S: Source>(
         (unheard S.Source other.old) (unheard S.Source other.new)) }
     ensures reads { S.calls other.new ≤ S.calls other.old + max_reads }
 {
-    let second = replay_on(alloc, other, roles, second)?;
+    let second = run_on_copy(alloc, other, roles, second)?;
     match told(alloc, same(first, second.session())) {
         Ok(told) => Ok(told),
         Err(_) => Err(ToolFault::Memory),
     }
 }
 
-/// Replays one script whole and then another, each on a new session of its own, and says whether
+/// Runs one script whole and then another, each on a new session of its own, and says whether
 /// the sessions are then causally the same, whatever the order across roles and the numbers: by the
 /// line `same` and the status 0, or the line `different` and the status 1.
 pub fn same_out<'a, R: Source, S: Source>(
@@ -125,7 +125,7 @@ pub fn same_out<'a, R: Source, S: Source>(
     ensures first_reads { R.calls reader.new ≤ R.calls reader.old + max_reads }
     ensures second_reads { S.calls other.new ≤ S.calls other.old + max_reads }
 {
-    let first = replay_on(alloc, reader, roles, first)?;
+    let first = run_on_copy(alloc, reader, roles, first)?;
     compared(alloc, roles, first.session(), second, other)
 }
 
@@ -184,7 +184,7 @@ fn compare_scripts<'a, R: Files + AllocGlobal + Print>(
     Ok(status)
 }
 
-/// Replays the scripts in two files, each on a new session of the protocol in the file, and prints
+/// Runs the scripts in two files, each on a new session of the protocol in the file, and prints
 /// `same` or `different`. Gives the status, 0 or 1.
 ///
 /// The protocol is read and checked before a script is opened, and both are opened before the first

@@ -8,9 +8,9 @@ ghost use Rattle.mps_program.specs.declared.faults.ToolFault.TheVariants.{Open a
 use crate::check::show;
 use crate::comparison::compare;
 use crate::faults::{ToolFault, fault_line, status};
-use crate::running::run;
+use crate::running::run_file;
 use crate::serving::serve_file;
-use mps_words::{Order, order, words_of};
+use mps_words::{Order, Task, order, words_of};
 use std::net::{Net, TcpListener, TcpStream};
 use std::process::ExitCode;
 use std::rt::{Env, Files};
@@ -18,29 +18,27 @@ use std::sync::Wait;
 use std::thread::Threads;
 use std::{io, str};
 
-/// Carries out an order that needs no network, and gives the exit status: 1 where two scripts differ,
-/// else 0. Here no port can be bound.
+/// Carries out a task, and gives the exit status: 1 where two scripts differ, else 0.
 pub fn carry_out<'a, R: Files + AllocGlobal + Print>(
     rt: &R,
-    order: Order<'a>,
+    task: Task<'a>,
 ) -> Result<u8, ToolFault<'a>>
     ensures status { IfOk result (λ status. status ≤ 1) }
     ensures opened { IfErr result (λ fault. fault ≢ NotOpened) }
 {
-    match order {
-        Order::Help { text } => {
+    match task {
+        Task::Help { text } => {
             if println!(rt; "{text}").is_err() {
                 return Err(ToolFault::Write);
             }
         }
-        Order::Check { file } => show(rt, file)?,
-        Order::Run { file, script } => run(rt, file, script)?,
-        Order::Same {
+        Task::Check { file } => show(rt, file)?,
+        Task::Run { file, script } => run_file(rt, file, script)?,
+        Task::Same {
             file,
             first,
             second,
         } => return compare(rt, file, first, second),
-        Order::Serve { .. } => return Err(ToolFault::Bind),
     }
     Ok(0)
 }
@@ -71,7 +69,7 @@ pub fn obey<
             serve_file(rt, file, port, sessions, connections)?;
             Ok(0)
         }
-        alone => carry_out(rt, alone),
+        Order::Offline(task) => carry_out(rt, task),
     }
 }
 

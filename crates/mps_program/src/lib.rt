@@ -18,5 +18,5 @@ pub use files::{open_file, read_text};
 pub use load::{
     read_many, read_session, read_sessions, roles_and_many, roles_and_session, roles_and_sessions,
 };
-pub use running::run;
+pub use running::run_file;
 pub use serving::{read_hub, serve_file, serve_out};

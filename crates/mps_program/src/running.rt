@@ -1,7 +1,7 @@
 //! Running a script from files.
 ghost use Rattle.std.specs.Prelude.{◌≡◌, IfErr, length};
 ghost use Rattle.mps_machine.specs.Machine.{initial};
-ghost use Rattle.mps_program.specs.Faults.{IsReplayFault, IsRunFault};
+ghost use Rattle.mps_program.specs.Faults.{IsScriptFault, IsRunFault};
 
 use crate::faults::ToolFault;
 use crate::files::open_file;
@@ -9,12 +9,12 @@ use crate::load::read_session;
 use mps_base::Roles;
 use mps_dev::OverWrite;
 use mps_session::Session;
-use mps_wire::script::replay_session;
+use mps_wire::script::run_script;
 use std::rt::Files;
 use std::{io, mem};
 
 /// Runs the script in the file on this session of these roles, and prints the answers.
-fn replay<'a, R: Files + AllocGlobal + Print>(
+fn run_script_file<'a, R: Files + AllocGlobal + Print>(
     rt: &R,
     script: &'a str,
     roles: Roles,
@@ -22,11 +22,11 @@ fn replay<'a, R: Files + AllocGlobal + Print>(
 ) -> Result<(), ToolFault<'a>>
     requires new { session.state ≡ initial }
     requires named { length roles ≡ length session.types }
-    ensures fault { IfErr result (IsReplayFault script.now) }
+    ensures fault { IfErr result (IsScriptFault script.now) }
 {
     let mut reader = open_file(rt, script)?;
     let mut writer = OverWrite::new(io::writer(rt));
-    let room = replay_session(rt.alloc(), &mut reader, &mut writer, roles, session)?;
+    let room = run_script(rt.alloc(), &mut reader, &mut writer, roles, session)?;
     // the program ends with the script, and its memory goes as a whole
     mem::forget(room);
     Ok(())
@@ -35,7 +35,7 @@ fn replay<'a, R: Files + AllocGlobal + Print>(
 /// Runs the script on a new session of the protocol in the file, and prints the answers.
 ///
 /// The protocol is read and checked before the script is opened.
-pub fn run<'a, R: Files + AllocGlobal + Print>(
+pub fn run_file<'a, R: Files + AllocGlobal + Print>(
     rt: &R,
     file: &'a str,
     script: &'a str,
@@ -43,5 +43,5 @@ pub fn run<'a, R: Files + AllocGlobal + Print>(
     ensures { IfErr result (IsRunFault file.now script.now) }
 {
     let (roles, session) = read_session(rt.alloc(), &mut open_file(rt, file)?)?;
-    replay(rt, script, roles, session)
+    run_script_file(rt, script, roles, session)
 }

@@ -4,11 +4,11 @@ use mps_dev::{Pieces, Short};
 use mps_global::GlobalFault;
 use mps_program::{
     ToolFault, check_out, compare, fault_line, open_file, read_session, read_sessions, read_text,
-    roles_and_session, roles_and_sessions, run, same_out, show, status, write_types,
+    roles_and_session, roles_and_sessions, run_file, same_out, show, status, write_types,
 };
 use mps_session::Session;
 use mps_text::TextKind;
-use mps_wire::script::replay_session;
+use mps_wire::script::run_script;
 use mps_words::order;
 use std::alloc::{AllocError, Global};
 use std::process::Abort;
@@ -39,7 +39,7 @@ pub(crate) fn answers(alloc: Global, protocol: &str, script: &str) -> Result<Vec
     let Ok((roles, session)) = roles_and_session(alloc, protocol.as_bytes()) else {
         return Err("a protocol".into());
     };
-    if replay_session(alloc, &mut reader, &mut writer, roles, session).is_err() {
+    if run_script(alloc, &mut reader, &mut writer, roles, session).is_err() {
         return Err("a script".into());
     }
     Ok(Vec::from_slice(alloc, writer.bytes())?)
@@ -100,20 +100,20 @@ struct Words(&'static [&'static str], &'static str);
 const ORDERS: &[Words] = &[
     Words(
         &["mps_tool", "run", "a.protocol", "a.script"],
-        "Run { file: \"a.protocol\", script: \"a.script\" }",
+        "Offline(Run { file: \"a.protocol\", script: \"a.script\" })",
     ),
     Words(
         &["mps_tool", "same", "a.protocol", "a.script", "b.script"],
-        "Same { file: \"a.protocol\", first: \"a.script\", second: \"b.script\" }",
+        "Offline(Same { file: \"a.protocol\", first: \"a.script\", second: \"b.script\" })",
     ),
     Words(
         &["mps_tool", "check", "a.protocol"],
-        "Check { file: \"a.protocol\" }",
+        "Offline(Check { file: \"a.protocol\" })",
     ),
-    Words(&["mps_tool", "--help"], "Help { text: "),
+    Words(&["mps_tool", "--help"], "Offline(Help { text: "),
     Words(
         &["mps_tool", "--version"],
-        "Help { text: \"mps_tool 0.1.0\" }",
+        "Offline(Help { text: \"mps_tool 0.1.0\" })",
     ),
     Words(&["mps_tool"], "2"),
     Words(&["mps_tool", "fly"], "2"),
@@ -572,7 +572,7 @@ fn names_files_that_do_not_open(rt: HostRuntime) -> Result<(), Fail> {
 
 #[test]
 fn runs_no_file_that_does_not_open(rt: HostRuntime) -> Result<(), Fail> {
-    let found = run(&rt, "no such file", "no such script").err();
+    let found = run_file(&rt, "no such file", "no such script").err();
     assert!(rt; names_no_file(rt.alloc(), found)?);
     let found = compare(&rt, "no such file", "no such script", "nor this").err();
     assert!(rt; names_no_file(rt.alloc(), found)?);

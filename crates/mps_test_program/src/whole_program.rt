@@ -1,7 +1,7 @@
 //! The program as a whole, on a machine in memory.
 use crate::fake::Machine;
-use mps_program::{ToolFault, carry_out, end_after, run, show};
-use mps_words::order;
+use mps_program::{ToolFault, carry_out, end_after, run_file, show};
+use mps_words::{Order, order};
 use std::alloc::Global;
 use std::process::{Abort, ExitCode};
 use std::rt::Files;
@@ -284,7 +284,10 @@ fn obeyed<'a, R: Files + AllocGlobal + Print>(
     rt: &R,
     words: &'a [&'a str],
 ) -> Result<u8, ToolFault<'a>> {
-    carry_out(rt, order(rt.alloc(), words)?)
+    match order(rt.alloc(), words)? {
+        Order::Offline(task) => carry_out(rt, task),
+        Order::Serve { .. } => Err(ToolFault::Bind),
+    }
 }
 
 // What the program prints and tells where it is called with these words, and how it ends.
@@ -349,7 +352,7 @@ fn tells_its_use(rt: HostRuntime) {
 #[test]
 fn runs_and_shows(rt: HostRuntime) {
     let machine = Machine::new(rt.alloc(), FILES, 1000);
-    let done = run(&machine, "relay", "script").is_ok() && show(&machine, "relay").is_ok();
+    let done = run_file(&machine, "relay", "script").is_ok() && show(&machine, "relay").is_ok();
     let (printed, _) = machine.output();
     assert!(rt; done && printed.starts_with(b"done 1\n"));
     assert!(rt; printed.ends_with(b"c : recv b int . end\n"));

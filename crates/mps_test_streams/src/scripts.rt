@@ -9,7 +9,7 @@ use mps_lines::MAX_LINE;
 use mps_local::{Branches, Local};
 use mps_session::{LocalFault, OpenFault};
 use mps_wire::script::BLOCK;
-use mps_wire::{ReplayFault, replay, replay_session};
+use mps_wire::{ReplayFault, replay, run_script};
 use std::alloc::Global;
 use std::test::Fail;
 
@@ -429,7 +429,7 @@ fn on_a_session(alloc: Global, script: &str, way: Way) -> Result<(Vec<u8>, Left)
     let (roles, session) = opened(alloc, RELAY)?;
     let mut reader = Pieces::new(in_one_piece(alloc, script)?, way.fails_from);
     let mut writer = Short::new(alloc, way.room)?;
-    let ended = replay_session(alloc, &mut reader, &mut writer, roles, session);
+    let ended = run_script(alloc, &mut reader, &mut writer, roles, session);
     let left = ended.map(|room| (
         room.entries(),
         room.session().len(),

@@ -9,7 +9,7 @@ use Rattle.mps_command.specs.declared.command.Command.{Command}
 use Rattle.mps_line.specs.Replies.{SpellsReply}
 use Rattle.mps_line.specs.declared.write_replies.Reply.{Reply}
 use Rattle.mps_line.specs.declared.write_replies.Reply.TheVariants.{Answered}
-use Rattle.mps_line.proofs.Shown.{no_line_feed}
+use Rattle.mps_line.proofs.ShownLines.{no_line_feed}
 use Rattle.mps_local.specs.Local.{LocalType}
 use Rattle.mps_room.specs.Journal.{is_accepted}
 use Rattle.mps_room.specs.Numbers.{IsNumbered}

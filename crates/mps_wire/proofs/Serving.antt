@@ -13,7 +13,7 @@ use Rattle.mps_line.specs.declared.write_replies.Reply.{Reply}
 use Rattle.mps_line.specs.Replies.{SpellsReply}
 use Rattle.mps_line.specs.Commands.{SpellsScriptLine, command_tokens}
 use Rattle.mps_line.specs.Tokens.{RoleAt, SpellEach}
-use Rattle.mps_line.proofs.Shown.{shown_line}
+use Rattle.mps_line.proofs.ShownLines.{shown_line}
 use Rattle.mps_room.specs.declared.entry.Entry.{Entry}
 use Rattle.mps_room.specs.Journal.{grown, reply, is_accepted, IsReply}
 use Rattle.mps_line.specs.declared.write_replies.Reply.TheVariants.{Answered}

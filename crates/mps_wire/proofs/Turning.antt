@@ -1,7 +1,7 @@
 -- What one read and its answers lead to.
-use Rattle.std.proofs.Common.{◌≡◌, ◌≢◌, ◌+◌, ◌<◌, ◌≤◌, ℕ, zero, suc, List, [], ◌∷◌, ◌++◌, take, drop, Bool, Option, Result, Ok, Err, IsErrAnd, refl, sym, ap, ◌∙◌, subst, inl, inr, ⊎_elim, append_assoc, append-nil, arith, length, length-take, length-append}
+use Rattle.std.proofs.Common.{◌≡◌, ◌≢◌, ◌==◌, ◌+◌, ◌<◌, ◌≤◌, ℕ, zero, suc, List, [], ◌∷◌, ◌++◌, take, drop, Bool, Option, Result, Ok, Err, IsErrAnd, refl, sym, ap, ◌∙◌, subst, inl, inr, ⊎_elim, append_assoc, append-nil, arith, length, length-take, length-append}
 use Rattle.std.specs.Io.KnownBytes.{Appends, Consumes, IsAtEnd}
-use Rattle.std.proofs.lemmas.Bool.{cases_eq}
+use Rattle.std.proofs.lemmas.Bool.{cases_eq, ne_eqb}
 use Rattle.std.proofs.lemmas.List.{take-append-drop}
 use Rattle.mps_dev.specs.Calls.{ends_after}
 use Rattle.mps_dev.specs.declared.traits.Failed.{Failed}
@@ -38,9 +38,9 @@ split_on (c ∷ more) bytes lines rest s =
     (cases_eq c 10)
 
 -- a last line stands after the whole ones
-last_behind : (lines : List (List ℕ)) (rest : List ℕ) → lines ++ with_last [] rest ≡ with_last lines rest
-last_behind lines [] = append-nil lines
-last_behind lines (c ∷ rest) = refl
+last_after : (lines : List (List ℕ)) (rest : List ℕ) → lines ++ with_last [] rest ≡ with_last lines rest
+last_after lines [] = append-nil lines
+last_after lines (c ∷ rest) = refl
 
 -- answers up to some place in them, and the others
 parts : (before answers : List ℕ) (count : ℕ) → before ++ answers ≡ (before ++ take count answers) ++ drop count answers
@@ -108,7 +108,7 @@ module _ {S : Type 0} (answers : Answering S) (start : S) where
     rest = a.rest;
     split = a.split;
     in_part =
-        subst (λ (l : List (List ℕ)). AnswersInPart answers start l written) (last_behind a.lines a.rest)
+        subst (λ (l : List (List ℕ)). AnswersInPart answers start l written) (last_after a.lines a.rest)
         (first_part a.lines (with_last [] a.rest) out written unwritten st a.answers_lines e);
   }
 
@@ -238,6 +238,13 @@ starved_first answers start s =
 -- the bytes that a read gave
 pub gave_none : (s : Streams) → GaveAtLeast 0 s s
 gave_none s = record { read = []; bytes = Consumes-none s.left; many = omega arith }
+
+-- a read that gave nothing was the last, and any other was not
+pub was_last : {S : Type 0} (answers : Answering S) (start : S) (first old new : Streams) (kept : List ℕ) (st : S) (count : ℕ) → count ≡ 0 → Finished answers start first new st × Counts old new 0 1 0 → Turned answers start first old new kept st (Ok (count == 0))
+was_last answers start first old new kept st count e done = rw e done
+
+pub was_not_last : {S : Type 0} (answers : Answering S) (start : S) (first old new : Streams) (kept : List ℕ) (st : S) (count : ℕ) → count ≢ 0 → Going answers start first new kept st × Counts old new 0 0 0 × GaveAtLeast 1 old new → Turned answers start first old new kept st (Ok (count == 0))
+was_not_last answers start first old new kept st count some going = rw (ne_eqb count 0 some) going
 
 pub gave_some : (old new : Streams) (count : ℕ) (buf : List ℕ) → count ≢ 0 → count ≤ length buf → Consumes old.left new.left (take count buf) → GaveAtLeast 1 old new
 gave_some old new count buf some within h = record { read = take count buf; bytes = h; many = omega (arith, length-take count buf) }

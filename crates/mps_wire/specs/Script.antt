@@ -19,7 +19,7 @@ use Rattle.mps_room.specs.Journal.{grown, IsReply}
 use Rattle.mps_room.specs.declared.entry.Entry.{Entry}
 use Rattle.mps_wire.specs.Answers.{Answering, Place}
 use Rattle.mps_lines.specs.Lines.{max_line}
-use Rattle.mps_wire.specs.declared.script.Run.{Run}
+use Rattle.mps_wire.specs.declared.script.ScriptRun.{ScriptRun}
 
 -- a line that isn't too long, of bytes below 128, that spells a role's command
 pub record IsReadable (names : List (List ℕ)) (line : List ℕ) (role : ℕ) (command : Command) : Type 0 where
@@ -72,11 +72,11 @@ IsAnswered names types journal role command after old new =
     × Appends (λ text. SpellsReply text (Answered answer)) old new
 
 -- how a line of a run is answered
-abbrev pub lines_of : Run → Answering (List Entry)
+abbrev pub lines_of : ScriptRun → Answering (List Entry)
 lines_of run = AnswersLine run.room.names run.room.types
 
 -- where a run is among its lines
-abbrev pub place_of_run : Run → Place (List Entry)
+abbrev pub place_of_run : ScriptRun → Place (List Entry)
 place_of_run run = record {
   kept = run.line.items;
   state = run.room.journal;

@@ -1,6 +1,6 @@
 //! Scripts and conversations over streams: lines from blocks of bytes, and the answers to them.
 //!
-//! `replay_session` runs a script of all roles' commands on a session. `converse` is one role's conversation over any
+//! `run_script` runs a script of all roles' commands on a session. `converse` is one role's conversation over any
 //! reader and writer: a line, and then its answer.
 //!
 //! ```
@@ -15,5 +15,4 @@ pub mod laws;
 pub mod script;
 
 pub use conversation::{Ending, converse};
-pub use mps_lines::{Line, Lines};
-pub use script::{ReplayFault, replay, replay_session};
+pub use script::{ReplayFault, replay, run_script};

@@ -162,7 +162,7 @@ fn answer_line(
 
 /// A script while it runs.
 #[derive(Drop)]
-struct Run {
+struct ScriptRun {
     room: Room,
     // the front of the line that comes
     line: Vec<u8>,
@@ -171,7 +171,7 @@ struct Run {
     alloc: Global,
 }
 
-impl Run {
+impl ScriptRun {
     /// Answers the line that is kept, and begins the next.
     fn answer_kept(&mut self) -> Result<(), AllocError>
         ensures names { self.new.room.names ≡ self.old.room.names }
@@ -259,7 +259,7 @@ fn send_answers<W: Sink>(writer: &mut W, answers: &mut Vec<u8>) -> Result<(), Fa
 fn turn<R: Source, W: Sink>(
     reader: &mut R,
     writer: &mut W,
-    run: &mut Run,
+    run: &mut ScriptRun,
     block: &mut [u8],
 ) -> Result<bool, ReplayFault>
     requires short { length run.old.line.items ≤ most_kept }
@@ -284,30 +284,13 @@ fn turn<R: Source, W: Sink>(
     };
     if count == 0 {
         run.finish()?;
-        if send_answers(writer, &mut run.answers).is_err() {
-            return Err(ReplayFault::WriteFault);
-        }
-        return Ok(true);
+    } else {
+        run.feed(&block[..count])?;
     }
-    run.feed(&block[..count])?;
     if send_answers(writer, &mut run.answers).is_err() {
         return Err(ReplayFault::WriteFault);
     }
-    Ok(false)
-}
-
-/// A script in this room, of which nothing was read yet.
-fn begin(alloc: Global, room: Room) -> Run
-    ensures room { result.room ≡ room }
-    ensures line { result.line.items ≡ [] }
-    ensures answers { result.answers.items ≡ [] }
-{
-    Run {
-        room,
-        line: Vec::new(alloc),
-        answers: Vec::new(alloc),
-        alloc,
-    }
+    Ok(count == 0)
 }
 
 /// Runs the script that the reader gives, in a new room of a session in which nothing was done yet, and writes an
@@ -315,7 +298,7 @@ fn begin(alloc: Global, room: Room) -> Run
 ///
 /// The answers to the lines of one read are written before the next read. A last line needs no LF.
 /// The reader is asked for `BLOCK` bytes at a time, `MAX_READS` times at most.
-pub fn replay_session<R: Source, W: Sink>(
+pub fn run_script<R: Source, W: Sink>(
     alloc: Global,
     reader: &mut R,
     writer: &mut W,
@@ -331,7 +314,12 @@ pub fn replay_session<R: Source, W: Sink>(
         (streams R.Source W.Sink reader.new writer.new) result }
     ensures reads { R.calls reader.new ≤ R.calls reader.old + max_reads }
 {
-    let mut run = begin(alloc, Room::open(alloc, roles, session));
+    let mut run = ScriptRun {
+        room: Room::open(alloc, roles, session),
+        line: Vec::new(alloc),
+        answers: Vec::new(alloc),
+        alloc,
+    };
     let mut block = vec![in alloc; 0u8; BLOCK]?;
     for _ in 0..MAX_READS {
         if turn(reader, writer, &mut run, block.as_mut_slice())? {
@@ -342,7 +330,7 @@ pub fn replay_session<R: Source, W: Sink>(
 }
 
 /// Opens a session with these types, and runs the script that the reader gives on it, as
-/// `replay_session` does.
+/// `run_script` does.
 pub fn replay<R: Source, W: Sink>(
     alloc: Global,
     reader: &mut R,
@@ -359,5 +347,5 @@ pub fn replay<R: Source, W: Sink>(
     ensures reads { R.calls reader.new ≤ R.calls reader.old + max_reads }
 {
     let session = Session::open(alloc, types)?;
-    replay_session(alloc, reader, writer, roles, session)
+    run_script(alloc, reader, writer, roles, session)
 }

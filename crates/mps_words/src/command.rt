@@ -3,6 +3,20 @@
 /// What the program is told to do.
 #[derive(Debug, Drop)]
 pub enum Order<'a> {
+    /// A task that needs no network.
+    Offline(Task<'a>),
+    /// Serve so many sessions of the protocol in the file, to so many connections at that port.
+    Serve {
+        file: &'a str,
+        port: u16,
+        sessions: u64,
+        connections: u64,
+    },
+}
+
+/// What the program does without a network.
+#[derive(Debug, Drop)]
+pub enum Task<'a> {
     /// Say how the program is used, or which version it is.
     Help {
         text: String,
@@ -21,12 +35,5 @@ pub enum Order<'a> {
         file: &'a str,
         first: &'a str,
         second: &'a str,
-    },
-    /// Serve so many sessions of the protocol in the file, to so many connections at that port.
-    Serve {
-        file: &'a str,
-        port: u16,
-        sessions: u64,
-        connections: u64,
     },
 }

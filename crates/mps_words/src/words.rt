@@ -4,7 +4,7 @@ ghost use Rattle.std.specs.Prelude.{◌≤◌, IfErr, IfOk, IfSome};
 ghost use Rattle.mps_words.specs.Orders.{IsInRange};
 ghost use Rattle.mps_words.specs.Uses.{IsSaidOfMatched, Says, TellsMatched, no_text};
 
-use crate::command::Order;
+use crate::command::{Order, Task};
 use crate::faults::{UseFault, usage};
 use clap::error::ErrorKind;
 use clap::{Arg, ArgMatches, Command, Error};
@@ -184,25 +184,32 @@ fn serve_in<'a>(file: &'a str, found: &ArgMatches<'a>) -> Option<Order<'a>>
     })
 }
 
-/// The order to compare two scripts.
-fn same_in<'a>(file: &'a str, found: &ArgMatches<'a>) -> Option<Order<'a>>
-    ensures { IfSome result IsInRange }
-{
+/// The task to compare two scripts.
+fn same_in<'a>(file: &'a str, found: &ArgMatches<'a>) -> Option<Task<'a>> {
     let first = found.get_str("FIRST")?;
     let second = found.get_str("SECOND")?;
-    Some(Order::Same {
+    Some(Task::Same {
         file,
         first,
         second,
     })
 }
 
-/// The order to run a script.
-fn run_in<'a>(file: &'a str, found: &ArgMatches<'a>) -> Option<Order<'a>>
-    ensures { IfSome result IsInRange }
-{
+/// The task to run a script.
+fn run_in<'a>(file: &'a str, found: &ArgMatches<'a>) -> Option<Task<'a>> {
     let script = found.get_str("SCRIPT")?;
-    Some(Order::Run { file, script })
+    Some(Task::Run { file, script })
+}
+
+/// The order of a task, where all its words were found.
+fn offline<'a>(task: Option<Task<'a>>) -> Result<Order<'a>, &'static str>
+    ensures range { IfOk result IsInRange }
+    ensures said { IfErr result (λ what. IsSaidOfMatched what.now) }
+{
+    match task {
+        Some(task) => Ok(Order::Offline(task)),
+        None => Err(MISSING),
+    }
 }
 
 /// The order that stands in the words, as they matched the commands, or what is wrong with them.
@@ -217,10 +224,10 @@ fn order_in<'a>(matches: &ArgMatches<'a>) -> Result<Order<'a>, &'static str>
         return Err(MISSING);
     };
     match command {
-        "check" => Ok(Order::Check { file }),
-        "same" => same_in(file, found).ok_or(MISSING),
+        "check" => offline(Some(Task::Check { file })),
+        "same" => offline(same_in(file, found)),
         "serve" => serve_in(file, found).ok_or(OUT_OF_RANGE),
-        _ => run_in(file, found).ok_or(MISSING),
+        _ => offline(run_in(file, found)),
     }
 }
 
@@ -241,7 +248,7 @@ fn unmatched<'a>(alloc: Global, error: &Error) -> Result<Order<'a>, UseFault>
     if error.use_stderr() {
         return Err(UseFault::Usage { text });
     }
-    Ok(Order::Help { text })
+    Ok(Order::Offline(Task::Help { text }))
 }
 
 /// The order that stands in the words, as they matched the commands, or a fault of use.

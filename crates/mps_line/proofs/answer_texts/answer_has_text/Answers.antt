@@ -1,4 +1,4 @@
-use Rattle.mps_line.proofs.Existing.{line}
+use Rattle.mps_line.proofs.Spellings.{line}
 use Rattle.mps_line.proofs.answer_texts.answer_has_text.Goals as goal
 
 pub returns-clause-text : goal.returns-clause-text

@@ -1,4 +1,4 @@
-use Rattle.mps_line.proofs.Existing.{word, number, numbers}
+use Rattle.mps_line.proofs.Spellings.{word, number, numbers}
 use Rattle.mps_line.proofs.answer_texts.answer_is_spellable.Goals as goal
 
 pub returns-in-Undone : goal.returns-in-Undone

@@ -3,7 +3,7 @@ use Rattle.std.specs.Prelude.{Option}
 use Rattle.mps_base.specs.declared.action.Message.{Message}
 use Rattle.mps_line.specs.Replies.{done_tokens}
 use Rattle.mps_line.specs.Spellable.{AreSpellable}
-use Rattle.mps_line.proofs.Existing.{number}
+use Rattle.mps_line.proofs.Spellings.{number}
 use Rattle.mps_line.proofs.answer_texts.done_is_spellable.Goals as goal
 
 pub returns-in-Some : goal.returns-in-Some

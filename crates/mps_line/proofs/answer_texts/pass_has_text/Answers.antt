@@ -1,5 +1,5 @@
 use Rattle.std.proofs.Common.{arith}
-use Rattle.mps_line.proofs.Existing.{line, word, number, called}
+use Rattle.mps_line.proofs.Spellings.{line, word, number, called}
 use Rattle.mps_line.proofs.answer_texts.pass_has_text.Goals as goal
 
 pub returns-clause-text : goal.returns-clause-text

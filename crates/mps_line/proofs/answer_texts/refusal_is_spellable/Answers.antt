@@ -1,5 +1,5 @@
 use Rattle.std.proofs.Common.{arith}
-use Rattle.mps_line.proofs.Existing.{word, number}
+use Rattle.mps_line.proofs.Spellings.{word, number}
 use Rattle.mps_line.proofs.answer_texts.refusal_is_spellable.Goals as goal
 
 pub returns-in-Final : goal.returns-in-Final

@@ -1,6 +1,6 @@
 use Rattle.mps_line.specs.Commands.{command_tokens}
-use Rattle.mps_line.proofs.Shown.{shown_command}
-use Rattle.mps_line.proofs.Unique.{same_command, line_spelling, names_roles}
+use Rattle.mps_line.proofs.ShownLines.{shown_command}
+use Rattle.mps_line.proofs.OneSpelling.{same_command, line_spelling, names_roles}
 use Rattle.mps_line.proofs.laws.one_command.Goals as goal
 
 pub returns-clause-command : goal.returns-clause-command

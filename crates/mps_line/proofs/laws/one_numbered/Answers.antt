@@ -1,5 +1,5 @@
-use Rattle.mps_line.proofs.Numbering.{same_number, same_numbered, numbered_spelling, numbered_names_roles}
-use Rattle.mps_line.proofs.Shown.{shown_numbered}
+use Rattle.mps_line.proofs.NumberedLines.{same_number, same_numbered, numbered_spelling, numbered_names_roles}
+use Rattle.mps_line.proofs.ShownLines.{shown_numbered}
 use Rattle.mps_line.proofs.laws.one_numbered.Goals as goal
 
 pub returns-clause-number : goal.returns-clause-number

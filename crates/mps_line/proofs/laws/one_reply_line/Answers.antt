@@ -1,8 +1,8 @@
 use Rattle.std.specs.Prelude.{[]}
 use Rattle.mps_line.specs.Replies.{reply_tokens}
-use Rattle.mps_line.proofs.Unique.{line_spelling}
-use Rattle.mps_line.proofs.Shown.{shown_reply, some_reply, no_line_feed}
-use Rattle.mps_line.proofs.Meaning.{one_reply}
+use Rattle.mps_line.proofs.OneSpelling.{line_spelling}
+use Rattle.mps_line.proofs.ShownLines.{shown_reply, some_reply, no_line_feed}
+use Rattle.mps_line.proofs.OneReply.{one_reply}
 use Rattle.mps_line.proofs.laws.one_reply_line.Goals as goal
 
 pub returns-clause-spelling : goal.returns-clause-spelling

@@ -1,8 +1,8 @@
 use Rattle.std.specs.Prelude.{◌∷◌}
 use Rattle.mps_line.specs.Tokens.{RoleAt}
 use Rattle.mps_line.specs.Commands.{command_tokens}
-use Rattle.mps_line.proofs.Unique.{same_line, line_spelling}
-use Rattle.mps_line.proofs.Shown.{shown_line}
+use Rattle.mps_line.proofs.OneSpelling.{same_line, line_spelling}
+use Rattle.mps_line.proofs.ShownLines.{shown_line}
 use Rattle.mps_line.proofs.laws.one_script_line.Goals as goal
 
 pub returns-clause-role : goal.returns-clause-role

@@ -1,5 +1,5 @@
 use Rattle.mps_line.proofs.Splitting.{if_none}
-use Rattle.mps_line.proofs.Numbering.{no_number}
+use Rattle.mps_line.proofs.NumberedLines.{no_number}
 use Rattle.mps_line.proofs.line_parts.split_number.Goals as goal
 
 pub returns-in_err-read_count-clause-none : goal.returns-in_err-read_count-clause-none

@@ -1,6 +1,6 @@
 use Rattle.std.proofs.Common.{refl}
 use Rattle.std.proofs.lemmas.Bool.{false≢true}
-use Rattle.mps_line.proofs.Reading.{role_in_front, none_of_names, no_role_in_front, name_read}
+use Rattle.mps_line.proofs.CommandLines.{role_in_front, none_of_names, no_role_in_front, name_read}
 use Rattle.mps_line.proofs.read_commands.read_receipt.Goals as goal
 
 pub returns-in_default-clause-bad : goal.returns-in_default-clause-bad

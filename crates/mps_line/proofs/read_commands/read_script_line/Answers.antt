@@ -1,6 +1,6 @@
 use Rattle.std.proofs.Common.{sym, ap, Err}
 use Rattle.mps_line.proofs.Splitting.{joined}
-use Rattle.mps_line.proofs.Reading.{none_behind, no_role_in_front}
+use Rattle.mps_line.proofs.CommandLines.{none_after, no_role_in_front}
 use Rattle.mps_line.proofs.read_commands.read_script_line.Goals as goal
 
 pub returns-in_default-clause-bad : goal.returns-in_default-clause-bad
@@ -8,7 +8,7 @@ returns-in_default-clause-bad c = λ e role command h. no_role_in_front _ _ _ _ 
 
 pub returns-in_err-command-clause-bad : goal.returns-in_err-command-clause-bad
 returns-in_err-command-clause-bad c = λ e role command h.
-    none_behind _ _ _ _ _ c.in-Some.ensures.rest (c.in_err-command.ensures.bad (ap Err (sym (rw e at c.from_residual.ensures.1))) command) role h
+    none_after _ _ _ _ _ c.in-Some.ensures.rest (c.in_err-command.ensures.bad (ap Err (sym (rw e at c.from_residual.ensures.1))) command) role h
 
 pub returns-in_err-command-clause-memory : goal.returns-in_err-command-clause-memory
 returns-in_err-command-clause-memory c = λ e.

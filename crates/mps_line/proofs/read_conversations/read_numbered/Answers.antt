@@ -3,7 +3,7 @@ use Rattle.std.proofs.lemmas.Bool.{false≢true}
 use Rattle.mps_base.specs.declared.value.Value.TheVariants.{Text}
 use Rattle.mps_command.specs.declared.command.Command.TheVariants.{Forward}
 use Rattle.mps_command.specs.declared.command.Forward.TheVariants.{Send}
-use Rattle.mps_line.proofs.Numbering.{none_alone, command_numbered, none_numbered, may_as_well}
+use Rattle.mps_line.proofs.NumberedLines.{none_alone, command_numbered, none_numbered, may_as_well}
 use Rattle.mps_line.proofs.read_conversations.read_numbered.Goals as goal
 
 pub returns-in_err-command-clause-bad : goal.returns-in_err-command-clause-bad

@@ -2,8 +2,8 @@ use Rattle.std.proofs.Common.{arith}
 use Rattle.std.specs.Prelude.{[], ◌∷◌, codes}
 use Rattle.mps_line.specs.Replies.{refusal_tokens}
 use Rattle.mps_line.specs.Tokens.{Word}
-use Rattle.mps_line.proofs.Meaning.{refused_has_no_space}
-use Rattle.mps_line.proofs.Replying.{word_in_front, rest_of_word, no_word_in_front, no_own_word, some_refusal}
+use Rattle.mps_line.proofs.OneReply.{refused_has_no_space}
+use Rattle.mps_line.proofs.ReplyLines.{word_in_front, rest_of_word, no_word_in_front, no_own_word, some_refusal}
 use Rattle.mps_line.proofs.read_refusals.refused_reply.Goals as goal
 
 pub returns-in_default-clause-refusal : goal.returns-in_default-clause-refusal

@@ -1,7 +1,7 @@
 use Rattle.std.proofs.Common.{◌≡◌, ◌∙◌, refl, ap, sym, not, true, false}
 use Rattle.std.proofs.lemmas.Bool.{false≢true}
 use Rattle.std.specs.Prelude.{Option, Some, None, IfSome, IfNone, is_some}
-use Rattle.mps_line.proofs.Replying.{reads_more, reads_last, no_next_step, no_last_step}
+use Rattle.mps_line.proofs.ReplyLines.{reads_more, reads_last, no_next_step, no_last_step}
 use Rattle.mps_line.proofs.read_replies.are_steps.Goals as goal
 
 -- what holds of a value that is there

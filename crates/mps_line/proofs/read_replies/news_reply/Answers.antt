@@ -3,8 +3,8 @@ use Rattle.std.proofs.Common.{arith, rules, sym, ap, Err}
 use Rattle.mps_command.specs.declared.answer.Answer.TheVariants.{News}
 use Rattle.mps_line.specs.declared.write_replies.Reply.TheVariants.{Answered}
 use Rattle.mps_line.specs.Tokens.{Number}
-use Rattle.mps_line.proofs.Meaning.{news_has_no_space}
-use Rattle.mps_line.proofs.Replying.{rest_of_word, no_word_in_front, news_none, news_some, no_news_alone, parted_news}
+use Rattle.mps_line.proofs.OneReply.{news_has_no_space}
+use Rattle.mps_line.proofs.ReplyLines.{rest_of_word, no_word_in_front, news_none, news_some, no_news_alone, parted_news}
 use Rattle.mps_line.proofs.read_replies.news_reply.Goals as goal
 
 pub returns-in_default-clause-bad : goal.returns-in_default-clause-bad

@@ -1,6 +1,6 @@
 use Rattle.std.proofs.Common.{◌≡◌, ◌<◌, length, arith, rules, get_or}
 use Rattle.std.proofs.lemmas.Grind.{common_steps}
-use Rattle.mps_line.proofs.Replying.{no_other_done, no_other_undone, no_other_news, no_other_shown, no_other_joined, no_other_refused, no_reply, no_reply_of_none}
+use Rattle.mps_line.proofs.ReplyLines.{no_other_done, no_other_undone, no_other_news, no_other_shown, no_other_joined, no_other_refused, no_reply, no_reply_of_none}
 use Rattle.mps_line.proofs.read_replies.read_answer.Goals as goal
 use Rattle.mps_line.proofs.read_replies.read_answer.Goals.{in_default-via-then-bytes-lt1, in_default-via-else-bytes-lt1+in_default-1}
 

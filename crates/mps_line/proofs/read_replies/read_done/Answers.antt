@@ -3,7 +3,7 @@ use Rattle.std.specs.Prelude.{[]}
 use Rattle.mps_line.specs.Replies.{message_token}
 use Rattle.mps_line.specs.Tokens.{Number}
 use Rattle.mps_line.proofs.Splitting.{line_of_one}
-use Rattle.mps_line.proofs.Replying.{no_done_alone, number_in_front, parted_done}
+use Rattle.mps_line.proofs.ReplyLines.{no_done_alone, number_in_front, parted_done}
 use Rattle.mps_line.proofs.read_replies.read_done.Goals as goal
 
 pub returns-in-Some-read_step-clause-read : goal.returns-in-Some-read_step-clause-read

@@ -1,8 +1,8 @@
 use Rattle.std.proofs.Common.{arith}
 use Rattle.std.specs.Prelude.{[], ◌∷◌, codes}
 use Rattle.mps_line.specs.Tokens.{Number, Called}
-use Rattle.mps_line.proofs.Meaning.{join_has_no_space}
-use Rattle.mps_line.proofs.Replying.{word_in_front, rest_of_word, no_word_in_front}
+use Rattle.mps_line.proofs.OneReply.{join_has_no_space}
+use Rattle.mps_line.proofs.ReplyLines.{word_in_front, rest_of_word, no_word_in_front}
 use Rattle.mps_line.proofs.read_replies.read_join.Goals as goal
 
 pub returns-in_default-clause-bad : goal.returns-in_default-clause-bad

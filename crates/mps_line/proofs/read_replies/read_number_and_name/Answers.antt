@@ -3,8 +3,8 @@ use Rattle.std.proofs.lemmas.Bool.{false≢true}
 use Rattle.std.specs.Prelude.{[], ◌∷◌}
 use Rattle.mps_line.specs.Tokens.{Number, Called, SpellsLine}
 use Rattle.mps_line.proofs.Splitting.{if_none, alone, line_of_one}
-use Rattle.mps_line.proofs.Reading.{name_read}
-use Rattle.mps_line.proofs.Replying.{number_in_front, split_number, never_parted}
+use Rattle.mps_line.proofs.CommandLines.{name_read}
+use Rattle.mps_line.proofs.ReplyLines.{number_in_front, split_number, never_parted}
 use Rattle.mps_line.proofs.read_replies.read_number_and_name.Goals as goal
 
 pub returns-in_err-parts-clause-none : goal.returns-in_err-parts-clause-none

@@ -1,4 +1,4 @@
-use Rattle.mps_line.proofs.Replying.{reads_none, reads_more, reads_last, no_next_step, no_last_step, shorter}
+use Rattle.mps_line.proofs.ReplyLines.{reads_none, reads_more, reads_last, no_next_step, no_last_step, shorter}
 use Rattle.mps_line.proofs.read_replies.read_steps.Goals as goal
 
 pub loop-parts-init : goal.loop-parts-init

@@ -5,7 +5,7 @@ use Rattle.mps_command.specs.declared.answer.Answer.TheVariants.{Shown}
 use Rattle.mps_line.specs.declared.write_replies.Reply.TheVariants.{Answered}
 use Rattle.mps_line.specs.Tokens.{Show}
 use Rattle.mps_line.proofs.Splitting.{alone}
-use Rattle.mps_line.proofs.Replying.{shown_read}
+use Rattle.mps_line.proofs.ReplyLines.{shown_read}
 use Rattle.mps_line.proofs.read_replies.shown_reply.Goals as goal
 
 pub returns-then-not-is_shown_text-clause-bad : goal.returns-then-not-is_shown_text-clause-bad

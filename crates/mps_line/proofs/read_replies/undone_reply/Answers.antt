@@ -3,7 +3,7 @@ use Rattle.mps_command.specs.declared.answer.Answer.TheVariants.{Undone}
 use Rattle.mps_line.specs.declared.write_replies.Reply.TheVariants.{Answered}
 use Rattle.std.proofs.Common.{rules, sym, ap, Err}
 use Rattle.mps_line.proofs.Splitting.{is_word, is_no_word}
-use Rattle.mps_line.proofs.Replying.{undone_none, undone_some, undone_steps, steps_of_undone}
+use Rattle.mps_line.proofs.ReplyLines.{undone_none, undone_some, undone_steps, steps_of_undone}
 use Rattle.mps_line.proofs.read_replies.undone_reply.Goals as goal
 
 pub returns-then-eq-clause-read : goal.returns-then-eq-clause-read

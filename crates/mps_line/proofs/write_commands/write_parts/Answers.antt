@@ -1,7 +1,7 @@
 use Rattle.std.proofs.Common.{ℕ, List, sym, ap, ◌∙◌, ◌++◌}
 use Rattle.std.proofs.lemmas.Bool.{false≢true}
 use Rattle.mps_line.specs.Commands.{verb_word, verb_of, arguments}
-use Rattle.mps_line.proofs.Reading.{lone_read, takes_none}
+use Rattle.mps_line.proofs.CommandLines.{lone_read, takes_none}
 use Rattle.mps_line.proofs.Writing.{word_written, still_in_front}
 use Rattle.mps_line.proofs.write_commands.write_parts.Goals as goal
 

@@ -22,11 +22,11 @@ returns-clause-verdict g c =
     let first = c.in_ok-first.first in
     let session = c.session.result.now in
     let here : session ≡ record { types = types; state = run types first.journal } = left_as session types first.journal (c.session.ensures.types ∙ c.in_ok-first.ensures.types) (c.session.ensures.state ∙ ap (λ (t : List LocalType). run t first.journal) c.in_ok-first.ensures.types) in
-    IfOk-weaker c.compared.result _ _ (λ r h. followed c.args.roles.now types first.journal session here _ _ _ _ _ _ c.in_ok-first.ensures.replayed h) c.compared.ensures.verdict
+    IfOk-weaker c.compared.result _ _ (λ r h. followed c.args.roles.now types first.journal session here _ _ _ _ _ _ c.in_ok-first.ensures.ran h) c.compared.ensures.verdict
 
 pub returns-clause-fault : goal.returns-clause-fault
 returns-clause-fault g c =
     let types = c.args.first.types in
     let first = c.in_ok-first.first in
     let same : c.session.result.now.types ≡ types = c.session.ensures.types ∙ c.in_ok-first.ensures.types in
-    IfErr-weaker c.compared.result _ _ (λ fault h. cant_follow c.args.roles.now types first.journal c.session.result.now.types same _ _ _ _ fault c.in_ok-first.ensures.replayed h) c.compared.ensures.fault
+    IfErr-weaker c.compared.result _ _ (λ fault h. cant_follow c.args.roles.now types first.journal c.session.result.now.types same _ _ _ _ fault c.in_ok-first.ensures.ran h) c.compared.ensures.fault

@@ -1,0 +1,270 @@
+-- What can't be read.
+use Rattle.std.proofs.Common.{arith, rules, ◌≡◌, ◌≢◌, ℕ, ◌<◌, ◌⊎◌, ⊎_elim, inl, inr, List, [], ◌∷◌, length, refl, sym, ap, subst, ◌∙◌}
+use Rattle.std.specs.Prelude.{Option, Some, None, IfSome, IfNone, Result, Ok, Err, IfOk, if◌then◌else◌, codes}
+use Rattle.std.specs.Str.{bytes_eq}
+use Rattle.std.proofs.lemmas.Option.{same_Some}
+use Rattle.mps_base.specs.Names.{IsName, IsNoneOf}
+use Rattle.mps_base.specs.Spaced.{spaced}
+use Rattle.mps_base.specs.declared.value.Value.{Value}
+use Rattle.mps_command.specs.declared.command.Command.{Command}
+use Rattle.mps_command.specs.declared.command.Command.TheVariants.{Forward, Undo, Rollback, Back, News, Show}
+use Rattle.mps_command.specs.declared.command.Forward.TheVariants.{Send, Choose, Receive, Pick, Mark, Commit}
+use Rattle.mps_line.specs.declared.read_commands.LineFault.{LineFault}
+use Rattle.mps_line.specs.declared.write_commands.Verb.{Verb}
+use Rattle.mps_line.specs.declared.write_commands.Verb.TheVariants as verbs
+use Rattle.mps_line.specs.Tokens.{Token, Word, RoleAt, Called, Number, Worth, HasNoSpace, SpellsRole, SpellsName, SpellsNumber, SpellsToken, SpellsLine, BeginsWith}
+use Rattle.mps_line.specs.Commands.{verb_word, verb_of, arguments, lone_verbs, TakesArguments, SpellsCommand}
+use Rattle.mps_line.proofs.Splitting.{one_split, never_split, after_token, joined, alone, line_of_one}
+
+pub verb_has_no_space : (verb : Verb) → HasNoSpace (verb_word verb)
+verb_has_no_space verbs.Send = search rules
+verb_has_no_space verbs.Choose = search rules
+verb_has_no_space verbs.Receive = search rules
+verb_has_no_space verbs.Pick = search rules
+verb_has_no_space verbs.Mark = search rules
+verb_has_no_space verbs.Commit = search rules
+verb_has_no_space verbs.Undo = search rules
+verb_has_no_space verbs.Rollback = search rules
+verb_has_no_space verbs.Back = search rules
+verb_has_no_space verbs.News = search rules
+verb_has_no_space verbs.Show = search rules
+
+-- the verb that the word is for
+abbrev meant : List ℕ → Option Verb
+meant word =
+    if bytes_eq word (codes "send") then Some verbs.Send
+    else if bytes_eq word (codes "choose") then Some verbs.Choose
+    else if bytes_eq word (codes "recv") then Some verbs.Receive
+    else if bytes_eq word (codes "pick") then Some verbs.Pick
+    else if bytes_eq word (codes "mark") then Some verbs.Mark
+    else if bytes_eq word (codes "commit") then Some verbs.Commit
+    else if bytes_eq word (codes "undo") then Some verbs.Undo
+    else if bytes_eq word (codes "rollback") then Some verbs.Rollback
+    else if bytes_eq word (codes "back") then Some verbs.Back
+    else if bytes_eq word (codes "news") then Some verbs.News
+    else if bytes_eq word (codes "show") then Some verbs.Show
+    else None
+
+meant_word : (verb : Verb) → meant (verb_word verb) ≡ Some verb
+meant_word verbs.Send = refl
+meant_word verbs.Choose = refl
+meant_word verbs.Receive = refl
+meant_word verbs.Pick = refl
+meant_word verbs.Mark = refl
+meant_word verbs.Commit = refl
+meant_word verbs.Undo = refl
+meant_word verbs.Rollback = refl
+meant_word verbs.Back = refl
+meant_word verbs.News = refl
+meant_word verbs.Show = refl
+
+pub same_verb : (v w : Verb) → verb_word v ≡ verb_word w → v ≡ w
+same_verb v w e = same_Some v w (sym (meant_word v) ∙ ap meant e ∙ meant_word w)
+
+-- a line has one verb, and one rest after it
+pub one_verb : (bytes : List ℕ) (v w : Verb) (x y : List ℕ) → bytes ≡ spaced (verb_word v ∷ x ∷ []) → bytes ≡ spaced (verb_word w ∷ y ∷ []) → (v ≡ w) × (x ≡ y)
+one_verb bytes v w x y e f =
+    let same = one_split (verb_word v) (verb_word w) x y (verb_has_no_space v) (verb_has_no_space w) (sym e ∙ f) in
+    (same_verb v w same.0, same.1)
+
+-- the parts of a command: its verb, a space and these tokens
+pub record HasArguments (names : List (List ℕ)) (bytes : List ℕ) (command : Command) (tokens : List Token) : Type 0 where
+  pub rest : List ℕ
+  pub parts : bytes ≡ spaced (verb_word (verb_of command) ∷ rest ∷ [])
+  pub spelled : SpellsLine names rest tokens
+
+abbrev pub HasVerb : (names : List (List ℕ)) → List ℕ → Command → Type 0
+HasVerb names bytes command = HasArguments names bytes command (arguments command)
+
+-- a word in front of others
+pub after_word : (names : List (List ℕ)) (bytes letters : List ℕ) (u : Token) (ts : List Token) → SpellsLine names bytes (Word letters ∷ u ∷ ts) → (rest : List ℕ) × (bytes ≡ spaced (letters ∷ rest ∷ [])) × SpellsLine names rest (u ∷ ts)
+after_word names bytes letters u ts h =
+    let b = after_token names bytes (Word letters) u ts h in
+    (b.0, rw b.1.spelled at b.1.parts, b.2)
+
+-- nothing stands after a command's verb, or something does
+pub alone_or_more : (command : Command) → (arguments command ≡ []) ⊎ TakesArguments command
+alone_or_more command = by_tokens (arguments command)
+  where
+    by_tokens : (ts : List Token) → (ts ≡ []) ⊎ (0 < length ts)
+    by_tokens [] = inl refl
+    by_tokens (t ∷ ts) = inr (omega arith)
+
+pub takes_none : (command : Command) → (TakesArguments command → ⊥) → arguments command ≡ []
+takes_none command none =
+    ⊎_elim (λ (e : arguments command ≡ []). e) (λ (more : TakesArguments command). absurd (none more)) (alone_or_more command)
+
+-- in the first case the line is that verb
+pub lone_line : (names : List (List ℕ)) (bytes : List ℕ) (command : Command) → arguments command ≡ [] → SpellsCommand names bytes command → bytes ≡ verb_word (verb_of command)
+lone_line names bytes command none h =
+    alone names bytes (Word (verb_word (verb_of command))) (subst (λ (ts : List Token). SpellsLine names bytes (Word (verb_word (verb_of command)) ∷ ts)) none h)
+
+pub lone_read : (names : List (List ℕ)) (bytes : List ℕ) (command : Command) → arguments command ≡ [] → bytes ≡ verb_word (verb_of command) → SpellsCommand names bytes command
+lone_read names bytes command none e =
+    subst (λ (ts : List Token). SpellsLine names bytes (Word (verb_word (verb_of command)) ∷ ts)) (sym none) (line_of_one names bytes (Word (verb_word (verb_of command))) e)
+
+pub lone_found : (names : List (List ℕ)) (bytes : List ℕ) (r : Option Command) → IfSome r (λ command. arguments command ≡ []) → IfSome r (λ command. bytes ≡ verb_word (verb_of command)) → IfSome r (SpellsCommand names bytes)
+lone_found names bytes None none e = tt
+lone_found names bytes (Some command) none e = lone_read names bytes command none e
+
+-- and that verb is one of two
+no_lone : (bytes : List ℕ) (command : Command) → arguments command ≡ [] → IsNoneOf lone_verbs bytes → bytes ≢ verb_word (verb_of command)
+no_lone bytes (Forward Commit) none other e = other.0 e
+no_lone bytes Show none other e = other.1.0 e
+no_lone bytes command none other e = absurd cc
+
+-- a line with a space has arguments
+some_arguments : (names : List (List ℕ)) (bytes first rest : List ℕ) (command : Command) → bytes ≡ spaced (first ∷ rest ∷ []) → SpellsCommand names bytes command → TakesArguments command
+some_arguments names bytes first rest command e h =
+    ⊎_elim
+    (λ (none : arguments command ≡ []). absurd (never_split (verb_word (verb_of command)) first rest (verb_has_no_space (verb_of command)) (sym (lone_line names bytes command none h) ∙ e)))
+    (λ (k : TakesArguments command). k)
+    (alone_or_more command)
+
+pub command_parts : (names : List (List ℕ)) (bytes : List ℕ) (command : Command) → TakesArguments command → SpellsCommand names bytes command → HasVerb names bytes command
+command_parts names bytes command takes h = by_arguments (arguments command) takes h
+  where
+    by_arguments : (ts : List Token) → 0 < length ts → SpellsLine names bytes (Word (verb_word (verb_of command)) ∷ ts) → HasArguments names bytes command ts
+    by_arguments [] some h = absurd (omega (arith, some))
+    by_arguments (u ∷ ts) some h = let b = after_word names bytes _ u ts h in record { rest = b.0; parts = b.1; spelled = b.2 }
+
+-- a verb in front of arguments is a command
+pub command_of : (names : List (List ℕ)) (bytes rest : List ℕ) (command : Command) → bytes ≡ spaced (verb_word (verb_of command) ∷ rest ∷ []) → TakesArguments command → SpellsLine names rest (arguments command) → SpellsCommand names bytes command
+command_of names bytes rest command e takes h = by_arguments (arguments command) takes h
+  where
+    by_arguments : (ts : List Token) → 0 < length ts → SpellsLine names rest ts → SpellsLine names bytes (Word (verb_word (verb_of command)) ∷ ts)
+    by_arguments [] some h = absurd (omega (arith, some))
+    by_arguments (u ∷ ts) some h = joined names bytes (Word (verb_word (verb_of command))) u ts rest (record { front = verb_word (verb_of command); parts = e; spelled = refl }) h
+
+-- a line of this verb with none of its arguments
+pub no_command : (names : List (List ℕ)) (bytes rest : List ℕ) (verb : Verb) → bytes ≡ spaced (verb_word verb ∷ rest ∷ []) → ((command : Command) → verb_of command ≡ verb → TakesArguments command → SpellsLine names rest (arguments command) → ⊥) → (command : Command) → SpellsCommand names bytes command → ⊥
+no_command names bytes rest verb e none command h =
+    let takes = some_arguments names bytes (verb_word verb) rest command e h in
+    let k = command_parts names bytes command takes h in
+    let same = one_verb bytes (verb_of command) verb k.rest rest k.parts e in
+    none command same.0 takes (rw same.1 at k.spelled)
+
+-- a line of no verb
+pub no_verb : (names : List (List ℕ)) (bytes : List ℕ) → ((verb : Verb) (rest : List ℕ) → bytes ≢ spaced (verb_word verb ∷ rest ∷ [])) → IsNoneOf lone_verbs bytes → (command : Command) → SpellsCommand names bytes command → ⊥
+no_verb names bytes none other command h =
+    ⊎_elim
+    (λ (e : arguments command ≡ []). no_lone bytes command e other (lone_line names bytes command e h))
+    (λ (takes : TakesArguments command). let k = command_parts names bytes command takes h in none (verb_of command) k.rest k.parts)
+    (alone_or_more command)
+
+-- a line without this verb and a space in front is no command of it
+sends_something : (command : Command) → verb_of command ≡ verbs.Send → TakesArguments command
+sends_something (Forward (Send to value)) e = omega arith
+sends_something command e = absurd cc
+
+receives_something : (command : Command) → verb_of command ≡ verbs.Receive → TakesArguments command
+receives_something (Forward (Receive from slot)) e = omega arith
+receives_something command e = absurd cc
+
+pub sends_nothing : (names : List (List ℕ)) (bytes : List ℕ) (command : Command) → ((rest : List ℕ) → bytes ≢ spaced (verb_word verbs.Send ∷ rest ∷ [])) → SpellsCommand names bytes command → verb_of command ≢ verbs.Send
+sends_nothing names bytes command none h e =
+    let k = command_parts names bytes command (sends_something command e) h in none k.rest (rw e at k.parts)
+
+pub receives_nothing : (names : List (List ℕ)) (bytes : List ℕ) (command : Command) → ((rest : List ℕ) → bytes ≢ spaced (verb_word verbs.Receive ∷ rest ∷ [])) → SpellsCommand names bytes command → verb_of command ≢ verbs.Receive
+receives_nothing names bytes command none h e =
+    let k = command_parts names bytes command (receives_something command e) h in none k.rest (rw e at k.parts)
+
+-- none of the lines of this verb
+pub no_sending : (names : List (List ℕ)) (bytes : List ℕ) → ((to : ℕ) (value : Value) → SpellsLine names bytes (RoleAt to ∷ Worth value ∷ []) → ⊥) → (command : Command) → verb_of command ≡ verbs.Send → SpellsLine names bytes (arguments command) → ⊥
+no_sending names bytes none (Forward (Send to value)) e h = none to value h
+no_sending names bytes none command e h = absurd cc
+
+pub no_choosing : (names : List (List ℕ)) (bytes : List ℕ) → ((role : ℕ) (name : List ℕ) → SpellsLine names bytes (RoleAt role ∷ Called name ∷ []) → ⊥) → (command : Command) → verb_of command ≡ verbs.Choose → SpellsLine names bytes (arguments command) → ⊥
+no_choosing names bytes none (Forward (Choose to label)) e h = none to label h
+no_choosing names bytes none command e h = absurd cc
+
+pub no_receiving : (names : List (List ℕ)) (bytes : List ℕ) → ((role : ℕ) (name : List ℕ) → SpellsLine names bytes (RoleAt role ∷ Called name ∷ []) → ⊥) → (command : Command) → verb_of command ≡ verbs.Receive → SpellsLine names bytes (arguments command) → ⊥
+no_receiving names bytes none (Forward (Receive from slot)) e h = none from slot h
+no_receiving names bytes none command e h = absurd cc
+
+pub no_choice : (names : List (List ℕ)) (bytes rest : List ℕ) (r : Option Command) → bytes ≡ spaced (verb_word verbs.Choose ∷ rest ∷ []) → IfNone r ((to : ℕ) (label : List ℕ) → SpellsLine names rest (RoleAt to ∷ Called label ∷ []) → ⊥) → IfNone r ((command : Command) → verb_of command ≢ verbs.Send → verb_of command ≢ verbs.Receive → SpellsCommand names bytes command → ⊥)
+no_choice names bytes rest (Some command) e none = tt
+no_choice names bytes rest None e none = λ command no_send no_receive h.
+    no_command names bytes rest verbs.Choose e (λ other f takes k. no_choosing names rest none other f k) command h
+
+pub no_picking : (names : List (List ℕ)) (bytes : List ℕ) → ((role : ℕ) → SpellsRole names bytes role → ⊥) → (command : Command) → verb_of command ≡ verbs.Pick → SpellsLine names bytes (arguments command) → ⊥
+no_picking names bytes none (Forward (Pick from)) e h = none from (alone names bytes (RoleAt from) h)
+no_picking names bytes none command e h = absurd cc
+
+pub no_marking : (names : List (List ℕ)) (bytes : List ℕ) → (IsName bytes → ⊥) → (command : Command) → verb_of command ≡ verbs.Mark → SpellsLine names bytes (arguments command) → ⊥
+no_marking names bytes none (Forward (Mark name)) e h = none (alone names bytes (Called name) h).allowed
+no_marking names bytes none command e h = absurd cc
+
+pub no_undoing : (names : List (List ℕ)) (bytes : List ℕ) → ((id : ℕ) → SpellsNumber bytes id → ⊥) → (command : Command) → verb_of command ≡ verbs.Undo → SpellsLine names bytes (arguments command) → ⊥
+no_undoing names bytes none (Undo id) e h = none id (alone names bytes (Number id) h)
+no_undoing names bytes none (Forward (Mark name)) e h = absurd cc
+no_undoing names bytes none command e h = absurd cc
+
+pub no_rolling_back : (names : List (List ℕ)) (bytes : List ℕ) → ((id : ℕ) → SpellsNumber bytes id → ⊥) → (command : Command) → verb_of command ≡ verbs.Rollback → SpellsLine names bytes (arguments command) → ⊥
+no_rolling_back names bytes none (Rollback id) e h = none id (alone names bytes (Number id) h)
+no_rolling_back names bytes none (Forward (Mark name)) e h = absurd cc
+no_rolling_back names bytes none command e h = absurd cc
+
+pub no_going_back : (names : List (List ℕ)) (bytes : List ℕ) → (IsName bytes → ⊥) → (command : Command) → verb_of command ≡ verbs.Back → SpellsLine names bytes (arguments command) → ⊥
+no_going_back names bytes none (Back name) e h = none (alone names bytes (Called name) h).allowed
+no_going_back names bytes none (Forward (Mark name)) e h = absurd cc
+no_going_back names bytes none command e h = absurd cc
+
+pub no_asking : (names : List (List ℕ)) (bytes : List ℕ) → ((n : ℕ) → SpellsNumber bytes n → ⊥) → (command : Command) → verb_of command ≡ verbs.News → SpellsLine names bytes (arguments command) → ⊥
+no_asking names bytes none (News known) e h = none known (alone names bytes (Number known) h)
+no_asking names bytes none (Forward (Mark name)) e h = absurd cc
+no_asking names bytes none command e h = absurd cc
+
+pub no_showing : (command : Command) → verb_of command ≡ verbs.Show → TakesArguments command → ⊥
+no_showing Show e takes = absurd (omega (arith, takes))
+no_showing (Forward (Mark name)) e takes = absurd cc
+no_showing command e takes = absurd cc
+
+no_committing : (command : Command) → verb_of command ≡ verbs.Commit → TakesArguments command → ⊥
+no_committing (Forward Commit) e takes = absurd (omega (arith, takes))
+no_committing (Forward (Mark name)) e takes = absurd cc
+no_committing command e takes = absurd cc
+
+-- a line of none of the other verbs
+pub no_other : (names : List (List ℕ)) (bytes : List ℕ) (r : Option Command) → ((verb : Verb) (rest : List ℕ) → verb ≢ verbs.Send → verb ≢ verbs.Receive → verb ≢ verbs.Commit → verb ≢ verbs.Show → bytes ≢ spaced (verb_word verb ∷ rest ∷ [])) → IfNone r (IsNoneOf lone_verbs bytes) → IfNone r ((command : Command) → verb_of command ≢ verbs.Send → verb_of command ≢ verbs.Receive → SpellsCommand names bytes command → ⊥)
+no_other names bytes (Some command) none other = tt
+no_other names bytes None none other = λ command no_send no_receive h.
+    ⊎_elim
+    (λ (e : arguments command ≡ []). no_lone bytes command e other (lone_line names bytes command e h))
+    (λ (takes : TakesArguments command). let k = command_parts names bytes command takes h in none (verb_of command) k.rest no_send no_receive (λ e. no_committing command e takes) (λ e. no_showing command e takes) k.parts)
+    (alone_or_more command)
+
+-- what stands after the role's name is no such line
+pub none_after : (names : List (List ℕ)) (bytes rest : List ℕ) (u : Token) (ts : List Token) → ((role : ℕ) (other : List ℕ) → BeginsWith names bytes (RoleAt role) other → other ≡ rest) → (SpellsLine names rest (u ∷ ts) → ⊥) → (role : ℕ) → SpellsLine names bytes (RoleAt role ∷ u ∷ ts) → ⊥
+none_after names bytes rest u ts only none role h =
+    let b = after_token names bytes (RoleAt role) u ts h in
+    none (rw (only role b.0 b.1) at b.2)
+
+-- no role's name stands in front
+pub no_role_in_front : (names : List (List ℕ)) (bytes : List ℕ) (u : Token) (ts : List Token) → ((role : ℕ) (rest : List ℕ) → BeginsWith names bytes (RoleAt role) rest → ⊥) → (role : ℕ) → SpellsLine names bytes (RoleAt role ∷ u ∷ ts) → ⊥
+no_role_in_front names bytes u ts none role h = let b = after_token names bytes (RoleAt role) u ts h in none role b.0 b.1
+
+-- a line with the role's name in front
+pub role_in_front : (names : List (List ℕ)) (bytes rest : List ℕ) (role : ℕ) (u : Token) → BeginsWith names bytes (RoleAt role) rest → SpellsToken names rest u → SpellsLine names bytes (RoleAt role ∷ u ∷ [])
+role_in_front names bytes rest role u b h = joined names bytes (RoleAt role) u [] rest b (line_of_one names rest u h)
+
+-- what stands after the role's name is none of these
+pub none_of_these : (names : List (List ℕ)) (bytes rest : List ℕ) (u : Token) → ((role : ℕ) (other : List ℕ) → BeginsWith names bytes (RoleAt role) other → other ≡ rest) → (SpellsToken names rest u → ⊥) → (role : ℕ) → SpellsLine names bytes (RoleAt role ∷ u ∷ []) → ⊥
+none_of_these names bytes rest u only none role h = none_after names bytes rest u [] only (λ k. none (alone names rest u k)) role h
+
+-- a name that was read
+pub name_read : (bytes name : List ℕ) → IsName bytes → name ≡ bytes → SpellsName bytes name
+name_read bytes name h e = record { is = sym e; allowed = h }
+
+-- the arguments that were read make a command after their verb
+pub command_read : (names : List (List ℕ)) (bytes rest : List ℕ) (verb : Verb) (r : Result Command LineFault) → bytes ≡ spaced (verb_word verb ∷ rest ∷ []) → IfOk r (λ command. verb_of command ≡ verb) → IfOk r TakesArguments → IfOk r (λ command. SpellsLine names rest (arguments command)) → IfOk r (SpellsCommand names bytes)
+command_read names bytes rest verb (Err fault) e v takes h = tt
+command_read names bytes rest verb (Ok command) e v takes h = command_of names bytes rest command (rw v e) takes h
+
+pub command_found : (names : List (List ℕ)) (bytes rest : List ℕ) (verb : Verb) (r : Option Command) → bytes ≡ spaced (verb_word verb ∷ rest ∷ []) → IfSome r (λ command. verb_of command ≡ verb) → IfSome r TakesArguments → IfSome r (λ command. SpellsLine names rest (arguments command)) → IfSome r (SpellsCommand names bytes)
+command_found names bytes rest verb None e v takes h = tt
+command_found names bytes rest verb (Some command) e v takes h = command_of names bytes rest command (rw v e) takes h
+
+-- what stands after the role's name is no name
+pub none_of_names : (names : List (List ℕ)) (bytes rest : List ℕ) → ((role : ℕ) (other : List ℕ) → BeginsWith names bytes (RoleAt role) other → other ≡ rest) → (IsName rest → ⊥) → (role : ℕ) (name : List ℕ) → SpellsLine names bytes (RoleAt role ∷ Called name ∷ []) → ⊥
+none_of_names names bytes rest only none role name = none_of_these names bytes rest (Called name) only (λ k. none k.allowed) role

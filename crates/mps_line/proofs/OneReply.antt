@@ -1,0 +1,452 @@
+-- What a reply's text means is unique.
+use Rattle.std.proofs.Common.{arith, rules, ◌≡◌, ◌≢◌, ℕ, ◌⊎◌, ⊎_elim, inl, inr, List, [], ◌∷◌, Some, get_or, refl, sym, ap, subst, ◌∙◌}
+use Rattle.std.specs.Prelude.{◌<◌, Option, None, length, map, if◌then◌else◌, codes}
+use Rattle.std.specs.Str.{bytes_eq}
+use Rattle.std.proofs.lemmas.Option.{same_Some}
+use Rattle.mps_base.specs.Names.{IsName}
+use Rattle.mps_base.specs.Spaced.{spaced}
+use Rattle.mps_base.specs.Values.{SpellsValue}
+use Rattle.mps_base.specs.declared.value.Value.{Value}
+use Rattle.mps_base.specs.declared.action.Message.{Message}
+use Rattle.mps_base.specs.declared.action.Message.TheVariants.{Value as Plain, Label}
+use Rattle.mps_command.specs.declared.answer.Done.{Done}
+use Rattle.mps_command.specs.declared.answer.Answer.TheVariants.{Done as Accepted, Undone, News, Shown, Refused}
+use Rattle.mps_command.specs.declared.answer.Violation.TheVariants.{Ended, WrongAct, WrongPeer, WrongSort, NoLabel, NothingQueued, Mismatch}
+use Rattle.mps_command.specs.declared.answer.Refusal.{Refusal}
+use Rattle.mps_command.specs.declared.answer.Refusal.TheVariants.{Violation as Violates, NoStep, NotYours, Final, Needed, NoMark, Full, Memory}
+use Rattle.mps_line.specs.declared.write_replies.Reply.{Reply}
+use Rattle.mps_line.specs.declared.write_replies.Reply.TheVariants.{Answered, BadLine, Joined, NoSession, NoRole, Taken, Number as WrongNumber}
+use Rattle.mps_line.specs.Tokens.{Token, Word, Called, Number, Show, HasNoSpace, SpellsShow, SpellsToken, SpellsLine}
+use Rattle.mps_line.specs.Replies.{word_of, message_token, done_tokens, undone_tokens, news_tokens, refusal_tokens, SpellsReply}
+use Rattle.mps_line.proofs.Splitting.{one_split, never_split, digits_have_no_space, first_word, after_token, alone}
+use Rattle.mps_line.proofs.CommandLines.{after_word}
+use Rattle.mps_line.proofs.OneSpelling.{one_number}
+
+-- why a line is refused: by the machine's reason, or by one that no command has
+data Cause : Type 0 where
+  Because : (r : Refusal) → Cause
+  Unread : Cause
+  Nowhere : Cause
+  Nobody : Cause
+  Used : Cause
+  Misnumbered : Cause
+
+-- the reply that says so
+abbrev reply_of : Cause → Reply
+reply_of (Because r) = Answered (Refused r)
+reply_of Unread = BadLine
+reply_of Nowhere = NoSession
+reply_of Nobody = NoRole
+reply_of Used = Taken
+reply_of Misnumbered = WrongNumber
+
+-- its word, and the tokens after `refused`
+abbrev cause_word : Cause → List ℕ
+cause_word (Because r) = word_of r
+cause_word Unread = codes "line"
+cause_word Nowhere = codes "nosession"
+cause_word Nobody = codes "norole"
+cause_word Used = codes "taken"
+cause_word Misnumbered = codes "number"
+
+abbrev cause_tokens : Cause → List Token
+cause_tokens (Because r) = refusal_tokens r
+cause_tokens cause = Word (cause_word cause) ∷ []
+
+-- the cause that the word is for, `final` and `needed` by step 0
+abbrev meant : List ℕ → Option Cause
+meant word =
+    if bytes_eq word (codes "ended") then Some (Because (Violates Ended))
+    else if bytes_eq word (codes "wrongact") then Some (Because (Violates WrongAct))
+    else if bytes_eq word (codes "wrongpeer") then Some (Because (Violates WrongPeer))
+    else if bytes_eq word (codes "wrongsort") then Some (Because (Violates WrongSort))
+    else if bytes_eq word (codes "nolabel") then Some (Because (Violates NoLabel))
+    else if bytes_eq word (codes "nothingqueued") then Some (Because (Violates NothingQueued))
+    else if bytes_eq word (codes "mismatch") then Some (Because (Violates Mismatch))
+    else if bytes_eq word (codes "nostep") then Some (Because NoStep)
+    else if bytes_eq word (codes "notyours") then Some (Because NotYours)
+    else if bytes_eq word (codes "final") then Some (Because (Final 0))
+    else if bytes_eq word (codes "needed") then Some (Because (Needed 0))
+    else if bytes_eq word (codes "nomark") then Some (Because NoMark)
+    else if bytes_eq word (codes "full") then Some (Because Full)
+    else if bytes_eq word (codes "memory") then Some (Because Memory)
+    else if bytes_eq word (codes "line") then Some Unread
+    else if bytes_eq word (codes "nosession") then Some Nowhere
+    else if bytes_eq word (codes "norole") then Some Nobody
+    else if bytes_eq word (codes "taken") then Some Used
+    else if bytes_eq word (codes "number") then Some Misnumbered
+    else None
+
+-- the cause without its step
+abbrev plain : Cause → Cause
+plain (Because (Final by)) = Because (Final 0)
+plain (Because (Needed by)) = Because (Needed 0)
+plain c = c
+
+meant_word : (c : Cause) → meant (cause_word c) ≡ Some (plain c)
+meant_word (Because (Violates Ended)) = refl
+meant_word (Because (Violates WrongAct)) = refl
+meant_word (Because (Violates WrongPeer)) = refl
+meant_word (Because (Violates WrongSort)) = refl
+meant_word (Because (Violates NoLabel)) = refl
+meant_word (Because (Violates NothingQueued)) = refl
+meant_word (Because (Violates Mismatch)) = refl
+meant_word (Because NoStep) = refl
+meant_word (Because NotYours) = refl
+meant_word (Because (Final by)) = refl
+meant_word (Because (Needed by)) = refl
+meant_word (Because NoMark) = refl
+meant_word (Because Full) = refl
+meant_word (Because Memory) = refl
+meant_word Unread = refl
+meant_word Nowhere = refl
+meant_word Nobody = refl
+meant_word Used = refl
+meant_word Misnumbered = refl
+
+one_word : (c d : Cause) → cause_word c ≡ cause_word d → plain c ≡ plain d
+one_word c d e = same_Some (plain c) (plain d) (sym (meant_word c) ∙ ap meant e ∙ meant_word d)
+
+pub word_has_no_space : (r : Refusal) → HasNoSpace (word_of r)
+word_has_no_space (Violates Ended) = search rules
+word_has_no_space (Violates WrongAct) = search rules
+word_has_no_space (Violates WrongPeer) = search rules
+word_has_no_space (Violates WrongSort) = search rules
+word_has_no_space (Violates NoLabel) = search rules
+word_has_no_space (Violates NothingQueued) = search rules
+word_has_no_space (Violates Mismatch) = search rules
+word_has_no_space NoStep = search rules
+word_has_no_space NotYours = search rules
+word_has_no_space (Final by) = search rules
+word_has_no_space (Needed by) = search rules
+word_has_no_space NoMark = search rules
+word_has_no_space Full = search rules
+word_has_no_space Memory = search rules
+
+cause_has_no_space : (c : Cause) → HasNoSpace (cause_word c)
+cause_has_no_space (Because r) = word_has_no_space r
+cause_has_no_space Unread = search rules
+cause_has_no_space Nowhere = search rules
+cause_has_no_space Nobody = search rules
+cause_has_no_space Used = search rules
+cause_has_no_space Misnumbered = search rules
+
+pub done_has_no_space : HasNoSpace (codes "done")
+done_has_no_space = search rules
+
+pub final_has_no_space : HasNoSpace (codes "final")
+final_has_no_space = search rules
+
+pub needed_has_no_space : HasNoSpace (codes "needed")
+needed_has_no_space = search rules
+
+pub undone_has_no_space : HasNoSpace (codes "undone")
+undone_has_no_space = search rules
+
+pub news_has_no_space : HasNoSpace (codes "news")
+news_has_no_space = search rules
+
+pub joined_has_no_space : HasNoSpace (codes "joined")
+joined_has_no_space = search rules
+
+pub join_has_no_space : HasNoSpace (codes "join")
+join_has_no_space = search rules
+
+pub refused_has_no_space : HasNoSpace (codes "refused")
+refused_has_no_space = search rules
+
+-- two lines that begin with this word
+one_word_first : (a letters : List ℕ) (t : Token) (ts : List Token) (u : Token) (us : List Token) → HasNoSpace letters → SpellsLine [] a (Word letters ∷ t ∷ ts) → SpellsLine [] a (Word letters ∷ u ∷ us) → (rest : List ℕ) × SpellsLine [] rest (t ∷ ts) × SpellsLine [] rest (u ∷ us)
+one_word_first a letters t ts u us p h k =
+    let b = after_word [] a letters t ts h in
+    let d = after_word [] a letters u us k in
+    let same = one_split letters letters b.0 d.0 p p (sym b.1 ∙ d.1) in
+    (b.0, b.2, rw (sym same.1) at d.2)
+
+-- no line is one word and two tokens
+never_both : (a letters : List ℕ) (t u : Token) (us : List Token) → HasNoSpace letters → SpellsLine [] a (Word letters ∷ []) → SpellsLine [] a (t ∷ u ∷ us) → ⊥
+never_both a letters t u us p h k =
+    let b = after_token [] a t u us k in
+    never_split letters b.1.front b.0 p (sym (alone [] a (Word letters) h) ∙ b.1.parts)
+
+-- a refusal has its word alone, or a step after it
+pub alone_or_step : (r : Refusal) → (refusal_tokens r ≡ Word (word_of r) ∷ []) ⊎ ((by : ℕ) × (refusal_tokens r ≡ Word (word_of r) ∷ Number by ∷ []))
+alone_or_step (Final by) = inr (by, refl)
+alone_or_step (Needed by) = inr (by, refl)
+alone_or_step (Violates v) = inl refl
+alone_or_step NoStep = inl refl
+alone_or_step NotYours = inl refl
+alone_or_step NoMark = inl refl
+alone_or_step Full = inl refl
+alone_or_step Memory = inl refl
+
+-- the cause with this step, if it names one
+abbrev with_step : Cause → ℕ → Cause
+with_step (Because (Final by)) n = Because (Final n)
+with_step (Because (Needed by)) n = Because (Needed n)
+with_step c n = c
+
+-- a cause that names no step
+record Alone (c : Cause) : Type 0 where
+  tokens : cause_tokens c ≡ Word (cause_word c) ∷ []
+  is : plain c ≡ c
+
+-- and one that names this step
+record Names (c : Cause) (by : ℕ) : Type 0 where
+  tokens : cause_tokens c ≡ Word (cause_word c) ∷ Number by ∷ []
+  is : with_step (plain c) by ≡ c
+
+names_or_not : (c : Cause) → Alone c ⊎ ((by : ℕ) × Names c by)
+names_or_not (Because (Final by)) = inr (by, record { tokens = refl; is = refl })
+names_or_not (Because (Needed by)) = inr (by, record { tokens = refl; is = refl })
+names_or_not (Because (Violates v)) = inl record { tokens = refl; is = refl }
+names_or_not (Because NoStep) = inl record { tokens = refl; is = refl }
+names_or_not (Because NotYours) = inl record { tokens = refl; is = refl }
+names_or_not (Because NoMark) = inl record { tokens = refl; is = refl }
+names_or_not (Because Full) = inl record { tokens = refl; is = refl }
+names_or_not (Because Memory) = inl record { tokens = refl; is = refl }
+names_or_not Unread = inl record { tokens = refl; is = refl }
+names_or_not Nowhere = inl record { tokens = refl; is = refl }
+names_or_not Nobody = inl record { tokens = refl; is = refl }
+names_or_not Used = inl record { tokens = refl; is = refl }
+names_or_not Misnumbered = inl record { tokens = refl; is = refl }
+
+-- no line is a word alone and a word with a step
+never_names : (a : List ℕ) (c d : Cause) (by : ℕ) → Alone c → Names d by → SpellsLine [] a (cause_tokens c) → SpellsLine [] a (cause_tokens d) → ⊥
+never_names a c d by e f h k =
+    never_both a (cause_word c) (Word (cause_word d)) (Number by) [] (cause_has_no_space c) (rw e.tokens at h) (rw f.tokens at k)
+
+-- a word and a step are one cause's
+one_named : (a : List ℕ) (c d : Cause) (m n : ℕ) → Names c m → Names d n → SpellsLine [] a (cause_tokens c) → SpellsLine [] a (cause_tokens d) → c ≡ d
+one_named a c d m n e f h k =
+    let b = after_word [] a (cause_word c) (Number m) [] (rw e.tokens at h) in
+    let g = after_word [] a (cause_word d) (Number n) [] (rw f.tokens at k) in
+    let same = one_split (cause_word c) (cause_word d) b.0 g.0 (cause_has_no_space c) (cause_has_no_space d) (sym b.1 ∙ g.1) in
+    let step = one_number b.0 m n (alone [] b.0 (Number m) b.2) (alone [] b.0 (Number n) (rw (sym same.1) at g.2)) in
+    sym e.is ∙ ap (λ (x : Cause). with_step x m) (one_word c d same.0) ∙ ap (with_step (plain d)) step ∙ f.is
+
+one_cause : (a : List ℕ) (c d : Cause) → SpellsLine [] a (cause_tokens c) → SpellsLine [] a (cause_tokens d) → c ≡ d
+one_cause a c d h k =
+    ⊎_elim
+    (λ (e : Alone c).
+    ⊎_elim
+    (λ (f : Alone d).
+    sym e.is ∙ one_word c d (sym (alone [] a (Word (cause_word c)) (rw e.tokens at h)) ∙ alone [] a (Word (cause_word d)) (rw f.tokens at k)) ∙ f.is)
+    (λ (n : (by : ℕ) × Names d by). absurd (never_names a c d n.0 e n.1 h k))
+    (names_or_not d))
+    (λ (m : (by : ℕ) × Names c by).
+    ⊎_elim
+    (λ (f : Alone d). absurd (never_names a d c m.0 f m.1 k h))
+    (λ (n : (by : ℕ) × Names d by). one_named a c d m.0 n.0 m.1 n.1 h k)
+    (names_or_not d))
+    (names_or_not c)
+
+-- what stands after a number
+record SameNumber (m n : ℕ) (t : Token) (ts : List Token) (u : Token) (us : List Token) : Type 0 where
+  number : m ≡ n
+  rest : List ℕ
+  one : SpellsLine [] rest (t ∷ ts)
+  other : SpellsLine [] rest (u ∷ us)
+
+same_number : (a : List ℕ) (m n : ℕ) (t : Token) (ts : List Token) (u : Token) (us : List Token) → SpellsLine [] a (Number m ∷ t ∷ ts) → SpellsLine [] a (Number n ∷ u ∷ us) → SameNumber m n t ts u us
+same_number a m n t ts u us h k =
+    let b = after_token [] a (Number m) t ts h in
+    let d = after_token [] a (Number n) u us k in
+    let same = one_split b.1.front d.1.front b.0 d.0 (digits_have_no_space b.1.front b.1.spelled.number.digits) (digits_have_no_space d.1.front d.1.spelled.number.digits) (sym b.1.parts ∙ d.1.parts) in
+    record {
+      number = one_number b.1.front m n b.1.spelled (rw (sym same.0) at d.1.spelled);
+      rest = b.0;
+      one = b.2;
+      other = rw (sym same.1) at d.2;
+    }
+
+-- no line is one number and two tokens
+number_or_two : (a : List ℕ) (m n : ℕ) (u : Token) (us : List Token) → SpellsLine [] a (Number m ∷ []) → SpellsLine [] a (Number n ∷ u ∷ us) → ⊥
+number_or_two a m n u us h k =
+    let b = after_token [] a (Number n) u us k in
+    never_split a b.1.front b.0 (digits_have_no_space a (alone [] a (Number m) h).number.digits) b.1.parts
+
+-- numbers have one line
+one_list : (a : List ℕ) (m n : ℕ) (ms ns : List ℕ) → SpellsLine [] a (map Number (m ∷ ms)) → SpellsLine [] a (map Number (n ∷ ns)) → (m ∷ ms) ≡ (n ∷ ns)
+one_list a m n [] [] h k = ap (λ (id : ℕ). id ∷ []) (one_number a m n (alone [] a (Number m) h) (alone [] a (Number n) k))
+one_list a m n [] (j ∷ ns) h k = absurd (number_or_two a m n (Number j) (map Number ns) h k)
+one_list a m n (i ∷ ms) [] h k = absurd (number_or_two a n m (Number i) (map Number ms) k h)
+one_list a m n (i ∷ ms) (j ∷ ns) h k =
+    let s = same_number a m n (Number i) (map Number ms) (Number j) (map Number ns) h k in
+    let number : m ≡ n = s.number in
+    let others = one_list s.rest i j ms ns s.one s.other in
+    cc
+
+-- and so have the steps that were taken back
+one_undone : (a : List ℕ) (ms ns : List ℕ) → SpellsLine [] a (undone_tokens ms) → SpellsLine [] a (undone_tokens ns) → ms ≡ ns
+one_undone a [] [] h k = refl
+one_undone a [] (n ∷ ns) h k = absurd (never_both a (codes "undone") _ (Number n) (map Number ns) undone_has_no_space h k)
+one_undone a (m ∷ ms) [] h k = absurd (never_both a (codes "undone") _ (Number m) (map Number ms) undone_has_no_space k h)
+one_undone a (m ∷ ms) (n ∷ ns) h k =
+    let b = one_word_first a (codes "undone") (Number m) (map Number ms) (Number n) (map Number ns) undone_has_no_space h k in
+    one_list b.0 m n ms ns b.1 b.2
+
+-- and so has the news
+one_news : (a : List ℕ) (m n : ℕ) (ms ns : List ℕ) → SpellsLine [] a (news_tokens m ms) → SpellsLine [] a (news_tokens n ns) → (m ≡ n) × (ms ≡ ns)
+one_news a m n ms ns h k =
+    let b = one_word_first a (codes "news") (Number m) (map Number ms) (Number n) (map Number ns) news_has_no_space h k in
+    let same = one_list b.0 m n ms ns b.1 b.2 in
+    (cc, cc)
+
+-- what stands after the first word of a reply
+after_done : (a letters : List ℕ) (id : ℕ) (got : Option Message) → SpellsLine [] a (Word letters ∷ done_tokens id got) → (rest : List ℕ) × (a ≡ spaced (letters ∷ rest ∷ [])) × SpellsLine [] rest (done_tokens id got)
+after_done a letters id None h = after_word [] a letters _ _ h
+after_done a letters id (Some message) h = after_word [] a letters _ _ h
+
+after_cause : (a : List ℕ) (c : Cause) → SpellsReply a (reply_of c) → (rest : List ℕ) × (a ≡ spaced (codes "refused" ∷ rest ∷ [])) × SpellsLine [] rest (cause_tokens c)
+after_cause a (Because (Final by)) h = after_word [] a (codes "refused") _ _ h
+after_cause a (Because (Needed by)) h = after_word [] a (codes "refused") _ _ h
+after_cause a (Because (Violates v)) h = after_word [] a (codes "refused") _ _ h
+after_cause a (Because NoStep) h = after_word [] a (codes "refused") _ _ h
+after_cause a (Because NotYours) h = after_word [] a (codes "refused") _ _ h
+after_cause a (Because NoMark) h = after_word [] a (codes "refused") _ _ h
+after_cause a (Because Full) h = after_word [] a (codes "refused") _ _ h
+after_cause a (Because Memory) h = after_word [] a (codes "refused") _ _ h
+after_cause a Unread h = after_word [] a (codes "refused") _ _ h
+after_cause a Nowhere h = after_word [] a (codes "refused") _ _ h
+after_cause a Nobody h = after_word [] a (codes "refused") _ _ h
+after_cause a Used h = after_word [] a (codes "refused") _ _ h
+after_cause a Misnumbered h = after_word [] a (codes "refused") _ _ h
+
+-- a line has one cause
+same_cause : (a : List ℕ) (c d : Cause) → SpellsReply a (reply_of c) → SpellsReply a (reply_of d) → reply_of c ≡ reply_of d
+same_cause a c d h k =
+    let b = after_cause a c h in
+    let f = after_cause a d k in
+    let same = one_split (codes "refused") (codes "refused") b.0 f.0 refused_has_no_space refused_has_no_space (sym b.1 ∙ f.1) in
+    ap reply_of (one_cause b.0 c d b.2 (rw (sym same.1) at f.2))
+
+-- a line begins with the first byte of its first word
+first_byte : (a letters : List ℕ) (ts : List Token) → 0 < length letters → SpellsLine [] a (Word letters ∷ ts) → get_or a 0 0 ≡ get_or letters 0 0
+first_byte a letters ts some h =
+    let w = first_word [] a letters ts h in
+    ap (λ (l : List ℕ). get_or l 0 0) w.1 ∙ front letters w.0 some
+  where
+    front : (xs : List ℕ) (ss : List (List ℕ)) → 0 < length xs → get_or (spaced (xs ∷ ss)) 0 0 ≡ get_or xs 0 0
+    front [] ss k = absurd (omega (arith, k))
+    front (x ∷ xs) [] k = refl
+    front (x ∷ xs) (s ∷ ss) k = refl
+
+-- replies of different kinds are told apart by it
+abbrev pub letter : Reply → ℕ
+letter (Answered (Accepted done)) = 100
+letter (Answered (Undone ids)) = 117
+letter (Answered (News n ids)) = 110
+letter (Answered (Shown text)) = 123
+letter (Joined session name) = 106
+letter reply = 114
+
+show_letter : (a text : List ℕ) → SpellsShow a text → get_or a 0 0 ≡ 123
+show_letter [] text h = absurd (let none : None ≡ Some 123 = h.allowed.brace in cc)
+show_letter (c ∷ a) text h = same_Some c 123 h.allowed.brace
+
+pub begins : (a : List ℕ) (r : Reply) → SpellsReply a r → get_or a 0 0 ≡ letter r
+begins a (Answered (Accepted done)) h = first_byte a (codes "done") _ (omega arith) h
+begins a (Answered (Undone ids)) h = first_byte a (codes "undone") _ (omega arith) h
+begins a (Answered (News n ids)) h = first_byte a (codes "news") _ (omega arith) h
+begins a (Answered (Shown text)) h = show_letter a text (alone [] a (Show text) h)
+begins a (Answered (Refused r)) h = first_byte a (codes "refused") _ (omega arith) h
+begins a BadLine h = first_byte a (codes "refused") _ (omega arith) h
+begins a (Joined session name) h = first_byte a (codes "joined") _ (omega arith) h
+begins a NoSession h = first_byte a (codes "refused") _ (omega arith) h
+begins a NoRole h = first_byte a (codes "refused") _ (omega arith) h
+begins a Taken h = first_byte a (codes "refused") _ (omega arith) h
+begins a WrongNumber h = first_byte a (codes "refused") _ (omega arith) h
+
+one_letter : (a : List ℕ) (r s : Reply) → SpellsReply a r → SpellsReply a s → letter r ≡ letter s
+one_letter a r s h k = sym (begins a r h) ∙ begins a s k
+
+-- a reply says why a line is refused, or it begins with another letter
+refused_or_not : (r : Reply) → ((c : Cause) × (r ≡ reply_of c)) ⊎ (letter r ≢ 114)
+refused_or_not (Answered (Accepted done)) = inr (λ e. absurd (omega (arith, e)))
+refused_or_not (Answered (Undone ids)) = inr (λ e. absurd (omega (arith, e)))
+refused_or_not (Answered (News n ids)) = inr (λ e. absurd (omega (arith, e)))
+refused_or_not (Answered (Shown text)) = inr (λ e. absurd (omega (arith, e)))
+refused_or_not (Answered (Refused r)) = inl (Because r, refl)
+refused_or_not BadLine = inl (Unread, refl)
+refused_or_not (Joined session name) = inr (λ e. absurd (omega (arith, e)))
+refused_or_not NoSession = inl (Nowhere, refl)
+refused_or_not NoRole = inl (Nobody, refl)
+refused_or_not Taken = inl (Used, refl)
+refused_or_not WrongNumber = inl (Misnumbered, refl)
+
+cause_letter : (c : Cause) → letter (reply_of c) ≡ 114
+cause_letter (Because r) = refl
+cause_letter Unread = refl
+cause_letter Nowhere = refl
+cause_letter Nobody = refl
+cause_letter Used = refl
+cause_letter Misnumbered = refl
+
+-- and so has the line that a role is joined to a connection
+one_pass : (a : List ℕ) (m n : ℕ) (x y : List ℕ) → SpellsReply a (Joined m x) → SpellsReply a (Joined n y) → (m ≡ n) × (x ≡ y)
+one_pass a m n x y h k =
+    let b = one_word_first a (codes "joined") (Number m) (Called x ∷ []) (Number n) (Called y ∷ []) joined_has_no_space h k in
+    let s = same_number b.0 m n (Called x) [] (Called y) [] b.1 b.2 in
+    (s.number, sym (alone [] s.rest (Called x) s.one).is ∙ (alone [] s.rest (Called y) s.other).is)
+
+-- a text spells one value, and a value no name
+module _ (one_value : (a : List ℕ) (v w : Value) → SpellsValue a v → SpellsValue a w → v ≡ w) (no_name : (a : List ℕ) (v : Value) → SpellsValue a v → IsName a → ⊥) where
+  one_message : (a : List ℕ) (m n : Message) → SpellsToken [] a (message_token m) → SpellsToken [] a (message_token n) → m ≡ n
+  one_message a (Plain v) (Plain w) h k = ap Plain (one_value a v w h k)
+  one_message a (Plain v) (Label l) h k = absurd (no_name a v h k.allowed)
+  one_message a (Label l) (Plain w) h k = absurd (no_name a w k h.allowed)
+  one_message a (Label l) (Label m) h k = ap Label (sym h.is ∙ k.is)
+
+  one_done : (a : List ℕ) (m n : ℕ) (x y : Option Message) → SpellsLine [] a (done_tokens m x) → SpellsLine [] a (done_tokens n y) → (m ≡ n) × (x ≡ y)
+  one_done a m n None None h k = (one_number a m n (alone [] a (Number m) h) (alone [] a (Number n) k), refl)
+  one_done a m n None (Some y) h k = absurd (number_or_two a m n (message_token y) [] h k)
+  one_done a m n (Some x) None h k = absurd (number_or_two a n m (message_token x) [] k h)
+  one_done a m n (Some x) (Some y) h k =
+      let s = same_number a m n (message_token x) [] (message_token y) [] h k in
+      (s.number, ap Some (one_message s.rest x y (alone [] s.rest (message_token x) s.one) (alone [] s.rest (message_token y) s.other)))
+
+  same_done : (d e : Done) → (d.id ≡ e.id) × (d.got ≡ e.got) → d ≡ e
+  same_done d e h =
+      ap (λ (id : ℕ). let done : Done = record { id = id; got = d.got } in done) h.0
+      ∙ ap (λ (got : Option Message). let done : Done = record { id = e.id; got = got } in done) h.1
+
+  -- replies that refuse nothing
+  one_other : (a : List ℕ) (r s : Reply) → letter r ≡ letter s → letter r ≢ 114 → SpellsReply a r → SpellsReply a s → r ≡ s
+  one_other a (Answered (Accepted d)) (Answered (Accepted e)) l other h k =
+      let b = after_done a (codes "done") d.id d.got h in
+      let f = after_done a (codes "done") e.id e.got k in
+      let same = one_split (codes "done") (codes "done") b.0 f.0 done_has_no_space done_has_no_space (sym b.1 ∙ f.1) in
+      ap (λ (done : Done). Answered (Accepted done)) (same_done d e (one_done b.0 d.id e.id d.got e.got b.2 (rw (sym same.1) at f.2)))
+  one_other a (Answered (Undone ms)) (Answered (Undone ns)) l other h k = ap (λ (ids : List ℕ). Answered (Undone ids)) (one_undone a ms ns h k)
+  one_other a (Answered (News m ms)) (Answered (News n ns)) l other h k =
+      let one = one_news a m n ms ns h k in
+      let length : m ≡ n = one.0 in
+      let ids : ms ≡ ns = one.1 in
+      cc
+  one_other a (Answered (Shown x)) (Answered (Shown y)) l other h k = ap (λ (text : List ℕ). Answered (Shown text)) (sym (alone [] a (Show x) h).is ∙ (alone [] a (Show y) k).is)
+  one_other a (Joined m x) (Joined n y) l other h k =
+      let one = one_pass a m n x y h k in
+      let session : m ≡ n = one.0 in
+      let name : x ≡ y = one.1 in
+      cc
+  one_other a (Answered (Refused r)) s l other h k = absurd (other refl)
+  one_other a BadLine s l other h k = absurd (other refl)
+  one_other a NoSession s l other h k = absurd (other refl)
+  one_other a NoRole s l other h k = absurd (other refl)
+  one_other a Taken s l other h k = absurd (other refl)
+  one_other a WrongNumber s l other h k = absurd (other refl)
+  one_other a (Joined m x) (Answered (Shown y)) l other h k = absurd (omega (arith, l))
+  one_other a r s l other h k = absurd (omega (arith, l))
+
+  pub one_reply : (a : List ℕ) (r s : Reply) → SpellsReply a r → SpellsReply a s → r ≡ s
+  one_reply a r s h k =
+      let l = one_letter a r s h k in
+      ⊎_elim
+      (λ (c : (c : Cause) × (r ≡ reply_of c)).
+      ⊎_elim
+      (λ (d : (d : Cause) × (s ≡ reply_of d)). c.1 ∙ same_cause a c.0 d.0 (subst (SpellsReply a) c.1 h) (subst (SpellsReply a) d.1 k) ∙ sym d.1)
+      (λ (other : letter s ≢ 114). absurd (other (sym l ∙ ap letter c.1 ∙ cause_letter c.0)))
+      (refused_or_not s))
+      (λ (other : letter r ≢ 114). one_other a r s l other h k)
+      (refused_or_not r)

@@ -1,0 +1,23 @@
+use Rattle.std.proofs.Common.{◌≡◌, ◌+◌, ◌≤◌, [], length}
+use Rattle.mps_lines.specs.Lines.{most_kept}
+use Rattle.mps_wire.specs.Runs.{Going, GaveAtLeast}
+use Rattle.mps_wire.specs.Script.{AnswersLine}
+use Rattle.mps_wire.specs.Streams.{Counts, streams}
+use Rattle.mps_wire.specs.declared.script.TheConstants.{BLOCK}
+use Rattle.mps_wire.proofs.script.run_script.Given as goal
+
+abbrev pub invariant-loop : goal.invariant-loop
+invariant-loop g l =
+    let first = streams g.R.Source g.W.Sink l.fn.reader l.fn.writer in
+    let now = streams g.R.Source g.W.Sink l.reader l.writer in
+    record {
+      names : l.run.room.names ≡ l.fn.roles;
+      types : l.run.room.types ≡ l.fn.session.types;
+      short : length l.run.line.items ≤ most_kept;
+      none_waits : l.run.answers.items ≡ [];
+      room : length l.block.items ≡ BLOCK;
+      reads : now.reads ≡ first.reads + l.counter;
+      counts : Counts first now 0 0 0;
+      gave : GaveAtLeast l.counter first now;
+      going : Going (AnswersLine l.fn.roles l.fn.session.types) [] first now l.run.line.items l.run.room.journal;
+    }
