@@ -14,11 +14,11 @@ use Rattle.mps_arena.specs.declared.node.Before.{Before}
 use Rattle.mps_arena.specs.declared.node.Node.{Node}
 use Rattle.mps_arena.specs.Keys.{has, AreDistinct, first_key, last_key, key_after, key_before}
 use Rattle.mps_arena.specs.Entries.{KeyedStep, keys_of, any_step, of_role, like_sends, like, unlike, entry_at, IsSmall, HasSmallPeer, AreSound}
-use Rattle.mps_arena.specs.Ends.{receiver, end_at, with_end}
-use Rattle.mps_arena.specs.Links.{node_of, AreNodes, joined, parted}
+use Rattle.mps_arena.specs.Private.Ends.{receiver, end_at, with_end}
+use Rattle.mps_arena.specs.Private.Links.{node_of, AreNodes, joined, parted}
 use Rattle.mps_arena.specs.Neighbours.{matched_with, IsFree, IsSource, IsUnreceived, CanGo}
-use Rattle.mps_arena.specs.Kept.{IsIndexed, IsKept}
-use Rattle.mps_arena.specs.Walks.{walk}
+use Rattle.mps_arena.specs.Private.Kept.{IsIndexed, IsKept}
+use Rattle.mps_arena.specs.Private.Walks.{walk}
 use Rattle.mps_arena.proofs.KeyLists.{has-append_right, last-append, first_without, last_without}
 use Rattle.mps_arena.proofs.Chains.{keys-append, keys_push, keys_kept, keys_around, keys_beside, distinct, entry_key, entry_push, entry_without, entry_gone}
 use Rattle.mps_arena.proofs.Matched.{new_match, sends_like, sends_chain, matched_of}

@@ -12,8 +12,8 @@ use Rattle.mps_history.specs.Steps.{sends, receives, IsRising}
 use Rattle.mps_arena.specs.declared.node.Node.{Node}
 use Rattle.mps_arena.specs.Keys.{key_after, key_before, matched_key}
 use Rattle.mps_arena.specs.Entries.{KeyedStep, steps, keys_of, any_step, of_role, like_sends, like, unlike, entry_at, with_mark, IsSmall}
-use Rattle.mps_arena.specs.Links.{node_of, node_at}
-use Rattle.mps_arena.specs.Kept.{IsIndexed, IsKept}
+use Rattle.mps_arena.specs.Private.Links.{node_of, node_at}
+use Rattle.mps_arena.specs.Private.Kept.{IsIndexed, IsKept}
 use Rattle.mps_arena.proofs.Chains.{keys_with, keys_without, entry_key}
 use Rattle.mps_arena.proofs.Nodes.{same_node, cases_entry}
 

@@ -9,9 +9,9 @@ use Rattle.mps_history.specs.Steps.{sends, receives}
 use Rattle.mps_arena.specs.declared.node.Node.{Node}
 use Rattle.mps_arena.specs.Keys.{is_at, has, AreDistinct, first_key, last_key, key_after}
 use Rattle.mps_arena.specs.Entries.{KeyedStep, keys_of, any_step, of_role, entry_at}
-use Rattle.mps_arena.specs.Links.{node_of, node_at, AreNodes, joined, parted}
+use Rattle.mps_arena.specs.Private.Links.{node_of, node_at, AreNodes, joined, parted}
 use Rattle.mps_arena.specs.Neighbours.{matched_with}
-use Rattle.mps_arena.specs.Walks.{walk}
+use Rattle.mps_arena.specs.Private.Walks.{walk}
 use Rattle.mps_arena.proofs.KeyLists.{not_at, last_in, last-append, get_in, once, after_absent, AreDistinct-push, AreDistinct-without}
 use Rattle.mps_arena.proofs.Chains.{keys-append, keys_with, keys_without, distinct, chain_empty, keys_push, keys_around, absent, after_push, before_push, after_new, before_new, after_removal, before_removal, entry_key, entry_push, entry_middle, entry_without, entry_gone}
 use Rattle.mps_arena.proofs.Matched.{sends_like, own_role, sends_role, own, other, new_match, matched_with_push, matched_with_new, matched_with_removal, fed_push, fed_removal, role_alike, role_back, sends_alike, sends_back}

@@ -7,7 +7,7 @@ use Rattle.mps_history.specs.Steps.{IsRising}
 use Rattle.mps_history.proofs.Order.{IsRising-push}
 use Rattle.mps_arena.specs.Entries.{KeyedStep, steps, keys_of, any_step, entry_at}
 use Rattle.mps_arena.specs.Keys.{AreDistinct}
-use Rattle.mps_arena.specs.Kept.{IsIndexed}
+use Rattle.mps_arena.specs.Private.Kept.{IsIndexed}
 use Rattle.mps_arena.proofs.KeyLists.{get_some}
 use Rattle.mps_arena.proofs.Chains.{entry_middle}
 

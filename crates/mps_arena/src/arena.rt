@@ -30,7 +30,7 @@ impl Model for Arena {
 
     ghost Value = { Entries };
 
-    ghost use Rattle.mps_arena.specs.Views.{arena_value, IsArena};
+    ghost use Rattle.mps_arena.specs.Private.Views.{arena_value, IsArena};
 
     ghost view = { arena_value };
 

@@ -2,7 +2,7 @@
 ghost use Rattle.std.specs.Prelude.{◌≡◌, ℕ, ◌<◌, ◌+◌, ◌*◌, None, Some, false, length, slice_index_or, slice_set, is_none, if◌then◌else◌};
 ghost use Rattle.std.specs.Option.{option_or};
 ghost use Rattle.mps_base.specs.Effects.{effect};
-ghost use Rattle.mps_arena.specs.Ends.{receiver, end_at, with_end};
+ghost use Rattle.mps_arena.specs.Private.Ends.{receiver, end_at, with_end};
 ghost use Rattle.mps_arena.specs.Entries.{IsSmall};
 
 use crate::node::{Before, Key, Link, Node};

@@ -2,9 +2,9 @@
 ghost use Rattle.std.specs.Prelude.{◌≡◌, ℕ, ◌+◌, ◌<◌, ◌^◌, ◌==◌, if◌then◌else◌, Some, None};
 ghost use Rattle.std.specs.Option.{option_map};
 ghost use Rattle.slab.specs.Slab.{get, slab_len, HasRoomFor, ContainsKey};
-ghost use Rattle.mps_arena.specs.Links.{joined, parted, indexed_key};
+ghost use Rattle.mps_arena.specs.Private.Links.{joined, parted, indexed_key};
 ghost use Rattle.mps_arena.specs.Keys.{is_at};
-ghost use Rattle.mps_arena.specs.Rewrites.{Rewrites};
+ghost use Rattle.mps_arena.specs.Private.Rewrites.{Rewrites};
 
 use crate::node::{Key, Link, Node};
 use mps_base::StepId;

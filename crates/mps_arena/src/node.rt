@@ -70,7 +70,7 @@ pub struct Link(
 
 impl Model for Link {
     ghost use Rattle.std.specs.Prelude.{ℕ, Option};
-    ghost use Rattle.mps_arena.specs.Linked.{one_above, one_below, restored};
+    ghost use Rattle.mps_arena.specs.Private.Linked.{one_above, one_below, restored};
 
     ghost Value = { Option ℕ };
 

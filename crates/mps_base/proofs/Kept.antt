@@ -1,7 +1,7 @@
 -- How a short word is put into its array.
 use Rattle.std.proofs.Common.{◌≡◌, ℕ, ◌-◌, ◌≤◌, List, ◌++◌, length, take, drop, replicate, refl, ap, sym, ◌∙◌}
 use Rattle.std.proofs.lemmas.List.{take_at, drop-replicate}
-use Rattle.mps_base.specs.Inline.{IsKept}
+use Rattle.mps_base.specs.Private.Inline.{IsKept}
 
 -- a word written over the front of 32 zeros is kept there
 pub kept : (bytes array : List ℕ) → length bytes ≤ 32 → array ≡ bytes ++ drop (length bytes) (replicate 32 0) → IsKept (length bytes) array

@@ -1,7 +1,5 @@
 pub mod Names
 pub mod Texts
-pub mod Inline
-pub mod Refilled
 pub mod Numbers
 pub mod Appends
 pub mod Values
@@ -9,3 +7,4 @@ pub mod RoleLists
 pub mod Spaced
 pub mod Sorts
 pub mod Effects
+pub mod Private

@@ -17,11 +17,11 @@ pub(crate) struct Inline {
 
 impl Model for Inline {
     ghost use Rattle.std.specs.Prelude.{ℕ, ◌-◌, ◌++◌, List, length, take, replicate};
-    ghost use Rattle.mps_base.specs.Inline.{IsKept};
+    ghost use Rattle.mps_base.specs.Private.Inline.{IsKept};
 
     ghost Value = { List ℕ };
 
-    ghost use Rattle.mps_base.specs.Refilled.{refilled};
+    ghost use Rattle.mps_base.specs.Private.Refilled.{refilled};
 
     ghost view = { λ n. take n.len n.bytes };
 

@@ -1,7 +1,7 @@
 pub mod Openings
-pub mod Origins
 pub mod Views
 pub mod Rule
 pub mod Calls
 pub mod Meetings
 pub mod Cells
+pub mod Private

@@ -1,6 +1,6 @@
 //! Cells: one room, which its passes call.
 ghost use Rattle.std.specs.Prelude.{◌≡◌, ◌≤◌, length, [], vec_capacity};
-ghost use Rattle.mps_cell.specs.Origins.{opening_in};
+ghost use Rattle.mps_cell.specs.Private.Origins.{opening_in};
 ghost use Rattle.mps_cell.specs.Views.{first_view};
 ghost use Rattle.mps_cell.specs.Cells.{fresh_below};
 
@@ -33,7 +33,7 @@ pub struct Deal {
 impl Model for Deal {
     ghost use Rattle.std.specs.Prelude.{◌≡◌, []};
     ghost use Rattle.std.specs.Coded.{codes};
-    ghost use Rattle.mps_local.specs.Codes.{coded_local};
+    ghost use Rattle.mps_local.specs.Private.Codes.{coded_local};
     ghost use Rattle.mps_cell.specs.Cells.{Dealt};
 
     ghost Value = { Dealt };
@@ -71,8 +71,8 @@ pub struct Cell {
 impl Model for Cell {
     ghost use Rattle.std.specs.Option.{is_none};
     ghost use Rattle.std.specs.Coded.{codes};
-    ghost use Rattle.mps_local.specs.Codes.{coded_local};
-    ghost use Rattle.mps_cell.specs.Origins.{opening_in};
+    ghost use Rattle.mps_local.specs.Private.Codes.{coded_local};
+    ghost use Rattle.mps_cell.specs.Private.Origins.{opening_in};
     ghost use Rattle.mps_cell.specs.Cells.{Opened, IsOpened};
 
     ghost Value = { Opened };

@@ -39,7 +39,7 @@ pub struct Pass<'a> {
 impl<'a> Model for Pass<'a> {
     ghost use Rattle.mps_cell.specs.Calls.{Known, IsSeated, known, carried};
     ghost use Rattle.std.specs.Coded.{codes};
-    ghost use Rattle.mps_local.specs.Codes.{coded_local};
+    ghost use Rattle.mps_local.specs.Private.Codes.{coded_local};
 
     ghost Value = { Known };
 
@@ -80,7 +80,7 @@ impl Model for Leave {
     ghost use Rattle.mps_cell.specs.Calls.{Known, known};
     ghost use Rattle.mps_cell.specs.Rule.{IsFree};
     ghost use Rattle.std.specs.Coded.{codes};
-    ghost use Rattle.mps_local.specs.Codes.{coded_local};
+    ghost use Rattle.mps_local.specs.Private.Codes.{coded_local};
 
     ghost Value = { Known };
 

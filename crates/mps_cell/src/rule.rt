@@ -9,7 +9,7 @@ use mps_room::Room;
 pub struct Journaled;
 
 impl TableRule<Room, View, Origin> for Journaled {
-    ghost use Rattle.mps_cell.specs.Origins.{opening_in};
+    ghost use Rattle.mps_cell.specs.Private.Origins.{opening_in};
     ghost use Rattle.mps_cell.specs.Rule.{Kept};
     ghost use Rattle.mps_cell.specs.Views.{first_view};
 

@@ -1,4 +1,4 @@
 pub mod Acts
-pub mod Kept
 pub mod Shown
 pub mod Changes
+pub mod Private

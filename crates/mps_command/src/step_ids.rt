@@ -24,7 +24,7 @@ impl Model for StepIds {
 
     ghost Value = { List ℕ };
 
-    ghost use Rattle.mps_command.specs.Kept.{numbers};
+    ghost use Rattle.mps_command.specs.Private.Kept.{numbers};
 
     ghost view = { λ s. numbers s.kept };
 }

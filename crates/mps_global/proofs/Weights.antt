@@ -1,7 +1,7 @@
 -- Each tree weighs something.
 use Rattle.std.proofs.Common.{◌<◌, arith}
 use Rattle.mps_global.specs.declared.Global.{Global, End, Var, Rec', Message', Choice}
-use Rattle.mps_global.specs.Weights.{weight}
+use Rattle.mps_global.specs.Private.Weights.{weight}
 
 -- each tree weighs something
 pub some_weight : (tree : Global) → 0 < weight tree

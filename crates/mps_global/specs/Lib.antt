@@ -1,5 +1,4 @@
 pub mod Global
-pub mod Weights
 pub mod Faults
-pub mod Above
 pub mod Arms
+pub mod Private

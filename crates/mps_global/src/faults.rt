@@ -5,7 +5,7 @@ ghost use Rattle.mps_global.specs.Global.{GlobalType, plain, plain_branches};
 ghost use Rattle.mps_global.specs.Faults.{is_among, has_double, labels, node_count, branch_nodes, depth, branch_depth};
 ghost use Rattle.mps_global.specs.Faults.{places, branch_places, level, greatest, binds, is_guard, is_bound, is_unguarded};
 ghost use Rattle.mps_global.specs.Faults.{first_true, pair_tests, label_tests, variable_tests, rec_tests, node_tests, first_fault, fault_of};
-ghost use Rattle.mps_global.specs.Above.{nodes_above};
+ghost use Rattle.mps_global.specs.Private.Above.{nodes_above};
 
 use crate::{Branches, Global, Protocol};
 use mps_base::{MAX_ROLES, MIN_ROLES, Name, VarName};

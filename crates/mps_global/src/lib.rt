@@ -12,7 +12,7 @@
 #![tactic(auto)]
 
 ghost use Rattle.std.specs.Prelude.{◌≡◌, ◌+◌, MatchOption};
-ghost use Rattle.mps_global.specs.Weights.{weight, branch_weight, waiting_weight};
+ghost use Rattle.mps_global.specs.Private.Weights.{weight, branch_weight, waiting_weight};
 
 mod building;
 pub mod faults;

@@ -3,7 +3,7 @@ use Rattle.std.proofs.Common.{◌≡◌, ℕ, Bool, true, false, List, [], ◌�
 use mathlib.Core.Option as maybe
 use lib.ListN.{get_elem?}
 use Rattle.atomic_table.specs.Table.{State, Me, Act, Valid, Allows, Arrives, carried_after, homes_after, put_back, keeps, takes, gives, step, opening}
-use Rattle.mps_hub.specs.Lock.{HasOut, IsSteady, PutsBack, TakesOut, home_of, word_of}
+use Rattle.mps_hub.specs.Private.Lock.{HasOut, IsSteady, PutsBack, TakesOut, home_of, word_of}
 
 module _ {T : Type 0} where
   -- a swap of 1, by whether the value was out

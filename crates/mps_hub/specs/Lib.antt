@@ -1,5 +1,5 @@
 pub mod First
 pub mod Places
-pub mod Lock
 pub mod Halls
 pub mod Connections
+pub mod Private

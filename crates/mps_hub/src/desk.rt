@@ -31,7 +31,7 @@ pub(crate) struct Row<'a> {
 
 impl<'a> Model for Row<'a> {
     ghost use Rattle.std.specs.Coded.{codes};
-    ghost use Rattle.mps_local.specs.Codes.{coded_local};
+    ghost use Rattle.mps_local.specs.Private.Codes.{coded_local};
     ghost use Rattle.mps_cell.specs.Cells.{Opened};
     ghost use Rattle.mps_hub.specs.Places.{AtHome};
 
@@ -92,7 +92,7 @@ struct Places<'a> {
 impl<'a> Model for Places<'a> {
     ghost use Rattle.std.specs.Prelude.{List};
     ghost use Rattle.std.specs.Coded.{codes};
-    ghost use Rattle.mps_local.specs.Codes.{coded_local};
+    ghost use Rattle.mps_local.specs.Private.Codes.{coded_local};
     ghost use Rattle.mps_cell.specs.Cells.{Opened};
 
     ghost Value = { List Opened };
@@ -133,7 +133,7 @@ pub struct Desk<'a> {
 
 impl<'a> Model for Desk<'a> {
     ghost use Rattle.std.specs.Coded.{codes};
-    ghost use Rattle.mps_local.specs.Codes.{coded_local};
+    ghost use Rattle.mps_local.specs.Private.Codes.{coded_local};
     ghost use Rattle.mps_hub.specs.Places.{IsDesk, Offer};
 
     ghost Value = { Offer };

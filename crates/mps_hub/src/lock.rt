@@ -1,6 +1,6 @@
 //! A value that one thread at a time has. Whoever has it sees it as it was at first, and gives it back so.
 ghost use Rattle.std.specs.Prelude.{◌≡◌};
-ghost use Rattle.mps_hub.specs.Lock.{HasOut};
+ghost use Rattle.mps_hub.specs.Private.Lock.{HasOut};
 
 use atomic_table::{Play, Seat, Shared, TableRule};
 use std::snapshot::Snapshot;
@@ -10,7 +10,7 @@ use std::sync::Wait;
 pub(crate) struct Steady;
 
 impl<T> TableRule<T, T, Snapshot<T>> for Steady {
-    ghost use Rattle.mps_hub.specs.Lock.{IsSteady};
+    ghost use Rattle.mps_hub.specs.Private.Lock.{IsSteady};
 
     ghost holds = { λ about. IsSteady about.value };
 
@@ -21,7 +21,7 @@ impl<T> TableRule<T, T, Snapshot<T>> for Steady {
 struct TakeOut;
 
 impl<T> Play<T, T> for TakeOut {
-    ghost use Rattle.mps_hub.specs.Lock.{TakesOut};
+    ghost use Rattle.mps_hub.specs.Private.Lock.{TakesOut};
 
     ghost then = { TakesOut };
 }
@@ -30,7 +30,7 @@ impl<T> Play<T, T> for TakeOut {
 struct PutBack;
 
 impl<T> Play<T, T> for PutBack {
-    ghost use Rattle.mps_hub.specs.Lock.{PutsBack};
+    ghost use Rattle.mps_hub.specs.Private.Lock.{PutsBack};
 
     ghost then = { PutsBack };
 }

@@ -26,7 +26,7 @@ pub struct HubDeal {
 impl Model for HubDeal {
     ghost use Rattle.std.specs.Prelude.{List};
     ghost use Rattle.std.specs.Coded.{codes};
-    ghost use Rattle.mps_local.specs.Codes.{coded_local};
+    ghost use Rattle.mps_local.specs.Private.Codes.{coded_local};
     ghost use Rattle.mps_cell.specs.Cells.{Dealt};
 
     ghost Value = { List Dealt };
@@ -49,7 +49,7 @@ impl Model for Hub {
     ghost use Rattle.std.specs.Prelude.{IfSome};
     ghost use Rattle.std.specs.Option.{is_none};
     ghost use Rattle.std.specs.Coded.{codes};
-    ghost use Rattle.mps_local.specs.Codes.{coded_local};
+    ghost use Rattle.mps_local.specs.Private.Codes.{coded_local};
     ghost use Rattle.mps_hub.specs.Halls.{Hall, AreDeals};
     ghost use Rattle.mps_hub.specs.Places.{AreNumbered};
 

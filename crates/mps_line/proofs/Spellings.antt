@@ -10,7 +10,7 @@ use Rattle.mps_base.specs.Texts.{IsText}
 use Rattle.mps_base.specs.Values.{quoted, bool_word}
 use Rattle.mps_base.specs.declared.value.Value.TheVariants as values
 use Rattle.mps_base.proofs.Numbers.{decimal_is_number, signed_is_int}
-use Rattle.mps_line.specs.Spellable.{IsSpellable, AreSpellable}
+use Rattle.mps_line.specs.Private.Spellable.{IsSpellable, AreSpellable}
 use Rattle.mps_line.specs.Tokens.{Token, Word, Called, Number, Worth, SpellsLine, SpellEach}
 
 -- tokens that have spellings have a line

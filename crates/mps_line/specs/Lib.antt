@@ -2,4 +2,4 @@ pub mod Tokens
 pub mod Commands
 pub mod Replies
 pub mod Codes
-pub mod Spellable
+pub mod Private

@@ -5,7 +5,7 @@ ghost use Rattle.std.specs.List.{AllByRecursion};
 ghost use Rattle.mps_base.specs.declared.value.Value.TheVariants as values;
 ghost use Rattle.mps_command.specs.declared.answer.Answer.TheVariants.{Refused};
 ghost use Rattle.mps_line.specs.Replies.{SpellsReply, answer_tokens, done_tokens, message_token};
-ghost use Rattle.mps_line.specs.Spellable.{AreSpellable, IsSpellable};
+ghost use Rattle.mps_line.specs.Private.Spellable.{AreSpellable, IsSpellable};
 ghost use Rattle.mps_line.specs.Tokens.{Worth};
 ghost use Rattle.mps_line.specs.declared.write_replies.Reply.TheVariants.{Answered, Joined};
 

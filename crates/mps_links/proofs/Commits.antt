@@ -14,8 +14,8 @@ use Rattle.mps_arena.specs.Entries.{KeyedStep, steps, keys_of, of_role, entry_at
 use Rattle.mps_arena.specs.Neighbours.{id_in, prev_of_role_in}
 use Rattle.mps_arena.proofs.Chains.{keys-append, keys_with, keys_without}
 use Rattle.mps_links.specs.declared.order.Numbered.{Numbered}
-use Rattle.mps_links.specs.Numbered.{key_of, HasNumber}
-use Rattle.mps_links.specs.Order.{earlier}
+use Rattle.mps_links.specs.Private.Numbered.{key_of, HasNumber}
+use Rattle.mps_links.specs.Private.Order.{earlier}
 use Rattle.mps_links.specs.Marks.{is_marked, AreMarksClosed, marked_commits}
 use Rattle.mps_links.proofs.StepKeys.{keys_agree, keys_none, none_passes}
 use Rattle.mps_links.proofs.Present.{if_some}

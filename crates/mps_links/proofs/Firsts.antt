@@ -11,7 +11,7 @@ use Rattle.mps_arena.specs.Keys.{AreDistinct, first_key}
 use Rattle.mps_arena.specs.Entries.{KeyedStep, steps, keys_of, any_step, entry_at}
 use Rattle.mps_arena.specs.Neighbours.{id_in}
 use Rattle.mps_arena.proofs.Chains.{keys_with, keys_without, entry_middle}
-use Rattle.mps_links.specs.Order.{is_before, earlier}
+use Rattle.mps_links.specs.Private.Order.{is_before, earlier}
 use Rattle.mps_links.proofs.StepKeys.{cases_key, steps_around, in_middle}
 
 -- the first entry of the list that passes, where it stands

@@ -7,9 +7,9 @@ use Rattle.std.proofs.lemmas.List.{map_more}
 use Rattle.std.proofs.lemmas.List.Sums.{fold-append}
 use Rattle.mps_arena.specs.Entries.{KeyedStep, with_mark}
 use Rattle.mps_arena.specs.Neighbours.{id_in}
-use Rattle.mps_links.specs.Numbered.{key_of, keys_alone, HasNumber, HaveNumbers}
-use Rattle.mps_links.specs.Order.{earlier}
-use Rattle.mps_links.specs.Pending.{earliest}
+use Rattle.mps_links.specs.Private.Numbered.{key_of, keys_alone, HasNumber, HaveNumbers}
+use Rattle.mps_links.specs.Private.Order.{earlier}
+use Rattle.mps_links.specs.Private.Pending.{earliest}
 use Rattle.mps_links.specs.declared.order.Numbered.{Numbered}
 
 pub number_at : (es : List KeyedStep) (l : List (Option Numbered)) (i : ℕ) (d : Option Numbered) → i < length l → HaveNumbers es l → HasNumber es (slice_index_or l i d)

@@ -10,7 +10,7 @@ use Rattle.mps_arena.specs.Keys.{AreDistinct, last_key}
 use Rattle.mps_arena.specs.Entries.{KeyedStep, steps, keys_of, any_step}
 use Rattle.mps_arena.specs.Neighbours.{id_in}
 use Rattle.mps_arena.proofs.Chains.{keys_with, keys_without}
-use Rattle.mps_links.specs.Order.{is_before, later}
+use Rattle.mps_links.specs.Private.Order.{is_before, later}
 use Rattle.mps_links.proofs.StepKeys.{cases_key, in_middle}
 use Rattle.mps_links.proofs.Firsts.{same_either, id_middle, rising_behind}
 

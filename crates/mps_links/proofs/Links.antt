@@ -15,7 +15,7 @@ use Rattle.mps_arena.specs.Matched.{matched_receipt}
 use Rattle.mps_arena.specs.Neighbours.{id_in, next_of_role_in, prev_of_role_in, receipt_in, matched_with, CanGo, IsFree, IsUnreceived}
 use Rattle.mps_arena.proofs.KeyLists.{once, after_absent, before_absent}
 use Rattle.mps_arena.proofs.Chains.{keys-append, keys_without, keys_around, distinct}
-use Rattle.mps_links.specs.Order.{earlier}
+use Rattle.mps_links.specs.Private.Order.{earlier}
 use Rattle.mps_links.proofs.StepKeys.{eqb_turned, steps_around, in_middle, keys_agree, keys_none, none_passes, nothing_first}
 use Rattle.mps_links.proofs.Firsts.{entry_in, rising_behind, id_first, first_or}
 use Rattle.mps_links.proofs.Least.{least_is}

@@ -12,7 +12,7 @@ use Rattle.mps_arena.specs.Entries.{KeyedStep, steps, keys_of, of_role, AreSound
 use Rattle.mps_arena.specs.Neighbours.{CanGo}
 use Rattle.mps_arena.proofs.KeyLists.{last-append}
 use Rattle.mps_arena.proofs.Chains.{keys_around}
-use Rattle.mps_links.specs.Order.{later}
+use Rattle.mps_links.specs.Private.Order.{later}
 use Rattle.mps_links.specs.Marks.{marked_keys, is_marked, AreMarksClosed}
 use Rattle.mps_links.proofs.StepKeys.{steps_around, in_middle, keys_agree, keys_none, none_passes}
 use Rattle.mps_links.proofs.Lasts.{last_is, last_or}

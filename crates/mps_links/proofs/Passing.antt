@@ -16,9 +16,9 @@ use Rattle.mps_arena.specs.Keys.{first_key}
 use Rattle.mps_arena.specs.Entries.{KeyedStep, steps, keys_of, of_role, entry_at, AreSound}
 use Rattle.mps_arena.specs.Neighbours.{next_of_role_in, receipt_in}
 use Rattle.mps_arena.proofs.Chains.{keys_without}
-use Rattle.mps_links.specs.Order.{earlier}
+use Rattle.mps_links.specs.Private.Order.{earlier}
 use Rattle.mps_links.specs.Marks.{unmarked}
-use Rattle.mps_links.specs.Pending.{at_role, with_pending, followed}
+use Rattle.mps_links.specs.Private.Pending.{at_role, with_pending, followed}
 use Rattle.mps_links.proofs.StepKeys.{cases_key, eqb_turned, keys_agree, keys_none, none_passes, nothing_first, in_middle}
 use Rattle.mps_links.proofs.Firsts.{IsFirst, first_is, first_or, entry_in, rising_behind}
 use Rattle.mps_links.proofs.Links.{next_is, on_later}

@@ -15,9 +15,9 @@ use Rattle.mps_history.proofs.Removal.{filter-same}
 use Rattle.mps_arena.specs.Keys.{AreDistinct, first_key}
 use Rattle.mps_arena.specs.Entries.{KeyedStep, steps, keys_of, any_step, with_mark, AreSound}
 use Rattle.mps_arena.proofs.Chains.{keys-append}
-use Rattle.mps_links.specs.Order.{earlier}
+use Rattle.mps_links.specs.Private.Order.{earlier}
 use Rattle.mps_links.specs.Marks.{marked_keys, is_marked, AreMarksClosed, unmarked, marked_by}
-use Rattle.mps_links.specs.Pending.{followed, earliest}
+use Rattle.mps_links.specs.Private.Pending.{followed, earliest}
 use Rattle.mps_links.proofs.StepKeys.{keys_agree, keys_none, none_passes, nothing_first, in_middle, steps_around}
 use Rattle.mps_links.proofs.Firsts.{IsFirst, first_is, first_or}
 use Rattle.mps_links.proofs.Newest.{below_next, spread_left, small_in}

@@ -12,7 +12,7 @@ use Rattle.mps_arena.specs.Neighbours.{prev_of_role_in}
 use Rattle.mps_arena.proofs.KeyLists.{has-append_right}
 use Rattle.mps_arena.proofs.Chains.{keys_without, keys_around}
 use Rattle.mps_links.specs.Marks.{AreMarksClosed, unmarked}
-use Rattle.mps_links.specs.RoleMarks.{unmarked_of, AreLastMarked}
+use Rattle.mps_links.specs.Private.RoleMarks.{unmarked_of, AreLastMarked}
 use Rattle.mps_links.proofs.StepKeys.{in_middle, none_passes}
 use Rattle.mps_links.proofs.Present.{at_middle}
 use Rattle.mps_links.proofs.Firsts.{entry_in, rising_behind}

@@ -6,8 +6,8 @@ ghost use Rattle.mps_arena.specs.Keys.{last_key};
 ghost use Rattle.mps_arena.specs.Entries.{steps, keys_of};
 ghost use Rattle.mps_arena.specs.Neighbours.{CanGo};
 ghost use Rattle.mps_links.specs.Marks.{marked_keys, is_marked, AreMarksClosed, marked_by, unmarked};
-ghost use Rattle.mps_links.specs.Numbered.{key_of, HasNumber};
-ghost use Rattle.mps_links.specs.RoleMarks.{unmarked_of, AreLastMarked};
+ghost use Rattle.mps_links.specs.Private.Numbered.{key_of, HasNumber};
+ghost use Rattle.mps_links.specs.Private.RoleMarks.{unmarked_of, AreLastMarked};
 
 use crate::order::{Numbered, key_of, later, with_number};
 use crate::pending::Pending;

@@ -1,8 +1,8 @@
 //! Of two steps the one that comes earlier, and the one that comes later.
 ghost use Rattle.std.specs.Prelude.{◌≡◌, List, IfSome, IsSome};
 ghost use Rattle.mps_arena.specs.Entries.{KeyedStep, entry_at};
-ghost use Rattle.mps_links.specs.Numbered.{key_of, HasNumber};
-ghost use Rattle.mps_links.specs.Order.{earlier, later};
+ghost use Rattle.mps_links.specs.Private.Numbered.{key_of, HasNumber};
+ghost use Rattle.mps_links.specs.Private.Order.{earlier, later};
 
 use mps_arena::{Arena, Key, steps_are_sound};
 use mps_base::StepId;

@@ -2,8 +2,8 @@
 ghost use Rattle.std.specs.Prelude.{◌≡◌, ◌<◌, List, IsSome, Some, None, length, replicate};
 ghost use Rattle.std.specs.Option.{option_map};
 ghost use Rattle.mps_arena.specs.Entries.{KeyedStep, entry_at};
-ghost use Rattle.mps_links.specs.Numbered.{keys_alone, HaveNumbers};
-ghost use Rattle.mps_links.specs.Pending.{followed, earliest};
+ghost use Rattle.mps_links.specs.Private.Numbered.{keys_alone, HaveNumbers};
+ghost use Rattle.mps_links.specs.Private.Pending.{followed, earliest};
 
 use crate::order::{Numbered, earlier, key_of, with_number};
 use mps_arena::{Arena, Key, steps_are_sound};

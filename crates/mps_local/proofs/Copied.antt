@@ -1,7 +1,7 @@
 -- What waits to be made.
 use Rattle.std.proofs.Common.{◌≡◌, ◌+◌, List, [], ◌∷◌, ◌++◌, refl, ap, arith}
 use Rattle.mps_local.specs.declared.copying.Todo.{Todo}
-use Rattle.mps_local.specs.Copying.{Stacks, with_next, with_all, todo_weight, left_weight}
+use Rattle.mps_local.specs.Private.Copying.{Stacks, with_next, with_all, todo_weight, left_weight}
 
 -- one more that waits is made first
 pub all_more : (waiting : List Todo) (next : Todo) (s : Stacks) → with_all (waiting ++ next ∷ []) s ≡ with_all waiting (with_next next s)

@@ -1,7 +1,7 @@
 -- Each tree weighs something.
 use Rattle.std.proofs.Common.{◌<◌, arith}
 use Rattle.mps_local.specs.declared.Local.{Local, End, Var, Rec', Send', Recv', Select, Branch}
-use Rattle.mps_local.specs.Weights.{weight}
+use Rattle.mps_local.specs.Private.Weights.{weight}
 
 pub some_weight : (tree : Local) → 0 < weight tree
 some_weight End = omega arith

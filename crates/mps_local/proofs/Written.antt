@@ -8,7 +8,7 @@ use Rattle.mps_base.specs.Spaced.{spaced, with_tokens}
 use Rattle.mps_base.proofs.Spaced.{written_all}
 use Rattle.mps_local.specs.Local.{LocalType, Branches, End, Var, Rec, Send, Recv, Select, Branch, NoMore, More}
 use Rattle.mps_local.specs.Text.{name_at, local_tokens, branch_tokens}
-use Rattle.mps_local.specs.Writing.{branches_tokens, others_tokens, todo_tokens, todo_weight, IsTodoKnown, left_tokens, left_weight}
+use Rattle.mps_local.specs.Private.Writing.{branches_tokens, others_tokens, todo_tokens, todo_weight, IsTodoKnown, left_tokens, left_weight}
 use Rattle.mps_local.specs.declared.writing.Todo.{Todo}
 
 -- one more that waits

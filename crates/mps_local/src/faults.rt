@@ -9,7 +9,7 @@ ghost use Rattle.mps_local.specs.Shape.{node_count, branch_nodes, depth, branch_
 ghost use Rattle.mps_local.specs.Projection.{projection};
 ghost use Rattle.mps_local.specs.LocalFaults.{places, branch_places, level, binds, is_guard, is_bound, is_unguarded};
 ghost use Rattle.mps_local.specs.LocalFaults.{label_tests, variable_tests, rec_tests, node_tests, fault_at, local_fault_of};
-ghost use Rattle.mps_local.specs.Above.{nodes_above};
+ghost use Rattle.mps_local.specs.Private.Above.{nodes_above};
 ghost use Rattle.mps_local.specs.declared.faults.LocalFault.{LocalFault as Fault};
 
 use crate::{Branches, Local};

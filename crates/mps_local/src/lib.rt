@@ -11,7 +11,7 @@
 
 ghost use Rattle.std.specs.Prelude.{◌≡◌, ◌+◌, MatchOption};
 ghost use Rattle.mps_local.specs.Local.{plain, plain_branches, NoMore, More};
-ghost use Rattle.mps_local.specs.Weights.{weight, branch_weight, waiting_weight};
+ghost use Rattle.mps_local.specs.Private.Weights.{weight, branch_weight, waiting_weight};
 
 mod building;
 mod copying;

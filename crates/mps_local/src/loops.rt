@@ -4,7 +4,7 @@ ghost use Rattle.std.specs.List.{list_any};
 ghost use Rattle.std.specs.Str.{bytes_eq};
 ghost use Rattle.mps_global.specs.Global.{plain, plain_branches};
 ghost use Rattle.mps_local.specs.Projection.{occurs, occurs_in, is_closed, are_closed, is_idle, choice_count, branch_choices};
-ghost use Rattle.mps_local.specs.Bound.{names_bound};
+ghost use Rattle.mps_local.specs.Private.Bound.{names_bound};
 
 use crate::projection::role_of;
 use mps_base::{Name, Role, VarName};

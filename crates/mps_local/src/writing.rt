@@ -6,9 +6,9 @@ ghost use Rattle.mps_base.specs.Spaced.{with_tokens};
 ghost use Rattle.mps_local.specs.Local.{plain, plain_branches};
 ghost use Rattle.mps_local.specs.Shape.{AllPeers, AllBranchPeers};
 ghost use Rattle.mps_local.specs.Text.{name_at, local_tokens, local_text};
-ghost use Rattle.mps_local.specs.Weights.{weight, branch_weight};
-ghost use Rattle.mps_local.specs.Writing.{todo_tokens, todo_weight, IsTodoKnown};
-ghost use Rattle.mps_local.specs.Writing.{left_tokens, left_weight, branches_tokens, others_tokens};
+ghost use Rattle.mps_local.specs.Private.Weights.{weight, branch_weight};
+ghost use Rattle.mps_local.specs.Private.Writing.{todo_tokens, todo_weight, IsTodoKnown};
+ghost use Rattle.mps_local.specs.Private.Writing.{left_tokens, left_weight, branches_tokens, others_tokens};
 
 use crate::{Branches, Local};
 use mps_base::spacing::push_token;

@@ -16,7 +16,7 @@ use Rattle.mps_arena.proofs.Matched.{sends_pair}
 use Rattle.mps_arena.proofs.Nodes.{cases_entry}
 use Rattle.mps_queues.specs.Fronts.{waiting_keys}
 use Rattle.mps_queues.proofs.Moves.{get_drop_front, next_waiting}
-use Rattle.mps_log.specs.Queued.{place_of_key, left_of, IsQueue}
+use Rattle.mps_log.specs.Private.Queued.{place_of_key, left_of, IsQueue}
 use Rattle.mps_log.specs.Values.{message_in, given_by, message_of}
 use Rattle.mps_log.specs.declared.queue.Queue.TheInside.{Inside}
 use Rattle.mps_log.proofs.Waiting.{message_waits, waiting_entry}

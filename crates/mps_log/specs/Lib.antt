@@ -2,4 +2,4 @@ pub mod Values
 pub mod Shown
 pub mod Joins
 pub mod Logged
-pub mod Queued
+pub mod Private

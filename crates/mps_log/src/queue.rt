@@ -26,7 +26,7 @@ impl<'a> Model for Queue<'a> {
 
     ghost Value = { List Message };
 
-    ghost use Rattle.mps_log.specs.Queued.{left_of, IsQueue};
+    ghost use Rattle.mps_log.specs.Private.Queued.{left_of, IsQueue};
 
     ghost view = { left_of };
 

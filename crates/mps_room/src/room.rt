@@ -40,7 +40,7 @@ pub struct Room {
 impl Model for Room {
     ghost use Rattle.std.specs.Coded.{codes};
     ghost use Rattle.std.specs.Prelude.{map};
-    ghost use Rattle.mps_local.specs.Codes.{coded_local};
+    ghost use Rattle.mps_local.specs.Private.Codes.{coded_local};
     ghost use Rattle.mps_room.specs.Kept.{RoomState, IsRecorded};
 
     ghost Value = { RoomState };

@@ -24,8 +24,8 @@ use Rattle.mps_table.proofs.Standing.{node_stands}
 use Rattle.mps_table.specs.Graph.{IsNode}
 use Rattle.mps_table.specs.Standing.{StandsFor}
 use Rattle.mps_machine.specs.Answering.{IsAnswer}
-use Rattle.mps_session.specs.Configurations.{Configuration, cursor_of, state_of, moved_in, StandsAt, fault_in, LeadsTo, IsReady, HasActed, logged, done_in}
-use Rattle.mps_session.specs.Invariant.{Holds}
+use Rattle.mps_session.specs.Private.Configurations.{Configuration, cursor_of, state_of, moved_in, StandsAt, fault_in, LeadsTo, IsReady, HasActed, logged, done_in}
+use Rattle.mps_session.specs.Private.Invariant.{Holds}
 use Rattle.mps_session.specs.SessionState.{SessionState}
 use Rattle.mps_session.proofs.HoldsAfterAct as accepting
 

@@ -16,8 +16,8 @@ use Rattle.mps_local.specs.Local.{LocalType}
 use Rattle.mps_machine.specs.Machine.{State, most_numbers, taken, forward}
 use Rattle.mps_machine.specs.Answering.{IsAnswer, IsServed}
 use Rattle.mps_session.specs.Answers.{once}
-use Rattle.mps_session.specs.Configurations.{Configuration, state_of, moved_in, StandsAt, fault_in, LeadsTo, HasActed, IsBarred, taken_from}
-use Rattle.mps_session.specs.Invariant.{Holds}
+use Rattle.mps_session.specs.Private.Configurations.{Configuration, state_of, moved_in, StandsAt, fault_in, LeadsTo, HasActed, IsBarred, taken_from}
+use Rattle.mps_session.specs.Private.Invariant.{Holds}
 use Rattle.mps_session.specs.SessionState.{SessionState}
 use Rattle.mps_session.proofs.ForwardAnswers as serving
 

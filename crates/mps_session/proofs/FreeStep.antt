@@ -9,7 +9,7 @@ use Rattle.mps_history.specs.Steps.{step_of}
 use Rattle.mps_machine.specs.Machine.{owner_fault, commit_fault, undone, undo}
 use Rattle.mps_machine.proofs.Undoing.{undo_is}
 use Rattle.mps_arena.specs.Entries.{KeyedStep, steps, AreSound}
-use Rattle.mps_session.specs.Configurations.{Configuration, state_of}
+use Rattle.mps_session.specs.Private.Configurations.{Configuration, state_of}
 use Rattle.mps_session.proofs.OwnStep as numbered
 use Rattle.mps_session.proofs.OwnStep.{key_of}
 

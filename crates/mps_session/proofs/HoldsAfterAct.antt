@@ -28,11 +28,11 @@ use Rattle.mps_arena.proofs.Matched.{sound_nil}
 use Rattle.mps_log.specs.Joins.{joining}
 use Rattle.mps_log.proofs.Waiting.{first_waits}
 use Rattle.mps_table.specs.Standing.{StandsFor}
-use Rattle.mps_session.specs.Configurations.{Configuration, cursor_of, state_of, logged, moved_for, moved_in, IsReady, IsReadyEffect, HasActed}
-use Rattle.mps_session.specs.Cursors.{IsFor, nowhere, went}
+use Rattle.mps_session.specs.Private.Configurations.{Configuration, cursor_of, state_of, logged, moved_for, moved_in, IsReady, IsReadyEffect, HasActed}
+use Rattle.mps_session.specs.Private.Cursors.{IsFor, nowhere, went}
 use Rattle.mps_session.specs.declared.cursor.Cursor.{Cursor}
-use Rattle.mps_session.specs.Invariant.{AreCursors, ArePlaced, Holds}
-use Rattle.mps_session.specs.Opening.{AreStarts, IsOpening}
+use Rattle.mps_session.specs.Private.Invariant.{AreCursors, ArePlaced, Holds}
+use Rattle.mps_session.specs.Private.Opening.{AreStarts, IsOpening}
 use Rattle.mps_session.specs.Peers.{HasPeers, HavePeers}
 
 get_first : (queue : List Message) → slice_get queue 0 ≡ first_of queue

@@ -24,11 +24,11 @@ use Rattle.mps_arena.proofs.Histories.{steps_without}
 use Rattle.mps_arena.proofs.Keeping.{all_at, entry_split, others_are}
 use Rattle.mps_links.proofs.StepKeys.{in_middle}
 use Rattle.mps_table.specs.Standing.{StandsFor}
-use Rattle.mps_session.specs.Configurations.{Configuration, cursor_of, state_of}
-use Rattle.mps_session.specs.Cursors.{IsFor, nowhere, went}
+use Rattle.mps_session.specs.Private.Configurations.{Configuration, cursor_of, state_of}
+use Rattle.mps_session.specs.Private.Cursors.{IsFor, nowhere, went}
 use Rattle.mps_session.specs.declared.cursor.Cursor.{Cursor}
-use Rattle.mps_session.specs.Invariant.{AreCursors, ArePlaced, Holds}
-use Rattle.mps_session.specs.Leaving.{HasLeft}
+use Rattle.mps_session.specs.Private.Invariant.{AreCursors, ArePlaced, Holds}
+use Rattle.mps_session.specs.Private.Leaving.{HasLeft}
 use Rattle.mps_session.specs.Peers.{HasPeers}
 use Rattle.mps_session.proofs.HoldsAfterAct.{same_table}
 use Rattle.mps_session.proofs.ViewWithoutStep as aside

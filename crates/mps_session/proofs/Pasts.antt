@@ -17,9 +17,9 @@ use Rattle.mps_arena.specs.Entries.{KeyedStep, steps, keys_of, of_role, IsSmall,
 use Rattle.mps_arena.proofs.Chains.{keys_without}
 use Rattle.mps_links.proofs.StepKeys.{none_passes}
 use Rattle.mps_log.specs.Shown.{Moved, moved_of, shown}
-use Rattle.mps_session.specs.Pasts.{deed_of, deeds_of, past_in}
-use Rattle.mps_session.specs.Configurations.{Configuration, state_of}
-use Rattle.mps_session.specs.Invariant.{Holds}
+use Rattle.mps_session.specs.Private.Pasts.{deed_of, deeds_of, past_in}
+use Rattle.mps_session.specs.Private.Configurations.{Configuration, state_of}
+use Rattle.mps_session.specs.Private.Invariant.{Holds}
 use Rattle.mps_session.specs.SessionState.{SessionState, moved_from, session_view}
 use Rattle.mps_session.proofs.HoldsAfterAct.{v, replayed}
 use Rattle.mps_session.proofs.MovedMessages.{moved_is}

@@ -25,9 +25,9 @@ use Rattle.mps_links.proofs.Going.{unmarked_stay, one_fewer, last_marked, still_
 use Rattle.mps_links.proofs.Marked.{marked_with, marked_without}
 use Rattle.mps_log.proofs.Remarked as remarking
 use Rattle.mps_table.specs.Standing.{StandsFor}
-use Rattle.mps_session.specs.Configurations.{Configuration, cursor_of}
-use Rattle.mps_session.specs.Invariant.{AreCursors, ArePlaced, Holds}
-use Rattle.mps_session.specs.Leaving.{HasLeft}
+use Rattle.mps_session.specs.Private.Configurations.{Configuration, cursor_of}
+use Rattle.mps_session.specs.Private.Invariant.{AreCursors, ArePlaced, Holds}
+use Rattle.mps_session.specs.Private.Leaving.{HasLeft}
 use Rattle.mps_session.proofs.HoldsAfterRemoval.{returned_holds}
 
 -- what is kept doesn't depend on marks

@@ -23,7 +23,7 @@ use Rattle.mps_links.proofs.Links.{prev_is}
 use Rattle.mps_links.proofs.StepKeys.{cases_key}
 use Rattle.mps_log.specs.Shown.{moved_of}
 use Rattle.mps_log.specs.Values.{given_by, message_of, message_taken}
-use Rattle.mps_session.specs.Pasts.{deed_of, deed_in, past_in}
+use Rattle.mps_session.specs.Private.Pasts.{deed_of, deed_in, past_in}
 use Rattle.mps_session.proofs.Pasts.{did, did-append, did_own, did_nothing}
 
 -- what the step of a key did, by its act and by what it took

@@ -11,9 +11,9 @@ use Rattle.mps_machine.specs.Machine.{State, owner_fault, undone, undo}
 use Rattle.mps_arena.specs.Entries.{KeyedStep, steps, entry_at}
 use Rattle.mps_arena.specs.Neighbours.{CanGo}
 use Rattle.mps_links.specs.Marks.{marked_keys}
-use Rattle.mps_session.specs.Configurations.{Configuration, state_of}
-use Rattle.mps_session.specs.Invariant.{Holds}
-use Rattle.mps_session.specs.Leaving.{HasLeft}
+use Rattle.mps_session.specs.Private.Configurations.{Configuration, state_of}
+use Rattle.mps_session.specs.Private.Invariant.{Holds}
+use Rattle.mps_session.specs.Private.Leaving.{HasLeft}
 use Rattle.mps_session.specs.SessionState.{SessionState, session_view}
 use Rattle.mps_session.proofs.OwnStep as numbered
 use Rattle.mps_session.proofs.OwnStep.{key_of}

@@ -24,7 +24,7 @@ use Rattle.mps_arena.proofs.Histories.{steps_without}
 use Rattle.mps_arena.proofs.Keeping.{others_are}
 use Rattle.mps_arena.proofs.Matched.{sound_left}
 use Rattle.mps_arena.proofs.Nodes.{role_ends}
-use Rattle.mps_links.specs.Order.{earlier}
+use Rattle.mps_links.specs.Private.Order.{earlier}
 use Rattle.mps_links.proofs.Links.{first_dependent}
 use Rattle.mps_links.proofs.StepKeys.{eqb_turned, steps_around, in_middle, none_passes, nothing_first}
 use Rattle.mps_session.proofs.PrefixDependence.{depends_in_prefix}

@@ -1,12 +1,7 @@
 pub mod SessionState
 pub mod Peers
-pub mod Cursors
-pub mod Configurations
-pub mod Invariant
 pub mod Answers
-pub mod Opening
 pub mod Protocols
-pub mod Leaving
 pub mod Runs
-pub mod Pasts
 pub mod NumberSets
+pub mod Private

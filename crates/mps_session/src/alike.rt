@@ -3,7 +3,7 @@ ghost use Rattle.std.specs.Prelude.{◌≡◌, ◌<◌, ◌↔◌, IsTrue, IsSom
 ghost use Rattle.std.specs.Option.{option_copied};
 ghost use Rattle.mps_history.specs.Swaps.{Swaps};
 ghost use Rattle.mps_arena.specs.Entries.{entry_at, AreSound};
-ghost use Rattle.mps_session.specs.Pasts.{deed_in, past_in};
+ghost use Rattle.mps_session.specs.Private.Pasts.{deed_in, past_in};
 ghost use Rattle.mps_session.specs.SessionState.{session_view};
 
 use crate::session::Session;

@@ -8,8 +8,8 @@ ghost use Rattle.mps_local.specs.Local.{LocalType};
 ghost use Rattle.mps_machine.specs.Machine.{most_numbers, taken};
 ghost use Rattle.mps_monitor.specs.Verdicts.{moved_by};
 ghost use Rattle.mps_table.specs.Graph.{IsNode};
-ghost use Rattle.mps_session.specs.Configurations.{lists_of, IsReady, cursor_of, moved_in, StandsAt, fault_in, LeadsTo, HasActed, IsBarred};
-ghost use Rattle.mps_session.specs.Cursors.{went};
+ghost use Rattle.mps_session.specs.Private.Configurations.{lists_of, IsReady, cursor_of, moved_in, StandsAt, fault_in, LeadsTo, HasActed, IsBarred};
+ghost use Rattle.mps_session.specs.Private.Cursors.{went};
 
 use crate::cursor::Cursor;
 use crate::session::MAX_NUMBERS;

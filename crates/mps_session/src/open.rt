@@ -2,8 +2,8 @@
 ghost use Rattle.std.specs.Prelude.{◌≡◌, ◌↔◌, ◌≤◌, IsTrue, IfSome, IfNone, IfOk, length, map, List, [], replicate, vec_len};
 ghost use Rattle.mps_local.specs.Local.{plain, plain_branches};
 ghost use Rattle.mps_local.specs.Shape.{AllBranchPeers, IsOtherRole};
-ghost use Rattle.mps_session.specs.Configurations.{lists_of};
-ghost use Rattle.mps_session.specs.Opening.{IsOpening, AreStarts};
+ghost use Rattle.mps_session.specs.Private.Configurations.{lists_of};
+ghost use Rattle.mps_session.specs.Private.Opening.{IsOpening, AreStarts};
 ghost use Rattle.mps_session.specs.Peers.{HasPeers, HavePeers, IsFirstBad, IsLeastFaulty, AreFaultless};
 ghost use Rattle.mps_session.specs.declared.open.OpenFault.TheVariants.{Memory as OutOfMemory};
 

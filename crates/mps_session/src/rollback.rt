@@ -15,8 +15,8 @@ ghost use Rattle.mps_machine.specs.Rule.{replay};
 ghost use Rattle.mps_arena.specs.Entries.{steps};
 ghost use Rattle.mps_links.specs.Marks.{marked_keys, marked_commits, marked_steps, unmarked_steps, AreMarksClosed};
 ghost use Rattle.mps_session.specs.Answers.{first_number, once};
-ghost use Rattle.mps_session.specs.Configurations.{lists_of};
-ghost use Rattle.mps_session.specs.Invariant.{Holds};
+ghost use Rattle.mps_session.specs.Private.Configurations.{lists_of};
+ghost use Rattle.mps_session.specs.Private.Invariant.{Holds};
 ghost use Rattle.mps_session.specs.SessionState.{session_view};
 ghost use Rattle.mps_session.specs.NumberSets.{told};
 

@@ -16,7 +16,7 @@ ghost use Rattle.mps_machine.specs.Answering.{IsAnswer, IsServed};
 ghost use Rattle.mps_machine.specs.Machine as machine;
 ghost use Rattle.mps_history.specs.Slots.{value_in};
 ghost use Rattle.mps_session.specs.Answers.{as_step, once};
-ghost use Rattle.mps_session.specs.Configurations.{taken_from};
+ghost use Rattle.mps_session.specs.Private.Configurations.{taken_from};
 ghost use Rattle.mps_session.specs.Peers.{IsFirstBad, IsFirstFaulty, CanOpen, IsKnown, IsHeadKnown};
 ghost use Rattle.mps_session.specs.SessionState.{session_view, moves_of};
 ghost use Rattle.mps_table.specs.Expects.{head_of};
@@ -45,15 +45,15 @@ impl Model for Session {
     ghost use Rattle.std.specs.Prelude.{map};
     ghost use Rattle.std.specs.Coded.{codes};
     ghost use Rattle.mps_local.specs.Local.{plain};
-    ghost use Rattle.mps_local.specs.Codes.{coded_local};
+    ghost use Rattle.mps_local.specs.Private.Codes.{coded_local};
     ghost use Rattle.mps_session.specs.SessionState.{SessionState};
 
     ghost Value = { SessionState };
 
     ghost coded = { Prim.hlevel (codes, coded_local) };
 
-    ghost use Rattle.mps_session.specs.Configurations.{lists_of, state_of};
-    ghost use Rattle.mps_session.specs.Invariant.{IsAtRest};
+    ghost use Rattle.mps_session.specs.Private.Configurations.{lists_of, state_of};
+    ghost use Rattle.mps_session.specs.Private.Invariant.{IsAtRest};
 
     ghost view = { λ s. record { types = map plain s.types.items; state = state_of (lists_of s.configuration) } };
 

@@ -14,9 +14,9 @@ ghost use Rattle.mps_machine.specs.Rule.{rule};
 ghost use Rattle.mps_arena.specs.Entries.{steps, entry_at, AreSound};
 ghost use Rattle.mps_arena.specs.Neighbours.{CanGo};
 ghost use Rattle.mps_session.specs.Answers.{once, undo_answer};
-ghost use Rattle.mps_session.specs.Configurations.{lists_of, state_of, cursor_of};
-ghost use Rattle.mps_session.specs.Cursors.{went};
-ghost use Rattle.mps_session.specs.Leaving.{HasLeft};
+ghost use Rattle.mps_session.specs.Private.Configurations.{lists_of, state_of, cursor_of};
+ghost use Rattle.mps_session.specs.Private.Cursors.{went};
+ghost use Rattle.mps_session.specs.Private.Leaving.{HasLeft};
 ghost use Rattle.mps_session.specs.SessionState.{session_view};
 
 use crate::configuration::Configuration;

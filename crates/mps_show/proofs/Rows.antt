@@ -15,7 +15,7 @@ use Rattle.serde_json.specs.declared.value.Value.{Value, Array, the_lemmas}
 use Rattle.serde_json.specs.Written.{comma_if, compact_text, items_text}
 use Rattle.mps_show.specs.Plain.{ArePlainItems}
 use Rattle.mps_show.specs.Shown.{row}
-use Rattle.mps_show.specs.Rows.{joined, behind, words_behind}
+use Rattle.mps_show.specs.Private.Rows.{joined, behind, words_behind}
 
 -- the numbers from q on
 pub range_next : (q n : ℕ) → q < n → range_with_len q (n - q) ≡ q ∷ range_with_len (q + 1) (n - (q + 1))

@@ -1,4 +1,4 @@
 pub mod Shown
 pub mod Plain
-pub mod Rows
 pub mod Examples
+pub mod Private

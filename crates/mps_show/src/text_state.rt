@@ -5,7 +5,7 @@ ghost use Rattle.mps_history.specs.Steps.{numbers, steps_of};
 ghost use Rattle.mps_local.specs.Actions.{head};
 ghost use Rattle.mps_session.specs.SessionState.{session_view, moves_of};
 ghost use Rattle.mps_show.specs.Plain.{IsPlain, ArePlainItems, AreShown};
-ghost use Rattle.mps_show.specs.Rows.{joined, behind, own_number};
+ghost use Rattle.mps_show.specs.Private.Rows.{joined, behind, own_number};
 ghost use Rattle.mps_show.specs.Shown.{row, role_name, step_shown, queue_shown, queues_from, queues_shown, waiting_shown, head_shown, number_shown, binding_shown, role_shown, roles_shown, shown, show_text};
 ghost use Rattle.serde_json.specs.View.{items_of};
 ghost use Rattle.serde_json.specs.Written.{compact_text};

@@ -7,8 +7,8 @@ use Rattle.mps_table.specs.declared.row.TableRow.{TableRow}
 use Rattle.mps_table.specs.declared.laying.Draft.{Draft}
 use Rattle.mps_table.specs.Graph.{Graph, IsSound}
 use Rattle.mps_table.specs.Standing.{StandsFor}
-use Rattle.mps_table.specs.Laying.{size, all_labels, all_targets, all_rows}
-use Rattle.mps_table.specs.Drafts.{IsLaidOut, nowhere}
+use Rattle.mps_table.specs.Private.Laying.{size, all_labels, all_targets, all_rows}
+use Rattle.mps_table.specs.Private.Drafts.{IsLaidOut, nowhere}
 use Rattle.mps_table.proofs.Laid.{laid_stands, laid_sound, size_small}
 
 pub few_rows : (t : LocalType) (n : ℕ) → node_count t ≤ n → size t ≤ n

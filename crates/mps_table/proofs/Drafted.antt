@@ -7,8 +7,8 @@ use Rattle.mps_local.specs.Actions.{labels}
 use Rattle.mps_table.specs.declared.row.TableRow.{TableRow}
 use Rattle.mps_table.specs.declared.row.TableRow.TheVariants as rows
 use Rattle.mps_table.specs.declared.laying.Draft.{Draft}
-use Rattle.mps_table.specs.Laying.{Places, put_node, size, branch_size, start, all_rows, branch_rows, all_labels, branch_labels, all_targets, branch_targets}
-use Rattle.mps_table.specs.Drafts.{Adds, Lays, LaysBranches, row_count, label_count}
+use Rattle.mps_table.specs.Private.Laying.{Places, put_node, size, branch_size, start, all_rows, branch_rows, all_labels, branch_labels, all_targets, branch_targets}
+use Rattle.mps_table.specs.Private.Drafts.{Adds, Lays, LaysBranches, row_count, label_count}
 
 mutual
   pub length-all_rows : (places : Places) (at first : ℕ) (t : LocalType) → length (all_rows places at first t) ≡ size t

@@ -5,7 +5,7 @@ use Rattle.std.specs.List.{list_any, AllByRecursion}
 use Rattle.std.specs.Str.{bytes_eq}
 use Rattle.std.proofs.lemmas.Bool.{cases_Bool, and_parts}
 use Rattle.std.proofs.lemmas.Option.{slice_get_within}
-use Rattle.mps_table.specs.Drafts.{nowhere}
+use Rattle.mps_table.specs.Private.Drafts.{nowhere}
 use Rattle.mps_base.specs.declared.value.Sort.{Sort}
 use Rattle.mps_local.specs.Local.{LocalType, Branches, End, Var, Rec, Send, Recv, Select, Branch, NoMore, More}
 use Rattle.mps_local.specs.Actions.{labels, nexts}
@@ -18,7 +18,7 @@ use Rattle.mps_table.specs.declared.row.TableRow.{TableRow}
 use Rattle.mps_table.specs.declared.row.TableRow.TheVariants as rows
 use Rattle.mps_table.specs.Graph.{Graph, IsWithin, LeadsWithin, IsSound}
 use Rattle.mps_table.specs.Standing.{HasFrom, StandsIn, StandFrom, HasBranches, AreRowsOf, StandsFor}
-use Rattle.mps_table.specs.Laying.{size, branch_size, all_labels, branch_labels, Places, put_node, start, starts, all_targets, branch_targets, all_rows, branch_rows}
+use Rattle.mps_table.specs.Private.Laying.{size, branch_size, all_labels, branch_labels, Places, put_node, start, starts, all_targets, branch_targets, all_rows, branch_rows}
 
 abbrev mutual
   -- the types of the rows: what each action or end of the type is, with closed types in the places of its variables

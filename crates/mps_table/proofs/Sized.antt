@@ -7,8 +7,8 @@ use Rattle.mps_local.specs.Local.{LocalType, Branches, End, Var, Rec, Send, Recv
 use Rattle.mps_local.specs.Actions.{labels}
 use Rattle.mps_local.specs.LocalFaults.{Place, places, branch_places}
 use Rattle.mps_table.specs.declared.laying.Draft.{Draft}
-use Rattle.mps_table.specs.Drafts.{IsLaidOut, nowhere}
-use Rattle.mps_table.specs.Laying.{size, branch_size, all_labels, branch_labels}
+use Rattle.mps_table.specs.Private.Drafts.{IsLaidOut, nowhere}
+use Rattle.mps_table.specs.Private.Laying.{size, branch_size, all_labels, branch_labels}
 use Rattle.mps_table.specs.Sizes.{has_row, node_labels, acts_and_ends, labels_of_choices}
 use Rattle.mps_table.proofs.Drafted.{length-all_rows}
 

@@ -4,7 +4,7 @@ use Rattle.std.specs.List.{list_all}
 use Rattle.std.proofs.lemmas.List.{length-append, append-nil}
 use Rattle.mps_text.specs.Tokens.{is_blank, first_is, Begins, BeginsAll}
 use Rattle.mps_text.specs.Faults.{IsMalformed}
-use Rattle.mps_text.specs.Lexing.{Fault, Lexeme, Lexed, Ended, Malformed, Next, lexeme_at, lexed_by, lexed_end, lexed_in, lexed, unblanked}
+use Rattle.mps_text.specs.Private.Lexing.{Fault, Lexeme, Lexed, Ended, Malformed, Next, lexeme_at, lexed_by, lexed_end, lexed_in, lexed, unblanked}
 use Rattle.mps_text.proofs.Lexemes.{lexeme_takes, lexeme_again, begins_behind, unblanked_front, unblanked_same, unblanked_none}
 use Rattle.mps_text.proofs.Steps.{next_shorter, lexed_next, lexed_stop, lexeme_fails, blanks_end}
 

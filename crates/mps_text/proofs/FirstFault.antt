@@ -8,8 +8,8 @@ use Rattle.mps_text.specs.Grammar.{tokens_of, SpellsProtocol}
 use Rattle.mps_text.specs.Tokens.{BeginsAll}
 use Rattle.mps_text.specs.Faults.{starts_of, nodes_begun, IsShallow, IsWhole, FaultAt, IsFirstFault}
 use Rattle.mps_text.proofs.Opened.{OpensBy, IsUnexpectedBy, IsWrongBy, opens_one, join, wrong_one}
-use Rattle.mps_text.specs.Lexing.{lexed, is_name, is_variable}
-use Rattle.mps_text.specs.Reading.{Symbol, Token, AName, AVariable, ASort, Roles, Node, Exchange, Others, branch, behind_first, begun, named, exchanged, followed, first_of, sort_of, which, step, start_of, run, whole}
+use Rattle.mps_text.specs.Private.Lexing.{lexed, is_name, is_variable}
+use Rattle.mps_text.specs.Private.Reading.{Symbol, Token, AName, AVariable, ASort, Roles, Node, Exchange, Others, branch, behind_first, begun, named, exchanged, followed, first_of, sort_of, which, step, start_of, run, whole}
 use Rattle.mps_base.specs.declared.value.Sort.{Sort}
 use Rattle.mps_text.specs.declared.reading.First.{First}
 use Rattle.mps_text.specs.declared.reading.First.TheVariants as firsts

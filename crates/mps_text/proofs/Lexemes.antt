@@ -8,7 +8,7 @@ use Rattle.std.proofs.lemmas.List.{take-append-drop, take_at, drop_at, length-ap
 use Rattle.std.proofs.lemmas.Slice.Eq.{bytes_eq-Decides}
 use Rattle.mps_base.specs.Names.{reserved_words, is_lower, is_upper, is_name_byte, is_variable_byte}
 use Rattle.mps_text.specs.Tokens.{is_blank, is_word_byte, first_is, IsWord, punctuation, IsTokenBefore, Begins}
-use Rattle.mps_text.specs.Lexing.{is_small_word, is_capital_word, is_word, Fault, Lexeme, unblanked, run_len, is_punctuation_byte, word_len, token_len, lexeme_of, lexeme_at}
+use Rattle.mps_text.specs.Private.Lexing.{is_small_word, is_capital_word, is_word, Fault, Lexeme, unblanked, run_len, is_punctuation_byte, word_len, token_len, lexeme_of, lexeme_at}
 use Rattle.mps_text.specs.declared.fault.TextKind.TheVariants.{Word, Unexpected}
 use Rattle.mps_text.proofs.Names.{both_true, true_both, name_is, is_name_of, variable_is, is_variable_of}
 

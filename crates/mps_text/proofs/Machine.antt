@@ -1,6 +1,6 @@
 -- Tokens that drive a stack on.
 use Rattle.std.proofs.Common.{◌≡◌, ℕ, suc, List, [], ◌∷◌, ◌++◌, length, Option, Some, refl, ap, sym, subst, ◌∙◌}
-use Rattle.mps_text.specs.Reading.{Symbol, step, start_of}
+use Rattle.mps_text.specs.Private.Reading.{Symbol, step, start_of}
 use Rattle.mps_text.proofs.Tokens.{some_is}
 
 -- by the tokens the one stack becomes the other, and these nodes begin

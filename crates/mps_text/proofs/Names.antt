@@ -8,7 +8,7 @@ use Rattle.std.proofs.lemmas.Bool.Decides.{nat_tests}
 use Rattle.std.proofs.lemmas.Slice.Eq.{bytes_eq-Decides}
 use Rattle.mps_base.specs.Names.{IsName, IsVariable, IsNoneOf, is_name_byte, is_lower, is_upper, is_variable_byte, reserved_words}
 use Rattle.mps_text.specs.Tokens.{first_is}
-use Rattle.mps_text.specs.Lexing.{is_small_word, is_name, is_capital_word, is_variable}
+use Rattle.mps_text.specs.Private.Lexing.{is_small_word, is_name, is_capital_word, is_variable}
 
 pub both_true : (a b : Bool) → (a && b) ≡ true → (a ≡ true) × (b ≡ true)
 both_true true b h = (refl, h)

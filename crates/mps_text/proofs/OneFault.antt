@@ -10,8 +10,8 @@ use Rattle.mps_text.specs.Grammar.{SpellsText, IsWithinLimits}
 use Rattle.mps_text.specs.Faults.{starts_of, nodes_begun, Shows, FaultAt, IsFirstFault}
 use Rattle.mps_text.specs.Grammar.{tokens_of}
 use Rattle.mps_text.proofs.Opened.{IsUnexpectedBy, IsWrongBy, opens_two, wrong_two}
-use Rattle.mps_text.specs.Lexing.{Fault, Lexed, Ended, Malformed, Next, lexed}
-use Rattle.mps_text.specs.Reading.{Symbol, step, start_of, run, whole}
+use Rattle.mps_text.specs.Private.Lexing.{Fault, Lexed, Ended, Malformed, Next, lexed}
+use Rattle.mps_text.specs.Private.Reading.{Symbol, step, start_of, run, whole}
 use Rattle.mps_text.specs.declared.fault.TextKind.{TextKind}
 use Rattle.mps_text.specs.declared.fault.TextKind.TheVariants.{TooLong, Word, Unexpected, TooManyNodes, TooDeep, Trailing, Memory}
 use Rattle.mps_text.proofs.Machine.{Drives}

@@ -1,9 +1,9 @@
 -- A fault that a function hands on.
 use Rattle.std.proofs.Common.{◌≡◌, List, ◌++◌, Result, Ok, Err, ap, sym, subst, ◌∙◌}
 use Rattle.std.specs.Result.{IsErrAnd}
-use Rattle.mps_text.specs.Lexing.{Fails, lexeme_at, unblanked}
+use Rattle.mps_text.specs.Private.Lexing.{Fails, lexeme_at, unblanked}
 use Rattle.std.specs.Prelude.{length, ◌≢◌}
-use Rattle.mps_text.specs.Reading.{Symbol, Takes, Reads, Ends, run_from}
+use Rattle.mps_text.specs.Private.Reading.{Symbol, Takes, Reads, Ends, run_from}
 use Rattle.mps_text.specs.declared.lexing.Cursor.{Cursor}
 use Rattle.mps_text.specs.declared.lexing.Halt.{Halt}
 use Rattle.mps_text.specs.declared.lexing.Halt.TheVariants as halts

@@ -10,9 +10,9 @@ use Rattle.mps_global.specs.Global.{GlobalType}
 use Rattle.mps_text.specs.Grammar.{protocol_parts, protocol_tokens, IsSpellable, SpellsProtocol, SpellsText, IsWithinLimits}
 use Rattle.mps_text.specs.Faults.{IsShallow, nodes_begun, AreWithin, HasProtocol, HasFault}
 use Rattle.mps_text.specs.declared.fault.TextKind.TheVariants.{TooLong}
-use Rattle.mps_text.specs.Writing.{global_tokens}
-use Rattle.mps_text.specs.Lexing.{Fault, lexed, tokens_in}
-use Rattle.mps_text.specs.Reading.{run, whole, tokens_before}
+use Rattle.mps_text.specs.Private.Writing.{global_tokens}
+use Rattle.mps_text.specs.Private.Lexing.{Fault, lexed, tokens_in}
+use Rattle.mps_text.specs.Private.Reading.{run, whole, tokens_before}
 use Rattle.mps_text.proofs.Machine.{drives_one}
 use Rattle.mps_text.proofs.Trees.{protocol_starts, before_is, protocol_tokens_are, drives_whole}
 use Rattle.mps_text.proofs.Limits.{within_protocol}

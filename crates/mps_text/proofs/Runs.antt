@@ -6,8 +6,8 @@ use Rattle.std.proofs.lemmas.Bool.Decides.{nat_tests}
 use Rattle.std.proofs.lemmas.List.{append-nil}
 use Rattle.mps_text.specs.Tokens.{is_blank, Begins, BeginsAll}
 use Rattle.mps_text.specs.Faults.{IsShallow, nodes_begun, Shows, IsMalformed}
-use Rattle.mps_text.specs.Lexing.{Fault, ◌>>=◌, Lexed, Ended, Malformed, Next, lexed, tokens_in}
-use Rattle.mps_text.specs.Reading.{Symbol, step, start_of, pushed_by, counted, run}
+use Rattle.mps_text.specs.Private.Lexing.{Fault, ◌>>=◌, Lexed, Ended, Malformed, Next, lexed, tokens_in}
+use Rattle.mps_text.specs.Private.Reading.{Symbol, step, start_of, pushed_by, counted, run}
 use Rattle.mps_text.specs.declared.fault.TextKind.{TextKind}
 use Rattle.mps_text.specs.declared.fault.TextKind.TheVariants.{TooLong, Word, Unexpected, TooManyNodes, TooDeep, Trailing, Memory}
 use Rattle.mps_text.proofs.Tokens.{chosen}

@@ -6,8 +6,8 @@ use Rattle.std.proofs.lemmas.Bool.Decides.{nat_tests}
 use Rattle.std.proofs.lemmas.List.{length-append, append-nil, nil_from_length}
 use Rattle.mps_text.specs.Tokens.{is_blank, first_is}
 use Rattle.mps_text.specs.Faults.{IsMalformed}
-use Rattle.mps_text.specs.Lexing.{Fault, Lexeme, Lexed, Ended, Malformed, Next, lexeme_at, lexeme_of, token_len, lexed_by, lexed_end, lexed_in, lexed, unblanked}
-use Rattle.mps_text.specs.Reading.{Symbol, run}
+use Rattle.mps_text.specs.Private.Lexing.{Fault, Lexeme, Lexed, Ended, Malformed, Next, lexeme_at, lexeme_of, token_len, lexed_by, lexed_end, lexed_in, lexed, unblanked}
+use Rattle.mps_text.specs.Private.Reading.{Symbol, run}
 use Rattle.mps_text.specs.declared.fault.TextKind.{TextKind}
 use Rattle.mps_text.specs.declared.fault.TextKind.TheVariants.{Word, Unexpected, Trailing}
 use Rattle.mps_text.proofs.Lexemes.{lexeme_takes, lexeme_again, token_some, unblanked_parts, unblanked_first, unblanked_same, unblanked_none}

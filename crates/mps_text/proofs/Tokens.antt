@@ -9,8 +9,8 @@ use Rattle.mps_base.specs.Names.{IsName, IsVariable}
 use Rattle.mps_base.specs.declared.value.Sort.{Sort}
 use Rattle.mps_base.specs.declared.value.Sort.TheVariants.{Int, Bool as Truth, Text}
 use Rattle.mps_base.specs.Sorts.{sort_word}
-use Rattle.mps_text.specs.Lexing.{is_name, is_variable}
-use Rattle.mps_text.specs.Reading.{first_of, first_token, IsFirst, sort_of, which, separator}
+use Rattle.mps_text.specs.Private.Lexing.{is_name, is_variable}
+use Rattle.mps_text.specs.Private.Reading.{first_of, first_token, IsFirst, sort_of, which, separator}
 use Rattle.mps_text.specs.declared.reading.First.{First}
 use Rattle.mps_text.specs.declared.reading.First.TheVariants.{End, Rec, Sender, Var}
 use Rattle.mps_text.proofs.Names.{name_is, is_name_of, variable_is, is_variable_of}

@@ -3,10 +3,10 @@ ghost use Rattle.std.specs.Prelude.{◌≡◌, ◌≤◌, true, false, length, M
 ghost use Rattle.std.specs.List.{list_all};
 ghost use Rattle.mps_base.specs.Names.{is_lower, is_upper, is_name_byte, is_variable_byte};
 ghost use Rattle.mps_text.specs.Tokens.{first_is, is_blank, is_word_byte};
-ghost use Rattle.mps_text.specs.Lexing.{is_small_word, is_capital_word, is_word};
-ghost use Rattle.mps_text.specs.Lexing.{Gives, unblanked, is_punctuation_byte, run_len, word_len, token_len};
-ghost use Rattle.mps_text.specs.Lexing.{lexeme_of, lexeme_at, plain_lexeme, is_name, is_variable};
-ghost use Rattle.mps_text.specs.Reading.{Takes};
+ghost use Rattle.mps_text.specs.Private.Lexing.{is_small_word, is_capital_word, is_word};
+ghost use Rattle.mps_text.specs.Private.Lexing.{Gives, unblanked, is_punctuation_byte, run_len, word_len, token_len};
+ghost use Rattle.mps_text.specs.Private.Lexing.{lexeme_of, lexeme_at, plain_lexeme, is_name, is_variable};
+ghost use Rattle.mps_text.specs.Private.Reading.{Takes};
 ghost use Rattle.mps_text.specs.declared.lexing.Halt.TheVariants.{Memory};
 
 use crate::fault::TextKind;

@@ -12,10 +12,10 @@ ghost use Rattle.mps_text.specs.Grammar.{protocol_parts, begun_by, first_token_o
 ghost use Rattle.mps_text.specs.Faults.{IsFirstFault, HasProtocol, HasFault};
 ghost use Rattle.mps_text.specs.declared.fault.TextKind.{TextKind};
 ghost use Rattle.mps_text.specs.declared.fault.TextKind.TheVariants.{Memory};
-ghost use Rattle.mps_text.specs.Lexing.{lexed, tokens_in};
-ghost use Rattle.mps_text.specs.Reading.{Symbol, Token, AName, AVariable, ASort, Roles, Node, Exchange, Others, branch};
-ghost use Rattle.mps_text.specs.Reading.{first_of, first_token, IsFirst, behind_first, sort_of, which, Reads, ReadsAll, Ends};
-ghost use Rattle.mps_text.specs.Reading.{tokens_from, tokens_before, branches_before, exchange_tokens, behind_exchange, separator, behind_branch};
+ghost use Rattle.mps_text.specs.Private.Lexing.{lexed, tokens_in};
+ghost use Rattle.mps_text.specs.Private.Reading.{Symbol, Token, AName, AVariable, ASort, Roles, Node, Exchange, Others, branch};
+ghost use Rattle.mps_text.specs.Private.Reading.{first_of, first_token, IsFirst, behind_first, sort_of, which, Reads, ReadsAll, Ends};
+ghost use Rattle.mps_text.specs.Private.Reading.{tokens_from, tokens_before, branches_before, exchange_tokens, behind_exchange, separator, behind_branch};
 
 use crate::fault::{TextFault, TextKind};
 use crate::lexing::{Cursor, Halt, lexeme_at, name_of, take, unblanked, variable_of};

@@ -1,5 +1,5 @@
 use Rattle.std.proofs.Common.{◌≡◌, ◌-◌, ◌≤◌, [], vec_len, vec_capacity}
-use Rattle.mps_cell.specs.Origins.{opening_in}
+use Rattle.mps_cell.specs.Private.Origins.{opening_in}
 use Rattle.mps_cell.specs.Views.{dealing}
 use Rattle.mps_cell.specs.Cells.{fresh_below}
 use Rattle.mps_cell.proofs.cell.hand_out.Given as goal

@@ -1,5 +1,5 @@
 use Rattle.std.proofs.Common.{◌+◌}
-use Rattle.mps_global.specs.Weights.{weight, waiting_weight}
+use Rattle.mps_global.specs.Private.Weights.{weight, waiting_weight}
 use Rattle.mps_global.proofs.Global.drop.Given as goal
 
 abbrev pub decreases-loop-self : goal.decreases-loop-self

@@ -2,7 +2,7 @@ use Rattle.std.proofs.Common.{subst, sym, arith}
 use Rattle.std.specs.Prelude.{Option}
 use Rattle.mps_base.specs.declared.action.Message.{Message}
 use Rattle.mps_line.specs.Replies.{done_tokens}
-use Rattle.mps_line.specs.Spellable.{AreSpellable}
+use Rattle.mps_line.specs.Private.Spellable.{AreSpellable}
 use Rattle.mps_line.proofs.Spellings.{number}
 use Rattle.mps_line.proofs.answer_texts.done_is_spellable.Goals as goal
 

@@ -7,8 +7,8 @@ use Rattle.mps_base.specs.declared.action.Step.{Step}
 use Rattle.mps_history.specs.Dependence.{depends_on, least, dependents}
 use Rattle.mps_arena.specs.Entries.{steps, entry_at}
 use Rattle.mps_arena.specs.Neighbours.{id_in, next_of_role_in, receipt_in, CanGo}
-use Rattle.mps_links.specs.Numbered.{key_of, HasNumber}
-use Rattle.mps_links.specs.Order.{earlier}
+use Rattle.mps_links.specs.Private.Numbered.{key_of, HasNumber}
+use Rattle.mps_links.specs.Private.Order.{earlier}
 use Rattle.mps_links.proofs.Numbers.{IsNumbered, numbered}
 use Rattle.mps_links.proofs.Firsts.{first_numbered}
 use Rattle.mps_links.proofs.Present.{if_some, next_there, receipt_there}

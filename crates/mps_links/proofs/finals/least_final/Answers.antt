@@ -4,10 +4,10 @@ use Rattle.std.proofs.lemmas.Bool.{and_left, le-ltb}
 use Rattle.mps_arena.specs.Keys.{first_key}
 use Rattle.mps_arena.specs.Entries.{keys_of}
 use Rattle.mps_history.specs.Dependence.{least}
-use Rattle.mps_links.specs.Numbered.{key_of}
+use Rattle.mps_links.specs.Private.Numbered.{key_of}
 use Rattle.mps_links.specs.declared.order.Numbered.{Numbered}
 use Rattle.mps_links.specs.Marks.{marked_commits}
-use Rattle.mps_links.specs.Order.{earlier}
+use Rattle.mps_links.specs.Private.Order.{earlier}
 use Rattle.mps_links.proofs.StepKeys.{keys_none}
 use Rattle.mps_links.proofs.Commits.{is_final, first_there, next_role, least_number}
 use Rattle.mps_links.proofs.finals.least_final.Goals as goal

@@ -1,7 +1,7 @@
 use Rattle.std.proofs.Common.{◌≡◌, ◌&&◌, nat_lt}
 use Rattle.mps_arena.specs.Keys.{first_key}
 use Rattle.mps_arena.specs.Entries.{keys_of}
-use Rattle.mps_links.specs.Numbered.{key_of, HasNumber}
+use Rattle.mps_links.specs.Private.Numbered.{key_of, HasNumber}
 use Rattle.mps_links.proofs.Commits.{is_final}
 use Rattle.mps_links.proofs.finals.least_final.Given as goal
 

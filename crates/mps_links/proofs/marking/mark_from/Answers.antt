@@ -4,8 +4,8 @@ use Rattle.mps_history.specs.Steps.{within}
 use Rattle.mps_history.specs.Dependence.{consequences}
 use Rattle.mps_arena.specs.Entries.{KeyedStep, steps, with_mark, entry_at}
 use Rattle.mps_links.specs.Marks.{marked_by}
-use Rattle.mps_links.specs.Pending.{followed}
-use Rattle.mps_links.specs.Numbered.{HaveNumbers}
+use Rattle.mps_links.specs.Private.Pending.{followed}
+use Rattle.mps_links.specs.Private.Numbered.{HaveNumbers}
 use Rattle.mps_links.proofs.Kept.{numbers_marked}
 use Rattle.mps_links.proofs.Numbers.{numbered}
 use Rattle.mps_links.proofs.Firsts.{entry_in}

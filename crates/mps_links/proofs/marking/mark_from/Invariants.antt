@@ -1,7 +1,7 @@
 use Rattle.std.proofs.Common.{◌≡◌, length}
 use Rattle.mps_history.specs.Dependence.{consequences}
 use Rattle.mps_arena.specs.Entries.{steps}
-use Rattle.mps_links.specs.Numbered.{keys_alone, HaveNumbers}
+use Rattle.mps_links.specs.Private.Numbered.{keys_alone, HaveNumbers}
 use Rattle.mps_links.proofs.Passing.{IsMarking}
 use Rattle.mps_links.proofs.marking.mark_from.Given as goal
 

@@ -3,8 +3,8 @@ use Rattle.std.proofs.lemmas.Bool.{and_left, le-ltb}
 use Rattle.mps_arena.specs.Keys.{last_key}
 use Rattle.mps_arena.specs.Entries.{keys_of}
 use Rattle.mps_arena.specs.Neighbours.{CanGo}
-use Rattle.mps_links.specs.Numbered.{key_of}
-use Rattle.mps_links.specs.Order.{later}
+use Rattle.mps_links.specs.Private.Numbered.{key_of}
+use Rattle.mps_links.specs.Private.Order.{later}
 use Rattle.mps_links.specs.Marks.{marked_keys, is_marked}
 use Rattle.mps_links.proofs.StepKeys.{keys_none}
 use Rattle.mps_links.proofs.Present.{if_some}

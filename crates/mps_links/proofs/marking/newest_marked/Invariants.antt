@@ -2,7 +2,7 @@ use Rattle.std.proofs.Common.{◌≡◌, ◌&&◌, None, nat_lt}
 use Rattle.mps_arena.specs.Keys.{last_key}
 use Rattle.mps_arena.specs.Entries.{keys_of}
 use Rattle.mps_links.specs.Marks.{is_marked}
-use Rattle.mps_links.specs.Numbered.{key_of, HasNumber}
+use Rattle.mps_links.specs.Private.Numbered.{key_of, HasNumber}
 use Rattle.mps_links.proofs.marking.newest_marked.Given as goal
 
 abbrev pub invariant-loop-role : goal.invariant-loop-role

@@ -4,7 +4,7 @@ use Rattle.std.specs.Option.{option_map}
 use Rattle.std.proofs.lemmas.Bool.{and_left}
 use Rattle.mps_arena.specs.Keys.{last_key}
 use Rattle.mps_arena.specs.Entries.{KeyedStep, of_role, entry_at, keys_of}
-use Rattle.mps_links.specs.Numbered.{key_of}
+use Rattle.mps_links.specs.Private.Numbered.{key_of}
 use Rattle.mps_links.specs.Marks.{is_marked}
 use Rattle.mps_links.proofs.StepKeys.{keys_none, none_passes}
 use Rattle.mps_links.proofs.Firsts.{entry_in}

@@ -1,6 +1,6 @@
 use Rattle.std.proofs.Common.{◌≡◌, ℕ, map, refl, sym, ap, ◌∙◌, arith}
 use Rattle.mps_links.specs.Marks.{marked_keys}
-use Rattle.mps_links.specs.RoleMarks.{unmarked_of}
+use Rattle.mps_links.specs.Private.RoleMarks.{unmarked_of}
 use Rattle.mps_links.proofs.Going.{none_unmarked}
 use Rattle.mps_links.proofs.Unmarking.{unmarked_below, below_none, below_more, below_all, last_marked_below}
 use Rattle.mps_links.proofs.marking.unmark.Goals as goal

@@ -1,7 +1,7 @@
 use Rattle.std.proofs.Common.{◌+◌, ◌↔◌}
 use Rattle.mps_local.specs.Local.{plain, plain_branches}
 use Rattle.mps_local.specs.Shape.{AllPeers, AllBranchPeers, IsOtherRole}
-use Rattle.mps_local.specs.Weights.{weight, waiting_weight}
+use Rattle.mps_local.specs.Private.Weights.{weight, waiting_weight}
 use Rattle.mps_local.proofs.Local.names_others.Given as goal
 
 abbrev pub invariant-loop-self : goal.invariant-loop-self

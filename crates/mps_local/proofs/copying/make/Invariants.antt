@@ -1,5 +1,5 @@
 use Rattle.std.proofs.Common.{◌≡◌}
-use Rattle.mps_local.specs.Copying.{stacks, nothing_made, with_next, with_all, left_weight}
+use Rattle.mps_local.specs.Private.Copying.{stacks, nothing_made, with_next, with_all, left_weight}
 use Rattle.mps_local.proofs.copying.make.Given as goal
 
 -- when what waits is made, it is

@@ -3,7 +3,7 @@ use Rattle.std.specs.List.{AllByRecursion}
 use Rattle.mps_base.specs.Spaced.{with_tokens}
 use Rattle.mps_local.specs.Local.{plain}
 use Rattle.mps_local.specs.Text.{local_tokens}
-use Rattle.mps_local.specs.Writing.{IsTodoKnown, left_tokens, left_weight}
+use Rattle.mps_local.specs.Private.Writing.{IsTodoKnown, left_tokens, left_weight}
 use Rattle.mps_local.proofs.writing.write_tree.Given as goal
 
 -- what waits is what is still to be written

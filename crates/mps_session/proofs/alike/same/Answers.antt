@@ -1,8 +1,8 @@
 use Rattle.std.proofs.Common.{◌≡◌, ℕ, map, refl, subst, arith, below_more}
 use Rattle.std.proofs.lemmas.Bool.{iff_false}
 use Rattle.mps_local.specs.Local.{plain}
-use Rattle.mps_session.specs.Configurations.{lists_of}
-use Rattle.mps_session.specs.Pasts.{past_in}
+use Rattle.mps_session.specs.Private.Configurations.{lists_of}
+use Rattle.mps_session.specs.Private.Pasts.{past_in}
 use Rattle.mps_session.proofs.Pasts.{AreTold, told}
 use Rattle.mps_session.proofs.alike.same.Goals as goal
 use Rattle.mps_session.proofs.alike.same.Goals.{After-loop-role}

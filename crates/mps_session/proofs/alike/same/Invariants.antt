@@ -1,5 +1,5 @@
 use Rattle.std.proofs.Common.{◌≡◌, ◌<◌, ℕ}
-use Rattle.mps_session.specs.Pasts.{past_in}
+use Rattle.mps_session.specs.Private.Pasts.{past_in}
 use Rattle.mps_session.proofs.alike.same.Given as goal
 
 abbrev pub invariant-loop-role : goal.invariant-loop-role

@@ -4,7 +4,7 @@ use Rattle.std.proofs.lemmas.List.{map-append}
 use Rattle.mps_local.specs.declared.Local.{Local}
 use Rattle.mps_local.specs.Local.{LocalType, plain}
 use Rattle.mps_table.specs.Standing.{StandsFor}
-use Rattle.mps_session.specs.Opening.{AreStarts}
+use Rattle.mps_session.specs.Private.Opening.{AreStarts}
 use Rattle.mps_session.specs.declared.cursor.Cursor.{Cursor}
 use Rattle.mps_session.proofs.OpeningCursors.{starts_push}
 use Rattle.mps_session.proofs.open.cursors.Goals as goal

@@ -1,6 +1,6 @@
 use Rattle.std.proofs.Common.{map, take}
 use Rattle.mps_local.specs.Local.{plain}
-use Rattle.mps_session.specs.Opening.{AreStarts}
+use Rattle.mps_session.specs.Private.Opening.{AreStarts}
 use Rattle.mps_session.proofs.open.cursors.Given as goal
 
 abbrev pub invariant-loop-t : goal.invariant-loop-t

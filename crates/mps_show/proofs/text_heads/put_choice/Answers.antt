@@ -5,7 +5,7 @@ use Rattle.mps_base.specs.Spaced.{spaced}
 use Rattle.mps_base.specs.Texts.{IsPlainByte}
 use Rattle.mps_show.proofs.Rows.{spaced_words, words_begin, word_more, all-append}
 use Rattle.mps_show.proofs.Texts.{name_is_plain, in_front, one_behind}
-use Rattle.mps_show.specs.Rows.{words_behind}
+use Rattle.mps_show.specs.Private.Rows.{words_behind}
 use Rattle.mps_show.proofs.text_heads.put_choice.Goals as goal
 
 pub loop-label-init : goal.loop-label-init

@@ -2,7 +2,7 @@ use Rattle.std.proofs.Common.{◌≡◌, ◌∷◌, ◌++◌, drop}
 use Rattle.std.specs.List.{AllByRecursion}
 use Rattle.mps_base.specs.Spaced.{spaced}
 use Rattle.mps_base.specs.Texts.{IsPlainByte}
-use Rattle.mps_show.specs.Rows.{words_behind}
+use Rattle.mps_show.specs.Private.Rows.{words_behind}
 use Rattle.mps_show.proofs.text_heads.put_choice.Given as goal
 
 abbrev pub invariant-loop-label : goal.invariant-loop-label

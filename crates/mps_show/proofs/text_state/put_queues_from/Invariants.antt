@@ -2,7 +2,7 @@ use Rattle.std.proofs.Common.{◌≡◌, ◌-◌, ◌++◌, length}
 use Rattle.std.specs.List.{flat_map, range_with_len}
 use Rattle.mps_session.specs.SessionState.{session_view}
 use Rattle.mps_show.specs.Plain.{ArePlainItems}
-use Rattle.mps_show.specs.Rows.{joined, behind}
+use Rattle.mps_show.specs.Private.Rows.{joined, behind}
 use Rattle.mps_show.specs.Shown.{queue_shown, queues_from}
 use Rattle.serde_json.specs.View.{items_of}
 use Rattle.mps_show.proofs.text_state.put_queues_from.Given as goal

@@ -1,5 +1,5 @@
 use Rattle.std.proofs.Common.{◌≡◌, ◌+◌, drop}
-use Rattle.mps_text.specs.Lexing.{run_len}
+use Rattle.mps_text.specs.Private.Lexing.{run_len}
 use Rattle.mps_text.proofs.lexing.run_len.Given as goal
 
 abbrev pub invariant-loop-byte : goal.invariant-loop-byte

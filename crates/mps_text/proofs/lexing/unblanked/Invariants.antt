@@ -1,5 +1,5 @@
 use Rattle.std.proofs.Common.{◌≡◌, length}
-use Rattle.mps_text.specs.Lexing.{unblanked}
+use Rattle.mps_text.specs.Private.Lexing.{unblanked}
 use Rattle.mps_text.proofs.lexing.unblanked.Given as goal
 
 -- what is left begins alike after its blanks

@@ -1,6 +1,6 @@
 use Rattle.std.proofs.Common.{◌+◌, [], ◌∷◌, ◌++◌, ap, ◌∙◌}
 use Rattle.std.specs.Prelude.{codes}
-use Rattle.mps_text.specs.Reading.{Token, AName, Node, Exchange, Others, branch, behind_first, behind_exchange, behind_branch, run_from}
+use Rattle.mps_text.specs.Private.Reading.{Token, AName, Node, Exchange, Others, branch, behind_first, behind_exchange, behind_branch, run_from}
 use Rattle.mps_text.specs.declared.reading.First.{First}
 use Rattle.mps_text.proofs.Propagated.{fails_behind}
 use Rattle.mps_text.proofs.reading.+reading.Goals as goal

@@ -1,8 +1,8 @@
 use Rattle.std.proofs.Common.{◌≡◌, ◌≢◌, length, true, false, sym, ap, ◌∙◌, arith}
 use Rattle.std.specs.Prelude.{◌==◌}
 use Rattle.std.proofs.lemmas.Bool.Decides.{nat_tests}
-use Rattle.mps_text.specs.Lexing.{tokens_in, unblanked}
-use Rattle.mps_text.specs.Reading.{run}
+use Rattle.mps_text.specs.Private.Lexing.{tokens_in, unblanked}
+use Rattle.mps_text.specs.Private.Reading.{run}
 use Rattle.mps_text.proofs.Steps.{blanks_end, token_behind}
 use Rattle.mps_text.proofs.Propagated.{end_fails}
 use Rattle.mps_text.proofs.reading.ended.Goals as goal

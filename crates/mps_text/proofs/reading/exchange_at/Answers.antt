@@ -1,6 +1,6 @@
 use Rattle.std.proofs.Common.{[], ◌∷◌, ◌∙◌}
 use Rattle.std.specs.Prelude.{codes}
-use Rattle.mps_text.specs.Reading.{Token, AName, Exchange, behind_exchange}
+use Rattle.mps_text.specs.Private.Reading.{Token, AName, Exchange, behind_exchange}
 use Rattle.mps_text.proofs.Propagated.{fails_behind}
 use Rattle.mps_text.proofs.reading.exchange_at.Goals as goal
 

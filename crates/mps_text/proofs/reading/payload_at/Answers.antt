@@ -1,8 +1,8 @@
 use Rattle.std.proofs.Common.{List, ℕ, ◌∷◌, Some, ap, sym, ◌∙◌}
 use Rattle.std.specs.Prelude.{codes}
 use Rattle.mps_base.specs.Sorts.{sort_word}
-use Rattle.mps_text.specs.Lexing.{tokens_in}
-use Rattle.mps_text.specs.Reading.{tokens_from}
+use Rattle.mps_text.specs.Private.Lexing.{tokens_in}
+use Rattle.mps_text.specs.Private.Reading.{tokens_from}
 use Rattle.mps_text.proofs.Tokens.{which_is}
 use Rattle.mps_text.proofs.reading.payload_at.Goals as goal
 

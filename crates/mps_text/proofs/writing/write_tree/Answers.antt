@@ -1,7 +1,7 @@
 use Rattle.mps_base.specs.Spaced.{with_tokens}
 use Rattle.mps_global.specs.Global.{plain}
 use Rattle.mps_text.specs.Grammar.{IsNamed}
-use Rattle.mps_text.specs.Writing.{global_tokens}
+use Rattle.mps_text.specs.Private.Writing.{global_tokens}
 use Rattle.mps_text.proofs.Written.{written_turn, named_turn}
 use Rattle.mps_text.proofs.writing.write_tree.Goals as goal
 

@@ -3,7 +3,7 @@ use Rattle.std.specs.List.{AllByRecursion}
 use Rattle.mps_base.specs.Spaced.{with_tokens}
 use Rattle.mps_global.specs.Global.{plain}
 use Rattle.mps_text.specs.Grammar.{IsNamed}
-use Rattle.mps_text.specs.Writing.{global_tokens, IsTodoNamed, left_tokens, left_weight}
+use Rattle.mps_text.specs.Private.Writing.{global_tokens, IsTodoNamed, left_tokens, left_weight}
 use Rattle.mps_text.proofs.writing.write_tree.Given as goal
 
 -- what waits is what is still to be written

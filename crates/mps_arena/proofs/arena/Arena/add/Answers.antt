@@ -5,10 +5,10 @@ use Rattle.slab.specs.Slab.{get, slab_len}
 use Rattle.mps_base.specs.Effects.{effect}
 use Rattle.mps_arena.specs.declared.node.Node.{Node}
 use Rattle.mps_arena.specs.Entries.{Entries}
-use Rattle.mps_arena.specs.Kept.{IsKept}
-use Rattle.mps_arena.specs.Links.{joined}
+use Rattle.mps_arena.specs.Private.Kept.{IsKept}
+use Rattle.mps_arena.specs.Private.Links.{joined}
 use Rattle.mps_arena.specs.Neighbours.{IsSource}
-use Rattle.mps_arena.specs.Views.{entries_of}
+use Rattle.mps_arena.specs.Private.Views.{entries_of}
 use Rattle.mps_arena.proofs.Keeping.{kept_view, kept_whole, kept_sound, kept_add}
 use Rattle.mps_arena.proofs.arena.Arena.add.Goals as goal
 use Rattle.mps_arena.proofs.arena.Arena.add.Goals.{After-push_reserved}

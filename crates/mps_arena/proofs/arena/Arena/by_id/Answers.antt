@@ -4,8 +4,8 @@ use Rattle.std.specs.List.{find}
 use Rattle.std.specs.Option.{option_map}
 use Rattle.slab.specs.Slab.{get, slab_len}
 use Rattle.mps_arena.specs.Entries.{Entries}
-use Rattle.mps_arena.specs.Links.{indexed_key}
-use Rattle.mps_arena.specs.Views.{entries_of}
+use Rattle.mps_arena.specs.Private.Links.{indexed_key}
+use Rattle.mps_arena.specs.Private.Views.{entries_of}
 use Rattle.mps_arena.proofs.Numbers.{number_leads}
 use Rattle.mps_arena.proofs.arena.Arena.by_id.Goals as goal
 

@@ -6,9 +6,9 @@ use Rattle.mps_arena.specs.Entries.{KeyedStep, Entries, steps, entry_at}
 use Rattle.std.specs.Option.{option_map}
 use Rattle.mps_history.specs.Steps.{without}
 use Rattle.mps_arena.specs.declared.node.Node.{Node}
-use Rattle.mps_arena.specs.Kept.{IsKept}
+use Rattle.mps_arena.specs.Private.Kept.{IsKept}
 use Rattle.mps_arena.specs.Neighbours.{CanGo}
-use Rattle.mps_arena.specs.Views.{entries_of}
+use Rattle.mps_arena.specs.Private.Views.{entries_of}
 use Rattle.mps_arena.proofs.Keeping.{stands, kept_view, kept_whole, kept_sound, kept_remove, small_of}
 use Rattle.mps_arena.proofs.Histories.{steps_without}
 use Rattle.mps_arena.proofs.arena.Arena.remove.Goals as goal

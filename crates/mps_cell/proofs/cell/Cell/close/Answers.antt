@@ -1,5 +1,5 @@
 use Rattle.std.proofs.Common.{subst}
-use Rattle.mps_cell.specs.Origins.{opening_in}
+use Rattle.mps_cell.specs.Private.Origins.{opening_in}
 use Rattle.mps_cell.specs.Cells.{Closes, Opened}
 use Rattle.mps_cell.proofs.Dealing.{closed}
 use Rattle.mps_cell.proofs.cell.Cell.close.Goals as goal

@@ -1,5 +1,5 @@
 use Rattle.std.proofs.Common.{subst, sym}
-use Rattle.mps_cell.specs.Origins.{opening_in}
+use Rattle.mps_cell.specs.Private.Origins.{opening_in}
 use Rattle.mps_cell.specs.Calls.{Known}
 use Rattle.mps_cell.specs.Meetings.{Holds}
 use Rattle.mps_cell.specs.Cells.{Closes, Opened}

@@ -2,9 +2,9 @@ use Rattle.std.proofs.Common.{◌<◌, List, length, sym, ap, ◌∙◌, arith}
 use Rattle.std.specs.Prelude.{slice_index_or}
 use Rattle.std.proofs.lemmas.List.{take_all}
 use Rattle.mps_arena.specs.Entries.{KeyedStep}
-use Rattle.mps_links.specs.Numbered.{key_of, keys_alone}
-use Rattle.mps_links.specs.Order.{earlier}
-use Rattle.mps_links.specs.Pending.{earliest}
+use Rattle.mps_links.specs.Private.Numbered.{key_of, keys_alone}
+use Rattle.mps_links.specs.Private.Order.{earlier}
+use Rattle.mps_links.specs.Private.Pending.{earliest}
 use Rattle.mps_links.proofs.Kept.{number_at, one_more}
 use Rattle.mps_links.proofs.pending.Pending.earliest.Goals as goal
 

@@ -1,7 +1,7 @@
 use Rattle.std.proofs.Common.{◌≡◌, List, take}
 use Rattle.mps_arena.specs.Entries.{KeyedStep}
-use Rattle.mps_links.specs.Numbered.{key_of, keys_alone, HasNumber, HaveNumbers}
-use Rattle.mps_links.specs.Pending.{earliest}
+use Rattle.mps_links.specs.Private.Numbered.{key_of, keys_alone, HasNumber, HaveNumbers}
+use Rattle.mps_links.specs.Private.Pending.{earliest}
 use Rattle.mps_links.proofs.pending.Pending.earliest.Given as goal
 
 abbrev pub invariant-loop-pending : goal.invariant-loop-pending

@@ -3,9 +3,9 @@ use Rattle.std.specs.Prelude.{IsSome, slice_index_or, slice_set}
 use Rattle.std.proofs.lemmas.List.{map-set, get_or-map, length-set}
 use Rattle.mps_arena.specs.Entries.{entry_at}
 use Rattle.mps_arena.specs.Neighbours.{next_of_role_in}
-use Rattle.mps_links.specs.Numbered.{key_of, keys_alone}
-use Rattle.mps_links.specs.Order.{earlier}
-use Rattle.mps_links.specs.Pending.{at_role, with_pending}
+use Rattle.mps_links.specs.Private.Numbered.{key_of, keys_alone}
+use Rattle.mps_links.specs.Private.Order.{earlier}
+use Rattle.mps_links.specs.Private.Pending.{at_role, with_pending}
 use Rattle.mps_links.proofs.Kept.{number_at, numbers_set, role_is}
 use Rattle.mps_links.proofs.Present.{if_some, next_there, receipt_there}
 use Rattle.mps_links.proofs.pending.Pending.follow.Goals as goal

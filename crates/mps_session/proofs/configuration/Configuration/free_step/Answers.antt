@@ -3,7 +3,7 @@ use Rattle.std.specs.Option.{option_map}
 use Rattle.mps_base.specs.declared.action.Step.{Step}
 use Rattle.mps_history.specs.Commits.{is_commit}
 use Rattle.mps_arena.specs.Entries.{KeyedStep}
-use Rattle.mps_session.specs.Configurations.{lists_of}
+use Rattle.mps_session.specs.Private.Configurations.{lists_of}
 use Rattle.mps_session.proofs.FreeStep as free
 use Rattle.mps_session.proofs.OwnStep as numbered
 use Rattle.mps_session.proofs.configuration.Configuration.free_step.Goals as goal

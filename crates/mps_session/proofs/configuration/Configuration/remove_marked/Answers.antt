@@ -2,7 +2,7 @@ use Rattle.std.proofs.Common.{◌≡◌, ◌+◌, ℕ, List, Some, None, length,
 use Rattle.mps_arena.specs.Keys.{last_key}
 use Rattle.mps_arena.specs.Neighbours.{CanGo}
 use Rattle.mps_links.specs.Marks.{marked_keys}
-use Rattle.mps_session.specs.Configurations.{lists_of}
+use Rattle.mps_session.specs.Private.Configurations.{lists_of}
 use Rattle.mps_session.proofs.RemoveMarked as rolling
 use Rattle.mps_session.proofs.RemoveMarked.{AreGoing}
 use Rattle.mps_session.proofs.configuration.Configuration.remove_marked.Goals as goal

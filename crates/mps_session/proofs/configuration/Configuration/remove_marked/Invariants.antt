@@ -1,7 +1,7 @@
 use Rattle.std.proofs.Common.{◌+◌, ◌≤◌, length, vec_len}
 use Rattle.std.specs.Prelude.{vec_capacity}
 use Rattle.mps_links.specs.Marks.{marked_keys}
-use Rattle.mps_session.specs.Configurations.{lists_of}
+use Rattle.mps_session.specs.Private.Configurations.{lists_of}
 use Rattle.mps_session.proofs.RemoveMarked.{AreGoing}
 use Rattle.mps_session.proofs.configuration.Configuration.remove_marked.Given as goal
 

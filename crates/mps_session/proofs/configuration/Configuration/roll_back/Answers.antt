@@ -10,8 +10,8 @@ use Rattle.mps_arena.specs.Entries.{KeyedStep, steps}
 use Rattle.mps_links.specs.Marks.{marked_keys, marked_steps, unmarked_steps, unmarked}
 use Rattle.mps_links.proofs.Going.{unmarked_left, marked_count, marked_within}
 use Rattle.mps_log.proofs.Remarked.{all_again}
-use Rattle.mps_session.specs.Configurations.{Configuration, lists_of}
-use Rattle.mps_session.specs.Invariant.{Holds}
+use Rattle.mps_session.specs.Private.Configurations.{Configuration, lists_of}
+use Rattle.mps_session.specs.Private.Invariant.{Holds}
 use Rattle.std.proofs.lemmas.List.{length-reverse}
 use Rattle.mps_session.proofs.TypeAt.{length_map}
 use Rattle.mps_session.proofs.RemoveMarked as rolling

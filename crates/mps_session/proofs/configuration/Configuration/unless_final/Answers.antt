@@ -3,7 +3,7 @@ use mathlib.Core.Path.{ap₂}
 use Rattle.mps_history.specs.Dependence.{consequences}
 use Rattle.mps_arena.specs.Entries.{KeyedStep, steps}
 use Rattle.mps_links.specs.Marks.{unmarked}
-use Rattle.mps_session.specs.Configurations.{Configuration, lists_of}
+use Rattle.mps_session.specs.Private.Configurations.{Configuration, lists_of}
 use Rattle.mps_session.proofs.RemoveMarked as rolling
 use Rattle.mps_session.proofs.configuration.Configuration.unless_final.Goals as goal
 use Rattle.mps_session.proofs.configuration.Configuration.unless_final.Goals.{After-unmark}

@@ -7,7 +7,7 @@ use Rattle.mps_local.specs.Unfolding.{unfolded}
 use Rattle.mps_machine.specs.Rule.{type_after, participant_after}
 use Rattle.mps_machine.specs.View.{Participant}
 use Rattle.mps_table.specs.Standing.{StandsFor}
-use Rattle.mps_session.specs.Configurations.{lists_of, moved_in}
+use Rattle.mps_session.specs.Private.Configurations.{lists_of, moved_in}
 use Rattle.mps_session.specs.declared.cursor.Cursor.{Cursor}
 use Rattle.mps_session.proofs.CursorByPlace.{cursor_at}
 use Rattle.mps_session.proofs.NodeAfterAct.{follows_all}

@@ -7,7 +7,7 @@ use Rattle.mps_local.specs.Local.{plain}
 use Rattle.mps_machine.specs.Machine as machine
 use Rattle.mps_machine.specs.Rule.{replay}
 use Rattle.mps_arena.specs.Entries.{steps}
-use Rattle.mps_session.specs.Configurations.{lists_of, state_of}
+use Rattle.mps_session.specs.Private.Configurations.{lists_of, state_of}
 use Rattle.mps_session.specs.SessionState.{SessionState, session_view}
 use Rattle.mps_session.specs.NumberSets.{told}
 use Rattle.mps_session.proofs.AfterLastMark.{first_there}

@@ -2,7 +2,7 @@ use Rattle.std.proofs.Common.{None, map, refl, ap, ◌∙◌}
 use Rattle.mps_local.specs.Local.{plain}
 use Rattle.mps_links.specs.Marks.{marked_keys}
 use Rattle.mps_command.specs.Acts.{act_of}
-use Rattle.mps_session.specs.Configurations.{lists_of, state_of}
+use Rattle.mps_session.specs.Private.Configurations.{lists_of, state_of}
 use Rattle.mps_session.specs.SessionState.{SessionState}
 use Rattle.mps_session.proofs.RemoveMarked.{push_unmarked}
 use Rattle.mps_session.proofs.ForwardAnswers as serving

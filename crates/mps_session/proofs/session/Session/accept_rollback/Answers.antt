@@ -6,7 +6,7 @@ use Rattle.mps_local.specs.Local.{plain}
 use Rattle.mps_machine.specs.Machine as machine
 use Rattle.mps_machine.specs.Rule.{replay}
 use Rattle.mps_arena.specs.Entries.{steps}
-use Rattle.mps_session.specs.Configurations.{lists_of, state_of}
+use Rattle.mps_session.specs.Private.Configurations.{lists_of, state_of}
 use Rattle.mps_session.specs.SessionState.{SessionState, session_view}
 use Rattle.mps_session.proofs.RemoveMarked.{leads_back}
 use Rattle.mps_session.proofs.session.Session.accept_rollback.Goals as goal

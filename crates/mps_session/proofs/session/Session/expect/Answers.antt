@@ -7,8 +7,8 @@ use Rattle.mps_table.specs.Graph.{IsNode}
 use Rattle.mps_table.specs.Expects.{head_of}
 use Rattle.mps_arena.specs.Entries.{steps}
 use Rattle.mps_machine.specs.Machine.{view_of}
-use Rattle.mps_session.specs.Configurations.{lists_of}
-use Rattle.mps_session.specs.Cursors.{IsFor}
+use Rattle.mps_session.specs.Private.Configurations.{lists_of}
+use Rattle.mps_session.specs.Private.Cursors.{IsFor}
 use Rattle.mps_session.specs.SessionState.{SessionState, session_view}
 use Rattle.mps_session.specs.declared.cursor.Cursor.{Cursor}
 use Rattle.mps_session.specs.Peers.{IsHeadKnown}

@@ -1,7 +1,7 @@
 use Rattle.std.proofs.Common.{List, length, map, sym, ap, ◌∙◌, subst}
 use Rattle.std.specs.List.{AllByRecursion}
 use Rattle.mps_local.specs.Local.{plain}
-use Rattle.mps_session.specs.Configurations.{lists_of}
+use Rattle.mps_session.specs.Private.Configurations.{lists_of}
 use Rattle.mps_log.specs.Shown.{Moved}
 use Rattle.mps_session.specs.Peers.{IsKnown}
 use Rattle.mps_session.specs.SessionState.{SessionState, moves_of}

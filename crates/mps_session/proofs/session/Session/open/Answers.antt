@@ -3,8 +3,8 @@ use Rattle.mps_base.specs.RoleLists.{HasRoleCount}
 use Rattle.mps_local.specs.declared.Local.{Local}
 use Rattle.mps_local.specs.Local.{plain}
 use Rattle.mps_links.specs.Marks.{marked_keys}
-use Rattle.mps_session.specs.Configurations.{lists_of}
-use Rattle.mps_session.specs.Opening.{IsOpening}
+use Rattle.mps_session.specs.Private.Configurations.{lists_of}
+use Rattle.mps_session.specs.Private.Opening.{IsOpening}
 use Rattle.mps_session.specs.Peers.{HavePeers, AreFaultless}
 use Rattle.mps_session.proofs.HoldsAfterAct.{opened_holds}
 use Rattle.mps_session.proofs.TypeAt.{length_map}

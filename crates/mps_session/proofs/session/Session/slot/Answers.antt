@@ -1,7 +1,7 @@
 use Rattle.std.proofs.Common.{map, sym, ap, ◌∙◌}
 use Rattle.mps_history.specs.Slots.{value_in}
 use Rattle.mps_local.specs.Local.{plain}
-use Rattle.mps_session.specs.Configurations.{lists_of}
+use Rattle.mps_session.specs.Private.Configurations.{lists_of}
 use Rattle.mps_session.specs.SessionState.{SessionState, session_view}
 use Rattle.mps_session.proofs.HoldsAfterAct.{replayed, v}
 use Rattle.mps_session.proofs.Slots.{slot_is}

@@ -1,6 +1,6 @@
 use Rattle.std.proofs.Common.{map}
 use Rattle.mps_local.specs.Local.{plain}
-use Rattle.mps_session.specs.Configurations.{lists_of}
+use Rattle.mps_session.specs.Private.Configurations.{lists_of}
 use Rattle.mps_session.proofs.UndoServed as undoing
 use Rattle.mps_session.proofs.session.Session.undo.Goals as goal
 

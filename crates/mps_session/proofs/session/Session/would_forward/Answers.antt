@@ -3,7 +3,7 @@ use Rattle.mps_command.specs.Acts.{act_of}
 use Rattle.mps_local.specs.Local.{plain}
 use Rattle.mps_machine.specs.Violations.{violation}
 use Rattle.mps_machine.proofs.Faults.{forward_refused, forward_allowed}
-use Rattle.mps_session.specs.Configurations.{lists_of}
+use Rattle.mps_session.specs.Private.Configurations.{lists_of}
 use Rattle.mps_session.specs.SessionState.{SessionState, session_view}
 use Rattle.mps_session.proofs.ForwardAnswers as serving
 use Rattle.mps_session.proofs.session.Session.would_forward.Goals as goal

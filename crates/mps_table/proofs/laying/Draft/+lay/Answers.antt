@@ -1,6 +1,6 @@
 use Rattle.std.proofs.Common.{rules, ap}
 use Rattle.mps_local.specs.Local.{plain, plain_branches}
-use Rattle.mps_table.specs.Drafts.{places_of, Lays, LaysBranches}
+use Rattle.mps_table.specs.Private.Drafts.{places_of, Lays, LaysBranches}
 use Rattle.mps_table.proofs.Drafted.{send_lays, recv_lays, more_lays, fits_then, on_ok}
 use Rattle.mps_table.proofs.laying.Draft.+lay.Goals as goal
 

@@ -1,4 +1,4 @@
-use Rattle.mps_local.specs.Weights.{weight, branch_weight}
+use Rattle.mps_local.specs.Private.Weights.{weight, branch_weight}
 use Rattle.mps_table.proofs.laying.Draft.+lay.Given as goal
 
 abbrev pub decreases-lay : goal.decreases-lay

@@ -6,7 +6,7 @@ use Rattle.mps_base.specs.declared.value.Sort.{Sort}
 use Rattle.mps_base.specs.declared.value.Sort.TheVariants.{Int, Bool as Truth, Text}
 use Rattle.mps_global.specs.Global.{GlobalType, Branches, End, Var, Rec, Message, Choice, NoMore, More}
 use Rattle.mps_base.specs.Sorts.{sort_word}
-use Rattle.mps_text.specs.Lexing.{Fault, ◌>>=◌, Lexed, Ended, Malformed, Next, lexed, tokens_in, is_name, is_variable}
+use Rattle.mps_text.specs.Private.Lexing.{Fault, ◌>>=◌, Lexed, Ended, Malformed, Next, lexed, tokens_in, is_name, is_variable}
 use Rattle.mps_text.specs.declared.fault.TextKind.TheVariants.{Word, Unexpected, TooManyNodes, TooDeep, Trailing}
 use Rattle.mps_text.specs.declared.lexing.Cursor.{Cursor}
 use Rattle.mps_text.specs.declared.lexing.Halt.{Halt}

@@ -1,8 +1,8 @@
 -- What a session keeps of roles that did nothing yet.
 use Rattle.std.specs.Prelude.{◌≡◌, ⊤, List, [], ◌∷◌}
 use Rattle.mps_local.specs.Local.{LocalType}
-use Rattle.mps_session.specs.Configurations.{Configuration}
-use Rattle.mps_session.specs.Cursors.{IsFor}
+use Rattle.mps_session.specs.Private.Configurations.{Configuration}
+use Rattle.mps_session.specs.Private.Cursors.{IsFor}
 use Rattle.mps_session.specs.declared.cursor.Cursor.{Cursor}
 
 -- a cursor for each of the types, in order

@@ -5,7 +5,7 @@ use Rattle.mps_history.specs.Steps.{sends, IsRising}
 use Rattle.mps_arena.specs.declared.node.Node.{Node}
 use Rattle.mps_arena.specs.Keys.{first_key, last_key}
 use Rattle.mps_arena.specs.Entries.{KeyedStep, steps, keys_of, any_step, of_role, entry_at, IsSmall}
-use Rattle.mps_arena.specs.Links.{AreNodes}
+use Rattle.mps_arena.specs.Private.Links.{AreNodes}
 
 -- the number n + 1 of an entry leads to its key
 pub record IsIndexed (index : List ℕ) (k : ℕ) (e : KeyedStep) : Type 0 where

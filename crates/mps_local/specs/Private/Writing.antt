@@ -3,7 +3,7 @@ use Rattle.std.specs.Prelude.{ℕ, ◌+◌, ◌<◌, List, [], ◌∷◌, ◌++�
 use Rattle.mps_local.specs.Local.{Branches, NoMore, More, plain, plain_branches}
 use Rattle.mps_local.specs.Shape.{AllPeers, AllBranchPeers}
 use Rattle.mps_local.specs.Text.{local_tokens, branch_tokens}
-use Rattle.mps_local.specs.Weights.{weight, branch_weight}
+use Rattle.mps_local.specs.Private.Weights.{weight, branch_weight}
 use Rattle.mps_local.specs.declared.writing.Todo.{Todo}
 use Rattle.mps_local.specs.declared.writing.Todo.TheVariants as todos
 

@@ -1,7 +1,7 @@
 -- What a copy is made of.
 use Rattle.std.specs.Prelude.{ℕ, ◌+◌, ◌*◌, List, [], ◌∷◌, map, reverse, drop, slice_index_or}
 use Rattle.mps_local.specs.Local.{LocalType, Branches, End, Var, Rec, Send, Recv, Select, Branch, NoMore, More, plain, plain_branches}
-use Rattle.mps_local.specs.Weights.{weight, branch_weight}
+use Rattle.mps_local.specs.Private.Weights.{weight, branch_weight}
 use Rattle.mps_local.specs.declared.Local.{Local, End as End', Var as Var', Rec', Send', Recv', Select as Select', Branch as Branch'}
 use Rattle.mps_local.specs.declared.Branches.{Branches as Branches', NoMore as NoMore', More'}
 use Rattle.mps_local.specs.declared.copying.Made.{Made}

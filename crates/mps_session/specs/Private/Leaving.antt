@@ -2,8 +2,8 @@
 use Rattle.std.specs.Prelude.{◌≡◌, ◌==◌, not, slice_set}
 use Rattle.std.specs.List.{filter}
 use Rattle.mps_arena.specs.Entries.{KeyedStep, AreSound}
-use Rattle.mps_session.specs.Configurations.{Configuration, cursor_of}
-use Rattle.mps_session.specs.Cursors.{went}
+use Rattle.mps_session.specs.Private.Configurations.{Configuration, cursor_of}
+use Rattle.mps_session.specs.Private.Cursors.{went}
 
 -- the step of the entry is removed, and its role stands where it stood before
 pub record HasLeft (e : KeyedStep) (old new : Configuration) : Type 0 where

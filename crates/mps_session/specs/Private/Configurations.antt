@@ -21,7 +21,7 @@ use Rattle.mps_arena.specs.Neighbours.{waiting}
 use Rattle.mps_log.specs.Joins.{HasJoined}
 use Rattle.mps_log.specs.Logged.{Logged}
 use Rattle.mps_table.specs.Standing.{StandsFor}
-use Rattle.mps_session.specs.Cursors.{IsFor, nowhere, went}
+use Rattle.mps_session.specs.Private.Cursors.{IsFor, nowhere, went}
 use Rattle.mps_session.specs.declared.cursor.Cursor.{Cursor}
 use Rattle.mps_session.specs.declared.configuration.Configuration.{Configuration as Kept}
 

@@ -3,8 +3,8 @@ use Rattle.std.specs.Prelude.{nat_lt, ◌+◌, ◌&&◌, ◌^◌, length, vec_le
 use Rattle.slab.specs.Slab.{get, slab_len}
 use Rattle.mps_arena.specs.declared.arena.Arena.TheInside.{Inside}
 use Rattle.mps_arena.specs.Entries.{KeyedStep, Entries}
-use Rattle.mps_arena.specs.Walks.{walk}
-use Rattle.mps_arena.specs.Kept.{IsKept}
+use Rattle.mps_arena.specs.Private.Walks.{walk}
+use Rattle.mps_arena.specs.Private.Kept.{IsKept}
 
 abbrev pub entries_of : Inside → List KeyedStep
 entries_of a = walk (get a.nodes) (slab_len a.nodes) a.ends.first

@@ -8,8 +8,8 @@ use Rattle.mps_machine.specs.Machine.{most_numbers, view_of, IsSound}
 use Rattle.mps_arena.specs.Entries.{KeyedStep, steps, AreSound}
 use Rattle.mps_links.specs.Marks.{marked_keys}
 use Rattle.mps_table.specs.Standing.{StandsFor}
-use Rattle.mps_session.specs.Configurations.{Configuration, cursor_of, state_of}
-use Rattle.mps_session.specs.Cursors.{IsFor, nowhere}
+use Rattle.mps_session.specs.Private.Configurations.{Configuration, cursor_of, state_of}
+use Rattle.mps_session.specs.Private.Cursors.{IsFor, nowhere}
 use Rattle.mps_session.specs.declared.cursor.Cursor.{Cursor}
 use Rattle.mps_session.specs.Peers.{HasPeers, HavePeers}
 

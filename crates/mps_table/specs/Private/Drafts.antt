@@ -4,7 +4,7 @@ use Rattle.mps_local.specs.Local.{LocalType, Branches}
 use Rattle.mps_table.specs.declared.row.TableRow.{TableRow}
 use Rattle.mps_table.specs.declared.laying.Bound.{Bound, Nothing, Inside'}
 use Rattle.mps_table.specs.declared.laying.Draft.{Draft}
-use Rattle.mps_table.specs.Laying.{Places, put_node, start, all_rows, branch_rows, all_labels, branch_labels, all_targets, branch_targets}
+use Rattle.mps_table.specs.Private.Laying.{Places, put_node, start, all_rows, branch_rows, all_labels, branch_labels, all_targets, branch_targets}
 
 -- the nodes of the variables of the `rec`s around a tree, the nearest first
 abbrev pub places_of : Bound → Places

@@ -4,7 +4,7 @@ use Rattle.std.specs.List.{fold}
 use Rattle.std.specs.Option.{option_map, unwrap_or}
 use Rattle.mps_arena.specs.Entries.{KeyedStep, entry_at}
 use Rattle.mps_arena.specs.Neighbours.{next_of_role_in, receipt_in}
-use Rattle.mps_links.specs.Order.{earlier}
+use Rattle.mps_links.specs.Private.Order.{earlier}
 
 -- the roles' keys, where f changes that of the step's role
 abbrev pub at_role : List KeyedStep → ℕ → (Option ℕ → Option ℕ) → List (Option ℕ) → List (Option ℕ)

@@ -1,0 +1,3 @@
+-- What no contract of a public function uses.
+pub mod Inline
+pub mod Refilled

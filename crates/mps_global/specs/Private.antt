@@ -1,0 +1,3 @@
+-- What no contract of a public function uses.
+pub mod Weights
+pub mod Above

@@ -1,0 +1,7 @@
+-- What no contract of a public function uses.
+pub mod Weights
+pub mod Bound
+pub mod Writing
+pub mod Copying
+pub mod Above
+pub mod Codes

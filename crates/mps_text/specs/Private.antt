@@ -1,0 +1,4 @@
+-- What no contract of a public function uses.
+pub mod Lexing
+pub mod Reading
+pub mod Writing
