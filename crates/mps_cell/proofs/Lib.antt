@@ -3,7 +3,7 @@ pub mod Keeping
 pub mod Taking
 pub mod Answering
 pub mod Dealing
-pub mod MatchingByPlace
+pub mod Pairing
 pub mod Numbering
 pub mod Faithful
 pub mod Crossing

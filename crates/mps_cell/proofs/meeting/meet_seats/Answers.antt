@@ -2,7 +2,7 @@ use Rattle.std.proofs.Common.{rules, arith, ap, ◌∙◌}
 use mathlib.Core.Option as maybe
 use Rattle.atomic_table.specs.Table.{step}
 use Rattle.mps_cell.proofs.Keeping.{looks}
-use Rattle.mps_cell.proofs.MatchingByPlace.{lends_part, lent_part, gathers_part, divides_after, met}
+use Rattle.mps_cell.proofs.Pairing.{lends_part, lent_part, gathers_part, divides_after, met}
 use Rattle.mps_cell.proofs.meeting.meet_seats.Goals as goal
 
 pub split_seat-other-requires : goal.split_seat-other-requires

@@ -1,7 +1,7 @@
 use Rattle.std.proofs.Common.{◌≡◌, ◌∙◌, length, ap, subst}
 use Rattle.std.specs.Ordering.{nat_cmp}
 use Rattle.mps_cell.specs.Calls.{Known, known, carried}
-use Rattle.mps_cell.proofs.MatchingByPlace.{Meets, meets}
+use Rattle.mps_cell.proofs.Pairing.{Meets, meets}
 use Rattle.mps_cell.proofs.pass.meet.Goals as goal
 
 pub returns : goal.returns
