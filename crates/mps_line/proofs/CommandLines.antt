@@ -1,6 +1,6 @@
 -- What can't be read.
 use Rattle.std.proofs.Common.{arith, rules, ◌≡◌, ◌≢◌, ℕ, ◌<◌, ◌⊎◌, ⊎_elim, inl, inr, List, [], ◌∷◌, length, refl, sym, ap, subst, ◌∙◌}
-use Rattle.std.specs.Prelude.{Option, Some, None, IfSome, IfNone, Result, Ok, Err, IfOk, if◌then◌else◌, codes}
+use Rattle.std.specs.Prelude.{Option, Some, None, Result, Ok, Err, IfOk, if◌then◌else◌, codes}
 use Rattle.std.specs.Str.{bytes_eq}
 use Rattle.std.proofs.lemmas.Option.{same_Some}
 use Rattle.mps_base.specs.Names.{IsName, IsNoneOf}
@@ -10,8 +10,8 @@ use Rattle.mps_command.specs.declared.command.Command.{Command}
 use Rattle.mps_command.specs.declared.command.Command.TheVariants.{Forward, Undo, Rollback, Back, News, Show}
 use Rattle.mps_command.specs.declared.command.Forward.TheVariants.{Send, Choose, Receive, Pick, Mark, Commit}
 use Rattle.mps_line.specs.declared.read_commands.LineFault.{LineFault}
-use Rattle.mps_line.specs.declared.write_commands.Verb.{Verb}
-use Rattle.mps_line.specs.declared.write_commands.Verb.TheVariants as verbs
+use Rattle.mps_line.specs.declared.read_commands.Verb.{Verb}
+use Rattle.mps_line.specs.declared.read_commands.Verb.TheVariants as verbs
 use Rattle.mps_line.specs.Tokens.{Token, Word, RoleAt, Called, Number, Worth, HasNoSpace, SpellsRole, SpellsName, SpellsNumber, SpellsToken, SpellsLine, BeginsWith}
 use Rattle.mps_line.specs.Commands.{verb_word, verb_of, arguments, lone_verbs, TakesArguments, SpellsCommand}
 use Rattle.mps_line.proofs.Splitting.{one_split, never_split, after_token, joined, alone, line_of_one}
@@ -103,10 +103,6 @@ pub lone_read : (names : List (List ℕ)) (bytes : List ℕ) (command : Command)
 lone_read names bytes command none e =
     subst (λ (ts : List Token). SpellsLine names bytes (Word (verb_word (verb_of command)) ∷ ts)) (sym none) (line_of_one names bytes (Word (verb_word (verb_of command))) e)
 
-pub lone_found : (names : List (List ℕ)) (bytes : List ℕ) (r : Option Command) → IfSome r (λ command. arguments command ≡ []) → IfSome r (λ command. bytes ≡ verb_word (verb_of command)) → IfSome r (SpellsCommand names bytes)
-lone_found names bytes None none e = tt
-lone_found names bytes (Some command) none e = lone_read names bytes command none e
-
 -- and that verb is one of two
 no_lone : (bytes : List ℕ) (command : Command) → arguments command ≡ [] → IsNoneOf lone_verbs bytes → bytes ≢ verb_word (verb_of command)
 no_lone bytes (Forward Commit) none other e = other.0 e
@@ -152,23 +148,6 @@ no_verb names bytes none other command h =
     (λ (takes : TakesArguments command). let k = command_parts names bytes command takes h in none (verb_of command) k.rest k.parts)
     (alone_or_more command)
 
--- a line without this verb and a space in front is no command of it
-sends_something : (command : Command) → verb_of command ≡ verbs.Send → TakesArguments command
-sends_something (Forward (Send to value)) e = omega arith
-sends_something command e = absurd cc
-
-receives_something : (command : Command) → verb_of command ≡ verbs.Receive → TakesArguments command
-receives_something (Forward (Receive from slot)) e = omega arith
-receives_something command e = absurd cc
-
-pub sends_nothing : (names : List (List ℕ)) (bytes : List ℕ) (command : Command) → ((rest : List ℕ) → bytes ≢ spaced (verb_word verbs.Send ∷ rest ∷ [])) → SpellsCommand names bytes command → verb_of command ≢ verbs.Send
-sends_nothing names bytes command none h e =
-    let k = command_parts names bytes command (sends_something command e) h in none k.rest (rw e at k.parts)
-
-pub receives_nothing : (names : List (List ℕ)) (bytes : List ℕ) (command : Command) → ((rest : List ℕ) → bytes ≢ spaced (verb_word verbs.Receive ∷ rest ∷ [])) → SpellsCommand names bytes command → verb_of command ≢ verbs.Receive
-receives_nothing names bytes command none h e =
-    let k = command_parts names bytes command (receives_something command e) h in none k.rest (rw e at k.parts)
-
 -- none of the lines of this verb
 pub no_sending : (names : List (List ℕ)) (bytes : List ℕ) → ((to : ℕ) (value : Value) → SpellsLine names bytes (RoleAt to ∷ Worth value ∷ []) → ⊥) → (command : Command) → verb_of command ≡ verbs.Send → SpellsLine names bytes (arguments command) → ⊥
 no_sending names bytes none (Forward (Send to value)) e h = none to value h
@@ -181,11 +160,6 @@ no_choosing names bytes none command e h = absurd cc
 pub no_receiving : (names : List (List ℕ)) (bytes : List ℕ) → ((role : ℕ) (name : List ℕ) → SpellsLine names bytes (RoleAt role ∷ Called name ∷ []) → ⊥) → (command : Command) → verb_of command ≡ verbs.Receive → SpellsLine names bytes (arguments command) → ⊥
 no_receiving names bytes none (Forward (Receive from slot)) e h = none from slot h
 no_receiving names bytes none command e h = absurd cc
-
-pub no_choice : (names : List (List ℕ)) (bytes rest : List ℕ) (r : Option Command) → bytes ≡ spaced (verb_word verbs.Choose ∷ rest ∷ []) → IfNone r ((to : ℕ) (label : List ℕ) → SpellsLine names rest (RoleAt to ∷ Called label ∷ []) → ⊥) → IfNone r ((command : Command) → verb_of command ≢ verbs.Send → verb_of command ≢ verbs.Receive → SpellsCommand names bytes command → ⊥)
-no_choice names bytes rest (Some command) e none = tt
-no_choice names bytes rest None e none = λ command no_send no_receive h.
-    no_command names bytes rest verbs.Choose e (λ other f takes k. no_choosing names rest none other f k) command h
 
 pub no_picking : (names : List (List ℕ)) (bytes : List ℕ) → ((role : ℕ) → SpellsRole names bytes role → ⊥) → (command : Command) → verb_of command ≡ verbs.Pick → SpellsLine names bytes (arguments command) → ⊥
 no_picking names bytes none (Forward (Pick from)) e h = none from (alone names bytes (RoleAt from) h)
@@ -220,20 +194,6 @@ no_showing Show e takes = absurd (omega (arith, takes))
 no_showing (Forward (Mark name)) e takes = absurd cc
 no_showing command e takes = absurd cc
 
-no_committing : (command : Command) → verb_of command ≡ verbs.Commit → TakesArguments command → ⊥
-no_committing (Forward Commit) e takes = absurd (omega (arith, takes))
-no_committing (Forward (Mark name)) e takes = absurd cc
-no_committing command e takes = absurd cc
-
--- a line of none of the other verbs
-pub no_other : (names : List (List ℕ)) (bytes : List ℕ) (r : Option Command) → ((verb : Verb) (rest : List ℕ) → verb ≢ verbs.Send → verb ≢ verbs.Receive → verb ≢ verbs.Commit → verb ≢ verbs.Show → bytes ≢ spaced (verb_word verb ∷ rest ∷ [])) → IfNone r (IsNoneOf lone_verbs bytes) → IfNone r ((command : Command) → verb_of command ≢ verbs.Send → verb_of command ≢ verbs.Receive → SpellsCommand names bytes command → ⊥)
-no_other names bytes (Some command) none other = tt
-no_other names bytes None none other = λ command no_send no_receive h.
-    ⊎_elim
-    (λ (e : arguments command ≡ []). no_lone bytes command e other (lone_line names bytes command e h))
-    (λ (takes : TakesArguments command). let k = command_parts names bytes command takes h in none (verb_of command) k.rest no_send no_receive (λ e. no_committing command e takes) (λ e. no_showing command e takes) k.parts)
-    (alone_or_more command)
-
 -- what stands after the role's name is no such line
 pub none_after : (names : List (List ℕ)) (bytes rest : List ℕ) (u : Token) (ts : List Token) → ((role : ℕ) (other : List ℕ) → BeginsWith names bytes (RoleAt role) other → other ≡ rest) → (SpellsLine names rest (u ∷ ts) → ⊥) → (role : ℕ) → SpellsLine names bytes (RoleAt role ∷ u ∷ ts) → ⊥
 none_after names bytes rest u ts only none role h =
@@ -260,10 +220,6 @@ name_read bytes name h e = record { is = sym e; allowed = h }
 pub command_read : (names : List (List ℕ)) (bytes rest : List ℕ) (verb : Verb) (r : Result Command LineFault) → bytes ≡ spaced (verb_word verb ∷ rest ∷ []) → IfOk r (λ command. verb_of command ≡ verb) → IfOk r TakesArguments → IfOk r (λ command. SpellsLine names rest (arguments command)) → IfOk r (SpellsCommand names bytes)
 command_read names bytes rest verb (Err fault) e v takes h = tt
 command_read names bytes rest verb (Ok command) e v takes h = command_of names bytes rest command (rw v e) takes h
-
-pub command_found : (names : List (List ℕ)) (bytes rest : List ℕ) (verb : Verb) (r : Option Command) → bytes ≡ spaced (verb_word verb ∷ rest ∷ []) → IfSome r (λ command. verb_of command ≡ verb) → IfSome r TakesArguments → IfSome r (λ command. SpellsLine names rest (arguments command)) → IfSome r (SpellsCommand names bytes)
-command_found names bytes rest verb None e v takes h = tt
-command_found names bytes rest verb (Some command) e v takes h = command_of names bytes rest command (rw v e) takes h
 
 -- what stands after the role's name is no name
 pub none_of_names : (names : List (List ℕ)) (bytes rest : List ℕ) → ((role : ℕ) (other : List ℕ) → BeginsWith names bytes (RoleAt role) other → other ≡ rest) → (IsName rest → ⊥) → (role : ℕ) (name : List ℕ) → SpellsLine names bytes (RoleAt role ∷ Called name ∷ []) → ⊥

@@ -22,8 +22,8 @@ use Rattle.mps_command.specs.declared.command.Command.TheVariants as commands
 use Rattle.mps_command.specs.declared.command.Forward.TheVariants.{Send, Choose, Receive, Pick, Mark, Commit}
 use Rattle.mps_line.specs.declared.write_replies.Reply.{Reply}
 use Rattle.mps_line.specs.declared.write_replies.Reply.TheVariants.{Answered, BadLine, Joined, NoSession, NoRole, Taken, Number as WrongNumber}
-use Rattle.mps_line.specs.declared.write_commands.Verb.{Verb}
-use Rattle.mps_line.specs.declared.write_commands.Verb.TheVariants as verbs
+use Rattle.mps_line.specs.declared.read_commands.Verb.{Verb}
+use Rattle.mps_line.specs.declared.read_commands.Verb.TheVariants as verbs
 use Rattle.mps_line.specs.Tokens.{Token, Word, RoleAt, Called, Number, Worth, Show, SpellsShow, SpellsToken, SpellEach, SpellsLine}
 use Rattle.mps_line.proofs.Splitting.{alone}
 use Rattle.mps_line.specs.Commands.{verb_word, verb_of, arguments, command_tokens, SpellsCommand, SpellsScriptLine, SpellsNumbered}

@@ -5,8 +5,8 @@ use Rattle.mps_command.specs.Changes.{change_of}
 use Rattle.mps_command.specs.declared.command.Command.{Command}
 use Rattle.mps_command.specs.declared.command.Command.TheVariants.{Forward, Undo, Rollback, Back, News, Show}
 use Rattle.mps_command.specs.declared.command.Forward.TheVariants.{Send, Choose, Receive, Pick, Mark, Commit}
-use Rattle.mps_line.specs.declared.write_commands.Verb.{Verb}
-use Rattle.mps_line.specs.declared.write_commands.Verb.TheVariants as verbs
+use Rattle.mps_line.specs.declared.read_commands.Verb.{Verb}
+use Rattle.mps_line.specs.declared.read_commands.Verb.TheVariants as verbs
 use Rattle.mps_line.specs.Tokens.{Token, Word, RoleAt, Called, Number, Worth, SpellsLine}
 
 -- the first word of a command

@@ -47,6 +47,14 @@ pub(crate) fn read_step(bytes: &[u8]) -> Option<StepId>
     Some(StepId::new(read_count(bytes)?))
 }
 
+// The role of that name, as `Roles::find_spelled` finds it. Its contract is of the token.
+pub(crate) fn read_role(roles: &Roles, bytes: &[u8]) -> Option<Role>
+    ensures read { IfSome result (SpellsRole roles.now bytes.now) }
+    ensures none { IfNone result ((role : ℕ) → SpellsRole roles.now bytes.now role → ⊥) }
+{
+    roles.find_spelled(bytes)
+}
+
 // The number, as `read_number` reads it. Its contract is of the token: a number below 2^64.
 pub(crate) fn read_count(bytes: &[u8]) -> Option<u64>
     ensures read { IfSome result (SpellsNumber bytes.now) }

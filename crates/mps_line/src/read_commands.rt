@@ -1,17 +1,18 @@
 //! Command lines, and the lines of a script.
 ghost use Rattle.std.specs.Prelude.{◌≡◌, ◌≢◌, ℕ, List, [], ◌∷◌, IfOk, IfSome, IfNone, IsErrOf};
 ghost use Rattle.mps_base.specs.Names.{IsNoneOf};
+ghost use Rattle.mps_base.specs.Spaced.{spaced};
 ghost use Rattle.mps_base.specs.declared.value.Value.{Value};
 ghost use Rattle.mps_base.specs.declared.value.Value.TheVariants as values;
 ghost use Rattle.mps_command.specs.declared.command.Command.{Command};
 ghost use Rattle.mps_command.specs.declared.command.Command.TheVariants as commands;
 ghost use Rattle.mps_command.specs.declared.command.Forward.TheVariants as steps;
 ghost use Rattle.mps_line.specs.declared.read_commands.LineFault.TheVariants.{Memory as OutOfMemory};
-ghost use Rattle.mps_line.specs.declared.write_commands.Verb.{Verb};
+ghost use Rattle.mps_line.specs.declared.read_commands.Verb.{Verb};
 ghost use Rattle.mps_line.specs.Tokens.{RoleAt, Called, Worth, SpellsLine};
 ghost use Rattle.mps_line.specs.Commands.{verb_word, verb_of, arguments, lone_verbs, TakesArguments, SpellsCommand, SpellsScriptLine};
 
-use crate::line_parts::{after_word, read_count, read_step, split_role};
+use crate::line_parts::{after_word, read_count, read_role, read_step, split_role};
 use mps_base::{Name, Role, Roles, Value, ValueFault};
 use mps_command::{Command, Forward};
 use std::alloc::{AllocError, AllocFailed, Global};
@@ -40,6 +41,22 @@ impl<T: Drop> From<AllocFailed<T>> for LineFault {
     fn from(_e: AllocFailed<T>) -> LineFault {
         LineFault::Memory
     }
+}
+
+/// The first word of a command.
+#[derive(Clone, Copy, Debug, PartialEq, Eq)]
+pub enum Verb {
+    Send,
+    Choose,
+    Receive,
+    Pick,
+    Mark,
+    Commit,
+    Undo,
+    Rollback,
+    Back,
+    News,
+    Show,
 }
 
 /// Reads a line of a script: a role's name and its command.
@@ -74,37 +91,13 @@ pub fn read_command(alloc: Global, roles: &Roles, bytes: &[u8]) -> Result<Comman
     ensures memory { IsErrOf result LineFault.Memory → (to : ℕ) × (text : List ℕ)
         × SpellsCommand roles.now bytes.now (commands.Forward (steps.Send to (values.Text text))) }
 {
-    match bytes {
-        [b's', b'e', b'n', b'd', b' ', rest @ ..] => read_sending(alloc, roles, rest),
-        [b'r', b'e', b'c', b'v', b' ', rest @ ..] => read_receipt(roles, rest),
-        _ => match read_other(roles, bytes) {
+    let Some((verb, rest)) = split_verb(bytes) else {
+        return match lone_command(bytes) {
             Some(command) => Ok(command),
             None => Err(LineFault::Bad),
-        },
-    }
-}
-
-// The command, where it is neither a sending nor the receipt of a value.
-#[inline(never)]
-fn read_other(roles: &Roles, bytes: &[u8]) -> Option<Command>
-    ensures read { IfSome result (SpellsCommand roles.now bytes.now) }
-    ensures none { IfNone result ((command : Command) → verb_of command ≢ Verb.Send
-        → verb_of command ≢ Verb.Receive → SpellsCommand roles.now bytes.now command → ⊥) }
-{
-    match bytes {
-        [b'c', b'h', ..] => read_choice(roles, after_word(bytes, b"choose")?),
-        [b'p', b'i', ..] => Some(Command::Forward(Forward::Pick {
-            from: roles.find_spelled(after_word(bytes, b"pick")?)?,
-        })),
-        [b'm', b'a', ..] => Some(Command::Forward(Forward::Mark {
-            name: Name::read(after_word(bytes, b"mark")?)?,
-        })),
-        [b'u', b'n', ..] => Some(Command::Undo(read_step(after_word(bytes, b"undo")?)?)),
-        [b'r', b'o', ..] => Some(Command::Rollback(read_step(after_word(bytes, b"rollback")?)?)),
-        [b'b', b'a', ..] => Some(Command::Back(Name::read(after_word(bytes, b"back")?)?)),
-        [b'n', b'e', ..] => Some(Command::News(read_count(after_word(bytes, b"news")?)?)),
-        _ => lone_command(bytes),
-    }
+        };
+    };
+    read_arguments(alloc, roles, verb, rest)
 }
 
 // The command of that verb, after which nothing stands.
@@ -120,20 +113,101 @@ fn lone_command(verb: &[u8]) -> Option<Command>
     }
 }
 
-// The choice of a label.
-fn read_choice(roles: &Roles, bytes: &[u8]) -> Option<Command>
-    ensures verb { IfSome result (λ command. verb_of command ≡ Verb.Choose) }
+// The verb, and what stands after it and a space.
+fn split_verb(bytes: &[u8]) -> Option<(Verb, &[u8])>
+    ensures read { IfSome result (λ r. bytes.now ≡ spaced (verb_word r.0 ∷ r.1.now ∷ [])) }
+    ensures none { IfNone result ((verb : Verb) (rest : List ℕ)
+        → bytes.now ≢ spaced (verb_word verb ∷ rest ∷ [])) }
+{
+    match bytes {
+        [b's', b'e', b'n', b'd', b' ', rest @ ..] => Some((Verb::Send, rest)),
+        [b'r', b'e', b'c', b'v', b' ', rest @ ..] => Some((Verb::Receive, rest)),
+        [b'c', b'h', ..] => Some((Verb::Choose, after_word(bytes, b"choose")?)),
+        [b'p', ..] => Some((Verb::Pick, after_word(bytes, b"pick")?)),
+        [b'm', ..] => Some((Verb::Mark, after_word(bytes, b"mark")?)),
+        [b'u', ..] => Some((Verb::Undo, after_word(bytes, b"undo")?)),
+        [b'r', b'o', ..] => Some((Verb::Rollback, after_word(bytes, b"rollback")?)),
+        [b'b', ..] => Some((Verb::Back, after_word(bytes, b"back")?)),
+        [b'n', ..] => Some((Verb::News, after_word(bytes, b"news")?)),
+        [b's', b'h', ..] => Some((Verb::Show, after_word(bytes, b"show")?)),
+        [b'c', b'o', ..] => Some((Verb::Commit, after_word(bytes, b"commit")?)),
+        _ => None,
+    }
+}
+
+// The command of that verb with these arguments, of which there is one at least.
+fn read_arguments(
+    alloc: Global,
+    roles: &Roles,
+    verb: Verb,
+    bytes: &[u8],
+) -> Result<Command, LineFault>
+    ensures verb { IfOk result (λ command. verb_of command ≡ verb) }
+    ensures some { IfOk result TakesArguments }
+    ensures read { IfOk result (λ command. SpellsLine roles.now bytes.now (arguments command)) }
+    ensures bad { IsErrOf result LineFault.Bad → (command : Command) → verb_of command ≡ verb
+        → TakesArguments command → SpellsLine roles.now bytes.now (arguments command) → ⊥ }
+    ensures send { IsErrOf result LineFault.Memory → verb ≡ Verb.Send }
+    ensures memory { IsErrOf result LineFault.Memory → (to : ℕ) × (text : List ℕ)
+        × SpellsLine roles.now bytes.now (RoleAt to ∷ Worth (values.Text text) ∷ []) }
+{
+    match verb {
+        Verb::Send => {
+            let (to, value) = read_role_and_value(alloc, roles, bytes)?;
+            Ok(Command::Forward(Forward::Send { to, value }))
+        }
+        Verb::Choose => read_choice(roles, bytes),
+        Verb::Receive => read_receipt(roles, bytes),
+        verb => match read_argument(roles, verb, bytes) {
+            Some(command) => Ok(command),
+            None => Err(LineFault::Bad),
+        },
+    }
+}
+
+// The command of any other verb, which takes one argument, or none.
+fn read_argument(roles: &Roles, verb: Verb, bytes: &[u8]) -> Option<Command>
+    requires send { verb ≢ Verb.Send }
+    requires choose { verb ≢ Verb.Choose }
+    requires receive { verb ≢ Verb.Receive }
+    ensures verb { IfSome result (λ command. verb_of command ≡ verb) }
     ensures some { IfSome result TakesArguments }
     ensures read { IfSome result (λ command. SpellsLine roles.now bytes.now (arguments command)) }
-    ensures none { IfNone result ((to : ℕ) (label : List ℕ)
-        → SpellsLine roles.now bytes.now (RoleAt to ∷ Called label ∷ []) → ⊥) }
+    ensures none { IfNone result ((command : Command) → verb_of command ≡ verb
+        → TakesArguments command → SpellsLine roles.now bytes.now (arguments command) → ⊥) }
+{
+    match verb {
+        Verb::Pick => Some(Command::Forward(Forward::Pick {
+            from: read_role(roles, bytes)?,
+        })),
+        Verb::Mark => Some(Command::Forward(Forward::Mark {
+            name: Name::read(bytes)?,
+        })),
+        Verb::Undo => Some(Command::Undo(read_step(bytes)?)),
+        Verb::Rollback => Some(Command::Rollback(read_step(bytes)?)),
+        Verb::Back => Some(Command::Back(Name::read(bytes)?)),
+        Verb::News => Some(Command::News(read_count(bytes)?)),
+        _ => None,
+    }
+}
+
+// The choice of a label.
+fn read_choice(roles: &Roles, bytes: &[u8]) -> Result<Command, LineFault>
+    ensures verb { IfOk result (λ command. verb_of command ≡ Verb.Choose) }
+    ensures some { IfOk result TakesArguments }
+    ensures read { IfOk result (λ command. SpellsLine roles.now bytes.now (arguments command)) }
+    ensures bad { IsErrOf result LineFault.Bad → (to : ℕ) (label : List ℕ)
+        → SpellsLine roles.now bytes.now (RoleAt to ∷ Called label ∷ []) → ⊥ }
+    ensures memory { IsErrOf result LineFault.Memory → ⊥ }
 {
     let Some(parts) = split_role(roles, bytes) else {
-        return None;
+        return Err(LineFault::Bad);
     };
     let (to, name) = parts;
-    let label = Name::read(name)?;
-    Some(Command::Forward(Forward::Choose { to, label }))
+    match Name::read(name) {
+        Some(label) => Ok(Command::Forward(Forward::Choose { to, label })),
+        None => Err(LineFault::Bad),
+    }
 }
 
 // The receipt of a value into a slot.
@@ -155,11 +229,14 @@ fn read_receipt(roles: &Roles, bytes: &[u8]) -> Result<Command, LineFault>
     }
 }
 
-// The sending of a value.
-fn read_sending(alloc: Global, roles: &Roles, bytes: &[u8]) -> Result<Command, LineFault>
-    ensures verb { IfOk result (λ command. verb_of command ≡ Verb.Send) }
-    ensures some { IfOk result TakesArguments }
-    ensures read { IfOk result (λ command. SpellsLine roles.now bytes.now (arguments command)) }
+// The peer and the value that is to be sent.
+fn read_role_and_value(
+    alloc: Global,
+    roles: &Roles,
+    bytes: &[u8],
+) -> Result<(Role, Value), LineFault>
+    ensures read { IfOk result
+        (λ r. SpellsLine roles.now bytes.now (RoleAt r.0 ∷ Worth r.1 ∷ [])) }
     ensures bad { IsErrOf result LineFault.Bad → (to : ℕ) (value : Value)
         → SpellsLine roles.now bytes.now (RoleAt to ∷ Worth value ∷ []) → ⊥ }
     ensures memory { IsErrOf result LineFault.Memory → (to : ℕ) × (text : List ℕ)
@@ -170,7 +247,7 @@ fn read_sending(alloc: Global, roles: &Roles, bytes: &[u8]) -> Result<Command, L
     };
     let (to, text) = parts;
     match Value::read(alloc, text) {
-        Ok(value) => Ok(Command::Forward(Forward::Send { to, value })),
+        Ok(value) => Ok((to, value)),
         Err(ValueFault::Bad) => Err(LineFault::Bad),
         Err(ValueFault::Memory) => Err(LineFault::Memory),
     }

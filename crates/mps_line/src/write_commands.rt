@@ -7,25 +7,10 @@ ghost use Rattle.mps_line.specs.Tokens.{SpellsLine};
 ghost use Rattle.mps_line.specs.Commands.{verb_word, verb_of, arguments, TakesArguments, SpellsCommand, NamesRolesOf};
 
 use crate::line_parts::{write_count, write_name, write_role, write_step};
+use crate::read_commands::Verb;
 use mps_base::Roles;
 use mps_command::{Command, Forward};
 use std::alloc::AllocError;
-
-/// The first word of a command.
-#[derive(Clone, Copy, Debug, PartialEq, Eq)]
-pub enum Verb {
-    Send,
-    Choose,
-    Receive,
-    Pick,
-    Mark,
-    Commit,
-    Undo,
-    Rollback,
-    Back,
-    News,
-    Show,
-}
 
 /// Writes the command at the end, without a line break.
 pub fn write_command(roles: &Roles, command: &Command, out: &mut Vec<u8>) -> Result<(), AllocError>

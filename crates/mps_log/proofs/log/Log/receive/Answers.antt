@@ -20,21 +20,24 @@ entry c = record { key = c.add.result; step = record { id = c.next_id-id.result;
 -- but for its slot, the log is as it was
 arena_stays : (c : After-add) → ◌≡◌ {A = Entries} c.match-slot.self-inside.arena c.reserve_one.new.self
 arena_stays c =
-    elim c.match-slot.branch
-      [ in-Some+in_ok-bound-in-Some w ↦ ap (λ (l : Inside). l.arena) w.self-inside-is
-      | in-None w ↦ ap (λ (l : Inside). l.arena) w.self-inside-is ]
+    elim c.match-slot.branch [
+      | in-Some+in_ok-bound-in-Some w ↦ ap (λ (l : Inside). l.arena) w.self-inside-is
+      | in-None w ↦ ap (λ (l : Inside). l.arena) w.self-inside-is
+    ]
 
 marks_stay : (c : After-add) → ◌≡◌ {A = List Keys} c.match-slot.self-inside.marks c.self.inside.marks
 marks_stay c =
-    elim c.match-slot.branch
-      [ in-Some+in_ok-bound-in-Some w ↦ ap (λ (l : Inside). l.marks) w.self-inside-is
-      | in-None w ↦ ap (λ (l : Inside). l.marks) w.self-inside-is ]
+    elim c.match-slot.branch [
+      | in-Some+in_ok-bound-in-Some w ↦ ap (λ (l : Inside). l.marks) w.self-inside-is
+      | in-None w ↦ ap (λ (l : Inside). l.marks) w.self-inside-is
+    ]
 
 settled_stays : (c : After-add) → ◌≡◌ {A = Bool} c.match-slot.self-inside.has_commits c.self.inside.has_commits
 settled_stays c =
-    elim c.match-slot.branch
-      [ in-Some+in_ok-bound-in-Some w ↦ ap (λ (l : Inside). l.has_commits) w.self-inside-is
-      | in-None w ↦ ap (λ (l : Inside). l.has_commits) w.self-inside-is ]
+    elim c.match-slot.branch [
+      | in-Some+in_ok-bound-in-Some w ↦ ap (λ (l : Inside). l.has_commits) w.self-inside-is
+      | in-None w ↦ ap (λ (l : Inside). l.has_commits) w.self-inside-is
+    ]
 
 -- the slot is bound to the receipt, if it has one
 slots_follow : (c : After-add) → AreStores slot_of (c.self.inside.arena.entries ++ entry c ∷ []) c.match-slot.self-inside.slots
@@ -42,13 +45,14 @@ slots_follow c =
     let es = c.self.inside.arena.entries in
     let slots = c.self.invariant.slots in
     let key = c.add.ensures.key ∙ ap (λ (a : Entries). a.next_key) (arena_stays c) ∙ sym c.in_ok-key.ensures.key in
-    elim c.match-slot.branch
-      [ in-Some+in_ok-bound-in-Some w ↦
-        subst (λ (l : Inside). AreStores slot_of (es ++ entry c ∷ []) l.slots) (sym w.self-inside-is)
-        (w.in_ok-bound-in-Some.ensures.follows slot_of es (entry c) slots (refl, (c.copied-slot.ensures ∙ ap option_copied w.in-Some.is)) key w.bound-is)
+    elim c.match-slot.branch [
+      | in-Some+in_ok-bound-in-Some w ↦
+          subst (λ (l : Inside). AreStores slot_of (es ++ entry c ∷ []) l.slots) (sym w.self-inside-is)
+          (w.in_ok-bound-in-Some.ensures.follows slot_of es (entry c) slots (refl, (c.copied-slot.ensures ∙ ap option_copied w.in-Some.is)) key w.bound-is)
       | in-None w ↦
-        subst (λ (l : Inside). AreStores slot_of (es ++ entry c ∷ []) l.slots) (sym w.self-inside-is)
-        (stores_idle_push slot_of es (entry c) c.self.inside.slots slots (c.copied-slot.ensures ∙ ap option_copied w.in-None.is)) ]
+          subst (λ (l : Inside). AreStores slot_of (es ++ entry c ∷ []) l.slots) (sym w.self-inside-is)
+          (stores_idle_push slot_of es (entry c) c.self.inside.slots slots (c.copied-slot.ensures ∙ ap option_copied w.in-None.is))
+    ]
 
 pub invariant_of-self-2 : goal.invariant_of-self-2
 invariant_of-self-2 c =

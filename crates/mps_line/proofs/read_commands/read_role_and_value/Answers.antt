@@ -1,5 +1,5 @@
 use Rattle.mps_line.proofs.CommandLines.{role_in_front, none_of_these, no_role_in_front}
-use Rattle.mps_line.proofs.read_commands.read_sending.Goals as goal
+use Rattle.mps_line.proofs.read_commands.read_role_and_value.Goals as goal
 
 pub returns-in_default-clause-bad : goal.returns-in_default-clause-bad
 returns-in_default-clause-bad c = λ e to value h. no_role_in_front _ _ _ _ c.in_default.ensures.none to h
