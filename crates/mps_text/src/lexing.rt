@@ -72,7 +72,7 @@ pub(crate) fn take<'a>(cursor: &mut Cursor<'a>) -> Result<Lexeme<'a>, Halt>
 }
 
 /// The next token.
-#[tactic(auto, unfolding(crate::specs::Lexing::lexeme_at))]
+#[tactic(auto, unfolding(crate::specs::Private::Lexing::lexeme_at))]
 pub(crate) fn lexeme_at(bytes: &[u8]) -> Result<Lexeme<'_>, Halt>
     ensures { Gives plain_lexeme result (lexeme_at bytes.now) }
 {
@@ -80,7 +80,7 @@ pub(crate) fn lexeme_at(bytes: &[u8]) -> Result<Lexeme<'_>, Halt>
 }
 
 // The token in front of bytes that begin with no blank.
-#[tactic(auto, unfolding(crate::specs::Lexing::lexeme_of))]
+#[tactic(auto, unfolding(crate::specs::Private::Lexing::lexeme_of))]
 fn lexeme_of(bytes: &[u8]) -> Result<Lexeme<'_>, Halt>
     ensures { Gives plain_lexeme result (lexeme_of bytes.now) }
 {
@@ -121,7 +121,7 @@ fn is_blank(byte: u8) -> bool
 }
 
 // How many bytes the token in front takes, 0 where none stands there.
-#[tactic(auto, unfolding(crate::specs::Lexing::token_len))]
+#[tactic(auto, unfolding(crate::specs::Private::Lexing::token_len))]
 fn token_len(bytes: &[u8]) -> usize
     ensures len { result ≡ token_len bytes.now }
     ensures within { result ≤ length bytes.now }
@@ -143,7 +143,7 @@ fn is_punctuation(byte: u8) -> bool
 }
 
 // How many bytes the word in front takes, 0 where no well-formed word stands there.
-#[tactic(auto, unfolding(crate::specs::Lexing::word_len))]
+#[tactic(auto, unfolding(crate::specs::Private::Lexing::word_len))]
 fn word_len(bytes: &[u8]) -> usize
     ensures len { result ≡ word_len bytes.now }
     ensures within { result ≤ length bytes.now }

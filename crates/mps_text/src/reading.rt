@@ -248,7 +248,7 @@ fn node_at(depth: usize, cursor: &mut Cursor<'_>) -> Result<First, Halt>
 }
 
 // How a global type begins with the token.
-#[tactic(auto, unfolding(crate::specs::Reading::first_of))]
+#[tactic(auto, unfolding(crate::specs::Private::Reading::first_of))]
 fn first_of(token: &[u8]) -> Option<First>
     ensures { result ≡ first_of token.now }
 {
@@ -316,7 +316,7 @@ fn another_at(cursor: &mut Cursor<'_>) -> Result<bool, Halt>
 }
 
 // Which of two tokens it is.
-#[tactic(auto, unfolding(crate::specs::Reading::which))]
+#[tactic(auto, unfolding(crate::specs::Private::Reading::which))]
 fn which(token: &[u8], this: &[u8], that: &[u8]) -> Option<bool>
     ensures { result ≡ which this.now that.now token.now }
 {
@@ -345,7 +345,7 @@ fn sort_at(cursor: &mut Cursor<'_>) -> Result<Sort, Halt>
 }
 
 // The sort that the token names.
-#[tactic(auto, unfolding(crate::specs::Reading::sort_of))]
+#[tactic(auto, unfolding(crate::specs::Private::Reading::sort_of))]
 fn sort_of(token: &[u8]) -> Option<Sort>
     ensures { result ≡ sort_of token.now }
 {
