@@ -5,13 +5,13 @@ ghost use Rattle.std.specs.List.{filter, find};
 ghost use Rattle.mps_base.specs.Effects.{effect};
 ghost use Rattle.mps_history.specs.Steps.{sends, without};
 ghost use Rattle.mps_arena.specs.Keys.{first_key, last_key};
-ghost use Rattle.mps_arena.specs.Entries.{steps, any_step, of_role, keys_of, entry_at, with_mark, IsSmall, AreSound};
+ghost use Rattle.mps_arena.specs.Entries.{steps, any_step, of_role, keys_of, entry_at, with_mark, HasSmallPeer, AreSound};
 ghost use Rattle.mps_arena.specs.Neighbours.{IsSource, CanGo, next_in, prev_in, next_of_role_in, prev_of_role_in, next_send_in, prev_send_in, receipt_in, source_in, id_in};
 
 use crate::ends::Ends;
 use crate::links::{join, key_of, part, set_marked};
 use crate::node::{Before, Key, Node, receipt_at, source_at};
-use mps_base::{Role, Step, StepId};
+use mps_base::{Act, Role, Step, StepId};
 use slab::Slab;
 use std::alloc::{AllocError, Global};
 use std::marker::Model;
@@ -67,27 +67,32 @@ impl Arena {
         Key::of(self.nodes.vacant_key())
     }
 
-    /// Puts a step after all others, unmarked. A receipt or a pick comes with the send that it is matched with: the first
-    /// of its pair that isn't received.
+    /// Puts an act of the role after all other steps, unmarked, and tells the number that it has. A receipt or a pick comes
+    /// with the send that it is matched with: the first of its pair that isn't received.
     #[inline(always)]
-    pub fn add(&mut self, step: Step, before: Before, source: Option<Key>) -> Key
+    pub fn add(&mut self, role: Role, act: Act, before: Before, source: Option<Key>) -> StepId
         requires ready { IsTrue self.old.is_ready }
-        requires number { step.id ≡ self.old.issued + 1 }
-        requires small { IsSmall step }
-        requires source { IsSource self.old.entries step.role (effect step.act) source }
-        ensures key { result ≡ self.old.next_key }
-        ensures fresh { entry_at result self.old.entries ≡ None }
-        ensures entries { self.new.entries ≡ self.old.entries
-            ++ record { key = result; step = step; before = before; marked = false } ∷ [] }
+        requires role { role < 8 }
+        requires peer { HasSmallPeer (effect act) }
+        requires source { IsSource self.old.entries role (effect act) source }
+        ensures number { result ≡ self.old.issued + 1 }
+        ensures fresh { entry_at self.old.next_key self.old.entries ≡ None }
+        ensures entries { self.new.entries ≡ self.old.entries ++ record {
+          key = self.old.next_key;
+          step = record { id = result; role = role; act = act };
+          before = before;
+          marked = false;
+        } ∷ [] }
         ensures issued { self.new.issued ≡ self.old.issued + 1 }
         ensures sound { AreSound self.new.entries }
     {
         let key = Key::small(self.nodes.vacant_key());
-        let node = self.ends.node_after(step, before, source);
+        let id = StepId::new(self.index.len() as u64 + 1);
+        let node = self.ends.node_after(Step { id, role, act }, before, source);
         self.ends.push(&node.step, key);
         join(&mut self.nodes, key, node);
         self.index.push_reserved(key);
-        key
+        id
     }
 
     /// Removes a step that is the last of its role and, if it is a send or a choice, isn't received.

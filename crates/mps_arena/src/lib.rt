@@ -5,7 +5,7 @@
 //!
 //! ```
 //! let key = arena.reserve_one()?;
-//! arena.add(Step { id, role, act }, Before { at, bound: None }, source);
+//! let id = arena.add(role, act, Before { at, bound: None }, source);
 //! let step = arena.remove(key);
 //! ```
 #![tactic(auto)]

@@ -113,7 +113,7 @@ fn lone_command(verb: &[u8]) -> Option<Command>
     }
 }
 
-// The verb, and what stands after it and a space.
+// The verb, and what stands after it and a space. A verb that takes no arguments is found too.
 fn split_verb(bytes: &[u8]) -> Option<(Verb, &[u8])>
     ensures read { IfSome result (λ r. bytes.now ≡ spaced (verb_word r.0 ∷ r.1.now ∷ [])) }
     ensures none { IfNone result ((verb : Verb) (rest : List ℕ)
@@ -156,8 +156,14 @@ fn read_arguments(
             let (to, value) = read_role_and_value(alloc, roles, bytes)?;
             Ok(Command::Forward(Forward::Send { to, value }))
         }
-        Verb::Choose => read_choice(roles, bytes),
-        Verb::Receive => read_receipt(roles, bytes),
+        Verb::Choose => {
+            let (to, label) = read_role_and_name(roles, bytes)?;
+            Ok(Command::Forward(Forward::Choose { to, label }))
+        }
+        Verb::Receive => {
+            let (from, slot) = read_role_and_name(roles, bytes)?;
+            Ok(Command::Forward(Forward::Receive { from, slot }))
+        }
         verb => match read_argument(roles, verb, bytes) {
             Some(command) => Ok(command),
             None => Err(LineFault::Bad),
@@ -165,7 +171,7 @@ fn read_arguments(
     }
 }
 
-// The command of any other verb, which takes one argument, or none.
+// The command of any other verb, which takes one argument. A commit and a show take none, so no command is read.
 fn read_argument(roles: &Roles, verb: Verb, bytes: &[u8]) -> Option<Command>
     requires send { verb ≢ Verb.Send }
     requires choose { verb ≢ Verb.Choose }
@@ -191,40 +197,20 @@ fn read_argument(roles: &Roles, verb: Verb, bytes: &[u8]) -> Option<Command>
     }
 }
 
-// The choice of a label.
-fn read_choice(roles: &Roles, bytes: &[u8]) -> Result<Command, LineFault>
-    ensures verb { IfOk result (λ command. verb_of command ≡ Verb.Choose) }
-    ensures some { IfOk result TakesArguments }
-    ensures read { IfOk result (λ command. SpellsLine roles.now bytes.now (arguments command)) }
-    ensures bad { IsErrOf result LineFault.Bad → (to : ℕ) (label : List ℕ)
-        → SpellsLine roles.now bytes.now (RoleAt to ∷ Called label ∷ []) → ⊥ }
+// The peer and the name of a label or a slot.
+fn read_role_and_name(roles: &Roles, bytes: &[u8]) -> Result<(Role, Name), LineFault>
+    ensures read { IfOk result
+        (λ r. SpellsLine roles.now bytes.now (RoleAt r.0 ∷ Called r.1 ∷ [])) }
+    ensures bad { IsErrOf result LineFault.Bad → (role : ℕ) (name : List ℕ)
+        → SpellsLine roles.now bytes.now (RoleAt role ∷ Called name ∷ []) → ⊥ }
     ensures memory { IsErrOf result LineFault.Memory → ⊥ }
 {
     let Some(parts) = split_role(roles, bytes) else {
         return Err(LineFault::Bad);
     };
-    let (to, name) = parts;
-    match Name::read(name) {
-        Some(label) => Ok(Command::Forward(Forward::Choose { to, label })),
-        None => Err(LineFault::Bad),
-    }
-}
-
-// The receipt of a value into a slot.
-fn read_receipt(roles: &Roles, bytes: &[u8]) -> Result<Command, LineFault>
-    ensures verb { IfOk result (λ command. verb_of command ≡ Verb.Receive) }
-    ensures some { IfOk result TakesArguments }
-    ensures read { IfOk result (λ command. SpellsLine roles.now bytes.now (arguments command)) }
-    ensures bad { IsErrOf result LineFault.Bad → (from : ℕ) (slot : List ℕ)
-        → SpellsLine roles.now bytes.now (RoleAt from ∷ Called slot ∷ []) → ⊥ }
-    ensures memory { IsErrOf result LineFault.Memory → ⊥ }
-{
-    let Some(parts) = split_role(roles, bytes) else {
-        return Err(LineFault::Bad);
-    };
-    let (from, name) = parts;
-    match Name::read(name) {
-        Some(slot) => Ok(Command::Forward(Forward::Receive { from, slot })),
+    let (role, rest) = parts;
+    match Name::read(rest) {
+        Some(name) => Ok((role, name)),
         None => Err(LineFault::Bad),
     }
 }

@@ -6,7 +6,7 @@
 //!
 //! ```
 //! let id = log.send(a, b, Message::Value(value), 0)?;
-//! log.receive(b, a, &slot, 0)?;
+//! log.receive(b, a, Some(&slot), 0)?;
 //! let kept = log.value(b, &slot);
 //! ```
 #![tactic(auto)]

@@ -6,7 +6,7 @@ ghost use Rattle.mps_history.specs.Steps.{step_of};
 ghost use Rattle.mps_history.specs.Dependence.{least, dependents};
 ghost use Rattle.mps_arena.specs.Keys.{last_key};
 ghost use Rattle.mps_arena.specs.Entries.{steps, keys_of, of_role, entry_at, AreSound};
-ghost use Rattle.mps_arena.specs.Neighbours.{next_of_role_in, prev_of_role_in, id_in, CanGo};
+ghost use Rattle.mps_arena.specs.Neighbours.{next_of_role_in, prev_of_role_in, CanGo};
 ghost use Rattle.mps_links.specs.Marks.{marked_keys, AreMarksClosed};
 ghost use Rattle.mps_log.specs.Values.{message_taken};
 
@@ -41,14 +41,6 @@ impl Log {
         ensures sound { AreSound self.now.entries }
     {
         self.arena.by_id(id)
-    }
-
-    /// The step's number; none where no step has the key.
-    #[inline(always)]
-    pub fn id(&self, key: Key) -> Option<StepId>
-        ensures { result ≡ id_in self.now.entries key }
-    {
-        self.arena.id(key)
     }
 
     /// The step of the key.

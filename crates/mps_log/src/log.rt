@@ -45,14 +45,6 @@ impl Model for Log {
     ghost invariant = { IsLog };
 }
 
-// The number of the next step.
-fn next_id(arena: &Arena) -> StepId
-    requires { arena.now.issued + 1 < 2 ^ 64 }
-    ensures { result ≡ arena.now.issued + 1 }
-{
-    StepId::new(arena.issued() as u64 + 1)
-}
-
 // The queues without the step of the key: a send's message leaves them, a receipt's comes back to the front.
 fn give_back(queues: &mut Queues, arena: &Arena, key: Key)
     requires can { CanGo arena.now.entries key }
@@ -248,11 +240,9 @@ impl Log {
     {
         let key = self.arena.reserve_one()?;
         self.queues.push(role, to, key);
-        let id = next_id(&self.arena);
         let act = Act::Out { to, message };
-        self.arena
-            .add(Step { id, role, act }, Before { at, bound: None }, None);
-        Ok(id)
+        let before = Before { at, bound: None };
+        Ok(self.arena.add(role, act, before, None))
     }
 
     /// Puts a receipt or a pick after all other steps, with the next number. It takes the first message that waits. A
@@ -277,12 +267,9 @@ impl Log {
             None => None,
         };
         let source = self.queues.take(&self.arena, from, role);
-        let id = next_id(&self.arena);
         let slot = slot.copied();
         let act = Act::In { from, slot };
-        self.arena
-            .add(Step { id, role, act }, Before { at, bound }, source);
-        Ok(id)
+        Ok(self.arena.add(role, act, Before { at, bound }, source))
     }
 
     /// Puts a mark after all other steps, with the next number. The role stood at the node `at`.
@@ -294,11 +281,8 @@ impl Log {
     {
         let key = self.arena.reserve_one()?;
         let bound = self.marks.bind(role, &name, key)?;
-        let id = next_id(&self.arena);
         let act = Act::Mark(name);
-        self.arena
-            .add(Step { id, role, act }, Before { at, bound }, None);
-        Ok(id)
+        Ok(self.arena.add(role, act, Before { at, bound }, None))
     }
 
     /// Puts a commit after all other steps, with the next number. The role stood at the node `at`.
@@ -309,12 +293,9 @@ impl Log {
         ensures err { OnErr result (self.new ≡ self.old) }
     {
         self.arena.reserve_one()?;
-        let id = next_id(&self.arena);
-        let act = Act::Commit;
-        self.arena
-            .add(Step { id, role, act }, Before { at, bound: None }, None);
         self.has_commits = true;
-        Ok(id)
+        let before = Before { at, bound: None };
+        Ok(self.arena.add(role, Act::Commit, before, None))
     }
 
     /// Removes a step that is the last of its role and, if it is a send or a choice, isn't received. Its message

@@ -28,7 +28,7 @@ impl Log {
     }
 
     /// The least number of a marked commit, where each step that depends on a marked one is marked. It does not allocate.
-    /// Where no commit has ever joined, no step is looked at.
+    /// Where no commit has ever joined it looks at no step, which is not proved.
     #[inline(always)]
     pub fn least_final(&self) -> Option<StepId>
         requires closed { AreMarksClosed self.now.entries }

@@ -63,7 +63,7 @@ module _ (names : List (List ℕ)) (types : List LocalType) where
       pub views : Tells (view_of types (run types first).history ≡ view_of types (run types second).history) line status
       pub swaps : Tells (Swaps (run types first).history (run types second).history) line status
 
-    -- why nothing is told: the run of the first broke off, and nothing of the second was read; or the first was run to its end, and the run of the second broke off; or both were ran, and memory ran out
+    -- why nothing is told: the run of the first broke off, and nothing of the second was read; or the first was run to its end, and the run of the second broke off; or both were run to their ends, and memory ran out
     abbrev pub CantCompare : ToolFault → Type 0
     CantCompare fault =
         (HasStopped before after fault × (after' ≡ before'))

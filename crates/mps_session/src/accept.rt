@@ -42,8 +42,8 @@ fn undone(told: (StepIds, Option<StepIds>)) -> (Answer, Option<Answer>)
 }
 
 impl Session {
-    /// Does what the role asks for, and tells the answer, and once more if it is to be kept too. All memory is asked for
-    /// before anything changes. A refusal changes nothing. The command is none that asks how things stand.
+    /// Does what the role asks for, and tells the answer, or tells it twice: one to return and one to keep. All memory is
+    /// asked for before anything changes. A refusal changes nothing. The command is none that asks how things stand.
     #[inline(always)]
     pub fn accept(
         &mut self,

@@ -29,7 +29,8 @@ pub(crate) struct Configuration {
 }
 
 impl Configuration {
-    /// The first message that waits for the role from the peer of whom the command would take one.
+    /// The first message that waits for the role from the peer of whom the command would take one. It serves questions; where
+    /// a step is taken, receipts and picks have a way of their own, so that no other step looks for a message.
     pub(crate) fn first_for(&self, role: Role, command: &Forward) -> Option<&Message>
         ensures moved { moved_by command.now (option_copied result)
             ≡ moved_in (lists_of self.now) role (act_of command.now) }

@@ -195,7 +195,7 @@ impl Configuration {
         let Some(next) = self.log.next_of_role(mark) else {
             return Some(None);
         };
-        Some(self.log.id(next))
+        Some(Some(self.log.get(next).id))
     }
 }
 

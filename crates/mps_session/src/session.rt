@@ -159,7 +159,7 @@ impl Session {
         }
     }
 
-    // Does the step of a receipt or a pick. The message that waits is looked at once, for the verdict and for each copy.
+    // Does the step of a receipt or a pick. The message that waits is looked up once, for the verdict and for each copy.
     #[inline(always)]
     fn accept_receipt(
         &mut self,

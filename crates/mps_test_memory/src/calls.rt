@@ -11,7 +11,7 @@ use crate::outcomes::{Outcome, Until, answered, refused};
 use crate::parties::opened;
 use crate::rows::PROTOCOL;
 use mps_arena::{Arena, Before};
-use mps_base::{Act, Name, Role, RoleFault, Roles, Step, StepId};
+use mps_base::{Act, Name, Role, RoleFault, Roles, StepId};
 use mps_command::{Command, Forward, Refusal};
 use mps_global::{Protocol, check};
 use mps_links::{least_dependent, least_final, mark_from};
@@ -204,11 +204,9 @@ fn add_a_mark(arena: &mut Arena) -> Option<()>
     ensures none { marked_keys arena.new.entries ≡ [] }
 {
     arena.reserve_one().ok()?;
-    let id = StepId::new(arena.issued() as u64 + 1);
     let before = Before { at: 0, bound: None };
     let act = Act::Mark(Name::read(b"m")?);
-    let role = Role::new(0);
-    arena.add(Step { id, role, act }, before, None);
+    arena.add(Role::new(0), act, before, None);
     Some(())
 }
 
@@ -254,11 +252,8 @@ fn add_a_commit(arena: &mut Arena) -> Option<()>
     ensures none { marked_keys arena.new.entries ≡ [] }
 {
     arena.reserve_one().ok()?;
-    let id = StepId::new(arena.issued() as u64 + 1);
     let before = Before { at: 0, bound: None };
-    let act = Act::Commit;
-    let role = Role::new(0);
-    arena.add(Step { id, role, act }, before, None);
+    arena.add(Role::new(0), Act::Commit, before, None);
     Some(())
 }
 

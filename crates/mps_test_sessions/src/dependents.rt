@@ -5,7 +5,7 @@ ghost use Rattle.mps_arena.specs.Neighbours.{waiting};
 ghost use Rattle.mps_links.specs.Marks.{marked_keys, AreMarksClosed};
 
 use mps_arena::{Arena, Before, Key};
-use mps_base::{Act, Message, Name, Role, Step, StepId};
+use mps_base::{Act, Message, Name, Role, StepId};
 use mps_links::*;
 use std::alloc::AllocGlobal;
 use std::process::Abort;
@@ -58,7 +58,6 @@ fn add(rt: &(impl Abort + AllocGlobal), arena: &mut Arena, deed: Deed)
 {
     assert!(rt; arena.issued() < 1_000_000);
     arena.reserve_one().expect(rt, "memory");
-    let id = StepId::new(arena.issued() as u64 + 1);
     let before = Before { at: 0, bound: None };
     let name = Name::read(b"x").expect(rt, "a name");
     let (Gives(role, _) | Takes(role, _) | Marks(role) | Commits(role)) = deed;
@@ -71,7 +70,7 @@ fn add(rt: &(impl Abort + AllocGlobal), arena: &mut Arena, deed: Deed)
                 to: Role::new(to),
                 message: Message::Label(name),
             };
-            arena.add(Step { id, role, act }, before, None);
+            arena.add(role, act, before, None);
         }
         Takes(_, from) => {
             assert!(rt; from < 8);
@@ -79,15 +78,14 @@ fn add(rt: &(impl Abort + AllocGlobal), arena: &mut Arena, deed: Deed)
             let source = first_waiting(arena, from, role);
             assert!(rt; source.is_some());
             let act = Act::In { from, slot: None };
-            arena.add(Step { id, role, act }, before, source);
+            arena.add(role, act, before, source);
         }
         Marks(_) => {
             let act = Act::Mark(name);
-            arena.add(Step { id, role, act }, before, None);
+            arena.add(role, act, before, None);
         }
         Commits(_) => {
-            let act = Act::Commit;
-            arena.add(Step { id, role, act }, before, None);
+            arena.add(role, Act::Commit, before, None);
         }
     }
 }

@@ -580,13 +580,11 @@ fn numbers_are_not_used_again(rt: HostRuntime) {
 // A mark of role A, put into the arena under the next number.
 fn noted(rt: &impl Abort, arena: &mut Arena, id: u64) -> Key {
     let key = arena.reserve_one().expect(rt, "memory");
-    assert_eq!(rt; arena.issued() as u64 + 1, id);
-    let id = StepId::new(id);
     let act = Act::Mark(name(rt, Word::X));
-    let role = role(A);
     let before = Before { at: 0, bound: None };
-    let added = arena.add(Step { id, role, act }, before, None);
-    assert_eq!(rt; added, key);
+    let added = arena.add(role(A), act, before, None);
+    assert_eq!(rt; added, StepId::new(id));
+    assert_eq!(rt; arena.by_id(added), Some(key));
     key
 }
 

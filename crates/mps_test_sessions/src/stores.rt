@@ -1,7 +1,7 @@
 ghost use Rattle.std.specs.Prelude.{◌<◌};
 
 use mps_arena::{Arena, Before, Key};
-use mps_base::{Act, Name, Role, Step, StepId};
+use mps_base::{Act, Name, Role};
 use mps_stores::*;
 use std::alloc::AllocGlobal;
 use std::process::Abort;
@@ -13,16 +13,10 @@ fn name(rt: &impl Abort, letters: &str) -> Name {
 
 // The key of one step more.
 fn next_key(rt: &impl Abort, arena: &mut Arena) -> Key {
-    arena.reserve_one().expect(rt, "memory");
-    let number = (arena.issued() as u64)
-        .checked_add(1)
-        .expect(rt, "a number");
-    let step = Step {
-        id: StepId::new(number),
-        role: Role::new(0),
-        act: Act::Mark(name(rt, "m")),
-    };
-    arena.add(step, Before { at: 0, bound: None }, None)
+    let key = arena.reserve_one().expect(rt, "memory");
+    let act = Act::Mark(name(rt, "m"));
+    arena.add(Role::new(0), act, Before { at: 0, bound: None }, None);
+    key
 }
 
 // The keys of so many steps.

@@ -225,9 +225,10 @@ fn order_in<'a>(matches: &ArgMatches<'a>) -> Result<Order<'a>, &'static str>
     };
     match command {
         "check" => offline(Some(Task::Check { file })),
+        "run" => offline(run_in(file, found)),
         "same" => offline(same_in(file, found)),
         "serve" => serve_in(file, found).ok_or(OUT_OF_RANGE),
-        _ => offline(run_in(file, found)),
+        _ => Err(MISSING),
     }
 }
 

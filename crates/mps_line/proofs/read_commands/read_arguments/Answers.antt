@@ -6,10 +6,10 @@ pub returns-in_err-to-in-Send-clause-bad : goal.returns-in_err-to-in-Send-clause
 returns-in_err-to-in-Send-clause-bad c = λ e command f takes h.
     no_sending _ _ (c.in_err-to-in-Send.ensures.bad (ap Err (sym (rw e at c.from_residual.ensures.1)))) command (f ∙ c.in-Send.is) h
 
-pub returns-in-Choose-clause-bad : goal.returns-in-Choose-clause-bad
-returns-in-Choose-clause-bad c = λ e command f takes h.
-    no_choosing _ _ (c.read_choice.ensures.bad e) command (f ∙ c.in-Choose.is) h
+pub returns-in_err-to-in-Choose-clause-bad : goal.returns-in_err-to-in-Choose-clause-bad
+returns-in_err-to-in-Choose-clause-bad c = λ e command f takes h.
+    no_choosing _ _ (c.in_err-to-in-Choose.ensures.bad (ap Err (sym (rw e at c.from_residual.ensures.1)))) command (f ∙ c.in-Choose.is) h
 
-pub returns-in-Receive-clause-bad : goal.returns-in-Receive-clause-bad
-returns-in-Receive-clause-bad c = λ e command f takes h.
-    no_receiving _ _ (c.read_receipt.ensures.bad e) command (f ∙ c.in-Receive.is) h
+pub returns-in_err-from-in-Receive-clause-bad : goal.returns-in_err-from-in-Receive-clause-bad
+returns-in_err-from-in-Receive-clause-bad c = λ e command f takes h.
+    no_receiving _ _ (c.in_err-from-in-Receive.ensures.bad (ap Err (sym (rw e at c.from_residual.ensures.1)))) command (f ∙ c.in-Receive.is) h

@@ -1,4 +1,4 @@
-use Rattle.std.proofs.Common.{◌≡◌, ℕ, ◌+◌, ◌∷◌, [], ◌++◌, Some, None, false, sym, ap, ◌∙◌, subst, cond}
+use Rattle.std.proofs.Common.{◌≡◌, ℕ, ◌+◌, ◌∷◌, [], ◌++◌, Some, None, false, sym, ap, ap₂, ◌∙◌, subst, cond}
 use Rattle.std.specs.Prelude.{◌==◌}
 use Rattle.std.specs.Option.{option_map}
 use Rattle.slab.specs.Slab.{get, slab_len}
@@ -13,17 +13,17 @@ use Rattle.mps_arena.proofs.Keeping.{kept_view, kept_whole, kept_sound, kept_add
 use Rattle.mps_arena.proofs.arena.Arena.add.Goals as goal
 use Rattle.mps_arena.proofs.arena.Arena.add.Goals.{After-push_reserved}
 
-kept : (c : After-push_reserved) → IsKept (get c.join.new.nodes) (slab_len c.join.new.nodes) c.push.new.self.first c.push.new.self.last c.push.new.self.last_of c.push.new.self.last_send c.push_reserved.new.self.items (entries_of c.self.inside ++ record { key = c.small-key.result; step = c.args.step; before = c.args.before; marked = false } ∷ [])
+kept : (c : After-push_reserved) → IsKept (get c.join.new.nodes) (slab_len c.join.new.nodes) c.push.new.self.first c.push.new.self.last c.push.new.self.last_of c.push.new.self.last_send c.push_reserved.new.self.items (entries_of c.self.inside ++ record { key = c.small-key.result; step = record { id = c.new-id.result; role = c.args.role; act = c.args.act }; before = c.args.before; marked = false } ∷ [])
 kept c =
     let a = c.self.inside in
     let key = c.small-key.result in
     let node = c.node_after-node.result in
     let is : (i : ℕ) → get c.join.new.nodes i ≡ option_map (joined node key i) (cond (key == i) (Some node) (get a.nodes i)) = c.join.ensures.nodes in
     rw (c.join.ensures.len, c.push.ensures.first, c.push.ensures.last, c.push.ensures.last_of, c.push.ensures.last_send, c.push_reserved.ensures.items, c.node_after-node.ensures)
-    (kept_add (get a.nodes) (get c.join.new.nodes) (slab_len a.nodes) a.ends.first a.ends.last a.ends.last_of a.ends.last_send a.index.items (entries_of a) c.self.invariant c.args.step c.args.before c.args.source key
-    c.requires.small
-    (subst (λ (v : Entries). c.args.step.id ≡ v.issued + 1) (sym c.self.view_is) c.requires.number)
-    (subst (λ (v : Entries). IsSource v.entries c.args.step.role (effect c.args.step.act) c.args.source) (sym c.self.view_is) c.requires.source)
+    (kept_add (get a.nodes) (get c.join.new.nodes) (slab_len a.nodes) a.ends.first a.ends.last a.ends.last_of a.ends.last_send a.index.items (entries_of a) c.self.invariant (record { id = c.new-id.result; role = c.args.role; act = c.args.act }) c.args.before c.args.source key
+    (c.requires.role, c.requires.peer)
+    (c.new-id.ensures ∙ ap (λ (n : ℕ). n + 1) (c.len.ensures ∙ a.index.ok.0))
+    (subst (λ (v : Entries). IsSource v.entries c.args.role (effect c.args.act) c.args.source) (sym c.self.view_is) c.requires.source)
     c.join.ensures.vacant
     (subst (λ (n : Node). (i : ℕ) → get c.join.new.nodes i ≡ option_map (joined n key i) (cond (key == i) (Some n) (get a.nodes i))) c.node_after-node.ensures is))
 
@@ -32,8 +32,9 @@ invariant_of-self c = kept_whole _ _ _ _ _ _ _ _ (kept c)
 
 pub returns-clause-entries : goal.returns-clause-entries
 returns-clause-entries c =
+    let key : c.small-key.result ≡ c.args.self.now.next_key = c.small-key.ensures ∙ c.vacant_key.ensures.value ∙ ap (λ (v : Entries). v.next_key) c.self.view_is in
     kept_view _ _ _ _ _ _ _ _ (kept ((goal.at.returns-clause-entries c).After-push_reserved))
-    ∙ ap (λ (v : Entries). v.entries ++ record { key = c.small-key.result; step = c.args.step; before = c.args.before; marked = false } ∷ []) c.self.view_is
+    ∙ ap₂ (λ (v : Entries) (k : ℕ). v.entries ++ record { key = k; step = record { id = c.new-id.result; role = c.args.role; act = c.args.act }; before = c.args.before; marked = false } ∷ []) c.self.view_is key
 
 pub returns-clause-sound : goal.returns-clause-sound
 returns-clause-sound c =

@@ -12,7 +12,7 @@ invariant_of-self-2 c =
     let l = c.self.inside in
     let k = c.self.invariant in
     let es = l.arena.entries in
-    let e : KeyedStep = record { key = c.add.result; step = record { id = c.next_id-id.result; role = c.args.role; act = Commit }; before = record { at = c.args.at; bound = None }; marked = false } in
+    let e : KeyedStep = record { key = c.reserve_one.new.self.next_key; step = record { id = c.add.result; role = c.args.role; act = Commit }; before = record { at = c.args.at; bound = None }; marked = false } in
     let whole : c.add.new.self.entries ≡ es ++ e ∷ [] = c.add.ensures.entries ∙ ap (λ (o : List KeyedStep). o ++ e ∷ []) c.reserve_one.ensures.entries in
     record {
       sound = c.add.ensures.sound;

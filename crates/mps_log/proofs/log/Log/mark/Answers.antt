@@ -14,12 +14,12 @@ invariant_of-self-2 c =
     let l = c.self.inside in
     let k = c.self.invariant in
     let es = l.arena.entries in
-    let e : KeyedStep = record { key = c.add.result; step = record { id = c.next_id-id.result; role = c.args.role; act = Mark c.args.name }; before = record { at = c.args.at; bound = c.in_ok-bound.bound }; marked = false } in
+    let e : KeyedStep = record { key = c.reserve_one.new.self.next_key; step = record { id = c.add.result; role = c.args.role; act = Mark c.args.name }; before = record { at = c.args.at; bound = c.in_ok-bound.bound }; marked = false } in
     let whole : c.add.new.self.entries ≡ es ++ e ∷ [] = c.add.ensures.entries ∙ ap (λ (o : List KeyedStep). o ++ e ∷ []) c.reserve_one.ensures.entries in
     record {
       sound = c.add.ensures.sound;
       fronts = subst (λ (o : List KeyedStep). AreFronts o l.queues) (sym whole) (idle_joins e refl es l.queues k.fronts);
       slots = subst (λ (o : List KeyedStep). AreStores slot_of o l.slots) (sym whole) (stores_idle_push slot_of es e l.slots k.slots refl);
-      marks = subst (λ (o : List KeyedStep). AreStores mark_of o c.bind.new.self) (sym whole) (c.in_ok-bound.ensures.follows mark_of es e k.marks (refl, refl) (c.add.ensures.key ∙ sym c.in_ok-key.ensures.key) refl);
+      marks = subst (λ (o : List KeyedStep). AreStores mark_of o c.bind.new.self) (sym whole) (c.in_ok-bound.ensures.follows mark_of es e k.marks (refl, refl) (sym c.in_ok-key.ensures.key) refl);
       settled = λ none. subst HasNoCommit (sym whole) (no_commit_joins es e refl (k.settled none));
     }

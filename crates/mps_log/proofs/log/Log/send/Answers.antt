@@ -17,12 +17,12 @@ invariant_of-self-2 c =
     let es = l.arena.entries in
     let p = c.args.role in
     let q = c.args.to in
-    let e : KeyedStep = record { key = c.add.result; step = record { id = c.next_id-id.result; role = p; act = Out q c.args.message }; before = record { at = c.args.at; bound = None }; marked = false } in
+    let e : KeyedStep = record { key = c.reserve_one.new.self.next_key; step = record { id = c.add.result; role = p; act = Out q c.args.message }; before = record { at = c.args.at; bound = None }; marked = false } in
     let whole : c.add.new.self.entries ≡ es ++ e ∷ [] = c.add.ensures.entries ∙ ap (λ (o : List KeyedStep). o ++ e ∷ []) c.reserve_one.ensures.entries in
     let sent = and_from (p == p) (q == q) (eq-eqb p p refl) (eq-eqb q q refl) in
     record {
       sound = c.add.ensures.sound;
-      fronts = subst (λ (o : List KeyedStep). AreFronts o c.push.new.self) (sym whole) (c.push.ensures es e k.fronts k.sound sent (c.add.ensures.key ∙ sym c.in_ok-key.ensures.key));
+      fronts = subst (λ (o : List KeyedStep). AreFronts o c.push.new.self) (sym whole) (c.push.ensures es e k.fronts k.sound sent (sym c.in_ok-key.ensures.key));
       slots = subst (λ (o : List KeyedStep). AreStores slot_of o l.slots) (sym whole) (stores_idle_push slot_of es e l.slots k.slots refl);
       marks = subst (λ (o : List KeyedStep). AreStores mark_of o l.marks) (sym whole) (stores_idle_push mark_of es e l.marks k.marks refl);
       settled = λ none. subst HasNoCommit (sym whole) (no_commit_joins es e refl (k.settled none));

@@ -1,6 +1,9 @@
-use Rattle.std.proofs.Common.{◌≡◌, ℕ, Option, Some, sym, ap, ◌∙◌}
+use Rattle.std.proofs.Common.{◌≡◌, ℕ, Option, None, Some, sym, ap, ◌∙◌}
 use Rattle.std.specs.Option.{option_map, option_and_then}
+use Rattle.mps_base.specs.declared.action.Step.{Step}
+use Rattle.mps_arena.specs.Entries.{KeyedStep, entry_at}
 use Rattle.mps_arena.specs.Neighbours.{id_in}
+use Rattle.mps_links.proofs.Present.{next_there}
 use Rattle.mps_session.specs.Answers.{first_number}
 use Rattle.mps_session.proofs.AfterLastMark as behind
 use Rattle.mps_session.proofs.configuration.Configuration.first_after.Goals as goal
@@ -23,7 +26,17 @@ returns-in_default c =
     let k = (goal.at.returns-in_default c).After-next_of_role in
     sym (next k ∙ ap (λ (o : Option ℕ). Some (option_and_then (id_in c.args.self.now.log.entries) o)) c.in_default.is)
 
+pub get-requires : goal.get-requires
+get-requires c =
+    next_there c.args.self.now.log.entries c.in_ok-mark.mark c.in-Some.next (sym c.next_of_role.ensures.next ∙ c.in-Some.is)
+
+-- the number of the step that an entry has
+number_of : (o : Option KeyedStep) (s : Step) → option_map (λ e. e.step) o ≡ Some s → option_map (λ e. e.step.id) o ≡ Some s.id
+number_of None s is = absurd cc
+number_of (Some e) s is = ap (option_map (λ (t : Step). t.id)) is
+
 pub returns : goal.returns
 returns c =
     let k = (goal.at.returns c).After-next_of_role in
-    sym (next k ∙ ap (λ (o : Option ℕ). Some (option_and_then (id_in c.args.self.now.log.entries) o)) c.in-Some.is ∙ ap Some (sym c.id.ensures))
+    let es = c.args.self.now.log.entries in
+    sym (next k ∙ ap (λ (o : Option ℕ). Some (option_and_then (id_in es) o)) c.in-Some.is ∙ ap Some (number_of (entry_at c.in-Some.next es) c.get.result.now c.get.ensures))

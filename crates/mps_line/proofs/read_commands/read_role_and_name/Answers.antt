@@ -1,7 +1,7 @@
 use Rattle.std.proofs.Common.{refl}
 use Rattle.std.proofs.lemmas.Bool.{false≢true}
 use Rattle.mps_line.proofs.CommandLines.{role_in_front, none_of_names, no_role_in_front, name_read}
-use Rattle.mps_line.proofs.read_commands.read_choice.Goals as goal
+use Rattle.mps_line.proofs.read_commands.read_role_and_name.Goals as goal
 
 pub returns-in_default-clause-bad : goal.returns-in_default-clause-bad
 returns-in_default-clause-bad c = λ e role name h. no_role_in_front _ _ _ _ c.in_default.ensures.none role h
