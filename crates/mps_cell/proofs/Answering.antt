@@ -14,7 +14,8 @@ use Rattle.mps_room.specs.declared.entry.Entry.{Entry}
 use Rattle.mps_room.specs.declared.numbers.Numbered.{Numbered}
 use Rattle.mps_cell.specs.Openings.{room_of, IsLegalIn, IsReplyIn, reply_in}
 use Rattle.mps_cell.specs.Views.{Part, View, part_of, raised, showing}
-use Rattle.mps_cell.specs.Rule.{Shows, resting, holding, journal_in, Took, Gave}
+use Rattle.mps_cell.specs.Rule.{Shows, resting, journal_in}
+use Rattle.mps_cell.specs.Private.Rule.{holding, Took, Gave}
 use Rattle.mps_cell.specs.Calls.{Known, known, carried, IsAccepted, IsAnswered, Calls}
 
 abbrev M : Type 0

@@ -9,7 +9,8 @@ use Rattle.mps_room.specs.Kept.{RoomState}
 use Rattle.mps_room.specs.declared.entry.Entry.{Entry}
 use Rattle.mps_cell.specs.Openings.{Opening, room_of, IsLegalIn}
 use Rattle.mps_cell.specs.Views.{View, newcomer, newcomers, dealing, part_of, without_first, first_alone}
-use Rattle.mps_cell.specs.Rule.{Kept, word_of, home_of, resting, Shows, AllShow, IsFree}
+use Rattle.mps_cell.specs.Rule.{Kept, word_of, home_of, resting, Shows, AllShow}
+use Rattle.mps_cell.specs.Private.Rule.{IsFree}
 use Rattle.atomic_table.specs.Seated.{TableId}
 use Rattle.mps_cell.specs.Calls.{Known, known}
 use Rattle.mps_cell.specs.Meetings.{Holds}

@@ -10,7 +10,8 @@ use Rattle.mps_room.specs.Kept.{RoomState}
 use Rattle.mps_room.specs.declared.entry.Entry.{Entry}
 use Rattle.mps_cell.specs.Openings.{Opening, opening_of, room_of, IsLegalIn}
 use Rattle.mps_cell.specs.Views.{Part, View, newcomers, first_view, part_of, looked, took, gave, without_first_part, first_part_alone, without_first, first_alone, spent}
-use Rattle.mps_cell.specs.Rule.{Kept, Rests, AllShow, AllHere, AllOther, AllApart, noted_by, word_of, home_of, holding, resting, Told, Looks, Tries, Gives, Grows}
+use Rattle.mps_cell.specs.Rule.{Kept, Rests, AllShow, AllHere, AllOther, AllApart, noted_by, word_of, home_of, resting, Told, Looks, Tries, Gives}
+use Rattle.mps_cell.specs.Private.Rule.{holding, Grows}
 use Rattle.mps_cell.proofs.Lists.{inside, at_end, seats_stay, raise_all, raise_here, raise_apart, grow_all, elsewhere, moved, moved_here, still_here}
 
 abbrev St : Type 0

@@ -8,7 +8,8 @@ use Rattle.mps_room.specs.Solos.{other_entry}
 use Rattle.mps_room.specs.declared.entry.Entry.{Entry}
 use Rattle.mps_cell.specs.Openings.{Opening, IsLegalIn}
 use Rattle.mps_cell.specs.Views.{Part, View, raised}
-use Rattle.mps_cell.specs.Rule.{Shows, AllShow, AllHere, AllOther, AllApart, Grows}
+use Rattle.mps_cell.specs.Rule.{Shows, AllShow, AllHere, AllOther, AllApart}
+use Rattle.mps_cell.specs.Private.Rule.{Grows}
 
 pub inside : {A : Type 0} (l : List A) (i : ℕ) (a : A) → get_elem? l i ≡ maybe.some a → i < length l
 inside [] i a e = absurd (maybe.some-ne-none a (sym e))

@@ -11,7 +11,8 @@ use Rattle.mps_room.specs.declared.entry.Entry.{Entry}
 use Rattle.mps_room.specs.declared.numbers.Numbered.{Numbered}
 use Rattle.mps_cell.specs.Openings.{Opening}
 use Rattle.mps_cell.specs.Views.{Part, View, part_of, raised, without_first, first_alone, both_parts, spent, first_stays, others_go}
-use Rattle.mps_cell.specs.Rule.{Kept, StartsWith, Shows, resting, IsFree, Looks, Met}
+use Rattle.mps_cell.specs.Rule.{Kept, StartsWith, Shows, resting, Looks}
+use Rattle.mps_cell.specs.Private.Rule.{IsFree, Met}
 use Rattle.mps_cell.specs.Calls.{Known, known, carried, KeepsSeen}
 use Rattle.mps_cell.specs.Meetings.{HasSeen, ReachesBoth}
 use Rattle.mps_cell.proofs.Keeping.{deals, divides, gathers, pair}

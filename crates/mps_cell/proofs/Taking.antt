@@ -11,7 +11,8 @@ use Rattle.mps_room.specs.Kept.{RoomState}
 use Rattle.mps_room.specs.declared.entry.Entry.{Entry}
 use Rattle.mps_cell.specs.Openings.{Opening, room_of, IsLegalIn}
 use Rattle.mps_cell.specs.Views.{Part, View, part_of, raised}
-use Rattle.mps_cell.specs.Rule.{Kept, Shows, resting, holding, journal_in, IsFree, Looks, Tries, Gives, Took, Missed, Waited, HasRoom, HasAnswered, Grows, Gave}
+use Rattle.mps_cell.specs.Rule.{Kept, Shows, resting, journal_in, Looks, Tries, Gives}
+use Rattle.mps_cell.specs.Private.Rule.{holding, IsFree, Took, Missed, Waited, HasRoom, HasAnswered, Grows, Gave}
 use Rattle.mps_cell.proofs.Keeping.{gives_back}
 
 abbrev M : Type 0

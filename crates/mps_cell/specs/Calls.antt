@@ -11,7 +11,8 @@ use Rattle.mps_room.specs.declared.entry.Entry.{Entry}
 use Rattle.mps_room.specs.declared.numbers.Numbered.{Numbered}
 use Rattle.mps_cell.specs.Openings.{Opening, IsLegalIn, IsReplyIn, reply_in}
 use Rattle.mps_cell.specs.Views.{Part, View, part_of}
-use Rattle.mps_cell.specs.Rule.{StartsWith, IsFree}
+use Rattle.mps_cell.specs.Rule.{StartsWith}
+use Rattle.mps_cell.specs.Private.Rule.{IsFree}
 
 -- a pass, as contracts see it: its cell and how that was opened, its role, the journal that its last call showed, the greatest length that it was told of, the entries that it made, whether its last look or try found the room out, and its newest numbered command that was accepted
 pub record Known : Type 0 where

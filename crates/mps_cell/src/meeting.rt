@@ -1,6 +1,6 @@
 //! Two seats meet.
 ghost use Rattle.std.specs.Prelude.{◌≡◌};
-ghost use Rattle.mps_cell.specs.Rule.{IsFree, Met};
+ghost use Rattle.mps_cell.specs.Private.Rule.{IsFree, Met};
 
 use crate::pass::Table;
 use crate::rule::{CutFirst, Divide, Gather, Look};

@@ -2,7 +2,8 @@
 ghost use Rattle.std.specs.Prelude.{◌≡◌, ◌<◌, ◌≤◌, length, true, false, OnOk, OnErr, IfOk, IfErr, Some, None};
 ghost use Rattle.std.specs.Ordering.{nat_cmp};
 ghost use Rattle.mps_cell.specs.Views.{part_of, newcomer};
-ghost use Rattle.mps_cell.specs.Rule.{IsFree, resting};
+ghost use Rattle.mps_cell.specs.Rule.{resting};
+ghost use Rattle.mps_cell.specs.Private.Rule.{IsFree};
 ghost use Rattle.mps_cell.specs.Calls.{Calls, KeepsSeen, IsTold, known, carried};
 ghost use Rattle.mps_cell.specs.Meetings.{HasSeen, ReachesBoth};
 ghost use Rattle.mps_cell.specs.Cells.{fresh};
@@ -78,7 +79,7 @@ pub struct Leave {
 
 impl Model for Leave {
     ghost use Rattle.mps_cell.specs.Calls.{Known, known};
-    ghost use Rattle.mps_cell.specs.Rule.{IsFree};
+    ghost use Rattle.mps_cell.specs.Private.Rule.{IsFree};
     ghost use Rattle.std.specs.Coded.{codes};
     ghost use Rattle.mps_local.specs.Private.Codes.{coded_local};
 

@@ -3,7 +3,8 @@ ghost use Rattle.std.specs.Prelude.{◌≡◌, ◌<◌, ◌∷◌, [], length, M
 ghost use Rattle.mps_room.specs.Journal.{grown};
 ghost use Rattle.mps_cell.specs.Openings.{IsLegalIn, IsReplyIn, room_of};
 ghost use Rattle.mps_cell.specs.Views.{part_of};
-ghost use Rattle.mps_cell.specs.Rule.{IsFree, Took, Missed, HasRoom, HasAnswered, Gave, journal_in};
+ghost use Rattle.mps_cell.specs.Rule.{journal_in};
+ghost use Rattle.mps_cell.specs.Private.Rule.{IsFree, Took, Missed, HasRoom, HasAnswered, Gave};
 
 use crate::pass::Table;
 use crate::rule::{Give, Look, Take};

@@ -9,7 +9,8 @@ use Rattle.mps_room.specs.Kept.{RoomState}
 use Rattle.mps_cell.specs.Openings.{Opening}
 use Rattle.mps_cell.specs.Calls.{Known}
 use Rattle.mps_cell.specs.Cells.{Opened, Closes, Dealt, IsDealOf, fresh, fresh_below, opened_with}
-use Rattle.mps_hub.specs.Places.{AreNumbered, AtHome, IsOfCell}
+use Rattle.mps_hub.specs.Places.{IsOfCell}
+use Rattle.mps_hub.specs.Private.Places.{AreNumbered, AtHome}
 use Rattle.mps_hub.specs.Halls.{AreCellsOf, AreCellsWith, AreClosed, AreDeals}
 
 -- what stands in a list with one item more

@@ -1,6 +1,7 @@
 //! The passes that are not in use, which one thread at a time has.
 ghost use Rattle.std.specs.Prelude.{◌≡◌, ◌≢◌, ◌<◌, ◌≤◌, ◌↔◌, ℕ, Some, None, IfOk, IfSome, IsErrOf, All, length, slice_get};
-ghost use Rattle.mps_hub.specs.Places.{AreNumbered, AtHome, IsOfCell, IsOfSession, IsOffered, IsPassOf, IsSession, Offer};
+ghost use Rattle.mps_hub.specs.Places.{IsOfCell, IsOfSession, IsOffered, IsPassOf, IsSession, Offer};
+ghost use Rattle.mps_hub.specs.Private.Places.{AreNumbered, AtHome};
 
 use crate::lock::{Steady, put_back, take_out};
 use atomic_table::{Refused, Table};
@@ -33,7 +34,7 @@ impl<'a> Model for Row<'a> {
     ghost use Rattle.std.specs.Coded.{codes};
     ghost use Rattle.mps_local.specs.Private.Codes.{coded_local};
     ghost use Rattle.mps_cell.specs.Cells.{Opened};
-    ghost use Rattle.mps_hub.specs.Places.{AtHome};
+    ghost use Rattle.mps_hub.specs.Private.Places.{AtHome};
 
     ghost Value = { Opened };
 
@@ -134,7 +135,8 @@ pub struct Desk<'a> {
 impl<'a> Model for Desk<'a> {
     ghost use Rattle.std.specs.Coded.{codes};
     ghost use Rattle.mps_local.specs.Private.Codes.{coded_local};
-    ghost use Rattle.mps_hub.specs.Places.{IsDesk, Offer};
+    ghost use Rattle.mps_hub.specs.Places.{Offer};
+    ghost use Rattle.mps_hub.specs.Private.Places.{IsDesk};
 
     ghost Value = { Offer };
 

@@ -51,7 +51,7 @@ impl Model for Hub {
     ghost use Rattle.std.specs.Coded.{codes};
     ghost use Rattle.mps_local.specs.Private.Codes.{coded_local};
     ghost use Rattle.mps_hub.specs.Halls.{Hall, AreDeals};
-    ghost use Rattle.mps_hub.specs.Places.{AreNumbered};
+    ghost use Rattle.mps_hub.specs.Private.Places.{AreNumbered};
 
     ghost Value = { Hall };
 

@@ -12,8 +12,10 @@ use Rattle.mps_command.specs.declared.command.Forward.TheVariants.{Send, Choose,
 use Rattle.mps_line.specs.declared.read_commands.LineFault.{LineFault}
 use Rattle.mps_line.specs.declared.read_commands.Verb.{Verb}
 use Rattle.mps_line.specs.declared.read_commands.Verb.TheVariants as verbs
-use Rattle.mps_line.specs.Tokens.{Token, Word, RoleAt, Called, Number, Worth, HasNoSpace, SpellsRole, SpellsName, SpellsNumber, SpellsToken, SpellsLine, BeginsWith}
-use Rattle.mps_line.specs.Commands.{verb_word, verb_of, arguments, lone_verbs, TakesArguments, SpellsCommand}
+use Rattle.mps_line.specs.Tokens.{Token, Word, RoleAt, Called, Number, Worth, SpellsRole, SpellsName, SpellsNumber, SpellsToken, SpellsLine}
+use Rattle.mps_line.specs.Private.Tokens.{HasNoSpace, BeginsWith}
+use Rattle.mps_line.specs.Commands.{verb_word, verb_of, arguments, SpellsCommand}
+use Rattle.mps_line.specs.Private.Commands.{lone_verbs, TakesArguments}
 use Rattle.mps_line.proofs.Splitting.{one_split, never_split, after_token, joined, alone, line_of_one}
 
 pub verb_has_no_space : (verb : Verb) → HasNoSpace (verb_word verb)

@@ -12,7 +12,8 @@ use Rattle.mps_command.specs.declared.command.Command.TheVariants.{Forward, Undo
 use Rattle.mps_command.specs.declared.command.Forward.TheVariants.{Send, Choose, Receive, Pick, Mark, Commit}
 use Rattle.mps_line.specs.declared.read_commands.Verb.{Verb}
 use Rattle.mps_line.specs.declared.read_commands.Verb.TheVariants as verbs
-use Rattle.mps_line.specs.Tokens.{Number, HasNoSpace, SpellsNumber, SpellsLine, BeginsWith}
+use Rattle.mps_line.specs.Tokens.{Number, SpellsNumber, SpellsLine}
+use Rattle.mps_line.specs.Private.Tokens.{HasNoSpace, BeginsWith}
 use Rattle.mps_line.specs.Commands.{verb_word, verb_of, arguments, command_tokens, SpellsCommand, MayHaveNumber, numbered_tokens, SpellsNumbered, NamesRolesOf}
 use Rattle.mps_line.proofs.Splitting.{one_split, one_first, digits_have_no_space, first_word, after_token, joined}
 use Rattle.mps_line.proofs.CommandLines.{verb_has_no_space, same_verb}

@@ -16,7 +16,8 @@ use Rattle.mps_command.specs.declared.answer.Refusal.{Refusal}
 use Rattle.mps_command.specs.declared.answer.Refusal.TheVariants.{Violation as Violates, NoStep, NotYours, Final, Needed, NoMark, Full, Memory}
 use Rattle.mps_line.specs.declared.write_replies.Reply.{Reply}
 use Rattle.mps_line.specs.declared.write_replies.Reply.TheVariants.{Answered, BadLine, Joined, NoSession, NoRole, Taken, Number as WrongNumber}
-use Rattle.mps_line.specs.Tokens.{Token, Word, Called, Number, Show, HasNoSpace, SpellsShow, SpellsToken, SpellsLine}
+use Rattle.mps_line.specs.Tokens.{Token, Word, Called, Number, Show, SpellsShow, SpellsToken, SpellsLine}
+use Rattle.mps_line.specs.Private.Tokens.{HasNoSpace}
 use Rattle.mps_line.specs.Replies.{word_of, message_token, done_tokens, undone_tokens, news_tokens, refusal_tokens, SpellsReply}
 use Rattle.mps_line.proofs.Splitting.{one_split, never_split, digits_have_no_space, first_word, after_token, alone}
 use Rattle.mps_line.proofs.CommandLines.{after_word}

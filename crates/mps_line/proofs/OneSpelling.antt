@@ -14,8 +14,10 @@ use Rattle.mps_command.specs.declared.command.Command.{Command}
 use Rattle.mps_command.specs.declared.command.Command.TheVariants.{Forward, Undo, Rollback, Back, News}
 use Rattle.mps_command.specs.declared.command.Command.TheVariants as commands
 use Rattle.mps_command.specs.declared.command.Forward.TheVariants.{Send, Choose, Receive, Pick, Mark, Commit}
-use Rattle.mps_line.specs.Tokens.{Token, Word, RoleAt, Called, Number, Worth, Show, SpellsRole, SpellsNumber, SpellsToken, SpellEach, SpellsLine, BeginsWith}
-use Rattle.mps_line.specs.Commands.{verb_word, verb_of, arguments, TakesArguments, SpellsCommand, SpellsScriptLine, NamesRolesOf}
+use Rattle.mps_line.specs.Tokens.{Token, Word, RoleAt, Called, Number, Worth, Show, SpellsRole, SpellsNumber, SpellsToken, SpellEach, SpellsLine}
+use Rattle.mps_line.specs.Private.Tokens.{BeginsWith}
+use Rattle.mps_line.specs.Commands.{verb_word, verb_of, arguments, SpellsCommand, SpellsScriptLine, NamesRolesOf}
+use Rattle.mps_line.specs.Private.Commands.{TakesArguments}
 use Rattle.mps_line.proofs.Splitting.{one_split, never_split, name_has_no_space, after_token, alone}
 use Rattle.mps_line.proofs.CommandLines.{verb_has_no_space, same_verb, one_verb, alone_or_more, lone_line, command_parts}
 

@@ -15,8 +15,10 @@ use Rattle.mps_command.specs.declared.answer.Refusal.{Refusal}
 use Rattle.mps_command.specs.declared.answer.Refusal.TheVariants.{Violation as Violates, NoStep, NotYours, Final, Needed, NoMark, Full, Memory}
 use Rattle.mps_line.specs.declared.write_replies.Reply.{Reply}
 use Rattle.mps_line.specs.declared.write_replies.Reply.TheVariants.{Answered, BadLine, Joined, NoSession, NoRole, Taken, Number as WrongNumber}
-use Rattle.mps_line.specs.Tokens.{Token, Word, Number, Show, HasNoSpace, SpellsNumber, SpellsToken, SpellsLine}
-use Rattle.mps_line.specs.Replies.{lone_words, own_word, word_of, message_token, done_tokens, refusal_tokens, SpellsReply, SpellsSteps}
+use Rattle.mps_line.specs.Tokens.{Token, Word, Number, Show, SpellsNumber, SpellsToken, SpellsLine}
+use Rattle.mps_line.specs.Private.Tokens.{HasNoSpace}
+use Rattle.mps_line.specs.Replies.{word_of, message_token, done_tokens, refusal_tokens, SpellsReply}
+use Rattle.mps_line.specs.Private.Replies.{lone_words, own_word, SpellsSteps}
 use Rattle.mps_line.proofs.Splitting.{one_split, never_split, digits_have_no_space, after_token, joined, alone, line_of_one}
 use Rattle.mps_line.proofs.CommandLines.{after_word}
 use Rattle.mps_line.proofs.ShownLines.{some_reply}

@@ -12,7 +12,8 @@ use Rattle.std.proofs.lemmas.List.Elements.{recursion_from_All}
 use Rattle.std.proofs.lemmas.Str.Parse.{digit_from_value}
 use Rattle.mps_base.specs.Names.{IsName, is_name_byte}
 use Rattle.mps_base.specs.Spaced.{spaced}
-use Rattle.mps_line.specs.Tokens.{Token, Word, RoleAt, HasNoSpace, SpellsRole, SpellsToken, SpellEach, SpellsLine, BeginsWith}
+use Rattle.mps_line.specs.Tokens.{Token, Word, RoleAt, SpellsRole, SpellsToken, SpellEach, SpellsLine}
+use Rattle.mps_line.specs.Private.Tokens.{HasNoSpace, BeginsWith}
 
 -- what holds anyway
 pub if_none : {T P : Type 0} (r : Option T) → P → IfNone r P

@@ -51,14 +51,6 @@ arguments (Back name) = Called name ∷ []
 arguments (News known) = Number known ∷ []
 arguments Show = []
 
--- the verbs after which nothing stands
-abbrev pub lone_verbs : List (List ℕ)
-lone_verbs = codes "commit" ∷ codes "show" ∷ []
-
--- something stands after the verb
-abbrev pub TakesArguments : Command → Type 0
-TakesArguments command = 0 < length (arguments command)
-
 -- the verb and its arguments
 abbrev pub command_tokens : Command → List Token
 command_tokens command = Word (verb_word (verb_of command)) ∷ arguments command

@@ -1,5 +1,5 @@
 -- How replies are spelled.
-use Rattle.std.specs.Prelude.{ℕ, ◌<◌, List, [], ◌∷◌, length, map, codes, Option, Some, None}
+use Rattle.std.specs.Prelude.{ℕ, List, [], ◌∷◌, length, map, codes, Option, Some, None}
 use Rattle.mps_base.specs.declared.action.Message.{Message}
 use Rattle.mps_base.specs.declared.action.Message.TheVariants.{Value as Plain, Label}
 use Rattle.mps_command.specs.declared.answer.Violation.TheVariants.{Ended, WrongAct, WrongPeer, WrongSort, NoLabel, NothingQueued, Mismatch}
@@ -27,23 +27,6 @@ word_of (Needed by) = codes "needed"
 word_of NoMark = codes "nomark"
 word_of Full = codes "full"
 word_of Memory = codes "memory"
-
--- the words of refusals that are neither violations nor name a step
-abbrev pub lone_words : List (List ℕ)
-lone_words = codes "nostep" ∷ codes "notyours" ∷ codes "nomark" ∷ codes "full" ∷ codes "memory" ∷ []
-
--- the word after `refused` of a reply that answers no command; any other has none
-abbrev pub own_word : Reply → List ℕ
-own_word BadLine = codes "line"
-own_word NoSession = codes "nosession"
-own_word NoRole = codes "norole"
-own_word Taken = codes "taken"
-own_word WrongNumber = codes "number"
-own_word reply = []
-
--- these words
-abbrev pub own_words : List (List ℕ)
-own_words = codes "line" ∷ codes "nosession" ∷ codes "norole" ∷ codes "taken" ∷ codes "number" ∷ []
 
 -- a value or a label
 abbrev pub message_token : Message → Token
@@ -95,8 +78,3 @@ SpellsReply bytes reply = SpellsLine [] bytes (reply_tokens reply)
 -- `join NUMBER NAME`: the first line of a connection
 abbrev pub SpellsJoin : List ℕ → (session : ℕ) → (name : List ℕ) → Type 0
 SpellsJoin bytes session name = SpellsLine [] bytes (Word (codes "join") ∷ Number session ∷ Called name ∷ [])
-
--- the numbers of some steps, one at least, with one space between two
-pub record SpellsSteps (bytes : List ℕ) (ids : List ℕ) : Type 0 where
-  pub some : 0 < length ids
-  pub line : SpellsLine [] bytes (map Number ids)

@@ -1,6 +1,5 @@
 -- The tokens of a line, with one space between two.
-use Rattle.std.specs.Prelude.{◌≡◌, ◌≢◌, ℕ, ◌<◌, ◌^◌, List, [], ◌∷◌, Some, ⊤, slice_get}
-use Rattle.std.specs.List.{AllByRecursion}
+use Rattle.std.specs.Prelude.{◌≡◌, ℕ, ◌<◌, ◌^◌, List, [], ◌∷◌, Some, ⊤, slice_get}
 use Rattle.mps_base.specs.Names.{IsName}
 use Rattle.mps_base.specs.Numbers.{IsNumberText}
 use Rattle.mps_base.specs.Spaced.{spaced}
@@ -16,10 +15,6 @@ pub data Token : Type 0 where
   Number : (n : ℕ) → Token
   Worth : (value : Value) → Token
   Show : (text : List ℕ) → Token
-
--- no byte is a space
-abbrev pub HasNoSpace : List ℕ → Type 0
-HasNoSpace bytes = AllByRecursion (λ c. c ≢ 32) bytes
 
 -- these bytes are the role's name
 pub record SpellsRole (names : List (List ℕ)) (bytes : List ℕ) (role : ℕ) : Type 0 where
@@ -61,9 +56,3 @@ pub record SpellsLine (names : List (List ℕ)) (bytes : List ℕ) (tokens : Lis
   pub spellings : List (List ℕ)
   pub joined : bytes ≡ spaced spellings
   pub each : SpellEach names spellings tokens
-
--- the token, a space and the rest
-pub record BeginsWith (names : List (List ℕ)) (bytes : List ℕ) (token : Token) (rest : List ℕ) : Type 0 where
-  pub front : List ℕ
-  pub parts : bytes ≡ spaced (front ∷ rest ∷ [])
-  pub spelled : SpellsToken names front token

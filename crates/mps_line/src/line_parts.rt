@@ -2,7 +2,8 @@
 ghost use Rattle.std.specs.Prelude.{◌≡◌, ◌≢◌, ℕ, List, [], ◌∷◌, IfSome, IfNone, OnOk, OnErr, ◌<◌, All, length, slice_index, take};
 ghost use Rattle.mps_base.specs.Appends.{Appends};
 ghost use Rattle.mps_base.specs.Spaced.{spaced};
-ghost use Rattle.mps_line.specs.Tokens.{RoleAt, Called, Number, HasNoSpace, SpellsRole, SpellsName, SpellsNumber, SpellsLine, BeginsWith};
+ghost use Rattle.mps_line.specs.Tokens.{RoleAt, Called, Number, SpellsRole, SpellsName, SpellsNumber, SpellsLine};
+ghost use Rattle.mps_line.specs.Private.Tokens.{HasNoSpace, BeginsWith};
 
 use mps_base::{Name, Role, Roles, StepId, read_number, write_number};
 use std::alloc::AllocError;

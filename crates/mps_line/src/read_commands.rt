@@ -10,7 +10,8 @@ ghost use Rattle.mps_command.specs.declared.command.Forward.TheVariants as steps
 ghost use Rattle.mps_line.specs.declared.read_commands.LineFault.TheVariants.{Memory as OutOfMemory};
 ghost use Rattle.mps_line.specs.declared.read_commands.Verb.{Verb};
 ghost use Rattle.mps_line.specs.Tokens.{RoleAt, Called, Worth, SpellsLine};
-ghost use Rattle.mps_line.specs.Commands.{verb_word, verb_of, arguments, lone_verbs, TakesArguments, SpellsCommand, SpellsScriptLine};
+ghost use Rattle.mps_line.specs.Commands.{verb_word, verb_of, arguments, SpellsCommand, SpellsScriptLine};
+ghost use Rattle.mps_line.specs.Private.Commands.{lone_verbs, TakesArguments};
 
 use crate::line_parts::{after_word, read_count, read_role, read_step, split_role};
 use mps_base::{Name, Role, Roles, Value, ValueFault};

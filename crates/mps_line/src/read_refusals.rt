@@ -5,7 +5,8 @@ ghost use Rattle.mps_command.specs.declared.answer.Answer.TheVariants.{Refused};
 ghost use Rattle.mps_command.specs.declared.answer.Refusal.{Refusal};
 ghost use Rattle.mps_command.specs.declared.answer.Refusal.TheVariants.{Violation as Violates};
 ghost use Rattle.mps_command.specs.declared.answer.Violation.{Violation};
-ghost use Rattle.mps_line.specs.Replies.{SpellsReply, lone_words, own_word, own_words, refusal_tokens, word_of};
+ghost use Rattle.mps_line.specs.Replies.{SpellsReply, refusal_tokens, word_of};
+ghost use Rattle.mps_line.specs.Private.Replies.{lone_words, own_word, own_words};
 ghost use Rattle.mps_line.specs.Tokens.{Word, SpellsLine};
 ghost use Rattle.mps_line.specs.declared.write_replies.Reply.TheVariants.{Answered, BadLine, NoSession, NoRole, Taken, Number};
 

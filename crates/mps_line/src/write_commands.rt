@@ -4,7 +4,8 @@ ghost use Rattle.std.specs.Io.{StartsWith};
 ghost use Rattle.mps_base.specs.Appends.{Appends};
 ghost use Rattle.mps_command.specs.declared.command.Command.TheVariants as commands;
 ghost use Rattle.mps_line.specs.Tokens.{SpellsLine};
-ghost use Rattle.mps_line.specs.Commands.{verb_word, verb_of, arguments, TakesArguments, SpellsCommand, NamesRolesOf};
+ghost use Rattle.mps_line.specs.Commands.{verb_word, verb_of, arguments, SpellsCommand, NamesRolesOf};
+ghost use Rattle.mps_line.specs.Private.Commands.{TakesArguments};
 
 use crate::line_parts::{write_count, write_name, write_role, write_step};
 use crate::read_commands::Verb;

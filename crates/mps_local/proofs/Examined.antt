@@ -5,7 +5,8 @@ use Rattle.mps_global.specs.Global as global
 use Rattle.mps_global.specs.Global.{GlobalType}
 use Rattle.mps_local.specs.Local.{LocalType, Branches, More}
 use Rattle.mps_local.specs.Projection.{place_of, with_message, with_choice, projection, choice_count, Numbered, examined, examined_in, is_undefined, first_unmerged}
-use Rattle.mps_local.specs.Outcome.{IsDone, AreDone, CantMerge, CantMergeIn, IsUnmerged, AreUnmerged}
+use Rattle.mps_local.specs.Outcome.{CantMerge, IsUnmerged}
+use Rattle.mps_local.specs.Private.Outcome.{IsDone, AreDone, CantMergeIn, AreUnmerged}
 use Rattle.mps_local.specs.declared.projection.ProjectFault.{ProjectFault}
 use Rattle.mps_local.specs.declared.projection.ProjectFault.TheVariants as faults
 

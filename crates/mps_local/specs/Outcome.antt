@@ -1,23 +1,10 @@
 -- What projecting a tree gives.
-use Rattle.std.specs.Prelude.{◌≡◌, ℕ, ◌+◌, ◌<◌, ⊤, List, Some, None, IsSome, length, slice_get}
-use Rattle.mps_global.specs.Global as global
+use Rattle.std.specs.Prelude.{◌≡◌, ℕ, ◌<◌, ⊤, List, Some, None, IsSome, length, slice_get}
 use Rattle.mps_global.specs.Global.{GlobalType}
-use Rattle.mps_local.specs.Local.{LocalType, Branches}
-use Rattle.mps_local.specs.Projection.{projection, projections, choice_count, branch_choices, examined, examined_in, first_unmerged}
+use Rattle.mps_local.specs.Local.{LocalType}
+use Rattle.mps_local.specs.Projection.{projection, examined, first_unmerged}
 use Rattle.mps_local.specs.declared.projection.ProjectFault.{ProjectFault}
 use Rattle.mps_local.specs.declared.projection.ProjectFault.TheVariants as faults
-
--- the role does that in the tree, whose first choice has that number, and the next choice after it has that one
-pub record IsDone (roles : List (List ℕ)) (role number : ℕ) (tree : GlobalType) (t : LocalType) (after : ℕ) : Type 0 where
-  pub defined : projection roles role tree ≡ Some t
-  pub all_merged : first_unmerged roles role (examined roles role number tree) ≡ None
-  pub counted : after ≡ number + choice_count tree
-
--- the same of branches
-pub record AreDone (roles : List (List ℕ)) (role number : ℕ) (branches : global.Branches) (ts : Branches) (after : ℕ) : Type 0 where
-  pub defined : projections roles role branches ≡ Some ts
-  pub all_merged : first_unmerged roles role (examined_in roles role number branches) ≡ None
-  pub counted : after ≡ number + branch_choices branches
 
 -- the role has no projection, since it can't merge the branches of the choice of that number
 pub record CantMerge (roles : List (List ℕ)) (role number : ℕ) (tree : GlobalType) (who choice : ℕ) : Type 0 where
@@ -25,21 +12,10 @@ pub record CantMerge (roles : List (List ℕ)) (role number : ℕ) (tree : Globa
   pub undefined : projection roles role tree ≡ None
   pub first : first_unmerged roles role (examined roles role number tree) ≡ Some choice
 
--- the same of branches
-pub record CantMergeIn (roles : List (List ℕ)) (role number : ℕ) (branches : global.Branches) (who choice : ℕ) : Type 0 where
-  pub named : who ≡ role
-  pub undefined : projections roles role branches ≡ None
-  pub first : first_unmerged roles role (examined_in roles role number branches) ≡ Some choice
-
 -- the fault says so, or that memory ran out
 abbrev pub IsUnmerged : (roles : List (List ℕ)) (role number : ℕ) → GlobalType → ProjectFault → Type 0
 IsUnmerged roles role number tree (faults.Unmergeable who choice) = CantMerge roles role number tree who choice
 IsUnmerged roles role number tree faults.Memory = ⊤
-
--- the same of branches
-abbrev pub AreUnmerged : (roles : List (List ℕ)) (role number : ℕ) → global.Branches → ProjectFault → Type 0
-AreUnmerged roles role number branches (faults.Unmergeable who choice) = CantMergeIn roles role number branches who choice
-AreUnmerged roles role number branches faults.Memory = ⊤
 
 -- the local type of each role, in order
 pub record AreProjections (roles : List (List ℕ)) (tree : GlobalType) (types : List LocalType) : Type 0 where

@@ -5,3 +5,4 @@ pub mod Writing
 pub mod Copying
 pub mod Above
 pub mod Codes
+pub mod Outcome

@@ -9,7 +9,8 @@ ghost use Rattle.mps_local.specs.Projection.{place_of, same};
 ghost use Rattle.mps_local.specs.Projection.{go_on_with, merged, with_message, with_choice, projection, projections};
 ghost use Rattle.mps_local.specs.Projection.{choice_count, branch_choices, examined, examined_in, first_unmerged};
 ghost use Rattle.mps_local.specs.Shape.{node_count, depth, AllPeers, IsOtherRole};
-ghost use Rattle.mps_local.specs.Outcome.{IsDone, AreDone, IsUnmerged, AreUnmerged, AreProjections, AreNotAll};
+ghost use Rattle.mps_local.specs.Outcome.{IsUnmerged, AreProjections, AreNotAll};
+ghost use Rattle.mps_local.specs.Private.Outcome.{IsDone, AreDone, AreUnmerged};
 
 use crate::equality::same;
 use crate::loops::{choice_count, is_idle};

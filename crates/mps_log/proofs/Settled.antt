@@ -7,7 +7,7 @@ use Rattle.mps_history.specs.Commits.{is_commit}
 use Rattle.mps_history.specs.Steps.{numbers}
 use Rattle.mps_arena.specs.Entries.{KeyedStep}
 use Rattle.mps_links.specs.Marks.{marked_steps, marked_commits}
-use Rattle.mps_log.specs.Logged.{HasNoCommit}
+use Rattle.mps_log.specs.Private.Logged.{HasNoCommit}
 
 -- a step joins that is no commit
 pub no_commit_joins : (es : List KeyedStep) (e : KeyedStep) → is_commit e.step.act ≡ false → HasNoCommit es → HasNoCommit (es ++ e ∷ [])

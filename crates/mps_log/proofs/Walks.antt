@@ -12,7 +12,8 @@ use Rattle.mps_arena.specs.Matched.{matched_source}
 use Rattle.mps_arena.specs.Neighbours.{next_in, source_in, matched_with}
 use Rattle.mps_arena.proofs.KeyLists.{once, after_absent, has-append_right}
 use Rattle.mps_arena.proofs.Chains.{keys_around, entry_middle, entry_key}
-use Rattle.mps_log.specs.Shown.{moved_of, shown, from_key, left_of, IsWalk}
+use Rattle.mps_log.specs.Shown.{moved_of, shown}
+use Rattle.mps_log.specs.Private.Shown.{from_key, left_of, IsWalk}
 use Rattle.mps_log.specs.Values.{given_by, message_of}
 use Rattle.mps_log.specs.declared.moves.Moves.TheInside.{Inside}
 

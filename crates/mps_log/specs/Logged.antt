@@ -1,29 +1,8 @@
 -- What a caller sees of a log, and what holds of its parts.
-use Rattle.std.specs.Prelude.{◌≡◌, ℕ, false, List}
-use Rattle.std.specs.List.{AllByRecursion}
-use Rattle.mps_history.specs.Commits.{is_commit}
-use Rattle.mps_arena.specs.Entries.{KeyedStep, AreSound}
-use Rattle.mps_queues.specs.Fronts.{AreFronts}
-use Rattle.mps_stores.specs.Stores.{AreStores, slot_of, mark_of}
-use Rattle.mps_log.specs.declared.log.Log.TheInside.{Inside}
+use Rattle.std.specs.Prelude.{ℕ, List}
+use Rattle.mps_arena.specs.Entries.{KeyedStep}
 
 -- the steps, the oldest first; how many numbers were given out
 pub record Logged : Type 0 where
   pub entries : List KeyedStep
   pub issued : ℕ
-
--- a log, as contracts see it
-abbrev pub log_value : Inside → Logged
-log_value l = record { entries = l.arena.entries; issued = l.arena.issued }
-
--- no step is a commit
-abbrev pub HasNoCommit : List KeyedStep → Type 0
-HasNoCommit es = AllByRecursion (λ e. is_commit e.step.act ≡ false) es
-
--- queues, slots and marks are those of the steps, and no step is a commit before the first that joins
-pub record IsLog (l : Inside) : Type 0 where
-  pub sound : AreSound l.arena.entries
-  pub fronts : AreFronts l.arena.entries l.queues
-  pub slots : AreStores slot_of l.arena.entries l.slots
-  pub marks : AreStores mark_of l.arena.entries l.marks
-  pub settled : l.has_commits ≡ false → HasNoCommit l.arena.entries

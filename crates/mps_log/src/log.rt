@@ -36,7 +36,8 @@ pub struct Log {
 }
 
 impl Model for Log {
-    ghost use Rattle.mps_log.specs.Logged.{Logged, log_value, IsLog};
+    ghost use Rattle.mps_log.specs.Logged.{Logged};
+    ghost use Rattle.mps_log.specs.Private.Logged.{log_value, IsLog};
 
     ghost Value = { Logged };
 

@@ -21,7 +21,8 @@ pub struct Moves<'a> {
 
 impl<'a> Model for Moves<'a> {
     ghost use Rattle.std.specs.Prelude.{List};
-    ghost use Rattle.mps_log.specs.Shown.{Moved, left_of, IsWalk};
+    ghost use Rattle.mps_log.specs.Shown.{Moved};
+    ghost use Rattle.mps_log.specs.Private.Shown.{left_of, IsWalk};
 
     ghost Value = { List Moved };
 

@@ -14,7 +14,8 @@ use Rattle.mps_local.specs.Actions.{Head, Ends, Sends, Receives, Chooses, Picks,
 use Rattle.mps_local.specs.Local.{LocalType, Branches, End, Send, Recv, Select, Branch}
 use Rattle.mps_machine.specs.Rule.{type_after_effect}
 use Rattle.mps_machine.specs.Violations.{is_label_of, waiting_fault, effect_fault, act_fault}
-use Rattle.mps_monitor.specs.Verdicts.{labels_of, place_of_label, GoesOn, IsOffered, ending, one_of, Suits, IsVerdict}
+use Rattle.mps_monitor.specs.Verdicts.{GoesOn, IsOffered}
+use Rattle.mps_monitor.specs.Private.Verdicts.{labels_of, place_of_label, ending, one_of, Suits, IsVerdict}
 use Rattle.mps_monitor.specs.declared.verdict.Advance.{Advance}
 use Rattle.mps_monitor.specs.declared.verdict.Advance.TheVariants.{Stay, Next, Into}
 use Rattle.mps_monitor.proofs.Labels.{LeadsTo, leads, same_labels}

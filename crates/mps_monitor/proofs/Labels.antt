@@ -6,7 +6,7 @@ use Rattle.std.specs.Str.{bytes_eq}
 use Rattle.std.proofs.lemmas.Iterator.Adapters.{position_from-zero}
 use Rattle.mps_local.specs.Actions.{branch_at, labels, nexts}
 use Rattle.mps_local.specs.Local.{LocalType, Branches, End, NoMore, More}
-use Rattle.mps_monitor.specs.Verdicts.{place_of_label, ending}
+use Rattle.mps_monitor.specs.Private.Verdicts.{place_of_label, ending}
 
 -- the first place, counted from i
 abbrev pub place_from : List (List ℕ) → List ℕ → ℕ → Option ℕ

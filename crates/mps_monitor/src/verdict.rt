@@ -11,7 +11,8 @@ ghost use Rattle.mps_machine.specs.Rule.{moved};
 ghost use Rattle.mps_machine.specs.View.{View};
 ghost use Rattle.mps_machine.specs.Violations.{act_fault};
 ghost use Rattle.mps_table.specs.Expects.{head_of};
-ghost use Rattle.mps_monitor.specs.Verdicts.{moved_by, peer_of, waiting_from, is_idle, place_of_label, GoesOn, IsOffered, IsVerdict};
+ghost use Rattle.mps_monitor.specs.Verdicts.{moved_by, peer_of, waiting_from, is_idle, GoesOn, IsOffered};
+ghost use Rattle.mps_monitor.specs.Private.Verdicts.{place_of_label, IsVerdict};
 
 use mps_base::{Message, Name, Role, Sort, Value};
 use mps_command::{Forward, Violation};

@@ -2,7 +2,8 @@
 use Rattle.std.proofs.Common.{◌≡◌, ℕ, List, None, Result, Ok, Err, IsErrAnd, IfErr, sym, subst}
 use Rattle.mps_global.specs.Global.{GlobalType}
 use Rattle.mps_global.specs.Faults.{fault_of}
-use Rattle.mps_program.specs.Check.{IsProtocolText, GivesNoProjections, GivesNoProtocol, GivesNoTypes}
+use Rattle.mps_program.specs.Check.{IsProtocolText, GivesNoProtocol, GivesNoTypes}
+use Rattle.mps_program.specs.Private.Check.{GivesNoProjections}
 use Rattle.mps_program.specs.declared.faults.ToolFault.{ToolFault}
 use Rattle.mps_program.specs.declared.faults.ToolFault.TheVariants.{Text, Protocol, Projection, Memory}
 

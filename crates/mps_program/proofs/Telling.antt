@@ -9,7 +9,8 @@ use Rattle.mps_machine.specs.Machine.{initial}
 use Rattle.mps_session.specs.SessionState.{SessionState}
 use Rattle.mps_program.specs.Streams.{HasLoaded, HasLoadedMany}
 use Rattle.mps_wire.proofs.Bytes.{Appends-none, Appends-trans}
-use Rattle.mps_program.specs.Served.{IsListeningLine, IsSessionLine, AreSessionLines, AreLinesUpTo, TookOne, HasOpened, HasServed, HasServedUpTo, IfLost, IsTellFault, IsOutFault, IsHubFault}
+use Rattle.mps_program.specs.Served.{IsListeningLine, IsSessionLine, AreSessionLines, AreLinesUpTo, HasOpened, HasServed, HasServedUpTo, IfLost, IsTellFault, IsOutFault}
+use Rattle.mps_program.specs.Private.Served.{TookOne, IsHubFault}
 use Rattle.mps_program.specs.Faults.{after_writes, failed_writes}
 use Rattle.mps_program.specs.declared.faults.ToolFault.{ToolFault}
 use Rattle.mps_program.specs.declared.faults.ToolFault.TheVariants.{Write, Bind, Accept, Lost, Memory}

@@ -1,5 +1,5 @@
 -- What the text of a protocol gives.
-use Rattle.std.specs.Prelude.{◌≡◌, ℕ, suc, ◌≤◌, ⊤, List, [], ◌∷◌, ◌++◌, codes, length, slice_get, Some, None, All}
+use Rattle.std.specs.Prelude.{◌≡◌, ℕ, suc, ◌≤◌, List, [], ◌∷◌, ◌++◌, codes, length, slice_get, Some, None, All}
 use Rattle.mps_global.specs.Global.{GlobalType}
 use Rattle.mps_global.specs.Faults.{fault_of}
 use Rattle.mps_fidelity.specs.Fidelity.{AreOfOneProtocol}
@@ -46,19 +46,6 @@ pub record HasNoProjection (roles : List (List ℕ)) (tree : GlobalType) (name :
   pub role : ℕ
   pub named : slice_get roles role ≡ Some name
   pub first : IsFirstUnmerged roles tree role choice
-
--- why a protocol without faults gives no types: a role without a projection, or out of memory
-abbrev pub GivesNoProjections : List (List ℕ) → GlobalType → ToolFault → Type 0
-GivesNoProjections roles tree (Projection name choice) = HasNoProjection roles tree name choice
-GivesNoProjections roles tree Memory = ⊤
-GivesNoProjections roles tree fault = ⊥
-
--- why a protocol has no session: its first fault; or it has none, and a role has no projection; or memory ran out
-abbrev pub GivesNoSession : List (List ℕ) → GlobalType → ToolFault → Type 0
-GivesNoSession roles tree (Protocol fault) = fault_of roles tree ≡ Some fault
-GivesNoSession roles tree (Projection name choice) = (fault_of roles tree ≡ None) × HasNoProjection roles tree name choice
-GivesNoSession roles tree Memory = ⊤
-GivesNoSession roles tree fault = ⊥
 
 -- why a text gives no protocol without faults: its first fault, the fault of the protocol that it spells, or out of memory, where it is short enough
 abbrev pub GivesNoProtocol : List ℕ → ToolFault → Type 0

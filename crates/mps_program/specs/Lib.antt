@@ -5,3 +5,4 @@ pub mod Faults
 pub mod Files
 pub mod Served
 pub mod Streams
+pub mod Private

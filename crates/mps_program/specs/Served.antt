@@ -42,10 +42,6 @@ AreLinesUpTo session (None ∷ rooms) lost lines = (lost ≡ session) × (lines 
 AreLinesUpTo session (Some m ∷ rooms) lost lines =
     (line : List ℕ) × (others : List ℕ) × IsSessionLine session (length m.journal) line × (lines ≡ line ++ others) × AreLinesUpTo (suc session) rooms lost others
 
--- the sink took such a text
-abbrev pub TookOne : (List ℕ → Type 0) → Option (List ℕ) → Option (List ℕ) → Type 0
-TookOne P took taken = (text : List ℕ) × P text × Appends took taken text
-
 -- all was told: the port, and how many entries the room has that each session's cell closed with
 pub record HasServed (cells : List Opened) (took taken : Option (List ℕ)) : Type 0 where
   pub port : ℕ
@@ -85,12 +81,6 @@ abbrev pub IsOutFault : ℕ → ToolFault → Type 0
 IsOutFault n Bind = ⊤
 IsOutFault n Accept = ⊤
 IsOutFault n fault = IsTellFault 1 n fault
-
--- how the serving itself may fail: it accepts no more, or memory ran out
-abbrev pub IsHubFault : ToolFault → Type 0
-IsHubFault Accept = ⊤
-IsHubFault Memory = ⊤
-IsHubFault fault = ⊥
 
 -- how a server of this file may fail: the protocol isn't had, or the server fails
 abbrev pub IsServeFault : List ℕ → ℕ → ToolFault → Type 0

@@ -2,7 +2,8 @@
 ghost use Rattle.std.specs.Prelude.{◌≡◌, ◌+◌, ◌<◌, ◌≤◌, ◌^◌, false, length, IfErr, IfOk, OnOk};
 ghost use Rattle.std.specs.Io.KnownBytes.{Appends};
 ghost use Rattle.mps_program.specs.Faults.{after_writes};
-ghost use Rattle.mps_program.specs.Served.{AreLinesUpTo, AreSessionLines, HasOpened, HasServed, HasServedUpTo, IfLost, IsHubFault, IsListeningLine, IsOutFault, IsServeFault, IsSessionLine, IsTellFault, TookOne};
+ghost use Rattle.mps_program.specs.Served.{AreLinesUpTo, AreSessionLines, HasOpened, HasServed, HasServedUpTo, IfLost, IsListeningLine, IsOutFault, IsServeFault, IsSessionLine, IsTellFault};
+ghost use Rattle.mps_program.specs.Private.Served.{IsHubFault, TookOne};
 ghost use Rattle.mps_program.specs.Streams.{CantLoad};
 
 use crate::faults::ToolFault;

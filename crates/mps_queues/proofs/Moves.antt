@@ -18,7 +18,8 @@ use Rattle.mps_arena.proofs.Chains.{keys-append, keys_with, keys_without, keys_p
 use Rattle.mps_arena.proofs.Matched.{matched_of, sends_pair, receives_pair, sends_chain}
 use Rattle.mps_arena.proofs.Nodes.{cases_entry}
 use Rattle.mps_arena.proofs.Keeping.{others_are, entry_split}
-use Rattle.mps_queues.specs.Fronts.{front_at, waiting_keys, AreFronts, pushed, taken, returned, dropped}
+use Rattle.mps_queues.specs.Fronts.{front_at, waiting_keys, AreFronts}
+use Rattle.mps_queues.specs.Private.Fronts.{pushed, taken, returned, dropped}
 
 -- lists of keys
 get_push : (c : List ℕ) (n k : ℕ) → n ≤ length c → slice_get (c ++ k ∷ []) n ≡ pushed k (slice_get c n)

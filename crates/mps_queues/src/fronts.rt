@@ -5,7 +5,8 @@ ghost use Rattle.mps_history.specs.Steps.{sends, receives};
 ghost use Rattle.mps_arena.specs.Keys.{last_key};
 ghost use Rattle.mps_arena.specs.Entries.{KeyedStep, keys_of, AreSound};
 ghost use Rattle.mps_arena.specs.Neighbours.{waiting};
-ghost use Rattle.mps_queues.specs.Fronts.{front_at, waiting_keys, AreFronts, pushed, taken, returned, dropped};
+ghost use Rattle.mps_queues.specs.Fronts.{front_at, waiting_keys, AreFronts};
+ghost use Rattle.mps_queues.specs.Private.Fronts.{pushed, taken, returned, dropped};
 
 use mps_arena::{Arena, Key, Link, steps_are_sound};
 use mps_base::Role;

@@ -1,5 +1,5 @@
 -- What a session answers, against the plain machine.
-use Rattle.std.specs.Prelude.{ℕ, ⊤, List, [], ◌∷◌, Option, Some, None, Result, Ok, Err}
+use Rattle.std.specs.Prelude.{ℕ, ⊤, List, [], ◌∷◌, Option, Result, Ok, Err}
 use Rattle.std.specs.Borrow.{Bor}
 use Rattle.mps_base.specs.declared.action.Act.{Act}
 use Rattle.mps_base.specs.declared.action.Step.{Step}
@@ -14,11 +14,6 @@ undo_answer id (Err refusal) = Err refusal
 abbrev pub once : {A : Type 0} → Result (A × Option A) Refusal → Result A Refusal
 once (Ok told) = Ok told.0
 once (Err refusal) = Err refusal
-
--- the number of the first of the steps
-abbrev pub first_number : List Step → Option ℕ
-first_number [] = None
-first_number (s ∷ h) = Some s.id
 
 -- a step, as it is shown
 abbrev pub as_step : ℕ × ℕ × Bor Act → Step

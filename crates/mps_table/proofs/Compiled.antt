@@ -5,7 +5,8 @@ use Rattle.mps_local.specs.Shape.{node_count}
 use Rattle.mps_local.specs.Loops.{is_closed, is_guarded}
 use Rattle.mps_table.specs.declared.row.TableRow.{TableRow}
 use Rattle.mps_table.specs.declared.laying.Draft.{Draft}
-use Rattle.mps_table.specs.Graph.{Graph, IsSound}
+use Rattle.mps_table.specs.Graph.{Graph}
+use Rattle.mps_table.specs.Private.Graph.{IsSound}
 use Rattle.mps_table.specs.Standing.{StandsFor}
 use Rattle.mps_table.specs.Private.Laying.{size, all_labels, all_targets, all_rows}
 use Rattle.mps_table.specs.Private.Drafts.{IsLaidOut, nowhere}

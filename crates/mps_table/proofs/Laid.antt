@@ -16,7 +16,8 @@ use Rattle.mps_local.proofs.Equal.{name_same, name_is, name_turned}
 use Rattle.mps_local.proofs.Filling.{Env, put, filled, filled_in, AreWhole, whole_put, whole_filled, loop_unfolds, filled_same}
 use Rattle.mps_table.specs.declared.row.TableRow.{TableRow}
 use Rattle.mps_table.specs.declared.row.TableRow.TheVariants as rows
-use Rattle.mps_table.specs.Graph.{Graph, IsWithin, LeadsWithin, IsSound}
+use Rattle.mps_table.specs.Graph.{Graph}
+use Rattle.mps_table.specs.Private.Graph.{IsWithin, LeadsWithin, IsSound}
 use Rattle.mps_table.specs.Standing.{HasFrom, StandsIn, StandFrom, HasBranches, AreRowsOf, StandsFor}
 use Rattle.mps_table.specs.Private.Laying.{size, branch_size, all_labels, branch_labels, Places, put_node, start, starts, all_targets, branch_targets, all_rows, branch_rows}
 

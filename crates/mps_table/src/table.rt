@@ -3,7 +3,8 @@ ghost use Rattle.std.specs.Prelude.{◌≡◌, ◌+◌, ◌≤◌, ℕ, Option, 
 ghost use Rattle.mps_local.specs.Local.{LocalType};
 ghost use Rattle.mps_local.specs.Unfolding.{unfolded};
 ghost use Rattle.mps_local.specs.Actions.{Begins, type_left};
-ghost use Rattle.mps_table.specs.Graph.{IsNode, HasNext, IsFollowed, IsWithin, LeadsWithin, shown, next_of};
+ghost use Rattle.mps_table.specs.Graph.{IsNode, HasNext, IsFollowed, shown, next_of};
+ghost use Rattle.mps_table.specs.Private.Graph.{IsWithin, LeadsWithin};
 ghost use Rattle.mps_table.specs.Standing.{StandsFor};
 ghost use Rattle.mps_table.specs.Expects.{head_of, Allows};
 
@@ -23,7 +24,8 @@ pub struct Table {
 }
 
 impl Model for Table {
-    ghost use Rattle.mps_table.specs.Graph.{Graph, IsSound};
+    ghost use Rattle.mps_table.specs.Graph.{Graph};
+    ghost use Rattle.mps_table.specs.Private.Graph.{IsSound};
 
     ghost Value = { Graph };
 

@@ -2,3 +2,4 @@
 pub mod Lexing
 pub mod Reading
 pub mod Writing
+pub mod Grammar

@@ -13,7 +13,7 @@ use Rattle.mps_lines.proofs.Splitting.{front_short}
 use Rattle.mps_room.specs.declared.caller.Caller.{Ghosts}
 use Rattle.mps_wire.specs.Flow.{TookFront}
 use Rattle.mps_wire.specs.Talk.{IsRequest, RepliesTo, Unread, Called, Numbered, Starved, TalksLine, talks, talks_to_part}
-use Rattle.mps_wire.specs.Endings.{IsWholly, IsPartly}
+use Rattle.mps_wire.specs.Private.Endings.{IsWholly, IsPartly}
 use Rattle.mps_wire.proofs.Answering.{GoesByFront}
 use Rattle.mps_wire.proofs.Bytes.{Appends-none}
 use Rattle.mps_wire.proofs.Serving.{shown_ascii}

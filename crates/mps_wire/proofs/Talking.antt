@@ -5,7 +5,7 @@ use Rattle.std.proofs.lemmas.List.{take_rest, take_more, drop-drop, take-append-
 use Rattle.mps_lines.specs.Lines.{HasNoBreak, ended, front}
 use Rattle.mps_lines.proofs.Splitting.{split_ended}
 use Rattle.mps_wire.specs.Answers.{Answering, AnswersLines, Answered}
-use Rattle.mps_wire.specs.Endings.{IsWholly, IsPartly, TakesOn, TakesToPart, begun_or}
+use Rattle.mps_wire.specs.Private.Endings.{IsWholly, IsPartly, TakesOn, TakesToPart, begun_or}
 use Rattle.mps_wire.specs.Talk.{AnswersToPart, AnsweredToPart}
 use Rattle.mps_wire.proofs.Answering.{GoesByFront, answered_more, answered_line}
 use Rattle.mps_wire.proofs.Bytes.{Appends-trans, Appends-none}

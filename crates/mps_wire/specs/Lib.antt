@@ -7,3 +7,4 @@ pub mod Talk
 pub mod Endings
 pub mod Making
 pub mod Fidelity
+pub mod Private

@@ -2,7 +2,8 @@
 
 ghost use Rattle.std.specs.Prelude.{◌≤◌, IfErr, IfOk, IfSome};
 ghost use Rattle.mps_words.specs.Orders.{IsInRange};
-ghost use Rattle.mps_words.specs.Uses.{IsSaidOfMatched, Says, TellsMatched, no_text};
+ghost use Rattle.mps_words.specs.Uses.{Says, no_text};
+ghost use Rattle.mps_words.specs.Private.Uses.{IsSaidOfMatched, TellsMatched};
 
 use crate::command::{Order, Task};
 use crate::faults::{UseFault, usage};

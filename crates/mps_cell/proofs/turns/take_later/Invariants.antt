@@ -1,5 +1,5 @@
 use Rattle.std.proofs.Common.{◌≡◌}
-use Rattle.mps_cell.specs.Rule.{Waited}
+use Rattle.mps_cell.specs.Private.Rule.{Waited}
 use Rattle.mps_cell.proofs.turns.take_later.Given as goal
 
 abbrev pub invariant-loop : goal.invariant-loop

@@ -3,7 +3,7 @@ use Rattle.mps_global.specs.Global.{plain as global_type, plain_branches as glob
 use Rattle.mps_global.specs.declared.Global.{Global}
 use Rattle.mps_global.specs.declared.Branches.{Branches}
 use Rattle.mps_local.specs.Local.{plain, plain_branches}
-use Rattle.mps_local.specs.Outcome.{IsDone, AreDone}
+use Rattle.mps_local.specs.Private.Outcome.{IsDone, AreDone}
 use Rattle.mps_local.proofs.Examined.{message_done, branches_done, choice_done, choice_fails}
 use Rattle.mps_local.proofs.projection.+project.Goals as goal
 

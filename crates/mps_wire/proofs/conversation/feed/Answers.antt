@@ -1,6 +1,6 @@
 use Rattle.std.proofs.Common.{◌≡◌, ℕ, ◌≤◌, List, ◌++◌, length, take, refl, ap, ◌∙◌, arith, length-take}
 use Rattle.mps_lines.specs.Lines.{front, most_kept}
-use Rattle.mps_wire.specs.Endings.{begun_or}
+use Rattle.mps_wire.specs.Private.Endings.{begun_or}
 use Rattle.mps_wire.specs.Talk.{talks, talks_to_part}
 use Rattle.mps_wire.proofs.Calling.{talks_by_front, part_by_front, whole_is_part, wholly_front, partly_front}
 use Rattle.mps_wire.proofs.Conversing.{on_err_of}

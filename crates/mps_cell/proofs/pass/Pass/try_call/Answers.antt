@@ -1,5 +1,5 @@
 use Rattle.std.proofs.Common.{◌∙◌}
-use Rattle.mps_cell.specs.Rule.{Took}
+use Rattle.mps_cell.specs.Private.Rule.{Took}
 use Rattle.mps_cell.proofs.Answering.{called}
 use Rattle.mps_cell.proofs.pass.Pass.try_call.Goals as goal
 

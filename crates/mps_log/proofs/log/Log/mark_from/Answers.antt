@@ -6,7 +6,8 @@ use Rattle.mps_queues.specs.Fronts.{AreFronts}
 use Rattle.mps_stores.specs.Stores.{AreStores, slot_of, mark_of}
 use Rattle.mps_links.specs.Marks.{marked_commits}
 use Rattle.mps_links.proofs.Going.{marked_commits_are}
-use Rattle.mps_log.specs.Logged.{Logged, HasNoCommit}
+use Rattle.mps_log.specs.Logged.{Logged}
+use Rattle.mps_log.specs.Private.Logged.{HasNoCommit}
 use Rattle.mps_log.proofs.Remarked.{all_again, sound_again, fronts_again, stores_again}
 use Rattle.mps_log.proofs.log.Log.mark_from.Goals as goal
 use Rattle.mps_log.proofs.log.Log.mark_from.Goals.{After-mark_from}

@@ -3,7 +3,7 @@ use Rattle.mps_arena.specs.Entries.{KeyedStep, AreSound}
 use Rattle.mps_arena.proofs.Matched.{sound_nil}
 use Rattle.mps_queues.specs.Fronts.{AreFronts}
 use Rattle.mps_stores.specs.Stores.{slot_of, mark_of, AreStores}
-use Rattle.mps_log.specs.Logged.{HasNoCommit}
+use Rattle.mps_log.specs.Private.Logged.{HasNoCommit}
 use Rattle.mps_log.proofs.log.Log.new.Goals as goal
 
 pub invariant_of-result : goal.invariant_of-result

@@ -7,7 +7,7 @@ use Rattle.mps_arena.specs.Entries.{KeyedStep, Entries}
 use Rattle.mps_queues.specs.Fronts.{AreFronts}
 use Rattle.mps_stores.specs.Stores.{Keys, AreStores, slot_of, mark_of}
 use Rattle.mps_stores.proofs.Bindings.{stores_idle_push}
-use Rattle.mps_log.specs.Logged.{HasNoCommit}
+use Rattle.mps_log.specs.Private.Logged.{HasNoCommit}
 use Rattle.mps_log.specs.declared.log.Log.TheInside.{Inside}
 use Rattle.mps_log.proofs.Settled.{no_commit_joins}
 use Rattle.mps_log.proofs.log.Log.receive.Goals as goal

@@ -5,7 +5,7 @@ use Rattle.mps_base.specs.declared.action.Step.{Step}
 use Rattle.mps_arena.specs.Entries.{KeyedStep, entry_at}
 use Rattle.mps_queues.specs.Fronts.{AreFronts}
 use Rattle.mps_stores.specs.Stores.{Naming, slot_of, mark_of, AreStores}
-use Rattle.mps_log.specs.Logged.{HasNoCommit}
+use Rattle.mps_log.specs.Private.Logged.{HasNoCommit}
 use Rattle.mps_log.proofs.Settled.{no_commit_left}
 use Rattle.mps_log.proofs.log.Log.remove.Goals as goal
 

@@ -6,7 +6,7 @@ use Rattle.mps_arena.specs.Entries.{KeyedStep}
 use Rattle.mps_queues.specs.Fronts.{AreFronts}
 use Rattle.mps_stores.specs.Stores.{AreStores, slot_of, mark_of}
 use Rattle.mps_stores.proofs.Bindings.{stores_idle_push}
-use Rattle.mps_log.specs.Logged.{HasNoCommit}
+use Rattle.mps_log.specs.Private.Logged.{HasNoCommit}
 use Rattle.mps_log.proofs.Settled.{no_commit_joins}
 use Rattle.mps_log.proofs.log.Log.send.Goals as goal
 

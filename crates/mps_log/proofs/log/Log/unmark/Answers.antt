@@ -3,7 +3,7 @@ use Rattle.mps_history.specs.Commits.{is_commit}
 use Rattle.mps_arena.specs.Entries.{KeyedStep, AreSound}
 use Rattle.mps_queues.specs.Fronts.{AreFronts}
 use Rattle.mps_stores.specs.Stores.{AreStores, slot_of, mark_of}
-use Rattle.mps_log.specs.Logged.{HasNoCommit}
+use Rattle.mps_log.specs.Private.Logged.{HasNoCommit}
 use Rattle.mps_log.proofs.Remarked.{all_again, sound_again, fronts_again, stores_again}
 use Rattle.mps_log.proofs.log.Log.unmark.Goals as goal
 use Rattle.mps_log.proofs.log.Log.unmark.Goals.{After-unmark}

@@ -1,5 +1,6 @@
 use Rattle.std.proofs.Common.{[], ap, ◌∙◌}
-use Rattle.mps_log.specs.Shown.{shown, from_key}
+use Rattle.mps_log.specs.Shown.{shown}
+use Rattle.mps_log.specs.Private.Shown.{from_key}
 use Rattle.mps_log.proofs.Walks.{from_part}
 use Rattle.mps_log.proofs.moves.Moves.of.Goals as goal
 

@@ -3,7 +3,8 @@ use mathlib.Core.Path.{ap₂}
 use Rattle.std.specs.Prelude.{◌==◌}
 use Rattle.std.specs.List.{filter}
 use Rattle.mps_arena.specs.Entries.{KeyedStep}
-use Rattle.mps_queues.specs.Fronts.{AreFronts, dropped}
+use Rattle.mps_queues.specs.Fronts.{AreFronts}
+use Rattle.mps_queues.specs.Private.Fronts.{dropped}
 use Rattle.mps_queues.proofs.Moves.{front_set, front_read, waiting_drop, others_drop}
 use Rattle.mps_queues.proofs.fronts.Queues.drop_last.Goals as goal
 

@@ -1,6 +1,7 @@
 use Rattle.std.proofs.Common.{◌≡◌, ℕ, ◌+◌, ◌*◌, List, ◌∷◌, [], ◌++◌, Option, sym, ◌∙◌, subst}
 use mathlib.Core.Path.{ap₂}
-use Rattle.mps_queues.specs.Fronts.{AreFronts, pushed}
+use Rattle.mps_queues.specs.Fronts.{AreFronts}
+use Rattle.mps_queues.specs.Private.Fronts.{pushed}
 use Rattle.mps_queues.proofs.Moves.{front_set, front_read, waiting_push, others_push}
 use Rattle.mps_queues.proofs.fronts.Queues.push.Goals as goal
 

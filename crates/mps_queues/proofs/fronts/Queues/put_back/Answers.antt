@@ -3,7 +3,8 @@ use mathlib.Core.Path.{ap₂}
 use Rattle.std.specs.Prelude.{◌==◌}
 use Rattle.std.specs.List.{filter}
 use Rattle.mps_arena.specs.Entries.{KeyedStep}
-use Rattle.mps_queues.specs.Fronts.{AreFronts, returned}
+use Rattle.mps_queues.specs.Fronts.{AreFronts}
+use Rattle.mps_queues.specs.Private.Fronts.{returned}
 use Rattle.mps_queues.proofs.Moves.{front_set, front_read, waiting_return, others_return}
 use Rattle.mps_queues.proofs.fronts.Queues.put_back.Goals as goal
 

@@ -1,6 +1,7 @@
 use Rattle.std.proofs.Common.{◌≡◌, ℕ, ◌+◌, ◌*◌, List, ◌∷◌, [], ◌++◌, Option, sym, ap, ◌∙◌, subst}
 use mathlib.Core.Path.{ap₂}
-use Rattle.mps_queues.specs.Fronts.{AreFronts, taken}
+use Rattle.mps_queues.specs.Fronts.{AreFronts}
+use Rattle.mps_queues.specs.Private.Fronts.{taken}
 use Rattle.mps_queues.proofs.Moves.{front_set, front_read, waiting_take, others_take}
 use Rattle.mps_queues.proofs.fronts.Queues.take.Goals as goal
 

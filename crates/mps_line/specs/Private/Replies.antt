@@ -1,0 +1,27 @@
+-- Replies of one word, and how numbers follow a word.
+use Rattle.std.specs.Prelude.{ℕ, ◌<◌, List, [], ◌∷◌, length, map, codes}
+use Rattle.mps_line.specs.declared.write_replies.Reply.{Reply}
+use Rattle.mps_line.specs.declared.write_replies.Reply.TheVariants.{BadLine, NoSession, NoRole, Taken, Number as WrongNumber}
+use Rattle.mps_line.specs.Tokens.{Number, SpellsLine}
+
+-- the words of refusals that are neither violations nor name a step
+abbrev pub lone_words : List (List ℕ)
+lone_words = codes "nostep" ∷ codes "notyours" ∷ codes "nomark" ∷ codes "full" ∷ codes "memory" ∷ []
+
+-- the word after `refused` of a reply that answers no command; any other has none
+abbrev pub own_word : Reply → List ℕ
+own_word BadLine = codes "line"
+own_word NoSession = codes "nosession"
+own_word NoRole = codes "norole"
+own_word Taken = codes "taken"
+own_word WrongNumber = codes "number"
+own_word reply = []
+
+-- these words
+abbrev pub own_words : List (List ℕ)
+own_words = codes "line" ∷ codes "nosession" ∷ codes "norole" ∷ codes "taken" ∷ codes "number" ∷ []
+
+-- the numbers of some steps, one at least, with one space between two
+pub record SpellsSteps (bytes : List ℕ) (ids : List ℕ) : Type 0 where
+  pub some : 0 < length ids
+  pub line : SpellsLine [] bytes (map Number ids)

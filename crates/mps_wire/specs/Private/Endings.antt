@@ -1,0 +1,56 @@
+-- What each turn of a conversation leads to.
+use Rattle.std.specs.Prelude.{ℕ, List, [], ◌∷◌, Option, None, Some, Result, Ok, Err, ◌++◌}
+use Rattle.std.specs.Io.KnownBytes.{Appends, IsAtEnd}
+use Rattle.mps_lines.specs.Lines.{ended}
+use Rattle.mps_wire.specs.Answers.{Answering, Answered}
+use Rattle.mps_wire.specs.Endings.{WasAnswered, WasCut}
+use Rattle.mps_wire.specs.Runs.{Going, GaveAtLeast}
+use Rattle.mps_wire.specs.Streams.{Streams, Counts}
+use Rattle.mps_wire.specs.Talk.{AnsweredToPart}
+use Rattle.mps_wire.specs.declared.conversation.Broken.{Broken}
+use Rattle.mps_wire.specs.declared.conversation.Broken.TheVariants.{Write, Memory as NoMemory}
+use Rattle.mps_wire.specs.declared.conversation.Ending.{Ending}
+use Rattle.mps_wire.specs.declared.conversation.Ending.TheVariants.{Closed, ReadFault, WriteFault, Turns, Memory}
+
+module _ {S : Type 0} (answers part : Answering S) (start : S) (first before after : Streams) where
+  -- what one read and its answers lead to: it goes on, or it ended; first are the streams before the conversation
+  abbrev pub TurnedTo : List ℕ → S → Option Ending → Type 0
+  TurnedTo kept st None = Going answers start first after kept st × Counts before after 0 0 0 × GaveAtLeast 1 before after
+  TurnedTo kept st (Some Closed) = WasAnswered answers start first after st × Counts before after 0 1 0 × IsAtEnd after.left
+  TurnedTo kept st (Some ReadFault) = WasAnswered answers start first after st × Counts before after 1 0 0
+  TurnedTo kept st (Some Turns) = ⊥
+  TurnedTo kept st (Some WriteFault) = WasCut answers part start first after st × Counts before after 0 0 1
+  TurnedTo kept st (Some Memory) = WasCut answers part start first after st × Counts before after 0 0 0
+
+-- how many writes failed
+abbrev pub failed_by : Result Unit Broken → ℕ
+failed_by (Ok x) = 0
+failed_by (Err Write) = 1
+failed_by (Err NoMemory) = 0
+
+-- one line is answered, and its answer is written: the whole of it
+pub record IsWholly {S : Type 0} (answers : Answering S) (line : List ℕ) (c d : S) (taken taken' : Option (List ℕ)) : Type 0 where
+  pub text : List ℕ
+  pub line_is : answers line c text d
+  pub sent : Appends taken taken' (ended text)
+
+-- or a part of it
+pub record IsPartly {S : Type 0} (part : Answering S) (line : List ℕ) (c d : S) (taken taken' : Option (List ℕ)) : Type 0 where
+  pub written : List ℕ
+  pub line_is : part line c written d
+  pub sent : Appends taken taken' written
+
+-- the line that has begun, or else the piece that came whole
+abbrev pub begun_or : (line piece : List ℕ) → List ℕ
+begun_or [] piece = piece
+begun_or (c ∷ line) piece = c ∷ line
+
+-- bytes are taken line by line, and their answers written
+abbrev pub TakesOn : {S : Type 0} → Answering S → (bytes kept : List ℕ) → S → Option (List ℕ) → List ℕ → S → Option (List ℕ) → Type 0
+TakesOn {S} answers bytes kept c taken kept' d taken' = (first : S) (before out : List ℕ) → Answered answers first before kept out c
+    → (more : List ℕ) × Appends taken taken' more × Answered answers first (before ++ bytes) kept' (out ++ more) d
+
+-- the same, where that breaks off
+abbrev pub TakesToPart : {S : Type 0} → Answering S → Answering S → (bytes kept : List ℕ) → S → Option (List ℕ) → S → Option (List ℕ) → Type 0
+TakesToPart {S} answers part bytes kept c taken d taken' = (first : S) (before out : List ℕ) → Answered answers first before kept out c
+    → (more : List ℕ) × Appends taken taken' more × AnsweredToPart answers part first (before ++ bytes) (out ++ more) d
