@@ -5,8 +5,7 @@ use Rattle.std.specs.Io.KnownBytes.{Appends, Consumes}
 use Rattle.mps_lines.proofs.Splitting.{split_nothing}
 use Rattle.mps_wire.specs.Answers.{Answering}
 use Rattle.mps_wire.specs.Endings.{EndedAs, WasAnswered, WasCut}
-use Rattle.mps_wire.specs.Private.Endings.{TurnedTo}
-use Rattle.mps_wire.specs.Private.Endings.{TakesOn, TakesToPart, failed_by}
+use Rattle.mps_wire.specs.Private.Endings.{TurnedTo, TakesOn, TakesToPart, failed_by}
 use Rattle.mps_wire.specs.Runs.{Going}
 use Rattle.mps_wire.specs.Streams.{Streams, Counts}
 use Rattle.mps_wire.specs.declared.conversation.Broken.{Broken}

@@ -8,8 +8,7 @@ ghost use Rattle.mps_line.specs.declared.write_replies.Reply.TheVariants.{Answer
 ghost use Rattle.mps_lines.specs.Lines.{ended, front, most_kept};
 ghost use Rattle.mps_wire.specs.declared.conversation.Broken.TheVariants.{Memory as NoMemory};
 ghost use Rattle.mps_wire.specs.Endings.{EndedAs};
-ghost use Rattle.mps_wire.specs.Private.Endings.{TurnedTo};
-ghost use Rattle.mps_wire.specs.Private.Endings.{IsPartly, IsWholly, TakesOn, TakesToPart, begun_or, failed_by};
+ghost use Rattle.mps_wire.specs.Private.Endings.{TurnedTo, IsPartly, IsWholly, TakesOn, TakesToPart, begun_or, failed_by};
 ghost use Rattle.mps_wire.specs.Runs.{Going, max_reads};
 ghost use Rattle.mps_wire.specs.Streams.{streams};
 ghost use Rattle.mps_wire.specs.Talk.{TalksLine, TalksNumbered, talks, talks_to_part};
