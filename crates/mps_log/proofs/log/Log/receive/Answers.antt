@@ -15,7 +15,7 @@ use Rattle.mps_log.proofs.log.Log.receive.Goals.{After-add, in-Some+in_ok-bound-
 
 -- the entry of the receipt
 abbrev entry : After-add → KeyedStep
-entry c = record { key = c.reserve_one.new.self.next_key; step = record { id = c.add.result; role = c.args.role; act = In c.args.from c.copied-slot.result }; before = record { at = c.args.at; bound = c.match-slot.bound }; marked = false }
+entry c = record { key = c.match-slot.self-inside.arena.next_key; step = record { id = c.add.result; role = c.args.role; act = In c.args.from c.copied-slot.result }; before = record { at = c.args.at; bound = c.match-slot.bound }; marked = false }
 
 -- but for its slot, the log is as it was
 arena_stays : (c : After-add) → ◌≡◌ {A = Entries} c.match-slot.self-inside.arena c.reserve_one.new.self
@@ -44,7 +44,7 @@ slots_follow : (c : After-add) → AreStores slot_of (c.self.inside.arena.entrie
 slots_follow c =
     let es = c.self.inside.arena.entries in
     let slots = c.self.invariant.slots in
-    let key = sym c.in_ok-key.ensures.key in
+    let key = ap (λ (a : Entries). a.next_key) (arena_stays c) ∙ sym c.in_ok-key.ensures.key in
     elim c.match-slot.branch [
       | in-Some+in_ok-bound-in-Some w ↦
           subst (λ (l : Inside). AreStores slot_of (es ++ entry c ∷ []) l.slots) (sym w.self-inside-is)
