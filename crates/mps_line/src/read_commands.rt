@@ -199,6 +199,7 @@ fn read_argument(roles: &Roles, verb: Verb, bytes: &[u8]) -> Option<Command>
 }
 
 // The peer and the name of a label or a slot.
+#[inline(always)]
 fn read_role_and_name(roles: &Roles, bytes: &[u8]) -> Result<(Role, Name), LineFault>
     ensures read { IfOk result
         (λ r. SpellsLine roles.now bytes.now (RoleAt r.0 ∷ Called r.1 ∷ [])) }
