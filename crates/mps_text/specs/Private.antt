@@ -2,4 +2,3 @@
 pub mod Lexing
 pub mod Reading
 pub mod Writing
-pub mod Grammar
