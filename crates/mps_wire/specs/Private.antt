@@ -1,1 +1,2 @@
+-- What no contract of a public function uses.
 pub mod Endings

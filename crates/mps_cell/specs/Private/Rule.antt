@@ -7,7 +7,7 @@ use Rattle.mps_cell.specs.Openings.{room_of, IsLegalIn}
 use Rattle.mps_cell.specs.Views.{Part, View, part_of, raised, showing, took}
 use Rattle.mps_cell.specs.Rule.{Shows, journal_in, resting}
 
--- the same, which has the room
+-- a seat with one part, which has the room
 abbrev pub holding : Part → List Entry → RoomState → Me RoomState View
 holding p j m = (record { parts = p ∷ []; noted = Some j; barred = false }, (0, m) ∷ [])
 
