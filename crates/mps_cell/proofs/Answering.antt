@@ -8,7 +8,7 @@ use Rattle.mps_command.specs.declared.command.Command.{Command}
 use Rattle.mps_machine.proofs.Answering.{from_ok}
 use Rattle.mps_room.specs.Callers.{entry}
 use Rattle.mps_room.specs.Journal.{is_accepted, grown, IsReply}
-use Rattle.mps_room.specs.Kept.{RoomState}
+use Rattle.mps_room.specs.RoomState.{RoomState}
 use Rattle.mps_room.specs.Solos.{own_entry}
 use Rattle.mps_room.specs.declared.entry.Entry.{Entry}
 use Rattle.mps_room.specs.declared.numbers.Numbered.{Numbered}

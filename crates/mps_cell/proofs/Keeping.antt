@@ -6,7 +6,7 @@ use mathlib.Core.Option as maybe
 use lib.ListN.{get_elem?}
 use Rattle.atomic_table.specs.Table.{State, Me, Act, Valid, carried_after, keeps, takes, gives, step, stepped, Allows, Splits, Joins, opening}
 use Rattle.atomic_table.proofs.Lists.{exchanged, set_else}
-use Rattle.mps_room.specs.Kept.{RoomState}
+use Rattle.mps_room.specs.RoomState.{RoomState}
 use Rattle.mps_room.specs.declared.entry.Entry.{Entry}
 use Rattle.mps_cell.specs.Openings.{Opening, opening_of, room_of, IsLegalIn}
 use Rattle.mps_cell.specs.Views.{Part, View, newcomers, first_view, part_of, looked, took, gave, without_first_part, first_part_alone, without_first, first_alone, spent}

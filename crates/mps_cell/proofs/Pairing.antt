@@ -6,7 +6,7 @@ use mathlib.Core.Option as maybe
 use Rattle.atomic_table.specs.Table.{Me, Step, step, Splits, Joins}
 use Rattle.atomic_table.specs.Seated.{TableId}
 use Rattle.mps_room.specs.Callers.{entries_of}
-use Rattle.mps_room.specs.Kept.{RoomState}
+use Rattle.mps_room.specs.RoomState.{RoomState}
 use Rattle.mps_room.specs.declared.entry.Entry.{Entry}
 use Rattle.mps_room.specs.declared.numbers.Numbered.{Numbered}
 use Rattle.mps_cell.specs.Openings.{Opening}

@@ -3,7 +3,7 @@ use Rattle.std.specs.Prelude.{◌≡◌, ℕ, zero, suc, Bool, false, List, [], 
 use Rattle.atomic_table.specs.Seated.{TableId}
 use Rattle.atomic_table.specs.declared.shared.Seat.{Seat}
 use Rattle.mps_local.specs.Local.{LocalType}
-use Rattle.mps_room.specs.Kept.{RoomState}
+use Rattle.mps_room.specs.RoomState.{RoomState}
 use Rattle.mps_cell.specs.Openings.{Opening, IsLegalIn}
 use Rattle.mps_cell.specs.Views.{View, first_view, newcomer}
 use Rattle.mps_cell.specs.Rule.{resting}

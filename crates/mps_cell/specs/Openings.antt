@@ -4,7 +4,7 @@ use Rattle.mps_command.specs.declared.answer.Answer.{Answer}
 use Rattle.mps_command.specs.declared.command.Command.{Command}
 use Rattle.mps_local.specs.Local.{LocalType}
 use Rattle.mps_room.specs.Journal.{reply, IsReply, IsLegal}
-use Rattle.mps_room.specs.Kept.{RoomState}
+use Rattle.mps_room.specs.RoomState.{RoomState}
 use Rattle.mps_room.specs.declared.entry.Entry.{Entry}
 
 -- what a cell was opened with: the names and the opening types of the roles, and the number of its session

@@ -1,5 +1,5 @@
 //! Lists of numbers of steps.
-ghost use Rattle.std.specs.Prelude.{◌≡◌, [], ◌∷◌, IfOk};
+ghost use Rattle.std.specs.Prelude.{◌≡◌, [], ◌∷◌, IfOk, MatchResult};
 
 use mps_base::StepId;
 use std::alloc::{AllocError, Global};
@@ -55,6 +55,17 @@ impl StepIds {
         match &self.kept {
             Kept::One(id) => slice::from_ref(id),
             Kept::Many(ids) => ids.as_slice(),
+        }
+    }
+
+    /// The vector of these numbers, or the number that is kept without one. It does not allocate.
+    pub fn into_vec(self) -> Result<Vec<StepId>, StepId>
+        ensures { MatchResult result (λ ids. ids.items ≡ self) (λ id. self ≡ id ∷ []) }
+    {
+        let StepIds { kept } = self;
+        match kept {
+            Kept::One(id) => Err(id),
+            Kept::Many(ids) => Ok(ids),
         }
     }
 

@@ -1,7 +1,5 @@
 -- Changes that are accepted.
 use Rattle.std.proofs.Common.{◌≡◌, ℕ, true, List, Result, Ok, Err, refl, ap, ◌∙◌}
-use Rattle.std.specs.Bool.{then_some}
-use Rattle.std.specs.Prelude.{Bool, false, Option, IfSome, is_some}
 use Rattle.mps_command.specs.Acts.{act_of}
 use Rattle.mps_command.specs.declared.answer.Answer.{Answer}
 use Rattle.mps_command.specs.declared.answer.Done.{Done}
@@ -31,12 +29,3 @@ by_change types st p (Back name) a e = of_removal a (back st p name).0 e
 -- an answer to a change that refuses nothing accepts
 pub accepting : (types : List LocalType) (st : State) (p : ℕ) (change : Change) (a : Answer) → Ok a ≡ result_of (serve types st p change).0 → is_accepted a ≡ true
 accepting types st p change a e = ap is_accepted (from_ok a (serve types st p change).0 e) ∙ by_change types st p change a e
-
--- what holds of an answer holds of it where it is told
-pub told_as : {A : Type 0} (P : A → Type 0) (told : Bool) (a : A) (o : Option A) → o ≡ then_some told a → P a → IfSome o P
-told_as P true a o e h = rw e h
-told_as P false a o e h = rw e tt
-
-pub told_where : {A : Type 0} (told : Bool) (a : A) (o : Option A) → o ≡ then_some told a → is_some o ≡ told
-told_where true a o e = ap (λ x. is_some x) e
-told_where false a o e = ap (λ x. is_some x) e

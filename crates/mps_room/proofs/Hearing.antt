@@ -23,7 +23,8 @@ use Rattle.mps_local.specs.Local.{LocalType}
 use Rattle.mps_machine.specs.Machine.{State, most_numbers, view_of, unless, forward, owner_fault, undone, rolled_back, rolled_back_unless_final, commit_fault, final_fault, since_mark, back_to, stepped, removed, serve}
 use Rattle.mps_machine.specs.Violations.{violation}
 use Rattle.mps_room.specs.Journal.{undone_by}
-use Rattle.mps_room.specs.Kept.{owns, hears, takes_others}
+use Rattle.mps_room.specs.Private.Heard.{hears, takes_others}
+use Rattle.mps_room.specs.Private.Owners.{owns}
 use Rattle.mps_room.proofs.Owning.{own_at, or_last, not_this, owns_more, step_served, none_stepped, none_removed}
 
 -- ---- lists of which something holds

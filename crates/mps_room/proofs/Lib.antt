@@ -1,5 +1,6 @@
 pub mod Growing
 pub mod Accepting
+pub mod Fitting
 pub mod Owning
 pub mod Hearing
 pub mod Telling

@@ -22,7 +22,7 @@ use Rattle.mps_local.specs.Local.{LocalType}
 use Rattle.mps_machine.specs.Machine.{State, most_numbers, view_of, unless, done_by, accepted, owner_fault, undone, rolled_back, rolled_back_unless_final, commit_fault, final_fault, since_mark, back_to, stepped, removed, undo, rollback, back, serve}
 use Rattle.mps_machine.specs.Violations.{violation}
 use Rattle.mps_room.specs.Journal.{gives, is_own, is_accepted}
-use Rattle.mps_room.specs.Kept.{owns, owners_after, AreOwners}
+use Rattle.mps_room.specs.Private.Owners.{owns, owners_after, AreOwners}
 use Rattle.mps_room.specs.declared.entry.Entry.{Entry}
 
 -- ---- numbers that are given out

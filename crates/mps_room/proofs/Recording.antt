@@ -1,5 +1,5 @@
 -- What a room keeps, one entry later.
-use Rattle.std.proofs.Common.{◌≡◌, ℕ, ◌<◌, true, false, List, [], ◌∷◌, ◌++◌, Err, sym, ap, ◌∙◌, subst}
+use Rattle.std.proofs.Common.{◌≡◌, ℕ, ◌<◌, true, false, List, [], ◌∷◌, ◌++◌, Err, sym, ap, ◌∙◌, subst, arith}
 use Rattle.std.specs.Prelude.{length, slice_index_or}
 use Rattle.mps_command.specs.Changes.{command_of}
 use Rattle.mps_command.specs.declared.answer.Answer.{Answer}
@@ -12,7 +12,11 @@ use Rattle.mps_machine.specs.Answering.{IsChanged}
 use Rattle.mps_machine.specs.Machine.{State, serve}
 use Rattle.mps_session.specs.SessionState.{SessionState}
 use Rattle.mps_room.specs.Journal.{most_entries, run, undone_by, is_accepted, grown, limited, reply, IsLegal, IsReply}
-use Rattle.mps_room.specs.Kept.{owns, AreOwners, AreGiven, AreHeard, owners_after, hears, with_place, takes_others, IsRecorded}
+use Rattle.mps_room.specs.Private.Heard.{AreHeard, hears, with_place, takes_others}
+use Rattle.mps_room.specs.Private.Owners.{owns, AreOwners, AreGiven, owners_after}
+use Rattle.mps_room.specs.Private.Recorded.{IsRecorded}
+use Rattle.mps_room.specs.Private.Kept.{Fits}
+use Rattle.mps_room.proofs.Fitting.{fits_command}
 use Rattle.mps_room.specs.declared.entry.Entry.{Entry}
 use Rattle.mps_room.proofs.Growing as growing
 use Rattle.mps_room.proofs.Refusing.{refused_too}
@@ -75,6 +79,10 @@ module _ (names : List (List ℕ)) (m : SessionState) (owners : List ℕ) (count
     pub grown_as : (l : List Entry) → l ≡ j ++ entry ∷ [] → l ≡ grown j p command a
     grown_as l joined =
         joined ∙ entered ∙ sym (growing.grown_by j p change a kept) ∙ ap (λ (k : Command). grown j p k a) (sym asks)
+
+    -- the answer is of the command's kind
+    pub fits_as : Fits command a
+    fits_as = fits_command m.types m.state p change command asks a is kept (omega (arith, old.owners.next, old.owners.few, space))
 
     pub replied_as : reply names m.types j p command ≡ a
     replied_as = ap (reply names m.types j p) asks ∙ replied

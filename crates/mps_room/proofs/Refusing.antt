@@ -18,7 +18,7 @@ use Rattle.mps_machine.specs.Machine.{State, most_numbers, serve}
 use Rattle.mps_machine.proofs.Answering.{answers_itself, never_memory, never_full}
 use Rattle.mps_session.proofs.WhichRefusal.{same_refusal}
 use Rattle.mps_room.specs.Journal.{most_entries, run, limited, reply, is_accepted, IsReply}
-use Rattle.mps_room.specs.Kept.{IsShort}
+use Rattle.mps_room.specs.Private.Recorded.{IsShort}
 use Rattle.mps_room.specs.declared.entry.Entry.{Entry}
 use Rattle.mps_room.proofs.Growing.{room_for}
 use Rattle.mps_room.proofs.Numbering.{is_told, told_change}

@@ -13,7 +13,8 @@ use Rattle.mps_command.specs.declared.command.Change.{Change}
 use Rattle.mps_local.specs.Local.{LocalType}
 use Rattle.mps_machine.specs.Machine.{State, serve}
 use Rattle.mps_room.specs.Journal.{undone_by, gives, is_own, is_accepted, taken_from, news, FollowsOn}
-use Rattle.mps_room.specs.Kept.{owns, owners_after, hears_of, places_from, places, with_place, undone_at, takes_others, AreOwners, AreGiven, AreHeard}
+use Rattle.mps_room.specs.Private.Heard.{hears_of, places_from, places, with_place, undone_at, takes_others, AreHeard}
+use Rattle.mps_room.specs.Private.Owners.{owns, owners_after, AreOwners, AreGiven}
 use Rattle.mps_room.specs.declared.entry.Entry.{Entry}
 use Rattle.mps_room.proofs.Hearing.{all_along, all_push, known_stays, unheard, serve_ids, serve_history, serve_joined, own_stays, last_own}
 

@@ -1,6 +1,5 @@
 -- Journals: what a session accepted, each command with its role and its answer.
 use Rattle.std.specs.Prelude.{◌≡◌, ℕ, ◌<◌, ◌≤◌, ⊤, Bool, true, false, ◌==◌, ◌&&◌, nat_lt, if◌then◌else◌, List, [], ◌∷◌, ◌++◌, length, drop}
-use Rattle.std.specs.Borrow.{Bor}
 use Rattle.std.specs.List.{filter, flat_map, list_any}
 use Rattle.std.specs.Option.{option_map_or}
 use Rattle.mps_local.specs.Local.{LocalType}
@@ -98,14 +97,3 @@ pub record IsLegal (names : List (List ℕ)) (types : List LocalType) (j : List 
 -- the answer is the one that is wanted, but memory may run out where that refuses nothing
 abbrev pub IsReply : Answer → Answer → Type 0
 IsReply answer wanted = IsAnswer (result_of answer) (result_of wanted)
-
--- role p's command is accepted as is wanted, and joins the journal with its answer
-pub record HasEntered (names : List (List ℕ)) (types : List LocalType) (j : List Entry) (p : ℕ) (c : Command) (after : List Entry) : Type 0 where
-  pub answer : Answer
-  pub wanted : IsReply answer (reply names types j p c)
-  pub accepted : is_accepted answer ≡ true
-  pub joined : after ≡ j ++ record { role = p; command = c; answer = answer } ∷ []
-
--- an entry, as it is shown
-abbrev pub as_entry : ℕ × Bor Command × Bor Answer → Entry
-as_entry shown = record { role = shown.0; command = shown.1.now; answer = shown.2.now }

@@ -1,5 +1,6 @@
 pub mod Journal
-pub mod Kept
+pub mod RoomState
 pub mod Callers
 pub mod Numbers
 pub mod Solos
+pub mod Private

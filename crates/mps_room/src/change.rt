@@ -1,33 +1,30 @@
 //! Changes of a room.
-ghost use Rattle.std.specs.Prelude.{◌≡◌, ◌≢◌, ℕ, ◌+◌, true, false, [], ◌∷◌, ◌++◌, ◌<◌, ◌≤◌, map, length, vec_len, vec_capacity, slice_index_or, is_some, IsSome, IfErr, IfOk, IfSome, OnOk, OnErr};
+ghost use Rattle.std.specs.Prelude.{◌≡◌, ◌≢◌, ℕ, ◌+◌, true, false, [], ◌∷◌, ◌++◌, ◌<◌, ◌≤◌, map, length, vec_len, vec_capacity, slice_index_or, IsSome, IfErr, IfOk, OnOk, OnErr};
 ghost use Rattle.mps_command.specs.Changes.{change_of};
 ghost use Rattle.mps_command.specs.declared.answer.Answer.TheVariants.{Refused};
-ghost use Rattle.mps_room.specs.Journal.{grown, most_entries, reply, HasEntered, IsReply};
-ghost use Rattle.mps_room.specs.Kept.{owns, owners_after, hears_of, with_place, takes_others, IsShort};
+ghost use Rattle.mps_room.specs.Callers.{entry};
+ghost use Rattle.mps_room.specs.Journal.{grown, most_entries, reply, undone_by, IsReply};
+ghost use Rattle.mps_room.specs.Private.Heard.{hears, with_place, takes_others};
+ghost use Rattle.mps_room.specs.Private.Kept.{Fits};
+ghost use Rattle.mps_room.specs.Private.Owners.{owns, owners_after, is_step};
+ghost use Rattle.mps_room.specs.Private.Recorded.{IsShort};
 
-use crate::entry::Entry;
 use crate::heard::Heard;
+use crate::kept::Kept;
 use crate::news::undone_by;
 use crate::room::{MAX_ENTRIES, Room};
 use mps_base::Role;
 use mps_command::{Answer, Command, Refusal};
 
-// Whether the command may take back steps of other roles. An undo takes back the role's own step alone.
-fn takes_others(command: &Command) -> bool
-    ensures { result ≡ takes_others command.now }
-{
-    matches!(command, Command::Rollback(_) | Command::Back(_))
-}
-
-// Makes room for one entry more and for the owner of its step, and where the role may take back steps of others for the
-// place of the entry in their lists, or says what is missing.
+// Makes room for one entry more, and for what the command adds besides: the owner of a step, or where the role may take
+// back steps of others the place of the entry in their lists. Says what is missing, if anything is.
 #[inline(always)]
 fn make_room(
-    journal: &mut Vec<Entry>,
+    journal: &mut Vec<Kept>,
     owners: &mut Vec<u8>,
     heard: &mut Heard,
     role: Role,
-    others: bool,
+    command: &Command,
 ) -> Result<(), Refusal>
     requires hearers { heard.old.count ≤ 8 }
     requires lists { length heard.old.lists ≡ 8 }
@@ -38,8 +35,9 @@ fn make_room(
     ensures heard { map (λ l. l.items) heard.new.lists ≡ map (λ l. l.items) heard.old.lists }
     ensures few { OnOk result (length journal.old.items < most_entries) }
     ensures place { OnOk result (vec_len journal.new + 1 ≤ vec_capacity journal.new) }
-    ensures owner_place { OnOk result (vec_len owners.new + 1 ≤ vec_capacity owners.new) }
-    ensures heard_place { OnOk result (others ≡ true → (k : ℕ) (d : _) → k < heard.new.count → k ≢ role
+    ensures owner_place { OnOk result (is_step command.now ≡ true
+        → vec_len owners.new + 1 ≤ vec_capacity owners.new) }
+    ensures heard_place { OnOk result (takes_others command.now ≡ true → (k : ℕ) (d : _) → k < heard.new.count → k ≢ role
         → vec_len (slice_index_or heard.new.lists k d) < vec_capacity (slice_index_or heard.new.lists k d)) }
     ensures short { IfErr result (IsShort journal.old.items) }
 {
@@ -47,118 +45,116 @@ fn make_room(
         return Err(Refusal::Full);
     }
     journal.reserve(1)?;
-    owners.reserve(1)?;
-    if others {
-        heard.reserve(role)?;
+    match command {
+        Command::Forward(_) => owners.reserve(1)?,
+        Command::Rollback(_) | Command::Back(_) => heard.reserve(role)?,
+        _ => {}
     }
     Ok(())
 }
 
-// Adds the entry, the owner of its step, if its answer gives one a number, and its place to the lists of the roles that
-// hear of it.
-fn keep(
-    journal: &mut Vec<Entry>,
+// Adds the owner of a new step, or where the role may take back steps of others the place of the entry to the lists of the
+// roles that hear of it.
+#[inline(always)]
+fn note(
     owners: &mut Vec<u8>,
     heard: &mut Heard,
-    entry: Entry,
-    others: bool,
+    role: Role,
+    command: &Command,
+    answer: &Answer,
+    place: u32,
 )
-    requires kind { others ≡ takes_others entry.command }
-    requires few { length journal.old.items < most_entries }
-    requires place { vec_len journal.old + 1 ≤ vec_capacity journal.old }
-    requires owner_place { vec_len owners.old + 1 ≤ vec_capacity owners.old }
+    requires fits { Fits command.now answer.now }
+    requires owner_place { is_step command.now ≡ true → vec_len owners.old + 1 ≤ vec_capacity owners.old }
     requires hearers { heard.old.count ≤ 8 }
     requires lists { length heard.old.lists ≡ 8 }
-    requires heard_place { others ≡ true → (k : ℕ) (d : _) → k < heard.old.count → k ≢ entry.role
+    requires heard_place { takes_others command.now ≡ true → (k : ℕ) (d : _) → k < heard.old.count → k ≢ role
         → vec_len (slice_index_or heard.old.lists k d) < vec_capacity (slice_index_or heard.old.lists k d) }
-    ensures journal { journal.new.items ≡ journal.old.items ++ entry ∷ [] }
-    ensures owners { owners.new.items ≡ owners_after owners.old.items entry.role entry.answer }
+    ensures owners { owners.new.items ≡ owners_after owners.old.items role answer.now }
     ensures hearers { heard.new.count ≡ heard.old.count }
     ensures lists { length heard.new.lists ≡ 8 }
-    ensures heard { takes_others entry.command ≡ true → (p : ℕ) (d : _) → p < heard.old.count
+    ensures heard { takes_others command.now ≡ true → (p : ℕ) (d : _) → p < heard.old.count
         → (slice_index_or heard.new.lists p d).items
-        ≡ with_place (hears_of (owns owners.old.items p) p entry) (length journal.old.items) (slice_index_or heard.old.lists p d).items }
-    ensures unheard { takes_others entry.command ≡ false → heard.new.lists ≡ heard.old.lists }
+        ≡ with_place (hears (owns owners.old.items p) p role (undone_by answer.now)) place (slice_index_or heard.old.lists p d).items }
+    ensures unheard { takes_others command.now ≡ false → heard.new.lists ≡ heard.old.lists }
 {
-    let role = entry.role;
-    if others {
-        let place = journal.len() as u32;
-        heard.note(owners.as_slice(), role, undone_by(&entry.answer), place);
+    match command {
+        Command::Forward(_) => owners.push_reserved(role.index() as u8),
+        Command::Rollback(_) | Command::Back(_) => {
+            heard.note(owners.as_slice(), role, undone_by(answer), place);
+        }
+        _ => {}
     }
-    let is_step = matches!(&entry.answer, Answer::Done(_));
-    journal.push_reserved(entry);
-    if is_step {
-        owners.push_reserved(role.index() as u8);
-    }
+}
+
+// Adds the entry, and what there is to note beside it.
+#[inline(always)]
+fn keep(
+    journal: &mut Vec<Kept>,
+    owners: &mut Vec<u8>,
+    heard: &mut Heard,
+    role: Role,
+    command: Command,
+    answer: Answer,
+)
+    requires fits { Fits command answer }
+    requires few { length journal.old.items < most_entries }
+    requires place { vec_len journal.old + 1 ≤ vec_capacity journal.old }
+    requires owner_place { is_step command ≡ true → vec_len owners.old + 1 ≤ vec_capacity owners.old }
+    requires hearers { heard.old.count ≤ 8 }
+    requires lists { length heard.old.lists ≡ 8 }
+    requires heard_place { takes_others command ≡ true → (k : ℕ) (d : _) → k < heard.old.count → k ≢ role
+        → vec_len (slice_index_or heard.old.lists k d) < vec_capacity (slice_index_or heard.old.lists k d) }
+    ensures journal { journal.new.items ≡ journal.old.items ++ entry role command answer ∷ [] }
+    ensures owners { owners.new.items ≡ owners_after owners.old.items role answer }
+    ensures hearers { heard.new.count ≡ heard.old.count }
+    ensures lists { length heard.new.lists ≡ 8 }
+    ensures heard { takes_others command ≡ true → (p : ℕ) (d : _) → p < heard.old.count
+        → (slice_index_or heard.new.lists p d).items
+        ≡ with_place (hears (owns owners.old.items p) p role (undone_by answer)) (length journal.old.items) (slice_index_or heard.old.lists p d).items }
+    ensures unheard { takes_others command ≡ false → heard.new.lists ≡ heard.old.lists }
+{
+    let place = journal.len() as u32;
+    note(owners, heard, role, &command, &answer, place);
+    journal.push_reserved(Kept::of(role, command, answer));
 }
 
 impl Room {
     /// Does the change that the command asks for, or says why not. What is accepted joins the journal with its answer,
-    /// which is told besides where that is asked for.
+    /// which is told besides.
     #[inline(always)]
-    pub(crate) fn change(
-        &mut self,
-        role: Role,
-        command: Command,
-        again: bool,
-    ) -> Result<Option<Answer>, Refusal>
+    pub(crate) fn change(&mut self, role: Role, command: Command) -> Result<Answer, Refusal>
         requires role { role < length self.old.types }
         requires change { IsSome (change_of command) }
-        ensures entered { OnOk result (HasEntered self.old.names self.old.types self.old.journal role command
-            self.new.journal) }
-        ensures told { IfOk result (λ answer. is_some answer ≡ again) }
-        ensures answer { IfOk result (λ answer. IfSome answer (λ told. IsReply told
-            (reply self.old.names self.old.types self.old.journal role command))) }
-        ensures journal { IfOk result (λ answer. IfSome answer (λ told. self.new.journal
-            ≡ grown self.old.journal role command told)) }
+        ensures answer { IfOk result (λ told. IsReply told
+            (reply self.old.names self.old.types self.old.journal role command)) }
+        ensures journal { IfOk result (λ told. self.new.journal
+            ≡ grown self.old.journal role command told) }
         ensures refused { IfErr result (λ refusal. IsReply (Refused refusal)
             (reply self.old.names self.old.types self.old.journal role command)) }
         ensures err { OnErr result (self.new.journal ≡ self.old.journal) }
         ensures names { self.new.names ≡ self.old.names }
         ensures types { self.new.types ≡ self.old.types }
     {
-        let others = takes_others(&command);
         if let Err(lack) = make_room(
             &mut self.journal,
             &mut self.owners,
             &mut self.heard,
             role,
-            others,
+            &command,
         ) {
             return Err(self.refused(role, &command, lack));
         }
-        let (answer, more) = self.session.accept(role, &command, again)?;
-        let entry = Entry {
-            role,
-            command,
-            answer,
-        };
+        let (answer, again) = self.session.accept(role, &command, true)?;
         keep(
             &mut self.journal,
             &mut self.owners,
             &mut self.heard,
-            entry,
-            others,
+            role,
+            command,
+            answer,
         );
-        Ok(more)
-    }
-
-    /// Does the change that the command asks for, or says why not, as `apply` does, but tells the answer by the journal
-    /// alone: its newest entry has the command and its answer. So no answer is made twice.
-    #[inline(always)]
-    pub fn enter(&mut self, role: Role, command: Command) -> Result<(), Refusal>
-        requires role { role < length self.old.types }
-        requires change { IsSome (change_of command) }
-        ensures entered { OnOk result (HasEntered self.old.names self.old.types self.old.journal role command
-            self.new.journal) }
-        ensures refused { IfErr result (λ refusal. IsReply (Refused refusal)
-            (reply self.old.names self.old.types self.old.journal role command)) }
-        ensures err { OnErr result (self.new.journal ≡ self.old.journal) }
-        ensures names { self.new.names ≡ self.old.names }
-        ensures types { self.new.types ≡ self.old.types }
-    {
-        self.change(role, command, false)?;
-        Ok(())
+        Ok(again.unwrap())
     }
 
     // The refusal of a change for which there is no room in the journal or no memory: the machine's, if it refuses, else

@@ -2,7 +2,8 @@
 ghost use Rattle.std.specs.Prelude.{◌≡◌, ◌≢◌, ℕ, ◌+◌, ◌<◌, ◌≤◌, ◌==◌, [], ◌∷◌, ◌++◌, false, map, length, vec_len, vec_capacity, slice_index_or, OnOk};
 ghost use Rattle.std.specs.List.{list_any};
 ghost use Rattle.std.specs.Option.{option_map_or};
-ghost use Rattle.mps_room.specs.Kept.{owns, hears, with_place};
+ghost use Rattle.mps_room.specs.Private.Heard.{hears, with_place};
+ghost use Rattle.mps_room.specs.Private.Owners.{owns};
 
 use mps_base::{Role, StepId};
 use std::alloc::{AllocError, Global};

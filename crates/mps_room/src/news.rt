@@ -2,10 +2,11 @@
 ghost use Rattle.std.specs.Prelude.{◌≡◌, ◌++◌, ℕ, ◌<◌, ◌≤◌, List, IfOk, OnOk};
 ghost use Rattle.std.specs.List.{filter, AllByRecursion};
 ghost use Rattle.mps_room.specs.Journal.{undone_by, is_own, news};
-ghost use Rattle.mps_room.specs.Kept.{owns, places, undone_at};
+ghost use Rattle.mps_room.specs.Private.Heard.{places, undone_at};
+ghost use Rattle.mps_room.specs.Private.Owners.{owns};
 
-use crate::entry::Entry;
 use crate::heard::owner_of;
+use crate::kept::Kept;
 use mps_base::{Role, StepId};
 use mps_command::Answer;
 use std::alloc::{AllocError, Global};
@@ -14,7 +15,7 @@ use std::alloc::{AllocError, Global};
 /// through those entries alone that the role hears of.
 pub(crate) fn news(
     alloc: Global,
-    journal: &[Entry],
+    journal: &[Kept],
     owners: &[u8],
     heard: &[u32],
     role: Role,
@@ -42,11 +43,11 @@ fn after(places: &[u32], known: u64) -> &[u32]
 }
 
 // The numbers of the steps that the entry at the place took back.
-fn undone_at(journal: &[Entry], place: u32) -> &[StepId]
+fn undone_at(journal: &[Kept], place: u32) -> &[StepId]
     ensures { result.now ≡ undone_at journal.now place }
 {
     match journal.get(place as usize) {
-        Some(entry) => undone_by(&entry.answer),
+        Some(kept) => kept.undone(),
         None => &[],
     }
 }

@@ -1,16 +1,15 @@
 //! Rooms.
-ghost use Rattle.std.specs.Prelude.{◌≡◌, ◌<◌, ◌++◌, ◌∷◌, ℕ, false, List, [], length, slice_get, IfOk};
-ghost use Rattle.std.specs.Option.{option_map};
+ghost use Rattle.std.specs.Prelude.{◌≡◌, ◌<◌, ℕ, false, [], length, slice_get, IfOk};
 ghost use Rattle.mps_command.specs.declared.command.Command.TheVariants as commands;
 ghost use Rattle.mps_machine.specs.Machine.{initial};
-ghost use Rattle.mps_room.specs.Journal.{as_entry, grown, is_accepted, news, reply, run, IsLegal, IsReply};
-ghost use Rattle.mps_room.specs.declared.entry.Entry.{Entry};
+ghost use Rattle.mps_room.specs.Journal.{grown, is_accepted, news, reply, run, IsLegal, IsReply};
 ghost use Rattle.mps_show.specs.Shown.{show_text, shown};
 ghost use Rattle.serde_json.specs.View.{view};
 ghost use Rattle.serde_json.specs.Written.{compact_text};
 
 use crate::entry::Entry;
 use crate::heard::Heard;
+use crate::kept::Kept;
 use crate::news::news;
 use crate::shown::shown_text;
 use mps_base::{Role, Roles};
@@ -29,7 +28,7 @@ pub const MAX_ENTRIES: usize = 100_000;
 pub struct Room {
     pub(crate) names: Roles,
     pub(crate) session: Session,
-    pub(crate) journal: Vec<Entry>,
+    pub(crate) journal: Vec<Kept>,
     // whose steps they are, in the order of their numbers
     pub(crate) owners: Vec<u8>,
     // what each role hears of
@@ -41,7 +40,8 @@ impl Model for Room {
     ghost use Rattle.std.specs.Coded.{codes};
     ghost use Rattle.std.specs.Prelude.{map};
     ghost use Rattle.mps_local.specs.Private.Codes.{coded_local};
-    ghost use Rattle.mps_room.specs.Kept.{RoomState, IsRecorded};
+    ghost use Rattle.mps_room.specs.Private.Recorded.{IsRecorded};
+    ghost use Rattle.mps_room.specs.RoomState.{RoomState};
 
     ghost Value = { RoomState };
 
@@ -96,12 +96,14 @@ impl Room {
         self.journal.len() as u64
     }
 
-    /// The k-th entry, from 0.
-    pub fn entry(&self, k: u64) -> Option<(Role, &Command, &Answer)>
-        ensures { option_map as_entry result ≡ slice_get self.now.journal k }
+    /// The k-th entry, from 0. It is made anew, since the journal keeps entries in less memory.
+    pub fn entry(&self, k: u64) -> Result<Option<Entry>, AllocError>
+        ensures { IfOk result (λ entry. entry ≡ slice_get self.now.journal k) }
     {
-        let entry = self.journal.get(k as usize)?;
-        Some((entry.role, &entry.command, &entry.answer))
+        match self.journal.get(k as usize) {
+            Some(kept) => Ok(Some(kept.entry(self.alloc)?)),
+            None => Ok(None),
+        }
     }
 
     /// How many entries the journal has, and which of the role's steps the entries of others took back, after the
@@ -146,20 +148,11 @@ impl Room {
         match command {
             Command::News(known) => self.tell_news(role, known),
             Command::Show => self.tell_show(),
-            change => match self.change(role, change, true) {
-                Ok(told) => told.unwrap(),
+            change => match self.change(role, change) {
+                Ok(answer) => answer,
                 Err(refusal) => Answer::Refused(refusal),
             },
         }
-    }
-
-    /// The answer of the newest entry.
-    pub fn newest_answer(&self) -> &Answer
-        requires { 0 < length self.now.journal }
-        ensures { (older : List Entry) (e : Entry) → self.now.journal ≡ older ++ e ∷ []
-            → result.now ≡ e.answer }
-    {
-        &self.journal[self.journal.len() - 1].answer
     }
 
     /// Answers what others took back, as `apply` does.

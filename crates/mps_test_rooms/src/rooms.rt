@@ -37,21 +37,20 @@ fn entry_text(alloc: Global, role: Role, command: &Command, answer: &str) -> Res
     Ok(format!(in alloc; "{place} {command:?} {answer}")?)
 }
 
-// The last entry in words.
-fn last_text(alloc: Global, room: &Room) -> Result<String, Fail> {
-    let last = room.entries().checked_sub(1).ok_or("an entry")?;
-    let Some(entry) = room.entry(last) else {
+// An entry in words, by its place from 0.
+fn text_at(alloc: Global, room: &Room, place: u64) -> Result<String, Fail> {
+    let Some(entry) = room.entry(place)? else {
         return Err("an entry".into());
     };
-    let answer = told(alloc, entry.2)?;
-    entry_text(alloc, entry.0, entry.1, answer.as_str())
+    let answer = told(alloc, &entry.answer)?;
+    entry_text(alloc, entry.role, &entry.command, answer.as_str())
 }
 
-// Whether the last entry is that of the row.
-fn is_last(alloc: Global, room: &Room, row: Row) -> Result<bool, Fail> {
+// Whether the entry at the place is that of the row.
+fn is_at(alloc: Global, room: &Room, place: u64, row: Row) -> Result<bool, Fail> {
     let (role, command) = asked(alloc, room.names(), row.0)?;
     let wanted = entry_text(alloc, role, &command, row.1)?;
-    Ok(last_text(alloc, room)?.as_str() == wanted.as_str())
+    Ok(text_at(alloc, room, place)?.as_str() == wanted.as_str())
 }
 
 // What the row's line is answered, and whether it was accepted.
@@ -71,7 +70,7 @@ fn is_kept(
     accepted: bool,
 ) -> Result<bool, Fail> {
     if accepted {
-        Ok(room.entries().checked_sub(1) == Some(before) && is_last(alloc, room, row)?)
+        Ok(room.entries().checked_sub(1) == Some(before) && is_at(alloc, room, before, row)?)
     } else {
         Ok(room.entries() == before)
     }
@@ -231,6 +230,50 @@ const MARKED: &[Row] = &[
 #[test]
 fn goes_back_to_a_mark(rt: HostRuntime) -> Result<(), Fail> {
     play_anew(rt.alloc(), TEXTS, MARKED)
+}
+
+// ---- each kind of entry
+
+const EACH_SORT: &str =
+    "roles a b ; a -> b : int . a -> b : bool . a -> b : text . b -> a { ok : end , no : end }";
+
+// The longest name there may be is the slot of the int.
+const EACH_KIND: &[Row] = &[
+    ("a mark m", "done 1"),
+    ("a send b -5", "done 2"),
+    ("b recv a a_slot_with_a_name_of_32_letters", "done 3 -5"),
+    ("a send b true", "done 4"),
+    ("b recv a y", "done 5 true"),
+    ("a send b \"good day\"", "done 6"),
+    ("b recv a z", "done 7 \"good day\""),
+    ("b choose a no", "done 8"),
+    ("a pick b", "done 9 no"),
+    ("a undo 9", "undone 9"),
+    ("b rollback 8", "undone 8"),
+    ("a back m", "undone 7 6 5 4 3 2"),
+    ("a back m", "undone"),
+    ("a mark k", "done 10"),
+    ("a back m", "undone 10"),
+    ("a rollback 1", "undone 1"),
+    ("b commit", "done 11"),
+];
+
+// The rows, of which each is accepted, are the journal's entries.
+fn has_entries(alloc: Global, room: &Room, rows: &[Row]) -> Result<bool, Fail> {
+    for (k, row) in rows.iter().enumerate() {
+        if !is_at(alloc, room, k as u64, *row)? {
+            return Ok(false);
+        }
+    }
+    Ok(room.entries() == rows.len() as u64 && room.entry(room.entries())?.is_none())
+}
+
+#[test]
+fn keeps_each_kind_of_entry(rt: HostRuntime) -> Result<(), Fail> {
+    let mut room = room(rt.alloc(), EACH_SORT)?;
+    play(rt.alloc(), &mut room, EACH_KIND)?;
+    assert!(rt; has_entries(rt.alloc(), &room, EACH_KIND)?);
+    Ok(())
 }
 
 // ---- a full journal

@@ -6,7 +6,7 @@ use Rattle.mps_base.specs.RoleLists.{HasRoleCount}
 use Rattle.mps_session.specs.Peers.{IsFirstBad, IsFirstFaulty, CanOpen}
 use Rattle.mps_session.specs.declared.open.OpenFault.{OpenFault}
 use Rattle.mps_session.specs.declared.open.OpenFault.TheVariants.{RoleCount, BadPeer, Local, Memory as OutOfMemory}
-use Rattle.mps_room.specs.Kept.{RoomState}
+use Rattle.mps_room.specs.RoomState.{RoomState}
 use Rattle.mps_wire.specs.declared.script.ReplayFault.{ReplayFault}
 use Rattle.mps_wire.specs.declared.script.ReplayFault.TheVariants.{Open, ReadFault, WriteFault, Turns, Memory}
 use Rattle.mps_wire.specs.Answers.{Answering, Answered, AnsweredAll, AnsweredInPart, AnsweredAllInPart}

@@ -89,8 +89,8 @@ fn reply_with_show(room: &Room, answers: &mut Vec<u8>) -> Result<(), AllocError>
     write_answer(&room.tell_show(), answers)
 }
 
-/// Gives the role's command to the room, and writes the answer after the others. What is accepted is written as the
-/// journal keeps it. Questions are answered apart, so that no other line makes place for their answers.
+/// Gives the role's command to the room, and writes the answer after the others. Questions are answered apart, so that no
+/// other line makes place for their answers.
 fn reply_to_command(
     room: &mut Room,
     role: Role,
@@ -106,10 +106,7 @@ fn reply_to_command(
     match command {
         Command::News(known) => reply_with_news(room, role, known, answers),
         Command::Show => reply_with_show(room, answers),
-        change => match room.enter(role, change) {
-            Ok(()) => write_answer(room.newest_answer(), answers),
-            Err(refusal) => write_refused(&refusal, answers),
-        },
+        change => write_answer(&room.apply(role, change), answers),
     }
 }
 

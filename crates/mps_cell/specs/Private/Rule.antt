@@ -1,7 +1,7 @@
 -- The seat of a pass, between its steps.
 use Rattle.std.specs.Prelude.{◌≡◌, ℕ, ◌+◌, ◌≤◌, Bool, true, false, List, [], ◌∷◌, ◌++◌, ◌⊎◌, length, Some}
 use Rattle.atomic_table.specs.Table.{Me}
-use Rattle.mps_room.specs.Kept.{RoomState}
+use Rattle.mps_room.specs.RoomState.{RoomState}
 use Rattle.mps_room.specs.declared.entry.Entry.{Entry}
 use Rattle.mps_cell.specs.Openings.{room_of, IsLegalIn}
 use Rattle.mps_cell.specs.Views.{Part, View, part_of, raised, showing, took}

@@ -1,6 +1,6 @@
 use Rattle.std.proofs.Common.{rules, arith, false, ap, sym, ◌≡◌, ◌∙◌}
 use Rattle.atomic_table.specs.Table.{Me}
-use Rattle.mps_room.specs.Kept.{RoomState}
+use Rattle.mps_room.specs.RoomState.{RoomState}
 use Rattle.mps_cell.specs.Private.Origins.{opening_in}
 use Rattle.mps_cell.specs.Openings.{Opening}
 use Rattle.mps_cell.specs.Views.{View, newcomer, part_of}

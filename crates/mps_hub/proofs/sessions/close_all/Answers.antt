@@ -1,6 +1,6 @@
 use Rattle.std.proofs.Common.{◌≡◌, ◌+◌, List, ◌∷◌, [], ◌++◌, Option, length, sym, ap, ◌∙◌, subst, arith, append_assoc, length-append}
 use Rattle.std.specs.Vec.Iter.{into_iter_items}
-use Rattle.mps_room.specs.Kept.{RoomState}
+use Rattle.mps_room.specs.RoomState.{RoomState}
 use Rattle.mps_cell.specs.Cells.{Opened}
 use Rattle.mps_hub.specs.Halls.{AreClosed}
 use Rattle.mps_hub.proofs.Cells.{closed_push, closed_where}

@@ -1,5 +1,5 @@
 use Rattle.std.proofs.Common.{◌≡◌, ℕ, ◌+◌, ◌∷◌, Option, Some, refl, ap, ◌∙◌, subst}
-use Rattle.mps_room.specs.Kept.{RoomState}
+use Rattle.mps_room.specs.RoomState.{RoomState}
 use Rattle.mps_program.specs.Served.{IsSessionLine}
 use Rattle.mps_program.specs.Private.Served.{TookOne}
 use Rattle.mps_program.proofs.Telling.{lost_rest, told_rest}

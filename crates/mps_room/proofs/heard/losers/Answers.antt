@@ -3,7 +3,7 @@ use Rattle.std.specs.Prelude.{◌==◌, ◌||◌, Bool}
 use Rattle.std.specs.List.{list_any}
 use Rattle.std.proofs.lemmas.Bool.{ne_eqb}
 use Rattle.std.proofs.lemmas.List.{at_drop_more}
-use Rattle.mps_room.specs.Kept.{owns}
+use Rattle.mps_room.specs.Private.Owners.{owns}
 use Rattle.mps_room.proofs.Losing.{marked, one_more, or_false}
 use Rattle.mps_room.proofs.heard.losers.Goals as goal
 use Rattle.mps_room.proofs.heard.losers.Goals.{in-Some+then-place-lt8, in-Some+else-place-lt8, in_default}

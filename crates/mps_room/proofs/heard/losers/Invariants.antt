@@ -2,7 +2,7 @@
 use Rattle.std.proofs.Common.{◌≡◌, ℕ, ◌<◌, false, drop, length, slice_index_or}
 use Rattle.std.specs.Prelude.{◌||◌}
 use Rattle.std.specs.List.{list_any}
-use Rattle.mps_room.specs.Kept.{owns}
+use Rattle.mps_room.specs.Private.Owners.{owns}
 use Rattle.mps_room.proofs.heard.losers.Given as goal
 
 abbrev pub invariant-loop-id : goal.invariant-loop-id

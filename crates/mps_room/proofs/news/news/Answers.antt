@@ -1,7 +1,8 @@
 use Rattle.std.proofs.Common.{◌++◌, List, ℕ, ap, sym, ◌∙◌, arith, append-nil}
 use Rattle.std.specs.List.{filter, flat_map}
 use Rattle.std.proofs.lemmas.List.{at_drop_all}
-use Rattle.mps_room.specs.Kept.{owns, undone_at}
+use Rattle.mps_room.specs.Private.Heard.{undone_at}
+use Rattle.mps_room.specs.Private.Owners.{owns}
 use Rattle.mps_room.proofs.Telling.{news_told}
 use Rattle.mps_room.proofs.news.news.Goals as goal
 

@@ -1,7 +1,8 @@
 -- What was told, and what comes of the listed entries that are left, is all.
 use Rattle.std.proofs.Common.{◌≡◌, ◌++◌, drop}
 use Rattle.std.specs.List.{filter, flat_map}
-use Rattle.mps_room.specs.Kept.{owns, undone_at}
+use Rattle.mps_room.specs.Private.Heard.{undone_at}
+use Rattle.mps_room.specs.Private.Owners.{owns}
 use Rattle.mps_room.proofs.news.news.Given as goal
 
 abbrev pub invariant-loop-place : goal.invariant-loop-place

@@ -1,5 +1,5 @@
 use Rattle.std.proofs.Common.{ap}
-use Rattle.mps_room.specs.Kept.{RoomState}
+use Rattle.mps_room.specs.RoomState.{RoomState}
 use Rattle.mps_cell.proofs.Keeping.{opens_with}
 use Rattle.mps_cell.proofs.cell.Cell.open_numbered.Goals as goal
 

@@ -1,6 +1,7 @@
 -- The lists that were seen have the place if their roles hear of it, and the others are as they were.
 use Rattle.std.proofs.Common.{◌≡◌, ℕ, ◌<◌, ◌≤◌, length, slice_index_or}
-use Rattle.mps_room.specs.Kept.{owns, hears, with_place}
+use Rattle.mps_room.specs.Private.Heard.{hears, with_place}
+use Rattle.mps_room.specs.Private.Owners.{owns}
 use Rattle.mps_room.proofs.heard.Heard.note.Given as goal
 
 abbrev pub invariant-loop-k : goal.invariant-loop-k

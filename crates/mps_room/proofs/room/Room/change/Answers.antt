@@ -1,6 +1,6 @@
-use Rattle.std.proofs.Common.{◌≡◌, ◌<◌, ◌∷◌, [], ◌++◌, true, List, ℕ, Ok, length, map, sym, ap, ◌∙◌, subst, arith}
+use Rattle.std.proofs.Common.{◌≡◌, ◌<◌, ◌∷◌, [], ◌++◌, true, List, ℕ, Some, Ok, length, map, sym, ap, ◌∙◌, subst, arith}
 use Rattle.std.proofs.lemmas.List.{length-map}
-use Rattle.std.specs.Prelude.{Option, Result, IfErr, slice_index_or}
+use Rattle.std.specs.Prelude.{Result, IfErr, slice_index_or}
 use Rattle.mps_command.specs.Changes.{command_of}
 use Rattle.mps_command.specs.declared.answer.Refusal.{Refusal}
 use Rattle.mps_command.specs.declared.answer.Answer.{Answer}
@@ -9,17 +9,19 @@ use Rattle.mps_command.specs.declared.command.Change.{Change}
 use Rattle.mps_machine.specs.Machine.{serve}
 use Rattle.mps_machine.specs.Answering.{IsChanged}
 use Rattle.mps_machine.proofs.Answering.{from_ok}
-use Rattle.mps_room.specs.Journal.{undone_by, is_accepted, grown, reply, HasEntered, IsReply}
-use Rattle.mps_room.specs.Kept.{RoomState, AreHeard, owns, owners_after, hears, with_place}
+use Rattle.mps_room.specs.Journal.{undone_by, is_accepted, grown, reply, IsReply}
+use Rattle.mps_room.specs.Private.Heard.{AreHeard, hears, with_place}
+use Rattle.mps_room.specs.Private.Owners.{owns, owners_after}
+use Rattle.mps_room.specs.RoomState.{RoomState}
 use Rattle.mps_room.specs.declared.entry.Entry.{Entry}
 use Rattle.mps_session.proofs.PassedOn.{passed_on}
-use Rattle.mps_room.proofs.Accepting.{accepting, told_as, told_where}
+use Rattle.mps_room.proofs.Accepting.{accepting}
 use Rattle.mps_room.proofs.Growing.{asked}
 use Rattle.mps_room.proofs.Lists.{map_each}
 use Rattle.mps_room.proofs.Recording as recording
 use Rattle.mps_room.proofs.Refusing.{accepted_reply}
 use Rattle.mps_room.proofs.room.Room.change.Goals as goal
-use Rattle.mps_room.proofs.room.Room.change.Goals.{After-keep}
+use Rattle.mps_room.proofs.room.Room.change.Goals.{After-keep, After-unwrap}
 
 -- the change that is asked for, and what the session says of it
 abbrev change_in : After-keep → Change
@@ -81,22 +83,19 @@ invariant_of-self-2 c =
     (heard_lists l)
     (joined l)
 
-pub returns-clause-entered : goal.returns-clause-entered
-returns-clause-entered c =
-    let l = (goal.at.returns-clause-entered c).After-keep in
+-- the answer that is told is the one that is kept
+told : (c : After-unwrap) → c.in_ok-answer.answer ≡ c.unwrap.result
+told c = let same : Some c.in_ok-answer.answer ≡ Some c.unwrap.result = sym c.in_ok-answer.ensures.again ∙ c.unwrap.ensures in cc
+
+pub keep-requires-clause-fits : goal.keep-requires-clause-fits
+keep-requires-clause-fits c =
     let r = c.self.inside in
     let a = c.in_ok-answer.answer in
-    let is = recording.replied_as r.names r.session r.owners.items r.heard.count (map (λ v. v.items) r.heard.lists) r.journal.items c.self.invariant c.args.role (known l) (change_in l) a (answered l) (kept l) c.in_default.ensures.few c.args.command (is_asked l) in
-    subst (λ (m : RoomState). HasEntered m.names m.types m.journal c.args.role c.args.command c.keep.new.journal.items) c.self.view_is
-    (record {
-      answer = a;
-      wanted = subst (λ (w : Answer). IsReply a w) (sym is) (accepted_reply a (kept l));
-      accepted = kept l;
-      joined = joined l;
-    })
-
-pub returns-clause-told : goal.returns-clause-told
-returns-clause-told c = told_where c.args.again c.in_ok-answer.answer c.in_ok-answer.more c.in_ok-answer.ensures.again
+    let found = asked c.args.command c.requires.change in
+    let served = c.in_ok-answer.ensures.accepted found.0 found.1 in
+    recording.fits_as r.names r.session r.owners.items r.heard.count (map (λ v. v.items) r.heard.lists) r.journal.items c.self.invariant c.args.role
+    (subst (λ (m : RoomState). c.args.role < length m.types) (sym c.self.view_is) c.requires.role)
+    found.0 a (from_ok a _ served.answer) (accepting r.session.types r.session.state c.args.role found.0 a served.answer) c.in_default.ensures.few c.args.command found.2
 
 pub returns-clause-answer : goal.returns-clause-answer
 returns-clause-answer c =
@@ -104,7 +103,7 @@ returns-clause-answer c =
     let r = c.self.inside in
     let a = c.in_ok-answer.answer in
     let is = recording.replied_as r.names r.session r.owners.items r.heard.count (map (λ v. v.items) r.heard.lists) r.journal.items c.self.invariant c.args.role (known l) (change_in l) a (answered l) (kept l) c.in_default.ensures.few c.args.command (is_asked l) in
-    told_as (λ (t : Answer). IsReply t (reply c.args.self.now.names c.args.self.now.types c.args.self.now.journal c.args.role c.args.command)) c.args.again a c.in_ok-answer.more c.in_ok-answer.ensures.again
+    subst (λ (t : Answer). IsReply t (reply c.args.self.now.names c.args.self.now.types c.args.self.now.journal c.args.role c.args.command)) (told c)
     (subst (λ (m : RoomState). IsReply a (reply m.names m.types m.journal c.args.role c.args.command)) c.self.view_is
     (subst (λ (w : Answer). IsReply a w) (sym is) (accepted_reply a (kept l))))
 
@@ -113,15 +112,15 @@ returns-clause-journal c =
     let l = (goal.at.returns-clause-journal c).After-keep in
     let r = c.self.inside in
     let a = c.in_ok-answer.answer in
-    told_as (λ (t : Answer). c.keep.new.journal.items ≡ grown c.args.self.now.journal c.args.role c.args.command t) c.args.again a c.in_ok-answer.more c.in_ok-answer.ensures.again
-    (recording.grown_as r.names r.session r.owners.items r.heard.count (map (λ v. v.items) r.heard.lists) r.journal.items c.self.invariant c.args.role (known l) (change_in l) a (answered l) (kept l) c.in_default.ensures.few c.args.command (is_asked l) c.keep.new.journal.items (joined l)
-    ∙ ap (λ (m : RoomState). grown m.journal c.args.role c.args.command a) c.self.view_is)
+    recording.grown_as r.names r.session r.owners.items r.heard.count (map (λ v. v.items) r.heard.lists) r.journal.items c.self.invariant c.args.role (known l) (change_in l) a (answered l) (kept l) c.in_default.ensures.few c.args.command (is_asked l) c.keep.new.journal.items (joined l)
+    ∙ ap (λ (m : RoomState). grown m.journal c.args.role c.args.command a) c.self.view_is
+    ∙ ap (λ (t : Answer). grown c.args.self.now.journal c.args.role c.args.command t) (told c)
 
 pub returns-in_err-answer-clause-refused : goal.returns-in_err-answer-clause-refused
 returns-in_err-answer-clause-refused c =
     let r = c.self.inside in
     let found = asked c.args.command c.requires.change in
     let refusal = c.in_err-answer.field-0.0 in
-    passed_on _ refusal (λ (a : Result (Option Answer) Refusal). IfErr a (λ e. IsReply (Refused e) (reply c.args.self.now.names c.args.self.now.types c.args.self.now.journal c.args.role c.args.command))) c.from_residual.ensures.1
+    passed_on _ refusal (λ (a : Result Answer Refusal). IfErr a (λ e. IsReply (Refused e) (reply c.args.self.now.names c.args.self.now.types c.args.self.now.journal c.args.role c.args.command))) c.from_residual.ensures.1
     (subst (λ (m : RoomState). IsReply (Refused refusal) (reply m.names m.types m.journal c.args.role c.args.command)) c.self.view_is
     (recording.refused_as r.names r.session r.owners.items r.heard.count (map (λ v. v.items) r.heard.lists) r.journal.items c.self.invariant c.args.role found.0 c.args.command found.2 c.in_default.ensures.few c.accept.new.self.state refusal (c.in_err-answer.ensures.accepted found.0 found.1)))

@@ -1,6 +1,6 @@
 use Rattle.std.proofs.Common.{◌≡◌, List, ap, sym, ◌∙◌, arith, inl, inr}
 use Rattle.std.proofs.lemmas.Bool.{cases_lt}
-use Rattle.mps_room.specs.Kept.{places}
+use Rattle.mps_room.specs.Private.Heard.{places}
 use Rattle.mps_room.specs.declared.entry.Entry.{Entry}
 use Rattle.mps_room.proofs.Telling.{nobody}
 use Rattle.mps_room.proofs.room.Room.news.Goals as goal

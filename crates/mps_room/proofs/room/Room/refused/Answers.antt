@@ -3,7 +3,7 @@ use Rattle.std.specs.Prelude.{length}
 use Rattle.mps_machine.specs.Faults.{fault}
 use Rattle.mps_machine.specs.Machine.{State}
 use Rattle.mps_room.specs.Journal.{run}
-use Rattle.mps_room.specs.Kept.{RoomState}
+use Rattle.mps_room.specs.RoomState.{RoomState}
 use Rattle.mps_room.proofs.Refusing.{refused, short_reply}
 use Rattle.mps_room.proofs.room.Room.refused.Goals as goal
 

@@ -1,0 +1,6 @@
+-- What no contract of a public function uses.
+pub mod Owners
+pub mod Heard
+pub mod Recorded
+pub mod Kept
+pub mod Names

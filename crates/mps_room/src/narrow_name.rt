@@ -1,0 +1,47 @@
+//! Names in little memory.
+ghost use Rattle.std.specs.Prelude.{◌≡◌};
+
+use mps_base::Name;
+use mps_base::name::MAX_NAME;
+use std::marker::Model;
+
+/// A name in 33 bytes, which stands beside other bytes without a gap. A `Name` takes 40, and begins at a multiple of 8.
+#[derive(Debug, Drop)]
+pub(crate) struct NarrowName {
+    len: u8,
+    // whatever stands after the name is of no matter
+    bytes: [u8; 32],
+}
+
+impl Model for NarrowName {
+    ghost use Rattle.std.specs.Prelude.{ℕ, List, take};
+    ghost use Rattle.mps_room.specs.Private.Names.{IsNarrow};
+
+    ghost Value = { List ℕ };
+
+    ghost view = { λ n. take n.len n.bytes };
+
+    ghost invariant = { λ n. IsNarrow n.len n.bytes };
+}
+
+impl NarrowName {
+    /// The name in this form.
+    pub(crate) fn of(name: &Name) -> NarrowName
+        ensures { result ≡ name.now }
+    {
+        let word = name.as_bytes();
+        let mut bytes = [0; MAX_NAME];
+        bytes[..word.len()].copy_from_slice(word);
+        NarrowName {
+            len: word.len() as u8,
+            bytes,
+        }
+    }
+
+    /// The name itself.
+    pub(crate) fn name(&self) -> Name
+        ensures { result ≡ self.now }
+    {
+        Name::read(&self.bytes[..self.len as usize]).unwrap()
+    }
+}
