@@ -85,7 +85,7 @@ class Maker:
         return self.leaf(loops)
 
     def choice(self, nodes, level, loops):
-        """A choice; of more than two roles the others do the same behind each branch."""
+        """A choice; of more than two roles the others do the same after each branch."""
         dice, (sender, receiver) = self.dice, self.pair()
         count = dice.choice((1, 2, 2, 2, 3, 3, 4, 5, 8, 15, 16))
         count = max(1, min(count, nodes))
@@ -101,7 +101,7 @@ class Maker:
         return Choice(sender, receiver, tuple(zip(labels, branches)))
 
     def private(self, sender, receiver, nodes, after):
-        """A few acts of two roles, and behind them that type."""
+        """A few acts of two roles, and after them that type."""
         dice = self.dice
         for _ in range(dice.choice((0, 0, 1, 1, 2)) if nodes > 3 else 0):
             sender, receiver = dice.sample((sender, receiver), 2)
@@ -199,7 +199,7 @@ def at_the_limits(dice):
         front, loop = "roles a b ; ", long.upper()
         return dice.choice((f"roles {long} b ; {long} -> b : int . end", f"{front}rec {loop} . a -> b : int . {loop}",
                             f"{front}a -> b {{ {long} : end }}"))
-    # a node at level 65, behind 255, 256 or 257 others: it is too deep, or one too many
+    # a node at level 65, after 255, 256 or 257 others: it is too deep, or one too many
     branches = [f"l{at} : " + "a -> b : int . " * (15 + (at == 11) * over) + "end" for at in range(12)]
     return "roles a b ; a -> b { " + " , ".join(branches) + " , m : " + "a -> b : int . " * 70 + "end }"
 

@@ -160,7 +160,7 @@ class Reader:
         return self.act(token, self.take(is_name), level)
 
     def act(self, sender, receiver, level):
-        """A message or a choice, behind its two roles."""
+        """A message or a choice, after its two roles."""
         if self.take_one(":", "{") == ":":
             sort = self.take_one("int", "bool", "text")
             self.take_one(".")
@@ -171,7 +171,7 @@ class Reader:
         return Choice(sender, receiver, tuple(branches))
 
     def branch(self, level):
-        """A label, and the type behind it."""
+        """A label, and the type after it."""
         label = self.take(is_name)
         self.take_one(":")
         return label, self.type(level)
@@ -500,11 +500,11 @@ class Room:
         return self.without(role, places, reason or self.final(places))
 
     def back(self, role, name):
-        """The answer to a return to a mark: a rollback of the role's first step behind its last mark of that name."""
+        """The answer to a return to a mark: a rollback of the role's first step after its last mark of that name."""
         own = [place for place, step in enumerate(self.history) if step.role == role]
         marks = [place for place in own if self.history[place].act == Act("mark", None, name)]
-        behind = [place for place in own if marks and place > marks[-1]]
-        places = self.consequences(behind[0]) if behind else []
+        later = [place for place in own if marks and place > marks[-1]]
+        places = self.consequences(later[0]) if later else []
         return self.without(role, places, self.final(places) if marks else "nomark")
 
     def without(self, role, places, reason):

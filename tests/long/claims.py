@@ -20,7 +20,7 @@ def wrong_numbers(answers):
         word, *given = answer.split(" ")
         if word == "done":
             if given[:1] != [str(newest + 1)]:
-                return f"{answer} comes behind step {newest}"
+                return f"{answer} comes after step {newest}"
             newest += 1
         if word == "undone":
             steps = [newest + 1, *(int(number) for number in given)]
@@ -45,9 +45,9 @@ def cut(bench):
     for count in range(2, 9):
         turns, last = 24_000 // (2 * count), [f"a mark {'m' * 32}", "a show", f"{ROLES[count - 1]} send a 0"]
         first, protocol = ring_turns(count, 0, turns // 4), ring(count)
-        behind = [*ring_turns(count, 7, turns), "a mark n", *ring_turns(count, 3, 20), "a back n",
-                  *ring_turns(count, 9, 20), f"a back {'m' * 32}"]
-        lines = [*first, last[0], *behind, *last[1:]]
+        later = [*ring_turns(count, 7, turns), "a mark n", *ring_turns(count, 3, 20), "a back n",
+                 *ring_turns(count, 9, 20), f"a back {'m' * 32}"]
+        lines = [*first, last[0], *later, *last[1:]]
         told, wanted = bench.answers(protocol, *lines), bench.answers(protocol, *first, *last)
         bench.holds(told[-2:] == wanted[-2:], "the state isn't that of the script cut at the mark", protocol, *lines)
 

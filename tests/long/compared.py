@@ -143,7 +143,7 @@ def lines_of_each_length(bench):
 
 
 def without_a_break(bench):
-    """Scripts of a million bytes without an LF, behind nothing and behind a line."""
+    """Scripts of a million bytes without an LF, after nothing and after a line."""
     for front in (b"", b"a send b 5\n", b"a send b 5\n\n"):
         for byte in (b"x", b" ", b"\0", b"\xff", b"a send b 5\r"):
             bench.agrees(PAIR, front + (byte * MILLION)[:MILLION])

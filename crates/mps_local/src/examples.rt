@@ -78,7 +78,7 @@ pub fn worked_actions()
         × (type_left asked (Some 1) ≡ Some End)
         × (type_left asked None ≡ None) }
     // The outer loop's variable is replaced in the inner loop too.
-    ensures loop_behind_an_action { (unfolded turns ≡ Send at_c Int inner_turn)
+    ensures loop_after_an_action { (unfolded turns ≡ Send at_c Int inner_turn)
         × (type_left turns None ≡ Some inner_turn)
         × (head inner_turn ≡ Sends at_b Int)
         × (unfolded inner_turn ≡ Send at_b Int turns)

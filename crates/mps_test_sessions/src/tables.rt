@@ -325,7 +325,7 @@ const OUTPUTS_BEFORE: &[Arm] = &[
     ("g", Part::Send(G, Int), "end"),
 ];
 
-const OUTPUTS_BEHIND: &[Arm] = &[
+const OUTPUTS_AFTER: &[Arm] = &[
     ("i", Part::Send(A, Text), "end"),
     ("j", Part::Send(B, Int), "end"),
     ("k", Part::Send(C, Bool), "end"),
@@ -338,8 +338,8 @@ const OUTPUTS_BEHIND: &[Arm] = &[
 
 // Sixteen labels after the eighth of sixteen; after each other one an output.
 fn choice_below_another(rt: &(impl Abort + AllocGlobal)) -> Local {
-    let behind = in_front_of(rt, OUTPUTS_BEHIND, Branches::NoMore);
-    let eighth = more(rt, "h", picks(rt, G, INPUTS), behind);
+    let others = in_front_of(rt, OUTPUTS_AFTER, Branches::NoMore);
+    let eighth = more(rt, "h", picks(rt, G, INPUTS), others);
     Local::Select {
         peer: Role::new(H),
         branches: in_front_of(rt, OUTPUTS_BEFORE, eighth),

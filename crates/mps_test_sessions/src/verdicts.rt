@@ -460,7 +460,7 @@ fn variable(rt: &impl Abort) -> VarName {
 }
 
 // The type after the label.
-fn behind(rt: &(impl Abort + AllocGlobal), arm: &Arm) -> Local {
+fn after_label(rt: &(impl Abort + AllocGlobal), arm: &Arm) -> Local {
     let next = if arm.2 {
         Local::Var(variable(rt))
     } else {
@@ -476,7 +476,7 @@ fn behind(rt: &(impl Abort + AllocGlobal), arm: &Arm) -> Local {
 
 // The branch and then the others.
 fn more(rt: &(impl Abort + AllocGlobal), arm: &Arm, others: Branches) -> Branches {
-    Branches::more(rt.alloc(), name(rt, arm.0), behind(rt, arm), others).expect(rt, "memory")
+    Branches::more(rt.alloc(), name(rt, arm.0), after_label(rt, arm), others).expect(rt, "memory")
 }
 
 // Branches of these labels.

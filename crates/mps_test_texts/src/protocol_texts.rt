@@ -105,7 +105,7 @@ fn reads_protocols(rt: HostRuntime) {
 }
 
 // What stands after the message, if it is this one.
-fn behind_message<'a>(node: &'a Global, from: &[u8], to: &[u8], of: Sort) -> Option<&'a Global> {
+fn after_message<'a>(node: &'a Global, from: &[u8], to: &[u8], of: Sort) -> Option<&'a Global> {
     match node {
         Global::Message {
             sender,
@@ -127,13 +127,13 @@ fn reads_messages(rt: HostRuntime) {
     assert!(rt; check(&protocol).is_ok());
     let roles = [name(&rt, b"a"), name(&rt, b"b"), name(&rt, b"c")];
     assert!(rt; protocol.roles.as_slice() == roles.as_slice());
-    let second = behind_message(&protocol.body, b"a", b"b", Sort::Int);
-    let last = behind_message(second.expect(&rt, "a message"), b"b", b"c", Sort::Text);
+    let second = after_message(&protocol.body, b"a", b"b", Sort::Int);
+    let last = after_message(second.expect(&rt, "a message"), b"b", b"c", Sort::Text);
     assert!(rt; matches!(last, Some(Global::End)));
 }
 
 // The loop of the variable of these letters, if it is one.
-fn behind_rec<'a>(node: &'a Global, letters: &[u8]) -> Option<&'a Global> {
+fn body_of_loop<'a>(node: &'a Global, letters: &[u8]) -> Option<&'a Global> {
     match node {
         Global::Rec(bound, body) if bound.as_bytes() == letters => Some(body),
         _ => None,
@@ -153,7 +153,7 @@ fn branches_of<'a>(node: &'a Global, from: &[u8], to: &[u8]) -> Option<&'a Branc
 }
 
 // What stands after the first label, and the other branches, if it is this label.
-fn behind_label<'a>(branches: &'a Branches, letters: &[u8]) -> Option<(&'a Global, &'a Branches)> {
+fn after_label<'a>(branches: &'a Branches, letters: &[u8]) -> Option<(&'a Global, &'a Branches)> {
     match branches {
         Branches::More {
             label,
@@ -168,11 +168,11 @@ fn behind_label<'a>(branches: &'a Branches, letters: &[u8]) -> Option<(&'a Globa
 fn reads_branches_and_recursion(rt: HostRuntime) {
     let protocol = protocol(&rt, b"roles a b ; rec X . a -> b { go : X , stop : end }");
     assert!(rt; check(&protocol).is_ok());
-    let body = behind_rec(&protocol.body, b"X").expect(&rt, "a loop");
+    let body = body_of_loop(&protocol.body, b"X").expect(&rt, "a loop");
     let branches = branches_of(body, b"a", b"b").expect(&rt, "a choice");
-    let (go, others) = behind_label(branches, b"go").expect(&rt, "a branch");
+    let (go, others) = after_label(branches, b"go").expect(&rt, "a branch");
     assert!(rt; matches!(go, Global::Var(_)));
-    let (stop, others) = behind_label(others, b"stop").expect(&rt, "a branch");
+    let (stop, others) = after_label(others, b"stop").expect(&rt, "a branch");
     assert!(rt; matches!((stop, others), (Global::End, Branches::NoMore)));
 }
 
@@ -277,7 +277,7 @@ const TRAILING: &[Row] = &[
 ];
 
 #[test]
-fn names_what_stands_behind_a_protocol(rt: HostRuntime) {
+fn names_what_stands_after_a_protocol(rt: HostRuntime) {
     have_faults(&rt, TextKind::Trailing, TRAILING);
 }
 

@@ -38,6 +38,6 @@ pub returns-clause-pick_in_a_loop : goal.returns-clause-pick_in_a_loop
 unfolding unfolded
 returns-clause-pick_in_a_loop c = (refl, refl, refl, refl, refl, refl)
 
-pub returns-clause-loop_behind_an_action : goal.returns-clause-loop_behind_an_action
+pub returns-clause-loop_after_an_action : goal.returns-clause-loop_after_an_action
 unfolding unfolded
-returns-clause-loop_behind_an_action c = (refl, refl, refl, refl, refl)
+returns-clause-loop_after_an_action c = (refl, refl, refl, refl, refl)
