@@ -116,7 +116,7 @@ fn keep(
 {
     let place = journal.len() as u32;
     note(owners, heard, role, &command, &answer, place);
-    journal.push_reserved(Kept::of(role, command, answer));
+    Kept::push(journal, role, command, answer);
 }
 
 impl Room {

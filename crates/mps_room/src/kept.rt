@@ -1,11 +1,12 @@
 //! Entries as the journal keeps them.
-ghost use Rattle.std.specs.Prelude.{◌≡◌, ◌<◌, ◌^◌, Some, IfOk};
+ghost use Rattle.std.specs.Prelude.{◌≡◌, ◌+◌, ◌<◌, ◌≤◌, ◌^◌, ◌++◌, ◌∷◌, [], Some, IfOk, vec_len, vec_capacity};
 ghost use Rattle.mps_base.specs.declared.action.Message.TheVariants as messages;
 ghost use Rattle.mps_command.specs.declared.answer.Answer.TheVariants as answers;
 ghost use Rattle.mps_command.specs.declared.command.Command.TheVariants as commands;
 ghost use Rattle.mps_command.specs.declared.command.Forward.TheVariants as steps;
+ghost use Rattle.mps_room.specs.Callers.{entry};
 ghost use Rattle.mps_room.specs.Journal.{undone_by};
-ghost use Rattle.mps_room.specs.Private.Kept.{answer_in, command_in, role_in, step_done, Fits, TakesSuch};
+ghost use Rattle.mps_room.specs.Private.Kept.{answer_in, command_in, entry_in, role_in, step_done, Fits, TakesSuch};
 
 use crate::entry::Entry;
 use crate::narrow_name::NarrowName;
@@ -22,47 +23,41 @@ pub(crate) struct Kept {
     form: Form,
 }
 
-// An accepted command with its answer: what it was decides what there is to keep. The role stands first, then whom it
-// dealt with and a name, and then the number of the new step or those of the steps that were taken back, in an order
-// that leaves no gaps. A receipt of a text is the longest.
+// An accepted command with its answer: what it was decides what there is to keep. What takes a byte stands first, then a
+// name, and then the number of the new step or those of the steps that were taken back, so that no gaps are left. A receipt
+// of a text is the longest.
 #[derive(Debug, Drop)]
 enum Form {
     Sent {
-        role: u8,
-        to: u8,
+        pair: Pair,
         id: u32,
         value: Value,
     },
     Chose {
-        role: u8,
-        to: u8,
+        pair: Pair,
         label: NarrowName,
         id: u32,
     },
     ReceivedInt {
-        role: u8,
-        from: u8,
+        pair: Pair,
         slot: NarrowName,
         id: u32,
         value: i64,
     },
     ReceivedBool {
-        role: u8,
-        from: u8,
+        pair: Pair,
         slot: NarrowName,
         id: u32,
         value: bool,
     },
     ReceivedText {
-        role: u8,
-        from: u8,
+        pair: Pair,
         slot: NarrowName,
         id: u32,
         text: Text,
     },
     Picked {
-        role: u8,
-        from: u8,
+        pair: Pair,
         label: NarrowName,
         id: u32,
     },
@@ -96,6 +91,13 @@ enum Form {
     },
 }
 
+// Whose step it is, and with whom.
+#[derive(Clone, Copy, Debug)]
+struct Pair {
+    role: u8,
+    peer: u8,
+}
+
 const _: () = prove!(size_of::<Kept>() == 64);
 
 impl Model for Kept {
@@ -103,35 +105,37 @@ impl Model for Kept {
 
     ghost Value = { Entry };
 
-    ghost use Rattle.mps_room.specs.Private.Kept.{role_in, command_in, answer_in};
+    ghost use Rattle.mps_room.specs.Private.Kept.{entry_in};
 
-    ghost view = { λ k. record { role = role_in k.form; command = command_in k.form; answer = answer_in k.form } };
+    ghost view = { λ k. entry_in k.form };
 }
 
 impl Kept {
-    /// The entry of a command and its answer. It does not allocate.
-    pub(crate) fn of(role: Role, command: Command, answer: Answer) -> Kept
-        requires { Fits command answer }
-        ensures { result ≡ record { role = role; command = command; answer = answer } }
+    /// Puts the entry of a command and its answer at the end of a journal. It does not allocate. Each form is written where
+    /// it stays, since a form that came from one of several places would be moved in many small pieces.
+    #[inline(always)]
+    pub(crate) fn push(journal: &mut Vec<Kept>, role: Role, command: Command, answer: Answer)
+        requires fits { Fits command answer }
+        requires place { vec_len journal.old + 1 ≤ vec_capacity journal.old }
+        ensures { journal.new.items ≡ journal.old.items ++ entry role command answer ∷ [] }
     {
-        let role = role.index() as u8;
-        let form = match command {
+        let by = role.index() as u8;
+        match command {
             Command::Forward(step) => match answer {
-                Answer::Done(done) => Form::of_step(role, step, done),
+                Answer::Done(done) => push_step(journal, role, step, done),
                 _ => unreachable!(),
             },
-            Command::Undo(id) => Form::Undone { role, id },
+            Command::Undo(id) => put(journal, Form::Undone { role: by, id }),
             Command::Rollback(id) => match answer {
-                Answer::Undone(ids) => Form::RolledBack { role, id, ids },
+                Answer::Undone(ids) => put(journal, Form::RolledBack { role: by, id, ids }),
                 _ => unreachable!(),
             },
             Command::Back(mark) => match answer {
-                Answer::Undone(ids) => Form::of_return(role, &mark, ids),
+                Answer::Undone(ids) => push_return(journal, by, &mark, ids),
                 _ => unreachable!(),
             },
             Command::News(_) | Command::Show => unreachable!(),
-        };
-        Kept { form }
+        }
     }
 
     /// The entry itself.
@@ -158,116 +162,148 @@ impl Kept {
     }
 }
 
-impl Form {
-    // Of a step that was taken, and its answer.
-    fn of_step(role: u8, step: Forward, done: Done) -> Form
-        requires such { TakesSuch step done.got }
-        requires small { done.id < 2 ^ 32 }
-        ensures role { role_in result ≡ role }
-        ensures command { command_in result ≡ commands.Forward step }
-        ensures answer { answer_in result ≡ answers.Done done }
-    {
-        let id = done.id.number() as u32;
-        match step {
-            Forward::Send { to, value } => Form::Sent {
-                role,
-                to: to.index() as u8,
-                id,
-                value,
-            },
-            Forward::Choose { to, label } => Form::Chose {
-                role,
-                to: to.index() as u8,
-                label: NarrowName::of(&label),
-                id,
-            },
-            Forward::Receive { from, slot } => match done.got {
-                Some(Message::Value(value)) => Form::of_receipt(role, from, &slot, id, value),
-                _ => unreachable!(),
-            },
-            Forward::Pick { from } => match &done.got {
-                Some(Message::Label(label)) => Form::Picked {
-                    role,
-                    from: from.index() as u8,
-                    label: NarrowName::of(label),
-                    id,
-                },
-                _ => unreachable!(),
-            },
-            Forward::Mark { name } => Form::Marked {
-                role,
-                name: NarrowName::of(&name),
-                id,
-            },
-            Forward::Commit => Form::Committed { role, id },
-        }
-    }
+// Puts a form at the end of a journal.
+#[inline(always)]
+fn put(journal: &mut Vec<Kept>, form: Form)
+    requires { vec_len journal.old + 1 ≤ vec_capacity journal.old }
+    ensures { journal.new.items ≡ journal.old.items ++ entry_in form ∷ [] }
+{
+    journal.push_reserved(Kept { form });
+}
 
-    // Of a receipt of a value.
-    fn of_receipt(role: u8, from: Role, slot: &Name, id: u32, value: Value) -> Form
-        ensures role { role_in result ≡ role }
-        ensures command { command_in result ≡ commands.Forward (steps.Receive from slot.now) }
-        ensures answer { answer_in result ≡ step_done id (Some (messages.Value value)) }
-    {
-        let from = from.index() as u8;
-        let slot = NarrowName::of(slot);
-        match value {
-            Value::Int(value) => Form::ReceivedInt {
-                role,
-                from,
+// Puts a step that was taken, and its answer.
+#[inline(always)]
+fn push_step(journal: &mut Vec<Kept>, role: Role, step: Forward, done: Done)
+    requires such { TakesSuch step done.got }
+    requires small { done.id < 2 ^ 32 }
+    requires place { vec_len journal.old + 1 ≤ vec_capacity journal.old }
+    ensures { journal.new.items ≡ journal.old.items ++ entry role (commands.Forward step) (answers.Done done) ∷ [] }
+{
+    let by = role.index() as u8;
+    let id = done.id.number() as u32;
+    match step {
+        Forward::Send { to, value } => {
+            let pair = Pair::of(role, to);
+            put(journal, Form::Sent { pair, id, value });
+        }
+        Forward::Choose { to, label } => {
+            let pair = Pair::of(role, to);
+            let label = NarrowName::of(&label);
+            put(journal, Form::Chose { pair, label, id });
+        }
+        Forward::Receive { from, slot } => match done.got {
+            Some(Message::Value(value)) => {
+                push_receipt(journal, Pair::of(role, from), &slot, id, value);
+            }
+            _ => unreachable!(),
+        },
+        Forward::Pick { from } => match &done.got {
+            Some(Message::Label(label)) => {
+                let pair = Pair::of(role, from);
+                let label = NarrowName::of(label);
+                put(journal, Form::Picked { pair, label, id });
+            }
+            _ => unreachable!(),
+        },
+        Forward::Mark { name } => {
+            let name = NarrowName::of(&name);
+            put(journal, Form::Marked { role: by, name, id });
+        }
+        Forward::Commit => put(journal, Form::Committed { role: by, id }),
+    }
+}
+
+// Puts a receipt of a value.
+#[inline(always)]
+fn push_receipt(journal: &mut Vec<Kept>, pair: Pair, slot: &Name, id: u32, value: Value)
+    requires { vec_len journal.old + 1 ≤ vec_capacity journal.old }
+    ensures { journal.new.items ≡ journal.old.items
+        ++ entry pair.role (commands.Forward (steps.Receive pair.peer slot.now)) (step_done id (Some (messages.Value value))) ∷ [] }
+{
+    let slot = NarrowName::of(slot);
+    match value {
+        Value::Int(value) => {
+            let form = Form::ReceivedInt {
+                pair,
                 slot,
                 id,
                 value,
-            },
-            Value::Bool(value) => Form::ReceivedBool {
-                role,
-                from,
+            };
+            put(journal, form);
+        }
+        Value::Bool(value) => {
+            let form = Form::ReceivedBool {
+                pair,
                 slot,
                 id,
                 value,
-            },
-            Value::Text(text) => Form::ReceivedText {
-                role,
-                from,
+            };
+            put(journal, form);
+        }
+        Value::Text(text) => {
+            let form = Form::ReceivedText {
+                pair,
                 slot,
                 id,
                 text,
-            },
+            };
+            put(journal, form);
         }
     }
+}
 
-    // Of a return to a mark.
-    fn of_return(role: u8, mark: &Name, ids: StepIds) -> Form
-        ensures role { role_in result ≡ role }
-        ensures command { command_in result ≡ commands.Back mark.now }
-        ensures answer { answer_in result ≡ answers.Undone ids }
+// Puts a return to a mark.
+#[inline(always)]
+fn push_return(journal: &mut Vec<Kept>, role: u8, mark: &Name, ids: StepIds)
+    requires { vec_len journal.old + 1 ≤ vec_capacity journal.old }
+    ensures { journal.new.items ≡ journal.old.items ++ entry role (commands.Back mark.now) (answers.Undone ids) ∷ [] }
+{
+    let mark = NarrowName::of(mark);
+    match ids.into_vec() {
+        Ok(ids) => put(journal, Form::WentBack { role, mark, ids }),
+        Err(id) => put(journal, Form::WentBackByOne { role, mark, id }),
+    }
+}
+
+impl Pair {
+    // Of a role and the one that it has to do with.
+    fn of(role: Role, peer: Role) -> Pair
+        ensures role { result.role ≡ role }
+        ensures peer { result.peer ≡ peer }
     {
-        let mark = NarrowName::of(mark);
-        match ids.into_vec() {
-            Ok(ids) => Form::WentBack { role, mark, ids },
-            Err(id) => Form::WentBackByOne { role, mark, id },
+        Pair {
+            role: role.index() as u8,
+            peer: peer.index() as u8,
         }
     }
 
+    // Whom the role has to do with.
+    fn peer(self) -> Role
+        ensures { result ≡ self.peer }
+    {
+        Role::new(self.peer)
+    }
+}
+
+impl Form {
     // Whose entry it is.
     fn role(&self) -> Role
         ensures { result ≡ role_in self.now }
     {
-        let role = match self {
-            Form::Sent { role, .. }
-            | Form::Chose { role, .. }
-            | Form::ReceivedInt { role, .. }
-            | Form::ReceivedBool { role, .. }
-            | Form::ReceivedText { role, .. }
-            | Form::Picked { role, .. }
-            | Form::Marked { role, .. }
+        Role::new(match self {
+            Form::Sent { pair, .. }
+            | Form::Chose { pair, .. }
+            | Form::ReceivedInt { pair, .. }
+            | Form::ReceivedBool { pair, .. }
+            | Form::ReceivedText { pair, .. }
+            | Form::Picked { pair, .. } => pair.role,
+            Form::Marked { role, .. }
             | Form::Committed { role, .. }
             | Form::Undone { role, .. }
             | Form::RolledBack { role, .. }
             | Form::WentBackByOne { role, .. }
-            | Form::WentBack { role, .. } => role,
-        };
-        Role::new(*role)
+            | Form::WentBack { role, .. } => *role,
+        })
     }
 
     // What was asked for.
@@ -275,23 +311,21 @@ impl Form {
         ensures { IfOk result (λ command. command ≡ command_in self.now) }
     {
         Ok(match self {
-            Form::Sent { to, value, .. } => Command::Forward(Forward::Send {
-                to: Role::new(*to),
+            Form::Sent { pair, value, .. } => Command::Forward(Forward::Send {
+                to: pair.peer(),
                 value: value.copy(alloc)?,
             }),
-            Form::Chose { to, label, .. } => Command::Forward(Forward::Choose {
-                to: Role::new(*to),
+            Form::Chose { pair, label, .. } => Command::Forward(Forward::Choose {
+                to: pair.peer(),
                 label: label.name(),
             }),
-            Form::ReceivedInt { from, slot, .. }
-            | Form::ReceivedBool { from, slot, .. }
-            | Form::ReceivedText { from, slot, .. } => Command::Forward(Forward::Receive {
-                from: Role::new(*from),
+            Form::ReceivedInt { pair, slot, .. }
+            | Form::ReceivedBool { pair, slot, .. }
+            | Form::ReceivedText { pair, slot, .. } => Command::Forward(Forward::Receive {
+                from: pair.peer(),
                 slot: slot.name(),
             }),
-            Form::Picked { from, .. } => Command::Forward(Forward::Pick {
-                from: Role::new(*from),
-            }),
+            Form::Picked { pair, .. } => Command::Forward(Forward::Pick { from: pair.peer() }),
             Form::Marked { name, .. } => Command::Forward(Forward::Mark { name: name.name() }),
             Form::Committed { .. } => Command::Forward(Forward::Commit),
             Form::Undone { id, .. } => Command::Undo(*id),

@@ -26,6 +26,7 @@ impl Model for NarrowName {
 
 impl NarrowName {
     /// The name in this form.
+    #[inline(always)]
     pub(crate) fn of(name: &Name) -> NarrowName
         ensures { result ≡ name.now }
     {

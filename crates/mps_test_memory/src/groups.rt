@@ -6,7 +6,7 @@ use crate::lines::{
     TOLD, attends, converses, reads_a_command, reads_an_answer, writes_a_show, writes_an_answer,
 };
 use crate::outcomes::{Outcome, Until};
-use crate::parties::{room_asked, session_asked};
+use crate::parties::{gives_an_entry, room_asked, session_asked};
 use crate::rows::{ROOM_ROWS, ROWS, Row};
 use std::alloc::Global;
 use std::sync::Wait;
@@ -41,6 +41,7 @@ enum Call {
     Compile,
     Open,
     OpenProtocol,
+    Entry,
     OpenCell,
     Passes,
     ReadCommand,
@@ -67,6 +68,7 @@ const CALLS: &[(&str, Call)] = &[
     ("compile", Call::Compile),
     ("Session::open", Call::Open),
     ("open_protocol", Call::OpenProtocol),
+    ("Room::entry", Call::Entry),
     ("Cell::open", Call::OpenCell),
     ("Cell::passes", Call::Passes),
     ("read_command", Call::ReadCommand),
@@ -126,6 +128,7 @@ fn call_made<R: Wait + 'static>(
         Call::Compile => compiles(alloc, until),
         Call::Open => opens_a_session(alloc, until),
         Call::OpenProtocol => opens_a_protocol(alloc, until),
+        Call::Entry => gives_an_entry(alloc, until),
         Call::OpenCell => opens_a_cell(alloc, until),
         Call::Passes => hands_out_passes(alloc, until),
         Call::ReadCommand => reads_a_command(alloc, until),

@@ -3,7 +3,7 @@ ghost use Rattle.std.specs.Prelude.{◌≡◌, ◌<◌, length, IfSome};
 ghost use Rattle.mps_machine.specs.Machine.{initial};
 
 use crate::outcomes::{Outcome, Until, answered, refused};
-use crate::rows::{PROTOCOL, Row};
+use crate::rows::{HEARD, PROTOCOL, Row};
 use mps_base::{Role, Roles};
 use mps_cell::Pass;
 use mps_command::{Answer, Command, Refusal, StepIds};
@@ -259,4 +259,23 @@ pub fn session_asked(alloc: Global, row: &Row<'_>, until: Until) -> Option<Outco
 pub fn room_asked(alloc: Global, row: &Row<'_>, until: Until) -> Option<Outcome> {
     let (mut first, mut second) = (Roomed::new(alloc)?, Roomed::new(alloc)?);
     compared(alloc, &names(alloc)?, row, until, &mut first, &mut second)
+}
+
+/// Asks a room for the entry of a receipt of a text.
+pub fn gives_an_entry(alloc: Global, until: Until) -> Option<Outcome> {
+    let mut party = Roomed::new(alloc)?;
+    if !are_done(alloc, &names(alloc)?, &mut party, HEARD) {
+        return None;
+    }
+    if until == Until::Before {
+        return Some(Outcome::Reached);
+    }
+    let given = party.room.entry(3);
+    if until == Until::After {
+        return Some(Outcome::Reached);
+    }
+    match given {
+        Ok(entry) => answered(entry.is_some()),
+        Err(_) => refused(party.room.entry(3).is_ok()),
+    }
 }

@@ -26,6 +26,9 @@ const BACK: &str = "a back m";
 
 const COMMIT: &str = "b commit";
 
+/// The lines after which c has heard the text.
+pub const HEARD: &[&str] = &[SEND, RECEIVE, SAY, HEAR];
+
 /// What a session is asked for.
 pub const ROWS: &[Row<'static>] = &[
     Row("send", &[], SEND),
