@@ -16,8 +16,8 @@ use std::alloc::{AllocError, Global};
 use std::marker::Model;
 use std::slice;
 
-/// An entry in 64 bytes, where an `Entry` takes 144. A journal is mostly written, so an entry is made only for who asks
-/// for it.
+/// An entry in 64 bytes, where an `Entry` takes 144. A journal is mostly written, so an entry is made only for whoever
+/// asks for it.
 #[derive(Debug, Drop)]
 pub(crate) struct Kept {
     form: Form,
