@@ -147,90 +147,65 @@ impl Arena {
     pub fn next(&self, key: Key) -> Option<Key>
         ensures { result ≡ next_in self.now.entries key }
     {
-        match self.nodes.get(key.place()) {
-            Some(node) => node.next.key(),
-            None => None,
-        }
+        self.nodes.get(key.place())?.next.key()
     }
 
     /// The step right before this one; none where no step has the key.
     pub fn prev(&self, key: Key) -> Option<Key>
         ensures { result ≡ prev_in self.now.entries key }
     {
-        match self.nodes.get(key.place()) {
-            Some(node) => node.prev.key(),
-            None => None,
-        }
+        self.nodes.get(key.place())?.prev.key()
     }
 
     /// The role's next step; none where no step has the key.
     pub fn next_of_role(&self, key: Key) -> Option<Key>
         ensures { result ≡ next_of_role_in self.now.entries key }
     {
-        match self.nodes.get(key.place()) {
-            Some(node) => node.next_of_role.key(),
-            None => None,
-        }
+        self.nodes.get(key.place())?.next_of_role.key()
     }
 
     /// The role's step before; none where no step has the key.
     pub fn prev_of_role(&self, key: Key) -> Option<Key>
         ensures { result ≡ prev_of_role_in self.now.entries key }
     {
-        match self.nodes.get(key.place()) {
-            Some(node) => node.prev_of_role.key(),
-            None => None,
-        }
+        self.nodes.get(key.place())?.prev_of_role.key()
     }
 
     /// The pair's next send; none where the key is no send's.
     pub fn next_send(&self, key: Key) -> Option<Key>
         ensures { result ≡ next_send_in self.now.entries key }
     {
-        match self.nodes.get(key.place()) {
-            Some(node) => node.next_send.key(),
-            None => None,
-        }
+        self.nodes.get(key.place())?.next_send.key()
     }
 
     /// The pair's send before; none where the key is no send's.
     pub fn prev_send(&self, key: Key) -> Option<Key>
         ensures { result ≡ prev_send_in self.now.entries key }
     {
-        match self.nodes.get(key.place()) {
-            Some(node) => node.prev_send.key(),
-            None => None,
-        }
+        self.nodes.get(key.place())?.prev_send.key()
     }
 
     /// The receipt of a send, if it was received; none where the key is no send's.
     pub fn receipt(&self, key: Key) -> Option<Key>
         ensures { result ≡ receipt_in self.now.entries key }
     {
-        match self.nodes.get(key.place()) {
-            Some(node) => receipt_at(&node.step.act, node.matched),
-            None => None,
-        }
+        let node = self.nodes.get(key.place())?;
+        receipt_at(&node.step.act, node.matched)
     }
 
     /// The send of a receipt; none where the key is no receipt's.
     pub fn source(&self, key: Key) -> Option<Key>
         ensures { result ≡ source_in self.now.entries key }
     {
-        match self.nodes.get(key.place()) {
-            Some(node) => source_at(&node.step.act, node.matched),
-            None => None,
-        }
+        let node = self.nodes.get(key.place())?;
+        source_at(&node.step.act, node.matched)
     }
 
     /// The step's number; none where no step has the key.
     pub fn id(&self, key: Key) -> Option<StepId>
         ensures { result ≡ id_in self.now.entries key }
     {
-        match self.nodes.get(key.place()) {
-            Some(node) => Some(node.step.id),
-            None => None,
-        }
+        Some(self.nodes.get(key.place())?.step.id)
     }
 
     /// The step of the key.

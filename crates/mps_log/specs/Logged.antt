@@ -1,4 +1,4 @@
--- What a caller sees of a log, and what holds of its parts.
+-- What a caller sees of a log.
 use Rattle.std.specs.Prelude.{ℕ, List}
 use Rattle.mps_arena.specs.Entries.{KeyedStep}
 

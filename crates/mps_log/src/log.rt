@@ -1,10 +1,10 @@
 //! The log.
-ghost use Rattle.std.specs.Prelude.{◌≡◌, ◌<◌, ◌+◌, ◌^◌, ◌==◌, ℕ, List, [], ◌∷◌, ◌++◌, not, Some, None, IfOk, OnOk, OnErr, IsSome, length, slice_get};
+ghost use Rattle.std.specs.Prelude.{◌≡◌, ◌<◌, ◌+◌, ◌==◌, ℕ, List, [], not, Some, None, IfOk, OnOk, OnErr, IsSome, length, slice_get};
 ghost use Rattle.std.specs.List.{filter};
 ghost use Rattle.std.specs.Option.{option_copied, option_map, option_and_then};
 ghost use Rattle.mps_base.specs.declared.action.Act.TheVariants.{Out, In, Mark, Commit};
 ghost use Rattle.mps_history.specs.Steps.{without, unreceived};
-ghost use Rattle.mps_arena.specs.Entries.{KeyedStep, steps, entry_at, AreSound};
+ghost use Rattle.mps_arena.specs.Entries.{steps, entry_at, AreSound};
 ghost use Rattle.mps_arena.specs.Neighbours.{waiting, CanGo};
 ghost use Rattle.mps_queues.specs.Fronts.{AreFronts};
 ghost use Rattle.std.specs.Map.Iter.{deref_pair};

@@ -11,7 +11,7 @@ use crate::session::Session;
 use mps_base::Role;
 use mps_command::{Answer, Command, Done, Refusal, StepIds};
 
-// A new step as an answer, as often as it is told.
+// A new step as an answer, and a second time if there is a second.
 #[inline(always)]
 fn done(told: (Done, Option<Done>)) -> (Answer, Option<Answer>)
     ensures first { result.0 ≡ machine.stepped (Ok told.0) }
@@ -26,7 +26,7 @@ fn done(told: (Done, Option<Done>)) -> (Answer, Option<Answer>)
     (Answer::Done(done), again)
 }
 
-// Steps that were undone as an answer, as often as they are told.
+// Steps that were undone as an answer, and a second time if there is a second.
 #[inline(always)]
 fn undone(told: (StepIds, Option<StepIds>)) -> (Answer, Option<Answer>)
     ensures first { result.0 ≡ machine.removed (Ok told.0) }
@@ -43,7 +43,7 @@ fn undone(told: (StepIds, Option<StepIds>)) -> (Answer, Option<Answer>)
 
 impl Session {
     /// Does what the role asks for, and tells the answer, or tells it twice: one to return and one to keep. All memory is
-    /// asked for before anything changes. A refusal changes nothing. The command is none that asks how things stand.
+    /// asked for before anything changes. A refusal changes nothing. The command isn't a question.
     #[inline(always)]
     pub fn accept(
         &mut self,

@@ -29,7 +29,7 @@ pub(crate) struct Configuration {
 }
 
 impl Configuration {
-    /// The first message that waits for the role from the peer of whom the command would take one. It serves questions; where
+    /// The first message that waits for the role from the peer of whom the command would take one. `would` asks by it; where
     /// a step is taken, receipts and picks have a way of their own, so that no other step looks for a message.
     pub(crate) fn first_for(&self, role: Role, command: &Forward) -> Option<&Message>
         ensures moved { moved_by command.now (option_copied result)
@@ -168,7 +168,7 @@ pub(crate) fn once_more(
 
 /// The same, where it is to be told again.
 #[inline(always)]
-pub(crate) fn once_more_again(
+pub(crate) fn once_more_if(
     alloc: Global,
     message: Option<&Message>,
     again: bool,

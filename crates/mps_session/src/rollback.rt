@@ -185,8 +185,8 @@ impl Configuration {
         }
     }
 
-    /// The number of the role's first step after its last mark of the name; none where there is no such step, and
-    /// none of that where there is no such mark.
+    /// The number of the role's first step after its last mark of the name: `None` without such a mark, `Some(None)` where
+    /// no step of the role follows it.
     pub(crate) fn first_after(&self, role: Role, name: &Name) -> Option<Option<StepId>>
         requires { role < 8 }
         ensures { result ≡ option_map first_number

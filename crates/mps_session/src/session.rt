@@ -21,7 +21,7 @@ ghost use Rattle.mps_session.specs.Peers.{IsFirstBad, IsFirstFaulty, CanOpen, Is
 ghost use Rattle.mps_session.specs.SessionState.{session_view, moves_of};
 ghost use Rattle.mps_table.specs.Expects.{head_of};
 
-use crate::configuration::{Configuration, once_more, once_more_again};
+use crate::configuration::{Configuration, once_more, once_more_if};
 use crate::open::{OpenFault, first_bad_peer, first_bad_peer_of_any_size, first_faulty, opening};
 use mps_base::{Act, MAX_ROLES, MIN_ROLES, Message, Name, Role, Sort, Step, StepId, Value};
 use mps_command::{Done, Forward, Refusal};
@@ -179,7 +179,7 @@ impl Session {
         let first = kept.log.message(from, role, 0);
         let node = kept.allowed(role, command, first)?;
         let got = once_more(kept.alloc, first)?;
-        let more = once_more_again(kept.alloc, first, again)?;
+        let more = once_more_if(kept.alloc, first, again)?;
         let id = self.configuration.act(role, command, node)?;
         Ok(told(id, got, more))
     }

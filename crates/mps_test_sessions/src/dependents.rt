@@ -56,7 +56,6 @@ fn add(rt: &(impl Abort + AllocGlobal), arena: &mut Arena, deed: Deed)
     requires none { marked_keys arena.old.entries ≡ [] }
     ensures none { marked_keys arena.new.entries ≡ [] }
 {
-    assert!(rt; arena.issued() < 1_000_000);
     arena.reserve_one().expect(rt, "memory");
     let before = Before { at: 0, bound: None };
     let name = Name::read(b"x").expect(rt, "a name");

@@ -1,4 +1,4 @@
--- What stands in front of a line.
+-- What a line begins with.
 use Rattle.std.specs.Prelude.{◌≡◌, ◌≢◌, ℕ, List, [], ◌∷◌}
 use Rattle.std.specs.List.{AllByRecursion}
 use Rattle.mps_base.specs.Spaced.{spaced}

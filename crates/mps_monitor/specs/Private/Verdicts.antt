@@ -1,4 +1,4 @@
--- What the way to a verdict looks at.
+-- Verdicts on one type, for private functions.
 use Rattle.std.specs.Prelude.{◌≡◌, ℕ, List, [], ◌∷◌, Option, Some, None, Result, Ok, Err}
 use Rattle.std.specs.List.{position}
 use Rattle.std.specs.Str.{bytes_eq}
