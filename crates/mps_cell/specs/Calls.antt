@@ -1,18 +1,15 @@
 -- What a pass knows, and what a call tells it.
 use Rattle.std.specs.Prelude.{◌≡◌, ℕ, ◌<◌, ◌≤◌, Bool, true, false, List, [], ◌∷◌, ◌++◌, length, MatchBool, if◌then◌else◌, Option, None}
 use Rattle.atomic_table.specs.Seated.{TableId}
-use Rattle.atomic_table.specs.Table.{Me}
 use Rattle.mps_command.specs.declared.answer.Answer.{Answer}
 use Rattle.mps_command.specs.declared.command.Command.{Command}
 use Rattle.mps_room.specs.Callers.{entry, entries_of}
 use Rattle.mps_room.specs.Journal.{is_accepted, grown}
-use Rattle.mps_room.specs.RoomState.{RoomState}
 use Rattle.mps_room.specs.declared.entry.Entry.{Entry}
 use Rattle.mps_room.specs.declared.numbers.Numbered.{Numbered}
 use Rattle.mps_cell.specs.Openings.{Opening, IsLegalIn, IsReplyIn, reply_in}
 use Rattle.mps_cell.specs.Views.{Part, View, part_of}
 use Rattle.mps_cell.specs.Rule.{StartsWith}
-use Rattle.mps_cell.specs.Private.Rule.{IsFree}
 
 -- a pass, as contracts see it: its cell and how that was opened, its role, the journal that its last call showed, the greatest length that it was told of, the entries that it made, whether its last look or try found the room out, and its newest numbered command that was accepted
 pub record Known : Type 0 where
@@ -33,16 +30,6 @@ known id v = let p : Part = part_of v.parts in
 -- the same, with this numbered command
 abbrev pub carried : Known → Option Numbered → Known
 carried k newest = record k { newest = newest }
-
--- how the parts of a pass fit: its seat is one of the cell's with one part, which is of the role
-pub record IsSeated (seat : TableId) (me : Me RoomState View) (table : TableId) (role seen : ℕ) (names : List (List ℕ)) : Type 0 where
-  pub cell : seat ≡ table
-  pub word : table.words ≡ 1
-  pub free : IsFree me
-  pub role_is : role ≡ (part_of me.0.parts).role
-  pub seen_is : seen ≡ length (part_of me.0.parts).seen
-  pub some : role < length (part_of me.0.parts).opening.types
-  pub names_are : names ≡ (part_of me.0.parts).opening.names
 
 -- ---- calls
 

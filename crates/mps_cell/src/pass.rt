@@ -38,7 +38,8 @@ pub struct Pass<'a> {
 }
 
 impl<'a> Model for Pass<'a> {
-    ghost use Rattle.mps_cell.specs.Calls.{Known, IsSeated, known, carried};
+    ghost use Rattle.mps_cell.specs.Calls.{Known, known, carried};
+    ghost use Rattle.mps_cell.specs.Private.Rule.{IsSeated};
     ghost use Rattle.std.specs.Coded.{codes};
     ghost use Rattle.mps_local.specs.Private.Codes.{coded_local};
 

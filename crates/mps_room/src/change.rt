@@ -11,13 +11,12 @@ ghost use Rattle.mps_room.specs.Private.Recorded.{IsShort};
 
 use crate::heard::Heard;
 use crate::kept::Kept;
-use crate::news::undone_by;
 use crate::room::{MAX_ENTRIES, Room};
-use mps_base::Role;
+use mps_base::{Role, StepId};
 use mps_command::{Answer, Command, Refusal};
 
-// Makes room for one entry more, and for what the command adds besides: the owner of a step, or where the role may take
-// back steps of others the place of the entry in their lists. Says what is missing, if anything is.
+// Makes room for one entry more, and for what the command adds besides: the owner of a step, or, where the command may take
+// back steps of others, the entry's place in their lists. Says what is missing, if anything is.
 #[inline(always)]
 fn make_room(
     journal: &mut Vec<Kept>,
@@ -53,7 +52,7 @@ fn make_room(
     Ok(())
 }
 
-// Adds the owner of a new step, or where the role may take back steps of others the place of the entry to the lists of the
+// Adds the owner of a new step, or, where the command may take back steps of others, the entry's place to the lists of the
 // roles that hear of it.
 #[inline(always)]
 fn note(
@@ -119,6 +118,16 @@ fn keep(
     Kept::push(journal, role, command, answer);
 }
 
+// The numbers of the steps that an answer says were taken back.
+fn undone_by(answer: &Answer) -> &[StepId]
+    ensures { result.now ≡ undone_by answer.now }
+{
+    match answer {
+        Answer::Undone(ids) => ids.as_slice(),
+        _ => &[],
+    }
+}
+
 impl Room {
     /// Does the change that the command asks for, or says why not. What is accepted joins the journal with its answer,
     /// which is told besides.
@@ -145,16 +154,16 @@ impl Room {
         ) {
             return Err(self.refused(role, &command, lack));
         }
-        let (answer, again) = self.session.accept(role, &command, true)?;
+        let (kept, told) = self.session.accept(role, &command, true)?;
         keep(
             &mut self.journal,
             &mut self.owners,
             &mut self.heard,
             role,
             command,
-            answer,
+            kept,
         );
-        Ok(again.unwrap())
+        Ok(told.unwrap())
     }
 
     // The refusal of a change for which there is no room in the journal or no memory: the machine's, if it refuses, else

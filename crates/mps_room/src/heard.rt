@@ -122,6 +122,7 @@ fn losers(owners: &[u8], ids: &[StepId]) -> [bool; 8]
     let mut lost = [false; 8];
     for id in ids {
         if let Some(owner) = owner_of(owners, *id) {
+            // the owners of a room are below 8, which isn't asked of these
             let place = owner.index();
             if place < 8 {
                 lost[place] = true;

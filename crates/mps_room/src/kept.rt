@@ -252,7 +252,8 @@ fn push_receipt(journal: &mut Vec<Kept>, pair: Pair, slot: &Name, id: u32, value
     }
 }
 
-// Puts a return to a mark.
+// Puts a return to a mark. A session returns its numbers as a vector; one number alone has a form too, since their type
+// allows it.
 #[inline(always)]
 fn push_return(journal: &mut Vec<Kept>, role: u8, mark: &Name, ids: StepIds)
     requires { vec_len journal.old + 1 ≤ vec_capacity journal.old }

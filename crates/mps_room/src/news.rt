@@ -1,14 +1,13 @@
 //! What others took back.
 ghost use Rattle.std.specs.Prelude.{◌≡◌, ◌++◌, ℕ, ◌<◌, ◌≤◌, List, IfOk, OnOk};
 ghost use Rattle.std.specs.List.{filter, AllByRecursion};
-ghost use Rattle.mps_room.specs.Journal.{undone_by, is_own, news};
+ghost use Rattle.mps_room.specs.Journal.{is_own, news};
 ghost use Rattle.mps_room.specs.Private.Heard.{places, undone_at};
 ghost use Rattle.mps_room.specs.Private.Owners.{owns};
 
 use crate::heard::owner_of;
 use crate::kept::Kept;
 use mps_base::{Role, StepId};
-use mps_command::Answer;
 use std::alloc::{AllocError, Global};
 
 /// The numbers of the role's steps that entries of other roles took back, after the first `known` entries. It goes
@@ -49,16 +48,6 @@ fn undone_at(journal: &[Kept], place: u32) -> &[StepId]
     match journal.get(place as usize) {
         Some(kept) => kept.undone(),
         None => &[],
-    }
-}
-
-/// The numbers of the steps that an answer says were taken back.
-pub(crate) fn undone_by(answer: &Answer) -> &[StepId]
-    ensures { result.now ≡ undone_by answer.now }
-{
-    match answer {
-        Answer::Undone(ids) => ids.as_slice(),
-        _ => &[],
     }
 }
 

@@ -1,5 +1,5 @@
 //! Rooms.
-ghost use Rattle.std.specs.Prelude.{◌≡◌, ◌<◌, ℕ, false, [], length, slice_get, IfOk};
+ghost use Rattle.std.specs.Prelude.{◌≡◌, ◌<◌, ◌≤◌, ℕ, false, [], length, slice_get, Ok, None, IfOk};
 ghost use Rattle.mps_command.specs.declared.command.Command.TheVariants as commands;
 ghost use Rattle.mps_machine.specs.Machine.{initial};
 ghost use Rattle.mps_room.specs.Journal.{grown, is_accepted, news, reply, run, IsLegal, IsReply};
@@ -98,7 +98,9 @@ impl Room {
 
     /// The k-th entry, from 0. It is made anew, since the journal keeps entries in less memory.
     pub fn entry(&self, k: u64) -> Result<Option<Entry>, AllocError>
-        ensures { IfOk result (λ entry. entry ≡ slice_get self.now.journal k) }
+        ensures entry { IfOk result (λ entry. entry ≡ slice_get self.now.journal k) }
+        // past the end nothing asks for memory
+        ensures none { length self.now.journal ≤ k → result ≡ Ok None }
     {
         match self.journal.get(k as usize) {
             Some(kept) => Ok(Some(kept.entry(self.alloc)?)),

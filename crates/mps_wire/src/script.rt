@@ -66,7 +66,7 @@ impl From<OpenFault> for ReplayFault {
     }
 }
 
-/// Writes what others took back after the other answers.
+/// Writes, after the other answers, what others took back.
 #[inline(never)]
 fn reply_with_news(
     room: &Room,
@@ -80,7 +80,7 @@ fn reply_with_news(
     write_answer(&room.tell_news(role, known), answers)
 }
 
-/// Writes how the session stands after the other answers.
+/// Writes, after the other answers, how the session stands.
 #[inline(never)]
 fn reply_with_show(room: &Room, answers: &mut Vec<u8>) -> Result<(), AllocError>
     ensures { (role : ℕ) → OnOk result (IsAnswered room.now.names room.now.types room.now.journal role Show

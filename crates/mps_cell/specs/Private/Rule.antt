@@ -1,5 +1,6 @@
 -- The seat of a pass, between its steps.
-use Rattle.std.specs.Prelude.{◌≡◌, ℕ, ◌+◌, ◌≤◌, Bool, true, false, List, [], ◌∷◌, ◌++◌, ◌⊎◌, length, Some}
+use Rattle.std.specs.Prelude.{◌≡◌, ℕ, ◌+◌, ◌<◌, ◌≤◌, Bool, true, false, List, [], ◌∷◌, ◌++◌, ◌⊎◌, length, Some}
+use Rattle.atomic_table.specs.Seated.{TableId}
 use Rattle.atomic_table.specs.Table.{Me}
 use Rattle.mps_room.specs.RoomState.{RoomState}
 use Rattle.mps_room.specs.declared.entry.Entry.{Entry}
@@ -50,3 +51,13 @@ Gave m j m' = m' ≡ resting (showing j (part_of m.0.parts)) false
 abbrev pub Met : Me RoomState View → Me RoomState View → Me RoomState View → Me RoomState View → Type 0
 Met m l m' l' = let p : Part = part_of m.0.parts in let q : Part = part_of l.0.parts in
     (j : List Entry) × (b : Bool) × Shows j p × Shows j q × (m' ≡ resting (raised (length j) p) b) × (l' ≡ resting (raised (length j) q) false)
+
+-- how the parts of a pass fit: its seat is one of the cell's with one part, which is of the role
+pub record IsSeated (seat : TableId) (me : Me RoomState View) (table : TableId) (role seen : ℕ) (names : List (List ℕ)) : Type 0 where
+  pub cell : seat ≡ table
+  pub word : table.words ≡ 1
+  pub free : IsFree me
+  pub role_is : role ≡ (part_of me.0.parts).role
+  pub seen_is : seen ≡ length (part_of me.0.parts).seen
+  pub some : role < length (part_of me.0.parts).opening.types
+  pub names_are : names ≡ (part_of me.0.parts).opening.names
