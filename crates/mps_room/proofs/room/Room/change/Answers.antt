@@ -30,32 +30,32 @@ change_in c = (asked c.args.command c.requires.change).0
 is_asked : (c : After-keep) → c.args.command ≡ command_of (change_in c)
 is_asked c = (asked c.args.command c.requires.change).2
 
-served : (c : After-keep) → IsChanged c.self.inside.session.types c.args.role (change_in c) (Ok c.in_ok-answer.answer) c.self.inside.session.state c.accept.new.self.state
-served c = c.in_ok-answer.ensures.accepted (change_in c) (asked c.args.command c.requires.change).1
+served : (c : After-keep) → IsChanged c.self.inside.session.types c.args.role (change_in c) (Ok c.in_ok-kept.kept) c.self.inside.session.state c.accept.new.self.state
+served c = c.in_ok-kept.ensures.accepted (change_in c) (asked c.args.command c.requires.change).1
 
 -- the answer is the machine's, and accepts
-answered : (c : After-keep) → c.in_ok-answer.answer ≡ (serve c.self.inside.session.types c.self.inside.session.state c.args.role (change_in c)).0
-answered c = from_ok c.in_ok-answer.answer _ (served c).answer
+answered : (c : After-keep) → c.in_ok-kept.kept ≡ (serve c.self.inside.session.types c.self.inside.session.state c.args.role (change_in c)).0
+answered c = from_ok c.in_ok-kept.kept _ (served c).answer
 
-kept : (c : After-keep) → is_accepted c.in_ok-answer.answer ≡ true
+kept : (c : After-keep) → is_accepted c.in_ok-kept.kept ≡ true
 kept c =
     let s = c.self.inside.session in
-    accepting s.types s.state c.args.role (change_in c) c.in_ok-answer.answer (served c).answer
+    accepting s.types s.state c.args.role (change_in c) c.in_ok-kept.kept (served c).answer
 
 known : (c : After-keep) → c.args.role < length c.self.inside.session.types
 known c = subst (λ (m : RoomState). c.args.role < length m.types) (sym c.self.view_is) c.requires.role
 
-joined : (c : After-keep) → c.keep.new.journal.items ≡ c.self.inside.journal.items ++ record { role = c.args.role; command = c.args.command; answer = c.in_ok-answer.answer } ∷ []
+joined : (c : After-keep) → c.keep.new.journal.items ≡ c.self.inside.journal.items ++ record { role = c.args.role; command = c.args.command; answer = c.in_ok-kept.kept } ∷ []
 joined c =
-    let e : Entry = record { role = c.args.role; command = c.args.command; answer = c.in_ok-answer.answer } in
+    let e : Entry = record { role = c.args.role; command = c.args.command; answer = c.in_ok-kept.kept } in
     c.keep.ensures.journal ∙ ap (λ (l : List Entry). l ++ e ∷ []) c.make_room.ensures.journal
 
 -- the lists after it
 heard_lists : (c : After-keep) → AreHeard c.self.inside.heard.count (map (λ v. v.items) c.keep.new.heard.lists)
-    (c.self.inside.journal.items ++ record { role = c.args.role; command = command_of (change_in c); answer = c.in_ok-answer.answer } ∷ [])
+    (c.self.inside.journal.items ++ record { role = c.args.role; command = command_of (change_in c); answer = c.in_ok-kept.kept } ∷ [])
 heard_lists c =
     let r = c.self.inside in
-    let a = c.in_ok-answer.answer in
+    let a = c.in_ok-kept.kept in
     let room = c.make_room.ensures in
     let hear = λ (owners : List ℕ) (q : ℕ). hears (owns owners q) q c.args.role (undone_by a) in
     recording.heard_as r.names r.session r.owners.items r.heard.count (map (λ v. v.items) r.heard.lists) r.journal.items c.self.invariant c.args.role (known c) (change_in c) a (answered c) (kept c) c.in_default.ensures.few
@@ -75,24 +75,24 @@ pub invariant_of-self-2 : goal.invariant_of-self-2
 invariant_of-self-2 c =
     let l = (goal.at.invariant_of-self-2 c).After-keep in
     let r = c.self.inside in
-    let a = c.in_ok-answer.answer in
+    let a = c.in_ok-kept.kept in
     recording.recorded_as r.names r.session r.owners.items r.heard.count (map (λ v. v.items) r.heard.lists) r.journal.items c.self.invariant c.args.role (known l) (change_in l) a (answered l) (kept l) c.in_default.ensures.few c.args.command (is_asked l)
-    c.accept.new.self c.keep.new.owners.items c.keep.new.heard.count (map (λ v. v.items) c.keep.new.heard.lists) c.keep.new.journal.items c.in_ok-answer.ensures.types (served l).state
+    c.accept.new.self c.keep.new.owners.items c.keep.new.heard.count (map (λ v. v.items) c.keep.new.heard.lists) c.keep.new.journal.items c.in_ok-kept.ensures.types (served l).state
     (c.keep.ensures.owners ∙ ap (λ (o : List ℕ). owners_after o c.args.role a) c.make_room.ensures.owners)
     (c.keep.ensures.hearers ∙ c.make_room.ensures.hearers)
     (heard_lists l)
     (joined l)
 
 -- the answer that is told is the one that is kept
-told : (c : After-unwrap) → c.in_ok-answer.answer ≡ c.unwrap.result
-told c = let same : Some c.in_ok-answer.answer ≡ Some c.unwrap.result = sym c.in_ok-answer.ensures.again ∙ c.unwrap.ensures in cc
+told : (c : After-unwrap) → c.in_ok-kept.kept ≡ c.unwrap.result
+told c = let same : Some c.in_ok-kept.kept ≡ Some c.unwrap.result = sym c.in_ok-kept.ensures.again ∙ c.unwrap.ensures in cc
 
 pub keep-requires-clause-fits : goal.keep-requires-clause-fits
 keep-requires-clause-fits c =
     let r = c.self.inside in
-    let a = c.in_ok-answer.answer in
+    let a = c.in_ok-kept.kept in
     let found = asked c.args.command c.requires.change in
-    let served = c.in_ok-answer.ensures.accepted found.0 found.1 in
+    let served = c.in_ok-kept.ensures.accepted found.0 found.1 in
     recording.fits_as r.names r.session r.owners.items r.heard.count (map (λ v. v.items) r.heard.lists) r.journal.items c.self.invariant c.args.role
     (subst (λ (m : RoomState). c.args.role < length m.types) (sym c.self.view_is) c.requires.role)
     found.0 a (from_ok a _ served.answer) (accepting r.session.types r.session.state c.args.role found.0 a served.answer) c.in_default.ensures.few c.args.command found.2
@@ -101,7 +101,7 @@ pub returns-clause-answer : goal.returns-clause-answer
 returns-clause-answer c =
     let l = (goal.at.returns-clause-answer c).After-keep in
     let r = c.self.inside in
-    let a = c.in_ok-answer.answer in
+    let a = c.in_ok-kept.kept in
     let is = recording.replied_as r.names r.session r.owners.items r.heard.count (map (λ v. v.items) r.heard.lists) r.journal.items c.self.invariant c.args.role (known l) (change_in l) a (answered l) (kept l) c.in_default.ensures.few c.args.command (is_asked l) in
     subst (λ (t : Answer). IsReply t (reply c.args.self.now.names c.args.self.now.types c.args.self.now.journal c.args.role c.args.command)) (told c)
     (subst (λ (m : RoomState). IsReply a (reply m.names m.types m.journal c.args.role c.args.command)) c.self.view_is
@@ -111,16 +111,16 @@ pub returns-clause-journal : goal.returns-clause-journal
 returns-clause-journal c =
     let l = (goal.at.returns-clause-journal c).After-keep in
     let r = c.self.inside in
-    let a = c.in_ok-answer.answer in
+    let a = c.in_ok-kept.kept in
     recording.grown_as r.names r.session r.owners.items r.heard.count (map (λ v. v.items) r.heard.lists) r.journal.items c.self.invariant c.args.role (known l) (change_in l) a (answered l) (kept l) c.in_default.ensures.few c.args.command (is_asked l) c.keep.new.journal.items (joined l)
     ∙ ap (λ (m : RoomState). grown m.journal c.args.role c.args.command a) c.self.view_is
     ∙ ap (λ (t : Answer). grown c.args.self.now.journal c.args.role c.args.command t) (told c)
 
-pub returns-in_err-answer-clause-refused : goal.returns-in_err-answer-clause-refused
-returns-in_err-answer-clause-refused c =
+pub returns-in_err-kept-clause-refused : goal.returns-in_err-kept-clause-refused
+returns-in_err-kept-clause-refused c =
     let r = c.self.inside in
     let found = asked c.args.command c.requires.change in
-    let refusal = c.in_err-answer.field-0.0 in
+    let refusal = c.in_err-kept.field-0.0 in
     passed_on _ refusal (λ (a : Result Answer Refusal). IfErr a (λ e. IsReply (Refused e) (reply c.args.self.now.names c.args.self.now.types c.args.self.now.journal c.args.role c.args.command))) c.from_residual.ensures.1
     (subst (λ (m : RoomState). IsReply (Refused refusal) (reply m.names m.types m.journal c.args.role c.args.command)) c.self.view_is
-    (recording.refused_as r.names r.session r.owners.items r.heard.count (map (λ v. v.items) r.heard.lists) r.journal.items c.self.invariant c.args.role found.0 c.args.command found.2 c.in_default.ensures.few c.accept.new.self.state refusal (c.in_err-answer.ensures.accepted found.0 found.1)))
+    (recording.refused_as r.names r.session r.owners.items r.heard.count (map (λ v. v.items) r.heard.lists) r.journal.items c.self.invariant c.args.role found.0 c.args.command found.2 c.in_default.ensures.few c.accept.new.self.state refusal (c.in_err-kept.ensures.accepted found.0 found.1)))
