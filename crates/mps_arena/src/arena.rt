@@ -58,7 +58,6 @@ impl Arena {
         ensures key { IfOk result (λ key. key ≡ self.new.next_key) }
         ensures entries { self.new.entries ≡ self.old.entries }
         ensures issued { self.new.issued ≡ self.old.issued }
-        ensures fits { OnOk result (self.new.issued + 1 < 2 ^ 64) }
         ensures next { self.new.next_key ≡ self.old.next_key }
         ensures succeeds { IsTrue self.old.is_ready → IsOk result }
     {
@@ -201,7 +200,7 @@ impl Arena {
         source_at(&node.step.act, node.matched)
     }
 
-    /// The step's number; none where no step has the key.
+    /// The step's number; none where no step has the key. So it tells whether `get`, `before` and `marked` may be called.
     pub fn id(&self, key: Key) -> Option<StepId>
         ensures { result ≡ id_in self.now.entries key }
     {

@@ -7,7 +7,7 @@ ghost use Rattle.mps_base.specs.Numbers.{IsNumberText, IsIntText};
 use itoa::Buffer;
 use std::alloc::AllocError;
 
-/// Reads the number of a step: decimal digits, with no `0` in front of others.
+/// Reads a number below 2^64: decimal digits, with no `0` in front of others.
 pub fn read_number(bytes: &[u8]) -> Option<u64>
     ensures read { IfSome result (IsNumberText bytes.now) }
     ensures none { IfNone result ((n : ℕ) → n < 2 ^ 64 → IsNumberText bytes.now n → ⊥) }
@@ -65,7 +65,7 @@ fn read_many(digits: &[u8]) -> Option<u64>
     Some(n)
 }
 
-/// Writes the number of a step at the end.
+/// Writes a number below 2^64 at the end.
 #[tactic(auto, using(crate::proofs::Numbers::decimal_is_number))]
 #[inline(always)]
 pub fn write_number(n: u64, out: &mut Vec<u8>) -> Result<(), AllocError>
@@ -102,7 +102,7 @@ pub(crate) fn write_int(n: i64, out: &mut Vec<u8>) -> Result<(), AllocError>
     out.extend_from_slice(text.format(n).as_bytes())
 }
 
-/// Each number of a step has one spelling, and a text spells at most one number.
+/// Each number below 2^64 has one spelling, and a text spells at most one number.
 pub fn one_number_spelling()
     ensures spelling { (a b : List ℕ) (n : ℕ) → n < 2 ^ 64
         → IsNumberText a n → IsNumberText b n → a ≡ b }

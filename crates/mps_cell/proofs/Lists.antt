@@ -1,15 +1,19 @@
 -- Lists of parts and of entries.
-use Rattle.std.proofs.Common.{◌≡◌, ◌≢◌, ℕ, zero, suc, ◌<◌, ◌≤◌, ◌==◌, Bool, List, [], ◌∷◌, ◌++◌, map, length, set, sym, refl, ap, ◌∙◌, subst, inl, inr, ◌⊎◌, ⊎_elim, arith, append_assoc, length-append, ne_eqb, eq-eqb, if◌then◌else◌}
+use Rattle.std.proofs.Common.{◌≡◌, ◌≢◌, ℕ, zero, suc, ◌<◌, ◌≤◌, ◌==◌, Bool, List, [], ◌∷◌, ◌++◌, map, length, set, sym, refl, ap, ◌∙◌, subst, inl, inr, ◌⊎◌, ⊎_elim, arith, append_assoc, append-nil, length-append, ne_eqb, eq-eqb, if◌then◌else◌}
 use mathlib.Core.Option as maybe
 use lib.ListN.{get_elem?}
 use Rattle.atomic_table.proofs.Lists.{at_set}
 use Rattle.mps_room.specs.Callers.{entries_of}
-use Rattle.mps_room.specs.Solos.{other_entry}
+use Rattle.mps_room.specs.Solos.{filter_end}
 use Rattle.mps_room.specs.declared.entry.Entry.{Entry}
 use Rattle.mps_cell.specs.Openings.{Opening, IsLegalIn}
 use Rattle.mps_cell.specs.Views.{Part, View, raised}
 use Rattle.mps_cell.specs.Rule.{Shows, AllShow, AllHere, AllOther, AllApart}
 use Rattle.mps_cell.specs.Private.Rule.{Grows}
+
+-- one entry of another role more
+other_entry : (role : ℕ) (k : List Entry) (e : Entry) → e.role ≢ role → entries_of role (k ++ e ∷ []) ≡ entries_of role k
+other_entry role k e differs = filter_end (λ (x : Entry). x.role == role) k e ∙ (ap (λ (b : Bool). entries_of role k ++ (if b then e ∷ [] else [])) (ne_eqb e.role role differs) ∙ append-nil (entries_of role k))
 
 pub inside : {A : Type 0} (l : List A) (i : ℕ) (a : A) → get_elem? l i ≡ maybe.some a → i < length l
 inside [] i a e = absurd (maybe.some-ne-none a (sym e))

@@ -8,7 +8,8 @@ use Rattle.mps_line.specs.declared.write_replies.Reply.{Reply}
 use Rattle.mps_line.specs.declared.write_replies.Reply.TheVariants.{Answered, BadLine, Joined, NoSession, NoRole, Taken, Number}
 use Rattle.mps_lines.specs.Lines.{front}
 use Rattle.mps_room.specs.declared.caller.Caller.{Ghosts}
-use Rattle.mps_hub.specs.Connections.{HasAttended, HasJoined, IsAnsweredFirst, RepliesToFirst}
+use Rattle.mps_hub.specs.Connections.{HasAttended, RepliesToFirst}
+use Rattle.mps_hub.specs.Private.Connections.{HasJoined, IsAnsweredFirst}
 use Rattle.mps_hub.specs.First.{IsFirstLine, IsJoin}
 use Rattle.mps_hub.specs.Places.{IsOffered, IsPassOf, Offer}
 use Rattle.mps_hub.specs.declared.attending.Attended.{Attended}

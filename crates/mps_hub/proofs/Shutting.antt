@@ -4,10 +4,9 @@ use Rattle.std.specs.Prelude.{◌↔◌, IsErrOf, IfErr}
 use Rattle.mps_base.specs.RoleLists.{HasRoleCount}
 use Rattle.mps_local.specs.Local.{LocalType}
 use Rattle.mps_local.specs.declared.faults.LocalFault.{LocalFault}
-use Rattle.mps_session.specs.Peers.{IsFirstBad, IsFirstFaulty}
+use Rattle.mps_session.specs.Peers.{IsFirstBad, IsFirstFaulty, KeepsShut}
 use Rattle.mps_session.specs.declared.open.OpenFault.{OpenFault}
 use Rattle.mps_session.specs.declared.open.OpenFault.TheVariants.{RoleCount, BadPeer, Local, Memory}
-use Rattle.mps_wire.specs.Runs.{KeepsShut}
 
 -- what opening a session tells says it, unless memory ran out
 pub shut : {S : Type 0} (types : List LocalType) (r : Result S OpenFault)

@@ -11,7 +11,7 @@ use Rattle.mps_line.specs.declared.write_replies.Reply.TheVariants.{Answered, Ba
 use Rattle.mps_lines.specs.Lines.{ended}
 use Rattle.mps_room.specs.declared.caller.Caller.{Ghosts}
 use Rattle.mps_wire.specs.Endings.{EndedAs}
-use Rattle.mps_wire.specs.Flow.{TookFront}
+use Rattle.mps_wire.specs.Sending.{TookFront}
 use Rattle.mps_wire.specs.Streams.{streams}
 use Rattle.mps_wire.specs.Talk.{talks, talks_to_part}
 use Rattle.mps_wire.specs.declared.conversation.Ending.{Ending}
@@ -45,13 +45,6 @@ pub record WasCutShort {W : Type 0} (sink : SinkGhosts W) (old new : W) (reply :
   pub front : TookFront (sink.taken old) (sink.taken new) (ended text)
   pub failed : sink.failed_calls new ≡ sink.failed_calls old + 1
 
--- what the writer was given of the reply to a first line that gets no pass, by how the connection ended
-abbrev pub IsAnsweredFirst : {W : Type 0} → SinkGhosts W → W → W → Reply → Attended → Type 0
-IsAnsweredFirst sink old new reply NoLine = ⊥
-IsAnsweredFirst sink old new reply TurnedAway = (WasSent sink old new reply × (code_of reply ≢ 0)) ⊎ WasCutShort sink old new reply
-IsAnsweredFirst sink old new reply (Conversed ending) = ⊥
-IsAnsweredFirst sink old new reply Memory = new ≡ old
-
 -- what a caller that got its pass came to, once it was told so with this reply
 module _ {C R W : Type 0} (caller : Ghosts C) (source : SourceGhosts R) (sink : SinkGhosts W) (joined : Reply)
     (before : C) (reader : R) (writer : W) (after : C) (reader' : R) (writer' : W) where
@@ -61,13 +54,6 @@ module _ {C R W : Type 0} (caller : Ghosts C) (source : SourceGhosts R) (sink : 
     pub sent : WasSent sink writer told joined
     pub ended : EndedAs (talks caller) (talks_to_part caller) before
         (streams source sink reader told) (streams source sink reader' writer') after ending
-
-  -- by how the connection ended
-  abbrev pub HasJoined : Attended → Type 0
-  HasJoined NoLine = ⊥
-  HasJoined TurnedAway = WasCutShort sink writer writer' joined × (reader' ≡ reader)
-  HasJoined (Conversed ending) = HasTalked ending
-  HasJoined Memory = (writer' ≡ writer) × (reader' ≡ reader)
 
 -- What one connection comes to: a reader and a writer, as they were before it and as they are after it.
 module _ {C R W : Type 0} (caller : Ghosts C) (pass : C → Known) (source : SourceGhosts R) (sink : SinkGhosts W)

@@ -25,13 +25,6 @@ module _ {R : Type 0} (source : Ghosts R) (old new : R) where
     pub no_failure : source.failed_calls new ≡ source.failed_calls old
     pub no_end : source.ends new ≡ source.ends old
 
-  -- no byte that was given ends a line; of them the front is kept
-  pub record IsBegun (kept : List ℕ) : Type 0 where
-    pub read : List ℕ
-    pub gave : Gave read
-    pub unbroken : HasNoBreak read
-    pub front_kept : kept ≡ front read
-
   -- a line and its LF were given, and no byte more, and no read failed or found the end; of the line the front is kept
   pub record IsFirstLine (kept : List ℕ) : Type 0 where
     pub line : List ℕ

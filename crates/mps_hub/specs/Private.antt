@@ -1,3 +1,5 @@
 -- What no contract of a public function uses.
 pub mod Lock
 pub mod Places
+pub mod First
+pub mod Connections

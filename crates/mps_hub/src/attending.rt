@@ -4,7 +4,8 @@ ghost use Rattle.mps_line.specs.Codes.{code_of};
 ghost use Rattle.mps_line.specs.Replies.{SpellsReply};
 ghost use Rattle.mps_lines.specs.Lines.{ended};
 ghost use Rattle.mps_wire.specs.declared.conversation.Broken.TheVariants.{Memory as NoMemory, Write as NotWritten};
-ghost use Rattle.mps_hub.specs.Connections.{HasAttended, HasJoined, IsAnsweredFirst, RepliesToFirst, WasCutShort, WasSent};
+ghost use Rattle.mps_hub.specs.Connections.{HasAttended, RepliesToFirst, WasCutShort, WasSent};
+ghost use Rattle.mps_hub.specs.Private.Connections.{HasJoined, IsAnsweredFirst};
 ghost use Rattle.mps_hub.specs.First.{IsJoin};
 ghost use Rattle.mps_hub.specs.Places.{IsPassOf};
 
@@ -17,7 +18,7 @@ use mps_dev::{Failed, Sink, Source};
 use mps_line::Reply;
 use mps_room::Caller;
 use mps_wire::conversation::Broken;
-use mps_wire::flow::send_all;
+use mps_wire::sending::send_all;
 use mps_wire::{Ending, converse};
 use std::alloc::{AllocError, Global};
 use std::sync::Wait;
@@ -35,7 +36,7 @@ pub enum Attended {
     Memory,
 }
 
-/// The text of the reply, with its LF.
+// The text of the reply, with its LF.
 fn text_of(alloc: Global, reply: &Reply) -> Result<Vec<u8>, AllocError>
     ensures { (words : List ℕ) × SpellsReply words reply.now × IfOk result (λ text. text.items ≡ ended words) }
 {
@@ -46,7 +47,7 @@ fn text_of(alloc: Global, reply: &Reply) -> Result<Vec<u8>, AllocError>
     Ok(text)
 }
 
-/// Writes the reply with its LF. Where memory runs out nothing is written.
+// Writes the reply with its LF. Where memory runs out nothing is written.
 fn send<W: Sink>(alloc: Global, writer: &mut W, reply: &Reply) -> Result<(), Broken>
     requires { W.failed_calls writer.old < 2 ^ 62 }
     ensures sent { OnOk result (WasSent W.Sink writer.old writer.new reply.now) }
@@ -60,7 +61,7 @@ fn send<W: Sink>(alloc: Global, writer: &mut W, reply: &Reply) -> Result<(), Bro
     }
 }
 
-/// Answers a first line that gets no pass.
+// Answers a first line that gets no pass.
 fn refuse<W: Sink>(alloc: Global, writer: &mut W, reply: &Reply) -> Attended
     requires writes { W.failed_calls writer.old < 2 ^ 62 }
     requires refusal { code_of reply.now ≢ 0 }
@@ -73,7 +74,7 @@ fn refuse<W: Sink>(alloc: Global, writer: &mut W, reply: &Reply) -> Attended
     }
 }
 
-/// A first line that got its pass.
+// A first line that got its pass.
 #[derive(Drop)]
 struct Admitted<'a> {
     session: u64,
@@ -81,7 +82,7 @@ struct Admitted<'a> {
     pass: Pass<'a>,
 }
 
-/// The pass that the line asks for, or the reply that says why there is none.
+// The pass that the line asks for, or the reply that says why there is none.
 fn admit<'a, H: Wait>(rt: &H, desk: &Desk<'a>, kept: &[u8]) -> Result<Admitted<'a>, Reply>
     ensures joins { IfOk result (λ a. IsJoin kept.now a.session a.name) }
     ensures pass { IfOk result (λ a. IsPassOf desk.now a.session a.name a.pass) }
@@ -103,7 +104,7 @@ fn admit<'a, H: Wait>(rt: &H, desk: &Desk<'a>, kept: &[u8]) -> Result<Admitted<'
     }
 }
 
-/// Says that it joined, and converses. The pass stays one of its cell.
+// Says that it joined, and converses. The pass stays one of its cell.
 fn talk<'g, 'r, 'a, G: Gate + 'static, H: Wait + 'static, R: Source, W: Sink>(
     alloc: Global,
     caller: &mut Gated<'g, G, Held<'r, 'a, H>>,

@@ -84,7 +84,7 @@ impl<'a> Row<'a> {
     }
 }
 
-/// A row for each session, in order.
+// A row for each session, in order.
 #[derive(Drop)]
 struct Places<'a> {
     rows: Vec<Row<'a>>,

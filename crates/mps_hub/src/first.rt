@@ -12,7 +12,7 @@ use std::alloc::{AllocError, Global};
 /// How often a first line is read from at most.
 pub const MAX_READS: u64 = 1_000_000;
 
-/// Reads one byte. None says that the read failed, or that the reader came to its end.
+// Reads one byte. None says that the read failed, or that the reader came to its end.
 fn read_byte<R: Source>(reader: &mut R) -> Option<u8>
     requires { R.calls reader.old < 2 ^ 63 }
     ensures calls { R.calls reader.new ≡ R.calls reader.old + 1 }

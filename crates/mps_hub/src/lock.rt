@@ -17,7 +17,7 @@ impl<T> TableRule<T, T, Snapshot<T>> for Steady {
     ghost first = { λ about. about.value };
 }
 
-/// The value is taken, where it is at home.
+// The value is taken, where it is at home.
 struct TakeOut;
 
 impl<T> Play<T, T> for TakeOut {
@@ -26,7 +26,7 @@ impl<T> Play<T, T> for TakeOut {
     ghost then = { TakesOut };
 }
 
-/// The value is put back.
+// The value is put back.
 struct PutBack;
 
 impl<T> Play<T, T> for PutBack {

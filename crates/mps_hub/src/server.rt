@@ -29,7 +29,7 @@ pub enum ServeFault {
     Memory,
 }
 
-/// Attends to one connection, and closes it. Answers are sent at once (`TCP_NODELAY`), where the system can.
+// Attends to one connection, and closes it. Answers are sent at once (`TCP_NODELAY`), where the system can.
 fn connection<R: Wait + 'static, G: Gate + 'static>(
     rt: &R,
     alloc: Global,
@@ -44,7 +44,7 @@ fn connection<R: Wait + 'static, G: Gate + 'static>(
     let _ended = attend(rt, alloc, desk, gate, number, &mut reader, &mut writer);
 }
 
-/// The connection that was accepted, or why none is any more.
+// The connection that was accepted, or why none is any more.
 fn accepted(found: io::Result<(TcpStream, SocketAddr)>) -> Result<TcpStream, ServeFault>
     ensures came { IsOk result ↔ IsOk found }
     ensures fault { IfErr found (λ error. IfErr result (λ fault.
@@ -57,7 +57,7 @@ fn accepted(found: io::Result<(TcpStream, SocketAddr)>) -> Result<TcpStream, Ser
     }
 }
 
-/// How many connections are lost by now, where one more thread was to be started.
+// How many connections are lost by now, where one more thread was to be started.
 fn count_lost<T, E>(lost: u64, started: &Result<T, E>) -> u64
     requires { lost + 1 < 2 ^ 64 }
     ensures started { OnOk started.now (result ≡ lost) }
@@ -69,7 +69,7 @@ fn count_lost<T, E>(lost: u64, started: &Result<T, E>) -> u64
     }
 }
 
-/// Accepts `n` connections, a thread of the scope for each, and counts the threads that couldn't be started.
+// Accepts `n` connections, a thread of the scope for each, and counts the threads that couldn't be started.
 fn accept_all<'s, 'd, E, R: Wait + Sync + 'static, G: Gate + Sync + 'static>(
     scope: &Scope<'s, E>,
     rt: &'s R,

@@ -4,7 +4,7 @@ ghost use Rattle.mps_local.specs.Local.{plain};
 ghost use Rattle.mps_machine.specs.Machine.{initial};
 ghost use Rattle.mps_cell.specs.Cells.{IsDealOf, opened_with};
 ghost use Rattle.mps_cell.specs.declared.cell.PassFault.TheVariants.{Given};
-ghost use Rattle.mps_wire.specs.Runs.{KeepsShut};
+ghost use Rattle.mps_session.specs.Peers.{KeepsShut};
 ghost use Rattle.mps_hub.specs.Halls.{AreCellsOf, AreCellsWith, AreClosed, AreDeals, IsNew};
 ghost use Rattle.mps_hub.specs.Places.{IsOfCell};
 
@@ -62,7 +62,7 @@ impl Model for Hub {
     ghost invariant = { λ h. AreNumbered h.names h.cells.items × IfSome h.deals (λ v. AreDeals h.cells.items v.items) };
 }
 
-/// A cell of the session with this number, and the right to its passes.
+// A cell of the session with this number, and the right to its passes.
 fn cell_of(
     alloc: Global,
     names: &Roles,
@@ -80,7 +80,7 @@ fn cell_of(
     }
 }
 
-/// Copies of the types.
+// Copies of the types.
 fn copies(alloc: Global, types: &[Local]) -> Result<Vec<Local>, AllocError>
     ensures { IfOk result (λ made. map plain made.items ≡ map plain types.now) }
 {
@@ -91,7 +91,7 @@ fn copies(alloc: Global, types: &[Local]) -> Result<Vec<Local>, AllocError>
     Ok(made)
 }
 
-/// A session with these types, in which nothing was done yet.
+// A session with these types, in which nothing was done yet.
 fn session_of(alloc: Global, types: &[Local]) -> Result<Session, OpenFault>
     ensures new { IfOk result (λ s. s ≡ record { types = map plain types.now; state = initial }) }
     ensures fault { IfErr result (λ fault. fault ≢ OpenFault.Memory → KeepsShut (map plain types.now) fault) }
@@ -99,7 +99,7 @@ fn session_of(alloc: Global, types: &[Local]) -> Result<Session, OpenFault>
     Session::open(alloc, copies(alloc, types)?)
 }
 
-/// So many sessions with these types.
+// So many sessions with these types.
 fn sessions_of(alloc: Global, types: &[Local], n: u64) -> Result<Vec<Session>, OpenFault>
     ensures count { IfOk result (λ v. length v.items ≡ n) }
     ensures all { IfOk result (λ v. All (λ s. s ≡ record { types = map plain types.now; state = initial }) v.items) }

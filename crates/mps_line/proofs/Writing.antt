@@ -1,9 +1,9 @@
 -- What is written in several steps.
-use Rattle.std.proofs.Common.{arith, ◌≡◌, ℕ, ◌+◌, List, [], ◌∷◌, ◌++◌, get_or, append_assoc, refl, sym, ap, subst, ◌∙◌}
+use Rattle.std.proofs.Common.{arith, ◌≡◌, ℕ, ◌+◌, List, [], ◌∷◌, ◌++◌, get_or, append_assoc, append-nil, refl, sym, ap, subst, ◌∙◌}
 use Rattle.std.proofs.Math.Seq.{take-append_seam}
 use Rattle.std.proofs.lemmas.List.{take-append-drop, take_more, map-append}
 use Rattle.std.specs.Io.{StartsWith}
-use Rattle.std.specs.Prelude.{◌<◌, Result, Ok, Err, is_ok, if◌then◌else◌, Option, Some, None, OnOk, OnErr, length, take, drop, map, codes}
+use Rattle.std.specs.Prelude.{◌<◌, ⊤, Result, Ok, Err, is_ok, if◌then◌else◌, Option, Some, None, OnOk, OnErr, length, take, drop, map, codes}
 use Rattle.mps_base.specs.Appends.{Appends}
 use Rattle.mps_base.specs.declared.action.Message.{Message}
 use Rattle.mps_command.specs.Shown.{IsShownText}
@@ -131,6 +131,25 @@ number_written t ts ids k d old before pushed new less a p b =
       subst (λ (l : List Token). SpellsLine [] (a.0 ++ 32 ∷ b.0) (t ∷ l)) (sym more)
           (token_after [] a.0 b.0 t (ts ++ map Number (take k ids)) (Number (get_or ids k d)) a.2 b.2),
     )
+
+-- a line that doesn't go on yet
+pub none_written : (t : Token) (ts : List Token) (old new : List ℕ) → Appends (λ text. SpellsLine [] text (t ∷ ts)) old new → Appends (λ text. SpellsLine [] text (t ∷ (ts ++ map Number (take 0 [])))) old new
+none_written t ts old new a =
+    subst (λ (l : List Token). Appends (λ text. SpellsLine [] text (t ∷ l)) old new) (sym (append-nil ts)) a
+
+-- a line that goes on with numbers
+pub numbers_after : {E : Type 0} (r : Result ⊤ E) (ids : List ℕ) (t : Token) (ts : List Token) (old before new : List ℕ) → OnOk r ((start : List ℕ) (first : Token) (others : List Token) → Appends (λ text. SpellsLine [] text (first ∷ others)) start before → Appends (λ text. SpellsLine [] text (first ∷ (others ++ map Number ids))) start new) → Appends (λ text. SpellsLine [] text (t ∷ ts)) old before → OnOk r (Appends (λ text. SpellsLine [] text (t ∷ (ts ++ map Number ids))) old new)
+numbers_after (Err e) ids t ts old before new goes a = tt
+numbers_after (Ok x) ids t ts old before new goes a = goes old t ts a
+
+-- a text after what was written
+pub text_written : (P : List ℕ → Type 0) (old before pushed new : List ℕ) → Appends (λ text. ⊤) old before → pushed ≡ before ++ 32 ∷ [] → Appends P pushed new → Appends (λ text. ⊤) old new
+text_written P old before pushed new a p b = (
+  a.0 ++ 32 ∷ b.0,
+  b.1 ∙ ap (λ (m : List ℕ). m ++ b.0) (p ∙ ap (λ (m : List ℕ). m ++ 32 ∷ []) a.1)
+      ∙ append_assoc (old ++ a.0) (32 ∷ []) b.0 ∙ append_assoc old a.0 (32 ∷ b.0),
+  tt,
+)
 
 -- what was there before stays in front
 pub still_in_front : {T E : Type 0} (r : Result T E) (old mid pushed new text end : List ℕ) → mid ≡ old ++ text → pushed ≡ mid ++ end → OnErr r (StartsWith new pushed) → OnErr r (StartsWith new old)

@@ -78,13 +78,13 @@ pub record SpellsNumbered (names : List (List ℕ)) (bytes : List ℕ) (number :
   pub allowed : OnSome number (MayHaveNumber command)
 
 -- the role that a command names, where it names one
-abbrev pub peer_of : Command → Option ℕ
-peer_of (Forward (Send to value)) = Some to
-peer_of (Forward (Choose to label)) = Some to
-peer_of (Forward (Receive from slot)) = Some from
-peer_of (Forward (Pick from)) = Some from
-peer_of command = None
+abbrev pub role_named : Command → Option ℕ
+role_named (Forward (Send to value)) = Some to
+role_named (Forward (Choose to label)) = Some to
+role_named (Forward (Receive from slot)) = Some from
+role_named (Forward (Pick from)) = Some from
+role_named command = None
 
 -- the command names no role but those that have these names
 abbrev pub NamesRolesOf : (names : List (List ℕ)) → Command → Type 0
-NamesRolesOf names command = ForSome (peer_of command) (λ peer. peer < length names)
+NamesRolesOf names command = ForSome (role_named command) (λ peer. peer < length names)

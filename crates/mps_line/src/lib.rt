@@ -12,10 +12,10 @@
 
 mod answer_texts;
 pub mod laws;
-pub mod line_parts;
+mod line_parts;
 pub mod read_commands;
 pub mod read_conversations;
-pub mod read_refusals;
+mod read_refusals;
 pub mod read_replies;
 pub mod write_commands;
 pub mod write_replies;

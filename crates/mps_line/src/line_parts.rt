@@ -75,7 +75,7 @@ pub(crate) fn split_role<'a>(roles: &Roles, bytes: &'a [u8]) -> Option<(Role, &'
         → BeginsWith roles.now bytes.now (RoleAt role) rest → ⊥) }
 {
     let (name, rest) = split_at_space(bytes)?;
-    Some((roles.find_spelled(name)?, rest))
+    Some((read_role(roles, name)?, rest))
 }
 
 // The number that stands before the first space, and what stands after it. Of bytes that begin with no digit the first

@@ -27,11 +27,10 @@ pub fn read_numbered(
     ensures memory { IsErrOf result LineFault.Memory → (number : Option ℕ) × (to : ℕ) × (text : List ℕ)
         × SpellsNumbered roles.now bytes.now number (commands.Forward (steps.Send to (values.Text text))) }
 {
-    let Some(parts) = split_number(bytes) else {
+    let Some((number, rest)) = split_number(bytes) else {
         let command = read_command(alloc, roles, bytes)?;
         return Ok((None, command));
     };
-    let (number, rest) = parts;
     let command = read_command(alloc, roles, rest)?;
     if !may_have_number(&command) {
         return Err(LineFault::Bad);

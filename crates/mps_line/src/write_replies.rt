@@ -1,10 +1,10 @@
 //! The lines that answer others.
-ghost use Rattle.std.specs.Prelude.{◌≡◌, ℕ, List, [], IsTrue, OnOk, OnErr};
+ghost use Rattle.std.specs.Prelude.{◌≡◌, ℕ, List, [], ◌∷◌, ◌++◌, map, IsTrue, OnOk, OnErr};
 ghost use Rattle.std.specs.Io.{StartsWith};
 ghost use Rattle.mps_base.specs.Appends.{Appends};
 ghost use Rattle.mps_command.specs.declared.answer.Answer.TheVariants.{Refused};
 ghost use Rattle.mps_command.specs.declared.answer.Refusal.TheVariants.{Violation as Violates};
-ghost use Rattle.mps_line.specs.Tokens.{SpellsToken, SpellsLine};
+ghost use Rattle.mps_line.specs.Tokens.{Token, Number, SpellsToken, SpellsLine};
 ghost use Rattle.mps_line.specs.Replies.{SpellsReply, message_token, done_tokens, undone_tokens, news_tokens};
 ghost use Rattle.mps_line.specs.declared.write_replies.Reply.TheVariants.{Answered, BadLine, Joined};
 ghost use Rattle.mps_line.specs.Codes.{code_of, refusal_code, violation_code};
@@ -20,7 +20,7 @@ use std::alloc::AllocError;
 pub enum Reply {
     /// The answer to the command that the line spells.
     Answered(Answer),
-    /// The line is spelled like none that may come.
+    /// The line is unreadable: it spells nothing that may come there.
     BadLine,
     /// The connection acts for the role of that name in that session from now on.
     Joined { session: u64, name: Name },
@@ -99,7 +99,7 @@ impl Reply {
     }
 }
 
-/// Writes that a line is spelled like none that may come, at the end, without a line break.
+/// Writes that a line is unreadable, at the end, without a line break.
 pub fn write_bad_line(out: &mut Vec<u8>) -> Result<(), AllocError>
     ensures ok { OnOk result
         (Appends (λ text. SpellsReply text BadLine) out.old.items out.new.items) }
@@ -218,11 +218,7 @@ fn write_undone(ids: &[StepId], out: &mut Vec<u8>) -> Result<(), AllocError>
     ensures err { OnErr result (StartsWith out.new.items out.old.items) }
 {
     out.extend_from_slice(b"undone")?;
-    for id in ids {
-        out.push(b' ')?;
-        write_step(*id, out)?;
-    }
-    Ok(())
+    write_ids(ids, out)
 }
 
 // Writes the word, the length of the journal and the numbers of the steps, or a part of them.
@@ -233,9 +229,19 @@ fn write_news(length: u64, ids: &[StepId], out: &mut Vec<u8>) -> Result<(), Allo
 {
     out.extend_from_slice(b"news ")?;
     write_count(length, out)?;
-    for step in ids {
+    write_ids(ids, out)
+}
+
+// Goes on with a line by the numbers of the steps, or a part of them.
+fn write_ids(ids: &[StepId], out: &mut Vec<u8>) -> Result<(), AllocError>
+    ensures ok { OnOk result ((start : List ℕ) (first : Token) (others : List Token)
+        → Appends (λ text. SpellsLine [] text (first ∷ others)) start out.old.items
+        → Appends (λ text. SpellsLine [] text (first ∷ (others ++ map Number ids.now))) start out.new.items) }
+    ensures err { OnErr result (StartsWith out.new.items out.old.items) }
+{
+    for id in ids {
         out.push(b' ')?;
-        write_step(*step, out)?;
+        write_step(*id, out)?;
     }
     Ok(())
 }

@@ -12,7 +12,7 @@ use mps_arena::{Arena, steps_are_sound};
 use mps_base::StepId;
 
 /// The least number of another step that depends on this one. It is the number of its role's next
-/// step or of its receipt; no other step is looked at (unproved).
+/// step or of its receipt. Unproved: it looks at no other step.
 pub fn least_dependent(arena: &Arena, id: StepId) -> Option<StepId>
     requires present { IsSome (step_of (steps arena.now.entries) id) }
     ensures least { result ≡ least (dependents (steps arena.now.entries) id) }

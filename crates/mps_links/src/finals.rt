@@ -10,7 +10,7 @@ use crate::order::{earlier, with_number};
 use mps_arena::{Arena, Key, steps_are_sound};
 use mps_base::{Act, Role, StepId};
 
-// the key itself where its step is a commit, else the other one
+// The key itself where its step is a commit, else the other one.
 fn commit_or(arena: &Arena, key: Key, other: Option<Key>) -> Option<Key>
     requires { IsSome (entry_at key arena.now.entries) }
     ensures { (e : KeyedStep) → entry_at key arena.now.entries ≡ Some e
@@ -22,7 +22,7 @@ fn commit_or(arena: &Arena, key: Key, other: Option<Key>) -> Option<Key>
     }
 }
 
-// the role's first marked commit, by a walk from its last step back
+// The role's first marked commit, by a walk from its last step back.
 fn first_final_of(arena: &Arena, role: Role) -> Option<Key>
     requires small { role < 8 }
     requires closed { AreMarksClosed arena.now.entries }
@@ -46,7 +46,7 @@ fn first_final_of(arena: &Arena, role: Role) -> Option<Key>
 }
 
 /// The least number of a marked commit, if one is marked, where each step that depends on a marked one is marked. It
-/// does not allocate, and (unproved) looks at no unmarked step but at one of each role.
+/// does not allocate. Unproved: it looks at no unmarked step but at one of each role.
 pub fn least_final(arena: &Arena) -> Option<StepId>
     requires closed { AreMarksClosed arena.now.entries }
     ensures least { result ≡ least (marked_commits arena.now.entries) }

@@ -15,8 +15,8 @@ use mps_arena::{Arena, Key, steps_are_sound};
 use mps_base::{Role, StepId};
 
 /// Marks the step of that number and all that depend on it, and tells how many they are. It goes
-/// from link to link, the oldest first, and (unproved) looks at no step that it doesn't mark, but
-/// at the next of each role.
+/// from link to link, the oldest first. Unproved: it looks at no step that it doesn't mark, but at
+/// the next of each role.
 pub fn mark_from(arena: &mut Arena, id: StepId) -> usize
     requires present { IsSome (step_of (steps arena.old.entries) id) }
     requires unmarked { marked_keys arena.old.entries ≡ [] }
@@ -45,7 +45,7 @@ pub fn mark_from(arena: &mut Arena, id: StepId) -> usize
     len
 }
 
-// the role's newest marked step: its last, or none
+// The role's newest marked step: its last, or none.
 fn newest_marked_of(arena: &Arena, role: Role) -> Option<Numbered>
     requires small { role < 8 }
     requires closed { AreMarksClosed arena.now.entries }
@@ -79,7 +79,7 @@ pub fn newest_marked(arena: &Arena) -> Option<Key>
     key_of(newest)
 }
 
-// takes the marks of a role off, from its last step back
+// Takes the marks of a role off, from its last step back.
 fn unmark_role(arena: &mut Arena, role: Role)
     requires small { role < 8 }
     requires last { AreLastMarked role arena.old.entries }

@@ -8,7 +8,7 @@ ghost use Rattle.mps_links.specs.Private.Pending.{followed, earliest};
 use crate::order::{Numbered, earlier, key_of, with_number};
 use mps_arena::{Arena, Key, steps_are_sound};
 
-// the place of the step's role
+// The place of the step's role.
 fn role_at(arena: &Arena, key: Key) -> usize
     requires { IsSome (entry_at key arena.now.entries) }
     ensures role { option_map (λ e. e.step.role) (entry_at key arena.now.entries) ≡ Some result }

@@ -13,7 +13,7 @@
 
 mod links;
 mod log;
-mod marks;
+mod marking;
 mod moves;
 mod queue;
 

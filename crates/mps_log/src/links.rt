@@ -1,5 +1,5 @@
-//! The steps of a log by their keys: which step comes next or before, what a receipt took, and what depends on what.
-ghost use Rattle.std.specs.Prelude.{◌≡◌, ◌<◌, ◌==◌, ℕ, None, Some, IsSome, IfSome, [], length};
+//! The steps of a log by their keys: which step comes next or before, what a receipt took, and what depends on a step.
+ghost use Rattle.std.specs.Prelude.{◌≡◌, ◌<◌, ◌==◌, ℕ, None, Some, IsSome};
 ghost use Rattle.std.specs.List.{find};
 ghost use Rattle.std.specs.Option.{option_copied, option_map};
 ghost use Rattle.mps_history.specs.Steps.{step_of};
@@ -7,32 +7,14 @@ ghost use Rattle.mps_history.specs.Dependence.{least, dependents};
 ghost use Rattle.mps_arena.specs.Keys.{last_key};
 ghost use Rattle.mps_arena.specs.Entries.{steps, keys_of, of_role, entry_at, AreSound};
 ghost use Rattle.mps_arena.specs.Neighbours.{next_of_role_in, prev_of_role_in, CanGo};
-ghost use Rattle.mps_links.specs.Marks.{marked_keys, AreMarksClosed};
 ghost use Rattle.mps_log.specs.Values.{message_taken};
 
 use crate::log::{Log, taken_at};
 use mps_arena::{Before, Key};
 use mps_base::{Message, Role, Step, StepId};
-use mps_links::{least_dependent, newest_marked};
+use mps_links::least_dependent;
 
 impl Log {
-    /// How many numbers were given out.
-    #[inline(always)]
-    pub fn issued(&self) -> usize
-        ensures { result ≡ self.now.issued }
-    {
-        self.arena.issued()
-    }
-
-    /// How many steps there are.
-    #[inline(always)]
-    pub fn len(&self) -> usize
-        ensures count { result ≡ length self.now.entries }
-        ensures sound { AreSound self.now.entries }
-    {
-        self.arena.len()
-    }
-
     /// The key of the step that has the number.
     #[inline(always)]
     pub fn by_id(&self, id: StepId) -> Option<Key>
@@ -107,18 +89,5 @@ impl Log {
             → CanGo self.now.entries k }
     {
         least_dependent(&self.arena, id)
-    }
-
-    /// The newest marked step, where each step that depends on a marked one is marked. So nothing depends on it, and it
-    /// may be removed.
-    #[inline(always)]
-    pub fn newest_marked(&self) -> Option<Key>
-        requires closed { AreMarksClosed self.now.entries }
-        ensures newest { result ≡ last_key None (marked_keys self.now.entries) }
-        ensures none { result ≡ None → marked_keys self.now.entries ≡ [] }
-        ensures free { IfSome result (λ key. CanGo self.now.entries key) }
-        ensures sound { AreSound self.now.entries }
-    {
-        newest_marked(&self.arena)
     }
 }

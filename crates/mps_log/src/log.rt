@@ -32,7 +32,7 @@ pub struct Log {
     slots: Stores,
     marks: Stores,
     // whether a commit has ever joined: where none has, a rollback needn't look for one
-    pub(crate) has_commits: bool,
+    pub(crate) had_commit: bool,
 }
 
 impl Model for Log {
@@ -134,8 +134,25 @@ impl Log {
             queues: Queues::new(),
             slots: Stores::new(alloc)?,
             marks: Stores::new(alloc)?,
-            has_commits: false,
+            had_commit: false,
         })
+    }
+
+    /// How many numbers were given out.
+    #[inline(always)]
+    pub fn issued(&self) -> usize
+        ensures { result ≡ self.now.issued }
+    {
+        self.arena.issued()
+    }
+
+    /// How many steps there are.
+    #[inline(always)]
+    pub fn len(&self) -> usize
+        ensures count { result ≡ length self.now.entries }
+        ensures sound { AreSound self.now.entries }
+    {
+        self.arena.len()
     }
 
     /// The k-th step, from 0. It takes O(k) time.
@@ -294,7 +311,7 @@ impl Log {
         ensures err { OnErr result (self.new ≡ self.old) }
     {
         self.arena.reserve_one()?;
-        self.has_commits = true;
+        self.had_commit = true;
         let before = Before { at, bound: None };
         Ok(self.arena.add(role, Act::Commit, before, None))
     }

@@ -22,22 +22,22 @@ use mps_table::{Node, Table};
 pub fn next_node(
     table: &Table,
     node: Node,
-    command: &Forward,
+    step: &Forward,
     first: Option<&Message>,
 ) -> Result<Node, Violation>
     requires { IsNode table.now node }
     ensures violation { IfErr result (λ fault. (t : LocalType) → StandsFor table.now node t
-        → act_fault (unfolded t) (act_of command.now)
-        (moved_by command.now (option_copied first.entry))
+        → act_fault (unfolded t) (act_of step.now)
+        (moved_by step.now (option_copied first.entry))
         ≡ Some fault) }
     ensures allowed { OnOk result ((t : LocalType) → StandsFor table.now node t
-        → act_fault (unfolded t) (act_of command.now)
-        (moved_by command.now (option_copied first.entry))
+        → act_fault (unfolded t) (act_of step.now)
+        (moved_by step.now (option_copied first.entry))
         ≡ None) }
-    ensures idle { IsTrue (is_idle command.now) → result ≡ Ok node }
+    ensures idle { IsTrue (is_idle step.now) → result ≡ Ok node }
     ensures follows { IfOk result (λ next. (t u : LocalType) → StandsFor table.now node t
-        → type_after (unfolded t) (act_of command.now)
-        (moved_by command.now (option_copied first.entry))
+        → type_after (unfolded t) (act_of step.now)
+        (moved_by step.now (option_copied first.entry))
         ≡ Some u
         → StandsFor table.now next u) }
     ensures node { IfOk result (IsNode table.now) }
@@ -45,7 +45,7 @@ pub fn next_node(
     // what an `Expect` may hold: the prover covers a function with one only where it names these
     let _held: Option<(Role, Sort, Name)> = None;
     let expected = table.expect(node);
-    match judge(expected, command, first)? {
+    match judge(expected, step, first)? {
         Advance::Stay => Ok(node),
         Advance::Next => Ok(table.after(node, None)),
         Advance::Into(place) => Ok(table.after(node, Some(place))),

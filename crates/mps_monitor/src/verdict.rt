@@ -35,24 +35,24 @@ pub enum Advance {
 #[inline(always)]
 pub fn judge(
     expected: Expect<'_>,
-    command: &Forward,
+    step: &Forward,
     first: Option<&Message>,
 ) -> Result<Advance, Violation>
     ensures violation { IfErr result (λ fault. (t : LocalType)
         → Begins (head_of expected.entry) t
-        → act_fault t (act_of command.now) (moved_by command.now (option_copied first.entry))
+        → act_fault t (act_of step.now) (moved_by step.now (option_copied first.entry))
         ≡ Some fault) }
     ensures allowed { OnOk result ((t : LocalType)
         → Begins (head_of expected.entry) t
-        → act_fault t (act_of command.now) (moved_by command.now (option_copied first.entry))
+        → act_fault t (act_of step.now) (moved_by step.now (option_copied first.entry))
         ≡ None) }
     ensures advance { IfOk result (λ a. (t : LocalType)
         → Begins (head_of expected.entry) t
-        → GoesOn a t (act_of command.now) (moved_by command.now (option_copied first.entry))) }
-    ensures stay { (result ≡ Ok Advance.Stay) ↔ IsTrue (is_idle command.now) }
+        → GoesOn a t (act_of step.now) (moved_by step.now (option_copied first.entry))) }
+    ensures stay { (result ≡ Ok Advance.Stay) ↔ IsTrue (is_idle step.now) }
     ensures offered { IfOk result (λ a. IsOffered a (head_of expected.entry)) }
 {
-    match command {
+    match step {
         Forward::Mark { .. } | Forward::Commit => Ok(Advance::Stay),
         Forward::Send { to, value } => match expected {
             Expect::End => Err(Violation::Ended),
@@ -80,8 +80,8 @@ pub fn judge(
 /// The message that a command moves is the machine's, where the first that waits from its peer is
 /// looked at.
 pub fn the_machine_moves_the_same()
-    ensures { (v : View) (p : ℕ) (command : Asked)
-        → moved v p (act_of command) ≡ moved_by command (waiting_from v p (peer_of command)) }
+    ensures { (v : View) (p : ℕ) (step : Asked)
+        → moved v p (act_of step) ≡ moved_by step (waiting_from v p (peer_of step)) }
 {}
 
 // The verdict on giving a value, where the peer is expected to get one of the sort.

@@ -5,7 +5,8 @@ use Rattle.mps_room.specs.Journal.{run}
 use Rattle.mps_room.specs.declared.entry.Entry.{Entry}
 use Rattle.mps_session.specs.SessionState.{SessionState}
 use Rattle.mps_wire.specs.Streams.{Streams}
-use Rattle.mps_program.specs.Compared.{CantCompare, CantFollow, HasCompared, HasFollowed, HasRun}
+use Rattle.mps_program.specs.Compared.{CantCompare, HasCompared, HasRun}
+use Rattle.mps_program.specs.Private.Compared.{CantFollow, HasFollowed}
 use Rattle.mps_program.specs.declared.faults.ToolFault.{ToolFault}
 
 -- what is told of a session and of the one that the second script left is told of the two scripts, where the first left that session

@@ -8,7 +8,6 @@ use Rattle.mps_room.specs.Journal.{run}
 use Rattle.mps_room.specs.declared.entry.Entry.{Entry}
 use Rattle.mps_lines.specs.Lines.{ended}
 use Rattle.mps_wire.specs.Runs.{Ran}
-use Rattle.mps_session.specs.SessionState.{SessionState}
 use Rattle.mps_wire.specs.Script.{AnswersLine}
 use Rattle.mps_wire.specs.Streams.{Streams}
 use Rattle.mps_wire.specs.declared.script.ReplayFault.{ReplayFault}
@@ -44,14 +43,6 @@ module _ (names : List (List ℕ)) (types : List LocalType) where
   HasStopped before after fault =
       (end : ReplayFault) × (fault ≡ of_script end) × Ran (AnswersLine names types) [] before after (Err end)
 
-  -- Of a script after which two sessions are compared.
-  module _ (before after : Streams) where
-    -- why nothing is told of the two: its run broke off, or it was run to its end and memory ran out
-    abbrev pub CantFollow : ToolFault → Type 0
-    CantFollow fault =
-        HasStopped before after fault
-        ⊎ ((second : List Entry) × HasRun before after second × (fault ≡ Memory))
-
   -- Of the first script and then of the second.
   module _ (before after before' after' : Streams) where
     -- both were run to their ends, and this is told of the sessions that they left: whether their views are equal, and whether exchanges of independent neighbours turn one history into the other, numbers aside
@@ -69,10 +60,3 @@ module _ (names : List (List ℕ)) (types : List LocalType) where
         (HasStopped before after fault × (after' ≡ before'))
         ⊎ (((first : List Entry) × HasRun before after first × HasStopped before' after' fault)
         ⊎ ((first : List Entry) × (second : List Entry) × HasRun before after first × HasRun before' after' second × (fault ≡ Memory)))
-
--- The script was run to its end on a session of these names, with the types of the first session; and this is told of the first and of the one that it left: whether their views are equal, and whether exchanges of independent neighbours turn one history into the other, numbers aside.
-pub record HasFollowed (names : List (List ℕ)) (first : SessionState) (before after : Streams) (line : List ℕ) (status : ℕ) : Type 0 where
-  pub second : List Entry
-  pub ran : HasRun names first.types before after second
-  pub views : Tells (view_of first.types first.state.history ≡ view_of first.types (run first.types second).history) line status
-  pub swaps : Tells (Swaps first.state.history (run first.types second).history) line status

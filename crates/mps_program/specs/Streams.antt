@@ -7,7 +7,7 @@ use Rattle.mps_program.specs.Check.{AreSessionsOf, AreTypesOf, AreLinesOf, Gives
 use Rattle.mps_program.specs.Files.{longest, most_read}
 use Rattle.mps_program.specs.declared.faults.ToolFault.{ToolFault}
 use Rattle.mps_program.specs.declared.faults.ToolFault.TheVariants.{Read, Write, Memory}
-use Rattle.mps_wire.specs.Flow.{TookFront}
+use Rattle.mps_wire.specs.Sending.{TookFront}
 
 -- the source gave a protocol without faults to its end, and the sink took the lines of its roles
 pub record HasShown (given left took taken : Option (List ℕ)) : Type 0 where

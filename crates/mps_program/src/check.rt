@@ -15,18 +15,17 @@ ghost use Rattle.mps_program.specs.declared.faults.ToolFault.TheVariants.{Memory
 ghost use Rattle.mps_program.specs.Streams.{CantShow, HasShown};
 
 use crate::faults::ToolFault;
-use crate::files::{open_file, read_text};
+use crate::files::{open_file, read_text, tell};
 use mps_base::{Role, RoleFault, Roles};
 use mps_dev::{OverWrite, Sink, Source};
 use mps_global::{Protocol, check};
 use mps_local::{Local, ProjectFault, project_all, write_local};
 use mps_text::read_protocol;
-use mps_wire::flow::send_all;
 use std::alloc::{AllocError, Global};
 use std::io;
 use std::rt::Files;
 
-/// The protocol without faults that the text spells.
+// The protocol without faults that the text spells.
 fn protocol_of<'a>(alloc: Global, text: &[u8]) -> Result<Protocol, ToolFault<'a>>
     ensures read { IfOk result (λ p. IsProtocolText text.now p.roles.items (global_type p.body)) }
     ensures faultless { IfOk result (λ p. fault_of p.roles.items (global_type p.body) ≡ None) }
@@ -38,7 +37,7 @@ fn protocol_of<'a>(alloc: Global, text: &[u8]) -> Result<Protocol, ToolFault<'a>
 }
 
 /// Why the protocol gives no types, told by the name of the role.
-fn unprojected<'a>(protocol: &Protocol, fault: ProjectFault) -> ToolFault<'a>
+pub(crate) fn unprojected<'a>(protocol: &Protocol, fault: ProjectFault) -> ToolFault<'a>
     requires { AreNotAll protocol.now.roles.items (global_type protocol.now.body) fault }
     ensures { GivesNoProjections protocol.now.roles.items (global_type protocol.now.body) result }
 {
@@ -51,7 +50,7 @@ fn unprojected<'a>(protocol: &Protocol, fault: ProjectFault) -> ToolFault<'a>
     }
 }
 
-/// The local type of each role in order.
+// The local type of each role in order.
 fn types_of<'a>(alloc: Global, protocol: &Protocol) -> Result<Vec<Local>, ToolFault<'a>>
     requires faultless { fault_of protocol.now.roles.items (global_type protocol.now.body) ≡ None }
     ensures ok { IfOk result (λ types. AreProjections
@@ -82,7 +81,7 @@ pub(crate) fn roles_of<'a>(alloc: Global, protocol: &Protocol) -> Result<Roles, 
 }
 
 /// A line for each role of the protocol that the text spells: its name, ` : `, and its local type.
-pub fn check_out<'a>(alloc: Global, text: &[u8]) -> Result<Vec<u8>, ToolFault<'a>>
+pub fn lines_of<'a>(alloc: Global, text: &[u8]) -> Result<Vec<u8>, ToolFault<'a>>
     ensures lines { IfOk result (λ out. AreLinesOf text.now out.items) }
     ensures fault { IfErr result (GivesNoTypes text.now) }
 {
@@ -94,7 +93,7 @@ pub fn check_out<'a>(alloc: Global, text: &[u8]) -> Result<Vec<u8>, ToolFault<'a
     Ok(out)
 }
 
-/// Writes a line for each role from that place on at the end.
+// Writes a line for each role from that place on at the end.
 fn write_lines(
     alloc: Global,
     out: &mut Vec<u8>,
@@ -118,7 +117,7 @@ fn write_lines(
     }
 }
 
-/// Writes the line of the role at that place at the end.
+// Writes the line of the role at that place at the end.
 fn write_role(
     alloc: Global,
     out: &mut Vec<u8>,
@@ -159,15 +158,15 @@ pub fn write_types<'a, R: Source, W: Sink>(
     ensures writes { W.failed_calls writer.new ≡ after_writes result (W.failed_calls writer.old) }
 {
     let text = read_text(alloc, reader)?;
-    let lines = check_out(alloc, text.as_slice())?;
-    match send_all(writer, lines.as_slice()) {
-        Ok(()) => Ok(()),
-        Err(_) => Err(ToolFault::Write),
-    }
+    let lines = lines_of(alloc, text.as_slice())?;
+    tell(writer, lines.as_slice())
 }
 
 /// Prints a line for each role of the protocol in the file: its name and its local type.
-pub fn show<'a, R: Files + AllocGlobal + Print>(rt: &R, file: &'a str) -> Result<(), ToolFault<'a>>
+pub fn check_file<'a, R: Files + AllocGlobal + Print>(
+    rt: &R,
+    file: &'a str,
+) -> Result<(), ToolFault<'a>>
     ensures { IfErr result (IsCheckFault file.now) }
 {
     let mut reader = open_file(rt, file)?;

@@ -2,45 +2,25 @@
 ghost use Rattle.std.specs.Prelude.{◌⊎◌, ◌≡◌, ◌+◌, ◌<◌, ◌≤◌, ◌^◌, length, IsTrue, IfOk, IfErr};
 ghost use Rattle.mps_dev.specs.Standard.{calls_of};
 ghost use Rattle.mps_machine.specs.Machine.{initial};
-ghost use Rattle.mps_program.specs.Compared.{CantCompare, CantFollow, HasCompared, HasFollowed, HasRun, HasStopped, Tells, unheard};
+ghost use Rattle.mps_program.specs.Compared.{CantCompare, HasCompared, HasRun, HasStopped, Tells, unheard};
+ghost use Rattle.mps_program.specs.Private.Compared.{CantFollow, HasFollowed};
 ghost use Rattle.mps_program.specs.Faults.{IsCompareFault, IsFileFault, IsScriptsFault};
-ghost use Rattle.mps_program.specs.declared.faults.ToolFault.TheVariants.{Write as NotWritten};
 ghost use Rattle.mps_wire.specs.Runs.{max_reads};
 
 use crate::faults::ToolFault;
-use crate::files::open_file;
+use crate::files::{open_file, tell};
 use crate::load::read_sessions;
 use mps_base::Roles;
 use mps_dev::{Discard, OverRead, OverWrite, Source};
 use mps_room::Room;
 use mps_session::{Session, same};
-use mps_wire::flow::send_all;
 use mps_wire::script::run_script;
 use std::alloc::{AllocError, Global};
 use std::io;
 use std::rt::Files;
 
-/// Runs the script in a room of the session, and gives the room. Nobody hears the answers.
-fn run_unheard<'a, R: Source>(
-    alloc: Global,
-    reader: &mut R,
-    roles: Roles,
-    session: Session,
-) -> Result<Room, ToolFault<'a>>
-    requires new { session.state ≡ initial }
-    requires named { length roles ≡ length session.types }
-    requires reads { R.calls reader.old < 2 ^ 62 }
-    ensures ran { IfOk result (λ room. HasRun roles session.types
-        (unheard R.Source reader.old) (unheard R.Source reader.new) room.journal) }
-    ensures types { IfOk result (λ room. room.types ≡ session.types) }
-    ensures fault { IfErr result (HasStopped roles session.types
-        (unheard R.Source reader.old) (unheard R.Source reader.new)) }
-    ensures reads { R.calls reader.new ≤ R.calls reader.old + max_reads }
-{
-    Ok(run_script(alloc, reader, &mut Discard, roles, session)?)
-}
-
-/// The same in a room with a copy of the roles.
+// Runs the script in a room of the session with a copy of the roles, and gives the room. Nobody hears
+// the answers.
 fn run_on_copy<'a, R: Source>(
     alloc: Global,
     reader: &mut R,
@@ -57,13 +37,11 @@ fn run_on_copy<'a, R: Source>(
         (unheard R.Source reader.old) (unheard R.Source reader.new)) }
     ensures reads { R.calls reader.new ≤ R.calls reader.old + max_reads }
 {
-    match roles.copy(alloc) {
-        Ok(names) => run_unheard(alloc, reader, names, session),
-        Err(_) => Err(ToolFault::Memory),
-    }
+    let names = roles.copy(alloc)?;
+    Ok(run_script(alloc, reader, &mut Discard, names, session)?)
 }
 
-/// The line and the status that say whether two sessions are the same.
+// The line and the status that say whether two sessions are the same.
 fn told(alloc: Global, alike: bool) -> Result<(Vec<u8>, u8), AllocError>
     ensures { IfOk result (λ r. Tells (IsTrue alike) r.0.items r.1) }
 {
@@ -74,7 +52,7 @@ fn told(alloc: Global, alike: bool) -> Result<(Vec<u8>, u8), AllocError>
     }
 }
 
-/// Runs the script on a new session, and says whether it is then the same as the first.
+// Runs the script on a new session, and says whether it is then the same as the first.
 fn compared<'a, S: Source>(
     alloc: Global,
     roles: &Roles,
@@ -93,16 +71,13 @@ fn compared<'a, S: Source>(
     ensures reads { S.calls other.new ≤ S.calls other.old + max_reads }
 {
     let second = run_on_copy(alloc, other, roles, second)?;
-    match told(alloc, same(first, second.session())) {
-        Ok(told) => Ok(told),
-        Err(_) => Err(ToolFault::Memory),
-    }
+    Ok(told(alloc, same(first, second.session()))?)
 }
 
 /// Runs one script whole and then another, each on a new session of its own, and says whether
 /// the sessions are then causally the same, whatever the order across roles and the numbers: by the
 /// line `same` and the status 0, or the line `different` and the status 1.
-pub fn same_out<'a, R: Source, S: Source>(
+pub fn verdict_of<'a, R: Source, S: Source>(
     alloc: Global,
     roles: &Roles,
     first: Session,
@@ -129,7 +104,7 @@ pub fn same_out<'a, R: Source, S: Source>(
     compared(alloc, roles, first.session(), second, other)
 }
 
-/// Opens both scripts, of which nothing was read yet.
+// Opens both scripts, of which nothing was read yet.
 fn open_both<'a, R: Files>(
     rt: &R,
     script: &'a str,
@@ -145,17 +120,7 @@ fn open_both<'a, R: Files>(
     Ok((first, second))
 }
 
-/// Prints the line.
-fn print_line<'a, R: Print>(rt: &R, line: &[u8]) -> Result<(), ToolFault<'a>>
-    ensures { IfErr result (λ fault. fault ≡ NotWritten) }
-{
-    match send_all(&mut OverWrite::new(io::writer(rt)), line) {
-        Ok(()) => Ok(()),
-        Err(_) => Err(ToolFault::Write),
-    }
-}
-
-/// Compares the scripts in two files, and prints what is said of them. Gives the status.
+// Compares the scripts in two files, and prints what is said of them. Gives the status.
 fn compare_scripts<'a, R: Files + AllocGlobal + Print>(
     rt: &R,
     roles: &Roles,
@@ -172,7 +137,7 @@ fn compare_scripts<'a, R: Files + AllocGlobal + Print>(
     ensures fault { IfErr result (IsScriptsFault script.now other.now) }
 {
     let (mut reader, mut second_reader) = open_both(rt, script, other)?;
-    let (line, status) = same_out(
+    let (line, status) = verdict_of(
         rt.alloc(),
         roles,
         first,
@@ -180,7 +145,7 @@ fn compare_scripts<'a, R: Files + AllocGlobal + Print>(
         &mut reader,
         &mut second_reader,
     )?;
-    print_line(rt, line.as_slice())?;
+    tell(&mut OverWrite::new(io::writer(rt)), line.as_slice())?;
     Ok(status)
 }
 
@@ -189,7 +154,7 @@ fn compare_scripts<'a, R: Files + AllocGlobal + Print>(
 ///
 /// The protocol is read and checked before a script is opened, and both are opened before the first
 /// is read.
-pub fn compare<'a, R: Files + AllocGlobal + Print>(
+pub fn compare_files<'a, R: Files + AllocGlobal + Print>(
     rt: &R,
     file: &'a str,
     script: &'a str,

@@ -3,10 +3,10 @@ ghost use Rattle.std.specs.Prelude.{◌≡◌, ◌≢◌, ◌≤◌, IfErr, IfOk
 ghost use Rattle.std.specs.Process.{exit_status};
 ghost use Rattle.mps_program.specs.Ends.{EndsAs, IsObeyed, status_after};
 ghost use Rattle.mps_program.specs.Faults.{status_of};
-ghost use Rattle.mps_program.specs.declared.faults.ToolFault.TheVariants.{Open as NotOpened};
+ghost use Rattle.mps_program.specs.declared.faults.ToolFault.TheVariants.{Open as NoSession};
 
-use crate::check::show;
-use crate::comparison::compare;
+use crate::check::check_file;
+use crate::comparison::compare_files;
 use crate::faults::{ToolFault, fault_line, status};
 use crate::running::run_file;
 use crate::serving::serve_file;
@@ -24,7 +24,7 @@ pub fn carry_out<'a, R: Files + AllocGlobal + Print>(
     task: Task<'a>,
 ) -> Result<u8, ToolFault<'a>>
     ensures status { IfOk result (λ status. status ≤ 1) }
-    ensures opened { IfErr result (λ fault. fault ≢ NotOpened) }
+    ensures opened { IfErr result (λ fault. fault ≢ NoSession) }
 {
     match task {
         Task::Help { text } => {
@@ -32,13 +32,13 @@ pub fn carry_out<'a, R: Files + AllocGlobal + Print>(
                 return Err(ToolFault::Write);
             }
         }
-        Task::Check { file } => show(rt, file)?,
+        Task::Check { file } => check_file(rt, file)?,
         Task::Run { file, script } => run_file(rt, file, script)?,
         Task::Same {
             file,
             first,
             second,
-        } => return compare(rt, file, first, second),
+        } => return compare_files(rt, file, first, second),
     }
     Ok(0)
 }
@@ -57,7 +57,7 @@ pub fn obey<
         + 'static,
 >(rt: &R, words: &'a [&'a str]) -> Result<u8, ToolFault<'a>>
     ensures status { IfOk result (λ status. status ≤ 1) }
-    ensures opened { IfErr result (λ fault. fault ≢ NotOpened) }
+    ensures opened { IfErr result (λ fault. fault ≢ NoSession) }
 {
     match order(rt.alloc(), words)? {
         Order::Serve {
@@ -73,7 +73,7 @@ pub fn obey<
     }
 }
 
-/// Prints what went wrong: the line of the fault, or its display, which does not allocate.
+// Prints what went wrong: the line of the fault, or its display, which does not allocate.
 fn report<R: AllocGlobal + Eprint>(rt: &R, fault: &ToolFault<'_>) -> io::Result<()> {
     if let Ok(line) = fault_line(rt.alloc(), fault) {
         if let Ok(text) = str::from_utf8(line.as_slice()) {

@@ -117,12 +117,12 @@ impl From<ReplayFault> for ToolFault<'_> {
     }
 }
 
-/// The name as text.
+// The name as text.
 fn text_of(name: &Name) -> &str {
     str::from_utf8(name.as_bytes()).unwrap_or_default()
 }
 
-/// The word for a fault of a text.
+// The word for a fault of a text.
 fn text_word_of(kind: TextKind) -> &'static str
     ensures { result.now ≡ text_word kind }
 {
@@ -137,7 +137,7 @@ fn text_word_of(kind: TextKind) -> &'static str
     }
 }
 
-/// The word for a fault of a protocol.
+// The word for a fault of a protocol.
 fn protocol_word_of(fault: GlobalFault) -> &'static str
     ensures { result.now ≡ protocol_word fault }
 {
@@ -167,7 +167,7 @@ pub fn fault_line(alloc: Global, fault: &ToolFault<'_>) -> Result<Vec<u8>, Alloc
     Ok(line)
 }
 
-/// Writes the line at the end, or a part of it.
+// Writes the line at the end, or a part of it.
 fn write_line(fault: &ToolFault<'_>, out: &mut Vec<u8>) -> Result<(), AllocError>
     ensures { OnOk result
         (Appends (λ line. IsFaultLine line fault.now) out.old.items out.new.items) }

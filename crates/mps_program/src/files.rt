@@ -1,14 +1,16 @@
-//! The files: opening one, and reading a text to its end.
-ghost use Rattle.std.specs.Prelude.{◌≡◌, ◌+◌, ◌<◌, ◌≤◌, ◌^◌, ◌++◌, ℕ, List, length, IfOk, IfErr, OnOk};
+//! The files: opening one, reading a text to its end, and writing one.
+ghost use Rattle.std.specs.Prelude.{◌≡◌, ◌+◌, ◌<◌, ◌≤◌, ◌^◌, ◌++◌, ℕ, List, length, IfOk, IfErr, OnErr, OnOk};
 ghost use Rattle.mps_dev.specs.Standard.{calls_of};
-ghost use Rattle.std.specs.Io.KnownBytes.{Consumes, IsAtEnd};
-ghost use Rattle.mps_program.specs.Faults.{IsReadFault};
+ghost use Rattle.std.specs.Io.KnownBytes.{Appends, Consumes, IsAtEnd};
+ghost use Rattle.mps_program.specs.Faults.{IsReadFault, after_writes};
 ghost use Rattle.mps_program.specs.Files.{HasReadAtMost, longest, most_read};
-ghost use Rattle.mps_program.specs.declared.faults.ToolFault.TheVariants.{File as NotOpened};
+ghost use Rattle.mps_program.specs.declared.faults.ToolFault.TheVariants.{File as NoFile, Write as NotWritten};
+ghost use Rattle.mps_wire.specs.Sending.{TookFront};
 
 use crate::faults::ToolFault;
-use mps_dev::{OverRead, Source};
+use mps_dev::{OverRead, Sink, Source};
 use mps_text::MAX_TEXT_BYTES;
+use mps_wire::sending::send_all;
 use std::alloc::Global;
 use std::fs;
 use std::rt::Files;
@@ -16,7 +18,7 @@ use std::rt::Files;
 /// Opens the file, of which nothing was read yet.
 pub fn open_file<'a, R: Files>(rt: &R, name: &'a str) -> Result<OverRead<R::File>, ToolFault<'a>>
     ensures fresh { IfOk result (λ reader. calls_of reader ≡ 0) }
-    ensures fault { IfErr result (λ fault. fault ≡ NotOpened name.entry) }
+    ensures fault { IfErr result (λ fault. fault ≡ NoFile name.entry) }
 {
     match fs::open(rt, name) {
         Ok(opened) => Ok(OverRead::new(opened)),
@@ -48,7 +50,7 @@ pub fn read_text<'a, R: Source>(alloc: Global, reader: &mut R) -> Result<Vec<u8>
     Ok(text)
 }
 
-/// Reads once, and puts what was read after the text. Gives the number of bytes.
+// Reads once, and puts what was read after the text. Gives the number of bytes.
 fn read_more<'a, R: Source>(
     reader: &mut R,
     block: &mut [u8],
@@ -73,4 +75,18 @@ fn read_more<'a, R: Source>(
     };
     text.extend_from_slice(&block[..count])?;
     Ok(count)
+}
+
+/// Writes the bytes, or the front of them.
+pub(crate) fn tell<'a, W: Sink>(writer: &mut W, bytes: &[u8]) -> Result<(), ToolFault<'a>>
+    requires { W.failed_calls writer.old < 2 ^ 63 }
+    ensures told { OnOk result (Appends (W.taken writer.old) (W.taken writer.new) bytes.now) }
+    ensures front { OnErr result (TookFront (W.taken writer.old) (W.taken writer.new) bytes.now) }
+    ensures fault { IfErr result (λ fault. fault ≡ NotWritten) }
+    ensures writes { W.failed_calls writer.new ≡ after_writes result (W.failed_calls writer.old) }
+{
+    match send_all(writer, bytes) {
+        Ok(()) => Ok(()),
+        Err(_) => Err(ToolFault::Write),
+    }
 }

@@ -10,8 +10,8 @@ mod load;
 mod running;
 mod serving;
 
-pub use check::{check_out, show, write_types};
-pub use comparison::{compare, same_out};
+pub use check::{check_file, lines_of, write_types};
+pub use comparison::{compare_files, verdict_of};
 pub use entry::{carry_out, end, end_after, end_with, obey, program};
 pub use faults::{ToolFault, fault_line, status};
 pub use files::{open_file, read_text};
@@ -19,4 +19,4 @@ pub use load::{
     read_many, read_session, read_sessions, roles_and_many, roles_and_session, roles_and_sessions,
 };
 pub use running::run_file;
-pub use serving::{read_hub, serve_file, serve_out};
+pub use serving::{read_hub, serve_file, serve_to};

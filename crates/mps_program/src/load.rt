@@ -12,17 +12,19 @@ ghost use Rattle.mps_program.specs.Faults.{after_reads};
 ghost use Rattle.mps_program.specs.Files.{HasReadAtMost, most_read};
 ghost use Rattle.mps_program.specs.Streams.{CantLoad, HasLoaded, HasLoadedMany};
 
-use crate::check::roles_of;
+use crate::check::{roles_of, unprojected};
 use crate::faults::ToolFault;
 use crate::files::read_text;
 use mps_base::Roles;
 use mps_dev::Source;
 use mps_global::Protocol;
+use mps_local::ProjectFault;
 use mps_session::{ProtocolFault, Session, open_protocol};
 use mps_text::read_protocol;
 use std::alloc::Global;
 
-/// Why the protocol has no session, told by the name of the role.
+// Why the protocol has no session, told by the name of the role.
+#[tactic(auto, using(crate::proofs::Causes::no_session))]
 fn unopened<'a>(protocol: &Protocol, fault: ProtocolFault) -> ToolFault<'a>
     requires { HasNoSession protocol.now.roles.items (global_type protocol.now.body) fault }
     ensures { GivesNoSession protocol.now.roles.items (global_type protocol.now.body) result }
@@ -30,14 +32,13 @@ fn unopened<'a>(protocol: &Protocol, fault: ProtocolFault) -> ToolFault<'a>
     match fault {
         ProtocolFault::Global(fault) => ToolFault::Protocol { fault },
         ProtocolFault::Memory => ToolFault::Memory,
-        ProtocolFault::Unmergeable { role, choice } => ToolFault::Projection {
-            role: protocol.roles[role.index()],
-            choice,
-        },
+        ProtocolFault::Unmergeable { role, choice } => {
+            unprojected(protocol, ProjectFault::Unmergeable { role, choice })
+        }
     }
 }
 
-/// A session of the protocol, in which nothing was done yet.
+// A session of the protocol, in which nothing was done yet.
 fn session_of<'a>(alloc: Global, protocol: &Protocol) -> Result<Session, ToolFault<'a>>
     ensures faultless { OnOk result
         (fault_of protocol.now.roles.items (global_type protocol.now.body) ≡ None) }
@@ -54,7 +55,7 @@ fn session_of<'a>(alloc: Global, protocol: &Protocol) -> Result<Session, ToolFau
     }
 }
 
-/// The roles of the protocol, and a new session of it.
+// The roles of the protocol, and a new session of it.
 fn opened<'a>(alloc: Global, protocol: &Protocol) -> Result<(Roles, Session), ToolFault<'a>>
     ensures faultless { OnOk result
         (fault_of protocol.now.roles.items (global_type protocol.now.body) ≡ None) }
@@ -67,10 +68,8 @@ fn opened<'a>(alloc: Global, protocol: &Protocol) -> Result<(Roles, Session), To
         (GivesNoSession protocol.now.roles.items (global_type protocol.now.body)) }
 {
     let session = session_of(alloc, protocol)?;
-    match roles_of(alloc, protocol) {
-        Ok(roles) => Ok((roles, session)),
-        Err(_) => Err(ToolFault::Memory),
-    }
+    let roles = roles_of(alloc, protocol)?;
+    Ok((roles, session))
 }
 
 /// The roles of the protocol that the text spells, and a new session of it.
@@ -142,7 +141,7 @@ pub fn read_sessions<'a, R: Source>(
     roles_and_sessions(alloc, text.as_slice())
 }
 
-/// This session, and others of the same protocol after it: so many in all.
+// This session, and others of the same protocol after it: so many in all.
 fn and_others<'a>(
     alloc: Global,
     protocol: &Protocol,
@@ -194,6 +193,8 @@ pub fn read_many<'a, R: Source>(
     ensures read { IfOk result (λ r. HasLoadedMany
         (R.remaining reader.old) (R.remaining reader.new) r.0 n r.1.items) }
     ensures fault { IfErr result (CantLoad (R.remaining reader.old) (R.remaining reader.new)) }
+    ensures most { HasReadAtMost most_read (R.remaining reader.old) (R.remaining reader.new) }
+    ensures reads { R.failed_calls reader.new ≡ after_reads result (R.failed_calls reader.old) }
 {
     let text = read_text(alloc, reader)?;
     roles_and_many(alloc, text.as_slice(), n)

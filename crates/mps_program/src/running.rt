@@ -13,7 +13,7 @@ use mps_wire::script::run_script;
 use std::rt::Files;
 use std::{io, mem};
 
-/// Runs the script in the file on this session of these roles, and prints the answers.
+// Runs the script in the file on this session of these roles, and prints the answers.
 fn run_script_file<'a, R: Files + AllocGlobal + Print>(
     rt: &R,
     script: &'a str,

@@ -1,19 +1,18 @@
 //! Sessions served to connections.
 ghost use Rattle.std.specs.Prelude.{◌≡◌, ◌+◌, ◌<◌, ◌≤◌, ◌^◌, false, length, IfErr, IfOk, OnOk};
-ghost use Rattle.std.specs.Io.KnownBytes.{Appends};
-ghost use Rattle.mps_program.specs.Faults.{after_writes};
+ghost use Rattle.mps_program.specs.Faults.{after_reads, after_writes};
+ghost use Rattle.mps_program.specs.Files.{HasReadAtMost, most_read};
 ghost use Rattle.mps_program.specs.Served.{AreLinesUpTo, AreSessionLines, HasOpened, HasServed, HasServedUpTo, IfLost, IsListeningLine, IsOutFault, IsServeFault, IsSessionLine, IsTellFault};
 ghost use Rattle.mps_program.specs.Private.Served.{IsHubFault, TookOne};
 ghost use Rattle.mps_program.specs.Streams.{CantLoad};
 
 use crate::faults::ToolFault;
-use crate::files::open_file;
+use crate::files::{open_file, tell};
 use crate::load::read_many;
 use mps_base::write_number;
 use mps_dev::{OverWrite, Sink, Source};
 use mps_hub::{Hub, ServeFault, serve};
 use mps_room::Room;
-use mps_wire::flow::send_all;
 use std::alloc::{AllocError, Global};
 use std::io;
 use std::net::{Ipv4Addr, Net, SocketAddr, TcpListener, TcpStream};
@@ -21,7 +20,7 @@ use std::rt::Files;
 use std::sync::Wait;
 use std::thread::Threads;
 
-/// The line that tells the port.
+// The line that tells the port.
 fn listening_line(alloc: Global, port: u16) -> Result<Vec<u8>, AllocError>
     ensures { IfOk result (λ line. IsListeningLine port line.items) }
 {
@@ -32,7 +31,7 @@ fn listening_line(alloc: Global, port: u16) -> Result<Vec<u8>, AllocError>
     Ok(line)
 }
 
-/// The line that tells how many entries a session's journal has.
+// The line that tells how many entries a session's journal has.
 fn session_line(alloc: Global, session: u64, entries: u64) -> Result<Vec<u8>, AllocError>
     ensures { IfOk result (λ line. IsSessionLine session entries line.items) }
 {
@@ -45,20 +44,7 @@ fn session_line(alloc: Global, session: u64, entries: u64) -> Result<Vec<u8>, Al
     Ok(line)
 }
 
-/// Writes the line.
-fn tell<'a, W: Sink>(writer: &mut W, line: &[u8]) -> Result<(), ToolFault<'a>>
-    requires { W.failed_calls writer.old < 2 ^ 62 }
-    ensures told { OnOk result (Appends (W.taken writer.old) (W.taken writer.new) line.now) }
-    ensures fault { IfErr result (IsTellFault 1 0) }
-    ensures writes { W.failed_calls writer.new ≡ after_writes result (W.failed_calls writer.old) }
-{
-    match send_all(writer, line) {
-        Ok(()) => Ok(()),
-        Err(_) => Err(ToolFault::Write),
-    }
-}
-
-/// Tells the port.
+// Tells the port.
 fn tell_port<'a, W: Sink>(alloc: Global, writer: &mut W, port: u16) -> Result<(), ToolFault<'a>>
     requires { W.failed_calls writer.old < 2 ^ 62 }
     ensures told { OnOk result (TookOne (IsListeningLine port) (W.taken writer.old) (W.taken writer.new)) }
@@ -69,7 +55,7 @@ fn tell_port<'a, W: Sink>(alloc: Global, writer: &mut W, port: u16) -> Result<()
     tell(writer, line.as_slice())
 }
 
-/// Tells how many entries the journal of a session has.
+// Tells how many entries the journal of a session has.
 fn tell_session<'a, W: Sink>(
     alloc: Global,
     writer: &mut W,
@@ -85,7 +71,7 @@ fn tell_session<'a, W: Sink>(
     tell(writer, line.as_slice())
 }
 
-/// Tells of each session from this one on, up to the first that is lost.
+// Tells of each session from this one on, up to the first that is lost.
 #[tactic(auto, using(crate::proofs::Telling::one_more, crate::proofs::Telling::any_tell, crate::proofs::Telling::later_tell, crate::proofs::Telling::none_lost, crate::proofs::Telling::first_lost))]
 fn tell_sessions<'a, W: Sink>(
     alloc: Global,
@@ -112,7 +98,7 @@ fn tell_sessions<'a, W: Sink>(
     }
 }
 
-/// Serves the hub's sessions to so many connections.
+// Serves the hub's sessions to so many connections.
 fn serve_hub<'a, R: Threads + Wait + Sync + 'static>(
     rt: &R,
     alloc: Global,
@@ -139,7 +125,7 @@ fn serve_hub<'a, R: Threads + Wait + Sync + 'static>(
 /// the journal of each session has.
 ///
 /// After a fault nothing more is told: the lines of sessions stop before the first that is lost, which the fault names.
-pub fn serve_out<'a, R: Threads + Wait + Sync + 'static, W: Sink>(
+pub fn serve_to<'a, R: Threads + Wait + Sync + 'static, W: Sink>(
     rt: &R,
     alloc: Global,
     listener: &TcpListener,
@@ -177,6 +163,8 @@ pub fn read_hub<'a, R: Source>(
     ensures opened { IfOk result (λ hub. HasOpened
         (R.remaining reader.old) (R.remaining reader.new) sessions hub) }
     ensures fault { IfErr result (CantLoad (R.remaining reader.old) (R.remaining reader.new)) }
+    ensures most { HasReadAtMost most_read (R.remaining reader.old) (R.remaining reader.new) }
+    ensures reads { R.failed_calls reader.new ≡ after_reads result (R.failed_calls reader.old) }
 {
     let (roles, made) = read_many(alloc, reader, sessions)?;
     Ok(Hub::of(alloc, &roles, made)?)
@@ -205,5 +193,5 @@ pub fn serve_file<
         return Err(ToolFault::Bind);
     };
     let mut writer = OverWrite::new(io::writer(rt));
-    serve_out(rt, rt.alloc(), &listener, &mut writer, hub, connections)
+    serve_to(rt, rt.alloc(), &listener, &mut writer, hub, connections)
 }

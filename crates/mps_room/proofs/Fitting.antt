@@ -30,7 +30,7 @@ use Rattle.mps_machine.specs.Rule.{first_of, moved}
 use Rattle.mps_machine.specs.View.{View}
 use Rattle.mps_machine.specs.Violations.{is_value_of, is_label_of, waiting_fault, effect_fault, violation}
 use Rattle.mps_room.specs.Journal.{undone_by, is_accepted}
-use Rattle.mps_room.specs.Private.Kept.{TakesSuch, Fits}
+use Rattle.mps_room.specs.Private.Forms.{TakesSuch, Fits}
 use Rattle.mps_room.proofs.Owning.{step_served, none_stepped, none_removed}
 
 -- ---- messages

@@ -15,7 +15,7 @@ use Rattle.mps_room.specs.Journal.{most_entries, run, undone_by, is_accepted, gr
 use Rattle.mps_room.specs.Private.Heard.{AreHeard, hears, with_place, takes_others}
 use Rattle.mps_room.specs.Private.Owners.{owns, AreOwners, AreGiven, owners_after}
 use Rattle.mps_room.specs.Private.Recorded.{IsRecorded}
-use Rattle.mps_room.specs.Private.Kept.{Fits}
+use Rattle.mps_room.specs.Private.Forms.{Fits}
 use Rattle.mps_room.proofs.Fitting.{fits_command}
 use Rattle.mps_room.specs.declared.entry.Entry.{Entry}
 use Rattle.mps_room.proofs.Growing as growing

@@ -2,5 +2,5 @@
 pub mod Owners
 pub mod Heard
 pub mod Recorded
-pub mod Kept
+pub mod Forms
 pub mod Names

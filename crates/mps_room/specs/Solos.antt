@@ -1,8 +1,7 @@
 -- A room with one caller: what a call tells, and the laws that every caller's calls keep.
-use Rattle.std.specs.Prelude.{◌≡◌, ◌≢◌, ℕ, ◌==◌, Bool, true, false, List, [], ◌∷◌, ◌++◌, if◌then◌else◌}
+use Rattle.std.specs.Prelude.{◌≡◌, ℕ, ◌==◌, Bool, true, false, List, [], ◌∷◌, ◌++◌, if◌then◌else◌}
 use Rattle.std.specs.List.{filter}
-use Rattle.std.proofs.Common.{refl, ap, ◌∙◌, eq-eqb, ne_eqb}
-use Rattle.std.proofs.lemmas.List.{append-nil}
+use Rattle.std.proofs.Common.{refl, ap, ◌∙◌, eq-eqb}
 use Rattle.mps_command.specs.declared.answer.Answer.{Answer}
 use Rattle.mps_command.specs.declared.command.Command.{Command}
 use Rattle.mps_room.specs.Journal.{grown, reply, is_accepted, IsReply}
@@ -41,10 +40,6 @@ filter_end p (x ∷ k) e = let h = filter_end p k e in elim (p x) as (λ (b : Bo
 -- one entry of the role more
 pub own_entry : (role : ℕ) (k : List Entry) (e : Entry) → e.role ≡ role → entries_of role (k ++ e ∷ []) ≡ entries_of role k ++ e ∷ []
 own_entry role k e is = filter_end (λ (x : Entry). x.role == role) k e ∙ ap (λ (b : Bool). entries_of role k ++ (if b then e ∷ [] else [])) (eq-eqb e.role role is)
-
--- one entry of another role more
-pub other_entry : (role : ℕ) (k : List Entry) (e : Entry) → e.role ≢ role → entries_of role (k ++ e ∷ []) ≡ entries_of role k
-other_entry role k e differs = filter_end (λ (x : Entry). x.role == role) k e ∙ (ap (λ (b : Bool). entries_of role k ++ (if b then e ∷ [] else [])) (ne_eqb e.role role differs) ∙ append-nil (entries_of role k))
 
 own_grown : (j : List Entry) (p : ℕ) (c : Command) (a : Answer) (b : Bool) → entries_of p (if b then j ++ entry p c a ∷ [] else j) ≡ (if b then entries_of p j ++ entry p c a ∷ [] else entries_of p j)
 own_grown j p c a true = own_entry p j (entry p c a) refl

@@ -5,21 +5,21 @@ ghost use Rattle.mps_command.specs.declared.answer.Answer.TheVariants.{Refused};
 ghost use Rattle.mps_room.specs.Callers.{entry};
 ghost use Rattle.mps_room.specs.Journal.{grown, most_entries, reply, undone_by, IsReply};
 ghost use Rattle.mps_room.specs.Private.Heard.{hears, with_place, takes_others};
-ghost use Rattle.mps_room.specs.Private.Kept.{Fits};
+ghost use Rattle.mps_room.specs.Private.Forms.{Fits};
 ghost use Rattle.mps_room.specs.Private.Owners.{owns, owners_after, is_step};
 ghost use Rattle.mps_room.specs.Private.Recorded.{IsShort};
 
 use crate::heard::Heard;
-use crate::kept::Kept;
+use crate::narrow_entry::NarrowEntry;
 use crate::room::{MAX_ENTRIES, Room};
 use mps_base::{Role, StepId};
 use mps_command::{Answer, Command, Refusal};
 
-// Makes room for one entry more, and for what the command adds besides: the owner of a step, or, where the command may take
-// back steps of others, the entry's place in their lists. Says what is missing, if anything is.
+// Reserves memory for one entry more, and for what the command adds besides: the owner of a step, or, where the command may
+// take back steps of others, the entry's place in their lists. Says what is missing, if anything is.
 #[inline(always)]
-fn make_room(
-    journal: &mut Vec<Kept>,
+fn reserve_entry(
+    journal: &mut Vec<NarrowEntry>,
     owners: &mut Vec<u8>,
     heard: &mut Heard,
     role: Role,
@@ -89,7 +89,7 @@ fn note(
 // Adds the entry, and what there is to note beside it.
 #[inline(always)]
 fn keep(
-    journal: &mut Vec<Kept>,
+    journal: &mut Vec<NarrowEntry>,
     owners: &mut Vec<u8>,
     heard: &mut Heard,
     role: Role,
@@ -115,7 +115,7 @@ fn keep(
 {
     let place = journal.len() as u32;
     note(owners, heard, role, &command, &answer, place);
-    Kept::push(journal, role, command, answer);
+    NarrowEntry::push(journal, role, command, answer);
 }
 
 // The numbers of the steps that an answer says were taken back.
@@ -145,7 +145,7 @@ impl Room {
         ensures names { self.new.names ≡ self.old.names }
         ensures types { self.new.types ≡ self.old.types }
     {
-        if let Err(lack) = make_room(
+        if let Err(lack) = reserve_entry(
             &mut self.journal,
             &mut self.owners,
             &mut self.heard,
@@ -176,9 +176,9 @@ impl Room {
             (reply self.old.names self.old.types self.old.journal role command.now) }
         ensures kept { self.new ≡ self.old }
     {
-        match self.session.would(role, command) {
-            Err(refusal) => return refusal,
-            Ok(()) => return lack,
+        if let Err(refusal) = self.session.would(role, command) {
+            return refusal;
         }
+        lack
     }
 }

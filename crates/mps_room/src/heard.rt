@@ -60,7 +60,7 @@ impl Heard {
         ensures count { self.new.count ≡ self.old.count }
         ensures each { length self.new.lists ≡ 8 }
         ensures lists { map (λ l. l.items) self.new.lists ≡ map (λ l. l.items) self.old.lists }
-        ensures room { OnOk result ((k : ℕ) (d : _) → k < self.old.count → k ≢ asker
+        ensures space { OnOk result ((k : ℕ) (d : _) → k < self.old.count → k ≢ asker
             → vec_len (slice_index_or self.new.lists k d) < vec_capacity (slice_index_or self.new.lists k d)) }
     {
         for k in 0..self.count {
@@ -77,7 +77,7 @@ impl Heard {
     pub(crate) fn note(&mut self, owners: &[u8], asker: Role, ids: &[StepId], place: u32)
         requires few { self.old.count ≤ 8 }
         requires each { length self.old.lists ≡ 8 }
-        requires room { (k : ℕ) (d : _) → k < self.old.count → k ≢ asker
+        requires space { (k : ℕ) (d : _) → k < self.old.count → k ≢ asker
             → vec_len (slice_index_or self.old.lists k d) < vec_capacity (slice_index_or self.old.lists k d) }
         ensures count { self.new.count ≡ self.old.count }
         ensures each { length self.new.lists ≡ 8 }
@@ -99,7 +99,7 @@ fn reserve_at(lists: &mut [Vec<u32>; 8], k: usize) -> Result<(), AllocError>
     ensures each { length lists.new ≡ length lists.old }
     ensures here { (d : _) → (slice_index_or lists.new k d).items ≡ (slice_index_or lists.old k d).items }
     ensures others { (i : ℕ) (d : _) → i ≢ k → slice_index_or lists.new i d ≡ slice_index_or lists.old i d }
-    ensures room { OnOk result ((d : _) → vec_len (slice_index_or lists.new k d) < vec_capacity (slice_index_or lists.new k d)) }
+    ensures space { OnOk result ((d : _) → vec_len (slice_index_or lists.new k d) < vec_capacity (slice_index_or lists.new k d)) }
 {
     lists[k].reserve(1)
 }
@@ -107,7 +107,7 @@ fn reserve_at(lists: &mut [Vec<u32>; 8], k: usize) -> Result<(), AllocError>
 // Adds a place to one list.
 fn push_at(lists: &mut [Vec<u32>; 8], k: usize, place: u32)
     requires list { k < length lists.old }
-    requires room { (d : _) → vec_len (slice_index_or lists.old k d) < vec_capacity (slice_index_or lists.old k d) }
+    requires space { (d : _) → vec_len (slice_index_or lists.old k d) < vec_capacity (slice_index_or lists.old k d) }
     ensures each { length lists.new ≡ length lists.old }
     ensures here { (d : _) → (slice_index_or lists.new k d).items ≡ (slice_index_or lists.old k d).items ++ place ∷ [] }
     ensures others { (i : ℕ) (d : _) → i ≢ k → slice_index_or lists.new i d ≡ slice_index_or lists.old i d }

@@ -10,8 +10,8 @@ ghost use Rattle.mps_local.specs.Local.{LocalType};
 ghost use Rattle.mps_room.specs.Journal.{reply, IsReply};
 ghost use Rattle.mps_room.specs.declared.entry.Entry.{Entry};
 
-/// Where the opening types are those of one protocol without faults, no command is answered that its role's type
-/// doesn't fit what was sent to it, after no journal.
+/// Where the opening types are those of one protocol without faults: after any journal, no command is answered
+/// `Mismatch`.
 pub fn no_answer_is_a_mismatch()
     ensures { (names : List (List ℕ)) (types : List LocalType) (j : List Entry) (role : ℕ)
         (command : Command) (answer : Answer) → AreOfOneProtocol types

@@ -9,7 +9,7 @@ use std::marker::Model;
 #[derive(Debug, Drop)]
 pub(crate) struct NarrowName {
     len: u8,
-    // whatever stands after the name is of no matter
+    // whatever stands after the name doesn't matter
     bytes: [u8; 32],
 }
 

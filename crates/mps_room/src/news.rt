@@ -6,7 +6,7 @@ ghost use Rattle.mps_room.specs.Private.Heard.{places, undone_at};
 ghost use Rattle.mps_room.specs.Private.Owners.{owns};
 
 use crate::heard::owner_of;
-use crate::kept::Kept;
+use crate::narrow_entry::NarrowEntry;
 use mps_base::{Role, StepId};
 use std::alloc::{AllocError, Global};
 
@@ -14,7 +14,7 @@ use std::alloc::{AllocError, Global};
 /// through those entries alone that the role hears of.
 pub(crate) fn news(
     alloc: Global,
-    journal: &[Kept],
+    journal: &[NarrowEntry],
     owners: &[u8],
     heard: &[u32],
     role: Role,
@@ -42,11 +42,11 @@ fn after(places: &[u32], known: u64) -> &[u32]
 }
 
 // The numbers of the steps that the entry at the place took back.
-fn undone_at(journal: &[Kept], place: u32) -> &[StepId]
+fn undone_at(journal: &[NarrowEntry], place: u32) -> &[StepId]
     ensures { result.now ≡ undone_at journal.now place }
 {
     match journal.get(place as usize) {
-        Some(kept) => kept.undone(),
+        Some(entry) => entry.undone(),
         None => &[],
     }
 }

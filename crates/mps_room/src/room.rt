@@ -9,7 +9,7 @@ ghost use Rattle.serde_json.specs.Written.{compact_text};
 
 use crate::entry::Entry;
 use crate::heard::Heard;
-use crate::kept::Kept;
+use crate::narrow_entry::NarrowEntry;
 use crate::news::news;
 use crate::shown::shown_text;
 use mps_base::{Role, Roles};
@@ -28,7 +28,7 @@ pub const MAX_ENTRIES: usize = 100_000;
 pub struct Room {
     pub(crate) names: Roles,
     pub(crate) session: Session,
-    pub(crate) journal: Vec<Kept>,
+    pub(crate) journal: Vec<NarrowEntry>,
     // whose steps they are, in the order of their numbers
     pub(crate) owners: Vec<u8>,
     // what each role hears of
@@ -103,7 +103,7 @@ impl Room {
         ensures none { length self.now.journal ≤ k → result ≡ Ok None }
     {
         match self.journal.get(k as usize) {
-            Some(kept) => Ok(Some(kept.entry(self.alloc)?)),
+            Some(narrow) => Ok(Some(narrow.entry(self.alloc)?)),
             None => Ok(None),
         }
     }

@@ -22,7 +22,7 @@ use Rattle.mps_links.proofs.Links.{next_is}
 use Rattle.mps_stores.specs.Stores.{Keys, mark_of, store_after, rebound}
 use Rattle.mps_stores.proofs.Bindings.{after_binding, after_other, after_idle}
 use Rattle.mps_log.specs.Values.{last_mark}
-use Rattle.mps_session.specs.Private.Answers.{first_number}
+use Rattle.mps_session.specs.Private.FirstNumber.{first_number}
 
 -- what comes after a mark is of the history
 since_in : (name : List ℕ) (h c : List Step) (s : Step) → since_mark name h ≡ Some c → IsIn s c → IsIn s h

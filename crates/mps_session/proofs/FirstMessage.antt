@@ -9,9 +9,9 @@ use Rattle.mps_history.specs.Steps.{unreceived}
 use Rattle.mps_machine.specs.Machine.{taken}
 use Rattle.mps_monitor.specs.Verdicts.{moved_by}
 use Rattle.mps_arena.specs.Entries.{steps}
-use Rattle.mps_session.specs.Private.Configurations.{Configuration, moved_in, taken_from}
+use Rattle.mps_session.specs.Private.Configurations.{Lists, moved_in, taken_from}
 
-module _ (c : Configuration) (p from : ℕ) (first : Option Message) (is : first ≡ slice_get (unreceived from p (steps c.entries)) 0) where
+module _ (c : Lists) (p from : ℕ) (first : Option Message) (is : first ≡ slice_get (unreceived from p (steps c.entries)) 0) where
   from_peer : (q : ℕ) → Some q ≡ Some from → first ≡ slice_get (unreceived q p (steps c.entries)) 0
   from_peer q same = let peer : from ≡ q = cc in is ∙ ap (λ (r : ℕ). slice_get (unreceived r p (steps c.entries)) 0) peer
 

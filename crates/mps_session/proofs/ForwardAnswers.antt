@@ -24,10 +24,14 @@ use Rattle.mps_table.proofs.Standing.{node_stands}
 use Rattle.mps_table.specs.Graph.{IsNode}
 use Rattle.mps_table.specs.Standing.{StandsFor}
 use Rattle.mps_machine.specs.Answering.{IsAnswer}
-use Rattle.mps_session.specs.Private.Configurations.{Configuration, cursor_of, state_of, moved_in, StandsAt, fault_in, LeadsTo, IsReady, HasActed, logged, done_in}
+use Rattle.mps_session.specs.Private.Configurations.{Lists, cursor_of, state_of, moved_in, StandsAt, fault_in, LeadsTo, IsReady, HasActed, logged}
 use Rattle.mps_session.specs.Private.Invariant.{Holds}
 use Rattle.mps_session.specs.SessionState.{SessionState}
 use Rattle.mps_session.proofs.HoldsAfterAct as accepting
+
+-- what the role is answered then
+abbrev pub done_in : Lists → ℕ → Act → Done
+done_in c p act = record { id = c.issued + 1; got = taken act (moved_in c p act) }
 
 module _ (types : List LocalType) (st : State) (p : ℕ) (act : Act) where
   abbrev new : Result Done Refusal × State
@@ -50,7 +54,7 @@ module _ (types : List LocalType) (st : State) (p : ℕ) (act : Act) where
       ap (λ (f : Option Violation). answered f (full_fault st)) e
       ∙ ap (answered None) (cond-false (nat_lt most_numbers st.next) (Some Full) None (le-ltb most_numbers st.next room))
 
-module _ (types : List LocalType) (c : Configuration) (holds : Holds types c) (now : SessionState) (is : ◌≡◌ {A = SessionState} (record { types = types; state = state_of c }) now) (p : ℕ) (within : p < length now.types) where
+module _ (types : List LocalType) (c : Lists) (holds : Holds types c) (now : SessionState) (is : ◌≡◌ {A = SessionState} (record { types = types; state = state_of c }) now) (p : ℕ) (within : p < length now.types) where
   pub in_types : p < length types
   in_types = omega (arith, within, ap (λ (m : SessionState). length m.types) is)
 
@@ -98,12 +102,12 @@ module _ (types : List LocalType) (c : Configuration) (holds : Holds types c) (n
           sym machine_is ∙ answers_done types (state_of c) p act fine (omega (arith, room))
           ∙ ap (λ (m : Option Message). let r : Result Done Refusal × State = (Ok (record { id = c.issued + 1; got = taken act m }), accepted (state_of c) p act) in r) (sym (accepting.moves_the_same types c holds p act))
 
-      pub holds_then : (node : ℕ) (next : Configuration) → LeadsTo c p act node → HasActed p act node c next → c.issued < most_numbers → Holds types next
+      pub holds_then : (node : ℕ) (next : Lists) → LeadsTo c p act node → HasActed p act node c next → c.issued < most_numbers → Holds types next
       holds_then node next follows acted room =
           let on = accepting.moves_on types c holds p act fine in
           accepting.acted_holds types c holds p act in_types fine on.0 on.1 node (follows (v.participant p) on.0 stands on.1) next acted room
 
-      pub state_then : (node : ℕ) (next : Configuration) → HasActed p act node c next → state_of next ≡ accepted (state_of c) p act
+      pub state_then : (node : ℕ) (next : Lists) → HasActed p act node c next → state_of next ≡ accepted (state_of c) p act
       state_then node next acted =
           ap₂ (λ (l : List Step) (k : ℕ). let st : State = record { history = l; next = k + 1 } in st)
           (ap steps acted.joined.entries ∙ map-append (λ (e : KeyedStep). e.step) c.entries (joining (logged c) p act (cursor_of c p).node acted.joined.key ∷ []))

@@ -16,7 +16,7 @@ use Rattle.mps_local.specs.Local.{LocalType}
 use Rattle.mps_machine.specs.Machine.{State, most_numbers, taken, forward}
 use Rattle.mps_machine.specs.Answering.{IsAnswer, IsServed}
 use Rattle.mps_session.specs.Answers.{once}
-use Rattle.mps_session.specs.Private.Configurations.{Configuration, state_of, moved_in, StandsAt, fault_in, LeadsTo, HasActed, IsBarred, taken_from}
+use Rattle.mps_session.specs.Private.Configurations.{Lists, state_of, moved_in, StandsAt, fault_in, LeadsTo, HasActed, IsBarred, taken_from}
 use Rattle.mps_session.specs.Private.Invariant.{Holds}
 use Rattle.mps_session.specs.SessionState.{SessionState}
 use Rattle.mps_session.proofs.ForwardAnswers as serving
@@ -27,7 +27,7 @@ none_taken (Receive from slot) m e = cc
 none_taken (Pick from) m e = cc
 none_taken command m e = refl
 
-module _ (types : List LocalType) (c : Configuration) (holds : Holds types c) (now : SessionState) (is : ◌≡◌ {A = SessionState} (record { types = types; state = state_of c }) now) (p : ℕ) (within : p < length now.types) (command : Forward) where
+module _ (types : List LocalType) (c : Lists) (holds : Holds types c) (now : SessionState) (is : ◌≡◌ {A = SessionState} (record { types = types; state = state_of c }) now) (p : ℕ) (within : p < length now.types) (command : Forward) where
   abbrev act : Act
   act = act_of command
 
@@ -52,7 +52,7 @@ module _ (types : List LocalType) (c : Configuration) (holds : Holds types c) (n
         let e = err_from_is_err_and r was in
         failed r Memory (e.1 ∙ ap Err e.2) (ap is_ok (ap (λ (x : Result Done Refusal × State). x.0) (serving.done types c holds now is p within act each room))) new same
 
-    module _ (node : ℕ) (follows : LeadsTo c p act node) (next : Configuration) (acted : HasActed p act node c next) where
+    module _ (node : ℕ) (follows : LeadsTo c p act node) (next : Lists) (acted : HasActed p act node c next) where
       pub holds_then : Holds types next
       holds_then = serving.holds_then types c holds now is p within act each node next follows acted room
 

@@ -9,11 +9,11 @@ use Rattle.mps_history.specs.Steps.{step_of}
 use Rattle.mps_machine.specs.Machine.{owner_fault, commit_fault, undone, undo}
 use Rattle.mps_machine.proofs.Undoing.{undo_is}
 use Rattle.mps_arena.specs.Entries.{KeyedStep, steps, AreSound}
-use Rattle.mps_session.specs.Private.Configurations.{Configuration, state_of}
+use Rattle.mps_session.specs.Private.Configurations.{Lists, state_of}
 use Rattle.mps_session.proofs.OwnStep as numbered
 use Rattle.mps_session.proofs.OwnStep.{key_of}
 
-module _ (c : Configuration) (kept : AreSound c.entries) (p n k : ℕ) (at : key_of c.entries n ≡ Some k) (own : owner_fault p (step_of (steps c.entries) n) ≡ None) where
+module _ (c : Lists) (kept : AreSound c.entries) (p n k : ℕ) (at : key_of c.entries n ≡ Some k) (own : owner_fault p (step_of (steps c.entries) n) ≡ None) where
   abbrev pub x : KeyedStep
   x = numbered.entry c.entries kept n k at
 

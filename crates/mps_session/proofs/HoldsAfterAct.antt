@@ -28,7 +28,7 @@ use Rattle.mps_arena.proofs.Matched.{sound_nil}
 use Rattle.mps_log.specs.Joins.{joining}
 use Rattle.mps_log.proofs.Waiting.{first_waits}
 use Rattle.mps_table.specs.Standing.{StandsFor}
-use Rattle.mps_session.specs.Private.Configurations.{Configuration, cursor_of, state_of, logged, moved_for, moved_in, IsReady, IsReadyEffect, HasActed}
+use Rattle.mps_session.specs.Private.Configurations.{Lists, cursor_of, state_of, logged, moved_for, moved_in, IsReady, IsReadyEffect, HasActed}
 use Rattle.mps_session.specs.Private.Cursors.{IsFor, nowhere, went}
 use Rattle.mps_session.specs.declared.cursor.Cursor.{Cursor}
 use Rattle.mps_session.specs.Private.Invariant.{AreCursors, ArePlaced, Holds}
@@ -71,7 +71,7 @@ same_table cursors p r node inside =
     (λ (ne : r ≢ p). ap (λ (x : Cursor). x.table) (get_or-set_other cursors p r (went node (get_or cursors p nowhere)) nowhere ne))
     (cases_eq r p)
 
-module _ (types : List LocalType) (c : Configuration) (holds : Holds types c) where
+module _ (types : List LocalType) (c : Lists) (holds : Holds types c) where
   abbrev pub n : ℕ
   n = length types
 
@@ -140,7 +140,7 @@ module _ (types : List LocalType) (c : Configuration) (holds : Holds types c) wh
         ap (λ (o : Option View). unwrap_or o (opening types))
         (replay-append (opening types) v h (then ∷ []) replayed ∙ replay_from v (view_after v then after) then [] (rule_from v then after stepped))
 
-    module _ (node : ℕ) (stands : StandsFor (cursor_of c p).table node after.to_come) (next : Configuration) (acted : HasActed p act node c next) where
+    module _ (node : ℕ) (stands : StandsFor (cursor_of c p).table node after.to_come) (next : Lists) (acted : HasActed p act node c next) where
       abbrev new : Cursor
       new = went node (cursor_of c p)
 
@@ -205,7 +205,7 @@ start_at (t ∷ types) (x ∷ cursors) zero a h = a.0
 start_at (t ∷ types) (x ∷ cursors) (suc p) a h = start_at types cursors p a.1 (omega arith)
 
 -- nothing was done yet
-pub opened_holds : (types : List LocalType) (c : Configuration) → HasRoleCount types → HavePeers types → IsOpening types c → Holds types c
+pub opened_holds : (types : List LocalType) (c : Lists) → HasRoleCount types → HavePeers types → IsOpening types c → Holds types c
 opened_holds types c count peers o = record {
   sound = subst (IsSound types) (sym state) (initial_sound types);
   roles = count;

@@ -24,7 +24,7 @@ use Rattle.mps_arena.proofs.Histories.{steps_without}
 use Rattle.mps_arena.proofs.Keeping.{all_at, entry_split, others_are}
 use Rattle.mps_links.proofs.StepKeys.{in_middle}
 use Rattle.mps_table.specs.Standing.{StandsFor}
-use Rattle.mps_session.specs.Private.Configurations.{Configuration, cursor_of, state_of}
+use Rattle.mps_session.specs.Private.Configurations.{Lists, cursor_of, state_of}
 use Rattle.mps_session.specs.Private.Cursors.{IsFor, nowhere, went}
 use Rattle.mps_session.specs.declared.cursor.Cursor.{Cursor}
 use Rattle.mps_session.specs.Private.Invariant.{AreCursors, ArePlaced, Holds}
@@ -65,7 +65,7 @@ left_cases (z ∷ a) b (w ∷ c) d y e =
 
 module _ (types : List LocalType) (cursors : List Cursor) (issued : ℕ) (a b : List KeyedStep) (x : KeyedStep) where
   -- with the entry, and without it
-  abbrev old : Configuration
+  abbrev old : Lists
   old = record { cursors = cursors; entries = a ++ x ∷ b; issued = issued }
 
   abbrev p : ℕ
@@ -77,7 +77,7 @@ module _ (types : List LocalType) (cursors : List Cursor) (issued : ℕ) (a b : 
   abbrev again : Cursor
   again = went x.before.at (cursor_of old p)
 
-  abbrev new : Configuration
+  abbrev new : Lists
   new = record { cursors = set cursors p again; entries = a ++ b; issued = issued }
 
   module _ (holds : Holds types old) (free : IsFree (a ++ x ∷ b) x) (sound : AreSound (a ++ b)) where
@@ -163,7 +163,7 @@ module _ (types : List LocalType) (cursors : List Cursor) (issued : ℕ) (a b : 
     }
 
 -- what is kept after a step was removed is the view of the others
-module _ (types : List LocalType) (c next : Configuration) (k : ℕ) (x : KeyedStep) (holds : Holds types c) (found : entry_at k c.entries ≡ Some x) (can : CanGo c.entries k) (left : HasLeft x c next) where
+module _ (types : List LocalType) (c next : Lists) (k : ℕ) (x : KeyedStep) (holds : Holds types c) (found : entry_at k c.entries ≡ Some x) (can : CanGo c.entries k) (left : HasLeft x c next) where
   abbrev at : (a : List KeyedStep) × (b : List KeyedStep) × (c.entries ≡ a ++ x ∷ b)
   at = entry_split k c.entries x found
 
@@ -189,8 +189,8 @@ module _ (types : List LocalType) (c next : Configuration) (k : ℕ) (x : KeyedS
 
   is_then : next ≡ new types c.cursors c.issued a b x
   is_then =
-      ap₂ (λ (l : List Cursor) (i : ℕ). let d : Configuration = record { cursors = l; entries = next.entries; issued = i } in d) left.cursors left.issued
-      ∙ ap (λ (l : List KeyedStep). let d : Configuration = record { cursors = set c.cursors x.step.role (went x.before.at (cursor_of c x.step.role)); entries = l; issued = c.issued } in d) entries_then
+      ap₂ (λ (l : List Cursor) (i : ℕ). let d : Lists = record { cursors = l; entries = next.entries; issued = i } in d) left.cursors left.issued
+      ∙ ap (λ (l : List KeyedStep). let d : Lists = record { cursors = set c.cursors x.step.role (went x.before.at (cursor_of c x.step.role)); entries = l; issued = c.issued } in d) entries_then
 
   pub returned_holds : Holds types next
   returned_holds = subst (Holds types) (sym is_then) (holds_then types c.cursors c.issued a b x was free sound)
@@ -211,7 +211,7 @@ module _ (types : List LocalType) (c next : Configuration) (k : ℕ) (x : KeyedS
       ∙ ap (λ (l : List KeyedStep). without (steps l) (λ i. i == x.step.id)) (sym at.2)
 
 -- what was written and removed is what the entry says
-pub has_left : (k : ℕ) (old next : Configuration) (s : Step) (before : Before) → option_map (λ e. e.step) (entry_at k old.entries) ≡ Some s → option_map (λ e. e.before) (entry_at k old.entries) ≡ Some before
+pub has_left : (k : ℕ) (old next : Lists) (s : Step) (before : Before) → option_map (λ e. e.step) (entry_at k old.entries) ≡ Some s → option_map (λ e. e.before) (entry_at k old.entries) ≡ Some before
     → next.cursors ≡ set old.cursors s.role (went before.at (cursor_of old s.role)) → next.entries ≡ filter (λ e. not (e.key == k)) old.entries → next.issued ≡ old.issued → AreSound next.entries
     → IfSome (entry_at k old.entries) (λ e. HasLeft e old next)
 has_left k old next s before is stood moved gone same sound = by_cases (entry_at k old.entries) refl

@@ -7,7 +7,7 @@ use Rattle.mps_base.specs.declared.action.Step.{Step}
 use Rattle.mps_history.specs.Steps.{IsIn, numbers, within}
 use Rattle.mps_history.proofs.Order.{from_members}
 use Rattle.mps_history.proofs.Removal.{filter-same, filter-none}
-use Rattle.mps_session.specs.NumberSets.{told}
+use Rattle.mps_session.specs.NumberSets.{is_among}
 
 within_yes : (set : ℕ → Bool) (s : Step) (h : List Step) → set s.id ≡ true → within (s ∷ h) set ≡ s ∷ within h set
 within_yes set s h t = cond-true (set s.id) (s ∷ within h set) (within h set) t
@@ -15,50 +15,50 @@ within_yes set s h t = cond-true (set s.id) (s ∷ within h set) (within h set) 
 within_no : (set : ℕ → Bool) (s : Step) (h : List Step) → set s.id ≡ false → within (s ∷ h) set ≡ within h set
 within_no set s h f = cond-false (set s.id) (s ∷ within h set) (within h set) f
 
--- a step of the set is told
-kept : (set : ℕ → Bool) (h : List Step) (s : Step) → IsIn s h → set s.id ≡ true → told (numbers (within h set)) s.id ≡ true
+-- the number of a step of the set is told
+kept : (set : ℕ → Bool) (h : List Step) (s : Step) → IsIn s h → set s.id ≡ true → is_among (numbers (within h set)) s.id ≡ true
 kept set [] s i t = absurd i
 kept set (x ∷ h) s (inl e) t =
     let same : x.id ≡ s.id = ap (λ (y : Step). y.id) (sym e) in
-    ap (λ (l : List Step). told (numbers l) s.id) (within_yes set x h (ap set same ∙ t))
-    ∙ or_left (x.id == s.id) (told (numbers (within h set)) s.id) (eq-eqb x.id s.id same)
+    ap (λ (l : List Step). is_among (numbers l) s.id) (within_yes set x h (ap set same ∙ t))
+    ∙ or_left (x.id == s.id) (is_among (numbers (within h set)) s.id) (eq-eqb x.id s.id same)
 kept set (x ∷ h) s (inr i) t =
     let rest = kept set h s i t in
     ⊎_elim
     (λ (y : set x.id ≡ true).
-    ap (λ (l : List Step). told (numbers l) s.id) (within_yes set x h y) ∙ or_right (x.id == s.id) (told (numbers (within h set)) s.id) rest)
-    (λ (f : set x.id ≡ false). ap (λ (l : List Step). told (numbers l) s.id) (within_no set x h f) ∙ rest)
+    ap (λ (l : List Step). is_among (numbers l) s.id) (within_yes set x h y) ∙ or_right (x.id == s.id) (is_among (numbers (within h set)) s.id) rest)
+    (λ (f : set x.id ≡ false). ap (λ (l : List Step). is_among (numbers l) s.id) (within_no set x h f) ∙ rest)
     (cases_Bool (set x.id))
 
 -- and no other number
-only : (set : ℕ → Bool) (h : List Step) (n : ℕ) → told (numbers (within h set)) n ≡ true → set n ≡ true
+only : (set : ℕ → Bool) (h : List Step) (n : ℕ) → is_among (numbers (within h set)) n ≡ true → set n ≡ true
 only set [] n t = absurd cc
 only set (x ∷ h) n t =
     ⊎_elim
     (λ (y : set x.id ≡ true).
     ⊎_elim
     (λ (e : (x.id == n) ≡ true). ap set (sym (eqb-true x.id n e)) ∙ y)
-    (λ (r : told (numbers (within h set)) n ≡ true). only set h n r)
-    (or_cases (x.id == n) (told (numbers (within h set)) n) (sym (ap (λ (l : List Step). told (numbers l) n) (within_yes set x h y)) ∙ t)))
-    (λ (f : set x.id ≡ false). only set h n (sym (ap (λ (l : List Step). told (numbers l) n) (within_no set x h f)) ∙ t))
+    (λ (r : is_among (numbers (within h set)) n ≡ true). only set h n r)
+    (or_cases (x.id == n) (is_among (numbers (within h set)) n) (sym (ap (λ (l : List Step). is_among (numbers l) n) (within_yes set x h y)) ∙ t)))
+    (λ (f : set x.id ≡ false). only set h n (sym (ap (λ (l : List Step). is_among (numbers l) n) (within_no set x h f)) ∙ t))
     (cases_Bool (set x.id))
 
-told_reversed : (ids : List ℕ) (n : ℕ) → told (reverse ids) n ≡ told ids n
+told_reversed : (ids : List ℕ) (n : ℕ) → is_among (reverse ids) n ≡ is_among ids n
 told_reversed ids n = sym (list_any-IsPermutation (λ m. m == n) ids (reverse ids) (IsPermutation-reverse ids))
 
 -- the steps of a set, by their numbers in any order
-pub within_told : (h : List Step) (set : ℕ → Bool) (ids : List ℕ) → ids ≡ reverse (numbers (within h set)) → within h (told ids) ≡ within h set
+pub within_told : (h : List Step) (set : ℕ → Bool) (ids : List ℕ) → ids ≡ reverse (numbers (within h set)) → within h (is_among ids) ≡ within h set
 within_told h set ids is =
-    filter-same (λ s. told ids s.id) (λ s. set s.id) h
-    (from_members (λ s. told ids s.id ≡ set s.id) h
+    filter-same (λ s. is_among ids s.id) (λ s. set s.id) h
+    (from_members (λ s. is_among ids s.id ≡ set s.id) h
     (λ s i.
-    ap (λ (l : List ℕ). told l s.id) is ∙ told_reversed (numbers (within h set)) s.id
+    ap (λ (l : List ℕ). is_among l s.id) is ∙ told_reversed (numbers (within h set)) s.id
     ∙ ⊎_elim
     (λ (y : set s.id ≡ true). kept set h s i y ∙ sym y)
     (λ (f : set s.id ≡ false).
-    false_from_ne_true (told (numbers (within h set)) s.id) (λ t. let no = only set h s.id t in absurd cc) ∙ sym f)
+    false_from_ne_true (is_among (numbers (within h set)) s.id) (λ t. let no = only set h s.id t in absurd cc) ∙ sym f)
     (cases_Bool (set s.id))))
 
 -- no number tells no step
-pub within_none : (h : List Step) (ids : List ℕ) → ids ≡ [] → within h (told ids) ≡ []
-within_none h ids is = ap (λ (l : List ℕ). within h (told l)) is ∙ filter-none (λ s. told [] s.id) h (from_members (λ s. told [] s.id ≡ false) h (λ s i. refl))
+pub within_none : (h : List Step) (ids : List ℕ) → ids ≡ [] → within h (is_among ids) ≡ []
+within_none h ids is = ap (λ (l : List ℕ). within h (is_among l)) is ∙ filter-none (λ s. is_among [] s.id) h (from_members (λ s. is_among [] s.id ≡ false) h (λ s i. refl))

@@ -18,7 +18,7 @@ use Rattle.mps_arena.proofs.Chains.{keys_without}
 use Rattle.mps_links.proofs.StepKeys.{none_passes}
 use Rattle.mps_log.specs.Shown.{Moved, moved_of, shown}
 use Rattle.mps_session.specs.Private.Pasts.{deed_of, deeds_of, past_in}
-use Rattle.mps_session.specs.Private.Configurations.{Configuration, state_of}
+use Rattle.mps_session.specs.Private.Configurations.{Lists, state_of}
 use Rattle.mps_session.specs.Private.Invariant.{Holds}
 use Rattle.mps_session.specs.SessionState.{SessionState, moved_from, session_view}
 use Rattle.mps_session.proofs.HoldsAfterAct.{v, replayed}
@@ -114,7 +114,7 @@ pub record AreTold (a b : List KeyedStep) (m n : SessionState) : Type 0 where
   pub swaps : session_view m ≡ session_view n → Swaps m.state.history n.state.history
   pub swapped : Swaps m.state.history n.state.history → session_view m ≡ session_view n
 
-told_of : (types : List LocalType) (c d : Configuration) → Holds types c → Holds types d → AreTold c.entries d.entries (record { types = types; state = state_of c }) (record { types = types; state = state_of d })
+told_of : (types : List LocalType) (c d : Lists) → Holds types c → Holds types d → AreTold c.entries d.entries (record { types = types; state = state_of c }) (record { types = types; state = state_of d })
 told_of types c d hc hd =
     let ec = replayed types c hc in
     let ed = replayed types d hd in record {
@@ -124,7 +124,7 @@ told_of types c d hc hd =
       swapped = swaps_lead_to_one_view types (steps c.entries) (steps d.entries) (v types c hc) (v types d hd) ec ed;
     }
 
-pub told : (types others : List LocalType) (c d : Configuration) (m n : SessionState) → Holds types c → Holds others d → record { types = types; state = state_of c } ≡ m → record { types = others; state = state_of d } ≡ n → m.types ≡ n.types → AreTold c.entries d.entries m n
+pub told : (types others : List LocalType) (c d : Lists) (m n : SessionState) → Holds types c → Holds others d → record { types = types; state = state_of c } ≡ m → record { types = others; state = state_of d } ≡ n → m.types ≡ n.types → AreTold c.entries d.entries m n
 told types others c d m n hc hd is js same =
     let one : others ≡ types = ap (λ (k : SessionState). k.types) js ∙ sym same ∙ sym (ap (λ (k : SessionState). k.types) is) in
     let hd' = subst (λ (l : List LocalType). Holds l d) one hd in

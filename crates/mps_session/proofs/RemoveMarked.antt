@@ -25,14 +25,14 @@ use Rattle.mps_links.proofs.Going.{unmarked_stay, one_fewer, last_marked, still_
 use Rattle.mps_links.proofs.Marked.{marked_with, marked_without}
 use Rattle.mps_log.proofs.Remarked as remarking
 use Rattle.mps_table.specs.Standing.{StandsFor}
-use Rattle.mps_session.specs.Private.Configurations.{Configuration, cursor_of}
+use Rattle.mps_session.specs.Private.Configurations.{Lists, cursor_of}
 use Rattle.mps_session.specs.Private.Invariant.{AreCursors, ArePlaced, Holds}
 use Rattle.mps_session.specs.Private.Leaving.{HasLeft}
 use Rattle.mps_session.proofs.HoldsAfterRemoval.{returned_holds}
 
 -- what is kept doesn't depend on marks
-module _ (types : List LocalType) (c : Configuration) (m : KeyedStep → Bool) (holds : Holds types c) where
-  abbrev now : Configuration
+module _ (types : List LocalType) (c : Lists) (m : KeyedStep → Bool) (holds : Holds types c) where
+  abbrev now : Lists
   now = record c { entries = remarking.again m c.entries }
 
   same : steps now.entries ≡ steps c.entries
@@ -109,7 +109,7 @@ unmarked_again (x ∷ es) set e =
     (cases_Bool x.marked)
 
 -- what the marked steps leave so far, and their numbers
-pub record AreGoing (first now : Configuration) (earlier ids : List ℕ) : Type 0 where
+pub record AreGoing (first now : Lists) (earlier ids : List ℕ) : Type 0 where
   pub closed : AreMarksClosed now.entries
   pub members : AllByRecursion (λ e. e.step.role < length now.cursors) now.entries
   pub told : ids ++ reverse (numbers (marked_steps now.entries)) ≡ earlier ++ reverse (numbers (marked_steps first.entries))
@@ -117,7 +117,7 @@ pub record AreGoing (first now : Configuration) (earlier ids : List ℕ) : Type 
   pub issued : now.issued ≡ first.issued
   pub holds : (types : List LocalType) → Holds types first → Holds types now
 
-module _ (first now next : Configuration) (earlier ids : List ℕ) (k : ℕ) (x : KeyedStep) (going : AreGoing first now earlier ids) (sound : AreSound now.entries) (newest : last_key None (marked_keys now.entries) ≡ Some k) (found : entry_at k now.entries ≡ Some x) (can : CanGo now.entries k) (left : HasLeft x now next) where
+module _ (first now next : Lists) (earlier ids : List ℕ) (k : ℕ) (x : KeyedStep) (going : AreGoing first now earlier ids) (sound : AreSound now.entries) (newest : last_key None (marked_keys now.entries) ≡ Some k) (found : entry_at k now.entries ≡ Some x) (can : CanGo now.entries k) (left : HasLeft x now next) where
   gone : next.entries ≡ filter (λ e. not (e.key == k)) now.entries
   gone = left.entries ∙ ap (λ (j : ℕ). filter (λ e. not (e.key == j)) now.entries) (entry_key k now.entries x found)
 
@@ -145,7 +145,7 @@ module _ (first now next : Configuration) (earlier ids : List ℕ) (k : ℕ) (x 
   fewer = ap (λ (l : List KeyedStep). length (marked_keys l) + 1) gone ∙ one_fewer now.entries k sound newest
 
 -- at the end no step is marked
-module _ (first now : Configuration) (earlier ids : List ℕ) (going : AreGoing first now earlier ids) (none : marked_keys now.entries ≡ []) where
+module _ (first now : Lists) (earlier ids : List ℕ) (going : AreGoing first now earlier ids) (none : marked_keys now.entries ≡ []) where
   pub all_gone : steps now.entries ≡ unmarked_steps first.entries
   all_gone = sym (none_go now.entries none) ∙ going.left
 
@@ -182,11 +182,11 @@ leads_back types st h n ok is =
     rw (there, view_is types st ok) out.2
 
 -- each step is of a role that has a cursor
-pub members_there : (types : List LocalType) (c : Configuration) → Holds types c → AllByRecursion (λ e. e.step.role < length c.cursors) c.entries
+pub members_there : (types : List LocalType) (c : Lists) → Holds types c → AllByRecursion (λ e. e.step.role < length c.cursors) c.entries
 members_there types c holds = subst (λ (n : ℕ). AllByRecursion (λ (e : KeyedStep). e.step.role < n) c.entries) (sym holds.cursors.long) holds.members
 
 -- one turn, as the code takes it
-module _ (first now next : Configuration) (earlier ids : List ℕ) (k id : ℕ) (going : AreGoing first now earlier ids) (sound : AreSound now.entries) (newest : last_key None (marked_keys now.entries) ≡ Some k) (can : CanGo now.entries k) (told : IfSome (entry_at k now.entries) (λ e. id ≡ e.step.id)) (gone : IfSome (entry_at k now.entries) (λ e. HasLeft e now next)) where
+module _ (first now next : Lists) (earlier ids : List ℕ) (k id : ℕ) (going : AreGoing first now earlier ids) (sound : AreSound now.entries) (newest : last_key None (marked_keys now.entries) ≡ Some k) (can : CanGo now.entries k) (told : IfSome (entry_at k now.entries) (λ e. id ≡ e.step.id)) (gone : IfSome (entry_at k now.entries) (λ e. HasLeft e now next)) where
   abbrev x : (y : KeyedStep) × (entry_at k now.entries ≡ Some y)
   x = there now.entries k can
 

@@ -11,7 +11,7 @@ use Rattle.mps_machine.specs.Machine.{State, owner_fault, undone, undo}
 use Rattle.mps_arena.specs.Entries.{KeyedStep, steps, entry_at}
 use Rattle.mps_arena.specs.Neighbours.{CanGo}
 use Rattle.mps_links.specs.Marks.{marked_keys}
-use Rattle.mps_session.specs.Private.Configurations.{Configuration, state_of}
+use Rattle.mps_session.specs.Private.Configurations.{Lists, state_of}
 use Rattle.mps_session.specs.Private.Invariant.{Holds}
 use Rattle.mps_session.specs.Private.Leaving.{HasLeft}
 use Rattle.mps_session.specs.SessionState.{SessionState, session_view}
@@ -20,7 +20,7 @@ use Rattle.mps_session.proofs.OwnStep.{key_of}
 use Rattle.mps_session.proofs.HoldsAfterRemoval as returning
 use Rattle.mps_session.proofs.RemoveMarked.{filter_unmarked}
 
-module _ (types : List LocalType) (c : Configuration) (holds : Holds types c) (now : SessionState) (is : ◌≡◌ {A = SessionState} (record { types = types; state = state_of c }) now) (p n k : ℕ) (at : key_of c.entries n ≡ Some k) (own : owner_fault p (step_of (steps c.entries) n) ≡ None) where
+module _ (types : List LocalType) (c : Lists) (holds : Holds types c) (now : SessionState) (is : ◌≡◌ {A = SessionState} (record { types = types; state = state_of c }) now) (p n k : ℕ) (at : key_of c.entries n ≡ Some k) (own : owner_fault p (step_of (steps c.entries) n) ≡ None) where
   abbrev x : KeyedStep
   x = numbered.entry c.entries holds.kept n k at
 
@@ -33,7 +33,7 @@ module _ (types : List LocalType) (c : Configuration) (holds : Holds types c) (n
       let owner = numbered.owner c.entries holds.kept n k at p own in
       rw found (omega (arith, count, within, owner, ap (λ (m : SessionState). length m.types) is, holds.cursors.long))
 
-  module _ (can : CanGo c.entries k) (next : Configuration) (gone : IfSome (entry_at k c.entries) (λ e. HasLeft e c next)) where
+  module _ (can : CanGo c.entries k) (next : Lists) (gone : IfSome (entry_at k c.entries) (λ e. HasLeft e c next)) where
     left : HasLeft x c next
     left = subst (λ (o : Option KeyedStep). IfSome o (λ e. HasLeft e c next)) found gone
 

@@ -1,7 +1,7 @@
--- Steps whose numbers are told.
+-- Steps whose numbers are in a list.
 use Rattle.std.specs.Prelude.{ℕ, Bool, ◌==◌, List}
 use Rattle.std.specs.List.{list_any}
 
 -- whether the number is one of these
-abbrev pub told : List ℕ → ℕ → Bool
-told ids n = list_any (λ m. m == n) ids
+abbrev pub is_among : List ℕ → ℕ → Bool
+is_among ids n = list_any (λ m. m == n) ids

@@ -10,6 +10,8 @@ use Rattle.mps_local.specs.LocalFaults.{local_fault_of}
 use Rattle.mps_local.specs.Shape.{AllPeers, IsOtherRole}
 use Rattle.mps_local.specs.declared.faults.LocalFault.{LocalFault}
 use Rattle.mps_machine.specs.View.{type_at}
+use Rattle.mps_session.specs.declared.open.OpenFault.{OpenFault}
+use Rattle.mps_session.specs.declared.open.OpenFault.TheVariants.{RoleCount, BadPeer, Local, Memory}
 
 -- each peer that the type of role p names is another of the n roles
 abbrev pub HasPeers : (n p : ℕ) → LocalType → Type 0
@@ -45,6 +47,13 @@ pub record CanOpen (types : List LocalType) : Type 0 where
   pub roles : HasRoleCount types
   pub peers : HavePeers types
   pub faultless : AreFaultless types
+
+-- why a session with these types isn't opened; out of memory is no fault of opening
+abbrev pub KeepsShut : List LocalType → OpenFault → Type 0
+KeepsShut types RoleCount = ¬ (HasRoleCount types)
+KeepsShut types (BadPeer role) = IsFirstBad types role
+KeepsShut types (Local role fault) = IsFirstFaulty types role fault
+KeepsShut types Memory = ⊥
 
 -- the effect's peer, if it has one, is one of n roles
 abbrev pub IsEffectKnown : ℕ → Effect → Type 0

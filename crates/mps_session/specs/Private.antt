@@ -5,4 +5,4 @@ pub mod Invariant
 pub mod Opening
 pub mod Leaving
 pub mod Pasts
-pub mod Answers
+pub mod FirstNumber

@@ -1,4 +1,4 @@
-//! Changes that a role asks for.
+//! A change that a borrowed `Command` asks for, with its answer made once or twice: how rooms call a session.
 ghost use Rattle.std.specs.Prelude.{◌≡◌, ◌<◌, Bool, Some, length, IsSome, IfOk, OnErr};
 ghost use Rattle.std.specs.Bool.{then_some};
 ghost use Rattle.mps_command.specs.Changes.{change_of};
@@ -19,11 +19,7 @@ fn done(told: (Done, Option<Done>)) -> (Answer, Option<Answer>)
         → result.1 ≡ then_some again result.0 }
 {
     let (done, more) = told;
-    let again = match more {
-        Some(done) => Some(Answer::Done(done)),
-        None => None,
-    };
-    (Answer::Done(done), again)
+    (Answer::Done(done), more.map(Answer::Done))
 }
 
 // Steps that were undone as an answer, and a second time if there is a second.
@@ -34,11 +30,7 @@ fn undone(told: (StepIds, Option<StepIds>)) -> (Answer, Option<Answer>)
         → result.1 ≡ then_some again result.0 }
 {
     let (ids, more) = told;
-    let again = match more {
-        Some(ids) => Some(Answer::Undone(ids)),
-        None => None,
-    };
-    (Answer::Undone(ids), again)
+    (Answer::Undone(ids), more.map(Answer::Undone))
 }
 
 impl Session {

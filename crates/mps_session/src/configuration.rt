@@ -29,15 +29,16 @@ pub(crate) struct Configuration {
 }
 
 impl Configuration {
-    /// The first message that waits for the role from the peer of whom the command would take one. `would` asks by it; where
-    /// a step is taken, receipts and picks have a way of their own, so that no other step looks for a message.
-    pub(crate) fn first_for(&self, role: Role, command: &Forward) -> Option<&Message>
-        ensures moved { moved_by command.now (option_copied result)
-            ≡ moved_in (lists_of self.now) role (act_of command.now) }
+    /// The first message that waits for the role from the peer that the step names, if the step would take one. `would`
+    /// asks by it; where a step is taken, receipts and picks have a way of their own, so that no other step looks for a
+    /// message.
+    pub(crate) fn first_for(&self, role: Role, step: &Forward) -> Option<&Message>
+        ensures moved { moved_by step.now (option_copied result)
+            ≡ moved_in (lists_of self.now) role (act_of step.now) }
         ensures taken { option_copied result
-            ≡ taken (act_of command.now) (moved_in (lists_of self.now) role (act_of command.now)) }
+            ≡ taken (act_of step.now) (moved_in (lists_of self.now) role (act_of step.now)) }
     {
-        match command {
+        match step {
             Forward::Receive { from, .. } | Forward::Pick { from } => {
                 self.log.message(*from, role, 0)
             }
@@ -54,24 +55,24 @@ impl Configuration {
     pub(crate) fn verdict(
         &self,
         role: Role,
-        command: &Forward,
+        step: &Forward,
         first: Option<&Message>,
     ) -> Result<Node, Violation>
         requires role { role < vec_len self.now.cursors }
         requires stands { IsNode (cursor_of (lists_of self.now) role).table
             (cursor_of (lists_of self.now) role).node }
-        requires first { moved_by command.now (option_copied first)
-            ≡ moved_in (lists_of self.now) role (act_of command.now) }
+        requires first { moved_by step.now (option_copied first)
+            ≡ moved_in (lists_of self.now) role (act_of step.now) }
         ensures violation { IfErr result (λ fault. (t : LocalType)
             → StandsAt (lists_of self.now) role t
-            → fault_in (lists_of self.now) role (act_of command.now) t ≡ Some fault) }
+            → fault_in (lists_of self.now) role (act_of step.now) t ≡ Some fault) }
         ensures allowed { OnOk result ((t : LocalType)
             → StandsAt (lists_of self.now) role t
-            → fault_in (lists_of self.now) role (act_of command.now) t ≡ None) }
-        ensures follows { IfOk result (LeadsTo (lists_of self.now) role (act_of command.now)) }
+            → fault_in (lists_of self.now) role (act_of step.now) t ≡ None) }
+        ensures follows { IfOk result (LeadsTo (lists_of self.now) role (act_of step.now)) }
     {
         let cursor = &self.cursors[role.index()];
-        next_node(&cursor.table, cursor.node, command, first)
+        next_node(&cursor.table, cursor.node, step, first)
     }
 
     /// The node at which the role goes on after the command, or why it is refused, unless memory runs out. The message is
@@ -80,22 +81,22 @@ impl Configuration {
     pub(crate) fn allowed(
         &self,
         role: Role,
-        command: &Forward,
+        step: &Forward,
         first: Option<&Message>,
     ) -> Result<Node, Refusal>
         requires role { role < vec_len self.now.cursors }
         requires stands { IsNode (cursor_of (lists_of self.now) role).table
             (cursor_of (lists_of self.now) role).node }
-        requires first { moved_by command.now (option_copied first)
-            ≡ moved_in (lists_of self.now) role (act_of command.now) }
-        ensures barred { IfErr result (IsBarred (lists_of self.now) role (act_of command.now)) }
+        requires first { moved_by step.now (option_copied first)
+            ≡ moved_in (lists_of self.now) role (act_of step.now) }
+        ensures barred { IfErr result (IsBarred (lists_of self.now) role (act_of step.now)) }
         ensures allowed { OnOk result ((t : LocalType)
             → StandsAt (lists_of self.now) role t
-            → fault_in (lists_of self.now) role (act_of command.now) t ≡ None) }
-        ensures room { OnOk result ((lists_of self.now).issued < most_numbers) }
-        ensures follows { IfOk result (LeadsTo (lists_of self.now) role (act_of command.now)) }
+            → fault_in (lists_of self.now) role (act_of step.now) t ≡ None) }
+        ensures numbers { OnOk result ((lists_of self.now).issued < most_numbers) }
+        ensures follows { IfOk result (LeadsTo (lists_of self.now) role (act_of step.now)) }
     {
-        let node = match self.verdict(role, command, first) {
+        let node = match self.verdict(role, step, first) {
             Ok(node) => node,
             Err(fault) => return Err(Refusal::Violation(fault)),
         };
@@ -111,18 +112,18 @@ impl Configuration {
     pub(crate) fn act(
         &mut self,
         role: Role,
-        command: &Forward,
+        step: &Forward,
         node: Node,
     ) -> Result<StepId, AllocError>
         requires role { role < vec_len self.old.cursors }
-        requires ready { IsReady (lists_of self.old) role (act_of command.now) }
+        requires ready { IsReady (lists_of self.old) role (act_of step.now) }
         ensures id { IfOk result (λ id. id ≡ (lists_of self.old).issued + 1) }
-        ensures acted { OnOk result (HasActed role (act_of command.now) node
+        ensures acted { OnOk result (HasActed role (act_of step.now) node
             (lists_of self.old) (lists_of self.new)) }
         ensures err { OnErr result (lists_of self.new ≡ lists_of self.old) }
     {
         let at = self.cursors[role.index()].node.number();
-        let id = match command {
+        let id = match step {
             Forward::Send { to, value } => {
                 let value = value.copy(self.alloc)?;
                 self.log.send(role, *to, Message::Value(value), at)?

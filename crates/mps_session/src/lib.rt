@@ -14,6 +14,7 @@ mod accept;
 mod alike;
 mod configuration;
 mod cursor;
+mod forward;
 pub mod open;
 pub mod protocol;
 mod rollback;

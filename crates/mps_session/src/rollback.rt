@@ -15,11 +15,11 @@ ghost use Rattle.mps_machine.specs.Rule.{replay};
 ghost use Rattle.mps_arena.specs.Entries.{steps};
 ghost use Rattle.mps_links.specs.Marks.{marked_keys, marked_commits, marked_steps, unmarked_steps, AreMarksClosed};
 ghost use Rattle.mps_session.specs.Answers.{once};
-ghost use Rattle.mps_session.specs.Private.Answers.{first_number};
+ghost use Rattle.mps_session.specs.Private.FirstNumber.{first_number};
 ghost use Rattle.mps_session.specs.Private.Configurations.{lists_of};
 ghost use Rattle.mps_session.specs.Private.Invariant.{Holds};
 ghost use Rattle.mps_session.specs.SessionState.{session_view};
-ghost use Rattle.mps_session.specs.NumberSets.{told};
+ghost use Rattle.mps_session.specs.NumberSets.{is_among};
 
 use crate::configuration::Configuration;
 use crate::session::Session;
@@ -49,7 +49,7 @@ fn room_for(
 }
 
 // The numbers, and once more in the room that there is for that.
-fn told(ids: Vec<StepId>, room: Option<Vec<StepId>>) -> (StepIds, Option<StepIds>)
+fn ids_twice(ids: Vec<StepId>, room: Option<Vec<StepId>>) -> (StepIds, Option<StepIds>)
     requires empty { IfSome room (λ more. more.items ≡ []) }
     requires space { IfSome room (λ more. vec_len ids ≤ vec_capacity more) }
     ensures first { result.0 ≡ ids.items }
@@ -73,7 +73,7 @@ fn nothing(alloc: Global, again: bool) -> (StepIds, Option<StepIds>)
     ensures again { result.1 ≡ then_some again [] }
 {
     let more = if again { Some(Vec::new(alloc)) } else { None };
-    told(Vec::new(alloc), more)
+    ids_twice(Vec::new(alloc), more)
 }
 
 impl Configuration {
@@ -137,7 +137,7 @@ impl Configuration {
         match self.room_for_marked(count, again) {
             Ok((mut ids, room)) => {
                 self.remove_marked(&mut ids);
-                Ok(told(ids, room))
+                Ok(ids_twice(ids, room))
             }
             Err(refusal) => {
                 self.log.unmark();
@@ -250,7 +250,7 @@ impl Session {
         ensures types { self.new.types ≡ self.old.types }
         // the steps that were undone are allowed in the view that is left, and lead back to the view from before
         ensures back { IfOk result (λ ids. replay (session_view self.new)
-            (within self.old.state.history (told ids)) ≡ Some (session_view self.old)) }
+            (within self.old.state.history (is_among ids)) ≡ Some (session_view self.old)) }
         ensures err { OnErr result (self.new.state ≡ self.old.state) }
     {
         let (ids, _) = self.accept_back(role, name, false)?;
@@ -271,7 +271,7 @@ impl Session {
         ensures again { IfOk result (λ ids. ids.1 ≡ then_some again ids.0) }
         ensures types { self.new.types ≡ self.old.types }
         ensures back { IfOk result (λ ids. replay (session_view self.new)
-            (within self.old.state.history (told ids.0)) ≡ Some (session_view self.old)) }
+            (within self.old.state.history (is_among ids.0)) ≡ Some (session_view self.old)) }
     {
         match self.configuration.first_after(role, name) {
             None => Err(Refusal::NoMark),

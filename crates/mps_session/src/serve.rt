@@ -1,4 +1,4 @@
-//! Changes of all kinds.
+//! A `Change` of any kind, with one `Answer`, refusals among the answers: one request of `serve_all`.
 ghost use Rattle.std.specs.Prelude.{◌≡◌, ◌<◌, length};
 ghost use Rattle.mps_command.specs.Changes.{command_of};
 ghost use Rattle.mps_machine.specs.Answering.{IsChanged, result_of};
@@ -20,15 +20,15 @@ fn command_of(change: Change) -> Command
 }
 
 impl Session {
-    /// Answers a command of the role, as `accept` does. A single undo is answered like a rollback of one step. A refusal
+    /// Makes the change that the role asks for, or says why not, as `accept` does. A single undo is answered like a rollback of one step. A refusal
     /// changes nothing.
-    pub fn serve(&mut self, role: Role, command: Change) -> Answer
+    pub fn serve(&mut self, role: Role, change: Change) -> Answer
         requires { role < length self.old.types }
-        ensures served { IsChanged self.old.types role command (result_of result)
+        ensures served { IsChanged self.old.types role change (result_of result)
             self.old.state self.new.state }
         ensures types { self.new.types ≡ self.old.types }
     {
-        match self.accept(role, &command_of(command), false) {
+        match self.accept(role, &command_of(change), false) {
             Ok((answer, _)) => answer,
             Err(refusal) => Answer::Refused(refusal),
         }

@@ -1,4 +1,4 @@
-//! Lists of commands.
+//! Lists of changes.
 ghost use Rattle.std.specs.Prelude.{◌≡◌, ◌<◌, Some, length, IfOk, OnErr, vec_len};
 ghost use Rattle.std.specs.List.{AllByRecursion};
 ghost use Rattle.mps_machine.specs.Rule.{replay};
@@ -13,7 +13,7 @@ use mps_command::{Answer, Change};
 use std::alloc::AllocError;
 
 impl Session {
-    /// Answers commands, each of its role, in turn. The list of answers is allocated before the first command is served.
+    /// Answers changes, each of its role, in turn. The list of answers is allocated before the first change is made.
     ///
     /// What binds the code is `served`: with the clauses of `forward`, `undo`, `rollback` and `back` it says what is
     /// answered and what is left. `undone`, `refused`, `refused_final`, `kept`, `removed` and `returned` are laws of the
@@ -43,8 +43,8 @@ impl Session {
         ensures err { OnErr result (self.new.state ≡ self.old.state) }
     {
         let mut answers = Vec::with_capacity(self.configuration.alloc, requests.len())?;
-        for (role, command) in requests {
-            answers.push_reserved(self.serve(role, command));
+        for (role, change) in requests {
+            answers.push_reserved(self.serve(role, change));
         }
         Ok(answers)
     }

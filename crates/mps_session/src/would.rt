@@ -13,9 +13,8 @@ use mps_base::{Name, Role, StepId};
 use mps_command::{Command, Forward, Refusal};
 
 impl Session {
-    /// Why the command of the role would be refused, before it is looked at whether there is room for what it brings.
-    /// How things stand may always be asked. It does not allocate. Steps are marked on the way, and nothing is changed when
-    /// it returns.
+    /// Why the command of the role would be refused, apart from lack of memory or numbers. How things stand may always
+    /// be asked. It does not allocate. Steps are marked on the way, and nothing is changed when it returns.
     pub fn would(&mut self, role: Role, command: &Command) -> Result<(), Refusal>
         requires { role < length self.old.types }
         // In a session of one protocol no answer is Mismatch.

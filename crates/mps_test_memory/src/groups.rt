@@ -32,7 +32,7 @@ pub const GROUPS: &[(&str, Group)] = &[
     ("call", Group::Other),
 ];
 
-/// A call that is no command.
+// A call that is no command.
 #[derive(Clone, Copy)]
 enum Call {
     ReadProtocol,
@@ -60,7 +60,7 @@ enum Call {
     LeastFinal,
 }
 
-/// The other calls, with their names.
+// The other calls, with their names.
 const CALLS: &[(&str, Call)] = &[
     ("read_protocol", Call::ReadProtocol),
     ("Roles::of", Call::Roles),

@@ -23,10 +23,10 @@ use std::io::Print;
 use std::process::ExitCode;
 use std::sync::Wait;
 
-/// More calls than a group has.
+// More calls than a group has.
 const MANY: usize = 99;
 
-/// The status of what a run came to.
+// The status of what a run came to.
 fn status(outcome: Option<Outcome>) -> u8 {
     match outcome {
         Some(Outcome::Reached) | Some(Outcome::Answered) => 0,
@@ -36,7 +36,7 @@ fn status(outcome: Option<Outcome>) -> u8 {
     }
 }
 
-/// Makes the group's call of that name, and gives the status.
+// Makes the group's call of that name, and gives the status.
 fn called<R: AllocGlobal + Wait + 'static>(rt: &R, group: Group, word: &str, until: Until) -> u8 {
     for k in 0..MANY {
         if name(group, k) == Some(word) {
@@ -46,7 +46,7 @@ fn called<R: AllocGlobal + Wait + 'static>(rt: &R, group: Group, word: &str, unt
     2
 }
 
-/// Makes the call that the words name, of which the first is the program's own name.
+// Makes the call that the words name, of which the first is the program's own name.
 fn asked<R: AllocGlobal + Wait + 'static>(rt: &R, words: &[String]) -> u8 {
     let [_, group, word, until] = words else {
         return 2;
@@ -57,7 +57,7 @@ fn asked<R: AllocGlobal + Wait + 'static>(rt: &R, words: &[String]) -> u8 {
     }
 }
 
-/// Makes each call of the group, and prints its name after the group's word. Gives the status of the first that isn't answered.
+// Makes each call of the group, and prints its name after the group's word. Gives the status of the first that isn't answered.
 fn all_of<R: AllocGlobal + Print + Wait + 'static>(rt: &R, word: &str, group: Group) -> u8 {
     for k in 0..MANY {
         let Some(name) = name(group, k) else {
@@ -74,7 +74,7 @@ fn all_of<R: AllocGlobal + Print + Wait + 'static>(rt: &R, word: &str, group: Gr
     0
 }
 
-/// Makes each call, and prints its name.
+// Makes each call, and prints its name.
 fn all<R: AllocGlobal + Print + Wait + 'static>(rt: &R) -> u8 {
     for (word, group) in GROUPS {
         let status = all_of(rt, word, *group);

@@ -3,8 +3,9 @@ use mps_base::{Name, Roles};
 use mps_dev::{Pieces, Short};
 use mps_global::GlobalFault;
 use mps_program::{
-    ToolFault, check_out, compare, fault_line, open_file, read_session, read_sessions, read_text,
-    roles_and_session, roles_and_sessions, run_file, same_out, show, status, write_types,
+    ToolFault, check_file, compare_files, fault_line, lines_of, open_file, read_many, read_session,
+    read_sessions, read_text, roles_and_session, roles_and_sessions, run_file, status, verdict_of,
+    write_types,
 };
 use mps_session::Session;
 use mps_text::TextKind;
@@ -248,7 +249,7 @@ fn counted(
 
 // The lines of the protocol's roles, or the line of its fault.
 fn shown(alloc: Global, protocol: &str) -> Result<Vec<u8>, AllocError> {
-    match check_out(alloc, protocol.as_bytes()) {
+    match lines_of(alloc, protocol.as_bytes()) {
         Ok(lines) => Ok(lines),
         Err(fault) => fault_line(alloc, &fault),
     }
@@ -468,6 +469,8 @@ fn tells_reads_that_fail(rt: HostRuntime) -> Result<(), Fail> {
     assert!(rt; is_failed_read(read_session(rt.alloc(), &mut reader)));
     let mut reader = Pieces::new(whole(rt.alloc(), RELAY)?, Some(2));
     assert!(rt; is_failed_read(read_sessions(rt.alloc(), &mut reader)));
+    let mut reader = Pieces::new(whole(rt.alloc(), RELAY)?, Some(2));
+    assert!(rt; is_failed_read(read_many(rt.alloc(), &mut reader, 3)));
     Ok(())
 }
 
@@ -530,7 +533,7 @@ fn told(
     let mut reader = Pieces::new(first, scripts.2);
     let mut other = Pieces::new(second, scripts.3);
     let (roles, first, second) = roles_and_sessions(alloc, PAIRS.as_bytes())?;
-    same_out(alloc, &roles, first, second, &mut reader, &mut other)
+    verdict_of(alloc, &roles, first, second, &mut reader, &mut other)
 }
 
 // What is told of the two scripts, and the status; or the line and the status of the fault.
@@ -565,7 +568,7 @@ fn names_no_file(alloc: Global, fault: Option<ToolFault<'_>>) -> Result<bool, Al
 fn names_files_that_do_not_open(rt: HostRuntime) -> Result<(), Fail> {
     let found = open_file(&rt, "no such file").err();
     assert!(rt; names_no_file(rt.alloc(), found)?);
-    let found = show(&rt, "no such file").err();
+    let found = check_file(&rt, "no such file").err();
     assert!(rt; names_no_file(rt.alloc(), found)?);
     Ok(())
 }
@@ -574,7 +577,7 @@ fn names_files_that_do_not_open(rt: HostRuntime) -> Result<(), Fail> {
 fn runs_no_file_that_does_not_open(rt: HostRuntime) -> Result<(), Fail> {
     let found = run_file(&rt, "no such file", "no such script").err();
     assert!(rt; names_no_file(rt.alloc(), found)?);
-    let found = compare(&rt, "no such file", "no such script", "nor this").err();
+    let found = compare_files(&rt, "no such file", "no such script", "nor this").err();
     assert!(rt; names_no_file(rt.alloc(), found)?);
     Ok(())
 }

@@ -1,6 +1,6 @@
 //! The server, over a socket.
 use mps_dev::{Pieces, Short};
-use mps_program::{read_hub, serve_out};
+use mps_program::{read_hub, serve_to};
 use std::alloc::Global;
 use std::io;
 use std::io::{Read, Write};
@@ -23,7 +23,7 @@ fn written<R: Threads + Wait + Sync + 'static>(
     let Ok(hub) = read_hub(alloc, &mut Pieces::new(text, None), 2) else {
         return Err("no hub".into());
     };
-    match serve_out(rt, alloc, listener, &mut writer, hub, 1) {
+    match serve_to(rt, alloc, listener, &mut writer, hub, 1) {
         Ok(()) => Ok(Vec::from_slice(alloc, writer.bytes())?),
         Err(_) => Err("a fault".into()),
     }

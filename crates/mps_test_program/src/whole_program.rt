@@ -1,6 +1,6 @@
 //! The program as a whole, on a machine in memory.
 use crate::fake::Machine;
-use mps_program::{ToolFault, carry_out, end_after, run_file, show};
+use mps_program::{ToolFault, carry_out, check_file, end_after, run_file};
 use mps_words::{Order, order};
 use std::alloc::Global;
 use std::process::{Abort, ExitCode};
@@ -352,7 +352,8 @@ fn tells_its_use(rt: HostRuntime) {
 #[test]
 fn runs_and_shows(rt: HostRuntime) {
     let machine = Machine::new(rt.alloc(), FILES, 1000);
-    let done = run_file(&machine, "relay", "script").is_ok() && show(&machine, "relay").is_ok();
+    let done = run_file(&machine, "relay", "script").is_ok()
+        && check_file(&machine, "relay").is_ok();
     let (printed, _) = machine.output();
     assert!(rt; done && printed.starts_with(b"done 1\n"));
     assert!(rt; printed.ends_with(b"c : recv b int . end\n"));

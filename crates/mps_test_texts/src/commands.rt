@@ -124,9 +124,9 @@ fn copies_lists_of_numbers(rt: HostRuntime) -> Result<(), Fail> {
 #[test]
 fn gives_lists_of_numbers_up(rt: HostRuntime) -> Result<(), Fail> {
     let alone = StepIds::one(StepId::new(7));
-    assert!(rt; matches!(alone.into_vec(), Err(id) if id.is(StepId::new(7))));
+    assert!(rt; matches!(alone.try_into_vec(), Err(id) if id.is(StepId::new(7))));
     let listed = listed(rt.alloc(), &[5, 3])?;
-    let Ok(ids) = listed.into_vec() else {
+    let Ok(ids) = listed.try_into_vec() else {
         return Err("no vector")?;
     };
     assert_eq!(rt; ids.as_slice(), [StepId::new(5), StepId::new(3)].as_slice());

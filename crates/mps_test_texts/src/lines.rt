@@ -5,7 +5,7 @@ use mps_lines::{Line, Lines, MOST_KEPT, keep, line_end};
 use std::alloc::Global;
 use std::test::Fail;
 
-// Five lines: a command, none, a command, one that is no ASCII, and a rest.
+// Five lines: a command, none, a command, one that is not ASCII, and a rest.
 const TEXT: &[u8] = b"a send b 5\n\nb recv a x\ncaf\xC3\xA9\na undo 1";
 
 // A line of the most bytes.

@@ -10,10 +10,10 @@ use Rattle.mps_base.specs.declared.value.Sort.{Sort}
 use Rattle.mps_base.specs.declared.value.Sort.TheVariants.{Int}
 use Rattle.mps_global.specs.Global.{GlobalType, Branches, End, Var, Rec, Message, Choice, NoMore, More}
 use Rattle.mps_base.specs.Sorts.{sort_word}
-use Rattle.mps_text.specs.Grammar.{HasBranch, IsSpellable, AreSpellable, SpellsProtocol}
+use Rattle.mps_text.specs.Grammar.{HasBranch, IsSpellable, SpellsProtocol}
 use Rattle.mps_text.specs.Private.Writing.{global_tokens}
 use Rattle.mps_text.specs.Private.Lexing.{is_name, is_variable}
-use Rattle.mps_text.specs.Private.Reading.{Symbol, Token, AName, AVariable, ASort, Roles, Node, Exchange, Others, branch, behind_first, begun, named, exchanged, followed, first_of, first_token, IsFirst, sort_of, which, step, start_of, whole, tokens_before, branches_before}
+use Rattle.mps_text.specs.Private.Reading.{Symbol, Token, AName, AVariable, ASort, Roles, Node, Exchange, Others, branch, behind_first, begun, named, exchanged, followed, first_of, first_token, IsFirst, sort_of, which, step, start_of, whole, tokens_before, branches_before, AreSpellable}
 use Rattle.mps_text.specs.declared.reading.First.{First}
 use Rattle.mps_text.specs.declared.reading.First.TheVariants as firsts
 use Rattle.mps_text.proofs.Names.{both_true, name_is, variable_is}

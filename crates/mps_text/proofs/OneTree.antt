@@ -10,10 +10,10 @@ use Rattle.mps_base.specs.declared.value.Sort.{Sort}
 use Rattle.mps_global.specs.Global.{GlobalType, Branches, End, Var, Rec, Message, Choice, NoMore, More}
 use Rattle.mps_text.specs.Tokens.{is_blank, BeginsAll}
 use Rattle.mps_base.specs.Sorts.{sort_word}
-use Rattle.mps_text.specs.Grammar.{HasBranch, IsSpellable, AreSpellable, SpellsProtocol, SpellsText}
+use Rattle.mps_text.specs.Grammar.{HasBranch, IsSpellable, SpellsProtocol, SpellsText}
 use Rattle.mps_text.specs.Private.Writing.{global_tokens}
 use Rattle.mps_text.specs.Private.Lexing.{lexed, tokens_in, is_name}
-use Rattle.mps_text.specs.Private.Reading.{first_of, first_token, IsFirst, sort_of, tokens_before, branches_before}
+use Rattle.mps_text.specs.Private.Reading.{first_of, first_token, IsFirst, sort_of, tokens_before, branches_before, AreSpellable}
 use Rattle.mps_text.specs.declared.reading.First.{First}
 use Rattle.mps_text.specs.declared.reading.First.TheVariants as firsts
 use Rattle.mps_text.proofs.Names.{is_name_of}

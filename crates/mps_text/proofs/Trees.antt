@@ -7,10 +7,10 @@ use Rattle.std.proofs.lemmas.List.{append-nil, map-append}
 use Rattle.mps_base.specs.Names.{IsName, IsVariable}
 use Rattle.mps_global.specs.Global.{GlobalType, Branches, End, Var, Rec, Message, Choice, NoMore, More}
 use Rattle.mps_base.specs.Sorts.{sort_word}
-use Rattle.mps_text.specs.Grammar.{Part, inside, node_parts, branch_parts, protocol_parts, tokens_of, HasBranch, IsSpellable, AreSpellable, SpellsProtocol, protocol_tokens}
+use Rattle.mps_text.specs.Grammar.{Part, inside, node_parts, branch_parts, protocol_parts, tokens_of, HasBranch, IsSpellable, SpellsProtocol, protocol_tokens}
 use Rattle.mps_text.specs.Private.Writing.{global_tokens, branch_tokens}
 use Rattle.mps_text.specs.Faults.{starts_of}
-use Rattle.mps_text.specs.Private.Reading.{Symbol, Token, AName, AVariable, ASort, Roles, Node, Exchange, Others, branch, step, start_of, begun, named, which, whole, tokens_before, branches_before}
+use Rattle.mps_text.specs.Private.Reading.{Symbol, Token, AName, AVariable, ASort, Roles, Node, Exchange, Others, branch, step, start_of, begun, named, which, whole, tokens_before, branches_before, AreSpellable}
 use Rattle.mps_text.specs.declared.reading.First.TheVariants as firsts
 use Rattle.mps_text.proofs.Names.{is_name_of, is_variable_of}
 use Rattle.mps_text.proofs.Tokens.{name_apart, sort_again, first_again}

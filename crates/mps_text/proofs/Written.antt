@@ -13,8 +13,8 @@ use Rattle.mps_base.proofs.Spaced.{written_parts, written_all}
 use Rattle.mps_global.specs.Global.{GlobalType, Branches, End, Var, Rec, Message, Choice, NoMore, More}
 use Rattle.mps_text.specs.Tokens.{is_blank, is_word_byte, first_is, IsWord, punctuation, IsTokenBefore, BeginsAll, AreTokensOf}
 use Rattle.mps_base.specs.Sorts.{sort_word}
-use Rattle.mps_text.specs.Grammar.{protocol_tokens, protocol_text, IsSpellable, AreSpellable, SpellsText, IsWithinLimits, SpellsOnly, HasBranches, IsNamed}
-use Rattle.mps_text.specs.Private.Reading.{tokens_before, branches_before}
+use Rattle.mps_text.specs.Grammar.{protocol_tokens, protocol_text, IsSpellable, SpellsText, IsWithinLimits, SpellsOnly, HasBranches, IsNamed}
+use Rattle.mps_text.specs.Private.Reading.{tokens_before, branches_before, AreSpellable}
 use Rattle.mps_text.specs.Private.Writing.{global_tokens, branch_tokens, branches_tokens, others_tokens, todo_tokens, todo_weight, IsTodoNamed, left_tokens, left_weight}
 use Rattle.mps_text.specs.declared.writing.Todo.{Todo}
 use Rattle.mps_text.proofs.Trees.{before_is, protocol_tokens_are}

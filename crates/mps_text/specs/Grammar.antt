@@ -99,10 +99,6 @@ abbrev mutual
 abbrev pub IsSpellable : GlobalType → Type 0
 IsSpellable tree = IsNamed tree × HasBranches tree
 
--- the same of branches
-abbrev pub AreSpellable : Branches → Type 0
-AreSpellable branches = AreNamed branches × HaveBranches branches
-
 -- how a protocol is written: its tokens with one space between two
 abbrev pub protocol_text : List (List ℕ) → GlobalType → List ℕ
 protocol_text roles tree = spaced (protocol_tokens roles tree)

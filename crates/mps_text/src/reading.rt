@@ -6,14 +6,14 @@ ghost use Rattle.mps_base.specs.Names.{IsName, IsVariable};
 ghost use Rattle.mps_base.specs.RoleLists.{HasRoleCount};
 ghost use Rattle.mps_global.specs.Global.{GlobalType, plain, plain_branches};
 ghost use Rattle.mps_base.specs.Sorts.{sort_word};
-ghost use Rattle.mps_text.specs.Grammar.{IsSpellable, AreSpellable, HasBranch, IsWithinLimits, SpellsText, IsRead};
+ghost use Rattle.mps_text.specs.Grammar.{IsSpellable, HasBranch, IsWithinLimits, SpellsText, IsRead};
 ghost use Rattle.mps_global.specs.Faults.{places, level};
 ghost use Rattle.mps_text.specs.Grammar.{protocol_parts, begun_by, first_token_of};
 ghost use Rattle.mps_text.specs.Faults.{IsFirstFault, HasProtocol, HasFault};
 ghost use Rattle.mps_text.specs.declared.fault.TextKind.{TextKind};
 ghost use Rattle.mps_text.specs.declared.fault.TextKind.TheVariants.{Memory};
 ghost use Rattle.mps_text.specs.Private.Lexing.{lexed, tokens_in};
-ghost use Rattle.mps_text.specs.Private.Reading.{Symbol, Token, AName, AVariable, ASort, Roles, Node, Exchange, Others, branch};
+ghost use Rattle.mps_text.specs.Private.Reading.{Symbol, Token, AName, AVariable, ASort, Roles, Node, Exchange, Others, branch, AreSpellable};
 ghost use Rattle.mps_text.specs.Private.Reading.{first_of, first_token, IsFirst, behind_first, sort_of, which, Reads, ReadsAll, Ends};
 ghost use Rattle.mps_text.specs.Private.Reading.{tokens_from, tokens_before, branches_before, exchange_tokens, behind_exchange, separator, behind_branch};
 

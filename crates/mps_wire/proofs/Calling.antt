@@ -11,7 +11,7 @@ use Rattle.mps_line.specs.declared.write_replies.Reply.{Reply}
 use Rattle.mps_lines.specs.Lines.{ended, max_line, most_kept, front}
 use Rattle.mps_lines.proofs.Splitting.{front_short}
 use Rattle.mps_room.specs.declared.caller.Caller.{Ghosts}
-use Rattle.mps_wire.specs.Flow.{TookFront}
+use Rattle.mps_wire.specs.Sending.{TookFront}
 use Rattle.mps_wire.specs.Talk.{IsRequest, RepliesTo, Unread, Called, Numbered, Starved, TalksLine, talks, talks_to_part}
 use Rattle.mps_wire.specs.Private.Endings.{IsWholly, IsPartly}
 use Rattle.mps_wire.proofs.Answering.{GoesByFront}

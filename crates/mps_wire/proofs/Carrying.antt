@@ -3,7 +3,8 @@ use Rattle.std.proofs.Common.{◌≡◌, ℕ, List, [], Bool, Result, subst}
 use Rattle.mps_local.specs.Local.{LocalType}
 use Rattle.mps_room.specs.declared.entry.Entry.{Entry}
 use Rattle.mps_wire.specs.Answers.{Answering}
-use Rattle.mps_wire.specs.Runs.{Going, Turned}
+use Rattle.mps_wire.specs.Runs.{Going}
+use Rattle.mps_wire.specs.Private.Turns.{Turned}
 use Rattle.mps_wire.specs.Script.{AnswersLine}
 use Rattle.mps_wire.specs.Streams.{Streams}
 use Rattle.mps_wire.specs.declared.script.ReplayFault.{ReplayFault}

@@ -21,7 +21,7 @@ use Rattle.mps_room.proofs.Faithful.{answer_other}
 use Rattle.mps_fidelity.specs.Fidelity.{AreOfOneProtocol}
 use Rattle.mps_wire.specs.Answers.{Answering, AnswersLines, AnswersInPart}
 use Rattle.mps_wire.specs.Fidelity.{mismatch, MeetsNoMismatch, IsFree}
-use Rattle.mps_wire.specs.Talk.{TalksLine, AnswersToPart, talks, talks_to_part}
+use Rattle.mps_wire.specs.Talk.{AnswersToPart, talks, talks_to_part}
 use Rattle.mps_wire.specs.Talk as talking
 use Rattle.mps_lines.specs.Lines.{HasNoBreak, ended, IsSplit}
 use Rattle.mps_wire.specs.Script.{RepliesTo, AnswersLine}

@@ -2,7 +2,8 @@
 use Rattle.std.proofs.Common.{◌≡◌, ℕ, ◌+◌, ◌-◌, ◌<◌, ◌≤◌, List, [], ◌∷◌, ◌++◌, length, take, drop, get_or, sym, ap, ◌∙◌, subst, arith, append_assoc, append-nil, length-drop}
 use Rattle.std.proofs.Math.Seq.{take-add}
 use Rattle.std.proofs.lemmas.List.{take_rest, take_more, drop-drop, take-append-drop}
-use Rattle.mps_wire.specs.Answers.{Answering, Answered, Place, TakesBytes}
+use Rattle.mps_wire.specs.Answers.{Answering, Answered}
+use Rattle.mps_wire.specs.Private.Places.{Place, TakesBytes}
 use Rattle.mps_lines.specs.Lines.{HasNoBreak, ended, front}
 use Rattle.mps_wire.proofs.Answering.{GoesByFront, answered_more, answered_line}
 

@@ -4,17 +4,26 @@ use Rattle.std.specs.Prelude.{◌↔◌, IsErrOf}
 use Rattle.mps_local.specs.Local.{LocalType}
 use Rattle.mps_base.specs.RoleLists.{HasRoleCount}
 use Rattle.mps_local.specs.declared.faults.LocalFault.{LocalFault}
-use Rattle.mps_session.specs.Peers.{IsFirstBad, IsFirstFaulty, CanOpen}
+use Rattle.mps_session.specs.Peers.{IsFirstBad, IsFirstFaulty, CanOpen, KeepsShut}
 use Rattle.mps_session.specs.declared.open.OpenFault.{OpenFault}
 use Rattle.mps_room.specs.RoomState.{RoomState}
 use Rattle.mps_session.specs.declared.open.OpenFault.TheVariants.{RoleCount, BadPeer, Local, Memory as OutOfMemory}
 use Rattle.mps_wire.specs.declared.script.ReplayFault.{ReplayFault}
 use Rattle.mps_wire.specs.declared.script.ReplayFault.TheVariants.{Open, ReadFault, WriteFault, Turns, Memory}
 use Rattle.mps_wire.specs.Answers.{Answering}
-use Rattle.mps_wire.specs.Runs.{KeepsFromBeginning, of_opening, Outcome, Replayed, Ran, BreaksOff, Finished, Going, GaveAtLeast, Turned}
+use Rattle.mps_wire.specs.Runs.{of_opening, Replayed, ScriptRan, Ran, BreaksOff, Finished, Going, GaveAtLeast}
+use Rattle.mps_wire.specs.Private.Turns.{Turned}
 use Rattle.mps_wire.specs.Script.{AnswersLine}
 use Rattle.mps_wire.specs.Streams.{Streams, Counts}
 use Rattle.mps_wire.proofs.Turning.{starved_first}
+
+-- why no run begins: the session isn't opened, or memory ran out
+abbrev pub KeepsFromBeginning : List LocalType → ReplayFault → Type 0
+KeepsFromBeginning types (Open fault) = KeepsShut types fault
+KeepsFromBeginning types Memory = CanOpen types
+KeepsFromBeginning types ReadFault = ⊥
+KeepsFromBeginning types WriteFault = ⊥
+KeepsFromBeginning types Turns = ⊥
 
 -- why a session isn't opened keeps a run from beginning
 pub shut : {S : Type 0} (types : List LocalType) (fault : OpenFault)
@@ -67,7 +76,7 @@ starts_starved answers start s = inl (starved_first answers start s, same_counts
 
 module _ (names : List (List ℕ)) (types : List LocalType) where
   -- no run begins
-  pub not_begun : (s : Streams) (fault : ReplayFault) → KeepsFromBeginning types fault → Outcome names types s s (Err fault)
+  pub not_begun : (s : Streams) (fault : ReplayFault) → KeepsFromBeginning types fault → Replayed names types s s (Err fault)
   not_begun s (Open fault) h = (h, refl)
   not_begun s Memory h = (h, starts_starved (AnswersLine names types) [] s)
   not_begun s ReadFault h = absurd h
@@ -75,7 +84,7 @@ module _ (names : List (List ℕ)) (types : List LocalType) where
   not_begun s Turns h = absurd h
 
   -- the run is on a session that could be opened
-  pub opened_first : (before after : Streams) (r : Result RoomState ReplayFault) → CanOpen types → Replayed names types before after r → Outcome names types before after r
+  pub opened_first : (before after : Streams) (r : Result RoomState ReplayFault) → CanOpen types → ScriptRan names types before after r → Replayed names types before after r
   opened_first before after (Ok room) can h = (can, h)
   opened_first before after (Err ReadFault) can h = (can, h)
   opened_first before after (Err WriteFault) can h = (can, h)

@@ -18,7 +18,8 @@ use Rattle.mps_room.specs.declared.entry.Entry.{Entry}
 use Rattle.mps_room.specs.Journal.{grown, reply, is_accepted, IsReply}
 use Rattle.mps_line.specs.declared.write_replies.Reply.TheVariants.{Answered}
 use Rattle.mps_command.specs.declared.answer.Answer.{Answer}
-use Rattle.mps_wire.specs.Script.{IsReadable, IsAnswered, RepliesTo, AnswersLine}
+use Rattle.mps_wire.specs.Script.{IsReadable, RepliesTo, AnswersLine}
+use Rattle.mps_wire.specs.Private.Commands.{IsAnswered}
 
 -- the role of a line is one of the names
 pub role_within : (names : List (List ℕ)) (line : List ℕ) (role : ℕ) (command : Command) → SpellsScriptLine names line role command → role < length names

@@ -5,13 +5,15 @@ use Rattle.std.proofs.lemmas.Bool.{cases_eq, ne_eqb}
 use Rattle.std.proofs.lemmas.List.{take-append-drop}
 use Rattle.mps_dev.specs.Calls.{ends_after}
 use Rattle.mps_dev.specs.declared.traits.Failed.{Failed}
-use Rattle.mps_wire.specs.Answers.{Answering, AnswersLines, AnswersInPart, Answered, AnsweredAll, AnsweredInPart, AnsweredAllInPart, Place, TakesBytes, TakesEnd}
-use Rattle.mps_wire.specs.Flow.{TookFront}
+use Rattle.mps_wire.specs.Answers.{Answering, AnswersLines, AnswersInPart, Answered, AnsweredAll, AnsweredInPart, AnsweredAllInPart}
+use Rattle.mps_wire.specs.Private.Places.{Place, TakesBytes, TakesEnd}
+use Rattle.mps_wire.specs.Sending.{TookFront}
 use Rattle.mps_lines.specs.Lines.{IsSplit, with_last}
 use Rattle.mps_wire.specs.Streams.{Streams, Counts}
 use Rattle.mps_wire.specs.declared.script.ReplayFault.{ReplayFault}
 use Rattle.mps_wire.specs.declared.script.ReplayFault.TheVariants.{Memory}
-use Rattle.mps_wire.specs.Runs.{Going, Finished, Cut, CutAtEnd, BreaksOff, Turned, GaveAtLeast}
+use Rattle.mps_wire.specs.Runs.{Going, Finished, Cut, CutAtEnd, BreaksOff, GaveAtLeast}
+use Rattle.mps_wire.specs.Private.Turns.{Turned}
 use Rattle.mps_wire.proofs.Bytes.{Appends-trans, Appends-none, Consumes-trans, Consumes-none}
 use Rattle.mps_lines.proofs.Splitting.{split_more, split_ended}
 use Rattle.mps_wire.proofs.Answering.{answered_nothing}

@@ -6,12 +6,6 @@ use Rattle.mps_lines.specs.Lines.{IsSplit, with_last, ended, front}
 abbrev pub Answering : Type 0 → Type 1
 Answering S = List ℕ → S → List ℕ → S → Type 0
 
--- where a run is among its lines: the front of the line that comes, the state, the answers that wait
-pub record Place (S : Type 0) : Type 0 where
-  pub kept : List ℕ
-  pub state : S
-  pub waiting : List ℕ
-
 -- the texts that answer lines in order, each with an LF, and the state after them
 abbrev pub AnswersLines : {S : Type 0} → Answering S → List (List ℕ) → S → List ℕ → S → Type 0
 AnswersLines answers [] st out after = (out ≡ []) × (after ≡ st)
@@ -60,15 +54,3 @@ module _ {S : Type 0} (answers : Answering S) (start : S) where
     pub rest : List ℕ
     pub split : IsSplit bytes lines rest
     pub in_part : AnswersInPart (with_last lines rest) written
-
-  -- after these bytes too each whole line is answered: the answers to theirs wait after the others
-  abbrev pub TakesBytes : List ℕ → Place S → Place S → Type 0
-  TakesBytes bytes old new = (before out : List ℕ) → Answered before old.kept out old.state
-      → (more : List ℕ) × (new.waiting ≡ old.waiting ++ more)
-      × Answered (before ++ bytes) new.kept (out ++ more) new.state
-
-  -- at the end each line is answered: the answer to a rest waits after the others
-  abbrev pub TakesEnd : Place S → Place S → Type 0
-  TakesEnd old new = (before out : List ℕ) → Answered before old.kept out old.state
-      → (more : List ℕ) × (new.waiting ≡ old.waiting ++ more)
-      × AnsweredAll before (out ++ more) new.state

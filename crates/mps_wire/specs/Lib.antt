@@ -1,4 +1,4 @@
-pub mod Flow
+pub mod Sending
 pub mod Streams
 pub mod Answers
 pub mod Script

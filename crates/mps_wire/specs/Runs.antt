@@ -1,9 +1,8 @@
 -- What a run comes to, from the streams before it to those after.
-use Rattle.std.specs.Prelude.{◌≡◌, ℕ, ◌+◌, ◌≤◌, ◌⊎◌, Bool, true, false, List, [], Result, Ok, Err, length}
+use Rattle.std.specs.Prelude.{◌≡◌, ℕ, ◌+◌, ◌≤◌, ◌⊎◌, List, [], Result, Ok, Err, length}
 use Rattle.std.specs.Io.KnownBytes.{Appends, Consumes, IsAtEnd}
 use Rattle.mps_local.specs.Local.{LocalType}
-use Rattle.mps_base.specs.RoleLists.{HasRoleCount}
-use Rattle.mps_session.specs.Peers.{IsFirstBad, IsFirstFaulty, CanOpen}
+use Rattle.mps_session.specs.Peers.{CanOpen, KeepsShut}
 use Rattle.mps_session.specs.declared.open.OpenFault.{OpenFault}
 use Rattle.mps_session.specs.declared.open.OpenFault.TheVariants.{RoleCount, BadPeer, Local, Memory as OutOfMemory}
 use Rattle.mps_room.specs.RoomState.{RoomState}
@@ -77,17 +76,6 @@ module _ {S : Type 0} (answers : Answering S) (start : S) (first before after : 
       (Cut answers start first after × Counts before after 0 0 failed_writes)
       ⊎ (CutAtEnd answers start first after × Counts before after 0 1 failed_writes)
 
-  -- what one read and its answers lead to, by their result
-  abbrev pub Turned : List ℕ → S → Result Bool ReplayFault → Type 0
-  Turned kept st (Ok true) = Finished answers start first after st × Counts before after 0 1 0
-  Turned kept st (Ok false) = Going answers start first after kept st × Counts before after 0 0 0
-      × GaveAtLeast 1 before after
-  Turned kept st (Err ReadFault) = Stopped answers start first after × Counts before after 1 0 0
-  Turned kept st (Err WriteFault) = BreaksOff 1
-  Turned kept st (Err Memory) = BreaksOff 0
-  Turned kept st (Err Turns) = ⊥
-  Turned kept st (Err (Open fault)) = ⊥
-
 module _ {S : Type 0} (answers : Answering S) (start : S) (before after : Streams) where
   -- what a run comes to that began, by its result: what was answered, and how many more reads failed,
   -- how many ended, and how many writes failed
@@ -100,13 +88,6 @@ module _ {S : Type 0} (answers : Answering S) (start : S) (before after : Stream
   Ran (Err Memory) = BreaksOff answers start before before after 0
   Ran (Err (Open fault)) = ⊥
 
--- why a session with these types isn't opened; out of memory is no fault of opening
-abbrev pub KeepsShut : List LocalType → OpenFault → Type 0
-KeepsShut types RoleCount = ¬ (HasRoleCount types)
-KeepsShut types (BadPeer role) = IsFirstBad types role
-KeepsShut types (Local role fault) = IsFirstFaulty types role fault
-KeepsShut types OutOfMemory = ⊥
-
 -- how a session that can't be opened is reported
 abbrev pub of_opening : OpenFault → ReplayFault
 of_opening OutOfMemory = Memory
@@ -114,24 +95,16 @@ of_opening RoleCount = Open RoleCount
 of_opening (BadPeer role) = Open (BadPeer role)
 of_opening (Local role fault) = Open (Local role fault)
 
--- why no run begins: the session isn't opened, or memory ran out
-abbrev pub KeepsFromBeginning : List LocalType → ReplayFault → Type 0
-KeepsFromBeginning types (Open fault) = KeepsShut types fault
-KeepsFromBeginning types Memory = CanOpen types
-KeepsFromBeginning types ReadFault = ⊥
-KeepsFromBeginning types WriteFault = ⊥
-KeepsFromBeginning types Turns = ⊥
-
 module _ (names : List (List ℕ)) (types : List LocalType) (before after : Streams) where
   -- what the run of a script comes to in a new room of these names and types
-  abbrev pub Replayed : Result RoomState ReplayFault → Type 0
-  Replayed (Ok room) = Ran (AnswersLine names types) [] before after (Ok room.journal)
+  abbrev pub ScriptRan : Result RoomState ReplayFault → Type 0
+  ScriptRan (Ok room) = Ran (AnswersLine names types) [] before after (Ok room.journal)
       × (room.names ≡ names) × (room.types ≡ types)
-  Replayed (Err fault) = Ran (AnswersLine names types) [] before after (Err fault)
+  ScriptRan (Err fault) = Ran (AnswersLine names types) [] before after (Err fault)
 
   -- what the run of a script comes to where the session is opened first: it is opened with the types and the
   -- script run; or it can't be opened, and nothing is read or written
-  abbrev pub Outcome : Result RoomState ReplayFault → Type 0
-  Outcome (Ok room) = CanOpen types × Replayed (Ok room)
-  Outcome (Err (Open fault)) = KeepsShut types fault × (after ≡ before)
-  Outcome (Err fault) = CanOpen types × Replayed (Err fault)
+  abbrev pub Replayed : Result RoomState ReplayFault → Type 0
+  Replayed (Ok room) = CanOpen types × ScriptRan (Ok room)
+  Replayed (Err (Open fault)) = KeepsShut types fault × (after ≡ before)
+  Replayed (Err fault) = CanOpen types × ScriptRan (Err fault)

@@ -1,7 +1,6 @@
 -- What a script does to a room, and what it is answered.
 use Rattle.std.specs.Prelude.{◌≡◌, ℕ, ◌≤◌, ◌⊎◌, List, length}
 use Rattle.std.specs.Str.{IsAscii}
-use Rattle.mps_base.specs.Appends.{Appends}
 use Rattle.mps_base.specs.declared.value.Value.TheVariants.{Text}
 use Rattle.mps_local.specs.Local.{LocalType}
 use Rattle.mps_command.specs.declared.command.Command.{Command}
@@ -17,9 +16,7 @@ use Rattle.mps_line.specs.declared.write_replies.Reply.TheVariants.{Answered, Ba
 use Rattle.mps_room.specs.Journal as journals
 use Rattle.mps_room.specs.Journal.{grown, IsReply}
 use Rattle.mps_room.specs.declared.entry.Entry.{Entry}
-use Rattle.mps_wire.specs.Answers.{Answering, Place}
 use Rattle.mps_lines.specs.Lines.{max_line}
-use Rattle.mps_wire.specs.declared.script.ScriptRun.{ScriptRun}
 
 -- a line that isn't too long, of bytes below 128, that spells a role's command
 pub record IsReadable (names : List (List ℕ)) (line : List ℕ) (role : ℕ) (command : Command) : Type 0 where
@@ -63,22 +60,3 @@ module _ (names : List (List ℕ)) (types : List LocalType) (line : List ℕ) (j
     pub reply : Reply
     pub replies : RepliesTo reply after
     pub spelled : SpellsReply text reply
-
--- the texts of old and a text that answers the role's command, and the journal after it
-abbrev pub IsAnswered : (names : List (List ℕ)) → List LocalType → (journal : List Entry) → ℕ → Command → (after : List Entry) → (old new : List ℕ) → Type 0
-IsAnswered names types journal role command after old new =
-    (answer : Answer) × IsReply answer (journals.reply names types journal role command)
-    × (after ≡ grown journal role command answer)
-    × Appends (λ text. SpellsReply text (Answered answer)) old new
-
--- how a line of a run is answered
-abbrev pub lines_of : ScriptRun → Answering (List Entry)
-lines_of run = AnswersLine run.room.names run.room.types
-
--- where a run is among its lines
-abbrev pub place_of_run : ScriptRun → Place (List Entry)
-place_of_run run = record {
-  kept = run.line.items;
-  state = run.room.journal;
-  waiting = run.answers.items;
-}

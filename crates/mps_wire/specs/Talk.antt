@@ -33,14 +33,6 @@ IsToldAs caller d Kept reply = (answer : Answer) × (caller.kept d ≡ Some answ
 IsToldAs caller d Wrong reply = reply ≡ Number
 IsToldAs caller d (CalledInVain refusal) reply = reply ≡ Answered (Refused refusal)
 
--- a command with a number was given, and the text tells what came of it
-pub record TalksNumbered {C : Type 0} (caller : Ghosts C) (c : C) (number : ℕ) (command : Command) (text : List ℕ) (d : C) : Type 0 where
-  pub came : Told
-  pub numbered : IsNumbered caller.calls caller.last caller.kept c number command d came
-  pub reply : Reply
-  pub told : IsToldAs caller d came reply
-  pub spelled : SpellsReply text reply
-
 -- What one line does to a caller.
 module _ {C : Type 0} (caller : Ghosts C) (line : List ℕ) (c : C) where
   -- no command can be read: the line is called bad, and the caller makes no call

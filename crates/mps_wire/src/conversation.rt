@@ -11,10 +11,11 @@ ghost use Rattle.mps_wire.specs.Endings.{EndedAs};
 ghost use Rattle.mps_wire.specs.Private.Endings.{TurnedTo, IsPartly, IsWholly, TakesOn, TakesToPart, begun_or, failed_by};
 ghost use Rattle.mps_wire.specs.Runs.{Going, max_reads};
 ghost use Rattle.mps_wire.specs.Streams.{streams};
-ghost use Rattle.mps_wire.specs.Talk.{TalksLine, TalksNumbered, talks, talks_to_part};
+ghost use Rattle.mps_wire.specs.Talk.{TalksLine, talks, talks_to_part};
+ghost use Rattle.mps_wire.specs.Private.Commands.{TalksNumbered};
 
-use crate::flow::send_all;
 use crate::script::MAX_READS;
+use crate::sending::send_all;
 use mps_command::{Answer, Command, Refusal};
 use mps_dev::{Failed, Sink, Source};
 use mps_line::laws::one_numbered;
@@ -56,7 +57,7 @@ impl From<AllocError> for Broken {
     }
 }
 
-/// Puts the reply and an LF in place of what the buffer had. Where memory runs out, the reply has a text all the same.
+// Puts the reply and an LF in place of what the buffer had. Where memory runs out, the reply has a text all the same.
 fn put_reply(reply: &Reply, text: &mut Vec<u8>) -> Result<(), AllocError>
     ensures { (words : List ℕ) × SpellsReply words reply.now × OnOk result (text.new.items ≡ ended words) }
 {
@@ -67,7 +68,7 @@ fn put_reply(reply: &Reply, text: &mut Vec<u8>) -> Result<(), AllocError>
     Ok(())
 }
 
-/// Puts the answer and an LF in place of what the buffer had, as `put_reply` does, but from where the answer is kept.
+// Puts the answer and an LF in place of what the buffer had, as `put_reply` does, but from where the answer is kept.
 fn put_answer(answer: &Answer, text: &mut Vec<u8>) -> Result<(), AllocError>
     ensures { (words : List ℕ) × SpellsReply words (Answered answer.now)
         × OnOk result (text.new.items ≡ ended words) }
@@ -79,7 +80,7 @@ fn put_answer(answer: &Answer, text: &mut Vec<u8>) -> Result<(), AllocError>
     Ok(())
 }
 
-/// Puts the answer that the caller keeps.
+// Puts the answer that the caller keeps.
 fn put_kept<C: Caller>(caller: &C, text: &mut Vec<u8>) -> Result<(), AllocError>
     requires { IsSome (C.kept caller.now) }
     ensures { (answer : Response) × (C.kept caller.now ≡ Some answer) × (words : List ℕ)
@@ -91,7 +92,7 @@ fn put_kept<C: Caller>(caller: &C, text: &mut Vec<u8>) -> Result<(), AllocError>
     }
 }
 
-/// Gives a command with its number, and makes the text of what came of it.
+// Gives a command with its number, and makes the text of what came of it.
 #[inline(never)]
 fn reply_to_numbered<C: Caller>(
     caller: &mut C,
@@ -111,8 +112,8 @@ fn reply_to_numbered<C: Caller>(
     }
 }
 
-/// Replies to a line: makes its call, if it has one, and the text of the answer.
-fn reply_to_line<C: Caller>(
+// Replies to a line: makes its call, if it has one, and the text of the answer.
+fn make_reply<C: Caller>(
     alloc: Global,
     caller: &mut C,
     line: &[u8],
@@ -133,8 +134,8 @@ fn reply_to_line<C: Caller>(
     }
 }
 
-/// Answers a line, and writes the answer.
-fn answer_line<C: Caller, W: Sink>(
+// Answers a line, and writes the answer.
+fn send_reply<C: Caller, W: Sink>(
     alloc: Global,
     caller: &mut C,
     writer: &mut W,
@@ -148,14 +149,14 @@ fn answer_line<C: Caller, W: Sink>(
     ensures err { OnErr result (IsPartly (talks_to_part C.Caller) line.now caller.old caller.new
         (W.taken writer.old) (W.taken writer.new)) }
 {
-    reply_to_line(alloc, caller, line, text)?;
+    make_reply(alloc, caller, line, text)?;
     match send_all(writer, text.as_slice()) {
         Ok(()) => Ok(()),
         Err(Failed) => Err(Broken::Write),
     }
 }
 
-/// Adds to a line that has begun what comes of it.
+// Adds to a line that has begun what comes of it.
 fn keep_begun(line: &mut Vec<u8>, piece: &[u8]) -> Result<(), AllocError>
     requires { length line.old.items ≤ most_kept }
     ensures { OnOk result (front (begun_or line.new.items piece.now) ≡ front (line.old.items ++ piece.now)) }
@@ -166,7 +167,7 @@ fn keep_begun(line: &mut Vec<u8>, piece: &[u8]) -> Result<(), AllocError>
     keep(line, piece)
 }
 
-/// The line that has begun, or else the one that came whole, which is answered where it stands.
+// The line that has begun, or else the one that came whole, which is answered where it stands.
 fn begun<'a>(line: &'a [u8], piece: &'a [u8]) -> &'a [u8]
     ensures { result.now ≡ begun_or line.now piece.now }
 {
@@ -176,7 +177,7 @@ fn begun<'a>(line: &'a [u8], piece: &'a [u8]) -> &'a [u8]
     line
 }
 
-/// Takes the next bytes, and answers each line that they end, before the next.
+// Takes the next bytes, and answers each line that they end, before the next.
 fn feed<C: Caller, W: Sink>(
     alloc: Global,
     caller: &mut C,
@@ -198,7 +199,7 @@ fn feed<C: Caller, W: Sink>(
     while let Some(k) = line_end(rest) {
         let piece = &rest[..k];
         keep_begun(line, piece)?;
-        answer_line(alloc, caller, writer, begun(line.as_slice(), piece), text)?;
+        send_reply(alloc, caller, writer, begun(line.as_slice(), piece), text)?;
         line.clear();
         rest = &rest[k + 1..];
     }
@@ -206,7 +207,7 @@ fn feed<C: Caller, W: Sink>(
     Ok(())
 }
 
-/// Reads once, and answers the lines that are whole then. Says how the conversation ended, if it did.
+// Reads once, and answers the lines that are whole then. Says how the conversation ended, if it did.
 fn turn<C: Caller, R: Source, W: Sink>(
     alloc: Global,
     caller: &mut C,
@@ -217,7 +218,7 @@ fn turn<C: Caller, R: Source, W: Sink>(
     block: &mut [u8],
 ) -> Option<Ending>
     requires short { length line.old.items ≤ most_kept }
-    requires room { 0 < length block.old }
+    requires space { 0 < length block.old }
     requires reads { R.calls reader.old < 2 ^ 63 }
     requires writes { W.failed_calls writer.old < 2 ^ 63 }
     ensures short { IfNone result (length line.new.items ≤ most_kept) }

@@ -10,9 +10,9 @@
 #![tactic(auto)]
 
 pub mod conversation;
-pub mod flow;
 pub mod laws;
 pub mod script;
+pub mod sending;
 
 pub use conversation::{Ending, converse};
 pub use script::{ReplayFault, replay, run_script};

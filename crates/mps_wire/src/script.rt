@@ -5,21 +5,23 @@ ghost use Rattle.mps_base.specs.Appends.{Appends};
 ghost use Rattle.mps_command.specs.declared.command.Command.TheVariants.{News, Show};
 ghost use Rattle.mps_local.specs.Local.{plain};
 ghost use Rattle.mps_machine.specs.Machine.{initial};
-ghost use Rattle.mps_wire.specs.Answers.{TakesBytes, TakesEnd};
-ghost use Rattle.mps_wire.specs.Flow.{TookFront};
+ghost use Rattle.mps_wire.specs.Private.Places.{TakesBytes, TakesEnd, lines_of, place_of_run};
+ghost use Rattle.mps_wire.specs.Sending.{TookFront};
 ghost use Rattle.mps_lines.specs.Lines.{ended, front, most_kept};
-ghost use Rattle.mps_wire.specs.Runs.{Going, Outcome, Replayed, Turned, max_reads, of_opening};
-ghost use Rattle.mps_wire.specs.Script.{AnswersLine, IsAnswered, lines_of, place_of_run};
+ghost use Rattle.mps_wire.specs.Runs.{Going, Replayed, ScriptRan, max_reads, of_opening};
+ghost use Rattle.mps_wire.specs.Private.Turns.{Turned};
+ghost use Rattle.mps_wire.specs.Script.{AnswersLine};
+ghost use Rattle.mps_wire.specs.Private.Commands.{IsAnswered};
 ghost use Rattle.mps_wire.specs.Streams.{streams};
 ghost use Rattle.mps_wire.specs.declared.script.ReplayFault.TheVariants.{Memory as OutOfMemory};
 
-use crate::flow::send_all;
+use crate::sending::send_all;
 use mps_base::{Role, Roles};
 use mps_command::{Command, Refusal};
 use mps_dev::{Failed, Sink, Source};
 use mps_line::laws::one_script_line;
 use mps_line::{LineFault, read_script_line, write_answer, write_bad_line, write_refused};
-use mps_lines::{MAX_LINE, MOST_KEPT, keep, line_end};
+use mps_lines::{MAX_LINE, keep, line_end};
 use mps_local::Local;
 use mps_room::Room;
 use mps_session::{OpenFault, Session};
@@ -66,7 +68,7 @@ impl From<OpenFault> for ReplayFault {
     }
 }
 
-/// Writes, after the other answers, what others took back.
+// Writes, after the other answers, what others took back.
 #[inline(never)]
 fn reply_with_news(
     room: &Room,
@@ -80,7 +82,7 @@ fn reply_with_news(
     write_answer(&room.tell_news(role, known), answers)
 }
 
-/// Writes, after the other answers, how the session stands.
+// Writes, after the other answers, how the session stands.
 #[inline(never)]
 fn reply_with_show(room: &Room, answers: &mut Vec<u8>) -> Result<(), AllocError>
     ensures { (role : ℕ) → OnOk result (IsAnswered room.now.names room.now.types room.now.journal role Show
@@ -89,8 +91,8 @@ fn reply_with_show(room: &Room, answers: &mut Vec<u8>) -> Result<(), AllocError>
     write_answer(&room.tell_show(), answers)
 }
 
-/// Gives the role's command to the room, and writes the answer after the others. Questions are answered apart, so that no
-/// other line makes place for their answers.
+// Gives the role's command to the room, and writes the answer after the others. Questions are answered apart, so that no
+// other line makes place for their answers.
 fn reply_to_command(
     room: &mut Room,
     role: Role,
@@ -110,7 +112,7 @@ fn reply_to_command(
     }
 }
 
-/// Gives the command of a line to the room, if it has one, and writes the reply after the others.
+// Gives the command of a line to the room, if it has one, and writes the reply after the others.
 fn reply_to_line(
     alloc: Global,
     room: &mut Room,
@@ -137,7 +139,7 @@ fn reply_to_line(
     }
 }
 
-/// Answers a line, whose answer goes after the others.
+// Answers a line, whose answer goes after the others.
 #[inline(always)]
 fn answer_line(
     alloc: Global,
@@ -157,7 +159,7 @@ fn answer_line(
     Ok(())
 }
 
-/// A script while it runs.
+// A script while it runs.
 #[derive(Drop)]
 struct ScriptRun {
     room: Room,
@@ -169,7 +171,7 @@ struct ScriptRun {
 }
 
 impl ScriptRun {
-    /// Answers the line that is kept, and begins the next.
+    // Answers the line that is kept, and begins the next.
     fn answer_kept(&mut self) -> Result<(), AllocError>
         ensures names { self.new.room.names ≡ self.old.room.names }
         ensures types { self.new.room.types ≡ self.old.room.types }
@@ -185,7 +187,7 @@ impl ScriptRun {
         Ok(())
     }
 
-    /// Answers the line that ends with these bytes, and begins the next.
+    // Answers the line that ends with these bytes, and begins the next.
     fn end_line(&mut self, bytes: &[u8]) -> Result<(), AllocError>
         requires { length self.old.line.items ≤ most_kept }
         ensures names { self.new.room.names ≡ self.old.room.names }
@@ -204,7 +206,7 @@ impl ScriptRun {
         answer_line(self.alloc, &mut self.room, bytes, &mut self.answers)
     }
 
-    /// Takes the next bytes, and answers each line that they end.
+    // Takes the next bytes, and answers each line that they end.
     fn feed(&mut self, bytes: &[u8]) -> Result<(), AllocError>
         requires { length self.old.line.items ≤ most_kept }
         ensures names { self.new.room.names ≡ self.old.room.names }
@@ -221,7 +223,7 @@ impl ScriptRun {
         keep(&mut self.line, rest)
     }
 
-    /// Answers a last line that no LF ends, if there is one.
+    // Answers a last line that no LF ends, if there is one.
     fn finish(&mut self) -> Result<(), AllocError>
         ensures names { self.new.room.names ≡ self.old.room.names }
         ensures types { self.new.room.types ≡ self.old.room.types }
@@ -236,7 +238,7 @@ impl ScriptRun {
     }
 }
 
-/// Writes the answers that wait.
+// Writes the answers that wait.
 fn send_answers<W: Sink>(writer: &mut W, answers: &mut Vec<u8>) -> Result<(), Failed>
     requires { W.failed_calls writer.old < 2 ^ 63 }
     ensures sent { OnOk result (Takes (W.taken writer.old) (W.taken writer.new)
@@ -252,7 +254,7 @@ fn send_answers<W: Sink>(writer: &mut W, answers: &mut Vec<u8>) -> Result<(), Fa
     Ok(())
 }
 
-/// Reads once and answers the lines that are whole then. Says whether that was the end.
+// Reads once and answers the lines that are whole then. Says whether that was the end.
 fn turn<R: Source, W: Sink>(
     reader: &mut R,
     writer: &mut W,
@@ -261,7 +263,7 @@ fn turn<R: Source, W: Sink>(
 ) -> Result<bool, ReplayFault>
     requires short { length run.old.line.items ≤ most_kept }
     requires none_wait { run.old.answers.items ≡ [] }
-    requires room { 0 < length block.old }
+    requires space { 0 < length block.old }
     requires reads { R.calls reader.old < 2 ^ 63 }
     requires writes { W.failed_calls writer.old < 2 ^ 63 }
     ensures names { run.new.room.names ≡ run.old.room.names }
@@ -306,7 +308,7 @@ pub fn run_script<R: Source, W: Sink>(
     requires named { length roles ≡ length session.types }
     requires reads { R.calls reader.old < 2 ^ 62 }
     requires writes { W.failed_calls writer.old < 2 ^ 62 }
-    ensures outcome { Replayed roles session.types
+    ensures outcome { ScriptRan roles session.types
         (streams R.Source W.Sink reader.old writer.old)
         (streams R.Source W.Sink reader.new writer.new) result }
     ensures reads { R.calls reader.new ≤ R.calls reader.old + max_reads }
@@ -338,7 +340,7 @@ pub fn replay<R: Source, W: Sink>(
     requires named { length roles ≡ length types.items }
     requires reads { R.calls reader.old < 2 ^ 62 }
     requires writes { W.failed_calls writer.old < 2 ^ 62 }
-    ensures outcome { Outcome roles (map plain types.items)
+    ensures outcome { Replayed roles (map plain types.items)
         (streams R.Source W.Sink reader.old writer.old)
         (streams R.Source W.Sink reader.new writer.new) result }
     ensures reads { R.calls reader.new ≤ R.calls reader.old + max_reads }

@@ -13,74 +13,74 @@ use std::alloc::{AllocError, Global};
 use std::rt::Env;
 use std::{env, io};
 
-/// The version of the program.
+// The version of the program.
 const VERSION: &str = "0.1.0";
 
-/// How many sessions a server has at most.
+// How many sessions a server has at most.
 const MAX_SESSIONS: u64 = 16;
 
-/// How many connections it accepts at most.
+// How many connections it accepts at most.
 const MAX_CONNECTIONS: u64 = 64;
 
-/// What is said of words of which one is no text.
+// What is said of words of which one is no text.
 const NO_TEXT: &str = "error: a word is not UTF-8";
 
-/// What is said of words that lack one.
+// What is said of words that lack one.
 const MISSING: &str = "error: a word is missing";
 
-/// What is said of numbers that a server can't have.
+// What is said of numbers that a server can't have.
 const OUT_OF_RANGE: &str =
     "error: --port is 0 to 65535, --sessions is 1 to 16, and --connections is 1 to 64";
 
-/// A word that a command needs: what it stands for, and what the help says of it.
+// A word that a command needs: what it stands for, and what the help says of it.
 struct Word {
     name: &'static str,
     help: &'static str,
 }
 
-/// The protocol, with which each command begins.
+// The protocol, with which each command begins.
 const FILE: Word = Word {
     name: "FILE",
     help: "The protocol",
 };
 
-/// The script that is run.
+// The script that is run.
 const SCRIPT: Word = Word {
     name: "SCRIPT",
     help: "A command on each line",
 };
 
-/// The first of two scripts that are compared.
+// The first of two scripts that are compared.
 const FIRST: Word = Word {
     name: "FIRST",
     help: "A script, as for run",
 };
 
-/// The second of two scripts that are compared.
+// The second of two scripts that are compared.
 const SECOND: Word = Word {
     name: "SECOND",
     help: "Another script",
 };
 
-/// The port that a server listens on.
+// The port that a server listens on.
 const PORT: Word = Word {
     name: "port",
     help: "The port of 127.0.0.1, 0 for any that is free",
 };
 
-/// How many sessions a server has.
+// How many sessions a server has.
 const SESSIONS: Word = Word {
     name: "sessions",
     help: "How many sessions are opened, 1 to 16",
 };
 
-/// How many connections a server accepts.
+// How many connections a server accepts.
 const CONNECTIONS: Word = Word {
     name: "connections",
     help: "How many connections are accepted, 1 to 64",
 };
 
-/// A command of the program, the words that have to follow it, and the options that have to be given with a word each.
+// A command of the program, the words that have to follow it, and the options that have to be given with a word each.
 struct Form {
     name: &'static str,
     about: &'static str,
@@ -88,7 +88,7 @@ struct Form {
     options: &'static [Word],
 }
 
-/// The commands of the program.
+// The commands of the program.
 const FORMS: &[Form] = &[
     Form {
         name: "check",
@@ -116,17 +116,17 @@ const FORMS: &[Form] = &[
     },
 ];
 
-/// The argument that takes the word.
+// The argument that takes the word.
 fn argument<'a>(alloc: Global, word: &Word) -> Arg<'a> {
     Arg::new(alloc, word.name).help(word.help).required(true)
 }
 
-/// The option that takes the word.
+// The option that takes the word.
 fn option<'a>(alloc: Global, word: &Word) -> Arg<'a> {
     argument(alloc, word).long(word.name)
 }
 
-/// The command with these options besides.
+// The command with these options besides.
 fn with_options<'a>(
     alloc: Global,
     mut command: Command<'a>,
@@ -138,7 +138,7 @@ fn with_options<'a>(
     Ok(command)
 }
 
-/// The command of that form.
+// The command of that form.
 fn command<'a>(alloc: Global, form: &Form) -> Result<Command<'a>, AllocError> {
     let mut command = Command::new(alloc, form.name).about(form.about);
     for word in form.words {
@@ -147,7 +147,7 @@ fn command<'a>(alloc: Global, form: &Form) -> Result<Command<'a>, AllocError> {
     with_options(alloc, command, form.options)
 }
 
-/// The program with its commands.
+// The program with its commands.
 fn program<'a>(alloc: Global) -> Result<Command<'a>, AllocError> {
     let mut program = Command::new(alloc, "mps_tool")
         .about("A monitor for multiparty sessions")
@@ -159,7 +159,7 @@ fn program<'a>(alloc: Global) -> Result<Command<'a>, AllocError> {
     Ok(program)
 }
 
-/// The number that an option has, if it lies between these two, or is one of them.
+// The number that an option has, if it lies between these two, or is one of them.
 fn number_in<'a>(found: &ArgMatches<'a>, name: &str, least: u64, most: u64) -> Option<u64>
     ensures { IfSome result (λ n. (least ≤ n) × (n ≤ most)) }
 {
@@ -170,7 +170,7 @@ fn number_in<'a>(found: &ArgMatches<'a>, name: &str, least: u64, most: u64) -> O
     Some(number)
 }
 
-/// The order to serve the file, with its numbers.
+// The order to serve the file, with its numbers.
 fn serve_in<'a>(file: &'a str, found: &ArgMatches<'a>) -> Option<Order<'a>>
     ensures { IfSome result IsInRange }
 {
@@ -185,7 +185,7 @@ fn serve_in<'a>(file: &'a str, found: &ArgMatches<'a>) -> Option<Order<'a>>
     })
 }
 
-/// The task to compare two scripts.
+// The task to compare two scripts.
 fn same_in<'a>(file: &'a str, found: &ArgMatches<'a>) -> Option<Task<'a>> {
     let first = found.get_str("FIRST")?;
     let second = found.get_str("SECOND")?;
@@ -196,13 +196,13 @@ fn same_in<'a>(file: &'a str, found: &ArgMatches<'a>) -> Option<Task<'a>> {
     })
 }
 
-/// The task to run a script.
+// The task to run a script.
 fn run_in<'a>(file: &'a str, found: &ArgMatches<'a>) -> Option<Task<'a>> {
     let script = found.get_str("SCRIPT")?;
     Some(Task::Run { file, script })
 }
 
-/// The order of a task, where all its words were found.
+// The order of a task, where all its words were found.
 fn offline<'a>(task: Option<Task<'a>>) -> Result<Order<'a>, &'static str>
     ensures range { IfOk result IsInRange }
     ensures said { IfErr result (λ what. IsSaidOfMatched what.now) }
@@ -213,7 +213,7 @@ fn offline<'a>(task: Option<Task<'a>>) -> Result<Order<'a>, &'static str>
     }
 }
 
-/// The order that stands in the words, as they matched the commands, or what is wrong with them.
+// The order that stands in the words, as they matched the commands, or what is wrong with them.
 fn order_in<'a>(matches: &ArgMatches<'a>) -> Result<Order<'a>, &'static str>
     ensures range { IfOk result IsInRange }
     ensures said { IfErr result (λ what. IsSaidOfMatched what.now) }
@@ -233,13 +233,13 @@ fn order_in<'a>(matches: &ArgMatches<'a>) -> Result<Order<'a>, &'static str>
     }
 }
 
-/// What clap says of words that match no command, without blanks at its end.
+// What clap says of words that match no command, without blanks at its end.
 fn text_of(alloc: Global, error: &Error) -> Result<String, AllocError> {
     let text = format!(in alloc; "{error}")?;
     String::from_str(alloc, text.as_str().trim_end())
 }
 
-/// What comes of words that match no command: they ask how the program is used, or are refused.
+// What comes of words that match no command: they ask how the program is used, or are refused.
 fn unmatched<'a>(alloc: Global, error: &Error) -> Result<Order<'a>, UseFault>
     ensures { IfOk result IsInRange }
 {
@@ -253,7 +253,7 @@ fn unmatched<'a>(alloc: Global, error: &Error) -> Result<Order<'a>, UseFault>
     Ok(Order::Offline(Task::Help { text }))
 }
 
-/// The order that stands in the words, as they matched the commands, or a fault of use.
+// The order that stands in the words, as they matched the commands, or a fault of use.
 fn matched<'a>(alloc: Global, matches: &ArgMatches<'a>) -> Result<Order<'a>, UseFault>
     ensures range { IfOk result IsInRange }
     ensures fault { IfErr result TellsMatched }

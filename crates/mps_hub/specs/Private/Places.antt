@@ -1,5 +1,5 @@
 -- How a desk is laid out.
-use Rattle.std.specs.Prelude.{◌≡◌, ℕ, ◌+◌, ◌-◌, List, Option, Some, slice_get, length}
+use Rattle.std.specs.Prelude.{◌≡◌, ℕ, ◌+◌, List, Option, Some, slice_get, length}
 use Rattle.atomic_table.specs.Seated.{TableId}
 use Rattle.mps_cell.specs.Calls.{Known}
 use Rattle.mps_cell.specs.Cells.{Opened}

@@ -22,4 +22,4 @@ pub record IsLog (l : Inside) : Type 0 where
   pub fronts : AreFronts l.arena.entries l.queues
   pub slots : AreStores slot_of l.arena.entries l.slots
   pub marks : AreStores mark_of l.arena.entries l.marks
-  pub settled : l.has_commits ≡ false → HasNoCommit l.arena.entries
+  pub settled : l.had_commit ≡ false → HasNoCommit l.arena.entries

@@ -8,7 +8,7 @@ use Rattle.mps_machine.specs.Machine.{most_numbers, view_of, IsSound}
 use Rattle.mps_arena.specs.Entries.{KeyedStep, steps, AreSound}
 use Rattle.mps_links.specs.Marks.{marked_keys}
 use Rattle.mps_table.specs.Standing.{StandsFor}
-use Rattle.mps_session.specs.Private.Configurations.{Configuration, cursor_of, state_of}
+use Rattle.mps_session.specs.Private.Configurations.{Lists, cursor_of, state_of}
 use Rattle.mps_session.specs.Private.Cursors.{IsFor, nowhere}
 use Rattle.mps_session.specs.declared.cursor.Cursor.{Cursor}
 use Rattle.mps_session.specs.Peers.{HasPeers, HavePeers}
@@ -20,12 +20,12 @@ pub record AreCursors (n : ℕ) (cursors : List Cursor) (v : View) : Type 0 wher
   pub each : (p : ℕ) → p < n → IsFor (slice_index_or cursors p nowhere) (v.participant p).to_come
 
 -- each step keeps a node for what its role could still do right before it
-abbrev pub ArePlaced : List LocalType → Configuration → Type 0
+abbrev pub ArePlaced : List LocalType → Lists → Type 0
 ArePlaced types c =
     (a b : List KeyedStep) (e : KeyedStep) → c.entries ≡ a ++ e ∷ b → StandsFor (cursor_of c e.step.role).table e.before.at ((view_of types (steps a)).participant e.step.role).to_come
 
 -- what the session keeps is the view of its steps, which its roles did, and numbers are still counted
-pub record Holds (types : List LocalType) (c : Configuration) : Type 0 where
+pub record Holds (types : List LocalType) (c : Lists) : Type 0 where
   pub sound : IsSound types (state_of c)
   pub roles : HasRoleCount types
   pub peers : HavePeers types
@@ -36,6 +36,6 @@ pub record Holds (types : List LocalType) (c : Configuration) : Type 0 where
   pub few : c.issued ≤ most_numbers
 
 -- the same, and no step is marked: so it is between two commands
-pub record IsAtRest (types : List LocalType) (c : Configuration) : Type 0 where
+pub record IsAtRest (types : List LocalType) (c : Lists) : Type 0 where
   pub holds : Holds types c
   pub unmarked : marked_keys c.entries ≡ []

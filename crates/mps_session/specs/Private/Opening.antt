@@ -1,7 +1,7 @@
 -- What a session keeps of roles that did nothing yet.
 use Rattle.std.specs.Prelude.{◌≡◌, ⊤, List, [], ◌∷◌}
 use Rattle.mps_local.specs.Local.{LocalType}
-use Rattle.mps_session.specs.Private.Configurations.{Configuration}
+use Rattle.mps_session.specs.Private.Configurations.{Lists}
 use Rattle.mps_session.specs.Private.Cursors.{IsFor}
 use Rattle.mps_session.specs.declared.cursor.Cursor.{Cursor}
 
@@ -12,7 +12,7 @@ AreStarts (t ∷ types) (c ∷ cursors) = IsFor c t × AreStarts types cursors
 AreStarts types cursors = ⊥
 
 -- each role stands where its type begins, and nothing was done
-pub record IsOpening (types : List LocalType) (c : Configuration) : Type 0 where
+pub record IsOpening (types : List LocalType) (c : Lists) : Type 0 where
   pub cursors : AreStarts types c.cursors
   pub entries : c.entries ≡ []
   pub issued : c.issued ≡ 0

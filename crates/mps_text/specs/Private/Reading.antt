@@ -6,6 +6,7 @@ use Rattle.mps_base.specs.declared.value.Sort.{Sort}
 use Rattle.mps_base.specs.declared.value.Sort.TheVariants.{Int, Bool as Truth, Text}
 use Rattle.mps_global.specs.Global.{GlobalType, Branches, End, Var, Rec, Message, Choice, NoMore, More}
 use Rattle.mps_base.specs.Sorts.{sort_word}
+use Rattle.mps_text.specs.Grammar.{AreNamed, HaveBranches}
 use Rattle.mps_text.specs.Private.Lexing.{Fault, ◌>>=◌, Lexed, Ended, Malformed, Next, lexed, tokens_in, is_name, is_variable}
 use Rattle.mps_text.specs.declared.fault.TextKind.TheVariants.{Word, Unexpected, TooManyNodes, TooDeep, Trailing}
 use Rattle.mps_text.specs.declared.lexing.Cursor.{Cursor}
@@ -215,3 +216,7 @@ separator false = codes "}"
 abbrev pub behind_branch : ℕ → Bool → List Symbol
 behind_branch depth true = branch depth
 behind_branch depth false = []
+
+-- what `IsSpellable` says of a tree, of branches
+abbrev pub AreSpellable : Branches → Type 0
+AreSpellable branches = AreNamed branches × HaveBranches branches

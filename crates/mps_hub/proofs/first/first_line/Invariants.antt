@@ -1,5 +1,5 @@
 use Rattle.std.proofs.Common.{◌≡◌, ◌+◌}
-use Rattle.mps_hub.specs.First.{IsBegun}
+use Rattle.mps_hub.specs.Private.First.{IsBegun}
 use Rattle.mps_hub.proofs.first.first_line.Given as goal
 
 abbrev pub invariant-loop : goal.invariant-loop

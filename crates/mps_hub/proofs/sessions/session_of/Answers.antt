@@ -2,7 +2,7 @@ use Rattle.std.proofs.Common.{List, subst, map}
 use Rattle.std.specs.Prelude.{◌≢◌, IfErr}
 use Rattle.mps_local.specs.Local.{LocalType, plain}
 use Rattle.mps_session.specs.declared.open.OpenFault.TheVariants.{Memory}
-use Rattle.mps_wire.specs.Runs.{KeepsShut}
+use Rattle.mps_session.specs.Peers.{KeepsShut}
 use Rattle.mps_hub.proofs.Shutting.{shut}
 use Rattle.mps_hub.proofs.sessions.session_of.Goals as goal
 

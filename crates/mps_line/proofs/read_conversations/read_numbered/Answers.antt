@@ -17,7 +17,7 @@ returns-in_err-command-2-clause-bad c = λ e number command h.
 pub returns-in_err-command-2-clause-memory : goal.returns-in_err-command-2-clause-memory
 returns-in_err-command-2-clause-memory c = λ e.
     let k = c.in_err-command-2.ensures.memory (ap Err (sym (rw e at c.from_residual-in_err-command-2.ensures.1))) in
-    (Some c.in-Some.parts.0, k.0, k.1, command_numbered _ _ _ _ (Forward (Send k.0 (Text k.1))) c.in-Some.ensures.read refl k.2)
+    (Some c.in-Some.number, k.0, k.1, command_numbered _ _ _ _ (Forward (Send k.0 (Text k.1))) c.in-Some.ensures.read refl k.2)
 
 pub returns-then-not-may_have_number-clause-bad : goal.returns-then-not-may_have_number-clause-bad
 returns-then-not-may_have_number-clause-bad c = λ e number command h.

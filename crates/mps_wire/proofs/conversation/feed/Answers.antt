@@ -21,18 +21,18 @@ returns-in_err-keep_begun-clause-err g c =
 answered_front : (line kept new old piece : List ℕ) → line ≡ begun_or kept piece → kept ≡ new → front (begun_or new piece) ≡ front (old ++ piece) → front line ≡ front (old ++ piece)
 answered_front line kept new old piece is same h = ap front (is ∙ ap (λ (l : List ℕ). begun_or l piece) same) ∙ h
 
-pub returns-in_err-answer_line-clause-err : goal.returns-in_err-answer_line-clause-err
-returns-in_err-answer_line-clause-err g c =
+pub returns-in_err-send_reply-clause-err : goal.returns-in_err-send_reply-clause-err
+returns-in_err-send_reply-clause-err g c =
     let is = answered_front _ _ _ c.loop-k.line.items (take c.in-Some.k c.loop-k.rest.now) c.begun.ensures c.as_slice.ensures.value c.in_ok-keep_begun.ensures in
-    let line = partly_front g.C.Caller _ _ is _ _ _ _ c.in_err-answer_line.ensures.err in
+    let line = partly_front g.C.Caller _ _ is _ _ _ _ c.in_err-send_reply.ensures.err in
     on_err_of _ _ (taking_breaks (talks g.C.Caller) (talks_to_part g.C.Caller) _ _ _ _ c.loop-k.rest.now c.loop-k.line.items (front (c.loop-k.line.items ++ take c.in-Some.k c.loop-k.rest.now)) _ _ c.in-Some.k c.loop-k.invariant.taking c.in-Some.ensures.within c.in-Some.ensures.end c.in-Some.ensures.before refl (part_by_front g.C.Caller) _ _ line)
 
 pub loop-k-preserved : goal.loop-k-preserved
 loop-k-preserved g c =
     let is = answered_front _ _ _ c.loop-k.line.items (take c.in-Some.k c.loop-k.rest.now) c.begun.ensures c.as_slice.ensures.value c.in_ok-keep_begun.ensures in
-    let line = wholly_front g.C.Caller _ _ is _ _ _ _ c.in_ok-answer_line.ensures.ok in
+    let line = wholly_front g.C.Caller _ _ is _ _ _ _ c.in_ok-send_reply.ensures.ok in
     record {
-      writes = omega (arith, c.in_ok-answer_line.ensures.writes, c.loop-k.invariant.writes);
+      writes = omega (arith, c.in_ok-send_reply.ensures.writes, c.loop-k.invariant.writes);
       short = omega (arith, ap length c.clear.ensures.items);
       taking = takes_on (talks g.C.Caller) (talks_to_part g.C.Caller) _ _ _ _ c.loop-k.rest.now c.loop-k.line.items (front (c.loop-k.line.items ++ take c.in-Some.k c.loop-k.rest.now)) _ _ c.in-Some.k c.loop-k.invariant.taking c.in-Some.ensures.within c.in-Some.ensures.end c.in-Some.ensures.before refl (talks_by_front g.C.Caller) _ _ _ line c.clear.ensures.items;
     }

@@ -11,7 +11,7 @@ returns-then-count-eq0-clause-step g c = λ start first h.
     let old = streams g.R.Source g.W.Sink c.args.reader.now c.args.writer.now in
     let new = streams g.R.Source g.W.Sink c.read.new.self c.args.writer.now in (
       stays (talks g.C.Caller) start first old new _ _ h (none_taken _ _ c.in-Ok.count c.read.new.buf c.if-count-eq0.true c.in-Ok.ensures.bytes.0) refl,
-      counts_at_end old new c.in-Ok.count c.args.block.now 0 c.in-Ok.ensures.failures c.in-Ok.ensures.ends c.if-count-eq0.true c.requires.room (none_more _ _ refl),
+      counts_at_end old new c.in-Ok.count c.args.block.now 0 c.in-Ok.ensures.failures c.in-Ok.ensures.ends c.if-count-eq0.true c.requires.space (none_more _ _ refl),
       search rules,
     )
 

@@ -2,7 +2,7 @@ use Rattle.std.proofs.Common.{length, map, sym, ap, subst, ◌∙◌}
 use Rattle.std.proofs.lemmas.List.{length-map}
 use Rattle.mps_local.specs.Local.{plain}
 use Rattle.mps_session.specs.SessionState.{SessionState}
-use Rattle.mps_wire.specs.Runs.{Outcome, Replayed}
+use Rattle.mps_wire.specs.Runs.{Replayed, ScriptRan}
 use Rattle.mps_wire.specs.Streams.{streams}
 use Rattle.mps_session.proofs.PassedOn.{passed_on}
 use Rattle.mps_wire.proofs.Outcomes.{not_begun, opened_first, shut}
@@ -13,7 +13,7 @@ returns-in_err-session-clause-outcome g c =
     let types = map plain c.args.types.items in
     let first = streams g.R.Source g.W.Sink c.args.reader.now c.args.writer.now in
     let e = c.in_err-session.ensures in
-    passed_on _ _ (Outcome c.args.roles types first first) c.from_residual.ensures.1
+    passed_on _ _ (Replayed c.args.roles types first first) c.from_residual.ensures.1
     (not_begun c.args.roles types first _ (shut types c.in_err-session.field-0.0 e.count e.peer e.local e.memory))
 
 pub run_script-requires-clause-named : goal.run_script-requires-clause-named
@@ -26,4 +26,4 @@ returns-clause-outcome g c =
     let first = streams g.R.Source g.W.Sink c.args.reader.now c.args.writer.now in
     let now = streams g.R.Source g.W.Sink c.run_script.new.reader c.run_script.new.writer in
     opened_first c.args.roles types first now c.run_script.result c.in_ok-session.ensures.can
-    (subst (λ (m : SessionState). Replayed c.args.roles m.types first now c.run_script.result) c.in_ok-session.ensures.opened c.run_script.ensures.outcome)
+    (subst (λ (m : SessionState). ScriptRan c.args.roles m.types first now c.run_script.result) c.in_ok-session.ensures.opened c.run_script.ensures.outcome)

@@ -1,6 +1,6 @@
 use Rattle.std.proofs.Common.{◌≡◌, [], length, Ok, Err, ap, ◌∙◌, arith}
 use Rattle.mps_room.specs.RoomState.{RoomState}
-use Rattle.mps_wire.specs.Runs.{Replayed, max_reads}
+use Rattle.mps_wire.specs.Runs.{ScriptRan, max_reads}
 use Rattle.mps_wire.specs.Script.{AnswersLine}
 use Rattle.mps_wire.specs.Streams.{streams}
 use Rattle.mps_wire.specs.declared.script.TheConstants.{BLOCK}
@@ -15,7 +15,7 @@ pub returns-in_err-block-clause-outcome : goal.returns-in_err-block-clause-outco
 returns-in_err-block-clause-outcome g c =
     let types = c.args.session.types in
     let first = streams g.R.Source g.W.Sink c.args.reader.now c.args.writer.now in
-    passed_on _ _ (Replayed c.args.roles types first first) c.from_residual.ensures.1 (starts_starved (AnswersLine c.args.roles types) [] first)
+    passed_on _ _ (ScriptRan c.args.roles types first first) c.from_residual.ensures.1 (starts_starved (AnswersLine c.args.roles types) [] first)
 
 pub loop-init : goal.loop-init
 loop-init g c =
@@ -42,7 +42,7 @@ returns-in_err-turn-clause-outcome g c =
     let old = streams g.R.Source g.W.Sink c.loop.reader c.loop.writer in
     let now = streams g.R.Source g.W.Sink c.turn.new.reader c.turn.new.writer in
     let i = c.loop.invariant in
-    passed_on _ _ (Replayed c.args.roles types first now) c.from_residual-in_err-turn.ensures.1
+    passed_on _ _ (ScriptRan c.args.roles types first now) c.from_residual-in_err-turn.ensures.1
     (breaks first old now i.counts (AnswersLine c.args.roles types) [] c.turn.new.run.line.items c.turn.new.run.room.journal c.in_err-turn.field-0.0
     (turned c.args.roles c.loop.run.room.names types c.loop.run.room.types i.names i.types old now c.loop.run.line.items c.turn.new.run.line.items c.loop.run.room.journal c.turn.new.run.room.journal (Err c.in_err-turn.field-0.0) c.in_err-turn.ensures.step first i.going))
 

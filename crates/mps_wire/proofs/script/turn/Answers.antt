@@ -1,7 +1,7 @@
 use Rattle.std.proofs.Common.{rules, ◌≡◌, ◌+◌, [], take, inl, inr, refl}
 use Rattle.std.specs.Io.KnownBytes.{Appends}
-use Rattle.mps_wire.specs.Flow.{TookFront}
-use Rattle.mps_wire.specs.Script.{lines_of, place_of_run}
+use Rattle.mps_wire.specs.Sending.{TookFront}
+use Rattle.mps_wire.specs.Private.Places.{lines_of, place_of_run}
 use Rattle.mps_wire.specs.Streams.{streams}
 use Rattle.mps_wire.proofs.Turning.{counts_at_end, counts_before_end, none_more, gave_some, runs_out, runs_out_at_end, goes_on, breaks_off, ends, end_breaks_off, none_taken, was_last, was_not_last}
 use Rattle.mps_wire.proofs.script.turn.Goals as goal
@@ -13,7 +13,7 @@ returns-in_err-finish-clause-step g c = λ first h.
     let old = streams g.R.Source g.W.Sink c.args.reader.now c.args.writer.now in
     let new = streams g.R.Source g.W.Sink c.read.new.self c.args.writer.now in
     runs_out_at_end (lines_of run) [] first old new (place_of_run run) h _ _ _ c.from_residual.ensures.1 (none_taken _ _ c.in-Ok.count c.read.new.buf c.if-count-eq0.true c.in-Ok.ensures.bytes.0)
-    (search rules) refl (counts_at_end old new c.in-Ok.count c.args.block.now 0 c.in-Ok.ensures.failures c.in-Ok.ensures.ends c.if-count-eq0.true c.requires.room (none_more _ _ refl))
+    (search rules) refl (counts_at_end old new c.in-Ok.count c.args.block.now 0 c.in-Ok.ensures.failures c.in-Ok.ensures.ends c.if-count-eq0.true c.requires.space (none_more _ _ refl))
 
 pub returns-in_err-feed-clause-step : goal.returns-in_err-feed-clause-step
 returns-in_err-feed-clause-step g c = λ first h.
@@ -36,7 +36,7 @@ returns-then-is_err-clause-step g c = λ first h.
           inr (
             end_breaks_off (lines_of run) [] first old new (place_of_run run) h (place_of_run next) c.requires.none_wait (none_taken _ _ c.in-Ok.count c.read.new.buf w.if-count-eq0.true c.in-Ok.ensures.bytes.0)
                 (rw w.run-is w.in_ok-finish.ensures.answered) (search rules) front,
-            counts_at_end old new c.in-Ok.count c.args.block.now 1 c.in-Ok.ensures.failures c.in-Ok.ensures.ends w.if-count-eq0.true c.requires.room failed,
+            counts_at_end old new c.in-Ok.count c.args.block.now 1 c.in-Ok.ensures.failures c.in-Ok.ensures.ends w.if-count-eq0.true c.requires.space failed,
           )
       | else-count-eq0+in_ok-feed w ↦
           inl (
@@ -59,7 +59,7 @@ returns-clause-step g c = λ first h.
           was_last (lines_of run) [] first old new next.line.items next.room.journal c.in-Ok.count w.if-count-eq0.true (
             ends (lines_of run) [] first old new (place_of_run run) h (place_of_run next) c.requires.none_wait (none_taken _ _ c.in-Ok.count c.read.new.buf w.if-count-eq0.true c.in-Ok.ensures.bytes.0)
                 (rw w.run-is w.in_ok-finish.ensures.answered) (search rules) sent,
-            counts_at_end old new c.in-Ok.count c.args.block.now 0 c.in-Ok.ensures.failures c.in-Ok.ensures.ends w.if-count-eq0.true c.requires.room counted,
+            counts_at_end old new c.in-Ok.count c.args.block.now 0 c.in-Ok.ensures.failures c.in-Ok.ensures.ends w.if-count-eq0.true c.requires.space counted,
           )
       | else-count-eq0+in_ok-feed w ↦
           was_not_last (lines_of run) [] first old new next.line.items next.room.journal c.in-Ok.count w.if-count-eq0.false (

@@ -32,11 +32,11 @@ marks_stay c =
       | in-None w ↦ ap (λ (l : Inside). l.marks) w.self-inside-is
     ]
 
-settled_stays : (c : After-add) → ◌≡◌ {A = Bool} c.match-slot.self-inside.has_commits c.self.inside.has_commits
+settled_stays : (c : After-add) → ◌≡◌ {A = Bool} c.match-slot.self-inside.had_commit c.self.inside.had_commit
 settled_stays c =
     elim c.match-slot.branch [
-      | in-Some+in_ok-bound-in-Some w ↦ ap (λ (l : Inside). l.has_commits) w.self-inside-is
-      | in-None w ↦ ap (λ (l : Inside). l.has_commits) w.self-inside-is
+      | in-Some+in_ok-bound-in-Some w ↦ ap (λ (l : Inside). l.had_commit) w.self-inside-is
+      | in-None w ↦ ap (λ (l : Inside). l.had_commit) w.self-inside-is
     ]
 
 -- the slot is bound to the receipt, if it has one

@@ -48,7 +48,7 @@ known c = subst (λ (m : RoomState). c.args.role < length m.types) (sym c.self.v
 joined : (c : After-keep) → c.keep.new.journal.items ≡ c.self.inside.journal.items ++ record { role = c.args.role; command = c.args.command; answer = c.in_ok-kept.kept } ∷ []
 joined c =
     let e : Entry = record { role = c.args.role; command = c.args.command; answer = c.in_ok-kept.kept } in
-    c.keep.ensures.journal ∙ ap (λ (l : List Entry). l ++ e ∷ []) c.make_room.ensures.journal
+    c.keep.ensures.journal ∙ ap (λ (l : List Entry). l ++ e ∷ []) c.reserve_entry.ensures.journal
 
 -- the lists after it
 heard_lists : (c : After-keep) → AreHeard c.self.inside.heard.count (map (λ v. v.items) c.keep.new.heard.lists)
@@ -56,18 +56,18 @@ heard_lists : (c : After-keep) → AreHeard c.self.inside.heard.count (map (λ v
 heard_lists c =
     let r = c.self.inside in
     let a = c.in_ok-kept.kept in
-    let room = c.make_room.ensures in
+    let room = c.reserve_entry.ensures in
     let hear = λ (owners : List ℕ) (q : ℕ). hears (owns owners q) q c.args.role (undone_by a) in
     recording.heard_as r.names r.session r.owners.items r.heard.count (map (λ v. v.items) r.heard.lists) r.journal.items c.self.invariant c.args.role (known c) (change_in c) a (answered c) (kept c) c.in_default.ensures.few
     c.args.command (is_asked c) (map (λ v. v.items) c.keep.new.heard.lists)
     (length-map c.keep.new.heard.lists (λ v. v.items) ∙ c.keep.ensures.lists)
     (λ others q there.
-    map_each (λ v. v.items) (λ p. p < c.make_room.new.heard.count) (λ p l. with_place (hear c.make_room.new.owners.items p) (length c.make_room.new.journal.items) l)
-    c.make_room.new.heard.lists c.keep.new.heard.lists (c.keep.ensures.lists ∙ sym room.lists)
+    map_each (λ v. v.items) (λ p. p < c.reserve_entry.new.heard.count) (λ p l. with_place (hear c.reserve_entry.new.owners.items p) (length c.reserve_entry.new.journal.items) l)
+    c.reserve_entry.new.heard.lists c.keep.new.heard.lists (c.keep.ensures.lists ∙ sym room.lists)
     (λ p d inside. c.keep.ensures.heard others p d inside) q (subst (λ (n : ℕ). q < n) (sym room.hearers) there)
     (omega (arith, there, room.lists, c.self.invariant.heard.few))
-    ∙ ap (λ (o : List ℕ). with_place (hear o q) (length c.make_room.new.journal.items) (slice_index_or (map (λ v. v.items) c.make_room.new.heard.lists) q [])) room.owners
-    ∙ ap (λ (l : List Entry). with_place (hear r.owners.items q) (length l) (slice_index_or (map (λ v. v.items) c.make_room.new.heard.lists) q [])) room.journal
+    ∙ ap (λ (o : List ℕ). with_place (hear o q) (length c.reserve_entry.new.journal.items) (slice_index_or (map (λ v. v.items) c.reserve_entry.new.heard.lists) q [])) room.owners
+    ∙ ap (λ (l : List Entry). with_place (hear r.owners.items q) (length l) (slice_index_or (map (λ v. v.items) c.reserve_entry.new.heard.lists) q [])) room.journal
     ∙ ap (λ (l : List (List ℕ)). with_place (hear r.owners.items q) (length r.journal.items) (slice_index_or l q [])) room.heard)
     (λ own. ap (λ l. map (λ v. v.items) l) (c.keep.ensures.unheard own) ∙ room.heard)
 
@@ -78,8 +78,8 @@ invariant_of-self-2 c =
     let a = c.in_ok-kept.kept in
     recording.recorded_as r.names r.session r.owners.items r.heard.count (map (λ v. v.items) r.heard.lists) r.journal.items c.self.invariant c.args.role (known l) (change_in l) a (answered l) (kept l) c.in_default.ensures.few c.args.command (is_asked l)
     c.accept.new.self c.keep.new.owners.items c.keep.new.heard.count (map (λ v. v.items) c.keep.new.heard.lists) c.keep.new.journal.items c.in_ok-kept.ensures.types (served l).state
-    (c.keep.ensures.owners ∙ ap (λ (o : List ℕ). owners_after o c.args.role a) c.make_room.ensures.owners)
-    (c.keep.ensures.hearers ∙ c.make_room.ensures.hearers)
+    (c.keep.ensures.owners ∙ ap (λ (o : List ℕ). owners_after o c.args.role a) c.reserve_entry.ensures.owners)
+    (c.keep.ensures.hearers ∙ c.reserve_entry.ensures.hearers)
     (heard_lists l)
     (joined l)
 

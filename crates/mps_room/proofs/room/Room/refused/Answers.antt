@@ -18,12 +18,12 @@ returns-in-Err-clause-refused c =
     ∙ ap (λ (st : State). fault r.session.types st c.args.role command) (sym c.self.invariant.state)
     ∙ told)
 
-pub returns-in-Ok-clause-refused : goal.returns-in-Ok-clause-refused
-returns-in-Ok-clause-refused c =
+pub returns-clause-refused : goal.returns-clause-refused
+returns-clause-refused c =
     let r = c.self.inside in
     let m = c.args.self.now in
     let command = c.args.command.now in
-    let told : fault r.session.types r.session.state c.args.role command ≡ None = sym c.in-Ok.ensures.fault in
+    let told : fault r.session.types r.session.state c.args.role command ≡ None = sym c.in_default.ensures.fault in
     short_reply m.names m.types m.journal c.args.role command c.args.lack c.requires.change c.requires.short
     (λ room. omega (arith, room, ap (λ (k : RoomState). length k.journal) c.self.view_is, c.self.invariant.owners.few, c.self.invariant.owners.next, ap (λ (k : RoomState). (run k.types k.journal).next) c.self.view_is, ap (λ (st : State). st.next) c.self.invariant.state))
     (ap (λ (k : RoomState). fault k.types (run k.types k.journal) c.args.role command) (sym c.self.view_is)

@@ -4,7 +4,7 @@ use Rattle.mps_base.specs.declared.action.Step.{Step}
 use Rattle.mps_arena.specs.Entries.{KeyedStep, entry_at}
 use Rattle.mps_arena.specs.Neighbours.{id_in}
 use Rattle.mps_links.proofs.Present.{next_there}
-use Rattle.mps_session.specs.Private.Answers.{first_number}
+use Rattle.mps_session.specs.Private.FirstNumber.{first_number}
 use Rattle.mps_session.proofs.AfterLastMark as behind
 use Rattle.mps_session.proofs.configuration.Configuration.first_after.Goals as goal
 use Rattle.mps_session.proofs.configuration.Configuration.first_after.Goals.{After-next_of_role}

@@ -10,7 +10,7 @@ use Rattle.mps_arena.specs.Entries.{KeyedStep, steps}
 use Rattle.mps_links.specs.Marks.{marked_keys, marked_steps, unmarked_steps, unmarked}
 use Rattle.mps_links.proofs.Going.{unmarked_left, marked_count, marked_within}
 use Rattle.mps_log.proofs.Remarked.{all_again}
-use Rattle.mps_session.specs.Private.Configurations.{Configuration, lists_of}
+use Rattle.mps_session.specs.Private.Configurations.{Lists, lists_of}
 use Rattle.mps_session.specs.Private.Invariant.{Holds}
 use Rattle.std.proofs.lemmas.List.{length-reverse}
 use Rattle.mps_session.proofs.TypeAt.{length_map}
@@ -44,15 +44,15 @@ all c =
     ∙ ap₂ (λ (ids : List ℕ) (h : List Step). ids ++ reverse (numbers h)) c.in-Ok.ensures.first
     (ap marked_steps c.mark_from-count.ensures.marks ∙ marked_within c.args.self.now.log.entries (consequences (steps c.args.self.now.log.entries) c.args.id))
 
-pub told-requires-clause-space : goal.told-requires-clause-space
-told-requires-clause-space c =
-    let k = (goal.at.told-requires-clause-space c).After-remove_marked in
+pub ids_twice-requires-clause-space : goal.ids_twice-requires-clause-space
+ids_twice-requires-clause-space c =
+    let k = (goal.at.ids_twice-requires-clause-space c).After-remove_marked in
     let gone = within (steps c.args.self.now.log.entries) (consequences (steps c.args.self.now.log.entries) c.args.id) in
     let long = ap (λ (l : List ℕ). length l) (all k) ∙ length-reverse (numbers gone) ∙ length_map (λ (s : Step). s.id) gone in
     IfSome_then c.in-Ok.room c.in-Ok.ensures.room_again (λ more fits. omega (arith, fits, long, c.remove_marked.new.ids.ok.0, c.mark_from-count.ensures.count))
 
 pub returns-in-Ok-clause-numbers : goal.returns-in-Ok-clause-numbers
-returns-in-Ok-clause-numbers c = c.told.ensures.first ∙ all ((goal.at.returns-in-Ok-clause-numbers c).After-remove_marked)
+returns-in-Ok-clause-numbers c = c.ids_twice.ensures.first ∙ all ((goal.at.returns-in-Ok-clause-numbers c).After-remove_marked)
 
 pub returns-in-Ok-clause-history : goal.returns-in-Ok-clause-history
 returns-in-Ok-clause-history c =
@@ -71,9 +71,9 @@ entries c =
     c.unmark.ensures.entries ∙ ap (map unmarked) c.mark_from-count.ensures.marks
     ∙ rolling.unmarked_again c.args.self.now.log.entries (consequences (steps c.args.self.now.log.entries) c.args.id) c.requires.unmarked
 
-same : (c : After-unmark) → ◌≡◌ {A = Configuration} (record { cursors = c.args.self.now.cursors.items; entries = c.unmark.new.self.entries; issued = c.unmark.new.self.issued }) (lists_of c.args.self.now)
+same : (c : After-unmark) → ◌≡◌ {A = Lists} (record { cursors = c.args.self.now.cursors.items; entries = c.unmark.new.self.entries; issued = c.unmark.new.self.issued }) (lists_of c.args.self.now)
 same c =
-    ap₂ (λ (l : List KeyedStep) (i : ℕ). let d : Configuration = record { cursors = c.args.self.now.cursors.items; entries = l; issued = i } in d) (entries c) (c.unmark.ensures.issued ∙ c.mark_from-count.ensures.issued)
+    ap₂ (λ (l : List KeyedStep) (i : ℕ). let d : Lists = record { cursors = c.args.self.now.cursors.items; entries = l; issued = i } in d) (entries c) (c.unmark.ensures.issued ∙ c.mark_from-count.ensures.issued)
 
 pub returns-in-Err-clause-unmarked : goal.returns-in-Err-clause-unmarked
 returns-in-Err-clause-unmarked c = ap marked_keys (entries ((goal.at.returns-in-Err-clause-unmarked c).After-unmark)) ∙ c.requires.unmarked

@@ -3,15 +3,15 @@ use mathlib.Core.Path.{ap₂}
 use Rattle.mps_history.specs.Dependence.{consequences}
 use Rattle.mps_arena.specs.Entries.{KeyedStep, steps}
 use Rattle.mps_links.specs.Marks.{unmarked}
-use Rattle.mps_session.specs.Private.Configurations.{Configuration, lists_of}
+use Rattle.mps_session.specs.Private.Configurations.{Lists, lists_of}
 use Rattle.mps_session.proofs.RemoveMarked as rolling
 use Rattle.mps_session.proofs.configuration.Configuration.unless_final.Goals as goal
 use Rattle.mps_session.proofs.configuration.Configuration.unless_final.Goals.{After-unmark}
 
 -- the marks that were put on are taken off
-same : (c : After-unmark) → ◌≡◌ {A = Configuration} (record { cursors = c.args.self.now.cursors.items; entries = c.unmark.new.self.entries; issued = c.unmark.new.self.issued }) (lists_of c.args.self.now)
+same : (c : After-unmark) → ◌≡◌ {A = Lists} (record { cursors = c.args.self.now.cursors.items; entries = c.unmark.new.self.entries; issued = c.unmark.new.self.issued }) (lists_of c.args.self.now)
 same c =
-    ap₂ (λ (l : List KeyedStep) (i : ℕ). let d : Configuration = record { cursors = c.args.self.now.cursors.items; entries = l; issued = i } in d)
+    ap₂ (λ (l : List KeyedStep) (i : ℕ). let d : Lists = record { cursors = c.args.self.now.cursors.items; entries = l; issued = i } in d)
     (c.unmark.ensures.entries ∙ ap (map unmarked) c.mark_from.ensures.marks
     ∙ rolling.unmarked_again c.args.self.now.log.entries (consequences (steps c.args.self.now.log.entries) c.args.id) c.requires.unmarked)
     (c.unmark.ensures.issued ∙ c.mark_from.ensures.issued)

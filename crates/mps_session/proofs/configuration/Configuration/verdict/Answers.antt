@@ -19,7 +19,7 @@ returns-clause-follows c =
     let cursor = c.index-cursor.result.now in
     let at = c.index-cursor.ensures ∙ ap (λ (k : ℕ). get_or all k cursor) c.index.ensures.place in
     let here = cursor_at all c.args.role cursor (omega (arith, c.requires.role, c.args.self.now.cursors.ok.0)) at in
-    let m = moved_in (lists_of c.args.self.now) c.args.role (act_of c.args.command.now) in
-    let follows = subst (λ (x : Option Message). IfOk c.next_node.result (λ next. (t u : LocalType) → StandsFor cursor.table cursor.node t → type_after (unfolded t) (act_of c.args.command.now) x ≡ Some u → StandsFor cursor.table next u)) c.requires.first c.next_node.ensures.follows in
-    subst (λ (p : Cursor). IfOk c.next_node.result (λ next. (before after : Participant) → StandsFor p.table p.node before.to_come → participant_after before (act_of c.args.command.now) m ≡ Some after → StandsFor p.table next after.to_come)) (sym here)
-    (follows_all cursor.table cursor.node m c.next_node.result c.args.command.now c.next_node.ensures.idle follows)
+    let m = moved_in (lists_of c.args.self.now) c.args.role (act_of c.args.step.now) in
+    let follows = subst (λ (x : Option Message). IfOk c.next_node.result (λ next. (t u : LocalType) → StandsFor cursor.table cursor.node t → type_after (unfolded t) (act_of c.args.step.now) x ≡ Some u → StandsFor cursor.table next u)) c.requires.first c.next_node.ensures.follows in
+    subst (λ (p : Cursor). IfOk c.next_node.result (λ next. (before after : Participant) → StandsFor p.table p.node before.to_come → participant_after before (act_of c.args.step.now) m ≡ Some after → StandsFor p.table next after.to_come)) (sym here)
+    (follows_all cursor.table cursor.node m c.next_node.result c.args.step.now c.next_node.ensures.idle follows)

@@ -9,7 +9,7 @@ use Rattle.mps_machine.specs.Rule.{replay}
 use Rattle.mps_arena.specs.Entries.{steps}
 use Rattle.mps_session.specs.Private.Configurations.{lists_of, state_of}
 use Rattle.mps_session.specs.SessionState.{SessionState, session_view}
-use Rattle.mps_session.specs.NumberSets.{told}
+use Rattle.mps_session.specs.NumberSets.{is_among}
 use Rattle.mps_session.proofs.AfterLastMark.{first_there}
 use Rattle.mps_session.proofs.RemoveMarked.{leads_back, members_there}
 use Rattle.mps_session.proofs.NumbersOfSet.{within_none, within_told}
@@ -42,8 +42,8 @@ returns-in-Some-Some-clause-back c =
     let h = steps s.configuration.log.entries in
     let left = steps c.roll_back.new.self.log.entries in
     let id = c.in-Some-Some.id in
-    both c.roll_back.result (λ ids. ids.0 ≡ reverse (numbers (within h (consequences h id)))) (λ ids. replay (machine.view_of types left) (within c.args.self.now.state.history (told ids.0)) ≡ Some (session_view c.args.self.now)) (left ≡ without h (consequences h id))
-    (λ ids went stay. subst (λ (m : SessionState). replay (machine.view_of types left) (within m.state.history (told ids.0)) ≡ Some (session_view m)) c.self.view_is
+    both c.roll_back.result (λ ids. ids.0 ≡ reverse (numbers (within h (consequences h id)))) (λ ids. replay (machine.view_of types left) (within c.args.self.now.state.history (is_among ids.0)) ≡ Some (session_view c.args.self.now)) (left ≡ without h (consequences h id))
+    (λ ids went stay. subst (λ (m : SessionState). replay (machine.view_of types left) (within m.state.history (is_among ids.0)) ≡ Some (session_view m)) c.self.view_is
     (ap (λ (l : List Step). replay (machine.view_of types left) l) (within_told h (consequences h id) ids.0 went)
     ∙ leads_back types (state_of (lists_of s.configuration)) left id c.self.invariant.holds.sound stay))
     c.roll_back.ensures.numbers c.roll_back.ensures.history

@@ -17,19 +17,19 @@ allowed-requires-clause-stands c =
 pub returns-in_err-node-clause-served : goal.returns-in_err-node-clause-served
 returns-in_err-node-clause-served c =
     let s = c.self.inside in
-    forwarding.refused_by (map plain s.types.items) (lists_of s.configuration) c.self.invariant.holds c.args.self.now c.self.view_is c.args.role c.requires.role c.args.command.now
+    forwarding.refused_by (map plain s.types.items) (lists_of s.configuration) c.self.invariant.holds c.args.self.now c.self.view_is c.args.role c.requires.role c.args.step.now
     c.from_residual.result _ c.from_residual.ensures.1 c.in_err-node.ensures.barred c.args.self.now.state refl
 
 pub act-requires-clause-ready : goal.act-requires-clause-ready
 act-requires-clause-ready c =
     let s = c.self.inside in
-    serving.ready (map plain s.types.items) (lists_of s.configuration) c.self.invariant.holds c.args.self.now c.self.view_is c.args.role c.requires.role (act_of c.args.command.now) c.in_ok-node.ensures.allowed
+    serving.ready (map plain s.types.items) (lists_of s.configuration) c.self.invariant.holds c.args.self.now c.self.view_is c.args.role c.requires.role (act_of c.args.step.now) c.in_ok-node.ensures.allowed
 
 pub returns-in_err-id-clause-served : goal.returns-in_err-id-clause-served
 returns-in_err-id-clause-served c =
     let s = c.self.inside in
     let types = map plain s.types.items in
-    forwarding.starved types (lists_of s.configuration) c.self.invariant.holds c.args.self.now c.self.view_is c.args.role c.requires.role c.args.command.now c.in_ok-node.ensures.allowed c.in_ok-node.ensures.room
+    forwarding.starved types (lists_of s.configuration) c.self.invariant.holds c.args.self.now c.self.view_is c.args.role c.requires.role c.args.step.now c.in_ok-node.ensures.allowed c.in_ok-node.ensures.numbers
     c.from_residual-in_err-id.result c.from_residual-in_err-id.ensures.1 _ (ap state_of c.in_err-id.ensures.err ∙ ap (λ (m : SessionState). m.state) c.self.view_is)
 
 pub invariant_of-self-2 : goal.invariant_of-self-2
@@ -37,7 +37,7 @@ invariant_of-self-2 c =
     let s = c.self.inside in
     let acted = c.in_ok-id.ensures.acted in
     record {
-      holds = forwarding.holds_then (map plain s.types.items) (lists_of s.configuration) c.self.invariant.holds c.args.self.now c.self.view_is c.args.role c.requires.role c.args.command.now c.in_ok-node.ensures.allowed c.in_ok-node.ensures.room
+      holds = forwarding.holds_then (map plain s.types.items) (lists_of s.configuration) c.self.invariant.holds c.args.self.now c.self.view_is c.args.role c.requires.role c.args.step.now c.in_ok-node.ensures.allowed c.in_ok-node.ensures.numbers
           c.in_ok-node.node c.in_ok-node.ensures.follows (lists_of c.act.new.self) acted;
       unmarked = ap marked_keys acted.joined.entries ∙ push_unmarked s.configuration.log.entries _ refl c.self.invariant.unmarked;
     }
@@ -45,5 +45,5 @@ invariant_of-self-2 c =
 pub returns-clause-served : goal.returns-clause-served
 returns-clause-served c =
     let s = c.self.inside in
-    forwarding.done (map plain s.types.items) (lists_of s.configuration) c.self.invariant.holds c.args.self.now c.self.view_is c.args.role c.requires.role c.args.command.now c.in_ok-node.ensures.allowed c.in_ok-node.ensures.room
-    c.in_ok-node.node c.in_ok-node.ensures.follows (lists_of c.act.new.self) c.in_ok-id.ensures.acted c.in_ok-id.id None c.told.result.0 c.told.ensures.first c.in_ok-id.ensures.id (forwarding.none_taken c.args.command.now _ c.requires.takes)
+    forwarding.done (map plain s.types.items) (lists_of s.configuration) c.self.invariant.holds c.args.self.now c.self.view_is c.args.role c.requires.role c.args.step.now c.in_ok-node.ensures.allowed c.in_ok-node.ensures.numbers
+    c.in_ok-node.node c.in_ok-node.ensures.follows (lists_of c.act.new.self) c.in_ok-id.ensures.acted c.in_ok-id.id None c.done_twice.result.0 c.done_twice.ensures.first c.in_ok-id.ensures.id (forwarding.none_taken c.args.step.now _ c.requires.takes)

@@ -17,18 +17,18 @@ returns-in_err-done-clause-never_mismatch c own =
     let refusal = c.in_err-done.field-0.0 in
     let sound = subst (λ (k : SessionState). IsSound k.types k.state) c.self.view_is c.self.invariant.holds.sound in
     passed_on _ refusal (λ (r : Result Done Refusal). r ≢ Err (Violates Mismatch)) c.from_residual.ensures.1
-    (λ e. let is : refusal ≡ Violates Mismatch = cc in no_mismatch m.types m.state c.args.role c.args.command refusal sound c.in_err-done.ensures.served.answer own is)
+    (λ e. let is : refusal ≡ Violates Mismatch = cc in no_mismatch m.types m.state c.args.role c.args.step refusal sound c.in_err-done.ensures.served.answer own is)
 
 pub returns-clause-undone : goal.returns-clause-undone
 returns-clause-undone c other =
     let m = c.args.self.now in
     let sound = subst (λ (k : SessionState). IsSound k.types k.state) c.self.view_is c.self.invariant.holds.sound in
     let served = c.in_ok-done.ensures.served in
-    newest_undone m.types m.state c.accept_forward.new.self.state c.args.role (act_of c.args.command) c.in_ok-done.done sound served.answer served.state other
+    newest_undone m.types m.state c.accept_forward.new.self.state c.args.role (act_of c.args.step) c.in_ok-done.done sound served.answer served.state other
 
 pub returns-clause-stays : goal.returns-clause-stays
 returns-clause-stays c commit =
     let m = c.args.self.now in
     let sound = subst (λ (k : SessionState). IsSound k.types k.state) c.self.view_is c.self.invariant.holds.sound in
     let served = c.in_ok-done.ensures.served in
-    stays_final m.types m.state c.accept_forward.new.self.state c.args.role (act_of c.args.command) c.in_ok-done.done sound served.answer served.state commit
+    stays_final m.types m.state c.accept_forward.new.self.state c.args.role (act_of c.args.step) c.in_ok-done.done sound served.answer served.state commit

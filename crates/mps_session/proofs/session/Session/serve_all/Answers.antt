@@ -36,9 +36,9 @@ pub returns-in_err-answers-clause-returned : goal.returns-in_err-answers-clause-
 returns-in_err-answers-clause-returned c = returns_to_marks c.args.self.now.types c.args.self.now.state (sound ((goal.at.returns-in_err-answers-clause-returned c).After-drop-requests))
 
 -- the request is served as the machine serves it
-served : (c : After-push_reserved) → IsChanged c.args.self.now.types c.in-Some.role c.in-Some.command (result_of c.serve.result) c.loop-role.self.state c.serve.new.self.state
+served : (c : After-push_reserved) → IsChanged c.args.self.now.types c.in-Some.role c.in-Some.change (result_of c.serve.result) c.loop-role.self.state c.serve.new.self.state
 served c =
-    subst (λ (types : List LocalType). IsChanged types c.in-Some.role c.in-Some.command (result_of c.serve.result) c.loop-role.self.state c.serve.new.self.state) c.loop-role.invariant.1 c.serve.ensures.served
+    subst (λ (types : List LocalType). IsChanged types c.in-Some.role c.in-Some.change (result_of c.serve.result) c.loop-role.self.state c.serve.new.self.state) c.loop-role.invariant.1 c.serve.ensures.served
 
 pub loop-role-preserved : goal.loop-role-preserved
 loop-role-preserved c =
@@ -47,14 +47,14 @@ loop-role-preserved c =
     let start = c.args.self.now.state in
     let st = c.loop-role.self.state in
     let next = c.serve.new.self.state in
-    let r : Request = (c.in-Some.role, c.in-Some.command) in
+    let r : Request = (c.in-Some.role, c.in-Some.change) in
     let this = served ((goal.at.loop-role-preserved c).After-push_reserved) in
     let left = c.in-Some.ensures.steps.0 in (
       held.0 ∙ ap (λ (l : List Request). c.loop-role.yielded ++ l) left ∙ sym (append_assoc c.loop-role.yielded (r ∷ []) (into_iter_items c.next.new.self)),
       c.serve.ensures.types ∙ held.1,
       subst (λ (l : List Answer). AreServed types (c.loop-role.yielded ++ r ∷ []) l start next) (sym {A = List Answer} c.push_reserved.ensures.items)
           (one_more types c.loop-role.yielded c.loop-role.answers.items start st next r c.serve.result held.2 this),
-      still_sound types c.in-Some.role c.in-Some.command (result_of c.serve.result) st next held.3 (serve_sound types st r.0 r.1 held.3) this,
+      still_sound types c.in-Some.role c.in-Some.change (result_of c.serve.result) st next held.3 (serve_sound types st r.0 r.1 held.3) this,
       omega (arith, held.4, ap (λ (l : List Request). length l) left, c.push_reserved.ensures.len, c.push_reserved.ensures.capacity),
     )
 

@@ -2,7 +2,7 @@ use Rattle.std.proofs.Common.{◌≡◌, ℕ, Bool, true, ◌==◌, List, [], �
 use Rattle.std.proofs.lemmas.Bool.Decides.{Decides-eqb}
 use Rattle.std.proofs.lemmas.Result.{on_ok_weaker}
 use Rattle.mps_lines.specs.Lines.{front}
-use Rattle.mps_wire.specs.Script.{lines_of}
+use Rattle.mps_wire.specs.Private.Places.{lines_of}
 use Rattle.mps_wire.proofs.Answering.{to_front}
 use Rattle.mps_wire.proofs.script.ScriptRun.end_line.Goals as goal
 

@@ -3,7 +3,7 @@ use Rattle.std.proofs.lemmas.Result.{on_ok_weaker}
 use Rattle.mps_room.specs.declared.entry.Entry.{Entry}
 use Rattle.mps_wire.specs.Answers.{Answering}
 use Rattle.mps_lines.specs.Lines.{most_kept, front}
-use Rattle.mps_wire.specs.Script.{lines_of, place_of_run}
+use Rattle.mps_wire.specs.Private.Places.{lines_of, place_of_run}
 use Rattle.mps_wire.proofs.Answering.{by_front}
 use Rattle.mps_wire.proofs.Carrying.{carried}
 use Rattle.mps_wire.proofs.Feeding.{feeding_begins, feeds_on, feeding_ends}

@@ -1,6 +1,6 @@
 use Rattle.std.proofs.Common.{◌≡◌, ◌≤◌, [], length}
 use Rattle.mps_lines.specs.Lines.{most_kept}
-use Rattle.mps_wire.specs.Script.{lines_of, place_of_run}
+use Rattle.mps_wire.specs.Private.Places.{lines_of, place_of_run}
 use Rattle.mps_wire.proofs.Feeding.{Feeding}
 use Rattle.mps_wire.proofs.script.ScriptRun.feed.Given as goal
 

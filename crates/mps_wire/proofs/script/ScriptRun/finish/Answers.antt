@@ -1,7 +1,7 @@
 use Rattle.std.proofs.Common.{◌≡◌, ℕ, Bool, false, ◌==◌, List, [], length}
 use Rattle.std.proofs.lemmas.Result.{on_ok_weaker}
 use Rattle.mps_lines.specs.Lines.{ended}
-use Rattle.mps_wire.specs.Script.{lines_of}
+use Rattle.mps_wire.specs.Private.Places.{lines_of}
 use Rattle.mps_wire.proofs.Answering.{all_with_rest, by_front}
 use Rattle.mps_wire.proofs.script.ScriptRun.finish.Goals as goal
 

@@ -1,6 +1,6 @@
 use Rattle.std.proofs.Common.{◌≡◌, length}
 use Rattle.mps_wire.proofs.Bytes.{Sending}
-use Rattle.mps_wire.proofs.flow.send_all.Given as goal
+use Rattle.mps_wire.proofs.sending.send_all.Given as goal
 
 abbrev pub invariant-loop-rest : goal.invariant-loop-rest
 invariant-loop-rest g l = record {

@@ -1,19 +1,19 @@
 use Rattle.std.proofs.Common.{◌∙◌}
 use Rattle.mps_wire.proofs.Calling.{unwritten_line, cut_line, sent_line}
 use Rattle.mps_wire.proofs.Conversing.{on_err_of}
-use Rattle.mps_wire.proofs.conversation.answer_line.Goals as goal
+use Rattle.mps_wire.proofs.conversation.send_reply.Goals as goal
 
-pub returns-in_err-reply_to_line-clause-err : goal.returns-in_err-reply_to_line-clause-err
-returns-in_err-reply_to_line-clause-err g c =
-    let t = c.in_err-reply_to_line.ensures in
+pub returns-in_err-make_reply-clause-err : goal.returns-in_err-make_reply-clause-err
+returns-in_err-make_reply-clause-err g c =
+    let t = c.in_err-make_reply.ensures in
     on_err_of _ _ (unwritten_line g.C.Caller _ _ _ t.0 t.1 _)
 
 pub returns-in-Ok-clause-ok : goal.returns-in-Ok-clause-ok
 returns-in-Ok-clause-ok g c =
-    let t = c.in_ok-reply_to_line.ensures in
+    let t = c.in_ok-make_reply.ensures in
     sent_line g.C.Caller _ _ _ t.0 t.1 _ _ _ (c.as_slice.ensures.value ∙ t.2) c.in-Ok.ensures.sent
 
 pub returns-in-Err-clause-err : goal.returns-in-Err-clause-err
 returns-in-Err-clause-err g c =
-    let t = c.in_ok-reply_to_line.ensures in
+    let t = c.in_ok-make_reply.ensures in
     cut_line g.C.Caller _ _ _ t.0 t.1 _ _ _ (c.as_slice.ensures.value ∙ t.2) c.in-Err.ensures.front

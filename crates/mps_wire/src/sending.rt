@@ -1,7 +1,7 @@
 //! Bytes to a sink.
 ghost use Rattle.std.specs.Prelude.{◌≡◌, ◌+◌, ◌<◌, ◌≤◌, ◌^◌, ℕ, OnOk, OnErr};
 ghost use Rattle.std.specs.Io.KnownBytes.{Appends};
-ghost use Rattle.mps_wire.specs.Flow.{TookFront};
+ghost use Rattle.mps_wire.specs.Sending.{TookFront};
 
 use mps_dev::{Failed, Sink};
 

@@ -8,7 +8,7 @@ use Rattle.mps_line.specs.Commands.{SpellsNumbered}
 use Rattle.mps_line.specs.declared.write_replies.Reply.TheVariants.{Answered, BadLine}
 use Rattle.mps_wire.specs.Talk.{Unread, Called, Numbered, Starved}
 use Rattle.mps_wire.proofs.Calling.{request}
-use Rattle.mps_wire.proofs.conversation.reply_to_line.Goals as goal
+use Rattle.mps_wire.proofs.conversation.make_reply.Goals as goal
 
 pub returns-then-line-gt-MAX_LINE : goal.returns-then-line-gt-MAX_LINE
 returns-then-line-gt-MAX_LINE g c =

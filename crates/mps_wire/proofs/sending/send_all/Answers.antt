@@ -1,6 +1,6 @@
 use Rattle.std.proofs.Common.{◌∙◌}
 use Rattle.mps_wire.proofs.Bytes.{sends_on}
-use Rattle.mps_wire.proofs.flow.send_all.Goals as goal
+use Rattle.mps_wire.proofs.sending.send_all.Goals as goal
 
 pub loop-rest-preserved : goal.loop-rest-preserved
 loop-rest-preserved g c = record {

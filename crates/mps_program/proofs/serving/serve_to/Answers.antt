@@ -2,7 +2,7 @@ use Rattle.std.proofs.Common.{length, ◌∙◌}
 use Rattle.mps_program.specs.Served.{IsOutFault}
 use Rattle.mps_program.proofs.Causes.{told}
 use Rattle.mps_program.proofs.Telling.{on_ok, served, served_in_part, hub_lost, hub_out, hub_writes, none_lost}
-use Rattle.mps_program.proofs.serving.serve_out.Goals as goal
+use Rattle.mps_program.proofs.serving.serve_to.Goals as goal
 
 pub returns-in_err-serve_hub-clause-fault : goal.returns-in_err-serve_hub-clause-fault
 returns-in_err-serve_hub-clause-fault g c =

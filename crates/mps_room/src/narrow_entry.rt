@@ -6,7 +6,7 @@ ghost use Rattle.mps_command.specs.declared.command.Command.TheVariants as comma
 ghost use Rattle.mps_command.specs.declared.command.Forward.TheVariants as steps;
 ghost use Rattle.mps_room.specs.Callers.{entry};
 ghost use Rattle.mps_room.specs.Journal.{undone_by};
-ghost use Rattle.mps_room.specs.Private.Kept.{answer_in, command_in, entry_in, role_in, step_done, Fits, TakesSuch};
+ghost use Rattle.mps_room.specs.Private.Forms.{answer_in, command_in, entry_in, role_in, step_done, Fits, TakesSuch};
 
 use crate::entry::Entry;
 use crate::narrow_name::NarrowName;
@@ -19,13 +19,13 @@ use std::slice;
 /// An entry in 64 bytes, where an `Entry` takes 144. A journal is mostly written, so an entry is made only for whoever
 /// asks for it.
 #[derive(Debug, Drop)]
-pub(crate) struct Kept {
+pub(crate) struct NarrowEntry {
     form: Form,
 }
 
 // An accepted command with its answer: what it was decides what there is to keep. What takes a byte stands first, then a
-// name, and then the number of the new step or those of the steps that were taken back, so that no gaps are left. A receipt
-// of a text is the longest.
+// name, then the number of the new step, then what begins at a multiple of 8. So the longest, the receipt of a text, has no
+// gap.
 #[derive(Debug, Drop)]
 enum Form {
     Sent {
@@ -98,23 +98,23 @@ struct Pair {
     peer: u8,
 }
 
-const _: () = prove!(size_of::<Kept>() == 64);
+const _: () = prove!(size_of::<NarrowEntry>() == 64);
 
-impl Model for Kept {
+impl Model for NarrowEntry {
     ghost use Rattle.mps_room.specs.declared.entry.Entry.{Entry};
 
     ghost Value = { Entry };
 
-    ghost use Rattle.mps_room.specs.Private.Kept.{entry_in};
+    ghost use Rattle.mps_room.specs.Private.Forms.{entry_in};
 
-    ghost view = { λ k. entry_in k.form };
+    ghost view = { λ e. entry_in e.form };
 }
 
-impl Kept {
+impl NarrowEntry {
     /// Puts the entry of a command and its answer at the end of a journal. It does not allocate. Each form is written where
     /// it stays, since a form that came from one of several places would be moved in many small pieces.
     #[inline(always)]
-    pub(crate) fn push(journal: &mut Vec<Kept>, role: Role, command: Command, answer: Answer)
+    pub(crate) fn push(journal: &mut Vec<NarrowEntry>, role: Role, command: Command, answer: Answer)
         requires fits { Fits command answer }
         requires place { vec_len journal.old + 1 ≤ vec_capacity journal.old }
         ensures { journal.new.items ≡ journal.old.items ++ entry role command answer ∷ [] }
@@ -164,16 +164,16 @@ impl Kept {
 
 // Puts a form at the end of a journal.
 #[inline(always)]
-fn put(journal: &mut Vec<Kept>, form: Form)
+fn put(journal: &mut Vec<NarrowEntry>, form: Form)
     requires { vec_len journal.old + 1 ≤ vec_capacity journal.old }
     ensures { journal.new.items ≡ journal.old.items ++ entry_in form ∷ [] }
 {
-    journal.push_reserved(Kept { form });
+    journal.push_reserved(NarrowEntry { form });
 }
 
 // Puts a step that was taken, and its answer.
 #[inline(always)]
-fn push_step(journal: &mut Vec<Kept>, role: Role, step: Forward, done: Done)
+fn push_step(journal: &mut Vec<NarrowEntry>, role: Role, step: Forward, done: Done)
     requires such { TakesSuch step done.got }
     requires small { done.id < 2 ^ 32 }
     requires place { vec_len journal.old + 1 ≤ vec_capacity journal.old }
@@ -215,7 +215,7 @@ fn push_step(journal: &mut Vec<Kept>, role: Role, step: Forward, done: Done)
 
 // Puts a receipt of a value.
 #[inline(always)]
-fn push_receipt(journal: &mut Vec<Kept>, pair: Pair, slot: &Name, id: u32, value: Value)
+fn push_receipt(journal: &mut Vec<NarrowEntry>, pair: Pair, slot: &Name, id: u32, value: Value)
     requires { vec_len journal.old + 1 ≤ vec_capacity journal.old }
     ensures { journal.new.items ≡ journal.old.items
         ++ entry pair.role (commands.Forward (steps.Receive pair.peer slot.now)) (step_done id (Some (messages.Value value))) ∷ [] }
@@ -255,12 +255,12 @@ fn push_receipt(journal: &mut Vec<Kept>, pair: Pair, slot: &Name, id: u32, value
 // Puts a return to a mark. A session returns its numbers as a vector; one number alone has a form too, since their type
 // allows it.
 #[inline(always)]
-fn push_return(journal: &mut Vec<Kept>, role: u8, mark: &Name, ids: StepIds)
+fn push_return(journal: &mut Vec<NarrowEntry>, role: u8, mark: &Name, ids: StepIds)
     requires { vec_len journal.old + 1 ≤ vec_capacity journal.old }
     ensures { journal.new.items ≡ journal.old.items ++ entry role (commands.Back mark.now) (answers.Undone ids) ∷ [] }
 {
     let mark = NarrowName::of(mark);
-    match ids.into_vec() {
+    match ids.try_into_vec() {
         Ok(ids) => put(journal, Form::WentBack { role, mark, ids }),
         Err(id) => put(journal, Form::WentBackByOne { role, mark, id }),
     }

@@ -6,9 +6,10 @@ use Rattle.mps_machine.specs.Machine.{State}
 use Rattle.mps_room.specs.Journal.{run}
 use Rattle.mps_room.specs.declared.entry.Entry.{Entry}
 use Rattle.mps_session.specs.SessionState.{SessionState}
-use Rattle.mps_program.specs.Compared.{CantCompare, CantFollow, HasCompared, HasFollowed, unheard}
+use Rattle.mps_program.specs.Compared.{CantCompare, HasCompared, unheard}
+use Rattle.mps_program.specs.Private.Compared.{CantFollow, HasFollowed}
 use Rattle.mps_program.proofs.Comparing.{cant_follow, followed}
-use Rattle.mps_program.proofs.comparison.same_out.Goals as goal
+use Rattle.mps_program.proofs.comparison.verdict_of.Goals as goal
 
 -- a session as a journal leaves it
 left_as : (session : SessionState) (types : List LocalType) (journal : List Entry) → session.types ≡ types → session.state ≡ run types journal → session ≡ record { types = types; state = run types journal }

@@ -1,4 +1,4 @@
--- What a device was given or gave.
+-- What a sink took of what it was given.
 use Rattle.std.specs.Prelude.{ℕ, List, take, Option}
 use Rattle.std.specs.Io.KnownBytes.{Appends}
 

@@ -1,4 +1,4 @@
--- How an entry is kept.
+-- The forms in which entries are kept.
 use Rattle.std.specs.Prelude.{◌≡◌, ℕ, ◌<◌, ◌^◌, ⊤, [], ◌∷◌, Option, Some, None}
 use Rattle.mps_base.specs.declared.action.Message.{Message}
 use Rattle.mps_base.specs.declared.action.Message.TheVariants.{Value as Plain, Label}
@@ -10,8 +10,8 @@ use Rattle.mps_command.specs.declared.command.Command.TheVariants as commands
 use Rattle.mps_command.specs.declared.command.Forward.{Forward}
 use Rattle.mps_command.specs.declared.command.Forward.TheVariants as steps
 use Rattle.mps_room.specs.declared.entry.Entry.{Entry}
-use Rattle.mps_room.specs.declared.kept.Form.{Form}
-use Rattle.mps_room.specs.declared.kept.Form.TheVariants.{Sent, Chose, ReceivedInt, ReceivedBool, ReceivedText, Picked, Marked, Committed, Undone, RolledBack, WentBackByOne, WentBack}
+use Rattle.mps_room.specs.declared.narrow_entry.Form.{Form}
+use Rattle.mps_room.specs.declared.narrow_entry.Form.TheVariants.{Sent, Chose, ReceivedInt, ReceivedBool, ReceivedText, Picked, Marked, Committed, Undone, RolledBack, WentBackByOne, WentBack}
 
 -- whose entry it is
 abbrev pub role_in : Form → ℕ

@@ -1,14 +1,17 @@
-//! Marks on the steps of a log.
-ghost use Rattle.std.specs.Prelude.{◌≡◌, [], map, length, IsSome};
+//! Steps that are marked, to be taken back together.
+ghost use Rattle.std.specs.Prelude.{◌≡◌, [], None, map, length, IsSome, IfSome};
 ghost use Rattle.mps_history.specs.Steps.{step_of, within};
 ghost use Rattle.mps_history.specs.Dependence.{consequences, least};
 ghost use Rattle.mps_history.specs.Commits.{commits_from};
+ghost use Rattle.mps_arena.specs.Keys.{last_key};
 ghost use Rattle.mps_arena.specs.Entries.{steps, AreSound};
+ghost use Rattle.mps_arena.specs.Neighbours.{CanGo};
 ghost use Rattle.mps_links.specs.Marks.{marked_keys, AreMarksClosed, marked_by, unmarked, marked_commits};
 
 use crate::log::Log;
+use mps_arena::Key;
 use mps_base::StepId;
-use mps_links::{least_final, mark_from, unmark};
+use mps_links::{least_final, mark_from, newest_marked, unmark};
 
 impl Log {
     /// Marks the step of that number and all that depend on it, and tells how many they are.
@@ -27,14 +30,27 @@ impl Log {
         mark_from(&mut self.arena, id)
     }
 
+    /// The newest marked step, where each step that depends on a marked one is marked. So nothing depends on it, and it
+    /// may be removed.
+    #[inline(always)]
+    pub fn newest_marked(&self) -> Option<Key>
+        requires closed { AreMarksClosed self.now.entries }
+        ensures newest { result ≡ last_key None (marked_keys self.now.entries) }
+        ensures none { result ≡ None → marked_keys self.now.entries ≡ [] }
+        ensures free { IfSome result (λ key. CanGo self.now.entries key) }
+        ensures sound { AreSound self.now.entries }
+    {
+        newest_marked(&self.arena)
+    }
+
     /// The least number of a marked commit, where each step that depends on a marked one is marked. It does not allocate.
-    /// Where no commit has ever joined it looks at no step, which is not proved.
+    /// Unproved: where no commit has ever joined it looks at no step.
     #[inline(always)]
     pub fn least_final(&self) -> Option<StepId>
         requires closed { AreMarksClosed self.now.entries }
         ensures least { result ≡ least (marked_commits self.now.entries) }
     {
-        if !self.has_commits {
+        if !self.had_commit {
             return None;
         }
         least_final(&self.arena)
