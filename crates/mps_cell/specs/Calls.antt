@@ -1,5 +1,5 @@
 -- What a pass knows, and what a call tells it.
-use Rattle.std.specs.Prelude.{◌≡◌, ℕ, ◌<◌, ◌≤◌, Bool, true, false, List, [], ◌∷◌, ◌++◌, length, MatchBool, if◌then◌else◌, Option, None}
+use Rattle.std.specs.Prelude.{◌≡◌, ℕ, ◌≤◌, Bool, true, false, List, [], ◌∷◌, ◌++◌, length, MatchBool, if◌then◌else◌, Option, None}
 use Rattle.atomic_table.specs.Seated.{TableId}
 use Rattle.mps_command.specs.declared.answer.Answer.{Answer}
 use Rattle.mps_command.specs.declared.command.Command.{Command}

@@ -1,5 +1,5 @@
 //! The passes that are not in use, which one thread at a time has.
-ghost use Rattle.std.specs.Prelude.{◌≡◌, ◌≢◌, ◌<◌, ◌≤◌, ◌↔◌, ℕ, Some, None, IfOk, IfSome, IsErrOf, All, length, slice_get};
+ghost use Rattle.std.specs.Prelude.{◌≡◌, ◌≢◌, ◌<◌, ◌↔◌, Some, None, IfOk, IfSome, IsErrOf, All, length};
 ghost use Rattle.mps_hub.specs.Places.{IsOfCell, IsOfSession, IsOffered, IsPassOf, IsSession, Offer};
 ghost use Rattle.mps_hub.specs.Private.Places.{AreNumbered, AtHome};
 

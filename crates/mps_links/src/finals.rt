@@ -51,9 +51,7 @@ pub fn least_final(arena: &Arena) -> Option<StepId>
     requires closed { AreMarksClosed arena.now.entries }
     ensures least { result ≡ least (marked_commits arena.now.entries) }
 {
-    if arena.len() == 0 {
-        return None;
-    }
+    steps_are_sound(arena);
     let mut first = None;
     for role in 0..8 {
         let own = first_final_of(arena, Role::new(role));

@@ -69,9 +69,7 @@ pub fn newest_marked(arena: &Arena) -> Option<Key>
     ensures none { result ≡ None → marked_keys arena.now.entries ≡ [] }
     ensures free { IfSome result (λ key. CanGo arena.now.entries key) }
 {
-    if arena.len() == 0 {
-        return None;
-    }
+    steps_are_sound(arena);
     let mut newest = None;
     for role in 0..8 {
         newest = later(newest, newest_marked_of(arena, Role::new(role)));
@@ -112,9 +110,7 @@ pub fn unmark(arena: &mut Arena)
     ensures ready { arena.new.is_ready ≡ arena.old.is_ready }
     ensures key { arena.new.next_key ≡ arena.old.next_key }
 {
-    if arena.len() == 0 {
-        return;
-    }
+    steps_are_sound(arena);
     for role in 0..8 {
         unmark_role(arena, Role::new(role));
     }

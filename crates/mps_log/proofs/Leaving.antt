@@ -1,7 +1,7 @@
--- A step that may go, what stands last with it, and an act that moves no message.
-use Rattle.std.proofs.Common.{◌≡◌, ℕ, Bool, true, List, Option, Some, None, refl, sym, ap, ◌∙◌, subst, ⊎_elim}
-use Rattle.std.specs.Prelude.{IsSomeAnd}
-use Rattle.std.specs.List.{AllByRecursion}
+-- A step that may go, what stands last with it, and what stays where it moves or binds nothing.
+use Rattle.std.proofs.Common.{◌≡◌, ℕ, Bool, true, not, List, Option, Some, None, refl, sym, ap, ◌∙◌, subst, ⊎_elim}
+use Rattle.std.specs.Prelude.{◌==◌, IsSomeAnd}
+use Rattle.std.specs.List.{AllByRecursion, filter}
 use Rattle.std.specs.Option.{option_map}
 use Rattle.mps_base.specs.declared.action.Act.{Act}
 use Rattle.mps_base.specs.declared.action.Act.TheVariants.{Out, In}
@@ -14,6 +14,10 @@ use Rattle.mps_arena.specs.Neighbours.{CanGo, IsFree}
 use Rattle.mps_arena.proofs.Chains.{entry_key}
 use Rattle.mps_arena.proofs.Keeping.{entry_split, all_at}
 use Rattle.mps_arena.proofs.Nodes.{cases_entry, last_of_chain}
+use Rattle.mps_queues.specs.Fronts.{AreFronts}
+use Rattle.mps_queues.proofs.Moves.{idle_goes}
+use Rattle.mps_stores.specs.Stores.{Keys, Naming, AreStores}
+use Rattle.mps_stores.proofs.Bindings.{stores_idle_without}
 
 pub record Leaves (es : List KeyedStep) (k : ℕ) (s : Step) : Type 0 where
   pub entry : KeyedStep
@@ -52,6 +56,26 @@ leaves es k s sound can is =
     } in
     r)
     (cases_entry (entry_at k es))
+
+module _ (es : List KeyedStep) (k : ℕ) (s : Step) (l : Leaves es k s) (sound : AreSound es) where
+  here : entry_at l.entry.key es ≡ Some l.entry
+  here = subst (λ (j : ℕ). entry_at j es ≡ Some l.entry) (sym l.key) l.found
+
+  -- where the step moves no message, the queues stay
+  pub idle_queues : (queues : List (Option ℕ)) → effect s.act ≡ Idle → AreFronts es queues → AreFronts (filter (λ (e : KeyedStep). not (e.key == k)) es) queues
+  idle_queues queues idle fronts =
+      subst (λ (j : ℕ). AreFronts (filter (λ (e : KeyedStep). not (e.key == j)) es) queues) l.key
+      (idle_goes l.entry (ap (λ (t : Step). effect t.act) l.step ∙ idle) es queues sound here fronts)
+
+  -- where the step binds no name, the stores stay
+  pub idle_stores : (naming : Naming) (stores : List Keys) → naming s.act ≡ None → AreStores naming es stores → AreStores naming (filter (λ (e : KeyedStep). not (e.key == k)) es) stores
+  idle_stores naming stores none bound =
+      subst (λ (j : ℕ). AreStores naming (filter (λ (e : KeyedStep). not (e.key == j)) es) stores) l.key
+      (stores_idle_without naming es l.entry stores bound sound here (ap (λ (t : Step). naming t.act) l.step ∙ none))
+
+  -- what the step binds
+  pub bound : (naming : Naming) (name : Option (List ℕ)) → name ≡ naming s.act → option_map (λ (e : KeyedStep). naming e.step.act) (entry_at k es) ≡ Some name
+  bound naming name named = ap (option_map (λ (e : KeyedStep). naming e.step.act)) l.found ∙ ap Some (ap (λ (t : Step). naming t.act) l.step ∙ sym named)
 
 -- an act that is no send and no receipt
 pub neither : (a : Act) → ((to : ℕ) (m : Message) → a ≡ Out to m → ⊥) → ((from : ℕ) (slot : Option (List ℕ)) → a ≡ In from slot → ⊥) → effect a ≡ Idle

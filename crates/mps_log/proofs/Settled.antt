@@ -1,8 +1,7 @@
 -- Logs without commits.
-use Rattle.std.proofs.Common.{◌≡◌, Bool, true, false, List, [], ◌∷◌, ◌++◌, refl, sym, ap, ◌∙◌, ⊎_elim}
+use Rattle.std.proofs.Common.{◌≡◌, Bool, true, false, List, [], ◌∷◌, ◌++◌, refl, ap, ◌∙◌, ⊎_elim}
 use Rattle.std.specs.List.{filter}
 use Rattle.std.proofs.lemmas.Bool.{cases_Bool, cond-false}
-use Rattle.mps_base.specs.declared.action.Step.{Step}
 use Rattle.mps_history.specs.Commits.{is_commit}
 use Rattle.mps_history.specs.Steps.{numbers}
 use Rattle.mps_arena.specs.Entries.{KeyedStep}

@@ -46,21 +46,6 @@ impl Model for Log {
     ghost invariant = { IsLog };
 }
 
-// The queues without the step of the key: a send's message leaves them, a receipt's comes back to the front.
-fn give_back(queues: &mut Queues, arena: &Arena, key: Key)
-    requires can { CanGo arena.now.entries key }
-    requires sound { AreSound arena.now.entries }
-    requires fronts { AreFronts arena.now.entries queues.old }
-    ensures { AreFronts (filter (λ e. not (e.key == key)) arena.now.entries) queues.new }
-{
-    let step = arena.get(key);
-    match &step.act {
-        Act::Out { to, .. } => queues.drop_last(arena, step.role, *to),
-        Act::In { from, .. } => queues.put_back(arena, *from, step.role),
-        _ => {}
-    }
-}
-
 // The stores without the step of the key, which binds that name, or none: the name gets back what it was bound to.
 fn unbind(stores: &mut Stores, arena: &Arena, key: Key, name: Option<&Name>)
     requires can { CanGo arena.now.entries key }
@@ -74,23 +59,27 @@ fn unbind(stores: &mut Stores, arena: &Arena, key: Key, name: Option<&Name>)
     }
 }
 
-// The slot into which the act receives a value.
-fn slot_in(act: &Act) -> Option<&Name>
-    ensures { option_copied result ≡ slot_of act.now }
+// The queues and the stores without the step of the key: a send's message leaves its queue, a receipt's comes back to the
+// front, and the slot or the name that the step binds gets back what it was bound to.
+fn give_back(queues: &mut Queues, slots: &mut Stores, marks: &mut Stores, arena: &Arena, key: Key)
+    requires can { CanGo arena.now.entries key }
+    requires sound { AreSound arena.now.entries }
+    requires fronts { AreFronts arena.now.entries queues.old }
+    requires slots { AreStores slot_of arena.now.entries slots.old }
+    requires marks { AreStores mark_of arena.now.entries marks.old }
+    ensures fronts { AreFronts (filter (λ e. not (e.key == key)) arena.now.entries) queues.new }
+    ensures slots { AreStores slot_of (filter (λ e. not (e.key == key)) arena.now.entries) slots.new }
+    ensures marks { AreStores mark_of (filter (λ e. not (e.key == key)) arena.now.entries) marks.new }
 {
-    match act {
-        Act::In { slot, .. } => slot.as_ref(),
-        _ => None,
-    }
-}
-
-// The name that the act marks.
-fn mark_in(act: &Act) -> Option<&Name>
-    ensures { option_copied result ≡ mark_of act.now }
-{
-    match act {
-        Act::Mark(name) => Some(name),
-        _ => None,
+    let step = arena.get(key);
+    match &step.act {
+        Act::Out { to, .. } => queues.drop_last(arena, step.role, *to),
+        Act::In { from, slot } => {
+            queues.put_back(arena, *from, step.role);
+            unbind(slots, arena, key, slot.as_ref());
+        }
+        Act::Mark(name) => unbind(marks, arena, key, Some(name)),
+        Act::Commit => {}
     }
 }
 
@@ -327,10 +316,13 @@ impl Log {
         ensures issued { self.new.issued ≡ self.old.issued }
         ensures sound { AreSound self.new.entries }
     {
-        give_back(&mut self.queues, &self.arena, key);
-        let act = &self.arena.get(key).act;
-        unbind(&mut self.slots, &self.arena, key, slot_in(act));
-        unbind(&mut self.marks, &self.arena, key, mark_in(act));
+        give_back(
+            &mut self.queues,
+            &mut self.slots,
+            &mut self.marks,
+            &self.arena,
+            key,
+        );
         self.arena.remove(key)
     }
 }

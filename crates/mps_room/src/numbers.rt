@@ -1,5 +1,5 @@
 //! Numbers of commands, by which a caller that lost an answer asks again.
-ghost use Rattle.std.specs.Prelude.{◌≡◌, ◌+◌, Some};
+ghost use Rattle.std.specs.Prelude.{◌≡◌, Some};
 ghost use Rattle.std.specs.Option.{option_map};
 ghost use Rattle.mps_room.specs.Numbers.{last_of, kept_of, IsPlaced};
 

@@ -1,5 +1,5 @@
 -- The message that a receipt or a pick takes is the first that waits from its peer.
-use Rattle.std.proofs.Common.{◌≡◌, ℕ, Option, Some, None, sym, ap, ◌∙◌}
+use Rattle.std.proofs.Common.{◌≡◌, ℕ, Option, Some, ap, ◌∙◌}
 use Rattle.std.specs.Prelude.{slice_get}
 use Rattle.mps_base.specs.declared.action.Message.{Message}
 use Rattle.mps_command.specs.Acts.{act_of}

@@ -1,8 +1,7 @@
 //! What a session keeps of its roles and its steps, and how an act changes it.
-ghost use Rattle.std.specs.Prelude.{◌≡◌, ◌+◌, ◌<◌, true, false, Some, None, vec_len, slice_set, IfOk, OnOk, OnErr, IfErr};
+ghost use Rattle.std.specs.Prelude.{◌≡◌, ◌+◌, ◌<◌, Some, None, vec_len, slice_set, IfOk, OnOk, OnErr, IfErr};
 ghost use Rattle.std.specs.Bool.{then_some};
 ghost use Rattle.std.specs.Option.{option_copied};
-ghost use Rattle.mps_base.specs.declared.action.Act.TheVariants.{Out, In, Mark, Commit};
 ghost use Rattle.mps_command.specs.Acts.{act_of};
 ghost use Rattle.mps_local.specs.Local.{LocalType};
 ghost use Rattle.mps_machine.specs.Machine.{most_numbers, taken};
@@ -13,7 +12,7 @@ ghost use Rattle.mps_session.specs.Private.Cursors.{went};
 
 use crate::cursor::Cursor;
 use crate::session::MAX_NUMBERS;
-use mps_base::{Message, Name, Role, StepId};
+use mps_base::{Message, Role, StepId};
 use mps_command::{Forward, Refusal, Violation};
 use mps_log::Log;
 use mps_monitor::next_node;

@@ -1,5 +1,5 @@
 //! Which types a session can be opened with.
-ghost use Rattle.std.specs.Prelude.{◌≡◌, ◌↔◌, ◌≤◌, IsTrue, IfSome, IfNone, IfOk, length, map, List, [], replicate, vec_len};
+ghost use Rattle.std.specs.Prelude.{◌≡◌, ◌↔◌, ◌≤◌, IsTrue, IfSome, IfNone, IfOk, length, map, vec_len};
 ghost use Rattle.mps_local.specs.Local.{plain, plain_branches};
 ghost use Rattle.mps_local.specs.Shape.{AllBranchPeers, IsOtherRole};
 ghost use Rattle.mps_session.specs.Private.Configurations.{lists_of};
@@ -68,8 +68,8 @@ fn have_peers(n: usize, role: usize, branches: &Branches) -> bool
     }
 }
 
-/// The least role whose type names itself or no role of the session. Types without a fault are at
-/// most 64 levels deep, and so is the recursion.
+/// The least role whose type names itself or no role of the session. Types without a fault have at
+/// most 256 nodes, and the recursion is no deeper.
 pub(crate) fn first_bad_peer(types: &[Local]) -> Option<Role>
     requires few { length types.now ≤ 8 }
     requires faultless { AreFaultless (map plain types.now) }

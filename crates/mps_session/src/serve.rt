@@ -5,7 +5,7 @@ ghost use Rattle.mps_machine.specs.Answering.{IsChanged, result_of};
 
 use crate::session::Session;
 use mps_base::Role;
-use mps_command::{Answer, Change, Command, Refusal};
+use mps_command::{Answer, Change, Command};
 
 // The command that asks for the change.
 fn command_of(change: Change) -> Command

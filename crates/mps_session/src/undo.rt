@@ -1,10 +1,9 @@
 //! Steps undone.
-ghost use Rattle.std.specs.Prelude.{◌≡◌, ◌==◌, Ok, Err, ◌+◌, ◌<◌, Some, None, length, vec_len, slice_set, IfOk, IfErr, IfSome, OnOk, OnErr};
+ghost use Rattle.std.specs.Prelude.{◌≡◌, ◌==◌, Ok, Err, ◌<◌, Some, None, length, vec_len, IfOk, IfErr, IfSome, OnOk, OnErr};
 ghost use Rattle.std.specs.Bool.{then_some};
 ghost use Rattle.std.specs.List.{find};
 ghost use Rattle.std.specs.Option.{option_map};
 ghost use Rattle.mps_base.specs.declared.action.Step.{Step};
-ghost use Rattle.mps_command.specs.Acts.{act_of};
 ghost use Rattle.mps_history.specs.Commits.{is_commit};
 ghost use Rattle.mps_history.specs.Steps.{step_of};
 ghost use Rattle.mps_machine.specs.Machine as machine;
@@ -14,15 +13,14 @@ ghost use Rattle.mps_machine.specs.Rule.{rule};
 ghost use Rattle.mps_arena.specs.Entries.{steps, entry_at, AreSound};
 ghost use Rattle.mps_arena.specs.Neighbours.{CanGo};
 ghost use Rattle.mps_session.specs.Answers.{once, undo_answer};
-ghost use Rattle.mps_session.specs.Private.Configurations.{lists_of, state_of, cursor_of};
-ghost use Rattle.mps_session.specs.Private.Cursors.{went};
+ghost use Rattle.mps_session.specs.Private.Configurations.{lists_of, state_of};
 ghost use Rattle.mps_session.specs.Private.Leaving.{HasLeft};
 ghost use Rattle.mps_session.specs.SessionState.{session_view};
 
 use crate::configuration::Configuration;
 use crate::session::Session;
 use mps_base::{Act, Role, StepId};
-use mps_command::{Done, Forward, Refusal, StepIds};
+use mps_command::{Refusal, StepIds};
 use mps_log::Key;
 use mps_table::Node;
 

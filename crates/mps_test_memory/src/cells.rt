@@ -119,8 +119,15 @@ pub fn has_two_meet(alloc: Global, until: Until) -> Option<Outcome> {
     let mut cell = cell(alloc)?;
     let deal = cell.deal()?;
     let mut all = cell.passes_of(deal).ok()?;
-    let mut second = last(&cell, &mut all)?;
-    let mut first = last(&cell, &mut all)?;
+    two_meet(&cell, &mut all, until)
+}
+
+// Has the last two of these passes of the cell meet.
+fn two_meet<'a>(cell: &'a Cell, all: &mut Vec<Pass<'a>>, until: Until) -> Option<Outcome>
+    requires { All (λ p. p.cell ≡ cell.now.cell) all.old.items }
+{
+    let mut second = last(cell, all)?;
+    let mut first = last(cell, all)?;
     if until == Until::Before {
         return Some(Outcome::Reached);
     }

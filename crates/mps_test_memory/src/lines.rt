@@ -197,7 +197,18 @@ fn attends_at<R: Wait + 'static>(
     if until == Until::After {
         return Some(Outcome::Reached);
     }
-    match (writer.bytes(), ended) {
+    told(rt, alloc, desk, writer.bytes(), ended)
+}
+
+// What the connection was told, and how it ended.
+fn told<R: Wait + 'static>(
+    rt: &R,
+    alloc: Global,
+    desk: &Desk<'_>,
+    bytes: &[u8],
+    ended: Attended,
+) -> Option<Outcome> {
+    match (bytes, ended) {
         (b"joined 1 a\ndone 1\n", Attended::Conversed(Ending::Closed)) => {
             answered(is_back(rt, alloc, desk, true)?)
         }

@@ -251,20 +251,47 @@ pub fn names(alloc: Global) -> Option<Roles> {
 
 /// Asks a session for the command of the row.
 pub fn session_asked(alloc: Global, row: &Row<'_>, until: Until) -> Option<Outcome> {
-    let (mut first, mut second) = (Alone::new(alloc)?, Alone::new(alloc)?);
-    compared(alloc, &names(alloc)?, row, until, &mut first, &mut second)
+    let mut first = Alone::new(alloc)?;
+    session_asked_beside(alloc, &mut first, row, until)
+}
+
+// The same beside a second session.
+fn session_asked_beside(
+    alloc: Global,
+    first: &mut Alone,
+    row: &Row<'_>,
+    until: Until,
+) -> Option<Outcome> {
+    let mut second = Alone::new(alloc)?;
+    compared(alloc, &names(alloc)?, row, until, first, &mut second)
 }
 
 /// Asks a room for the command of the row.
 pub fn room_asked(alloc: Global, row: &Row<'_>, until: Until) -> Option<Outcome> {
-    let (mut first, mut second) = (Roomed::new(alloc)?, Roomed::new(alloc)?);
-    compared(alloc, &names(alloc)?, row, until, &mut first, &mut second)
+    let mut first = Roomed::new(alloc)?;
+    room_asked_beside(alloc, &mut first, row, until)
+}
+
+// The same beside a second room.
+fn room_asked_beside(
+    alloc: Global,
+    first: &mut Roomed,
+    row: &Row<'_>,
+    until: Until,
+) -> Option<Outcome> {
+    let mut second = Roomed::new(alloc)?;
+    compared(alloc, &names(alloc)?, row, until, first, &mut second)
 }
 
 /// Asks a room for the entry of a receipt of a text.
 pub fn gives_an_entry(alloc: Global, until: Until) -> Option<Outcome> {
     let mut party = Roomed::new(alloc)?;
-    if !are_done(alloc, &names(alloc)?, &mut party, HEARD) {
+    entry_given(alloc, &mut party, until)
+}
+
+// Asks for the entry once the lines before it are done.
+fn entry_given(alloc: Global, party: &mut Roomed, until: Until) -> Option<Outcome> {
+    if !are_done(alloc, &names(alloc)?, party, HEARD) {
         return None;
     }
     if until == Until::Before {

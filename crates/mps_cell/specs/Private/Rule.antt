@@ -5,7 +5,7 @@ use Rattle.atomic_table.specs.Table.{Me}
 use Rattle.mps_room.specs.RoomState.{RoomState}
 use Rattle.mps_room.specs.declared.entry.Entry.{Entry}
 use Rattle.mps_cell.specs.Openings.{room_of, IsLegalIn}
-use Rattle.mps_cell.specs.Views.{Part, View, part_of, raised, showing, took}
+use Rattle.mps_cell.specs.Views.{Part, View, part_of, raised, showing}
 use Rattle.mps_cell.specs.Rule.{Shows, journal_in, resting}
 
 -- a seat with one part, which has the room

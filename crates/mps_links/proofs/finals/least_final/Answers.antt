@@ -21,7 +21,7 @@ loop-role-init c =
 pub with_number-requires : goal.with_number-requires
 with_number-requires c =
     let es = c.args.arena.now.entries in
-    first_there es c.len.ensures.sound (λ s. s.role == c.new.result && is_final es s) c.first_final_of-own.result c.first_final_of-own.ensures
+    first_there es c.steps_are_sound.ensures (λ s. s.role == c.new.result && is_final es s) c.first_final_of-own.result c.first_final_of-own.ensures
 
 pub loop-role-preserved : goal.loop-role-preserved
 loop-role-preserved c =
@@ -31,12 +31,12 @@ loop-role-preserved c =
     let both = c.earlier-first.ensures es c.loop-role.invariant.1 c.with_number.ensures.number in (
       both.0
           ∙ ap (earlier es (key_of c.loop-role.first)) own
-          ∙ next_role es c.len.ensures.sound (key_of c.loop-role.first) c.loop-role.role c.loop-role.invariant.0,
+          ∙ next_role es c.steps_are_sound.ensures (key_of c.loop-role.first) c.loop-role.role c.loop-role.invariant.0,
       both.1,
     )
 
 found : (c : After-branch-first) → option_map (λ n. n.id) c.loop-role.first ≡ least (marked_commits c.args.arena.now.entries)
-found c = least_number c.args.arena.now.entries c.len.ensures.sound c.loop-role.first c.loop-role.role (omega arith) c.loop-role.invariant.0 c.loop-role.invariant.1
+found c = least_number c.args.arena.now.entries c.steps_are_sound.ensures c.loop-role.first c.loop-role.role (omega arith) c.loop-role.invariant.0 c.loop-role.invariant.1
 
 pub returns-in_err-first : goal.returns-in_err-first
 returns-in_err-first c =

@@ -25,7 +25,7 @@ loop-role-preserved c =
     let both = c.later-newest.ensures es c.loop-role.invariant.1 c.newest_marked_of.ensures.number in (
       both.0
           ∙ ap (later es (key_of c.loop-role.newest)) own
-          ∙ next_role es c.len.ensures.sound c.requires.closed (key_of c.loop-role.newest) c.loop-role.role c.loop-role.invariant.0,
+          ∙ next_role es c.steps_are_sound.ensures c.requires.closed (key_of c.loop-role.newest) c.loop-role.role c.loop-role.invariant.0,
       both.1,
     )
 
@@ -36,13 +36,13 @@ returns-clause-newest c =
     c.key_of.ensures
     ∙ c.loop-role.invariant.0
     ∙ ap (λ (r : ℕ). last_key None (keys_of (λ s. nat_lt s.role r && is_marked es s.id) es)) end
-    ∙ all_roles es c.len.ensures.sound c.requires.closed
+    ∙ all_roles es c.steps_are_sound.ensures c.requires.closed
 
 pub returns-clause-free : goal.returns-clause-free
 returns-clause-free c =
     let es = c.args.arena.now.entries in
     if_some (CanGo es) c.key_of.result
-    (λ k e. newest_can_go es c.len.ensures.sound c.requires.closed k (sym (returns-clause-newest c) ∙ e))
+    (λ k e. newest_can_go es c.steps_are_sound.ensures c.requires.closed k (sym (returns-clause-newest c) ∙ e))
 
 pub returns-clause-none : goal.returns-clause-none
 returns-clause-none c none = nothing_last (marked_keys c.args.arena.now.entries) (sym (returns-clause-newest c) ∙ none)

@@ -11,7 +11,7 @@ loop-role-init c = record { entries = sym (below_none c.args.arena.now.entries);
 pub unmark_role-requires-clause-last : goal.unmark_role-requires-clause-last
 unmark_role-requires-clause-last c =
     let es = c.args.arena.now.entries in
-    rw (c.new.ensures, c.loop-role.invariant.entries) (last_marked_below es c.len.ensures.sound c.requires.closed c.loop-role.role)
+    rw (c.new.ensures, c.loop-role.invariant.entries) (last_marked_below es c.steps_are_sound.ensures c.requires.closed c.loop-role.role)
 
 pub loop-role-preserved : goal.loop-role-preserved
 loop-role-preserved c =
@@ -32,7 +32,7 @@ pub returns-clause-entries : goal.returns-clause-entries
 returns-clause-entries c =
     let es = c.args.arena.now.entries in
     let end : c.loop-role.role ≡ 8 = omega arith in
-    c.loop-role.invariant.entries ∙ ap (λ (r : ℕ). map (unmarked_below r) es) end ∙ below_all es c.len.ensures.sound.small
+    c.loop-role.invariant.entries ∙ ap (λ (r : ℕ). map (unmarked_below r) es) end ∙ below_all es c.steps_are_sound.ensures.small
 
 pub returns-clause-none : goal.returns-clause-none
 returns-clause-none c = ap marked_keys (returns-clause-entries c) ∙ none_unmarked c.args.arena.now.entries

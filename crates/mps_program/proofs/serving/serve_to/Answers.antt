@@ -1,7 +1,7 @@
 use Rattle.std.proofs.Common.{length, ◌∙◌}
 use Rattle.mps_program.specs.Served.{IsOutFault}
 use Rattle.mps_program.proofs.Causes.{told}
-use Rattle.mps_program.proofs.Telling.{on_ok, served, served_in_part, hub_lost, hub_out, hub_writes, none_lost}
+use Rattle.mps_program.proofs.Telling.{on_ok, served, served_in_part, hub_out, hub_writes}
 use Rattle.mps_program.proofs.serving.serve_to.Goals as goal
 
 pub returns-in_err-serve_hub-clause-fault : goal.returns-in_err-serve_hub-clause-fault
