@@ -158,11 +158,6 @@ pub fn opens_a_protocol(alloc: Global, until: Until) -> Option<Outcome> {
 /// Asks a session whether it would accept a rollback that a commit stands in the way of.
 pub fn asks_whether(alloc: Global, until: Until) -> Option<Outcome> {
     let (_, mut session) = opened(alloc)?;
-    rollback_of_a_commit(&mut session, until)
-}
-
-// Asks the session, once its first step is a commit.
-fn rollback_of_a_commit(session: &mut Session, until: Until) -> Option<Outcome> {
     let first = StepId::new(1);
     let id = session.forward(Role::new(0), Forward::Commit).ok()?.id;
     if until == Until::Before {
