@@ -13,7 +13,7 @@ pub struct Held<'r, 'a, R: Wait> {
 }
 
 impl<'r, 'a, R: Wait> Caller for Held<'r, 'a, R> {
-    ghost use Rattle.std.proofs.Common.{ap};
+    ghost use Rattle.std.proofs.Common.{ap, true};
     ghost use Rattle.mps_room.specs.Numbers.{last_of, kept_of};
     ghost use Rattle.mps_cell.specs.Openings.{Opening};
     ghost use Rattle.mps_cell.specs.Calls.{Calls, calls_grow};
@@ -29,6 +29,8 @@ impl<'r, 'a, R: Wait> Caller for Held<'r, 'a, R> {
     ghost last = { λ h. last_of h.pass.newest };
 
     ghost kept = { λ h. kept_of h.pass.newest };
+
+    ghost may_tell = { λ _. true };
 
     fn roles(&self) -> &Roles {
         self.pass.names()
@@ -59,6 +61,10 @@ impl<'r, 'a, R: Wait> Caller for Held<'r, 'a, R> {
                 Told::Fresh
             }
         }
+    }
+
+    fn may_tell(&self) -> bool {
+        true
     }
 
     ghost same_names = { λ h c a k t. ap (λ (o : Opening). o.names) t.pass.opening };

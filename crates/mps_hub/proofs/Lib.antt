@@ -4,3 +4,6 @@ pub mod Locking
 pub mod Joining
 pub mod Cells
 pub mod Crossing
+pub mod Telling
+pub mod Seating
+pub mod Serving

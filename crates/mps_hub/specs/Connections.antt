@@ -1,5 +1,5 @@
 -- What a connection comes to.
-use Rattle.std.specs.Prelude.{◌≡◌, ◌≢◌, ℕ, ◌+◌, ◌⊎◌, List, All, length}
+use Rattle.std.specs.Prelude.{◌≡◌, ◌≢◌, ℕ, ◌+◌, ◌⊎◌, ⊤, List, All, length}
 use Rattle.std.specs.Io.KnownBytes.{Appends}
 use Rattle.mps_cell.specs.Calls.{Known}
 use Rattle.mps_dev.specs.declared.traits.Sink.{Ghosts as SinkGhosts}
@@ -15,10 +15,11 @@ use Rattle.mps_wire.specs.Sending.{TookFront}
 use Rattle.mps_wire.specs.Streams.{streams}
 use Rattle.mps_wire.specs.Talk.{talks, talks_to_part}
 use Rattle.mps_wire.specs.declared.conversation.Ending.{Ending}
+use Rattle.mps_wire.specs.declared.conversation.Ending.TheVariants.{Untold}
 use Rattle.mps_hub.specs.First.{HasNoFirstLine, IsFirstLine, IsJoin}
 use Rattle.mps_hub.specs.Places.{IsOffered, IsPassOf, IsSession, Offer}
 use Rattle.mps_hub.specs.declared.attending.Attended.{Attended}
-use Rattle.mps_hub.specs.declared.attending.Attended.TheVariants.{NoLine, TurnedAway, Conversed, Memory}
+use Rattle.mps_hub.specs.declared.attending.Attended.TheVariants.{NoLine, TurnedAway, Conversed, Memory, Unkept}
 
 -- the reply to a first line: that it is none, why it gets no pass, or that it joined
 abbrev pub RepliesToFirst : Offer → List ℕ → Reply → Type 0
@@ -85,3 +86,10 @@ module _ {C R W : Type 0} (caller : Ghosts C) (pass : C → Known) (source : Sou
   HasAttended TurnedAway = WasTurnedAway
   HasAttended (Conversed ending) = HasConversed ending
   HasAttended Memory = writer' ≡ writer
+  HasAttended Unkept = writer' ≡ writer
+
+-- it did not end for want of lines that are kept
+abbrev pub IsTold : Attended → Type 0
+IsTold Unkept = ⊥
+IsTold (Conversed Untold) = ⊥
+IsTold attended = ⊤

@@ -3,3 +3,5 @@ pub mod Places
 pub mod Halls
 pub mod Connections
 pub mod Private
+pub mod Serving
+pub mod Restoring

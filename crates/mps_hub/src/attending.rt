@@ -1,10 +1,11 @@
 //! One connection, over any reader and writer.
-ghost use Rattle.std.specs.Prelude.{◌≡◌, ◌≢◌, ◌<◌, ◌^◌, ℕ, List, OnOk, IfOk, IfErr, Err};
+ghost use Rattle.std.specs.Prelude.{◌≡◌, ◌≢◌, ◌<◌, ◌^◌, ℕ, List, OnOk, IfOk, IfErr, Err, None, true, false, length};
 ghost use Rattle.mps_line.specs.Codes.{code_of};
 ghost use Rattle.mps_line.specs.Replies.{SpellsReply};
 ghost use Rattle.mps_lines.specs.Lines.{ended};
-ghost use Rattle.mps_wire.specs.declared.conversation.Broken.TheVariants.{Memory as NoMemory, Write as NotWritten};
-ghost use Rattle.mps_hub.specs.Connections.{HasAttended, RepliesToFirst, WasCutShort, WasSent};
+ghost use Rattle.mps_wire.specs.declared.conversation.Broken.TheVariants.{Memory as NoMemory, Write as NotWritten, Untold as NeverSaid};
+ghost use Rattle.mps_hub.specs.Connections.{HasAttended, IsTold, RepliesToFirst, WasCutShort, WasSent};
+ghost use Rattle.mps_keeper.specs.Holds.{keeps_of, whole_of};
 ghost use Rattle.mps_hub.specs.Private.Connections.{HasJoined, IsAnsweredFirst};
 ghost use Rattle.mps_hub.specs.First.{IsJoin};
 ghost use Rattle.mps_hub.specs.Places.{IsPassOf};
@@ -15,6 +16,7 @@ use crate::gates::{Gate, Gated};
 use mps_base::Name;
 use mps_cell::{Held, Pass};
 use mps_dev::{Failed, Sink, Source};
+use mps_keeper::{Disk, Hold, Keeper, LONGEST_LINE, Recorded};
 use mps_line::Reply;
 use mps_room::Caller;
 use mps_wire::conversation::Broken;
@@ -34,6 +36,8 @@ pub enum Attended {
     Conversed(Ending),
     /// Memory ran out before its first line was answered.
     Memory,
+    /// What its role was shown before is not kept, so its first line wasn't answered.
+    Unkept,
 }
 
 // The text of the reply, with its LF.
@@ -53,6 +57,7 @@ fn send<W: Sink>(alloc: Global, writer: &mut W, reply: &Reply) -> Result<(), Bro
     ensures sent { OnOk result (WasSent W.Sink writer.old writer.new reply.now) }
     ensures cut { result ≡ Err NotWritten → WasCutShort W.Sink writer.old writer.new reply.now }
     ensures memory { result ≡ Err NoMemory → writer.new ≡ writer.old }
+    ensures only { result ≢ Err NeverSaid }
 {
     let text = text_of(alloc, reply)?;
     match send_all(writer, text.as_slice()) {
@@ -70,6 +75,7 @@ fn refuse<W: Sink>(alloc: Global, writer: &mut W, reply: &Reply) -> Attended
     match send(alloc, writer, reply) {
         Ok(()) => Attended::TurnedAway,
         Err(Broken::Write) => Attended::TurnedAway,
+        Err(Broken::Untold) => unreachable!(),
         Err(Broken::Memory) => Attended::Memory,
     }
 }
@@ -104,24 +110,62 @@ fn admit<'a, H: Wait>(rt: &H, desk: &Desk<'a>, kept: &[u8]) -> Result<Admitted<'
     }
 }
 
+// The keeper of the session of that number, where there is one.
+fn keeper_of<S: Sink, D>(keepers: &[Keeper<S, D>], session: u64) -> Option<&Keeper<S, D>>
+    ensures { length keepers.now ≡ 0 → result ≡ None }
+{
+    keepers.get((session as usize).checked_sub(1)?)
+}
+
+// Room for the lines that are kept.
+fn line_room<S: Sink, D>(alloc: Global, keepers: &[Keeper<S, D>]) -> Result<Vec<u8>, AllocError> {
+    if keepers.is_empty() {
+        Ok(Vec::new(alloc))
+    } else {
+        Vec::with_capacity(alloc, LONGEST_LINE)
+    }
+}
+
+/// A role's pass in a connection: each command that comes passes the gate, and where it is accepted it is kept.
+pub type Guest<'k, 'g, 'r, 'a, G, H, S, D> = Recorded<
+    Hold<'k, H, S, D>,
+    Gated<'g, G, Held<'r, 'a, H>>,
+>;
+
 // Says that it joined, and converses. The pass stays one of its cell.
-fn talk<'g, 'r, 'a, G: Gate + 'static, H: Wait + 'static, R: Source, W: Sink>(
+fn talk<
+    'k,
+    'g,
+    'r,
+    'a,
+    G: Gate + 'static,
+    H: Wait + 'static,
+    S: Sink + 'static,
+    D: Disk + 'static,
+    R: Source,
+    W: Sink,
+>(
     alloc: Global,
-    caller: &mut Gated<'g, G, Held<'r, 'a, H>>,
+    caller: &mut Guest<'k, 'g, 'r, 'a, G, H, S, D>,
     joined: &Reply,
     reader: &mut R,
     writer: &mut W,
 ) -> Attended
     requires reads { R.calls reader.old < 2 ^ 62 }
     requires writes { W.failed_calls writer.old < 2 ^ 61 }
-    ensures cell { caller.new.inner.pass.cell ≡ caller.old.inner.pass.cell }
-    ensures opening { caller.new.inner.pass.opening ≡ caller.old.inner.pass.opening }
-    ensures talked { HasJoined ⟦<Gated<'static, G, Held<'static, 'static, H>> as Caller>⟧ R.Source W.Sink joined.now
+    ensures cell { caller.new.inner.inner.pass.cell ≡ caller.old.inner.inner.pass.cell }
+    ensures opening { caller.new.inner.inner.pass.opening ≡ caller.old.inner.inner.pass.opening }
+    ensures talked { HasJoined ⟦<Guest<'static, 'static, 'static, 'static, G, H, S, D> as Caller>⟧ R.Source W.Sink joined.now
         caller.old reader.old writer.old caller.new reader.new writer.new result }
+    ensures told { keeps_of caller.old.keeper ≡ false → whole_of caller.old.keeper ≡ true → IsTold result }
 {
+    if !caller.may_tell() {
+        return Attended::Unkept;
+    }
     match send(alloc, writer, joined) {
         Ok(()) => Attended::Conversed(converse(alloc, caller, reader, writer)),
         Err(Broken::Write) => Attended::TurnedAway,
+        Err(Broken::Untold) => unreachable!(),
         Err(Broken::Memory) => Attended::Memory,
     }
 }
@@ -130,42 +174,57 @@ fn talk<'g, 'r, 'a, G: Gate + 'static, H: Wait + 'static, R: Source, W: Sink>(
 /// then, however the conversation ended.
 ///
 /// The first line is `join SESSION ROLE`, of 512 bytes at most. The gate runs before each command; `connection` is the
-/// number that it is told. Where memory runs out over the first line, nothing is answered.
-pub fn attend<H: Wait + 'static, G: Gate + 'static, R: Source, W: Sink>(
+/// number that it is told. What the commands of session K change is kept by the K-th of the keepers, where there is one,
+/// and nothing is answered that isn't kept. Where memory runs out over the first line, nothing is answered.
+pub fn attend<
+    H: Wait + 'static,
+    G: Gate + 'static,
+    S: Sink + 'static,
+    D: Disk + 'static,
+    R: Source,
+    W: Sink,
+>(
     rt: &H,
     alloc: Global,
     desk: &Desk<'_>,
     gate: &G,
+    keepers: &[Keeper<S, D>],
     connection: u64,
     reader: &mut R,
     writer: &mut W,
 ) -> Attended
     requires reads { R.calls reader.old < 2 ^ 61 }
     requires writes { W.failed_calls writer.old < 2 ^ 61 }
-    ensures attended { HasAttended ⟦<Gated<'static, G, Held<'static, 'static, H>> as Caller>⟧ (λ c. c.inner.pass)
+    ensures attended { HasAttended ⟦<Guest<'static, 'static, 'static, 'static, G, H, S, D> as Caller>⟧ (λ c. c.inner.inner.pass)
         R.Source W.Sink desk.now reader.old writer.old reader.new writer.new result }
+    ensures told { length keepers.now ≡ 0 → IsTold result }
 {
-    let line = match first_line(alloc, reader) {
-        Ok(Some(line)) => line,
+    let Ok(line) = line_room(alloc, keepers) else {
+        return Attended::Memory;
+    };
+    let first = match first_line(alloc, reader) {
+        Ok(Some(first)) => first,
         Ok(None) => return Attended::NoLine,
         Err(_) => return Attended::Memory,
     };
-    match admit(rt, desk, line.as_slice()) {
+    match admit(rt, desk, first.as_slice()) {
         Ok(admitted) => {
             let Admitted {
                 session,
                 name,
                 pass,
             } = admitted;
-            let mut caller = Gated {
+            let gated = Gated {
                 gate,
                 connection,
                 line: 0,
                 inner: Held { rt, pass },
             };
+            let hold = Hold::new(rt, keeper_of(keepers, session));
+            let mut caller = Recorded::new(hold, gated, line);
             let joined = Reply::Joined { session, name };
             let ended = talk(alloc, &mut caller, &joined, reader, writer);
-            desk.give(rt, session, caller.inner.pass);
+            desk.give(rt, session, caller.inner.inner.pass);
             ended
         }
         Err(reply) => refuse(alloc, writer, &reply),

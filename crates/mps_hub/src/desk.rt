@@ -172,6 +172,26 @@ impl<'a> Desk<'a> {
         }
     }
 
+    // The names of the roles.
+    pub(crate) fn roles(&self) -> &Roles
+        ensures { result.now ≡ self.now.names }
+    {
+        self.names
+    }
+
+    // Takes the pass of that session and role, if it is there.
+    pub(crate) fn take_role<R: Wait>(&self, rt: &R, session: u64, role: usize) -> Option<Pass<'a>>
+        requires { IsSession (length self.now.cells) session }
+        ensures of_session { IfSome result (IsOfSession self.now.cells session) }
+        ensures role { IfSome result (λ p. p.role ≡ role) }
+    {
+        let mut seat = take_out(rt, &self.table.shared);
+        let places = seat.slot_mut(&self.table.shared, 0);
+        let found = places.take(session, role);
+        put_back(&self.table.shared, seat);
+        found
+    }
+
     /// Takes the pass of the role of that name in the session of that number, counted from 1. It waits while another thread
     /// has the passes out, which is for one look, and does not allocate.
     pub fn take<R: Wait>(&self, rt: &R, session: u64, name: &Name) -> Result<Pass<'a>, JoinFault>
@@ -187,11 +207,7 @@ impl<'a> Desk<'a> {
         let Some(role) = self.names.find(name) else {
             return Err(JoinFault::NoRole);
         };
-        let mut seat = take_out(rt, &self.table.shared);
-        let places = seat.slot_mut(&self.table.shared, 0);
-        let found = places.take(session, role.index());
-        put_back(&self.table.shared, seat);
-        match found {
+        match self.take_role(rt, session, role.index()) {
             Some(pass) => Ok(pass),
             None => Err(JoinFault::Taken),
         }

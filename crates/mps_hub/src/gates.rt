@@ -1,7 +1,8 @@
 //! What runs before each command.
 ghost use Rattle.std.specs.Prelude.{◌≡◌};
 
-use mps_base::Roles;
+use mps_base::{Role, Roles};
+use mps_keeper::Seated;
 use mps_room::{Answer, Caller, Command, Told};
 
 /// Something that runs before each command of a connection is given to its pass. A test can hold a command there.
@@ -51,6 +52,8 @@ impl<'g, G: Gate, C: Caller> Caller for Gated<'g, G, C> {
 
     ghost kept = { λ g. C.kept g.inner };
 
+    ghost may_tell = { λ g. C.may_tell g.inner };
+
     fn roles(&self) -> &Roles {
         self.inner.roles()
     }
@@ -75,9 +78,23 @@ impl<'g, G: Gate, C: Caller> Caller for Gated<'g, G, C> {
         self.inner.call_numbered(number, command)
     }
 
+    fn may_tell(&self) -> bool {
+        self.inner.may_tell()
+    }
+
     ghost same_names = { λ g c a h t. C.same_names g.inner c a h.inner t };
 
     ghost same_role = { λ g c a h t. C.same_role g.inner c a h.inner t };
 
     ghost grows = { λ g c a h t. C.grows g.inner c a h.inner t };
+}
+
+impl<'g, G: Gate, C: Seated> Seated for Gated<'g, G, C> {
+    fn seat(&self) -> Role {
+        self.inner.seat()
+    }
+
+    fn seen(&self) -> u64 {
+        self.inner.seen()
+    }
 }

@@ -1,17 +1,36 @@
 //! A server's connections, a thread for each.
-ghost use Rattle.std.specs.Prelude.{◌≡◌, ◌+◌, ◌<◌, ◌≤◌, ◌^◌, ◌↔◌, IfOk, IfErr, IsOk, OnOk, OnErr};
+ghost use Rattle.std.specs.Prelude.{◌≡◌, ◌+◌, ◌<◌, ◌≤◌, ◌^◌, ◌↔◌, IfOk, IfErr, IfSome, IsOk, OnOk, OnErr, length};
 ghost use Rattle.std.specs.IoError.{error_kind};
+ghost use Rattle.mps_hub.specs.Serving.{IsServeFaultOf};
 
 use crate::attending::attend;
 use crate::desk::Desk;
 use crate::gates::{Gate, Unguarded};
-use mps_dev::{OverRead, OverWrite};
+use crate::limits::Limits;
+use crate::lobby::Lobby;
+use crate::patience::{Patient, moment_after, read_until};
+use mps_dev::{Discard, OverRead, OverWrite, Sink};
+use mps_keeper::{Disk, Keeper};
 use std::alloc::Global;
+use std::fs::File;
 use std::io::ErrorKind;
-use std::net::{SocketAddr, TcpListener, TcpStream};
+use std::net::{Shutdown, SocketAddr, TcpListener, TcpStream};
 use std::sync::Wait;
 use std::thread::{Scope, Threads};
+use std::time::{Clock, Duration};
 use std::{io, thread};
+
+// For how many milliseconds a server that accepts connections without end waits after one that couldn't be accepted.
+const PAUSE: u64 = 100;
+
+// A connection whose thread couldn't be started.
+#[derive(Drop)]
+struct NotStarted;
+
+// For how many seconds, and for how many blocks, what a client still sends is read once its connection has ended.
+const LINGER: u64 = 1;
+
+const LINGER_BLOCKS: u64 = 16;
 
 /// How many connections there were: those that ended, and those whose thread couldn't be started, which were closed.
 #[derive(Clone, Copy, Debug, PartialEq, Eq)]
@@ -27,21 +46,69 @@ pub enum ServeFault {
     Accept,
     /// Memory ran out.
     Memory,
+    /// Lines of this session were lost, so that nothing more is answered.
+    Unkept { session: u64 },
 }
 
-// Attends to one connection, and closes it. Answers are sent at once (`TCP_NODELAY`), where the system can.
-fn connection<R: Wait + 'static, G: Gate + 'static>(
+// Reads what the client still sends, for a while. If a connection is closed with bytes unread, the system may take back the
+// answers that the client hasn't read yet.
+fn linger<R: Clock>(rt: &R, stream: &TcpStream) {
+    let _shut = stream.shutdown(Shutdown::Write);
+    let Some(until) = moment_after(rt, Duration::from_secs(LINGER)) else {
+        return;
+    };
+    let mut block = [0u8; 4_096];
+    for _ in 0..LINGER_BLOCKS {
+        match read_until(rt, stream, until, None, &mut block) {
+            Ok(count) if count > 0 => {}
+            _ => return,
+        }
+    }
+}
+
+// The number of the first session of which lines were lost.
+fn broken_of<S: Sink, D>(keepers: &[Keeper<S, D>]) -> Option<u64>
+    ensures { IfSome result (λ session. (1 ≤ session) × (session ≤ length keepers.now)) }
+{
+    let place = keepers.iter().position(|keeper| keeper.is_broken())?;
+    Some(place as u64 + 1)
+}
+
+// Attends to the connection at that place, and closes it. Answers are sent at once (`TCP_NODELAY`), where the system can. Where
+// lines were lost no connection goes on.
+fn connection<R: Wait + Clock + 'static, G: Gate + 'static, S: Sink + 'static, D: Disk + 'static>(
     rt: &R,
     alloc: Global,
     desk: &Desk<'_>,
     gate: &G,
+    keepers: &[Keeper<S, D>],
+    lobby: &Lobby,
     number: u64,
-    stream: TcpStream,
+    place: usize,
 ) {
-    let _set = stream.set_nodelay(true);
-    let mut reader = OverRead::new(&stream);
-    let mut writer = OverWrite::new(&stream);
-    let _ended = attend(rt, alloc, desk, gate, number, &mut reader, &mut writer);
+    if let Some(stream) = lobby.stream(rt, place) {
+        let stream: &TcpStream = &stream;
+        let limits = lobby.limits();
+        let _set = stream.set_nodelay(true);
+        let patient = Patient::new(rt, stream, limits.first_line(), limits.idle);
+        let mut reader = OverRead::new(patient);
+        let mut writer = OverWrite::new(stream);
+        let _ended = attend(
+            rt,
+            alloc,
+            desk,
+            gate,
+            keepers,
+            number,
+            &mut reader,
+            &mut writer,
+        );
+        if broken_of(keepers).is_some() {
+            lobby.close(rt);
+        }
+        linger(rt, stream);
+    }
+    lobby.leave(rt, place);
 }
 
 // The connection that was accepted, or why none is any more.
@@ -62,6 +129,7 @@ fn count_lost<T, E>(lost: u64, started: &Result<T, E>) -> u64
     requires { lost + 1 < 2 ^ 64 }
     ensures started { OnOk started.now (result ≡ lost) }
     ensures lost { OnErr started.now (result ≡ lost + 1) }
+    ensures most { result ≤ lost + 1 }
 {
     match started {
         Ok(_) => lost,
@@ -69,30 +137,145 @@ fn count_lost<T, E>(lost: u64, started: &Result<T, E>) -> u64
     }
 }
 
-// Accepts `n` connections, a thread of the scope for each, and counts the threads that couldn't be started.
-fn accept_all<'s, 'd, E, R: Wait + Sync + 'static, G: Gate + Sync + 'static>(
+// Starts a thread for a connection that came. Where none can be started the connection is closed.
+fn let_in<
+    's,
+    'd,
+    E,
+    R: Wait + Clock + Sync + 'static,
+    G: Gate + Sync + 'static,
+    S: Sink + Send + 'static,
+    D: Disk + Sync + 'static,
+>(
+    scope: &Scope<'s, E>,
+    rt: &'s R,
+    alloc: Global,
+    desk: &'s Desk<'d>,
+    gate: &'s G,
+    keepers: &'s [Keeper<S, D>],
+    lobby: &'s Lobby,
+    number: u64,
+    stream: TcpStream,
+) -> Result<(), NotStarted> {
+    let Some(place) = lobby.enter(rt, alloc, stream) else {
+        return Err(NotStarted);
+    };
+    let started = scope.spawn(move || connection(
+        rt, alloc, desk, gate, keepers, lobby, number, place,
+    ));
+    if started.is_err() {
+        lobby.leave(rt, place);
+        return Err(NotStarted);
+    }
+    Ok(())
+}
+
+// Accepts connections, a thread of the scope for each, and counts those whose thread couldn't be started.
+fn accept_all<
+    's,
+    'd,
+    E,
+    R: Wait + Clock + Sync + 'static,
+    G: Gate + Sync + 'static,
+    S: Sink + Send + 'static,
+    D: Disk + Sync + 'static,
+>(
     scope: &Scope<'s, E>,
     rt: &'s R,
     alloc: Global,
     listener: &TcpListener,
     desk: &'s Desk<'d>,
-    n: u64,
     gate: &'s G,
-) -> Result<u64, ServeFault>
-    ensures { IfOk result (λ lost. lost ≤ n) }
-{
+    keepers: &'s [Keeper<S, D>],
+    lobby: &'s Lobby,
+) -> Result<u64, ServeFault> {
+    let limits = lobby.limits();
     let mut lost = 0;
-    for place in 0..n {
-        let stream = accepted(listener.accept())?;
-        let number = place + 1;
-        let started = scope.spawn(move || connection(rt, alloc, desk, gate, number, stream));
-        lost = count_lost(lost, &started);
+    for place in 0..limits.connections.unwrap_or(u64::MAX) {
+        if !lobby.has_room(rt) {
+            return Ok(lost);
+        }
+        match accepted(listener.accept()) {
+            Ok(stream) => {
+                let number = place + 1;
+                let started = let_in(scope, rt, alloc, desk, gate, keepers, lobby, number, stream);
+                lost = count_lost(lost, &started);
+            }
+            Err(_) if limits.connections.is_none() => thread::sleep(
+                rt,
+                Duration::from_millis(PAUSE),
+            ),
+            Err(fault) => return Err(fault),
+        }
     }
     Ok(lost)
 }
 
-/// As `serve`, with a gate that runs before each command.
-pub fn serve_with<R: Threads + Wait + Sync + 'static, G: Gate + Sync + 'static>(
+/// Accepts connections, attends to each in a thread of its own, and returns when all have ended. A connection whose thread
+/// can't be started is closed and counted as lost. After a fault no more are accepted.
+///
+/// Session K is kept by the K-th of the keepers, where there is one. Where a keeper loses lines, nothing more is answered, and
+/// all connections are ended.
+pub fn serve_kept<
+    R: Threads + Wait + Clock + Sync + 'static,
+    G: Gate + Sync + 'static,
+    S: Sink + Send + 'static,
+    D: Disk + Sync + 'static,
+>(
+    rt: &R,
+    alloc: Global,
+    listener: &TcpListener,
+    desk: &Desk<'_>,
+    gate: &G,
+    keepers: &[Keeper<S, D>],
+    limits: Limits,
+) -> Result<Served, ServeFault>
+    ensures served { IfOk result (λ s. IfSome limits.connections (λ n. s.ended + s.lost ≡ n)) }
+    ensures unkept { IfErr result (IsServeFaultOf (length keepers.now)) }
+{
+    let Ok(lobby) = Lobby::new(alloc, listener, limits) else {
+        return Err(ServeFault::Memory);
+    };
+    let hall = &lobby;
+    let accepted = thread::scope(thread::scope_env(), rt, move |scope| {
+        accept_all(scope, rt, alloc, listener, desk, gate, keepers, hall)
+    });
+    if let Some(session) = broken_of(keepers) {
+        return Err(ServeFault::Unkept { session });
+    }
+    counted(limits, accepted)
+}
+
+// What so many lost connections come to. What the closure of the scope ensures isn't known, since the desk that it borrows has
+// a lifetime: so `min`, and so a fault that tells of lost lines is told as one of accepting.
+fn counted(limits: Limits, accepted: Result<u64, ServeFault>) -> Result<Served, ServeFault>
+    ensures served { IfOk result (λ s. IfSome limits.connections (λ n. s.ended + s.lost ≡ n)) }
+    ensures unkept { IfErr result (IsServeFaultOf 0) }
+{
+    let all = limits.connections.unwrap_or(u64::MAX);
+    match accepted {
+        Ok(lost) => {
+            let lost = lost.min(all);
+            Ok(Served {
+                ended: all - lost,
+                lost,
+            })
+        }
+        Err(ServeFault::Memory) => Err(ServeFault::Memory),
+        Err(ServeFault::Accept) => Err(ServeFault::Accept),
+        Err(ServeFault::Unkept { .. }) => Err(ServeFault::Accept),
+    }
+}
+
+/// No keepers, for sessions that aren't kept.
+pub fn no_keepers() -> &'static [Keeper<Discard, File>]
+    ensures { length result.now ≡ 0 }
+{
+    &[]
+}
+
+/// Accepts `n` connections to sessions that aren't kept, with a gate that runs before each command.
+pub fn serve_with<R: Threads + Wait + Clock + Sync + 'static, G: Gate + Sync + 'static>(
     rt: &R,
     alloc: Global,
     listener: &TcpListener,
@@ -101,21 +284,17 @@ pub fn serve_with<R: Threads + Wait + Sync + 'static, G: Gate + Sync + 'static>(
     gate: &G,
 ) -> Result<Served, ServeFault>
     ensures served { IfOk result (λ s. s.ended + s.lost ≡ n) }
+    ensures unkept { IfErr result (IsServeFaultOf 0) }
 {
-    // What the closure ensures isn't known here, since the desk that it borrows has a lifetime: so `min`.
-    let lost = thread::scope(thread::scope_env(), rt, move |scope| {
-        accept_all(scope, rt, alloc, listener, desk, n, gate)
-    })?
-    .min(n);
-    Ok(Served {
-        ended: n - lost,
-        lost,
-    })
+    let limits = Limits {
+        connections: Some(n),
+        idle: None,
+    };
+    serve_kept(rt, alloc, listener, desk, gate, no_keepers(), limits)
 }
 
-/// Accepts `n` connections, attends to each in a thread of its own, and returns when all have ended. A connection whose
-/// thread can't be started is closed and counted as lost. After a fault no more are accepted.
-pub fn serve<R: Threads + Wait + Sync + 'static>(
+/// Accepts `n` connections to sessions that aren't kept.
+pub fn serve<R: Threads + Wait + Clock + Sync + 'static>(
     rt: &R,
     alloc: Global,
     listener: &TcpListener,
@@ -123,6 +302,7 @@ pub fn serve<R: Threads + Wait + Sync + 'static>(
     n: u64,
 ) -> Result<Served, ServeFault>
     ensures served { IfOk result (λ s. s.ended + s.lost ≡ n) }
+    ensures unkept { IfErr result (IsServeFaultOf 0) }
 {
     serve_with(rt, alloc, listener, desk, n, &Unguarded)
 }

@@ -167,6 +167,13 @@ impl Hub {
         })
     }
 
+    /// How many sessions there are.
+    pub fn sessions(&self) -> u64
+        ensures { result ≡ length self.now.cells }
+    {
+        self.cells.len() as u64
+    }
+
     /// The desk, with all passes.
     pub fn desk_of(&self, alloc: Global, deal: HubDeal) -> Result<Desk<'_>, AllocError>
         requires deal { AreDeals self.now.cells deal }

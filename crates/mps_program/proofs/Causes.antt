@@ -1,11 +1,14 @@
 -- From the faults of one step to those of all.
-use Rattle.std.proofs.Common.{◌≡◌, ℕ, List, None, Result, Ok, Err, IsErrAnd, IfErr, sym, subst}
+use Rattle.std.proofs.Common.{◌≡◌, ℕ, List, Option, None, Result, Ok, Err, IsErrAnd, IfErr, sym, subst, inr}
 use Rattle.mps_global.specs.Global.{GlobalType}
 use Rattle.mps_global.specs.Faults.{fault_of}
 use Rattle.mps_program.specs.Check.{IsProtocolText, GivesNoProtocol, GivesNoTypes}
 use Rattle.mps_program.specs.Private.Check.{GivesNoProjections, GivesNoSession}
+use Rattle.mps_program.specs.Faults.{IsLoadFault}
+use Rattle.mps_program.specs.Served.{IsOutFault, IsServeFault}
+use Rattle.mps_program.specs.Streams.{CantLoad, HasGiven}
 use Rattle.mps_program.specs.declared.faults.ToolFault.{ToolFault}
-use Rattle.mps_program.specs.declared.faults.ToolFault.TheVariants.{Text, Protocol, Projection, Memory}
+use Rattle.mps_program.specs.declared.faults.ToolFault.TheVariants.{Text, Protocol, Projection, Read, Memory}
 
 -- no protocol
 pub no_protocol : (text : List ℕ) (fault : ToolFault) → GivesNoProtocol text fault → GivesNoTypes text fault
@@ -30,3 +33,17 @@ no_session roles tree fault faultless h = absurd h
 pub told : {A : Type 0} (r : Result A ToolFault) (P : ToolFault → Type 0) (e : ToolFault) → IsErrAnd r (λ x. x ≡ e) → P e → IfErr r P
 told (Ok x) P e is h = absurd is
 told (Err x) P e is h = subst P (sym is) h
+
+-- a text that was read, and gives no protocol
+cant_load : (given left : Option (List ℕ)) (text : List ℕ) (fault : ToolFault) → HasGiven given left text → GivesNoProtocol text fault → CantLoad given left fault
+cant_load given left text Read h g = tt
+cant_load given left text Memory h g = tt
+cant_load given left text fault h g = (text, h, no_protocol text fault g)
+
+pub unwritten : (file : List ℕ) (given left : Option (List ℕ)) (text slice : List ℕ) (fault : ToolFault) → slice ≡ text → HasGiven given left text → GivesNoProtocol slice fault → IsLoadFault file fault
+unwritten file given left text slice fault same h g = inr (given, left, cant_load given left text fault h (subst (λ (t : List ℕ). GivesNoProtocol t fault) same g))
+
+-- how a server fails that has the sessions of this file
+pub server_fails : {A : Type 0} (r : Result A ToolFault) (file : List ℕ) (folder folder' : Option (List ℕ)) (n n' : ℕ) → folder ≡ folder' → n ≡ n' → IfErr r (IsOutFault folder n) → IfErr r (IsServeFault file folder' n')
+server_fails (Ok x) file folder folder' n n' same count h = tt
+server_fails (Err e) file folder folder' n n' same count h = inr (subst (λ (f : Option (List ℕ)). IsOutFault f n' e) same (subst (λ (k : ℕ). IsOutFault folder k e) count h))

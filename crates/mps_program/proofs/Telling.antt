@@ -1,5 +1,5 @@
 -- From the parts of what a server tells to the whole.
-use Rattle.std.proofs.Common.{◌≡◌, ℕ, suc, ◌+◌, List, [], ◌∷◌, ◌++◌, Option, Some, None, Result, Ok, Err, IfErr, IsErrAnd, OnOk, length, refl, sym, subst, arith}
+use Rattle.std.proofs.Common.{◌≡◌, ℕ, suc, ◌+◌, List, [], ◌∷◌, ◌++◌, Option, Some, None, Result, Ok, Err, IfErr, IsErrAnd, OnOk, length, refl, sym, ap, subst, arith, inl, inr}
 use Rattle.std.specs.Io.KnownBytes.{Appends}
 use Rattle.mps_room.specs.RoomState.{RoomState}
 use Rattle.mps_cell.specs.Cells.{Opened}
@@ -10,10 +10,14 @@ use Rattle.mps_session.specs.SessionState.{SessionState}
 use Rattle.mps_program.specs.Streams.{HasLoaded, HasLoadedMany}
 use Rattle.mps_wire.proofs.Bytes.{Appends-none, Appends-trans}
 use Rattle.mps_program.specs.Served.{IsListeningLine, IsSessionLine, AreSessionLines, AreLinesUpTo, HasOpened, HasServed, HasServedUpTo, IfLost, IsTellFault, IsOutFault}
-use Rattle.mps_program.specs.Private.Served.{TookOne, IsHubFault}
+use Rattle.mps_program.specs.Private.Served.{TookOne, TellsPort, IsHubFault, of_serving}
+use Rattle.mps_program.specs.Journals.{IsFolderFault, IsFileFaultOf, IsJournalFault, IsKeepingFault, kept_of}
+use Rattle.mps_hub.specs.Serving.{IsServeFaultOf}
+use Rattle.mps_hub.specs.declared.server.ServeFault.{ServeFault}
+use Rattle.mps_hub.specs.declared.server.ServeFault.TheVariants.{Accept as NotAccepted, Memory as NoMemory, Unkept}
 use Rattle.mps_program.specs.Faults.{after_writes, failed_writes}
 use Rattle.mps_program.specs.declared.faults.ToolFault.{ToolFault}
-use Rattle.mps_program.specs.declared.faults.ToolFault.TheVariants.{Write, Bind, Accept, Lost, Memory}
+use Rattle.mps_program.specs.declared.faults.ToolFault.TheVariants.{Usage, File, Text, Protocol, Projection, Open, Read, Write, Turns, Bind, Accept, Lost, JournalFile, JournalLine, JournalProtocol, JournalLost, Memory}
 
 -- a hub of the sessions that were loaded
 pub opened_hub : (given left : Option (List ℕ)) (n : ℕ) (roles : List (List ℕ)) (sessions : List SessionState) (hub : Hall) → HasLoadedMany given left roles n sessions → hub.names ≡ roles → AreCellsOf roles sessions hub.cells → HasOpened given left n hub
@@ -48,8 +52,8 @@ told_rest r session next m rooms later took mid taken split at first rest =
     (one_more session m later took mid taken first (subst (λ (n : ℕ). TookOne (AreSessionLines n later) mid taken) step h))) rest
 
 -- the port's line, and those of the sessions
-pub served : (cells cells' : List Opened) (took mid taken : Option (List ℕ)) (port : ℕ) (rooms slice : List (Option RoomState)) → cells' ≡ cells → slice ≡ rooms → TookOne (IsListeningLine port) took mid → AreClosed cells' rooms → TookOne (AreSessionLines 1 slice) mid taken → HasServed cells took taken
-served cells cells' took mid taken port rooms slice same value (first, listening, sent) closed (lines, told, more) = record {
+pub served : (cells cells' : List Opened) (took mid taken : Option (List ℕ)) (rooms slice : List (Option RoomState)) → cells' ≡ cells → slice ≡ rooms → TookOne TellsPort took mid → AreClosed cells' rooms → TookOne (AreSessionLines 1 slice) mid taken → HasServed cells took taken
+served cells cells' took mid taken rooms slice same value (first, (port, listening), sent) closed (lines, told, more) = record {
   port = port;
   rooms = rooms;
   first = first;
@@ -65,9 +69,14 @@ pub none_lost : (P : ℕ → Type 0) (fault : ToolFault) → IsTellFault 1 0 fau
 none_lost P (Lost k) h = absurd (omega (arith, h.0, h.1))
 none_lost P fault h = tt
 
-pub hub_lost : (P : ℕ → Type 0) (fault : ToolFault) → IsHubFault fault → IfLost P fault
-hub_lost P (Lost k) h = absurd h
-hub_lost P fault h = tt
+no_lost : (folder : Option (List ℕ)) (n k : ℕ) → IsKeepingFault folder n (Lost k) → ⊥
+no_lost None n k h = h
+no_lost (Some f) n k (inl h) = h
+no_lost (Some f) n k (inr h) = h
+
+pub hub_lost : (folder : Option (List ℕ)) (n : ℕ) (P : ℕ → Type 0) (fault : ToolFault) → IsHubFault folder n fault → IfLost P fault
+hub_lost folder n P (Lost k) h = absurd (no_lost folder n k h)
+hub_lost folder n P fault h = tt
 
 if_lost : (P Q : ℕ → Type 0) → ((k : ℕ) → P k → Q k) → (fault : ToolFault) → IfLost P fault → IfLost Q fault
 if_lost P Q f (Lost k) h = f k h
@@ -90,9 +99,9 @@ lost_rest r session next m rooms later took mid taken split at (line, is, sent) 
     ))) rest
 
 -- the port's line, and those of the sessions up to the first that is lost
-pub served_in_part : {A : Type 0} (r : Result A ToolFault) (cells cells' : List Opened) (took mid taken : Option (List ℕ)) (port : ℕ) (rooms slice : List (Option RoomState)) → cells' ≡ cells → slice ≡ rooms → TookOne (IsListeningLine port) took mid → AreClosed cells' rooms
+pub served_in_part : {A : Type 0} (r : Result A ToolFault) (cells cells' : List Opened) (took mid taken : Option (List ℕ)) (rooms slice : List (Option RoomState)) → cells' ≡ cells → slice ≡ rooms → TookOne TellsPort took mid → AreClosed cells' rooms
     → IfErr r (IfLost (λ k. TookOne (AreLinesUpTo 1 slice k) mid taken)) → IfErr r (IfLost (HasServedUpTo cells took taken))
-served_in_part r cells cells' took mid taken port rooms slice same value (first, listening, sent) closed rest =
+served_in_part r cells cells' took mid taken rooms slice same value (first, (port, listening), sent) closed rest =
     on_err r (IfLost (λ k. TookOne (AreLinesUpTo 1 slice k) mid taken)) (IfLost (HasServedUpTo cells took taken))
     (if_lost (λ k. TookOne (AreLinesUpTo 1 slice k) mid taken) (HasServedUpTo cells took taken) (λ k h. record {
       port = port;
@@ -118,22 +127,53 @@ later_tell session n Write h = tt
 later_tell session n Memory h = tt
 later_tell session n fault h = absurd h
 
-pub out_tell : (n : ℕ) (fault : ToolFault) → IsTellFault 1 n fault → IsOutFault n fault
-out_tell n Bind h = tt
-out_tell n Accept h = tt
-out_tell n fault h = h
+pub out_tell : (folder : Option (List ℕ)) (n : ℕ) (fault : ToolFault) → IsTellFault 1 n fault → IsOutFault folder n fault
+out_tell folder n Bind h = tt
+out_tell folder n Accept h = tt
+out_tell folder n fault h = inl h
 
-pub hub_out : (n : ℕ) (fault : ToolFault) → IsHubFault fault → IsOutFault n fault
-hub_out n Accept h = tt
-hub_out n Memory h = tt
-hub_out n fault h = absurd h
+pub hub_out : (folder : Option (List ℕ)) (n : ℕ) (fault : ToolFault) → IsHubFault folder n fault → IsOutFault folder n fault
+hub_out folder n Write h = inl tt
+hub_out folder n Bind h = tt
+hub_out folder n Accept h = tt
+hub_out folder n Memory h = inl tt
+hub_out folder n fault h = inr h
 
-no_write : (fault : ToolFault) → IsHubFault fault → failed_writes fault ≡ 0
-no_write Accept h = refl
-no_write Memory h = refl
-no_write fault h = absurd h
+-- the port's line fails to be told
+pub tell_hub : (folder : Option (List ℕ)) (n : ℕ) (fault : ToolFault) → IsTellFault 1 0 fault → IsHubFault folder n fault
+tell_hub folder n Write h = tt
+tell_hub folder n Memory h = tt
+tell_hub folder n (Lost k) h = absurd (omega (arith, h.0, h.1))
+tell_hub folder n fault h = absurd h
 
--- such a fault is no failed write
-pub hub_writes : {A : Type 0} (r : Result A ToolFault) (e : ToolFault) (before : ℕ) → IsErrAnd r (λ x. x ≡ e) → IsHubFault e → before ≡ after_writes r before
-hub_writes (Ok x) e before is h = absurd is
-hub_writes (Err x) e before is h = let none = no_write x (subst IsHubFault (sym is) h) in omega (arith, none)
+-- the sessions fail to be kept
+pub keeping_hub : (folder : Option (List ℕ)) (n : ℕ) (fault : ToolFault) → IsKeepingFault folder n fault → IsHubFault folder n fault
+keeping_hub folder n Write h = tt
+keeping_hub folder n Bind h = tt
+keeping_hub folder n Accept h = tt
+keeping_hub folder n Memory h = tt
+keeping_hub folder n fault h = h
+
+-- the serving ends
+pub serving_hub : (folder : Option (List ℕ)) (n : ℕ) (fault : ServeFault) → IsServeFaultOf (kept_of folder n) fault → IsHubFault folder n (of_serving fault)
+serving_hub folder n NotAccepted h = tt
+serving_hub folder n NoMemory h = tt
+serving_hub None n (Unkept session) h = absurd (omega (arith, h.0, h.1))
+serving_hub (Some f) n (Unkept session) h = inr h
+
+-- no such fault is a failed write
+pub keeping_writes : (folder : Option (List ℕ)) (n : ℕ) (fault : ToolFault) → IsKeepingFault folder n fault → failed_writes fault ≡ 0
+keeping_writes None n fault h = absurd h
+keeping_writes (Some f) n Write (inl h) = absurd h
+keeping_writes (Some f) n Write (inr h) = absurd h
+keeping_writes (Some f) n fault h = refl
+
+pub serving_writes : (fault : ServeFault) → failed_writes (of_serving fault) ≡ 0
+serving_writes NotAccepted = refl
+serving_writes NoMemory = refl
+serving_writes (Unkept session) = refl
+
+-- a fault that is handed on, and is no failed write
+pub same_writes : {A : Type 0} (r : Result A ToolFault) (e : ToolFault) (before : ℕ) → IsErrAnd r (λ x. x ≡ e) → failed_writes e ≡ 0 → before ≡ after_writes r before
+same_writes (Ok x) e before is none = absurd is
+same_writes (Err x) e before is none = let same : failed_writes x ≡ failed_writes e = ap failed_writes is in omega (arith, same, none)

@@ -8,7 +8,7 @@ use Rattle.mps_local.specs.Outcome.{AreProjections, IsFirstUnmerged}
 use Rattle.mps_local.specs.Text.{name_at, local_text}
 use Rattle.mps_machine.specs.Machine.{initial}
 use Rattle.mps_session.specs.SessionState.{SessionState}
-use Rattle.mps_text.specs.Grammar.{SpellsText, IsWithinLimits}
+use Rattle.mps_text.specs.Grammar.{SpellsText, IsWithinLimits, protocol_text}
 use Rattle.mps_text.specs.Faults.{IsFirstFault}
 use Rattle.mps_text.specs.declared.fault.TextKind.{TextKind}
 use Rattle.mps_text.specs.declared.fault.TextKind.TheVariants.{Memory as NoRoom}
@@ -20,6 +20,13 @@ use Rattle.mps_program.specs.declared.faults.ToolFault.TheVariants.{Text, Protoc
 pub record IsProtocolText (text : List ℕ) (roles : List (List ℕ)) (tree : GlobalType) : Type 0 where
   pub spelled : SpellsText text roles tree
   pub limits : IsWithinLimits text tree
+
+-- the text is a protocol, which is written so
+pub record HasWritten (text written : List ℕ) : Type 0 where
+  pub roles : List (List ℕ)
+  pub tree : GlobalType
+  pub read : IsProtocolText text roles tree
+  pub same : written ≡ protocol_text roles tree
 
 -- the text is a protocol without faults, and these are its types
 pub record AreTypesOf (text : List ℕ) (roles : List (List ℕ)) (types : List LocalType) : Type 0 where

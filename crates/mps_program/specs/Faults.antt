@@ -12,7 +12,7 @@ use Rattle.mps_words.specs.declared.faults.UseFault.{UseFault}
 use Rattle.mps_words.specs.declared.faults.UseFault.TheVariants.{Usage as Misuse, Memory as NoMemory}
 use Rattle.mps_program.specs.Streams.{CantLoad, CantShow}
 use Rattle.mps_program.specs.declared.faults.ToolFault.{ToolFault}
-use Rattle.mps_program.specs.declared.faults.ToolFault.TheVariants.{Usage, File, Text, Protocol, Projection, Open, Read, Write, Turns, Bind, Accept, Lost, Memory}
+use Rattle.mps_program.specs.declared.faults.ToolFault.TheVariants.{Usage, File, Text, Protocol, Projection, Open, Read, Write, Turns, Bind, Accept, Lost, JournalFile, JournalLine, JournalProtocol, JournalLost, Memory}
 
 -- the word for a fault of a text
 abbrev pub text_word : TextKind → List ℕ
@@ -39,6 +39,10 @@ protocol_word Unbound = codes "unbound"
 protocol_word Shadowed = codes "shadowed"
 protocol_word Unguarded = codes "unguarded"
 
+-- the line that tells of the journal of a session
+abbrev pub IsJournalLine : List ℕ → ℕ → Type 0
+IsJournalLine line session = (number : List ℕ) × (line ≡ codes "refused journal " ++ number) × IsNumberText number session
+
 -- the line that tells the fault
 abbrev pub IsFaultLine : List ℕ → ToolFault → Type 0
 IsFaultLine line (Usage text) = line ≡ string_bytes text
@@ -56,9 +60,14 @@ IsFaultLine line Bind = line ≡ codes "refused bind"
 IsFaultLine line Accept = line ≡ codes "refused accept"
 IsFaultLine line (Lost session) =
     (number : List ℕ) × (line ≡ codes "refused lost " ++ number) × IsNumberText number session
+IsFaultLine line (JournalFile session) = IsJournalLine line session
+IsFaultLine line (JournalLine session at) =
+    (number : List ℕ) × (place : List ℕ) × (line ≡ codes "refused journal " ++ number ++ codes " " ++ place) × IsNumberText number session × IsNumberText place at
+IsFaultLine line JournalProtocol = line ≡ codes "refused journal protocol"
+IsFaultLine line (JournalLost session) = IsJournalLine line session
 IsFaultLine line Memory = line ≡ codes "refused memory"
 
--- 2 for the words, the files and the port, 3 for the protocol, 4 for a device, a lost session and memory
+-- 2 for the words, the files and the port, 3 for the protocol and what a journal has, 4 for a device, a lost session and memory
 abbrev pub status_of : ToolFault → ℕ
 status_of (Usage text) = 2
 status_of (File name) = 2
@@ -72,6 +81,10 @@ status_of Turns = 4
 status_of Bind = 2
 status_of Accept = 4
 status_of (Lost session) = 4
+status_of (JournalFile session) = 2
+status_of (JournalLine session at) = 3
+status_of JournalProtocol = 3
+status_of (JournalLost session) = 4
 status_of Memory = 4
 
 -- a fault of use, as the program tells it

@@ -3,6 +3,7 @@ pub mod Compared
 pub mod Ends
 pub mod Faults
 pub mod Files
+pub mod Journals
 pub mod Served
 pub mod Streams
 pub mod Private

@@ -8,6 +8,7 @@ use Rattle.mps_hub.specs.Halls.{AreCellsWith, AreClosed, Hall}
 use Rattle.mps_local.specs.Local.{LocalType}
 use Rattle.mps_fidelity.specs.Fidelity.{AreOfOneProtocol}
 use Rattle.mps_program.specs.Faults.{IsLoadFault}
+use Rattle.mps_program.specs.Journals.{IsKeepingFault}
 use Rattle.mps_program.specs.Streams.{HasLoaded}
 use Rattle.mps_program.specs.declared.faults.ToolFault.{ToolFault}
 use Rattle.mps_program.specs.declared.faults.ToolFault.TheVariants.{Write, Bind, Accept, Lost, Memory}
@@ -76,12 +77,12 @@ IsTellFault session n Write = ⊤
 IsTellFault session n Memory = ⊤
 IsTellFault session n fault = ⊥
 
--- how a server may fail: as the telling does, or it has no port, or accepts no more
-abbrev pub IsOutFault : ℕ → ToolFault → Type 0
-IsOutFault n Bind = ⊤
-IsOutFault n Accept = ⊤
-IsOutFault n fault = IsTellFault 1 n fault
+-- how a server may fail whose sessions are kept in this folder, if they are: as the telling does, or it has no port, or accepts no more, or the sessions fail to be kept
+abbrev pub IsOutFault : Option (List ℕ) → ℕ → ToolFault → Type 0
+IsOutFault folder n Bind = ⊤
+IsOutFault folder n Accept = ⊤
+IsOutFault folder n fault = IsTellFault 1 n fault ⊎ IsKeepingFault folder n fault
 
 -- how a server of this file may fail: the protocol isn't had, or the server fails
-abbrev pub IsServeFault : List ℕ → ℕ → ToolFault → Type 0
-IsServeFault file n fault = IsLoadFault file fault ⊎ IsOutFault n fault
+abbrev pub IsServeFault : List ℕ → Option (List ℕ) → ℕ → ToolFault → Type 0
+IsServeFault file folder n fault = IsLoadFault file fault ⊎ IsOutFault folder n fault

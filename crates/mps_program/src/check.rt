@@ -7,7 +7,7 @@ ghost use Rattle.mps_local.specs.Local.{plain};
 ghost use Rattle.mps_local.specs.Shape.{AllPeers};
 ghost use Rattle.mps_local.specs.Outcome.{AreProjections, AreNotAll};
 ghost use Rattle.mps_program.specs.Check.{IsProtocolText, role_line, role_lines, AreLinesOf};
-ghost use Rattle.mps_program.specs.Check.{GivesNoProtocol, GivesNoTypes};
+ghost use Rattle.mps_program.specs.Check.{GivesNoProtocol, GivesNoTypes, HasWritten};
 ghost use Rattle.mps_program.specs.Private.Check.{GivesNoProjections};
 ghost use Rattle.mps_program.specs.Faults.{after_reads, after_writes, IsCheckFault};
 ghost use Rattle.mps_program.specs.Files.{HasReadAtMost, most_read};
@@ -20,7 +20,7 @@ use mps_base::{Role, RoleFault, Roles};
 use mps_dev::{OverWrite, Sink, Source};
 use mps_global::{Protocol, check};
 use mps_local::{Local, ProjectFault, project_all, write_local};
-use mps_text::read_protocol;
+use mps_text::{read_protocol, write_protocol};
 use std::alloc::{AllocError, Global};
 use std::io;
 use std::rt::Files;
@@ -34,6 +34,15 @@ fn protocol_of<'a>(alloc: Global, text: &[u8]) -> Result<Protocol, ToolFault<'a>
     let protocol = read_protocol(alloc, text)?;
     check(&protocol)?;
     Ok(protocol)
+}
+
+/// The protocol that the text spells, as it is written.
+pub(crate) fn written_protocol<'a>(alloc: Global, text: &[u8]) -> Result<Vec<u8>, ToolFault<'a>>
+    ensures written { IfOk result (λ written. HasWritten text.now written.items) }
+    ensures fault { IfErr result (GivesNoProtocol text.now) }
+{
+    let protocol = protocol_of(alloc, text)?;
+    Ok(write_protocol(alloc, &protocol)?)
 }
 
 /// Why the protocol gives no types, told by the name of the role.

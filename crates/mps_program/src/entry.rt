@@ -9,13 +9,16 @@ use crate::check::check_file;
 use crate::comparison::compare_files;
 use crate::faults::{ToolFault, fault_line, status};
 use crate::running::run_file;
-use crate::serving::serve_file;
+use crate::serving::{Service, serve_file};
+use mps_hub::Limits;
 use mps_words::{Order, Task, order, words_of};
+use std::fs::File;
 use std::net::{Net, TcpListener, TcpStream};
 use std::process::ExitCode;
 use std::rt::{Env, Files};
 use std::sync::Wait;
 use std::thread::Threads;
+use std::time::{Clock, Duration};
 use std::{io, str};
 
 /// Carries out a task, and gives the exit status: 1 where two scripts differ, else 0.
@@ -47,10 +50,11 @@ pub fn carry_out<'a, R: Files + AllocGlobal + Print>(
 /// where two scripts differ, else 0.
 pub fn obey<
     'a,
-    R: Files
+    R: Files<File = File>
         + AllocGlobal
         + Print
         + Net<Listener = TcpListener, Stream = TcpStream>
+        + Clock
         + Threads
         + Wait
         + Sync
@@ -65,8 +69,20 @@ pub fn obey<
             port,
             sessions,
             connections,
+            idle,
+            journal,
         } => {
-            serve_file(rt, file, port, sessions, connections)?;
+            let limits = Limits {
+                connections,
+                idle: idle.map(|seconds| Duration::from_secs(seconds)),
+            };
+            let service = Service {
+                port,
+                sessions,
+                limits,
+                journal,
+            };
+            serve_file(rt, file, service)?;
             Ok(0)
         }
         Order::Offline(task) => carry_out(rt, task),
@@ -124,11 +140,12 @@ where
 /// Does what the words say that the program is called with, and ends after it.
 pub fn program<
     R: Env
-        + Files
+        + Files<File = File>
         + AllocGlobal
         + Print
         + Eprint
         + Net<Listener = TcpListener, Stream = TcpStream>
+        + Clock
         + Threads
         + Wait
         + Sync

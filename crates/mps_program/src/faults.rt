@@ -52,6 +52,18 @@ pub enum ToolFault<'a> {
     /// The session's cell closed without a room.
     #[error("refused lost {session}")]
     Lost { session: u64 },
+    /// The journal of a session can't be opened, or another process has it.
+    #[error("refused journal {session}")]
+    JournalFile { session: u64 },
+    /// That line of a session's journal, counted from 1, is unreadable, or its command isn't accepted.
+    #[error("refused journal {session} {line}")]
+    JournalLine { session: u64, line: u64 },
+    /// The folder keeps sessions of another protocol.
+    #[error("refused journal protocol")]
+    JournalProtocol,
+    /// The journal of a session can't be read, or lines of it were lost.
+    #[error("refused journal {session}")]
+    JournalLost { session: u64 },
     /// Memory ran out.
     #[error("refused memory")]
     Memory,
@@ -204,26 +216,43 @@ fn write_line(fault: &ToolFault<'_>, out: &mut Vec<u8>) -> Result<(), AllocError
             out.extend_from_slice(b"refused lost ")?;
             write_number(*session, out)
         }
+        ToolFault::JournalFile { session } | ToolFault::JournalLost { session } => {
+            out.extend_from_slice(b"refused journal ")?;
+            write_number(*session, out)
+        }
+        ToolFault::JournalLine { session, line } => {
+            out.extend_from_slice(b"refused journal ")?;
+            write_number(*session, out)?;
+            out.push(b' ')?;
+            write_number(*line, out)
+        }
+        ToolFault::JournalProtocol => out.extend_from_slice(b"refused journal protocol"),
         ToolFault::Memory => out.extend_from_slice(b"refused memory"),
     }
 }
 
-/// The exit status for the fault: 2 for the words, files and the port, 3 for the protocol, 4 for a
-/// device, a lost session and memory.
+/// The exit status for the fault: 2 for the words, files and the port, 3 for the protocol and what a
+/// journal has, 4 for a device, a lost session and memory.
 pub fn status(fault: &ToolFault<'_>) -> u8
     ensures { result ≡ status_of fault.now }
 {
     match fault {
-        ToolFault::Usage { .. } | ToolFault::File { .. } | ToolFault::Bind => 2,
+        ToolFault::Usage { .. }
+        | ToolFault::File { .. }
+        | ToolFault::Bind
+        | ToolFault::JournalFile { .. } => 2,
         ToolFault::Text { .. }
         | ToolFault::Protocol { .. }
         | ToolFault::Projection { .. }
-        | ToolFault::Open => 3,
+        | ToolFault::Open
+        | ToolFault::JournalLine { .. }
+        | ToolFault::JournalProtocol => 3,
         ToolFault::Read
         | ToolFault::Write
         | ToolFault::Turns
         | ToolFault::Accept
         | ToolFault::Lost { .. }
+        | ToolFault::JournalLost { .. }
         | ToolFault::Memory => 4,
     }
 }

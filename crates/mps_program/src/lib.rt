@@ -6,6 +6,7 @@ mod comparison;
 mod entry;
 mod faults;
 mod files;
+mod journals;
 mod load;
 mod running;
 mod serving;
@@ -15,8 +16,9 @@ pub use comparison::{compare_files, verdict_of};
 pub use entry::{carry_out, end, end_after, end_with, obey, program};
 pub use faults::{ToolFault, fault_line, status};
 pub use files::{open_file, read_text};
+pub use journals::{FileKeeper, Keeping, keep_sessions};
 pub use load::{
     read_many, read_session, read_sessions, roles_and_many, roles_and_session, roles_and_sessions,
 };
 pub use running::run_file;
-pub use serving::{read_hub, serve_file, serve_to};
+pub use serving::{Service, read_hub, serve_file, serve_to};

@@ -1,24 +1,32 @@
 //! Sessions served to connections.
 ghost use Rattle.std.specs.Prelude.{◌≡◌, ◌+◌, ◌<◌, ◌≤◌, ◌^◌, false, length, IfErr, IfOk, OnOk};
+ghost use Rattle.std.specs.Option.{option_map};
 ghost use Rattle.mps_program.specs.Faults.{after_reads, after_writes};
 ghost use Rattle.mps_program.specs.Files.{HasReadAtMost, most_read};
+ghost use Rattle.mps_program.specs.Journals.{IsKeepingFault, kept_of};
 ghost use Rattle.mps_program.specs.Served.{AreLinesUpTo, AreSessionLines, HasOpened, HasServed, HasServedUpTo, IfLost, IsListeningLine, IsOutFault, IsServeFault, IsSessionLine, IsTellFault};
-ghost use Rattle.mps_program.specs.Private.Served.{IsHubFault, TookOne};
+ghost use Rattle.mps_program.specs.Private.Served.{IsHubFault, TellsPort, TookOne, of_serving};
 ghost use Rattle.mps_program.specs.Streams.{CantLoad};
+ghost use Rattle.mps_program.specs.declared.faults.ToolFault.TheVariants.{Bind as NoPort};
 
+use crate::check::written_protocol;
 use crate::faults::ToolFault;
-use crate::files::{open_file, tell};
+use crate::files::{open_file, read_text, tell};
+use crate::journals::{FileKeeper, Keeping, keep_sessions};
 use crate::load::read_many;
 use mps_base::write_number;
-use mps_dev::{OverWrite, Sink, Source};
-use mps_hub::{Hub, ServeFault, serve};
+use mps_dev::{OverRead, OverWrite, Sink, Source};
+use mps_hub::{Desk, Hub, Limits, ServeFault, Unguarded, serve_kept};
 use mps_room::Room;
+use mps_words::Journal;
 use std::alloc::{AllocError, Global};
+use std::fs::File;
 use std::io;
 use std::net::{Ipv4Addr, Net, SocketAddr, TcpListener, TcpStream};
 use std::rt::Files;
 use std::sync::Wait;
 use std::thread::Threads;
+use std::time::Clock;
 
 // The line that tells the port.
 fn listening_line(alloc: Global, port: u16) -> Result<Vec<u8>, AllocError>
@@ -98,57 +106,125 @@ fn tell_sessions<'a, W: Sink>(
     }
 }
 
-// Serves the hub's sessions to so many connections.
-fn serve_hub<'a, R: Threads + Wait + Sync + 'static>(
+// A listener at this port of 127.0.0.1, and the port that it has.
+fn listen<'a, R: Net<Listener = TcpListener, Stream = TcpStream>>(
     rt: &R,
-    alloc: Global,
-    listener: &TcpListener,
-    hub: &mut Hub,
-    n: u64,
-) -> Result<(), ToolFault<'a>>
-    requires { hub.old.given ≡ false }
-    ensures same { hub.new.cells ≡ hub.old.cells }
-    ensures fault { IfErr result IsHubFault }
+    port: u16,
+) -> Result<(TcpListener, u16), ToolFault<'a>>
+    ensures { IfErr result (λ fault. fault ≡ NoPort) }
 {
+    let Ok(listener) = TcpListener::bind(rt, SocketAddr::from((Ipv4Addr::LOCALHOST, port))) else {
+        return Err(ToolFault::Bind);
+    };
+    match listener.local_addr() {
+        Ok(addr) => Ok((listener, addr.port())),
+        Err(_) => Err(ToolFault::Bind),
+    }
+}
+
+// The keepers of the desk's sessions, if they are kept.
+fn keepers<'a, R: Files<File = File> + AllocGlobal + Wait + 'static>(
+    rt: &R,
+    desk: &Desk<'_>,
+    sessions: u64,
+    keeping: Option<Keeping<'a, '_>>,
+) -> Result<Vec<FileKeeper>, ToolFault<'a>>
+    requires { sessions ≡ length desk.now.cells }
+    ensures count { IfOk result (λ keepers. length keepers.items ≡ kept_of (option_map (λ k. k.journal.folder.now) keeping.entry) sessions) }
+    ensures fault { IfErr result (IsKeepingFault (option_map (λ k. k.journal.folder.now) keeping.entry) sessions) }
+{
+    match keeping {
+        Some(keeping) => keep_sessions(rt, desk, sessions, keeping),
+        None => Ok(Vec::new(rt.alloc())),
+    }
+}
+
+// Why the serving ended.
+fn unserved<'a>(fault: ServeFault) -> ToolFault<'a>
+    ensures { result ≡ of_serving fault }
+{
+    match fault {
+        ServeFault::Accept => ToolFault::Accept,
+        ServeFault::Memory => ToolFault::Memory,
+        ServeFault::Unkept { session } => ToolFault::JournalLost { session },
+    }
+}
+
+// Restores the sessions, where they are kept, tells the port, and serves them to connections.
+fn serve_hub<'a, R, W: Sink>(
+    rt: &R,
+    writer: &mut W,
+    hub: &mut Hub,
+    port: u16,
+    limits: Limits,
+    keeping: Option<Keeping<'a, '_>>,
+) -> Result<(), ToolFault<'a>>
+where
+    R: Files<File = File>
+        + AllocGlobal
+        + Net<Listener = TcpListener, Stream = TcpStream>
+        + Clock
+        + Threads
+        + Wait
+        + Sync
+        + 'static,
+    requires given { hub.old.given ≡ false }
+    requires few { length hub.old.cells ≤ 16 }
+    requires writes { W.failed_calls writer.old < 2 ^ 62 }
+    ensures same { hub.new.cells ≡ hub.old.cells }
+    ensures told { OnOk result (TookOne TellsPort (W.taken writer.old) (W.taken writer.new)) }
+    ensures fault { IfErr result (IsHubFault (option_map (λ k. k.journal.folder.now) keeping.entry) (length hub.old.cells)) }
+    ensures writes { W.failed_calls writer.new ≡ after_writes result (W.failed_calls writer.old) }
+{
+    let alloc = rt.alloc();
+    let sessions = hub.sessions();
     let desk = match hub.deal() {
         Some(deal) => hub.desk_of(alloc, deal)?,
         None => unreachable!(),
     };
-    match serve(rt, alloc, listener, &desk, n) {
+    let keepers = keepers(rt, &desk, sessions, keeping)?;
+    let (listener, port) = listen(rt, port)?;
+    tell_port(alloc, writer, port)?;
+    let served = serve_kept(rt, alloc, &listener, &desk, &Unguarded, &keepers, limits);
+    match served {
         Ok(_) => Ok(()),
-        Err(ServeFault::Accept) => Err(ToolFault::Accept),
-        Err(ServeFault::Memory) => Err(ToolFault::Memory),
+        Err(fault) => Err(unserved(fault)),
     }
 }
 
-/// Tells the port, serves the hub's sessions to so many connections, and then tells how many entries
+/// Restores the hub's sessions where they are kept, tells the port, serves them to connections, and then tells how many entries
 /// the journal of each session has.
 ///
 /// After a fault nothing more is told: the lines of sessions stop before the first that is lost, which the fault names.
-pub fn serve_to<'a, R: Threads + Wait + Sync + 'static, W: Sink>(
+pub fn serve_to<'a, R, W: Sink>(
     rt: &R,
-    alloc: Global,
-    listener: &TcpListener,
     writer: &mut W,
     hub: Hub,
-    n: u64,
+    port: u16,
+    limits: Limits,
+    keeping: Option<Keeping<'a, '_>>,
 ) -> Result<(), ToolFault<'a>>
+where
+    R: Files<File = File>
+        + AllocGlobal
+        + Net<Listener = TcpListener, Stream = TcpStream>
+        + Clock
+        + Threads
+        + Wait
+        + Sync
+        + 'static,
     requires fresh { hub.given ≡ false }
     requires few { length hub.cells ≤ 16 }
     requires writes { W.failed_calls writer.old < 2 ^ 62 }
     ensures told { OnOk result (HasServed hub.cells (W.taken writer.old) (W.taken writer.new)) }
-    ensures fault { IfErr result (IsOutFault (length hub.cells)) }
+    ensures fault { IfErr result (IsOutFault (option_map (λ k. k.journal.folder.now) keeping.entry) (length hub.cells)) }
     ensures lost { IfErr result (IfLost (HasServedUpTo hub.cells (W.taken writer.old) (W.taken writer.new))) }
     ensures writes { W.failed_calls writer.new ≡ after_writes result (W.failed_calls writer.old) }
 {
     let mut hub = hub;
-    let Ok(addr) = listener.local_addr() else {
-        return Err(ToolFault::Bind);
-    };
-    tell_port(alloc, writer, addr.port())?;
-    serve_hub(rt, alloc, listener, &mut hub, n)?;
-    let rooms = hub.close(alloc)?;
-    tell_sessions(alloc, writer, 1, rooms.as_slice())
+    serve_hub(rt, writer, &mut hub, port, limits, keeping)?;
+    let rooms = hub.close(rt.alloc())?;
+    tell_sessions(rt.alloc(), writer, 1, rooms.as_slice())
 }
 
 /// Reads a protocol, and opens so many sessions of it.
@@ -170,28 +246,49 @@ pub fn read_hub<'a, R: Source>(
     Ok(Hub::of(alloc, &roles, made)?)
 }
 
-/// Serves so many sessions of the protocol in the file to so many connections at this port of
-/// 127.0.0.1.
+/// How a server runs: its port, how many sessions it has, its limits, and where the sessions are kept, if they are.
+#[derive(Clone, Copy)]
+pub struct Service<'a> {
+    pub port: u16,
+    pub sessions: u64,
+    pub limits: Limits,
+    pub journal: Option<Journal<'a>>,
+}
+
+// The journal with the protocol that it has to be of, if there is one.
+fn keeping_of<'a, 'p>(journal: Option<Journal<'a>>, protocol: &'p [u8]) -> Option<Keeping<'a, 'p>>
+    ensures { option_map (λ k. k.journal.folder.now) result ≡ option_map (λ j. j.folder.now) journal.entry }
+{
+    match journal {
+        Some(journal) => Some(Keeping { journal, protocol }),
+        None => None,
+    }
+}
+
+/// Serves sessions of the protocol in the file at a port of 127.0.0.1.
 ///
-/// The protocol is read and checked, and the sessions are opened, before the port is bound.
-pub fn serve_file<
-    'a,
-    R: Files
+/// The protocol is read and checked, the sessions are opened, and where they are kept they are restored, before the port is
+/// bound.
+pub fn serve_file<'a, R>(rt: &R, file: &'a str, service: Service<'a>) -> Result<(), ToolFault<'a>>
+where
+    R: Files<File = File>
         + AllocGlobal
         + Print
         + Net<Listener = TcpListener, Stream = TcpStream>
+        + Clock
         + Threads
         + Wait
         + Sync
         + 'static,
->(rt: &R, file: &'a str, port: u16, sessions: u64, connections: u64) -> Result<(), ToolFault<'a>>
-    requires some { (1 ≤ sessions) × (sessions ≤ 16) }
-    ensures fault { IfErr result (IsServeFault file.now sessions) }
+    requires some { (1 ≤ service.sessions) × (service.sessions ≤ 16) }
+    ensures fault { IfErr result (IsServeFault file.now (option_map (λ j. j.folder.now) service.entry.journal) service.entry.sessions) }
 {
-    let hub = read_hub(rt.alloc(), &mut open_file(rt, file)?, sessions)?;
-    let Ok(listener) = TcpListener::bind(rt, SocketAddr::from((Ipv4Addr::LOCALHOST, port))) else {
-        return Err(ToolFault::Bind);
-    };
+    let alloc = rt.alloc();
+    let text = read_text(alloc, &mut open_file(rt, file)?)?;
+    let mut reader = OverRead::new(text.as_slice());
+    let hub = read_hub(alloc, &mut reader, service.sessions)?;
+    let written = written_protocol(alloc, text.as_slice())?;
+    let keeping = keeping_of(service.journal, written.as_slice());
     let mut writer = OverWrite::new(io::writer(rt));
-    serve_to(rt, rt.alloc(), &listener, &mut writer, hub, connections)
+    serve_to(rt, &mut writer, hub, service.port, service.limits, keeping)
 }

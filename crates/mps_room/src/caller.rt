@@ -1,5 +1,5 @@
 //! Who gives commands for a role.
-ghost use Rattle.std.specs.Prelude.{◌≡◌, ℕ, List, Option, IsSome};
+ghost use Rattle.std.specs.Prelude.{◌≡◌, ℕ, Bool, List, Option, IsSome};
 ghost use Rattle.std.specs.Option.{option_map};
 ghost use Rattle.mps_command.specs.Changes.{change_of};
 ghost use Rattle.mps_command.specs.declared.answer.Answer.{Answer as Answered};
@@ -35,6 +35,9 @@ pub trait Caller {
     // Its answer.
     ghost kept: { Self → Option Answered };
 
+    // Whether what it was answered may be told on.
+    ghost may_tell: { Self → Bool };
+
     /// The names of the roles.
     fn roles(&self) -> &Roles
         ensures { result.now ≡ names self.now };
@@ -57,6 +60,10 @@ pub trait Caller {
     fn call_numbered(&mut self, number: u64, command: Command) -> Told
         requires { IsSome (change_of command) }
         ensures { IsNumbered calls last kept self.old number command self.new result };
+
+    /// Whether what it was answered may be told on.
+    fn may_tell(&self) -> bool
+        ensures { result ≡ may_tell self.now };
 
     // No call changes the names.
     ghost same_names: { (c : Self) (x : Asked) (a : Answered) (d : Self) → calls c x a d → names d ≡ names c };

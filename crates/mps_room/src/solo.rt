@@ -33,6 +33,7 @@ impl Solo {
 }
 
 impl Caller for Solo {
+    ghost use Rattle.std.specs.Prelude.{true};
     ghost use Rattle.mps_room.specs.Numbers.{last_of, kept_of};
     ghost use Rattle.mps_room.specs.Solos.{IsSoloCall, names_of, role_of, made_of, same_names, same_role, made_grows};
 
@@ -47,6 +48,8 @@ impl Caller for Solo {
     ghost last = { λ s. last_of s.numbers.newest };
 
     ghost kept = { λ s. kept_of s.numbers.newest };
+
+    ghost may_tell = { λ _. true };
 
     fn roles(&self) -> &Roles {
         self.room.names()
@@ -77,6 +80,10 @@ impl Caller for Solo {
                 Told::Fresh
             }
         }
+    }
+
+    fn may_tell(&self) -> bool {
+        true
     }
 
     ghost same_names = { same_names };

@@ -6,7 +6,7 @@ use crate::parties::{names, opened};
 use mps_base::{Role, Roles, StepId};
 use mps_command::{Answer, StepIds};
 use mps_dev::{Pieces, Short};
-use mps_hub::{Attended, Desk, Hub, Unguarded, attend};
+use mps_hub::{Attended, Desk, Hub, Unguarded, attend, no_keepers};
 use mps_line::{LineFault, read_answer, read_command, write_answer};
 use mps_room::{Room, Solo};
 use mps_session::Session;
@@ -161,7 +161,16 @@ fn connect<R: Wait + 'static>(
 ) -> Option<(Vec<u8>, Attended)> {
     let mut reader = Pieces::new(in_one_piece(alloc, lines)?, None);
     let mut writer = Short::new(alloc, 99).ok()?;
-    let ended = attend(rt, alloc, desk, &Unguarded, 1, &mut reader, &mut writer);
+    let ended = attend(
+        rt,
+        alloc,
+        desk,
+        &Unguarded,
+        no_keepers(),
+        1,
+        &mut reader,
+        &mut writer,
+    );
     Some((Vec::from_slice(alloc, writer.bytes()).ok()?, ended))
 }
 
@@ -193,7 +202,16 @@ fn attends_at<R: Wait + 'static>(
     if until == Until::Before {
         return Some(Outcome::Reached);
     }
-    let ended = attend(rt, alloc, desk, &Unguarded, 1, &mut reader, &mut writer);
+    let ended = attend(
+        rt,
+        alloc,
+        desk,
+        &Unguarded,
+        no_keepers(),
+        1,
+        &mut reader,
+        &mut writer,
+    );
     if until == Until::After {
         return Some(Outcome::Reached);
     }

@@ -1,41 +1,72 @@
 //! The server, over a socket.
 use mps_dev::{Pieces, Short};
+use mps_hub::Limits;
 use mps_program::{read_hub, serve_to};
 use std::alloc::Global;
-use std::io;
+use std::fs::File;
 use std::io::{Read, Write};
 use std::net::{Net, Shutdown, SocketAddr, TcpListener, TcpStream};
 use std::process::Abort;
+use std::rt::Files;
 use std::sync::Wait;
 use std::test::Fail;
 use std::thread::{Threads, join};
+use std::time::{Clock, Duration};
+use std::{io, thread};
 
 const RELAY: &[u8] = b"roles a b c ; a -> b : int . b -> c : int . end";
 
+// One connection, which may be silent as long as it likes.
+const ONE: Limits = Limits {
+    connections: Some(1),
+    idle: None,
+};
+
 // What a server of two relays writes, where one client comes.
-fn written<R: Threads + Wait + Sync + 'static>(
-    rt: &R,
-    alloc: Global,
-    listener: &TcpListener,
-) -> Result<Vec<u8>, Fail> {
+fn written<R>(rt: &R, port: u16) -> Result<Vec<u8>, Fail>
+where
+    R: Files<File = File>
+        + AllocGlobal
+        + Net<Listener = TcpListener, Stream = TcpStream>
+        + Clock
+        + Threads
+        + Wait
+        + Sync
+        + 'static,
+{
+    let alloc = rt.alloc();
     let text = vec![in alloc; Vec::from_slice(alloc, RELAY)?]?;
     let mut writer = Short::new(alloc, 100)?;
     let Ok(hub) = read_hub(alloc, &mut Pieces::new(text, None), 2) else {
         return Err("no hub".into());
     };
-    match serve_to(rt, alloc, listener, &mut writer, hub, 1) {
+    match serve_to(rt, &mut writer, hub, port, ONE, None) {
         Ok(()) => Ok(Vec::from_slice(alloc, writer.bytes())?),
         Err(_) => Err("a fault".into()),
     }
 }
 
+// A connection to the port, once somebody listens there.
+fn connected<R: Net<Stream = TcpStream> + Clock>(
+    rt: &R,
+    addr: SocketAddr,
+) -> io::Result<TcpStream> {
+    for _ in 0..2_000 {
+        if let Ok(stream) = TcpStream::connect(rt, addr) {
+            return Ok(stream);
+        }
+        thread::sleep(rt, Duration::from_millis(5));
+    }
+    TcpStream::connect(rt, addr)
+}
+
 // What the client is answered.
-fn answered<R: Net<Stream = TcpStream>>(
+fn answered<R: Net<Stream = TcpStream> + Clock>(
     rt: &R,
     alloc: Global,
     addr: SocketAddr,
 ) -> io::Result<Vec<u8>> {
-    let mut stream = TcpStream::connect(rt, addr)?;
+    let mut stream = connected(rt, addr)?;
     stream.write_all(b"join 2 a\nsend b 5\nsend b 6\n")?;
     stream.shutdown(Shutdown::Write)?;
     let mut text = Vec::new(alloc);
@@ -43,14 +74,18 @@ fn answered<R: Net<Stream = TcpStream>>(
     Ok(text)
 }
 
+// A port that is free.
+fn free_port<R: Net<Listener = TcpListener>>(rt: &R) -> io::Result<SocketAddr> {
+    TcpListener::bind(rt, "127.0.0.1:0")?.local_addr()
+}
+
 #[test]
 fn serves_a_client(rt: HostRuntime) -> Result<(), Fail> {
     let alloc = rt.alloc();
-    let listener = TcpListener::bind(&rt, "127.0.0.1:0")?;
-    let addr = listener.local_addr()?;
+    let addr = free_port(&rt)?;
     let (lines, answers) = join(
         &rt,
-        || written(&rt, alloc, &listener),
+        || written(&rt, addr.port()),
         || answered(&rt, alloc, addr),
     );
     let lines = lines?;

@@ -3,7 +3,7 @@ ghost use Rattle.std.specs.Prelude.{◌≡◌, false, IfOk};
 use crate::protocols::{VERDICT, names, opened, types};
 use mps_cell::PassFault;
 use mps_dev::{Pieces, Short};
-use mps_hub::{Attended, Desk, Hub, Unguarded, attend};
+use mps_hub::{Attended, Desk, Hub, Unguarded, attend, no_keepers};
 use mps_wire::Ending;
 use std::alloc::Global;
 use std::sync::Wait;
@@ -46,7 +46,16 @@ fn is_played<R: Wait + 'static>(
     let (sent, fails_from, space, answers, ended) = row;
     let mut reader = Pieces::new(vec![in alloc; Vec::from_slice(alloc, sent)?]?, *fails_from);
     let mut writer = Short::new(alloc, *space)?;
-    let attended = attend(rt, alloc, desk, &Unguarded, 1, &mut reader, &mut writer);
+    let attended = attend(
+        rt,
+        alloc,
+        desk,
+        &Unguarded,
+        no_keepers(),
+        1,
+        &mut reader,
+        &mut writer,
+    );
     Ok(writer.bytes() == *answers && attended == *ended)
 }
 

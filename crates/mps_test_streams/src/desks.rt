@@ -3,7 +3,7 @@ ghost use Rattle.std.specs.Prelude.{◌≡◌, false, IfOk};
 
 use mps_base::{Name, Role, Roles, Sort};
 use mps_dev::{Pieces, Short};
-use mps_hub::{Attended, Desk, Hub, Unguarded, attend};
+use mps_hub::{Attended, Desk, Hub, Unguarded, attend, no_keepers};
 use mps_local::Local;
 use mps_session::OpenFault;
 use mps_wire::Ending;
@@ -85,7 +85,16 @@ fn attended<R: Wait + 'static>(
 ) -> Result<Attended, Fail> {
     let mut reader = Pieces::new(pieces, None);
     let mut writer = Short::new(alloc, 99)?;
-    let ended = attend(rt, alloc, desk, &Unguarded, 1, &mut reader, &mut writer);
+    let ended = attend(
+        rt,
+        alloc,
+        desk,
+        &Unguarded,
+        no_keepers(),
+        1,
+        &mut reader,
+        &mut writer,
+    );
     if writer.bytes() != answers {
         return Err("other answers".into());
     }

@@ -13,6 +13,7 @@ use std::sync::atomic::AtomicU64;
 use std::sync::atomic::Ordering::SeqCst;
 use std::test::Fail;
 use std::thread::{Threads, yield_now};
+use std::time::Clock;
 
 // The roles a, b, c and d.
 fn four_names(alloc: Global) -> Result<Roles, Fail> {
@@ -115,7 +116,7 @@ fn has_joined(
 }
 
 // Whether a server of one session attended to so many connections, which had come before.
-fn has_served<R: Threads + Wait + Sync + 'static, G: Gate + Sync + 'static>(
+fn has_served<R: Clock + Threads + Wait + Sync + 'static, G: Gate + Sync + 'static>(
     rt: &R,
     alloc: Global,
     listener: &TcpListener,

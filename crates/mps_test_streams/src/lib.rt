@@ -12,6 +12,8 @@ mod desks;
 #[cfg(test)]
 mod gates;
 #[cfg(test)]
+mod journals;
+#[cfg(test)]
 mod pieces;
 #[cfg(test)]
 mod protocols;

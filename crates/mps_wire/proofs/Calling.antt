@@ -1,5 +1,5 @@
 -- What a caller's line does, from what its front does.
-use Rattle.std.proofs.Common.{◌≡◌, ℕ, ◌<◌, ◌≤◌, List, [], Option, length, min, refl, sym, subst, ◌∙◌, arith, ⊎_elim, append-nil, length-take, take, drop}
+use Rattle.std.proofs.Common.{true, false, ◌≡◌, ℕ, ◌<◌, ◌≤◌, List, [], Option, length, min, refl, sym, subst, ◌∙◌, arith, ⊎_elim, append-nil, length-take, take, drop}
 use Rattle.std.specs.Io.KnownBytes.{Appends}
 use Rattle.std.proofs.lemmas.Bool.{cases_lt}
 use Rattle.std.proofs.lemmas.List.{take-append-drop}
@@ -65,7 +65,7 @@ module _ {C : Type 0} (caller : Ghosts C) where
     pub wholly_front : IsWholly (talks caller) line c d taken taken' → IsWholly (talks caller) kept c d taken taken'
     wholly_front w = record {
       text = w.text;
-      line_is = subst (λ (l : List ℕ). TalksLine caller l c w.text d) is (front_line line c w.text d w.line_is);
+      line_is = record { line_is = subst (λ (l : List ℕ). TalksLine caller l c w.text d) is (front_line line c w.text d w.line_is.line_is); aloud = w.line_is.aloud };
       sent = w.sent;
     }
 
@@ -77,6 +77,7 @@ module _ {C : Type 0} (caller : Ghosts C) where
         unwritten = w.line_is.unwritten;
         line_is = subst (λ (l : List ℕ). TalksLine caller l c w.line_is.text d) is (front_line line c w.line_is.text d w.line_is.line_is);
         whole = w.line_is.whole;
+        silent = w.line_is.silent;
       };
       sent = w.sent;
     }
@@ -90,27 +91,27 @@ module _ {C : Type 0} (caller : Ghosts C) where
 
   -- a caller's lines go by their fronts
   pub talks_by_front : GoesByFront (talks caller)
-  talks_by_front line c text d a = whole_line line c text d a
+  talks_by_front line c text d a = record { line_is = whole_line line c text d a.line_is; aloud = a.aloud }
 
   pub part_by_front : GoesByFront (talks_to_part caller)
-  part_by_front line c written d a = record { text = a.text; unwritten = a.unwritten; line_is = whole_line line c a.text d a.line_is; whole = a.whole }
+  part_by_front line c written d a = record { text = a.text; unwritten = a.unwritten; line_is = whole_line line c a.text d a.line_is; whole = a.whole; silent = a.silent }
 
   pub whole_is_part : IsWholePart (talks caller) (talks_to_part caller)
-  whole_is_part line c text d a = record { text = text; unwritten = []; line_is = a; whole = sym (append-nil (ended text)) }
+  whole_is_part line c text d a = record { text = text; unwritten = []; line_is = a.line_is; whole = sym (append-nil (ended text)); silent = λ off. absurd (let bad : true ≡ false = sym a.aloud ∙ off in cc) }
 
   module _ (line : List ℕ) (c d : C) (text : List ℕ) (told : TalksLine caller line c text d) where
-    -- there was no memory for the text
+    -- there was no memory for the text, or it may not be told
     pub unwritten_line : (taken : Option (List ℕ)) → IsPartly (talks_to_part caller) line c d taken taken
-    unwritten_line taken = record { written = []; line_is = record { text = text; unwritten = ended text; line_is = told; whole = refl }; sent = Appends-none taken }
+    unwritten_line taken = record { written = []; line_is = record { text = text; unwritten = ended text; line_is = told; whole = refl; silent = λ off. refl }; sent = Appends-none taken }
 
     -- the sink failed
-    pub cut_line : (taken taken' : Option (List ℕ)) (bytes : List ℕ) → bytes ≡ ended text → TookFront taken taken' bytes → IsPartly (talks_to_part caller) line c d taken taken'
-    cut_line taken taken' bytes is took = record {
+    pub cut_line : caller.may_tell d ≡ true → (taken taken' : Option (List ℕ)) (bytes : List ℕ) → bytes ≡ ended text → TookFront taken taken' bytes → IsPartly (talks_to_part caller) line c d taken taken'
+    cut_line aloud taken taken' bytes is took = record {
       written = take took.count bytes;
-      line_is = record { text = text; unwritten = drop took.count bytes; line_is = told; whole = sym is ∙ sym (take-append-drop took.count bytes) };
+      line_is = record { text = text; unwritten = drop took.count bytes; line_is = told; whole = sym is ∙ sym (take-append-drop took.count bytes); silent = λ off. absurd (let bad : true ≡ false = sym aloud ∙ off in cc) };
       sent = took.taken;
     }
 
     -- the sink took it all
-    pub sent_line : (taken taken' : Option (List ℕ)) (bytes : List ℕ) → bytes ≡ ended text → Appends taken taken' bytes → IsWholly (talks caller) line c d taken taken'
-    sent_line taken taken' bytes is sent = record { text = text; line_is = told; sent = subst (λ (b : List ℕ). Appends taken taken' b) is sent }
+    pub sent_line : caller.may_tell d ≡ true → (taken taken' : Option (List ℕ)) (bytes : List ℕ) → bytes ≡ ended text → Appends taken taken' bytes → IsWholly (talks caller) line c d taken taken'
+    sent_line aloud taken taken' bytes is sent = record { text = text; line_is = record { line_is = told; aloud = aloud }; sent = subst (λ (b : List ℕ). Appends taken taken' b) is sent }

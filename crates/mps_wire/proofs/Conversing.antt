@@ -10,7 +10,7 @@ use Rattle.mps_wire.specs.Runs.{Going}
 use Rattle.mps_wire.specs.Streams.{Streams, Counts}
 use Rattle.mps_wire.specs.declared.conversation.Broken.{Broken}
 use Rattle.mps_wire.specs.declared.conversation.Ending.{Ending}
-use Rattle.mps_wire.specs.declared.conversation.Ending.TheVariants.{Closed, ReadFault, WriteFault, Turns, Memory}
+use Rattle.mps_wire.specs.declared.conversation.Ending.TheVariants.{Closed, ReadFault, WriteFault, Turns, Memory, Untold}
 use Rattle.mps_wire.proofs.Bytes.{Appends-trans, Appends-none, Consumes-trans, Consumes-none}
 use Rattle.mps_wire.proofs.Outcomes.{counts_more}
 
@@ -77,3 +77,4 @@ module _ {S : Type 0} (answers part : Answering S) (start : S) where
   ends_as first old now kept st Turns counts h = absurd h
   ends_as first old now kept st WriteFault counts h = (h.0, counts_more first old now counts 0 0 1 h.1)
   ends_as first old now kept st Memory counts h = (h.0, counts_more first old now counts 0 0 0 h.1)
+  ends_as first old now kept st Untold counts h = (h.0, counts_more first old now counts 0 0 0 h.1)

@@ -153,24 +153,35 @@ module _ (one_reply : (a : List ℕ) (r s : Reply) → SpellsReply a r → Spell
     reply_free line c r d free (talking.Numbered s) = came_free c s.number s.command d s.came r free s.numbered s.told
     reply_free line c r d free (talking.Starved s) = ((λ e. let b = s.told in cc), subst (IsFree caller types) (sym s.unchanged) free)
 
-    talk_line : (line : List ℕ) (c : C) (text : List ℕ) (d : C) → IsFree caller types c → talks caller line c text d → IsFit text × IsFree caller types d
+    talk_line : (line : List ℕ) (c : C) (text : List ℕ) (d : C) → IsFree caller types c → talking.TalksLine caller line c text d → IsFit text × IsFree caller types d
     talk_line line c text d free a =
         let r = reply_free line c a.reply d free a.replies in
         (text_fits text a.reply a.spelled r.0, r.1)
 
+    -- the same lines, whether they may be told or not
+    abbrev said : Answering C
+    said line c text d = talking.TalksLine caller line c text d
+
+    lines_said : (lines : List (List ℕ)) (c : C) (out : List ℕ) (d : C) → AnswersLines (talks caller) lines c out d → AnswersLines said lines c out d
+    lines_said [] c out d a = a
+    lines_said (l ∷ lines) c out d a = (a.0, a.1, a.2, a.3, a.4.line_is, lines_said lines a.2 a.1 d a.5)
+
+    said_fits : (asked lines : List (List ℕ)) (c d : C) (out written unwritten rest : List ℕ) → IsFree caller types c → AnswersLines said asked c out d → out ≡ written ++ unwritten → IsSplit written lines rest → AllByRecursion Fits lines
+    said_fits asked lines c d out written unwritten rest free a e split =
+        written_fits said (IsFree caller types) talk_line asked lines c d out written unwritten rest free a e split
+
     pub talk_fits : (asked lines : List (List ℕ)) (c d : C) (out written unwritten rest : List ℕ) → IsFree caller types c → AnswersLines (talks caller) asked c out d → out ≡ written ++ unwritten → IsSplit written lines rest → AllByRecursion Fits lines
-    talk_fits asked lines c d out written unwritten rest free a e split =
-        written_fits (talks caller) (IsFree caller types) talk_line asked lines c d out written unwritten rest free a e split
+    talk_fits asked lines c d out written unwritten rest free a e split = said_fits asked lines c d out written unwritten rest free (lines_said asked c out d a) e split
 
     -- answers of which the last is written in part, whole
-    completed : (lines : List (List ℕ)) (c : C) (written : List ℕ) (d : C) → AnswersToPart (talks caller) (talks_to_part caller) lines c written d → (unwritten : List ℕ) × AnswersLines (talks caller) lines c (written ++ unwritten) d
+    completed : (lines : List (List ℕ)) (c : C) (written : List ℕ) (d : C) → AnswersToPart (talks caller) (talks_to_part caller) lines c written d → (unwritten : List ℕ) × AnswersLines said lines c (written ++ unwritten) d
     completed [] c written d a = ([], (ap (λ (l : List ℕ). l ++ []) a.0, a.1))
     completed (l ∷ []) c written d a = (a.unwritten, (a.text, [], d, sym a.whole ∙ sym (append-nil (ended a.text)), a.line_is, (refl, refl)))
     completed (l ∷ m ∷ lines) c written d a =
         let more = completed (m ∷ lines) a.2 a.1 d a.5 in
-        (more.0, (a.0, a.1 ++ more.0, a.2, ap (λ (x : List ℕ). x ++ more.0) a.3 ∙ append_assoc (ended a.0) a.1 more.0, a.4, more.1))
+        (more.0, (a.0, a.1 ++ more.0, a.2, ap (λ (x : List ℕ). x ++ more.0) a.3 ∙ append_assoc (ended a.0) a.1 more.0, a.4.line_is, more.1))
 
     pub talk_part_fits : (asked lines : List (List ℕ)) (c d : C) (written rest : List ℕ) → IsFree caller types c → AnswersToPart (talks caller) (talks_to_part caller) asked c written d → IsSplit written lines rest → AllByRecursion Fits lines
     talk_part_fits asked lines c d written rest free a split =
         let w = completed asked c written d a in
-        talk_fits asked lines c d (written ++ w.0) written w.0 rest free w.1 refl split
+        said_fits asked lines c d (written ++ w.0) written w.0 rest free w.1 refl split

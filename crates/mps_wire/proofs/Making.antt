@@ -18,7 +18,7 @@ use Rattle.mps_wire.specs.Endings.{EndedAs}
 use Rattle.mps_wire.specs.Making.{accepted_of, accepted_anew, accepted_line, accepted_lines, accepted_in_part}
 use Rattle.mps_wire.specs.Streams.{Streams}
 use Rattle.mps_wire.specs.declared.conversation.Ending.{Ending}
-use Rattle.mps_wire.specs.declared.conversation.Ending.TheVariants.{Closed, ReadFault, WriteFault, Turns, Memory}
+use Rattle.mps_wire.specs.declared.conversation.Ending.TheVariants.{Closed, ReadFault, WriteFault, Turns, Memory, Untold}
 use Rattle.mps_wire.specs.Talk.{RepliesTo, Unread, Called, Numbered, Starved, TalksLine, AnswersToPart, talks, talks_to_part}
 
 grown_if : (b : Bool) (j : List Entry) (e : Entry) → (if b then j ++ e ∷ [] else j) ≡ j ++ (if b then e ∷ [] else [])
@@ -44,12 +44,12 @@ module _ {C F : Type 0} (caller : Ghosts C) (f : C → F) (keeps : (c : C) (x : 
 
   pub lines_keep : (lines : List (List ℕ)) (c : C) (out : List ℕ) (d : C) → AnswersLines (talks caller) lines c out d → f d ≡ f c
   lines_keep [] c out d a = ap f a.1
-  lines_keep (l ∷ lines) c out d a = lines_keep lines a.2 a.1 d a.5 ∙ line_keeps l c a.0 a.2 a.4
+  lines_keep (l ∷ lines) c out d a = lines_keep lines a.2 a.1 d a.5 ∙ line_keeps l c a.0 a.2 a.4.line_is
 
   pub part_keeps : (lines : List (List ℕ)) (c : C) (out : List ℕ) (d : C) → AnswersToPart (talks caller) (talks_to_part caller) lines c out d → f d ≡ f c
   part_keeps [] c out d a = ap f a.1
   part_keeps (l ∷ []) c out d a = line_keeps l c a.text d a.line_is
-  part_keeps (l ∷ m ∷ lines) c out d a = part_keeps (m ∷ lines) a.2 a.1 d a.5 ∙ line_keeps l c a.0 a.2 a.4
+  part_keeps (l ∷ m ∷ lines) c out d a = part_keeps (m ∷ lines) a.2 a.1 d a.5 ∙ line_keeps l c a.0 a.2 a.4.line_is
 
   pub ended_keeps : (first now : Streams) (c d : C) (e : Ending) → EndedAs (talks caller) (talks_to_part caller) c first now d e → f d ≡ f c
   ended_keeps first now c d Closed h = let a = h.0.going.answered in lines_keep a.lines c h.0.going.out d a.answers_lines
@@ -57,6 +57,7 @@ module _ {C F : Type 0} (caller : Ghosts C) (f : C → F) (keeps : (c : C) (x : 
   ended_keeps first now c d Turns h = let a = h.0.going.answered in lines_keep a.lines c h.0.going.out d a.answers_lines
   ended_keeps first now c d WriteFault h = let a = h.0.answered in part_keeps a.done c h.0.written d a.answers_lines
   ended_keeps first now c d Memory h = let a = h.0.answered in part_keeps a.done c h.0.written d a.answers_lines
+  ended_keeps first now c d Untold h = let a = h.0.answered in part_keeps a.done c h.0.written d a.answers_lines
 
 -- What was made grows by the accepted commands.
 module _ {C : Type 0} (caller : Ghosts C) (same_role : (c : C) (x : Command) (a : Answer) (d : C) → caller.calls c x a d → caller.role d ≡ caller.role c)
@@ -89,10 +90,10 @@ module _ {C : Type 0} (caller : Ghosts C) (same_role : (c : C) (x : Command) (a 
   pub lines_make : (lines : List (List ℕ)) (c : C) (out : List ℕ) (d : C) (a : AnswersLines (talks caller) lines c out d) → caller.made d ≡ caller.made c ++ accepted_lines caller lines c out d a
   lines_make [] c out d a = ap caller.made a.1 ∙ sym (append-nil (caller.made c))
   lines_make (l ∷ lines) c out d a =
-      more (accepted_line caller l c a.0 a.2 a.4) (accepted_lines caller lines a.2 a.1 d a.5) (caller.made c) (caller.made a.2) (caller.made d) (line_makes l c a.0 a.2 a.4) (lines_make lines a.2 a.1 d a.5)
+      more (accepted_line caller l c a.0 a.2 a.4.line_is) (accepted_lines caller lines a.2 a.1 d a.5) (caller.made c) (caller.made a.2) (caller.made d) (line_makes l c a.0 a.2 a.4.line_is) (lines_make lines a.2 a.1 d a.5)
 
   pub part_makes : (lines : List (List ℕ)) (c : C) (out : List ℕ) (d : C) (a : AnswersToPart (talks caller) (talks_to_part caller) lines c out d) → caller.made d ≡ caller.made c ++ accepted_in_part caller lines c out d a
   part_makes [] c out d a = ap caller.made a.1 ∙ sym (append-nil (caller.made c))
   part_makes (l ∷ []) c out d a = line_makes l c a.text d a.line_is
   part_makes (l ∷ m ∷ lines) c out d a =
-      more (accepted_line caller l c a.0 a.2 a.4) (accepted_in_part caller (m ∷ lines) a.2 a.1 d a.5) (caller.made c) (caller.made a.2) (caller.made d) (line_makes l c a.0 a.2 a.4) (part_makes (m ∷ lines) a.2 a.1 d a.5)
+      more (accepted_line caller l c a.0 a.2 a.4.line_is) (accepted_in_part caller (m ∷ lines) a.2 a.1 d a.5) (caller.made c) (caller.made a.2) (caller.made d) (line_makes l c a.0 a.2 a.4.line_is) (part_makes (m ∷ lines) a.2 a.1 d a.5)

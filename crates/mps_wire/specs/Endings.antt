@@ -6,7 +6,7 @@ use Rattle.mps_wire.specs.Runs.{Going, ReadMost}
 use Rattle.mps_wire.specs.Streams.{Streams, Counts}
 use Rattle.mps_wire.specs.Talk.{AnsweredToPart}
 use Rattle.mps_wire.specs.declared.conversation.Ending.{Ending}
-use Rattle.mps_wire.specs.declared.conversation.Ending.TheVariants.{Closed, ReadFault, WriteFault, Turns, Memory}
+use Rattle.mps_wire.specs.declared.conversation.Ending.TheVariants.{Closed, ReadFault, WriteFault, Turns, Memory, Untold}
 
 -- From a state on, whatever lines do to what state.
 module _ {S : Type 0} (answers : Answering S) (start : S) (before after : Streams) where
@@ -31,3 +31,4 @@ module _ {S : Type 0} (answers part : Answering S) (start : S) (before after : S
   EndedAs st Turns = WasAnswered answers start before after st × Counts before after 0 0 0 × ReadMost before after
   EndedAs st WriteFault = WasCut st × Counts before after 0 0 1
   EndedAs st Memory = WasCut st × Counts before after 0 0 0
+  EndedAs st Untold = WasCut st × Counts before after 0 0 0

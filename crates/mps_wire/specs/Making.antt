@@ -38,10 +38,10 @@ module _ {C : Type 0} (caller : Ghosts C) where
   -- of lines that are answered
   abbrev pub accepted_lines : (lines : List (List ℕ)) (c : C) (out : List ℕ) (d : C) → AnswersLines (talks caller) lines c out d → List Entry
   accepted_lines [] c out d a = []
-  accepted_lines (l ∷ lines) c out d a = accepted_line l c a.0 a.2 a.4 ++ accepted_lines lines a.2 a.1 d a.5
+  accepted_lines (l ∷ lines) c out d a = accepted_line l c a.0 a.2 a.4.line_is ++ accepted_lines lines a.2 a.1 d a.5
 
   -- of lines that are answered, the last of them in part
   abbrev pub accepted_in_part : (lines : List (List ℕ)) (c : C) (out : List ℕ) (d : C) → AnswersToPart (talks caller) (talks_to_part caller) lines c out d → List Entry
   accepted_in_part [] c out d a = []
   accepted_in_part (l ∷ []) c out d a = accepted_line l c a.text d a.line_is
-  accepted_in_part (l ∷ m ∷ lines) c out d a = accepted_line l c a.0 a.2 a.4 ++ accepted_in_part (m ∷ lines) a.2 a.1 d a.5
+  accepted_in_part (l ∷ m ∷ lines) c out d a = accepted_line l c a.0 a.2 a.4.line_is ++ accepted_in_part (m ∷ lines) a.2 a.1 d a.5

@@ -1,5 +1,5 @@
 -- What a conversation does to its caller, and what the caller is answered.
-use Rattle.std.specs.Prelude.{◌≡◌, ℕ, ◌≤◌, List, [], ◌∷◌, ◌++◌, length, Option, None, Some}
+use Rattle.std.specs.Prelude.{◌≡◌, true, false, ℕ, ◌≤◌, List, [], ◌∷◌, ◌++◌, length, Option, None, Some}
 use Rattle.std.specs.Str.{IsAscii}
 use Rattle.mps_base.specs.declared.value.Value.TheVariants.{Text}
 use Rattle.mps_command.specs.declared.answer.Answer.{Answer}
@@ -82,16 +82,22 @@ module _ {C : Type 0} (caller : Ghosts C) (line : List ℕ) (c : C) where
     pub replies : RepliesTo reply d
     pub spelled : SpellsReply text reply
 
-  -- of the text that answers the line this part is written
+  -- the text that answers the line, which may be told, and the caller after it
+  pub record TalksAloud (text : List ℕ) (d : C) : Type 0 where
+    pub line_is : TalksLine text d
+    pub aloud : caller.may_tell d ≡ true
+
+  -- of the text that answers the line this part is written; none, where it may not be told
   pub record TalksToPart (written : List ℕ) (d : C) : Type 0 where
     pub text : List ℕ
     pub unwritten : List ℕ
     pub line_is : TalksLine text d
     pub whole : ended text ≡ written ++ unwritten
+    pub silent : caller.may_tell d ≡ false → written ≡ []
 
 -- how a caller's lines are answered, and how they are in part
 abbrev pub talks : {C : Type 0} → Ghosts C → Answering C
-talks caller line c text d = TalksLine caller line c text d
+talks caller line c text d = TalksAloud caller line c text d
 
 abbrev pub talks_to_part : {C : Type 0} → Ghosts C → Answering C
 talks_to_part caller line c written d = TalksToPart caller line c written d

@@ -1,12 +1,12 @@
 //! A conversation over streams.
-ghost use Rattle.std.specs.Prelude.{◌≡◌, ◌+◌, ◌<◌, ◌≤◌, ◌^◌, ◌++◌, ℕ, List, length, Some, OnOk, OnErr, IfNone, IsSome};
+ghost use Rattle.std.specs.Prelude.{◌≡◌, ◌+◌, ◌<◌, ◌≤◌, ◌^◌, ◌++◌, ℕ, List, length, Some, Err, OnOk, OnErr, IfNone, IsSome, false};
 ghost use Rattle.mps_command.specs.Changes.{change_of};
 ghost use Rattle.mps_command.specs.declared.answer.Answer.{Answer as Response};
 ghost use Rattle.mps_command.specs.declared.command.Command.{Command as Asked};
 ghost use Rattle.mps_line.specs.Replies.{SpellsReply};
 ghost use Rattle.mps_line.specs.declared.write_replies.Reply.TheVariants.{Answered};
 ghost use Rattle.mps_lines.specs.Lines.{ended, front, most_kept};
-ghost use Rattle.mps_wire.specs.declared.conversation.Broken.TheVariants.{Memory as NoMemory};
+ghost use Rattle.mps_wire.specs.declared.conversation.Broken.TheVariants.{Memory as NoMemory, Untold as MayNot};
 ghost use Rattle.mps_wire.specs.Endings.{EndedAs};
 ghost use Rattle.mps_wire.specs.Private.Endings.{TurnedTo, IsPartly, IsWholly, TakesOn, TakesToPart, begun_or, failed_by};
 ghost use Rattle.mps_wire.specs.Runs.{Going, max_reads};
@@ -40,6 +40,8 @@ pub enum Ending {
     Turns,
     /// Memory ran out.
     Memory,
+    /// What the caller was answered may not be told on.
+    Untold,
 }
 
 /// Why no more lines are answered.
@@ -47,6 +49,7 @@ pub enum Ending {
 pub enum Broken {
     Write,
     Memory,
+    Untold,
 }
 
 impl From<AllocError> for Broken {
@@ -148,8 +151,12 @@ fn send_reply<C: Caller, W: Sink>(
         (W.taken writer.old) (W.taken writer.new)) }
     ensures err { OnErr result (IsPartly (talks_to_part C.Caller) line.now caller.old caller.new
         (W.taken writer.old) (W.taken writer.new)) }
+    ensures untold { result ≡ Err MayNot → C.may_tell caller.new ≡ false }
 {
     make_reply(alloc, caller, line, text)?;
+    if !caller.may_tell() {
+        return Err(Broken::Untold);
+    }
     match send_all(writer, text.as_slice()) {
         Ok(()) => Ok(()),
         Err(Failed) => Err(Broken::Write),
@@ -194,6 +201,7 @@ fn feed<C: Caller, W: Sink>(
         line.new.items caller.new (W.taken writer.new)) }
     ensures err { OnErr result (TakesToPart (talks C.Caller) (talks_to_part C.Caller) bytes.now line.old.items
         caller.old (W.taken writer.old) caller.new (W.taken writer.new)) }
+    ensures untold { result ≡ Err MayNot → C.may_tell caller.new ≡ false }
 {
     let mut rest = bytes;
     while let Some(k) = line_end(rest) {
@@ -228,6 +236,7 @@ fn turn<C: Caller, R: Source, W: Sink>(
         → TurnedTo (talks C.Caller) (talks_to_part C.Caller) start first
         (streams R.Source W.Sink reader.old writer.old) (streams R.Source W.Sink reader.new writer.new)
         line.new.items caller.new result }
+    ensures untold { result ≡ Some Ending.Untold → C.may_tell caller.new ≡ false }
 {
     let Ok(count) = reader.read(block) else {
         return Some(Ending::ReadFault);
@@ -239,6 +248,7 @@ fn turn<C: Caller, R: Source, W: Sink>(
         Ok(()) => None,
         Err(Broken::Write) => Some(Ending::WriteFault),
         Err(Broken::Memory) => Some(Ending::Memory),
+        Err(Broken::Untold) => Some(Ending::Untold),
     }
 }
 
@@ -248,7 +258,8 @@ fn turn<C: Caller, R: Source, W: Sink>(
 /// the command isn't run a second time, and its answer is written again. At the end a rest that no LF ends isn't run.
 /// The reader is asked for `PIECE` bytes at a time, `MAX_READS` times at most. After `Closed`, `ReadFault` or `Turns` each
 /// whole line that was read is answered; after `WriteFault` or `Memory` the first of them are, and the answer of the last
-/// of these may be written in part, or not at all.
+/// of these may be written in part, or not at all. After `Untold` the answer of the last isn't written, since the caller says
+/// that it may not be told.
 pub fn converse<C: Caller, R: Source, W: Sink>(
     alloc: Global,
     caller: &mut C,
@@ -261,6 +272,7 @@ pub fn converse<C: Caller, R: Source, W: Sink>(
         (streams R.Source W.Sink reader.old writer.old) (streams R.Source W.Sink reader.new writer.new)
         caller.new result }
     ensures reads { R.calls reader.new ≤ R.calls reader.old + max_reads }
+    ensures untold { result ≡ Ending.Untold → C.may_tell caller.new ≡ false }
 
     // What no call changes is as before.
     ensures fixed { (f : C → ℕ)

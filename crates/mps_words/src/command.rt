@@ -5,13 +5,26 @@
 pub enum Order<'a> {
     /// A task that needs no network.
     Offline(Task<'a>),
-    /// Serve so many sessions of the protocol in the file, to so many connections at that port.
+    /// Serve so many sessions of the protocol in the file at that port.
     Serve {
         file: &'a str,
         port: u16,
         sessions: u64,
-        connections: u64,
+        /// How many connections are accepted. `None` is all that come.
+        connections: Option<u64>,
+        /// For how many seconds a connection may send nothing. `None` is for ever.
+        idle: Option<u64>,
+        /// Where the sessions are kept, if they are.
+        journal: Option<Journal<'a>>,
     },
+}
+
+/// Where sessions are kept.
+#[derive(Clone, Copy, Debug, PartialEq, Eq)]
+pub struct Journal<'a> {
+    pub folder: &'a str,
+    /// Whether nothing is answered before the disk has said that it is kept.
+    pub sync: bool,
 }
 
 /// What the program does without a network.

@@ -3,12 +3,12 @@
 ghost use Rattle.std.specs.Prelude.{◌≤◌, IfErr, IfOk, IfSome};
 ghost use Rattle.mps_words.specs.Orders.{IsInRange};
 ghost use Rattle.mps_words.specs.Uses.{Says, no_text};
-ghost use Rattle.mps_words.specs.Private.Uses.{IsSaidOfMatched, TellsMatched};
+ghost use Rattle.mps_words.specs.Private.Uses.{IsSaidOfMatched, IsSaidOfServer, TellsMatched};
 
-use crate::command::{Order, Task};
+use crate::command::{Journal, Order, Task};
 use crate::faults::{UseFault, usage};
 use clap::error::ErrorKind;
-use clap::{Arg, ArgMatches, Command, Error};
+use clap::{Arg, ArgAction, ArgMatches, Command, Error};
 use std::alloc::{AllocError, Global};
 use std::rt::Env;
 use std::{env, io};
@@ -22,6 +22,9 @@ const MAX_SESSIONS: u64 = 16;
 // How many connections it accepts at most.
 const MAX_CONNECTIONS: u64 = 64;
 
+// How many seconds a connection may be silent at most.
+const MAX_IDLE: u64 = 86_400;
+
 // What is said of words of which one is no text.
 const NO_TEXT: &str = "error: a word is not UTF-8";
 
@@ -32,55 +35,101 @@ const MISSING: &str = "error: a word is missing";
 const OUT_OF_RANGE: &str =
     "error: --port is 0 to 65535, --sessions is 1 to 16, and --connections is 1 to 64";
 
-// A word that a command needs: what it stands for, and what the help says of it.
+// What is said of a time that is out of its range.
+const IDLE_OUT_OF_RANGE: &str = "error: --idle is 1 to 86400";
+
+// What is said where there is nothing to be synced.
+const SYNC_ALONE: &str = "error: --sync goes with --journal";
+
+// How an option is given.
+#[derive(Clone, Copy)]
+enum Given {
+    // always, with a word
+    Always,
+    // with a word, or not at all
+    Sometimes,
+    // without a word, or not at all
+    Alone,
+}
+
+// A word that a command needs, or an option: what it stands for, and what the help says of it.
 struct Word {
     name: &'static str,
     help: &'static str,
+    given: Given,
 }
 
 // The protocol, with which each command begins.
 const FILE: Word = Word {
     name: "FILE",
     help: "The protocol",
+    given: Given::Always,
 };
 
 // The script that is run.
 const SCRIPT: Word = Word {
     name: "SCRIPT",
     help: "A command on each line",
+    given: Given::Always,
 };
 
 // The first of two scripts that are compared.
 const FIRST: Word = Word {
     name: "FIRST",
     help: "A script, as for run",
+    given: Given::Always,
 };
 
 // The second of two scripts that are compared.
 const SECOND: Word = Word {
     name: "SECOND",
     help: "Another script",
+    given: Given::Always,
 };
 
 // The port that a server listens on.
 const PORT: Word = Word {
     name: "port",
     help: "The port of 127.0.0.1, 0 for any that is free",
+    given: Given::Always,
 };
 
 // How many sessions a server has.
 const SESSIONS: Word = Word {
     name: "sessions",
     help: "How many sessions are opened, 1 to 16",
+    given: Given::Always,
 };
 
 // How many connections a server accepts.
 const CONNECTIONS: Word = Word {
     name: "connections",
-    help: "How many connections are accepted, 1 to 64",
+    help: "How many connections are accepted, 1 to 64; all that come, if it isn't given",
+    given: Given::Sometimes,
 };
 
-// A command of the program, the words that have to follow it, and the options that have to be given with a word each.
+// Where the sessions are kept.
+const JOURNAL: Word = Word {
+    name: "journal",
+    help: "A folder that keeps the sessions; the next server with it goes on where this one stopped",
+    given: Given::Sometimes,
+};
+
+// Whether the disk is waited for.
+const SYNC: Word = Word {
+    name: "sync",
+    help: "With --journal: answers wait until the disk has what they tell",
+    given: Given::Alone,
+};
+
+// How long a connection may be silent.
+const IDLE: Word = Word {
+    name: "idle",
+    help: "Ends a connection that sends nothing for so many seconds, 1 to 86400",
+    given: Given::Sometimes,
+};
+
+// A command of the program, the words that have to follow it, and its options.
 struct Form {
     name: &'static str,
     about: &'static str,
@@ -112,13 +161,18 @@ const FORMS: &[Form] = &[
         name: "serve",
         about: "Serves sessions to connections",
         words: &[FILE],
-        options: &[PORT, SESSIONS, CONNECTIONS],
+        options: &[PORT, SESSIONS, CONNECTIONS, JOURNAL, SYNC, IDLE],
     },
 ];
 
 // The argument that takes the word.
 fn argument<'a>(alloc: Global, word: &Word) -> Arg<'a> {
-    Arg::new(alloc, word.name).help(word.help).required(true)
+    let argument = Arg::new(alloc, word.name).help(word.help);
+    match word.given {
+        Given::Always => argument.required(true),
+        Given::Sometimes => argument,
+        Given::Alone => argument.action(ArgAction::SetTrue),
+    }
 }
 
 // The option that takes the word.
@@ -170,18 +224,57 @@ fn number_in<'a>(found: &ArgMatches<'a>, name: &str, least: u64, most: u64) -> O
     Some(number)
 }
 
-// The order to serve the file, with its numbers.
-fn serve_in<'a>(file: &'a str, found: &ArgMatches<'a>) -> Option<Order<'a>>
-    ensures { IfSome result IsInRange }
+// The number that an option may have, if it lies between these two, or is one of them; none where it isn't given.
+fn bound_in<'a>(found: &ArgMatches<'a>, name: &str, least: u64, most: u64) -> Option<Option<u64>>
+    ensures { IfSome result (λ given. IfSome given (λ n. (least ≤ n) × (n ≤ most))) }
+{
+    match found.get_str(name) {
+        Some(_) => Some(Some(number_in(found, name, least, most)?)),
+        None => Some(None),
+    }
+}
+
+// Where the sessions are kept, as the words say it; none where `--sync` stands alone.
+fn journal_in<'a>(found: &ArgMatches<'a>) -> Option<Option<Journal<'a>>> {
+    let sync = found.get_flag("sync");
+    match found.get_str("journal") {
+        Some(folder) => Some(Some(Journal { folder, sync })),
+        None if sync => None,
+        None => Some(None),
+    }
+}
+
+// The port of a server, how many sessions it has, and how many connections it accepts.
+fn server_in<'a>(found: &ArgMatches<'a>) -> Option<(u16, u64, Option<u64>)>
+    ensures { IfSome result (λ r. (1 ≤ r.1) × (r.1 ≤ 16) × IfSome r.2 (λ n. (1 ≤ n) × (n ≤ 64))) }
 {
     let port = number_in(found, "port", 0, u16::MAX as u64)?;
     let sessions = number_in(found, "sessions", 1, MAX_SESSIONS)?;
-    let connections = number_in(found, "connections", 1, MAX_CONNECTIONS)?;
-    Some(Order::Serve {
+    let connections = bound_in(found, "connections", 1, MAX_CONNECTIONS)?;
+    Some((port as u16, sessions, connections))
+}
+
+// The order to serve the file, with its options, or what is wrong with them.
+fn serve_in<'a>(file: &'a str, found: &ArgMatches<'a>) -> Result<Order<'a>, &'static str>
+    ensures range { IfOk result IsInRange }
+    ensures said { IfErr result (λ what. IsSaidOfServer what.now) }
+{
+    let Some((port, sessions, connections)) = server_in(found) else {
+        return Err(OUT_OF_RANGE);
+    };
+    let Some(idle) = bound_in(found, "idle", 1, MAX_IDLE) else {
+        return Err(IDLE_OUT_OF_RANGE);
+    };
+    let Some(journal) = journal_in(found) else {
+        return Err(SYNC_ALONE);
+    };
+    Ok(Order::Serve {
         file,
-        port: port as u16,
+        port,
         sessions,
         connections,
+        idle,
+        journal,
     })
 }
 
@@ -228,7 +321,7 @@ fn order_in<'a>(matches: &ArgMatches<'a>) -> Result<Order<'a>, &'static str>
         "check" => offline(Some(Task::Check { file })),
         "run" => offline(run_in(file, found)),
         "same" => offline(same_in(file, found)),
-        "serve" => serve_in(file, found).ok_or(OUT_OF_RANGE),
+        "serve" => serve_in(file, found),
         _ => Err(MISSING),
     }
 }

@@ -7,7 +7,7 @@ use Rattle.mps_line.specs.declared.write_replies.Reply.{Reply}
 use Rattle.mps_room.specs.declared.caller.Caller.{Ghosts}
 use Rattle.mps_hub.specs.Connections.{HasTalked, WasCutShort, WasSent}
 use Rattle.mps_hub.specs.declared.attending.Attended.{Attended}
-use Rattle.mps_hub.specs.declared.attending.Attended.TheVariants.{NoLine, TurnedAway, Conversed, Memory}
+use Rattle.mps_hub.specs.declared.attending.Attended.TheVariants.{NoLine, TurnedAway, Conversed, Memory, Unkept}
 
 -- what the writer was given of the reply to a first line that gets no pass, by how the connection ended
 abbrev pub IsAnsweredFirst : {W : Type 0} → SinkGhosts W → W → W → Reply → Attended → Type 0
@@ -15,6 +15,7 @@ IsAnsweredFirst sink old new reply NoLine = ⊥
 IsAnsweredFirst sink old new reply TurnedAway = (WasSent sink old new reply × (code_of reply ≢ 0)) ⊎ WasCutShort sink old new reply
 IsAnsweredFirst sink old new reply (Conversed ending) = ⊥
 IsAnsweredFirst sink old new reply Memory = new ≡ old
+IsAnsweredFirst sink old new reply Unkept = ⊥
 
 -- what a caller that got its pass came to, once it was told so with this reply
 module _ {C R W : Type 0} (caller : Ghosts C) (source : SourceGhosts R) (sink : SinkGhosts W) (joined : Reply)
@@ -25,3 +26,4 @@ module _ {C R W : Type 0} (caller : Ghosts C) (source : SourceGhosts R) (sink : 
   HasJoined TurnedAway = WasCutShort sink writer writer' joined × (reader' ≡ reader)
   HasJoined (Conversed ending) = HasTalked caller source sink joined before reader writer after reader' writer' ending
   HasJoined Memory = (writer' ≡ writer) × (reader' ≡ reader)
+  HasJoined Unkept = (writer' ≡ writer) × (reader' ≡ reader)

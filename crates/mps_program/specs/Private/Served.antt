@@ -1,15 +1,31 @@
 -- What a sink took, and how the serving itself may fail.
 use Rattle.std.specs.Prelude.{⊤, ℕ, List, Option}
 use Rattle.std.specs.Io.KnownBytes.{Appends}
+use Rattle.mps_hub.specs.declared.server.ServeFault.{ServeFault}
+use Rattle.mps_hub.specs.declared.server.ServeFault.TheVariants.{Accept as NotAccepted, Memory as NoMemory, Unkept}
+use Rattle.mps_program.specs.Journals.{IsKeepingFault}
+use Rattle.mps_program.specs.Served.{IsListeningLine}
 use Rattle.mps_program.specs.declared.faults.ToolFault.{ToolFault}
-use Rattle.mps_program.specs.declared.faults.ToolFault.TheVariants.{Accept, Memory}
+use Rattle.mps_program.specs.declared.faults.ToolFault.TheVariants.{Write, Bind, Accept, JournalLost, Memory}
 
 -- the sink took such a text
 abbrev pub TookOne : (List ℕ → Type 0) → Option (List ℕ) → Option (List ℕ) → Type 0
 TookOne P took taken = (text : List ℕ) × P text × Appends took taken text
 
--- how the serving itself may fail: it accepts no more, or memory ran out
-abbrev pub IsHubFault : ToolFault → Type 0
-IsHubFault Accept = ⊤
-IsHubFault Memory = ⊤
-IsHubFault fault = ⊥
+-- the line that tells some port
+abbrev pub TellsPort : List ℕ → Type 0
+TellsPort line = (port : ℕ) × IsListeningLine port line
+
+-- how the serving itself may fail: it has no port, or can't tell it, it accepts no more, memory ran out, or the sessions fail to be kept
+abbrev pub IsHubFault : Option (List ℕ) → ℕ → ToolFault → Type 0
+IsHubFault folder n Write = ⊤
+IsHubFault folder n Bind = ⊤
+IsHubFault folder n Accept = ⊤
+IsHubFault folder n Memory = ⊤
+IsHubFault folder n fault = IsKeepingFault folder n fault
+
+-- why the serving ended, as the program tells it
+abbrev pub of_serving : ServeFault → ToolFault
+of_serving NotAccepted = Accept
+of_serving NoMemory = Memory
+of_serving (Unkept session) = JournalLost session

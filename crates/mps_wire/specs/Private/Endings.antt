@@ -8,9 +8,9 @@ use Rattle.mps_wire.specs.Runs.{Going, GaveAtLeast}
 use Rattle.mps_wire.specs.Streams.{Streams, Counts}
 use Rattle.mps_wire.specs.Talk.{AnsweredToPart}
 use Rattle.mps_wire.specs.declared.conversation.Broken.{Broken}
-use Rattle.mps_wire.specs.declared.conversation.Broken.TheVariants.{Write, Memory as NoMemory}
+use Rattle.mps_wire.specs.declared.conversation.Broken.TheVariants.{Write, Memory as NoMemory, Untold as Unsaid}
 use Rattle.mps_wire.specs.declared.conversation.Ending.{Ending}
-use Rattle.mps_wire.specs.declared.conversation.Ending.TheVariants.{Closed, ReadFault, WriteFault, Turns, Memory}
+use Rattle.mps_wire.specs.declared.conversation.Ending.TheVariants.{Closed, ReadFault, WriteFault, Turns, Memory, Untold}
 
 module _ {S : Type 0} (answers part : Answering S) (start : S) (first before after : Streams) where
   -- what one read and its answers lead to: it goes on, or it ended; first are the streams before the conversation
@@ -21,12 +21,14 @@ module _ {S : Type 0} (answers part : Answering S) (start : S) (first before aft
   TurnedTo kept st (Some Turns) = ⊥
   TurnedTo kept st (Some WriteFault) = WasCut answers part start first after st × Counts before after 0 0 1
   TurnedTo kept st (Some Memory) = WasCut answers part start first after st × Counts before after 0 0 0
+  TurnedTo kept st (Some Untold) = WasCut answers part start first after st × Counts before after 0 0 0
 
 -- how many writes failed
 abbrev pub failed_by : Result Unit Broken → ℕ
 failed_by (Ok x) = 0
 failed_by (Err Write) = 1
 failed_by (Err NoMemory) = 0
+failed_by (Err Unsaid) = 0
 
 -- one line is answered, and its answer is written: the whole of it
 pub record IsWholly {S : Type 0} (answers : Answering S) (line : List ℕ) (c d : S) (taken taken' : Option (List ℕ)) : Type 0 where

@@ -1,24 +1,16 @@
-use Rattle.std.proofs.Common.{length, ◌∙◌}
+use Rattle.std.proofs.Common.{length}
 use Rattle.mps_program.specs.Served.{IsOutFault}
 use Rattle.mps_program.proofs.Causes.{told}
-use Rattle.mps_program.proofs.Telling.{on_ok, served, served_in_part, hub_out, hub_writes}
+use Rattle.mps_program.proofs.Telling.{on_ok, served, served_in_part, hub_out}
 use Rattle.mps_program.proofs.serving.serve_to.Goals as goal
-
-pub returns-in_err-serve_hub-clause-fault : goal.returns-in_err-serve_hub-clause-fault
-returns-in_err-serve_hub-clause-fault g c =
-    told _ (IsOutFault (length c.args.hub.cells)) _ c.from_residual-in_err-serve_hub.ensures.1 (hub_out _ _ c.in_err-serve_hub.ensures.fault)
-
-pub returns-in_err-serve_hub-clause-writes : goal.returns-in_err-serve_hub-clause-writes
-returns-in_err-serve_hub-clause-writes g c =
-    c.in_ok-tell_port.ensures.writes ∙ hub_writes c.from_residual-in_err-serve_hub.result _ _ c.from_residual-in_err-serve_hub.ensures.1 c.in_err-serve_hub.ensures.fault
 
 pub returns-clause-told : goal.returns-clause-told
 returns-clause-told g c =
-    on_ok c.tell_sessions.result _ _ (λ h. served c.args.hub.cells c.serve_hub.new.hub.cells (g.W.Sink.taken c.args.writer.now) (g.W.Sink.taken c.tell_port.new.writer) (g.W.Sink.taken c.tell_sessions.new.writer)
-    c.port.result c.in_ok-rooms.rooms.items c.as_slice.result.now c.in_ok-serve_hub.ensures.same c.as_slice.ensures.value c.in_ok-tell_port.ensures.told c.in_ok-rooms.ensures h)
+    on_ok c.tell_sessions.result _ _ (λ h. served c.args.hub.cells c.serve_hub.new.hub.cells (g.W.Sink.taken c.args.writer.now) (g.W.Sink.taken c.serve_hub.new.writer) (g.W.Sink.taken c.tell_sessions.new.writer)
+    c.in_ok-rooms.rooms.items c.as_slice.result.now c.in_ok-serve_hub.ensures.same c.as_slice.ensures.value c.in_ok-serve_hub.ensures.told c.in_ok-rooms.ensures h)
     c.tell_sessions.ensures.told
 
 pub returns-clause-lost : goal.returns-clause-lost
 returns-clause-lost g c =
-    served_in_part c.tell_sessions.result c.args.hub.cells c.serve_hub.new.hub.cells (g.W.Sink.taken c.args.writer.now) (g.W.Sink.taken c.tell_port.new.writer) (g.W.Sink.taken c.tell_sessions.new.writer)
-    c.port.result c.in_ok-rooms.rooms.items c.as_slice.result.now c.in_ok-serve_hub.ensures.same c.as_slice.ensures.value c.in_ok-tell_port.ensures.told c.in_ok-rooms.ensures c.tell_sessions.ensures.lost
+    served_in_part c.tell_sessions.result c.args.hub.cells c.serve_hub.new.hub.cells (g.W.Sink.taken c.args.writer.now) (g.W.Sink.taken c.serve_hub.new.writer) (g.W.Sink.taken c.tell_sessions.new.writer)
+    c.in_ok-rooms.rooms.items c.as_slice.result.now c.in_ok-serve_hub.ensures.same c.as_slice.ensures.value c.in_ok-serve_hub.ensures.told c.in_ok-rooms.ensures c.tell_sessions.ensures.lost

@@ -1,4 +1,4 @@
-use Rattle.std.proofs.Common.{◌∙◌}
+use Rattle.std.proofs.Common.{◌∙◌, sym}
 use Rattle.mps_wire.proofs.Calling.{unwritten_line, cut_line, sent_line}
 use Rattle.mps_wire.proofs.Conversing.{on_err_of}
 use Rattle.mps_wire.proofs.conversation.send_reply.Goals as goal
@@ -11,9 +11,14 @@ returns-in_err-make_reply-clause-err g c =
 pub returns-in-Ok-clause-ok : goal.returns-in-Ok-clause-ok
 returns-in-Ok-clause-ok g c =
     let t = c.in_ok-make_reply.ensures in
-    sent_line g.C.Caller _ _ _ t.0 t.1 _ _ _ (c.as_slice.ensures.value ∙ t.2) c.in-Ok.ensures.sent
+    sent_line g.C.Caller _ _ _ t.0 t.1 (sym c.may_tell.ensures ∙ c.if-not-may_tell.false) _ _ _ (c.as_slice.ensures.value ∙ t.2) c.in-Ok.ensures.sent
 
 pub returns-in-Err-clause-err : goal.returns-in-Err-clause-err
 returns-in-Err-clause-err g c =
     let t = c.in_ok-make_reply.ensures in
-    cut_line g.C.Caller _ _ _ t.0 t.1 _ _ _ (c.as_slice.ensures.value ∙ t.2) c.in-Err.ensures.front
+    cut_line g.C.Caller _ _ _ t.0 t.1 (sym c.may_tell.ensures ∙ c.if-not-may_tell.false) _ _ _ (c.as_slice.ensures.value ∙ t.2) c.in-Err.ensures.front
+
+pub returns-then-not-may_tell-clause-err : goal.returns-then-not-may_tell-clause-err
+returns-then-not-may_tell-clause-err g c =
+    let t = c.in_ok-make_reply.ensures in
+    unwritten_line g.C.Caller _ _ _ t.0 t.1 _

@@ -1,7 +1,7 @@
 use Rattle.std.proofs.Common.{rules, take, refl}
 use Rattle.mps_wire.specs.Streams.{streams}
 use Rattle.mps_wire.specs.Talk.{talks, talks_to_part}
-use Rattle.mps_wire.specs.declared.conversation.Broken.TheVariants.{Write, Memory}
+use Rattle.mps_wire.specs.declared.conversation.Broken.TheVariants.{Write, Memory, Untold}
 use Rattle.mps_wire.proofs.Conversing.{failed_is, goes_on, breaks_off, stays}
 use Rattle.mps_wire.proofs.Turning.{counts_at_end, counts_before_end, none_more, gave_some, none_taken}
 use Rattle.mps_wire.proofs.conversation.turn.Goals as goal
@@ -38,4 +38,12 @@ returns-in-Err-Memory-clause-step g c = λ start first h.
     let new = streams g.R.Source g.W.Sink c.read.new.self c.feed.new.writer in (
       breaks_off (talks g.C.Caller) start first old new _ _ h (talks_to_part g.C.Caller) (take c.in-Ok.count c.read.new.buf) _ c.in-Ok.ensures.bytes.0 c.in-Err-Memory.ensures.err,
       counts_before_end old new c.in-Ok.count c.args.block.now 0 c.in-Ok.ensures.failures c.in-Ok.ensures.ends c.if-count-eq0.false (failed_is _ Memory c.in-Err-Memory.field-0-is _ _ c.in-Err-Memory.ensures.writes),
+    )
+
+pub returns-in-Err-Untold-clause-step : goal.returns-in-Err-Untold-clause-step
+returns-in-Err-Untold-clause-step g c = λ start first h.
+    let old = streams g.R.Source g.W.Sink c.args.reader.now c.args.writer.now in
+    let new = streams g.R.Source g.W.Sink c.read.new.self c.feed.new.writer in (
+      breaks_off (talks g.C.Caller) start first old new _ _ h (talks_to_part g.C.Caller) (take c.in-Ok.count c.read.new.buf) _ c.in-Ok.ensures.bytes.0 c.in-Err-Untold.ensures.err,
+      counts_before_end old new c.in-Ok.count c.args.block.now 0 c.in-Ok.ensures.failures c.in-Ok.ensures.ends c.if-count-eq0.false (failed_is _ Untold c.in-Err-Untold.field-0-is _ _ c.in-Err-Untold.ensures.writes),
     )

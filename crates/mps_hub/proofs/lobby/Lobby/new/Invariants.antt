@@ -1,0 +1,9 @@
+use Rattle.std.proofs.Common.{◌≡◌, ◌≤◌, vec_len, vec_capacity}
+use Rattle.mps_hub.specs.declared.lobby.TheConstants.{MAX_OPEN}
+use Rattle.mps_hub.proofs.lobby.Lobby.new.Given as goal
+
+abbrev pub invariant-loop : goal.invariant-loop
+invariant-loop l = record {
+  count : vec_len l.streams ≡ l.counter;
+  room : MAX_OPEN ≤ vec_capacity l.streams;
+}

@@ -1,0 +1,17 @@
+use denote.Param.Send.{sendable}
+use Rattle.std.proofs.Common.{length}
+use Rattle.mps_hub.proofs.Serving.{more_kept}
+use Rattle.mps_hub.proofs.server.serve_kept.Goals as goal
+
+-- what the closure needs is what is known of the type parameters
+pub scoped-accepted-requires : goal.scoped-accepted-requires
+scoped-accepted-requires g c =
+    let t = c.type_bounds in
+    let s = t.send-S in
+    let r = t.sync-R in
+    let q = t.sync-G in
+    let d = t.sync-D in
+    record { at = λ a. (t.static-R, (t.static-G, (t.static-S, (t.static-D, (search sendable, search sendable, search sendable, search sendable))))) }
+
+pub returns-clause-unkept : goal.returns-clause-unkept
+returns-clause-unkept g c = more_kept (length c.args.keepers.now) c.counted.result c.counted.ensures.unkept

@@ -1,0 +1,24 @@
+//! What a server asks of its connections.
+
+use crate::patience::FIRST_LINE;
+use std::time::Duration;
+
+/// What a server asks of its connections.
+#[derive(Clone, Copy, Debug, PartialEq, Eq)]
+pub struct Limits {
+    /// How many are accepted. `None` is all that come: no more than `MAX_OPEN` at once then, each has to send its first line
+    /// within `FIRST_LINE` seconds, and one that can't be accepted is passed over.
+    pub connections: Option<u64>,
+    /// How long one may send nothing, or take none of its answers. `None` is for ever.
+    pub idle: Option<Duration>,
+}
+
+impl Limits {
+    // How long the first line is waited for.
+    pub(crate) fn first_line(&self) -> Option<Duration> {
+        match self.connections {
+            Some(_) => None,
+            None => Some(Duration::from_secs(FIRST_LINE)),
+        }
+    }
+}

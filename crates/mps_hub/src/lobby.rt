@@ -1,0 +1,129 @@
+//! The connections that are open, which can all be ended at once.
+
+use crate::limits::Limits;
+use std::alloc::{AllocError, Global};
+use std::net::{Shutdown, TcpListener, TcpStream};
+use std::os::fd::OwnedFd;
+use std::sync::{Arc, Condvar, Mutex, Wait};
+
+/// How many connections are open at once at most. Others wait in the system's queue.
+pub const MAX_OPEN: usize = 1_024;
+
+// The streams of the connections that are open, each at its place.
+#[derive(Drop)]
+struct Guests {
+    streams: Vec<Option<Arc<TcpStream, Global>>>,
+    closed: bool,
+}
+
+impl Guests {
+    // A place that is free.
+    fn free(&self) -> Option<usize> {
+        self.streams.iter().position(|stream| stream.is_none())
+    }
+}
+
+// The listener's socket as a stream, since a listener has no `shutdown`: with it a call of `accept` that waits comes back.
+fn bell_of(listener: &TcpListener) -> Option<TcpStream> {
+    match listener.try_clone() {
+        Ok(listener) => Some(TcpStream::from(OwnedFd::from(listener))),
+        Err(_) => None,
+    }
+}
+
+/// The connections that are open. Once it is closed no more are let in.
+#[derive(Drop)]
+pub(crate) struct Lobby {
+    limits: Limits,
+    // by which whoever waits for the next connection is woken
+    bell: Option<TcpStream>,
+    guests: Mutex<Guests>,
+    // woken when a connection left, or the lobby was closed
+    left: Condvar,
+}
+
+impl Lobby {
+    // A lobby in front of the listener.
+    pub(crate) fn new(
+        alloc: Global,
+        listener: &TcpListener,
+        limits: Limits,
+    ) -> Result<Lobby, AllocError> {
+        let mut streams = Vec::with_capacity(alloc, MAX_OPEN)?;
+        for _ in 0..MAX_OPEN {
+            streams.push_reserved(None);
+        }
+        let guests = Guests {
+            streams,
+            closed: false,
+        };
+        Ok(Lobby {
+            limits,
+            bell: bell_of(listener),
+            guests: Mutex::new(guests),
+            left: Condvar::new(),
+        })
+    }
+
+    // What is asked of the connections.
+    pub(crate) fn limits(&self) -> Limits {
+        self.limits
+    }
+
+    // The stream of the connection at that place.
+    pub(crate) fn stream<R: Wait>(&self, rt: &R, place: usize) -> Option<Arc<TcpStream, Global>> {
+        let guests = self.guests.lock(rt);
+        match guests.streams.get(place) {
+            Some(Some(stream)) => Arc::try_clone(stream).ok(),
+            _ => None,
+        }
+    }
+
+    // Waits until there is room for one more. Says whether one is let in.
+    pub(crate) fn has_room<R: Wait>(&self, rt: &R) -> bool {
+        let guests = self.left.wait_while(rt, self.guests.lock(rt), |guests| {
+            !guests.closed && guests.free().is_none()
+        });
+        !guests.closed
+    }
+
+    // Lets a connection in, if there is room for it, and gives its place.
+    pub(crate) fn enter<R: Wait>(&self, rt: &R, alloc: Global, stream: TcpStream) -> Option<usize> {
+        let stream = Arc::new(alloc, stream).ok()?;
+        let mut guests = self.guests.lock(rt);
+        if guests.closed {
+            return None;
+        }
+        let place = guests.free()?;
+        if place < guests.streams.len() {
+            guests.streams[place] = Some(stream);
+        }
+        Some(place)
+    }
+
+    // The connection at that place has ended.
+    pub(crate) fn leave<R: Wait>(&self, rt: &R, place: usize) {
+        let mut guests = self.guests.lock(rt);
+        if place < guests.streams.len() {
+            guests.streams[place] = None;
+        }
+        drop(guests);
+        self.left.notify_all();
+    }
+
+    // Ends all connections, and lets no more in.
+    pub(crate) fn close<R: Wait>(&self, rt: &R) {
+        let mut guests = self.guests.lock(rt);
+        guests.closed = true;
+        for stream in &guests.streams {
+            if let Some(stream) = stream {
+                let _ended = stream.shutdown(Shutdown::Both);
+            }
+        }
+        drop(guests);
+        self.left.notify_all();
+        if let Some(bell) = &self.bell {
+            let _rung = bell.shutdown(Shutdown::Both);
+        }
+    }
+}

@@ -1,0 +1,83 @@
+//! How long a connection is waited for.
+
+ghost use Rattle.std.specs.Io.{ReadsAtMost};
+
+use std::io;
+use std::io::{ErrorKind, Read};
+use std::net::TcpStream;
+use std::time::{Clock, Duration, Instant};
+
+/// For how many seconds a server that accepts connections without end waits for the first line of one.
+pub const FIRST_LINE: u64 = 10;
+
+// Reads what comes until a moment, and waits no longer than `longest` for it.
+pub(crate) fn read_until<R: Clock>(
+    clock: &R,
+    mut stream: &TcpStream,
+    until: Instant,
+    longest: Option<Duration>,
+    buf: &mut [u8],
+) -> io::Result<usize>
+    ensures { ReadsAtMost result buf.new }
+{
+    let left = until.saturating_duration_since(Instant::now(clock)?);
+    if left.is_zero() {
+        return Err(io::Error::from(ErrorKind::TimedOut));
+    }
+    let wait = longest.map_or(left, |longest| left.min(longest));
+    stream.set_read_timeout(Some(wait))?;
+    stream.read(buf)
+}
+
+// The moment after so long a time.
+pub(crate) fn moment_after<R: Clock>(clock: &R, time: Duration) -> Option<Instant> {
+    Instant::now(clock).ok()?.checked_add(time)
+}
+
+/// A connection's stream. Its first line has to have come by a moment, where there is one; after it each read waits as long
+/// as the connection may be idle.
+#[derive(Drop)]
+pub(crate) struct Patient<'s, R> {
+    clock: &'s R,
+    stream: &'s TcpStream,
+    until: Option<Instant>,
+    idle: Option<Duration>,
+}
+
+impl<'s, R: Clock> Patient<'s, R> {
+    // Waits so long for the first line, and then so long at each read; without an end, where it isn't said how long.
+    pub(crate) fn new(
+        clock: &'s R,
+        stream: &'s TcpStream,
+        first: Option<Duration>,
+        idle: Option<Duration>,
+    ) -> Patient<'s, R> {
+        let _set = stream.set_read_timeout(idle);
+        let _set = stream.set_write_timeout(idle);
+        let until = match first {
+            Some(first) => moment_after(clock, first),
+            None => None,
+        };
+        Patient {
+            clock,
+            stream,
+            until,
+            idle,
+        }
+    }
+}
+
+impl<R: Clock> Read for Patient<'_, R> {
+    fn read(&mut self, buf: &mut [u8]) -> io::Result<usize> {
+        let mut stream = self.stream;
+        let Some(until) = self.until else {
+            return stream.read(buf);
+        };
+        let count = read_until(self.clock, stream, until, self.idle, buf)?;
+        if buf[..count].contains(&b'\n') {
+            self.until = None;
+            stream.set_read_timeout(self.idle)?;
+        }
+        Ok(count)
+    }
+}

@@ -1,0 +1,103 @@
+//! Sessions that go on from where a kept journal left them.
+ghost use Rattle.std.specs.Prelude.{◌≡◌, ◌<◌, ◌^◌, ℕ, Err, IfErr, IfOk, length, slice_get, Some};
+ghost use Rattle.mps_cell.specs.declared.held.Held.{Held as HeldOf};
+ghost use Rattle.mps_keeper.specs.declared.restore.RestoreFault.TheVariants.{Line as AtLine};
+ghost use Rattle.mps_keeper.specs.declared.restore.Unaccepted.{Unaccepted as UnacceptedAs};
+ghost use Rattle.mps_hub.specs.Places.{IsOfSession, IsSession};
+ghost use Rattle.mps_hub.specs.Restoring.{AreSeated, HasRestored, HasFaulted, IsNoJournal};
+ghost use Rattle.mps_hub.specs.declared.restoring.SessionFault.TheVariants.{Journal as InJournal};
+
+use crate::desk::Desk;
+use mps_cell::Held;
+use mps_dev::Source;
+use mps_keeper::{RestoreFault, Restored, restore_from};
+use mps_room::Caller;
+use std::alloc::{AllocError, Global};
+use std::sync::Wait;
+
+/// Why a session was not restored.
+#[derive(Clone, Copy, Debug, PartialEq, Eq)]
+pub enum SessionFault {
+    /// A pass of it is in use.
+    Taken,
+    /// Memory ran out.
+    Memory,
+    /// Its journal was not restored.
+    Journal(RestoreFault),
+}
+
+impl From<AllocError> for SessionFault {
+    ghost use Rattle.mps_hub.specs.declared.restoring.SessionFault.TheVariants.{Memory as OutOfMemory};
+
+    ghost from_gives = { λ _ fault. fault ≡ OutOfMemory };
+
+    fn from(_: AllocError) -> SessionFault {
+        SessionFault::Memory
+    }
+}
+
+impl<'a> Desk<'a> {
+    // The passes of a session, each at its role.
+    fn take_all<'r, R: Wait>(
+        &self,
+        rt: &'r R,
+        alloc: Global,
+        session: u64,
+    ) -> Result<Vec<Held<'r, 'a, R>>, SessionFault>
+        requires { IsSession (length self.now.cells) session }
+        ensures count { IfOk result (λ held. length held.items ≡ length self.now.names) }
+        ensures seated { IfOk result (λ held. AreSeated self.now session (λ h. h.pass) held.items) }
+        ensures fault { IfErr result IsNoJournal }
+    {
+        let roles = self.roles().count();
+        let mut held = Vec::with_capacity(alloc, roles)?;
+        for role in 0..roles {
+            match self.take_role(rt, session, role) {
+                Some(pass) => held.push_reserved(Held { rt, pass }),
+                None => return Err(SessionFault::Taken),
+            }
+        }
+        Ok(held)
+    }
+
+    // Puts passes of a session back.
+    fn give_all<R: Wait>(&self, rt: &R, session: u64, mut held: Vec<Held<'_, 'a, R>>)
+        requires session { IsSession (length self.now.cells) session }
+        requires seated { AreSeated self.now session (λ h. h.pass) held.items }
+    {
+        while let Some(one) = held.pop() {
+            self.give(rt, session, one.pass);
+        }
+    }
+
+    /// Gives the command of each whole line of all that the source gives to its role's pass, in order, and then puts the
+    /// passes back. After a fault they are dropped.
+    pub fn restore<R: Wait + 'static, S: Source>(
+        &self,
+        rt: &R,
+        alloc: Global,
+        session: u64,
+        reader: &mut S,
+    ) -> Result<Restored, SessionFault>
+        requires session { IsSession (length self.now.cells) session }
+        requires reads { S.calls reader.old < 2 ^ 62 }
+        ensures ok { IfOk result (λ r. HasRestored ⟦<Held<'static, 'static, R> as Caller>⟧ (λ h. h.pass) S.Source self.now session
+            reader.old reader.new r.lines r.bytes) }
+        ensures fault { (line : ℕ) (why : UnacceptedAs)
+            → result ≡ Err (InJournal (AtLine (record { line = line; fault = why })))
+            → HasFaulted ⟦<Held<'static, 'static, R> as Caller>⟧ (λ h. h.pass) S.Source self.now session
+            reader.old reader.new line why }
+    {
+        let mut held = match self.take_all(rt, alloc, session) {
+            Ok(held) => held,
+            Err(fault) => return Err(fault),
+        };
+        match restore_from(alloc, self.roles(), &mut held, reader) {
+            Ok(restored) => {
+                self.give_all(rt, session, held);
+                Ok(restored)
+            }
+            Err(fault) => Err(SessionFault::Journal(fault)),
+        }
+    }
+}

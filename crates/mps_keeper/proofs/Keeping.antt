@@ -1,0 +1,135 @@
+-- What a conversation was answered is kept.
+use Rattle.std.proofs.Common.{◌≡◌, ℕ, Bool, true, false, List, [], ◌∷◌, ◌++◌, refl, sym, ap, subst, ◌∙◌, append_assoc, append-nil}
+use Rattle.std.specs.Prelude.{Option, if◌then◌else◌}
+use Rattle.mps_command.specs.declared.answer.Answer.{Answer}
+use Rattle.mps_command.specs.declared.answer.Answer.TheVariants as answers
+use Rattle.mps_command.specs.declared.command.Command.{Command}
+use Rattle.mps_line.specs.declared.write_replies.Reply.{Reply}
+use Rattle.mps_lines.specs.Lines.{ended}
+use Rattle.mps_room.specs.Callers.{entry}
+use Rattle.mps_room.specs.Journal.{is_accepted, grown}
+use Rattle.mps_room.specs.declared.caller.Caller.{Ghosts}
+use Rattle.mps_room.specs.declared.entry.Entry.{Entry}
+use Rattle.mps_room.specs.Numbers.{IsNumbered}
+use Rattle.mps_room.specs.declared.numbers.Told.{Told}
+use Rattle.mps_room.specs.declared.numbers.Told.TheVariants.{Fresh, Kept, Wrong, Refused}
+use Rattle.mps_wire.specs.Answers.{AnswersLines}
+use Rattle.mps_wire.specs.Talk.{RepliesTo, Unread, Called, Numbered, Starved, TalksLine, TalksAloud, TalksToPart, AnswersToPart, talks, talks_to_part}
+use Rattle.mps_wire.proofs.Calling.{whole_is_part}
+use Rattle.mps_keeper.specs.JournalLines.{SpellsJournalLine}
+use Rattle.mps_keeper.specs.Recorded.{IsRecorded, IsKept, IsSettled}
+use Rattle.mps_keeper.specs.Trails.{SpellEntries, KeptOn, ToldIsKept}
+use Rattle.std.specs.Io.KnownBytes.{Appends}
+use Rattle.mps_wire.proofs.Bytes.{Appends-none}
+use Rattle.mps_keeper.proofs.Taking.{took_more}
+use Rattle.mps_keeper.specs.declared.keep.Keep.{Ghosts as KeepGhosts}
+
+spell_all : (names : List (List ℕ)) (a : List (List ℕ)) (d : List Entry) (b : List (List ℕ)) (e : List Entry) → SpellEntries names a d → SpellEntries names b e → SpellEntries names (a ++ b) (d ++ e)
+spell_all names [] [] b e h k = k
+spell_all names (l ∷ a) (x ∷ d) b e h k = (h.0, spell_all names a d b e h.1 k)
+spell_all names [] (x ∷ d) b e h k = absurd h
+spell_all names (l ∷ a) [] b e h k = absurd h
+
+-- Callers of whose calls it is known what they keep.
+module _ {R : Type 0} (caller : Ghosts R) (keeps whole : R → Bool) (taken : R → Option (List ℕ)) where
+  -- where c keeps lines so does d; what was made from c to d is kept then, where d is whole
+  pub record Leads (c d : R) : Type 0 where
+    pub names : caller.names d ≡ caller.names c
+    pub same : keeps d ≡ keeps c
+    pub before : whole d ≡ true → whole c ≡ true
+    pub goes : keeps c ≡ true → whole d ≡ true → KeptOn (caller.names c) (taken c) (taken d) (caller.made c) (caller.made d)
+
+  nothing : (c : R) → KeptOn (caller.names c) (taken c) (taken c) (caller.made c) (caller.made c)
+  nothing c = record { lines = []; entries = []; grown = sym (append-nil (caller.made c)); spelled = tt; took = Appends-none (taken c) }
+
+  nowhere : (c : R) → Leads c c
+  nowhere c = record { names = refl; same = refl; before = λ w. w; goes = λ k w. nothing c }
+
+  stays : (c d : R) → d ≡ c → Leads c d
+  stays c d same = subst (Leads c) (sym same) (nowhere c)
+
+  joined : (c m d : R) → caller.names m ≡ caller.names c → KeptOn (caller.names c) (taken c) (taken m) (caller.made c) (caller.made m) → KeptOn (caller.names m) (taken m) (taken d) (caller.made m) (caller.made d) → KeptOn (caller.names c) (taken c) (taken d) (caller.made c) (caller.made d)
+  joined c m d names first next = record {
+    lines = first.lines ++ next.lines;
+    entries = first.entries ++ next.entries;
+    grown = next.grown ∙ ap (λ (l : List Entry). l ++ next.entries) first.grown ∙ append_assoc (caller.made c) first.entries next.entries;
+    spelled = spell_all (caller.names c) first.lines first.entries next.lines next.entries first.spelled (subst (λ (n : List (List ℕ)). SpellEntries n next.lines next.entries) names next.spelled);
+    took = took_more (taken c) (taken m) (taken d) first.lines next.lines first.took next.took;
+  }
+
+  further : (c m d : R) → Leads c m → Leads m d → Leads c d
+  further c m d h k = record {
+    names = k.names ∙ h.names;
+    same = k.same ∙ h.same;
+    before = λ w. h.before (k.before w);
+    goes = λ s w. joined c m d h.names (h.goes s (k.before w)) (k.goes (h.same ∙ s) w);
+  }
+
+  module _ (leads : (c : R) (x : Command) (a : Answer) (d : R) → caller.calls c x a d → Leads c d) where
+    came : (c : R) (number : ℕ) (command : Command) (d : R) (t : Told) → IsNumbered caller.calls caller.last caller.kept c number command d t → Leads c d
+    came c number command d Fresh n = leads c command n.answer d n.call
+    came c number command d Kept n = stays c d n.unchanged
+    came c number command d Wrong n = stays c d n.unchanged
+    came c number command d (Refused refusal) n = leads c command (answers.Refused refusal) d n.call
+
+    replied : (line : List ℕ) (c : R) (reply : Reply) (d : R) → RepliesTo caller line c reply d → Leads c d
+    replied line c reply d (Unread u) = stays c d u.unchanged
+    replied line c reply d (Called s) = leads c s.command s.answer d s.call
+    replied line c reply d (Numbered s) = came c s.number s.command d s.came s.numbered
+    replied line c reply d (Starved s) = stays c d s.unchanged
+
+    pub lines_lead : (lines : List (List ℕ)) (c : R) (out : List ℕ) (d : R) → AnswersLines (talks caller) lines c out d → Leads c d
+    lines_lead [] c out d a = stays c d a.1
+    lines_lead (l ∷ lines) c out d a = further c a.2 d (replied l c a.4.line_is.reply a.2 a.4.line_is.replies) (lines_lead lines a.2 a.1 d a.5)
+
+    pub part_leads : (lines : List (List ℕ)) (c : R) (out : List ℕ) (d : R) → AnswersToPart (talks caller) (talks_to_part caller) lines c out d → Leads c d
+    part_leads [] c out d a = stays c d a.1
+    part_leads (l ∷ []) c out d a = replied l c a.line_is.reply d a.line_is.replies
+    part_leads (l ∷ m ∷ lines) c out d a = further c a.2 d (replied l c a.4.line_is.reply a.2 a.4.line_is.replies) (part_leads (m ∷ lines) a.2 a.1 d a.5)
+
+    -- one line more in front of answers, of the last of which a part is written
+    longer : (l : List ℕ) (done : List (List ℕ)) (c m e : R) (out others : List ℕ) (text : List ℕ) → out ≡ ended text ++ others → TalksAloud caller l c text m → AnswersToPart (talks caller) (talks_to_part caller) done m others e → AnswersToPart (talks caller) (talks_to_part caller) (l ∷ done) c out e
+    longer l [] c m e out others text is line a =
+        let same : ended text ≡ out = sym (is ∙ ap (λ (x : List ℕ). ended text ++ x) a.0 ∙ append-nil (ended text)) in
+        subst (λ (o : List ℕ). TalksToPart caller l c o e) same (subst (λ (s : R). TalksToPart caller l c (ended text) s) (sym a.1) (whole_is_part caller l c text m line))
+    longer l (n ∷ done) c m e out others text is line a = (text, others, m, is, line, a)
+
+    at_last : (l : List ℕ) (c : R) (written : List ℕ) (d : R) → keeps c ≡ true → whole c ≡ true → ((r : R) → caller.may_tell r ≡ whole r) → (b : Bool) → whole d ≡ b → TalksToPart caller l c written d → ToldIsKept caller taken c written
+    at_last l c written d s w tells true on a = record { asked = l ∷ []; reached = d; answered = a; whole = tells d ∙ on; kept = (replied l c a.line_is.reply d a.line_is.replies).goes s on }
+    at_last l c written d s w tells false off a = record { asked = []; reached = c; answered = (a.silent (tells d ∙ off), refl); whole = tells c ∙ w; kept = nothing c }
+
+    pub told_is_kept : ((r : R) → caller.may_tell r ≡ whole r) → (lines : List (List ℕ)) (c : R) (written : List ℕ) (d : R) → keeps c ≡ true → whole c ≡ true → AnswersToPart (talks caller) (talks_to_part caller) lines c written d → ToldIsKept caller taken c written
+    told_is_kept tells [] c written d s w a = record { asked = []; reached = c; answered = (a.0, refl); whole = tells c ∙ w; kept = nothing c }
+    told_is_kept tells (l ∷ []) c written d s w a = at_last l c written d s w tells (whole d) refl a
+    told_is_kept tells (l ∷ m ∷ lines) c written d s w a =
+        let mid : whole a.2 ≡ true = sym (tells a.2) ∙ a.4.aloud in
+        let first = replied l c a.4.line_is.reply a.2 a.4.line_is.replies in
+        let more = told_is_kept tells (m ∷ lines) a.2 a.1 d (first.same ∙ s) mid a.5 in
+        record {
+          asked = l ∷ more.asked;
+          reached = more.reached;
+          answered = longer l more.asked c a.2 more.reached written a.1 a.0 a.3 a.4 more.answered;
+          whole = more.whole;
+          kept = joined c a.2 more.reached first.names (first.goes s mid) more.kept;
+        }
+
+-- One call that is recorded.
+module _ {K C : Type 0} (keep : KeepGhosts K) (caller : Ghosts C) where
+  settled : (k : K) (c : C) (command : Command) (k' : K) (d : C) (a : Answer) (b : Bool) → IsSettled keep caller k c command k' d b → caller.made d ≡ (if b then caller.made c ++ entry (caller.role c) command a ∷ [] else caller.made c) → KeptOn (caller.names c) (keep.taken k) (keep.taken k') (caller.made c) (caller.made d)
+  settled k c command k' d a true h grows = record {
+    lines = h.line ∷ [];
+    entries = entry (caller.role c) command a ∷ [];
+    grown = grows;
+    spelled = ((h.number, h.spelled), tt);
+    took = subst (Appends (keep.taken k) (keep.taken k')) (sym (append-nil (ended h.line))) h.kept;
+  }
+  settled k c command k' d a false h grows = record {
+    lines = [];
+    entries = [];
+    grown = grows ∙ sym (append-nil (caller.made c));
+    spelled = tt;
+    took = h;
+  }
+
+  pub recorded : (k : K) (c : C) (command : Command) (k' : K) (d : C) (a : Answer) → IsRecorded keep caller k c command k' d a → caller.made d ≡ grown (caller.made c) (caller.role c) command a → keep.keeps k ≡ true → keep.whole k' ≡ true → KeptOn (caller.names c) (keep.taken k) (keep.taken k') (caller.made c) (caller.made d)
+  recorded k c command k' d a h grows s w = settled k c command k' d a (is_accepted a) (h.kept s w) grows

@@ -1,0 +1,7 @@
+pub mod Lines
+pub mod Taking
+pub mod Keeping
+pub mod Restoring
+pub mod Rerunning
+pub mod Remaking
+pub mod Staying

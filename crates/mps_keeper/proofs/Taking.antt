@@ -1,0 +1,28 @@
+-- What a sink took of lines.
+use Rattle.std.proofs.Common.{◌≡◌, ℕ, List, [], ◌∷◌, ◌++◌, take, drop, Option, refl, sym, ap, subst, ◌∙◌}
+use Rattle.std.specs.Io.KnownBytes.{Appends}
+use Rattle.std.specs.List.{flat_map}
+use Rattle.std.proofs.lemmas.Grind.{flat_map-append}
+use Rattle.std.proofs.lemmas.List.{take-append-drop}
+use Rattle.mps_lines.specs.Lines.{ended}
+use Rattle.mps_wire.specs.Sending.{TookFront}
+use Rattle.mps_wire.proofs.Bytes.{Appends-trans}
+use Rattle.mps_keeper.specs.Books.{Took, TookToPart}
+
+-- lines after lines
+pub took_more : (a b c : Option (List ℕ)) (first next : List (List ℕ)) → Took a first b → Took b next c → Took a (first ++ next) c
+took_more a b c first next h k = subst (Appends a c) (sym (flat_map-append ended first next)) (Appends-trans a b c (flat_map ended first) (flat_map ended next) h k)
+
+-- lines after lines, as a text
+pub took_text : (a b c : Option (List ℕ)) (first next : List (List ℕ)) (text : List ℕ) → text ≡ flat_map ended next → Took a first b → Appends b c text → Took a (first ++ next) c
+took_text a b c first next text is h k = took_more a b c first next h (subst (Appends b c) is k)
+
+-- a front of what was to follow
+pub part_more : (start old new : Option (List ℕ)) (lines next : List (List ℕ)) (text : List ℕ) → text ≡ flat_map ended next → Took start lines old → TookFront old new text → TookToPart start lines new
+part_more start old new lines next text is took front = record {
+  next = next;
+  part = take front.count text;
+  others = drop front.count text;
+  front = sym is ∙ sym (take-append-drop front.count text);
+  took = Appends-trans start old new (flat_map ended lines) (take front.count text) took front.taken;
+}

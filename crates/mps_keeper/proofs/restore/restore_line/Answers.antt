@@ -1,0 +1,8 @@
+use Rattle.std.proofs.Common.{◌≡◌, ◌<◌, ℕ, List, length, arith, Err, refl, sym, ap, ◌∙◌}
+use Rattle.std.proofs.lemmas.Option.{slice_get_within, slice_get-get_or}
+use Rattle.std.specs.Prelude.{slice_get, slice_set, Some}
+use Rattle.mps_keeper.proofs.Restoring.{faulty_reading}
+use Rattle.mps_keeper.proofs.restore.restore_line.Goals as goal
+
+pub returns-in-Err-clause-faulty : goal.returns-in-Err-clause-faulty
+returns-in-Err-clause-faulty g c = faulty_reading g.C.Caller _ _ _ _ _ c.of_reading.ensures (λ e. c.in-Err.ensures.bad (ap Err e))

@@ -1,0 +1,9 @@
+pub mod JournalLines
+pub mod Books
+pub mod Holds
+pub mod Recorded
+pub mod Trails
+pub mod BookParts
+pub mod Restored
+pub mod RestoredFaults
+pub mod Remade

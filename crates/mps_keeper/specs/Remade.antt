@@ -1,0 +1,36 @@
+-- What a role makes of a kept journal.
+use Rattle.std.specs.Prelude.{◌≡◌, ◌≢◌, ℕ, ◌⊎◌, List, [], ◌∷◌, ◌++◌, Option}
+use Rattle.mps_command.specs.declared.answer.Answer.{Answer}
+use Rattle.mps_command.specs.declared.command.Command.{Command}
+use Rattle.mps_room.specs.Callers.{entry}
+use Rattle.mps_room.specs.declared.entry.Entry.{Entry}
+use Rattle.mps_keeper.specs.JournalLines.{SpellsJournalLine}
+
+-- the line is of the role at that place, and these are its entry and those of the lines after it
+pub record IsOwnLine (names : List (List ℕ)) (place role : ℕ) (line : List ℕ) (entries later : List Entry) : Type 0 where
+  pub number : Option ℕ
+  pub command : Command
+  pub spelled : SpellsJournalLine names line place number command
+  pub answer : Answer
+  pub first : entries ≡ entry role command answer ∷ later
+
+-- the line is another role's
+pub record IsOtherLine (names : List (List ℕ)) (place : ℕ) (line : List ℕ) : Type 0 where
+  pub role : ℕ
+  pub number : Option ℕ
+  pub command : Command
+  pub spelled : SpellsJournalLine names line role number command
+  pub other : role ≢ place
+
+-- the entries are those of the lines of the role at that place, in order
+abbrev pub AreOwn : (names : List (List ℕ)) → (place role : ℕ) → List (List ℕ) → List Entry → Type 0
+AreOwn names place role [] entries = entries ≡ []
+AreOwn names place role (line ∷ lines) entries =
+    ((later : List Entry) × IsOwnLine names place role line entries later × AreOwn names place role lines later)
+    ⊎ (IsOtherLine names place line × AreOwn names place role lines entries)
+
+-- a caller, and what it made of lines
+pub record HasRemade (role : ℕ) (made made' : List Entry) (names : List (List ℕ)) (place : ℕ) (lines : List (List ℕ)) : Type 0 where
+  pub entries : List Entry
+  pub grown : made' ≡ made ++ entries
+  pub own : AreOwn names place role lines entries

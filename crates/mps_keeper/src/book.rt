@@ -1,0 +1,134 @@
+//! The file of a journal while it is written.
+ghost use Rattle.std.specs.Prelude.{◌≡◌, ◌<◌, ◌^◌, ◌++◌, ℕ, List, Option, true, false, OnOk, OnErr};
+ghost use Rattle.std.specs.Io.KnownBytes.{Appends};
+ghost use Rattle.std.specs.List.{flat_map};
+ghost use Rattle.mps_lines.specs.Lines.{ended};
+ghost use Rattle.mps_keeper.specs.Books.{TookLines};
+
+use crate::keep::Keep;
+use mps_dev::{Failed, Sink};
+use mps_wire::sending::send_all;
+use thiserror::Error;
+
+/// Lines are not kept.
+#[derive(Clone, Copy, Debug, PartialEq, Eq, Error)]
+#[error("the lines are not kept")]
+pub struct NotKept;
+
+/// A sink of lines. Once a write failed it takes no more.
+#[derive(Drop)]
+pub struct Book<W: Sink> {
+    sink: W,
+    lines: u64,
+    whole: bool,
+    ghost few: { whole ≡ true → W.failed_calls sink < 2 ^ 63 },
+}
+
+impl<W: Sink> Book<W> {
+    ghost use Rattle.mps_keeper.specs.BookParts.{sink_of, lines_of, whole_of};
+
+    /// A book over a sink that has so many lines.
+    pub fn new(sink: W, lines: u64) -> Book<W>
+        requires { W.failed_calls sink < 2 ^ 63 }
+        ensures sink { sink_of result ≡ sink }
+        ensures lines { lines_of result ≡ lines }
+        ensures whole { whole_of result ≡ true }
+    {
+        Book {
+            sink,
+            lines,
+            whole: true,
+        }
+    }
+
+    /// How many lines it has.
+    pub fn lines(&self) -> u64
+        ensures { result ≡ lines_of self.now }
+    {
+        self.lines
+    }
+
+    /// Whether each line that came is there.
+    pub fn is_whole(&self) -> bool
+        ensures { result ≡ whole_of self.now }
+    {
+        self.whole
+    }
+
+    /// The sink.
+    pub fn sink(&self) -> &W
+        ensures { result.now ≡ sink_of self.now }
+    {
+        &self.sink
+    }
+
+    /// Takes no more lines.
+    pub fn lose(&mut self)
+        ensures whole { whole_of self.new ≡ false }
+        ensures sink { sink_of self.new ≡ sink_of self.old }
+        ensures lines { lines_of self.new ≡ lines_of self.old }
+    {
+        self.whole = false;
+    }
+
+    /// Adds lines, each with its LF, after which it has so many. After a failure nothing is added any more.
+    pub fn append(&mut self, text: &[u8], lines: u64) -> Result<(), NotKept>
+        ensures kept { OnOk result (Appends (W.taken (sink_of self.old)) (W.taken (sink_of self.new)) text.now) }
+        ensures lines { OnOk result (lines_of self.new ≡ lines) }
+        ensures before { OnOk result (whole_of self.old ≡ true) }
+        ensures ok { OnOk result (whole_of self.new ≡ true) }
+        ensures err { OnErr result (whole_of self.new ≡ false) }
+        ensures count { OnErr result (lines_of self.new ≡ lines_of self.old) }
+        ensures added { (start : Option (List ℕ)) (lines : List (List ℕ)) (next : List (List ℕ)) → text.now ≡ flat_map ended next
+            → TookLines start lines (whole_of self.old) (W.taken (sink_of self.old))
+            → OnOk result (TookLines start (lines ++ next) (whole_of self.new) (W.taken (sink_of self.new))) }
+        ensures part { (start : Option (List ℕ)) (lines : List (List ℕ)) (next : List (List ℕ)) → text.now ≡ flat_map ended next
+            → TookLines start lines (whole_of self.old) (W.taken (sink_of self.old))
+            → OnErr result (TookLines start lines (whole_of self.new) (W.taken (sink_of self.new))) }
+    {
+        if !self.whole {
+            return Err(NotKept);
+        }
+        match send_all(&mut self.sink, text) {
+            Ok(()) => {
+                self.lines = lines;
+                Ok(())
+            }
+            Err(Failed) => {
+                self.whole = false;
+                Err(NotKept)
+            }
+        }
+    }
+}
+
+/// A book that one caller has for itself: it waits for nobody.
+impl<W: Sink> Keep for Book<W> {
+    ghost use Rattle.mps_keeper.specs.BookParts.{sink_of, whole_of};
+
+    ghost keeps = { λ _. true };
+
+    ghost taken = { λ b. W.taken (sink_of b) };
+
+    ghost whole = { whole_of };
+
+    fn keeps(&self) -> bool {
+        true
+    }
+
+    fn is_whole(&self) -> bool {
+        self.whole
+    }
+
+    fn keep(&mut self, place: u64, line: &[u8]) {
+        if self.lines.checked_add(1) != Some(place) || self.append(line, place).is_err() {
+            self.lose();
+        }
+    }
+
+    fn settle(&mut self, _place: u64) {}
+
+    fn lose(&mut self) {
+        self.whole = false;
+    }
+}

@@ -1,0 +1,264 @@
+//! The file of a journal that the connections of a session share.
+ghost use Rattle.std.specs.Prelude.{◌≡◌, ◌+◌, ◌++◌, true, false};
+
+use crate::book::Book;
+use crate::journal_lines::LONGEST_LINE;
+use crate::keep::Keep;
+use mps_base::MAX_ROLES;
+use mps_dev::Sink;
+use std::alloc::{AllocError, Global};
+use std::fs::File;
+use std::mem;
+use std::sync::atomic::{AtomicBool, AtomicU64, Ordering};
+use std::sync::{Condvar, Mutex, Wait};
+
+/// A disk that can be told to keep what was written.
+pub trait Disk {
+    /// Says whether all that was written is kept.
+    fn sync(&self) -> bool;
+}
+
+impl Disk for File {
+    fn sync(&self) -> bool {
+        self.sync_data().is_ok()
+    }
+}
+
+// The lines that wait to be written, in order.
+#[derive(Drop)]
+struct Waiting {
+    text: Vec<u8>,
+    // how many lines came so far, those that are written included
+    lines: u64,
+    whole: bool,
+}
+
+impl Waiting {
+    // Adds the line of that place, which has to be the next one.
+    fn add(&mut self, place: u64, line: &[u8])
+        ensures once { self.new.whole ≡ true → self.old.whole ≡ true }
+        ensures place { self.new.whole ≡ true → place ≡ self.old.lines + 1 }
+        ensures lines { self.new.whole ≡ true → self.new.lines ≡ place }
+        ensures text { self.new.whole ≡ true → self.new.text.items ≡ self.old.text.items ++ line.now }
+        ensures lost { self.new.whole ≡ false → self.new.text.items ≡ self.old.text.items }
+    {
+        if self.whole
+            && self.lines.checked_add(1) == Some(place)
+            && self.text.extend_from_slice(line).is_ok()
+        {
+            self.lines = place;
+        } else {
+            self.whole = false;
+        }
+    }
+}
+
+// The file, and the room that the lines are handed over in.
+#[derive(Drop)]
+struct Desk<W: Sink> {
+    book: Book<W>,
+    text: Vec<u8>,
+}
+
+/// The file of a session's journal, one for all of its connections. Lines gather in the order of their places, and one
+/// connection writes all that gathered, and syncs them where that is asked for, for all that wait.
+#[derive(Drop)]
+pub struct Keeper<W: Sink, D> {
+    waiting: Mutex<Waiting>,
+    // woken when a line came, or was lost
+    came: Condvar,
+    // who has it writes
+    desk: Mutex<Desk<W>>,
+    // where lines are kept only once the disk says so
+    disk: Option<D>,
+    // how many lines are kept
+    kept: AtomicU64,
+    lost: AtomicBool,
+}
+
+// Room for a line of each connection that a session can have.
+fn lines_room(alloc: Global) -> Result<Vec<u8>, AllocError> {
+    Vec::with_capacity(alloc, MAX_ROLES * LONGEST_LINE)
+}
+
+impl<W: Sink + Drop, D: Drop> Keeper<W, D> {
+    /// A keeper over this book. Where a disk is given, a line is kept once it says so.
+    pub fn new(alloc: Global, book: Book<W>, disk: Option<D>) -> Result<Keeper<W, D>, AllocError> {
+        let lines = book.lines();
+        let text = lines_room(alloc)?;
+        let waiting = Waiting {
+            text: lines_room(alloc)?,
+            lines,
+            whole: true,
+        };
+        Ok(Keeper {
+            waiting: Mutex::new(waiting),
+            came: Condvar::new(),
+            desk: Mutex::new(Desk { book, text }),
+            disk,
+            kept: AtomicU64::new(lines),
+            lost: AtomicBool::new(false),
+        })
+    }
+}
+
+impl<W: Sink, D> Keeper<W, D> {
+    /// Whether a line was lost.
+    pub fn is_broken(&self) -> bool {
+        self.lost.load(Ordering::SeqCst)
+    }
+
+    // Whether so many lines are kept, and none is lost.
+    fn has_kept(&self, place: u64) -> bool {
+        !self.is_broken() && self.kept.load(Ordering::SeqCst) >= place
+    }
+
+    // Gives up the line that is next, and so all after it.
+    fn lose<R: Wait>(&self, rt: &R) {
+        self.lost.store(true, Ordering::SeqCst);
+        let mut waiting = self.waiting.lock(rt);
+        waiting.whole = false;
+        drop(waiting);
+        self.came.notify_all();
+    }
+
+    // Adds the line of that place to those that wait, once those before it came.
+    fn gather<R: Wait>(&self, rt: &R, place: u64, line: &[u8]) {
+        let mut waiting = self.came.wait_while(rt, self.waiting.lock(rt), |w| {
+            w.whole && w.lines.saturating_add(1) < place
+        });
+        waiting.add(place, line);
+        drop(waiting);
+        self.came.notify_all();
+    }
+
+    // Waits until so many lines came.
+    fn reach<R: Wait>(&self, rt: &R, place: u64) {
+        let waiting = self
+            .came
+            .wait_while(rt, self.waiting.lock(rt), |w| w.whole && w.lines < place);
+        drop(waiting);
+    }
+
+    // Hands over the lines that wait. Says how many there are now, if none is lost.
+    fn hand_over<R: Wait>(&self, rt: &R, text: &mut Vec<u8>) -> Option<u64> {
+        let mut waiting = self.waiting.lock(rt);
+        if !waiting.whole {
+            return None;
+        }
+        mem::swap(&mut waiting.text, text);
+        Some(waiting.lines)
+    }
+}
+
+impl<W: Sink, D: Disk> Keeper<W, D> {
+    // Writes the lines that were handed over, and syncs them. Says whether they are kept.
+    fn write(&self, desk: &mut Desk<W>, lines: u64) -> bool {
+        let written = desk.book.append(desk.text.as_slice(), lines).is_ok();
+        desk.text.clear();
+        match &self.disk {
+            Some(disk) => written && disk.sync(),
+            None => written,
+        }
+    }
+
+    // Has the lines kept that wait, unless they are by then. Says whether so many are. Nothing is written after a failure,
+    // and nothing synced, since the next sync may succeed although lines were lost.
+    fn flush<R: Wait>(&self, rt: &R, place: u64) -> bool {
+        if self.has_kept(place) {
+            return true;
+        }
+        let mut desk = self.desk.lock(rt);
+        if self.has_kept(place) {
+            return true;
+        }
+        let kept = match self.hand_over(rt, &mut desk.text) {
+            Some(lines) if desk.book.is_whole() && lines >= place => {
+                self.write(&mut desk, lines).then_some(lines)
+            }
+            _ => None,
+        };
+        match kept {
+            Some(lines) => self.kept.store(lines, Ordering::SeqCst),
+            None => {
+                desk.book.lose();
+                self.lose(rt);
+            }
+        }
+        kept.is_some()
+    }
+}
+
+/// One connection's hold of a keeper, or of none.
+#[derive(Drop)]
+pub struct Hold<'k, R, W: Sink, D> {
+    rt: &'k R,
+    keeper: Option<&'k Keeper<W, D>>,
+    whole: bool,
+}
+
+impl<'k, R, W: Sink, D> Hold<'k, R, W, D> {
+    ghost use Rattle.mps_keeper.specs.Holds.{keeps_of, whole_of};
+    ghost use Rattle.std.specs.Option.{is_some};
+
+    /// A hold of the keeper; of none, where nothing is kept.
+    pub fn new(rt: &'k R, keeper: Option<&'k Keeper<W, D>>) -> Hold<'k, R, W, D>
+        ensures keeps { keeps_of result ≡ is_some keeper.entry }
+        ensures whole { whole_of result ≡ true }
+    {
+        Hold {
+            rt,
+            keeper,
+            whole: true,
+        }
+    }
+}
+
+impl<'k, R: Wait, W: Sink, D: Disk> Keep for Hold<'k, R, W, D> {
+    ghost use Rattle.std.specs.Prelude.{None};
+    ghost use Rattle.mps_keeper.specs.Holds.{keeps_of, whole_of};
+
+    ghost keeps = { keeps_of };
+
+    ghost taken = { λ _. None };
+
+    ghost whole = { whole_of };
+
+    fn keeps(&self) -> bool {
+        self.keeper.is_some()
+    }
+
+    fn is_whole(&self) -> bool {
+        self.whole
+    }
+
+    fn keep(&mut self, place: u64, line: &[u8]) {
+        let Some(keeper) = self.keeper else {
+            return;
+        };
+        keeper.gather(self.rt, place, line);
+        if !keeper.flush(self.rt, place) {
+            self.whole = false;
+        }
+    }
+
+    fn settle(&mut self, place: u64) {
+        let Some(keeper) = self.keeper else {
+            return;
+        };
+        if keeper.has_kept(place) {
+            return;
+        }
+        keeper.reach(self.rt, place);
+        if !keeper.flush(self.rt, place) {
+            self.whole = false;
+        }
+    }
+
+    fn lose(&mut self) {
+        if let Some(keeper) = self.keeper {
+            keeper.lose(self.rt);
+        }
+        self.whole = false;
+    }
+}

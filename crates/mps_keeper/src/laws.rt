@@ -1,0 +1,82 @@
+//! Laws of a kept journal.
+ghost use Rattle.std.specs.Prelude.{◌≡◌, ◌≢◌, ℕ, List, [], ◌∷◌, ◌++◌, ◌⊎◌, Option, None, Some, slice_get, true};
+ghost use Rattle.std.specs.List.{AllByRecursion};
+ghost use Rattle.mps_base.specs.RoleLists.{AreDistinct};
+ghost use Rattle.mps_command.specs.declared.command.Command.{Command};
+ghost use Rattle.mps_command.specs.declared.answer.Answer.{Answer};
+ghost use Rattle.mps_command.specs.declared.answer.Answer.TheVariants.{Refused};
+ghost use Rattle.mps_command.specs.declared.answer.Refusal.TheVariants.{Memory};
+ghost use Rattle.mps_local.specs.Local.{LocalType};
+ghost use Rattle.mps_room.specs.Journal.{grown, reply, IsLegal, IsReply};
+ghost use Rattle.mps_room.specs.declared.entry.Entry.{Entry};
+ghost use Rattle.mps_line.specs.Commands.{SpellsScriptLine};
+ghost use Rattle.mps_keeper.specs.JournalLines.{SpellsJournalLine};
+ghost use Rattle.mps_keeper.specs.Remade.{HasRemade};
+ghost use Rattle.mps_keeper.specs.Restored.{LinesRestored};
+ghost use Rattle.mps_keeper.specs.Trails.{KeptOn, ToldIsKept};
+ghost use Rattle.mps_keeper.specs.declared.recorded.Recorded.{Recorded as RecordedOf};
+ghost use Rattle.mps_wire.specs.Answers.{AnswersLines};
+ghost use Rattle.mps_wire.specs.Talk.{AnswersToPart, talks, talks_to_part};
+
+use crate::keep::{Keep, Seated};
+use crate::recorded::Recorded;
+use mps_line::laws::one_numbered;
+use mps_room::Caller;
+
+/// A kept line has at most one role, one number and one command where no two roles have one name, and these have one line,
+/// with no line break in it. One without a number is a script's line.
+pub fn one_journal_line()
+    ensures role { (names : List (List ℕ)) (a : List ℕ) (p q : ℕ) (m n : Option ℕ) (c d : Command) → AreDistinct names
+        → SpellsJournalLine names a p m c → SpellsJournalLine names a q n d → p ≡ q }
+    ensures number { (names : List (List ℕ)) (a : List ℕ) (p q : ℕ) (m n : Option ℕ) (c d : Command)
+        → SpellsJournalLine names a p m c → SpellsJournalLine names a q n d → m ≡ n }
+    ensures command { (names : List (List ℕ)) (a : List ℕ) (p q : ℕ) (m n : Option ℕ) (c d : Command) → AreDistinct names
+        → SpellsJournalLine names a p m c → SpellsJournalLine names a q n d → c ≡ d }
+    ensures spelling { (names : List (List ℕ)) (a b : List ℕ) (p : ℕ) (n : Option ℕ) (c : Command)
+        → SpellsJournalLine names a p n c → SpellsJournalLine names b p n c → a ≡ b }
+    ensures no_line_feed { (names : List (List ℕ)) (a : List ℕ) (p : ℕ) (n : Option ℕ) (c : Command)
+        → SpellsJournalLine names a p n c → AllByRecursion (λ c. c ≢ 10) a }
+    ensures script { (names : List (List ℕ)) (a : List ℕ) (p : ℕ) (c : Command)
+        → SpellsJournalLine names a p None c → SpellsScriptLine names a p c }
+{
+    one_numbered();
+}
+
+/// The commands of a legal journal, run again from the opening: after those before it each gets the answer that it had, and
+/// leaves the journal that it left, unless memory runs out.
+pub fn a_legal_journal_runs_again()
+    ensures answer { (names : List (List ℕ)) (types : List LocalType) (before : List Entry) (e : Entry) (after : List Entry)
+        → IsLegal names types (before ++ e ∷ after) → (answer : Answer)
+        → IsReply answer (reply names types before e.role e.command)
+        → (answer ≡ e.answer) ⊎ (answer ≡ Refused Memory) }
+    ensures journal { (names : List (List ℕ)) (types : List LocalType) (before : List Entry) (e : Entry) (after : List Entry)
+        → IsLegal names types (before ++ e ∷ after) → grown before e.role e.command e.answer ≡ before ++ e ∷ [] }
+{}
+
+/// Where nothing was lost, what the keeper took while a conversation was answered are the lines of the commands that it
+/// made, in order. So it is where the last answer is written in part. And whatever was lost: what was written to a
+/// conversation are the answers up to where nothing was lost.
+pub fn what_is_answered_is_kept<K: Keep, C: Seated>()
+    ensures whole { (asked : List (List ℕ)) (before : RecordedOf K C) (out : List ℕ) (after : RecordedOf K C)
+        → AnswersLines (talks ⟦<Recorded<K, C> as Caller>⟧) asked before out after
+        → K.keeps before.keeper ≡ true → K.whole after.keeper ≡ true
+        → KeptOn (C.names before.inner) (K.taken before.keeper) (K.taken after.keeper)
+        (C.made before.inner) (C.made after.inner) }
+    ensures part { (asked : List (List ℕ)) (before : RecordedOf K C) (out : List ℕ) (after : RecordedOf K C)
+        → AnswersToPart (talks ⟦<Recorded<K, C> as Caller>⟧) (talks_to_part ⟦<Recorded<K, C> as Caller>⟧) asked before out after
+        → K.keeps before.keeper ≡ true → K.whole after.keeper ≡ true
+        → KeptOn (C.names before.inner) (K.taken before.keeper) (K.taken after.keeper)
+        (C.made before.inner) (C.made after.inner) }
+    ensures told { (asked : List (List ℕ)) (before : RecordedOf K C) (written : List ℕ) (after : RecordedOf K C)
+        → AnswersToPart (talks ⟦<Recorded<K, C> as Caller>⟧) (talks_to_part ⟦<Recorded<K, C> as Caller>⟧) asked before written after
+        → K.keeps before.keeper ≡ true → K.whole before.keeper ≡ true
+        → ToldIsKept ⟦<Recorded<K, C> as Caller>⟧ (λ r. K.taken r.keeper) before written }
+{}
+
+/// After lines were restored, the caller at each place made the entries of its role's lines, in order, and no others.
+pub fn restoring_makes_the_entries<C: Caller>()
+    ensures { (names : List (List ℕ)) (place : ℕ) (lines : List (List ℕ)) (callers : List C) (callers_after : List C) (before : C)
+        → LinesRestored C.Caller names callers lines callers_after → slice_get callers place ≡ Some before
+        → (after : C) × (slice_get callers_after place ≡ Some after)
+        × HasRemade (C.role before) (C.made before) (C.made after) names place lines }
+{}

@@ -1,0 +1,159 @@
+//! A caller whose accepted commands are kept.
+ghost use Rattle.std.specs.Prelude.{◌≡◌, ℕ, Bool, true, false, List, [], Option, IsTrue};
+ghost use Rattle.std.specs.Io.KnownBytes.{Appends};
+ghost use Rattle.mps_command.specs.declared.command.Command.{Command as Asked};
+ghost use Rattle.mps_lines.specs.Lines.{ended};
+ghost use Rattle.mps_room.specs.Journal.{is_accepted};
+ghost use Rattle.mps_keeper.specs.JournalLines.{SpellsJournalLine};
+ghost use Rattle.mps_keeper.specs.Recorded.{IsRecorded};
+
+use crate::journal_lines::{has_journal_line, write_journal_line};
+use crate::keep::{Keep, Seated};
+use mps_base::Roles;
+use mps_command::{Answer, Command};
+use mps_room::{Caller, Told};
+
+/// A caller whose accepted commands a keeper keeps. Once a line is lost, what it is answered may not be told on.
+#[derive(Drop)]
+pub struct Recorded<K, C> {
+    pub keeper: K,
+    pub inner: C,
+    pub line: Vec<u8>,
+}
+
+impl<K: Keep, C: Seated> Recorded<K, C> {
+    /// A caller whose commands the keeper keeps. It waits until what the caller has seen is kept, since a line that comes
+    /// again is answered without a call.
+    ///
+    /// A line is made in `line`. With room for `LONGEST_LINE` bytes none is lost for want of memory.
+    pub fn new(keeper: K, inner: C, line: Vec<u8>) -> Recorded<K, C>
+        ensures inner { result.inner ≡ inner }
+        ensures same { K.keeps result.keeper ≡ K.keeps keeper }
+        ensures once { K.whole result.keeper ≡ true → K.whole keeper ≡ true }
+        ensures settled { K.keeps keeper ≡ true → K.whole result.keeper ≡ true
+            → Appends (K.taken keeper) (K.taken result.keeper) [] }
+        ensures idle { K.keeps keeper ≡ false → result.keeper ≡ keeper }
+    {
+        let mut keeper = keeper;
+        if keeper.keeps() {
+            keeper.settle(inner.seen());
+        }
+        Recorded {
+            keeper,
+            inner,
+            line,
+        }
+    }
+
+    // Puts the line of the command into the buffer. Says whether it is there.
+    fn put_line(&mut self, number: Option<u64>, command: &Command) -> bool
+        ensures keeper { self.new.keeper ≡ self.old.keeper }
+        ensures inner { self.new.inner ≡ self.old.inner }
+        ensures put { IsTrue result → (line : List ℕ) × (self.new.line.items ≡ ended line)
+            × SpellsJournalLine (C.names self.old.inner) line (C.role self.old.inner) number command.now }
+    {
+        self.line.clear();
+        let role = self.inner.seat();
+        if !has_journal_line(self.inner.roles(), role, command) {
+            return false;
+        }
+        if write_journal_line(self.inner.roles(), role, number, command, &mut self.line).is_err() {
+            return false;
+        }
+        self.line.push(b'\n').is_ok()
+    }
+
+    // Keeps the line where the command was accepted, and else waits for what it was shown.
+    fn record(&mut self, accepted: bool, put: bool)
+        ensures inner { self.new.inner ≡ self.old.inner }
+        ensures same { K.keeps self.new.keeper ≡ K.keeps self.old.keeper }
+        ensures once { K.whole self.new.keeper ≡ true → K.whole self.old.keeper ≡ true }
+        ensures kept { K.whole self.new.keeper ≡ true → accepted ≡ true
+            → IsTrue put × Appends (K.taken self.old.keeper) (K.taken self.new.keeper) self.old.line.items }
+        ensures settled { K.whole self.new.keeper ≡ true → accepted ≡ false
+            → Appends (K.taken self.old.keeper) (K.taken self.new.keeper) [] }
+    {
+        let place = self.inner.seen();
+        if !accepted {
+            self.keeper.settle(place);
+        } else if put {
+            self.keeper.keep(place, self.line.as_slice());
+        } else {
+            self.keeper.lose();
+        }
+    }
+}
+
+// Whether the answer accepts a change.
+pub(crate) fn is_accepted(answer: &Answer) -> bool
+    ensures { result ≡ is_accepted answer.now }
+{
+    match answer {
+        Answer::Done(_) => true,
+        Answer::Undone(_) => true,
+        _ => false,
+    }
+}
+
+impl<K: Keep, C: Seated> Caller for Recorded<K, C> {
+    ghost names = { λ r. C.names r.inner };
+
+    ghost role = { λ r. C.role r.inner };
+
+    ghost made = { λ r. C.made r.inner };
+
+    ghost calls = { λ r c a s. IsRecorded K.Keep C.Caller r.keeper r.inner c s.keeper s.inner a };
+
+    ghost last = { λ r. C.last r.inner };
+
+    ghost kept = { λ r. C.kept r.inner };
+
+    ghost may_tell = { λ r. K.whole r.keeper };
+
+    fn roles(&self) -> &Roles {
+        self.inner.roles()
+    }
+
+    fn call(&mut self, command: Command) -> Answer {
+        if !self.keeper.keeps() {
+            return self.inner.call(command);
+        }
+        let put = self.put_line(None, &command);
+        let answer = self.inner.call(command);
+        self.record(is_accepted(&answer), put);
+        answer
+    }
+
+    fn last(&self) -> u64 {
+        self.inner.last()
+    }
+
+    fn kept(&self) -> Option<&Answer> {
+        self.inner.kept()
+    }
+
+    fn call_numbered(&mut self, number: u64, command: Command) -> Told {
+        if !self.keeper.keeps() || number.checked_sub(1) != Some(self.inner.last()) {
+            return self.inner.call_numbered(number, command);
+        }
+        let put = self.put_line(Some(number), &command);
+        let told = self.inner.call_numbered(number, command);
+        match told {
+            Told::Fresh => self.record(true, put),
+            Told::Refused(_) => self.record(false, put),
+            Told::Kept => unreachable!(),
+            Told::Wrong => unreachable!(),
+        }
+        told
+    }
+
+    fn may_tell(&self) -> bool {
+        self.keeper.is_whole()
+    }
+
+    ghost same_names = { λ r c a s t. C.same_names r.inner c a s.inner t.call };
+
+    ghost same_role = { λ r c a s t. C.same_role r.inner c a s.inner t.call };
+
+    ghost grows = { λ r c a s t. C.grows r.inner c a s.inner t.call };
+}

@@ -1,0 +1,211 @@
+//! How callers are brought to where a kept journal left them.
+ghost use Rattle.std.specs.Prelude.{◌≡◌, ◌+◌, length, ℕ, Err, Ok, true, IsSome, IsTrue, false, ◌<◌, ◌^◌, IfOk, IfErr, OnOk};
+ghost use Rattle.mps_command.specs.Changes.{change_of};
+ghost use Rattle.mps_keeper.specs.Restored.{IsAcceptedOf, IsRefusedOf, LineRestored};
+ghost use Rattle.mps_keeper.specs.RestoredFaults.{of_reading, IsRestoredTo, IsFirstFault, IsFaulty, RestoredFrom, FaultFrom};
+ghost use Rattle.mps_keeper.specs.RestoredFaults.{IsNoLine, ReadsMore};
+ghost use Rattle.mps_keeper.specs.declared.restore.Unaccepted.{Unaccepted as UnacceptedAs};
+ghost use Rattle.mps_keeper.specs.declared.restore.RestoreFault.TheVariants.{Line as AtLine, Memory as NoMemory};
+ghost use Rattle.std.specs.Io.KnownBytes.{Consumes, IsAtEnd};
+
+use crate::journal_lines::{asks_for_change, read_journal_line};
+use crate::recorded::is_accepted;
+use mps_base::Roles;
+use mps_command::Command;
+use mps_dev::Source;
+use mps_line::LineFault;
+use mps_lines::line_end;
+use mps_room::{Caller, Told};
+use std::alloc::{AllocError, Global};
+
+/// Why a line was not restored.
+#[derive(Clone, Copy, Debug, PartialEq, Eq)]
+pub enum Unaccepted {
+    /// It spells no command.
+    Bad,
+    /// Its command wasn't accepted.
+    Refused,
+    /// Memory ran out while it was read.
+    Memory,
+}
+
+/// The first line that was not restored, counted from 1.
+#[derive(Clone, Copy, Debug, PartialEq, Eq)]
+pub struct NotRestored {
+    pub line: u64,
+    pub fault: Unaccepted,
+}
+
+/// Why callers were not restored from a source.
+#[derive(Clone, Copy, Debug, PartialEq, Eq)]
+pub enum RestoreFault {
+    /// A read failed, or the source gives more than is ever read.
+    Read,
+    /// Memory ran out while it was read.
+    Memory,
+    /// The first line that was not restored.
+    Line(NotRestored),
+}
+
+impl From<AllocError> for RestoreFault {
+    ghost from_gives = { λ _ e. e ≡ NoMemory };
+
+    fn from(_e: AllocError) -> RestoreFault {
+        RestoreFault::Memory
+    }
+}
+
+/// How many bytes are asked for at a time.
+pub const BLOCK: usize = 65_536;
+
+/// How often a source is read from at most.
+pub const MOST_READS: u64 = 1_000_000;
+
+/// How many bytes of a source are read at most: more than a journal of 100,000 entries has.
+pub const MOST_BYTES: usize = 67_108_864;
+
+/// How many lines were restored, and how many bytes they have with their LFs.
+#[derive(Clone, Copy, Debug, PartialEq, Eq)]
+pub struct Restored {
+    pub lines: u64,
+    pub bytes: usize,
+}
+
+// Gives the command to the caller. Says whether it was accepted.
+fn call_kept<C: Caller>(caller: &mut C, number: Option<u64>, command: Command) -> bool
+    requires { IsSome (change_of command) }
+    ensures accepted { IsTrue result → IsAcceptedOf C.Caller caller.old number command caller.new }
+    ensures refused { result ≡ false → IsRefusedOf C.Caller caller.old number command caller.new }
+{
+    match number {
+        Some(n) => matches!(caller.call_numbered(n, command), Told::Fresh),
+        None => is_accepted(&caller.call(command)),
+    }
+}
+
+// Why the line can't be read.
+fn of_reading(fault: LineFault) -> Unaccepted
+    ensures { result ≡ of_reading fault }
+{
+    match fault {
+        LineFault::Bad => Unaccepted::Bad,
+        LineFault::Memory => Unaccepted::Memory,
+    }
+}
+
+// Gives the line's command to its role's caller.
+fn restore_line<C: Caller>(
+    alloc: Global,
+    roles: &Roles,
+    callers: &mut Vec<C>,
+    line: &[u8],
+) -> Result<(), Unaccepted>
+    requires { length callers.old.items ≡ length roles.now }
+    ensures length { length callers.new.items ≡ length callers.old.items }
+    ensures ok { OnOk result (LineRestored C.Caller roles.now callers.old.items line.now callers.new.items) }
+    ensures faulty { IfErr result (IsFaulty C.Caller roles.now callers.old.items line.now) }
+{
+    let kept = match read_journal_line(alloc, roles, line) {
+        Ok(kept) => kept,
+        Err(fault) => return Err(of_reading(fault)),
+    };
+    if call_kept(&mut callers[kept.role.index()], kept.number, kept.command) {
+        Ok(())
+    } else {
+        Err(Unaccepted::Refused)
+    }
+}
+
+/// Gives the command of each whole line to its role's caller, in order. Each has to be accepted. A rest without LF is not
+/// looked at.
+pub fn restore_lines<C: Caller>(
+    alloc: Global,
+    roles: &Roles,
+    callers: &mut Vec<C>,
+    bytes: &[u8],
+) -> Result<Restored, NotRestored>
+    requires { length callers.old.items ≡ length roles.now }
+    ensures ok { IfOk result (λ r. IsRestoredTo C.Caller roles.now callers.old.items bytes.now callers.new.items r.lines r.bytes) }
+    ensures err { IfErr result (λ fault. IsFirstFault C.Caller roles.now callers.old.items bytes.now fault.line fault.fault) }
+{
+    let mut rest = bytes;
+    let mut lines = 0;
+    while let Some(k) = line_end(rest) {
+        match restore_line(alloc, roles, callers, &rest[..k]) {
+            Ok(()) => {}
+            Err(fault) => {
+                return Err(NotRestored {
+                    line: lines + 1,
+                    fault,
+                });
+            }
+        }
+        lines += 1;
+        rest = &rest[k + 1..];
+    }
+    Ok(Restored {
+        lines,
+        bytes: bytes.len() - rest.len(),
+    })
+}
+
+// Reads once, and adds what was read. Says whether that was the end.
+fn read_once<R: Source>(
+    reader: &mut R,
+    all: &mut Vec<u8>,
+    block: &mut [u8],
+) -> Result<bool, RestoreFault>
+    requires space { 0 < length block.old }
+    requires reads { R.calls reader.old < 2 ^ 63 }
+    ensures reads { R.calls reader.new ≡ R.calls reader.old + 1 }
+    ensures more { OnOk result (ReadsMore (R.remaining reader.old) (R.remaining reader.new) all.old.items all.new.items) }
+    ensures end { result ≡ Ok true → IsAtEnd (R.remaining reader.new) }
+    ensures no_line { IfErr result IsNoLine }
+{
+    let Ok(count) = reader.read(block) else {
+        return Err(RestoreFault::Read);
+    };
+    all.extend_from_slice(&block[..count])?;
+    Ok(count == 0)
+}
+
+// All that the source gives.
+fn read_all<R: Source>(alloc: Global, reader: &mut R) -> Result<Vec<u8>, RestoreFault>
+    requires { R.calls reader.old < 2 ^ 62 }
+    ensures bytes { IfOk result (λ all. Consumes (R.remaining reader.old) (R.remaining reader.new) all.items) }
+    ensures end { OnOk result (IsAtEnd (R.remaining reader.new)) }
+    ensures no_line { IfErr result IsNoLine }
+{
+    let mut all = Vec::new(alloc);
+    let mut block = vec![in alloc; 0u8; BLOCK]?;
+    for _ in 0..MOST_READS {
+        if read_once(reader, &mut all, block.as_mut_slice())? {
+            return Ok(all);
+        }
+        if all.len() > MOST_BYTES {
+            return Err(RestoreFault::Read);
+        }
+    }
+    Err(RestoreFault::Read)
+}
+
+/// Gives the command of each whole line of all that the source gives to its role's caller, in order.
+pub fn restore_from<C: Caller, R: Source>(
+    alloc: Global,
+    roles: &Roles,
+    callers: &mut Vec<C>,
+    reader: &mut R,
+) -> Result<Restored, RestoreFault>
+    requires many { length callers.old.items ≡ length roles.now }
+    requires reads { R.calls reader.old < 2 ^ 62 }
+    ensures ok { IfOk result (λ r. RestoredFrom C.Caller R.Source roles.now callers.old.items reader.old reader.new
+        callers.new.items r.lines r.bytes) }
+    ensures err { (number : ℕ) (fault : UnacceptedAs) → result ≡ Err (AtLine (record { line = number; fault = fault }))
+        → FaultFrom C.Caller R.Source roles.now callers.old.items reader.old reader.new number fault }
+{
+    let all = read_all(alloc, reader)?;
+    match restore_lines(alloc, roles, callers, all.as_slice()) {
+        Ok(restored) => Ok(restored),
+        Err(fault) => Err(RestoreFault::Line(fault)),
+    }
+}

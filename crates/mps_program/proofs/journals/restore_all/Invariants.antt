@@ -1,0 +1,9 @@
+use Rattle.std.proofs.Common.{◌≡◌, ◌+◌, ◌≤◌, length, vec_len, vec_capacity}
+use Rattle.std.specs.Vec.Iter.{into_iter_items}
+use Rattle.mps_program.proofs.journals.restore_all.Given as goal
+
+abbrev pub invariant-loop-file : goal.invariant-loop-file
+invariant-loop-file g l = record {
+  count : vec_len l.read + length (into_iter_items l.file-iterator) ≡ length l.fn.files.items;
+  room : length l.fn.files.items ≤ vec_capacity l.read;
+}

@@ -1,0 +1,60 @@
+-- How the sessions of a server may fail to be had from a folder.
+use Rattle.std.specs.Prelude.{◌≡◌, ◌≤◌, ◌⊎◌, ⊤, ℕ, List, Option, None, Some}
+use Rattle.mps_hub.specs.Places.{IsSession}
+use Rattle.mps_hub.specs.declared.restoring.SessionFault.{SessionFault}
+use Rattle.mps_hub.specs.declared.restoring.SessionFault.TheVariants.{Taken, Journal, Memory as NoMemory}
+use Rattle.mps_keeper.specs.declared.restore.RestoreFault.TheVariants.{Read as NotRead, Memory as NotKept, Line}
+use Rattle.mps_keeper.specs.declared.restore.Unaccepted.{Unaccepted}
+use Rattle.mps_keeper.specs.declared.restore.Unaccepted.TheVariants.{Bad, Refused, Memory as Starved}
+use Rattle.mps_program.specs.declared.faults.ToolFault.{ToolFault}
+use Rattle.mps_program.specs.declared.faults.ToolFault.TheVariants.{File, JournalFile, JournalLine, JournalProtocol, JournalLost, Memory}
+
+-- how the folder itself may fail: it can't be used, it is of another protocol, or memory ran out
+abbrev pub IsFolderFault : List ℕ → ToolFault → Type 0
+IsFolderFault folder (File name) = name.now ≡ folder
+IsFolderFault folder JournalProtocol = ⊤
+IsFolderFault folder Memory = ⊤
+IsFolderFault folder fault = ⊥
+
+-- how the journal of this session may fail
+abbrev pub IsOneFault : ℕ → ToolFault → Type 0
+IsOneFault session (JournalFile k) = k ≡ session
+IsOneFault session (JournalLine k line) = k ≡ session
+IsOneFault session (JournalLost k) = k ≡ session
+IsOneFault session Memory = ⊤
+IsOneFault session fault = ⊥
+
+-- how the journals of so many sessions may fail
+abbrev pub IsFileFaultOf : ℕ → ToolFault → Type 0
+IsFileFaultOf n (JournalFile session) = IsSession n session
+IsFileFaultOf n (JournalLine session line) = IsSession n session
+IsFileFaultOf n (JournalLost session) = IsSession n session
+IsFileFaultOf n Memory = ⊤
+IsFileFaultOf n fault = ⊥
+
+-- how sessions may fail to be kept in a folder
+abbrev pub IsJournalFault : List ℕ → ℕ → ToolFault → Type 0
+IsJournalFault folder n fault = IsFolderFault folder fault ⊎ IsFileFaultOf n fault
+
+-- why a line was not accepted, as the program tells it of its session
+abbrev pub IsLineFaultOf : ℕ → ℕ → Unaccepted → ToolFault → Type 0
+IsLineFaultOf session line Starved fault = fault ≡ Memory
+IsLineFaultOf session line why fault = fault ≡ JournalLine session line
+
+-- why a session was not restored, as the program tells it
+abbrev pub IsRestoreFaultOf : ℕ → SessionFault → ToolFault → Type 0
+IsRestoreFaultOf session NoMemory fault = fault ≡ Memory
+IsRestoreFaultOf session Taken fault = fault ≡ JournalLost session
+IsRestoreFaultOf session (Journal NotKept) fault = fault ≡ Memory
+IsRestoreFaultOf session (Journal NotRead) fault = fault ≡ JournalLost session
+IsRestoreFaultOf session (Journal (Line at)) fault = IsLineFaultOf session at.line at.fault fault
+
+-- how many of so many sessions are kept, by the folder, if there is one
+abbrev pub kept_of : Option (List ℕ) → ℕ → ℕ
+kept_of None n = 0
+kept_of (Some folder) n = n
+
+-- how sessions may fail to be kept, if they are
+abbrev pub IsKeepingFault : Option (List ℕ) → ℕ → ToolFault → Type 0
+IsKeepingFault None n fault = ⊥
+IsKeepingFault (Some folder) n fault = IsJournalFault folder n fault

@@ -1,0 +1,242 @@
+//! The files that keep a server's sessions.
+ghost use Rattle.std.specs.Prelude.{◌≡◌, ◌+◌, ◌≤◌, ℕ, IfErr, IfOk, length};
+ghost use Rattle.mps_hub.specs.Places.{IsSession};
+ghost use Rattle.mps_program.specs.Journals.{IsFolderFault, IsFileFaultOf, IsJournalFault, IsOneFault, IsRestoreFaultOf};
+
+use crate::faults::ToolFault;
+use mps_dev::{OverRead, OverWrite};
+use mps_hub::{Desk, SessionFault};
+use mps_keeper::{Book, Keeper, NotRestored, RestoreFault, Restored, Unaccepted};
+use mps_words::Journal;
+use std::alloc::Global;
+use std::fs::{DirBuilder, File};
+use std::io::{ErrorKind, Write};
+use std::os::unix::fs::{DirBuilderExt, OpenOptionsExt};
+use std::rt::Files;
+use std::sync::Wait;
+use std::{fs, io};
+
+/// What keeps a session in a file.
+pub type FileKeeper = Keeper<OverWrite<File>, File>;
+
+/// What keeps a server's sessions: a folder, and the protocol that it has to be of, as it is written.
+#[derive(Clone, Copy)]
+pub struct Keeping<'a, 'p> {
+    pub journal: Journal<'a>,
+    pub protocol: &'p [u8],
+}
+
+// Makes the folder for its owner alone, unless it is there.
+fn make_folder<R: Files>(rt: &R, folder: &str) -> io::Result<()> {
+    let mut builder = DirBuilder::new();
+    builder.mode(0o700);
+    match builder.create(rt, folder) {
+        Err(error) if error.kind() != ErrorKind::AlreadyExists => Err(error),
+        _ => Ok(()),
+    }
+}
+
+// Writes a file for its owner alone, whole or not at all: first under another name.
+fn write_whole<R: Files<File = File>>(
+    rt: &R,
+    path: &str,
+    beside: &str,
+    text: &[u8],
+) -> io::Result<()> {
+    let mut options = File::options();
+    options.write(true).create(true).truncate(true).mode(0o600);
+    let mut file = options.open(rt, beside)?;
+    file.write_all(text)?;
+    file.write_all(b"\n")?;
+    file.sync_all()?;
+    fs::rename(rt, beside, path)
+}
+
+// Whether these bytes are the text and an LF.
+fn is_line(bytes: &[u8], text: &[u8]) -> bool {
+    match bytes.split_last() {
+        Some((end, front)) => *end == b'\n' && front == text,
+        None => false,
+    }
+}
+
+// Says whether the folder has the protocol of that text; none where it has another.
+fn has_protocol<'a, R: Files<File = File> + AllocGlobal>(
+    rt: &R,
+    folder: &'a str,
+    path: &str,
+    text: &[u8],
+) -> Result<bool, ToolFault<'a>>
+    ensures { IfErr result (IsFolderFault folder.now) }
+{
+    match fs::read(rt, path) {
+        Ok(found) if is_line(found.as_slice(), text) => Ok(true),
+        Ok(_) => Err(ToolFault::JournalProtocol),
+        Err(error) => match error.kind() {
+            ErrorKind::NotFound => Ok(false),
+            ErrorKind::OutOfMemory => Err(ToolFault::Memory),
+            _ => Err(ToolFault::File { name: folder }),
+        },
+    }
+}
+
+// Opens a journal to be read and added to, for its owner alone, and locks it.
+fn open_journal<R: Files<File = File>>(rt: &R, path: &str) -> Option<File> {
+    let mut options = File::options();
+    options.read(true).append(true).create(true).mode(0o600);
+    let file = options.open(rt, path).ok()?;
+    if !file.metadata().ok()?.is_file() || file.try_lock().is_err() {
+        return None;
+    }
+    Some(file)
+}
+
+// Opens the journals of so many sessions.
+fn open_journals<'a, R: Files<File = File> + AllocGlobal>(
+    rt: &R,
+    folder: &'a str,
+    sessions: u64,
+) -> Result<Vec<File>, ToolFault<'a>>
+    ensures count { IfOk result (λ files. length files.items ≡ sessions) }
+    ensures fault { IfErr result (IsFileFaultOf sessions) }
+{
+    let alloc = rt.alloc();
+    let mut files = Vec::new(alloc);
+    for place in 0..sessions {
+        let session = place + 1;
+        let path = format!(in alloc; "{folder}/{session}.journal")?;
+        match open_journal(rt, path.as_str()) {
+            Some(file) => files.push(file)?,
+            None => return Err(ToolFault::JournalFile { session }),
+        }
+    }
+    Ok(files)
+}
+
+// Why a session was not restored, as the program tells it.
+fn unrestored<'a>(session: u64, fault: SessionFault) -> ToolFault<'a>
+    ensures { IsRestoreFaultOf session fault result }
+{
+    match fault {
+        SessionFault::Memory => ToolFault::Memory,
+        SessionFault::Taken => ToolFault::JournalLost { session },
+        SessionFault::Journal(RestoreFault::Memory) => ToolFault::Memory,
+        SessionFault::Journal(RestoreFault::Read) => ToolFault::JournalLost { session },
+        SessionFault::Journal(RestoreFault::Line(NotRestored { line, fault })) => match fault {
+            Unaccepted::Memory => ToolFault::Memory,
+            Unaccepted::Bad => ToolFault::JournalLine { session, line },
+            Unaccepted::Refused => ToolFault::JournalLine { session, line },
+        },
+    }
+}
+
+// A session's file, and what was restored from it.
+#[derive(Drop)]
+struct Read {
+    file: File,
+    restored: Restored,
+}
+
+// Restores each session from its file.
+fn restore_all<'a, R: Wait + AllocGlobal + 'static>(
+    rt: &R,
+    desk: &Desk<'_>,
+    files: Vec<File>,
+) -> Result<Vec<Read>, ToolFault<'a>>
+    requires { length files.items ≡ length desk.now.cells }
+    ensures count { IfOk result (λ read. length read.items ≡ length files.items) }
+    ensures fault { IfErr result (IsFileFaultOf (length files.items)) }
+{
+    let alloc = rt.alloc();
+    let mut read = Vec::with_capacity(alloc, files.len())?;
+    for file in files {
+        let session = read.len() as u64 + 1;
+        match desk.restore(rt, alloc, session, &mut OverRead::new(&file)) {
+            Ok(restored) => read.push_reserved(Read { file, restored }),
+            Err(fault) => return Err(unrestored(session, fault)),
+        }
+    }
+    Ok(read)
+}
+
+// Cuts the file to its whole lines, and makes it the keeper of so many.
+fn keeper<'a>(
+    alloc: Global,
+    session: u64,
+    read: Read,
+    sync: bool,
+) -> Result<FileKeeper, ToolFault<'a>>
+    ensures { IfErr result (IsOneFault session) }
+{
+    let Read { file, restored } = read;
+    if file.set_len(restored.bytes as u64).is_err() || (sync && file.sync_all().is_err()) {
+        return Err(ToolFault::JournalLost { session });
+    }
+    let Ok(sink) = file.try_clone() else {
+        return Err(ToolFault::JournalLost { session });
+    };
+    let book = Book::new(OverWrite::new(sink), restored.lines);
+    Ok(Keeper::new(alloc, book, sync.then_some(file))?)
+}
+
+// The keeper of each session.
+fn keep_all<'a>(
+    alloc: Global,
+    read: Vec<Read>,
+    sync: bool,
+) -> Result<Vec<FileKeeper>, ToolFault<'a>>
+    ensures count { IfOk result (λ keepers. length keepers.items ≡ length read.items) }
+    ensures fault { IfErr result (IsFileFaultOf (length read.items)) }
+{
+    let mut keepers = Vec::with_capacity(alloc, read.len())?;
+    for one in read {
+        let session = keepers.len() as u64 + 1;
+        keepers.push_reserved(keeper(alloc, session, one, sync)?);
+    }
+    Ok(keepers)
+}
+
+/// The keeper of each of the desk's sessions, which are restored from the folder first. The folder is made where there is none,
+/// and gets the protocol where it has none.
+///
+/// The journals are locked as long as the keepers live. Where the folder is of another protocol, or a line of a journal isn't
+/// accepted, nothing is written.
+pub fn keep_sessions<'a, R: Files<File = File> + AllocGlobal + Wait + 'static>(
+    rt: &R,
+    desk: &Desk<'_>,
+    sessions: u64,
+    keeping: Keeping<'a, '_>,
+) -> Result<Vec<FileKeeper>, ToolFault<'a>>
+    requires { sessions ≡ length desk.now.cells }
+    ensures count { IfOk result (λ keepers. length keepers.items ≡ sessions) }
+    ensures fault { IfErr result (IsJournalFault keeping.entry.journal.folder.now sessions) }
+{
+    let alloc = rt.alloc();
+    let Keeping { journal, protocol } = keeping;
+    let folder = journal.folder;
+    let path = format!(in alloc; "{folder}/protocol")?;
+    let beside = format!(in alloc; "{folder}/protocol.new")?;
+    if make_folder(rt, folder).is_err() {
+        return Err(ToolFault::File { name: folder });
+    }
+    let known = has_protocol(rt, folder, path.as_str(), protocol)?;
+    let files = open_journals(rt, folder, sessions)?;
+    let known = known || has_protocol(rt, folder, path.as_str(), protocol)?;
+    let read = restore_all(rt, desk, files)?;
+    if !known && write_whole(rt, path.as_str(), beside.as_str(), protocol).is_err() {
+        return Err(ToolFault::File { name: folder });
+    }
+    let keepers = keep_all(alloc, read, journal.sync)?;
+    if journal.sync && !has_synced(rt, folder) {
+        return Err(ToolFault::File { name: folder });
+    }
+    Ok(keepers)
+}
+
+// Has the disk keep which files the folder has.
+fn has_synced<R: Files<File = File>>(rt: &R, folder: &str) -> bool {
+    match File::open(rt, folder) {
+        Ok(folder) => folder.sync_all().is_ok(),
+        Err(_) => false,
+    }
+}

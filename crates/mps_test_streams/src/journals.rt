@@ -1,0 +1,293 @@
+//! Journals that are kept in files, over memory.
+ghost use Rattle.std.specs.Prelude.{◌≡◌, ◌≤◌, false, length, IfOk};
+
+use crate::protocols::{RELAY, names, opened, types};
+use mps_base::{Role, Roles, StepId};
+use mps_command::{Command, Forward};
+use mps_dev::{OverRead, Pieces, Short};
+use mps_hub::{Attended, Desk, Hub, SessionFault, Unguarded, attend, no_keepers};
+use mps_keeper::{
+    Book, Keep, NotRestored, Recorded, RestoreFault, Unaccepted, read_journal_line, restore_lines,
+    write_journal_line,
+};
+use mps_line::LineFault;
+use mps_room::{Caller, Room, Solo};
+use mps_wire::{Ending, converse};
+use std::alloc::Global;
+use std::process::Abort;
+use std::sync::Wait;
+use std::test::Fail;
+
+// ---- lines
+
+// A line, and the role and the number that it has; or nothing, where it is unreadable.
+const LINES: &[(&str, Option<(u8, Option<u64>)>)] = &[
+    ("a send b 5", Some((0, None))),
+    ("b 1 recv a x", Some((1, Some(1)))),
+    (
+        "c 18446744073709551615 undo 3",
+        Some((2, Some(18_446_744_073_709_551_615))),
+    ),
+    ("c 0 mark m", Some((2, Some(0)))),
+    ("a commit", Some((0, None))),
+    ("a back m", Some((0, None))),
+    ("a show", None),
+    ("a news 0", None),
+    ("a 1 show", None),
+    ("d send b 5", None),
+    ("a send d 5", None),
+    ("a  send b 5", None),
+    ("a 01 send b 5", None),
+    ("a 1  send b 5", None),
+    ("a 18446744073709551616 undo 3", None),
+    ("a", None),
+    (" a send b 5", None),
+    ("a send b 5 ", None),
+    ("", None),
+];
+
+fn is_read(
+    alloc: Global,
+    roles: &Roles,
+    line: &str,
+    found: Option<(u8, Option<u64>)>,
+) -> Result<bool, Fail> {
+    match read_journal_line(alloc, roles, line.as_bytes()) {
+        Ok(read) => Ok(found == Some((read.role.index() as u8, read.number))),
+        Err(LineFault::Bad) => Ok(found.is_none()),
+        Err(LineFault::Memory) => Ok(false),
+    }
+}
+
+#[test]
+fn reads_lines(rt: HostRuntime) -> Result<(), Fail> {
+    let roles = names(rt.alloc(), 3)?;
+    for (line, found) in LINES {
+        assert!(rt; is_read(rt.alloc(), &roles, line, *found)?, "{line}");
+    }
+    Ok(())
+}
+
+#[test]
+fn writes_lines(rt: HostRuntime) -> Result<(), Fail> {
+    let alloc = rt.alloc();
+    let roles = names(alloc, 3)?;
+    let mut text = Vec::from_slice(alloc, b"|")?;
+    let undo = Command::Undo(StepId::new(3));
+    write_journal_line(&roles, Role::new(2), Some(7), &undo, &mut text)?;
+    assert!(rt; text.as_slice() == b"|c 7 undo 3".as_slice());
+    let commit = Command::Forward(Forward::Commit);
+    write_journal_line(&roles, Role::new(0), None, &commit, &mut text)?;
+    assert!(rt; text.as_slice() == b"|c 7 undo 3a commit".as_slice());
+    Ok(())
+}
+
+// ---- conversations that are kept
+
+// What a asks of the relay; some of it is refused, asks nothing, or comes again.
+const ASKED: &[u8] =
+    b"1 send b 5\n1 send b 5\n2 undo 9\nshow\n2 mark m\nmark k\n2 mark m\nund\n3 undo 3\n";
+
+// What of it is kept.
+const KEPT: &[u8] = b"a 1 send b 5\na 2 mark m\na mark k\na 3 undo 3\n";
+
+// How a conversation ends, what is kept of it, and whether all was, where the book takes so many bytes.
+fn kept(alloc: Global, space: usize) -> Result<(Ending, Vec<u8>, bool, Vec<u8>), Fail> {
+    let (roles, session) = opened(alloc, RELAY)?;
+    if session.roles() != 3 {
+        return Err("three roles".into());
+    }
+    let solo = Solo::new(Room::open(alloc, roles, session), Role::new(0));
+    let book = Book::new(Short::new(alloc, space)?, 0);
+    let mut caller = Recorded::new(book, solo, Vec::new(alloc));
+    let mut reader = Pieces::new(vec![in alloc; Vec::from_slice(alloc, ASKED)?]?, None);
+    let mut writer = Short::new(alloc, 2_000)?;
+    let ending = converse(alloc, &mut caller, &mut reader, &mut writer);
+    let lines = Vec::from_slice(alloc, caller.keeper.sink().bytes())?;
+    let told = Vec::from_slice(alloc, writer.bytes())?;
+    Ok((ending, lines, caller.keeper.is_whole(), told))
+}
+
+#[test]
+fn keeps_what_is_accepted(rt: HostRuntime) -> Result<(), Fail> {
+    let (ending, lines, is_whole, told) = kept(rt.alloc(), 2_000)?;
+    assert!(rt; ending == Ending::Closed && is_whole);
+    assert!(rt; lines.as_slice() == KEPT);
+    assert!(rt; told.starts_with(b"done 1\ndone 1\nrefused nostep\n{"));
+    assert!(rt; told.ends_with(b"}\ndone 2\ndone 3\ndone 2\nrefused line\nundone 3\n"));
+    Ok(())
+}
+
+// How many lines are told where the book takes so many bytes: an answer for each whole line of a, two of which are told
+// twice, and what changes nothing up to there.
+fn is_cut(alloc: Global, space: usize) -> Result<bool, Fail> {
+    let (ending, lines, is_whole, told) = kept(alloc, space)?;
+    let answers = told.iter().filter(|&&byte| byte == b'\n').count();
+    let wanted = match space {
+        0..=12 => 0,
+        13..=23 => 4,
+        24..=32 => 5,
+        _ => 8,
+    };
+    let front = KEPT.get(..space).ok_or("a front")?;
+    Ok(ending == Ending::Untold && !is_whole && lines.as_slice() == front && answers == wanted)
+}
+
+#[test]
+fn tells_nothing_that_is_not_kept(rt: HostRuntime) -> Result<(), Fail> {
+    for space in 0..KEPT.len() {
+        assert!(rt; is_cut(rt.alloc(), space)?, "{space}");
+    }
+    Ok(())
+}
+
+// ---- restoring
+
+// A caller for each role of the relay, each with a room of its own.
+fn callers(alloc: Global, roles: &Roles) -> Result<Vec<Solo>, Fail>
+    ensures { IfOk result (λ callers. length callers.items ≡ length roles.now) }
+{
+    let mut callers = Vec::new(alloc);
+    for place in 0..roles.count() {
+        let (names, session) = opened(alloc, RELAY)?;
+        if place >= session.roles() {
+            return Err("a role".into());
+        }
+        callers.push(Solo::new(Room::open(alloc, names, session), Role::new(place as u8)))?;
+    }
+    Ok(callers)
+}
+
+// A text, and what restoring it comes to: so many lines of so many bytes; or the line that isn't restored, and why.
+const TEXTS: &[(&str, Result<(u64, usize), (u64, Unaccepted)>)] = &[
+    ("", Ok((0, 0))),
+    ("a send b 5\n", Ok((1, 11))),
+    ("a send b 5\nb 1 mark m\nb 2 mark", Ok((2, 22))),
+    ("a send b 5\n\n", Err((2, Unaccepted::Bad))),
+    (
+        "a send b 5\na send b 5\nund\n",
+        Err((2, Unaccepted::Refused)),
+    ),
+    ("a 2 mark m\n", Err((1, Unaccepted::Refused))),
+    ("a 1 mark m\na 1 mark m\n", Err((2, Unaccepted::Refused))),
+    (
+        "a 1 mark m\na 2 undo 1\na 4 mark m\n",
+        Err((3, Unaccepted::Refused)),
+    ),
+    ("show\n", Err((1, Unaccepted::Bad))),
+];
+
+fn is_restored(
+    alloc: Global,
+    text: &str,
+    comes: Result<(u64, usize), (u64, Unaccepted)>,
+) -> Result<bool, Fail> {
+    let roles = names(alloc, 3)?;
+    let mut callers = callers(alloc, &roles)?;
+    match restore_lines(alloc, &roles, &mut callers, text.as_bytes()) {
+        Ok(restored) => Ok(comes == Ok((restored.lines, restored.bytes))),
+        Err(NotRestored { line, fault }) => Ok(comes == Err((line, fault))),
+    }
+}
+
+#[test]
+fn restores_texts(rt: HostRuntime) -> Result<(), Fail> {
+    for (text, comes) in TEXTS {
+        assert!(rt; is_restored(rt.alloc(), text, *comes)?, "{text}");
+    }
+    Ok(())
+}
+
+#[test]
+fn keeps_numbers(rt: HostRuntime) -> Result<(), Fail> {
+    let alloc = rt.alloc();
+    let roles = names(alloc, 3)?;
+    let mut callers = callers(alloc, &roles)?;
+    assert!(rt; restore_lines(alloc, &roles, &mut callers, KEPT).is_ok());
+    let a = callers.as_slice().first().ok_or("a")?;
+    assert!(rt; a.last() == 3 && a.room.entries() == 4);
+    Ok(())
+}
+
+// ---- sessions
+
+// A hub of two relays.
+fn hub(alloc: Global) -> Result<Hub, Fail>
+    ensures given { IfOk result (λ h. h.given ≡ false) }
+    ensures two { IfOk result (λ h. length h.cells ≡ 2) }
+{
+    let types = types(alloc, RELAY)?;
+    let names = names(alloc, types.len())?;
+    Ok(Hub::open(alloc, &names, types.as_slice(), 2)?)
+}
+
+// What a connection is answered that sends these lines.
+fn answers<R: Wait + 'static>(
+    rt: &R,
+    alloc: Global,
+    desk: &Desk<'_>,
+    lines: &[u8],
+) -> Result<Vec<u8>, Fail> {
+    let mut reader = Pieces::new(vec![in alloc; Vec::from_slice(alloc, lines)?]?, None);
+    let mut writer = Short::new(alloc, 2_000)?;
+    let ended = attend(
+        rt,
+        alloc,
+        desk,
+        &Unguarded,
+        no_keepers(),
+        1,
+        &mut reader,
+        &mut writer,
+    );
+    if ended != Attended::Conversed(Ending::Closed) {
+        return Err("another end".into());
+    }
+    Ok(Vec::from_slice(alloc, writer.bytes())?)
+}
+
+// A session that goes on from lines: a repeats its last line, goes on, and b hears of it.
+fn goes_on<R: Wait + 'static>(
+    rt: &R,
+    alloc: Global,
+    desk: &Desk<'_>,
+    session: u64,
+) -> Result<bool, Fail>
+    requires { (1 ≤ session) × (session ≤ length desk.now.cells) }
+{
+    let mut lines = OverRead::new(b"a 1 send b 5\nb recv a x\nb mar".as_slice());
+    let Ok(restored) = desk.restore(rt, alloc, session, &mut lines) else {
+        return Err("not restored".into());
+    };
+    let told = answers(rt, alloc, desk, b"join 2 a\n1 send b 5\n2 rollback 1\n")?;
+    let heard = answers(rt, alloc, desk, b"join 2 b\nnews 0\n")?;
+    let is_whole = restored.lines == 2 && restored.bytes == 24;
+    Ok(
+        is_whole
+            && told.as_slice() == b"joined 2 a\ndone 1\nundone 2 1\n".as_slice()
+            && heard.as_slice() == b"joined 2 b\nnews 3 2\n".as_slice(),
+    )
+}
+
+#[test]
+fn sessions_go_on(rt: HostRuntime) -> Result<(), Fail> {
+    let alloc = rt.alloc();
+    let mut hub = hub(alloc)?;
+    let desk = hub.desk(alloc)?;
+    assert!(rt; goes_on(&rt, alloc, &desk, 2)?);
+    Ok(())
+}
+
+#[test]
+fn names_the_first_bad_line(rt: HostRuntime) -> Result<(), Fail> {
+    let alloc = rt.alloc();
+    let mut hub = hub(alloc)?;
+    let desk = hub.desk(alloc)?;
+    let mut lines = OverRead::new(b"a send b 5\nb recv c x\nund\n".as_slice());
+    let fault = SessionFault::Journal(RestoreFault::Line(NotRestored {
+        line: 2,
+        fault: Unaccepted::Refused,
+    }));
+    assert!(rt; desk.restore(&rt, alloc, 1, &mut lines) == Err(fault));
+    Ok(())
+}
