@@ -24,7 +24,7 @@ impl Guests {
 }
 
 // The listener's socket as a stream, since a listener has no `shutdown`: with it a call of `accept` that waits comes back.
-fn bell_of(listener: &TcpListener) -> Option<TcpStream> {
+pub(crate) fn bell_of(listener: &TcpListener) -> Option<TcpStream> {
     match listener.try_clone() {
         Ok(listener) => Some(TcpStream::from(OwnedFd::from(listener))),
         Err(_) => None,
@@ -36,19 +36,15 @@ fn bell_of(listener: &TcpListener) -> Option<TcpStream> {
 pub(crate) struct Lobby {
     limits: Limits,
     // by which whoever waits for the next connection is woken
-    bell: Option<TcpStream>,
+    bell: TcpStream,
     guests: Mutex<Guests>,
     // woken when a connection left, or the lobby was closed
     left: Condvar,
 }
 
 impl Lobby {
-    // A lobby in front of the listener.
-    pub(crate) fn new(
-        alloc: Global,
-        listener: &TcpListener,
-        limits: Limits,
-    ) -> Result<Lobby, AllocError> {
+    // A lobby in front of the listener that has this bell.
+    pub(crate) fn new(alloc: Global, bell: TcpStream, limits: Limits) -> Result<Lobby, AllocError> {
         let mut streams = Vec::with_capacity(alloc, MAX_OPEN)?;
         for _ in 0..MAX_OPEN {
             streams.push_reserved(None);
@@ -59,7 +55,7 @@ impl Lobby {
         };
         Ok(Lobby {
             limits,
-            bell: bell_of(listener),
+            bell,
             guests: Mutex::new(guests),
             left: Condvar::new(),
         })
@@ -114,6 +110,9 @@ impl Lobby {
     // Ends all connections, and lets no more in.
     pub(crate) fn close<R: Wait>(&self, rt: &R) {
         let mut guests = self.guests.lock(rt);
+        if guests.closed {
+            return;
+        }
         guests.closed = true;
         for stream in &guests.streams {
             if let Some(stream) = stream {
@@ -122,8 +121,6 @@ impl Lobby {
         }
         drop(guests);
         self.left.notify_all();
-        if let Some(bell) = &self.bell {
-            let _rung = bell.shutdown(Shutdown::Both);
-        }
+        let _rung = self.bell.shutdown(Shutdown::Both);
     }
 }

@@ -10,10 +10,27 @@ use std::time::{Clock, Duration, Instant};
 /// For how many seconds a server that accepts connections without end waits for the first line of one.
 pub const FIRST_LINE: u64 = 10;
 
+// How often a read is tried again that a signal interrupts.
+const INTERRUPTS: u64 = 1_000;
+
+// Reads once, and again where a signal interrupts it: with a time set the system says so also of a process that was stopped
+// and goes on.
+fn read_on(mut stream: &TcpStream, buf: &mut [u8]) -> io::Result<usize>
+    ensures { ReadsAtMost result buf.new }
+{
+    for _ in 0..INTERRUPTS {
+        match stream.read(buf) {
+            Err(error) if error.kind() == ErrorKind::Interrupted => {}
+            found => return found,
+        }
+    }
+    stream.read(buf)
+}
+
 // Reads what comes until a moment, and waits no longer than `longest` for it.
 pub(crate) fn read_until<R: Clock>(
     clock: &R,
-    mut stream: &TcpStream,
+    stream: &TcpStream,
     until: Instant,
     longest: Option<Duration>,
     buf: &mut [u8],
@@ -26,7 +43,7 @@ pub(crate) fn read_until<R: Clock>(
     }
     let wait = longest.map_or(left, |longest| left.min(longest));
     stream.set_read_timeout(Some(wait))?;
-    stream.read(buf)
+    read_on(stream, buf)
 }
 
 // The moment after so long a time.
@@ -45,33 +62,34 @@ pub(crate) struct Patient<'s, R> {
 }
 
 impl<'s, R: Clock> Patient<'s, R> {
-    // Waits so long for the first line, and then so long at each read; without an end, where it isn't said how long.
+    // Waits so long for the first line, and then so long at each read; without an end, where it isn't said how long. None where
+    // the system can't do so.
     pub(crate) fn new(
         clock: &'s R,
         stream: &'s TcpStream,
         first: Option<Duration>,
         idle: Option<Duration>,
-    ) -> Patient<'s, R> {
-        let _set = stream.set_read_timeout(idle);
-        let _set = stream.set_write_timeout(idle);
+    ) -> Option<Patient<'s, R>> {
+        stream.set_read_timeout(idle).ok()?;
+        stream.set_write_timeout(idle).ok()?;
         let until = match first {
-            Some(first) => moment_after(clock, first),
+            Some(first) => Some(moment_after(clock, first)?),
             None => None,
         };
-        Patient {
+        Some(Patient {
             clock,
             stream,
             until,
             idle,
-        }
+        })
     }
 }
 
 impl<R: Clock> Read for Patient<'_, R> {
     fn read(&mut self, buf: &mut [u8]) -> io::Result<usize> {
-        let mut stream = self.stream;
+        let stream = self.stream;
         let Some(until) = self.until else {
-            return stream.read(buf);
+            return read_on(stream, buf);
         };
         let count = read_until(self.clock, stream, until, self.idle, buf)?;
         if buf[..count].contains(&b'\n') {

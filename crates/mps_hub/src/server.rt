@@ -7,7 +7,7 @@ use crate::attending::attend;
 use crate::desk::Desk;
 use crate::gates::{Gate, Unguarded};
 use crate::limits::Limits;
-use crate::lobby::Lobby;
+use crate::lobby::{Lobby, bell_of};
 use crate::patience::{Patient, moment_after, read_until};
 use mps_dev::{Discard, OverRead, OverWrite, Sink};
 use mps_keeper::{Disk, Keeper};
@@ -87,26 +87,26 @@ fn connection<R: Wait + Clock + 'static, G: Gate + 'static, S: Sink + 'static, D
     place: usize,
 ) {
     if let Some(stream) = lobby.stream(rt, place) {
-        let stream: &TcpStream = &stream;
         let limits = lobby.limits();
-        let _set = stream.set_nodelay(true);
-        let patient = Patient::new(rt, stream, limits.first_line(), limits.idle);
-        let mut reader = OverRead::new(patient);
-        let mut writer = OverWrite::new(stream);
-        let _ended = attend(
-            rt,
-            alloc,
-            desk,
-            gate,
-            keepers,
-            number,
-            &mut reader,
-            &mut writer,
-        );
+        if let Some(patient) = Patient::new(rt, &stream, limits.first_line(), limits.idle) {
+            let _set = stream.set_nodelay(true);
+            let mut reader = OverRead::new(patient);
+            let mut writer = OverWrite::new(&*stream);
+            let _ended = attend(
+                rt,
+                alloc,
+                desk,
+                gate,
+                keepers,
+                number,
+                &mut reader,
+                &mut writer,
+            );
+        }
         if broken_of(keepers).is_some() {
             lobby.close(rt);
         }
-        linger(rt, stream);
+        linger(rt, &stream);
     }
     lobby.leave(rt, place);
 }
@@ -233,7 +233,10 @@ pub fn serve_kept<
     ensures served { IfOk result (λ s. IfSome limits.connections (λ n. s.ended + s.lost ≡ n)) }
     ensures unkept { IfErr result (IsServeFaultOf (length keepers.now)) }
 {
-    let Ok(lobby) = Lobby::new(alloc, listener, limits) else {
+    let Some(bell) = bell_of(listener) else {
+        return Err(ServeFault::Accept);
+    };
+    let Ok(lobby) = Lobby::new(alloc, bell, limits) else {
         return Err(ServeFault::Memory);
     };
     let hall = &lobby;

@@ -1,6 +1,7 @@
 //! How callers are brought to where a kept journal left them.
 ghost use Rattle.std.specs.Prelude.{◌≡◌, ◌+◌, length, ℕ, Err, Ok, true, IsSome, IsTrue, false, ◌<◌, ◌^◌, IfOk, IfErr, OnOk};
 ghost use Rattle.mps_command.specs.Changes.{change_of};
+ghost use Rattle.mps_room.specs.Journal.{is_accepted};
 ghost use Rattle.mps_keeper.specs.Restored.{IsAcceptedOf, IsRefusedOf, LineRestored};
 ghost use Rattle.mps_keeper.specs.RestoredFaults.{of_reading, IsRestoredTo, IsFirstFault, IsFaulty, RestoredFrom, FaultFrom};
 ghost use Rattle.mps_keeper.specs.RestoredFaults.{IsNoLine, ReadsMore};
@@ -11,7 +12,7 @@ ghost use Rattle.std.specs.Io.KnownBytes.{Consumes, IsAtEnd};
 use crate::journal_lines::{asks_for_change, read_journal_line};
 use crate::recorded::is_accepted;
 use mps_base::Roles;
-use mps_command::Command;
+use mps_command::{Answer, Command, Refusal};
 use mps_dev::Source;
 use mps_line::LineFault;
 use mps_lines::line_end;
@@ -25,7 +26,7 @@ pub enum Unaccepted {
     Bad,
     /// Its command wasn't accepted.
     Refused,
-    /// Memory ran out while it was read.
+    /// Memory ran out while it was read, or its command was called.
     Memory,
 }
 
@@ -71,15 +72,42 @@ pub struct Restored {
     pub bytes: usize,
 }
 
-// Gives the command to the caller. Says whether it was accepted.
-fn call_kept<C: Caller>(caller: &mut C, number: Option<u64>, command: Command) -> bool
+// What a command of a line came to.
+#[derive(Clone, Copy, PartialEq, Eq)]
+enum Called {
+    Accepted,
+    Refused,
+    // memory ran out, which says nothing of the line
+    Starved,
+}
+
+// What the answer to a command says of it.
+fn comes_to(answer: &Answer) -> Called
+    ensures accepted { result ≡ Called.Accepted → is_accepted answer.now ≡ true }
+    ensures refused { result ≡ Called.Refused → is_accepted answer.now ≡ false }
+{
+    match answer {
+        Answer::Refused(Refusal::Memory) => Called::Starved,
+        answer if is_accepted(answer) => Called::Accepted,
+        _ => Called::Refused,
+    }
+}
+
+// Gives the command to the caller.
+fn call_kept<C: Caller>(caller: &mut C, number: Option<u64>, command: Command) -> Called
     requires { IsSome (change_of command) }
-    ensures accepted { IsTrue result → IsAcceptedOf C.Caller caller.old number command caller.new }
-    ensures refused { result ≡ false → IsRefusedOf C.Caller caller.old number command caller.new }
+    ensures accepted { result ≡ Called.Accepted → IsAcceptedOf C.Caller caller.old number command caller.new }
+    ensures refused { result ≡ Called.Refused → IsRefusedOf C.Caller caller.old number command caller.new }
 {
     match number {
-        Some(n) => matches!(caller.call_numbered(n, command), Told::Fresh),
-        None => is_accepted(&caller.call(command)),
+        Some(n) => match caller.call_numbered(n, command) {
+            Told::Fresh => Called::Accepted,
+            Told::Refused(Refusal::Memory) => Called::Starved,
+            Told::Refused(_) => Called::Refused,
+            Told::Kept => Called::Refused,
+            Told::Wrong => Called::Refused,
+        },
+        None => comes_to(&caller.call(command)),
     }
 }
 
@@ -109,10 +137,10 @@ fn restore_line<C: Caller>(
         Ok(kept) => kept,
         Err(fault) => return Err(of_reading(fault)),
     };
-    if call_kept(&mut callers[kept.role.index()], kept.number, kept.command) {
-        Ok(())
-    } else {
-        Err(Unaccepted::Refused)
+    match call_kept(&mut callers[kept.role.index()], kept.number, kept.command) {
+        Called::Accepted => Ok(()),
+        Called::Refused => Err(Unaccepted::Refused),
+        Called::Starved => Err(Unaccepted::Memory),
     }
 }
 

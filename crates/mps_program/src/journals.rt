@@ -69,7 +69,7 @@ fn has_protocol<'a, R: Files<File = File> + AllocGlobal>(
 ) -> Result<bool, ToolFault<'a>>
     ensures { IfErr result (IsFolderFault folder.now) }
 {
-    match fs::read(rt, path) {
+    match file_bytes(rt, path) {
         Ok(found) if is_line(found.as_slice(), text) => Ok(true),
         Ok(_) => Err(ToolFault::JournalProtocol),
         Err(error) => match error.kind() {
@@ -78,6 +78,14 @@ fn has_protocol<'a, R: Files<File = File> + AllocGlobal>(
             _ => Err(ToolFault::File { name: folder }),
         },
     }
+}
+
+// What the file has; nothing but a file is opened, since a pipe might be waited for.
+fn file_bytes<R: Files + AllocGlobal>(rt: &R, path: &str) -> io::Result<Vec<u8>> {
+    if !fs::metadata(rt, path)?.is_file() {
+        return Err(io::Error::from(ErrorKind::InvalidInput));
+    }
+    fs::read(rt, path)
 }
 
 // Opens a journal to be read and added to, for its owner alone, and locks it.
@@ -200,7 +208,7 @@ fn keep_all<'a>(
 /// and gets the protocol where it has none.
 ///
 /// The journals are locked as long as the keepers live. Where the folder is of another protocol, or a line of a journal isn't
-/// accepted, nothing is written.
+/// accepted, no file is changed; journals that weren't there may have been made, with nothing in them.
 pub fn keep_sessions<'a, R: Files<File = File> + AllocGlobal + Wait + 'static>(
     rt: &R,
     desk: &Desk<'_>,
@@ -227,7 +235,8 @@ pub fn keep_sessions<'a, R: Files<File = File> + AllocGlobal + Wait + 'static>(
         return Err(ToolFault::File { name: folder });
     }
     let keepers = keep_all(alloc, read, journal.sync)?;
-    if journal.sync && !has_synced(rt, folder) {
+    let parent = format!(in alloc; "{folder}/..")?;
+    if journal.sync && !(has_synced(rt, folder) && has_synced(rt, parent.as_str())) {
         return Err(ToolFault::File { name: folder });
     }
     Ok(keepers)

@@ -75,7 +75,7 @@ fn answered<R: Net<Stream = TcpStream> + Clock>(
 }
 
 // A port that is free.
-fn free_port<R: Net<Listener = TcpListener>>(rt: &R) -> io::Result<SocketAddr> {
+fn free_port<R: Net<Listener = TcpListener, Stream = TcpStream>>(rt: &R) -> io::Result<SocketAddr> {
     TcpListener::bind(rt, "127.0.0.1:0")?.local_addr()
 }
 

@@ -155,7 +155,11 @@ fn callers(alloc: Global, roles: &Roles) -> Result<Vec<Solo>, Fail>
         }
         callers.push(Solo::new(Room::open(alloc, names, session), Role::new(place as u8)))?;
     }
-    Ok(callers)
+    if callers.len() == roles.count() {
+        Ok(callers)
+    } else {
+        Err("as many callers".into())
+    }
 }
 
 // A text, and what restoring it comes to: so many lines of so many bytes; or the line that isn't restored, and why.
