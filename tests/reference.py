@@ -2,33 +2,25 @@
 """reference: the monitor once more, plain and slow, for the program to be compared with.
 
 It is written from docs/FORMATS.md and docs/DEFINITIONS.md and from nothing else, so that a reader can hold it against
-them line by line. A history is a list of steps, and every answer comes from replaying it.
+them line by line. A history is a list of steps, and every answer comes from replaying it. Protocols and their local
+types are read by tools/protocols.py, which is written in the same way.
 
 reference.py check FILE | run FILE SCRIPT | same FILE SCRIPT SCRIPT
 """
-import dataclasses
 import functools
 import itertools
 import json
+import os
 import re
 import sys
 from typing import NamedTuple
 
-# --- Names, numbers and values ---------------------------------------------------------------------------------------
+sys.dont_write_bytecode = True
+sys.path.insert(0, os.path.join(os.path.dirname(os.path.dirname(os.path.realpath(__file__))), "tools"))
+from protocols import (  # noqa: E402, F401
+    Choice, End, Fault, Message, Rec, Var, is_name, load, spelled)
 
-RESERVED = ("roles", "rec", "end", "int", "bool", "text", "true", "false")
-
-
-@functools.lru_cache(100_000)
-def is_name(word):
-    """1 to 32 small letters, digits and `_`, the first a letter, and no reserved word."""
-    return re.fullmatch("[a-z][a-z0-9_]{0,31}", word) is not None and word not in RESERVED
-
-
-def is_variable(word):
-    """1 to 32 capital letters, digits and `_`, the first a letter."""
-    return re.fullmatch("[A-Z][A-Z0-9_]{0,31}", word) is not None
-
+# --- Numbers and values ----------------------------------------------------------------------------------------------
 
 def is_number(word):
     """`0`, or digits that don't begin with `0`, below 2^64."""
@@ -45,274 +37,6 @@ def sort_of(word):
     if re.fullmatch("0|-?[1-9][0-9]{0,18}", word) and -2 ** 63 <= int(word) < 2 ** 63:
         return "int"
     return None
-
-
-# --- Protocol text ---------------------------------------------------------------------------------------------------
-
-@dataclasses.dataclass(frozen=True)
-class End:
-    """`end`, in global and in local types."""
-
-
-@dataclasses.dataclass(frozen=True)
-class Var:
-    """A variable, in global and in local types."""
-    name: str
-
-
-@dataclasses.dataclass(frozen=True)
-class Rec:
-    """`rec NAME . BODY`, in global and in local types."""
-    name: str
-    body: object
-
-
-@dataclasses.dataclass(frozen=True)
-class Message:
-    """`SENDER -> RECEIVER : SORT . THEN`."""
-    sender: str
-    receiver: str
-    sort: str
-    then: object
-
-
-@dataclasses.dataclass(frozen=True)
-class Choice:
-    """`SENDER -> RECEIVER { LABEL : G , .. }`; each branch is a label and a type."""
-    sender: str
-    receiver: str
-    branches: tuple
-
-
-class Fault(Exception):
-    """The line and the exit status with which the program ends."""
-
-    def __init__(self, line, status):
-        super().__init__(line)
-        self.line, self.status = line, status
-
-
-class Reader:
-    """Reads a protocol text from the left, token by token, up to the first fault."""
-
-    def __init__(self, text):
-        self.text, self.at, self.nodes = text, 0, 0
-
-    def fault(self, kind):
-        """The fault of that kind here."""
-        return Fault(f"refused text {kind} {self.at}", 3)
-
-    def token(self):
-        """The token that comes next and is not yet taken, or nothing at the end of the text."""
-        self.at = re.compile("[ \t\n\r]*").match(self.text, self.at).end()
-        found = re.compile("[A-Za-z0-9_]+|->|[:;.,{}]").match(self.text, self.at)
-        if self.at == len(self.text):
-            return ""
-        word = found.group() if found else ""
-        if not (is_name(word) or is_variable(word) or word in RESERVED or word in ("->", *":;.,{}")):
-            raise self.fault("word")
-        return word
-
-    def take(self, may_come):
-        """Takes the next token, which has to be one that may come here."""
-        token = self.token()
-        if not may_come(token):
-            raise self.fault("unexpected")
-        self.at += len(token)
-        return token
-
-    def take_one(self, *tokens):
-        """Takes one of these tokens."""
-        return self.take(lambda token: token in tokens)
-
-    def protocol(self):
-        """The roles and the global type of the whole text."""
-        if len(self.text) > 65536:
-            raise Fault("refused text toolong 65536", 3)
-        self.take_one("roles")
-        roles = [self.take(is_name), self.take(is_name)]
-        while len(roles) < 8 and self.token() != ";":
-            roles.append(self.take(is_name))
-        self.take_one(";")
-        body = self.type(1)
-        if self.token():
-            raise self.fault("trailing")
-        return roles, body
-
-    def type(self, level):
-        """A global type whose root is at that level."""
-        if begins_type(self.token()):
-            self.nodes += 1
-            if self.nodes > 256:
-                raise self.fault("toomanynodes")
-            if level > 64:
-                raise self.fault("toodeep")
-        token = self.take(begins_type)
-        if token == "end":
-            return End()
-        if is_variable(token):
-            return Var(token)
-        if token == "rec":
-            name = self.take(is_variable)
-            self.take_one(".")
-            return Rec(name, self.type(level + 1))
-        self.take_one("->")
-        return self.act(token, self.take(is_name), level)
-
-    def act(self, sender, receiver, level):
-        """A message or a choice, after its two roles."""
-        if self.take_one(":", "{") == ":":
-            sort = self.take_one("int", "bool", "text")
-            self.take_one(".")
-            return Message(sender, receiver, sort, self.type(level + 1))
-        branches = [self.branch(level + 1)]
-        while self.take_one(",", "}") == ",":
-            branches.append(self.branch(level + 1))
-        return Choice(sender, receiver, tuple(branches))
-
-    def branch(self, level):
-        """A label, and the type after it."""
-        label = self.take(is_name)
-        self.take_one(":")
-        return label, self.type(level)
-
-
-def begins_type(token):
-    """Whether a global type may begin with this token."""
-    return is_name(token) or is_variable(token) or token in ("end", "rec")
-
-
-# --- Faults of the protocol ------------------------------------------------------------------------------------------
-
-def protocol_fault(roles, body):
-    """The first fault of a protocol that was read, or nothing; faults that the reader refuses are left out."""
-    return "doublerole" if len(set(roles)) < len(roles) else type_fault(roles, body, {})
-
-
-def type_fault(roles, node, loops):
-    """The first fault of the nodes in preorder. `loops` has the `rec`s around, and whether an act came since."""
-    return node_fault(roles, node, loops) or next(filter(None, (
-        type_fault(roles, below, inside) for below, inside in nodes_below(node, loops))), None)
-
-
-def nodes_below(node, loops):
-    """The nodes right below a node, from the left, each with the `rec`s around it."""
-    acted = dict.fromkeys(loops, True)
-    if isinstance(node, Rec):
-        return [(node.body, {**loops, node.name: False})]
-    if isinstance(node, Message):
-        return [(node.then, acted)]
-    return [(below, acted) for _, below in node.branches] if isinstance(node, Choice) else []
-
-
-def node_fault(roles, node, loops):
-    """The first fault of this node, in the order of the table."""
-    if isinstance(node, (Message, Choice)):
-        labels = [label for label, _ in node.branches] if isinstance(node, Choice) else []
-        if node.sender not in roles or node.receiver not in roles:
-            return "unknownrole"
-        if node.sender == node.receiver:
-            return "selfmessage"
-        if len(set(labels)) < len(labels):
-            return "doublelabel"
-        return "toomanybranches" if len(labels) > 16 else None
-    if isinstance(node, Var) and node.name not in loops:
-        return "unbound"
-    if isinstance(node, Rec) and node.name in loops:
-        return "shadowed"
-    return "unguarded" if isinstance(node, Var) and not loops[node.name] else None
-
-
-# --- Local types -----------------------------------------------------------------------------------------------------
-
-@dataclasses.dataclass(frozen=True)
-class Local:
-    """`send PEER SORT . THEN` or `recv PEER SORT . THEN`: the one branch has the sort in place of a label.
-    `choose PEER { LABEL : T , .. }` or `pick PEER { LABEL : T , .. }`."""
-    kind: str
-    peer: str
-    branches: tuple
-
-
-class Unmerged(Exception):
-    """This choice has branches that can't be merged for the role."""
-
-    def __init__(self, choice):
-        super().__init__()
-        self.choice = choice
-
-
-def projection(role, node):
-    """What a role does in a global type."""
-    if isinstance(node, (End, Var)):
-        return node
-    if isinstance(node, Rec):
-        is_idle = all(role not in parties(it) for it in preorder(node)) and not leads_out(node, set())
-        return End() if is_idle else Rec(node.name, projection(role, node.body))
-    if isinstance(node, Message):
-        then = projection(role, node.then)
-        kind, peer = part(role, node, "send", "recv")
-        return Local(kind, peer, ((node.sort, then),)) if kind else then
-    branches = tuple((label, projection(role, below)) for label, below in node.branches)
-    kind, peer = part(role, node, "choose", "pick")
-    if kind:
-        return Local(kind, peer, branches)
-    if any(below != branches[0][1] for _, below in branches):
-        raise Unmerged(node)
-    return branches[0][1]
-
-
-def preorder(node):
-    """The node and all below it, in preorder."""
-    return [node, *(it for below, _ in nodes_below(node, {}) for it in preorder(below))]
-
-
-def parties(node):
-    """The sender and the receiver of a node, if it has them."""
-    return (node.sender, node.receiver) if isinstance(node, (Message, Choice)) else ()
-
-
-def leads_out(node, loops):
-    """Whether a variable in a type is that of no `rec` in it, nor of one of these loops."""
-    if isinstance(node, Var):
-        return node.name not in loops
-    inside = {*loops, node.name} if isinstance(node, Rec) else loops
-    return any(leads_out(below, inside) for below, _ in nodes_below(node, {}))
-
-
-def part(role, node, output, input_):
-    """The kind of the role's act and its peer there, or nothing where the act is that of two others."""
-    return {node.sender: (output, node.receiver), node.receiver: (input_, node.sender)}.get(role, (None, None))
-
-
-def spelled(node):
-    """The text of a local type."""
-    if isinstance(node, End):
-        return "end"
-    if isinstance(node, Var):
-        return node.name
-    if isinstance(node, Rec):
-        return f"rec {node.name} . {spelled(node.body)}"
-    if node.kind in ("send", "recv"):
-        return f"{node.kind} {node.peer} {node.branches[0][0]} . {spelled(node.branches[0][1])}"
-    branches = " , ".join(f"{label} : {spelled(below)}" for label, below in node.branches)
-    return f"{node.kind} {node.peer} {{ {branches} }}"
-
-
-def load(protocol):
-    """Each role's local type, in the order of the roles, or the fault of the protocol."""
-    roles, body = Reader(protocol.decode("latin-1")).protocol()
-    fault = protocol_fault(roles, body)
-    if fault:
-        raise Fault(f"refused protocol {fault}", 3)
-    types, choices = {}, [node for node in preorder(body) if isinstance(node, Choice)]
-    for role in roles:
-        try:
-            types[role] = projection(role, body)
-        except Unmerged as found:
-            place = next(place for place, choice in enumerate(choices) if choice is found.choice)
-            raise Fault(f"refused projection {role} {place}", 3) from None
-    return types
 
 
 # --- The machine: views and what leads from one to the next ----------------------------------------------------------

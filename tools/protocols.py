@@ -1,0 +1,324 @@
+"""protocols: protocol texts, their faults, and what each role does in them.
+
+It is written from docs/FORMATS.md and docs/DEFINITIONS.md and from nothing else, so that a reader can hold it against
+them line by line. tests/reference.py is built on it, and so is explain.py; a token therefore knows where it stands, and
+a fault what there is to say of it.
+"""
+import dataclasses
+import functools
+import re
+
+# --- Names -----------------------------------------------------------------------------------------------------------
+
+RESERVED = ("roles", "rec", "end", "int", "bool", "text", "true", "false")
+
+
+@functools.lru_cache(100_000)
+def is_name(word):
+    """1 to 32 small letters, digits and `_`, the first a letter, and no reserved word."""
+    return re.fullmatch("[a-z][a-z0-9_]{0,31}", word) is not None and word not in RESERVED
+
+
+def is_variable(word):
+    """1 to 32 capital letters, digits and `_`, the first a letter."""
+    return re.fullmatch("[A-Z][A-Z0-9_]{0,31}", word) is not None
+
+
+# --- Protocol text ---------------------------------------------------------------------------------------------------
+
+class Token(str):
+    """A token of a text, with the byte at which it stands."""
+
+    def __new__(cls, word, at):
+        token = super().__new__(cls, word)
+        token.at = at
+        return token
+
+
+@dataclasses.dataclass(frozen=True)
+class End:
+    """`end`, in global and in local types."""
+
+
+@dataclasses.dataclass(frozen=True)
+class Var:
+    """A variable, in global and in local types."""
+    name: str
+
+
+@dataclasses.dataclass(frozen=True)
+class Rec:
+    """`rec NAME . BODY`, in global and in local types."""
+    name: str
+    body: object
+
+
+@dataclasses.dataclass(frozen=True)
+class Message:
+    """`SENDER -> RECEIVER : SORT . THEN`."""
+    sender: str
+    receiver: str
+    sort: str
+    then: object
+
+
+@dataclasses.dataclass(frozen=True)
+class Choice:
+    """`SENDER -> RECEIVER { LABEL : G , .. }`; each branch is a label and a type."""
+    sender: str
+    receiver: str
+    branches: tuple
+
+
+class Fault(Exception):
+    """The line and the exit status with which the program ends; the fault's kind, the byte at which it is, and what more
+    there is to say of it, by names."""
+
+    def __init__(self, line, kind, at, **facts):
+        super().__init__(line)
+        self.line, self.status, self.kind, self.at, self.facts = line, 3, kind, at, facts
+
+
+# what a token may have to be, apart from the tokens that are spelled in one way
+KINDS = {"NAME": is_name, "VAR": is_variable}
+TYPE = ("NAME", "VAR", "rec", "end")  # how a global type may begin
+SORTS = ("int", "bool", "text")
+
+
+class Reader:
+    """Reads a protocol text from the left, token by token, up to the first fault."""
+
+    def __init__(self, text):
+        self.text, self.at, self.nodes = text, 0, 0
+
+    def fault(self, kind, **facts):
+        """The fault of that kind here."""
+        return Fault(f"refused text {kind} {self.at}", kind, self.at, **facts)
+
+    def token(self):
+        """The token that comes next and is not yet taken, empty at the end of the text."""
+        self.at = re.compile("[ \t\n\r]*").match(self.text, self.at).end()
+        found = re.compile("[A-Za-z0-9_]+|->|[:;.,{}]").match(self.text, self.at)
+        if self.at == len(self.text):
+            return Token("", self.at)
+        word = found.group() if found else ""
+        if not (is_name(word) or is_variable(word) or word in RESERVED or word in ("->", *":;.,{}")):
+            raise self.fault("word")
+        return Token(word, self.at)
+
+    def take(self, *may_come):
+        """Takes the next token, which has to be one of these, or of one of these kinds."""
+        token = self.token()
+        if not is_one_of(token, may_come):
+            raise self.fault("unexpected", expected=may_come)
+        self.at += len(token)
+        return token
+
+    def protocol(self):
+        """The roles and the global type of the whole text."""
+        if len(self.text) > 65536:
+            raise Fault("refused text toolong 65536", "toolong", 65536)
+        self.take("roles")
+        roles = [self.take("NAME"), self.take("NAME")]
+        while len(roles) < 8 and (token := self.take("NAME", ";")) != ";":
+            roles.append(token)
+        if len(roles) == 8:
+            self.take(";")
+        body = self.type(1)
+        if self.token():
+            raise self.fault("trailing")
+        return roles, body
+
+    def type(self, level):
+        """A global type whose root is at that level."""
+        if is_one_of(self.token(), TYPE):
+            self.nodes += 1
+            if self.nodes > 256:
+                raise self.fault("toomanynodes")
+            if level > 64:
+                raise self.fault("toodeep")
+        token = self.take(*TYPE)
+        if token == "end":
+            return End()
+        if is_variable(token):
+            return Var(token)
+        if token == "rec":
+            name = self.take("VAR")
+            self.take(".")
+            return Rec(name, self.type(level + 1))
+        self.take("->")
+        return self.act(token, self.take("NAME"), level)
+
+    def act(self, sender, receiver, level):
+        """A message or a choice, after its two roles."""
+        if self.take(":", "{") == ":":
+            sort = self.take(*SORTS)
+            self.take(".")
+            return Message(sender, receiver, sort, self.type(level + 1))
+        branches = [self.branch(level + 1)]
+        while self.take(",", "}") == ",":
+            branches.append(self.branch(level + 1))
+        return Choice(sender, receiver, tuple(branches))
+
+    def branch(self, level):
+        """A label, and the type after it."""
+        label = self.take("NAME")
+        self.take(":")
+        return label, self.type(level)
+
+
+def is_one_of(token, may_come):
+    """Whether a token is one of these, or of one of these kinds."""
+    return any(KINDS[it](token) if it in KINDS else token == it for it in may_come)
+
+
+# --- Faults of the protocol ------------------------------------------------------------------------------------------
+
+def protocol_fault(roles, body):
+    """The first fault of a protocol that was read, or nothing; faults that the reader refuses are left out."""
+    return second("doublerole", roles) or type_fault(roles, body, {})
+
+
+def second(kind, names):
+    """The fault of a name that stands twice in a list, at its second place, or nothing."""
+    found = next((at for at, name in enumerate(names) if name in names[:at]), None)
+    return found and named(kind, names[found], first=names[names.index(names[found])])
+
+
+def named(kind, token, **facts):
+    """The fault of that kind at this token."""
+    return Fault(f"refused protocol {kind}", kind, token.at, token=token, **facts)
+
+
+def type_fault(roles, node, loops):
+    """The first fault of the nodes in preorder. `loops` has the `rec`s around, and whether an act came since."""
+    return node_fault(roles, node, loops) or next(filter(None, (
+        type_fault(roles, below, inside) for below, inside in nodes_below(node, loops))), None)
+
+
+def nodes_below(node, loops):
+    """The nodes right below a node, from the left, each with the `rec`s around it."""
+    acted = dict.fromkeys(loops, True)
+    if isinstance(node, Rec):
+        return [(node.body, {**loops, node.name: False})]
+    if isinstance(node, Message):
+        return [(node.then, acted)]
+    return [(below, acted) for _, below in node.branches] if isinstance(node, Choice) else []
+
+
+def node_fault(roles, node, loops):
+    """The first fault of this node, in the order of the table."""
+    if isinstance(node, (Message, Choice)):
+        labels = [label for label, _ in node.branches] if isinstance(node, Choice) else []
+        unknown = [name for name in (node.sender, node.receiver) if name not in roles]
+        if unknown:
+            return named("unknownrole", unknown[0], roles=roles)
+        if node.sender == node.receiver:
+            return named("selfmessage", node.receiver)
+        return second("doublelabel", labels) or (named("toomanybranches", labels[16]) if len(labels) > 16 else None)
+    if isinstance(node, Var) and node.name not in loops:
+        return named("unbound", node.name)
+    if isinstance(node, Rec) and node.name in loops:
+        return named("shadowed", node.name, first=outer(node.name, loops))
+    if isinstance(node, Var) and not loops[node.name]:
+        return named("unguarded", node.name, first=outer(node.name, loops))
+    return None
+
+
+def outer(name, loops):
+    """The variable of that name, as the `rec` around has it."""
+    return next(it for it in loops if it == name)
+
+
+# --- Local types -----------------------------------------------------------------------------------------------------
+
+@dataclasses.dataclass(frozen=True)
+class Local:
+    """`send PEER SORT . THEN` or `recv PEER SORT . THEN`: the one branch has the sort in place of a label.
+    `choose PEER { LABEL : T , .. }` or `pick PEER { LABEL : T , .. }`."""
+    kind: str
+    peer: str
+    branches: tuple
+
+
+class Unmerged(Exception):
+    """This choice has branches that can't be merged for the role: the first, and another one."""
+
+    def __init__(self, choice, first, other):
+        super().__init__()
+        self.choice, self.first, self.other = choice, first, other
+
+
+def projection(role, node):
+    """What a role does in a global type."""
+    if isinstance(node, (End, Var)):
+        return node
+    if isinstance(node, Rec):
+        is_idle = all(role not in parties(it) for it in preorder(node)) and not leads_out(node, set())
+        return End() if is_idle else Rec(node.name, projection(role, node.body))
+    if isinstance(node, Message):
+        then = projection(role, node.then)
+        kind, peer = part(role, node, "send", "recv")
+        return Local(kind, peer, ((node.sort, then),)) if kind else then
+    branches = tuple((label, projection(role, below)) for label, below in node.branches)
+    kind, peer = part(role, node, "choose", "pick")
+    if kind:
+        return Local(kind, peer, branches)
+    other = next((branch for branch in branches if branch[1] != branches[0][1]), None)
+    if other:
+        raise Unmerged(node, branches[0], other)
+    return branches[0][1]
+
+
+def preorder(node):
+    """The node and all below it, in preorder."""
+    return [node, *(it for below, _ in nodes_below(node, {}) for it in preorder(below))]
+
+
+def parties(node):
+    """The sender and the receiver of a node, if it has them."""
+    return (node.sender, node.receiver) if isinstance(node, (Message, Choice)) else ()
+
+
+def leads_out(node, loops):
+    """Whether a variable in a type is that of no `rec` in it, nor of one of these loops."""
+    if isinstance(node, Var):
+        return node.name not in loops
+    inside = {*loops, node.name} if isinstance(node, Rec) else loops
+    return any(leads_out(below, inside) for below, _ in nodes_below(node, {}))
+
+
+def part(role, node, output, input_):
+    """The kind of the role's act and its peer there, or nothing where the act is that of two others."""
+    return {node.sender: (output, node.receiver), node.receiver: (input_, node.sender)}.get(role, (None, None))
+
+
+def spelled(node):
+    """The text of a local type."""
+    if isinstance(node, End):
+        return "end"
+    if isinstance(node, Var):
+        return node.name
+    if isinstance(node, Rec):
+        return f"rec {node.name} . {spelled(node.body)}"
+    if node.kind in ("send", "recv"):
+        return f"{node.kind} {node.peer} {node.branches[0][0]} . {spelled(node.branches[0][1])}"
+    branches = " , ".join(f"{label} : {spelled(below)}" for label, below in node.branches)
+    return f"{node.kind} {node.peer} {{ {branches} }}"
+
+
+def load(protocol):
+    """Each role's local type, in the order of the roles, or the fault of the protocol."""
+    roles, body = Reader(protocol.decode("latin-1")).protocol()
+    fault = protocol_fault(roles, body)
+    if fault:
+        raise fault
+    types, choices = {}, [node for node in preorder(body) if isinstance(node, Choice)]
+    for role in roles:
+        try:
+            types[role] = projection(role, body)
+        except Unmerged as found:
+            place = next(place for place, choice in enumerate(choices) if choice is found.choice)
+            raise Fault(f"refused projection {role} {place}", "projection", found.choice.sender.at,
+                        role=role, choice=found.choice, branches=(found.first, found.other)) from None
+    return types
