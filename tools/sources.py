@@ -1,8 +1,13 @@
-"""The crates of the repository, what they stand on, and sums of their sources."""
+"""The crates of the repository, what they stand on, sums of their sources, and where programs built of these stand."""
+import contextlib
 import hashlib
 import os
+import subprocess
+import time
 
 HOME = os.path.dirname(os.path.dirname(os.path.realpath(__file__)))
+OUT = os.path.join(HOME, "out")
+SETTLED = 3  # seconds after which a file that is changed again has another time, on any file system
 
 
 def listed():
@@ -30,6 +35,17 @@ def needed(crates, top):
     return found
 
 
+def place(kind, sources):
+    """Where the program of that kind stands that was built of the sources with that digest."""
+    return os.path.join(OUT, kind, sources, "mps_tool")
+
+
+def built(sources):
+    """The kind and the place of the program that runs, the proved one before the checked one; or nothing."""
+    places = ((kind, place(kind, sources)) for kind in ("proved", "checked"))
+    return next((found for found in places if os.path.exists(found[1])), None)
+
+
 def digest(crates):
     """A digest of the sources of these crates."""
     found = hashlib.sha256()
@@ -44,3 +60,29 @@ def digest(crates):
                         content = hashlib.sha256(source.read()).hexdigest()
                     found.update(f"{os.path.relpath(path, HOME)} {content}\n".encode())
     return found.hexdigest()[:16]
+
+
+def noted_digest(crates):
+    """The same digest, with a note for the next run of mps, which says what the note is for."""
+    seen, began = look(), time.time()
+    sources = digest(crates)
+    times = [float(word) for line in seen.splitlines() for word in line.rsplit(b" ", 2)[1:]]
+    if times and max(times) < began - SETTLED and look() == seen:
+        write_note(sources.encode() + b"\n" + seen)
+    return sources
+
+
+def look():
+    """What the system says of each source, or nothing where it isn't said."""
+    ran = subprocess.run([os.path.join(HOME, "tools", "look")], stdout=subprocess.PIPE, stderr=subprocess.DEVNULL, check=False)
+    return ran.stdout if ran.returncode == 0 else b""
+
+
+def write_note(text):
+    """Writes the note, which comes to its place whole or not at all; where it can't be written, there is none."""
+    there = os.path.join(OUT, "sources")
+    beside = f"{there}.{os.getpid()}"
+    with contextlib.suppress(OSError):
+        with open(beside, "wb") as note:
+            note.write(text)
+        os.replace(beside, there)

@@ -1,0 +1,120 @@
+"""mps WORDS..: runs mps_tool, the program of this repository, with these words, from the caller's folder.
+
+mps check FILE                 each role's local type of the protocol in FILE
+mps run FILE SCRIPT            the answers to a script, on a session of the protocol
+mps same FILE SCRIPT SCRIPT    whether two scripts come to the same
+mps serve FILE --port P --sessions S ..
+                               serves sessions of the protocol to clients; mps serve --help has the options
+mps explain FILE               as check; and where the protocol is refused, says where in FILE and why. The four above
+                               say it too where standard error is a terminal
+mps prove                      builds the proved program: each crate is proved, side by side on all cores, which takes
+                               about half an hour; prints where the program stands
+mps which [--path]             tells which program runs, and of which sources; with --path prints only where it stands
+mps install DIR                copies the program that runs to DIR/mps_tool, where it needs nothing of this repository
+mps --version                  the program's version
+
+The proved program runs where one was built of the sources as they are, else the checked one: the same sources, with a
+check at each step where a proof would have shown that nothing goes wrong. The checked one is built where it is missing,
+which takes about a minute. mps ends with the program's status, or with 2 where no program can be run.
+"""
+import os
+import signal
+import subprocess
+import sys
+
+sys.dont_write_bytecode = True
+sys.path.insert(0, os.path.dirname(os.path.realpath(__file__)))
+import building  # noqa: E402
+import explain  # noqa: E402
+from sources import built, listed, needed, noted_digest  # noqa: E402
+
+# the words that each order of mps itself may have after it
+USES = {"prove": "", "which": "[--path]", "install": "DIR", "explain": "FILE"}
+
+
+def may_follow(order, words):
+    """Whether these words may follow an order of mps itself."""
+    if order == "which":
+        return words in ([], ["--path"])
+    return len(words) == (0 if order == "prove" else 1)
+
+
+def which(words, sources):
+    """Tells which program runs, and of which sources."""
+    found = built(sources)
+    if found and words:
+        print(found[1])
+    elif found:
+        print(f"{found[0]} program of the sources {sources}: {os.path.relpath(found[1])}")
+    elif words:
+        raise building.Stopped("no program of these sources is built yet")
+    else:
+        print(f"no program of the sources {sources} yet: mps builds the checked one when it is called, mps prove the proved one")
+
+
+def program_of(crates, sources):
+    """Where the program stands that runs, which is built where it is missing."""
+    found = built(sources)
+    return found[1] if found else building.check(crates, sources)
+
+
+def refused_file(program, words):
+    """The file with a protocol among these words, if the program refuses it."""
+    file = next((word for word in words[1:] if os.path.isfile(word)), None)
+    if file is None or words[0] not in ("check", "run", "same", "serve"):
+        return None
+    quiet = dict.fromkeys(("stdin", "stdout", "stderr"), subprocess.DEVNULL)
+    return file if subprocess.run([program, "check", "--", file], **quiet, check=False).returncode == 3 else None
+
+
+def run_explained(program, words, file, out):
+    """The status of a run of the program. Where it refuses the protocol of that file, out gets its line, and below it why."""
+    ran = subprocess.run([program, *words], stderr=subprocess.PIPE, check=False)
+    told = explain.told_of(file, ran.stderr) if ran.returncode == 3 else b""
+    stream = out if told else sys.stderr
+    stream.buffer.write(ran.stderr + told)
+    stream.flush()
+    return ran.returncode if ran.returncode >= 0 else 128 - ran.returncode
+
+
+def run(program, words):
+    """Becomes the program; where a person reads what it says of a refused protocol, they are told why."""
+    file = refused_file(program, words) if words and os.isatty(2) else None
+    if file is not None:
+        sys.exit(run_explained(program, words, file, sys.stderr))
+    os.execv(program, [program, *words])
+
+
+def main():
+    order, words = (sys.argv[1:2] or [""])[0], sys.argv[2:]
+    if order in ("--help", "-h") or (order, words) == ("help", []):
+        print(__doc__.rstrip("\n"))
+        return
+    if order in USES and not may_follow(order, words):
+        raise building.Stopped(f"usage: mps {order} {USES[order]}")
+    crates = needed(listed(), "mps_tool")
+    sources = noted_digest(crates)
+    if order == "which":
+        which(words, sources)
+    elif order == "prove":
+        print(building.prove(crates, sources))
+    elif order == "install":
+        print(building.install(program_of(crates, sources), *words))
+    elif order == "explain":
+        sys.exit(run_explained(program_of(crates, sources), ["check", "--", *words], *words, sys.stdout))
+    else:
+        run(program_of(crates, sources), sys.argv[1:])
+
+
+for number in (signal.SIGTERM, signal.SIGHUP):
+    signal.signal(number, lambda number, _: sys.exit(128 + number))
+try:
+    main()
+except building.Stopped as reason:
+    print(f"mps: {reason}", file=sys.stderr)
+    sys.exit(2)
+except KeyboardInterrupt:
+    sys.exit(130)
+except BrokenPipeError:
+    os.dup2(os.open(os.devnull, os.O_WRONLY), 1)
+    sys.exit(141)
