@@ -12,6 +12,7 @@ WIDE = 100  # characters of a line of text that are shown at most
 MOST = 65_536  # bytes of a protocol's text
 LONG = 160  # characters of a local type that are shown at most
 KINDS = {"NAME": "a name", "VAR": "a variable"}
+ADVICE = "docs/DESIGNING.md shows what to do about it"
 SPELLING = "names are of small letters, digits and `_`, variables of capital ones, with a letter first"
 
 
@@ -44,7 +45,7 @@ def explanation(path, text, fault):
     line, column, shown, under = pointed(text, min(fault.at, end))
     lines = [f"{path}:{line}:{column}: {REASONS[fault.kind](text, fault)}", f"  {shown}", f"  {' ' * under}^"]
     if fault.kind == "projection":
-        lines += differing(fault)
+        lines += [*differing(fault), ADVICE]
     return "".join(f"{it}\n" for it in lines)
 
 
