@@ -6,45 +6,52 @@ usage: relay.py PORT SESSION
 a gives b a number, and b gives c one. Then a finds that its number was wrong, and rolls its step back with all that came
 of it, and b and c hear which of their steps went."""
 import multiprocessing
+import pathlib
 import sys
+import time
 
-from client import Client
+sys.path.insert(0, str(pathlib.Path(__file__).resolve().parent.parent.parent / "clients" / "python"))
+from cizhmolat import Role  # noqa: E402
 
-
-def was_queued(answer):
-    return answer != "refused nothingqueued"
-
-
-def has_news(answer):
-    return len(answer.split(" ")) > 2
+PAUSE = 0.05  # seconds between two questions
 
 
-def a(client):
-    yield client.ask("send b 5")
-    client.ask_until("show", lambda shown: '[4,"c","recv"' in shown)
-    yield client.ask("rollback 1")
+def a(role):
+    step = role.send("b", 5)
+    yield f"sent 5 in step {step}"
+    while not any(row[1:3] == ["c", "recv"] for row in role.show()["history"]):
+        time.sleep(PAUSE)
+    yield f"took back {role.rollback(step)}"
 
 
-def b(client):
-    yield client.ask_until("recv a x", was_queued)
-    yield client.ask("send c 7")
-    yield client.ask_until("news 0", has_news)
+def b(role):
+    yield "received {1} in step {0}".format(*role.receive("a", "x"))
+    yield f"sent 7 in step {role.send('c', 7)}"
+    yield f"lost {lost(role)}"
 
 
-def c(client):
-    yield client.ask_until("recv b y", was_queued)
-    yield client.ask_until("news 0", has_news)
+def c(role):
+    yield "received {1} in step {0}".format(*role.receive("b", "y"))
+    yield f"lost {lost(role)}"
 
 
-def play(port, session, role):
-    return list(role(Client(port, session, role.__name__)))
+def lost(role):
+    """The steps that others took back, as soon as there are some."""
+    while not (news := role.news()).gone:
+        time.sleep(PAUSE)
+    return news.gone
+
+
+def play(port, session, part):
+    with Role(session, part.__name__, port) as role:
+        return list(part(role))
 
 
 if __name__ == "__main__":
     if len(sys.argv) != 3:
         sys.exit(__doc__)
     with multiprocessing.Pool(3) as pool:
-        played = [pool.apply_async(play, (int(sys.argv[1]), sys.argv[2], role)) for role in (a, b, c)]
-        for role, answers in zip("abc", played):
-            for answer in answers.get(timeout=60):
-                print(f"{role}: {answer}")
+        played = [pool.apply_async(play, (*map(int, sys.argv[1:]), part)) for part in (a, b, c)]
+        for role, told in zip("abc", played):
+            for line in told.get(timeout=60):
+                print(f"{role} {line}")

@@ -1,0 +1,474 @@
+"""cizhmolat: speaks for one role of a session that `./mps serve` serves. One file, of the standard library alone.
+
+    from cizhmolat import Role
+
+    with Role(session=1, role="b", port=4750, numbers="b.numbers") as b:
+        step, value = b.receive("a", "x", timeout=60)
+        b.send("c", 7)
+        entries, gone = b.news(0)
+
+Each command that changes the session has a number. Where the connection breaks before the answer is there, the role joins
+again, and the same line is sent again: the server runs a number once, and gives the answer that was lost. All waiting is
+bounded: a join and what is sent again by `patience`, an answer by `timeout`, a receipt by its own `timeout`.
+
+The newest number is kept in the file `numbers`, so that a program that is started again goes on from there. A number that
+was used before is answered as before, and nothing is run. So a client that began at 1 again would lose commands without
+noticing. A Role never does: when it first joins it asks the server which number is the newest, by `N undo 0`. No step has
+the number 0, so this changes nothing; and it is refused as `number` unless N is the newest number or the next one.
+
+A Role is used by one thread at a time. Only this module's own exceptions and ValueError, for words that no line can have,
+are raised; a refusal has the class of its name, such as NothingQueued, and the session is then as it was.
+"""
+from __future__ import annotations
+
+import contextlib
+import io
+import json
+import os
+import re
+import socket
+import time
+from collections.abc import Iterator
+from typing import Any, NamedTuple, Union
+
+Value = Union[bool, int, str]
+NAME = re.compile("(?!(?:roles|rec|end|int|bool|text|true|false)$)[a-z][a-z0-9_]{0,31}")
+TEXT = re.compile(r"[ !#-\[\]-~]{0,256}")
+QUESTIONS = ("news", "show")  # which change nothing, and have no number
+FULL = 100_000  # entries that a journal has at most
+
+
+class Error(Exception):
+    """What this module raises."""
+
+
+class Unreachable(Error):
+    """No server was there, or none answered, until patience ran out. The command may have been run, or not. Give it again,
+    and it is run once, also by the next Role with the same file of numbers."""
+
+
+class NotUnderstood(Error):
+    """What came is no answer to what was asked, so it isn't such a server that listens there."""
+
+
+class Refused(Error):
+    """A command was refused, and the session is as it was."""
+    word = ""
+
+    def __init__(self, line: str, step: int | None = None) -> None:
+        super().__init__(line)
+        self.step = step
+
+
+class Ended(Refused):
+    """The role's part of the protocol has ended."""
+    word = "ended"
+
+
+class WrongAct(Refused):
+    """The protocol wants an act of another kind of the role now."""
+    word = "wrongact"
+
+
+class WrongPeer(Refused):
+    """The protocol has another peer in that place."""
+    word = "wrongpeer"
+
+
+class WrongSort(Refused):
+    """The value is of another sort than the protocol wants."""
+    word = "wrongsort"
+
+
+class NoLabel(Refused):
+    """The choice has no branch of that label."""
+    word = "nolabel"
+
+
+class NothingQueued(Refused):
+    """No message waits from the peer."""
+    word = "nothingqueued"
+
+
+class Mismatch(Refused):
+    """The message that waits is another than the role's type expects. A server never answers so."""
+    word = "mismatch"
+
+
+class NoStep(Refused):
+    """No step of that number survives."""
+    word = "nostep"
+
+
+class NotYours(Refused):
+    """The step is another role's."""
+    word = "notyours"
+
+
+class Final(Refused):
+    """A commit stands in the way, that of the number `step`."""
+    word = "final"
+
+
+class Needed(Refused):
+    """Another step depends on the step that is to be undone: the least has the number `step`."""
+    word = "needed"
+
+
+class NoMark(Refused):
+    """No mark of that name of the role survives."""
+    word = "nomark"
+
+
+class Full(Refused):
+    """The session's journal has as many entries as it may have."""
+    word = "full"
+
+
+class OutOfMemory(Refused):
+    """The server ran out of memory in the command."""
+    word = "memory"
+
+
+class UnreadableLine(Refused):
+    """The server can't read the line."""
+    word = "line"
+
+
+class NoSession(Refused):
+    """No session has that number."""
+    word = "nosession"
+
+
+class NoRole(Refused):
+    """The session has no role of that name."""
+    word = "norole"
+
+
+class Taken(Refused):
+    """Another connection acts for the role, and did until patience ran out."""
+    word = "taken"
+
+
+class WrongNumber(Refused):
+    """The session's newest number of this role isn't the one that was kept: it is another session than before, or another
+    client acted for the role."""
+    word = "number"
+
+
+REFUSALS = {kind.word: kind for kind in Refused.__subclasses__()}
+
+
+class Received(NamedTuple):
+    """A receipt: the number of its step, and the value."""
+    step: int
+    value: Value
+
+
+class Picked(NamedTuple):
+    """A pick: the number of its step, and the label."""
+    step: int
+    label: str
+
+
+class News(NamedTuple):
+    """How many entries the journal has, and which of the role's steps others took back, in that order."""
+    entries: int
+    gone: list[int]
+
+
+class Answered(NamedTuple):
+    """A command that was accepted, while its answer may not have been seen, and the answer. The command is None where no
+    file tells it."""
+    command: str | None
+    answer: str
+
+
+def spelled(value: Value) -> str:
+    """A value as a line spells it."""
+    if isinstance(value, bool):
+        return "true" if value else "false"
+    if isinstance(value, int) and -2 ** 63 <= value < 2 ** 63:
+        return str(value)
+    if isinstance(value, str) and TEXT.fullmatch(value):
+        return f'"{value}"'
+    raise ValueError(f"no value of a session: {value!r} (an int of 64 bits, a bool, or up to 256 bytes from the space to ~ "
+                     'without " and \\)')
+
+
+def name(word: str) -> str:
+    """The word, which has to be a name."""
+    if not isinstance(word, str) or not NAME.fullmatch(word):
+        raise ValueError(f"no name: {word!r} (up to 32 small letters, digits and _, a letter first, no reserved word)")
+    return word
+
+
+def count(number: int) -> int:
+    """The number, which has to be one that a line can have."""
+    if isinstance(number, bool) or not isinstance(number, int) or not 0 <= number < 2 ** 64:
+        raise ValueError(f"no number of a step or an entry: {number!r}")
+    return number
+
+
+def accepted(answer: str) -> str:
+    """The answer, if it isn't a refusal, which is raised."""
+    word, *rest = answer.split(" ")
+    if word != "refused":
+        return answer
+    kind = REFUSALS.get(rest[0]) if rest else None
+    if kind is None:
+        raise NotUnderstood(answer)
+    raise kind(answer, int(rest[1]) if rest[1:] else None)
+
+
+def read(answer: str, form: str) -> re.Match[str]:
+    """The parts of an answer that has to have this form."""
+    found = re.fullmatch(form, accepted(answer))
+    if found is None:
+        raise NotUnderstood(answer)
+    return found
+
+
+def pauses(least: float, most: float) -> Iterator[float]:
+    """Pauses that grow from the one to the other."""
+    while True:
+        yield least
+        least = min(2 * least, most)
+
+
+class Numbers:
+    """The newest number of a role, and the command under way, in a file.
+
+    The file has a line `SESSION ROLE NUMBER`, and a second one with the command that was given under the next number, as
+    long as its answer hasn't come. It is replaced as a whole. It is of one session: take another file for another one."""
+
+    def __init__(self, path: str | os.PathLike[str] | None, owner: str) -> None:
+        self.path, self.owner = path, owner
+        self.newest = 0
+        self.command: str | None = None
+        self.is_known = path is not None and os.path.exists(path)
+        if path is not None and self.is_known:
+            with open(path, encoding="ascii") as file:
+                first, _, rest = file.read().partition("\n")
+            found = re.fullmatch(r"(\d+ \w+) (\d+)", first)
+            if found is None or found[1] != owner:
+                raise ValueError(f"{os.fspath(path)} has no numbers of {owner}")
+            self.newest, self.command = int(found[2]), rest.rstrip("\n") or None
+
+    def keep(self, newest: int, command: str | None = None) -> None:
+        """Keeps the newest number, and the command under way."""
+        self.newest, self.command, self.is_known = newest, command, True
+        if self.path is not None:
+            beside = f"{os.fspath(self.path)}.new"
+            with open(beside, "w", encoding="ascii") as file:
+                file.write(f"{self.owner} {newest}\n" + (f"{command}\n" if command else ""))
+            os.replace(beside, self.path)
+
+
+class Role:
+    """A role of a session, for which this program acts.
+
+    session, role    the session's number, and the role's name
+    port, host       where the server listens
+    numbers          the file that keeps the newest number; where there is none it is found by asking for 1, 2, 3 and so on
+    timeout          seconds until an answer that hasn't come counts as a broken connection
+    patience         seconds for which a server that isn't there, and a role that is taken, are tried again
+
+    `resumed` has the command of an earlier run whose answer it didn't get, if that command was accepted. A program whose
+    first command is the same one gets that answer, and nothing is run a second time; with any other command it goes on."""
+
+    def __init__(self, session: int, role: str, port: int, *, host: str = "127.0.0.1",
+                 numbers: str | os.PathLike[str] | None = None, timeout: float = 30, patience: float = 10) -> None:
+        self.session, self.role = count(session), name(role)
+        self.address, self.timeout, self.patience = (host, port), timeout, patience
+        self._stream: io.BufferedRWPair | None = None
+        self._numbers = Numbers(numbers, f"{session} {role}")
+        self.resumed: Answered | None = None
+        self._is_settled = False  # whether the newest number is known
+        try:
+            self._settle()
+        except BaseException:
+            self.close()
+            raise
+
+    def __enter__(self) -> Role:
+        return self
+
+    def __exit__(self, *_: object) -> None:
+        self.close()
+
+    def close(self) -> None:
+        """Ends the connection, and so frees the role. The next command joins again."""
+        if self._stream is not None:
+            with contextlib.suppress(OSError):
+                self._stream.close()
+        self._stream = None
+
+    # --- Steps forward ---
+
+    def send(self, peer: str, value: Value) -> int:
+        """Sends the peer a value, and gives the number of the step."""
+        return self._step(f"send {name(peer)} {spelled(value)}")
+
+    def choose(self, peer: str, label: str) -> int:
+        """Chooses the branch of that label, tells the peer, and gives the number of the step."""
+        return self._step(f"choose {name(peer)} {name(label)}")
+
+    def receive(self, peer: str, slot: str, timeout: float = 60) -> Received:
+        """Receives the oldest value that waits from the peer, and keeps it in the slot. Where none waits the server is asked
+        again, with pauses that grow from 2 ms to 0.5 s; NothingQueued is raised when none has come in `timeout` seconds."""
+        answer = self._poll(f"recv {name(peer)} {name(slot)}", timeout)
+        found = read(answer, r'done (\d+) (true|false|-?\d+|"[^"]*")')
+        return Received(int(found[1]), json.loads(found[2]))
+
+    def pick(self, peer: str, timeout: float = 60) -> Picked:
+        """Takes the oldest label that waits from the peer; where none waits, as with `receive`."""
+        found = read(self._poll(f"pick {name(peer)}", timeout), r"done (\d+) ([a-z]\w*)")
+        return Picked(int(found[1]), found[2])
+
+    def mark(self, mark: str) -> int:
+        """Leaves a mark of that name, and gives the number of the step."""
+        return self._step(f"mark {name(mark)}")
+
+    def commit(self) -> int:
+        """Makes final what the role did, with all on which that depends, and gives the number of the step."""
+        return self._step("commit")
+
+    # --- Steps back, each of which gives the numbers of the steps that were taken back, the newest first ---
+
+    def undo(self, step: int) -> list[int]:
+        """Takes back the role's own step, where nothing depends on it."""
+        return self._taken_back(f"undo {count(step)}")
+
+    def rollback(self, step: int) -> list[int]:
+        """Takes back the role's own step, and all that depends on it, of whatever role."""
+        return self._taken_back(f"rollback {count(step)}")
+
+    def back(self, mark: str) -> list[int]:
+        """Takes back all that the role did since its last mark of that name, and all that depends on it."""
+        return self._taken_back(f"back {name(mark)}")
+
+    # --- Questions ---
+
+    def news(self, entries: int = 0) -> News:
+        """Which of the role's steps others took back after the first so many entries of the journal. Ask the next time with
+        the number of entries that this gives."""
+        found = read(self.ask(f"news {count(entries)}"), r"news (\d+)((?: \d+)*)")
+        return News(int(found[1]), [int(it) for it in found[2].split()])
+
+    def show(self) -> dict[str, Any]:
+        """The session: its `history`, `queues` and `roles`."""
+        answer = accepted(self.ask("show"))
+        try:
+            shown = json.loads(answer)
+        except ValueError:
+            shown = None
+        if not isinstance(shown, dict):
+            raise NotUnderstood(answer)
+        return shown
+
+    # --- Lines ---
+
+    @property
+    def newest(self) -> int:
+        """The newest number of the role's commands that was accepted."""
+        return self._numbers.newest
+
+    def ask(self, command: str) -> str:
+        """The answer to a command line, which is given without a number; refusals aren't raised."""
+        if "\n" in command or not command.isascii():
+            raise ValueError(f"no line: {command!r}")
+        if command.split(" ")[0] in QUESTIONS:
+            return self._exchange(command)
+        if not self._is_settled:
+            self._settle()
+        resumed, self.resumed = self.resumed, None
+        if resumed is not None and resumed.command == command:
+            return resumed.answer
+        newest, self._is_settled = self._numbers.newest, False
+        self._numbers.keep(newest, command)
+        answer = self._exchange(f"{newest + 1} {command}")
+        self._numbers.keep(newest if answer.startswith("refused ") else newest + 1)
+        self._is_settled = True
+        return answer
+
+    def _step(self, command: str) -> int:
+        return int(read(self.ask(command), r"done (\d+)")[1])
+
+    def _taken_back(self, command: str) -> list[int]:
+        return [int(it) for it in read(self.ask(command), r"undone((?: \d+)*)")[1].split()]
+
+    def _poll(self, command: str, timeout: float) -> str:
+        """The answer to a command that is given again while it is refused because nothing waits."""
+        until = time.monotonic() + timeout
+        for pause in pauses(0.002, 0.5):
+            answer = self.ask(command)
+            left = until - time.monotonic()
+            if answer != "refused nothingqueued" or left <= 0:
+                break
+            time.sleep(min(pause, left))
+        return answer
+
+    # --- Numbers ---
+
+    def _settle(self) -> None:
+        """Finds out which number is the newest, and whether the command under way was accepted."""
+        first = self._numbers.newest + 1
+        answer = "refused number"
+        for number in range(first, first + 1 if self._numbers.is_known else FULL + 2):
+            answer = self._exchange(f"{number} undo 0")
+            if answer != "refused number":
+                break
+        if answer == "refused nostep":
+            number -= 1
+        else:
+            self.resumed = Answered(self._numbers.command, accepted(answer))
+        self._numbers.keep(number)
+        self._is_settled = True
+
+    # --- The connection ---
+
+    def _exchange(self, line: str) -> str:
+        """The answer to a line, which is sent again where the connection breaks."""
+        until = None
+        for pause in pauses(0.01, 0.5):
+            try:
+                stream = self._stream or self._join()
+                return self._talk(stream, line)
+            except (OSError, Taken) as error:
+                self.close()
+                until = until or time.monotonic() + self.patience
+                if time.monotonic() + pause > until:
+                    if isinstance(error, Taken):
+                        raise
+                    raise Unreachable(f"no server answers at {self.address[0]}:{self.address[1]}: {error}") from error
+            time.sleep(pause)
+        raise AssertionError
+
+    def _join(self) -> io.BufferedRWPair:
+        """A connection that acts for the role."""
+        connection = socket.create_connection(self.address, timeout=self.timeout)
+        with connection:  # which the stream keeps open
+            connection.setsockopt(socket.IPPROTO_TCP, socket.TCP_NODELAY, 1)
+            stream = connection.makefile("rwb")
+        try:
+            read(self._talk(stream, f"join {self.session} {self.role}"), f"joined {self.session} {self.role}")
+        except BaseException:
+            with contextlib.suppress(OSError):
+                stream.close()
+            raise
+        self._stream = stream
+        return stream
+
+    @staticmethod
+    def _talk(stream: io.BufferedRWPair, line: str) -> str:
+        """The answer to a line on this connection."""
+        stream.write(line.encode("ascii") + b"\n")
+        stream.flush()
+        answer = stream.readline()
+        if not answer.endswith(b"\n"):
+            raise ConnectionError("the connection broke")
+        try:
+            return answer[:-1].decode("ascii")
+        except UnicodeDecodeError:
+            raise NotUnderstood(repr(answer)) from None
