@@ -12,7 +12,7 @@ WIDE = 100  # characters of a line of text that are shown at most
 MOST = 65_536  # bytes of a protocol's text
 LONG = 160  # characters of a local type that are shown at most
 KINDS = {"NAME": "a name", "VAR": "a variable"}
-ADVICE = "docs/DESIGNING.md shows what to do about it"
+ADVICE = "docs/DESIGNING.md of Cizhmolat shows what to do about it"
 SPELLING = "names are of small letters, digits and `_`, variables of capital ones, with a letter first"
 
 

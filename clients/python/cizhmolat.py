@@ -18,6 +18,9 @@ the number 0, so this changes nothing; and it is refused as `number` unless N is
 
 A Role is used by one thread at a time. Only this module's own exceptions and ValueError, for words that no line can have,
 are raised; a refusal has the class of its name, such as NothingQueued, and the session is then as it was.
+
+A program that is started again asks `standing`, which says what the protocol wants of the role next, and which values it
+keeps.
 """
 from __future__ import annotations
 
@@ -55,9 +58,9 @@ class Refused(Error):
     """A command was refused, and the session is as it was."""
     word = ""
 
-    def __init__(self, line: str, step: int | None = None) -> None:
-        super().__init__(line)
-        self.step = step
+    def __init__(self, answer: str, command: str, step: int | None = None) -> None:
+        super().__init__(f"{answer}: {command}")
+        self.answer, self.command, self.step = answer, command, step
 
 
 class Ended(Refused):
@@ -177,6 +180,14 @@ class News(NamedTuple):
     gone: list[int]
 
 
+class Standing(NamedTuple):
+    """What the protocol wants of the role next, such as `send b int`, `pick b go stop` or `end`; the numbers of its surviving
+    steps; and what its slots keep."""
+    expects: str
+    past: list[int]
+    store: dict[str, Value]
+
+
 class Answered(NamedTuple):
     """A command that was accepted, while its answer may not have been seen, and the answer. The command is None where no
     file tells it."""
@@ -210,22 +221,14 @@ def count(number: int) -> int:
     return number
 
 
-def accepted(answer: str) -> str:
-    """The answer, if it isn't a refusal, which is raised."""
-    word, *rest = answer.split(" ")
-    if word != "refused":
-        return answer
-    kind = REFUSALS.get(rest[0]) if rest else None
-    if kind is None:
-        raise NotUnderstood(answer)
-    raise kind(answer, int(rest[1]) if rest[1:] else None)
-
-
-def read(answer: str, form: str) -> re.Match[str]:
-    """The parts of an answer that has to have this form."""
-    found = re.fullmatch(form, accepted(answer))
+def read(command: str, answer: str, form: str) -> re.Match[str]:
+    """The parts of the answer to a command, which has to have this form; a refusal is raised."""
+    found = re.fullmatch(form, answer)
+    refused = re.fullmatch(r"refused (\w+)(?: (\d+))?", answer)
+    if refused and refused[1] in REFUSALS:
+        raise REFUSALS[refused[1]](answer, command, int(refused[2]) if refused[2] else None)
     if found is None:
-        raise NotUnderstood(answer)
+        raise NotUnderstood(f"{answer!r}, to {command}")
     return found
 
 
@@ -317,13 +320,12 @@ class Role:
     def receive(self, peer: str, slot: str, timeout: float = 60) -> Received:
         """Receives the oldest value that waits from the peer, and keeps it in the slot. Where none waits the server is asked
         again, with pauses that grow from 2 ms to 0.5 s; NothingQueued is raised when none has come in `timeout` seconds."""
-        answer = self._poll(f"recv {name(peer)} {name(slot)}", timeout)
-        found = read(answer, r'done (\d+) (true|false|-?\d+|"[^"]*")')
+        found = self._poll(f"recv {name(peer)} {name(slot)}", r'done (\d+) (true|false|-?\d+|"[^"]*")', timeout)
         return Received(int(found[1]), json.loads(found[2]))
 
     def pick(self, peer: str, timeout: float = 60) -> Picked:
         """Takes the oldest label that waits from the peer; where none waits, as with `receive`."""
-        found = read(self._poll(f"pick {name(peer)}", timeout), r"done (\d+) ([a-z]\w*)")
+        found = self._poll(f"pick {name(peer)}", r"done (\d+) ([a-z]\w*)", timeout)
         return Picked(int(found[1]), found[2])
 
     def mark(self, mark: str) -> int:
@@ -353,19 +355,21 @@ class Role:
     def news(self, entries: int = 0) -> News:
         """Which of the role's steps others took back after the first so many entries of the journal. Ask the next time with
         the number of entries that this gives."""
-        found = read(self.ask(f"news {count(entries)}"), r"news (\d+)((?: \d+)*)")
+        found = self._read(f"news {count(entries)}", r"news (\d+)((?: \d+)*)")
         return News(int(found[1]), [int(it) for it in found[2].split()])
 
     def show(self) -> dict[str, Any]:
         """The session: its `history`, `queues` and `roles`."""
-        answer = accepted(self.ask("show"))
+        answer = self._read("show", r"\{.*\}")[0]
         try:
-            shown = json.loads(answer)
+            return dict(json.loads(answer))
         except ValueError:
-            shown = None
-        if not isinstance(shown, dict):
-            raise NotUnderstood(answer)
-        return shown
+            raise NotUnderstood(answer) from None
+
+    def standing(self) -> Standing:
+        """How the role stands in the session."""
+        shown = next(it for it in self.show()["roles"] if it["role"] == self.role)
+        return Standing(shown["expects"], shown["past"], dict(shown["store"]))
 
     # --- Lines ---
 
@@ -392,13 +396,16 @@ class Role:
         self._is_settled = True
         return answer
 
+    def _read(self, command: str, form: str) -> re.Match[str]:
+        return read(command, self.ask(command), form)
+
     def _step(self, command: str) -> int:
-        return int(read(self.ask(command), r"done (\d+)")[1])
+        return int(self._read(command, r"done (\d+)")[1])
 
     def _taken_back(self, command: str) -> list[int]:
-        return [int(it) for it in read(self.ask(command), r"undone((?: \d+)*)")[1].split()]
+        return [int(it) for it in self._read(command, r"undone((?: \d+)*)")[1].split()]
 
-    def _poll(self, command: str, timeout: float) -> str:
+    def _poll(self, command: str, form: str, timeout: float) -> re.Match[str]:
         """The answer to a command that is given again while it is refused because nothing waits."""
         until = time.monotonic() + timeout
         for pause in pauses(0.002, 0.5):
@@ -407,14 +414,13 @@ class Role:
             if answer != "refused nothingqueued" or left <= 0:
                 break
             time.sleep(min(pause, left))
-        return answer
+        return read(command, answer, form)
 
     # --- Numbers ---
 
     def _settle(self) -> None:
         """Finds out which number is the newest, and whether the command under way was accepted."""
         first = self._numbers.newest + 1
-        answer = "refused number"
         for number in range(first, first + 1 if self._numbers.is_known else FULL + 2):
             answer = self._exchange(f"{number} undo 0")
             if answer != "refused number":
@@ -422,7 +428,8 @@ class Role:
         if answer == "refused nostep":
             number -= 1
         else:
-            self.resumed = Answered(self._numbers.command, accepted(answer))
+            answer = read(f"{number} undo 0", answer, r"(?:un)?done.*")[0]
+            self.resumed = Answered(self._numbers.command, answer)
         self._numbers.keep(number)
         self._is_settled = True
 
@@ -452,7 +459,8 @@ class Role:
             connection.setsockopt(socket.IPPROTO_TCP, socket.TCP_NODELAY, 1)
             stream = connection.makefile("rwb")
         try:
-            read(self._talk(stream, f"join {self.session} {self.role}"), f"joined {self.session} {self.role}")
+            line = f"join {self.session} {self.role}"
+            read(line, self._talk(stream, line), f"joined {self.session} {self.role}")
         except BaseException:
             with contextlib.suppress(OSError):
                 stream.close()
