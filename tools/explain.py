@@ -3,6 +3,7 @@
 The program says what is wrong in one line, by a name and a number. This says where in the file that is, shows the line
 of text with a caret below the place, and says what is expected there. tools/protocols.py finds the fault once more.
 """
+import os
 import re
 
 from protocols import RESERVED, Fault, is_name, is_variable, load, spelled
@@ -18,7 +19,9 @@ SPELLING = "names are of small letters, digits and `_`, variables of capital one
 
 def told_of(path, line):
     """What there is to say of the protocol in that file, which the program refused with that line: nothing where the file
-    can't be read again, or doesn't have that fault any more."""
+    can't be read again, as a pipe can't, or doesn't have that fault any more."""
+    if not os.path.isfile(path):
+        return b""
     try:
         with open(path, "rb") as file:
             text = file.read(MOST + 1)

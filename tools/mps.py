@@ -68,7 +68,7 @@ def refused_file(program, words):
 
 
 def run_explained(program, words, file, out):
-    """The status of a run of the program. Where it refuses the protocol of that file, out gets its line, and below it why."""
+    """The status of a run of the program. Where it refuses the protocol of that file, out gets its line, and why."""
     ran = subprocess.run([program, *words], stderr=subprocess.PIPE, check=False)
     told = explain.told_of(file, ran.stderr) if ran.returncode == 3 else b""
     stream = out if told else sys.stderr
@@ -118,3 +118,6 @@ except KeyboardInterrupt:
 except BrokenPipeError:
     os.dup2(os.open(os.devnull, os.O_WRONLY), 1)
     sys.exit(141)
+except OSError as error:
+    print(f"mps: {error}", file=sys.stderr)
+    sys.exit(2)
