@@ -86,10 +86,10 @@ def run(program, words):
 
 
 def main():
-    order, words = (sys.argv[1:2] or [""])[0], sys.argv[2:]
-    if order in ("--help", "-h") or (order, words) == ("help", []):
-        print(__doc__.rstrip("\n"))
-        return
+    if sys.argv[1:] in ([], ["--help"], ["-h"], ["help"]):
+        print(__doc__.rstrip("\n"), file=sys.stdout if sys.argv[1:] else sys.stderr)
+        sys.exit(0 if sys.argv[1:] else 2)
+    order, words = sys.argv[1], sys.argv[2:]
     if order in USES and not may_follow(order, words):
         raise building.Stopped(f"usage: mps {order} {USES[order]}")
     crates = needed(listed(), "mps_tool")
