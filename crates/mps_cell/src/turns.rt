@@ -69,13 +69,15 @@ fn take_later<R: Wait>(rt: &R, shared: &Table, waiting: &AtomicU64, seat: &mut S
         return;
     }
     for _ in rt.forever() {
+        // before the attempt: where that fails, whoever has the room finds the flag raised (tests/wakeups)
         waiting.store(1, SeqCst);
         if attempt(shared, seat).1 {
             return;
         }
+        // only while the flag is raised: once it is lowered the room may be back
         waiting.park(rt, 1);
         if attempt_soon(shared, seat).1 {
-            // others may sleep on
+            // others may sleep on, and the flag was lowered to wake this call (tests/wakeups)
             waiting.store(1, SeqCst);
             return;
         }
@@ -139,9 +141,12 @@ fn give_back(shared: &Table, waiting: &AtomicU64, seat: &mut Seat<Room, View>, e
     ensures cell { seat.new.table_id ≡ seat.old.table_id }
     ensures gave { Gave seat.old.me (journal_in seat.old.me.1) seat.new.me }
 {
+    // before the look at the flag: a call that raises it after that look finds the room back (tests/wakeups)
     shared.store::<Give>(seat, 0, 2 * entries);
     if waiting.load(SeqCst) == 1 {
+        // before the wake-up: the call that is woken raises it again for those that sleep on (tests/wakeups)
         waiting.store(0, SeqCst);
+        // else the calls that sleep are never woken (tests/wakeups)
         waiting.wake_one();
     }
 }

@@ -35,7 +35,8 @@ impl<T> Play<T, T> for PutBack {
     ghost then = { PutsBack };
 }
 
-// Takes the value out. It waits until it is at home.
+// Takes the value out. It waits until it is at home. No contract asks the caller to put it back: tests/wakeups reads what
+// the desk does.
 pub(crate) fn take_out<T, R: Wait>(rt: &R, shared: &Shared<T, T, Snapshot<T>, Steady>) -> Seat<T, T>
     requires word { shared.now.table_id.words ≡ 1 }
     ensures cell { result.table_id ≡ shared.now.table_id }
@@ -46,6 +47,7 @@ pub(crate) fn take_out<T, R: Wait>(rt: &R, shared: &Shared<T, T, Snapshot<T>, St
         if found == 0 {
             return seat;
         }
+        // only while the value is out: it may have been put back since
         shared.park(rt, 0, 1);
     }
     unreachable!()
@@ -57,6 +59,8 @@ pub(crate) fn put_back<T>(shared: &Shared<T, T, Snapshot<T>, Steady>, mut seat: 
     requires cell { seat.table_id ≡ shared.now.table_id }
     requires out { HasOut shared.now.key.value seat.me }
 {
+    // before the wake-up: a thread that is woken before it finds the value out, and sleeps again (tests/wakeups)
     shared.store::<PutBack>(&mut seat, 0, 0);
+    // else a thread that found the value out may sleep for ever (tests/wakeups)
     shared.wake_one(0);
 }
