@@ -31,6 +31,9 @@ d = 3
 abbrev pub sends_int : ℕ → ℕ → ℕ → Request
 sends_int p q n = (p, Forward (steps.Send q (Int (pos n))))
 
+abbrev pub sends_true : ℕ → ℕ → Request
+sends_true p q = (p, Forward (steps.Send q (Truth true)))
+
 abbrev pub receives_into : ℕ → ℕ → List ℕ → Request
 receives_into q p slot = (q, Forward (steps.Receive p slot))
 
@@ -94,6 +97,10 @@ round =
 -- the sender expects an int to be taken, the receiver a bool to come
 abbrev pub unfitting : List LocalType
 unfitting = Send b IntSort End ∷ Recv a BoolSort End ∷ []
+
+-- a gives b an int, which b expects, and c gives b a bool, which b never expects
+abbrev pub from_two : List LocalType
+from_two = Send b IntSort End ∷ Recv a IntSort End ∷ Send b BoolSort End ∷ []
 
 -- the sender chooses x, the receiver expects y alone
 abbrev pub other_label : List LocalType
@@ -189,8 +196,17 @@ NumbersAreNeverUsedAgain =
 -- each refusal by its name
 abbrev pub RefusalsAreNamed : Type 0
 RefusalsAreNamed =
-    answers verdict initial (receives_into b a (codes "x") ∷ receives_into a b (codes "x") ∷ sends_int a c 5 ∷ (a, Forward (steps.Send b (Truth true))) ∷ undoes b 7 ∷ sends_int a b 5 ∷ undoes b 1 ∷ [])
+    answers verdict initial (receives_into b a (codes "x") ∷ receives_into a b (codes "x") ∷ sends_int a c 5 ∷ sends_true a b ∷ undoes b 7 ∷ sends_int a b 5 ∷ undoes b 1 ∷ [])
     ≡ violates NothingQueued ∷ violates WrongAct ∷ violates WrongPeer ∷ violates WrongSort ∷ Refused NoStep ∷ done 1 ∷ Refused NotYours ∷ []
+
+-- of several violations the first is told: another act before another peer, and another peer before another sort, before
+-- an empty queue, and before a message of another sort that waits from that peer
+abbrev pub TheFirstViolationIsTold : Type 0
+TheFirstViolationIsTold =
+    (answers verdict initial (sends_true a c ∷ receives_into b c (codes "x") ∷ receives_into a c (codes "x") ∷ sends_int b c 7 ∷ sends_true b a ∷ [])
+    ≡ violates WrongPeer ∷ violates WrongPeer ∷ violates WrongAct ∷ violates WrongAct ∷ violates WrongAct ∷ [])
+    × (answers from_two initial (sends_true c b ∷ receives_into b c (codes "x") ∷ receives_into b a (codes "x") ∷ sends_int a b 5 ∷ receives_into b c (codes "x") ∷ receives_into b a (codes "x") ∷ [])
+    ≡ done 1 ∷ violates WrongPeer ∷ violates NothingQueued ∷ done 2 ∷ violates WrongPeer ∷ done_with 3 5 ∷ [])
 
 -- a choice is made, picked, and ends the part
 abbrev pub AChoiceIsMadeAndPicked : Type 0
@@ -276,6 +292,12 @@ abbrev pub ACommitStandsInTheWay : Type 0
 ACommitStandsInTheWay =
     answers stream initial (marks a (codes "m") ∷ sends_int a b 1 ∷ receives_into b a (codes "x") ∷ commits b ∷ goes_back a (codes "m") ∷ rolls_back a 1 ∷ undoes a 2 ∷ undoes b 4 ∷ undoes b 3 ∷ undoes a 4 ∷ commits a ∷ rolls_back a 1 ∷ [])
     ≡ done 1 ∷ done 2 ∷ done_with 3 1 ∷ done 4 ∷ Refused (Final 4) ∷ Refused (Final 4) ∷ Refused (Needed 3) ∷ Refused (Final 4) ∷ Refused (Needed 4) ∷ Refused NotYours ∷ done 5 ∷ Refused (Final 4) ∷ []
+
+-- of a step of another role this is told before a commit, and a commit before a step that depends on it
+abbrev pub TheFirstReasonAgainstAnUndoIsTold : Type 0
+TheFirstReasonAgainstAnUndoIsTold =
+    answers stream initial (commits a ∷ sends_int a b 1 ∷ undoes a 1 ∷ rolls_back b 1 ∷ rolls_back a 1 ∷ rolls_back b 2 ∷ undoes b 1 ∷ [])
+    ≡ done 1 ∷ done 2 ∷ Refused (Final 1) ∷ Refused NotYours ∷ Refused (Final 1) ∷ Refused NotYours ∷ Refused NotYours ∷ []
 
 -- a commit doesn't keep what it doesn't depend on
 abbrev pub ACommitLeavesTheStrangers : Type 0

@@ -1,7 +1,7 @@
 //! Worked sessions, which show that the definitions say what they mean.
-ghost use Rattle.mps_machine.specs.Examples.{AnUndoWaitsForTheReceipt, ARollbackRemovesAllThatDepends, ARollbackLeavesWhatCameBefore, ARollbackLeavesTheStrangers, AReceiptUndoneTakesTheSameMessageAgain, AnUndoneSendIsGone, AReceiptIntoAUsedSlotIsUndone, TheLeastDependentIsNamedASend, TheLeastDependentIsNamedAReceipt, AReturnToAMarkLeavesTheMark, NumbersAreNeverUsedAgain, RefusalsAreNamed, AChoiceIsMadeAndPicked, ALoopIsGoneRound, AMessageOfAnotherSortIsAMismatch, TheMessageWaitsAgain, TheSlotHasItsOldValue};
+ghost use Rattle.mps_machine.specs.Examples.{AnUndoWaitsForTheReceipt, ARollbackRemovesAllThatDepends, ARollbackLeavesWhatCameBefore, ARollbackLeavesTheStrangers, AReceiptUndoneTakesTheSameMessageAgain, AnUndoneSendIsGone, AReceiptIntoAUsedSlotIsUndone, TheLeastDependentIsNamedASend, TheLeastDependentIsNamedAReceipt, AReturnToAMarkLeavesTheMark, NumbersAreNeverUsedAgain, RefusalsAreNamed, TheFirstViolationIsTold, AChoiceIsMadeAndPicked, ALoopIsGoneRound, AMessageOfAnotherSortIsAMismatch, TheMessageWaitsAgain, TheSlotHasItsOldValue};
 ghost use Rattle.mps_machine.specs.Examples.{AHundredThousandNumbersAreGivenOut, AMarkMayHaveTheLastNumber, AReturnIsToTheLastMarkOfTheName, AnotherRolesStepIsNotYours, AChoiceIsOfOnePeer, AnUnexpectedMessageIsAMismatch, ASlotKeepsItsPlace};
-ghost use Rattle.mps_machine.specs.Examples.{ACommitStandsInTheWay, ACommitLeavesTheStrangers, WhatCameAfterACommitCanBeUndone, ACommitIsAllowedAtTheEnd, AnEmptyReturnIsNeverFinal, TheLeastCommitIsNamed};
+ghost use Rattle.mps_machine.specs.Examples.{ACommitStandsInTheWay, TheFirstReasonAgainstAnUndoIsTold, ACommitLeavesTheStrangers, WhatCameAfterACommitCanBeUndone, ACommitIsAllowedAtTheEnd, AnEmptyReturnIsNeverFinal, TheLeastCommitIsNamed};
 
 /// What the machine answers in short sessions, as worked out by hand.
 pub fn worked_sessions()
@@ -17,6 +17,7 @@ pub fn worked_sessions()
     ensures a_return_to_a_mark_leaves_the_mark { AReturnToAMarkLeavesTheMark }
     ensures numbers_are_never_used_again { NumbersAreNeverUsedAgain }
     ensures refusals_are_named { RefusalsAreNamed }
+    ensures the_first_violation_is_told { TheFirstViolationIsTold }
     ensures a_choice_is_made_and_picked { AChoiceIsMadeAndPicked }
     ensures a_loop_is_gone_round { ALoopIsGoneRound }
     ensures a_message_of_another_sort_is_a_mismatch { AMessageOfAnotherSortIsAMismatch }
@@ -30,6 +31,7 @@ pub fn worked_sessions()
     ensures an_unexpected_message_is_a_mismatch { AnUnexpectedMessageIsAMismatch }
     ensures a_slot_keeps_its_place { ASlotKeepsItsPlace }
     ensures a_commit_stands_in_the_way { ACommitStandsInTheWay }
+    ensures the_first_reason_against_an_undo_is_told { TheFirstReasonAgainstAnUndoIsTold }
     ensures a_commit_leaves_the_strangers { ACommitLeavesTheStrangers }
     ensures what_came_after_a_commit_can_be_undone { WhatCameAfterACommitCanBeUndone }
     ensures a_commit_is_allowed_at_the_end { ACommitIsAllowedAtTheEnd }

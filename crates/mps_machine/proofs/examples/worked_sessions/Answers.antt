@@ -50,6 +50,10 @@ pub returns-clause-refusals_are_named : goal.returns-clause-refusals_are_named
 unfolding unfolded
 returns-clause-refusals_are_named c = refl
 
+pub returns-clause-the_first_violation_is_told : goal.returns-clause-the_first_violation_is_told
+unfolding unfolded
+returns-clause-the_first_violation_is_told c = (refl, refl)
+
 pub returns-clause-a_choice_is_made_and_picked : goal.returns-clause-a_choice_is_made_and_picked
 unfolding unfolded
 returns-clause-a_choice_is_made_and_picked c = refl
@@ -101,6 +105,10 @@ returns-clause-a_loop_is_gone_round c = refl
 pub returns-clause-a_commit_stands_in_the_way : goal.returns-clause-a_commit_stands_in_the_way
 unfolding unfolded
 returns-clause-a_commit_stands_in_the_way c = refl
+
+pub returns-clause-the_first_reason_against_an_undo_is_told : goal.returns-clause-the_first_reason_against_an_undo_is_told
+unfolding unfolded
+returns-clause-the_first_reason_against_an_undo_is_told c = refl
 
 pub returns-clause-a_commit_leaves_the_strangers : goal.returns-clause-a_commit_leaves_the_strangers
 unfolding unfolded
