@@ -11,3 +11,5 @@ pub mod Refusing
 pub mod Recording
 pub mod Faithful
 pub mod Numbering
+pub mod Outcomes
+pub mod Working

@@ -14,6 +14,7 @@
 pub mod caller;
 mod change;
 pub mod entry;
+pub mod examples;
 mod heard;
 pub mod laws;
 mod narrow_entry;
