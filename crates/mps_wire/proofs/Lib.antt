@@ -10,3 +10,4 @@ pub mod Talking
 pub mod Calling
 pub mod Conversing
 pub mod Making
+pub mod Replying

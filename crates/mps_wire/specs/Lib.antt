@@ -8,3 +8,4 @@ pub mod Endings
 pub mod Making
 pub mod Fidelity
 pub mod Private
+pub mod Examples

@@ -10,6 +10,7 @@
 #![tactic(auto)]
 
 pub mod conversation;
+pub mod examples;
 pub mod laws;
 pub mod script;
 pub mod sending;
