@@ -11,8 +11,8 @@ use crate::outcomes::{Outcome, Until, answered, refused};
 use crate::parties::opened;
 use crate::rows::PROTOCOL;
 use mps_arena::{Arena, Before};
-use mps_base::{Act, Name, Role, RoleFault, Roles, StepId};
-use mps_command::{Command, Forward, Refusal};
+use mps_base::{Act, Name, Role, RoleFault, Roles, StepId, Value};
+use mps_command::{Command, Forward, Refusal, StepIds};
 use mps_global::{Protocol, check};
 use mps_links::{least_dependent, least_final, mark_from};
 use mps_local::{Local, LocalFault, ProjectFault, project};
@@ -194,6 +194,71 @@ pub fn compares(alloc: Global, until: Until) -> Option<Outcome> {
         return Some(Outcome::Reached);
     }
     answered(is_same)
+}
+
+// A new session of the protocol in which b received what a sent.
+fn relayed(alloc: Global, protocol: &Protocol) -> Option<Session>
+    ensures { IfSome result (λ session. AreProjections
+        protocol.now.roles.items (global_type protocol.now.body) session.types) }
+{
+    let (a, b) = (Role::new(0), Role::new(1));
+    let value = Value::Int(5);
+    let slot = Name::read(b"x")?;
+    let mut session = session_of(alloc, protocol)?;
+    if session.roles() < 2 {
+        return None;
+    }
+    session.forward(a, Forward::Send { to: b, value }).ok()?;
+    session.forward(b, Forward::Receive { from: a, slot }).ok()?;
+    Some(session)
+}
+
+// Whether these are both steps, the newest first.
+fn are_both(ids: &StepIds) -> bool {
+    matches!(ids.as_slice(), [second, first] if second.number() == 2 && first.number() == 1)
+}
+
+// Whether the session is the same as the one that never tried, and now both steps are taken back.
+fn goes_on(session: &mut Session, untried: &Session) -> bool
+    requires role { 0 < length session.old.types }
+    requires types { session.old.types ≡ untried.now.types }
+{
+    if !same(session, untried) || session.issued() != untried.issued() {
+        return false;
+    }
+    match session.rollback(Role::new(0), StepId::new(1)) {
+        Ok(ids) => are_both(&ids),
+        Err(_) => false,
+    }
+}
+
+// Rolls the first step back, beside a session in which that is never tried.
+fn rolled_back(session: &mut Session, untried: &Session, until: Until) -> Option<Outcome>
+    requires types { session.old.types ≡ untried.now.types }
+{
+    if session.roles() < 1 {
+        return None;
+    }
+    if until == Until::Before {
+        return Some(Outcome::Reached);
+    }
+    let rolled = session.rollback(Role::new(0), StepId::new(1));
+    if until == Until::After {
+        return Some(Outcome::Reached);
+    }
+    match rolled {
+        Ok(ids) => answered(are_both(&ids)),
+        Err(Refusal::Memory) => refused(goes_on(session, untried)),
+        Err(_) => Some(Outcome::Other),
+    }
+}
+
+/// Rolls a step back. Where memory runs out, the session is compared with one in which that was never tried.
+pub fn rolls_back_beside(alloc: Global, until: Until) -> Option<Outcome> {
+    let protocol = protocol(alloc)?;
+    let mut session = relayed(alloc, &protocol)?;
+    let untried = relayed(alloc, &protocol)?;
+    rolled_back(&mut session, &untried, until)
 }
 
 // ---- links

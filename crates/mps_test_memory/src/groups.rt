@@ -7,7 +7,8 @@ use crate::lines::{
 };
 use crate::outcomes::{Outcome, Until};
 use crate::parties::{gives_an_entry, room_asked, session_asked};
-use crate::rows::{ROOM_ROWS, ROWS, Row};
+use crate::rows::{PROTOCOL, ROOM_ROWS, ROWS, Row, VERDICT};
+use crate::three::three_asked;
 use std::alloc::Global;
 use std::sync::Wait;
 
@@ -42,6 +43,7 @@ enum Call {
     Open,
     OpenProtocol,
     Entry,
+    Three,
     OpenCell,
     Passes,
     ReadCommand,
@@ -50,9 +52,11 @@ enum Call {
     WriteAnswer,
     WriteShow,
     Converse,
+    ConverseCut,
     Attend,
     Would,
     Same,
+    Untried,
     Front,
     Meet,
     LeastDependent,
@@ -69,6 +73,7 @@ const CALLS: &[(&str, Call)] = &[
     ("Session::open", Call::Open),
     ("open_protocol", Call::OpenProtocol),
     ("Room::entry", Call::Entry),
+    ("Room::apply-three", Call::Three),
     ("Cell::open", Call::OpenCell),
     ("Cell::passes", Call::Passes),
     ("read_command", Call::ReadCommand),
@@ -77,9 +82,11 @@ const CALLS: &[(&str, Call)] = &[
     ("write_answer", Call::WriteAnswer),
     ("write_show", Call::WriteShow),
     ("converse", Call::Converse),
+    ("converse-cut", Call::ConverseCut),
     ("attend", Call::Attend),
     ("Session::would", Call::Would),
     ("same", Call::Same),
+    ("Session::rollback-same", Call::Untried),
     ("Pass::front", Call::Front),
     ("meet", Call::Meet),
     ("least_dependent", Call::LeastDependent),
@@ -129,6 +136,7 @@ fn call_made<R: Wait + 'static>(
         Call::Open => opens_a_session(alloc, until),
         Call::OpenProtocol => opens_a_protocol(alloc, until),
         Call::Entry => gives_an_entry(alloc, until),
+        Call::Three => three_asked(alloc, until),
         Call::OpenCell => opens_a_cell(alloc, until),
         Call::Passes => hands_out_passes(alloc, until),
         Call::ReadCommand => reads_a_command(alloc, until),
@@ -136,10 +144,12 @@ fn call_made<R: Wait + 'static>(
         Call::ReadNumbers => reads_an_answer(alloc, b"undone 4 3 2 1", until),
         Call::WriteAnswer => writes_an_answer(alloc, until),
         Call::WriteShow => writes_a_show(alloc, until),
-        Call::Converse => converses(alloc, until),
+        Call::Converse => converses(alloc, PROTOCOL, b"send b 5\n", until),
+        Call::ConverseCut => converses(alloc, VERDICT, b"send b 5\nund", until),
         Call::Attend => attends(rt, alloc, until),
         Call::Would => asks_whether(alloc, until),
         Call::Same => compares(alloc, until),
+        Call::Untried => rolls_back_beside(alloc, until),
         Call::Front => asks_for_the_front(alloc, until),
         Call::Meet => has_two_meet(alloc, until),
         Call::LeastDependent => finds_a_dependent(alloc, until),

@@ -2,7 +2,7 @@
 ghost use Rattle.std.specs.Prelude.{◌≡◌, false, IfSome};
 
 use crate::outcomes::{Outcome, Until, answered, refused};
-use crate::parties::{names, opened};
+use crate::parties::{names, opened, opened_of};
 use mps_base::{Role, Roles, StepId};
 use mps_command::{Answer, StepIds};
 use mps_dev::{Pieces, Short};
@@ -94,8 +94,8 @@ fn in_one_piece(alloc: Global, bytes: &[u8]) -> Option<Vec<Vec<u8>>> {
 }
 
 // Who gives the commands of the first role.
-fn solo(alloc: Global) -> Option<Solo> {
-    let (names, session) = opened(alloc)?;
+fn solo(alloc: Global, protocol: &[u8]) -> Option<Solo> {
+    let (names, session) = opened_of(alloc, protocol)?;
     let room = Room::open(alloc, names, session);
     Some(Solo::new(room, Role::new(0)))
 }
@@ -119,10 +119,10 @@ fn finds(alloc: Global, caller: &mut Solo, is_there: bool) -> Option<bool> {
     Some(told.as_slice() == wanted && ending == Ending::Closed)
 }
 
-/// Holds a conversation of one line.
-pub fn converses(alloc: Global, until: Until) -> Option<Outcome> {
-    let mut caller = solo(alloc)?;
-    let mut reader = Pieces::new(in_one_piece(alloc, b"send b 5\n")?, None);
+/// Holds a conversation of these bytes, of which `send b 5` is the one whole line.
+pub fn converses(alloc: Global, protocol: &[u8], bytes: &[u8], until: Until) -> Option<Outcome> {
+    let mut caller = solo(alloc, protocol)?;
+    let mut reader = Pieces::new(in_one_piece(alloc, bytes)?, None);
     let mut writer = Short::new(alloc, 99).ok()?;
     if until == Until::Before {
         return Some(Outcome::Reached);
@@ -136,6 +136,8 @@ pub fn converses(alloc: Global, until: Until) -> Option<Outcome> {
     match (writer.bytes(), ending) {
         (b"done 1\n", Ending::Closed) => answered(is_there && is_found),
         (b"refused memory\n", Ending::Closed) => refused(!is_there && is_found),
+        // the bytes after the last LF weren't kept
+        (b"done 1\n", Ending::Memory) => refused(is_there && is_found),
         (b"", Ending::Memory) => refused(is_found),
         _ => Some(Outcome::Other),
     }

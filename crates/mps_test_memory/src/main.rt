@@ -14,6 +14,7 @@ mod lines;
 mod outcomes;
 mod parties;
 mod rows;
+mod three;
 
 use crate::groups::{GROUPS, Group, made, name, named};
 use crate::outcomes::{Outcome, Until, until_named};

@@ -24,12 +24,20 @@ pub trait Party {
     fn state(&mut self) -> Option<Vec<u8>>;
 }
 
-/// The roles of the protocol, and a new session of it.
+/// The roles of the protocol of the rows, and a new session of it.
 pub fn opened(alloc: Global) -> Option<(Roles, Session)>
     ensures new { IfSome result (λ r. r.1.state ≡ initial) }
     ensures names { IfSome result (λ r. length r.0 ≡ length r.1.types) }
 {
-    let protocol = read_protocol(alloc, PROTOCOL).ok()?;
+    opened_of(alloc, PROTOCOL)
+}
+
+/// The roles of this protocol, and a new session of it.
+pub fn opened_of(alloc: Global, text: &[u8]) -> Option<(Roles, Session)>
+    ensures new { IfSome result (λ r. r.1.state ≡ initial) }
+    ensures names { IfSome result (λ r. length r.0 ≡ length r.1.types) }
+{
+    let protocol = read_protocol(alloc, text).ok()?;
     let session = open_protocol(alloc, &protocol).ok()?;
     let names = Roles::of(alloc, protocol.roles.as_slice()).ok()?;
     if names.count() != session.roles() {
@@ -109,9 +117,9 @@ pub struct Roomed {
 }
 
 impl Roomed {
-    /// A new room of the protocol.
-    pub fn new(alloc: Global) -> Option<Roomed> {
-        let (names, session) = opened(alloc)?;
+    /// A new room of this protocol.
+    pub fn new(alloc: Global, text: &[u8]) -> Option<Roomed> {
+        let (names, session) = opened_of(alloc, text)?;
         let room = Room::open(alloc, names, session);
         Some(Roomed { alloc, room })
     }
@@ -268,7 +276,7 @@ fn session_asked_beside(
 
 /// Asks a room for the command of the row.
 pub fn room_asked(alloc: Global, row: &Row<'_>, until: Until) -> Option<Outcome> {
-    let mut first = Roomed::new(alloc)?;
+    let mut first = Roomed::new(alloc, PROTOCOL)?;
     room_asked_beside(alloc, &mut first, row, until)
 }
 
@@ -279,13 +287,13 @@ fn room_asked_beside(
     row: &Row<'_>,
     until: Until,
 ) -> Option<Outcome> {
-    let mut second = Roomed::new(alloc)?;
+    let mut second = Roomed::new(alloc, PROTOCOL)?;
     compared(alloc, &names(alloc)?, row, until, first, &mut second)
 }
 
 /// Asks a room for the entry of a receipt of a text.
 pub fn gives_an_entry(alloc: Global, until: Until) -> Option<Outcome> {
-    let mut party = Roomed::new(alloc)?;
+    let mut party = Roomed::new(alloc, PROTOCOL)?;
     entry_given(alloc, &mut party, until)
 }
 

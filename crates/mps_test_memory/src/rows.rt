@@ -4,6 +4,10 @@
 pub const PROTOCOL: &[u8] =
     b"roles a b c ; rec X . a -> b : int . b -> c : text . c -> a { again : X , more : X }";
 
+/// a gives b an int, b gives c one, and c tells a `ok` or `no`.
+pub const VERDICT: &[u8] =
+    b"roles a b c ; a -> b : int . b -> c : int . c -> a { ok : end , no : end }";
+
 /// A command: its name, the lines of the script before it, and its own line.
 #[derive(Clone, Copy)]
 pub struct Row<'t>(pub &'t str, pub &'t [&'t str], pub &'t str);

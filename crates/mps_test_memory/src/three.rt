@@ -1,0 +1,87 @@
+//! Three commands of one role to a new room, of which the first two are refused whatever memory there is.
+
+use crate::outcomes::{Outcome, Until, answered, refused};
+use crate::parties::{Party, Roomed};
+use crate::rows::VERDICT;
+use mps_base::{Name, Role, StepId, Value};
+use mps_command::{Answer, Command, Forward, Refusal, Violation};
+use std::alloc::Global;
+
+// Asks for a's receipt from b.
+fn receive(room: &mut Roomed, slot: Name) -> Option<Answer> {
+    let from = Role::new(1);
+    room.ask(
+        Role::new(0),
+        Command::Forward(Forward::Receive { from, slot }),
+    )
+}
+
+// Asks for a's undo of a step that isn't there.
+fn undo(room: &mut Roomed) -> Option<Answer> {
+    room.ask(Role::new(0), Command::Undo(StepId::new(9)))
+}
+
+// Asks for a's message to b.
+fn send(room: &mut Roomed) -> Option<Answer> {
+    let (to, value) = (Role::new(1), Value::Int(5));
+    room.ask(Role::new(0), Command::Forward(Forward::Send { to, value }))
+}
+
+// The answers to the three.
+#[derive(Drop)]
+struct Answers {
+    received: Answer,
+    undone: Answer,
+    sent: Answer,
+}
+
+// Asks for the three, one after the other.
+fn ask_all(room: &mut Roomed, slot: Name) -> Option<Answers> {
+    Some(Answers {
+        received: receive(room, slot)?,
+        undone: undo(room)?,
+        sent: send(room)?,
+    })
+}
+
+// Whether the answer is that step 1 is done.
+fn is_first(answer: &Answer) -> bool {
+    matches!(answer, Answer::Done(done) if done.id.number() == 1 && done.got.is_none())
+}
+
+// Whether the receipt and the undo are refused for their own reasons.
+fn are_refused(answers: &Answers) -> bool {
+    matches!(
+        answers.received,
+        Answer::Refused(Refusal::Violation(Violation::WrongAct))
+    ) && matches!(answers.undone, Answer::Refused(Refusal::NoStep))
+}
+
+// Whether the room stands as before, and now does the send.
+fn goes_on(room: &mut Roomed, before: &[u8]) -> Option<bool> {
+    if room.state()?.as_slice() != before {
+        return Some(false);
+    }
+    Some(is_first(&send(room)?))
+}
+
+/// Asks a new room for a receipt, an undo and a send.
+pub fn three_asked(alloc: Global, until: Until) -> Option<Outcome> {
+    let mut room = Roomed::new(alloc, VERDICT)?;
+    let before = room.state()?;
+    let slot = Name::read(b"x")?;
+    if until == Until::Before {
+        return Some(Outcome::Reached);
+    }
+    let answers = ask_all(&mut room, slot)?;
+    if until == Until::After {
+        return Some(Outcome::Reached);
+    }
+    if !are_refused(&answers) {
+        return Some(Outcome::Other);
+    }
+    match answers.sent {
+        Answer::Refused(Refusal::Memory) => refused(goes_on(&mut room, before.as_slice())?),
+        sent => answered(is_first(&sent)),
+    }
+}
