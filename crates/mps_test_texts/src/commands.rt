@@ -1,5 +1,6 @@
 use mps_base::{Message, Name, Role, StepId, Value};
 use mps_command::*;
+use mps_line::{Reply, read_answer, write_answer};
 use std::alloc::Global;
 use std::test::Fail;
 
@@ -164,6 +165,26 @@ fn copies_answers(rt: HostRuntime) -> Result<(), Fail> {
     for answer in &answers {
         let (before, after) = answered(alloc, answer)?;
         assert_eq!(rt; before.as_str(), after.as_str());
+    }
+    Ok(())
+}
+
+const LINES: &[&str] = &["done 2 5", "undone 4 3 2 1", "news 5 3 2"];
+
+// The line of a copy of the answer that has this line.
+fn copied(alloc: Global, line: &str) -> Result<Vec<u8>, Fail> {
+    let Reply::Answered(answer) = read_answer(alloc, line.as_bytes())? else {
+        return Err("another reply".into());
+    };
+    let mut copy = Vec::new(alloc);
+    write_answer(&answer.copy(alloc)?, &mut copy)?;
+    Ok(copy)
+}
+
+#[test]
+fn copies_answers_line_by_line(rt: HostRuntime) -> Result<(), Fail> {
+    for line in LINES {
+        assert_eq!(rt; copied(rt.alloc(), line)?.as_slice(), line.as_bytes());
     }
     Ok(())
 }
