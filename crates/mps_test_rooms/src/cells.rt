@@ -10,9 +10,12 @@ use mps_room::{Caller, Room};
 use std::alloc::Global;
 use std::cmp::Ordering;
 use std::sync::Wait;
+use std::sync::atomic::AtomicU64;
+use std::sync::atomic::Ordering::SeqCst;
 use std::test::Fail;
 use std::thread;
 use std::thread::{Threads, join};
+use std::time::{Clock, Duration};
 
 // Eight roles that have nothing to say.
 const SILENCE: &str = "roles a b c d e f g h ; end";
@@ -428,6 +431,135 @@ fn eight_threads_fill_the_room(rt: HostRuntime) -> Result<(), Fail> {
     assert!(rt; equal_pairs(&cell, all) == 28);
     let room = cell.close().ok_or("at home")?;
     assert!(rt; counts(&room) == (16_000, 0, 8_000));
+    Ok(())
+}
+
+// ---- calls that overlap
+
+// How often a thread looks for a sign of the other one, and for how many milliseconds it sleeps between.
+const LOOKS: u32 = 10_000;
+
+const NAP: u64 = 1;
+
+// For how many milliseconds a's pause goes on once c has tried, so that c's call comes meanwhile.
+const REST: u64 = 100;
+
+// How far the two threads are: 1 where it has come to that.
+#[derive(Drop)]
+struct Signs {
+    // a has the room
+    out: AtomicU64,
+    // c's try is over
+    tried: AtomicU64,
+    // a's pause is over
+    back: AtomicU64,
+}
+
+// Waits for the sign, for a time.
+fn look_for<R: Clock>(rt: &R, sign: &AtomicU64) {
+    for _ in 0..LOOKS {
+        if sign.load(SeqCst) == 1 {
+            return;
+        }
+        thread::sleep(rt, Duration::from_millis(NAP));
+    }
+}
+
+// Keeps the room out until c has tried, and for a while longer.
+#[derive(Drop)]
+struct Hold<'r, 's, R> {
+    rt: &'r R,
+    signs: &'s Signs,
+}
+
+impl<R: Clock> Pause for Hold<'_, '_, R> {
+    fn pause(&mut self) {
+        self.signs.out.store(1, SeqCst);
+        look_for(self.rt, &self.signs.tried);
+        thread::sleep(self.rt, Duration::from_millis(REST));
+        self.signs.back.store(1, SeqCst);
+    }
+}
+
+// The number of the step that the answer says is done.
+fn number(answer: &Answer) -> Option<u64> {
+    match answer {
+        Answer::Done(done) => Some(done.id.number()),
+        _ => None,
+    }
+}
+
+// The number of a's mark, in whose pause the room is kept out.
+fn kept_out<R: Wait + Clock>(rt: &R, mut a: Pass<'_>, signs: &Signs) -> Option<u64> {
+    let answer = a.call_with(rt, command(Ask::Mark)?, &mut Hold { rt, signs });
+    number(&answer)
+}
+
+// What c finds while a has the room.
+#[derive(Clone, Copy, PartialEq, Eq)]
+struct Found {
+    // how long the journal is, as c's try was told, if the cell was busy
+    busy: Option<u64>,
+    // how much of it c had seen by then
+    seen: u64,
+    // the number of c's mark
+    number: Option<u64>,
+    // whether a's pause was over when c's call returned
+    is_back: bool,
+}
+
+// c's try and then its call, while a has the room.
+fn tried_and_called<R: Wait + Clock>(rt: &R, mut c: Pass<'_>, signs: &Signs) -> Option<Found> {
+    look_for(rt, &signs.out);
+    let busy = found_busy(&mut c);
+    let seen = c.seen();
+    signs.tried.store(1, SeqCst);
+    let answer = called(rt, &mut c, Ask::Mark)?;
+    let is_back = signs.back.load(SeqCst) == 1;
+    Some(Found {
+        busy,
+        seen,
+        number: number(&answer),
+        is_back,
+    })
+}
+
+// a's send, of which c is told nothing, and then a's mark and c's, in two threads. Gives the number of a's mark, and what c
+// finds.
+fn overlapped<R: Threads + Wait + Clock + Sync>(
+    rt: &R,
+    mut all: Vec<Pass<'_>>,
+) -> Option<(Option<u64>, Option<Found>)> {
+    let _d = all.pop()?;
+    let c = all.pop()?;
+    let _b = all.pop()?;
+    let mut a = all.pop()?;
+    let _sent = called(rt, &mut a, Ask::Send)?;
+    let signs = &Signs {
+        out: AtomicU64::new(0),
+        tried: AtomicU64::new(0),
+        back: AtomicU64::new(0),
+    };
+    Some(join(
+        rt,
+        move || kept_out(rt, a, signs),
+        move || tried_and_called(rt, c, signs),
+    ))
+}
+
+#[test]
+fn a_call_waits_for_the_room(rt: HostRuntime) -> Result<(), Fail> {
+    let mut cell = cell(rt.alloc(), TWO_PAIRS)?;
+    let found = overlapped(&rt, cell.passes().ok().ok_or("passes")?);
+    let c = Found {
+        busy: Some(1),
+        seen: 0,
+        number: Some(3),
+        is_back: true,
+    };
+    assert!(rt; found == Some((Some(2), Some(c))));
+    let room = cell.close().ok_or("at home")?;
+    assert!(rt; counts(&room) == (3, 3, 3));
     Ok(())
 }
 
