@@ -16,19 +16,23 @@ use Rattle.mps_room.specs.declared.numbers.Told.TheVariants.{Fresh, Kept, Wrong,
 use Rattle.mps_wire.specs.Answers.{AnswersLines}
 use Rattle.mps_wire.specs.Talk.{RepliesTo, Unread, Called, Numbered, Starved, TalksLine, TalksAloud, TalksToPart, AnswersToPart, talks, talks_to_part}
 use Rattle.mps_wire.proofs.Calling.{whole_is_part}
+use Rattle.mps_keeper.specs.Books.{TookMore}
 use Rattle.mps_keeper.specs.JournalLines.{SpellsJournalLine}
 use Rattle.mps_keeper.specs.Recorded.{IsRecorded, IsKept, IsSettled}
 use Rattle.mps_keeper.specs.Trails.{SpellEntries, KeptOn, ToldIsKept}
 use Rattle.std.specs.Io.KnownBytes.{Appends}
 use Rattle.mps_wire.proofs.Bytes.{Appends-none}
-use Rattle.mps_keeper.proofs.Taking.{took_more}
+use Rattle.mps_keeper.proofs.Counting.{counts_on}
+use Rattle.mps_keeper.proofs.Taking.{more_trans, no_more, took_more}
 use Rattle.mps_keeper.specs.declared.keep.Keep.{Ghosts as KeepGhosts}
 
-spell_all : (names : List (List ℕ)) (a : List (List ℕ)) (d : List Entry) (b : List (List ℕ)) (e : List Entry) → SpellEntries names a d → SpellEntries names b e → SpellEntries names (a ++ b) (d ++ e)
-spell_all names [] [] b e h k = k
-spell_all names (l ∷ a) (x ∷ d) b e h k = (h.0, spell_all names a d b e h.1 k)
-spell_all names [] (x ∷ d) b e h k = absurd h
-spell_all names (l ∷ a) [] b e h k = absurd h
+spell_all : (names : List (List ℕ)) (a : List (List ℕ)) (m : List (Option ℕ)) (d : List Entry) (b : List (List ℕ)) (n : List (Option ℕ)) (e : List Entry) → SpellEntries names a m d → SpellEntries names b n e → SpellEntries names (a ++ b) (m ++ n) (d ++ e)
+spell_all names [] [] [] b n e h k = k
+spell_all names (l ∷ a) (i ∷ m) (x ∷ d) b n e h k = (h.0, spell_all names a m d b n e h.1 k)
+spell_all names [] [] (x ∷ d) b n e h k = absurd h
+spell_all names [] (i ∷ m) d b n e h k = absurd h
+spell_all names (l ∷ a) [] d b n e h k = absurd h
+spell_all names (l ∷ a) (i ∷ m) [] b n e h k = absurd h
 
 -- Callers of whose calls it is known what they keep.
 module _ {R : Type 0} (caller : Ghosts R) (keeps whole : R → Bool) (taken : R → Option (List ℕ)) where
@@ -37,23 +41,27 @@ module _ {R : Type 0} (caller : Ghosts R) (keeps whole : R → Bool) (taken : R 
     pub names : caller.names d ≡ caller.names c
     pub same : keeps d ≡ keeps c
     pub before : whole d ≡ true → whole c ≡ true
-    pub goes : keeps c ≡ true → whole d ≡ true → KeptOn (caller.names c) (taken c) (taken d) (caller.made c) (caller.made d)
+    pub goes : keeps c ≡ true → whole d ≡ true → KeptOn (caller.names c) (taken c) (taken d) (caller.last c) (caller.last d) (caller.made c) (caller.made d)
+    pub more : TookMore (taken c) (taken d)
 
-  nothing : (c : R) → KeptOn (caller.names c) (taken c) (taken c) (caller.made c) (caller.made c)
-  nothing c = record { lines = []; entries = []; grown = sym (append-nil (caller.made c)); spelled = tt; took = Appends-none (taken c) }
+  nothing : (c : R) → KeptOn (caller.names c) (taken c) (taken c) (caller.last c) (caller.last c) (caller.made c) (caller.made c)
+  nothing c = record { lines = []; numbers = []; entries = []; grown = sym (append-nil (caller.made c)); counted = refl; spelled = tt; took = Appends-none (taken c) }
 
   nowhere : (c : R) → Leads c c
-  nowhere c = record { names = refl; same = refl; before = λ w. w; goes = λ k w. nothing c }
+  nowhere c = record { names = refl; same = refl; before = λ w. w; goes = λ k w. nothing c; more = no_more (taken c) }
 
   stays : (c d : R) → d ≡ c → Leads c d
   stays c d same = subst (Leads c) (sym same) (nowhere c)
 
-  joined : (c m d : R) → caller.names m ≡ caller.names c → KeptOn (caller.names c) (taken c) (taken m) (caller.made c) (caller.made m) → KeptOn (caller.names m) (taken m) (taken d) (caller.made m) (caller.made d) → KeptOn (caller.names c) (taken c) (taken d) (caller.made c) (caller.made d)
+  joined : (c m d : R) → caller.names m ≡ caller.names c → KeptOn (caller.names c) (taken c) (taken m) (caller.last c) (caller.last m) (caller.made c) (caller.made m) → KeptOn (caller.names m) (taken m) (taken d) (caller.last m) (caller.last d) (caller.made m) (caller.made d)
+      → KeptOn (caller.names c) (taken c) (taken d) (caller.last c) (caller.last d) (caller.made c) (caller.made d)
   joined c m d names first next = record {
     lines = first.lines ++ next.lines;
+    numbers = first.numbers ++ next.numbers;
     entries = first.entries ++ next.entries;
     grown = next.grown ∙ ap (λ (l : List Entry). l ++ next.entries) first.grown ∙ append_assoc (caller.made c) first.entries next.entries;
-    spelled = spell_all (caller.names c) first.lines first.entries next.lines next.entries first.spelled (subst (λ (n : List (List ℕ)). SpellEntries n next.lines next.entries) names next.spelled);
+    counted = counts_on (caller.last c) (caller.last m) (caller.last d) first.numbers next.numbers first.counted next.counted;
+    spelled = spell_all (caller.names c) first.lines first.numbers first.entries next.lines next.numbers next.entries first.spelled (subst (λ (n : List (List ℕ)). SpellEntries n next.lines next.numbers next.entries) names next.spelled);
     took = took_more (taken c) (taken m) (taken d) first.lines next.lines first.took next.took;
   }
 
@@ -63,6 +71,7 @@ module _ {R : Type 0} (caller : Ghosts R) (keeps whole : R → Bool) (taken : R 
     same = k.same ∙ h.same;
     before = λ w. h.before (k.before w);
     goes = λ s w. joined c m d h.names (h.goes s (k.before w)) (k.goes (h.same ∙ s) w);
+    more = more_trans (taken c) (taken m) (taken d) h.more k.more;
   }
 
   module _ (leads : (c : R) (x : Command) (a : Answer) (d : R) → caller.calls c x a d → Leads c d) where
@@ -94,12 +103,12 @@ module _ {R : Type 0} (caller : Ghosts R) (keeps whole : R → Bool) (taken : R 
         subst (λ (o : List ℕ). TalksToPart caller l c o e) same (subst (λ (s : R). TalksToPart caller l c (ended text) s) (sym a.1) (whole_is_part caller l c text m line))
     longer l (n ∷ done) c m e out others text is line a = (text, others, m, is, line, a)
 
-    at_last : (l : List ℕ) (c : R) (written : List ℕ) (d : R) → keeps c ≡ true → whole c ≡ true → ((r : R) → caller.may_tell r ≡ whole r) → (b : Bool) → whole d ≡ b → TalksToPart caller l c written d → ToldIsKept caller taken c written
-    at_last l c written d s w tells true on a = record { asked = l ∷ []; reached = d; answered = a; whole = tells d ∙ on; kept = (replied l c a.line_is.reply d a.line_is.replies).goes s on }
-    at_last l c written d s w tells false off a = record { asked = []; reached = c; answered = (a.silent (tells d ∙ off), refl); whole = tells c ∙ w; kept = nothing c }
+    at_last : (l : List ℕ) (c : R) (written : List ℕ) (d : R) → keeps c ≡ true → whole c ≡ true → ((r : R) → caller.may_tell r ≡ whole r) → (b : Bool) → whole d ≡ b → TalksToPart caller l c written d → ToldIsKept caller taken (l ∷ []) c written d
+    at_last l c written d s w tells true on a = record { asked = l ∷ []; others = []; first = refl; reached = d; answered = a; whole = tells d ∙ on; kept = (replied l c a.line_is.reply d a.line_is.replies).goes s on; since = no_more (taken d) }
+    at_last l c written d s w tells false off a = record { asked = []; others = l ∷ []; first = refl; reached = c; answered = (a.silent (tells d ∙ off), refl); whole = tells c ∙ w; kept = nothing c; since = (replied l c a.line_is.reply d a.line_is.replies).more }
 
-    pub told_is_kept : ((r : R) → caller.may_tell r ≡ whole r) → (lines : List (List ℕ)) (c : R) (written : List ℕ) (d : R) → keeps c ≡ true → whole c ≡ true → AnswersToPart (talks caller) (talks_to_part caller) lines c written d → ToldIsKept caller taken c written
-    told_is_kept tells [] c written d s w a = record { asked = []; reached = c; answered = (a.0, refl); whole = tells c ∙ w; kept = nothing c }
+    pub told_is_kept : ((r : R) → caller.may_tell r ≡ whole r) → (lines : List (List ℕ)) (c : R) (written : List ℕ) (d : R) → keeps c ≡ true → whole c ≡ true → AnswersToPart (talks caller) (talks_to_part caller) lines c written d → ToldIsKept caller taken lines c written d
+    told_is_kept tells [] c written d s w a = record { asked = []; others = []; first = refl; reached = c; answered = (a.0, refl); whole = tells c ∙ w; kept = nothing c; since = (stays c d a.1).more }
     told_is_kept tells (l ∷ []) c written d s w a = at_last l c written d s w tells (whole d) refl a
     told_is_kept tells (l ∷ m ∷ lines) c written d s w a =
         let mid : whole a.2 ≡ true = sym (tells a.2) ∙ a.4.aloud in
@@ -107,29 +116,36 @@ module _ {R : Type 0} (caller : Ghosts R) (keeps whole : R → Bool) (taken : R 
         let more = told_is_kept tells (m ∷ lines) a.2 a.1 d (first.same ∙ s) mid a.5 in
         record {
           asked = l ∷ more.asked;
+          others = more.others;
+          first = ap (λ (x : List (List ℕ)). l ∷ x) more.first;
           reached = more.reached;
           answered = longer l more.asked c a.2 more.reached written a.1 a.0 a.3 a.4 more.answered;
           whole = more.whole;
           kept = joined c a.2 more.reached first.names (first.goes s mid) more.kept;
+          since = more.since;
         }
 
 -- One call that is recorded.
 module _ {K C : Type 0} (keep : KeepGhosts K) (caller : Ghosts C) where
-  settled : (k : K) (c : C) (command : Command) (k' : K) (d : C) (a : Answer) (b : Bool) → IsSettled keep caller k c command k' d b → caller.made d ≡ (if b then caller.made c ++ entry (caller.role c) command a ∷ [] else caller.made c) → KeptOn (caller.names c) (keep.taken k) (keep.taken k') (caller.made c) (caller.made d)
+  settled : (k : K) (c : C) (command : Command) (k' : K) (d : C) (a : Answer) (b : Bool) → IsSettled keep caller k c command k' d b → caller.made d ≡ (if b then caller.made c ++ entry (caller.role c) command a ∷ [] else caller.made c) → KeptOn (caller.names c) (keep.taken k) (keep.taken k') (caller.last c) (caller.last d) (caller.made c) (caller.made d)
   settled k c command k' d a true h grows = record {
     lines = h.line ∷ [];
+    numbers = h.number ∷ [];
     entries = entry (caller.role c) command a ∷ [];
     grown = grows;
-    spelled = ((h.number, h.spelled), tt);
+    counted = h.numbered;
+    spelled = (h.spelled, tt);
     took = subst (Appends (keep.taken k) (keep.taken k')) (sym (append-nil (ended h.line))) h.kept;
   }
   settled k c command k' d a false h grows = record {
     lines = [];
+    numbers = [];
     entries = [];
     grown = grows ∙ sym (append-nil (caller.made c));
+    counted = h.last_stays;
     spelled = tt;
-    took = h;
+    took = h.kept;
   }
 
-  pub recorded : (k : K) (c : C) (command : Command) (k' : K) (d : C) (a : Answer) → IsRecorded keep caller k c command k' d a → caller.made d ≡ grown (caller.made c) (caller.role c) command a → keep.keeps k ≡ true → keep.whole k' ≡ true → KeptOn (caller.names c) (keep.taken k) (keep.taken k') (caller.made c) (caller.made d)
+  pub recorded : (k : K) (c : C) (command : Command) (k' : K) (d : C) (a : Answer) → IsRecorded keep caller k c command k' d a → caller.made d ≡ grown (caller.made c) (caller.role c) command a → keep.keeps k ≡ true → keep.whole k' ≡ true → KeptOn (caller.names c) (keep.taken k) (keep.taken k') (caller.last c) (caller.last d) (caller.made c) (caller.made d)
   recorded k c command k' d a h grows s w = settled k c command k' d a (is_accepted a) (h.kept s w) grows

@@ -1,5 +1,6 @@
 pub mod Lines
 pub mod Taking
+pub mod Counting
 pub mod Keeping
 pub mod Restoring
 pub mod Rerunning

@@ -11,7 +11,9 @@ use Rattle.mps_room.specs.Journal.{is_accepted, grown}
 use Rattle.mps_room.specs.declared.caller.Caller.{Ghosts}
 use Rattle.mps_room.specs.declared.entry.Entry.{Entry}
 use Rattle.mps_keeper.specs.Restored.{IsAcceptedOf, LineRestored, LinesRestored}
+use Rattle.mps_keeper.specs.Numbering.{CountsUp}
 use Rattle.mps_keeper.specs.Remade.{AreOwn, HasRemade}
+use Rattle.mps_keeper.proofs.Counting.{counts_on}
 
 pub cases_eq : (a b : ℕ) → (a ≡ b) ⊎ (a ≢ b)
 cases_eq a b =
@@ -53,12 +55,17 @@ module _ {C : Type 0} (caller : Ghosts C) (same_role : (c : C) (x : Command) (a 
   accepted_more c None command d h = one_more c command h.answer d h.call h.accepted
   accepted_more c (Some n) command d h = one_more c command h.answer d h.call h.accepted
 
+  -- and its number is the next one
+  accepted_counts : (c : C) (number : Option ℕ) (command : Command) (d : C) → IsAcceptedOf caller c number command d → CountsUp (caller.last c) (number ∷ []) (caller.last d)
+  accepted_counts c None command d h = h.last_stays
+  accepted_counts c (Some n) command d h = (h.next, h.numbered)
+
   -- the caller at a place, after lines were restored
   pub record Remade (names : List (List ℕ)) (place : ℕ) (lines : List (List ℕ)) (c : C) (callers' : List C) : Type 0 where
     pub after : C
     pub there : slice_get callers' place ≡ Some after
     pub role : caller.role after ≡ caller.role c
-    pub made : HasRemade (caller.role c) (caller.made c) (caller.made after) names place lines
+    pub made : HasRemade (caller.role c) (caller.made c) (caller.made after) (caller.last c) (caller.last after) names place lines
 
   own_line : (names : List (List ℕ)) (place : ℕ) (line : List ℕ) (lines : List (List ℕ)) (callers mid callers' : List C) (c : C) (h : LineRestored caller names callers line mid) → place ≡ h.role → slice_get callers place ≡ Some c → ((e : C) → slice_get mid place ≡ Some e → Remade names place lines e callers') → Remade names place (line ∷ lines) c callers'
   own_line names place line lines callers mid callers' c h is at rest =
@@ -67,6 +74,7 @@ module _ {C : Type 0} (caller : Ghosts C) (same_role : (c : C) (x : Command) (a 
       let more = accepted_more h.before h.number h.command h.after h.called in
       let role : caller.role h.after ≡ caller.role c = more.role ∙ ap caller.role before in
       let next = rest h.after (ap (λ (i : ℕ). slice_get mid i) is ∙ ap (λ (l : List C). slice_get l h.role) h.set ∙ set_there callers h.role h.before h.after h.place) in
+      let first_count : CountsUp (caller.last c) (h.number ∷ []) (caller.last h.after) = subst (λ (b : C). CountsUp (caller.last b) (h.number ∷ []) (caller.last h.after)) before (accepted_counts h.before h.number h.command h.after h.called) in
       let first : Entry = entry (caller.role c) h.command more.answer in
       record {
         after = next.after;
@@ -75,7 +83,9 @@ module _ {C : Type 0} (caller : Ghosts C) (same_role : (c : C) (x : Command) (a 
         made = record {
           entries = first ∷ next.made.entries;
           grown = next.made.grown ∙ ap (λ (l : List Entry). l ++ next.made.entries) (more.made ∙ ap (λ (b : C). caller.made b ++ entry (caller.role b) h.command more.answer ∷ []) before) ∙ append_assoc (caller.made c) (first ∷ []) next.made.entries;
-          own = inl (next.made.entries, record { number = h.number; command = h.command; spelled = rw (sym is) at h.spelled; answer = more.answer; first = refl }, subst (λ (r : ℕ). AreOwn names place r lines next.made.entries) role next.made.own);
+          numbers = h.number ∷ next.made.numbers;
+          counted = counts_on (caller.last c) (caller.last h.after) (caller.last next.after) (h.number ∷ []) next.made.numbers first_count next.made.counted;
+          own = inl (h.number, next.made.numbers, next.made.entries, refl, record { command = h.command; spelled = rw (sym is) at h.spelled; answer = more.answer; first = refl }, subst (λ (r : ℕ). AreOwn names place r lines next.made.numbers next.made.entries) role next.made.own);
         };
       }
 
@@ -89,6 +99,8 @@ module _ {C : Type 0} (caller : Ghosts C) (same_role : (c : C) (x : Command) (a 
         made = record {
           entries = next.made.entries;
           grown = next.made.grown;
+          numbers = next.made.numbers;
+          counted = next.made.counted;
           own = inr (record { role = h.role; number = h.number; command = h.command; spelled = h.spelled; other = λ e. other (sym e) }, next.made.own);
         };
       }
@@ -98,7 +110,7 @@ module _ {C : Type 0} (caller : Ghosts C) (same_role : (c : C) (x : Command) (a 
     after = c;
     there = ap (λ (l : List C). slice_get l place) h ∙ at;
     role = refl;
-    made = record { entries = []; grown = sym (append-nil (caller.made c)); own = refl };
+    made = record { entries = []; grown = sym (append-nil (caller.made c)); numbers = []; counted = refl; own = (refl, refl) };
   }
   remade names place (line ∷ lines) callers callers' c h at =
       let rest : (e : C) → slice_get h.0 place ≡ Some e → Remade names place lines e callers' = λ e there. remade names place lines h.0 callers' e h.2 there in

@@ -6,8 +6,24 @@ use Rattle.std.proofs.lemmas.Grind.{flat_map-append}
 use Rattle.std.proofs.lemmas.List.{take-append-drop}
 use Rattle.mps_lines.specs.Lines.{ended}
 use Rattle.mps_wire.specs.Sending.{TookFront}
-use Rattle.mps_wire.proofs.Bytes.{Appends-trans}
-use Rattle.mps_keeper.specs.Books.{Took, TookToPart}
+use Rattle.mps_wire.proofs.Bytes.{Appends-none, Appends-trans}
+use Rattle.mps_keeper.specs.Books.{Took, TookMore, TookToPart}
+
+-- nothing more
+pub no_more : (a : Option (List ℕ)) → TookMore a a
+no_more a = ([], Appends-none a)
+
+-- more after more
+pub more_trans : (a b c : Option (List ℕ)) → TookMore a b → TookMore b c → TookMore a c
+more_trans a b c h k = (h.0 ++ k.0, Appends-trans a b c h.0 k.0 h.1 k.1)
+
+-- what was taken in part is more
+pub front_more : (a b : Option (List ℕ)) (text : List ℕ) → TookFront a b text → TookMore a b
+front_more a b text front = (take front.count text, front.taken)
+
+-- nothing is a front of any text
+pub no_front : (a : Option (List ℕ)) (text : List ℕ) → TookFront a a text
+no_front a text = record { count = 0; taken = Appends-none a }
 
 -- lines after lines
 pub took_more : (a b c : Option (List ℕ)) (first next : List (List ℕ)) → Took a first b → Took b next c → Took a (first ++ next) c
@@ -18,9 +34,8 @@ pub took_text : (a b c : Option (List ℕ)) (first next : List (List ℕ)) (text
 took_text a b c first next text is h k = took_more a b c first next h (subst (Appends b c) is k)
 
 -- a front of what was to follow
-pub part_more : (start old new : Option (List ℕ)) (lines next : List (List ℕ)) (text : List ℕ) → text ≡ flat_map ended next → Took start lines old → TookFront old new text → TookToPart start lines new
+pub part_more : (start old new : Option (List ℕ)) (lines next : List (List ℕ)) (text : List ℕ) → text ≡ flat_map ended next → Took start lines old → TookFront old new text → TookToPart start lines next new
 part_more start old new lines next text is took front = record {
-  next = next;
   part = take front.count text;
   others = drop front.count text;
   front = sym is ∙ sym (take-append-drop front.count text);

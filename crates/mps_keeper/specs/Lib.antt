@@ -1,4 +1,5 @@
 pub mod JournalLines
+pub mod Numbering
 pub mod Books
 pub mod Holds
 pub mod Recorded

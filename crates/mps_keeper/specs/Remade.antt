@@ -5,10 +5,10 @@ use Rattle.mps_command.specs.declared.command.Command.{Command}
 use Rattle.mps_room.specs.Callers.{entry}
 use Rattle.mps_room.specs.declared.entry.Entry.{Entry}
 use Rattle.mps_keeper.specs.JournalLines.{SpellsJournalLine}
+use Rattle.mps_keeper.specs.Numbering.{CountsUp}
 
--- the line is of the role at that place, and these are its entry and those of the lines after it
-pub record IsOwnLine (names : List (List ℕ)) (place role : ℕ) (line : List ℕ) (entries later : List Entry) : Type 0 where
-  pub number : Option ℕ
+-- the line is of the role at that place, and has this number and the first of these entries
+pub record IsOwnLine (names : List (List ℕ)) (place role : ℕ) (line : List ℕ) (number : Option ℕ) (entries later : List Entry) : Type 0 where
   pub command : Command
   pub spelled : SpellsJournalLine names line place number command
   pub answer : Answer
@@ -22,15 +22,18 @@ pub record IsOtherLine (names : List (List ℕ)) (place : ℕ) (line : List ℕ)
   pub spelled : SpellsJournalLine names line role number command
   pub other : role ≢ place
 
--- the entries are those of the lines of the role at that place, in order
-abbrev pub AreOwn : (names : List (List ℕ)) → (place role : ℕ) → List (List ℕ) → List Entry → Type 0
-AreOwn names place role [] entries = entries ≡ []
-AreOwn names place role (line ∷ lines) entries =
-    ((later : List Entry) × IsOwnLine names place role line entries later × AreOwn names place role lines later)
-    ⊎ (IsOtherLine names place line × AreOwn names place role lines entries)
+-- the numbers and the entries are those of the lines of the role at that place, in order
+abbrev pub AreOwn : (names : List (List ℕ)) → (place role : ℕ) → List (List ℕ) → List (Option ℕ) → List Entry → Type 0
+AreOwn names place role [] numbers entries = (numbers ≡ []) × (entries ≡ [])
+AreOwn names place role (line ∷ lines) numbers entries =
+    ((number : Option ℕ) × (counts : List (Option ℕ)) × (later : List Entry) × (numbers ≡ number ∷ counts)
+    × IsOwnLine names place role line number entries later × AreOwn names place role lines counts later)
+    ⊎ (IsOtherLine names place line × AreOwn names place role lines numbers entries)
 
--- a caller, and what it made of lines
-pub record HasRemade (role : ℕ) (made made' : List Entry) (names : List (List ℕ)) (place : ℕ) (lines : List (List ℕ)) : Type 0 where
+-- a caller, what it made of lines, and the last number to which they lead
+pub record HasRemade (role : ℕ) (made made' : List Entry) (last last' : ℕ) (names : List (List ℕ)) (place : ℕ) (lines : List (List ℕ)) : Type 0 where
   pub entries : List Entry
   pub grown : made' ≡ made ++ entries
-  pub own : AreOwn names place role lines entries
+  pub numbers : List (Option ℕ)
+  pub counted : CountsUp last numbers last'
+  pub own : AreOwn names place role lines numbers entries

@@ -1,11 +1,13 @@
 -- What restoring does to callers.
 use Rattle.std.specs.Prelude.{◌≡◌, ◌≢◌, ℕ, true, false, List, [], ◌∷◌, ◌++◌, Option, None, Some, slice_get, slice_set}
 use Rattle.mps_command.specs.declared.answer.Answer.{Answer}
+use Rattle.mps_command.specs.declared.answer.Answer.TheVariants as answers
+use Rattle.mps_command.specs.declared.answer.Refusal.TheVariants.{Memory}
 use Rattle.mps_command.specs.declared.command.Command.{Command}
 use Rattle.mps_room.specs.Journal.{is_accepted}
 use Rattle.mps_room.specs.Numbers.{IsFresh, IsNumbered}
 use Rattle.mps_room.specs.declared.numbers.Told.{Told}
-use Rattle.mps_room.specs.declared.numbers.Told.TheVariants.{Fresh}
+use Rattle.mps_room.specs.declared.numbers.Told.TheVariants.{Fresh, Refused}
 use Rattle.mps_room.specs.declared.caller.Caller.{Ghosts}
 use Rattle.mps_keeper.specs.JournalLines.{SpellsJournalLine}
 
@@ -23,24 +25,26 @@ module _ {C : Type 0} (caller : Ghosts C) where
   IsAcceptedOf c None command d = IsPlain c command d
   IsAcceptedOf c (Some n) command d = IsFresh caller.calls caller.last caller.kept c n command d
 
-  -- a call without a number that was refused
+  -- a call without a number that was refused, and not for want of memory
   pub record IsDenied (c : C) (command : Command) (d : C) : Type 0 where
     pub answer : Answer
     pub call : caller.calls c command answer d
     pub denied : is_accepted answer ≡ false
+    pub not_memory : answer ≢ answers.Refused Memory
 
-  -- a command with a number that was refused, or had no place in order
+  -- a command with a number that was refused, and not for want of memory, or had no place in order
   pub record IsUnplaced (c : C) (n : ℕ) (command : Command) (d : C) : Type 0 where
     pub told : Told
     pub came : IsNumbered caller.calls caller.last caller.kept c n command d told
     pub other : told ≢ Fresh
+    pub not_memory : told ≢ Refused Memory
 
   -- the command was not accepted
   abbrev pub IsRefusedOf : (c : C) → Option ℕ → Command → (d : C) → Type 0
   IsRefusedOf c None command d = IsDenied c command d
   IsRefusedOf c (Some n) command d = IsUnplaced c n command d
 
-  -- the line's command was given to the caller at its role's place, and was not accepted
+  -- the line's command was given to the caller at its role's place, and was not accepted, though there was memory
   pub record LineRefused (names : List (List ℕ)) (callers : List C) (line : List ℕ) : Type 0 where
     pub role : ℕ
     pub number : Option ℕ

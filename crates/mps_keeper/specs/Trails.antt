@@ -4,27 +4,33 @@ use Rattle.mps_room.specs.declared.caller.Caller.{Ghosts}
 use Rattle.mps_wire.specs.Talk.{AnswersToPart, talks, talks_to_part}
 use Rattle.mps_room.specs.declared.entry.Entry.{Entry}
 use Rattle.mps_keeper.specs.JournalLines.{SpellsJournalLine}
-use Rattle.mps_keeper.specs.Books.{Took}
+use Rattle.mps_keeper.specs.Books.{Took, TookMore}
+use Rattle.mps_keeper.specs.Numbering.{CountsUp}
 
--- each is the line of the entry in its place, with a number or without one
-abbrev pub SpellEntries : (names : List (List ℕ)) → List (List ℕ) → List Entry → Type 0
-SpellEntries names [] [] = ⊤
-SpellEntries names (line ∷ lines) (e ∷ entries) = ((number : Option ℕ) × SpellsJournalLine names line e.role number e.command) × SpellEntries names lines entries
-SpellEntries names lines entries = ⊥
+-- each is the line of the number and the entry in its place
+abbrev pub SpellEntries : (names : List (List ℕ)) → List (List ℕ) → List (Option ℕ) → List Entry → Type 0
+SpellEntries names [] [] [] = ⊤
+SpellEntries names (line ∷ lines) (number ∷ numbers) (e ∷ entries) = SpellsJournalLine names line e.role number e.command × SpellEntries names lines numbers entries
+SpellEntries names lines numbers entries = ⊥
 
--- what was taken since are the lines of the entries that were made since, in order
-pub record KeptOn (names : List (List ℕ)) (taken taken' : Option (List ℕ)) (made made' : List Entry) : Type 0 where
+-- what was taken since are the lines of the entries that were made since, in order, with the numbers that lead to the last one
+pub record KeptOn (names : List (List ℕ)) (taken taken' : Option (List ℕ)) (last last' : ℕ) (made made' : List Entry) : Type 0 where
   pub lines : List (List ℕ)
+  pub numbers : List (Option ℕ)
   pub entries : List Entry
   pub grown : made' ≡ made ++ entries
-  pub spelled : SpellEntries names lines entries
+  pub counted : CountsUp last numbers last'
+  pub spelled : SpellEntries names lines numbers entries
   pub took : Took taken lines taken'
 
--- What was written of a conversation's answers is kept: it is the answers up to some caller (of the last of them a part), of which nothing was lost; and what the keeper took until then are the lines of the entries that were made until then.
-module _ {R : Type 0} (caller : Ghosts R) (taken : R → Option (List ℕ)) (before : R) (written : List ℕ) where
+-- What was written of a conversation's answers is kept: it is the answers to the first of its lines (of the last of them a part), after which nothing was lost; what the keeper took until then are the lines of the entries that were made until then; and it still has them after the conversation.
+module _ {R : Type 0} (caller : Ghosts R) (taken : R → Option (List ℕ)) (lines : List (List ℕ)) (before : R) (written : List ℕ) (after : R) where
   pub record ToldIsKept : Type 0 where
     pub asked : List (List ℕ)
+    pub others : List (List ℕ)
+    pub first : lines ≡ asked ++ others
     pub reached : R
     pub answered : AnswersToPart (talks caller) (talks_to_part caller) asked before written reached
     pub whole : caller.may_tell reached ≡ true
-    pub kept : KeptOn (caller.names before) (taken before) (taken reached) (caller.made before) (caller.made reached)
+    pub kept : KeptOn (caller.names before) (taken before) (taken reached) (caller.last before) (caller.last reached) (caller.made before) (caller.made reached)
+    pub since : TookMore (taken reached) (taken after)

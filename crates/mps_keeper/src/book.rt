@@ -3,7 +3,8 @@ ghost use Rattle.std.specs.Prelude.{◌≡◌, ◌<◌, ◌^◌, ◌++◌, ℕ, 
 ghost use Rattle.std.specs.Io.KnownBytes.{Appends};
 ghost use Rattle.std.specs.List.{flat_map};
 ghost use Rattle.mps_lines.specs.Lines.{ended};
-ghost use Rattle.mps_keeper.specs.Books.{TookLines};
+ghost use Rattle.mps_keeper.specs.Books.{Took, TookMore, TookToPart};
+ghost use Rattle.mps_wire.specs.Sending.{TookFront};
 
 use crate::keep::Keep;
 use mps_dev::{Failed, Sink};
@@ -72,19 +73,23 @@ impl<W: Sink> Book<W> {
     }
 
     /// Adds lines, each with its LF, after which it has so many. After a failure nothing is added any more.
+    #[tactic(auto, using(crate::proofs::Taking::no_front))]
     pub fn append(&mut self, text: &[u8], lines: u64) -> Result<(), NotKept>
         ensures kept { OnOk result (Appends (W.taken (sink_of self.old)) (W.taken (sink_of self.new)) text.now) }
+        ensures front { OnErr result (TookFront (W.taken (sink_of self.old)) (W.taken (sink_of self.new)) text.now) }
+        ensures still { whole_of self.old ≡ false → sink_of self.new ≡ sink_of self.old }
         ensures lines { OnOk result (lines_of self.new ≡ lines) }
         ensures before { OnOk result (whole_of self.old ≡ true) }
         ensures ok { OnOk result (whole_of self.new ≡ true) }
         ensures err { OnErr result (whole_of self.new ≡ false) }
+        ensures more { TookMore (W.taken (sink_of self.old)) (W.taken (sink_of self.new)) }
         ensures count { OnErr result (lines_of self.new ≡ lines_of self.old) }
         ensures added { (start : Option (List ℕ)) (lines : List (List ℕ)) (next : List (List ℕ)) → text.now ≡ flat_map ended next
-            → TookLines start lines (whole_of self.old) (W.taken (sink_of self.old))
-            → OnOk result (TookLines start (lines ++ next) (whole_of self.new) (W.taken (sink_of self.new))) }
+            → Took start lines (W.taken (sink_of self.old))
+            → OnOk result (Took start (lines ++ next) (W.taken (sink_of self.new))) }
         ensures part { (start : Option (List ℕ)) (lines : List (List ℕ)) (next : List (List ℕ)) → text.now ≡ flat_map ended next
-            → TookLines start lines (whole_of self.old) (W.taken (sink_of self.old))
-            → OnErr result (TookLines start lines (whole_of self.new) (W.taken (sink_of self.new))) }
+            → Took start lines (W.taken (sink_of self.old))
+            → OnErr result (TookToPart start lines next (W.taken (sink_of self.new))) }
     {
         if !self.whole {
             return Err(NotKept);

@@ -1,6 +1,7 @@
 //! What keeps lines, and callers whose commands can be kept.
 ghost use Rattle.std.specs.Prelude.{◌≡◌, ℕ, Bool, true, false, List, [], Option};
 ghost use Rattle.std.specs.Io.KnownBytes.{Appends};
+ghost use Rattle.mps_keeper.specs.Books.{TookMore};
 
 use mps_base::Role;
 use mps_room::Caller;
@@ -24,22 +25,28 @@ pub trait Keep {
     fn is_whole(&self) -> bool
         ensures { result ≡ whole self.now };
 
-    /// Keeps the line of the journal's entry of that number, counted from 1, after those before it. It comes with its LF.
+    /// Keeps the line of the journal's entry of that number, counted from 1, after those before it. It comes with its LF. Once
+    /// lines were lost nothing more is taken.
     fn keep(&mut self, place: u64, line: &[u8])
         ensures same { keeps self.new ≡ keeps self.old }
         ensures once { whole self.new ≡ true → whole self.old ≡ true }
-        ensures kept { whole self.new ≡ true → Appends (taken self.old) (taken self.new) line.now };
+        ensures kept { whole self.new ≡ true → Appends (taken self.old) (taken self.new) line.now }
+        ensures over { whole self.old ≡ false → Appends (taken self.old) (taken self.new) [] }
+        ensures more { TookMore (taken self.old) (taken self.new) };
 
     /// Waits until so many lines are kept.
     fn settle(&mut self, place: u64)
         ensures same { keeps self.new ≡ keeps self.old }
         ensures once { whole self.new ≡ true → whole self.old ≡ true }
-        ensures settled { whole self.new ≡ true → Appends (taken self.old) (taken self.new) [] };
+        ensures settled { Appends (taken self.old) (taken self.new) [] }
+        ensures more { TookMore (taken self.old) (taken self.new) };
 
     /// Gives up the line that is next, and so all after it.
     fn lose(&mut self)
         ensures same { keeps self.new ≡ keeps self.old }
-        ensures lost { whole self.new ≡ false };
+        ensures lost { whole self.new ≡ false }
+        ensures nothing { Appends (taken self.old) (taken self.new) [] }
+        ensures more { TookMore (taken self.old) (taken self.new) };
 }
 
 /// A caller that knows its role, and how much of the journal its last call showed.

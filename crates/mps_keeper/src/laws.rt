@@ -54,29 +54,30 @@ pub fn a_legal_journal_runs_again()
 {}
 
 /// Where nothing was lost, what the keeper took while a conversation was answered are the lines of the commands that it
-/// made, in order. So it is where the last answer is written in part. And whatever was lost: what was written to a
-/// conversation are the answers up to where nothing was lost.
+/// made, in order and with their numbers. So it is where the last answer is written in part. And whatever was lost: what was
+/// written to a conversation are the answers to the first of its lines, up to where nothing was lost.
 pub fn what_is_answered_is_kept<K: Keep, C: Seated>()
     ensures whole { (asked : List (List ℕ)) (before : RecordedOf K C) (out : List ℕ) (after : RecordedOf K C)
         → AnswersLines (talks ⟦<Recorded<K, C> as Caller>⟧) asked before out after
         → K.keeps before.keeper ≡ true → K.whole after.keeper ≡ true
         → KeptOn (C.names before.inner) (K.taken before.keeper) (K.taken after.keeper)
-        (C.made before.inner) (C.made after.inner) }
+        (C.last before.inner) (C.last after.inner) (C.made before.inner) (C.made after.inner) }
     ensures part { (asked : List (List ℕ)) (before : RecordedOf K C) (out : List ℕ) (after : RecordedOf K C)
         → AnswersToPart (talks ⟦<Recorded<K, C> as Caller>⟧) (talks_to_part ⟦<Recorded<K, C> as Caller>⟧) asked before out after
         → K.keeps before.keeper ≡ true → K.whole after.keeper ≡ true
         → KeptOn (C.names before.inner) (K.taken before.keeper) (K.taken after.keeper)
-        (C.made before.inner) (C.made after.inner) }
+        (C.last before.inner) (C.last after.inner) (C.made before.inner) (C.made after.inner) }
     ensures told { (asked : List (List ℕ)) (before : RecordedOf K C) (written : List ℕ) (after : RecordedOf K C)
         → AnswersToPart (talks ⟦<Recorded<K, C> as Caller>⟧) (talks_to_part ⟦<Recorded<K, C> as Caller>⟧) asked before written after
         → K.keeps before.keeper ≡ true → K.whole before.keeper ≡ true
-        → ToldIsKept ⟦<Recorded<K, C> as Caller>⟧ (λ r. K.taken r.keeper) before written }
+        → ToldIsKept ⟦<Recorded<K, C> as Caller>⟧ (λ r. K.taken r.keeper) asked before written after }
 {}
 
-/// After lines were restored, the caller at each place made the entries of its role's lines, in order, and no others.
+/// After lines were restored, the caller at each place made the entries of its role's lines, in order, and no others, and
+/// its last number is the one to which their numbers lead.
 pub fn restoring_makes_the_entries<C: Caller>()
     ensures { (names : List (List ℕ)) (place : ℕ) (lines : List (List ℕ)) (callers : List C) (callers_after : List C) (before : C)
         → LinesRestored C.Caller names callers lines callers_after → slice_get callers place ≡ Some before
         → (after : C) × (slice_get callers_after place ≡ Some after)
-        × HasRemade (C.role before) (C.made before) (C.made after) names place lines }
+        × HasRemade (C.role before) (C.made before) (C.made after) (C.last before) (C.last after) names place lines }
 {}

@@ -4,6 +4,7 @@ ghost use Rattle.std.specs.Io.KnownBytes.{Appends};
 ghost use Rattle.mps_command.specs.declared.command.Command.{Command as Asked};
 ghost use Rattle.mps_lines.specs.Lines.{ended};
 ghost use Rattle.mps_room.specs.Journal.{is_accepted};
+ghost use Rattle.mps_keeper.specs.Books.{TookMore};
 ghost use Rattle.mps_keeper.specs.JournalLines.{SpellsJournalLine};
 ghost use Rattle.mps_keeper.specs.Recorded.{IsRecorded};
 
@@ -30,8 +31,8 @@ impl<K: Keep, C: Seated> Recorded<K, C> {
         ensures inner { result.inner ≡ inner }
         ensures same { K.keeps result.keeper ≡ K.keeps keeper }
         ensures once { K.whole result.keeper ≡ true → K.whole keeper ≡ true }
-        ensures settled { K.keeps keeper ≡ true → K.whole result.keeper ≡ true
-            → Appends (K.taken keeper) (K.taken result.keeper) [] }
+        ensures settled { Appends (K.taken keeper) (K.taken result.keeper) [] }
+        ensures more { TookMore (K.taken keeper) (K.taken result.keeper) }
         ensures idle { K.keeps keeper ≡ false → result.keeper ≡ keeper }
     {
         let mut keeper = keeper;
@@ -70,8 +71,9 @@ impl<K: Keep, C: Seated> Recorded<K, C> {
         ensures once { K.whole self.new.keeper ≡ true → K.whole self.old.keeper ≡ true }
         ensures kept { K.whole self.new.keeper ≡ true → accepted ≡ true
             → IsTrue put × Appends (K.taken self.old.keeper) (K.taken self.new.keeper) self.old.line.items }
-        ensures settled { K.whole self.new.keeper ≡ true → accepted ≡ false
-            → Appends (K.taken self.old.keeper) (K.taken self.new.keeper) [] }
+        ensures settled { accepted ≡ false → Appends (K.taken self.old.keeper) (K.taken self.new.keeper) [] }
+        ensures over { K.whole self.old.keeper ≡ false → Appends (K.taken self.old.keeper) (K.taken self.new.keeper) [] }
+        ensures more { TookMore (K.taken self.old.keeper) (K.taken self.new.keeper) }
     {
         let place = self.inner.seen();
         if !accepted {

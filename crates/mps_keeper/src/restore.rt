@@ -1,6 +1,8 @@
 //! How callers are brought to where a kept journal left them.
-ghost use Rattle.std.specs.Prelude.{◌≡◌, ◌+◌, length, ℕ, Err, Ok, true, IsSome, IsTrue, false, ◌<◌, ◌^◌, IfOk, IfErr, OnOk};
+ghost use Rattle.std.specs.Prelude.{◌≡◌, ◌≢◌, ◌+◌, length, ℕ, Err, Ok, true, IsSome, IsTrue, false, ◌<◌, ◌^◌, IfOk, IfErr, OnOk};
 ghost use Rattle.mps_command.specs.Changes.{change_of};
+ghost use Rattle.mps_command.specs.declared.answer.Answer.TheVariants.{Refused as Denied};
+ghost use Rattle.mps_command.specs.declared.answer.Refusal.TheVariants.{Memory as NoRoom};
 ghost use Rattle.mps_room.specs.Journal.{is_accepted};
 ghost use Rattle.mps_keeper.specs.Restored.{IsAcceptedOf, IsRefusedOf, LineRestored};
 ghost use Rattle.mps_keeper.specs.RestoredFaults.{of_reading, IsRestoredTo, IsFirstFault, IsFaulty, RestoredFrom, FaultFrom};
@@ -18,33 +20,38 @@ use mps_line::LineFault;
 use mps_lines::line_end;
 use mps_room::{Caller, Told};
 use std::alloc::{AllocError, Global};
+use thiserror::Error;
 
 /// Why a line was not restored.
-#[derive(Clone, Copy, Debug, PartialEq, Eq)]
+#[derive(Clone, Copy, Debug, PartialEq, Eq, Error)]
 pub enum Unaccepted {
-    /// It spells no command.
+    #[error("it spells no command")]
     Bad,
-    /// Its command wasn't accepted.
+    #[error("its command isn't accepted")]
     Refused,
-    /// Memory ran out while it was read, or its command was called.
+    /// While it was read, or its command was called.
+    #[error("out of memory")]
     Memory,
 }
 
 /// The first line that was not restored, counted from 1.
-#[derive(Clone, Copy, Debug, PartialEq, Eq)]
+#[derive(Clone, Copy, Debug, PartialEq, Eq, Error)]
+#[error("line {line}: {fault}")]
 pub struct NotRestored {
     pub line: u64,
     pub fault: Unaccepted,
 }
 
 /// Why callers were not restored from a source.
-#[derive(Clone, Copy, Debug, PartialEq, Eq)]
+#[derive(Clone, Copy, Debug, PartialEq, Eq, Error)]
 pub enum RestoreFault {
-    /// A read failed, or the source gives more than is ever read.
+    /// Or the source gives more than is ever read.
+    #[error("a read failed")]
     Read,
-    /// Memory ran out while it was read.
+    #[error("out of memory")]
     Memory,
     /// The first line that was not restored.
+    #[error("{0}")]
     Line(NotRestored),
 }
 
@@ -85,6 +92,7 @@ enum Called {
 fn comes_to(answer: &Answer) -> Called
     ensures accepted { result ≡ Called.Accepted → is_accepted answer.now ≡ true }
     ensures refused { result ≡ Called.Refused → is_accepted answer.now ≡ false }
+    ensures memory { result ≡ Called.Refused → answer.now ≢ Denied NoRoom }
 {
     match answer {
         Answer::Refused(Refusal::Memory) => Called::Starved,

@@ -91,14 +91,15 @@ const ASKED: &[u8] =
 // What of it is kept.
 const KEPT: &[u8] = b"a 1 send b 5\na 2 mark m\na mark k\na 3 undo 3\n";
 
-// How a conversation ends, what is kept of it, and whether all was, where the book takes so many bytes.
-fn kept(alloc: Global, space: usize) -> Result<(Ending, Vec<u8>, bool, Vec<u8>), Fail> {
+// How a conversation ends, what is kept of it, whether all was, and what is told, where the book has so many lines and takes so
+// many bytes.
+fn kept(alloc: Global, lines: u64, space: usize) -> Result<(Ending, Vec<u8>, bool, Vec<u8>), Fail> {
     let (roles, session) = opened(alloc, RELAY)?;
     if session.roles() != 3 {
         return Err("three roles".into());
     }
     let solo = Solo::new(Room::open(alloc, roles, session), Role::new(0));
-    let book = Book::new(Short::new(alloc, space)?, 0);
+    let book = Book::new(Short::new(alloc, space)?, lines);
     let mut caller = Recorded::new(book, solo, Vec::new(alloc));
     let mut reader = Pieces::new(vec![in alloc; Vec::from_slice(alloc, ASKED)?]?, None);
     let mut writer = Short::new(alloc, 2_000)?;
@@ -110,7 +111,7 @@ fn kept(alloc: Global, space: usize) -> Result<(Ending, Vec<u8>, bool, Vec<u8>),
 
 #[test]
 fn keeps_what_is_accepted(rt: HostRuntime) -> Result<(), Fail> {
-    let (ending, lines, is_whole, told) = kept(rt.alloc(), 2_000)?;
+    let (ending, lines, is_whole, told) = kept(rt.alloc(), 0, 2_000)?;
     assert!(rt; ending == Ending::Closed && is_whole);
     assert!(rt; lines.as_slice() == KEPT);
     assert!(rt; told.starts_with(b"done 1\ndone 1\nrefused nostep\n{"));
@@ -121,7 +122,7 @@ fn keeps_what_is_accepted(rt: HostRuntime) -> Result<(), Fail> {
 // How many lines are told where the book takes so many bytes: an answer for each whole line of a, two of which are told
 // twice, and what changes nothing up to there.
 fn is_cut(alloc: Global, space: usize) -> Result<bool, Fail> {
-    let (ending, lines, is_whole, told) = kept(alloc, space)?;
+    let (ending, lines, is_whole, told) = kept(alloc, 0, space)?;
     let answers = told.iter().filter(|&&byte| byte == b'\n').count();
     let wanted = match space {
         0..=12 => 0,
@@ -131,6 +132,14 @@ fn is_cut(alloc: Global, space: usize) -> Result<bool, Fail> {
     };
     let front = KEPT.get(..space).ok_or("a front")?;
     Ok(ending == Ending::Untold && !is_whole && lines.as_slice() == front && answers == wanted)
+}
+
+#[test]
+fn loses_a_line_out_of_order(rt: HostRuntime) -> Result<(), Fail> {
+    let (ending, lines, whole, told) = kept(rt.alloc(), 5, 2_000)?;
+    assert!(rt; ending == Ending::Untold && !whole);
+    assert!(rt; lines.is_empty() && told.is_empty());
+    Ok(())
 }
 
 #[test]

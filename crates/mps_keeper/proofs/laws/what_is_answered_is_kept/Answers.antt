@@ -9,6 +9,7 @@ returns-clause-whole g c = λ asked before out after t s w.
       same = h.same;
       before = h.once_whole;
       goes = recorded g.K.Keep g.C.Caller b.keeper b.inner x d.keeper d.inner a h (g.met.C.Caller.grows b.inner x a d.inner h.call);
+      more = h.more;
     }) asked before out after t).goes s w
 
 pub returns-clause-part : goal.returns-clause-part
@@ -18,6 +19,7 @@ returns-clause-part g c = λ asked before out after t s w.
       same = h.same;
       before = h.once_whole;
       goes = recorded g.K.Keep g.C.Caller b.keeper b.inner x d.keeper d.inner a h (g.met.C.Caller.grows b.inner x a d.inner h.call);
+      more = h.more;
     }) asked before out after t).goes s w
 
 pub returns-clause-told : goal.returns-clause-told
@@ -27,4 +29,5 @@ returns-clause-told g c = λ asked before written after t s w.
       same = h.same;
       before = h.once_whole;
       goes = recorded g.K.Keep g.C.Caller b.keeper b.inner x d.keeper d.inner a h (g.met.C.Caller.grows b.inner x a d.inner h.call);
+      more = h.more;
     }) (λ r. refl) asked before written after s w t

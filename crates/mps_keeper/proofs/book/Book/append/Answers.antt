@@ -1,10 +1,8 @@
-use Rattle.mps_keeper.proofs.Taking.{took_text, part_more}
+use Rattle.mps_keeper.proofs.Taking.{took_text, part_more, no_front}
 use Rattle.mps_keeper.proofs.book.Book.append.Goals as goal
 
 pub returns-in-Ok-clause-added : goal.returns-in-Ok-clause-added
-returns-in-Ok-clause-added g c = λ start lines next is took.
-    rw c.if-not-self.false (took_text start _ _ lines next _ is (rw c.if-not-self.false at took) c.in-Ok.ensures.sent)
+returns-in-Ok-clause-added g c = λ start lines next is took. took_text start _ _ lines next _ is took c.in-Ok.ensures.sent
 
 pub returns-in-Err-clause-part : goal.returns-in-Err-clause-part
-returns-in-Err-clause-part g c = λ start lines next is took.
-    part_more start _ _ lines next _ is (rw c.if-not-self.false at took) c.in-Err.ensures.front
+returns-in-Err-clause-part g c = λ start lines next is took. part_more start _ _ lines next _ is took c.in-Err.ensures.front
