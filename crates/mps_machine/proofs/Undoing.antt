@@ -21,7 +21,7 @@ use Rattle.mps_history.proofs.Removal.{last_alone, without_last}
 use Rattle.mps_local.specs.Local.{LocalType}
 use Rattle.mps_machine.specs.Machine.{State, view_of, accepted, unless, full_fault, done_by, forward, owner_fault, commit_fault, undone, undo, rolled_back, rollback, IsSound}
 use Rattle.mps_machine.specs.Rule.{replay}
-use Rattle.mps_machine.specs.Undoing.{UndoesSteps, IsOwn, IsLeastDependent, IsFree, RefusesNeeded, IsCommitFrom, IsLeastCommit, IsOpen, RefusesFinal, RemovedFuture, RemovesFutures}
+use Rattle.mps_machine.specs.Undoing.{IsNewest, UndoesSteps, IsOwn, IsLeastDependent, IsFree, RefusesNeeded, IsCommitFrom, IsLeastCommit, IsOpen, RefusesFinal, RemovedFuture, RemovesFutures}
 use Rattle.mps_machine.specs.View.{opening}
 use Rattle.mps_machine.specs.Violations.{violation}
 use Rattle.mps_machine.proofs.Sound.{view_is, forward_sound, least_none, no_member}
@@ -84,16 +84,19 @@ module _ (st : State) (p : ℕ) (act : Act) (rising : IsRising (accepted st p ac
       ap (owner_fault p) found
       ∙ cond-true (p == p) None (Some NotYours) (eq-eqb p p refl)
 
-  alone : least (dependents h st.next) ≡ None
-  alone =
-      ap (λ (l : List Step). least (numbers (filter (λ t. not (t.id == st.next)) l))) (last_alone st.history s rising)
-      ∙ ap (λ (l : List Step). least (numbers l)) (cond-false (not (st.next == st.next)) (s ∷ []) [] (ap not (eq-eqb st.next st.next refl)))
+  pub newest : IsNewest st.history h st.next
+  newest = record {
+    alone =
+        ap (λ (l : List Step). numbers (filter (λ t. not (t.id == st.next)) l)) (last_alone st.history s rising)
+        ∙ ap numbers (cond-false (not (st.next == st.next)) (s ∷ []) [] (ap not (eq-eqb st.next st.next refl)));
+    others = without_last st.history s rising;
+  }
 
   -- the newest step can be undone, where it is no commit
   pub undo_newest : act ≢ Commit → undo (accepted st p act) p st.next ≡ (Ok (st.next ∷ []), record st { next = st.next + 1 })
   undo_newest other =
-      undo_is (accepted st p act) p st.next None None None owner (ap commit_fault found ∙ no_commit_named s other) alone
-      ∙ ap (λ (l : List Step). let r : Result (List ℕ) Refusal × State = (Ok (st.next ∷ []), record { history = l; next = st.next + 1 }) in r) (without_last st.history s rising)
+      undo_is (accepted st p act) p st.next None None None owner (ap commit_fault found ∙ no_commit_named s other) (ap least newest.alone)
+      ∙ ap (λ (l : List Step). let r : Result (List ℕ) Refusal × State = (Ok (st.next ∷ []), record { history = l; next = st.next + 1 }) in r) newest.others
 
   -- and else it is named
   pub undo_commit : act ≡ Commit → undo (accepted st p act) p st.next ≡ (Err (Final st.next), accepted st p act)
@@ -116,6 +119,9 @@ module _ (types : List LocalType) (st next : State) (p : ℕ) (act : Act) (done 
       let same : done ≡ done_by types st p act = cc in
       ap (λ (d : Done). d.id) same
 
+  pub is_newest : IsNewest st.history next.history done.id
+  is_newest = rw (next_is, number) (newest st p act rising)
+
   pub newest_undone : act ≢ Commit → undo next p done.id ≡ (Ok (done.id ∷ []), record st { next = st.next + 1 })
   newest_undone other = rw (next_is, number) (undo_newest st p act rising other)
 
@@ -124,6 +130,7 @@ module _ (types : List LocalType) (st next : State) (p : ℕ) (act : Act) (done 
 
 pub undoes_steps : (types : List LocalType) (st : State) → IsSound types st → UndoesSteps types st
 undoes_steps types st ok = record {
+  newest = λ p act done e. is_newest types st (forward types st p act).1 p act done ok (sym e) refl;
   undone = λ p act done other e. newest_undone types st (forward types st p act).1 p act done ok (sym e) refl other;
   final = λ p done e. stays_final types st (forward types st p Commit).1 p Commit done ok (sym e) refl refl;
 }

@@ -1,18 +1,26 @@
 -- What is promised of steps that are undone. A step may be undone only when its consequences are (Danos, Krivine,
 -- CONCUR 2004). A commit is never undone, nor is what it depends on.
-use Rattle.std.specs.Prelude.{◌≡◌, ◌≢◌, ◌↔◌, ◌⊎◌, ℕ, ◌+◌, ◌≤◌, Bool, IsTrue, List, [], ◌∷◌, ◌++◌, reverse, Ok, Err}
+use Rattle.std.specs.Prelude.{◌≡◌, ◌≢◌, ◌↔◌, ◌⊎◌, ℕ, ◌+◌, ◌≤◌, ◌==◌, Bool, IsTrue, List, [], ◌∷◌, ◌++◌, reverse, Ok, Err}
 use Rattle.mps_base.specs.declared.action.Act.{Act}
 use Rattle.mps_base.specs.declared.action.Act.TheVariants.{Mark, Commit}
 use Rattle.mps_base.specs.declared.action.Step.{Step}
 use Rattle.mps_local.specs.Local.{LocalType}
 use Rattle.mps_history.specs.Steps.{IsIn, numbers, steps_of, within, without}
-use Rattle.mps_history.specs.Dependence.{DependsOn}
+use Rattle.mps_history.specs.Dependence.{DependsOn, dependents}
 use Rattle.mps_command.specs.declared.answer.Done.{Done}
 use Rattle.mps_command.specs.declared.answer.Refusal.TheVariants.{Final, Needed, NoMark}
 use Rattle.mps_machine.specs.Machine.{State, forward, undo, undone, rollback, back, Request, after}
 
+-- no other step depends on step n, and without it the history is the old one
+pub record IsNewest (old new : List Step) (n : ℕ) : Type 0 where
+  pub alone : dependents new n ≡ []
+  pub others : without new (λ m. m == n) ≡ old
+
 -- what comes of a step that was just done and of its undo
 pub record UndoesSteps (types : List LocalType) (st : State) : Type 0 where
+  -- on a new step of any kind nothing depends
+  pub newest : (p : ℕ) (act : Act) (done : Done) → (forward types st p act).0 ≡ Ok done
+      → IsNewest st.history (forward types st p act).1.history done.id
   -- a step that is no commit and then its undo change nothing but the next number
   pub undone : (p : ℕ) (act : Act) (done : Done) → act ≢ Commit → (forward types st p act).0 ≡ Ok done
       → undo (forward types st p act).1 p done.id ≡ (Ok (done.id ∷ []), record st { next = st.next + 1 })

@@ -80,8 +80,8 @@ pub fn a_state_is_its_replay()
         → replay (opening types) st.history ≡ Some (view_of types st.history) }
 {}
 
-/// A step that was just done can be undone by its role, and then the history is the one from before. The number isn't
-/// given out again. An undo of a commit is refused, names the commit, and changes nothing.
+/// On a step that was just done nothing depends, and without it the history is the one from before. If it is no commit, its
+/// role can undo it; the number isn't given out again. An undo of a commit is refused, names the commit, and changes nothing.
 pub fn an_undo_gives_the_old_history()
     ensures { (types : List LocalType) (st : State) → IsSound types st → UndoesSteps types st }
 {}

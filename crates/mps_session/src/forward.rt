@@ -8,6 +8,7 @@ ghost use Rattle.mps_command.specs.declared.answer.Violation.TheVariants.{Mismat
 ghost use Rattle.mps_fidelity.specs.Fidelity.{AreOfOneProtocol};
 ghost use Rattle.mps_machine.specs.Answering.{IsAnswer, IsServed};
 ghost use Rattle.mps_machine.specs.Machine as machine;
+ghost use Rattle.mps_machine.specs.Undoing.{IsNewest};
 ghost use Rattle.mps_session.specs.Answers.{once};
 ghost use Rattle.mps_session.specs.Private.Configurations.{taken_from};
 
@@ -41,6 +42,8 @@ impl Session {
         ensures state { OnOk result (self.new.state
             ≡ (machine.forward self.old.types self.old.state role (act_of step)).1) }
         ensures types { self.new.types ≡ self.old.types }
+        // On a new step of any kind nothing depends, and without it the history is the old one.
+        ensures newest { IfOk result (λ done. IsNewest self.old.state.history self.new.state.history done.id) }
         // A step that is no commit and then its undo change nothing, but that the number isn't given out again.
         ensures undone { act_of step ≢ Commit → IfOk result (λ done. machine.undo self.new.state role done.id
             ≡ (Ok (done.id ∷ []), record self.old.state { next = self.old.state.next + 1 })) }

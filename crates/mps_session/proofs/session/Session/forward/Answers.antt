@@ -5,7 +5,7 @@ use Rattle.mps_command.specs.declared.answer.Refusal.{Refusal}
 use Rattle.mps_command.specs.declared.answer.Refusal.TheVariants.{Violation as Violates}
 use Rattle.mps_command.specs.declared.answer.Violation.TheVariants.{Mismatch}
 use Rattle.mps_machine.specs.Machine.{IsSound}
-use Rattle.mps_machine.proofs.Undoing.{newest_undone, stays_final}
+use Rattle.mps_machine.proofs.Undoing.{is_newest, newest_undone, stays_final}
 use Rattle.mps_session.specs.SessionState.{SessionState}
 use Rattle.mps_session.proofs.PassedOn.{passed_on}
 use Rattle.mps_session.proofs.OneProtocol.{no_mismatch}
@@ -18,6 +18,13 @@ returns-in_err-done-clause-never_mismatch c own =
     let sound = subst (λ (k : SessionState). IsSound k.types k.state) c.self.view_is c.self.invariant.holds.sound in
     passed_on _ refusal (λ (r : Result Done Refusal). r ≢ Err (Violates Mismatch)) c.from_residual.ensures.1
     (λ e. let is : refusal ≡ Violates Mismatch = cc in no_mismatch m.types m.state c.args.role c.args.step refusal sound c.in_err-done.ensures.served.answer own is)
+
+pub returns-clause-newest : goal.returns-clause-newest
+returns-clause-newest c =
+    let m = c.args.self.now in
+    let sound = subst (λ (k : SessionState). IsSound k.types k.state) c.self.view_is c.self.invariant.holds.sound in
+    let served = c.in_ok-done.ensures.served in
+    is_newest m.types m.state c.accept_forward.new.self.state c.args.role (act_of c.args.step) c.in_ok-done.done sound served.answer served.state
 
 pub returns-clause-undone : goal.returns-clause-undone
 returns-clause-undone c other =
