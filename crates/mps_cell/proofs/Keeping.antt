@@ -1,18 +1,18 @@
 -- Each step keeps the rule.
-use Rattle.std.proofs.Common.{◌≡◌, ◌≢◌, ℕ, zero, suc, ◌+◌, ◌*◌, ◌/◌, ◌%◌, ◌<◌, ◌==◌, Bool, true, false, List, [], ◌∷◌, ◌++◌, length, set, get_or, sym, refl, ap, ◌∙◌, subst, ⊎_elim, arith, Option, Some, None, length-set, length-append, ne_eqb, eq-eqb, if◌then◌else◌, le_refl}
+use Rattle.std.proofs.Common.{◌≡◌, ◌≢◌, ℕ, zero, suc, ◌+◌, ◌*◌, ◌/◌, ◌%◌, ◌<◌, ◌≤◌, ◌==◌, Bool, true, false, List, [], ◌∷◌, ◌++◌, length, set, get_or, sym, refl, ap, ◌∙◌, subst, ⊎_elim, inl, inr, arith, Option, Some, None, length-set, length-append, ne_eqb, eq-eqb, if◌then◌else◌, le_refl}
 use Rattle.std.proofs.lemmas.List.{append-nil}
-use Rattle.std.proofs.lemmas.Bool.{eqb-true}
+use Rattle.std.proofs.lemmas.Bool.{eqb-true, cases_eq}
 use mathlib.Core.Option as maybe
 use lib.ListN.{get_elem?}
 use Rattle.atomic_table.specs.Table.{State, Me, Act, Valid, carried_after, keeps, takes, gives, step, stepped, Allows, Splits, Joins, opening}
-use Rattle.atomic_table.proofs.Lists.{exchanged, set_else}
+use Rattle.atomic_table.proofs.Lists.{exchanged, set_else, set_here, at_last}
 use Rattle.mps_room.specs.RoomState.{RoomState}
 use Rattle.mps_room.specs.declared.entry.Entry.{Entry}
 use Rattle.mps_cell.specs.Openings.{Opening, opening_of, room_of, IsLegalIn}
 use Rattle.mps_cell.specs.Views.{Part, View, newcomers, first_view, part_of, looked, took, gave, without_first_part, first_part_alone, without_first, first_alone, spent}
-use Rattle.mps_cell.specs.Rule.{Kept, Rests, AllShow, AllHere, AllOther, AllApart, noted_by, word_of, home_of, resting, Told, Looks, Tries, Gives}
+use Rattle.mps_cell.specs.Rule.{Kept, Rests, AllShow, AllHere, AllOther, AllApart, HasRole, RestsOn, noted_by, word_of, home_of, resting, Told, Looks, Tries, Gives}
 use Rattle.mps_cell.specs.Private.Rule.{holding, Grows}
-use Rattle.mps_cell.proofs.Lists.{inside, at_end, seats_stay, raise_all, raise_here, raise_apart, grow_all, elsewhere, moved, moved_here, still_here}
+use Rattle.mps_cell.proofs.Lists.{inside, at_end, seats_stay, raise_all, raise_here, raise_apart, raise_has, grow_all, elsewhere, moved, moved_here, still_here, still_rests, rests_longer, rests_moved, has_other}
 
 abbrev St : Type 0
 St = State RoomState View
@@ -53,6 +53,7 @@ unmoved o s r id me b at = let n : ℕ = get_or s.words 0 0 in let mine = r.seat
     apart = raise_apart (n / 2) me.0.parts mine.apart;
     noted = mine.noted;
   } (λ j d _. r.seats j d);
+  rests = λ role some. still_rests s.views id me.0 (looked n b me.0) role (r.owner role) at (raise_has role (n / 2) me.0.parts) (r.rests role some);
 }
 
 pub looks : (o : Opening) (slots id : ℕ) (me : M) → Allows (Kept o) slots id me 0 (λ n. n) (Looks (step slots 0 0 0 maybe.none) me)
@@ -99,6 +100,7 @@ tries o slots id me p ps old new some_part even next s r _ at _ = let n : ℕ = 
           apart = old.apart;
           noted = old.noted ∙ (ap (λ (a : Option ℕ). noted_by a j r.log) out ∙ sym (noted_else id j r.log other));
         });
+        rests = λ role some. still_rests s.views id me.0 w role (r.owner role) at (λ h. h) (r.rests role some);
       },
       ((λ _. (r.log, told o s r id me.0 at, refl)), λ differs. absurd (differs hit)),
     ))
@@ -146,6 +148,7 @@ gives_back o slots id p k j new grows legal is s r _ at _ =
           apart = old.apart;
           noted = old.noted ∙ (ap (λ (a : Option ℕ). noted_by a i r.log) was.0 ∙ noted_else id i r.log other);
         });
+        rests = λ role some. still_rests s.views id v w role (r.owner role) at (λ h. h) (r.rests role some);
       },
       refl,
     )
@@ -196,6 +199,10 @@ deals o id v p ps is s r at =
           } (λ i x differs at_i. others_stay o r.log r.away r.owner p.role n id here.0.1 i x differs (r.seats i x at_i)) j d there)
           (λ (last : (j ≡ length vs) × (right ≡ d)). subst (λ (x : ℕ × View). K x.0 x.1) (λ i. (sym (last.0 ∙ n_is) i, last.1 i)) new)
           (at_end vs right d j e);
+      rests = λ role some. rests_moved (vs ++ right ∷ []) r.owner p.role n role
+          (λ same. record { view = right; there = at_last vs right n n_is; has = subst (HasRole role) (sym rights) (inl (sym same)) })
+          (λ other. rests_longer vs right role (r.owner role) (still_rests s.views id v left role (r.owner role) at
+          (λ h. subst (HasRole role) (sym lefts) (has_other p ps role other (subst (HasRole role) is h))) (r.rests role some)));
     }
 
 -- a seat with two parts keeps the first
@@ -227,6 +234,10 @@ divides o id p q b s r at =
           } (λ i x other at_i. others_stay o r.log r.away r.owner q.role n id mine.here.1.0.1 i x other (r.seats i x at_i)) j d there)
           (λ (last : (j ≡ length vs) × (right ≡ d)). subst (λ (x : ℕ × View). K x.0 x.1) (λ i. (sym (last.0 ∙ n_is) i, last.1 i)) new)
           (at_end vs right d j e);
+      rests = λ role some. rests_moved (vs ++ right ∷ []) r.owner q.role n role
+          (λ same. record { view = right; there = at_last vs right n n_is; has = inl (sym same) })
+          (λ other. rests_longer vs right role (r.owner role) (still_rests s.views id v left role (r.owner role) at
+          (λ h. ⊎_elim (λ (e : p.role ≡ role). inl e) (λ (k : HasRole role (q ∷ [])). absurd (has_other q [] role other k)) h) (r.rests role some)));
     }
 
 -- a seat with one part takes in another's
@@ -253,6 +264,14 @@ gathers o id other p q b b' s r at apart at' =
             noted = mine.noted;
           })
           (λ i x _ at_i away. others_stay o r.log r.away r.owner q.role id other its.here.0.1 i x away (r.seats i x at_i)) j d at_j not_other);
+      rests = λ role some.
+          let here : get_elem? vs id ≡ maybe.some both = set_here s.views id both (inside s.views id (resting p b).0 at) in
+          let first : RestsOn vs role (r.owner role) = still_rests s.views id (resting p b).0 both role (r.owner role) at
+          (λ h. ⊎_elim (λ (e : p.role ≡ role). inl e) (λ (k : HasRole role []). absurd k) h) (r.rests role some) in
+          rests_moved (set vs other spent) r.owner q.role id role
+          (λ same. record { view = both; there = set_else vs other id spent (λ e. apart (sym e)) ∙ here; has = inr (inl (sym same)) })
+          (λ differs_from. still_rests vs other (resting q b').0 spent role (r.owner role) at'
+          (λ h. has_other q [] role differs_from h) first);
     }
 
 newcomers_show : (o : Opening) (role n : ℕ) → AllShow [] (newcomers o role n)
@@ -271,6 +290,11 @@ newcomers_apart : (o : Opening) (role n : ℕ) → AllApart (newcomers o role n)
 newcomers_apart o role zero = tt
 newcomers_apart o role (suc n) = (newcomers_other o role (role + 1) n (omega arith), newcomers_apart o (role + 1) n)
 
+newcomers_have : (o : Opening) (role from n : ℕ) → from ≤ role → role < from + n → HasRole role (newcomers o from n)
+newcomers_have o role from zero low high = absurd (omega arith)
+newcomers_have o role from (suc n) low high =
+    ⊎_elim (λ (same : role ≡ from). inl (sym same)) (λ (other : role ≡ from → ⊥). inr (newcomers_have o role (from + 1) n (omega arith) (omega arith))) (cases_eq role from)
+
 first_rests : (o : Opening) (seat : ℕ) (v : View) → get_elem? (first_view o ∷ []) seat ≡ maybe.some v → Rests o [] None (λ _. 0) seat v
 first_rests o zero v e = subst (Rests o [] None (λ _. 0) 0) (maybe.some-injective (first_view o) v e) record { shows = newcomers_show o 0 (length o.types); here = newcomers_here o 0 (length o.types); apart = newcomers_apart o 0 (length o.types); noted = refl }
 first_rests o (suc j) v e = absurd (maybe.some-ne-none v (sym e))
@@ -285,6 +309,7 @@ opens o = record {
   homes = refl;
   placed = λ t e. absurd cc;
   seats = first_rests o;
+  rests = λ role some. record { view = first_view o; there = refl; has = newcomers_have o role 0 (length o.types) (omega arith) (omega arith) };
 }
 
 pub opens_with : (m x : RoomState) (n : ℕ) (items rest : List RoomState) → m.journal ≡ [] → x ≡ m → items ≡ rest ++ m ∷ [] → rest ≡ [] → Kept (opening_of x n) (opening (0 ∷ []) items (first_view (opening_of x n)))

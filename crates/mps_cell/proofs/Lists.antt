@@ -2,13 +2,14 @@
 use Rattle.std.proofs.Common.{◌≡◌, ◌≢◌, ℕ, zero, suc, ◌<◌, ◌≤◌, ◌==◌, Bool, List, [], ◌∷◌, ◌++◌, map, length, set, sym, refl, ap, ◌∙◌, subst, inl, inr, ◌⊎◌, ⊎_elim, arith, append_assoc, append-nil, length-append, ne_eqb, eq-eqb, if◌then◌else◌}
 use mathlib.Core.Option as maybe
 use lib.ListN.{get_elem?}
-use Rattle.atomic_table.proofs.Lists.{at_set}
+use Rattle.std.proofs.lemmas.Bool.{cases_eq}
+use Rattle.atomic_table.proofs.Lists.{at_set, set_here, set_else, at_longer}
 use Rattle.mps_room.specs.Callers.{entries_of}
 use Rattle.mps_room.specs.Solos.{filter_end}
 use Rattle.mps_room.specs.declared.entry.Entry.{Entry}
 use Rattle.mps_cell.specs.Openings.{Opening, IsLegalIn}
 use Rattle.mps_cell.specs.Views.{Part, View, raised}
-use Rattle.mps_cell.specs.Rule.{Shows, AllShow, AllHere, AllOther, AllApart}
+use Rattle.mps_cell.specs.Rule.{Shows, AllShow, AllHere, AllOther, AllApart, HasRole, RestsOn}
 use Rattle.mps_cell.specs.Private.Rule.{Grows}
 
 -- one entry of another role more
@@ -76,3 +77,38 @@ raise_other role n (p ∷ ps) a = (a.0, raise_other role n ps a.1)
 pub raise_apart : (n : ℕ) (ps : List Part) → AllApart ps → AllApart (map (raised n) ps)
 raise_apart n [] a = tt
 raise_apart n (p ∷ ps) a = (raise_other p.role n ps a.0, raise_apart n ps a.1)
+
+pub raise_has : (role n : ℕ) (ps : List Part) → HasRole role ps → HasRole role (map (raised n) ps)
+raise_has role n [] h = h
+raise_has role n (p ∷ ps) h = ⊎_elim (λ (e : p.role ≡ role). inl e) (λ (k : HasRole role ps). inr (raise_has role n ps k)) h
+
+-- a seat's view changes: what rested on it still does, where its new parts are of no fewer roles
+pub still_rests : (vs : List View) (id : ℕ) (v w : View) (role seat : ℕ) → get_elem? vs id ≡ maybe.some v → (HasRole role v.parts → HasRole role w.parts)
+    → RestsOn vs role seat → RestsOn (set vs id w) role seat
+still_rests vs id v w role seat at keeps r =
+    ⊎_elim
+    (λ (same : seat ≡ id).
+    let view : v ≡ r.view = maybe.some-injective v r.view (sym at ∙ (ap (λ (i : ℕ). get_elem? vs i) (sym same) ∙ r.there)) in
+    subst (RestsOn (set vs id w) role) (sym same) record {
+      view = w;
+      there = set_here vs id w (inside vs id v at);
+      has = keeps (subst (λ (x : View). HasRole role x.parts) (sym view) r.has);
+    })
+    (λ (other : seat ≡ id → ⊥). record { view = r.view; there = set_else vs id seat w other ∙ r.there; has = r.has })
+    (cases_eq seat id)
+
+-- one seat more
+pub rests_longer : (vs : List View) (w : View) (role seat : ℕ) → RestsOn vs role seat → RestsOn (vs ++ w ∷ []) role seat
+rests_longer vs w role seat r = record { view = r.view; there = at_longer vs (w ∷ []) seat r.view r.there; has = r.has }
+
+-- the other roles stay where they rested
+pub rests_moved : (vs : List View) (owner : ℕ → ℕ) (role to r : ℕ) → (r ≡ role → RestsOn vs r to) → (r ≢ role → RestsOn vs r (owner r)) → RestsOn vs r (moved owner role to r)
+rests_moved vs owner role to r here others =
+    ⊎_elim
+    (λ (same : r ≡ role). subst (RestsOn vs r) (sym (ap (λ (b : Bool). if b then to else owner r) (eq-eqb r role same))) (here same))
+    (λ (other : r ≡ role → ⊥). subst (RestsOn vs r) (sym (ap (λ (b : Bool). if b then to else owner r) (ne_eqb r role other))) (others other))
+    (cases_eq r role)
+
+-- of the others of these parts
+pub has_other : (p : Part) (ps : List Part) (role : ℕ) → role ≢ p.role → HasRole role (p ∷ ps) → HasRole role ps
+has_other p ps role other h = ⊎_elim (λ (e : p.role ≡ role). absurd (other (sym e))) (λ (k : HasRole role ps). k) h

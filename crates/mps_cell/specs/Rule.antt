@@ -1,5 +1,5 @@
 -- The rule of a cell's table, and what each step tells the seat that takes it.
-use Rattle.std.specs.Prelude.{◌≡◌, ◌≢◌, ℕ, ◌+◌, ◌*◌, ◌/◌, ◌%◌, ◌<◌, ◌≤◌, ◌==◌, Bool, List, [], ◌∷◌, ◌++◌, length, if◌then◌else◌, Option, Some, None}
+use Rattle.std.specs.Prelude.{◌≡◌, ◌≢◌, ℕ, ◌+◌, ◌*◌, ◌/◌, ◌%◌, ◌<◌, ◌≤◌, ◌==◌, Bool, List, [], ◌∷◌, ◌++◌, length, if◌then◌else◌, Option, Some, None, ◌⊎◌}
 use mathlib.Core.Option as maybe
 use lib.ListN.{get_elem?}
 use Rattle.atomic_table.specs.Table.{State, Me, Step, rest}
@@ -42,6 +42,17 @@ abbrev pub AllHere : Opening → (ℕ → ℕ) → ℕ → List Part → Type 0
 AllHere o owner seat [] = Unit {0}
 AllHere o owner seat (p ∷ ps) = ((p.opening ≡ o) × (owner p.role ≡ seat)) × AllHere o owner seat ps
 
+-- one of the parts is of this role
+abbrev pub HasRole : ℕ → List Part → Type 0
+HasRole role [] = ⊥
+HasRole role (p ∷ ps) = (p.role ≡ role) ⊎ HasRole role ps
+
+-- the role rests on this seat
+pub record RestsOn (views : List View) (role seat : ℕ) : Type 0 where
+  pub view : View
+  pub there : get_elem? views seat ≡ maybe.some view
+  pub has : HasRole role view.parts
+
 -- the journal that a seat notes, where the room is out with this seat, or with none
 abbrev pub noted_by : Option ℕ → ℕ → List Entry → Option (List Entry)
 noted_by None seat j = None
@@ -64,7 +75,7 @@ abbrev pub home_of : Opening → Option ℕ → List Entry → maybe.Option Room
 home_of o None j = maybe.some (room_of o j)
 home_of o (Some t) j = maybe.none
 
--- There is one legal journal. At twice its length the room is at home with it, and no seat notes a journal. At one more the room is out, and one seat alone notes it. What each seat knows is true of it
+-- There is one legal journal. At twice its length the room is at home with it, and no seat notes a journal. At one more the room is out, and one seat alone notes it. What each seat knows is true of it. Each role rests on one seat, and on no other
 pub record Kept (o : Opening) (s : State RoomState View) : Type 0 where
   pub log : List Entry
   pub away : Option ℕ
@@ -74,6 +85,7 @@ pub record Kept (o : Opening) (s : State RoomState View) : Type 0 where
   pub homes : s.homes ≡ home_of o away log ∷ []
   pub placed : (t : ℕ) → away ≡ Some t → t < length s.views
   pub seats : (seat : ℕ) (v : View) → get_elem? s.views seat ≡ maybe.some v → Rests o log away owner seat v
+  pub rests : (role : ℕ) → role < length o.types → RestsOn s.views role (owner role)
 
 -- ---- steps
 

@@ -16,11 +16,14 @@ use std::alloc::{AllocError, Global};
 use std::marker::Model;
 use std::snapshot::Snapshot;
 use std::sync::atomic::AtomicU64;
+use thiserror::Error;
 
-/// The passes were asked for before, or there is no memory.
-#[derive(Clone, Copy, Debug, PartialEq, Eq)]
+/// Why no passes are handed out.
+#[derive(Clone, Copy, Debug, PartialEq, Eq, Error)]
 pub enum PassFault {
+    #[error("the passes were handed out before")]
     Given,
+    #[error("out of memory")]
     Memory,
 }
 

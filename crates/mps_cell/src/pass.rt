@@ -20,6 +20,7 @@ use std::cmp::Ordering;
 use std::marker::Model;
 use std::sync::Wait;
 use std::sync::atomic::AtomicU64;
+use thiserror::Error;
 
 /// The table of a cell, as its passes share it.
 pub type Table = Shared<Room, View, Origin, Journaled>;
@@ -67,7 +68,8 @@ impl Pause for Straight {
 
 /// The room was out, or another call came between the look and the try. The word showed that the journal has `found`
 /// entries.
-#[derive(Clone, Copy, Debug, PartialEq, Eq)]
+#[derive(Clone, Copy, Debug, PartialEq, Eq, Error)]
+#[error("another call came first; the journal has {found} entries")]
 pub struct Busy {
     pub found: u64,
 }

@@ -6,7 +6,7 @@ ghost use Rattle.mps_lines.specs.Lines.{ended};
 ghost use Rattle.mps_wire.specs.declared.conversation.Broken.TheVariants.{Memory as NoMemory, Write as NotWritten, Untold as NeverSaid};
 ghost use Rattle.mps_hub.specs.Connections.{HasAttended, IsTold, RepliesToFirst, WasCutShort, WasSent};
 ghost use Rattle.mps_keeper.specs.Holds.{keeps_of, whole_of};
-ghost use Rattle.mps_hub.specs.Private.Connections.{HasJoined, IsAnsweredFirst};
+ghost use Rattle.mps_hub.specs.Private.Connections.{HasJoined, HasLeft, IsAnsweredFirst};
 ghost use Rattle.mps_hub.specs.First.{IsJoin};
 ghost use Rattle.mps_hub.specs.Places.{IsPassOf};
 
@@ -170,6 +170,47 @@ fn talk<
     }
 }
 
+// What a conversation leaves: how the connection ended, and the pass.
+struct Talked<'a> {
+    ended: Attended,
+    pass: Pass<'a>,
+}
+
+// Says that it joined, converses, and has the pass back as the conversation left it.
+fn talk_out<
+    'k,
+    'g,
+    'r,
+    'a,
+    G: Gate + 'static,
+    H: Wait + 'static,
+    S: Sink + 'static,
+    D: Disk + 'static,
+    R: Source,
+    W: Sink,
+>(
+    alloc: Global,
+    caller: Guest<'k, 'g, 'r, 'a, G, H, S, D>,
+    joined: &Reply,
+    reader: &mut R,
+    writer: &mut W,
+) -> Talked<'a>
+    requires reads { R.calls reader.old < 2 ^ 62 }
+    requires writes { W.failed_calls writer.old < 2 ^ 61 }
+    ensures cell { result.pass.cell ≡ caller.entry.inner.inner.pass.cell }
+    ensures opening { result.pass.opening ≡ caller.entry.inner.inner.pass.opening }
+    ensures talked { HasLeft ⟦<Guest<'static, 'static, 'static, 'static, G, H, S, D> as Caller>⟧ (λ c. c.inner.inner.pass) R.Source W.Sink joined.now
+        caller.entry reader.old writer.old reader.new writer.new result.pass result.ended }
+    ensures told { keeps_of caller.entry.keeper ≡ false → whole_of caller.entry.keeper ≡ true → IsTold result.ended }
+{
+    let mut caller = caller;
+    let ended = talk(alloc, &mut caller, joined, reader, writer);
+    Talked {
+        ended,
+        pass: caller.inner.inner.pass,
+    }
+}
+
 /// Attends to one connection: to its first line and, where that joins, to its conversation. The pass goes back to the desk
 /// then, however the conversation ended.
 ///
@@ -221,10 +262,10 @@ pub fn attend<
                 inner: Held { rt, pass },
             };
             let hold = Hold::new(rt, keeper_of(keepers, session));
-            let mut caller = Recorded::new(hold, gated, line);
+            let caller = Recorded::new(hold, gated, line);
             let joined = Reply::Joined { session, name };
-            let ended = talk(alloc, &mut caller, &joined, reader, writer);
-            desk.give(rt, session, caller.inner.inner.pass);
+            let Talked { ended, pass } = talk_out(alloc, caller, &joined, reader, writer);
+            desk.give(rt, session, pass);
             ended
         }
         Err(reply) => refuse(alloc, writer, &reply),

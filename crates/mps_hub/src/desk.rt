@@ -1,5 +1,5 @@
 //! The passes that are not in use, which one thread at a time has.
-ghost use Rattle.std.specs.Prelude.{◌≡◌, ◌≢◌, ◌<◌, ◌↔◌, Some, None, IfOk, IfSome, IsErrOf, All, length};
+ghost use Rattle.std.specs.Prelude.{◌≡◌, ◌≢◌, ◌<◌, ◌↔◌, Some, None, IfOk, IfSome, IsErrOf, All, length, slice_set};
 ghost use Rattle.mps_hub.specs.Places.{IsOfCell, IsOfSession, IsOffered, IsPassOf, IsSession, Offer};
 ghost use Rattle.mps_hub.specs.Private.Places.{AreNumbered, AtHome};
 
@@ -11,15 +11,16 @@ use std::alloc::{AllocError, Global};
 use std::marker::Model;
 use std::snapshot::Snapshot;
 use std::sync::Wait;
+use thiserror::Error;
 
 /// Why no pass is given. The first that applies is told.
-#[derive(Clone, Copy, Debug, PartialEq, Eq)]
+#[derive(Clone, Copy, Debug, PartialEq, Eq, Error)]
 pub enum JoinFault {
-    /// No session has that number.
+    #[error("no session has that number")]
     NoSession,
-    /// The sessions have no role of that name.
+    #[error("the sessions have no role of that name")]
     NoRole,
-    /// The pass is in use.
+    #[error("the pass is in use")]
     Taken,
 }
 
@@ -77,10 +78,17 @@ impl<'a> Row<'a> {
         requires { IsOfCell self.old pass }
         ensures { self.new ≡ self.old }
     {
-        let role = pass.role().index();
-        if role < self.passes.len() {
-            self.passes[role] = Some(pass);
-        }
+        put_home(&mut self.passes, pass);
+    }
+}
+
+// Puts a pass to the place of its role.
+fn put_home<'a>(passes: &mut Vec<Option<Pass<'a>>>, pass: Pass<'a>)
+    ensures { passes.new.items ≡ slice_set passes.old.items pass.entry.role (Some pass.entry) }
+{
+    let role = pass.role().index();
+    if role < passes.len() {
+        passes[role] = Some(pass);
     }
 }
 

@@ -14,15 +14,16 @@ use mps_keeper::{RestoreFault, Restored, restore_from};
 use mps_room::Caller;
 use std::alloc::{AllocError, Global};
 use std::sync::Wait;
+use thiserror::Error;
 
 /// Why a session was not restored.
-#[derive(Clone, Copy, Debug, PartialEq, Eq)]
+#[derive(Clone, Copy, Debug, PartialEq, Eq, Error)]
 pub enum SessionFault {
-    /// A pass of it is in use.
+    #[error("a pass of it is in use")]
     Taken,
-    /// Memory ran out.
+    #[error("out of memory")]
     Memory,
-    /// Its journal was not restored.
+    #[error("its journal: {0}")]
     Journal(RestoreFault),
 }
 

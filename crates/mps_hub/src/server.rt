@@ -19,6 +19,7 @@ use std::sync::Wait;
 use std::thread::{Scope, Threads};
 use std::time::{Clock, Duration};
 use std::{io, thread};
+use thiserror::Error;
 
 // For how many milliseconds a server that accepts connections without end waits after one that couldn't be accepted.
 const PAUSE: u64 = 100;
@@ -40,13 +41,14 @@ pub struct Served {
 }
 
 /// Why no more connections were accepted. Those that ran have ended.
-#[derive(Clone, Copy, Debug, PartialEq, Eq)]
+#[derive(Clone, Copy, Debug, PartialEq, Eq, Error)]
 pub enum ServeFault {
-    /// The listener failed.
+    #[error("no connection can be accepted")]
     Accept,
-    /// Memory ran out.
+    #[error("out of memory")]
     Memory,
-    /// Lines of this session were lost, so that nothing more is answered.
+    /// So nothing more is answered.
+    #[error("lines of session {session} were lost")]
     Unkept { session: u64 },
 }
 

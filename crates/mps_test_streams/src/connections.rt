@@ -174,6 +174,36 @@ fn gives_each_pass_back(rt: HostRuntime) -> Result<(), Fail> {
     Ok(())
 }
 
+const FAILING: &[Row<'static>] = &[
+    (
+        b"join 1 a\nsend b 5\n",
+        None,
+        99,
+        b"joined 1 a\ndone 1\n",
+        CLOSED,
+    ),
+    (
+        b"join 1 a\n",
+        Some(10),
+        99,
+        b"joined 1 a\n",
+        Attended::Conversed(Ending::ReadFault),
+    ),
+    (
+        b"join 1 b\nrecv a x\n",
+        None,
+        99,
+        b"joined 1 b\ndone 2 5\n",
+        CLOSED,
+    ),
+];
+
+#[test]
+fn keeps_the_steps_of_a_pass(rt: HostRuntime) -> Result<(), Fail> {
+    assert!(rt; plays(&rt, rt.alloc(), hub(rt.alloc(), 1)?, FAILING)?);
+    Ok(())
+}
+
 const REPEATS: &[Row<'static>] = &[
     (
         b"join 1 a\n1 send b 5\n",
@@ -270,5 +300,36 @@ fn hub_of_two(alloc: Global) -> Result<Hub, Fail>
 #[test]
 fn has_its_sessions_apart(rt: HostRuntime) -> Result<(), Fail> {
     assert!(rt; plays(&rt, rt.alloc(), hub_of_two(rt.alloc())?, SECOND)?);
+    Ok(())
+}
+
+const EACH_ROLE: &[Row<'static>] = &[
+    (b"join 1 a\n", None, 99, b"joined 1 a\n", CLOSED),
+    (b"join 1 b\n", None, 99, b"joined 1 b\n", CLOSED),
+    (b"join 1 c\n", None, 99, b"joined 1 c\n", CLOSED),
+    (b"join 2 a\n", None, 99, b"joined 2 a\n", CLOSED),
+    (b"join 2 b\n", None, 99, b"joined 2 b\n", CLOSED),
+    (b"join 2 c\n", None, 99, b"joined 2 c\n", CLOSED),
+];
+
+// The connections come to these rows, and come a second time.
+fn plays_twice<R: Wait + 'static>(
+    rt: &R,
+    alloc: Global,
+    mut hub: Hub,
+    rows: &[Row<'_>],
+) -> Result<bool, Fail>
+    requires { hub.given ≡ false }
+{
+    let Some(deal) = hub.deal() else {
+        return Err("given".into());
+    };
+    let desk = hub.desk_of(alloc, deal)?;
+    Ok(are_played(rt, alloc, &desk, rows)? && are_played(rt, alloc, &desk, rows)?)
+}
+
+#[test]
+fn gives_each_pass_of_each_session_back(rt: HostRuntime) -> Result<(), Fail> {
+    assert!(rt; plays_twice(&rt, rt.alloc(), hub(rt.alloc(), 2)?, EACH_ROLE)?);
     Ok(())
 }

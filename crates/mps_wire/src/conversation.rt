@@ -23,6 +23,7 @@ use mps_line::{LineFault, Reply, answer_has_text, read_numbered, write_answer};
 use mps_lines::{MAX_LINE, keep, line_end};
 use mps_room::{Caller, Told};
 use std::alloc::{AllocError, Global};
+use thiserror::Error;
 
 /// How many bytes a conversation asks for at a time.
 pub const PIECE: usize = 4_096;
@@ -45,10 +46,13 @@ pub enum Ending {
 }
 
 /// Why no more lines are answered.
-#[derive(Clone, Copy, Debug, PartialEq, Eq)]
+#[derive(Clone, Copy, Debug, PartialEq, Eq, Error)]
 pub enum Broken {
+    #[error("a write failed")]
     Write,
+    #[error("out of memory")]
     Memory,
+    #[error("the answer may not be told on")]
     Untold,
 }
 

@@ -1,5 +1,6 @@
 -- What a connection comes to, part by part.
 use Rattle.std.specs.Prelude.{◌≡◌, ◌≢◌, ◌⊎◌}
+use Rattle.mps_cell.specs.Calls.{Known}
 use Rattle.mps_dev.specs.declared.traits.Sink.{Ghosts as SinkGhosts}
 use Rattle.mps_dev.specs.declared.traits.Source.{Ghosts as SourceGhosts}
 use Rattle.mps_line.specs.Codes.{code_of}
@@ -27,3 +28,10 @@ module _ {C R W : Type 0} (caller : Ghosts C) (source : SourceGhosts R) (sink : 
   HasJoined (Conversed ending) = HasTalked caller source sink joined before reader writer after reader' writer' ending
   HasJoined Memory = (writer' ≡ writer) × (reader' ≡ reader)
   HasJoined Unkept = (writer' ≡ writer) × (reader' ≡ reader)
+
+-- what such a caller came to, and the pass that it left
+pub record HasLeft {C R W : Type 0} (caller : Ghosts C) (pass : C → Known) (source : SourceGhosts R) (sink : SinkGhosts W) (joined : Reply)
+    (before : C) (reader : R) (writer : W) (reader' : R) (writer' : W) (left : Known) (ended : Attended) : Type 0 where
+  pub after : C
+  pub joined_as : HasJoined caller source sink joined before reader writer after reader' writer' ended
+  pub pass_is : left ≡ pass after
