@@ -345,23 +345,33 @@ def run(protocol, script, kind=Room):
     return Outcome("".join(f"{answer(room, line)}\n" for line in lines_of(script)).encode(), "", 0)
 
 
+class Deeds(NamedTuple):
+    """What each role did in the steps that survive a script, and took: all of a view that numbers leave open. And how many of
+    the script's lines were refused, and how many there are."""
+    view: tuple
+    refused: int
+    lines: int
+
+
 def deeds(protocol, script, kind):
-    """What each role did in the steps that survive a script, and took: all of a view that numbers leave open."""
+    """The deeds of a script under a protocol."""
     room = kind(load(protocol))
-    for line in lines_of(script):
-        answer(room, line)
+    answers = [answer(room, line) for line in lines_of(script)]
     view = room.view()
     done = {role: [(step.act, taken) for step, taken in past] for role, past in view.past.items()}
-    return done, view.store, view.queues
+    refused = sum(said.startswith("refused") for said in answers)
+    return Deeds((done, view.store, view.queues), refused, len(answers))
 
 
 def same(protocol, first, second, kind=Room):
     """`same` of two scripts under a protocol."""
     try:
-        is_same = deeds(protocol, first, kind) == deeds(protocol, second, kind)
+        found = [deeds(protocol, script, kind) for script in (first, second)]
     except Fault as fault:
         return Outcome(b"", fault.line, fault.status)
-    return Outcome(b"same\n", "", 0) if is_same else Outcome(b"different\n", "", 1)
+    told = [f"{which} script: {one.refused} of {one.lines} lines refused" for which, one in zip(("first", "second"), found)]
+    told = "\n".join(told) if any(one.refused for one in found) else ""
+    return Outcome(b"same\n", told, 0) if found[0].view == found[1].view else Outcome(b"different\n", told, 1)
 
 
 def outcome_of(order, *files):

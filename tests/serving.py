@@ -71,8 +71,8 @@ class Server:
         """What a client with these words prints."""
         return printed([str(CLIENTS / words[0]), str(self.port), *words[1:]], text)
 
-    def end(self, wanted):
-        """Uses up the connections that are left, and compares what is printed then, with nothing told and status 0."""
+    def end(self, wanted, told="", status=0):
+        """Uses up the connections that are left, and compares what is printed then, what is told and the status."""
         until = time.time() + SECONDS
         while self.process.poll() is None and time.time() < until:
             try:
@@ -81,10 +81,10 @@ class Server:
                 break
             time.sleep(0.01)
         try:
-            out, told = self.process.communicate(timeout=SECONDS)
+            found = self.process.communicate(timeout=SECONDS)
         except subprocess.TimeoutExpired:
-            out, told = "it goes on\n", ""
-        expect("the end of a server", (out, told, self.process.returncode), (wanted, "", 0))
+            found = "it goes on\n", ""
+        expect("the end of a server", (*found, self.process.returncode), (wanted, told, status))
 
 
 def printed(words, text=""):

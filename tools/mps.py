@@ -1,7 +1,9 @@
 """mps WORDS..: runs mps_tool, the program of this repository, with these words, from the caller's folder.
 
 mps check FILE                 each role's local type of the protocol in FILE
-mps run FILE SCRIPT            the answers to a script, on a session of the protocol
+mps run [--strict] FILE SCRIPT
+                               the answers to a script, on a session of the protocol; - for SCRIPT is the standard input;
+                               --strict ends at the first line that is refused, with status 1
 mps same FILE SCRIPT SCRIPT    whether two scripts come to the same
 mps serve FILE --port P --sessions S ..
                                serves sessions of the protocol to clients; mps serve --help has the options

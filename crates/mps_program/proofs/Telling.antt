@@ -52,9 +52,10 @@ told_rest r session next m rooms later took mid taken split at first rest =
     (one_more session m later took mid taken first (subst (λ (n : ℕ). TookOne (AreSessionLines n later) mid taken) step h))) rest
 
 -- the port's line, and those of the sessions
-pub served : (cells cells' : List Opened) (took mid taken : Option (List ℕ)) (rooms slice : List (Option RoomState)) → cells' ≡ cells → slice ≡ rooms → TookOne TellsPort took mid → AreClosed cells' rooms → TookOne (AreSessionLines 1 slice) mid taken → HasServed cells took taken
-served cells cells' took mid taken rooms slice same value (first, (port, listening), sent) closed (lines, told, more) = record {
+pub served : (wanted : ℕ) (cells cells' : List Opened) (took mid taken : Option (List ℕ)) (rooms slice : List (Option RoomState)) → cells' ≡ cells → slice ≡ rooms → TookOne (TellsPort wanted) took mid → AreClosed cells' rooms → TookOne (AreSessionLines 1 slice) mid taken → HasServed wanted cells took taken
+served wanted cells cells' took mid taken rooms slice same value (first, (port, port_is, listening), sent) closed (lines, told, more) = record {
   port = port;
+  port_is = port_is;
   rooms = rooms;
   first = first;
   lines = lines;
@@ -99,12 +100,13 @@ lost_rest r session next m rooms later took mid taken split at (line, is, sent) 
     ))) rest
 
 -- the port's line, and those of the sessions up to the first that is lost
-pub served_in_part : {A : Type 0} (r : Result A ToolFault) (cells cells' : List Opened) (took mid taken : Option (List ℕ)) (rooms slice : List (Option RoomState)) → cells' ≡ cells → slice ≡ rooms → TookOne TellsPort took mid → AreClosed cells' rooms
-    → IfErr r (IfLost (λ k. TookOne (AreLinesUpTo 1 slice k) mid taken)) → IfErr r (IfLost (HasServedUpTo cells took taken))
-served_in_part r cells cells' took mid taken rooms slice same value (first, (port, listening), sent) closed rest =
-    on_err r (IfLost (λ k. TookOne (AreLinesUpTo 1 slice k) mid taken)) (IfLost (HasServedUpTo cells took taken))
-    (if_lost (λ k. TookOne (AreLinesUpTo 1 slice k) mid taken) (HasServedUpTo cells took taken) (λ k h. record {
+pub served_in_part : {A : Type 0} (r : Result A ToolFault) (wanted : ℕ) (cells cells' : List Opened) (took mid taken : Option (List ℕ)) (rooms slice : List (Option RoomState)) → cells' ≡ cells → slice ≡ rooms → TookOne (TellsPort wanted) took mid → AreClosed cells' rooms
+    → IfErr r (IfLost (λ k. TookOne (AreLinesUpTo 1 slice k) mid taken)) → IfErr r (IfLost (HasServedUpTo wanted cells took taken))
+served_in_part r wanted cells cells' took mid taken rooms slice same value (first, (port, port_is, listening), sent) closed rest =
+    on_err r (IfLost (λ k. TookOne (AreLinesUpTo 1 slice k) mid taken)) (IfLost (HasServedUpTo wanted cells took taken))
+    (if_lost (λ k. TookOne (AreLinesUpTo 1 slice k) mid taken) (HasServedUpTo wanted cells took taken) (λ k h. record {
       port = port;
+      port_is = port_is;
       rooms = rooms;
       first = first;
       lines = h.0;

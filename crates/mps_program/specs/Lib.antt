@@ -1,5 +1,6 @@
 pub mod Check
 pub mod Compared
+pub mod Heard
 pub mod Ends
 pub mod Faults
 pub mod Files

@@ -20,6 +20,10 @@ pub record HasOpened (given left : Option (List ℕ)) (n : ℕ) (hub : Hall) : T
   pub cells : AreCellsWith hub.names types n hub.cells
   pub one : AreOfOneProtocol types
 
+-- the port of a listener that was to have this one, where 0 is any that is free
+abbrev pub IsPortFor : (wanted port : ℕ) → Type 0
+IsPortFor wanted port = (wanted ≡ 0) ⊎ (port ≡ wanted)
+
 -- the line that tells the port
 abbrev pub IsListeningLine : ℕ → List ℕ → Type 0
 IsListeningLine port line = (number : List ℕ) × IsNumberText number port × (line ≡ codes "listening " ++ number ++ 10 ∷ [])
@@ -43,9 +47,10 @@ AreLinesUpTo session (None ∷ rooms) lost lines = (lost ≡ session) × (lines 
 AreLinesUpTo session (Some m ∷ rooms) lost lines =
     (line : List ℕ) × (others : List ℕ) × IsSessionLine session (length m.journal) line × (lines ≡ line ++ others) × AreLinesUpTo (suc session) rooms lost others
 
--- all was told: the port, and how many entries the room has that each session's cell closed with
-pub record HasServed (cells : List Opened) (took taken : Option (List ℕ)) : Type 0 where
+-- all was told: the port, which is the one that was wanted, and how many entries the room has that each session's cell closed with
+pub record HasServed (wanted : ℕ) (cells : List Opened) (took taken : Option (List ℕ)) : Type 0 where
   pub port : ℕ
+  pub port_is : IsPortFor wanted port
   pub rooms : List (Option RoomState)
   pub first : List ℕ
   pub lines : List ℕ
@@ -55,8 +60,9 @@ pub record HasServed (cells : List Opened) (took taken : Option (List ℕ)) : Ty
   pub sent : Appends took taken (first ++ lines)
 
 -- a session is lost: the port was told, and how many entries the rooms have that the cells before it closed with
-pub record HasServedUpTo (cells : List Opened) (took taken : Option (List ℕ)) (lost : ℕ) : Type 0 where
+pub record HasServedUpTo (wanted : ℕ) (cells : List Opened) (took taken : Option (List ℕ)) (lost : ℕ) : Type 0 where
   pub port : ℕ
+  pub port_is : IsPortFor wanted port
   pub rooms : List (Option RoomState)
   pub first : List ℕ
   pub lines : List ℕ

@@ -10,8 +10,9 @@ ghost use Rattle.mps_wire.specs.Runs.{max_reads};
 use crate::faults::ToolFault;
 use crate::files::{open_file, tell};
 use crate::load::read_sessions;
+use crate::tally::Tally;
 use mps_base::Roles;
-use mps_dev::{Discard, OverRead, OverWrite, Source};
+use mps_dev::{OverRead, OverWrite, Source};
 use mps_room::Room;
 use mps_session::{Session, same};
 use mps_wire::script::run_script;
@@ -19,11 +20,18 @@ use std::alloc::{AllocError, Global};
 use std::io;
 use std::rt::Files;
 
-// Runs the script in a room of the session with a copy of the roles, and gives the room. Nobody hears
-// the answers.
+/// What is heard of the answers to two scripts.
+#[derive(Drop)]
+pub struct Tallies {
+    pub first: Tally,
+    pub second: Tally,
+}
+
+// Runs the script in a room of the session with a copy of the roles, and gives the room. The answers are counted.
 fn run_on_copy<'a, R: Source>(
     alloc: Global,
     reader: &mut R,
+    tally: &mut Tally,
     roles: &Roles,
     session: Session,
 ) -> Result<Room, ToolFault<'a>>
@@ -38,7 +46,7 @@ fn run_on_copy<'a, R: Source>(
     ensures reads { R.calls reader.new ≤ R.calls reader.old + max_reads }
 {
     let names = roles.copy(alloc)?;
-    Ok(run_script(alloc, reader, &mut Discard, names, session)?)
+    Ok(run_script(alloc, reader, tally, names, session)?)
 }
 
 // The line and the status that say whether two sessions are the same.
@@ -59,6 +67,7 @@ fn compared<'a, S: Source>(
     first: &Session,
     second: Session,
     other: &mut S,
+    tally: &mut Tally,
 ) -> Result<(Vec<u8>, u8), ToolFault<'a>>
     requires types { second.types ≡ first.now.types }
     requires named { length roles.now ≡ length second.types }
@@ -70,13 +79,13 @@ fn compared<'a, S: Source>(
         (unheard S.Source other.old) (unheard S.Source other.new)) }
     ensures reads { S.calls other.new ≤ S.calls other.old + max_reads }
 {
-    let second = run_on_copy(alloc, other, roles, second)?;
+    let second = run_on_copy(alloc, other, tally, roles, second)?;
     Ok(told(alloc, same(first, second.session()))?)
 }
 
 /// Runs one script whole and then another, each on a new session of its own, and says whether
 /// the sessions are then causally the same, whatever the order across roles and the numbers: by the
-/// line `same` and the status 0, or the line `different` and the status 1.
+/// line `same` and the status 0, or the line `different` and the status 1. The answers to each script are counted.
 pub fn verdict_of<'a, R: Source, S: Source>(
     alloc: Global,
     roles: &Roles,
@@ -84,6 +93,7 @@ pub fn verdict_of<'a, R: Source, S: Source>(
     second: Session,
     reader: &mut R,
     other: &mut S,
+    tallies: &mut Tallies,
 ) -> Result<(Vec<u8>, u8), ToolFault<'a>>
     requires types { second.types ≡ first.types }
     requires named { length roles.now ≡ length first.types }
@@ -100,8 +110,15 @@ pub fn verdict_of<'a, R: Source, S: Source>(
     ensures first_reads { R.calls reader.new ≤ R.calls reader.old + max_reads }
     ensures second_reads { S.calls other.new ≤ S.calls other.old + max_reads }
 {
-    let first = run_on_copy(alloc, reader, roles, first)?;
-    compared(alloc, roles, first.session(), second, other)
+    let first = run_on_copy(alloc, reader, &mut tallies.first, roles, first)?;
+    let tally = &mut tallies.second;
+    compared(alloc, roles, first.session(), second, other, tally)
+}
+
+// Tells on standard error how many lines of that script were refused.
+fn tell_refused<R: Eprint>(rt: &R, which: &str, tally: &Tally) {
+    let (refused, lines) = (tally.refused(), tally.lines());
+    let _told = eprintln!(rt; "{which} script: {refused} of {lines} lines refused");
 }
 
 // Opens both scripts, of which nothing was read yet.
@@ -121,7 +138,7 @@ fn open_both<'a, R: Files>(
 }
 
 // Compares the scripts in two files, and prints what is said of them. Gives the status.
-fn compare_scripts<'a, R: Files + AllocGlobal + Print>(
+fn compare_scripts<'a, R: Files + AllocGlobal + Print + Eprint>(
     rt: &R,
     roles: &Roles,
     first: Session,
@@ -137,6 +154,10 @@ fn compare_scripts<'a, R: Files + AllocGlobal + Print>(
     ensures fault { IfErr result (IsScriptsFault script.now other.now) }
 {
     let (mut reader, mut second_reader) = open_both(rt, script, other)?;
+    let mut tallies = Tallies {
+        first: Tally::new(),
+        second: Tally::new(),
+    };
     let (line, status) = verdict_of(
         rt.alloc(),
         roles,
@@ -144,17 +165,22 @@ fn compare_scripts<'a, R: Files + AllocGlobal + Print>(
         second,
         &mut reader,
         &mut second_reader,
+        &mut tallies,
     )?;
+    if tallies.first.refused() > 0 || tallies.second.refused() > 0 {
+        tell_refused(rt, "first", &tallies.first);
+        tell_refused(rt, "second", &tallies.second);
+    }
     tell(&mut OverWrite::new(io::writer(rt)), line.as_slice())?;
     Ok(status)
 }
 
 /// Runs the scripts in two files, each on a new session of the protocol in the file, and prints
-/// `same` or `different`. Gives the status, 0 or 1.
+/// `same` or `different`. Gives the status, 0 or 1. Where lines were refused, standard error is told how many of each script.
 ///
 /// The protocol is read and checked before a script is opened, and both are opened before the first
 /// is read.
-pub fn compare_files<'a, R: Files + AllocGlobal + Print>(
+pub fn compare_files<'a, R: Files + AllocGlobal + Print + Eprint>(
     rt: &R,
     file: &'a str,
     script: &'a str,

@@ -21,8 +21,8 @@ use std::thread::Threads;
 use std::time::{Clock, Duration};
 use std::{io, str};
 
-/// Carries out a task, and gives the exit status: 1 where two scripts differ, else 0.
-pub fn carry_out<'a, R: Files + AllocGlobal + Print>(
+/// Carries out a task, and gives the exit status: 1 where two scripts differ, or a strict run met a refusal, else 0.
+pub fn carry_out<'a, R: Files + AllocGlobal + Print + Eprint>(
     rt: &R,
     task: Task<'a>,
 ) -> Result<u8, ToolFault<'a>>
@@ -36,7 +36,11 @@ pub fn carry_out<'a, R: Files + AllocGlobal + Print>(
             }
         }
         Task::Check { file } => check_file(rt, file)?,
-        Task::Run { file, script } => run_file(rt, file, script)?,
+        Task::Run {
+            file,
+            script,
+            strict,
+        } => return run_file(rt, file, script, strict),
         Task::Same {
             file,
             first,
@@ -47,12 +51,13 @@ pub fn carry_out<'a, R: Files + AllocGlobal + Print>(
 }
 
 /// Does what the words say, of which the first is the program's name, and gives the exit status: 1
-/// where two scripts differ, else 0.
+/// where two scripts differ, or a strict run met a refusal, else 0.
 pub fn obey<
     'a,
     R: Files<File = File>
         + AllocGlobal
         + Print
+        + Eprint
         + Net<Listener = TcpListener, Stream = TcpStream>
         + Clock
         + Threads

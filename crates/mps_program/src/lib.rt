@@ -10,9 +10,10 @@ mod journals;
 mod load;
 mod running;
 mod serving;
+mod tally;
 
 pub use check::{check_file, lines_of, write_types};
-pub use comparison::{compare_files, verdict_of};
+pub use comparison::{Tallies, compare_files, verdict_of};
 pub use entry::{carry_out, end, end_after, end_with, obey, program};
 pub use faults::{ToolFault, fault_line, status};
 pub use files::{open_file, read_text};
@@ -22,3 +23,4 @@ pub use load::{
 };
 pub use running::run_file;
 pub use serving::{Service, read_hub, serve_file, serve_to};
+pub use tally::{Strict, Tally};

@@ -4,7 +4,7 @@ ghost use Rattle.std.specs.Option.{option_map};
 ghost use Rattle.mps_program.specs.Faults.{after_reads, after_writes};
 ghost use Rattle.mps_program.specs.Files.{HasReadAtMost, most_read};
 ghost use Rattle.mps_program.specs.Journals.{IsKeepingFault, kept_of};
-ghost use Rattle.mps_program.specs.Served.{AreLinesUpTo, AreSessionLines, HasOpened, HasServed, HasServedUpTo, IfLost, IsListeningLine, IsOutFault, IsServeFault, IsSessionLine, IsTellFault};
+ghost use Rattle.mps_program.specs.Served.{AreLinesUpTo, AreSessionLines, HasOpened, HasServed, HasServedUpTo, IfLost, IsListeningLine, IsOutFault, IsPortFor, IsServeFault, IsSessionLine, IsTellFault};
 ghost use Rattle.mps_program.specs.Private.Served.{IsHubFault, TellsPort, TookOne, of_serving};
 ghost use Rattle.mps_program.specs.Streams.{CantLoad};
 ghost use Rattle.mps_program.specs.declared.faults.ToolFault.TheVariants.{Bind as NoPort};
@@ -106,20 +106,33 @@ fn tell_sessions<'a, W: Sink>(
     }
 }
 
+// The port of a listener that was to have this one, where 0 is any that is free.
+fn port_of<'a>(listener: &TcpListener, wanted: u16) -> Result<u16, ToolFault<'a>>
+    ensures port { IfOk result (IsPortFor wanted) }
+    ensures fault { IfErr result (λ fault. fault ≡ NoPort) }
+{
+    if wanted != 0 {
+        return Ok(wanted);
+    }
+    match listener.local_addr() {
+        Ok(addr) => Ok(addr.port()),
+        Err(_) => Err(ToolFault::Bind),
+    }
+}
+
 // A listener at this port of 127.0.0.1, and the port that it has.
 fn listen<'a, R: Net<Listener = TcpListener, Stream = TcpStream>>(
     rt: &R,
     port: u16,
 ) -> Result<(TcpListener, u16), ToolFault<'a>>
-    ensures { IfErr result (λ fault. fault ≡ NoPort) }
+    ensures port { IfOk result (λ r. IsPortFor port r.1) }
+    ensures fault { IfErr result (λ fault. fault ≡ NoPort) }
 {
     let Ok(listener) = TcpListener::bind(rt, SocketAddr::from((Ipv4Addr::LOCALHOST, port))) else {
         return Err(ToolFault::Bind);
     };
-    match listener.local_addr() {
-        Ok(addr) => Ok((listener, addr.port())),
-        Err(_) => Err(ToolFault::Bind),
-    }
+    let found = port_of(&listener, port)?;
+    Ok((listener, found))
 }
 
 // The keepers of the desk's sessions, if they are kept.
@@ -150,6 +163,13 @@ fn unserved<'a>(fault: ServeFault) -> ToolFault<'a>
     }
 }
 
+// Tells on standard error how many connections were closed since no thread could be started for them, if any were.
+fn tell_lost<R: Eprint>(rt: &R, lost: u64) {
+    if lost > 0 {
+        let _told = eprintln!(rt; "lost {lost}");
+    }
+}
+
 // Restores the sessions, where they are kept, tells the port, and serves them to connections.
 fn serve_hub<'a, R, W: Sink>(
     rt: &R,
@@ -162,6 +182,7 @@ fn serve_hub<'a, R, W: Sink>(
 where
     R: Files<File = File>
         + AllocGlobal
+        + Eprint
         + Net<Listener = TcpListener, Stream = TcpStream>
         + Clock
         + Threads
@@ -172,7 +193,7 @@ where
     requires few { length hub.old.cells ≤ 16 }
     requires writes { W.failed_calls writer.old < 2 ^ 62 }
     ensures same { hub.new.cells ≡ hub.old.cells }
-    ensures told { OnOk result (TookOne TellsPort (W.taken writer.old) (W.taken writer.new)) }
+    ensures told { OnOk result (TookOne (TellsPort port) (W.taken writer.old) (W.taken writer.new)) }
     ensures fault { IfErr result (IsHubFault (option_map (λ k. k.journal.folder.now) keeping.entry) (length hub.old.cells)) }
     ensures writes { W.failed_calls writer.new ≡ after_writes result (W.failed_calls writer.old) }
 {
@@ -183,17 +204,19 @@ where
         None => unreachable!(),
     };
     let keepers = keepers(rt, &desk, sessions, keeping)?;
-    let (listener, port) = listen(rt, port)?;
-    tell_port(alloc, writer, port)?;
-    let served = serve_kept(rt, alloc, &listener, &desk, &Unguarded, &keepers, limits);
-    match served {
-        Ok(_) => Ok(()),
+    let (listener, found) = listen(rt, port)?;
+    tell_port(alloc, writer, found)?;
+    match serve_kept(rt, alloc, &listener, &desk, &Unguarded, &keepers, limits) {
+        Ok(served) => {
+            tell_lost(rt, served.lost);
+            Ok(())
+        }
         Err(fault) => Err(unserved(fault)),
     }
 }
 
 /// Restores the hub's sessions where they are kept, tells the port, serves them to connections, and then tells how many entries
-/// the journal of each session has.
+/// the journal of each session has. On standard error it tells how many connections were lost, if any were.
 ///
 /// After a fault nothing more is told: the lines of sessions stop before the first that is lost, which the fault names.
 pub fn serve_to<'a, R, W: Sink>(
@@ -207,6 +230,7 @@ pub fn serve_to<'a, R, W: Sink>(
 where
     R: Files<File = File>
         + AllocGlobal
+        + Eprint
         + Net<Listener = TcpListener, Stream = TcpStream>
         + Clock
         + Threads
@@ -216,9 +240,9 @@ where
     requires fresh { hub.given ≡ false }
     requires few { length hub.cells ≤ 16 }
     requires writes { W.failed_calls writer.old < 2 ^ 62 }
-    ensures told { OnOk result (HasServed hub.cells (W.taken writer.old) (W.taken writer.new)) }
+    ensures told { OnOk result (HasServed port hub.cells (W.taken writer.old) (W.taken writer.new)) }
     ensures fault { IfErr result (IsOutFault (option_map (λ k. k.journal.folder.now) keeping.entry) (length hub.cells)) }
-    ensures lost { IfErr result (IfLost (HasServedUpTo hub.cells (W.taken writer.old) (W.taken writer.new))) }
+    ensures lost { IfErr result (IfLost (HasServedUpTo port hub.cells (W.taken writer.old) (W.taken writer.new))) }
     ensures writes { W.failed_calls writer.new ≡ after_writes result (W.failed_calls writer.old) }
 {
     let mut hub = hub;
@@ -274,6 +298,7 @@ where
     R: Files<File = File>
         + AllocGlobal
         + Print
+        + Eprint
         + Net<Listener = TcpListener, Stream = TcpStream>
         + Clock
         + Threads

@@ -3,9 +3,9 @@ use mps_base::{Name, Roles};
 use mps_dev::{Pieces, Short};
 use mps_global::GlobalFault;
 use mps_program::{
-    ToolFault, check_file, compare_files, fault_line, lines_of, open_file, read_many, read_session,
-    read_sessions, read_text, roles_and_session, roles_and_sessions, run_file, status, verdict_of,
-    write_types,
+    Tallies, Tally, ToolFault, check_file, compare_files, fault_line, lines_of, open_file,
+    read_many, read_session, read_sessions, read_text, roles_and_session, roles_and_sessions,
+    run_file, status, verdict_of, write_types,
 };
 use mps_session::Session;
 use mps_text::TextKind;
@@ -101,7 +101,11 @@ struct Words(&'static [&'static str], &'static str);
 const ORDERS: &[Words] = &[
     Words(
         &["mps_tool", "run", "a.protocol", "a.script"],
-        "Offline(Run { file: \"a.protocol\", script: \"a.script\" })",
+        "Offline(Run { file: \"a.protocol\", script: \"a.script\", strict: false })",
+    ),
+    Words(
+        &["mps_tool", "run", "--strict", "a.protocol", "-"],
+        "Offline(Run { file: \"a.protocol\", script: \"/dev/stdin\", strict: true })",
     ),
     Words(
         &["mps_tool", "same", "a.protocol", "a.script", "b.script"],
@@ -161,6 +165,9 @@ fn tells_faults(rt: HostRuntime) -> Result<(), Fail> {
         (ToolFault::Read, "refused read", 4),
         (ToolFault::Write, "refused write", 4),
         (ToolFault::Turns, "refused turns", 4),
+        (ToolFault::Bind, "refused bind", 2),
+        (ToolFault::Accept, "refused accept", 4),
+        (ToolFault::Lost { session: 12 }, "refused lost 12", 4),
         (ToolFault::Memory, "refused memory", 4),
     ];
     for (fault, line, code) in &faults {
@@ -532,8 +539,20 @@ fn told(
 ) -> Result<(Vec<u8>, u8), ToolFault<'static>> {
     let mut reader = Pieces::new(first, scripts.2);
     let mut other = Pieces::new(second, scripts.3);
+    let mut tallies = Tallies {
+        first: Tally::new(),
+        second: Tally::new(),
+    };
     let (roles, first, second) = roles_and_sessions(alloc, PAIRS.as_bytes())?;
-    verdict_of(alloc, &roles, first, second, &mut reader, &mut other)
+    verdict_of(
+        alloc,
+        &roles,
+        first,
+        second,
+        &mut reader,
+        &mut other,
+        &mut tallies,
+    )
 }
 
 // What is told of the two scripts, and the status; or the line and the status of the fault.
@@ -575,7 +594,7 @@ fn names_files_that_do_not_open(rt: HostRuntime) -> Result<(), Fail> {
 
 #[test]
 fn runs_no_file_that_does_not_open(rt: HostRuntime) -> Result<(), Fail> {
-    let found = run_file(&rt, "no such file", "no such script").err();
+    let found = run_file(&rt, "no such file", "no such script", true).err();
     assert!(rt; names_no_file(rt.alloc(), found)?);
     let found = compare_files(&rt, "no such file", "no such script", "nor this").err();
     assert!(rt; names_no_file(rt.alloc(), found)?);

@@ -1,4 +1,6 @@
 //! The server, over a socket.
+ghost use Rattle.std.specs.Prelude.{◌≤◌};
+
 use mps_dev::{Pieces, Short};
 use mps_hub::Limits;
 use mps_program::{read_hub, serve_to};
@@ -16,28 +18,33 @@ use std::{io, thread};
 
 const RELAY: &[u8] = b"roles a b c ; a -> b : int . b -> c : int . end";
 
+const VERDICT: &[u8] =
+    b"roles a b c ; a -> b : int . b -> c : int . c -> a { ok : end , no : end }";
+
 // One connection, which may be silent as long as it likes.
 const ONE: Limits = Limits {
     connections: Some(1),
     idle: None,
 };
 
-// What a server of two relays writes, where one client comes.
-fn written<R>(rt: &R, port: u16) -> Result<Vec<u8>, Fail>
+// What a server of so many sessions of the protocol writes, where one client comes.
+fn written<R>(rt: &R, port: u16, protocol: &[u8], sessions: u64) -> Result<Vec<u8>, Fail>
 where
     R: Files<File = File>
         + AllocGlobal
+        + Eprint
         + Net<Listener = TcpListener, Stream = TcpStream>
         + Clock
         + Threads
         + Wait
         + Sync
         + 'static,
+    requires some { (1 ≤ sessions) × (sessions ≤ 16) }
 {
     let alloc = rt.alloc();
-    let text = vec![in alloc; Vec::from_slice(alloc, RELAY)?]?;
+    let text = vec![in alloc; Vec::from_slice(alloc, protocol)?]?;
     let mut writer = Short::new(alloc, 100)?;
-    let Ok(hub) = read_hub(alloc, &mut Pieces::new(text, None), 2) else {
+    let Ok(hub) = read_hub(alloc, &mut Pieces::new(text, None), sessions) else {
         return Err("no hub".into());
     };
     match serve_to(rt, &mut writer, hub, port, ONE, None) {
@@ -60,14 +67,15 @@ fn connected<R: Net<Stream = TcpStream> + Clock>(
     TcpStream::connect(rt, addr)
 }
 
-// What the client is answered.
+// What the client is answered to these lines.
 fn answered<R: Net<Stream = TcpStream> + Clock>(
     rt: &R,
     alloc: Global,
     addr: SocketAddr,
+    lines: &[u8],
 ) -> io::Result<Vec<u8>> {
     let mut stream = connected(rt, addr)?;
-    stream.write_all(b"join 2 a\nsend b 5\nsend b 6\n")?;
+    stream.write_all(lines)?;
     stream.shutdown(Shutdown::Write)?;
     let mut text = Vec::new(alloc);
     stream.read_to_end(&mut text)?;
@@ -79,19 +87,57 @@ fn free_port<R: Net<Listener = TcpListener, Stream = TcpStream>>(rt: &R) -> io::
     TcpListener::bind(rt, "127.0.0.1:0")?.local_addr()
 }
 
+// What a server of so many sessions of the protocol writes where a client comes with these lines, and what that is answered.
+fn served<R>(
+    rt: &R,
+    addr: SocketAddr,
+    protocol: &[u8],
+    sessions: u64,
+    lines: &[u8],
+) -> Result<(Vec<u8>, Vec<u8>), Fail>
+where
+    R: Files<File = File>
+        + AllocGlobal
+        + Eprint
+        + Net<Listener = TcpListener, Stream = TcpStream>
+        + Clock
+        + Threads
+        + Wait
+        + Sync
+        + 'static,
+    requires some { (1 ≤ sessions) × (sessions ≤ 16) }
+{
+    let alloc = rt.alloc();
+    let (written, answers) = join(
+        rt,
+        || written(rt, addr.port(), protocol, sessions),
+        || answered(rt, alloc, addr, lines),
+    );
+    Ok((written?, answers?))
+}
+
 #[test]
 fn serves_a_client(rt: HostRuntime) -> Result<(), Fail> {
-    let alloc = rt.alloc();
     let addr = free_port(&rt)?;
-    let (lines, answers) = join(
-        &rt,
-        || written(&rt, addr.port()),
-        || answered(&rt, alloc, addr),
-    );
-    let lines = lines?;
-    let answers = answers?;
+    let (written, answers) = served(&rt, addr, RELAY, 2, b"join 2 a\nsend b 5\nsend b 6\n")?;
     assert!(rt; answers.as_slice() == b"joined 2 a\ndone 1\nrefused ended\n".as_slice());
-    assert!(rt; lines.starts_with(b"listening "));
-    assert!(rt; lines.ends_with(b"\nsession 1 0\nsession 2 1\n"));
+    assert!(rt; written.starts_with(b"listening "));
+    assert!(rt; written.ends_with(b"\nsession 1 0\nsession 2 1\n"));
+    Ok(())
+}
+
+// Three of a's commands are accepted. Those that are refused don't count, nor does the question.
+const COUNTED: &[u8] = b"join 1 a\nsend b 5\nsend b 6\nundo 1\nnews 0\nundo 1\nsend b 7\n";
+
+const ANSWERS: &[u8] =
+    b"joined 1 a\ndone 1\nrefused wrongact\nundone 1\nnews 2\nrefused nostep\ndone 2\n";
+
+#[test]
+fn counts_accepted_commands(rt: HostRuntime) -> Result<(), Fail> {
+    let addr = free_port(&rt)?;
+    let (written, answers) = served(&rt, addr, VERDICT, 1, COUNTED)?;
+    assert!(rt; answers.as_slice() == ANSWERS);
+    let wanted = format!(in rt.alloc(); "listening {}\nsession 1 3\n", addr.port())?;
+    assert!(rt; written.as_slice() == wanted.as_bytes());
     Ok(())
 }

@@ -31,6 +31,13 @@ const ROUND: &str = "a send b 5\nb recv a x\nb send c 7\nc recv b y\nc choose a 
 
 const TWICE: &str = "a send b 1\na send b 2\nb recv a x\nb recv a x\n";
 
+// What goes round is taken back from `b` on, and goes round once more.
+const AGAIN: &str = "a send b 5\nb recv a x\nb send c 7\nc recv b y\nc choose a ok\n\
+    b rollback 2\nb recv a y\nb send c 9\nc recv b z\nc choose a no\na pick c\n";
+
+// The last line has no LF.
+const UNENDED: &str = "a send b 5\na undo 1";
+
 // Two numbers that have nothing to do with each other.
 const PAIRS: &str = "roles a b c d ; a -> b : int . c -> d : int . end";
 
@@ -45,6 +52,8 @@ const FILES: &[(&str, &str)] = &[
     ("ring", RING),
     ("stray", STRAY),
     ("round", ROUND),
+    ("again", AGAIN),
+    ("unended", UNENDED),
     ("twice", TWICE),
     ("greeting", GREETING),
     ("words", WORDS),
@@ -117,6 +126,44 @@ const RUNS: &[Row] = &[
     ),
 ];
 
+const STRICT: &[Row] = &[
+    Row(
+        &["mps_tool", "run", "--strict", "relay", "script"],
+        1000,
+        "done 1\ndone 2 5\ndone 3\ndone 4 7\n",
+        "",
+        0,
+    ),
+    Row(
+        &["mps_tool", "run", "--strict", "talk", "talked"],
+        1000,
+        "done 1\ndone 2 go\ndone 3\nrefused wrongact\n",
+        "refused line 4\n",
+        1,
+    ),
+    Row(
+        &["mps_tool", "run", "--strict", "ring", "stray"],
+        1000,
+        "refused nothingqueued\n",
+        "refused line 1\n",
+        1,
+    ),
+    Row(
+        &["mps_tool", "run", "--strict", "ring", "stray"],
+        8,
+        "",
+        "refused write\n",
+        4,
+    ),
+    Row(
+        &["mps_tool", "run", "--strict", "relay", "no script"],
+        1000,
+        "",
+        "refused file no script\n",
+        2,
+    ),
+];
+
 const LOOPS_AND_CHOICES: &[Row] = &[
     Row(
         &["mps_tool", "run", "talk", "talked"],
@@ -145,6 +192,24 @@ const LOOPS_AND_CHOICES: &[Row] = &[
         &["mps_tool", "run", "loop", "twice"],
         1000,
         "done 1\ndone 2\ndone 3 1\ndone 4 2\n",
+        "",
+        0,
+    ),
+];
+
+const TAKEN_BACK: &[Row] = &[
+    Row(
+        &["mps_tool", "run", "ring", "again"],
+        1000,
+        "done 1\ndone 2 5\ndone 3\ndone 4 7\ndone 5\nundone 5 4 3 2\n\
+         done 6 5\ndone 7\ndone 8 9\ndone 9\ndone 10 no\n",
+        "",
+        0,
+    ),
+    Row(
+        &["mps_tool", "run", "ring", "unended"],
+        1000,
+        "done 1\nundone 1\n",
         "",
         0,
     ),
@@ -200,6 +265,14 @@ const COMPARISONS: &[Row] = &[
         "",
         "refused file no script\n",
         2,
+    ),
+    // how many lines were refused is told
+    Row(
+        &["mps_tool", "same", "ring", "stray", "round"],
+        1000,
+        "different\n",
+        "first script: 4 of 4 lines refused\nsecond script: 3 of 10 lines refused\n",
+        1,
     ),
     // both scripts are opened before one is read
     Row(
@@ -280,7 +353,7 @@ const CHECKS: &[Row] = &[
 ];
 
 // Does what the words say, on a machine without a network.
-fn obeyed<'a, R: Files + AllocGlobal + Print>(
+fn obeyed<'a, R: Files + AllocGlobal + Print + Eprint>(
     rt: &R,
     words: &'a [&'a str],
 ) -> Result<u8, ToolFault<'a>> {
@@ -313,8 +386,18 @@ fn runs_scripts(rt: HostRuntime) {
 }
 
 #[test]
+fn runs_to_the_first_refusal(rt: HostRuntime) {
+    plays(&rt, rt.alloc(), STRICT)
+}
+
+#[test]
 fn runs_loops_and_choices(rt: HostRuntime) {
     plays(&rt, rt.alloc(), LOOPS_AND_CHOICES)
+}
+
+#[test]
+fn takes_back_what_went_round(rt: HostRuntime) {
+    plays(&rt, rt.alloc(), TAKEN_BACK)
 }
 
 #[test]
@@ -337,6 +420,21 @@ fn checks_protocols(rt: HostRuntime) {
     plays(&rt, rt.alloc(), CHECKS)
 }
 
+// Whether the program ends with this status after the fault, and tells this line alone.
+fn ends_with(alloc: Global, fault: ToolFault<'_>, line: &str, code: u8) -> bool {
+    let machine = Machine::new(alloc, FILES, 1000);
+    let status = end_after(&machine, Err(fault));
+    let (printed, told) = machine.output();
+    printed.is_empty() && told.as_slice() == line.as_bytes() && status == ExitCode::from(code)
+}
+
+#[test]
+fn tells_what_ends_a_server(rt: HostRuntime) {
+    let alloc = rt.alloc();
+    assert!(rt; ends_with(alloc, ToolFault::Accept, "refused accept\n", 4));
+    assert!(rt; ends_with(alloc, ToolFault::Lost { session: 2 }, "refused lost 2\n", 4));
+}
+
 #[test]
 fn tells_misuse(rt: HostRuntime) {
     let (printed, told, status) = called(rt.alloc(), &["mps_tool", "fly"], 1000);
@@ -352,7 +450,7 @@ fn tells_its_use(rt: HostRuntime) {
 #[test]
 fn runs_and_shows(rt: HostRuntime) {
     let machine = Machine::new(rt.alloc(), FILES, 1000);
-    let done = run_file(&machine, "relay", "script").is_ok()
+    let done = run_file(&machine, "relay", "script", false).is_ok()
         && check_file(&machine, "relay").is_ok();
     let (printed, _) = machine.output();
     assert!(rt; done && printed.starts_with(b"done 1\n"));

@@ -42,6 +42,8 @@ pub enum Task<'a> {
     Run {
         file: &'a str,
         script: &'a str,
+        /// Whether to stop at the first refused line.
+        strict: bool,
     },
     /// Say whether two scripts come to the same on sessions of the protocol in the file.
     Same {

@@ -3,12 +3,12 @@
 ghost use Rattle.std.specs.Prelude.{◌≤◌, IfErr, IfOk, IfSome};
 ghost use Rattle.mps_words.specs.Orders.{IsInRange};
 ghost use Rattle.mps_words.specs.Uses.{Says, no_text};
-ghost use Rattle.mps_words.specs.Private.Uses.{IsSaidOfMatched, IsSaidOfServer, TellsMatched};
+ghost use Rattle.mps_words.specs.Private.Uses.{missing};
 
 use crate::command::{Journal, Order, Task};
 use crate::faults::{UseFault, usage};
 use clap::error::ErrorKind;
-use clap::{Arg, ArgAction, ArgMatches, Command, Error};
+use clap::{Arg, ArgAction, ArgMatches, Command, Error, value_parser};
 use std::alloc::{AllocError, Global};
 use std::rt::Env;
 use std::{env, io};
@@ -16,30 +16,14 @@ use std::{env, io};
 // The version of the program.
 const VERSION: &str = "0.1.0";
 
-// How many sessions a server has at most.
-const MAX_SESSIONS: u64 = 16;
-
-// How many connections it accepts at most.
-const MAX_CONNECTIONS: u64 = 64;
-
-// How many seconds a connection may be silent at most.
-const MAX_IDLE: u64 = 86_400;
+// The file that the system has for the standard input.
+const STANDARD_INPUT: &str = "/dev/stdin";
 
 // What is said of words of which one is no text.
 const NO_TEXT: &str = "error: a word is not UTF-8";
 
 // What is said of words that lack one.
 const MISSING: &str = "error: a word is missing";
-
-// What is said of numbers that a server can't have.
-const OUT_OF_RANGE: &str =
-    "error: --port is 0 to 65535, --sessions is 1 to 16, and --connections is 1 to 64";
-
-// What is said of a time that is out of its range.
-const IDLE_OUT_OF_RANGE: &str = "error: --idle is 1 to 86400";
-
-// What is said where there is nothing to be synced.
-const SYNC_ALONE: &str = "error: --sync goes with --journal";
 
 // How an option is given.
 #[derive(Clone, Copy)]
@@ -50,27 +34,66 @@ enum Given {
     Sometimes,
     // without a word, or not at all
     Alone,
+    // the same, together with that other option
+    AloneWith(&'static str),
 }
 
-// A word that a command needs, or an option: what it stands for, and what the help says of it.
+// The numbers from one to another, both included.
+#[derive(Clone, Copy)]
+struct Range {
+    least: u32,
+    most: u32,
+}
+
+// A word that a command needs, or an option: what it stands for, what the help says of it, and in which range it is, if it is a
+// number.
 struct Word {
     name: &'static str,
     help: &'static str,
     given: Given,
+    range: Option<Range>,
 }
+
+// The ports that there are; 0 stands for any that is free.
+const PORTS: Range = Range {
+    least: 0,
+    most: 65_535,
+};
+
+// How many sessions a server has.
+const SESSION_COUNTS: Range = Range { least: 1, most: 16 };
+
+// How many connections it accepts, where it doesn't accept all.
+const CONNECTION_COUNTS: Range = Range { least: 1, most: 64 };
+
+// For how many seconds a connection may be silent.
+const IDLE_SECONDS: Range = Range {
+    least: 1,
+    most: 86_400,
+};
 
 // The protocol, with which each command begins.
 const FILE: Word = Word {
     name: "FILE",
     help: "The protocol",
     given: Given::Always,
+    range: None,
 };
 
 // The script that is run.
 const SCRIPT: Word = Word {
     name: "SCRIPT",
-    help: "A command on each line",
+    help: "A command on each line; - stands for the standard input",
     given: Given::Always,
+    range: None,
+};
+
+// Whether a run ends with the first refused line.
+const STRICT: Word = Word {
+    name: "strict",
+    help: "Ends with status 1 at the first line that is refused",
+    given: Given::Alone,
+    range: None,
 };
 
 // The first of two scripts that are compared.
@@ -78,6 +101,7 @@ const FIRST: Word = Word {
     name: "FIRST",
     help: "A script, as for run",
     given: Given::Always,
+    range: None,
 };
 
 // The second of two scripts that are compared.
@@ -85,6 +109,7 @@ const SECOND: Word = Word {
     name: "SECOND",
     help: "Another script",
     given: Given::Always,
+    range: None,
 };
 
 // The port that a server listens on.
@@ -92,6 +117,7 @@ const PORT: Word = Word {
     name: "port",
     help: "The port of 127.0.0.1, 0 for any that is free",
     given: Given::Always,
+    range: Some(PORTS),
 };
 
 // How many sessions a server has.
@@ -99,6 +125,7 @@ const SESSIONS: Word = Word {
     name: "sessions",
     help: "How many sessions are opened, 1 to 16",
     given: Given::Always,
+    range: Some(SESSION_COUNTS),
 };
 
 // How many connections a server accepts.
@@ -106,6 +133,7 @@ const CONNECTIONS: Word = Word {
     name: "connections",
     help: "How many connections are accepted, 1 to 64; all that come, if it isn't given",
     given: Given::Sometimes,
+    range: Some(CONNECTION_COUNTS),
 };
 
 // Where the sessions are kept.
@@ -113,13 +141,15 @@ const JOURNAL: Word = Word {
     name: "journal",
     help: "A folder that keeps the sessions; the next server with it goes on where this one stopped",
     given: Given::Sometimes,
+    range: None,
 };
 
 // Whether the disk is waited for.
 const SYNC: Word = Word {
     name: "sync",
     help: "With --journal: answers wait until the disk has what they tell",
-    given: Given::Alone,
+    given: Given::AloneWith("journal"),
+    range: None,
 };
 
 // How long a connection may be silent.
@@ -127,6 +157,7 @@ const IDLE: Word = Word {
     name: "idle",
     help: "Ends a connection that sends nothing for so many seconds, 1 to 86400",
     given: Given::Sometimes,
+    range: Some(IDLE_SECONDS),
 };
 
 // A command of the program, the words that have to follow it, and its options.
@@ -149,7 +180,7 @@ const FORMS: &[Form] = &[
         name: "run",
         about: "Runs a script and prints the answers",
         words: &[FILE, SCRIPT],
-        options: &[],
+        options: &[STRICT],
     },
     Form {
         name: "same",
@@ -165,19 +196,32 @@ const FORMS: &[Form] = &[
     },
 ];
 
+// The argument, which takes a number of the range.
+fn ranged<'a>(argument: Arg<'a>, range: Range) -> Arg<'a> {
+    argument.value_parser(value_parser!(u64).range(range.least as i64..=range.most as i64))
+}
+
 // The argument that takes the word.
 fn argument<'a>(alloc: Global, word: &Word) -> Arg<'a> {
     let argument = Arg::new(alloc, word.name).help(word.help);
+    let argument = match word.range {
+        Some(range) => ranged(argument, range),
+        None => argument,
+    };
     match word.given {
         Given::Always => argument.required(true),
         Given::Sometimes => argument,
-        Given::Alone => argument.action(ArgAction::SetTrue),
+        Given::Alone | Given::AloneWith(_) => argument.action(ArgAction::SetTrue),
     }
 }
 
-// The option that takes the word.
-fn option<'a>(alloc: Global, word: &Word) -> Arg<'a> {
-    argument(alloc, word).long(word.name)
+// The option that takes the word, with the option without which it may not be given.
+fn option<'a>(alloc: Global, word: &Word) -> Result<Arg<'a>, AllocError> {
+    let option = argument(alloc, word).long(word.name);
+    match word.given {
+        Given::AloneWith(other) => option.requires_arg(other),
+        _ => Ok(option),
+    }
 }
 
 // The command with these options besides.
@@ -187,7 +231,7 @@ fn with_options<'a>(
     options: &[Word],
 ) -> Result<Command<'a>, AllocError> {
     for word in options {
-        command = command.arg(option(alloc, word))?;
+        command = command.arg(option(alloc, word)?)?;
     }
     Ok(command)
 }
@@ -213,64 +257,46 @@ fn program<'a>(alloc: Global) -> Result<Command<'a>, AllocError> {
     Ok(program)
 }
 
-// The number that an option has, if it lies between these two, or is one of them.
-fn number_in<'a>(found: &ArgMatches<'a>, name: &str, least: u64, most: u64) -> Option<u64>
-    ensures { IfSome result (λ n. (least ≤ n) × (n ≤ most)) }
+// The number that an option has, of its range.
+fn number_in<'a>(found: &ArgMatches<'a>, name: &str, range: Range) -> Option<u64>
+    ensures { IfSome result (λ n. (range.least ≤ n) × (n ≤ range.most)) }
 {
-    let number = found.get_str(name)?.parse::<u64>().ok()?;
-    if number < least || number > most {
+    let number = found.get_one::<u64>(name)?;
+    if number < range.least as u64 || number > range.most as u64 {
         return None;
     }
     Some(number)
 }
 
-// The number that an option may have, if it lies between these two, or is one of them; none where it isn't given.
-fn bound_in<'a>(found: &ArgMatches<'a>, name: &str, least: u64, most: u64) -> Option<Option<u64>>
-    ensures { IfSome result (λ given. IfSome given (λ n. (least ≤ n) × (n ≤ most))) }
+// The number that an option may have, of its range; none where it isn't given.
+fn bound_in<'a>(found: &ArgMatches<'a>, name: &str, range: Range) -> Option<Option<u64>>
+    ensures { IfSome result (λ given. IfSome given (λ n. (range.least ≤ n) × (n ≤ range.most))) }
 {
     match found.get_str(name) {
-        Some(_) => Some(Some(number_in(found, name, least, most)?)),
+        Some(_) => Some(Some(number_in(found, name, range)?)),
         None => Some(None),
     }
 }
 
-// Where the sessions are kept, as the words say it; none where `--sync` stands alone.
-fn journal_in<'a>(found: &ArgMatches<'a>) -> Option<Option<Journal<'a>>> {
+// Where the sessions are kept, if they are.
+fn journal_in<'a>(found: &ArgMatches<'a>) -> Option<Journal<'a>> {
+    let folder = found.get_str("journal")?;
     let sync = found.get_flag("sync");
-    match found.get_str("journal") {
-        Some(folder) => Some(Some(Journal { folder, sync })),
-        None if sync => None,
-        None => Some(None),
-    }
+    Some(Journal { folder, sync })
 }
 
-// The port of a server, how many sessions it has, and how many connections it accepts.
-fn server_in<'a>(found: &ArgMatches<'a>) -> Option<(u16, u64, Option<u64>)>
-    ensures { IfSome result (λ r. (1 ≤ r.1) × (r.1 ≤ 16) × IfSome r.2 (λ n. (1 ≤ n) × (n ≤ 64))) }
+// The order to serve the file, with its options.
+fn serve_in<'a>(file: &'a str, found: &ArgMatches<'a>) -> Option<Order<'a>>
+    ensures { IfSome result IsInRange }
 {
-    let port = number_in(found, "port", 0, u16::MAX as u64)?;
-    let sessions = number_in(found, "sessions", 1, MAX_SESSIONS)?;
-    let connections = bound_in(found, "connections", 1, MAX_CONNECTIONS)?;
-    Some((port as u16, sessions, connections))
-}
-
-// The order to serve the file, with its options, or what is wrong with them.
-fn serve_in<'a>(file: &'a str, found: &ArgMatches<'a>) -> Result<Order<'a>, &'static str>
-    ensures range { IfOk result IsInRange }
-    ensures said { IfErr result (λ what. IsSaidOfServer what.now) }
-{
-    let Some((port, sessions, connections)) = server_in(found) else {
-        return Err(OUT_OF_RANGE);
-    };
-    let Some(idle) = bound_in(found, "idle", 1, MAX_IDLE) else {
-        return Err(IDLE_OUT_OF_RANGE);
-    };
-    let Some(journal) = journal_in(found) else {
-        return Err(SYNC_ALONE);
-    };
-    Ok(Order::Serve {
+    let port = number_in(found, "port", PORTS)?;
+    let sessions = number_in(found, "sessions", SESSION_COUNTS)?;
+    let connections = bound_in(found, "connections", CONNECTION_COUNTS)?;
+    let idle = bound_in(found, "idle", IDLE_SECONDS)?;
+    let journal = journal_in(found);
+    Some(Order::Serve {
         file,
-        port,
+        port: port as u16,
         sessions,
         connections,
         idle,
@@ -289,40 +315,34 @@ fn same_in<'a>(file: &'a str, found: &ArgMatches<'a>) -> Option<Task<'a>> {
     })
 }
 
+// The file that a word for a script names.
+fn named<'a>(word: &'a str) -> &'a str {
+    if word == "-" { STANDARD_INPUT } else { word }
+}
+
 // The task to run a script.
 fn run_in<'a>(file: &'a str, found: &ArgMatches<'a>) -> Option<Task<'a>> {
-    let script = found.get_str("SCRIPT")?;
-    Some(Task::Run { file, script })
+    let script = named(found.get_str("SCRIPT")?);
+    let strict = found.get_flag("strict");
+    Some(Task::Run {
+        file,
+        script,
+        strict,
+    })
 }
 
-// The order of a task, where all its words were found.
-fn offline<'a>(task: Option<Task<'a>>) -> Result<Order<'a>, &'static str>
-    ensures range { IfOk result IsInRange }
-    ensures said { IfErr result (λ what. IsSaidOfMatched what.now) }
+// The order that stands in the words, as they matched the commands. There is one, since clap has looked at each word.
+fn order_in<'a>(matches: &ArgMatches<'a>) -> Option<Order<'a>>
+    ensures { IfSome result IsInRange }
 {
-    match task {
-        Some(task) => Ok(Order::Offline(task)),
-        None => Err(MISSING),
-    }
-}
-
-// The order that stands in the words, as they matched the commands, or what is wrong with them.
-fn order_in<'a>(matches: &ArgMatches<'a>) -> Result<Order<'a>, &'static str>
-    ensures range { IfOk result IsInRange }
-    ensures said { IfErr result (λ what. IsSaidOfMatched what.now) }
-{
-    let Some((command, found)) = matches.subcommand() else {
-        return Err(MISSING);
-    };
-    let Some(file) = found.get_str("FILE") else {
-        return Err(MISSING);
-    };
+    let (command, found) = matches.subcommand()?;
+    let file = found.get_str("FILE")?;
     match command {
-        "check" => offline(Some(Task::Check { file })),
-        "run" => offline(run_in(file, found)),
-        "same" => offline(same_in(file, found)),
+        "check" => Some(Order::Offline(Task::Check { file })),
+        "run" => Some(Order::Offline(run_in(file, found)?)),
+        "same" => Some(Order::Offline(same_in(file, found)?)),
         "serve" => serve_in(file, found),
-        _ => Err(MISSING),
+        _ => None,
     }
 }
 
@@ -349,11 +369,11 @@ fn unmatched<'a>(alloc: Global, error: &Error) -> Result<Order<'a>, UseFault>
 // The order that stands in the words, as they matched the commands, or a fault of use.
 fn matched<'a>(alloc: Global, matches: &ArgMatches<'a>) -> Result<Order<'a>, UseFault>
     ensures range { IfOk result IsInRange }
-    ensures fault { IfErr result TellsMatched }
+    ensures fault { IfErr result (Says missing) }
 {
     match order_in(matches) {
-        Ok(order) => Ok(order),
-        Err(what) => Err(usage(alloc, what)),
+        Some(order) => Ok(order),
+        None => Err(usage(alloc, MISSING)),
     }
 }
 

@@ -4,7 +4,7 @@ use Rattle.std.specs.Io.KnownBytes.{Appends}
 use Rattle.mps_hub.specs.declared.server.ServeFault.{ServeFault}
 use Rattle.mps_hub.specs.declared.server.ServeFault.TheVariants.{Accept as NotAccepted, Memory as NoMemory, Unkept}
 use Rattle.mps_program.specs.Journals.{IsKeepingFault}
-use Rattle.mps_program.specs.Served.{IsListeningLine}
+use Rattle.mps_program.specs.Served.{IsListeningLine, IsPortFor}
 use Rattle.mps_program.specs.declared.faults.ToolFault.{ToolFault}
 use Rattle.mps_program.specs.declared.faults.ToolFault.TheVariants.{Write, Bind, Accept, JournalLost, Memory}
 
@@ -12,9 +12,9 @@ use Rattle.mps_program.specs.declared.faults.ToolFault.TheVariants.{Write, Bind,
 abbrev pub TookOne : (List ℕ → Type 0) → Option (List ℕ) → Option (List ℕ) → Type 0
 TookOne P took taken = (text : List ℕ) × P text × Appends took taken text
 
--- the line that tells some port
-abbrev pub TellsPort : List ℕ → Type 0
-TellsPort line = (port : ℕ) × IsListeningLine port line
+-- the line that tells the port, where this one was wanted
+abbrev pub TellsPort : (wanted : ℕ) → List ℕ → Type 0
+TellsPort wanted line = (port : ℕ) × IsPortFor wanted port × IsListeningLine port line
 
 -- how the serving itself may fail: it has no port, or can't tell it, it accepts no more, memory ran out, or the sessions fail to be kept
 abbrev pub IsHubFault : Option (List ℕ) → ℕ → ToolFault → Type 0

@@ -1,0 +1,141 @@
+//! What is heard of the answers to a script.
+ghost use Rattle.std.specs.Prelude.{◌≡◌, ◌+◌, ◌<◌, ◌≤◌, None, length};
+ghost use Rattle.mps_program.specs.Heard.{inner_of, late_of};
+
+use mps_dev::{Failed, Sink};
+use mps_lines::line_end;
+
+/// How many answers there were, and how many of them were refusals. As a sink it keeps nothing else of them.
+#[derive(Debug, Drop)]
+pub struct Tally {
+    lines: u64,
+    refused: u64,
+    // the next byte belongs to an answer that has begun
+    within: bool,
+}
+
+impl Tally {
+    /// Nothing was heard yet.
+    pub fn new() -> Tally {
+        Tally {
+            lines: 0,
+            refused: 0,
+            within: false,
+        }
+    }
+
+    /// How many answers have ended.
+    pub fn lines(&self) -> u64 {
+        self.lines
+    }
+
+    /// How many answers, one that has begun included, are refusals.
+    pub fn refused(&self) -> u64 {
+        self.refused
+    }
+
+    // Whether the last answer that was heard has ended.
+    fn has_ended(&self) -> bool {
+        !self.within
+    }
+
+    // Hears the front of the bytes, up to the end of its line, and gives the rest. Of all answers only refusals begin with an r.
+    fn hear_line<'b>(&mut self, bytes: &'b [u8]) -> &'b [u8]
+        requires { 0 < length bytes.now }
+        ensures { length result.now < length bytes.now }
+    {
+        if !self.within && bytes[0] == b'r' {
+            self.refused = u64::wrapping_add(self.refused, 1);
+        }
+        match line_end(bytes) {
+            Some(end) => {
+                self.within = false;
+                self.lines = u64::wrapping_add(self.lines, 1);
+                &bytes[end + 1..]
+            }
+            None => {
+                self.within = true;
+                &[]
+            }
+        }
+    }
+
+    // Hears the bytes that come next.
+    fn hear(&mut self, bytes: &[u8]) {
+        let mut rest = bytes;
+        'lines: while !rest.is_empty() {
+            rest = self.hear_line(rest);
+        }
+    }
+}
+
+impl Sink for Tally {
+    ghost taken = { λ _. None };
+
+    ghost failed_calls = { λ _. 0 };
+
+    fn write(&mut self, bytes: &[u8]) -> Result<usize, Failed> {
+        self.hear(bytes);
+        Ok(bytes.len())
+    }
+}
+
+/// A sink that takes answers until one of them is a refusal, and no more then.
+#[derive(Drop)]
+pub struct Strict<W> {
+    inner: W,
+    tally: Tally,
+    // how often more was to be taken after a refusal
+    late: u64,
+}
+
+impl<W> Strict<W> {
+    /// Passes answers on to this sink.
+    pub fn new(inner: W) -> Strict<W>
+        ensures inner { inner_of result ≡ inner }
+        ensures late { late_of result ≡ 0 }
+    {
+        Strict {
+            inner,
+            tally: Tally::new(),
+            late: 0,
+        }
+    }
+
+    /// The number of the line whose refusal was taken whole, counted from 1, if one was.
+    pub fn refused(&self) -> Option<u64> {
+        if self.tally.refused() > 0 && self.tally.has_ended() {
+            Some(self.tally.lines())
+        } else {
+            None
+        }
+    }
+}
+
+// How many bytes the line has that comes first, with its LF.
+fn line_length(bytes: &[u8]) -> usize
+    ensures within { result ≤ length bytes.now }
+    ensures some { 0 < length bytes.now → 0 < result }
+{
+    match line_end(bytes) {
+        Some(end) => end + 1,
+        None => bytes.len(),
+    }
+}
+
+impl<W: Sink> Sink for Strict<W> {
+    ghost taken = { λ s. W.taken (inner_of s) };
+
+    ghost failed_calls = { λ s. W.failed_calls (inner_of s) + late_of s };
+
+    fn write(&mut self, bytes: &[u8]) -> Result<usize, Failed> {
+        if self.refused().is_some() {
+            self.late += 1;
+            return Err(Failed);
+        }
+        let end = line_length(bytes);
+        let count = self.inner.write(&bytes[..end])?;
+        self.tally.hear(&bytes[..count]);
+        Ok(count)
+    }
+}
