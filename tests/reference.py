@@ -374,6 +374,11 @@ def same(protocol, first, second, kind=Room):
     return Outcome(b"same\n", told, 0) if found[0].view == found[1].view else Outcome(b"different\n", told, 1)
 
 
+def unopened(file, error):
+    """What is said of a file that can't be opened: its name, and the system's reason."""
+    return f"refused file {file}\n{error.strerror} (os error {error.errno})"
+
+
 def outcome_of(order, *files):
     """What an order over files comes to: the protocol is read and checked before a script is opened."""
     texts = []
@@ -384,8 +389,8 @@ def outcome_of(order, *files):
             load(texts[0])
     except Fault as fault:
         return Outcome(b"", fault.line, fault.status)
-    except OSError:
-        return Outcome(b"", f"refused file {file}", 2)
+    except OSError as error:
+        return Outcome(b"", unopened(file, error), 2)
     return {"check": check, "run": run, "same": same}[order](*texts)
 
 

@@ -130,13 +130,13 @@ later_tell session n Memory h = tt
 later_tell session n fault h = absurd h
 
 pub out_tell : (folder : Option (List ℕ)) (n : ℕ) (fault : ToolFault) → IsTellFault 1 n fault → IsOutFault folder n fault
-out_tell folder n Bind h = tt
+out_tell folder n (Bind why) h = tt
 out_tell folder n Accept h = tt
 out_tell folder n fault h = inl h
 
 pub hub_out : (folder : Option (List ℕ)) (n : ℕ) (fault : ToolFault) → IsHubFault folder n fault → IsOutFault folder n fault
 hub_out folder n Write h = inl tt
-hub_out folder n Bind h = tt
+hub_out folder n (Bind why) h = tt
 hub_out folder n Accept h = tt
 hub_out folder n Memory h = inl tt
 hub_out folder n fault h = inr h
@@ -151,7 +151,7 @@ tell_hub folder n fault h = absurd h
 -- the sessions fail to be kept
 pub keeping_hub : (folder : Option (List ℕ)) (n : ℕ) (fault : ToolFault) → IsKeepingFault folder n fault → IsHubFault folder n fault
 keeping_hub folder n Write h = tt
-keeping_hub folder n Bind h = tt
+keeping_hub folder n (Bind why) h = tt
 keeping_hub folder n Accept h = tt
 keeping_hub folder n Memory h = tt
 keeping_hub folder n fault h = h

@@ -46,7 +46,7 @@ IsJournalLine line session = (number : List ℕ) × (line ≡ codes "refused jou
 -- the line that tells the fault
 abbrev pub IsFaultLine : List ℕ → ToolFault → Type 0
 IsFaultLine line (Usage text) = line ≡ string_bytes text
-IsFaultLine line (File name) = line ≡ codes "refused file " ++ name.now
+IsFaultLine line (File name why) = line ≡ codes "refused file " ++ name.now
 IsFaultLine line (Text at kind) =
     (number : List ℕ) × (line ≡ codes "refused text " ++ text_word kind ++ codes " " ++ number) × IsNumberText number at
 IsFaultLine line (Protocol fault) = line ≡ codes "refused protocol " ++ protocol_word fault
@@ -56,7 +56,7 @@ IsFaultLine line Open = line ≡ codes "refused open"
 IsFaultLine line Read = line ≡ codes "refused read"
 IsFaultLine line Write = line ≡ codes "refused write"
 IsFaultLine line Turns = line ≡ codes "refused turns"
-IsFaultLine line Bind = line ≡ codes "refused bind"
+IsFaultLine line (Bind why) = line ≡ codes "refused bind"
 IsFaultLine line Accept = line ≡ codes "refused accept"
 IsFaultLine line (Lost session) =
     (number : List ℕ) × (line ≡ codes "refused lost " ++ number) × IsNumberText number session
@@ -70,7 +70,7 @@ IsFaultLine line Memory = line ≡ codes "refused memory"
 -- 2 for the words, the files and the port, 3 for the protocol and what a journal has, 4 for a device, a lost session and memory
 abbrev pub status_of : ToolFault → ℕ
 status_of (Usage text) = 2
-status_of (File name) = 2
+status_of (File name why) = 2
 status_of (Text at kind) = 3
 status_of (Protocol fault) = 3
 status_of (Projection role choice) = 3
@@ -78,7 +78,7 @@ status_of Open = 3
 status_of Read = 4
 status_of Write = 4
 status_of Turns = 4
-status_of Bind = 2
+status_of (Bind why) = 2
 status_of Accept = 4
 status_of (Lost session) = 4
 status_of (JournalFile session) = 2
@@ -133,7 +133,7 @@ after_writes (Err fault) before = before + failed_writes fault
 
 -- the file of that name can't be opened
 abbrev pub IsFileFault : List ℕ → ToolFault → Type 0
-IsFileFault name (File file) = file.now ≡ name
+IsFileFault name (File file why) = file.now ≡ name
 IsFileFault name fault = ⊥
 
 -- how the run of a script in an open session may break off: a read or a write fails, it is read from too often, or memory runs out

@@ -11,7 +11,7 @@ use Rattle.mps_program.specs.declared.faults.ToolFault.TheVariants.{File, Journa
 
 -- how the folder itself may fail: it can't be used, it is of another protocol, or memory ran out
 abbrev pub IsFolderFault : List ℕ → ToolFault → Type 0
-IsFolderFault folder (File name) = name.now ≡ folder
+IsFolderFault folder (File name why) = name.now ≡ folder
 IsFolderFault folder JournalProtocol = ⊤
 IsFolderFault folder Memory = ⊤
 IsFolderFault folder fault = ⊥

@@ -83,9 +83,14 @@ IsTellFault session n Write = ⊤
 IsTellFault session n Memory = ⊤
 IsTellFault session n fault = ⊥
 
+-- it has no port
+abbrev pub IsBindFault : ToolFault → Type 0
+IsBindFault (Bind why) = ⊤
+IsBindFault fault = ⊥
+
 -- how a server may fail whose sessions are kept in this folder, if they are: as the telling does, or it has no port, or accepts no more, or the sessions fail to be kept
 abbrev pub IsOutFault : Option (List ℕ) → ℕ → ToolFault → Type 0
-IsOutFault folder n Bind = ⊤
+IsOutFault folder n (Bind why) = ⊤
 IsOutFault folder n Accept = ⊤
 IsOutFault folder n fault = IsTellFault 1 n fault ⊎ IsKeepingFault folder n fault
 

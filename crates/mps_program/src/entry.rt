@@ -7,7 +7,7 @@ ghost use Rattle.mps_program.specs.declared.faults.ToolFault.TheVariants.{Open a
 
 use crate::check::check_file;
 use crate::comparison::compare_files;
-use crate::faults::{ToolFault, fault_line, status};
+use crate::faults::{ToolFault, fault_line, reason_of, status};
 use crate::running::run_file;
 use crate::serving::{Service, serve_file};
 use mps_hub::Limits;
@@ -94,14 +94,23 @@ pub fn obey<
     }
 }
 
-// Prints what went wrong: the line of the fault, or its display, which does not allocate.
-fn report<R: AllocGlobal + Eprint>(rt: &R, fault: &ToolFault<'_>) -> io::Result<()> {
+// Prints the line of the fault, or its display, which does not allocate.
+fn report_line<R: AllocGlobal + Eprint>(rt: &R, fault: &ToolFault<'_>) -> io::Result<()> {
     if let Ok(line) = fault_line(rt.alloc(), fault) {
         if let Ok(text) = str::from_utf8(line.as_slice()) {
             return eprintln!(rt; "{text}");
         }
     }
     eprintln!(rt; "{fault}")
+}
+
+// Prints what went wrong, and what the system says of it, if it says something.
+fn report<R: AllocGlobal + Eprint>(rt: &R, fault: &ToolFault<'_>) -> io::Result<()> {
+    report_line(rt, fault)?;
+    match reason_of(fault) {
+        Some(why) => eprintln!(rt; "{why}"),
+        None => Ok(()),
+    }
 }
 
 /// Prints what went wrong, if that can be printed, and gives the exit status.

@@ -10,6 +10,7 @@ use mps_text::{TextFault, TextKind};
 use mps_wire::script::ReplayFault;
 use mps_words::UseFault;
 use std::alloc::{AllocError, AllocFailed, Global};
+use std::io;
 use thiserror::Error;
 
 /// Why the program didn't do what it was told. What it displays as is its line, which `fault_line`
@@ -18,19 +19,32 @@ use thiserror::Error;
 pub enum ToolFault<'a> {
     /// The words are none of the program's; the text says how to use it.
     #[error("{text}")]
-    Usage { text: String },
-    /// The file can't be opened.
+    Usage {
+        text: String,
+    },
+    /// The file can't be opened; why, as the system says it.
     #[error("refused file {name}")]
-    File { name: &'a str },
+    File {
+        name: &'a str,
+        why: Option<io::Error>,
+    },
     /// The protocol's text has a fault.
     #[error("refused text {} {at}", text_word_of(*kind))]
-    Text { at: usize, kind: TextKind },
+    Text {
+        at: usize,
+        kind: TextKind,
+    },
     /// The protocol has a fault.
     #[error("refused protocol {}", protocol_word_of(*fault))]
-    Protocol { fault: GlobalFault },
+    Protocol {
+        fault: GlobalFault,
+    },
     /// The role does not do the same in each branch of that choice, counted in preorder from 0.
     #[error("refused projection {} {choice}", text_of(role))]
-    Projection { role: Name, choice: usize },
+    Projection {
+        role: Name,
+        choice: usize,
+    },
     /// No session can be opened with the types.
     #[error("refused open")]
     Open,
@@ -43,27 +57,38 @@ pub enum ToolFault<'a> {
     /// The script was read from too often.
     #[error("refused turns")]
     Turns,
-    /// The port can't be listened on.
+    /// The port can't be listened on; why, as the system says it.
     #[error("refused bind")]
-    Bind,
+    Bind {
+        why: Option<io::Error>,
+    },
     /// No connection can be accepted.
     #[error("refused accept")]
     Accept,
     /// The session's cell closed without a room.
     #[error("refused lost {session}")]
-    Lost { session: u64 },
+    Lost {
+        session: u64,
+    },
     /// The journal of a session can't be opened, or another process has it.
     #[error("refused journal {session}")]
-    JournalFile { session: u64 },
+    JournalFile {
+        session: u64,
+    },
     /// That line of a session's journal, counted from 1, is unreadable, or its command isn't accepted.
     #[error("refused journal {session} {line}")]
-    JournalLine { session: u64, line: u64 },
+    JournalLine {
+        session: u64,
+        line: u64,
+    },
     /// The folder keeps sessions of another protocol.
     #[error("refused journal protocol")]
     JournalProtocol,
     /// The journal of a session can't be read, or lines of it were lost.
     #[error("refused journal {session}")]
-    JournalLost { session: u64 },
+    JournalLost {
+        session: u64,
+    },
     /// Memory ran out.
     #[error("refused memory")]
     Memory,
@@ -186,7 +211,7 @@ fn write_line(fault: &ToolFault<'_>, out: &mut Vec<u8>) -> Result<(), AllocError
 {
     match fault {
         ToolFault::Usage { text } => out.extend_from_slice(text.as_bytes()),
-        ToolFault::File { name } => {
+        ToolFault::File { name, .. } => {
             out.extend_from_slice(b"refused file ")?;
             out.extend_from_slice(name.as_bytes())
         }
@@ -210,7 +235,7 @@ fn write_line(fault: &ToolFault<'_>, out: &mut Vec<u8>) -> Result<(), AllocError
         ToolFault::Read => out.extend_from_slice(b"refused read"),
         ToolFault::Write => out.extend_from_slice(b"refused write"),
         ToolFault::Turns => out.extend_from_slice(b"refused turns"),
-        ToolFault::Bind => out.extend_from_slice(b"refused bind"),
+        ToolFault::Bind { .. } => out.extend_from_slice(b"refused bind"),
         ToolFault::Accept => out.extend_from_slice(b"refused accept"),
         ToolFault::Lost { session } => {
             out.extend_from_slice(b"refused lost ")?;
@@ -231,6 +256,15 @@ fn write_line(fault: &ToolFault<'_>, out: &mut Vec<u8>) -> Result<(), AllocError
     }
 }
 
+/// What the system says of a fault of a file or of the port.
+pub(crate) fn reason_of<'f>(fault: &'f ToolFault<'_>) -> Option<&'f io::Error> {
+    match fault {
+        ToolFault::File { why, .. } => why.as_ref(),
+        ToolFault::Bind { why } => why.as_ref(),
+        _ => None,
+    }
+}
+
 /// The exit status for the fault: 2 for the words, files and the port, 3 for the protocol and what a
 /// journal has, 4 for a device, a lost session and memory.
 pub fn status(fault: &ToolFault<'_>) -> u8
@@ -239,7 +273,7 @@ pub fn status(fault: &ToolFault<'_>) -> u8
     match fault {
         ToolFault::Usage { .. }
         | ToolFault::File { .. }
-        | ToolFault::Bind
+        | ToolFault::Bind { .. }
         | ToolFault::JournalFile { .. } => 2,
         ToolFault::Text { .. }
         | ToolFault::Protocol { .. }

@@ -2,9 +2,9 @@
 ghost use Rattle.std.specs.Prelude.{◌≡◌, ◌+◌, ◌<◌, ◌≤◌, ◌^◌, ◌++◌, ℕ, List, length, IfOk, IfErr, OnErr, OnOk};
 ghost use Rattle.mps_dev.specs.Standard.{calls_of};
 ghost use Rattle.std.specs.Io.KnownBytes.{Appends, Consumes, IsAtEnd};
-ghost use Rattle.mps_program.specs.Faults.{IsReadFault, after_writes};
+ghost use Rattle.mps_program.specs.Faults.{IsFileFault, IsReadFault, after_writes};
 ghost use Rattle.mps_program.specs.Files.{HasReadAtMost, longest, most_read};
-ghost use Rattle.mps_program.specs.declared.faults.ToolFault.TheVariants.{File as NoFile, Write as NotWritten};
+ghost use Rattle.mps_program.specs.declared.faults.ToolFault.TheVariants.{Write as NotWritten};
 ghost use Rattle.mps_wire.specs.Sending.{TookFront};
 
 use crate::faults::ToolFault;
@@ -18,11 +18,14 @@ use std::rt::Files;
 /// Opens the file, of which nothing was read yet.
 pub fn open_file<'a, R: Files>(rt: &R, name: &'a str) -> Result<OverRead<R::File>, ToolFault<'a>>
     ensures fresh { IfOk result (λ reader. calls_of reader ≡ 0) }
-    ensures fault { IfErr result (λ fault. fault ≡ NoFile name.entry) }
+    ensures fault { IfErr result (IsFileFault name.now) }
 {
     match fs::open(rt, name) {
         Ok(opened) => Ok(OverRead::new(opened)),
-        Err(_) => Err(ToolFault::File { name }),
+        Err(why) => Err(ToolFault::File {
+            name,
+            why: Some(why),
+        }),
     }
 }
 

@@ -75,8 +75,18 @@ fn has_protocol<'a, R: Files<File = File> + AllocGlobal>(
         Err(error) => match error.kind() {
             ErrorKind::NotFound => Ok(false),
             ErrorKind::OutOfMemory => Err(ToolFault::Memory),
-            _ => Err(ToolFault::File { name: folder }),
+            _ => Err(unusable(folder, error)),
         },
+    }
+}
+
+// The folder can't be used, for what the system says.
+fn unusable<'a>(folder: &'a str, error: io::Error) -> ToolFault<'a>
+    ensures { IsFolderFault folder.now result }
+{
+    ToolFault::File {
+        name: folder,
+        why: Some(error),
     }
 }
 
@@ -224,20 +234,25 @@ pub fn keep_sessions<'a, R: Files<File = File> + AllocGlobal + Wait + 'static>(
     let folder = journal.folder;
     let path = format!(in alloc; "{folder}/protocol")?;
     let beside = format!(in alloc; "{folder}/protocol.new")?;
-    if make_folder(rt, folder).is_err() {
-        return Err(ToolFault::File { name: folder });
+    if let Err(error) = make_folder(rt, folder) {
+        return Err(unusable(folder, error));
     }
     let known = has_protocol(rt, folder, path.as_str(), protocol)?;
     let files = open_journals(rt, folder, sessions)?;
     let known = known || has_protocol(rt, folder, path.as_str(), protocol)?;
     let read = restore_all(rt, desk, files)?;
-    if !known && write_whole(rt, path.as_str(), beside.as_str(), protocol).is_err() {
-        return Err(ToolFault::File { name: folder });
+    if !known {
+        if let Err(error) = write_whole(rt, path.as_str(), beside.as_str(), protocol) {
+            return Err(unusable(folder, error));
+        }
     }
     let keepers = keep_all(alloc, read, journal.sync)?;
     let parent = format!(in alloc; "{folder}/..")?;
     if journal.sync && !(has_synced(rt, folder) && has_synced(rt, parent.as_str())) {
-        return Err(ToolFault::File { name: folder });
+        return Err(ToolFault::File {
+            name: folder,
+            why: None,
+        });
     }
     Ok(keepers)
 }

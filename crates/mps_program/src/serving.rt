@@ -4,10 +4,9 @@ ghost use Rattle.std.specs.Option.{option_map};
 ghost use Rattle.mps_program.specs.Faults.{after_reads, after_writes};
 ghost use Rattle.mps_program.specs.Files.{HasReadAtMost, most_read};
 ghost use Rattle.mps_program.specs.Journals.{IsKeepingFault, kept_of};
-ghost use Rattle.mps_program.specs.Served.{AreLinesUpTo, AreSessionLines, HasOpened, HasServed, HasServedUpTo, IfLost, IsListeningLine, IsOutFault, IsPortFor, IsServeFault, IsSessionLine, IsTellFault};
+ghost use Rattle.mps_program.specs.Served.{AreLinesUpTo, AreSessionLines, HasOpened, HasServed, HasServedUpTo, IfLost, IsBindFault, IsListeningLine, IsOutFault, IsPortFor, IsServeFault, IsSessionLine, IsTellFault};
 ghost use Rattle.mps_program.specs.Private.Served.{IsHubFault, TellsPort, TookOne, of_serving};
 ghost use Rattle.mps_program.specs.Streams.{CantLoad};
-ghost use Rattle.mps_program.specs.declared.faults.ToolFault.TheVariants.{Bind as NoPort};
 
 use crate::check::written_protocol;
 use crate::faults::ToolFault;
@@ -109,14 +108,14 @@ fn tell_sessions<'a, W: Sink>(
 // The port of a listener that was to have this one, where 0 is any that is free.
 fn port_of<'a>(listener: &TcpListener, wanted: u16) -> Result<u16, ToolFault<'a>>
     ensures port { IfOk result (IsPortFor wanted) }
-    ensures fault { IfErr result (λ fault. fault ≡ NoPort) }
+    ensures fault { IfErr result IsBindFault }
 {
     if wanted != 0 {
         return Ok(wanted);
     }
     match listener.local_addr() {
         Ok(addr) => Ok(addr.port()),
-        Err(_) => Err(ToolFault::Bind),
+        Err(why) => Err(ToolFault::Bind { why: Some(why) }),
     }
 }
 
@@ -126,13 +125,15 @@ fn listen<'a, R: Net<Listener = TcpListener, Stream = TcpStream>>(
     port: u16,
 ) -> Result<(TcpListener, u16), ToolFault<'a>>
     ensures port { IfOk result (λ r. IsPortFor port r.1) }
-    ensures fault { IfErr result (λ fault. fault ≡ NoPort) }
+    ensures fault { IfErr result IsBindFault }
 {
-    let Ok(listener) = TcpListener::bind(rt, SocketAddr::from((Ipv4Addr::LOCALHOST, port))) else {
-        return Err(ToolFault::Bind);
-    };
-    let found = port_of(&listener, port)?;
-    Ok((listener, found))
+    match TcpListener::bind(rt, SocketAddr::from((Ipv4Addr::LOCALHOST, port))) {
+        Ok(listener) => {
+            let found = port_of(&listener, port)?;
+            Ok((listener, found))
+        }
+        Err(why) => Err(ToolFault::Bind { why: Some(why) }),
+    }
 }
 
 // The keepers of the desk's sessions, if they are kept.

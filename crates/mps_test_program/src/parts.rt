@@ -160,12 +160,19 @@ fn tells(alloc: Global, fault: &ToolFault<'_>, line: &str, code: u8) -> Result<b
 #[test]
 fn tells_faults(rt: HostRuntime) -> Result<(), Fail> {
     let faults = [
-        (ToolFault::File { name: "a b" }, "refused file a b", 2),
+        (
+            ToolFault::File {
+                name: "a b",
+                why: None,
+            },
+            "refused file a b",
+            2,
+        ),
         (ToolFault::Open, "refused open", 3),
         (ToolFault::Read, "refused read", 4),
         (ToolFault::Write, "refused write", 4),
         (ToolFault::Turns, "refused turns", 4),
-        (ToolFault::Bind, "refused bind", 2),
+        (ToolFault::Bind { why: None }, "refused bind", 2),
         (ToolFault::Accept, "refused accept", 4),
         (ToolFault::Lost { session: 12 }, "refused lost 12", 4),
         (ToolFault::Memory, "refused memory", 4),

@@ -99,14 +99,14 @@ const RUNS: &[Row] = &[
         &["mps_tool", "run", "relay", "no script"],
         1000,
         "",
-        "refused file no script\n",
+        "refused file no script\nentity not found\n",
         2,
     ),
     Row(
         &["mps_tool", "run", "no file", "script"],
         1000,
         "",
-        "refused file no file\n",
+        "refused file no file\nentity not found\n",
         2,
     ),
     // the protocol is read and checked before the script is opened
@@ -159,7 +159,7 @@ const STRICT: &[Row] = &[
         &["mps_tool", "run", "--strict", "relay", "no script"],
         1000,
         "",
-        "refused file no script\n",
+        "refused file no script\nentity not found\n",
         2,
     ),
 ];
@@ -241,7 +241,7 @@ const COMPARISONS: &[Row] = &[
         &["mps_tool", "same", "no file", "no script", "none"],
         1000,
         "",
-        "refused file no file\n",
+        "refused file no file\nentity not found\n",
         2,
     ),
     // the protocol is checked before a script is opened
@@ -263,7 +263,7 @@ const COMPARISONS: &[Row] = &[
         &["mps_tool", "same", "pairs", "no script", "none"],
         1000,
         "",
-        "refused file no script\n",
+        "refused file no script\nentity not found\n",
         2,
     ),
     // how many lines were refused is told
@@ -279,7 +279,7 @@ const COMPARISONS: &[Row] = &[
         &["mps_tool", "same", "pairs", "torn", "none"],
         1000,
         "",
-        "refused file none\n",
+        "refused file none\nentity not found\n",
         2,
     ),
     Row(
@@ -347,7 +347,7 @@ const CHECKS: &[Row] = &[
         &["mps_tool", "check", "no file"],
         1000,
         "",
-        "refused file no file\n",
+        "refused file no file\nentity not found\n",
         2,
     ),
 ];
@@ -359,7 +359,7 @@ fn obeyed<'a, R: Files + AllocGlobal + Print + Eprint>(
 ) -> Result<u8, ToolFault<'a>> {
     match order(rt.alloc(), words)? {
         Order::Offline(task) => carry_out(rt, task),
-        Order::Serve { .. } => Err(ToolFault::Bind),
+        Order::Serve { .. } => Err(ToolFault::Bind { why: None }),
     }
 }
 

@@ -19,7 +19,7 @@ TellsPort wanted line = (port : ℕ) × IsPortFor wanted port × IsListeningLine
 -- how the serving itself may fail: it has no port, or can't tell it, it accepts no more, memory ran out, or the sessions fail to be kept
 abbrev pub IsHubFault : Option (List ℕ) → ℕ → ToolFault → Type 0
 IsHubFault folder n Write = ⊤
-IsHubFault folder n Bind = ⊤
+IsHubFault folder n (Bind why) = ⊤
 IsHubFault folder n Accept = ⊤
 IsHubFault folder n Memory = ⊤
 IsHubFault folder n fault = IsKeepingFault folder n fault
