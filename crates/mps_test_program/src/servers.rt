@@ -1,5 +1,4 @@
 //! The server, over a socket.
-ghost use Rattle.std.specs.Prelude.{◌≤◌};
 
 use mps_dev::{Pieces, Short};
 use mps_hub::Limits;
@@ -39,8 +38,10 @@ where
         + Wait
         + Sync
         + 'static,
-    requires some { (1 ≤ sessions) × (sessions ≤ 16) }
 {
+    if sessions == 0 || sessions > 16 {
+        return Err("1 to 16 sessions".into());
+    }
     let alloc = rt.alloc();
     let text = vec![in alloc; Vec::from_slice(alloc, protocol)?]?;
     let mut writer = Short::new(alloc, 100)?;
@@ -105,7 +106,6 @@ where
         + Wait
         + Sync
         + 'static,
-    requires some { (1 ≤ sessions) × (sessions ≤ 16) }
 {
     let alloc = rt.alloc();
     let (written, answers) = join(

@@ -10,8 +10,6 @@ use mps_wire::Ending;
 use std::alloc::Global;
 use std::sync::Wait;
 use std::test::Fail;
-use std::thread;
-use std::thread::Threads;
 
 // The roles a and b.
 fn two_names(alloc: Global) -> Result<Roles, Fail> {
@@ -203,42 +201,6 @@ fn tells_that_a_pass_is_taken(rt: HostRuntime) -> Result<(), Fail> {
     };
     assert!(rt; joining(&rt, alloc, &desk, b"refused taken\n")? == Attended::TurnedAway);
     desk.give(&rt, 1, pass);
-    assert!(rt;
-        joining(&rt, alloc, &desk, b"joined 1 a\n")? == Attended::Conversed(Ending::Closed)
-    );
-    Ok(())
-}
-
-// Takes the pass of that name a thousand times, and gives it back. Counts how often it was there.
-fn takes_and_gives<R: Wait>(rt: &R, desk: &Desk<'_>, name: &Name, found: &mut u64) {
-    for _ in 0..1000 {
-        if let Ok(pass) = desk.take(rt, 1, name) {
-            *found = u64::wrapping_add(*found, 1);
-            desk.give(rt, 1, pass);
-        }
-    }
-}
-
-// So do eight threads at one desk.
-fn all_take<R: Threads + Wait + Sync>(rt: &R, desk: &Desk<'_>, name: &Name, found: &mut [u64]) {
-    thread::for_each_mut(
-        rt,
-        found,
-        8,
-        &|_, found| takes_and_gives(rt, desk, name, found),
-    );
-}
-
-#[test]
-fn threads_take_and_give(rt: HostRuntime) -> Result<(), Fail> {
-    let alloc = rt.alloc();
-    let mut hub = hub(alloc)?;
-    let deal = hub.deal().ok_or("given")?;
-    let desk = hub.desk_of(alloc, deal)?;
-    let name = Name::read(b"a").ok_or("a name")?;
-    let mut found = vec![in alloc; 0u64; 8]?;
-    all_take(&rt, &desk, &name, found.as_mut_slice());
-    assert!(rt; found.iter().any(|count| *count > 0));
     assert!(rt;
         joining(&rt, alloc, &desk, b"joined 1 a\n")? == Attended::Conversed(Ending::Closed)
     );
