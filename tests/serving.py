@@ -43,10 +43,11 @@ class Started(subprocess.Popen):
 
 
 class Server:
-    """The program, as it serves a protocol."""
+    """The program, as it serves a protocol, to so many connections or without a limit."""
 
-    def __init__(self, path, sessions, connections, wrap=(), protocol=RELAY, port=0, more=()):
-        words = ["serve", str(protocol), "--port", str(port), "--sessions", str(sessions), "--connections", str(connections), *more]
+    def __init__(self, path, sessions, connections=None, wrap=(), protocol=RELAY, port=0, more=()):
+        words = ["serve", str(protocol), "--port", str(port), "--sessions", str(sessions), *more]
+        words += [] if connections is None else ["--connections", str(connections)]
         self.process = Started([*wrap, path, *words], stdin=subprocess.DEVNULL, stdout=subprocess.PIPE, stderr=subprocess.PIPE)
         line = self.process.stdout.readline().split()
         self.port = int(line[1]) if line[:1] == ["listening"] else 0
