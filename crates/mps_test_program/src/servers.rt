@@ -88,41 +88,20 @@ fn free_port<R: Net<Listener = TcpListener, Stream = TcpStream>>(rt: &R) -> io::
     TcpListener::bind(rt, "127.0.0.1:0")?.local_addr()
 }
 
-// What a server of so many sessions of the protocol writes where a client comes with these lines, and what that is answered.
-fn served<R>(
-    rt: &R,
-    addr: SocketAddr,
-    protocol: &[u8],
-    sessions: u64,
-    lines: &[u8],
-) -> Result<(Vec<u8>, Vec<u8>), Fail>
-where
-    R: Files<File = File>
-        + AllocGlobal
-        + Eprint
-        + Net<Listener = TcpListener, Stream = TcpStream>
-        + Clock
-        + Threads
-        + Wait
-        + Sync
-        + 'static,
-{
-    let alloc = rt.alloc();
-    let (written, answers) = join(
-        rt,
-        || written(rt, addr.port(), protocol, sessions),
-        || answered(rt, alloc, addr, lines),
-    );
-    Ok((written?, answers?))
-}
-
 #[test]
 fn serves_a_client(rt: HostRuntime) -> Result<(), Fail> {
+    let alloc = rt.alloc();
     let addr = free_port(&rt)?;
-    let (written, answers) = served(&rt, addr, RELAY, 2, b"join 2 a\nsend b 5\nsend b 6\n")?;
+    let (lines, answers) = join(
+        &rt,
+        || written(&rt, addr.port(), RELAY, 2),
+        || answered(&rt, alloc, addr, b"join 2 a\nsend b 5\nsend b 6\n"),
+    );
+    let lines = lines?;
+    let answers = answers?;
     assert!(rt; answers.as_slice() == b"joined 2 a\ndone 1\nrefused ended\n".as_slice());
-    assert!(rt; written.starts_with(b"listening "));
-    assert!(rt; written.ends_with(b"\nsession 1 0\nsession 2 1\n"));
+    assert!(rt; lines.starts_with(b"listening "));
+    assert!(rt; lines.ends_with(b"\nsession 1 0\nsession 2 1\n"));
     Ok(())
 }
 
@@ -134,10 +113,17 @@ const ANSWERS: &[u8] =
 
 #[test]
 fn counts_accepted_commands(rt: HostRuntime) -> Result<(), Fail> {
+    let alloc = rt.alloc();
     let addr = free_port(&rt)?;
-    let (written, answers) = served(&rt, addr, VERDICT, 1, COUNTED)?;
+    let (lines, answers) = join(
+        &rt,
+        || written(&rt, addr.port(), VERDICT, 1),
+        || answered(&rt, alloc, addr, COUNTED),
+    );
+    let lines = lines?;
+    let answers = answers?;
     assert!(rt; answers.as_slice() == ANSWERS);
-    let wanted = format!(in rt.alloc(); "listening {}\nsession 1 3\n", addr.port())?;
-    assert!(rt; written.as_slice() == wanted.as_bytes());
+    let wanted = format!(in alloc; "listening {}\nsession 1 3\n", addr.port())?;
+    assert!(rt; lines.as_slice() == wanted.as_bytes());
     Ok(())
 }
