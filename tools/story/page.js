@@ -109,6 +109,11 @@ function made(tag, classes, ...inside) {
   return element;
 }
 
+// Says something else in a place which is read aloud when it changes.
+function tell(place, elements) {
+  if (place.textContent !== elements.map((it) => it.textContent).join("")) place.replaceChildren(...elements);
+}
+
 class Page {
   constructor(story) {
     this.story = story;
@@ -162,7 +167,7 @@ class Page {
     this.find("where").textContent = `${line} of ${story.end}`;
     const told = made("p", "", story.told[line - story.begin]);
     if (story.refused.has(line)) told.prepend(made("strong", "", "Refused. "));
-    this.find("told").replaceChildren(told);
+    tell(this.find("told"), [told]);
     this.find("told").className = story.refused.has(line) ? "refused" : "";
     for (const [number, button] of this.lines) {
       button.tabIndex = number === line ? 0 : -1;
@@ -220,7 +225,11 @@ class Page {
     const bands = new Set(seen.map((number) => this.dots.get(number).closest(".band")));
     this.bands.forEach((band, place) => band.toggleAttribute("hidden", place > 0 && !bands.has(band)));
     const stop = seen.includes(this.chosen) ? this.chosen : seen[seen.length - 1];
-    for (const [number, dot] of this.dots) dot.setAttribute("tabindex", number === stop ? "0" : "-1");
+    const there = new Set(seen);
+    for (const [number, dot] of this.dots) {
+      dot.setAttribute("tabindex", number === stop ? "0" : "-1");
+      dot.setAttribute("aria-hidden", String(!there.has(number)));
+    }
   }
 
   // The numbers of the steps that are seen.
@@ -239,8 +248,8 @@ class Page {
   showChosen() {
     const step = this.story.steps.get(this.chosen);
     this.find("step_title").textContent = step ? `Step ${step.number}` : "Step";
-    this.find("chosen").replaceChildren(...(step ? this.toldOf(step) : [
-      made("p", "", "Click on a step, or go to it with Up and Down and press Enter, to see what a rollback of it would take back.")]));
+    tell(this.find("chosen"), step ? this.toldOf(step) : [
+      made("p", "", "Click on a step, or go to it with Up and Down and press Enter, to see what a rollback of it would take back.")]);
   }
 
   // What there is to say of a step.
@@ -318,21 +327,23 @@ class Page {
       made("mark", "", made("span", "unseen", "here: "), here), end && " ", end);
   }
 
+  // Scrolls a pane so far that an element is in view, with so much around it.
+  bring(pane, element, around) {
+    if (!element) return;
+    const [outer, inner] = [pane.getBoundingClientRect(), element.getBoundingClientRect()];
+    pane.scrollTop -= Math.max(0, outer.top + around - inner.top);
+    pane.scrollTop += Math.max(0, inner.bottom + around - outer.bottom);
+    pane.scrollLeft -= Math.max(0, outer.left + around - inner.left);
+    pane.scrollLeft += Math.max(0, inner.right + around - outer.right);
+  }
+
   // Brings the line and what is new into view, each in its pane.
   follow() {
-    const bring = (pane, element) => {
-      if (!element) return;
-      const [outer, inner] = [pane.getBoundingClientRect(), element.getBoundingClientRect()];
-      if (inner.top < outer.top) pane.scrollTop -= outer.top - inner.top + 8;
-      if (inner.bottom > outer.bottom) pane.scrollTop += inner.bottom - outer.bottom + 8;
-      if (inner.left < outer.left) pane.scrollLeft -= outer.left - inner.left + 8;
-      if (inner.right > outer.right) pane.scrollLeft += inner.right - outer.right + 8;
-    };
-    bring(this.find("lines"), this.lines.get(this.line));
+    this.bring(this.find("lines"), this.lines.get(this.line), 8);
     const changed = [...this.story.steps.values()].filter((step) => step.born === this.line || step.gone === this.line);
     const last = changed.length ? changed[changed.length - 1].number : this.seen().pop();
-    bring(this.find("picture"), this.dots.get(last));
-    if (changed.length > 1) bring(this.find("picture"), this.dots.get(changed[0].number));
+    this.bring(this.find("picture"), this.dots.get(last), 48);
+    if (changed.length > 1) this.bring(this.find("picture"), this.dots.get(changed[0].number), 48);
   }
 
   // Goes from the step that has the focus to the one so many places further.
