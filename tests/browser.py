@@ -47,6 +47,10 @@ class Browser:
         return self
 
     def __exit__(self, *_):
+        self.close()
+
+    def close(self):
+        """Ends the browser."""
         self.process.terminate()
         self.process.wait(ENDS)
         os.close(self.out)

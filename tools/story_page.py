@@ -11,7 +11,7 @@ from story_chains import links, runs
 
 PARTS = os.path.join(os.path.dirname(os.path.realpath(__file__)), "story")
 WIDE, MARGIN = 880, 16  # the width of a band, and what is left free at its right
-ANSWER = 240  # letters of an answer that are shown at most
+LETTERS = 560  # of a line and of an answer that are shown at most
 SLOTS = 500  # of the newest slots of a role at most the page tells
 
 
@@ -149,7 +149,7 @@ def before(story):
 def lines(story):
     """The lines of the script with their answers, each as a button."""
     rows = [(story.begin, f"before line {story.begin + 1}", "", "")]
-    rows += [(line.number, line.text, said_short(line.answer), line.answer.split(" ")[0]) for line in story.lines]
+    rows += [(line.number, cut(line.text), cut(line.answer), line.answer.split(" ")[0]) for line in story.lines]
     for number, text, answer, kind in rows:
         kind = kind if kind in ("refused", "undone") else ""
         yield (f'<li><button type="button" class="line {kind}" data-line="{number}" tabindex="-1">'
@@ -157,9 +157,9 @@ def lines(story):
                f'</button></li>')
 
 
-def said_short(answer):
-    """An answer, cut short where it is long."""
-    return answer if len(answer) <= ANSWER else f"{answer[:ANSWER]} .. ({len(answer):,} bytes)"
+def cut(text):
+    """A line or an answer, cut short where it is longer than lines may be."""
+    return text if len(text) <= LETTERS else f"{text[:LETTERS]} .. ({len(text):,} letters)"
 
 
 def roles(story):

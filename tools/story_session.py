@@ -94,6 +94,7 @@ class Session:
         for row in rows:
             if not self.survives(row[0]):
                 self.add(read_step(*row), line)
+        rest = re.sub(rb'"past":\[[0-9,]*\]', b'"past":[]', rest)  # as long as the history, which has it all
         self.shown = self.state(json.loads(b'{"queues":' + rest), line)
 
     def state(self, shown, line):

@@ -88,37 +88,45 @@ def next_of(session, role):
 
 
 def wrong_act(session, role, verb, _):
+    """The type allows an act of another kind."""
     verb = "receive" if verb == "recv" else verb
     return f"{role} asks to {verb}, but {next_of(session, role)}."
 
 
 def wrong_peer(session, role, verb, parts):
+    """The type names another peer."""
     verb = {"send": "send to", "recv": "receive from", "choose": "choose for", "pick": "pick from"}[verb]
     return f"{role} asks to {verb} {parts[0]}, but {next_of(session, role)}."
 
 
 def wrong_sort(session, role, _, parts):
+    """The value is of another sort."""
     sort = "a text" if parts[1].startswith('"') else "a bool" if parts[1] in ("true", "false") else "an int"
     return f"{parts[1]} is {sort}, but {next_of(session, role)}."
 
 
 def no_label(session, role, _, parts):
+    """No branch has the label."""
     return f"{parts[1]} is no label of this choice: {next_of(session, role)}."
 
 
-def ended(session, role, *_):
+def ended(_session, role, *_):
+    """The role's part has ended."""
     return f"{role}'s part of the protocol has ended. It can still mark, commit, and take steps back."
 
 
 def nothing_queued(session, role, _, parts):
+    """No message waits: its sender has something to do first."""
     return f"No message waits for {role} from {parts[0]}: {next_of(session, parts[0])}."
 
 
-def mismatch(session, role, _, parts):
+def mismatch(_session, role, _, parts):
+    """The message that waits first isn't expected."""
     return f"The message that waits first from {parts[0]} is another than {role} expects."
 
 
 def no_step(session, _role, _verb, parts):
+    """No step of that number survives: it was taken back, or there was none."""
     number = int(parts[0])
     line, role = session.skipped.get(number, (None, None))
     if number in session.made:
@@ -128,12 +136,14 @@ def no_step(session, _role, _verb, parts):
     return f"No step has the number {number}" + (" yet." if number > session.newest else ".")
 
 
-def not_yours(session, role, verb, parts):
+def not_yours(session, role, _, parts):
+    """The step is another role's."""
     owner = session.made[int(parts[0])].step.role
     return f"Step {parts[0]} is {owner}'s, and {role} can take back its own steps alone."
 
 
-def needed(session, role, _, parts, number):
+def needed(session, _role, _verb, parts, number):
+    """Another step depends on it, directly, since it is the first of those that do."""
     return f"{link(session.made, number, int(parts[0]))}: take that back first."
 
 
@@ -155,6 +165,7 @@ def first_after(session, role, mark):
 
 
 def no_mark(session, role, _, parts):
+    """No mark of that name survives."""
     gone = [it for it in session.made.values() if it.gone and it.step[1:5] == (role, "mark", None, parts[0])]
     if gone:
         return f"{role}'s mark {parts[0]}, step {gone[-1].step.number}, was taken back by {gone[-1].by} in line {gone[-1].gone}."

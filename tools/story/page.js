@@ -163,10 +163,11 @@ class Page {
     const { story, line } = this;
     const slider = this.find("position");
     slider.value = line;
-    slider.setAttribute("aria-valuetext", `line ${line}`);
+    slider.setAttribute("aria-valuetext", this.lines.get(line).textContent);
     this.find("where").textContent = `${line} of ${story.end}`;
     const told = made("p", "", story.told[line - story.begin]);
     if (story.refused.has(line)) told.prepend(made("strong", "", "Refused. "));
+    told.prepend(made("span", "unseen", `Line ${line}: `));
     tell(this.find("told"), [told]);
     this.find("told").className = story.refused.has(line) ? "refused" : "";
     for (const [number, button] of this.lines) {
@@ -218,12 +219,17 @@ class Page {
       Boolean(survives && taker && band(taker.number) !== band(step.number)));
   }
 
-  // Bands in which there is nothing yet aren't shown, except the first; of the steps that are seen one is in the order of keys.
+  // Of bands in which there is nothing yet, except the first, only the room is there; and nothing of those whose steps are all
+  // hidden. Of the steps that are seen one is in the order of keys.
   showBands() {
     this.find("picture").classList.toggle("no_outlines", !this.find("outlines").checked);
     const seen = this.seen();
     const bands = new Set(seen.map((number) => this.dots.get(number).closest(".band")));
-    this.bands.forEach((band, place) => band.toggleAttribute("hidden", place > 0 && !bands.has(band)));
+    const last = Math.max(0, ...[...bands].map((band) => this.bands.indexOf(band)));
+    this.bands.forEach((band, place) => {
+      band.classList.toggle("later", place > last);
+      band.toggleAttribute("hidden", place < last && !bands.has(band));
+    });
     const stop = seen.includes(this.chosen) ? this.chosen : seen[seen.length - 1];
     const there = new Set(seen);
     for (const [number, dot] of this.dots) {
@@ -278,14 +284,13 @@ class Page {
       .filter(([, own]) => own.length).map(([role, own]) => `${own.join(", ")} of ${role}`).join("; ");
   }
 
-  // Names that have just come are marked, and those that are gone stay struck out for this line.
-  compared(now, before, spell) {
-    const last = this.line > this.story.begin ? before : now;
-    const [keys, old] = [now.map(spell), last.map(spell)];
+  // What has just come is marked, and what is gone stays struck out for this line, with the reason.
+  compared(now, before, spell, why) {
+    const [keys, old] = [now.map(spell), before.map(spell)];
     const shown = keys.map((key) => (old.includes(key) ? made("span", "", key) :
       made("span", "", made("ins", "", key), made("span", "flag", "new"))));
-    const gone = old.filter((key) => !keys.includes(key));
-    return [...shown, ...gone.map((key) => made("span", "", made("del", "", key), made("span", "flag", "gone")))];
+    const gone = before.filter((_, place) => !keys.includes(old[place]));
+    return [...shown, ...gone.map((it) => made("span", "", made("del", "", spell(it)), made("span", "flag", why(it))))];
   }
 
   // The line before this one, or this one where the story begins with it.
@@ -305,7 +310,8 @@ class Page {
       const row = made("li", "queue", made("strong", "", title));
       if (here.earlier) row.append(`${here.earlier} of steps that are left out; `);
       const spell = (number) => `${story.steps.get(number).what} (step ${number})`;
-      this.compared(here.waiting, there.waiting, spell).forEach((it, place) => row.append(place ? ", " : "", it));
+      const why = (number) => (Story.survives(story.steps.get(number), this.line) ? "received" : "taken back");
+      this.compared(here.waiting, there.waiting, spell, why).forEach((it, place) => row.append(place ? ", " : "", it));
       return row;
     });
     this.find("queues").replaceChildren(...(rows.length ? rows : [made("li", "", "None.")]));
@@ -317,7 +323,7 @@ class Page {
     const expects = now.expects === last.expects ? [now.expects] :
       [made("ins", "", now.expects), made("span", "flag", "new"), ` before: ${last.expects}`];
     section.querySelector(".expects").replaceChildren(...expects);
-    const slots = this.compared(now.slots, last.slots, ([slot, value]) => `${slot} = ${value}`);
+    const slots = this.compared(now.slots, last.slots, ([slot, value]) => `${slot} = ${value}`, () => "gone");
     const keeps = slots.flatMap((it, place) => (place ? [", ", it] : [it]));
     if (now.earlier) keeps.unshift(`${now.earlier} slots that are left out; `);
     section.querySelector(".keeps").replaceChildren(...(keeps.length ? keeps : ["nothing"]));
