@@ -69,15 +69,15 @@ class Scene(Layout):
     def dot(self, it):
         """A step's dot and label. A ring stands around a new one, a cross is on one that has just been taken back."""
         made, step, y = self.made[it.step.number], it.step, it.y + (25 if it.down < 0 else -31)
-        left, top, wide = it.x - it.dot, it.y - DOT, 2 * it.dot
+        left, top, wide, high = it.x - it.dot, it.y - DOT, 2 * it.dot, 2 * DOT + 8
         round_ = "" if step.act == "commit" else f' rx="{DOT}"'
         ring = f' rx="{DOT + 4}"' if round_ else ""
         return (
             f'<g class="step {step.act}{" gone" if made.gone else ""}" data-step="{step.number}" role="button" tabindex="-1" '
             f'aria-pressed="false"><title>{step.number}</title>'
-            f'<rect class="ring" x="{left - 4}" y="{top - 4}" width="{wide + 8}" height="{2 * DOT + 8}"{ring}/>'
+            f'<rect class="ring" x="{left - 4}" y="{top - 4}" width="{wide + 8}" height="{high}"{ring}/>'
             f'<rect class="dot" x="{left}" y="{top}" width="{wide}" height="{2 * DOT}"{round_}/>'
-            f'<path class="cross" d="M{left - 4} {top - 4} l{wide + 8} {2 * DOT + 8} m0 -{2 * DOT + 8} l-{wide + 8} {2 * DOT + 8}"/>'
+            f'<path class="cross" d="M{left - 4} {top - 4} l{wide + 8} {high} m0 -{high} l-{wide + 8} {high}"/>'
             + texts(it.x, it.y + 4, [str(step.number)], ' class="number"') + texts(it.x, y, it.lines[:1], ' class="act"')
             + texts(it.x, y + 14, it.lines[1:2], ' class="what"') + texts(it.x, y + 14, it.lines[2:], ' class="by"') + "</g>")
 
@@ -103,10 +103,9 @@ class Data:
         step, number = made.step, made.step.number
         before = links(number, self.after[self.after.index((number, made.takes, made.follows)) + 1:])
         what = [-1 if it is None else self.text(it) for it in (step.name, None if step.what is None else said(step.what))]
+        depend = " ".join(str(first) if first == last else f"{first}-{last}" for first, last in runs(before))
         return [number, self.role(step.role), step.act, self.role(step.peer), *what, made.takes or 0, made.born,
-                made.gone or 0, self.role(made.by), " ".join("-".join(map(str, run if run[0] < run[1] else run[:1]))
-                                                             for run in runs(list(before))),
-                " ".join(map(str, before.values()))]
+                made.gone or 0, self.role(made.by), depend, " ".join(map(str, before.values()))]
 
     def queue(self, pair, numbers):
         """A queue: how many messages of steps that are left out wait first, and the steps whose messages wait."""
@@ -198,9 +197,9 @@ def page(story, protocol, script):
     """The page of the story of a script under a protocol, by their names."""
     colours = f":root {{ --ink: {INK}; --arrow: {ARROW}; --shade: {SHADE}; --paper: {PAPER}; --letter: {LETTER}px; }}\n"
     style, code, end = colours + part("page.css"), part("page.js"), story.begin + len(story.lines)
+    allowed = f"style-src {digest(style)}; script-src {digest(code)}"
     return string.Template(part("page.html")).substitute(
-        policy=f"default-src 'none'; style-src {digest(style)}; script-src {digest(code)}; base-uri 'none'; form-action 'none'",
-        title=f"{escape(script)}, line by line", protocol=escape(protocol), roles_count=len(story.types), count=story.whole,
+        policy=f"default-src 'none'; {allowed}; base-uri 'none'; form-action 'none'", title=f"{escape(script)}, line by line", protocol=escape(protocol), roles_count=len(story.types), count=story.whole,
         left_out="".join(f"<p>{escape(it)}</p>\n" for it in left_out(story)), begin=story.begin, end=end,
         lines="\n".join(lines(story)), bands="\n".join(Scene(story).bands_drawn()), roles="\n".join(roles(story)),
         style=style, code=code, data=Data(story).json())

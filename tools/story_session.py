@@ -12,14 +12,14 @@ import re
 import subprocess
 import tempfile
 
-import story_words as words
+import story_words
 from drawing import Unshown, needs, read_step
 from explain import printable
 from story_types import read_types
 
 MPS = os.path.join(os.path.dirname(os.path.dirname(os.path.realpath(__file__))), "mps")
-LINES = STEPS = SLOTS = 500  # of the newest of these at most a story tells
-BEGIN, QUEUES = b'{"history":[', b'],"queues":'  # how a shown session begins, and what stands after its history
+LINES = STEPS = 500  # of the newest of these at most a story tells
+BEGIN, QUEUES = b'{"history":[', b'],"queues":'  # how a shown session begins, and what comes after its history
 Line = collections.namedtuple("Line", "number text answer told")
 State = collections.namedtuple("State", "queues roles")
 Standing = collections.namedtuple("Standing", "expects place store")
@@ -110,17 +110,13 @@ class Session:
 
 # --- The run ---------------------------------------------------------------------------------------------------------
 
-def ran(words):
-    """A run of ./mps, whose standard output is left to be read."""
-    return subprocess.Popen([MPS, *words], stdin=subprocess.DEVNULL, stdout=subprocess.PIPE)
-
-
 def checked(protocol):
     """The local types of a protocol, or why there are none."""
     found = subprocess.run([MPS, "check", "--", protocol], stdin=subprocess.DEVNULL, capture_output=True, check=False)
     if found.returncode:
         told = subprocess.run([MPS, "explain", protocol], stdin=subprocess.DEVNULL, capture_output=True, check=False)
-        raise Unshown(f"{protocol} can't be used\n" + (told.stdout or told.stderr or found.stderr).decode(errors="replace").rstrip())
+        reason = (told.stdout or told.stderr or found.stderr).decode(errors="replace").rstrip()
+        raise Unshown(f"{protocol} can't be used\n{reason}")
     return read_types(found.stdout.decode())
 
 
@@ -142,7 +138,8 @@ def answers_to(protocol, lines, begin, role):
     with tempfile.NamedTemporaryFile(prefix="story-") as file:
         file.write(b"".join(line + b"\n" for line in asked))
         file.flush()
-        with ran(["run", "--", protocol, file.name]) as run:
+        words = [MPS, "run", "--", protocol, file.name]
+        with subprocess.Popen(words, stdin=subprocess.DEVNULL, stdout=subprocess.PIPE) as run:
             yield (line.rstrip(b"\n") for line in run.stdout)
 
 
@@ -176,9 +173,9 @@ class Story:
     def go_on(self, number, text, line, answer, shown):
         """Takes in a line, its answer, and the session after it."""
         answer = answer.decode()
-        refused = words.refusal(self.session, line, answer) if answer.startswith("refused") else None
+        refused = story_words.refusal(self.session, line, answer) if answer.startswith("refused") else None
         self.session.read(shown, number, role_of(line, self.types))
-        told = refused or words.told(self.session, line, answer)
+        told = refused or story_words.told(self.session, line, answer)
         self.lines.append(Line(number, printable(text), answer, told))
         self.states.append(self.session.shown)
 

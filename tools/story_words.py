@@ -168,7 +168,8 @@ def no_mark(session, role, _, parts):
     """No mark of that name survives."""
     gone = [it for it in session.made.values() if it.gone and it.step[1:5] == (role, "mark", None, parts[0])]
     if gone:
-        return f"{role}'s mark {parts[0]}, step {gone[-1].step.number}, was taken back by {gone[-1].by} in line {gone[-1].gone}."
+        last = gone[-1]
+        return f"{role}'s mark {parts[0]}, step {last.step.number}, was taken back by {last.by} in line {last.gone}."
     return f"{role} has no mark {parts[0]}."
 
 

@@ -93,8 +93,10 @@ const Story = {
   // A step in words, as it stands after that line.
   inWords(story, line, step) {
     const waits = Story.at(story, line).queues.some((queue) => queue.waiting.includes(step.number));
-    const more = [step.takes && `of step ${step.takes}`, waits && "waits", step.born === line && line > story.begin && "new",
-      step.gone && step.gone <= line && `taken back by ${step.by} in line ${step.gone}`];
+    const isNew = step.born === line && line > story.begin;
+    const isGone = step.gone && step.gone <= line;
+    const more = [step.takes && `of step ${step.takes}`, waits && "waits", isNew && "new",
+      isGone && `taken back by ${step.by} in line ${step.gone}`];
     return [`${step.number}: ${step.words}`, ...more.filter(Boolean)].join(", ");
   },
 };
@@ -109,10 +111,17 @@ function made(tag, classes, ...inside) {
   return element;
 }
 
-// Says something else in a place which is read aloud when it changes.
-function tell(place, elements) {
-  if (place.textContent !== elements.map((it) => it.textContent).join("")) place.replaceChildren(...elements);
+// Gives an element another attribute, where it has a different one.
+function set(element, name, value) {
+  if (element.getAttribute(name) !== value) element.setAttribute(name, value);
 }
+
+// Says something in a place, which is read aloud where it changes.
+function tell(place, parts) {
+  if (place.textContent !== parts.map((it) => it.textContent ?? it).join("")) place.replaceChildren(...parts);
+}
+
+const MANY = 40; // of more steps their numbers aren't listed
 
 class Page {
   constructor(story) {
@@ -195,11 +204,11 @@ class Page {
     for (const [number, step] of story.steps) {
       const classes = this.classes(step);
       const dot = this.dots.get(number);
-      dot.setAttribute("class", ["step", step.act, ...classes, shaded.has(number) ? "shaded" : "",
+      set(dot, "class", ["step", step.act, ...classes, shaded.has(number) ? "shaded" : "",
         number === this.chosen ? "chosen" : ""].filter(Boolean).join(" "));
-      dot.setAttribute("aria-pressed", String(number === this.chosen));
-      dot.querySelector("title").textContent = Story.inWords(story, line, step);
-      if (this.arrows.has(number)) this.arrows.get(number).setAttribute("class", ["arrow", ...classes].join(" "));
+      set(dot, "aria-pressed", String(number === this.chosen));
+      tell(dot.firstChild, [Story.inWords(story, line, step)]);
+      if (this.arrows.has(number)) set(this.arrows.get(number), "class", ["arrow", ...classes].join(" "));
       this.grounds.get(number).classList.toggle("shaded", shaded.has(number));
       if (this.waits.has(number)) this.showMessage(step, waiting.has(number));
     }
@@ -233,8 +242,8 @@ class Page {
     const stop = seen.includes(this.chosen) ? this.chosen : seen[seen.length - 1];
     const there = new Set(seen);
     for (const [number, dot] of this.dots) {
-      dot.setAttribute("tabindex", number === stop ? "0" : "-1");
-      dot.setAttribute("aria-hidden", String(!there.has(number)));
+      set(dot, "tabindex", number === stop ? "0" : "-1");
+      set(dot, "aria-hidden", String(!there.has(number)));
     }
   }
 
@@ -253,9 +262,9 @@ class Page {
 
   showChosen() {
     const step = this.story.steps.get(this.chosen);
+    const help = "Click on a step, or go to it with Up and Down and press Enter, to see what a rollback of it would take back.";
     this.find("step_title").textContent = step ? `Step ${step.number}` : "Step";
-    tell(this.find("chosen"), step ? this.toldOf(step) : [
-      made("p", "", "Click on a step, or go to it with Up and Down and press Enter, to see what a rollback of it would take back.")]);
+    tell(this.find("chosen"), step ? this.toldOf(step) : [made("p", "", help)]);
   }
 
   // What there is to say of a step.
@@ -278,10 +287,11 @@ class Page {
     return [words, made("p", "", told), made("p", "", title), made("ol", "chain", ...links)];
   }
 
-  // Steps by their numbers, for each role.
+  // Steps of each role, by their numbers, or where they are many how many they are.
   byRole(numbers) {
     return this.story.roles.map((role) => [role, numbers.filter((it) => this.story.steps.get(it).role === role)])
-      .filter(([, own]) => own.length).map(([role, own]) => `${own.join(", ")} of ${role}`).join("; ");
+      .filter(([, own]) => own.length)
+      .map(([role, own]) => `${numbers.length > MANY ? own.length : own.join(", ")} of ${role}`).join("; ");
   }
 
   // What has just come is marked, and what is gone stays struck out for this line, with the reason.
@@ -365,12 +375,13 @@ class Page {
   // What a key does; whether it does something.
   press(key, target) {
     const step = target.closest(".step");
+    const up = { ArrowUp: -1, ArrowDown: 1 }[key];
     const to = { ArrowLeft: this.line - 1, ArrowRight: this.line + 1, Home: this.story.begin, End: this.story.end };
     if (key in to && target.id !== "position") this.go(to[key]);
     else if (key === "Escape" && this.chosen) this.choose(null);
-    else if (step && (key === "ArrowUp" || key === "ArrowDown")) this.move(key === "ArrowUp" ? -1 : 1);
+    else if (step && up) this.move(up);
     else if (step && (key === "Enter" || key === " ")) this.choose(Number(step.dataset.step));
-    else if (target.closest(".line") && (key === "ArrowUp" || key === "ArrowDown")) this.go(this.line + (key === "ArrowUp" ? -1 : 1));
+    else if (target.closest(".line") && up) this.go(this.line + up);
     else return false;
     this.keepFocus(target);
     return true;
@@ -389,7 +400,8 @@ class Page {
   listen() {
     this.find("position").addEventListener("input", (event) => this.go(Number(event.target.value)));
     this.find("outlines").addEventListener("change", () => this.show());
-    const to = { first: () => this.story.begin, back: () => this.line - 1, on: () => this.line + 1, last: () => this.story.end };
+    const { begin, end } = this.story;
+    const to = { first: () => begin, back: () => this.line - 1, on: () => this.line + 1, last: () => end };
     for (const id of Object.keys(to)) this.find(id).addEventListener("click", () => this.go(to[id]()));
     this.find("lines").addEventListener("click", (event) => {
       const button = event.target.closest(".line");
