@@ -111,7 +111,9 @@ class Session:
 # --- The run ---------------------------------------------------------------------------------------------------------
 
 def checked(protocol):
-    """The local types of a protocol, or why there are none."""
+    """The local types of a protocol, or why there are none. Where no program is built yet, ./mps builds it and says so."""
+    begun = subprocess.run([MPS, "--version"], stdin=subprocess.DEVNULL, stdout=subprocess.DEVNULL, check=False)
+    needs(begun.returncode == 0, "./mps has no program to run")
     found = subprocess.run([MPS, "check", "--", protocol], stdin=subprocess.DEVNULL, capture_output=True, check=False)
     if found.returncode:
         told = subprocess.run([MPS, "explain", protocol], stdin=subprocess.DEVNULL, capture_output=True, check=False)

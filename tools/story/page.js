@@ -275,16 +275,24 @@ class Page {
     if (step.gone && step.gone <= line) return [words];
     const { taken, commit, chain } = this.rollback();
     const last = chain[chain.length - 1];
-    const many = taken.length === 1 ? "step" : "steps";
-    const list = `${taken.length} ${many}: ${this.byRole(taken)}.`;
-    const told = commit
-      ? `A rollback of it is refused as final ${commit}: ${commit === step.number ? "it is a commit itself" :
-        `${story.steps.get(commit).role}'s step ${commit} is a commit, and depends on it`}. Shaded: ${list}`
-      : `A rollback of it, for which only ${step.role} can ask, would take back ${list}`;
-    if (last === step.number) return [words, made("p", "", told)];
+    const told = made("p", "", this.toldOfRollback(step, taken, commit));
+    if (last === step.number) return [words, told];
     const links = chain.slice(1).map((number, place) => made("li", "", Story.link(story, number, chain[place])));
     const title = `Why ${commit ? "the commit" : "the last of these"}, step ${last}, depends on step ${step.number}:`;
-    return [words, made("p", "", told), made("p", "", title), made("ol", "chain", ...links)];
+    return [words, told, made("p", "", title), made("ol", "chain", ...links)];
+  }
+
+  // What a rollback of a step would take back, or which commit forbids it.
+  toldOfRollback(step, taken, commit) {
+    const list = `${taken.length} steps: ${this.byRole(taken)}.`;
+    const shaded = taken.length > 1 ? ` Shaded are it and all that depends on it, ${list}` : "";
+    if (commit === step.number) return `A rollback of it is refused as final ${commit}, since it is a commit itself.${shaded}`;
+    if (commit) {
+      const { role } = this.story.steps.get(commit);
+      return `A rollback of it is refused as final ${commit}: ${role}'s step ${commit} is a commit, and depends on it.${shaded}`;
+    }
+    const what = taken.length > 1 ? list : "this step alone.";
+    return `A rollback of it, for which only ${step.role} can ask, would take back ${what}`;
   }
 
   // Steps of each role, by their numbers, or where they are many how many they are.
