@@ -1,9 +1,11 @@
 """browser: a page in headless Chromium, which is spoken to over a pipe by its protocol for developers' tools."""
 import base64
+import contextlib
 import json
 import os
 import select
 import shutil
+import signal
 import subprocess
 import tempfile
 import time
@@ -26,13 +28,14 @@ class Browser:
     """A browser with one page. What it asked of any server, and each error of a script, is kept."""
 
     def __init__(self, width=1366, height=900):
-        self.folder = tempfile.TemporaryDirectory(prefix="story-browser-")
+        self.folder = tempfile.TemporaryDirectory(prefix="story-browser-", ignore_cleanup_errors=True)
         to_browser, self.out = os.pipe()
         self.into, from_browser = os.pipe()
         words = [found(), *WORDS, f"--user-data-dir={self.folder.name}", f"--window-size={width},{height}", "about:blank"]
         shell = f'exec "$@" 3<&{to_browser} 4>&{from_browser}'
         quiet = dict.fromkeys(("stdin", "stdout", "stderr"), subprocess.DEVNULL)
-        self.process = subprocess.Popen(["bash", "-c", shell, "browser", *words], pass_fds=(to_browser, from_browser), **quiet)
+        self.process = subprocess.Popen(["bash", "-c", shell, "browser", *words], pass_fds=(to_browser, from_browser),
+                                        start_new_session=True, **quiet)
         os.close(to_browser)
         os.close(from_browser)
         self.rest, self.number, self.session, self.errors, self.requests = b"", 0, None, [], []
@@ -50,8 +53,14 @@ class Browser:
         self.close()
 
     def close(self):
-        """Ends the browser."""
-        self.process.terminate()
+        """Ends the browser, with all processes that it began, and takes away its folder."""
+        self.session = None
+        with contextlib.suppress(AssertionError, OSError):
+            self.ask("Browser.close")
+            while True:
+                self.message()
+        with contextlib.suppress(ProcessLookupError):
+            os.killpg(self.process.pid, signal.SIGKILL)
         self.process.wait(ENDS)
         os.close(self.out)
         os.close(self.into)

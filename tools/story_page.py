@@ -177,9 +177,8 @@ def left_out(story):
     if hidden:
         spans = " and ".join(f"{first:,} to {last:,}" for first, last in hidden)
         yield f"Left out: lines {spans} of {story.whole:,}. The option --from N tells the lines from line N on."
-    survive = sum(it.gone is None or it.gone > story.begin for it in story.left_out)
-    if survive:
-        yield f"Left out: {survive:,} older steps that survive, up to step {story.left_out[-1].step.number:,}."
+    if story.left_out:
+        yield f"Left out: the {len(story.left_out):,} oldest steps, up to step {story.left_out[-1].step.number:,}."
 
 
 def part(name):
