@@ -2,7 +2,8 @@
 use Rattle.std.proofs.Common.{◌≡◌, ℕ, List, Option, None, Result, Ok, Err, IsErrAnd, IfErr, sym, subst, inr}
 use Rattle.mps_global.specs.Global.{GlobalType}
 use Rattle.mps_global.specs.Faults.{fault_of}
-use Rattle.mps_program.specs.Check.{IsProtocolText, GivesNoProtocol, GivesNoTypes}
+use Rattle.mps_open.specs.Texts.{IsProtocolText}
+use Rattle.mps_program.specs.Check.{GivesNoProtocol, GivesNoTypes}
 use Rattle.mps_program.specs.Private.Check.{GivesNoProjections, GivesNoSession}
 use Rattle.mps_program.specs.Faults.{IsLoadFault}
 use Rattle.mps_program.specs.Served.{IsOutFault, IsServeFault}

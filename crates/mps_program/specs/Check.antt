@@ -4,22 +4,16 @@ use Rattle.mps_global.specs.Global.{GlobalType}
 use Rattle.mps_global.specs.Faults.{fault_of}
 use Rattle.mps_fidelity.specs.Fidelity.{AreOfOneProtocol}
 use Rattle.mps_local.specs.Local.{LocalType}
-use Rattle.mps_local.specs.Outcome.{AreProjections, IsFirstUnmerged}
+use Rattle.mps_local.specs.Outcome.{IsFirstUnmerged}
 use Rattle.mps_local.specs.Text.{name_at, local_text}
 use Rattle.mps_machine.specs.Machine.{initial}
 use Rattle.mps_session.specs.SessionState.{SessionState}
-use Rattle.mps_text.specs.Grammar.{SpellsText, IsWithinLimits, protocol_text}
-use Rattle.mps_text.specs.Faults.{IsFirstFault}
-use Rattle.mps_text.specs.declared.fault.TextKind.{TextKind}
-use Rattle.mps_text.specs.declared.fault.TextKind.TheVariants.{Memory as NoRoom}
+use Rattle.mps_text.specs.Grammar.{protocol_text}
+use Rattle.mps_open.specs.Faults.{IsTextFault}
+use Rattle.mps_open.specs.Texts.{AreTypesOf, IsProtocolText}
 use Rattle.mps_program.specs.Files.{longest}
 use Rattle.mps_program.specs.declared.faults.ToolFault.{ToolFault}
 use Rattle.mps_program.specs.declared.faults.ToolFault.TheVariants.{Text, Protocol, Projection, Memory}
-
--- the text is a protocol of these roles, whose conversation is the tree
-pub record IsProtocolText (text : List ℕ) (roles : List (List ℕ)) (tree : GlobalType) : Type 0 where
-  pub spelled : SpellsText text roles tree
-  pub limits : IsWithinLimits text tree
 
 -- the text is a protocol, which is written so
 pub record HasWritten (text written : List ℕ) : Type 0 where
@@ -28,13 +22,6 @@ pub record HasWritten (text written : List ℕ) : Type 0 where
   pub read : IsProtocolText text roles tree
   pub same : written ≡ protocol_text roles tree
 
--- the text is a protocol without faults, and these are its types
-pub record AreTypesOf (text : List ℕ) (roles : List (List ℕ)) (types : List LocalType) : Type 0 where
-  pub tree : GlobalType
-  pub read : IsProtocolText text roles tree
-  pub faultless : fault_of roles tree ≡ None
-  pub projected : AreProjections roles tree types
-
 -- the text is a protocol without faults, and these are so many new sessions of it
 pub record AreSessionsOf (text : List ℕ) (roles : List (List ℕ)) (n : ℕ) (sessions : List SessionState) : Type 0 where
   pub types : List LocalType
@@ -42,11 +29,6 @@ pub record AreSessionsOf (text : List ℕ) (roles : List (List ℕ)) (n : ℕ) (
   pub one : AreOfOneProtocol types
   pub count : length sessions ≡ n
   pub alike : All (λ s. s ≡ record { types = types; state = initial }) sessions
-
--- the first fault of the text; out of memory is not one of a text's
-abbrev pub IsTextFault : List ℕ → ℕ → TextKind → Type 0
-IsTextFault text at NoRoom = ⊥
-IsTextFault text at kind = IsFirstFault text at kind
 
 -- the role of that name is the first of the protocol that has no projection
 pub record HasNoProjection (roles : List (List ℕ)) (tree : GlobalType) (name : List ℕ) (choice : ℕ) : Type 0 where

@@ -3,7 +3,8 @@ use Rattle.std.specs.Prelude.{◌≡◌, ◌≤◌, ℕ, ⊤, List, Option, leng
 use Rattle.mps_local.specs.Local.{LocalType}
 use Rattle.mps_session.specs.SessionState.{SessionState}
 use Rattle.std.specs.Io.KnownBytes.{Appends, Consumes, IsAtEnd}
-use Rattle.mps_program.specs.Check.{AreSessionsOf, AreTypesOf, AreLinesOf, GivesNoTypes}
+use Rattle.mps_open.specs.Texts.{AreTypesOf}
+use Rattle.mps_program.specs.Check.{AreSessionsOf, AreLinesOf, GivesNoTypes}
 use Rattle.mps_program.specs.Files.{longest, most_read}
 use Rattle.mps_program.specs.declared.faults.ToolFault.{ToolFault}
 use Rattle.mps_program.specs.declared.faults.ToolFault.TheVariants.{Read, Write, Memory}

@@ -33,7 +33,7 @@ module _ {C F : Type 0} (caller : Ghosts C) (f : C → F) (keeps : (c : C) (x : 
   came_keeps c number command d Wrong n = ap f n.unchanged
   came_keeps c number command d (Refused refusal) n = keeps c command (answers.Refused refusal) d n.call
 
-  reply_keeps : (line : List ℕ) (c : C) (reply : Reply) (d : C) → RepliesTo caller line c reply d → f d ≡ f c
+  pub reply_keeps : (line : List ℕ) (c : C) (reply : Reply) (d : C) → RepliesTo caller line c reply d → f d ≡ f c
   reply_keeps line c reply d (Unread u) = ap f u.unchanged
   reply_keeps line c reply d (Called s) = keeps c s.command s.answer d s.call
   reply_keeps line c reply d (Numbered s) = came_keeps c s.number s.command d s.came s.numbered

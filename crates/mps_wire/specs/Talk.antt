@@ -18,6 +18,8 @@ use Rattle.mps_room.specs.declared.caller.Caller.{Ghosts}
 use Rattle.mps_room.specs.declared.numbers.Told.{Told}
 use Rattle.mps_room.specs.declared.numbers.Told.TheVariants.{Fresh, Kept, Wrong, Refused as CalledInVain}
 use Rattle.mps_wire.specs.Answers.{Answering}
+use Rattle.mps_wire.specs.declared.reply.Outcome.{Outcome}
+use Rattle.mps_wire.specs.declared.reply.Outcome.TheVariants.{Reply as Said, Kept as AsKept}
 
 -- a line that isn't too long, of bytes below 128, that spells a command, with a number or without one
 pub record IsRequest (names : List (List ℕ)) (line : List ℕ) (number : Option ℕ) (command : Command) : Type 0 where
@@ -32,6 +34,12 @@ IsToldAs caller d Fresh reply = (answer : Answer) × (caller.kept d ≡ Some ans
 IsToldAs caller d Kept reply = (answer : Answer) × (caller.kept d ≡ Some answer) × (reply ≡ Answered answer)
 IsToldAs caller d Wrong reply = reply ≡ Number
 IsToldAs caller d (CalledInVain refusal) reply = reply ≡ Answered (Refused refusal)
+
+-- the reply that an outcome stands for, to a caller that keeps this answer; one that keeps none had no right number
+abbrev pub reply_of : Outcome → Option Answer → Reply
+reply_of (Said reply) kept = reply
+reply_of AsKept (Some answer) = Answered answer
+reply_of AsKept None = Number
 
 -- What one line does to a caller.
 module _ {C : Type 0} (caller : Ghosts C) (line : List ℕ) (c : C) where

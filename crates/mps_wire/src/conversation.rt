@@ -11,9 +11,9 @@ ghost use Rattle.mps_wire.specs.Endings.{EndedAs};
 ghost use Rattle.mps_wire.specs.Private.Endings.{TurnedTo, IsPartly, IsWholly, TakesOn, TakesToPart, begun_or, failed_by};
 ghost use Rattle.mps_wire.specs.Runs.{Going, max_reads};
 ghost use Rattle.mps_wire.specs.Streams.{streams};
-ghost use Rattle.mps_wire.specs.Talk.{TalksLine, talks, talks_to_part};
-ghost use Rattle.mps_wire.specs.Private.Commands.{TalksNumbered};
+ghost use Rattle.mps_wire.specs.Talk.{TalksLine, reply_of, talks, talks_to_part};
 
+use crate::reply::{Outcome, outcome_has_text, take_line, write_outcome};
 use crate::script::MAX_READS;
 use crate::sending::send_all;
 use mps_command::{Answer, Command, Refusal};
@@ -65,61 +65,18 @@ impl From<AllocError> for Broken {
 }
 
 // Puts the reply and an LF in place of what the buffer had. Where memory runs out, the reply has a text all the same.
-fn put_reply(reply: &Reply, text: &mut Vec<u8>) -> Result<(), AllocError>
-    ensures { (words : List ℕ) × SpellsReply words reply.now × OnOk result (text.new.items ≡ ended words) }
+fn put_reply<C: Caller>(caller: &C, outcome: &Outcome, text: &mut Vec<u8>) -> Result<(), AllocError>
+    ensures { (words : List ℕ) × SpellsReply words (reply_of outcome.now (C.kept caller.now))
+        × OnOk result (text.new.items ≡ ended words) }
 {
-    reply.has_text();
+    outcome_has_text(caller, outcome);
     text.clear();
-    reply.write(text)?;
+    write_outcome(caller, outcome, text)?;
     text.push(b'\n')?;
     Ok(())
 }
 
-// Puts the answer and an LF in place of what the buffer had, as `put_reply` does, but from where the answer is kept.
-fn put_answer(answer: &Answer, text: &mut Vec<u8>) -> Result<(), AllocError>
-    ensures { (words : List ℕ) × SpellsReply words (Answered answer.now)
-        × OnOk result (text.new.items ≡ ended words) }
-{
-    answer_has_text(answer);
-    text.clear();
-    write_answer(answer, text)?;
-    text.push(b'\n')?;
-    Ok(())
-}
-
-// Puts the answer that the caller keeps.
-fn put_kept<C: Caller>(caller: &C, text: &mut Vec<u8>) -> Result<(), AllocError>
-    requires { IsSome (C.kept caller.now) }
-    ensures { (answer : Response) × (C.kept caller.now ≡ Some answer) × (words : List ℕ)
-        × SpellsReply words (Answered answer) × OnOk result (text.new.items ≡ ended words) }
-{
-    match caller.kept() {
-        Some(answer) => put_answer(answer, text),
-        None => unreachable!(),
-    }
-}
-
-// Gives a command with its number, and makes the text of what came of it.
-#[inline(never)]
-fn reply_to_numbered<C: Caller>(
-    caller: &mut C,
-    number: u64,
-    command: Command,
-    text: &mut Vec<u8>,
-) -> Result<(), AllocError>
-    requires { IsSome (change_of command) }
-    ensures { (words : List ℕ) × TalksNumbered C.Caller caller.old number command words caller.new
-        × OnOk result (text.new.items ≡ ended words) }
-{
-    match caller.call_numbered(number, command) {
-        Told::Fresh => put_kept(caller, text),
-        Told::Kept => put_kept(caller, text),
-        Told::Wrong => put_reply(&Reply::Number, text),
-        Told::Refused(refusal) => put_answer(&Answer::Refused(refusal), text),
-    }
-}
-
-// Replies to a line: makes its call, if it has one, and the text of the answer.
+// Makes the call of a line, if it has one, and the text of the reply.
 fn make_reply<C: Caller>(
     alloc: Global,
     caller: &mut C,
@@ -129,16 +86,8 @@ fn make_reply<C: Caller>(
     ensures { (words : List ℕ) × TalksLine C.Caller line.now caller.old words caller.new
         × OnOk result (text.new.items ≡ ended words) }
 {
-    one_numbered();
-    if line.len() > MAX_LINE {
-        return put_reply(&Reply::BadLine, text);
-    }
-    match read_numbered(alloc, caller.roles(), line) {
-        Ok((Some(number), command)) => reply_to_numbered(caller, number, command, text),
-        Ok((None, command)) => put_answer(&caller.call(command), text),
-        Err(LineFault::Bad) => put_reply(&Reply::BadLine, text),
-        Err(LineFault::Memory) => put_answer(&Answer::Refused(Refusal::Memory), text),
-    }
+    let outcome = take_line(alloc, caller, line);
+    put_reply(&*caller, &outcome, text)
 }
 
 // Answers a line, and writes the answer.

@@ -12,8 +12,10 @@
 pub mod conversation;
 pub mod examples;
 pub mod laws;
+pub mod reply;
 pub mod script;
 pub mod sending;
 
 pub use conversation::{Ending, converse};
+pub use reply::{Outcome, outcome_has_text, take_line, write_outcome};
 pub use script::{ReplayFault, replay, run_script};

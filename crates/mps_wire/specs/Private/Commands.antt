@@ -22,10 +22,8 @@ IsAnswered names types journal role command after old new =
     × (after ≡ grown journal role command answer)
     × Appends (λ text. SpellsReply text (Answered answer)) old new
 
--- a command with a number was given, and the text tells what came of it
-pub record TalksNumbered {C : Type 0} (caller : Ghosts C) (c : C) (number : ℕ) (command : Command) (text : List ℕ) (d : C) : Type 0 where
+-- a command with a number was given, and the reply tells what came of it
+pub record RepliesToNumbered {C : Type 0} (caller : Ghosts C) (c : C) (number : ℕ) (command : Command) (reply : Reply) (d : C) : Type 0 where
   pub came : Told
   pub numbered : IsNumbered caller.calls caller.last caller.kept c number command d came
-  pub reply : Reply
   pub told : IsToldAs caller d came reply
-  pub spelled : SpellsReply text reply

@@ -1,0 +1,3 @@
+pub mod Handle
+pub mod Lending
+pub mod Told

@@ -1,0 +1,25 @@
+-- What a caller in C is told.
+use Rattle.std.specs.Prelude.{◌≡◌, ℕ, ◌-◌, ◌^◌, ◌⊎◌, ⊤, Bool, true, false, List, Result, Ok, Err}
+use Rattle.std.specs.declared.alloc.AllocError.{AllocError}
+use Rattle.mps_embed.specs.Embedded.{IsFilled}
+use Rattle.mps_open.specs.Faults.{GivesNoSession, number_of, place_of}
+use Rattle.mps_open.specs.declared.fault.Fault.{Fault}
+
+-- what stands for a length where there is none: the greatest number of 64 bits
+abbrev pub no_length : ℕ
+no_length = 2 ^ 64 - 1
+
+abbrev pub length_of : Result ℕ AllocError → ℕ
+length_of (Ok length) = length
+length_of (Err why) = no_length
+
+-- a text of that kind was written over the front of the bytes, as much of it as fits, and this is its whole length; or there
+-- was no memory for it, and nothing was written
+abbrev pub IsTold : (IsText : List ℕ → Type 0) → (old new : List ℕ) → (count : ℕ) → Type 0
+IsTold IsText old new count = IsFilled IsText old new count ⊎ ((count ≡ no_length) × (new ≡ old))
+
+-- a room was opened; or there is none, and the number and the place are those of the text's fault
+abbrev pub OpensNone : (text : List ℕ) → (opened : Bool) → (number place : ℕ) → Type 0
+OpensNone text true number place = ⊤
+OpensNone text false number place =
+    (fault : Fault) × GivesNoSession text fault × (number ≡ number_of fault) × (place ≡ place_of fault)

@@ -1,0 +1,65 @@
+//! What the exports call: safe code over the room.
+ghost use Rattle.std.specs.Prelude.{◌≡◌, ◌≢◌, ℕ, ◌≤◌, Some, None, All, [], length, slice_get};
+ghost use Rattle.mps_embed.specs.Embedded.{IsAnswered, IsToNobody};
+ghost use Rattle.mps_keeper.specs.JournalLines.{SpellsJournalLine, CanBeWritten};
+ghost use Rattle.mps_line.specs.Replies.{SpellsReply};
+ghost use Rattle.mps_room.specs.declared.entry.Entry.{Entry as Kept};
+ghost use Rattle.mps_c.specs.Told.{IsTold, length_of};
+
+use mps_embed::Embedded;
+use std::alloc::AllocError;
+
+/// What tells a caller in C that there was no memory for a text.
+pub const NO_MEMORY: usize = usize::MAX;
+
+// The length of a whole text, or `NO_MEMORY`.
+fn length_or_none(written: Result<usize, AllocError>) -> usize
+    ensures { result ≡ length_of written }
+{
+    match written {
+        Ok(length) => length,
+        Err(_) => NO_MEMORY,
+    }
+}
+
+/// Answers the line of the role of that name, and writes of the answer what fits.
+pub fn line(room: &mut Embedded, role: &[u8], line: &[u8], out: &mut [u8]) -> usize
+    ensures known { (place : ℕ) → slice_get room.old.room.names place ≡ Some role.now
+        → IsAnswered room.old place line.now room.new }
+    ensures unknown { All (λ name. name ≢ role.now) room.old.room.names → IsToNobody room.old room.new }
+    ensures answer { IsTold (λ text. SpellsReply text room.new.reply) out.old out.new result }
+{
+    room.line(role, line);
+    length_or_none(room.answer_into(out))
+}
+
+/// Writes of the newest answer what fits.
+pub fn answer(room: &mut Embedded, out: &mut [u8]) -> usize
+    ensures same { room.new ≡ room.old }
+    ensures answer { IsTold (λ text. SpellsReply text room.old.reply) out.old out.new result }
+{
+    length_or_none(room.answer_into(out))
+}
+
+/// How many entries the journal has.
+pub fn entries(room: &mut Embedded) -> u64
+    ensures same { room.new ≡ room.old }
+    ensures count { result ≡ length room.old.room.journal }
+{
+    room.room().entries()
+}
+
+/// Writes of the k-th entry, from 0, what fits.
+pub fn entry(room: &mut Embedded, k: u64, out: &mut [u8]) -> usize
+    ensures same { room.new ≡ room.old }
+    ensures line { (entry : Kept) → slice_get room.old.room.journal k ≡ Some entry
+        → CanBeWritten room.old.room.names entry.role entry.command
+        → IsTold (λ text. SpellsJournalLine room.old.room.names text entry.role None entry.command)
+        out.old out.new result }
+    ensures past { length room.old.room.journal ≤ k → IsTold (λ text. text ≡ []) out.old out.new result }
+{
+    length_or_none(room.entry_into(k, out))
+}
+
+/// Lets the room go.
+pub fn close(_room: Box<Embedded>) {}

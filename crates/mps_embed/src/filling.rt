@@ -1,0 +1,69 @@
+//! Answers and entries into a buffer of the caller's.
+ghost use Rattle.std.specs.Prelude.{◌≡◌, ℕ, ◌≤◌, Some, None, [], length, slice_get, IfOk, OnOk, OnErr};
+ghost use Rattle.mps_keeper.specs.JournalLines.{SpellsJournalLine, CanBeWritten};
+ghost use Rattle.mps_line.specs.Replies.{SpellsReply};
+ghost use Rattle.mps_room.specs.declared.entry.Entry.{Entry as Kept};
+ghost use Rattle.mps_embed.specs.Embedded.{front_over, IsFilled};
+
+use crate::embedded::Embedded;
+use mps_keeper::journal_lines::{has_journal_line, write_journal_line};
+use mps_room::Room;
+use mps_wire::write_outcome;
+use std::alloc::AllocError;
+
+// Copies of the text what fits.
+fn copy_front(text: &[u8], out: &mut [u8])
+    ensures { out.new ≡ front_over text.now out.old }
+{
+    let n = text.len().min(out.len());
+    out[..n].copy_from_slice(&text[..n]);
+}
+
+// Puts the line of the k-th entry in place of what the buffer had. Past the end that is nothing.
+fn put_entry(room: &Room, k: u64, text: &mut Vec<u8>) -> Result<(), AllocError>
+    ensures line { (entry : Kept) → slice_get room.now.journal k ≡ Some entry
+        → CanBeWritten room.now.names entry.role entry.command
+        → OnOk result (SpellsJournalLine room.now.names text.new.items entry.role None entry.command) }
+    ensures past { length room.now.journal ≤ k → OnOk result (text.new.items ≡ []) }
+{
+    text.clear();
+    let Some(entry) = room.entry(k)? else {
+        return Ok(());
+    };
+    if !has_journal_line(room.names(), entry.role, &entry.command) {
+        return Ok(());
+    }
+    write_journal_line(room.names(), entry.role, None, &entry.command, text)
+}
+
+impl Embedded {
+    /// Writes the answer to the newest line, or as much of it as fits, and gives the length of the whole. It may be asked for
+    /// as often as wanted, so an answer isn't lost where memory runs out for its text.
+    pub fn answer_into(&mut self, out: &mut [u8]) -> Result<usize, AllocError>
+        ensures same { self.new ≡ self.old }
+        ensures ok { IfOk result (IsFilled (λ text. SpellsReply text self.old.reply) out.old out.new) }
+        ensures err { OnErr result (out.new ≡ out.old) }
+    {
+        self.text.clear();
+        write_outcome(&self.solo, &self.outcome, &mut self.text)?;
+        copy_front(self.text.as_slice(), out);
+        Ok(self.text.len())
+    }
+
+    /// Writes the k-th entry of the journal, from 0, as a script's line, or as much of it as fits, and gives the length of the
+    /// whole line. Past the end that is 0.
+    pub fn entry_into(&mut self, k: u64, out: &mut [u8]) -> Result<usize, AllocError>
+        ensures same { self.new ≡ self.old }
+        ensures line { (entry : Kept) → slice_get self.old.room.journal k ≡ Some entry
+            → CanBeWritten self.old.room.names entry.role entry.command
+            → IfOk result (IsFilled
+            (λ text. SpellsJournalLine self.old.room.names text entry.role None entry.command) out.old out.new) }
+        ensures past { length self.old.room.journal ≤ k → IfOk result (λ n. (n ≡ 0) × (out.new ≡ out.old)) }
+        ensures err { OnErr result (out.new ≡ out.old) }
+    {
+        let solo = &self.solo;
+        put_entry(&solo.room, k, &mut self.text)?;
+        copy_front(self.text.as_slice(), out);
+        Ok(self.text.len())
+    }
+}

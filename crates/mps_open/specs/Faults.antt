@@ -1,0 +1,80 @@
+-- Why a text gives no session.
+use Rattle.std.specs.Prelude.{◌≡◌, ℕ, ◌+◌, ◌≤◌, List, None, Some, length}
+use Rattle.mps_global.specs.Global.{GlobalType}
+use Rattle.mps_global.specs.Faults.{fault_of}
+use Rattle.mps_global.specs.declared.faults.GlobalFault.{GlobalFault}
+use Rattle.mps_global.specs.declared.faults.GlobalFault.TheVariants as of_protocols
+use Rattle.mps_local.specs.Outcome.{IsFirstUnmerged}
+use Rattle.mps_session.specs.declared.protocol.ProtocolFault.{ProtocolFault}
+use Rattle.mps_session.specs.declared.protocol.ProtocolFault.TheVariants as protocols
+use Rattle.mps_text.specs.Faults.{IsFirstFault}
+use Rattle.mps_text.specs.declared.fault.TextKind.{TextKind}
+use Rattle.mps_text.specs.declared.fault.TextKind.TheVariants as texts
+use Rattle.mps_open.specs.Texts.{IsProtocolText}
+use Rattle.mps_open.specs.declared.fault.Fault.{Fault}
+use Rattle.mps_open.specs.declared.fault.Fault.TheVariants.{Text, Protocol, Projection, Memory}
+
+-- the first fault of the text; out of memory is not one of a text's
+abbrev pub IsTextFault : List ℕ → ℕ → TextKind → Type 0
+IsTextFault text at texts.Memory = ⊥
+IsTextFault text at kind = IsFirstFault text at kind
+
+-- why a text gives no session: its first fault; the fault of the protocol that it spells; the first role of a protocol
+-- without faults that has no projection, with the choice; or out of memory, where it is short enough
+abbrev pub GivesNoSession : List ℕ → Fault → Type 0
+GivesNoSession text (Text at kind) = IsTextFault text at kind
+GivesNoSession text (Protocol fault) =
+    (roles : List (List ℕ)) × (tree : GlobalType) × IsProtocolText text roles tree × (fault_of roles tree ≡ Some fault)
+GivesNoSession text (Projection role choice) =
+    (roles : List (List ℕ)) × (tree : GlobalType) × IsProtocolText text roles tree × (fault_of roles tree ≡ None)
+    × IsFirstUnmerged roles tree role choice
+GivesNoSession text Memory = length text ≤ 65536
+
+-- how a fault of a text is told
+abbrev pub of_text : ℕ → TextKind → Fault
+of_text at texts.Memory = Memory
+of_text at kind = Text at kind
+
+-- how it is told why a protocol has no session
+abbrev pub of_protocol : ProtocolFault → Fault
+of_protocol (protocols.Global fault) = Protocol fault
+of_protocol (protocols.Unmergeable role choice) = Projection role choice
+of_protocol protocols.Memory = Memory
+
+-- The numbers of faults, from tables: in the order of the formats' tables.
+abbrev pub text_number : TextKind → ℕ
+text_number texts.TooLong = 16
+text_number texts.Word = 17
+text_number texts.Unexpected = 18
+text_number texts.TooManyNodes = 19
+text_number texts.TooDeep = 20
+text_number texts.Trailing = 21
+text_number texts.Memory = 1
+
+abbrev pub protocol_number : GlobalFault → ℕ
+protocol_number of_protocols.RoleCount = 32
+protocol_number of_protocols.DoubleRole = 33
+protocol_number of_protocols.TooManyNodes = 34
+protocol_number of_protocols.TooDeep = 35
+protocol_number of_protocols.UnknownRole = 36
+protocol_number of_protocols.SelfMessage = 37
+protocol_number of_protocols.DoubleLabel = 38
+protocol_number of_protocols.TooManyBranches = 39
+protocol_number of_protocols.NoBranches = 40
+protocol_number of_protocols.Unbound = 41
+protocol_number of_protocols.Shadowed = 42
+protocol_number of_protocols.Unguarded = 43
+
+-- the number of a fault: that of a projection names the role
+abbrev pub number_of : Fault → ℕ
+number_of (Text at kind) = text_number kind
+number_of (Protocol fault) = protocol_number fault
+number_of (Projection role choice) = 48 + role
+number_of Memory = 1
+
+-- the byte of the text, or the choice
+abbrev pub place_of : Fault → ℕ
+place_of (Text at kind) = at
+place_of (Protocol fault) = 0
+place_of (Projection role choice) = choice
+place_of Memory = 0

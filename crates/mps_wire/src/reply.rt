@@ -1,0 +1,87 @@
+//! The reply to one line of a conversation.
+ghost use Rattle.std.specs.Prelude.{◌≡◌, ℕ, List, IsTrue, OnOk, OnErr, IsSome};
+ghost use Rattle.std.specs.Io.{StartsWith};
+ghost use Rattle.mps_base.specs.Appends.{Appends};
+ghost use Rattle.mps_command.specs.Changes.{change_of};
+ghost use Rattle.mps_line.specs.Replies.{SpellsReply};
+ghost use Rattle.mps_wire.specs.Private.Commands.{RepliesToNumbered};
+ghost use Rattle.mps_wire.specs.Talk.{RepliesTo, reply_of};
+
+use mps_command::{Answer, Command, Refusal};
+use mps_line::laws::one_numbered;
+use mps_line::{LineFault, Reply, answer_has_text, read_numbered, write_answer};
+use mps_lines::MAX_LINE;
+use mps_room::{Caller, Told};
+use std::alloc::{AllocError, Global};
+
+/// What a line of a conversation came to. No memory is needed to have it, so it is there also where there is none for its text.
+#[derive(Debug, Drop)]
+pub enum Outcome {
+    /// It is replied so.
+    Reply(Reply),
+    /// It has the answer that the caller keeps.
+    Kept,
+}
+
+// Gives a command with its number.
+#[inline(never)]
+fn take_numbered<C: Caller>(caller: &mut C, number: u64, command: Command) -> Outcome
+    requires { IsSome (change_of command) }
+    ensures { RepliesToNumbered C.Caller caller.old number command (reply_of result (C.kept caller.new)) caller.new }
+{
+    match caller.call_numbered(number, command) {
+        Told::Fresh => Outcome::Kept,
+        Told::Kept => Outcome::Kept,
+        Told::Wrong => Outcome::Reply(Reply::Number),
+        Told::Refused(refusal) => Outcome::Reply(Reply::Answered(Answer::Refused(refusal))),
+    }
+}
+
+/// Makes the call of a line, if it has one, and says what is to be replied.
+pub fn take_line<C: Caller>(alloc: Global, caller: &mut C, line: &[u8]) -> Outcome
+    ensures { RepliesTo C.Caller line.now caller.old (reply_of result (C.kept caller.new)) caller.new }
+{
+    one_numbered();
+    if line.len() > MAX_LINE {
+        return Outcome::Reply(Reply::BadLine);
+    }
+    match read_numbered(alloc, caller.roles(), line) {
+        Ok((Some(number), command)) => take_numbered(caller, number, command),
+        Ok((None, command)) => Outcome::Reply(Reply::Answered(caller.call(command))),
+        Err(LineFault::Bad) => Outcome::Reply(Reply::BadLine),
+        Err(LineFault::Memory) => Outcome::Reply(Reply::Answered(Answer::Refused(Refusal::Memory))),
+    }
+}
+
+/// Writes the reply at the end, without a line break. Where memory runs out, a part of it may stand there.
+pub fn write_outcome<C: Caller>(
+    caller: &C,
+    outcome: &Outcome,
+    out: &mut Vec<u8>,
+) -> Result<(), AllocError>
+    ensures ok { OnOk result (Appends
+        (λ text. SpellsReply text (reply_of outcome.now (C.kept caller.now))) out.old.items out.new.items) }
+    ensures err { OnErr result (StartsWith out.new.items out.old.items) }
+{
+    match outcome {
+        Outcome::Reply(reply) => reply.write(out),
+        Outcome::Kept => match caller.kept() {
+            Some(answer) => write_answer(answer, out),
+            None => Reply::Number.write(out),
+        },
+    }
+}
+
+/// Whether the reply has a text, which each reply has. It does not allocate.
+pub fn outcome_has_text<C: Caller>(caller: &C, outcome: &Outcome) -> bool
+    ensures always { IsTrue result }
+    ensures text { (text : List ℕ) × SpellsReply text (reply_of outcome.now (C.kept caller.now)) }
+{
+    match outcome {
+        Outcome::Reply(reply) => reply.has_text(),
+        Outcome::Kept => match caller.kept() {
+            Some(answer) => answer_has_text(answer),
+            None => Reply::Number.has_text(),
+        },
+    }
+}
