@@ -3,6 +3,8 @@
 #![tactic(auto)]
 
 #[cfg(test)]
+mod embedding;
+#[cfg(test)]
 mod rooms;
 #[cfg(test)]
 mod sessions;
