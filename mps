@@ -25,7 +25,7 @@ refuses() {
 }
 
 case $1 in
-'' | --help | -h | help | prove | which | install | explain) ;;
+'' | --help | -h | help | prove | which | install | explain | library) ;;
 *)
     if [ -r "$note" ] && read -r sources <"$note" && { echo "$sources"; "$here/tools/look"; } | cmp -s - "$note"; then
         for kind in proved checked; do

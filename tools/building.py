@@ -1,4 +1,4 @@
-"""building: builds the program, checked or proved, in the folder out, and installs it elsewhere."""
+"""building: builds the program and the library, checked or proved, in the folder out, and copies them elsewhere."""
 import contextlib
 import fcntl
 import glob
@@ -9,13 +9,45 @@ import subprocess
 import sys
 import tempfile
 import time
+from typing import NamedTuple
 
 import checked_build
-from sources import HOME, OUT, digest, listed, needed, place
+import library
+from sources import HOME, OUT, built, digest, listed, needed, place
 
 
 class Stopped(Exception):
-    """Why there is no program to run."""
+    """Why there is no program to run, or no library."""
+
+
+class Goal(NamedTuple):
+    """What can be built: how it is called, the crate that it is made of, and its name in the folder of its sources."""
+    called: str
+    crate: str
+    name: str
+
+    def crates(self):
+        """The crates that it stands on."""
+        return needed(listed(), self.crate)
+
+    def make_checked(self, out):
+        """Makes it without proofs."""
+        if self is LIBRARY:
+            library.make_checked(self.crates(), out)
+        else:
+            checked_build.build(HOME, self.crate, self.crates(), out)
+
+    def make_proved(self, out):
+        """Makes it of the crates as they were proved."""
+        os.makedirs(os.path.dirname(out), exist_ok=True)
+        if self is LIBRARY:
+            library.make_proved(out)
+        else:
+            copy(os.path.join(HOME, "crates", self.crate, "out", self.name), out)
+
+
+PROGRAM = Goal("mps_tool", "mps_tool", "mps_tool")
+LIBRARY = Goal("the library", library.CRATE, "library")
 
 
 @contextlib.contextmanager
@@ -32,24 +64,24 @@ def alone(kind):
         yield
 
 
-def only(program, kind):
-    """Removes the programs of that kind that were built of other sources."""
-    for other in glob.glob(place(kind, "*")):
-        if other != program:
+def only(made, kind):
+    """Removes what was built of that kind of other sources."""
+    for other in glob.glob(place(kind, "*", os.path.basename(made))):
+        if other != made:
             shutil.rmtree(os.path.dirname(other), ignore_errors=True)
 
 
-def need_kit():
-    """There is no program without the kit."""
+def need_kit(goal):
+    """Nothing is built without the kit."""
     if shutil.which("rt") is None:
-        raise Stopped("mps_tool isn't built of these sources yet, and there is no rt, the command of the Rattle kit, on your "
-                      "PATH to build it with")
+        raise Stopped(f"{goal.called} isn't built of these sources yet, and there is no rt, the command of the Rattle kit, on "
+                      "your PATH to build it with")
 
 
-def need_same(sources):
+def need_same(goal, sources):
     """The sources have to be as they were when the building began."""
-    if digest(needed(listed(), "mps_tool")) != sources:
-        raise Stopped("a source was changed while mps_tool was built; call it again")
+    if digest(goal.crates()) != sources:
+        raise Stopped(f"a source was changed while {goal.called} was built; call it again")
 
 
 class Proof:
@@ -85,7 +117,7 @@ def prove_all(crates):
     memory = os.sysconf("SC_PAGE_SIZE") * os.sysconf("SC_PHYS_PAGES")
     room = max(1, min(os.cpu_count() or 1, (memory + (2 << 30)) // (4 << 30)))
     waiting, running, proved = list(crates), [], set()
-    print(f"building mps_tool: {len(crates)} crates are proved first, which takes some minutes", file=sys.stderr)
+    print(f"{len(crates)} crates are proved, which takes some minutes", file=sys.stderr)
     try:
         while waiting or running:
             for name in list(waiting):
@@ -103,47 +135,72 @@ def prove_all(crates):
                 proof.stop()
 
 
-def prove(crates, sources):
-    """The proved program of these sources, which is built where it is missing."""
-    program = place("proved", sources)
-    if os.path.exists(program):
-        return program
-    with alone("proved"):
-        if not os.path.exists(program):
-            need_kit()
-            prove_all(crates)
-            need_same(sources)
-            os.makedirs(os.path.dirname(program), exist_ok=True)
-            copy(os.path.join(HOME, "crates", "mps_tool", "out", "mps_tool"), program)
-        only(program, "proved")
-    return program
+def prove():
+    """Builds the proved program and the proved library of these sources where they are missing, and gives their places."""
+    sources = {goal: digest(goal.crates()) for goal in (PROGRAM, LIBRARY)}
+    places = {goal: place("proved", sources[goal], goal.name) for goal in sources}
+    if not all(os.path.exists(there) for there in places.values()):
+        with alone("proved"):
+            missing = [goal for goal in places if not os.path.exists(places[goal])]
+            for goal in missing:
+                need_kit(goal)
+            prove_all({name: below for goal in missing for name, below in goal.crates().items()})
+            for goal in missing:
+                need_same(goal, sources[goal])
+                with told_why(goal):
+                    goal.make_proved(places[goal])
+                only(places[goal], "proved")
+    return places
 
 
-def check(crates, sources):
-    """The checked program of these sources, which is built where it is missing; the proved one where it can't be."""
-    program = place("checked", sources)
+@contextlib.contextmanager
+def told_why(goal):
+    """Says why a goal can't be made."""
+    try:
+        yield
+    except checked_build.Refused as refused:
+        raise Stopped(f"{goal.called} doesn't compile:\n{refused}") from refused
+    except library.NotMade as reason:
+        raise Stopped(f"{goal.called} can't be linked: {reason}") from reason
+
+
+def check(goal, sources):
+    """What is checked of these sources, which is built where it is missing; what is proved where it can't be."""
+    there = place("checked", sources, goal.name)
     with alone("checked"):
-        if os.path.exists(program):
-            return program
-        need_kit()
-        print("building mps_tool, which takes about a minute ..", file=sys.stderr, flush=True)
+        if os.path.exists(there):
+            return there
+        need_kit(goal)
+        print(f"building {goal.called}, which takes about a minute ..", file=sys.stderr, flush=True)
         try:
-            checked_build.build(HOME, "mps_tool", crates, program)
-        except checked_build.Refused as refused:
-            raise Stopped(f"mps_tool doesn't compile:\n{refused}") from refused
+            with told_why(goal):
+                goal.make_checked(there)
         except checked_build.NotAsExpected as reason:
-            print(f"mps: no checked build ({reason}), so the proved program is built", file=sys.stderr, flush=True)
+            print(f"mps: no checked build ({reason}), so what is proved is built", file=sys.stderr, flush=True)
         else:
             try:
-                need_same(sources)
+                need_same(goal, sources)
             except Stopped:
-                shutil.rmtree(os.path.dirname(program))
+                shutil.rmtree(os.path.dirname(there))
                 raise
-            only(program, "checked")
-            print("checked build: each step is tested as it runs; ./mps prove builds the proved program, some 30 minutes",
+            only(there, "checked")
+            print("checked build: each step is tested as it runs; ./mps prove builds what is proved, some 30 minutes",
                   file=sys.stderr, flush=True)
-            return program
-    return prove(crates, sources)
+            return there
+    return prove()[goal]
+
+
+def give_library(folder):
+    """Copies the library into a folder, which is built where it is missing; what it is, and where it then stands."""
+    sources = digest(LIBRARY.crates())
+    if not built(sources, LIBRARY.name):
+        check(LIBRARY, sources)
+    kind, made = built(sources, LIBRARY.name)
+    try:
+        places = library.put(made, folder)
+    except OSError as error:
+        raise Stopped(f"{folder} can't be written: {error.strerror}") from error
+    return "\n".join([f"{kind} library of the sources {sources}", *places])
 
 
 def copy(program, there):

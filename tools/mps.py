@@ -9,15 +9,18 @@ mps serve FILE --port P --sessions S ..
                                serves sessions of the protocol to clients; mps serve --help has the options
 mps explain FILE               as check; and where the protocol is refused, says where in FILE and why. The four above
                                say it too where standard error is a terminal
-mps prove                      builds the proved program: each crate is proved, side by side on all cores, which takes
-                               about half an hour; prints where the program stands
+mps prove                      builds the proved program and the proved library: each crate is proved, side by side on
+                               all cores, which takes about half an hour; prints where the program stands
 mps which [--path]             tells which program runs, and of which sources; with --path prints only where it stands
 mps install DIR                copies the program that runs to DIR/mps_tool, where it needs nothing of this repository
+mps library DIR                copies the library for programs in C, Rust and Python to DIR, which is made if need be:
+                               libcizhmolat.a, libcizhmolat.so and cizhmolat.h. docs/EMBEDDING.md says how to call it
 mps --version                  the program's version
 
 The proved program runs where one was built of the sources as they are, else the checked one: the same sources, with a
 check at each step where a proof would have shown that nothing goes wrong. The checked one is built where it is missing,
-which takes about a minute. mps ends with the program's status, or with 2 where no program can be run.
+which takes about a minute. So it is with the library. mps ends with the program's status, or with 2 where no program can
+be run.
 """
 import os
 import signal
@@ -28,10 +31,10 @@ sys.dont_write_bytecode = True
 sys.path.insert(0, os.path.dirname(os.path.realpath(__file__)))
 import building  # noqa: E402
 import explain  # noqa: E402
-from sources import built, listed, needed, noted_digest  # noqa: E402
+from sources import built, noted_digest  # noqa: E402
 
 # the words that each order of mps itself may have after it
-USES = {"prove": "", "which": "[--path]", "install": "DIR", "explain": "FILE"}
+USES = {"prove": "", "which": "[--path]", "install": "DIR", "explain": "FILE", "library": "DIR"}
 
 
 def may_follow(order, words):
@@ -54,10 +57,10 @@ def which(words, sources):
         print(f"no program of the sources {sources} yet: mps builds the checked one when it is called, mps prove the proved one")
 
 
-def program_of(crates, sources):
+def program_of(sources):
     """Where the program stands that runs, which is built where it is missing."""
     found = built(sources)
-    return found[1] if found else building.check(crates, sources)
+    return found[1] if found else building.check(building.PROGRAM, sources)
 
 
 def refused_file(program, words):
@@ -94,18 +97,19 @@ def main():
     order, words = sys.argv[1], sys.argv[2:]
     if order in USES and not may_follow(order, words):
         raise building.Stopped(f"usage: mps {order} {USES[order]}")
-    crates = needed(listed(), "mps_tool")
-    sources = noted_digest(crates)
+    sources = noted_digest(building.PROGRAM.crates())
     if order == "which":
         which(words, sources)
     elif order == "prove":
-        print(building.prove(crates, sources))
+        print(building.prove()[building.PROGRAM])
+    elif order == "library":
+        print(building.give_library(*words))
     elif order == "install":
-        print(building.install(program_of(crates, sources), *words))
+        print(building.install(program_of(sources), *words))
     elif order == "explain":
-        sys.exit(run_explained(program_of(crates, sources), ["check", "--", *words], *words, sys.stdout))
+        sys.exit(run_explained(program_of(sources), ["check", "--", *words], *words, sys.stdout))
     else:
-        run(program_of(crates, sources), sys.argv[1:])
+        run(program_of(sources), sys.argv[1:])
 
 
 for number in (signal.SIGTERM, signal.SIGHUP):

@@ -1,4 +1,4 @@
-"""The crates of the repository, what they stand on, sums of their sources, and where programs built of these stand."""
+"""The crates of the repository, what they stand on, sums of their sources, and where what is built of these stands."""
 import contextlib
 import hashlib
 import os
@@ -35,14 +35,14 @@ def needed(crates, top):
     return found
 
 
-def place(kind, sources):
-    """Where the program of that kind stands that was built of the sources with that digest."""
-    return os.path.join(OUT, kind, sources, "mps_tool")
+def place(kind, sources, name="mps_tool"):
+    """Where the program, or the library, of that kind stands that was built of the sources with that digest."""
+    return os.path.join(OUT, kind, sources, name)
 
 
-def built(sources):
+def built(sources, name="mps_tool"):
     """The kind and the place of the program that runs, the proved one before the checked one; or nothing."""
-    places = ((kind, place(kind, sources)) for kind in ("proved", "checked"))
+    places = ((kind, place(kind, sources, name)) for kind in ("proved", "checked"))
     return next((found for found in places if os.path.exists(found[1])), None)
 
 

@@ -1,0 +1,88 @@
+"""library: makes libcizhmolat.a and libcizhmolat.so of the exports of mps_c, and puts them where they are wanted.
+
+Both have the few functions of the kit's C code by which memory is asked for, and need nothing but the C library. Nothing
+but the exports can be named by who links them. The kit has the linker; objcopy is one of the binutils."""
+import os
+import shutil
+import subprocess
+import tempfile
+
+import checked_build
+from sources import HOME
+
+CRATE = "mps_c"
+FILES = ("libcizhmolat.a", "libcizhmolat.so")
+HEADER = os.path.join(HOME, "bindings", "c", "cizhmolat.h")
+
+
+class NotMade(Exception):
+    """Why the library can't be linked."""
+
+
+def exports():
+    """The names of the exports."""
+    with open(os.path.join(HOME, "crates", CRATE, "src", "lib.rt"), encoding="utf-8") as file:
+        return checked_build.EXPORT.findall(file.read())
+
+
+def make_checked(crates, out):
+    """Makes the library without proofs, in the folder out."""
+    with tempfile.TemporaryDirectory(prefix="mps-build-") as work:
+        made = os.path.join(work, "exports.o")
+        checked_build.build_exports(HOME, CRATE, crates, made)
+        make(made, out)
+
+
+def make_proved(out):
+    """Makes the library of the crates as they were proved, in the folder out."""
+    make(os.path.join(HOME, "crates", CRATE, "out", f"lib{CRATE}.a"), out)
+
+
+def make(code, out):
+    """Makes the library of an object file or an archive, in the folder out, which comes to its place whole or not at all."""
+    beside = f"{out}.{os.getpid()}"
+    os.makedirs(beside)
+    try:
+        link(checked_build.page_folder(), code, beside)
+        os.replace(beside, out)
+    finally:
+        shutil.rmtree(beside, ignore_errors=True)
+
+
+def link(kit, code, folder):
+    """Links the code to an archive and a shared library in that folder."""
+    tools = os.path.join(kit, "toolchain", "bin")
+    archive, shared = (os.path.join(folder, name) for name in FILES)
+    with tempfile.TemporaryDirectory(prefix="mps-link-") as work:
+        whole, names, versions = (os.path.join(work, name) for name in ("cizhmolat.o", "names", "versions"))
+        with open(names, "w", encoding="ascii") as file:
+            file.writelines(f"{name}\n" for name in exports())
+        with open(versions, "w", encoding="ascii") as file:
+            file.write("{ global: " + " ".join(f"{name};" for name in exports()) + " local: *; };\n")
+        run(f"{tools}/ld.lld", "-r", "-o", f"{whole}.all", "--whole-archive", code, "--no-whole-archive", f"{kit}/c/liblibc_c.a")
+        run("objcopy", f"--keep-global-symbols={names}", f"{whole}.all", whole)
+        run(f"{tools}/llvm-ar", "rcs", archive, whole)
+        run(f"{tools}/ld.lld", "-shared", "-soname", FILES[1], "--version-script", versions, "--gc-sections", "--no-undefined",
+            "-z", "now", "-z", "relro", "-z", "noexecstack", "-o", shared, whole, f"{kit}/toolchain/lib/libc.so.6")
+
+
+def run(*words):
+    """Runs a tool."""
+    try:
+        ran = subprocess.run(words, stdin=subprocess.DEVNULL, stdout=subprocess.PIPE, stderr=subprocess.STDOUT, text=True,
+                             errors="replace", check=False)
+    except FileNotFoundError as error:
+        raise NotMade(f"there is no {words[0]}, which is one of the binutils") from error
+    if ran.returncode:
+        raise NotMade(f"{os.path.basename(words[0])} ended with {ran.returncode}: {ran.stdout[:400]}")
+
+
+def put(made, folder):
+    """Copies the library and its header into a folder, which is made if need be, and says where they then stand."""
+    os.makedirs(folder, exist_ok=True)
+    places = []
+    for file in (*(os.path.join(made, name) for name in FILES), HEADER):
+        there = os.path.join(folder, os.path.basename(file))
+        checked_build.put(file, there)
+        places.append(there)
+    return places
