@@ -1,0 +1,35 @@
+//! The calls of `cizhmolat.h`.
+
+use std::ffi::c_void;
+
+/// What `mps_line` and its like give where there was no memory for a text.
+pub(crate) const NO_MEMORY: usize = usize::MAX;
+
+/// The struct of one pointer that owns a room.
+#[repr(C)]
+pub(crate) struct Handle {
+    pub(crate) at: *mut c_void,
+}
+
+extern "C" {
+    pub(crate) fn mps_open(
+        text: *const u8,
+        length: usize,
+        room: *mut Handle,
+        fault: *mut u32,
+        place: *mut u64,
+    ) -> bool;
+    pub(crate) fn mps_line(
+        room: *mut Handle,
+        role: *const u8,
+        role_length: usize,
+        line: *const u8,
+        line_length: usize,
+        out: *mut u8,
+        capacity: usize,
+    ) -> usize;
+    pub(crate) fn mps_answer(room: *mut Handle, out: *mut u8, capacity: usize) -> usize;
+    pub(crate) fn mps_entries(room: *mut Handle) -> u64;
+    pub(crate) fn mps_entry(room: *mut Handle, k: u64, out: *mut u8, capacity: usize) -> usize;
+    pub(crate) fn mps_close_at(at: *mut c_void);
+}
