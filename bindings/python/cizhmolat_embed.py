@@ -1,0 +1,213 @@
+"""cizhmolat_embed: rooms in this process, with the names of cizhmolat, the client of a server.
+
+    from cizhmolat_embed import Role, Room
+
+    with Room("roles a b c ; a -> b : int . b -> c : int . end") as room:
+        a, b = Role(room, "a"), Role(room, "b")
+        a.send("b", 5)
+        step, value = b.receive("a", "x")
+
+A Role is a `cizhmolat.Role` whose session is a Room of this process in place of the number of a served one: it has the same
+methods, which raise the same exceptions. So a program that was written for a server goes on here with
+
+    from cizhmolat_embed import Role, Room
+    session = Room(protocol)
+
+in place of `from cizhmolat import Role` and `session = 1`. What speaks of the connection (`port`, `host`, `numbers`, `timeout`,
+`patience`) may stand there still, and does nothing: an answer can't be lost. Nobody else acts while a call waits, so a receipt
+and a pick don't wait: where no message is there, NothingQueued is raised at once, whatever their `timeout` says.
+
+This file stands beside cizhmolat.py. The library is libcizhmolat.so, which `./mps library DIR` makes, of the environment's
+CIZHMOLAT_DIR, of the folder of this file, or where the system looks for libraries. A Room and its Roles stay on the thread
+that opened the Room."""
+from __future__ import annotations
+
+import ctypes
+import os
+import re
+import threading
+from pathlib import Path
+
+import cizhmolat
+from cizhmolat import Error, count, name
+
+__all__ = ["BadProtocol", "NoMemory", "Role", "Room", "WrongThread"]
+
+NO_MEMORY = ctypes.c_size_t(-1).value
+TEXTS = ("toolong", "word", "unexpected", "toomanynodes", "toodeep", "trailing")
+PROTOCOLS = ("rolecount", "doublerole", "toomanynodes", "toodeep", "unknownrole", "selfmessage", "doublelabel",
+             "toomanybranches", "nobranches", "unbound", "shadowed", "unguarded")
+
+
+class BadProtocol(Error):
+    """The text gives no room.
+
+    word     the kind of its fault, as `mps check` names it, such as `unexpected`, `unbound` or `projection`
+    number   the fault's number, as cizhmolat.h lists them
+    place    the byte of a fault of the text, the choice of a projection's, and else 0"""
+
+    def __init__(self, number: int, place: int) -> None:
+        self.number, self.place = number, place
+        if number < 32:
+            self.word = TEXTS[number - 16]
+            told = f"text {self.word} {place}"
+        elif number < 48:
+            self.word = PROTOCOLS[number - 32]
+            told = f"protocol {self.word}"
+        else:
+            self.word = "projection"
+            told = f"projection of role number {number - 48}, choice {place}"
+        super().__init__(told)
+
+
+class NoMemory(Error):
+    """Memory ran out: no room could be opened, or there was none for the text of an answer. In the second case the line was
+    run, and `Room.answer` gives its answer later."""
+
+
+class WrongThread(Error):
+    """A room was called from another thread than the one that opened it."""
+
+
+class Handle(ctypes.Structure):
+    """The struct of one pointer that owns a room."""
+    _fields_ = [("at", ctypes.c_void_p)]
+
+
+def library() -> ctypes.CDLL:
+    """The library, with the types of its calls."""
+    folders = [os.environ.get("CIZHMOLAT_DIR"), Path(__file__).resolve().parent]
+    files = [Path(folder) / "libcizhmolat.so" for folder in folders if folder]
+    found = ctypes.CDLL(str(next((file for file in files if file.exists()), "libcizhmolat.so")))
+    size, text, place = ctypes.c_size_t, ctypes.c_char_p, ctypes.POINTER(Handle)
+    for call, result, *takes in (
+            ("mps_open", ctypes.c_bool, text, size, place, ctypes.POINTER(ctypes.c_uint32), ctypes.POINTER(ctypes.c_uint64)),
+            ("mps_line", size, place, text, size, text, size, ctypes.c_void_p, size),
+            ("mps_answer", size, place, ctypes.c_void_p, size),
+            ("mps_entries", ctypes.c_uint64, place),
+            ("mps_entry", size, place, ctypes.c_uint64, ctypes.c_void_p, size),
+            ("mps_close_at", None, ctypes.c_void_p)):
+        getattr(found, call).restype, getattr(found, call).argtypes = result, takes
+    return found
+
+
+LIBRARY = library()
+
+
+class Room:
+    """A room with a new session of the protocol that the text spells. BadProtocol is raised where there is none.
+
+    It is closed by `close`, at the end of a `with`, or when it is let go of. It can't be called after that."""
+
+    def __init__(self, text: str | bytes) -> None:
+        text = text.encode() if isinstance(text, str) else text
+        fault, place = ctypes.c_uint32(), ctypes.c_uint64()
+        self._handle, self._thread = Handle(), threading.get_ident()
+        self._at = ctypes.pointer(self._handle)
+        self._text = ctypes.create_string_buffer(1024)
+        self._accepted: dict[str, int] = {}  # of each role, how many of its commands were accepted that change the session
+        if not LIBRARY.mps_open(text, len(text), self._at, fault, place):
+            if fault.value == 1:
+                raise NoMemory("there is no memory for a room")
+            raise BadProtocol(fault.value, place.value)
+
+    def __enter__(self) -> Room:
+        return self
+
+    def __exit__(self, *_: object) -> None:
+        self.close()
+
+    def __del__(self) -> None:
+        if getattr(self, "_thread", None) == threading.get_ident():
+            self.close()
+
+    def close(self) -> None:
+        """Lets the room go."""
+        if self._handle.at is not None:
+            self._check()
+            LIBRARY.mps_close_at(self._handle.at)
+            self._handle.at = None
+
+    def ask(self, role: str | bytes, line: str | bytes) -> str:
+        """The answer to a line, which is run as a command of the role of that name. A line may have a number in front."""
+        self._check()
+        role = role.encode() if isinstance(role, str) else role
+        line = line.encode() if isinstance(line, str) else line
+        text = self._text
+        length = LIBRARY.mps_line(self._at, role, len(role), line, len(line), text, len(text))
+        return self._whole(length)
+
+    def answer(self) -> str:
+        """The answer to the newest line once more."""
+        self._check()
+        return self._whole(LIBRARY.mps_answer(self._at, self._text, len(self._text)))
+
+    @property
+    def entries(self) -> int:
+        """How many entries the journal has."""
+        self._check()
+        return int(LIBRARY.mps_entries(self._at))
+
+    def entry(self, k: int) -> str:
+        """Entry number k of the journal, from 0, as a line of a script. IndexError is raised past the end."""
+        if count(k) >= self.entries:
+            raise IndexError(k)
+        length = LIBRARY.mps_entry(self._at, k, self._text, len(self._text))
+        if NO_MEMORY != length > len(self._text):
+            self._text = ctypes.create_string_buffer(length)
+            length = LIBRARY.mps_entry(self._at, k, self._text, length)
+        return self._told(length)
+
+    def _check(self) -> None:
+        if self._handle.at is None:
+            raise ValueError("the room is closed")
+        if self._thread != threading.get_ident():
+            raise WrongThread("a room stays on the thread that opened it")
+
+    def _whole(self, length: int) -> str:
+        """The whole answer, of which the length is told, and which was written where it fitted."""
+        if NO_MEMORY != length > len(self._text):
+            self._text = ctypes.create_string_buffer(length)
+            length = LIBRARY.mps_answer(self._at, self._text, length)
+        return self._told(length)
+
+    def _told(self, length: int) -> str:
+        if length == NO_MEMORY:
+            raise NoMemory("there is no memory for a text")
+        return ctypes.string_at(self._text, length).decode("ascii")
+
+
+class Role(cizhmolat.Role):
+    """A role of a room, for which this program acts. Several of a room may be used in turn, on the room's thread.
+
+    session, role    the Room, and the role's name; NoRole is raised where it has none of that name
+    port and others  may stand there as for a served session, and do nothing
+
+    `resumed` is always None."""
+
+    def __init__(self, session: Room, role: str, port: int = 0, *, host: str = "", numbers: str | os.PathLike[str] | None = None,
+                 timeout: float = 0, patience: float = 0) -> None:
+        self.session, self.role = session, name(role)
+        self.resumed = None
+        self._read("news 0", r"news.*")
+
+    def close(self) -> None:
+        """Does nothing: the room is closed by itself."""
+
+    @property
+    def newest(self) -> int:
+        """How many commands of the role were accepted that change the session, by this Role and others of the name."""
+        return self.session._accepted.get(self.role, 0)
+
+    def ask(self, command: str) -> str:
+        """The answer to a command line; refusals aren't raised."""
+        if "\n" in command or not command.isascii():
+            raise ValueError(f"no line: {command!r}")
+        answer = self.session.ask(self.role, command)
+        if answer.startswith(("done", "undone")):
+            self.session._accepted[self.role] = self.newest + 1
+        return answer
+
+    def _poll(self, command: str, form: str, timeout: float) -> re.Match[str]:
+        """The answer to a command that waits at a server. Here nobody else can act meanwhile."""
+        return self._read(command, form)
