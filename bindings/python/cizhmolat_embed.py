@@ -79,14 +79,12 @@ def library() -> ctypes.CDLL:
     folders = [os.environ.get("CIZHMOLAT_DIR"), Path(__file__).resolve().parent]
     files = [Path(folder) / "libcizhmolat.so" for folder in folders if folder]
     found = ctypes.CDLL(str(next((file for file in files if file.exists()), "libcizhmolat.so")))
-    size, text, place = ctypes.c_size_t, ctypes.c_char_p, ctypes.POINTER(Handle)
+    size, text, place = ctypes.c_size_t, ctypes.c_char_p, ctypes.c_void_p
     for call, result, *takes in (
             ("mps_open", ctypes.c_bool, text, size, place, ctypes.POINTER(ctypes.c_uint32), ctypes.POINTER(ctypes.c_uint64)),
-            ("mps_line", size, place, text, size, text, size, ctypes.c_void_p, size),
-            ("mps_answer", size, place, ctypes.c_void_p, size),
-            ("mps_entries", ctypes.c_uint64, place),
-            ("mps_entry", size, place, ctypes.c_uint64, ctypes.c_void_p, size),
-            ("mps_close_at", None, ctypes.c_void_p)):
+            ("mps_line", size, place, text, size, text, size, place, size), ("mps_answer", size, place, place, size),
+            ("mps_entries", ctypes.c_uint64, place), ("mps_entry", size, place, ctypes.c_uint64, place, size),
+            ("mps_close_at", None, place)):
         getattr(found, call).restype, getattr(found, call).argtypes = result, takes
     return found
 
@@ -103,8 +101,8 @@ class Room:
         text = text.encode() if isinstance(text, str) else text
         fault, place = ctypes.c_uint32(), ctypes.c_uint64()
         self._handle, self._thread = Handle(), threading.get_ident()
-        self._at = ctypes.pointer(self._handle)
-        self._text = ctypes.create_string_buffer(1024)
+        self._at = ctypes.addressof(self._handle)
+        self._make_room(1024)
         self._accepted: dict[str, int] = {}  # of each role, how many of its commands were accepted that change the session
         if not LIBRARY.mps_open(text, len(text), self._at, fault, place):
             if fault.value == 1:
@@ -133,14 +131,12 @@ class Room:
         self._check()
         role = role.encode() if isinstance(role, str) else role
         line = line.encode() if isinstance(line, str) else line
-        text = self._text
-        length = LIBRARY.mps_line(self._at, role, len(role), line, len(line), text, len(text))
-        return self._whole(length)
+        return self._whole(LIBRARY.mps_line(self._at, role, len(role), line, len(line), self._out, self._capacity))
 
     def answer(self) -> str:
         """The answer to the newest line once more."""
         self._check()
-        return self._whole(LIBRARY.mps_answer(self._at, self._text, len(self._text)))
+        return self._whole(LIBRARY.mps_answer(self._at, self._out, self._capacity))
 
     @property
     def entries(self) -> int:
@@ -152,10 +148,10 @@ class Room:
         """Entry number k of the journal, from 0, as a line of a script. IndexError is raised past the end."""
         if count(k) >= self.entries:
             raise IndexError(k)
-        length = LIBRARY.mps_entry(self._at, k, self._text, len(self._text))
-        if NO_MEMORY != length > len(self._text):
-            self._text = ctypes.create_string_buffer(length)
-            length = LIBRARY.mps_entry(self._at, k, self._text, length)
+        length = LIBRARY.mps_entry(self._at, k, self._out, self._capacity)
+        if NO_MEMORY != length > self._capacity:
+            self._make_room(length)
+            length = LIBRARY.mps_entry(self._at, k, self._out, length)
         return self._told(length)
 
     def _check(self) -> None:
@@ -166,15 +162,21 @@ class Room:
 
     def _whole(self, length: int) -> str:
         """The whole answer, of which the length is told, and which was written where it fitted."""
-        if NO_MEMORY != length > len(self._text):
-            self._text = ctypes.create_string_buffer(length)
-            length = LIBRARY.mps_answer(self._at, self._text, length)
+        if NO_MEMORY != length > self._capacity:
+            self._make_room(length)
+            length = LIBRARY.mps_answer(self._at, self._out, length)
         return self._told(length)
 
     def _told(self, length: int) -> str:
+        """The text of that length that was written."""
         if length == NO_MEMORY:
             raise NoMemory("there is no memory for a text")
-        return ctypes.string_at(self._text, length).decode("ascii")
+        return str(self._text[:length], "ascii")
+
+    def _make_room(self, capacity: int) -> None:
+        """Makes room for a text of so many bytes."""
+        block = ctypes.create_string_buffer(capacity)
+        self._text, self._out, self._capacity = memoryview(block), ctypes.addressof(block), capacity
 
 
 class Role(cizhmolat.Role):
