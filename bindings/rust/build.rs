@@ -15,6 +15,11 @@ fn main() {
     println!("cargo:rerun-if-env-changed=CIZHMOLAT_DIR");
     println!("cargo:rerun-if-changed={}", folder.join(ARCHIVE).display());
     assert!(
+        folder.is_absolute(),
+        "CIZHMOLAT_DIR is {}, and has to be an absolute path",
+        folder.display()
+    );
+    assert!(
         folder.join(ARCHIVE).is_file(),
         "{} has no {ARCHIVE}: make it by `./mps library DIR` in the repository of Cizhmolat, and set CIZHMOLAT_DIR to that DIR",
         folder.display()
