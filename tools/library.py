@@ -45,6 +45,8 @@ def make(code, out):
     try:
         link(checked_build.page_folder(), code, beside)
         os.replace(beside, out)
+    except checked_build.NotAsExpected as error:
+        raise NotMade(str(error)) from error
     finally:
         shutil.rmtree(beside, ignore_errors=True)
 
