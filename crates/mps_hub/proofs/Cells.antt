@@ -34,9 +34,9 @@ at_home_none o xs h i k e =
     ⊎_elim (λ (old : slice_get xs i ≡ Some (Some k)). h i k old) (λ (new : (i ≡ length xs) × (None ≡ Some k)). let n = new.1 in absurd cc) (get_push xs None i (Some k) e)
 
 -- one session more, and its cell
-pub cells_push : (names : List (List ℕ)) (sessions : List SessionState) (cells : List Opened) (s : SessionState) (c : Opened) → AreCellsOf names sessions cells → c.opening ≡ opened_with names s.types (length cells + 1)
-    → AreCellsOf names (sessions ++ s ∷ []) (cells ++ c ∷ [])
-cells_push names sessions cells s c h is = record {
+pub cells_push : (names : List (List ℕ)) (first : ℕ) (sessions : List SessionState) (cells : List Opened) (s : SessionState) (c : Opened) → AreCellsOf names first sessions cells → c.opening ≡ opened_with names s.types (first + length cells)
+    → AreCellsOf names first (sessions ++ s ∷ []) (cells ++ c ∷ [])
+cells_push names first sessions cells s c h is = record {
   count = omega (arith, length-append cells (c ∷ []), length-append sessions (s ∷ []), h.count);
   each = λ i o e.
       ⊎_elim
@@ -44,21 +44,21 @@ cells_push names sessions cells s c h is = record {
       (λ (new : (i ≡ length cells) × (c ≡ o)). (
         s,
         subst (λ (n : ℕ). slice_get (sessions ++ s ∷ []) n ≡ Some s) (sym (new.0 ∙ h.count)) (get_last sessions s),
-        ap (λ (x : Opened). x.opening) (sym new.1) ∙ is ∙ ap (λ (n : ℕ). opened_with names s.types (n + 1)) (sym new.0),
+        ap (λ (x : Opened). x.opening) (sym new.1) ∙ is ∙ ap (λ (n : ℕ). opened_with names s.types (first + n)) (sym new.0),
       ))
       (get_push cells c i o e);
 }
 
-pub numbered : (names : List (List ℕ)) (sessions : List SessionState) (cells : List Opened) → AreCellsOf names sessions cells → AreNumbered names cells
-numbered names sessions cells h i o e = let is = (h.each i o e).2 in (ap (λ (x : Opening). x.names) is, ap (λ (x : Opening). x.session) is)
+pub numbered : (names : List (List ℕ)) (first : ℕ) (sessions : List SessionState) (cells : List Opened) → AreCellsOf names first sessions cells → AreNumbered names first cells
+numbered names first sessions cells h i o e = let is = (h.each i o e).2 in (ap (λ (x : Opening). x.names) is, ap (λ (x : Opening). x.session) is)
 
 -- cells of sessions that are all alike
-pub all_alike : (names : List (List ℕ)) (types : List LocalType) (n : ℕ) (sessions : List SessionState) (cells : List Opened) (m : SessionState) → All (λ (s : SessionState). s ≡ m) sessions → m.types ≡ types → length sessions ≡ n → AreCellsOf names sessions cells → AreCellsWith names types n cells
-all_alike names types n sessions cells m all is count h = record {
+pub all_alike : (names : List (List ℕ)) (types : List LocalType) (first n : ℕ) (sessions : List SessionState) (cells : List Opened) (m : SessionState) → All (λ (s : SessionState). s ≡ m) sessions → m.types ≡ types → length sessions ≡ n → AreCellsOf names first sessions cells → AreCellsWith names types first n cells
+all_alike names types first n sessions cells m all is count h = record {
   count = h.count ∙ count;
   each = λ i o e. let was = h.each i o e in
       let alike : was.0 ≡ m = one_of sessions m i was.0 all was.1 in
-      was.2 ∙ ap (λ (t : List LocalType). opened_with names t (i + 1)) (ap (λ (s : SessionState). s.types) alike ∙ is);
+      was.2 ∙ ap (λ (t : List LocalType). opened_with names t (first + i)) (ap (λ (s : SessionState). s.types) alike ∙ is);
 }
   where
     one_of : (sessions : List SessionState) (m : SessionState) (i : ℕ) (s : SessionState) → All (λ (s : SessionState). s ≡ m) sessions → slice_get sessions i ≡ Some s → s ≡ m

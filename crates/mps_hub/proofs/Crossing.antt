@@ -47,7 +47,7 @@ module _ (κ : NamedLft) where
   places_send = search (view_send, places_inside_send)
 
   desk_inside_sync : IsSync (desk_inside.the_row κ)
-  desk_inside_sync = declared_sync (desk_inside.the_type κ) (search (sendable, roles.the_sync), (search (sendable), (search (sendable, table_sync, places_send), tt)))
+  desk_inside_sync = declared_sync (desk_inside.the_type κ) (search (sendable, roles.the_sync), (search sendable, (search sendable, (search (sendable, table_sync, places_send), tt))))
 
   pub desk_sync : IsSync (desk.the_row κ)
   desk_sync = search (view_sync, desk_inside_sync)

@@ -40,18 +40,18 @@ module _ {C : Type 0} (offer : Offer) (session : ℕ) (pass : C → Known) where
   pub front_seated : (all xs ys : List C) → all ≡ xs ++ ys → AreSeated offer session pass all → AreSeated offer session pass xs
   front_seated all xs ys is seated place c at = seated place c (subst (λ (l : List C). slice_get l place ≡ Some c) (sym is) (front_get xs ys place c at))
 
-  pub more_seated : (all xs : List C) (y : C) (n : ℕ) → all ≡ xs ++ y ∷ [] → length xs ≡ n → AreSeated offer session pass xs → IsOfSession offer.cells session (pass y) → (pass y).role ≡ n → AreSeated offer session pass all
+  pub more_seated : (all xs : List C) (y : C) (n : ℕ) → all ≡ xs ++ y ∷ [] → length xs ≡ n → AreSeated offer session pass xs → IsOfSession offer session (pass y) → (pass y).role ≡ n → AreSeated offer session pass all
   more_seated all xs y n is long seated of_session role place c at =
       ⊎_elim
       (λ (before : slice_get xs place ≡ Some c). seated place c before)
       (λ (last : (place ≡ length xs) × (y ≡ c)). (
-        subst (λ (x : C). IsOfSession offer.cells session (pass x)) last.1 of_session,
+        subst (λ (x : C). IsOfSession offer session (pass x)) last.1 of_session,
         sym (ap (λ (x : C). (pass x).role) last.1) ∙ role ∙ sym long ∙ sym last.0,
       ))
       (last_or xs y place c (subst (λ (l : List C). slice_get l place ≡ Some c) is at))
 
 -- a call of a pass leaves it at its place
-call_seated : (offer : Offer) (session place : ℕ) (k : Known) (x : Command) (a : Answer) (d : Known) → Calls k x a d → IsOfSession offer.cells session k × (k.role ≡ place) → IsOfSession offer.cells session d × (d.role ≡ place)
+call_seated : (offer : Offer) (session place : ℕ) (k : Known) (x : Command) (a : Answer) (d : Known) → Calls k x a d → IsOfSession offer session k × (k.role ≡ place) → IsOfSession offer session d × (d.role ≡ place)
 call_seated offer session place k x a d call (of_session, role) = (
   record {
     cell = of_session.cell;
@@ -64,7 +64,7 @@ call_seated offer session place k x a d call (of_session, role) = (
 module _ {C : Type 0} (caller : Ghosts C) (pass : C → Known) (offer : Offer) (session : ℕ) where
   -- lines that are restored leave each pass at its place
   pub still_seated : ((c : C) (x : Command) (a : Answer) (d : C) → caller.calls c x a d → Calls (pass c) x a (pass d)) → (names : List (List ℕ)) (callers callers' : List C) (lines : List (List ℕ)) → LinesRestored caller names callers lines callers' → AreSeated offer session pass callers → AreSeated offer session pass callers'
-  still_seated moves = lines_stay caller (λ place c. IsOfSession offer.cells session (pass c) × ((pass c).role ≡ place)) (λ place c x a d t. call_seated offer session place (pass c) x a (pass d) (moves c x a d t))
+  still_seated moves = lines_stay caller (λ place c. IsOfSession offer session (pass c) × ((pass c).role ≡ place)) (λ place c x a d t. call_seated offer session place (pass c) x a (pass d) (moves c x a d t))
 
   -- what a session is restored to, by the names that the desk has
   pub has_restored : {R : Type 0} (source : SourceGhosts R) (names : List (List ℕ)) (before after : List C) (reader reader' : R) (count size : ℕ) → names ≡ offer.names → AreSeated offer session pass before → AreSeated offer session pass after → RestoredFrom caller source names before reader reader' after count size → HasRestored caller pass source offer session reader reader' count size

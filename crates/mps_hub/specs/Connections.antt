@@ -24,9 +24,9 @@ use Rattle.mps_hub.specs.declared.attending.Attended.TheVariants.{NoLine, Turned
 -- the reply to a first line: that it is none, why it gets no pass, or that it joined
 abbrev pub RepliesToFirst : Offer → List ℕ → Reply → Type 0
 RepliesToFirst offer line BadLine = (session : ℕ) (name : List ℕ) → IsJoin line session name → ⊥
-RepliesToFirst offer line NoSession = (session : ℕ) × (name : List ℕ) × IsJoin line session name × (¬ IsSession (length offer.cells) session)
+RepliesToFirst offer line NoSession = (session : ℕ) × (name : List ℕ) × IsJoin line session name × (¬ IsSession offer.first (length offer.cells) session)
 RepliesToFirst offer line NoRole = (session : ℕ) × (name : List ℕ) × IsJoin line session name
-    × IsSession (length offer.cells) session × All (λ other. other ≢ name) offer.names
+    × IsSession offer.first (length offer.cells) session × All (λ other. other ≢ name) offer.names
 RepliesToFirst offer line Taken = (session : ℕ) × (name : List ℕ) × IsJoin line session name × IsOffered offer session name
 RepliesToFirst offer line (Joined session name) = IsJoin line session name × IsOffered offer session name
 RepliesToFirst offer line Number = ⊥

@@ -6,9 +6,10 @@ use Rattle.mps_session.specs.SessionState.{SessionState}
 use Rattle.mps_room.specs.RoomState.{RoomState}
 use Rattle.mps_cell.specs.Cells.{Opened, Closes, Dealt, IsDealOf, opened_with}
 
--- the names of the roles, a cell for each session, and whether the passes were given
+-- the names of the roles, the number of the first session, a cell for each session, and whether the passes were given
 pub record Hall : Type 0 where
   pub names : List (List ℕ)
+  pub first : ℕ
   pub cells : List Opened
   pub given : Bool
 
@@ -16,15 +17,15 @@ pub record Hall : Type 0 where
 abbrev pub IsNew : List (List ℕ) → SessionState → Type 0
 IsNew names s = (s.state ≡ initial) × (length names ≡ length s.types)
 
--- there is a cell for each session, in order, opened with these names, the session's types and its number
-pub record AreCellsOf (names : List (List ℕ)) (sessions : List SessionState) (cells : List Opened) : Type 0 where
+-- there is a cell for each session, in order, opened with these names, the session's types and its number, which is this one for the first
+pub record AreCellsOf (names : List (List ℕ)) (first : ℕ) (sessions : List SessionState) (cells : List Opened) : Type 0 where
   pub count : length cells ≡ length sessions
-  pub each : (i : ℕ) (o : Opened) → slice_get cells i ≡ Some o → (s : SessionState) × (slice_get sessions i ≡ Some s) × (o.opening ≡ opened_with names s.types (i + 1))
+  pub each : (i : ℕ) (o : Opened) → slice_get cells i ≡ Some o → (s : SessionState) × (slice_get sessions i ≡ Some s) × (o.opening ≡ opened_with names s.types (first + i))
 
--- there are so many cells, each opened with these names, these types and its number
-pub record AreCellsWith (names : List (List ℕ)) (types : List LocalType) (n : ℕ) (cells : List Opened) : Type 0 where
+-- there are so many cells, each opened with these names, these types and its number, which is this one for the first
+pub record AreCellsWith (names : List (List ℕ)) (types : List LocalType) (first n : ℕ) (cells : List Opened) : Type 0 where
   pub count : length cells ≡ n
-  pub each : (i : ℕ) (o : Opened) → slice_get cells i ≡ Some o → o.opening ≡ opened_with names types (i + 1)
+  pub each : (i : ℕ) (o : Opened) → slice_get cells i ≡ Some o → o.opening ≡ opened_with names types (first + i)
 
 -- there is a deal for each cell, in order
 pub record AreDeals (cells : List Opened) (deals : List Dealt) : Type 0 where

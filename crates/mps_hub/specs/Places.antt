@@ -1,38 +1,43 @@
 -- What a desk has, and where.
-use Rattle.std.specs.Prelude.{◌≡◌, ℕ, ◌-◌, ◌≤◌, List, Some, slice_get, length}
+use Rattle.std.specs.Prelude.{◌≡◌, ℕ, ◌+◌, ◌-◌, ◌<◌, ◌≤◌, List, Some, slice_get, length}
 use Rattle.mps_cell.specs.Calls.{Known}
 use Rattle.mps_cell.specs.Cells.{Opened}
 
--- what a desk offers: the names of the roles, and a cell for each session
+-- what a desk offers: the names of the roles, the number of the first session, and a cell for each session
 pub record Offer : Type 0 where
   pub names : List (List ℕ)
+  pub first : ℕ
   pub cells : List Opened
 
--- sessions are counted from 1
-abbrev pub IsSession : ℕ → ℕ → Type 0
-IsSession sessions session = (1 ≤ session) × (session ≤ sessions)
+-- so many sessions are numbered from the first on
+abbrev pub IsSession : (first sessions session : ℕ) → Type 0
+IsSession first sessions session = (first ≤ session) × (session < first + sessions)
 
 -- the pass is of this cell, and so of its names, its types and its session
 pub record IsOfCell (cell : Opened) (pass : Known) : Type 0 where
   pub same_cell : pass.cell ≡ cell.cell
   pub same_opening : pass.opening ≡ cell.opening
 
--- the pass is of the cell of this session
-pub record IsOfSession (cells : List Opened) (session : ℕ) (pass : Known) : Type 0 where
+-- the pass is of the cell at this place
+pub record IsAtPlace (cells : List Opened) (place : ℕ) (pass : Known) : Type 0 where
   pub cell : Opened
-  pub there : slice_get cells (session - 1) ≡ Some cell
+  pub there : slice_get cells place ≡ Some cell
   pub of_cell : IsOfCell cell pass
+
+-- the pass is of the cell of this session, which is as many places behind the first as its number is above that of the first
+abbrev pub IsOfSession : Offer → ℕ → Known → Type 0
+IsOfSession offer session pass = IsAtPlace offer.cells (session - offer.first) pass
 
 -- there is such a session, with a role of that name
 pub record IsOffered (offer : Offer) (session : ℕ) (name : List ℕ) : Type 0 where
-  pub is_session : IsSession (length offer.cells) session
+  pub is_session : IsSession offer.first (length offer.cells) session
   pub role : ℕ
   pub named : slice_get offer.names role ≡ Some name
 
 -- there is such a session, and it is the pass of its cell and of the role of that name
 pub record IsPassOf (offer : Offer) (session : ℕ) (name : List ℕ) (pass : Known) : Type 0 where
-  pub is_session : IsSession (length offer.cells) session
-  pub of_session : IsOfSession offer.cells session pass
+  pub is_session : IsSession offer.first (length offer.cells) session
+  pub of_session : IsOfSession offer session pass
   pub number_is : pass.opening.session ≡ session
   pub names_are : pass.opening.names ≡ offer.names
   pub of_role : slice_get offer.names pass.role ≡ Some name

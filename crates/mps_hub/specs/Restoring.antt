@@ -11,7 +11,7 @@ use Rattle.mps_hub.specs.declared.restoring.SessionFault.TheVariants.{Journal}
 
 -- at each place is the pass of the session and of the role at that place
 abbrev pub AreSeated : {C : Type 0} → Offer → (session : ℕ) → (pass : C → Known) → List C → Type 0
-AreSeated {C} offer session pass callers = (place : ℕ) (c : C) → slice_get callers place ≡ Some c → IsOfSession offer.cells session (pass c) × ((pass c).role ≡ place)
+AreSeated {C} offer session pass callers = (place : ℕ) (c : C) → slice_get callers place ≡ Some c → IsOfSession offer session (pass c) × ((pass c).role ≡ place)
 
 -- it is no fault of a journal
 abbrev pub IsNoJournal : SessionFault → Type 0

@@ -1,9 +1,10 @@
 -- Why a server stops.
-use Rattle.std.specs.Prelude.{ℕ, ◌≤◌, ⊤}
+use Rattle.std.specs.Prelude.{ℕ, ⊤}
+use Rattle.mps_hub.specs.Places.{IsSession}
 use Rattle.mps_hub.specs.declared.server.ServeFault.{ServeFault}
 use Rattle.mps_hub.specs.declared.server.ServeFault.TheVariants.{Accept, Memory, Unkept}
 
--- how a server may fail of which so many sessions are kept
-abbrev pub IsServeFaultOf : ℕ → ServeFault → Type 0
-IsServeFaultOf n (Unkept session) = (1 ≤ session) × (session ≤ n)
-IsServeFaultOf n fault = ⊤
+-- how a server may fail of which so many sessions are kept, from the one with this number on
+abbrev pub IsServeFaultOf : (first n : ℕ) → ServeFault → Type 0
+IsServeFaultOf first n (Unkept session) = IsSession first n session
+IsServeFaultOf first n fault = ⊤

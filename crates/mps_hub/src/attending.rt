@@ -110,11 +110,11 @@ fn admit<'a, H: Wait>(rt: &H, desk: &Desk<'a>, kept: &[u8]) -> Result<Admitted<'
     }
 }
 
-// The keeper of the session of that number, where there is one.
-fn keeper_of<S: Sink, D>(keepers: &[Keeper<S, D>], session: u64) -> Option<&Keeper<S, D>>
+// The keeper at that place, where there is one.
+fn keeper_at<S: Sink, D>(keepers: &[Keeper<S, D>], place: u64) -> Option<&Keeper<S, D>>
     ensures { length keepers.now ≡ 0 → result ≡ None }
 {
-    keepers.get((session as usize).checked_sub(1)?)
+    keepers.get(place as usize)
 }
 
 // Room for the lines that are kept.
@@ -215,8 +215,8 @@ fn talk_out<
 /// then, however the conversation ended.
 ///
 /// The first line is `join SESSION ROLE`, of 512 bytes at most. The gate runs before each command; `connection` is the
-/// number that it is told. What the commands of session K change is kept by the K-th of the keepers, where there is one,
-/// and nothing is answered that isn't kept. Where memory runs out over the first line, nothing is answered.
+/// number that it is told. What the commands of the K-th session change is kept by the K-th of the keepers, where there is
+/// one, and nothing is answered that isn't kept. Where memory runs out over the first line, nothing is answered.
 pub fn attend<
     H: Wait + 'static,
     G: Gate + 'static,
@@ -261,7 +261,7 @@ pub fn attend<
                 line: 0,
                 inner: Held { rt, pass },
             };
-            let hold = Hold::new(rt, keeper_of(keepers, session));
+            let hold = Hold::new(rt, keeper_at(keepers, session - desk.first()));
             let caller = Recorded::new(hold, gated, line);
             let joined = Reply::Joined { session, name };
             let Talked { ended, pass } = talk_out(alloc, caller, &joined, reader, writer);

@@ -1,6 +1,6 @@
 //! The passes that are not in use, which one thread at a time has.
-ghost use Rattle.std.specs.Prelude.{◌≡◌, ◌≢◌, ◌<◌, ◌↔◌, Some, None, IfOk, IfSome, IsErrOf, All, length, slice_set};
-ghost use Rattle.mps_hub.specs.Places.{IsOfCell, IsOfSession, IsOffered, IsPassOf, IsSession, Offer};
+ghost use Rattle.std.specs.Prelude.{◌≡◌, ◌≢◌, ◌+◌, ◌<◌, ◌≤◌, ◌^◌, ◌↔◌, Some, None, IfOk, IfSome, IsErrOf, All, length, slice_set};
+ghost use Rattle.mps_hub.specs.Places.{IsAtPlace, IsOfCell, IsOfSession, IsOffered, IsPassOf, IsSession, Offer};
 ghost use Rattle.mps_hub.specs.Private.Places.{AreNumbered, AtHome};
 
 use crate::lock::{Steady, put_back, take_out};
@@ -112,23 +112,23 @@ impl<'a> Model for Places<'a> {
 }
 
 impl<'a> Places<'a> {
-    // The pass of this session and role, if it is there.
-    fn take(&mut self, session: u64, role: usize) -> Option<Pass<'a>>
-        requires { IsSession (length self.old) session }
+    // The pass of this role in the row at that place, if it is there.
+    fn take(&mut self, place: usize, role: usize) -> Option<Pass<'a>>
+        requires { place < length self.old }
         ensures same { self.new ≡ self.old }
-        ensures cell { IfSome result (IsOfSession self.old session) }
+        ensures cell { IfSome result (IsAtPlace self.old place) }
         ensures role { IfSome result (λ p. p.role ≡ role) }
     {
-        self.rows[session as usize - 1].take(role)
+        self.rows[place].take(role)
     }
 
-    // Puts a pass of this session to its own place.
-    fn give(&mut self, session: u64, pass: Pass<'a>)
-        requires session { IsSession (length self.old) session }
-        requires pass { IsOfSession self.old session pass }
+    // Puts a pass of the row at that place to its own place.
+    fn give(&mut self, place: usize, pass: Pass<'a>)
+        requires place { place < length self.old }
+        requires pass { IsAtPlace self.old place pass }
         ensures { self.new ≡ self.old }
     {
-        self.rows[session as usize - 1].give(pass);
+        self.rows[place].give(pass);
     }
 }
 
@@ -136,6 +136,7 @@ impl<'a> Places<'a> {
 #[derive(Drop)]
 pub struct Desk<'a> {
     names: &'a Roles,
+    first: u64,
     sessions: u64,
     table: Table<Places<'a>, Places<'a>, Snapshot<Places<'a>>, Steady, Global>,
 }
@@ -150,20 +151,22 @@ impl<'a> Model for Desk<'a> {
 
     ghost coded = { Prim.hlevel (codes, coded_local) };
 
-    ghost view = { λ d. record { names = d.names.now; cells = d.table.shared.key.value } };
+    ghost view = { λ d. record { names = d.names.now; first = d.first; cells = d.table.shared.key.value } };
 
-    ghost invariant = { λ d. IsDesk d.table.shared.table_id d.names.now d.sessions d.table.shared.key.value };
+    ghost invariant = { λ d. IsDesk d.table.shared.table_id d.names.now d.first d.sessions d.table.shared.key.value };
 }
 
 impl<'a> Desk<'a> {
-    // A desk with these names, over these rows.
+    // A desk with these names, over these rows, of which the first is of the session of that number.
     pub(crate) fn new(
         alloc: Global,
         names: &'a Roles,
+        first: u64,
         rows: Vec<Row<'a>>,
     ) -> Result<Desk<'a>, AllocError>
-        requires { AreNumbered names.now rows.items }
-        ensures { IfOk result (λ d. d ≡ record { names = names.now; cells = rows.entry.items }) }
+        requires numbered { AreNumbered names.now first rows.items }
+        requires fits { first + length rows.items < 2 ^ 64 }
+        ensures { IfOk result (λ d. d ≡ record { names = names.now; first = first; cells = rows.entry.items }) }
     {
         let sessions = rows.len() as u64;
         let places = Places { rows };
@@ -173,6 +176,7 @@ impl<'a> Desk<'a> {
         match Table::new(alloc, &[0], slots, &about) {
             Ok((table, _)) => Ok(Desk {
                 names,
+                first,
                 sessions,
                 table,
             }),
@@ -187,29 +191,37 @@ impl<'a> Desk<'a> {
         self.names
     }
 
+    /// The number of the first session. There are numbers for all.
+    pub fn first(&self) -> u64
+        ensures first { result ≡ self.now.first }
+        ensures fits { result + length self.now.cells < 2 ^ 64 }
+    {
+        self.first
+    }
+
     // Takes the pass of that session and role, if it is there.
     pub(crate) fn take_role<R: Wait>(&self, rt: &R, session: u64, role: usize) -> Option<Pass<'a>>
-        requires { IsSession (length self.now.cells) session }
-        ensures of_session { IfSome result (IsOfSession self.now.cells session) }
+        requires { IsSession self.now.first (length self.now.cells) session }
+        ensures of_session { IfSome result (IsOfSession self.now session) }
         ensures role { IfSome result (λ p. p.role ≡ role) }
     {
         let mut seat = take_out(rt, &self.table.shared);
         let places = seat.slot_mut(&self.table.shared, 0);
-        let found = places.take(session, role);
+        let found = places.take((session - self.first) as usize, role);
         put_back(&self.table.shared, seat);
         found
     }
 
-    /// Takes the pass of the role of that name in the session of that number, counted from 1. It waits while another thread
-    /// has the passes out, which is for one look, and does not allocate.
+    /// Takes the pass of the role of that name in the session of that number. It waits while another thread has the passes out,
+    /// which is for one look, and does not allocate.
     pub fn take<R: Wait>(&self, rt: &R, session: u64, name: &Name) -> Result<Pass<'a>, JoinFault>
         ensures pass { IfOk result (IsPassOf self.now session name.now) }
-        ensures no_session { IsErrOf result JoinFault.NoSession ↔ ¬ IsSession (length self.now.cells) session }
+        ensures no_session { IsErrOf result JoinFault.NoSession ↔ ¬ IsSession self.now.first (length self.now.cells) session }
         ensures no_role { IsErrOf result JoinFault.NoRole
-            ↔ (IsSession (length self.now.cells) session × All (λ other. other ≢ name.now) self.now.names) }
+            ↔ (IsSession self.now.first (length self.now.cells) session × All (λ other. other ≢ name.now) self.now.names) }
         ensures taken { IsErrOf result JoinFault.Taken → IsOffered self.now session name.now }
     {
-        if session == 0 || session > self.sessions {
+        if session < self.first || session - self.first >= self.sessions {
             return Err(JoinFault::NoSession);
         }
         let Some(role) = self.names.find(name) else {
@@ -223,12 +235,12 @@ impl<'a> Desk<'a> {
 
     /// Puts a pass of that session back. It waits as `take` does, and does not allocate.
     pub fn give<R: Wait>(&self, rt: &R, session: u64, pass: Pass<'a>)
-        requires session { IsSession (length self.now.cells) session }
-        requires pass { IsOfSession self.now.cells session pass }
+        requires session { IsSession self.now.first (length self.now.cells) session }
+        requires pass { IsOfSession self.now session pass }
     {
         let mut seat = take_out(rt, &self.table.shared);
         let places = seat.slot_mut(&self.table.shared, 0);
-        places.give(session, pass);
+        places.give((session - self.first) as usize, pass);
         put_back(&self.table.shared, seat);
     }
 }

@@ -45,7 +45,7 @@ impl<'a> Desk<'a> {
         alloc: Global,
         session: u64,
     ) -> Result<Vec<Held<'r, 'a, R>>, SessionFault>
-        requires { IsSession (length self.now.cells) session }
+        requires { IsSession self.now.first (length self.now.cells) session }
         ensures count { IfOk result (λ held. length held.items ≡ length self.now.names) }
         ensures seated { IfOk result (λ held. AreSeated self.now session (λ h. h.pass) held.items) }
         ensures fault { IfErr result IsNoJournal }
@@ -63,7 +63,7 @@ impl<'a> Desk<'a> {
 
     // Puts passes of a session back.
     fn give_all<R: Wait>(&self, rt: &R, session: u64, mut held: Vec<Held<'_, 'a, R>>)
-        requires session { IsSession (length self.now.cells) session }
+        requires session { IsSession self.now.first (length self.now.cells) session }
         requires seated { AreSeated self.now session (λ h. h.pass) held.items }
     {
         while let Some(one) = held.pop() {
@@ -80,7 +80,7 @@ impl<'a> Desk<'a> {
         session: u64,
         reader: &mut S,
     ) -> Result<Restored, SessionFault>
-        requires session { IsSession (length self.now.cells) session }
+        requires session { IsSession self.now.first (length self.now.cells) session }
         requires reads { S.calls reader.old < 2 ^ 62 }
         ensures ok { IfOk result (λ r. HasRestored ⟦<Held<'static, 'static, R> as Caller>⟧ (λ h. h.pass) S.Source self.now session
             reader.old reader.new r.lines r.bytes) }

@@ -68,12 +68,11 @@ fn linger<R: Clock>(rt: &R, stream: &TcpStream) {
     }
 }
 
-// The number of the first session of which lines were lost.
-fn broken_of<S: Sink, D>(keepers: &[Keeper<S, D>]) -> Option<u64>
-    ensures { IfSome result (λ session. (1 ≤ session) × (session ≤ length keepers.now)) }
+// The place of the first keeper of which lines were lost.
+fn broken_of<S: Sink, D>(keepers: &[Keeper<S, D>]) -> Option<usize>
+    ensures { IfSome result (λ place. place < length keepers.now) }
 {
-    let place = keepers.iter().position(|keeper| keeper.is_broken())?;
-    Some(place as u64 + 1)
+    keepers.iter().position(|keeper| keeper.is_broken())
 }
 
 // Attends to the connection at that place, and closes it. Answers are sent at once (`TCP_NODELAY`), where the system can. Where
@@ -216,7 +215,7 @@ fn accept_all<
 /// Accepts connections, attends to each in a thread of its own, and returns when all have ended. A connection whose thread
 /// can't be started is closed and counted as lost. After a fault no more are accepted.
 ///
-/// Session K is kept by the K-th of the keepers, where there is one. Where a keeper loses lines, nothing more is answered, and
+/// The K-th session is kept by the K-th of the keepers, where there is one. Where a keeper loses lines, nothing more is answered, and
 /// all connections are ended.
 pub fn serve_kept<
     R: Threads + Wait + Clock + Sync + 'static,
@@ -232,8 +231,9 @@ pub fn serve_kept<
     keepers: &[Keeper<S, D>],
     limits: Limits,
 ) -> Result<Served, ServeFault>
+    requires keepers { length keepers.now ≤ length desk.now.cells }
     ensures served { IfOk result (λ s. IfSome limits.connections (λ n. s.ended + s.lost ≡ n)) }
-    ensures unkept { IfErr result (IsServeFaultOf (length keepers.now)) }
+    ensures unkept { IfErr result (IsServeFaultOf desk.now.first (length keepers.now)) }
 {
     let Some(bell) = bell_of(listener) else {
         return Err(ServeFault::Accept);
@@ -245,8 +245,10 @@ pub fn serve_kept<
     let accepted = thread::scope(thread::scope_env(), rt, move |scope| {
         accept_all(scope, rt, alloc, listener, desk, gate, keepers, hall)
     });
-    if let Some(session) = broken_of(keepers) {
-        return Err(ServeFault::Unkept { session });
+    if let Some(place) = broken_of(keepers) {
+        return Err(ServeFault::Unkept {
+            session: desk.first() + place as u64,
+        });
     }
     counted(limits, accepted)
 }
@@ -255,7 +257,7 @@ pub fn serve_kept<
 // a lifetime: so `min`, and so a fault that tells of lost lines is told as one of accepting.
 fn counted(limits: Limits, accepted: Result<u64, ServeFault>) -> Result<Served, ServeFault>
     ensures served { IfOk result (λ s. IfSome limits.connections (λ n. s.ended + s.lost ≡ n)) }
-    ensures unkept { IfErr result (IsServeFaultOf 0) }
+    ensures unkept { IfErr result (IsServeFaultOf 0 0) }
 {
     let all = limits.connections.unwrap_or(u64::MAX);
     match accepted {
@@ -289,7 +291,7 @@ pub fn serve_with<R: Threads + Wait + Clock + Sync + 'static, G: Gate + Sync + '
     gate: &G,
 ) -> Result<Served, ServeFault>
     ensures served { IfOk result (λ s. s.ended + s.lost ≡ n) }
-    ensures unkept { IfErr result (IsServeFaultOf 0) }
+    ensures unkept { IfErr result (IsServeFaultOf desk.now.first 0) }
 {
     let limits = Limits {
         connections: Some(n),
@@ -307,7 +309,7 @@ pub fn serve<R: Threads + Wait + Clock + Sync + 'static>(
     n: u64,
 ) -> Result<Served, ServeFault>
     ensures served { IfOk result (λ s. s.ended + s.lost ≡ n) }
-    ensures unkept { IfErr result (IsServeFaultOf 0) }
+    ensures unkept { IfErr result (IsServeFaultOf desk.now.first 0) }
 {
     serve_with(rt, alloc, listener, desk, n, &Unguarded)
 }

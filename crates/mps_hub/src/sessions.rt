@@ -1,5 +1,5 @@
 //! The sessions of a server.
-ghost use Rattle.std.specs.Prelude.{◌≡◌, ◌≢◌, ◌+◌, ◌≤◌, ◌↔◌, [], true, false, map, length, vec_capacity, IfOk, IfErr, IfSome, IsSome, IsErrOf, All};
+ghost use Rattle.std.specs.Prelude.{◌≡◌, ◌≢◌, ◌+◌, ◌≤◌, ◌^◌, ◌↔◌, [], true, false, map, length, vec_capacity, IfOk, IfErr, IfSome, IsSome, IsErrOf, All};
 ghost use Rattle.mps_local.specs.Local.{plain};
 ghost use Rattle.mps_machine.specs.Machine.{initial};
 ghost use Rattle.mps_cell.specs.Cells.{IsDealOf, opened_with};
@@ -36,17 +36,18 @@ impl Model for HubDeal {
     ghost view = { λ d. d.deals.items };
 }
 
-/// The sessions of a server, a cell for each, numbered from 1.
+/// The sessions of a server, a cell for each, numbered from the first on.
 #[derive(Drop)]
 pub struct Hub {
     names: Roles,
+    first: u64,
     cells: Vec<Cell>,
     // until the passes are asked for
     deals: Option<Vec<Deal>>,
 }
 
 impl Model for Hub {
-    ghost use Rattle.std.specs.Prelude.{IfSome};
+    ghost use Rattle.std.specs.Prelude.{◌<◌, ◌+◌, ◌^◌, IfSome, length};
     ghost use Rattle.std.specs.Option.{is_none};
     ghost use Rattle.std.specs.Coded.{codes};
     ghost use Rattle.mps_local.specs.Private.Codes.{coded_local};
@@ -57,9 +58,10 @@ impl Model for Hub {
 
     ghost coded = { Prim.hlevel (codes, coded_local) };
 
-    ghost view = { λ h. record { names = h.names; cells = h.cells.items; given = is_none h.deals } };
+    ghost view = { λ h. record { names = h.names; first = h.first; cells = h.cells.items; given = is_none h.deals } };
 
-    ghost invariant = { λ h. AreNumbered h.names h.cells.items × IfSome h.deals (λ v. AreDeals h.cells.items v.items) };
+    ghost invariant = { λ h. AreNumbered h.names h.first h.cells.items × (h.first + length h.cells.items < 2 ^ 64)
+        × IfSome h.deals (λ v. AreDeals h.cells.items v.items) };
 }
 
 // A cell of the session with this number, and the right to its passes.
@@ -113,7 +115,7 @@ fn sessions_of(alloc: Global, types: &[Local], n: u64) -> Result<Vec<Session>, O
 }
 
 impl Hub {
-    /// Opens so many sessions of these roles with these types. A fault says why no session has these types, or that memory
+    /// Opens so many sessions of these roles with these types, numbered from 1. A fault says why no session has these types, or that memory
     /// ran out.
     pub fn open(
         alloc: Global,
@@ -124,31 +126,41 @@ impl Hub {
         requires some { (1 ≤ sessions) × (sessions ≤ 16) }
         requires named { length names.now ≡ length types.now }
         ensures names { IfOk result (λ h. h.names ≡ names.now) }
+        ensures first { IfOk result (λ h. h.first ≡ 1) }
         ensures given { IfOk result (λ h. h.given ≡ false) }
-        ensures cells { IfOk result (λ h. AreCellsWith names.now (map plain types.now) sessions h.cells) }
+        ensures cells { IfOk result (λ h. AreCellsWith names.now (map plain types.now) 1 sessions h.cells) }
         ensures fault { IfErr result (λ fault. fault ≢ OpenFault.Memory → KeepsShut (map plain types.now) fault) }
     {
         let made = sessions_of(alloc, types, sessions)?;
-        Ok(Hub::of(alloc, names, made)?)
+        Ok(Hub::of(alloc, names, 1, made)?)
     }
 
-    /// A hub of these sessions, in their order, in which nothing was done yet. Where memory runs out they are dropped.
-    pub fn of(alloc: Global, names: &Roles, sessions: Vec<Session>) -> Result<Hub, AllocError>
+    /// A hub of these sessions, in their order, in which nothing was done yet. The first of them has that number, and those
+    /// after it the next ones. Where memory runs out they are dropped.
+    pub fn of(
+        alloc: Global,
+        names: &Roles,
+        first: u64,
+        sessions: Vec<Session>,
+    ) -> Result<Hub, AllocError>
+        requires number { first ≤ 2 ^ 63 }
         requires some { (1 ≤ length sessions.items) × (length sessions.items ≤ 16) }
         requires new { All (IsNew names.now) sessions.items }
         ensures names { IfOk result (λ h. h.names ≡ names.now) }
+        ensures first { IfOk result (λ h. h.first ≡ first) }
         ensures given { IfOk result (λ h. h.given ≡ false) }
-        ensures cells { IfOk result (λ h. AreCellsOf names.now sessions.items h.cells) }
+        ensures cells { IfOk result (λ h. AreCellsOf names.now first sessions.items h.cells) }
     {
         let mut cells = Vec::with_capacity(alloc, sessions.len())?;
         let mut deals = Vec::with_capacity(alloc, sessions.len())?;
         for session in sessions {
-            let (cell, deal) = cell_of(alloc, names, session, cells.len() as u64 + 1)?;
+            let (cell, deal) = cell_of(alloc, names, session, first + cells.len() as u64)?;
             cells.push_reserved(cell);
             deals.push_reserved(deal);
         }
         Ok(Hub {
             names: names.copy(alloc)?,
+            first,
             cells,
             deals: Some(deals),
         })
@@ -157,6 +169,7 @@ impl Hub {
     /// The right to the passes, once in the hub's life. `desk_of` makes the desk for it, and the hub stays known beside.
     pub fn deal(&mut self) -> Option<HubDeal>
         ensures names { self.new.names ≡ self.old.names }
+        ensures first { self.new.first ≡ self.old.first }
         ensures cells { self.new.cells ≡ self.old.cells }
         ensures given { self.new.given ≡ true }
         ensures once { IsSome result ↔ (self.old.given ≡ false) }
@@ -165,6 +178,13 @@ impl Hub {
         Some(HubDeal {
             deals: self.deals.take()?,
         })
+    }
+
+    /// The number of the first session.
+    pub fn first(&self) -> u64
+        ensures { result ≡ self.now.first }
+    {
+        self.first
     }
 
     /// How many sessions there are.
@@ -177,18 +197,18 @@ impl Hub {
     /// The desk, with all passes.
     pub fn desk_of(&self, alloc: Global, deal: HubDeal) -> Result<Desk<'_>, AllocError>
         requires deal { AreDeals self.now.cells deal }
-        ensures desk { IfOk result (λ d. d ≡ record { names = self.now.names; cells = self.now.cells }) }
+        ensures desk { IfOk result (λ d. d ≡ record { names = self.now.names; first = self.now.first; cells = self.now.cells }) }
     {
         let HubDeal { deals } = deal;
         let names = &self.names;
         let rows = rows_of(alloc, self.cells.as_slice(), names.count(), deals)?;
-        Desk::new(alloc, names, rows)
+        Desk::new(alloc, names, self.first, rows)
     }
 
     /// Both in one: the desk, once in the hub's life. After an out-of-memory answer later calls are told that it was given.
     pub fn desk(&mut self, alloc: Global) -> Result<Desk<'_>, PassFault>
         ensures given { IsErrOf result Given ↔ (self.old.given ≡ true) }
-        ensures desk { IfOk result (λ d. d ≡ record { names = self.old.names; cells = self.old.cells }) }
+        ensures desk { IfOk result (λ d. d ≡ record { names = self.old.names; first = self.old.first; cells = self.old.cells }) }
     {
         let Some(deal) = self.deal() else {
             return Err(PassFault::Given);
@@ -205,6 +225,7 @@ impl Hub {
     {
         let Hub {
             names: _,
+            first: _,
             cells,
             deals: _,
         } = self;

@@ -45,6 +45,7 @@ pub unwritten : (file : List ℕ) (given left : Option (List ℕ)) (text slice :
 unwritten file given left text slice fault same h g = inr (given, left, cant_load given left text fault h (subst (λ (t : List ℕ). GivesNoProtocol t fault) same g))
 
 -- how a server fails that has the sessions of this file
-pub server_fails : {A : Type 0} (r : Result A ToolFault) (file : List ℕ) (folder folder' : Option (List ℕ)) (n n' : ℕ) → folder ≡ folder' → n ≡ n' → IfErr r (IsOutFault folder n) → IfErr r (IsServeFault file folder' n')
-server_fails (Ok x) file folder folder' n n' same count h = tt
-server_fails (Err e) file folder folder' n n' same count h = inr (subst (λ (f : Option (List ℕ)). IsOutFault f n' e) same (subst (λ (k : ℕ). IsOutFault folder k e) count h))
+pub server_fails : {A : Type 0} (r : Result A ToolFault) (file : List ℕ) (folder folder' : Option (List ℕ)) (first first' n n' : ℕ) → folder ≡ folder' → first ≡ first' → n ≡ n' → IfErr r (IsOutFault folder first n) → IfErr r (IsServeFault file folder' first' n')
+server_fails (Ok x) file folder folder' first first' n n' same number count h = tt
+server_fails (Err e) file folder folder' first first' n n' same number count h =
+    inr (subst (λ (f : Option (List ℕ)). IsOutFault f first' n' e) same (subst (λ (k : ℕ). IsOutFault folder k n' e) number (subst (λ (k : ℕ). IsOutFault folder first k e) count h)))

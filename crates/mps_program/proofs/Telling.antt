@@ -20,14 +20,15 @@ use Rattle.mps_program.specs.declared.faults.ToolFault.{ToolFault}
 use Rattle.mps_program.specs.declared.faults.ToolFault.TheVariants.{Usage, File, Text, Protocol, Projection, Open, Read, Write, Turns, Bind, Accept, Lost, JournalFile, JournalLine, JournalProtocol, JournalLost, Memory}
 
 -- a hub of the sessions that were loaded
-pub opened_hub : (given left : Option (List ℕ)) (n : ℕ) (roles : List (List ℕ)) (sessions : List SessionState) (hub : Hall) → HasLoadedMany given left roles n sessions → hub.names ≡ roles → AreCellsOf roles sessions hub.cells → HasOpened given left n hub
-opened_hub given left n roles sessions hub loaded names cells =
+pub opened_hub : (given left : Option (List ℕ)) (first n : ℕ) (roles : List (List ℕ)) (sessions : List SessionState) (hub : Hall) → HasLoadedMany given left roles n sessions → hub.names ≡ roles → hub.first ≡ first → AreCellsOf roles first sessions hub.cells → HasOpened given left first n hub
+opened_hub given left first n roles sessions hub loaded names number cells =
     let types = loaded.read.types in
     record {
       types = types;
       loaded = subst (λ (r : List (List ℕ)). HasLoaded given left r types) (sym names) (record { text = loaded.text; bytes = loaded.bytes; over = loaded.over; read = loaded.read.read });
-      cells = subst (λ (r : List (List ℕ)). AreCellsWith r types n hub.cells) (sym names)
-          (all_alike roles types n sessions hub.cells (record { types = types; state = initial }) loaded.read.alike refl loaded.read.count cells);
+      first_is = number;
+      cells = subst (λ (r : List (List ℕ)). AreCellsWith r types first n hub.cells) (sym names)
+          (all_alike roles types first n sessions hub.cells (record { types = types; state = initial }) loaded.read.alike refl loaded.read.count cells);
       one = loaded.read.one;
     }
 
@@ -52,16 +53,16 @@ told_rest r session next m rooms later took mid taken split at first rest =
     (one_more session m later took mid taken first (subst (λ (n : ℕ). TookOne (AreSessionLines n later) mid taken) step h))) rest
 
 -- the port's line, and those of the sessions
-pub served : (wanted : ℕ) (cells cells' : List Opened) (took mid taken : Option (List ℕ)) (rooms slice : List (Option RoomState)) → cells' ≡ cells → slice ≡ rooms → TookOne (TellsPort wanted) took mid → AreClosed cells' rooms → TookOne (AreSessionLines 1 slice) mid taken → HasServed wanted cells took taken
-served wanted cells cells' took mid taken rooms slice same value (first, (port, port_is, listening), sent) closed (lines, told, more) = record {
+pub served : (wanted number : ℕ) (cells cells' : List Opened) (took mid taken : Option (List ℕ)) (rooms slice : List (Option RoomState)) → cells' ≡ cells → slice ≡ rooms → TookOne (TellsPort wanted) took mid → AreClosed cells' rooms → TookOne (AreSessionLines number slice) mid taken → HasServed wanted number cells took taken
+served wanted number cells cells' took mid taken rooms slice same value (first, (port, port_is, listening), sent) closed (lines, told, more) = record {
   port = port;
   port_is = port_is;
   rooms = rooms;
-  first = first;
+  opening = first;
   lines = lines;
   listening = listening;
   closed = subst (λ (c : List Opened). AreClosed c rooms) same closed;
-  told = subst (λ (r : List (Option RoomState)). AreSessionLines 1 r lines) value told;
+  told = subst (λ (r : List (Option RoomState)). AreSessionLines number r lines) value told;
   sent = Appends-trans took mid taken first lines sent more;
 }
 
@@ -70,14 +71,14 @@ pub none_lost : (P : ℕ → Type 0) (fault : ToolFault) → IsTellFault 1 0 fau
 none_lost P (Lost k) h = absurd (omega (arith, h.0, h.1))
 none_lost P fault h = tt
 
-no_lost : (folder : Option (List ℕ)) (n k : ℕ) → IsKeepingFault folder n (Lost k) → ⊥
-no_lost None n k h = h
-no_lost (Some f) n k (inl h) = h
-no_lost (Some f) n k (inr h) = h
+no_lost : (folder : Option (List ℕ)) (first n k : ℕ) → IsKeepingFault folder first n (Lost k) → ⊥
+no_lost None first n k h = h
+no_lost (Some f) first n k (inl h) = h
+no_lost (Some f) first n k (inr h) = h
 
-pub hub_lost : (folder : Option (List ℕ)) (n : ℕ) (P : ℕ → Type 0) (fault : ToolFault) → IsHubFault folder n fault → IfLost P fault
-hub_lost folder n P (Lost k) h = absurd (no_lost folder n k h)
-hub_lost folder n P fault h = tt
+pub hub_lost : (folder : Option (List ℕ)) (first n : ℕ) (P : ℕ → Type 0) (fault : ToolFault) → IsHubFault folder first n fault → IfLost P fault
+hub_lost folder first n P (Lost k) h = absurd (no_lost folder first n k h)
+hub_lost folder first n P fault h = tt
 
 if_lost : (P Q : ℕ → Type 0) → ((k : ℕ) → P k → Q k) → (fault : ToolFault) → IfLost P fault → IfLost Q fault
 if_lost P Q f (Lost k) h = f k h
@@ -100,19 +101,19 @@ lost_rest r session next m rooms later took mid taken split at (line, is, sent) 
     ))) rest
 
 -- the port's line, and those of the sessions up to the first that is lost
-pub served_in_part : {A : Type 0} (r : Result A ToolFault) (wanted : ℕ) (cells cells' : List Opened) (took mid taken : Option (List ℕ)) (rooms slice : List (Option RoomState)) → cells' ≡ cells → slice ≡ rooms → TookOne (TellsPort wanted) took mid → AreClosed cells' rooms
-    → IfErr r (IfLost (λ k. TookOne (AreLinesUpTo 1 slice k) mid taken)) → IfErr r (IfLost (HasServedUpTo wanted cells took taken))
-served_in_part r wanted cells cells' took mid taken rooms slice same value (first, (port, port_is, listening), sent) closed rest =
-    on_err r (IfLost (λ k. TookOne (AreLinesUpTo 1 slice k) mid taken)) (IfLost (HasServedUpTo wanted cells took taken))
-    (if_lost (λ k. TookOne (AreLinesUpTo 1 slice k) mid taken) (HasServedUpTo wanted cells took taken) (λ k h. record {
+pub served_in_part : {A : Type 0} (r : Result A ToolFault) (wanted number : ℕ) (cells cells' : List Opened) (took mid taken : Option (List ℕ)) (rooms slice : List (Option RoomState)) → cells' ≡ cells → slice ≡ rooms → TookOne (TellsPort wanted) took mid → AreClosed cells' rooms
+    → IfErr r (IfLost (λ k. TookOne (AreLinesUpTo number slice k) mid taken)) → IfErr r (IfLost (HasServedUpTo wanted number cells took taken))
+served_in_part r wanted number cells cells' took mid taken rooms slice same value (first, (port, port_is, listening), sent) closed rest =
+    on_err r (IfLost (λ k. TookOne (AreLinesUpTo number slice k) mid taken)) (IfLost (HasServedUpTo wanted number cells took taken))
+    (if_lost (λ k. TookOne (AreLinesUpTo number slice k) mid taken) (HasServedUpTo wanted number cells took taken) (λ k h. record {
       port = port;
       port_is = port_is;
       rooms = rooms;
-      first = first;
+      opening = first;
       lines = h.0;
       listening = listening;
       closed = subst (λ (c : List Opened). AreClosed c rooms) same closed;
-      told = subst (λ (l : List (Option RoomState)). AreLinesUpTo 1 l k h.0) value h.1;
+      told = subst (λ (l : List (Option RoomState)). AreLinesUpTo number l k h.0) value h.1;
       sent = Appends-trans took mid taken first h.0 sent h.2;
     })) rest
 
@@ -129,46 +130,46 @@ later_tell session n Write h = tt
 later_tell session n Memory h = tt
 later_tell session n fault h = absurd h
 
-pub out_tell : (folder : Option (List ℕ)) (n : ℕ) (fault : ToolFault) → IsTellFault 1 n fault → IsOutFault folder n fault
-out_tell folder n (Bind why) h = tt
-out_tell folder n Accept h = tt
-out_tell folder n fault h = inl h
+pub out_tell : (folder : Option (List ℕ)) (first n : ℕ) (fault : ToolFault) → IsTellFault first n fault → IsOutFault folder first n fault
+out_tell folder first n (Bind why) h = tt
+out_tell folder first n Accept h = tt
+out_tell folder first n fault h = inl h
 
-pub hub_out : (folder : Option (List ℕ)) (n : ℕ) (fault : ToolFault) → IsHubFault folder n fault → IsOutFault folder n fault
-hub_out folder n Write h = inl tt
-hub_out folder n (Bind why) h = tt
-hub_out folder n Accept h = tt
-hub_out folder n Memory h = inl tt
-hub_out folder n fault h = inr h
+pub hub_out : (folder : Option (List ℕ)) (first n : ℕ) (fault : ToolFault) → IsHubFault folder first n fault → IsOutFault folder first n fault
+hub_out folder first n Write h = inl tt
+hub_out folder first n (Bind why) h = tt
+hub_out folder first n Accept h = tt
+hub_out folder first n Memory h = inl tt
+hub_out folder first n fault h = inr h
 
 -- the port's line fails to be told
-pub tell_hub : (folder : Option (List ℕ)) (n : ℕ) (fault : ToolFault) → IsTellFault 1 0 fault → IsHubFault folder n fault
-tell_hub folder n Write h = tt
-tell_hub folder n Memory h = tt
-tell_hub folder n (Lost k) h = absurd (omega (arith, h.0, h.1))
-tell_hub folder n fault h = absurd h
+pub tell_hub : (folder : Option (List ℕ)) (first n : ℕ) (fault : ToolFault) → IsTellFault 1 0 fault → IsHubFault folder first n fault
+tell_hub folder first n Write h = tt
+tell_hub folder first n Memory h = tt
+tell_hub folder first n (Lost k) h = absurd (omega (arith, h.0, h.1))
+tell_hub folder first n fault h = absurd h
 
 -- the sessions fail to be kept
-pub keeping_hub : (folder : Option (List ℕ)) (n : ℕ) (fault : ToolFault) → IsKeepingFault folder n fault → IsHubFault folder n fault
-keeping_hub folder n Write h = tt
-keeping_hub folder n (Bind why) h = tt
-keeping_hub folder n Accept h = tt
-keeping_hub folder n Memory h = tt
-keeping_hub folder n fault h = h
+pub keeping_hub : (folder : Option (List ℕ)) (first n : ℕ) (fault : ToolFault) → IsKeepingFault folder first n fault → IsHubFault folder first n fault
+keeping_hub folder first n Write h = tt
+keeping_hub folder first n (Bind why) h = tt
+keeping_hub folder first n Accept h = tt
+keeping_hub folder first n Memory h = tt
+keeping_hub folder first n fault h = h
 
 -- the serving ends
-pub serving_hub : (folder : Option (List ℕ)) (n : ℕ) (fault : ServeFault) → IsServeFaultOf (kept_of folder n) fault → IsHubFault folder n (of_serving fault)
-serving_hub folder n NotAccepted h = tt
-serving_hub folder n NoMemory h = tt
-serving_hub None n (Unkept session) h = absurd (omega (arith, h.0, h.1))
-serving_hub (Some f) n (Unkept session) h = inr h
+pub serving_hub : (folder : Option (List ℕ)) (first n : ℕ) (fault : ServeFault) → IsServeFaultOf first (kept_of folder n) fault → IsHubFault folder first n (of_serving fault)
+serving_hub folder first n NotAccepted h = tt
+serving_hub folder first n NoMemory h = tt
+serving_hub None first n (Unkept session) h = absurd (omega (arith, h.0, h.1))
+serving_hub (Some f) first n (Unkept session) h = inr h
 
 -- no such fault is a failed write
-pub keeping_writes : (folder : Option (List ℕ)) (n : ℕ) (fault : ToolFault) → IsKeepingFault folder n fault → failed_writes fault ≡ 0
-keeping_writes None n fault h = absurd h
-keeping_writes (Some f) n Write (inl h) = absurd h
-keeping_writes (Some f) n Write (inr h) = absurd h
-keeping_writes (Some f) n fault h = refl
+pub keeping_writes : (folder : Option (List ℕ)) (first n : ℕ) (fault : ToolFault) → IsKeepingFault folder first n fault → failed_writes fault ≡ 0
+keeping_writes None first n fault h = absurd h
+keeping_writes (Some f) first n Write (inl h) = absurd h
+keeping_writes (Some f) first n Write (inr h) = absurd h
+keeping_writes (Some f) first n fault h = refl
 
 pub serving_writes : (fault : ServeFault) → failed_writes (of_serving fault) ≡ 0
 serving_writes NotAccepted = refl

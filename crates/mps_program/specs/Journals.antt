@@ -24,17 +24,17 @@ IsOneFault session (JournalLost k) = k ≡ session
 IsOneFault session Memory = ⊤
 IsOneFault session fault = ⊥
 
--- how the journals of so many sessions may fail
-abbrev pub IsFileFaultOf : ℕ → ToolFault → Type 0
-IsFileFaultOf n (JournalFile session) = IsSession n session
-IsFileFaultOf n (JournalLine session line) = IsSession n session
-IsFileFaultOf n (JournalLost session) = IsSession n session
-IsFileFaultOf n Memory = ⊤
-IsFileFaultOf n fault = ⊥
+-- how the journals of so many sessions from this one on may fail
+abbrev pub IsFileFaultOf : (first n : ℕ) → ToolFault → Type 0
+IsFileFaultOf first n (JournalFile session) = IsSession first n session
+IsFileFaultOf first n (JournalLine session line) = IsSession first n session
+IsFileFaultOf first n (JournalLost session) = IsSession first n session
+IsFileFaultOf first n Memory = ⊤
+IsFileFaultOf first n fault = ⊥
 
 -- how sessions may fail to be kept in a folder
-abbrev pub IsJournalFault : List ℕ → ℕ → ToolFault → Type 0
-IsJournalFault folder n fault = IsFolderFault folder fault ⊎ IsFileFaultOf n fault
+abbrev pub IsJournalFault : List ℕ → (first n : ℕ) → ToolFault → Type 0
+IsJournalFault folder first n fault = IsFolderFault folder fault ⊎ IsFileFaultOf first n fault
 
 -- why a line was not accepted, as the program tells it of its session
 abbrev pub IsLineFaultOf : ℕ → ℕ → Unaccepted → ToolFault → Type 0
@@ -55,6 +55,6 @@ kept_of None n = 0
 kept_of (Some folder) n = n
 
 -- how sessions may fail to be kept, if they are
-abbrev pub IsKeepingFault : Option (List ℕ) → ℕ → ToolFault → Type 0
-IsKeepingFault None n fault = ⊥
-IsKeepingFault (Some folder) n fault = IsJournalFault folder n fault
+abbrev pub IsKeepingFault : Option (List ℕ) → (first n : ℕ) → ToolFault → Type 0
+IsKeepingFault None first n fault = ⊥
+IsKeepingFault (Some folder) first n fault = IsJournalFault folder first n fault

@@ -13,11 +13,12 @@ use Rattle.mps_program.specs.Streams.{HasLoaded}
 use Rattle.mps_program.specs.declared.faults.ToolFault.{ToolFault}
 use Rattle.mps_program.specs.declared.faults.ToolFault.TheVariants.{Write, Bind, Accept, Lost, Memory}
 
--- the source gave a protocol without faults to its end, and the hub has so many new sessions of it
-pub record HasOpened (given left : Option (List ℕ)) (n : ℕ) (hub : Hall) : Type 0 where
+-- the source gave a protocol without faults to its end, and the hub has so many new sessions of it, numbered from this number on
+pub record HasOpened (given left : Option (List ℕ)) (first n : ℕ) (hub : Hall) : Type 0 where
   pub types : List LocalType
   pub loaded : HasLoaded given left hub.names types
-  pub cells : AreCellsWith hub.names types n hub.cells
+  pub first_is : hub.first ≡ first
+  pub cells : AreCellsWith hub.names types first n hub.cells
   pub one : AreOfOneProtocol types
 
 -- the port of a listener that was to have this one, where 0 is any that is free
@@ -47,29 +48,29 @@ AreLinesUpTo session (None ∷ rooms) lost lines = (lost ≡ session) × (lines 
 AreLinesUpTo session (Some m ∷ rooms) lost lines =
     (line : List ℕ) × (others : List ℕ) × IsSessionLine session (length m.journal) line × (lines ≡ line ++ others) × AreLinesUpTo (suc session) rooms lost others
 
--- all was told: the port, which is the one that was wanted, and how many entries the room has that each session's cell closed with
-pub record HasServed (wanted : ℕ) (cells : List Opened) (took taken : Option (List ℕ)) : Type 0 where
+-- all was told: the port, which is the one that was wanted, and how many entries the room has that each session's cell closed with; the sessions are numbered from the first on
+pub record HasServed (wanted first : ℕ) (cells : List Opened) (took taken : Option (List ℕ)) : Type 0 where
   pub port : ℕ
   pub port_is : IsPortFor wanted port
   pub rooms : List (Option RoomState)
-  pub first : List ℕ
+  pub opening : List ℕ
   pub lines : List ℕ
-  pub listening : IsListeningLine port first
+  pub listening : IsListeningLine port opening
   pub closed : AreClosed cells rooms
-  pub told : AreSessionLines 1 rooms lines
-  pub sent : Appends took taken (first ++ lines)
+  pub told : AreSessionLines first rooms lines
+  pub sent : Appends took taken (opening ++ lines)
 
 -- a session is lost: the port was told, and how many entries the rooms have that the cells before it closed with
-pub record HasServedUpTo (wanted : ℕ) (cells : List Opened) (took taken : Option (List ℕ)) (lost : ℕ) : Type 0 where
+pub record HasServedUpTo (wanted first : ℕ) (cells : List Opened) (took taken : Option (List ℕ)) (lost : ℕ) : Type 0 where
   pub port : ℕ
   pub port_is : IsPortFor wanted port
   pub rooms : List (Option RoomState)
-  pub first : List ℕ
+  pub opening : List ℕ
   pub lines : List ℕ
-  pub listening : IsListeningLine port first
+  pub listening : IsListeningLine port opening
   pub closed : AreClosed cells rooms
-  pub told : AreLinesUpTo 1 rooms lost lines
-  pub sent : Appends took taken (first ++ lines)
+  pub told : AreLinesUpTo first rooms lost lines
+  pub sent : Appends took taken (opening ++ lines)
 
 -- where a fault is that a session is lost, this holds of its number
 abbrev pub IfLost : (ℕ → Type 0) → ToolFault → Type 0
@@ -88,12 +89,12 @@ abbrev pub IsBindFault : ToolFault → Type 0
 IsBindFault (Bind why) = ⊤
 IsBindFault fault = ⊥
 
--- how a server may fail whose sessions are kept in this folder, if they are: as the telling does, or it has no port, or accepts no more, or the sessions fail to be kept
-abbrev pub IsOutFault : Option (List ℕ) → ℕ → ToolFault → Type 0
-IsOutFault folder n (Bind why) = ⊤
-IsOutFault folder n Accept = ⊤
-IsOutFault folder n fault = IsTellFault 1 n fault ⊎ IsKeepingFault folder n fault
+-- how a server of so many sessions from this one on may fail, which are kept in this folder, if they are: as the telling does, or it has no port, or accepts no more, or the sessions fail to be kept
+abbrev pub IsOutFault : Option (List ℕ) → (first n : ℕ) → ToolFault → Type 0
+IsOutFault folder first n (Bind why) = ⊤
+IsOutFault folder first n Accept = ⊤
+IsOutFault folder first n fault = IsTellFault first n fault ⊎ IsKeepingFault folder first n fault
 
 -- how a server of this file may fail: the protocol isn't had, or the server fails
-abbrev pub IsServeFault : List ℕ → Option (List ℕ) → ℕ → ToolFault → Type 0
-IsServeFault file folder n fault = IsLoadFault file fault ⊎ IsOutFault folder n fault
+abbrev pub IsServeFault : List ℕ → Option (List ℕ) → (first n : ℕ) → ToolFault → Type 0
+IsServeFault file folder first n fault = IsLoadFault file fault ⊎ IsOutFault folder first n fault

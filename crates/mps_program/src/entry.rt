@@ -73,6 +73,7 @@ pub fn obey<
             file,
             port,
             sessions,
+            first,
             connections,
             idle,
             journal,
@@ -83,6 +84,7 @@ pub fn obey<
             };
             let service = Service {
                 port,
+                first,
                 sessions,
                 limits,
                 journal,

@@ -1,5 +1,5 @@
 //! The files that keep a server's sessions.
-ghost use Rattle.std.specs.Prelude.{◌≡◌, ◌+◌, ◌≤◌, ℕ, IfErr, IfOk, length};
+ghost use Rattle.std.specs.Prelude.{◌≡◌, ◌+◌, ◌≤◌, ◌^◌, ℕ, IfErr, IfOk, length};
 ghost use Rattle.mps_hub.specs.Places.{IsSession};
 ghost use Rattle.mps_program.specs.Journals.{IsFolderFault, IsFileFaultOf, IsJournalFault, IsOneFault, IsRestoreFaultOf};
 
@@ -109,19 +109,21 @@ fn open_journal<R: Files<File = File>>(rt: &R, path: &str) -> Option<File> {
     Some(file)
 }
 
-// Opens the journals of so many sessions.
+// Opens the journals of so many sessions from that one on.
 fn open_journals<'a, R: Files<File = File> + AllocGlobal>(
     rt: &R,
     folder: &'a str,
+    first: u64,
     sessions: u64,
 ) -> Result<Vec<File>, ToolFault<'a>>
+    requires { first + sessions < 2 ^ 64 }
     ensures count { IfOk result (λ files. length files.items ≡ sessions) }
-    ensures fault { IfErr result (IsFileFaultOf sessions) }
+    ensures fault { IfErr result (IsFileFaultOf first sessions) }
 {
     let alloc = rt.alloc();
     let mut files = Vec::new(alloc);
     for place in 0..sessions {
-        let session = place + 1;
+        let session = first + place;
         let path = format!(in alloc; "{folder}/{session}.journal")?;
         match open_journal(rt, path.as_str()) {
             Some(file) => files.push(file)?,
@@ -163,12 +165,13 @@ fn restore_all<'a, R: Wait + AllocGlobal + 'static>(
 ) -> Result<Vec<Read>, ToolFault<'a>>
     requires { length files.items ≡ length desk.now.cells }
     ensures count { IfOk result (λ read. length read.items ≡ length files.items) }
-    ensures fault { IfErr result (IsFileFaultOf (length files.items)) }
+    ensures fault { IfErr result (IsFileFaultOf desk.now.first (length files.items)) }
 {
     let alloc = rt.alloc();
+    let first = desk.first();
     let mut read = Vec::with_capacity(alloc, files.len())?;
     for file in files {
-        let session = read.len() as u64 + 1;
+        let session = first + read.len() as u64;
         match desk.restore(rt, alloc, session, &mut OverRead::new(&file)) {
             Ok(restored) => read.push_reserved(Read { file, restored }),
             Err(fault) => return Err(unrestored(session, fault)),
@@ -197,18 +200,20 @@ fn keeper<'a>(
     Ok(Keeper::new(alloc, book, sync.then_some(file))?)
 }
 
-// The keeper of each session.
+// The keeper of each session, of which the first has that number.
 fn keep_all<'a>(
     alloc: Global,
+    first: u64,
     read: Vec<Read>,
     sync: bool,
 ) -> Result<Vec<FileKeeper>, ToolFault<'a>>
+    requires { first + length read.items < 2 ^ 64 }
     ensures count { IfOk result (λ keepers. length keepers.items ≡ length read.items) }
-    ensures fault { IfErr result (IsFileFaultOf (length read.items)) }
+    ensures fault { IfErr result (IsFileFaultOf first (length read.items)) }
 {
     let mut keepers = Vec::with_capacity(alloc, read.len())?;
     for one in read {
-        let session = keepers.len() as u64 + 1;
+        let session = first + keepers.len() as u64;
         keepers.push_reserved(keeper(alloc, session, one, sync)?);
     }
     Ok(keepers)
@@ -227,18 +232,19 @@ pub fn keep_sessions<'a, R: Files<File = File> + AllocGlobal + Wait + 'static>(
 ) -> Result<Vec<FileKeeper>, ToolFault<'a>>
     requires { sessions ≡ length desk.now.cells }
     ensures count { IfOk result (λ keepers. length keepers.items ≡ sessions) }
-    ensures fault { IfErr result (IsJournalFault keeping.entry.journal.folder.now sessions) }
+    ensures fault { IfErr result (IsJournalFault keeping.entry.journal.folder.now desk.now.first sessions) }
 {
     let alloc = rt.alloc();
     let Keeping { journal, protocol } = keeping;
     let folder = journal.folder;
+    let first = desk.first();
     let path = format!(in alloc; "{folder}/protocol")?;
     let beside = format!(in alloc; "{folder}/protocol.new")?;
     if let Err(error) = make_folder(rt, folder) {
         return Err(unusable(folder, error));
     }
     let known = has_protocol(rt, folder, path.as_str(), protocol)?;
-    let files = open_journals(rt, folder, sessions)?;
+    let files = open_journals(rt, folder, first, sessions)?;
     let known = known || has_protocol(rt, folder, path.as_str(), protocol)?;
     let read = restore_all(rt, desk, files)?;
     if !known {
@@ -246,7 +252,7 @@ pub fn keep_sessions<'a, R: Files<File = File> + AllocGlobal + Wait + 'static>(
             return Err(unusable(folder, error));
         }
     }
-    let keepers = keep_all(alloc, read, journal.sync)?;
+    let keepers = keep_all(alloc, first, read, journal.sync)?;
     let parent = format!(in alloc; "{folder}/..")?;
     if journal.sync && !(has_synced(rt, folder) && has_synced(rt, parent.as_str())) {
         return Err(ToolFault::File {

@@ -86,7 +86,7 @@ fn tell_sessions<'a, W: Sink>(
     session: u64,
     rooms: &[Option<Room>],
 ) -> Result<(), ToolFault<'a>>
-    requires few { session + length rooms.now < 2 ^ 63 }
+    requires few { session + length rooms.now < 2 ^ 64 }
     requires writes { W.failed_calls writer.old < 2 ^ 62 }
     ensures told { OnOk result (TookOne (AreSessionLines session rooms.now) (W.taken writer.old) (W.taken writer.new)) }
     ensures fault { IfErr result (IsTellFault session (length rooms.now)) }
@@ -145,7 +145,7 @@ fn keepers<'a, R: Files<File = File> + AllocGlobal + Wait + 'static>(
 ) -> Result<Vec<FileKeeper>, ToolFault<'a>>
     requires { sessions ≡ length desk.now.cells }
     ensures count { IfOk result (λ keepers. length keepers.items ≡ kept_of (option_map (λ k. k.journal.folder.now) keeping.entry) sessions) }
-    ensures fault { IfErr result (IsKeepingFault (option_map (λ k. k.journal.folder.now) keeping.entry) sessions) }
+    ensures fault { IfErr result (IsKeepingFault (option_map (λ k. k.journal.folder.now) keeping.entry) desk.now.first sessions) }
 {
     match keeping {
         Some(keeping) => keep_sessions(rt, desk, sessions, keeping),
@@ -193,9 +193,11 @@ where
     requires given { hub.old.given ≡ false }
     requires few { length hub.old.cells ≤ 16 }
     requires writes { W.failed_calls writer.old < 2 ^ 62 }
+    ensures first { hub.new.first ≡ hub.old.first }
     ensures same { hub.new.cells ≡ hub.old.cells }
     ensures told { OnOk result (TookOne (TellsPort port) (W.taken writer.old) (W.taken writer.new)) }
-    ensures fault { IfErr result (IsHubFault (option_map (λ k. k.journal.folder.now) keeping.entry) (length hub.old.cells)) }
+    ensures fault { IfErr result (IsHubFault (option_map (λ k. k.journal.folder.now) keeping.entry)
+        hub.old.first (length hub.old.cells)) }
     ensures writes { W.failed_calls writer.new ≡ after_writes result (W.failed_calls writer.old) }
 {
     let alloc = rt.alloc();
@@ -239,42 +241,48 @@ where
         + Sync
         + 'static,
     requires fresh { hub.given ≡ false }
+    requires number { hub.first ≤ 2 ^ 63 }
     requires few { length hub.cells ≤ 16 }
     requires writes { W.failed_calls writer.old < 2 ^ 62 }
-    ensures told { OnOk result (HasServed port hub.cells (W.taken writer.old) (W.taken writer.new)) }
-    ensures fault { IfErr result (IsOutFault (option_map (λ k. k.journal.folder.now) keeping.entry) (length hub.cells)) }
-    ensures lost { IfErr result (IfLost (HasServedUpTo port hub.cells (W.taken writer.old) (W.taken writer.new))) }
+    ensures told { OnOk result (HasServed port hub.first hub.cells (W.taken writer.old) (W.taken writer.new)) }
+    ensures fault { IfErr result (IsOutFault (option_map (λ k. k.journal.folder.now) keeping.entry) hub.first (length hub.cells)) }
+    ensures lost { IfErr result (IfLost (HasServedUpTo port hub.first hub.cells (W.taken writer.old) (W.taken writer.new))) }
     ensures writes { W.failed_calls writer.new ≡ after_writes result (W.failed_calls writer.old) }
 {
+    let first = hub.first();
     let mut hub = hub;
     serve_hub(rt, writer, &mut hub, port, limits, keeping)?;
     let rooms = hub.close(rt.alloc())?;
-    tell_sessions(rt.alloc(), writer, 1, rooms.as_slice())
+    tell_sessions(rt.alloc(), writer, first, rooms.as_slice())
 }
 
-/// Reads a protocol, and opens so many sessions of it.
+/// Reads a protocol, and opens so many sessions of it, of which the first has that number.
 pub fn read_hub<'a, R: Source>(
     alloc: Global,
     reader: &mut R,
+    first: u64,
     sessions: u64,
 ) -> Result<Hub, ToolFault<'a>>
     requires calls { R.calls reader.old < 2 ^ 62 }
+    requires number { first ≤ 2 ^ 63 }
     requires some { (1 ≤ sessions) × (sessions ≤ 16) }
     ensures given { IfOk result (λ hub. hub.given ≡ false) }
     ensures opened { IfOk result (λ hub. HasOpened
-        (R.remaining reader.old) (R.remaining reader.new) sessions hub) }
+        (R.remaining reader.old) (R.remaining reader.new) first sessions hub) }
     ensures fault { IfErr result (CantLoad (R.remaining reader.old) (R.remaining reader.new)) }
     ensures most { HasReadAtMost most_read (R.remaining reader.old) (R.remaining reader.new) }
     ensures reads { R.failed_calls reader.new ≡ after_reads result (R.failed_calls reader.old) }
 {
     let (roles, made) = read_many(alloc, reader, sessions)?;
-    Ok(Hub::of(alloc, &roles, made)?)
+    Ok(Hub::of(alloc, &roles, first, made)?)
 }
 
-/// How a server runs: its port, how many sessions it has, its limits, and where the sessions are kept, if they are.
+/// How a server runs: its port, the number of its first session, how many sessions it has, its limits, and where the sessions
+/// are kept, if they are.
 #[derive(Clone, Copy)]
 pub struct Service<'a> {
     pub port: u16,
+    pub first: u64,
     pub sessions: u64,
     pub limits: Limits,
     pub journal: Option<Journal<'a>>,
@@ -306,13 +314,15 @@ where
         + Wait
         + Sync
         + 'static,
+    requires number { service.first ≤ 2 ^ 63 }
     requires some { (1 ≤ service.sessions) × (service.sessions ≤ 16) }
-    ensures fault { IfErr result (IsServeFault file.now (option_map (λ j. j.folder.now) service.entry.journal) service.entry.sessions) }
+    ensures fault { IfErr result (IsServeFault file.now (option_map (λ j. j.folder.now) service.entry.journal)
+        service.entry.first service.entry.sessions) }
 {
     let alloc = rt.alloc();
     let text = read_text(alloc, &mut open_file(rt, file)?)?;
     let mut reader = OverRead::new(text.as_slice());
-    let hub = read_hub(alloc, &mut reader, service.sessions)?;
+    let hub = read_hub(alloc, &mut reader, service.first, service.sessions)?;
     let written = written_protocol(alloc, text.as_slice())?;
     let keeping = keeping_of(service.journal, written.as_slice());
     let mut writer = OverWrite::new(io::writer(rt));

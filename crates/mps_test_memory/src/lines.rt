@@ -151,7 +151,7 @@ fn hub(alloc: Global) -> Option<Hub>
 {
     let (names, session) = opened(alloc)?;
     let sessions = vec![in alloc; session].ok()?;
-    Hub::of(alloc, &names, sessions).ok()
+    Hub::of(alloc, &names, 1, sessions).ok()
 }
 
 // What a connection with these lines is told, and how it ends.

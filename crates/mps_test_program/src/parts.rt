@@ -115,6 +115,27 @@ const ORDERS: &[Words] = &[
         &["mps_tool", "check", "a.protocol"],
         "Offline(Check { file: \"a.protocol\" })",
     ),
+    Words(
+        &[
+            "mps_tool",
+            "serve",
+            "a.protocol",
+            "--port=0",
+            "--sessions=2",
+        ],
+        "Serve { file: \"a.protocol\", port: 0, sessions: 2, first: 1, connections: None, idle: None, journal: None }",
+    ),
+    Words(
+        &[
+            "mps_tool",
+            "serve",
+            "a.protocol",
+            "--port=0",
+            "--sessions=2",
+            "--first=9223372036854775808",
+        ],
+        "Serve { file: \"a.protocol\", port: 0, sessions: 2, first: 9223372036854775808, ",
+    ),
     Words(&["mps_tool", "--help"], "Offline(Help { text: "),
     Words(
         &["mps_tool", "--version"],

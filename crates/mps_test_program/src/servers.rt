@@ -26,8 +26,14 @@ const ONE: Limits = Limits {
     idle: None,
 };
 
-// What a server of so many sessions of the protocol writes, where one client comes.
-fn written<R>(rt: &R, port: u16, protocol: &[u8], sessions: u64) -> Result<Vec<u8>, Fail>
+// What a server of so many sessions of the protocol writes, where one client comes. The first session has that number.
+fn written<R>(
+    rt: &R,
+    port: u16,
+    protocol: &[u8],
+    first: u64,
+    sessions: u64,
+) -> Result<Vec<u8>, Fail>
 where
     R: Files<File = File>
         + AllocGlobal
@@ -39,13 +45,13 @@ where
         + Sync
         + 'static,
 {
-    if sessions == 0 || sessions > 16 {
+    if first > 1 << 63 || sessions == 0 || sessions > 16 {
         return Err("1 to 16 sessions".into());
     }
     let alloc = rt.alloc();
     let text = vec![in alloc; Vec::from_slice(alloc, protocol)?]?;
     let mut writer = Short::new(alloc, 100)?;
-    let Ok(hub) = read_hub(alloc, &mut Pieces::new(text, None), sessions) else {
+    let Ok(hub) = read_hub(alloc, &mut Pieces::new(text, None), first, sessions) else {
         return Err("no hub".into());
     };
     match serve_to(rt, &mut writer, hub, port, ONE, None) {
@@ -94,7 +100,7 @@ fn serves_a_client(rt: HostRuntime) -> Result<(), Fail> {
     let addr = free_port(&rt)?;
     let (lines, answers) = join(
         &rt,
-        || written(&rt, addr.port(), RELAY, 2),
+        || written(&rt, addr.port(), RELAY, 1, 2),
         || answered(&rt, alloc, addr, b"join 2 a\nsend b 5\nsend b 6\n"),
     );
     let lines = lines?;
@@ -102,6 +108,24 @@ fn serves_a_client(rt: HostRuntime) -> Result<(), Fail> {
     assert!(rt; answers.as_slice() == b"joined 2 a\ndone 1\nrefused ended\n".as_slice());
     assert!(rt; lines.starts_with(b"listening "));
     assert!(rt; lines.ends_with(b"\nsession 1 0\nsession 2 1\n"));
+    Ok(())
+}
+
+#[test]
+fn numbers_sessions_to_the_last(rt: HostRuntime) -> Result<(), Fail> {
+    let alloc = rt.alloc();
+    let addr = free_port(&rt)?;
+    let (lines, answers) = join(
+        &rt,
+        || written(&rt, addr.port(), RELAY, 1 << 63, 2),
+        || answered(&rt, alloc, addr, b"join 9223372036854775809 a\nmark m\n"),
+    );
+    let lines = lines?;
+    let answers = answers?;
+    assert!(rt; answers.as_slice() == b"joined 9223372036854775809 a\ndone 1\n".as_slice());
+    assert!(rt;
+        lines.ends_with(b"\nsession 9223372036854775808 0\nsession 9223372036854775809 1\n")
+    );
     Ok(())
 }
 
@@ -117,7 +141,7 @@ fn counts_accepted_commands(rt: HostRuntime) -> Result<(), Fail> {
     let addr = free_port(&rt)?;
     let (lines, answers) = join(
         &rt,
-        || written(&rt, addr.port(), VERDICT, 1),
+        || written(&rt, addr.port(), VERDICT, 1, 1),
         || answered(&rt, alloc, addr, COUNTED),
     );
     let lines = lines?;

@@ -1,4 +1,4 @@
-ghost use Rattle.std.specs.Prelude.{◌≡◌, false, IfOk};
+ghost use Rattle.std.specs.Prelude.{◌≡◌, ◌≤◌, ◌^◌, false, IfOk};
 
 use crate::protocols::{VERDICT, names, opened, types};
 use mps_cell::PassFault;
@@ -285,21 +285,73 @@ const SECOND: &[Row<'static>] = &[
     ),
 ];
 
-// A hub of two sessions that were opened before.
-fn hub_of_two(alloc: Global) -> Result<Hub, Fail>
+// A hub of two sessions that were opened before, of which the first has that number.
+fn hub_of_two(alloc: Global, first: u64) -> Result<Hub, Fail>
+    requires { first ≤ 2 ^ 63 }
     ensures { IfOk result (λ h. h.given ≡ false) }
 {
-    let (names, first) = opened(alloc, VERDICT)?;
+    let (names, one) = opened(alloc, VERDICT)?;
     let (_, second) = opened(alloc, VERDICT)?;
     if second.roles() != names.count() {
         return Err("three roles".into());
     }
-    Ok(Hub::of(alloc, &names, vec![in alloc; first, second]?)?)
+    Ok(Hub::of(alloc, &names, first, vec![in alloc; one, second]?)?)
 }
 
 #[test]
 fn has_its_sessions_apart(rt: HostRuntime) -> Result<(), Fail> {
-    assert!(rt; plays(&rt, rt.alloc(), hub_of_two(rt.alloc())?, SECOND)?);
+    assert!(rt; plays(&rt, rt.alloc(), hub_of_two(rt.alloc(), 1)?, SECOND)?);
+    Ok(())
+}
+
+const NUMBERED: &[Row<'static>] = &[
+    (
+        b"join 17 a\nsend b 4\n",
+        None,
+        99,
+        b"joined 17 a\ndone 1\n",
+        CLOSED,
+    ),
+    (
+        b"join 18 a\nsend b 5\n",
+        None,
+        99,
+        b"joined 18 a\ndone 1\n",
+        CLOSED,
+    ),
+    (
+        b"join 17 b\nrecv a x\n",
+        None,
+        99,
+        b"joined 17 b\ndone 2 4\n",
+        CLOSED,
+    ),
+    (
+        b"join 1 a\n",
+        None,
+        99,
+        b"refused nosession\n",
+        Attended::TurnedAway,
+    ),
+    (
+        b"join 16 a\n",
+        None,
+        99,
+        b"refused nosession\n",
+        Attended::TurnedAway,
+    ),
+    (
+        b"join 19 a\n",
+        None,
+        99,
+        b"refused nosession\n",
+        Attended::TurnedAway,
+    ),
+];
+
+#[test]
+fn numbers_its_sessions(rt: HostRuntime) -> Result<(), Fail> {
+    assert!(rt; plays(&rt, rt.alloc(), hub_of_two(rt.alloc(), 17)?, NUMBERED)?);
     Ok(())
 }
 

@@ -10,6 +10,8 @@ pub enum Order<'a> {
         file: &'a str,
         port: u16,
         sessions: u64,
+        /// The number of the first session. Those after it have the next numbers.
+        first: u64,
         /// How many connections are accepted. `None` is all that come.
         connections: Option<u64>,
         /// For how many seconds a connection may send nothing. `None` is for ever.

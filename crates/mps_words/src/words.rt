@@ -7,8 +7,9 @@ ghost use Rattle.mps_words.specs.Private.Uses.{missing};
 
 use crate::command::{Journal, Order, Task};
 use crate::faults::{UseFault, usage};
+use clap::builder::ValueParser;
 use clap::error::ErrorKind;
-use clap::{Arg, ArgAction, ArgMatches, Command, Error, value_parser};
+use clap::{Arg, ArgAction, ArgMatches, Command, Error};
 use std::alloc::{AllocError, Global};
 use std::rt::Env;
 use std::{env, io};
@@ -41,8 +42,8 @@ enum Given {
 // The numbers from one to another, both included.
 #[derive(Clone, Copy)]
 struct Range {
-    least: u32,
-    most: u32,
+    least: u64,
+    most: u64,
 }
 
 // A word that a command needs, or an option: what it stands for, what the help says of it, and in which range it is, if it is a
@@ -62,6 +63,12 @@ const PORTS: Range = Range {
 
 // How many sessions a server has.
 const SESSION_COUNTS: Range = Range { least: 1, most: 16 };
+
+// The number of its first session.
+const FIRST_NUMBERS: Range = Range {
+    least: 1,
+    most: 1 << 63,
+};
 
 // How many connections it accepts, where it doesn't accept all.
 const CONNECTION_COUNTS: Range = Range { least: 1, most: 64 };
@@ -128,6 +135,14 @@ const SESSIONS: Word = Word {
     range: Some(SESSION_COUNTS),
 };
 
+// The number of a server's first session.
+const FIRST_SESSION: Word = Word {
+    name: "first",
+    help: "The number of the first session, 1 to 9223372036854775808; 1, if it isn't given",
+    given: Given::Sometimes,
+    range: Some(FIRST_NUMBERS),
+};
+
 // How many connections a server accepts.
 const CONNECTIONS: Word = Word {
     name: "connections",
@@ -192,13 +207,21 @@ const FORMS: &[Form] = &[
         name: "serve",
         about: "Serves sessions to connections",
         words: &[FILE],
-        options: &[PORT, SESSIONS, CONNECTIONS, JOURNAL, SYNC, IDLE],
+        options: &[
+            PORT,
+            SESSIONS,
+            FIRST_SESSION,
+            CONNECTIONS,
+            JOURNAL,
+            SYNC,
+            IDLE,
+        ],
     },
 ];
 
 // The argument, which takes a number of the range.
 fn ranged<'a>(argument: Arg<'a>, range: Range) -> Arg<'a> {
-    argument.value_parser(value_parser!(u64).range(range.least as i64..=range.most as i64))
+    argument.value_parser(ValueParser::Unsigned(range.least, range.most))
 }
 
 // The argument that takes the word.
@@ -262,7 +285,7 @@ fn number_in<'a>(found: &ArgMatches<'a>, name: &str, range: Range) -> Option<u64
     ensures { IfSome result (λ n. (range.least ≤ n) × (n ≤ range.most)) }
 {
     let number = found.get_one::<u64>(name)?;
-    if number < range.least as u64 || number > range.most as u64 {
+    if number < range.least || number > range.most {
         return None;
     }
     Some(number)
@@ -291,6 +314,7 @@ fn serve_in<'a>(file: &'a str, found: &ArgMatches<'a>) -> Option<Order<'a>>
 {
     let port = number_in(found, "port", PORTS)?;
     let sessions = number_in(found, "sessions", SESSION_COUNTS)?;
+    let first = bound_in(found, "first", FIRST_NUMBERS)?.unwrap_or(1);
     let connections = bound_in(found, "connections", CONNECTION_COUNTS)?;
     let idle = bound_in(found, "idle", IDLE_SECONDS)?;
     let journal = journal_in(found);
@@ -298,6 +322,7 @@ fn serve_in<'a>(file: &'a str, found: &ArgMatches<'a>) -> Option<Order<'a>>
         file,
         port: port as u16,
         sessions,
+        first,
         connections,
         idle,
         journal,

@@ -17,12 +17,12 @@ abbrev pub TellsPort : (wanted : ℕ) → List ℕ → Type 0
 TellsPort wanted line = (port : ℕ) × IsPortFor wanted port × IsListeningLine port line
 
 -- how the serving itself may fail: it has no port, or can't tell it, it accepts no more, memory ran out, or the sessions fail to be kept
-abbrev pub IsHubFault : Option (List ℕ) → ℕ → ToolFault → Type 0
-IsHubFault folder n Write = ⊤
-IsHubFault folder n (Bind why) = ⊤
-IsHubFault folder n Accept = ⊤
-IsHubFault folder n Memory = ⊤
-IsHubFault folder n fault = IsKeepingFault folder n fault
+abbrev pub IsHubFault : Option (List ℕ) → (first n : ℕ) → ToolFault → Type 0
+IsHubFault folder first n Write = ⊤
+IsHubFault folder first n (Bind why) = ⊤
+IsHubFault folder first n Accept = ⊤
+IsHubFault folder first n Memory = ⊤
+IsHubFault folder first n fault = IsKeepingFault folder first n fault
 
 -- why the serving ended, as the program tells it
 abbrev pub of_serving : ServeFault → ToolFault

@@ -14,4 +14,4 @@ scoped-accepted-requires g c =
     record { at = λ a. (t.static-R, (t.static-G, (t.static-S, (t.static-D, (search sendable, search sendable, search sendable, search sendable))))) }
 
 pub returns-clause-unkept : goal.returns-clause-unkept
-returns-clause-unkept g c = more_kept (length c.args.keepers.now) c.counted.result c.counted.ensures.unkept
+returns-clause-unkept g c = more_kept c.args.desk.now.first (length c.args.keepers.now) c.counted.result c.counted.ensures.unkept

@@ -22,8 +22,8 @@ loop-session-preserved c =
     let dealt = length-append c.loop-session.deals.items (d ∷ []) in
     record {
       whole = h.whole ∙ ap (λ (l : List SessionState). c.loop-session.yielded ++ l) left ∙ sym (append_assoc c.loop-session.yielded (s ∷ []) rest);
-      cells = subst (AreCellsOf c.args.names.now (c.loop-session.yielded ++ s ∷ [])) (sym p.items)
-          (cells_push c.args.names.now c.loop-session.yielded c.loop-session.cells.items s o h.cells (c.in_ok-cell.ensures.opening ∙ ap (λ (n : ℕ). opened_with c.args.names.now s.types (n + 1)) long));
+      cells = subst (AreCellsOf c.args.names.now c.args.first (c.loop-session.yielded ++ s ∷ [])) (sym p.items)
+          (cells_push c.args.names.now c.args.first c.loop-session.yielded c.loop-session.cells.items s o h.cells (c.in_ok-cell.ensures.opening ∙ ap (λ (n : ℕ). opened_with c.args.names.now s.types (c.args.first + n)) long));
       deals = subst (λ (y : List Opened × List Dealt). AreDeals y.0 y.1) (λ j. (sym p.items j, sym q.items j)) (deals_push c.loop-session.cells.items c.loop-session.deals.items o d h.deals c.in_ok-cell.ensures.deal);
       cells_room = omega (arith, ap (λ (l : List Opened). length l) p.items, counted, more, h.cells_room, p.capacity);
       deals_room = omega (arith, ap (λ (l : List Dealt). length l) q.items, dealt, more, h.deals_room, q.capacity);

@@ -6,7 +6,7 @@ use Rattle.mps_hub.proofs.sessions.Hub.of.Given as goal
 abbrev pub invariant-loop-session : goal.invariant-loop-session
 invariant-loop-session l = record {
   whole : l.fn.sessions.items ≡ l.yielded ++ into_iter_items l.session-iterator;
-  cells : AreCellsOf l.names l.yielded l.cells.items;
+  cells : AreCellsOf l.names l.first l.yielded l.cells.items;
   deals : AreDeals l.cells.items l.deals.items;
   cells_room : length l.cells.items + length (into_iter_items l.session-iterator) ≤ vec_capacity l.cells;
   deals_room : length l.deals.items + length (into_iter_items l.session-iterator) ≤ vec_capacity l.deals;

@@ -1,0 +1,140 @@
+#!/usr/bin/env python3
+"""fleet: more sessions than one process has, by many processes behind a balancer.
+
+usage: fleet.py N FILE [--port P] [--folder FOLDER] [options of serve]
+
+Starts N shards, each of which is `./mps serve` of 16 sessions of the protocol in FILE: the first has the sessions 1 to 16, the
+second 17 to 32, and so on. Their ports of 127.0.0.1 are P+1, P+2 and so on, where P is 4750 by default, and shard K keeps its
+sessions in FOLDER/K, where FOLDER is fleet by default. In front of them haproxy listens on port P, and hands each connection
+to the shard whose session its first line names; its configuration is written to FOLDER/haproxy.cfg. A process that ends is
+started again, a shard on its folder. Further options, such as --sync and --idle 300, are those of each shard.
+
+`listening P` is printed once all are there, and `shard K is process ID` whenever one is started. Control-C ends all.
+"""
+import argparse
+import pathlib
+import shutil
+import signal
+import socket
+import subprocess
+import sys
+import time
+
+MPS = str(pathlib.Path(__file__).resolve().parent.parent.parent / "mps")
+SESSIONS = 16  # of a shard
+LOOK = 0.05  # seconds between two looks at the processes
+LEAST, MOST = 0.1, 10  # seconds until a process is started again
+
+BALANCER = """# Hands each connection to the shard that has the session of its first line, `join SESSION ROLE`.
+defaults
+    mode tcp
+    timeout connect 250ms
+    retries 3
+    timeout client 1d
+    timeout server 1d
+
+frontend sessions
+    bind 127.0.0.1:{port}
+    tcp-request inspect-delay 10s
+    tcp-request content accept if {{ req.payload(0,0) -m sub "\\n" }}
+    use_backend shard%[req.payload(0,0),word(2,' '),sub(1),div({sessions})]
+    # which answers a line that names no session of the fleet
+    default_backend shard0
+
+"""
+
+
+def configuration(port, ports, sessions=SESSIONS):
+    """The configuration of a balancer that listens at that port, before shards at those ports, of so many sessions each."""
+    shards = (f"backend shard{place}\n    server shard{place} 127.0.0.1:{of}\n" for place, of in enumerate(ports))
+    return BALANCER.format(port=port, sessions=sessions) + "".join(shards)
+
+
+class Process:
+    """A process that is started again when it ends."""
+
+    def __init__(self, name, words):
+        self.name, self.words = name, words
+        self.pause = LEAST
+        self.start()
+
+    def start(self):
+        self.began, self.ended = time.monotonic(), None
+        self.process = subprocess.Popen(self.words, stdin=subprocess.DEVNULL, stdout=subprocess.PIPE, text=True)
+        print(f"{self.name} is process {self.process.pid}", flush=True)
+
+    def look(self):
+        """Starts it again if it has ended: soon, where it had run for a while, and else after pauses that grow."""
+        now = time.monotonic()
+        if self.ended is None and self.process.poll() is not None:
+            self.process.stdout.close()
+            self.ended = now
+            self.pause = LEAST if now - self.began > 1 else min(2 * self.pause, MOST)
+        if self.ended is not None and now - self.ended >= self.pause:
+            self.start()
+
+    def end(self):
+        self.process.terminate()
+        self.process.wait()
+
+
+def shard(place, options, more):
+    """A shard, which may not listen yet."""
+    words = [MPS, "serve", options.file, "--port", str(options.ports[place]), "--sessions", str(SESSIONS),
+             "--first", str(1 + SESSIONS * place), "--journal", str(options.folder / str(place)), *more]
+    return Process(f"shard {place}", words)
+
+
+def listens(port):
+    """Whether something listens at the port, soon."""
+    for _ in range(100):
+        try:
+            socket.create_connection(("127.0.0.1", port)).close()
+            return True
+        except OSError:
+            time.sleep(LOOK)
+    return False
+
+
+def run(options, more, processes):
+    """Starts the processes, and then looks after them without an end."""
+    options.folder.mkdir(exist_ok=True)
+    options.ports = range(options.port + 1, options.port + 1 + options.count)
+    processes += [shard(place, options, more) for place in range(options.count)]
+    for process in processes:
+        if not process.process.stdout.readline().startswith("listening "):
+            sys.exit(f"{process.name} can't be started")
+    file = options.folder / "haproxy.cfg"
+    file.write_text(configuration(options.port, options.ports), encoding="utf-8")
+    processes.append(Process("the balancer", ["haproxy", "-q", "-db", "-f", str(file)]))
+    if not listens(options.port):
+        sys.exit("the balancer can't be started")
+    print(f"listening {options.port}", flush=True)
+    while True:
+        time.sleep(LOOK)
+        for process in processes:
+            process.look()
+
+
+def main():
+    reader = argparse.ArgumentParser(usage=__doc__.split("usage: ")[1].split("\n")[0])
+    reader.add_argument("count", type=int, metavar="N")
+    reader.add_argument("file", metavar="FILE")
+    reader.add_argument("--port", type=int, default=4750)
+    reader.add_argument("--folder", type=pathlib.Path, default=pathlib.Path("fleet"))
+    options, more = reader.parse_known_args()
+    if shutil.which("haproxy") is None:
+        sys.exit("fleet.py needs haproxy, which Debian has as a package")
+    signal.signal(signal.SIGTERM, lambda *_: sys.exit(0))
+    processes = []
+    try:
+        run(options, more, processes)
+    except KeyboardInterrupt:
+        pass
+    finally:
+        for process in processes:
+            process.end()
+
+
+if __name__ == "__main__":
+    main()
