@@ -1,5 +1,5 @@
 -- Why a server stops.
-use Rattle.std.proofs.Common.{◌≡◌, ℕ, Ok, Err, Result, IfErr, arith}
+use Rattle.std.proofs.Common.{ℕ, Ok, Err, Result, IfErr, arith}
 use Rattle.mps_hub.specs.Serving.{IsServeFaultOf}
 use Rattle.mps_hub.specs.declared.server.ServeFault.{ServeFault}
 use Rattle.mps_hub.specs.declared.server.ServeFault.TheVariants.{Accept, Memory, Unkept}

@@ -2,7 +2,7 @@
 use Rattle.std.specs.Prelude.{ℕ, ⊤}
 use Rattle.mps_hub.specs.Places.{IsSession}
 use Rattle.mps_hub.specs.declared.server.ServeFault.{ServeFault}
-use Rattle.mps_hub.specs.declared.server.ServeFault.TheVariants.{Accept, Memory, Unkept}
+use Rattle.mps_hub.specs.declared.server.ServeFault.TheVariants.{Unkept}
 
 -- how a server may fail of which so many sessions are kept, from the one with this number on
 abbrev pub IsServeFaultOf : (first n : ℕ) → ServeFault → Type 0

@@ -1,6 +1,5 @@
 -- From the parts of what a server tells to the whole.
 use Rattle.std.proofs.Common.{◌≡◌, ℕ, suc, ◌+◌, List, [], ◌∷◌, ◌++◌, Option, Some, None, Result, Ok, Err, IfErr, IsErrAnd, OnOk, length, refl, sym, ap, subst, arith, inl, inr}
-use Rattle.std.specs.Io.KnownBytes.{Appends}
 use Rattle.mps_room.specs.RoomState.{RoomState}
 use Rattle.mps_cell.specs.Cells.{Opened}
 use Rattle.mps_hub.specs.Halls.{AreCellsOf, AreCellsWith, AreClosed, Hall}
@@ -9,15 +8,15 @@ use Rattle.mps_machine.specs.Machine.{initial}
 use Rattle.mps_session.specs.SessionState.{SessionState}
 use Rattle.mps_program.specs.Streams.{HasLoaded, HasLoadedMany}
 use Rattle.mps_wire.proofs.Bytes.{Appends-none, Appends-trans}
-use Rattle.mps_program.specs.Served.{IsListeningLine, IsSessionLine, AreSessionLines, AreLinesUpTo, HasOpened, HasServed, HasServedUpTo, IfLost, IsTellFault, IsOutFault}
+use Rattle.mps_program.specs.Served.{IsSessionLine, AreSessionLines, AreLinesUpTo, HasOpened, HasServed, HasServedUpTo, IfLost, IsTellFault, IsOutFault}
 use Rattle.mps_program.specs.Private.Served.{TookOne, TellsPort, IsHubFault, of_serving}
-use Rattle.mps_program.specs.Journals.{IsFolderFault, IsFileFaultOf, IsJournalFault, IsKeepingFault, kept_of}
+use Rattle.mps_program.specs.Journals.{IsKeepingFault, kept_of}
 use Rattle.mps_hub.specs.Serving.{IsServeFaultOf}
 use Rattle.mps_hub.specs.declared.server.ServeFault.{ServeFault}
 use Rattle.mps_hub.specs.declared.server.ServeFault.TheVariants.{Accept as NotAccepted, Memory as NoMemory, Unkept}
 use Rattle.mps_program.specs.Faults.{after_writes, failed_writes}
 use Rattle.mps_program.specs.declared.faults.ToolFault.{ToolFault}
-use Rattle.mps_program.specs.declared.faults.ToolFault.TheVariants.{Usage, File, Text, Protocol, Projection, Open, Read, Write, Turns, Bind, Accept, Lost, JournalFile, JournalLine, JournalProtocol, JournalLost, Memory}
+use Rattle.mps_program.specs.declared.faults.ToolFault.TheVariants.{Write, Bind, Accept, Lost, Memory}
 
 -- a hub of the sessions that were loaded
 pub opened_hub : (given left : Option (List ℕ)) (first n : ℕ) (roles : List (List ℕ)) (sessions : List SessionState) (hub : Hall) → HasLoadedMany given left roles n sessions → hub.names ≡ roles → hub.first ≡ first → AreCellsOf roles first sessions hub.cells → HasOpened given left first n hub
@@ -53,17 +52,17 @@ told_rest r session next m rooms later took mid taken split at first rest =
     (one_more session m later took mid taken first (subst (λ (n : ℕ). TookOne (AreSessionLines n later) mid taken) step h))) rest
 
 -- the port's line, and those of the sessions
-pub served : (wanted number : ℕ) (cells cells' : List Opened) (took mid taken : Option (List ℕ)) (rooms slice : List (Option RoomState)) → cells' ≡ cells → slice ≡ rooms → TookOne (TellsPort wanted) took mid → AreClosed cells' rooms → TookOne (AreSessionLines number slice) mid taken → HasServed wanted number cells took taken
-served wanted number cells cells' took mid taken rooms slice same value (first, (port, port_is, listening), sent) closed (lines, told, more) = record {
+pub served : (wanted first number : ℕ) (cells cells' : List Opened) (took mid taken : Option (List ℕ)) (rooms slice : List (Option RoomState)) → number ≡ first → cells' ≡ cells → slice ≡ rooms → TookOne (TellsPort wanted) took mid → AreClosed cells' rooms → TookOne (AreSessionLines number slice) mid taken → HasServed wanted first cells took taken
+served wanted first number cells cells' took mid taken rooms slice at same value (opening, (port, port_is, listening), sent) closed (lines, told, more) = record {
   port = port;
   port_is = port_is;
   rooms = rooms;
-  opening = first;
+  opening = opening;
   lines = lines;
   listening = listening;
   closed = subst (λ (c : List Opened). AreClosed c rooms) same closed;
-  told = subst (λ (r : List (Option RoomState)). AreSessionLines number r lines) value told;
-  sent = Appends-trans took mid taken first lines sent more;
+  told = subst (λ (n : ℕ). AreSessionLines n rooms lines) at (subst (λ (r : List (Option RoomState)). AreSessionLines number r lines) value told);
+  sent = Appends-trans took mid taken opening lines sent more;
 }
 
 -- a line that fails to be told names no session that is lost
@@ -101,20 +100,20 @@ lost_rest r session next m rooms later took mid taken split at (line, is, sent) 
     ))) rest
 
 -- the port's line, and those of the sessions up to the first that is lost
-pub served_in_part : {A : Type 0} (r : Result A ToolFault) (wanted number : ℕ) (cells cells' : List Opened) (took mid taken : Option (List ℕ)) (rooms slice : List (Option RoomState)) → cells' ≡ cells → slice ≡ rooms → TookOne (TellsPort wanted) took mid → AreClosed cells' rooms
-    → IfErr r (IfLost (λ k. TookOne (AreLinesUpTo number slice k) mid taken)) → IfErr r (IfLost (HasServedUpTo wanted number cells took taken))
-served_in_part r wanted number cells cells' took mid taken rooms slice same value (first, (port, port_is, listening), sent) closed rest =
-    on_err r (IfLost (λ k. TookOne (AreLinesUpTo number slice k) mid taken)) (IfLost (HasServedUpTo wanted number cells took taken))
-    (if_lost (λ k. TookOne (AreLinesUpTo number slice k) mid taken) (HasServedUpTo wanted number cells took taken) (λ k h. record {
+pub served_in_part : {A : Type 0} (r : Result A ToolFault) (wanted first number : ℕ) (cells cells' : List Opened) (took mid taken : Option (List ℕ)) (rooms slice : List (Option RoomState)) → number ≡ first → cells' ≡ cells → slice ≡ rooms → TookOne (TellsPort wanted) took mid → AreClosed cells' rooms
+    → IfErr r (IfLost (λ k. TookOne (AreLinesUpTo number slice k) mid taken)) → IfErr r (IfLost (HasServedUpTo wanted first cells took taken))
+served_in_part r wanted first number cells cells' took mid taken rooms slice at same value (opening, (port, port_is, listening), sent) closed rest =
+    on_err r (IfLost (λ k. TookOne (AreLinesUpTo number slice k) mid taken)) (IfLost (HasServedUpTo wanted first cells took taken))
+    (if_lost (λ k. TookOne (AreLinesUpTo number slice k) mid taken) (HasServedUpTo wanted first cells took taken) (λ k h. record {
       port = port;
       port_is = port_is;
       rooms = rooms;
-      opening = first;
+      opening = opening;
       lines = h.0;
       listening = listening;
       closed = subst (λ (c : List Opened). AreClosed c rooms) same closed;
-      told = subst (λ (l : List (Option RoomState)). AreLinesUpTo number l k h.0) value h.1;
-      sent = Appends-trans took mid taken first h.0 sent h.2;
+      told = subst (λ (n : ℕ). AreLinesUpTo n rooms k h.0) at (subst (λ (l : List (Option RoomState)). AreLinesUpTo number l k h.0) value h.1);
+      sent = Appends-trans took mid taken opening h.0 sent h.2;
     })) rest
 
 -- a line that fails to be told is no lost session

@@ -1,11 +1,11 @@
 -- How the sessions of a server may fail to be had from a folder.
-use Rattle.std.specs.Prelude.{◌≡◌, ◌≤◌, ◌⊎◌, ⊤, ℕ, List, Option, None, Some}
+use Rattle.std.specs.Prelude.{◌≡◌, ◌⊎◌, ⊤, ℕ, List, Option, None, Some}
 use Rattle.mps_hub.specs.Places.{IsSession}
 use Rattle.mps_hub.specs.declared.restoring.SessionFault.{SessionFault}
 use Rattle.mps_hub.specs.declared.restoring.SessionFault.TheVariants.{Taken, Journal, Memory as NoMemory}
 use Rattle.mps_keeper.specs.declared.restore.RestoreFault.TheVariants.{Read as NotRead, Memory as NotKept, Line}
 use Rattle.mps_keeper.specs.declared.restore.Unaccepted.{Unaccepted}
-use Rattle.mps_keeper.specs.declared.restore.Unaccepted.TheVariants.{Bad, Refused, Memory as Starved}
+use Rattle.mps_keeper.specs.declared.restore.Unaccepted.TheVariants.{Memory as Starved}
 use Rattle.mps_program.specs.declared.faults.ToolFault.{ToolFault}
 use Rattle.mps_program.specs.declared.faults.ToolFault.TheVariants.{File, JournalFile, JournalLine, JournalProtocol, JournalLost, Memory}
 

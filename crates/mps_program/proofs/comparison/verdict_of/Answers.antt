@@ -1,4 +1,4 @@
-use Rattle.std.proofs.Common.{◌≡◌, ℕ, List, ap, subst, ◌∙◌, inl, inr}
+use Rattle.std.proofs.Common.{◌≡◌, List, ap, ◌∙◌}
 use mathlib.Core.Path.{ap₂}
 use Rattle.std.proofs.lemmas.Result.{IfErr-weaker, IfOk-weaker}
 use Rattle.mps_local.specs.Local.{LocalType}
@@ -6,8 +6,6 @@ use Rattle.mps_machine.specs.Machine.{State}
 use Rattle.mps_room.specs.Journal.{run}
 use Rattle.mps_room.specs.declared.entry.Entry.{Entry}
 use Rattle.mps_session.specs.SessionState.{SessionState}
-use Rattle.mps_program.specs.Compared.{CantCompare, HasCompared, unheard}
-use Rattle.mps_program.specs.Private.Compared.{CantFollow, HasFollowed}
 use Rattle.mps_program.proofs.Comparing.{cant_follow, followed}
 use Rattle.mps_program.proofs.comparison.verdict_of.Goals as goal
 

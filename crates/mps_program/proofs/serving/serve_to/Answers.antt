@@ -1,16 +1,13 @@
-use Rattle.std.proofs.Common.{length}
-use Rattle.mps_program.specs.Served.{IsOutFault}
-use Rattle.mps_program.proofs.Causes.{told}
-use Rattle.mps_program.proofs.Telling.{on_ok, served, served_in_part, hub_out}
+use Rattle.mps_program.proofs.Telling.{on_ok, served, served_in_part}
 use Rattle.mps_program.proofs.serving.serve_to.Goals as goal
 
 pub returns-clause-told : goal.returns-clause-told
 returns-clause-told g c =
-    on_ok c.tell_sessions.result _ _ (λ h. served c.args.port c.first.result c.args.hub.cells c.serve_hub.new.hub.cells (g.W.Sink.taken c.args.writer.now) (g.W.Sink.taken c.serve_hub.new.writer) (g.W.Sink.taken c.tell_sessions.new.writer)
-    c.in_ok-rooms.rooms.items c.as_slice.result.now c.in_ok-serve_hub.ensures.same c.as_slice.ensures.value c.in_ok-serve_hub.ensures.told c.in_ok-rooms.ensures h)
+    on_ok c.tell_sessions.result _ _ (λ h. served c.args.port c.args.hub.first c.first-first.result c.args.hub.cells c.serve_hub.new.hub.cells (g.W.Sink.taken c.args.writer.now) (g.W.Sink.taken c.serve_hub.new.writer) (g.W.Sink.taken c.tell_sessions.new.writer)
+    c.in_ok-rooms.rooms.items c.as_slice.result.now c.first-first.ensures c.in_ok-serve_hub.ensures.same c.as_slice.ensures.value c.in_ok-serve_hub.ensures.told c.in_ok-rooms.ensures h)
     c.tell_sessions.ensures.told
 
 pub returns-clause-lost : goal.returns-clause-lost
 returns-clause-lost g c =
-    served_in_part c.tell_sessions.result c.args.port c.first.result c.args.hub.cells c.serve_hub.new.hub.cells (g.W.Sink.taken c.args.writer.now) (g.W.Sink.taken c.serve_hub.new.writer) (g.W.Sink.taken c.tell_sessions.new.writer)
-    c.in_ok-rooms.rooms.items c.as_slice.result.now c.in_ok-serve_hub.ensures.same c.as_slice.ensures.value c.in_ok-serve_hub.ensures.told c.in_ok-rooms.ensures c.tell_sessions.ensures.lost
+    served_in_part c.tell_sessions.result c.args.port c.args.hub.first c.first-first.result c.args.hub.cells c.serve_hub.new.hub.cells (g.W.Sink.taken c.args.writer.now) (g.W.Sink.taken c.serve_hub.new.writer) (g.W.Sink.taken c.tell_sessions.new.writer)
+    c.in_ok-rooms.rooms.items c.as_slice.result.now c.first-first.ensures c.in_ok-serve_hub.ensures.same c.as_slice.ensures.value c.in_ok-serve_hub.ensures.told c.in_ok-rooms.ensures c.tell_sessions.ensures.lost
