@@ -1,7 +1,7 @@
 -- What a caller in C is told.
-use Rattle.std.specs.Prelude.{◌≡◌, ℕ, ◌-◌, ◌^◌, ◌⊎◌, ⊤, Bool, true, false, List, Result, Ok, Err}
+use Rattle.std.specs.Prelude.{◌≡◌, ℕ, ◌-◌, ◌^◌, ◌⊎◌, Bool, true, false, List, Result, Ok, Err}
 use Rattle.std.specs.declared.alloc.AllocError.{AllocError}
-use Rattle.mps_embed.specs.Embedded.{IsFilled}
+use Rattle.mps_embed.specs.Embedded.{EmbeddedState, IsFilled, IsNewRoomOf}
 use Rattle.mps_open.specs.Faults.{GivesNoSession, number_of, place_of}
 use Rattle.mps_open.specs.declared.fault.Fault.{Fault}
 
@@ -18,8 +18,9 @@ length_of (Err why) = no_length
 abbrev pub IsTold : (IsText : List ℕ → Type 0) → (old new : List ℕ) → (count : ℕ) → Type 0
 IsTold IsText old new count = IsFilled IsText old new count ⊎ ((count ≡ no_length) × (new ≡ old))
 
--- a room was opened; or there is none, and the number and the place are those of the text's fault
-abbrev pub OpensNone : (text : List ℕ) → (opened : Bool) → (number place : ℕ) → Type 0
-OpensNone text true number place = ⊤
-OpensNone text false number place =
+-- there is a new room of the protocol that the text spells; or there is none, and the number and the place are those of the
+-- text's fault
+abbrev pub Opens : (text : List ℕ) → (opened : Bool) → (number place : ℕ) → Type 0
+Opens text true number place = (room : EmbeddedState) × IsNewRoomOf text room
+Opens text false number place =
     (fault : Fault) × GivesNoSession text fault × (number ≡ number_of fault) × (place ≡ place_of fault)

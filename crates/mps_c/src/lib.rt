@@ -8,7 +8,7 @@ ghost use Rattle.mps_keeper.specs.JournalLines.{SpellsJournalLine, CanBeWritten}
 ghost use Rattle.mps_line.specs.Replies.{SpellsReply};
 ghost use Rattle.mps_room.specs.declared.entry.Entry.{Entry as Kept};
 ghost use Rattle.mps_c.specs.Handle.{handle_owns, RoomValue, the_code};
-ghost use Rattle.mps_c.specs.Told.{IsTold, OpensNone};
+ghost use Rattle.mps_c.specs.Told.{IsTold, Opens};
 
 use mps_embed::Embedded;
 use std::alloc::Global;
@@ -51,7 +51,7 @@ pub extern "C" fn mps_open(
     fault: &mut u32,
     place: &mut u64,
 ) -> bool
-    ensures fault { OpensNone text.now result fault.new place.new }
+    ensures opened { Opens text.now result fault.new place.new }
 {
     match Embedded::open(alloc, text) {
         Ok(embedded) => match Box::new(alloc, embedded) {
