@@ -2,85 +2,87 @@ use crate::sessions::RELAY;
 use mps_embed::Embedded;
 use mps_open::open_text;
 use std::alloc::Global;
-use std::test::Fail;
 
-// What a line of that role is answered.
-fn answer(alloc: Global, room: &mut Embedded, role: &[u8], line: &[u8]) -> Result<Vec<u8>, Fail> {
-    let mut text = Vec::new(alloc);
+// How many bytes of an answer are looked at.
+const MOST: usize = 16;
+
+// Whether a line of that role gets this answer.
+fn gets(room: &mut Embedded, role: &[u8], line: &[u8], answer: &[u8]) -> bool {
+    let mut out = [0u8; MOST];
     room.line(role, line);
-    room.write_answer(&mut text)?;
-    Ok(text)
+    match room.answer_into(&mut out) {
+        Ok(n) => n == answer.len() && out.starts_with(answer),
+        Err(_) => false,
+    }
+}
+
+// Whether an entry, of which so many bytes are looked at, has this line and length.
+fn has_entry(room: &mut Embedded, k: u64, front: &[u8], length: usize) -> bool {
+    let mut out = [0u8; MOST];
+    match room.entry_into(k, &mut out[..8]) {
+        Ok(n) => n == length && out.starts_with(front),
+        Err(_) => false,
+    }
+}
+
+// Whether the answer is written so at the end of what the buffer has.
+fn writes(room: &Embedded, out: &mut Vec<u8>, answer: &[u8]) -> bool {
+    room.write_answer(out).is_ok() && out.as_slice() == answer
+}
+
+// Whether such lines are answered as they should be, of roles and of a name that is none.
+fn embeds(alloc: Global, room: &mut Embedded) -> bool {
+    let mut out = Vec::new(alloc);
+    gets(room, b"a", b"send b 5", b"done 1")
+        && gets(room, b"b", b"recv a x", b"done 2 5")
+        && writes(&*room, &mut out, b"done 2 5")
+        && gets(room, b"z", b"mark m", b"refused norole")
+        && has_entry(room, 0, b"a send b", 10)
+        && has_entry(room, 2, b"", 0)
+        && room.room().entries() == 2
+}
+
+// Whether each role's numbers are its own.
+fn numbers(room: &mut Embedded) -> bool {
+    gets(room, b"a", b"1 send b 5", b"done 1")
+        && gets(room, b"b", b"1 mark m", b"done 2")
+        && gets(room, b"a", b"1 send b 5", b"done 1")
+        && gets(room, b"a", b"3 mark m", b"refused number")
+}
+
+// Whether the text gives no session, for the fault of that number and place.
+fn gives_none(alloc: Global, text: &[u8], number: u32, place: u64) -> bool {
+    match open_text(alloc, text) {
+        Ok(_) => false,
+        Err(fault) => fault.number() == number && fault.place() == place,
+    }
 }
 
 #[test]
-fn embeds_a_room(rt: HostRuntime) -> Result<(), Fail> {
-    let alloc = rt.alloc();
-    let mut room = Embedded::open(alloc, RELAY)?;
-    assert_eq!(rt;
-        answer(alloc, &mut room, b"a", b"send b 5")?.as_slice(),
-        b"done 1".as_slice()
-    );
-    assert_eq!(rt;
-        answer(alloc, &mut room, b"b", b"recv a x")?.as_slice(),
-        b"done 2 5".as_slice()
-    );
-    assert_eq!(rt;
-        answer(alloc, &mut room, b"z", b"mark m")?.as_slice(),
-        b"refused norole".as_slice()
-    );
-    assert!(rt; room.room().entries() == 2);
-    Ok(())
+fn embeds_a_room(rt: HostRuntime) {
+    let room = Embedded::open(rt.alloc(), RELAY);
+    let embedded = match room {
+        Ok(mut room) => embeds(rt.alloc(), &mut room),
+        Err(_) => false,
+    };
+    assert!(rt; embedded);
 }
 
 #[test]
-fn embeds_numbers_of_each_role(rt: HostRuntime) -> Result<(), Fail> {
-    let alloc = rt.alloc();
-    let mut room = Embedded::open(alloc, RELAY)?;
-    assert_eq!(rt;
-        answer(alloc, &mut room, b"a", b"1 send b 5")?.as_slice(),
-        b"done 1".as_slice()
-    );
-    assert_eq!(rt;
-        answer(alloc, &mut room, b"b", b"1 mark m")?.as_slice(),
-        b"done 2".as_slice()
-    );
-    assert_eq!(rt;
-        answer(alloc, &mut room, b"a", b"1 send b 5")?.as_slice(),
-        b"done 1".as_slice()
-    );
-    assert_eq!(rt;
-        answer(alloc, &mut room, b"a", b"3 mark m")?.as_slice(),
-        b"refused number".as_slice()
-    );
-    Ok(())
+fn embeds_numbers_of_each_role(rt: HostRuntime) {
+    let room = Embedded::open(rt.alloc(), RELAY);
+    let numbered = match room {
+        Ok(mut room) => numbers(&mut room),
+        Err(_) => false,
+    };
+    assert!(rt; numbered);
 }
 
 #[test]
-fn embeds_buffers(rt: HostRuntime) -> Result<(), Fail> {
+fn names_why_a_text_gives_no_session(rt: HostRuntime) {
     let alloc = rt.alloc();
-    let mut room = Embedded::open(alloc, RELAY)?;
-    room.line(b"a", b"send b 5");
-    let mut out = *b"........";
-    let length = room.answer_into(&mut out[..4])?;
-    assert!(rt; length == 6 && out == *b"done....");
-    let length = room.entry_into(0, &mut out)?;
-    assert!(rt; length == 10 && out == *b"a send b");
-    let length = room.entry_into(1, &mut out)?;
-    assert!(rt; length == 0 && out == *b"a send b");
-    Ok(())
-}
-
-#[test]
-fn names_why_a_text_gives_no_session(rt: HostRuntime) -> Result<(), Fail> {
-    let alloc = rt.alloc();
-    let word = open_text(alloc, b"roles a b ; a -> Bc : int . end").err();
-    assert!(rt; word.map(|f| (f.number(), f.place())) == Some((17, 17)));
-    let itself = open_text(alloc, b"roles a b ; a -> a : int . end").err();
-    assert!(rt; itself.map(|f| (f.number(), f.place())) == Some((37, 0)));
-    let unmerged = open_text(
-        alloc,
-        b"roles a b c ; a -> b { l : a -> c : int . end , r : end }",
-    );
-    assert!(rt; unmerged.err().map(|f| (f.number(), f.place())) == Some((50, 0)));
-    Ok(())
+    assert!(rt; gives_none(alloc, b"roles a b ; a -> Bc : int . end", 17, 17));
+    assert!(rt; gives_none(alloc, b"roles a b ; a -> a : int . end", 37, 0));
+    let unmerged = b"roles a b c ; a -> b { l : a -> c : int . end , r : end }";
+    assert!(rt; gives_none(alloc, unmerged, 50, 0));
 }
