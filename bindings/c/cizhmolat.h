@@ -4,8 +4,8 @@
  * program, docs/FORMATS.md the texts of protocols, lines and answers.
  *
  * What the caller owes:
- * - A room stays on the thread that opened it, and is in one call at a time. Rooms of different threads know nothing of each
- *   other.
+ * - A room is in one call at a time. Threads that share one order their calls, by a lock for instance. Rooms know nothing of
+ *   each other.
  * - The struct isn't copied while its room is open, and no call comes after mps_close.
  * - No pointer is NULL, also where a length is 0. `length` bytes can be read there, and `capacity` bytes written. What is
  *   written lies apart from all else that is handed over in the same call, and from the room.

@@ -14,24 +14,26 @@ methods, which raise the same exceptions. So a program that was written for a se
     session = Room(protocol)
 
 in place of `from cizhmolat import Role` and `session = 1`. What speaks of the connection (`port`, `host`, `numbers`, `timeout`,
-`patience`) may stand there still, and does nothing: an answer can't be lost. Nobody else acts while a call waits, so a receipt
-and a pick don't wait: where no message is there, NothingQueued is raised at once, whatever their `timeout` says.
+`patience`) may stand there still, and does nothing: an answer can't be lost.
+
+A room has one call at a time, by a lock, so its Roles may be used in threads, each Role in one at a time. A receipt and a pick
+wait for what other threads send, as at a server: NothingQueued is raised when nothing has come in `timeout` seconds.
 
 This file stands beside cizhmolat.py. The library is libcizhmolat.so, which `./mps library DIR` makes, of the environment's
-CIZHMOLAT_DIR, of the folder of this file, or where the system looks for libraries. A Room and its Roles stay on the thread
-that opened the Room."""
+CIZHMOLAT_DIR, of the folder of this file, or where the system looks for libraries."""
 from __future__ import annotations
 
 import ctypes
 import os
 import re
 import threading
+import time
 from pathlib import Path
 
 import cizhmolat
-from cizhmolat import Error, count, name
+from cizhmolat import Error, count, name, read
 
-__all__ = ["BadProtocol", "NoMemory", "Role", "Room", "WrongThread"]
+__all__ = ["BadProtocol", "NoMemory", "Role", "Room"]
 
 NO_MEMORY = ctypes.c_size_t(-1).value
 TEXTS = ("toolong", "word", "unexpected", "toomanynodes", "toodeep", "trailing")
@@ -65,10 +67,6 @@ class NoMemory(Error):
     run, and `Room.answer` gives its answer later."""
 
 
-class WrongThread(Error):
-    """A room was called from another thread than the one that opened it."""
-
-
 class Handle(ctypes.Structure):
     """The struct of one pointer that owns a room."""
     _fields_ = [("at", ctypes.c_void_p)]
@@ -100,9 +98,10 @@ class Room:
     def __init__(self, text: str | bytes) -> None:
         text = text.encode() if isinstance(text, str) else text
         fault, place = ctypes.c_uint32(), ctypes.c_uint64()
-        self._handle, self._thread = Handle(), threading.get_ident()
+        self._handle = Handle()
         self._at = ctypes.addressof(self._handle)
         self._make_room(1024)
+        self._turn = threading.Condition()  # whose lock each call takes, and which is told of each accepted command
         self._accepted: dict[str, int] = {}  # of each role, how many of its commands were accepted that change the session
         if not LIBRARY.mps_open(text, len(text), self._at, fault, place):
             if fault.value == 1:
@@ -116,49 +115,55 @@ class Room:
         self.close()
 
     def __del__(self) -> None:
-        if getattr(self, "_thread", None) == threading.get_ident():
+        if hasattr(self, "_turn"):
             self.close()
 
     def close(self) -> None:
         """Lets the room go."""
-        if self._handle.at is not None:
-            self._check()
-            LIBRARY.mps_close_at(self._handle.at)
-            self._handle.at = None
+        with self._turn:
+            if self._handle.at is not None:
+                LIBRARY.mps_close_at(self._handle.at)
+                self._handle.at = None
+                self._turn.notify_all()
 
     def ask(self, role: str | bytes, line: str | bytes) -> str:
         """The answer to a line, which is run as a command of the role of that name. A line may have a number in front."""
-        self._check()
         role = role.encode() if isinstance(role, str) else role
         line = line.encode() if isinstance(line, str) else line
-        return self._whole(LIBRARY.mps_line(self._at, role, len(role), line, len(line), self._out, self._capacity))
+        with self._turn:
+            self._check()
+            answer = self._whole(LIBRARY.mps_line(self._at, role, len(role), line, len(line), self._out, self._capacity))
+            if answer.startswith(("done", "undone")):  # what is taken back may wait to be received again
+                self._turn.notify_all()
+            return answer
 
     def answer(self) -> str:
         """The answer to the newest line once more."""
-        self._check()
-        return self._whole(LIBRARY.mps_answer(self._at, self._out, self._capacity))
+        with self._turn:
+            self._check()
+            return self._whole(LIBRARY.mps_answer(self._at, self._out, self._capacity))
 
     @property
     def entries(self) -> int:
         """How many entries the journal has."""
-        self._check()
-        return int(LIBRARY.mps_entries(self._at))
+        with self._turn:
+            self._check()
+            return int(LIBRARY.mps_entries(self._at))
 
     def entry(self, k: int) -> str:
         """Entry number k of the journal, from 0, as a line of a script. IndexError is raised past the end."""
-        if count(k) >= self.entries:
-            raise IndexError(k)
-        length = LIBRARY.mps_entry(self._at, k, self._out, self._capacity)
-        if NO_MEMORY != length > self._capacity:
-            self._make_room(length)
-            length = LIBRARY.mps_entry(self._at, k, self._out, length)
-        return self._told(length)
+        with self._turn:
+            if count(k) >= self.entries:
+                raise IndexError(k)
+            length = LIBRARY.mps_entry(self._at, k, self._out, self._capacity)
+            if NO_MEMORY != length > self._capacity:
+                self._make_room(length)
+                length = LIBRARY.mps_entry(self._at, k, self._out, length)
+            return self._told(length)
 
     def _check(self) -> None:
         if self._handle.at is None:
             raise ValueError("the room is closed")
-        if self._thread != threading.get_ident():
-            raise WrongThread("a room stays on the thread that opened it")
 
     def _whole(self, length: int) -> str:
         """The whole answer, of which the length is told, and which was written where it fitted."""
@@ -180,7 +185,7 @@ class Room:
 
 
 class Role(cizhmolat.Role):
-    """A role of a room, for which this program acts. Several of a room may be used in turn, on the room's thread.
+    """A role of a room, for which this program acts. Each is used by one thread at a time.
 
     session, role    the Room, and the role's name; NoRole is raised where it has none of that name
     port and others  may stand there as for a served session, and do nothing
@@ -205,11 +210,19 @@ class Role(cizhmolat.Role):
         """The answer to a command line; refusals aren't raised."""
         if "\n" in command or not command.isascii():
             raise ValueError(f"no line: {command!r}")
-        answer = self.session.ask(self.role, command)
-        if answer.startswith(("done", "undone")):
-            self.session._accepted[self.role] = self.newest + 1
+        with self.session._turn:
+            answer = self.session.ask(self.role, command)
+            if answer.startswith(("done", "undone")):
+                self.session._accepted[self.role] = self.newest + 1
         return answer
 
     def _poll(self, command: str, form: str, timeout: float) -> re.Match[str]:
-        """The answer to a command that waits at a server. Here nobody else can act meanwhile."""
-        return self._read(command, form)
+        """The answer to a command that is given again, while nothing waits, after each command that others had accepted."""
+        until = time.monotonic() + timeout
+        with self.session._turn:
+            while True:
+                answer = self.ask(command)
+                left = until - time.monotonic()
+                if answer != "refused nothingqueued" or left <= 0:
+                    return read(command, answer, form)
+                self.session._turn.wait(left)

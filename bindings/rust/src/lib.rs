@@ -33,17 +33,34 @@ pub use fault::{OpenError, ProtocolFault, TextFault};
 
 /// A room with a session of a protocol.
 ///
-/// A room stays on the thread that opened it. No proof says that another thread may go on with it, so it isn't [`Send`]:
+/// A room may go to another thread, and threads share one by a lock. By itself it isn't [`Sync`].
+///
+/// ```
+/// use cizhmolat::{Answer, Room};
+/// use std::sync::Mutex;
+/// use std::thread;
+///
+/// let room = Mutex::new(Room::open("roles a b ; a -> b : int . end").unwrap());
+/// thread::scope(|scope| {
+///     scope.spawn(|| room.lock().unwrap().line("a", "mark m"));
+///     scope.spawn(|| room.lock().unwrap().line("b", "mark m"));
+/// });
+/// assert_eq!(room.into_inner().unwrap().entries(), 2);
+/// ```
 ///
 /// ```compile_fail,E0277
-/// fn sent<T: Send>(_: T) {}
-/// sent(cizhmolat::Room::open("roles a b ; end"));
+/// fn shared<T: Sync>(_: T) {}
+/// shared(cizhmolat::Room::open("roles a b ; end"));
 /// ```
 pub struct Room {
     handle: UnsafeCell<sys::Handle>,
     // where the newest answer is written
     text: Vec<u8>,
 }
+
+// SAFETY: a room is data of its own on the program's heap. That it may go to another thread is proved of what the handle owns:
+// law `rooms_may_cross_threads` of the crate mps_embed.
+unsafe impl Send for Room {}
 
 impl Room {
     /// Opens a room with a new session of the protocol that the text spells.
