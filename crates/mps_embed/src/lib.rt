@@ -9,5 +9,6 @@
 
 pub mod embedded;
 mod filling;
+pub mod laws;
 
 pub use embedded::Embedded;

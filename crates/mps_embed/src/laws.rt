@@ -1,0 +1,8 @@
+//! What holds of rooms, whatever they are called for.
+ghost use denote.Param.Send.{IsSend};
+ghost use Rattle.mps_embed.specs.contracts.embedded.Embedded as embedded;
+
+/// A room may go to another thread.
+pub fn rooms_may_cross_threads()
+    ensures room { IsSend embedded.the_row }
+{}
