@@ -100,7 +100,8 @@ def run(options, more, processes):
     """Starts the processes, and then looks after them without an end."""
     options.folder.mkdir(exist_ok=True)
     options.ports = range(options.port + 1, options.port + 1 + options.count)
-    processes += [shard(place, options, more) for place in range(options.count)]
+    for place in range(options.count):
+        processes.append(shard(place, options, more))
     for process in processes:
         if not process.process.stdout.readline().startswith("listening "):
             sys.exit(f"{process.name} can't be started")
@@ -125,7 +126,8 @@ def main():
     options, more = reader.parse_known_args()
     if shutil.which("haproxy") is None:
         sys.exit("fleet.py needs haproxy, which Debian has as a package")
-    signal.signal(signal.SIGTERM, lambda *_: sys.exit(0))
+    for kind in (signal.SIGTERM, signal.SIGHUP):
+        signal.signal(kind, lambda *_: sys.exit(0))
     processes = []
     try:
         run(options, more, processes)
