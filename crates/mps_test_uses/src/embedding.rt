@@ -52,10 +52,8 @@ fn numbers(room: &mut Embedded) -> bool {
 
 // Whether the text gives no session, for the fault of that number and place.
 fn gives_none(alloc: Global, text: &[u8], number: u32, place: u64) -> bool {
-    match open_text(alloc, text) {
-        Ok(_) => false,
-        Err(fault) => fault.number() == number && fault.place() == place,
-    }
+    let fault = open_text(alloc, text).err();
+    fault.map(|f| (f.number(), f.place())) == Some((number, place))
 }
 
 #[test]
