@@ -227,6 +227,7 @@ fn keeps_numbers(rt: HostRuntime) -> Result<(), Fail> {
 // A hub of two relays.
 fn hub(alloc: Global) -> Result<Hub, Fail>
     ensures given { IfOk result (λ h. h.given ≡ false) }
+    ensures first { IfOk result (λ h. h.first ≡ 1) }
     ensures two { IfOk result (λ h. length h.cells ≡ 2) }
 {
     let types = types(alloc, RELAY)?;
@@ -266,7 +267,8 @@ fn goes_on<R: Wait + 'static>(
     desk: &Desk<'_>,
     session: u64,
 ) -> Result<bool, Fail>
-    requires { (1 ≤ session) × (session ≤ length desk.now.cells) }
+    requires first { desk.now.first ≡ 1 }
+    requires session { (1 ≤ session) × (session ≤ length desk.now.cells) }
 {
     let mut lines = OverRead::new(b"a 1 send b 5\nb recv a x\nb mar".as_slice());
     let Ok(restored) = desk.restore(rt, alloc, session, &mut lines) else {
