@@ -16,7 +16,7 @@ use Rattle.mps_arena.specs.Keys.{has, AreDistinct, first_key, last_key, key_afte
 use Rattle.mps_arena.specs.Entries.{KeyedStep, keys_of, any_step, of_role, like_sends, like, unlike, entry_at, IsSmall, HasSmallPeer, AreSound}
 use Rattle.mps_arena.specs.Private.Ends.{receiver, end_at, with_end}
 use Rattle.mps_arena.specs.Private.Links.{node_of, AreNodes, joined, parted}
-use Rattle.mps_arena.specs.Neighbours.{matched_with, IsFree, IsSource, IsUnreceived, CanGo}
+use Rattle.mps_arena.specs.Neighbours.{matched_with, IsLastAndUnreceived, IsSource, IsUnreceived, CanGo}
 use Rattle.mps_arena.specs.Private.Kept.{IsIndexed, IsKept}
 use Rattle.mps_arena.specs.Private.Walks.{walk}
 use Rattle.mps_arena.proofs.KeyLists.{has-append_right, last-append, first_without, last_without}
@@ -170,10 +170,10 @@ module _ (look after : ℕ → Option Node) (size : ℕ) (f l : Option ℕ) (r p
 
 -- the last of a chain whose last entry goes
 last_goes : (q : Step → Bool) (a b : List KeyedStep) (x : KeyedStep) → AreDistinct (keys_of any_step (a ++ x ∷ b)) → q x.step ≡ true → key_after x.key (keys_of q (a ++ x ∷ b)) ≡ None → last_key None (keys_of q (a ++ b)) ≡ key_before None x.key (keys_of q (a ++ x ∷ b))
-last_goes q a b x d t final =
+last_goes q a b x d t at_end =
     let is = keys_around q a b x t in
     let parts : AreDistinct (keys_of q a ++ x.key ∷ keys_of q b) = subst AreDistinct is (distinct q (a ++ x ∷ b) d) in
-    let none : key_after x.key (keys_of q a ++ x.key ∷ keys_of q b) ≡ None = sym (ap (key_after x.key) is) ∙ final in
+    let none : key_after x.key (keys_of q a ++ x.key ∷ keys_of q b) ≡ None = sym (ap (key_after x.key) is) ∙ at_end in
     rw (keys-append q a b, is, last_without x.key (keys_of q a) (keys_of q b) parts, none) refl
 
 module _ (look after : ℕ → Option Node) (size : ℕ) (f l : Option ℕ) (r p : List (Option ℕ)) (index : List ℕ) (a b : List KeyedStep) (x : KeyedStep) (k : IsKept look size f l r p index (a ++ x ∷ b)) where
@@ -185,12 +185,12 @@ module _ (look after : ℕ → Option Node) (size : ℕ) (f l : Option ℕ) (r p
       → ((i j : ℕ) → sends i j x.step ≡ true → matched_with old x ≡ None)
       → ((i : ℕ) → after i ≡ option_map (parted (node_of old x) i) (cond (x.key == i) None (look i)))
       → IsKept after left (cond (is_none (node_of old x).prev) (node_of old x).next f) (cond (is_none (node_of old x).next) (node_of old x).prev l) (slice_set r x.step.role (node_of old x).prev_of_role) (with_end p x.step.role (receiver (effect x.step.act)) (node_of old x).prev_send) index (a ++ b)
-  kept_without left fewer small final unreceived is =
+  kept_without left fewer small at_end unreceived is =
       let d = k.linked.distinct in
       let all = keys_around any_step a b x refl in
       let parts : AreDistinct (keys_of any_step a ++ x.key ∷ keys_of any_step b) = subst AreDistinct all d in
       record {
-        linked = nodes_without look after a b x k.linked final is unreceived;
+        linked = nodes_without look after a b x k.linked at_end is unreceived;
         count = omega (arith, k.count, length-append a (x ∷ b), length-append a b);
         first = rw (keys-append any_step a b, first_without x.key (keys_of any_step a) (keys_of any_step b) parts, ← all, k.first) refl;
         last = rw (keys-append any_step a b, last_without x.key (keys_of any_step a) (keys_of any_step b) parts, ← all, k.last) refl;
@@ -198,12 +198,12 @@ module _ (look after : ℕ → Option Node) (size : ℕ) (f l : Option ℕ) (r p
         pairs = length_with_end p x.step.role (receiver (effect x.step.act)) (node_of old x).prev_send ∙ k.pairs;
         last_of = with_role_is r x.step (node_of old x).prev_of_role (λ i. last_key None (keys_of (of_role i) old)) (λ i. last_key None (keys_of (of_role i) (a ++ b))) k.roles small.0 k.last_of
             (λ i t. let same : x.step.role ≡ i = eqb-true x.step.role i t in
-            subst (λ (n : ℕ). last_key None (keys_of (of_role n) (a ++ b)) ≡ (node_of old x).prev_of_role) same (last_goes (of_role x.step.role) a b x d (eq-eqb x.step.role x.step.role refl) final))
+            subst (λ (n : ℕ). last_key None (keys_of (of_role n) (a ++ b)) ≡ (node_of old x).prev_of_role) same (last_goes (of_role x.step.role) a b x d (eq-eqb x.step.role x.step.role refl) at_end))
             (λ i n. ap (last_key None) (sym (keys_beside (of_role i) a b x n)));
         last_send = with_end_is p x.step (node_of old x).prev_send (λ i j. last_key None (keys_of (sends i j) old)) (λ i j. last_key None (keys_of (sends i j) (a ++ b))) k.pairs small k.last_send
             (λ i j t. let same = sends_chain i j x.step t in
             let self : sends_like x.step x.step ≡ true = ap (λ (g : Step → Bool). g x.step) same ∙ t in
-            subst (λ (g : Step → Bool). last_key None (keys_of g (a ++ b)) ≡ (node_of old x).prev_send) same (last_goes (sends_like x.step) a b x d self (sends_ends look after a b x k.linked final)))
+            subst (λ (g : Step → Bool). last_key None (keys_of g (a ++ b)) ≡ (node_of old x).prev_send) same (last_goes (sends_like x.step) a b x d self (sends_ends look after a b x k.linked at_end)))
             (λ i j n. ap (last_key None) (sym (keys_beside (sends i j) a b x n)));
         rising = rising_without a b x k.rising;
         small = all_without (λ y. IsSmall y.step) a b x k.small;
@@ -355,17 +355,17 @@ kept_remove look after size f l r p index es k left fewer j node e can is =
     let s = stands look es j node k.linked e in
     let x = s.entry in
     let key = entry_key j es x s.found in
-    let free : IsFree es x = subst (λ (o : Option KeyedStep). IsSomeAnd o (IsFree es)) s.found can in
+    let free : IsLastAndUnreceived es x = subst (λ (o : Option KeyedStep). IsSomeAnd o (IsLastAndUnreceived es)) s.found can in
     let whole = s.before ++ x ∷ s.behind in
     let kw : IsKept look size f l r p index whole = subst (λ (l' : List KeyedStep). IsKept look size f l r p index l') s.parts k in
-    let fw : IsFree whole x = subst (λ (l' : List KeyedStep). IsFree l' x) s.parts free in
+    let fw : IsLastAndUnreceived whole x = subst (λ (l' : List KeyedStep). IsLastAndUnreceived l' x) s.parts free in
     let nw : node ≡ node_of whole x = s.node_is ∙ ap (λ (l' : List KeyedStep). node_of l' x) s.parts in
     let small = all_at (λ y. IsSmall y.step) s.before s.behind x kw.small in
     let now : (i : ℕ) → after i ≡ option_map (parted (node_of whole x) i) (cond (x.key == i) None (look i)) =
     subst (λ (n : Node). (i : ℕ) → after i ≡ option_map (parted n i) (cond (x.key == i) None (look i))) nw
     (subst (λ (m : ℕ). (i : ℕ) → after i ≡ option_map (parted node i) (cond (m == i) None (look i))) (sym key) is) in
     let result : Left after left f l r p index (node_of whole x) (s.before ++ s.behind) =
-    kept_without look after size f l r p index s.before s.behind x kw left fewer small fw.final
+    kept_without look after size f l r p index s.before s.behind x kw left fewer small fw.last
     (λ i q t. unreceived_at whole x (effect x.step.act) fw.unreceived q (and_parts (x.step.role == i) (gives_to q (effect x.step.act)) t).1) now in
     let rest : s.before ++ s.behind ≡ filter (λ e. not (e.key == j)) es =
     sym (others_are j s.before s.behind x kw.linked.distinct key) ∙ ap (filter (λ e. not (e.key == j))) (sym s.parts) in

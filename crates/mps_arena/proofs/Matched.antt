@@ -204,7 +204,7 @@ matched_push es e m has_match p q =
     (cases_Bool (receives p q e.step))
 
 -- x goes, the last step of its role
-module _ (a b : List KeyedStep) (x : KeyedStep) (d : AreDistinct (keys_of any_step (a ++ x ∷ b))) (final : keys_of (own x.step) b ≡ []) where
+module _ (a b : List KeyedStep) (x : KeyedStep) (d : AreDistinct (keys_of any_step (a ++ x ∷ b))) (at_end : keys_of (own x.step) b ≡ []) where
   abbrev old : List KeyedStep
   old = a ++ x ∷ b
 
@@ -212,10 +212,10 @@ module _ (a b : List KeyedStep) (x : KeyedStep) (d : AreDistinct (keys_of any_st
   matched = matched_key x.key (keys_of (own x.step) old) (keys_of (other x.step) old)
 
   own_old : own x.step x.step ≡ true → keys_of (own x.step) old ≡ keys_of (own x.step) a ++ x.key ∷ []
-  own_old t = keys_around (own x.step) a b x t ∙ ap (λ l. keys_of (own x.step) a ++ x.key ∷ l) final
+  own_old t = keys_around (own x.step) a b x t ∙ ap (λ l. keys_of (own x.step) a ++ x.key ∷ l) at_end
 
   own_new : keys_of (own x.step) (a ++ b) ≡ keys_of (own x.step) a
-  own_new = keys-append (own x.step) a b ∙ ap (λ l. keys_of (own x.step) a ++ l) final ∙ append-nil (keys_of (own x.step) a)
+  own_new = keys-append (own x.step) a b ∙ ap (λ l. keys_of (own x.step) a ++ l) at_end ∙ append-nil (keys_of (own x.step) a)
 
   alone : own x.step x.step ≡ true → has x.key (keys_of (own x.step) a) ≡ false
   alone t = (once x.key (keys_of (own x.step) a) [] (subst AreDistinct (own_old t) (distinct (own x.step) old d))).0
@@ -320,7 +320,7 @@ fed_push es e f has_match c d s p q =
     one (y ∷ []) d h = let same : y ≡ e = cc in inr (ap (λ (z : KeyedStep). z ∷ []) same)
     one (y ∷ z ∷ m) d h = absurd cc
 
-module _ (a b : List KeyedStep) (x : KeyedStep) (d : AreDistinct (keys_of any_step (a ++ x ∷ b))) (final : keys_of (own x.step) b ≡ []) where
+module _ (a b : List KeyedStep) (x : KeyedStep) (d : AreDistinct (keys_of any_step (a ++ x ∷ b))) (at_end : keys_of (own x.step) b ≡ []) where
   pub fed_removal : IsFed (a ++ x ∷ b) → ((p q : ℕ) → sends p q x.step ≡ true → matched_key x.key (keys_of (own x.step) (a ++ x ∷ b)) (keys_of (other x.step) (a ++ x ∷ b)) ≡ None) → IsFed (a ++ b)
   fed_removal f unreceived c e s p q =
       ⊎_elim
@@ -331,8 +331,8 @@ module _ (a b : List KeyedStep) (x : KeyedStep) (d : AreDistinct (keys_of any_st
       (⊎_elim
       (λ (t : sends p q x.step ≡ true).
       let o = sends_own p q x.step t in
-      let after = matched_removal a b x d final (matched_of (a ++ x ∷ b) f) unreceived p q in
-      let rest : keys_of (sends p q) b ≡ [] = ap (λ (g : Step → Bool). keys_of g b) (sym o.0) ∙ final in
+      let after = matched_removal a b x d at_end (matched_of (a ++ x ∷ b) f) unreceived p q in
+      let rest : keys_of (sends p q) b ≡ [] = ap (λ (g : Step → Bool). keys_of g b) (sym o.0) ∙ at_end in
       omega (
         arith,
         after,

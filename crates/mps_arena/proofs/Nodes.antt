@@ -136,26 +136,26 @@ nothing_first (k ∷ c) e = absurd cc
 
 -- after the last step of a role there is none of the role
 pub role_ends : (a b : List KeyedStep) (x : KeyedStep) → AreDistinct (keys_of any_step (a ++ x ∷ b)) → key_after x.key (keys_of (of_role x.step.role) (a ++ x ∷ b)) ≡ None → keys_of (of_role x.step.role) b ≡ []
-role_ends a b x d final =
+role_ends a b x d at_end =
     let p = of_role x.step.role in
     let is = keys_around p a b x (eq-eqb x.step.role x.step.role refl) in
     let o = once x.key (keys_of p a) (keys_of p b) (subst AreDistinct is (distinct p (a ++ x ∷ b) d)) in
     let next : key_after x.key (keys_of p (a ++ x ∷ b)) ≡ first_key (keys_of p b) = ap (key_after x.key) is ∙ after_absent x.key (keys_of p a) (x.key ∷ keys_of p b) o.0 ∙ rw (eq-eqb x.key x.key refl) refl in
-    nothing_first (keys_of p b) (sym next ∙ final)
+    nothing_first (keys_of p b) (sym next ∙ at_end)
 
 -- so it is the last of each chain of its role that it stands in
 pub last_of_chain : (f : Step → Bool) (a b : List KeyedStep) (x : KeyedStep) → AreDistinct (keys_of any_step (a ++ x ∷ b)) → key_after x.key (keys_of (of_role x.step.role) (a ++ x ∷ b)) ≡ None → ((s : Step) → f s ≡ true → of_role x.step.role s ≡ true) → f x.step ≡ true → last_key None (keys_of f (a ++ x ∷ b)) ≡ Some x.key
-last_of_chain f a b x d final sub t =
-    ap (last_key None) (keys_around f a b x t ∙ ap (λ (l : List ℕ). keys_of f a ++ x.key ∷ l) (none_of (of_role x.step.role) f b sub (role_ends a b x d final)))
+last_of_chain f a b x d at_end sub t =
+    ap (last_key None) (keys_around f a b x t ∙ ap (λ (l : List ℕ). keys_of f a ++ x.key ∷ l) (none_of (of_role x.step.role) f b sub (role_ends a b x d at_end)))
     ∙ last-append None (keys_of f a) (x.key ∷ [])
 
-module _ (look after : ℕ → Option Node) (a b : List KeyedStep) (x : KeyedStep) (n : AreNodes look (a ++ x ∷ b)) (final : key_after x.key (keys_of (of_role x.step.role) (a ++ x ∷ b)) ≡ None) where
+module _ (look after : ℕ → Option Node) (a b : List KeyedStep) (x : KeyedStep) (n : AreNodes look (a ++ x ∷ b)) (at_end : key_after x.key (keys_of (of_role x.step.role) (a ++ x ∷ b)) ≡ None) where
   abbrev whole : List KeyedStep
   whole = a ++ x ∷ b
 
   -- no later step of the role
   none_later : keys_of (of_role x.step.role) b ≡ []
-  none_later = role_ends a b x n.distinct final
+  none_later = role_ends a b x n.distinct at_end
 
   own_ends : keys_of (own x.step) b ≡ []
   own_ends = none_of (of_role x.step.role) (own x.step) b (own_role x.step.role (effect x.step.act)) none_later
@@ -180,8 +180,8 @@ module _ (look after : ℕ → Option Node) (a b : List KeyedStep) (x : KeyedSte
       refl
       (sym (after_removal (λ s. any_step) (λ s t e. refl) (λ s t e. refl) a b x n.distinct y.key y found apart))
       (sym (before_removal (λ s. any_step) (λ s t e. refl) (λ s t e. refl) a b x n.distinct y.key y found apart))
-      (sym (rw final at (after_removal (λ s. of_role s.role) role_alike role_back a b x n.distinct y.key y found apart)))
-      (sym (rw final at (before_removal (λ s. of_role s.role) role_alike role_back a b x n.distinct y.key y found apart)))
+      (sym (rw at_end at (after_removal (λ s. of_role s.role) role_alike role_back a b x n.distinct y.key y found apart)))
+      (sym (rw at_end at (before_removal (λ s. of_role s.role) role_alike role_back a b x n.distinct y.key y found apart)))
       (sym (rw sends_ends at (after_removal sends_like sends_alike sends_back a b x n.distinct y.key y found apart)))
       (sym (rw sends_ends at (before_removal sends_like sends_alike sends_back a b x n.distinct y.key y found apart)))
       (sym (matched_with_removal a b x n.distinct own_ends y.key y found apart))

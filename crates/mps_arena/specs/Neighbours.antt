@@ -27,12 +27,12 @@ IsUnreceived es e (Gives to message) = matched_with es e ≡ None
 IsUnreceived es e effect = ⊤
 
 -- the last step of its role, and no send that was received
-pub record IsFree (es : List KeyedStep) (e : KeyedStep) : Type 0 where
-  pub final : key_after e.key (keys_of (of_role e.step.role) es) ≡ None
+pub record IsLastAndUnreceived (es : List KeyedStep) (e : KeyedStep) : Type 0 where
+  pub last : key_after e.key (keys_of (of_role e.step.role) es) ≡ None
   pub unreceived : IsUnreceived es e (effect e.step.act)
 
 abbrev pub CanGo : List KeyedStep → ℕ → Type 0
-CanGo es k = IsSomeAnd (entry_at k es) (IsFree es)
+CanGo es k = IsSomeAnd (entry_at k es) (IsLastAndUnreceived es)
 
 -- what is linked to the entry of a key
 abbrev pub linked : (KeyedStep → Option ℕ) → List KeyedStep → ℕ → Option ℕ

@@ -13,13 +13,13 @@ use Rattle.mps_room.specs.Solos.{own_entry}
 use Rattle.mps_room.specs.declared.entry.Entry.{Entry}
 use Rattle.mps_room.specs.declared.numbers.Numbered.{Numbered}
 use Rattle.mps_cell.specs.Openings.{room_of, IsLegalIn, IsReplyIn, reply_in}
-use Rattle.mps_cell.specs.Views.{Part, View, part_of, raised, showing}
+use Rattle.mps_cell.specs.Views.{Part, SeatView, part_of, raised, showing}
 use Rattle.mps_cell.specs.Rule.{Shows, resting, journal_in}
-use Rattle.mps_cell.specs.Private.Rule.{holding, Took, Gave}
+use Rattle.mps_cell.specs.Private.Rule.{with_room, Took, Gave}
 use Rattle.mps_cell.specs.Calls.{Known, known, carried, IsAccepted, IsAnswered, Calls}
 
 abbrev M : Type 0
-M = Me RoomState View
+M = Me RoomState SeatView
 
 -- an answer that accepts is the one that is wanted
 accepted_is : (a wanted : Answer) → IsReply a wanted → is_accepted a ≡ true → a ≡ wanted
@@ -53,7 +53,7 @@ calls : (id id' : TableId) (m m1 m2 : M) (role : ℕ) (c : Command) (a : Answer)
 calls id id' m m1 m2 role c a same_cell t is says gave legal =
     let p : Part = part_of m.0.parts in
     let j : List Entry = t.0 in
-    let had : M = holding (raised (length j) p) j (room_of p.opening j) in
+    let had : M = with_room (raised (length j) p) j (room_of p.opening j) in
     let P : M × ℕ → Type 0 = λ x. IsReplyIn (part_of x.0.0.parts).opening (journal_in x.0.1) x.1 c a in
     let G : M × ℕ → Type 0 = λ x. Gave x.0 (grown (journal_in x.0.1) x.1 c a) m2 in
     let L : M × ℕ → Type 0 = λ x. IsLegalIn (part_of x.0.0.parts).opening (grown (journal_in x.0.1) x.1 c a) in
@@ -65,13 +65,13 @@ calls id id' m m1 m2 role c a same_cell t is says gave legal =
       pass = record { cell = same_cell; opening = refl; role = refl };
       legal = legal';
       own = refl;
-      floor = refl;
-      answered = by_answer id id' p m.0.barred j c a t.1 says' (is_accepted a) refl;
+      reported = refl;
+      answered = by_answer id id' p m.0.was_out j c a t.1 says' (is_accepted a) refl;
     }
 
 -- what a call tells, it tells whatever numbered commands are kept beside
 pub calls_carried : (k : Known) (c : Command) (a : Answer) (k' : Known) (x y : Option Numbered) → Calls k c a k' → Calls (carried k x) c a (carried k' y)
-calls_carried k c a k' x y h = record { pass = record { cell = h.pass.cell; opening = h.pass.opening; role = h.pass.role }; legal = h.legal; own = h.own; floor = h.floor; answered = by_answer' (is_accepted a) h.answered }
+calls_carried k c a k' x y h = record { pass = record { cell = h.pass.cell; opening = h.pass.opening; role = h.pass.role }; legal = h.legal; own = h.own; reported = h.reported; answered = by_answer' (is_accepted a) h.answered }
   where
     by_answer' : (b : Bool) → MatchBool b (IsAccepted k c a k') (IsAnswered k c a k') → MatchBool b (IsAccepted (carried k x) c a (carried k' y)) (IsAnswered (carried k x) c a (carried k' y))
     by_answer' true h = record { before = h.before; begins = h.begins; reached = h.reached; answer = h.answer; joined = h.joined; made = h.made }

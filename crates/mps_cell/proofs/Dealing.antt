@@ -8,9 +8,9 @@ use Rattle.atomic_table.specs.Table.{Me, State, Splits, Final, Seen}
 use Rattle.mps_room.specs.RoomState.{RoomState}
 use Rattle.mps_room.specs.declared.entry.Entry.{Entry}
 use Rattle.mps_cell.specs.Openings.{Opening, room_of, IsLegalIn}
-use Rattle.mps_cell.specs.Views.{View, newcomer, newcomers, dealing, part_of, without_first, first_alone}
+use Rattle.mps_cell.specs.Views.{SeatView, fresh_part, fresh_parts, dealing, part_of, without_first, first_alone}
 use Rattle.mps_cell.specs.Rule.{Kept, word_of, home_of, resting, Shows, AllShow}
-use Rattle.mps_cell.specs.Private.Rule.{IsFree}
+use Rattle.mps_cell.specs.Private.Rule.{IsResting}
 use Rattle.atomic_table.specs.Seated.{TableId}
 use Rattle.mps_cell.specs.Calls.{Known, known}
 use Rattle.mps_cell.specs.Meetings.{Holds}
@@ -18,28 +18,28 @@ use Rattle.mps_cell.specs.Cells.{Closes, fresh, fresh_below}
 use Rattle.mps_cell.proofs.Keeping.{deals}
 
 abbrev M : Type 0
-M = Me RoomState View
+M = Me RoomState SeatView
 
 one_more : (i n : ℕ) → i < n → n - i ≡ suc (n - (i + 1))
 one_more i n h = omega arith
 
-next : (o : Opening) (i n : ℕ) → i < n → newcomers o i (n - i) ≡ newcomer o i ∷ newcomers o (i + 1) (n - (i + 1))
-next o i n h = ap (newcomers o i) (one_more i n h)
+next : (o : Opening) (i n : ℕ) → i < n → fresh_parts o i (n - i) ≡ fresh_part o i ∷ fresh_parts o (i + 1) (n - (i + 1))
+next o i n h = ap (fresh_parts o i) (one_more i n h)
 
 pub deals_next : (k o : Opening) (id i n : ℕ) (m : M) → i < n → m ≡ (dealing o i (n - i), []) → Splits (Kept k) id m.0 (without_first m.0) (first_alone m.0)
-deals_next k o id i n m h is = deals k id m.0 (newcomer o i) (newcomers o (i + 1) (n - (i + 1))) (ap (λ (x : M). x.0.parts) is ∙ next o i n h)
+deals_next k o id i n m h is = deals k id m.0 (fresh_part o i) (fresh_parts o (i + 1) (n - (i + 1))) (ap (λ (x : M). x.0.parts) is ∙ next o i n h)
 
 pub dealt_rest : (o : Opening) (i n : ℕ) (m m' : M) → i < n → m ≡ (dealing o i (n - i), []) → m' ≡ (without_first m.0, m.1) → m' ≡ (dealing o (i + 1) (n - (i + 1)), [])
-dealt_rest o i n m m' h is now = now ∙ (ap (λ (x : M). (without_first x.0, x.1)) is ∙ ap (λ ps. (without_first (record { parts = ps; noted = None; barred = false }), [])) (next o i n h))
+dealt_rest o i n m m' h is now = now ∙ (ap (λ (x : M). (without_first x.0, x.1)) is ∙ ap (λ ps. (without_first (record { parts = ps; noted = None; was_out = false }), [])) (next o i n h))
 
-pub dealt_one : (o : Opening) (i n : ℕ) (m m' : M) → i < n → m ≡ (dealing o i (n - i), []) → m' ≡ (first_alone m.0, []) → m' ≡ resting (newcomer o i) false
-dealt_one o i n m m' h is now = now ∙ (ap (λ (x : M). (first_alone x.0, [])) is ∙ ap (λ ps. (first_alone (record { parts = ps; noted = None; barred = false }), [])) (next o i n h))
+pub dealt_one : (o : Opening) (i n : ℕ) (m m' : M) → i < n → m ≡ (dealing o i (n - i), []) → m' ≡ (first_alone m.0, []) → m' ≡ resting (fresh_part o i) false
+dealt_one o i n m m' h is now = now ∙ (ap (λ (x : M). (first_alone x.0, [])) is ∙ ap (λ ps. (first_alone (record { parts = ps; noted = None; was_out = false }), [])) (next o i n h))
 
 home_even : (a : Option ℕ) (j : List Entry) → word_of a j % 2 ≡ 0 → a ≡ None
 home_even None j e = refl
 home_even (Some t) j e = absurd (omega arith)
 
-module _ (o : Opening) (s : State RoomState View) (r : Kept o s) (ws : List ℕ) (xs : List RoomState) (w : ℕ) (y : RoomState) (same : s.words ≡ ws)
+module _ (o : Opening) (s : State RoomState SeatView) (r : Kept o s) (ws : List ℕ) (xs : List RoomState) (w : ℕ) (y : RoomState) (same : s.words ≡ ws)
     (homes : (k : ℕ) (x : RoomState) → get_elem? s.homes k ≡ maybe.some (maybe.some x) → get_elem? xs k ≡ maybe.some x) (word : get_elem? ws 0 ≡ maybe.some w) (even : w % 2 ≡ 0) (room : get_elem? xs 0 ≡ maybe.some y) where
   at_home : r.away ≡ None
   at_home = let e : word_of r.away r.log ≡ w = maybe.some-injective (word_of r.away r.log) w (sym (ap (λ (l : List ℕ). get_elem? l 0) r.words) ∙ (ap (λ (l : List ℕ). get_elem? l 0) same ∙ word)) in
@@ -62,20 +62,20 @@ pub dealt_more : (id id' : TableId) (o o' : Opening) (i : ℕ) (all all' : List 
     → all' ≡ fresh_below id o (i + 1)
 dealt_more id id' o o' i all all' k now was new is is' = let e : k ≡ fresh id o i = new ∙ (λ t. fresh (is t) (is' t) i) in let f = more id o i in cc
 
-shown_in : (j : List Entry) (m : M) → IsFree m → AllShow j m.0.parts → Shows j (part_of m.0.parts)
+shown_in : (j : List Entry) (m : M) → IsResting m → AllShow j m.0.parts → Shows j (part_of m.0.parts)
 shown_in j m free all = (subst (λ (x : M). AllShow j x.0.parts) free all).0
 
-pub closed_with : (o : Opening) (id : ℕ) (m : M) (t : TableId) (ws : List ℕ) (xs : List RoomState) (w : ℕ) (y : RoomState) → IsFree m → Final (Seen (Kept o) id m.0) ws xs → get_elem? ws 0 ≡ maybe.some w → w % 2 ≡ 0 → get_elem? xs 0 ≡ maybe.some y
+pub closed_with : (o : Opening) (id : ℕ) (m : M) (t : TableId) (ws : List ℕ) (xs : List RoomState) (w : ℕ) (y : RoomState) → IsResting m → Final (Seen (Kept o) id m.0) ws xs → get_elem? ws 0 ≡ maybe.some w → w % 2 ≡ 0 → get_elem? xs 0 ≡ maybe.some y
     → Closes o y × Holds (known t m.0) y.journal
 closed_with o id m t ws xs w y free f word even room = let r = f.1.0 in let e = ends_as o f.0 r ws xs w y f.2 f.4 word even room in
     let s : Shows r.log (part_of m.0.parts) = shown_in r.log m free (r.seats id m.0 f.1.1).shows in let h : Holds (known t m.0) r.log = record { begins = s.begins; reached = s.reached; own = s.own } in
     (closes o f.0 r ws xs w y f.2 f.4 word even room, subst (λ (x : RoomState). Holds (known t m.0) x.journal) (sym e) h)
 
--- the seat of a role that was dealt is a newcomer's
-pub fresh_seat : (o : Opening) (i role : ℕ) (m : M) → m ≡ resting (newcomer o i) false → role ≡ i → m ≡ resting (newcomer (part_of m.0.parts).opening role) false
-fresh_seat o i role m is same = subst (λ (x : M × ℕ). x.0 ≡ resting (newcomer (part_of x.0.0.parts).opening x.1) false) (λ k. (sym is k, sym same k)) refl
+-- the seat of a role that was dealt is a fresh_part's
+pub fresh_seat : (o : Opening) (i role : ℕ) (m : M) → m ≡ resting (fresh_part o i) false → role ≡ i → m ≡ resting (fresh_part (part_of m.0.parts).opening role) false
+fresh_seat o i role m is same = subst (λ (x : M × ℕ). x.0 ≡ resting (fresh_part (part_of x.0.0.parts).opening x.1) false) (λ k. (sym is k, sym same k)) refl
 
-pub fresh_some : (o : Opening) (i role : ℕ) (m : M) → m ≡ resting (newcomer o i) false → role ≡ i → i < length o.types → role < length (part_of m.0.parts).opening.types
+pub fresh_some : (o : Opening) (i role : ℕ) (m : M) → m ≡ resting (fresh_part o i) false → role ≡ i → i < length o.types → role < length (part_of m.0.parts).opening.types
 fresh_some o i role m is same h = subst (λ (x : M × ℕ). x.1 < length (part_of x.0.0.parts).opening.types) (λ k. (sym is k, sym same k)) h
 
 -- fresh passes are the cell's

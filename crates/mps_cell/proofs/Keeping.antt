@@ -9,16 +9,16 @@ use Rattle.atomic_table.proofs.Lists.{exchanged, set_else, set_here, at_last}
 use Rattle.mps_room.specs.RoomState.{RoomState}
 use Rattle.mps_room.specs.declared.entry.Entry.{Entry}
 use Rattle.mps_cell.specs.Openings.{Opening, opening_of, room_of, IsLegalIn}
-use Rattle.mps_cell.specs.Views.{Part, View, newcomers, first_view, part_of, looked, took, gave, without_first_part, first_part_alone, without_first, first_alone, spent}
+use Rattle.mps_cell.specs.Views.{Part, SeatView, fresh_parts, first_view, part_of, looked, took, gave, without_first_part, first_part_alone, without_first, first_alone, spent}
 use Rattle.mps_cell.specs.Rule.{Kept, Rests, AllShow, AllHere, AllOther, AllApart, HasRole, RestsOn, noted_by, word_of, home_of, resting, Told, Looks, Tries, Gives}
-use Rattle.mps_cell.specs.Private.Rule.{holding, Grows}
+use Rattle.mps_cell.specs.Private.Rule.{with_room, Grows}
 use Rattle.mps_cell.proofs.Lists.{inside, at_end, seats_stay, raise_all, raise_here, raise_apart, raise_has, grow_all, elsewhere, moved, moved_here, still_here, still_rests, rests_longer, rests_moved, has_other}
 
 abbrev St : Type 0
-St = State RoomState View
+St = State RoomState SeatView
 
 abbrev M : Type 0
-M = Me RoomState View
+M = Me RoomState SeatView
 
 word_half : (a : Option ℕ) (j : List Entry) → word_of a j / 2 ≡ length j
 word_half None j = omega arith
@@ -32,7 +32,7 @@ word_is : (o : Opening) (s : St) (r : Kept o s) → get_or s.words 0 0 ≡ word_
 word_is o s r = ap (λ ws. get_or ws 0 0) r.words
 
 -- what a seat is told of the journal
-told : (o : Opening) (s : St) (r : Kept o s) (id : ℕ) (v : View) → get_elem? s.views id ≡ maybe.some v → Told v (get_or s.words 0 0) r.log
+told : (o : Opening) (s : St) (r : Kept o s) (id : ℕ) (v : SeatView) → get_elem? s.views id ≡ maybe.some v → Told v (get_or s.words 0 0) r.log
 told o s r id v at = let n = word_is o s r in let h = word_half r.away r.log in
     (sym h ∙ ap (λ (k : ℕ). k / 2) (sym n), (r.seats id v at).shows, (r.seats id v at).apart)
 
@@ -68,11 +68,11 @@ noted_here t j = ap (λ (b : Bool). if b then Some j else None) (eq-eqb t t refl
 
 pub tries : (o : Opening) (slots id : ℕ) (me : M) (p : Part) (ps : List Part) (old new : ℕ) → me.0.parts ≡ p ∷ ps → old % 2 ≡ 0 → new ≡ old + 1
     → Allows (Kept o) slots id me 0 (λ n. if n == old then new else n) (Tries (step slots 0 old new maybe.none) me)
-tries o slots id me p ps old new some_part even next s r _ at _ = let n : ℕ = get_or s.words 0 0 in let late : Bool = old == 2 * (part_of me.0.parts).floor in let mine = r.seats id me.0 at in
-    let F : ℕ → Type 0 = λ k. (w : View) × (a : Act RoomState) × Valid s.homes me.1 a × Kept o (stepped s 0 k id me.1 w a)
+tries o slots id me p ps old new some_part even next s r _ at _ = let n : ℕ = get_or s.words 0 0 in let late : Bool = old == 2 * (part_of me.0.parts).reported in let mine = r.seats id me.0 at in
+    let F : ℕ → Type 0 = λ k. (w : SeatView) × (a : Act RoomState) × Valid s.homes me.1 a × Kept o (stepped s 0 k id me.1 w a)
     × Tries (step slots 0 old new maybe.none) me n (w, carried_after me.1 a) in
     exchanged n old new F
-    (λ hit. let w : View = took r.log me.0 in let y : RoomState = room_of (part_of me.0.parts).opening r.log in
+    (λ hit. let w : SeatView = took r.log me.0 in let y : RoomState = room_of (part_of me.0.parts).opening r.log in
     let here : AllHere o r.owner id (p ∷ ps) = subst (AllHere o r.owner id) some_part mine.here in
     let opening : (part_of me.0.parts).opening ≡ o = ap (λ l. (part_of l).opening) some_part ∙ here.0.0 in
     let out : r.away ≡ None = home_at_even r.away r.log (ap (λ (k : ℕ). k % 2) (sym (word_is o s r) ∙ hit) ∙ even) in
@@ -121,9 +121,9 @@ noted_is None i k j e = absurd cc
 noted_is (Some t) i k j e = noted_is_by t i k j (t == i) refl e
 
 pub gives_back : (o : Opening) (slots id : ℕ) (p : Part) (k j : List Entry) (new : ℕ) → Grows p.role k j → IsLegalIn p.opening j → new ≡ 2 * length j
-    → Allows (Kept o) slots id (holding p k (room_of p.opening j)) 0 (λ _. new) (λ _. Gives (step slots 0 new 0 maybe.none) (holding p k (room_of p.opening j)) new)
+    → Allows (Kept o) slots id (with_room p k (room_of p.opening j)) 0 (λ _. new) (λ _. Gives (step slots 0 new 0 maybe.none) (with_room p k (room_of p.opening j)) new)
 gives_back o slots id p k j new grows legal is s r _ at _ =
-    let v : View = (holding p k (room_of p.opening j)).0 in let w : View = gave j v in let mine = r.seats id v at in
+    let v : SeatView = (with_room p k (room_of p.opening j)).0 in let w : SeatView = gave j v in let mine = r.seats id v at in
     let was = noted_is r.away id k r.log mine.noted in let opening : p.opening ≡ o = mine.here.0.0 in
     let now : IsLegalIn o j = subst (λ (m : Opening). IsLegalIn m j) opening legal in (
       w,
@@ -158,10 +158,10 @@ unnoted None n j below = refl
 unnoted (Some t) n j below = let h = below t refl in noted_else t n j (λ e. omega arith)
 
 abbrev pub pair : Part → Part → Bool → M
-pair p q b = (record { parts = p ∷ q ∷ []; noted = None; barred = b }, [])
+pair p q b = (record { parts = p ∷ q ∷ []; noted = None; was_out = b }, [])
 
 -- a role that rested on the seat id moves to the seat `to`, and the other seats stay
-others_stay : (o : Opening) (j : List Entry) (away : Option ℕ) (owner : ℕ → ℕ) (role to id : ℕ) → owner role ≡ id → (i : ℕ) (x : View) → i ≢ id → Rests o j away owner i x → Rests o j away (moved owner role to) i x
+others_stay : (o : Opening) (j : List Entry) (away : Option ℕ) (owner : ℕ → ℕ) (role to id : ℕ) → owner role ≡ id → (i : ℕ) (x : SeatView) → i ≢ id → Rests o j away owner i x → Rests o j away (moved owner role to) i x
 others_stay o j away owner role to id is i x differs r = record {
   shows = r.shows;
   here = still_here o owner role to i x.parts (elsewhere o owner role id i is differs x.parts r.here) r.here;
@@ -169,11 +169,11 @@ others_stay o j away owner role to id is i x differs r = record {
   noted = r.noted;
 }
 
-pub deals : (o : Opening) (id : ℕ) (v : View) (p : Part) (ps : List Part) → v.parts ≡ p ∷ ps → Splits (Kept o) id v (without_first v) (first_alone v)
+pub deals : (o : Opening) (id : ℕ) (v : SeatView) (p : Part) (ps : List Part) → v.parts ≡ p ∷ ps → Splits (Kept o) id v (without_first v) (first_alone v)
 deals o id v p ps is s r at =
-    let mine = r.seats id v at in let n : ℕ = length s.views in let left : View = without_first v in let right : View = first_alone v in let vs : List View = set s.views id left in
+    let mine = r.seats id v at in let n : ℕ = length s.views in let left : SeatView = without_first v in let right : SeatView = first_alone v in let vs : List SeatView = set s.views id left in
     let n_is : length vs ≡ n = length-set s.views id left in
-    let to : ℕ → ℕ = moved r.owner p.role n in let K : ℕ → View → Type 0 = Rests o r.log r.away to in
+    let to : ℕ → ℕ = moved r.owner p.role n in let K : ℕ → SeatView → Type 0 = Rests o r.log r.away to in
     let shown : AllShow r.log (p ∷ ps) = subst (AllShow r.log) is mine.shows in let here : AllHere o r.owner id (p ∷ ps) = subst (AllHere o r.owner id) is mine.here in
     let apart : AllApart (p ∷ ps) = subst AllApart is mine.apart in
     let lefts : left.parts ≡ ps = ap without_first_part is in let rights : right.parts ≡ p ∷ [] = ap first_part_alone is in
@@ -197,7 +197,7 @@ deals o id v p ps is s r at =
             apart = subst AllApart (sym lefts) apart.1;
             noted = mine.noted;
           } (λ i x differs at_i. others_stay o r.log r.away r.owner p.role n id here.0.1 i x differs (r.seats i x at_i)) j d there)
-          (λ (last : (j ≡ length vs) × (right ≡ d)). subst (λ (x : ℕ × View). K x.0 x.1) (λ i. (sym (last.0 ∙ n_is) i, last.1 i)) new)
+          (λ (last : (j ≡ length vs) × (right ≡ d)). subst (λ (x : ℕ × SeatView). K x.0 x.1) (λ i. (sym (last.0 ∙ n_is) i, last.1 i)) new)
           (at_end vs right d j e);
       rests = λ role some. rests_moved (vs ++ right ∷ []) r.owner p.role n role
           (λ same. record { view = right; there = at_last vs right n n_is; has = subst (HasRole role) (sym rights) (inl (sym same)) })
@@ -208,9 +208,9 @@ deals o id v p ps is s r at =
 -- a seat with two parts keeps the first
 pub divides : (o : Opening) (id : ℕ) (p q : Part) (b : Bool) → Splits (Kept o) id (pair p q b).0 (resting p b).0 (resting q false).0
 divides o id p q b s r at =
-    let v : View = (pair p q b).0 in let mine = r.seats id v at in let n : ℕ = length s.views in let left : View = (resting p b).0 in let right : View = (resting q false).0 in let vs : List View = set s.views id left in
+    let v : SeatView = (pair p q b).0 in let mine = r.seats id v at in let n : ℕ = length s.views in let left : SeatView = (resting p b).0 in let right : SeatView = (resting q false).0 in let vs : List SeatView = set s.views id left in
     let n_is : length vs ≡ n = length-set s.views id left in
-    let to : ℕ → ℕ = moved r.owner q.role n in let K : ℕ → View → Type 0 = Rests o r.log r.away to in
+    let to : ℕ → ℕ = moved r.owner q.role n in let K : ℕ → SeatView → Type 0 = Rests o r.log r.away to in
     let differs : p.role ≢ q.role = λ e. mine.apart.0.0 (sym e) in
     let new : K n right = record {
       shows = (mine.shows.1.0, tt);
@@ -232,7 +232,7 @@ divides o id p q b s r at =
             apart = (tt, tt);
             noted = mine.noted;
           } (λ i x other at_i. others_stay o r.log r.away r.owner q.role n id mine.here.1.0.1 i x other (r.seats i x at_i)) j d there)
-          (λ (last : (j ≡ length vs) × (right ≡ d)). subst (λ (x : ℕ × View). K x.0 x.1) (λ i. (sym (last.0 ∙ n_is) i, last.1 i)) new)
+          (λ (last : (j ≡ length vs) × (right ≡ d)). subst (λ (x : ℕ × SeatView). K x.0 x.1) (λ i. (sym (last.0 ∙ n_is) i, last.1 i)) new)
           (at_end vs right d j e);
       rests = λ role some. rests_moved (vs ++ right ∷ []) r.owner q.role n role
           (λ same. record { view = right; there = at_last vs right n n_is; has = inl (sym same) })
@@ -243,10 +243,10 @@ divides o id p q b s r at =
 -- a seat with one part takes in another's
 pub gathers : (o : Opening) (id other : ℕ) (p q : Part) (b b' : Bool) → Joins (Kept o) id (resting p b).0 other (resting q b').0 (pair p q b).0 spent
 gathers o id other p q b b' s r at apart at' =
-    let both : View = (pair p q b).0 in let vs : List View = set s.views id both in
+    let both : SeatView = (pair p q b).0 in let vs : List SeatView = set s.views id both in
     let there : get_elem? s.views other ≡ maybe.some (resting q b').0 = sym (set_else s.views id other both apart) ∙ at' in
     let mine = r.seats id (resting p b).0 at in let its = r.seats other (resting q b').0 there in
-    let to : ℕ → ℕ = moved r.owner q.role id in let K : ℕ → View → Type 0 = Rests o r.log r.away to in
+    let to : ℕ → ℕ = moved r.owner q.role id in let K : ℕ → SeatView → Type 0 = Rests o r.log r.away to in
     let differs : p.role ≢ q.role = λ e. apart (sym its.here.0.1 ∙ (sym (ap r.owner e) ∙ mine.here.0.1)) in record {
       log = r.log;
       away = r.away;
@@ -274,28 +274,28 @@ gathers o id other p q b b' s r at apart at' =
           (λ h. has_other q [] role differs_from h) first);
     }
 
-newcomers_show : (o : Opening) (role n : ℕ) → AllShow [] (newcomers o role n)
+newcomers_show : (o : Opening) (role n : ℕ) → AllShow [] (fresh_parts o role n)
 newcomers_show o role zero = tt
 newcomers_show o role (suc n) = (record { legal = record { few = omega arith; each = tt }; begins = ([], refl); reached = omega arith; own = refl; all_seen = refl }, newcomers_show o (role + 1) n)
 
-newcomers_here : (o : Opening) (role n : ℕ) → AllHere o (λ _. 0) 0 (newcomers o role n)
+newcomers_here : (o : Opening) (role n : ℕ) → AllHere o (λ _. 0) 0 (fresh_parts o role n)
 newcomers_here o role zero = tt
 newcomers_here o role (suc n) = ((refl, refl), newcomers_here o (role + 1) n)
 
-newcomers_other : (o : Opening) (role from n : ℕ) → role < from → AllOther role (newcomers o from n)
+newcomers_other : (o : Opening) (role from n : ℕ) → role < from → AllOther role (fresh_parts o from n)
 newcomers_other o role from zero h = tt
 newcomers_other o role from (suc n) h = ((λ e. omega arith), newcomers_other o role (from + 1) n (omega arith))
 
-newcomers_apart : (o : Opening) (role n : ℕ) → AllApart (newcomers o role n)
+newcomers_apart : (o : Opening) (role n : ℕ) → AllApart (fresh_parts o role n)
 newcomers_apart o role zero = tt
 newcomers_apart o role (suc n) = (newcomers_other o role (role + 1) n (omega arith), newcomers_apart o (role + 1) n)
 
-newcomers_have : (o : Opening) (role from n : ℕ) → from ≤ role → role < from + n → HasRole role (newcomers o from n)
+newcomers_have : (o : Opening) (role from n : ℕ) → from ≤ role → role < from + n → HasRole role (fresh_parts o from n)
 newcomers_have o role from zero low high = absurd (omega arith)
 newcomers_have o role from (suc n) low high =
     ⊎_elim (λ (same : role ≡ from). inl (sym same)) (λ (other : role ≡ from → ⊥). inr (newcomers_have o role (from + 1) n (omega arith) (omega arith))) (cases_eq role from)
 
-first_rests : (o : Opening) (seat : ℕ) (v : View) → get_elem? (first_view o ∷ []) seat ≡ maybe.some v → Rests o [] None (λ _. 0) seat v
+first_rests : (o : Opening) (seat : ℕ) (v : SeatView) → get_elem? (first_view o ∷ []) seat ≡ maybe.some v → Rests o [] None (λ _. 0) seat v
 first_rests o zero v e = subst (Rests o [] None (λ _. 0) 0) (maybe.some-injective (first_view o) v e) record { shows = newcomers_show o 0 (length o.types); here = newcomers_here o 0 (length o.types); apart = newcomers_apart o 0 (length o.types); noted = refl }
 first_rests o (suc j) v e = absurd (maybe.some-ne-none v (sym e))
 

@@ -8,7 +8,7 @@ use Rattle.mps_room.specs.Callers.{entries_of}
 use Rattle.mps_room.specs.Solos.{filter_end}
 use Rattle.mps_room.specs.declared.entry.Entry.{Entry}
 use Rattle.mps_cell.specs.Openings.{Opening, IsLegalIn}
-use Rattle.mps_cell.specs.Views.{Part, View, raised}
+use Rattle.mps_cell.specs.Views.{Part, SeatView, raised}
 use Rattle.mps_cell.specs.Rule.{Shows, AllShow, AllHere, AllOther, AllApart, HasRole, RestsOn}
 use Rattle.mps_cell.specs.Private.Rule.{Grows}
 
@@ -27,9 +27,9 @@ at_end [] a b (suc j) e = absurd (maybe.some-ne-none b (sym e))
 at_end (x ∷ xs) a b zero e = inl e
 at_end (x ∷ xs) a b (suc j) e = ⊎_elim (λ h. inl h) (λ (h : (j ≡ length xs) × (a ≡ b)). inr (ap suc h.0, h.1)) (at_end xs a b j e)
 
-pub seats_stay : (K : ℕ → View → Type 0) (vs : List View) (me : ℕ) (w : View) → K me w → ((j : ℕ) (d : View) → j ≢ me → get_elem? vs j ≡ maybe.some d → K j d)
-    → (j : ℕ) (d : View) → get_elem? (set vs me w) j ≡ maybe.some d → K j d
-seats_stay K vs me w mine others j d e = ⊎_elim (λ (t : (j ≡ me) × (w ≡ d)). subst (λ (x : ℕ × View). K x.0 x.1) (λ i. (sym t.0 i, t.1 i)) mine)
+pub seats_stay : (K : ℕ → SeatView → Type 0) (vs : List SeatView) (me : ℕ) (w : SeatView) → K me w → ((j : ℕ) (d : SeatView) → j ≢ me → get_elem? vs j ≡ maybe.some d → K j d)
+    → (j : ℕ) (d : SeatView) → get_elem? (set vs me w) j ≡ maybe.some d → K j d
+seats_stay K vs me w mine others j d e = ⊎_elim (λ (t : (j ≡ me) × (w ≡ d)). subst (λ (x : ℕ × SeatView). K x.0 x.1) (λ i. (sym t.0 i, t.1 i)) mine)
     (λ (t : (j ≢ me) × (get_elem? vs j ≡ maybe.some d)). others j d t.0 t.1) (at_set vs me j w d e)
 
 pub raise_all : (j : List Entry) (n : ℕ) (ps : List Part) → n ≤ length j → AllShow j ps → AllShow j (map (raised n) ps)
@@ -83,7 +83,7 @@ raise_has role n [] h = h
 raise_has role n (p ∷ ps) h = ⊎_elim (λ (e : p.role ≡ role). inl e) (λ (k : HasRole role ps). inr (raise_has role n ps k)) h
 
 -- a seat's view changes: what rested on it still does, where its new parts are of no fewer roles
-pub still_rests : (vs : List View) (id : ℕ) (v w : View) (role seat : ℕ) → get_elem? vs id ≡ maybe.some v → (HasRole role v.parts → HasRole role w.parts)
+pub still_rests : (vs : List SeatView) (id : ℕ) (v w : SeatView) (role seat : ℕ) → get_elem? vs id ≡ maybe.some v → (HasRole role v.parts → HasRole role w.parts)
     → RestsOn vs role seat → RestsOn (set vs id w) role seat
 still_rests vs id v w role seat at keeps r =
     ⊎_elim
@@ -92,17 +92,17 @@ still_rests vs id v w role seat at keeps r =
     subst (RestsOn (set vs id w) role) (sym same) record {
       view = w;
       there = set_here vs id w (inside vs id v at);
-      has = keeps (subst (λ (x : View). HasRole role x.parts) (sym view) r.has);
+      has = keeps (subst (λ (x : SeatView). HasRole role x.parts) (sym view) r.has);
     })
     (λ (other : seat ≡ id → ⊥). record { view = r.view; there = set_else vs id seat w other ∙ r.there; has = r.has })
     (cases_eq seat id)
 
 -- one seat more
-pub rests_longer : (vs : List View) (w : View) (role seat : ℕ) → RestsOn vs role seat → RestsOn (vs ++ w ∷ []) role seat
+pub rests_longer : (vs : List SeatView) (w : SeatView) (role seat : ℕ) → RestsOn vs role seat → RestsOn (vs ++ w ∷ []) role seat
 rests_longer vs w role seat r = record { view = r.view; there = at_longer vs (w ∷ []) seat r.view r.there; has = r.has }
 
 -- the other roles stay where they rested
-pub rests_moved : (vs : List View) (owner : ℕ → ℕ) (role to r : ℕ) → (r ≡ role → RestsOn vs r to) → (r ≢ role → RestsOn vs r (owner r)) → RestsOn vs r (moved owner role to r)
+pub rests_moved : (vs : List SeatView) (owner : ℕ → ℕ) (role to r : ℕ) → (r ≡ role → RestsOn vs r to) → (r ≢ role → RestsOn vs r (owner r)) → RestsOn vs r (moved owner role to r)
 rests_moved vs owner role to r here others =
     ⊎_elim
     (λ (same : r ≡ role). subst (RestsOn vs r) (sym (ap (λ (b : Bool). if b then to else owner r) (eq-eqb r role same))) (here same))

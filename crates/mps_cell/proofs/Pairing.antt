@@ -10,31 +10,31 @@ use Rattle.mps_room.specs.RoomState.{RoomState}
 use Rattle.mps_room.specs.declared.entry.Entry.{Entry}
 use Rattle.mps_room.specs.declared.numbers.Numbered.{Numbered}
 use Rattle.mps_cell.specs.Openings.{Opening}
-use Rattle.mps_cell.specs.Views.{Part, View, part_of, raised, without_first, first_alone, both_parts, spent, first_stays, others_go}
+use Rattle.mps_cell.specs.Views.{Part, SeatView, part_of, raised, without_first, first_alone, both_parts, spent, first_stays, others_go}
 use Rattle.mps_cell.specs.Rule.{Kept, StartsWith, Shows, resting, Looks}
-use Rattle.mps_cell.specs.Private.Rule.{IsFree, Met}
+use Rattle.mps_cell.specs.Private.Rule.{IsResting, Met}
 use Rattle.mps_cell.specs.Calls.{Known, known, carried, KeepsSeen}
 use Rattle.mps_cell.specs.Meetings.{HasSeen, ReachesBoth}
 use Rattle.mps_cell.proofs.Keeping.{deals, divides, gathers, pair}
 
 abbrev M : Type 0
-M = Me RoomState View
+M = Me RoomState SeatView
 
 abbrev part : M → Part
 part m = part_of m.0.parts
 
-pub lends_part : (o : Opening) (id : ℕ) (m : M) → IsFree m → Splits (Kept o) id m.0 (without_first m.0) (first_alone m.0)
+pub lends_part : (o : Opening) (id : ℕ) (m : M) → IsResting m → Splits (Kept o) id m.0 (without_first m.0) (first_alone m.0)
 lends_part o id m free = deals o id m.0 (part m) [] (ap (λ (x : M). x.0.parts) free)
 
-pub lent_part : (m m' : M) → IsFree m → m' ≡ (first_alone m.0, []) → m' ≡ resting (part m) false
+pub lent_part : (m m' : M) → IsResting m → m' ≡ (first_alone m.0, []) → m' ≡ resting (part m) false
 lent_part m m' free is = is ∙ ap (λ (x : M). (first_alone x.0, [])) free
 
-pub gathers_part : (o : Opening) (id other : ℕ) (m m' : M) (q : Part) → IsFree m → m' ≡ resting q false → Joins (Kept o) id m.0 other m'.0 (both_parts m.0 m'.0) spent
+pub gathers_part : (o : Opening) (id other : ℕ) (m m' : M) (q : Part) → IsResting m → m' ≡ resting q false → Joins (Kept o) id m.0 other m'.0 (both_parts m.0 m'.0) spent
 gathers_part o id other m m' q free is = let P : M × M → Type 0 = λ x. Joins (Kept o) id x.0.0 other x.1.0 (both_parts x.0.0 x.1.0) spent in
-    let same : (m, m') ≡ (resting (part m) m.0.barred, resting q false) = λ i. (free i, is i) in
-    subst P (sym same) (gathers o id other (part m) q m.0.barred false)
+    let same : (m, m') ≡ (resting (part m) m.0.was_out, resting q false) = λ i. (free i, is i) in
+    subst P (sym same) (gathers o id other (part m) q m.0.was_out false)
 
-pub gathered : (m m' m2 : M) (q : Part) → IsFree m → m' ≡ resting q false → m2 ≡ (both_parts m.0 m'.0, m.1) → m2 ≡ pair (part m) q m.0.barred
+pub gathered : (m m' m2 : M) (q : Part) → IsResting m → m' ≡ resting q false → m2 ≡ (both_parts m.0 m'.0, m.1) → m2 ≡ pair (part m) q m.0.was_out
 gathered m m' m2 q free is now = now ∙ (λ i. (both_parts (free i).0 (is i).0, (free i).1))
 
 pub looked_pair : (st : Step RoomState) (m m' : M) (p q : Part) (b : Bool) (r : ℕ) → m ≡ pair p q b → Looks st m r m'
@@ -45,10 +45,10 @@ looked_pair st m m' p q b r is l = let k = subst (λ (x : M). Looks st x r m') i
 pub divides_pair : (o : Opening) (id : ℕ) (m : M) (p q : Part) (b : Bool) → m ≡ pair p q b → Splits (Kept o) id m.0 (first_stays m.0) (others_go m.0)
 divides_pair o id m p q b is = subst (λ (x : M). Splits (Kept o) id x.0 (first_stays x.0) (others_go x.0)) (sym is) (divides o id p q b)
 
-pub met : (st : Step RoomState) (m l other m1 m2 m3 l3 : M) (r : ℕ) → IsFree m → IsFree l → other ≡ (first_alone l.0, []) → m1 ≡ (both_parts m.0 other.0, m.1) → Looks st m1 r m2
+pub met : (st : Step RoomState) (m l other m1 m2 m3 l3 : M) (r : ℕ) → IsResting m → IsResting l → other ≡ (first_alone l.0, []) → m1 ≡ (both_parts m.0 other.0, m.1) → Looks st m1 r m2
     → m3 ≡ (first_stays m2.0, m2.1) → l3 ≡ (others_go m2.0, []) → Met m l m3 l3
 met st m l other m1 m2 m3 l3 r free free' lent joined looks mine its =
-    let k = looked_pair st m1 m2 (part m) (part l) m.0.barred r (gathered m other m1 (part l) free (lent_part l other free' lent) joined) looks in
+    let k = looked_pair st m1 m2 (part m) (part l) m.0.was_out r (gathered m other m1 (part l) free (lent_part l other free' lent) joined) looks in
     (k.0, k.1, k.2, k.3, mine ∙ ap (λ (x : M). (first_stays x.0, x.1)) k.4, its ∙ ap (λ (x : M). (others_go x.0, [])) k.4)
 
 -- of two beginnings of one list the shorter begins the longer
@@ -88,8 +88,8 @@ pub record Meets (k l k' l' : Known) : Type 0 where
   pub second : KeepsSeen l l'
   pub shorter : length k.seen ≤ length l.seen → HasSeen k l
   pub longer : length l.seen ≤ length k.seen → HasSeen l k
-  pub floor : ReachesBoth k l k'.floor
-  pub same_floor : l'.floor ≡ k'.floor
+  pub reported : ReachesBoth k l k'.reported
+  pub same_reported : l'.reported ≡ k'.reported
 
 meets_as : (t t' u u' : TableId) (m l m' l' : M) → t' ≡ t → u' ≡ u → Met m l m' l' → Meets (known t m.0) (known u l.0) (known t' m'.0) (known u' l'.0)
 meets_as t t' u u' m l m' l' first second over =
@@ -103,10 +103,10 @@ meets_as t t' u u' m l m' l' first second over =
     subst P (sym same) record {
       first = record { pass = record { cell = first; opening = refl; role = refl }; seen = refl; made = refl; newest = refl };
       second = record { pass = record { cell = second; opening = refl; role = refl }; seen = refl; made = refl; newest = refl };
-      shorter = λ le. has_seen t u p q m.0.barred l.0.barred j a c le;
-      longer = λ le. has_seen u t q p l.0.barred m.0.barred j c a le;
-      floor = record { first_floor = a.reached; first_seen = longer_than j p.seen a.begins; second_floor = c.reached; second_seen = longer_than j q.seen c.begins };
-      same_floor = refl;
+      shorter = λ le. has_seen t u p q m.0.was_out l.0.was_out j a c le;
+      longer = λ le. has_seen u t q p l.0.was_out m.0.was_out j c a le;
+      reported = record { first_reported = a.reached; first_seen = longer_than j p.seen a.begins; second_reported = c.reached; second_seen = longer_than j q.seen c.begins };
+      same_reported = refl;
     }
 
 keeps_carried : (k k' : Known) (x : Option Numbered) → KeepsSeen k k' → KeepsSeen (carried k x) (carried k' x)
@@ -126,12 +126,12 @@ meets t t' u u' m l m' l' x y first second over =
       second = keeps_carried h (known u' l'.0) y all.second;
       shorter = λ le. seen_carried k h x y (all.shorter le);
       longer = λ le. seen_carried h k y x (all.longer le);
-      floor = record { first_floor = all.floor.first_floor; first_seen = all.floor.first_seen; second_floor = all.floor.second_floor; second_seen = all.floor.second_seen };
-      same_floor = all.same_floor;
+      reported = record { first_reported = all.reported.first_reported; first_seen = all.reported.first_seen; second_reported = all.reported.second_reported; second_seen = all.reported.second_seen };
+      same_reported = all.same_reported;
     }
 
-pub divides_after : (o : Opening) (id : ℕ) (m l other m1 m2 : M) (r : ℕ) → IsFree m → IsFree l → other ≡ (first_alone l.0, []) → m1 ≡ (both_parts m.0 other.0, m.1)
+pub divides_after : (o : Opening) (id : ℕ) (m l other m1 m2 : M) (r : ℕ) → IsResting m → IsResting l → other ≡ (first_alone l.0, []) → m1 ≡ (both_parts m.0 other.0, m.1)
     → Looks (step 0 0 0 0 maybe.none) m1 r m2 → Splits (Kept o) id m2.0 (first_stays m2.0) (others_go m2.0)
 divides_after o id m l other m1 m2 r free free' lent joined looks =
-    let k = looked_pair (step 0 0 0 0 maybe.none) m1 m2 (part m) (part l) m.0.barred r (gathered m other m1 (part l) free (lent_part l other free' lent) joined) looks in
+    let k = looked_pair (step 0 0 0 0 maybe.none) m1 m2 (part m) (part l) m.0.was_out r (gathered m other m1 (part l) free (lent_part l other free' lent) joined) looks in
     divides_pair o id m2 (raised (length k.0) (part m)) (raised (length k.0) (part l)) k.1 k.4

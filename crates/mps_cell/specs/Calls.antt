@@ -8,24 +8,26 @@ use Rattle.mps_room.specs.Journal.{is_accepted, grown}
 use Rattle.mps_room.specs.declared.entry.Entry.{Entry}
 use Rattle.mps_room.specs.declared.numbers.Numbered.{Numbered}
 use Rattle.mps_cell.specs.Openings.{Opening, IsLegalIn, IsReplyIn, reply_in}
-use Rattle.mps_cell.specs.Views.{Part, View, part_of}
+use Rattle.mps_cell.specs.Views.{Part, SeatView, part_of}
 use Rattle.mps_cell.specs.Rule.{StartsWith}
 
--- a pass, as contracts see it: its cell and how that was opened, its role, the journal that its last call showed, the greatest length that it was told of, the entries that it made, whether its last look or try found the room out, and its newest numbered command that was accepted
+-- a pass, as contracts see it: its cell and how that was opened; its role; the journal that its last call showed; the
+-- greatest length that was reported to it; the entries that it made; whether its last look or try found the room out; and
+-- its newest numbered command that was accepted
 pub record Known : Type 0 where
   pub cell : TableId
   pub opening : Opening
   pub role : ℕ
   pub seen : List Entry
-  pub floor : ℕ
+  pub reported : ℕ
   pub made : List Entry
-  pub barred : Bool
+  pub was_out : Bool
   pub newest : Option Numbered
 
 -- what a seat of this cell knows
-abbrev pub known : TableId → View → Known
+abbrev pub known : TableId → SeatView → Known
 known id v = let p : Part = part_of v.parts in
-    record { cell = id; opening = p.opening; role = p.role; seen = p.seen; floor = p.floor; made = p.made; barred = v.barred; newest = None }
+    record { cell = id; opening = p.opening; role = p.role; seen = p.seen; reported = p.reported; made = p.made; was_out = v.was_out; newest = None }
 
 -- the same, with this numbered command
 abbrev pub carried : Known → Option Numbered → Known
@@ -43,7 +45,7 @@ pub record IsSamePass (k k' : Known) : Type 0 where
 pub record IsAccepted (k : Known) (c : Command) (a : Answer) (k' : Known) : Type 0 where
   pub before : List Entry
   pub begins : StartsWith before k.seen
-  pub reached : k.floor ≤ length before
+  pub reached : k.reported ≤ length before
   pub answer : a ≡ reply_in k.opening before k.role c
   pub joined : k'.seen ≡ before ++ entry k.role c a ∷ []
   pub made : k'.made ≡ k.made ++ entry k.role c a ∷ []
@@ -51,7 +53,7 @@ pub record IsAccepted (k : Known) (c : Command) (a : Answer) (k' : Known) : Type
 -- any other command leaves a journal that begins with all that was seen, and that is no shorter than was told; its answer is the reply after it, unless memory runs out
 pub record IsAnswered (k : Known) (c : Command) (a : Answer) (k' : Known) : Type 0 where
   pub begins : StartsWith k'.seen k.seen
-  pub reached : k.floor ≤ length k'.seen
+  pub reached : k.reported ≤ length k'.seen
   pub answer : IsReplyIn k.opening k'.seen k.role c a
   pub made : k'.made ≡ k.made
 
@@ -60,7 +62,7 @@ pub record Calls (k : Known) (c : Command) (a : Answer) (k' : Known) : Type 0 wh
   pub pass : IsSamePass k k'
   pub legal : IsLegalIn k'.opening k'.seen
   pub own : entries_of k'.role k'.seen ≡ k'.made
-  pub floor : k'.floor ≡ length k'.seen
+  pub reported : k'.reported ≡ length k'.seen
   pub answered : MatchBool (is_accepted a) (IsAccepted k c a k') (IsAnswered k c a k')
 
 -- a call adds just an accepted command to what the pass made
@@ -83,6 +85,6 @@ pub record KeepsSeen (k k' : Known) : Type 0 where
 -- the pass was told this length, which is no less than it knew of, and nothing else
 pub record IsTold (k : Known) (n : ℕ) (k' : Known) : Type 0 where
   pub keeps : KeepsSeen k k'
-  pub reached : k.floor ≤ n
+  pub reached : k.reported ≤ n
   pub covers : length k.seen ≤ n
-  pub floor : k'.floor ≡ n
+  pub reported : k'.reported ≡ n

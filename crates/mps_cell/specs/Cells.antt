@@ -5,7 +5,7 @@ use Rattle.atomic_table.specs.declared.shared.Seat.{Seat}
 use Rattle.mps_local.specs.Local.{LocalType}
 use Rattle.mps_room.specs.RoomState.{RoomState}
 use Rattle.mps_cell.specs.Openings.{Opening, IsLegalIn}
-use Rattle.mps_cell.specs.Views.{View, first_view, newcomer}
+use Rattle.mps_cell.specs.Views.{SeatView, first_view, fresh_part}
 use Rattle.mps_cell.specs.Rule.{resting}
 use Rattle.mps_cell.specs.Calls.{Known, known}
 
@@ -16,7 +16,7 @@ pub record Opened : Type 0 where
   pub given : Bool
 
 -- how the parts of a cell fit: its table has one word and one slot, the names are those of the opening, one for each type, and the first seat, where it is there, has all roles
-pub record IsOpened (table : TableId) (o : Opening) (names : List (List ℕ)) (first : Option (Seat RoomState View)) : Type 0 where
+pub record IsOpened (table : TableId) (o : Opening) (names : List (List ℕ)) (first : Option (Seat RoomState SeatView)) : Type 0 where
   pub word : table.words ≡ 1
   pub slot : table.slots ≡ 1
   pub count : length names ≡ length o.types
@@ -26,7 +26,7 @@ pub record IsOpened (table : TableId) (o : Opening) (names : List (List ℕ)) (f
 -- the right to the passes of a cell: the cell, and what its first seat knows
 pub record Dealt : Type 0 where
   pub cell : TableId
-  pub view : View
+  pub view : SeatView
 
 -- it is that of this cell, with all its roles
 pub record IsDealOf (cell : TableId) (o : Opening) (deal : Dealt) : Type 0 where
@@ -39,7 +39,7 @@ opened_with names types n = record { names = names; types = types; session = n }
 
 -- a pass that was told nothing, has seen nothing and made nothing
 abbrev pub fresh : TableId → Opening → ℕ → Known
-fresh id o role = known id (resting (newcomer o role) false).0
+fresh id o role = known id (resting (fresh_part o role) false).0
 
 -- the fresh passes of the first n roles, in order
 abbrev pub fresh_below : TableId → Opening → ℕ → List Known

@@ -13,13 +13,13 @@ pub record HasSeen (k l : Known) : Type 0 where
 
 -- no less than either pass was told of or has seen
 pub record ReachesBoth (k l : Known) (n : ℕ) : Type 0 where
-  pub first_floor : k.floor ≤ n
+  pub first_reported : k.reported ≤ n
   pub first_seen : length k.seen ≤ n
-  pub second_floor : l.floor ≤ n
+  pub second_reported : l.reported ≤ n
   pub second_seen : length l.seen ≤ n
 
 -- the journal begins with what the pass saw, is no shorter than it was told, and has of its role just what it made
 pub record Holds (k : Known) (j : List Entry) : Type 0 where
   pub begins : StartsWith j k.seen
-  pub reached : k.floor ≤ length j
+  pub reached : k.reported ≤ length j
   pub own : entries_of k.role j ≡ k.made

@@ -34,5 +34,5 @@ abbrev pub IsReplyIn : Opening → List Entry → ℕ → Command → Answer →
 IsReplyIn o j role c a = IsReply a (reply_in o j role c)
 
 -- an opening without roles
-abbrev pub nowhere : Opening
-nowhere = record { names = []; types = []; session = 0 }
+abbrev pub no_opening : Opening
+no_opening = record { names = []; types = []; session = 0 }

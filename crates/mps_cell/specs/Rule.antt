@@ -7,7 +7,7 @@ use Rattle.mps_room.specs.Callers.{entries_of}
 use Rattle.mps_room.specs.RoomState.{RoomState}
 use Rattle.mps_room.specs.declared.entry.Entry.{Entry}
 use Rattle.mps_cell.specs.Openings.{Opening, room_of, IsLegalIn}
-use Rattle.mps_cell.specs.Views.{Part, View, part_of, looked, took, gave}
+use Rattle.mps_cell.specs.Views.{Part, SeatView, part_of, looked, took, gave}
 
 -- ---- the rule
 
@@ -19,7 +19,7 @@ StartsWith j seen = (later : List Entry) × (j ≡ seen ++ later)
 pub record Shows (j : List Entry) (p : Part) : Type 0 where
   pub legal : IsLegalIn p.opening j
   pub begins : StartsWith j p.seen
-  pub reached : p.floor ≤ length j
+  pub reached : p.reported ≤ length j
   pub own : entries_of p.role j ≡ p.made
   pub all_seen : entries_of p.role p.seen ≡ p.made
 
@@ -48,8 +48,8 @@ HasRole role [] = ⊥
 HasRole role (p ∷ ps) = (p.role ≡ role) ⊎ HasRole role ps
 
 -- the role rests on this seat
-pub record RestsOn (views : List View) (role seat : ℕ) : Type 0 where
-  pub view : View
+pub record RestsOn (views : List SeatView) (role seat : ℕ) : Type 0 where
+  pub view : SeatView
   pub there : get_elem? views seat ≡ maybe.some view
   pub has : HasRole role view.parts
 
@@ -59,7 +59,7 @@ noted_by None seat j = None
 noted_by (Some t) seat j = if t == seat then Some j else None
 
 -- what holds of a seat, by the journal, the seat that has the room out, and the seat of each role
-pub record Rests (o : Opening) (j : List Entry) (away : Option ℕ) (owner : ℕ → ℕ) (seat : ℕ) (v : View) : Type 0 where
+pub record Rests (o : Opening) (j : List Entry) (away : Option ℕ) (owner : ℕ → ℕ) (seat : ℕ) (v : SeatView) : Type 0 where
   pub shows : AllShow j v.parts
   pub here : AllHere o owner seat v.parts
   pub apart : AllApart v.parts
@@ -76,7 +76,7 @@ home_of o None j = maybe.some (room_of o j)
 home_of o (Some t) j = maybe.none
 
 -- There is one legal journal. At twice its length the room is at home with it, and no seat notes a journal. At one more the room is out, and one seat alone notes it. What each seat knows is true of it. Each role rests on one seat, and on no other
-pub record Kept (o : Opening) (s : State RoomState View) : Type 0 where
+pub record Kept (o : Opening) (s : State RoomState SeatView) : Type 0 where
   pub log : List Entry
   pub away : Option ℕ
   pub owner : ℕ → ℕ
@@ -84,24 +84,24 @@ pub record Kept (o : Opening) (s : State RoomState View) : Type 0 where
   pub words : s.words ≡ word_of away log ∷ []
   pub homes : s.homes ≡ home_of o away log ∷ []
   pub placed : (t : ℕ) → away ≡ Some t → t < length s.views
-  pub seats : (seat : ℕ) (v : View) → get_elem? s.views seat ≡ maybe.some v → Rests o log away owner seat v
+  pub seats : (seat : ℕ) (v : SeatView) → get_elem? s.views seat ≡ maybe.some v → Rests o log away owner seat v
   pub rests : (role : ℕ) → role < length o.types → RestsOn s.views role (owner role)
 
 -- ---- steps
 
 -- some legal journal has the length that the word showed, and what the seat knows is true of it
-abbrev pub Told : View → ℕ → List Entry → Type 0
+abbrev pub Told : SeatView → ℕ → List Entry → Type 0
 Told v word j = (length j ≡ word / 2) × AllShow j v.parts × AllApart v.parts
 
 -- a look tells the length, and whether the room is out
-abbrev pub Looks : Step RoomState → Me RoomState View → ℕ → Me RoomState View → Type 0
+abbrev pub Looks : Step RoomState → Me RoomState SeatView → ℕ → Me RoomState SeatView → Type 0
 Looks st m r m' = ((j : List Entry) × Told m.0 r j) × (m' ≡ (looked r (r % 2 == 1) m.0, m.1))
 
--- a try that wins takes the room; one that fails tells that the room was out, or that another call came between, only where it expected twice the floor
-abbrev pub Tries : Step RoomState → Me RoomState View → ℕ → Me RoomState View → Type 0
+-- a try that wins takes the room; one that fails tells that the room was out, or that another call came between, only where it expected twice the reported
+abbrev pub Tries : Step RoomState → Me RoomState SeatView → ℕ → Me RoomState SeatView → Type 0
 Tries st m r m' =
     (r ≡ st.first → (j : List Entry) × Told m.0 r j × (m' ≡ (took j m.0, (0, room_of (part_of m.0.parts).opening j) ∷ m.1)))
-    × (r ≢ st.first → ((j : List Entry) × Told m.0 r j) × (m' ≡ (looked r (st.first == 2 * (part_of m.0.parts).floor) m.0, m.1)))
+    × (r ≢ st.first → ((j : List Entry) × Told m.0 r j) × (m' ≡ (looked r (st.first == 2 * (part_of m.0.parts).reported) m.0, m.1)))
 
 -- the journal of the room that the seat has
 abbrev pub journal_in : List (ℕ × RoomState) → List Entry
@@ -109,11 +109,11 @@ journal_in [] = []
 journal_in (x ∷ xs) = x.1.journal
 
 -- a give back shows the journal that the room has by then
-abbrev pub Gives : Step RoomState → Me RoomState View → ℕ → Me RoomState View → Type 0
+abbrev pub Gives : Step RoomState → Me RoomState SeatView → ℕ → Me RoomState SeatView → Type 0
 Gives st m r m' = m' ≡ (gave (journal_in m.1) m.0, rest m.1)
 
 -- ---- the seat of a pass
 
 -- a seat with one part
-abbrev pub resting : Part → Bool → Me RoomState View
-resting p b = (record { parts = p ∷ []; noted = None; barred = b }, [])
+abbrev pub resting : Part → Bool → Me RoomState SeatView
+resting p b = (record { parts = p ∷ []; noted = None; was_out = b }, [])

@@ -7,7 +7,7 @@ ghost use Rattle.mps_cell.specs.Cells.{fresh_below};
 use crate::origin::Origin;
 use crate::pass::{Leave, Pass, Table as Shared};
 use crate::rule::{CutFirst, Journaled};
-use crate::view::View;
+use crate::view::SeatView;
 use atomic_table::{Refused, Seat, Table};
 use mps_base::{Role, Roles};
 use mps_room::Room;
@@ -30,7 +30,7 @@ pub enum PassFault {
 /// The right to the passes of one cell.
 #[derive(Drop)]
 pub struct Deal {
-    first: Seat<Room, View>,
+    first: Seat<Room, SeatView>,
 }
 
 impl Model for Deal {
@@ -50,7 +50,7 @@ impl Model for Deal {
 
 impl Deal {
     // The first seat by itself.
-    fn into_seat(self) -> Seat<Room, View>
+    fn into_seat(self) -> Seat<Room, SeatView>
         ensures cell { result.table_id ≡ self.cell }
         ensures seat { result.me ≡ (self.view, []) }
     {
@@ -63,9 +63,9 @@ impl Deal {
 #[derive(Drop)]
 pub struct Cell {
     // the seat of all roles, until the passes are asked for
-    first: Option<Seat<Room, View>>,
+    first: Option<Seat<Room, SeatView>>,
     names: Roles,
-    table: Table<Room, View, Origin, Journaled, Global>,
+    table: Table<Room, SeatView, Origin, Journaled, Global>,
     // 1 where a call may sleep until the room is back
     waiting: AtomicU64,
     alloc: Global,
@@ -229,7 +229,7 @@ fn hand_out<'a>(
     shared: &'a Shared,
     waiting: &'a AtomicU64,
     names: &'a Roles,
-    mut first: Seat<Room, View>,
+    mut first: Seat<Room, SeatView>,
     count: u8,
     mut all: Vec<Pass<'a>>,
 ) -> Vec<Pass<'a>>

@@ -1,24 +1,24 @@
 //! Two seats meet.
 ghost use Rattle.std.specs.Prelude.{◌≡◌};
-ghost use Rattle.mps_cell.specs.Private.Rule.{IsFree, Met};
+ghost use Rattle.mps_cell.specs.Private.Rule.{IsResting, Met};
 
 use crate::pass::Table;
 use crate::rule::{CutFirst, Divide, Gather, Look};
-use crate::view::View;
+use crate::view::SeatView;
 use atomic_table::Seat;
 use mps_room::Room;
 
 // The first seat has both parts for one look, and then the second has its own back.
 pub(crate) fn meet_seats(
     shared: &Table,
-    first: &mut Seat<Room, View>,
-    second: &mut Seat<Room, View>,
+    first: &mut Seat<Room, SeatView>,
+    second: &mut Seat<Room, SeatView>,
 )
     requires first { first.old.table_id ≡ shared.now.table_id }
     requires second { second.old.table_id ≡ shared.now.table_id }
     requires word { shared.now.table_id.words ≡ 1 }
-    requires first_free { IsFree first.old.me }
-    requires second_free { IsFree second.old.me }
+    requires first_free { IsResting first.old.me }
+    requires second_free { IsResting second.old.me }
     ensures first { first.new.table_id ≡ first.old.table_id }
     ensures second { second.new.table_id ≡ second.old.table_id }
     ensures met { Met first.old.me second.old.me first.new.me second.new.me }

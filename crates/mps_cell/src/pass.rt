@@ -1,9 +1,9 @@
 //! Passes, with which the roles of a session call it.
 ghost use Rattle.std.specs.Prelude.{◌≡◌, ◌<◌, ◌≤◌, length, true, false, OnOk, OnErr, IfOk, IfErr, Some, None};
 ghost use Rattle.std.specs.Ordering.{nat_cmp};
-ghost use Rattle.mps_cell.specs.Views.{part_of, newcomer};
+ghost use Rattle.mps_cell.specs.Views.{part_of, fresh_part};
 ghost use Rattle.mps_cell.specs.Rule.{resting};
-ghost use Rattle.mps_cell.specs.Private.Rule.{IsFree};
+ghost use Rattle.mps_cell.specs.Private.Rule.{IsResting};
 ghost use Rattle.mps_cell.specs.Calls.{Calls, KeepsSeen, IsTold, known, carried};
 ghost use Rattle.mps_cell.specs.Meetings.{HasSeen, ReachesBoth};
 ghost use Rattle.mps_cell.specs.Cells.{fresh};
@@ -12,7 +12,7 @@ use crate::meeting::meet_seats;
 use crate::origin::Origin;
 use crate::rule::{Journaled, Look};
 use crate::turns::{attempt, finish, take};
-use crate::view::View;
+use crate::view::SeatView;
 use atomic_table::{Seat, Shared};
 use mps_base::{Role, Roles};
 use mps_room::{Answer, Command, Numbers, Room};
@@ -23,7 +23,7 @@ use std::sync::atomic::AtomicU64;
 use thiserror::Error;
 
 /// The table of a cell, as its passes share it.
-pub type Table = Shared<Room, View, Origin, Journaled>;
+pub type Table = Shared<Room, SeatView, Origin, Journaled>;
 
 /// The one pass of a role, with which it calls its cell. It may go to any thread.
 #[derive(Drop)]
@@ -32,7 +32,7 @@ pub struct Pass<'a> {
     // 1 where a call may sleep until the room is back
     waiting: &'a AtomicU64,
     names: &'a Roles,
-    seat: Seat<Room, View>,
+    seat: Seat<Room, SeatView>,
     role: Role,
     seen: u64,
     numbers: Numbers,
@@ -77,12 +77,12 @@ pub struct Busy {
 /// What a pass knew when it left its cell.
 #[derive(Drop)]
 pub struct Leave {
-    seat: Seat<Room, View>,
+    seat: Seat<Room, SeatView>,
 }
 
 impl Model for Leave {
     ghost use Rattle.mps_cell.specs.Calls.{Known, known};
-    ghost use Rattle.mps_cell.specs.Private.Rule.{IsFree};
+    ghost use Rattle.mps_cell.specs.Private.Rule.{IsResting};
     ghost use Rattle.std.specs.Coded.{codes};
     ghost use Rattle.mps_local.specs.Private.Codes.{coded_local};
 
@@ -92,13 +92,13 @@ impl Model for Leave {
 
     ghost view = { λ p. known p.seat.table_id p.seat.me.0 };
 
-    ghost invariant = { λ p. IsFree p.seat.me };
+    ghost invariant = { λ p. IsResting p.seat.me };
 }
 
 impl Leave {
     // The seat by itself.
-    pub(crate) fn into_seat(self) -> Seat<Room, View>
-        ensures free { IsFree result.me }
+    pub(crate) fn into_seat(self) -> Seat<Room, SeatView>
+        ensures free { IsResting result.me }
         ensures known { self ≡ known result.table_id result.me.0 }
     {
         let Leave { seat } = self;
@@ -112,13 +112,13 @@ impl<'a> Pass<'a> {
         shared: &'a Table,
         waiting: &'a AtomicU64,
         names: &'a Roles,
-        seat: Seat<Room, View>,
+        seat: Seat<Room, SeatView>,
         role: Role,
     ) -> Pass<'a>
         requires cell { seat.table_id ≡ shared.now.table_id }
         requires word { shared.now.table_id.words ≡ 1 }
         requires names { names.now ≡ (part_of seat.me.0.parts).opening.names }
-        requires seat { seat.me ≡ resting (newcomer (part_of seat.me.0.parts).opening role) false }
+        requires seat { seat.me ≡ resting (fresh_part (part_of seat.me.0.parts).opening role) false }
         requires some { role < length (part_of seat.me.0.parts).opening.types }
         ensures fresh { result ≡ fresh seat.table_id (part_of seat.me.0.parts).opening role }
     {
@@ -168,7 +168,7 @@ impl<'a> Pass<'a> {
         ensures call { IfOk result (λ answer. Calls self.old command answer self.new) }
         ensures numbers { OnOk result (self.new.newest ≡ self.old.newest) }
         ensures busy { IfErr result (λ busy. IsTold self.old busy.found self.new) }
-        ensures barred { OnErr result (self.new.barred ≡ true) }
+        ensures was_out { OnErr result (self.new.was_out ≡ true) }
     {
         let (found, won) = attempt(self.shared, &mut self.seat);
         if !won {
@@ -255,8 +255,8 @@ pub fn meet(first: &mut Pass<'_>, second: &mut Pass<'_>) -> Ordering
         → HasSeen first.old second.old }
     ensures longer { length second.old.seen ≤ length first.old.seen
         → HasSeen second.old first.old }
-    ensures floor { ReachesBoth first.old second.old first.new.floor }
-    ensures same_floor { second.new.floor ≡ first.new.floor }
+    ensures reported { ReachesBoth first.old second.old first.new.reported }
+    ensures same_reported { second.new.reported ≡ first.new.reported }
 {
     meet_seats(first.shared, &mut first.seat, &mut second.seat);
     first.seen.cmp(&second.seen)

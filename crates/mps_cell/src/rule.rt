@@ -1,14 +1,14 @@
 //! The rule of a cell's table, and what each step tells the seat that takes it.
 
 use crate::origin::Origin;
-use crate::view::View;
+use crate::view::SeatView;
 use atomic_table::{Join, Play, Split, TableRule};
 use mps_room::Room;
 
 /// The rule: there is one legal journal, whose length the word shows, and what each seat knows of it is true.
 pub struct Journaled;
 
-impl TableRule<Room, View, Origin> for Journaled {
+impl TableRule<Room, SeatView, Origin> for Journaled {
     ghost use Rattle.mps_cell.specs.Private.Origins.{opening_in};
     ghost use Rattle.mps_cell.specs.Rule.{Kept};
     ghost use Rattle.mps_cell.specs.Views.{first_view};
@@ -21,7 +21,7 @@ impl TableRule<Room, View, Origin> for Journaled {
 /// A look at the word.
 pub(crate) struct Look;
 
-impl Play<Room, View> for Look {
+impl Play<Room, SeatView> for Look {
     ghost use Rattle.mps_cell.specs.Rule.{Looks};
 
     ghost then = { Looks };
@@ -30,7 +30,7 @@ impl Play<Room, View> for Look {
 /// A try to take the room.
 pub(crate) struct Take;
 
-impl Play<Room, View> for Take {
+impl Play<Room, SeatView> for Take {
     ghost use Rattle.mps_cell.specs.Rule.{Tries};
 
     ghost then = { Tries };
@@ -39,7 +39,7 @@ impl Play<Room, View> for Take {
 /// The room is given back, with one entry more or as it was.
 pub(crate) struct Give;
 
-impl Play<Room, View> for Give {
+impl Play<Room, SeatView> for Give {
     ghost use Rattle.mps_cell.specs.Rule.{Gives};
 
     ghost then = { Gives };
@@ -48,7 +48,7 @@ impl Play<Room, View> for Give {
 /// The first part of a seat goes to a new seat.
 pub(crate) struct CutFirst;
 
-impl Split<View> for CutFirst {
+impl Split<SeatView> for CutFirst {
     ghost use Rattle.mps_cell.specs.Views.{without_first, first_alone};
 
     ghost left = { without_first };
@@ -59,7 +59,7 @@ impl Split<View> for CutFirst {
 /// The parts of the second seat go to the first.
 pub(crate) struct Gather;
 
-impl Join<View> for Gather {
+impl Join<SeatView> for Gather {
     ghost use Rattle.mps_cell.specs.Views.{both_parts, spent};
 
     ghost both = { both_parts };
@@ -70,7 +70,7 @@ impl Join<View> for Gather {
 /// The first part of a seat stays, and the others go to a new seat.
 pub(crate) struct Divide;
 
-impl Split<View> for Divide {
+impl Split<SeatView> for Divide {
     ghost use Rattle.mps_cell.specs.Views.{first_stays, others_go};
 
     ghost left = { first_stays };

@@ -4,11 +4,11 @@ ghost use Rattle.mps_room.specs.Journal.{grown};
 ghost use Rattle.mps_cell.specs.Openings.{IsLegalIn, IsReplyIn, room_of};
 ghost use Rattle.mps_cell.specs.Views.{part_of};
 ghost use Rattle.mps_cell.specs.Rule.{journal_in};
-ghost use Rattle.mps_cell.specs.Private.Rule.{IsFree, Took, Missed, HasRoom, HasAnswered, Gave};
+ghost use Rattle.mps_cell.specs.Private.Rule.{IsResting, Took, Missed, HasRoom, HasAnswered, Gave};
 
 use crate::pass::Table;
 use crate::rule::{Give, Look, Take};
-use crate::view::View;
+use crate::view::SeatView;
 use atomic_table::Seat;
 use mps_base::Role;
 use mps_room::{Answer, Command, Room};
@@ -21,10 +21,10 @@ use std::thread::yield_now;
 const LOOKS: u32 = 100;
 
 // One look and one try. It tells the journal's length that the word showed, and whether the room was taken.
-pub(crate) fn attempt(shared: &Table, seat: &mut Seat<Room, View>) -> (u64, bool)
+pub(crate) fn attempt(shared: &Table, seat: &mut Seat<Room, SeatView>) -> (u64, bool)
     requires cell { seat.old.table_id ≡ shared.now.table_id }
     requires word { shared.now.table_id.words ≡ 1 }
-    requires free { IsFree seat.old.me }
+    requires free { IsResting seat.old.me }
     ensures cell { seat.new.table_id ≡ seat.old.table_id }
     ensures tried { MatchBool result.1
         (Took seat.old.me seat.new.me) (Missed seat.old.me result.0 seat.new.me) }
@@ -43,11 +43,11 @@ pub(crate) fn take<R: Wait>(
     rt: &R,
     shared: &Table,
     waiting: &AtomicU64,
-    seat: &mut Seat<Room, View>,
+    seat: &mut Seat<Room, SeatView>,
 )
     requires cell { seat.old.table_id ≡ shared.now.table_id }
     requires word { shared.now.table_id.words ≡ 1 }
-    requires free { IsFree seat.old.me }
+    requires free { IsResting seat.old.me }
     ensures cell { seat.new.table_id ≡ seat.old.table_id }
     ensures took { Took seat.old.me seat.new.me }
 {
@@ -58,10 +58,10 @@ pub(crate) fn take<R: Wait>(
 
 // The same, where the room was out: it looks again for a while, and then sleeps.
 #[inline(never)]
-fn take_later<R: Wait>(rt: &R, shared: &Table, waiting: &AtomicU64, seat: &mut Seat<Room, View>)
+fn take_later<R: Wait>(rt: &R, shared: &Table, waiting: &AtomicU64, seat: &mut Seat<Room, SeatView>)
     requires cell { seat.old.table_id ≡ shared.now.table_id }
     requires word { shared.now.table_id.words ≡ 1 }
-    requires free { IsFree seat.old.me }
+    requires free { IsResting seat.old.me }
     ensures cell { seat.new.table_id ≡ seat.old.table_id }
     ensures took { Took seat.old.me seat.new.me }
 {
@@ -86,10 +86,10 @@ fn take_later<R: Wait>(rt: &R, shared: &Table, waiting: &AtomicU64, seat: &mut S
 }
 
 // The same as `attempt`, once the room is back or a while has gone by.
-fn attempt_soon(shared: &Table, seat: &mut Seat<Room, View>) -> (u64, bool)
+fn attempt_soon(shared: &Table, seat: &mut Seat<Room, SeatView>) -> (u64, bool)
     requires cell { seat.old.table_id ≡ shared.now.table_id }
     requires word { shared.now.table_id.words ≡ 1 }
-    requires free { IsFree seat.old.me }
+    requires free { IsResting seat.old.me }
     ensures cell { seat.new.table_id ≡ seat.old.table_id }
     ensures tried { MatchBool result.1
         (Took seat.old.me seat.new.me) (Missed seat.old.me result.0 seat.new.me) }
@@ -107,7 +107,7 @@ fn attempt_soon(shared: &Table, seat: &mut Seat<Room, View>) -> (u64, bool)
 pub(crate) fn finish(
     shared: &Table,
     waiting: &AtomicU64,
-    seat: &mut Seat<Room, View>,
+    seat: &mut Seat<Room, SeatView>,
     seen: &mut u64,
     role: Role,
     command: Command,
@@ -133,7 +133,7 @@ pub(crate) fn finish(
 
 // Gives the room back with a journal of so many entries, and wakes a pass that may sleep.
 #[inline(never)]
-fn give_back(shared: &Table, waiting: &AtomicU64, seat: &mut Seat<Room, View>, entries: u64)
+fn give_back(shared: &Table, waiting: &AtomicU64, seat: &mut Seat<Room, SeatView>, entries: u64)
     requires cell { seat.old.table_id ≡ shared.now.table_id }
     requires word { shared.now.table_id.words ≡ 1 }
     requires room { HasAnswered seat.old.me }
@@ -154,7 +154,7 @@ fn give_back(shared: &Table, waiting: &AtomicU64, seat: &mut Seat<Room, View>, e
 // Answers the command. `seen` is the journal's length then, and the room is still the seat's.
 fn answer_in(
     shared: &Table,
-    seat: &mut Seat<Room, View>,
+    seat: &mut Seat<Room, SeatView>,
     seen: &mut u64,
     role: Role,
     command: Command,

@@ -12,7 +12,7 @@ use Rattle.mps_history.proofs.Order.{rising_apart}
 use Rattle.mps_arena.specs.Keys.{AreDistinct, first_key, last_key, key_after, key_before}
 use Rattle.mps_arena.specs.Entries.{KeyedStep, steps, keys_of, of_role, entry_at, AreSound}
 use Rattle.mps_arena.specs.Matched.{matched_receipt}
-use Rattle.mps_arena.specs.Neighbours.{id_in, next_of_role_in, prev_of_role_in, receipt_in, matched_with, CanGo, IsFree, IsUnreceived}
+use Rattle.mps_arena.specs.Neighbours.{id_in, next_of_role_in, prev_of_role_in, receipt_in, matched_with, CanGo, IsLastAndUnreceived, IsUnreceived}
 use Rattle.mps_arena.proofs.KeyLists.{once, after_absent, before_absent}
 use Rattle.mps_arena.proofs.Chains.{keys-append, keys_without, keys_around, distinct}
 use Rattle.mps_links.specs.Private.Order.{earlier}
@@ -85,10 +85,10 @@ module _ (es : List KeyedStep) (sound : AreSound es) (a b : List KeyedStep) (x :
   alone_can_go e =
       let none = nothing_first (keys_of on_s b) e in
       let neither = λ (t : Step) (i : IsIn t (steps b)). or_parts (of_role s.role t) (is_matched (steps es) s t) (sym (on_later t i) ∙ none_passes on_s b t none i) in
-      let final : key_after x.key (keys_of (of_role s.role) es) ≡ None = next_after ∙ ap first_key (keys_none (of_role s.role) b (λ t i. (neither t i).0)) in
+      let at_end : key_after x.key (keys_of (of_role s.role) es) ≡ None = next_after ∙ ap first_key (keys_none (of_role s.role) b (λ t i. (neither t i).0)) in
       let receipt : receipt_in es x.key ≡ None = receipt_is es sound a b x parts ∙ ap first_key (keys_none (is_matched (steps es) s) b (λ t i. (neither t i).1)) in
       let matched : matched_receipt (effect s.act) (matched_with es x) ≡ None = sym (ap (option_and_then (λ (y : KeyedStep). matched_receipt (effect y.step.act) (matched_with es y))) found) ∙ receipt in
-      subst (λ (o : Option KeyedStep). IsSomeAnd o (IsFree es)) (sym found) (record { final = final; unreceived = unreceived (effect s.act) matched })
+      subst (λ (o : Option KeyedStep). IsSomeAnd o (IsLastAndUnreceived es)) (sym found) (record { last = at_end; unreceived = unreceived (effect s.act) matched })
     where
       unreceived : (c : Effect) → matched_receipt c (matched_with es x) ≡ None → IsUnreceived es x c
       unreceived (Gives q m) e = e

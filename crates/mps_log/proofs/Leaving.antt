@@ -10,7 +10,7 @@ use Rattle.mps_base.specs.declared.action.Step.{Step}
 use Rattle.mps_base.specs.Effects.{Idle, effect}
 use Rattle.mps_arena.specs.Keys.{AreDistinct, last_key, key_after}
 use Rattle.mps_arena.specs.Entries.{KeyedStep, keys_of, any_step, of_role, entry_at, IsSmall, AreSound}
-use Rattle.mps_arena.specs.Neighbours.{CanGo, IsFree}
+use Rattle.mps_arena.specs.Neighbours.{CanGo, IsLastAndUnreceived}
 use Rattle.mps_arena.proofs.Chains.{entry_key}
 use Rattle.mps_arena.proofs.Keeping.{entry_split, all_at}
 use Rattle.mps_arena.proofs.Nodes.{cases_entry, last_of_chain}
@@ -39,10 +39,10 @@ leaves es k s sound can is =
     let split = entry_split k es x w.1 in
     let a = split.0 in
     let b = split.1 in
-    let free : IsFree es x = subst (λ (o : Option KeyedStep). IsSomeAnd o (IsFree es)) w.1 can in
+    let free : IsLastAndUnreceived es x = subst (λ (o : Option KeyedStep). IsSomeAnd o (IsLastAndUnreceived es)) w.1 can in
     let key = entry_key k es x w.1 in
     let d = subst (λ (l : List KeyedStep). AreDistinct (keys_of any_step l)) split.2 sound.distinct in
-    let final = subst (λ (l : List KeyedStep). key_after x.key (keys_of (of_role x.step.role) l) ≡ None) split.2 free.final in
+    let at_end = subst (λ (l : List KeyedStep). key_after x.key (keys_of (of_role x.step.role) l) ≡ None) split.2 free.last in
     let r : Leaves es k s = record {
       entry = x;
       found = w.1;
@@ -51,7 +51,7 @@ leaves es k s sound can is =
       small = subst IsSmall same (all_at (λ e. IsSmall e.step) a b x (subst (λ (l : List KeyedStep). AllByRecursion (λ e. IsSmall e.step) l) split.2 sound.small));
       last = λ f sub t.
           ap (λ (l : List KeyedStep). last_key None (keys_of f l)) split.2
-          ∙ last_of_chain f a b x d final (λ u h. subst (λ (y : Step). of_role y.role u ≡ true) (sym same) (sub u h)) (ap f same ∙ t)
+          ∙ last_of_chain f a b x d at_end (λ u h. subst (λ (y : Step). of_role y.role u ≡ true) (sym same) (sub u h)) (ap f same ∙ t)
           ∙ ap Some key;
     } in
     r)

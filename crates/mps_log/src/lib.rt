@@ -11,9 +11,9 @@
 //! ```
 #![tactic(auto)]
 
+mod chosen;
 mod links;
 mod log;
-mod marking;
 mod moves;
 mod queue;
 

@@ -21,7 +21,7 @@ use Rattle.mps_history.proofs.Removal.{last_alone, without_last}
 use Rattle.mps_local.specs.Local.{LocalType}
 use Rattle.mps_machine.specs.Machine.{State, view_of, accepted, unless, full_fault, done_by, forward, owner_fault, commit_fault, undone, undo, rolled_back, rollback, IsSound}
 use Rattle.mps_machine.specs.Rule.{replay}
-use Rattle.mps_machine.specs.Undoing.{IsNewest, UndoesSteps, IsOwn, IsLeastDependent, IsFree, RefusesNeeded, IsCommitFrom, IsLeastCommit, IsOpen, RefusesFinal, RemovedFuture, RemovesFutures}
+use Rattle.mps_machine.specs.Undoing.{IsNewest, UndoesSteps, IsOwn, IsLeastDependent, IsUnneeded, RefusesNeeded, IsCommitFrom, IsLeastCommit, IsOpen, RefusesFinal, RemovedFuture, RemovesFutures}
 use Rattle.mps_machine.specs.View.{opening}
 use Rattle.mps_machine.specs.Violations.{violation}
 use Rattle.mps_machine.proofs.Sound.{view_is, forward_sound, least_none, no_member}
@@ -259,7 +259,7 @@ module _ (h : List Step) (rising : IsRising h) (p n : ℕ) (s : Step) (own : IsO
       by_least None e = absurd (no_member others (least_none (dependents h n) e) t (other_in t i d))
       by_least (Some by) e = (by, e)
 
-  none_dependent : IsFree h s → least (dependents h n) ≡ None
+  none_dependent : IsUnneeded h s → least (dependents h n) ≡ None
   none_dependent free = by_least (least (dependents h n)) refl
     where
       by_least : (o : Option ℕ) → least (dependents h n) ≡ o → least (dependents h n) ≡ None

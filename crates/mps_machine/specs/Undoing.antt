@@ -41,8 +41,8 @@ pub record IsLeastDependent (h : List Step) (s t : Step) : Type 0 where
   pub least : (u : Step) → IsIn u h → DependsOn h u s → t.id ≤ u.id
 
 -- no surviving step depends on s
-abbrev pub IsFree : List Step → Step → Type 0
-IsFree h s = (t : Step) → IsIn t h → ¬ DependsOn h t s
+abbrev pub IsUnneeded : List Step → Step → Type 0
+IsUnneeded h s = (t : Step) → IsIn t h → ¬ DependsOn h t s
 
 -- an undo is refused as needed exactly where another surviving step depends on the role's own surviving step, which is no
 -- commit
@@ -54,7 +54,7 @@ pub record RefusesNeeded (st : State) : Type 0 where
   pub named : (p n by : ℕ) → (undo st p n).0 ≡ Err (Needed by)
       → (s : Step) × (t : Step) × IsOwn st.history p n s × (s.act ≢ Commit) × IsLeastDependent st.history s t × (t.id ≡ by)
   -- where none does, the step is removed
-  pub free : (p n : ℕ) (s : Step) → IsOwn st.history p n s → s.act ≢ Commit → IsFree st.history s → undo st p n ≡ undone st n
+  pub free : (p n : ℕ) (s : Step) → IsOwn st.history p n s → s.act ≢ Commit → IsUnneeded st.history s → undo st p n ≡ undone st n
 
 -- t survives, is a commit, and is s or depends on s
 pub record IsCommitFrom (h : List Step) (s t : Step) : Type 0 where

@@ -1,13 +1,13 @@
--- How it is told why a protocol has no session.
+-- Why a text gives no session.
 use Rattle.std.proofs.Common.{ℕ, List}
 use Rattle.mps_global.specs.Global.{GlobalType}
 use Rattle.mps_session.specs.Protocols.{HasNoSession}
 use Rattle.mps_session.specs.declared.protocol.ProtocolFault.{ProtocolFault}
 use Rattle.mps_session.specs.declared.protocol.ProtocolFault.TheVariants.{Global, Unmergeable, Memory}
-use Rattle.mps_open.specs.Faults.{of_protocol}
-use Rattle.mps_open.specs.Private.{HasNone}
+use Rattle.mps_open.specs.Faults.{GivesNoSession, of_protocol}
+use Rattle.mps_open.specs.Texts.{IsProtocolText}
 
-pub no_session : (roles : List (List ℕ)) (tree : GlobalType) (fault : ProtocolFault) → HasNoSession roles tree fault → HasNone roles tree (of_protocol fault)
-no_session roles tree (Global fault) h = h
-no_session roles tree (Unmergeable role choice) h = h
-no_session roles tree Memory h = tt
+pub no_session : (text : List ℕ) (roles : List (List ℕ)) (tree : GlobalType) (fault : ProtocolFault) → IsProtocolText text roles tree → HasNoSession roles tree fault → GivesNoSession text (of_protocol fault)
+no_session text roles tree (Global fault) read h = (roles, tree, read, h)
+no_session text roles tree (Unmergeable role choice) read h = (roles, tree, read, h.0, h.1)
+no_session text roles tree Memory read h = read.limits.short

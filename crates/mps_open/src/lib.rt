@@ -9,4 +9,4 @@ pub mod fault;
 pub mod open;
 
 pub use fault::Fault;
-pub use open::open_text;
+pub use open::{open_text, roles_of};

@@ -1,34 +1,15 @@
--- What the text of a protocol gives.
-use Rattle.std.specs.Prelude.{◌≡◌, ℕ, suc, ◌≤◌, List, [], ◌∷◌, ◌++◌, codes, length, slice_get, Some, None, All}
+-- What a protocol and its text give.
+use Rattle.std.specs.Prelude.{◌≡◌, ℕ, suc, ◌≤◌, ⊤, List, [], ◌∷◌, ◌++◌, codes, length, slice_get, Some}
 use Rattle.mps_global.specs.Global.{GlobalType}
 use Rattle.mps_global.specs.Faults.{fault_of}
-use Rattle.mps_fidelity.specs.Fidelity.{AreOfOneProtocol}
 use Rattle.mps_local.specs.Local.{LocalType}
-use Rattle.mps_local.specs.Outcome.{IsFirstUnmerged}
+use Rattle.mps_local.specs.Outcome.{AreProjections, IsFirstUnmerged}
 use Rattle.mps_local.specs.Text.{name_at, local_text}
-use Rattle.mps_machine.specs.Machine.{initial}
-use Rattle.mps_session.specs.SessionState.{SessionState}
-use Rattle.mps_text.specs.Grammar.{protocol_text}
 use Rattle.mps_open.specs.Faults.{IsTextFault}
-use Rattle.mps_open.specs.Texts.{AreTypesOf, IsProtocolText}
+use Rattle.mps_open.specs.Texts.{IsProtocolText}
 use Rattle.mps_program.specs.Files.{longest}
 use Rattle.mps_program.specs.declared.faults.ToolFault.{ToolFault}
 use Rattle.mps_program.specs.declared.faults.ToolFault.TheVariants.{Text, Protocol, Projection, Memory}
-
--- the text is a protocol, which is written so
-pub record HasWritten (text written : List ℕ) : Type 0 where
-  pub roles : List (List ℕ)
-  pub tree : GlobalType
-  pub read : IsProtocolText text roles tree
-  pub same : written ≡ protocol_text roles tree
-
--- the text is a protocol without faults, and these are so many new sessions of it
-pub record AreSessionsOf (text : List ℕ) (roles : List (List ℕ)) (n : ℕ) (sessions : List SessionState) : Type 0 where
-  pub types : List LocalType
-  pub read : AreTypesOf text roles types
-  pub one : AreOfOneProtocol types
-  pub count : length sessions ≡ n
-  pub alike : All (λ s. s ≡ record { types = types; state = initial }) sessions
 
 -- the role of that name is the first of the protocol that has no projection
 pub record HasNoProjection (roles : List (List ℕ)) (tree : GlobalType) (name : List ℕ) (choice : ℕ) : Type 0 where
@@ -44,11 +25,11 @@ GivesNoProtocol text (Protocol fault) =
 GivesNoProtocol text Memory = length text ≤ longest
 GivesNoProtocol text fault = ⊥
 
--- why a text gives no types: it gives no protocol without faults, or a role of it has no projection
-abbrev pub GivesNoTypes : List ℕ → ToolFault → Type 0
-GivesNoTypes text (Projection name choice) =
-    (roles : List (List ℕ)) × (tree : GlobalType) × IsProtocolText text roles tree × (fault_of roles tree ≡ None) × HasNoProjection roles tree name choice
-GivesNoTypes text fault = GivesNoProtocol text fault
+-- why a protocol without faults gives no types: a role of it has no projection, or memory ran out
+abbrev pub GivesNoTypes : List (List ℕ) → GlobalType → ToolFault → Type 0
+GivesNoTypes roles tree (Projection name choice) = HasNoProjection roles tree name choice
+GivesNoTypes roles tree Memory = ⊤
+GivesNoTypes roles tree fault = ⊥
 
 -- the line of the role at that place: its name, ` : `, and its type
 abbrev pub role_line : (roles : List (List ℕ)) (place : ℕ) → LocalType → List ℕ
@@ -59,9 +40,8 @@ abbrev pub role_lines : (roles : List (List ℕ)) (place : ℕ) → List LocalTy
 role_lines roles place [] = []
 role_lines roles place (t ∷ types) = role_line roles place t ++ role_lines roles (suc place) types
 
--- the text is a protocol without faults, and these are the lines of its roles
-pub record AreLinesOf (text bytes : List ℕ) : Type 0 where
-  pub roles : List (List ℕ)
+-- these are the lines of the protocol's roles
+pub record AreLinesOf (roles : List (List ℕ)) (tree : GlobalType) (bytes : List ℕ) : Type 0 where
   pub types : List LocalType
-  pub read : AreTypesOf text roles types
+  pub projected : AreProjections roles tree types
   pub lines : bytes ≡ role_lines roles 0 types

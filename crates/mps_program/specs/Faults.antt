@@ -10,7 +10,7 @@ use Rattle.mps_wire.specs.declared.script.ReplayFault.{ReplayFault}
 use Rattle.mps_wire.specs.declared.script.ReplayFault.TheVariants.{Open as NotOpened, ReadFault, WriteFault, Turns as TooManyReads, Memory as OutOfMemory}
 use Rattle.mps_words.specs.declared.faults.UseFault.{UseFault}
 use Rattle.mps_words.specs.declared.faults.UseFault.TheVariants.{Usage as Misuse, Memory as NoMemory}
-use Rattle.mps_program.specs.Streams.{CantLoad, CantShow}
+use Rattle.mps_program.specs.Streams.{CantType, CantShow}
 use Rattle.mps_program.specs.declared.faults.ToolFault.{ToolFault}
 use Rattle.mps_program.specs.declared.faults.ToolFault.TheVariants.{Usage, File, Text, Protocol, Projection, Open, Read, Write, Turns, Bind, Accept, Lost, JournalFile, JournalLine, JournalProtocol, JournalLost, Memory}
 
@@ -148,10 +148,10 @@ IsBreak fault = ⊥
 abbrev pub IsScriptFault : List ℕ → ToolFault → Type 0
 IsScriptFault script fault = IsFileFault script fault ⊎ IsBreak fault
 
--- how a protocol may fail to be had from this file: it can't be opened, or gives no types
+-- how the types of a protocol may fail to be had from this file: it can't be opened, or gives none
 abbrev pub IsLoadFault : List ℕ → ToolFault → Type 0
 IsLoadFault file fault =
-    IsFileFault file fault ⊎ ((given : Option (List ℕ)) × (left : Option (List ℕ)) × CantLoad given left fault)
+    IsFileFault file fault ⊎ ((given : Option (List ℕ)) × (left : Option (List ℕ)) × CantType given left fault)
 
 -- how a run of these two files may fail: the first gives no protocol, or the script fails to be run
 abbrev pub IsRunFault : List ℕ → List ℕ → ToolFault → Type 0

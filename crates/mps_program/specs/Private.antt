@@ -1,4 +1,3 @@
 -- What no contract of a public function uses.
-pub mod Check
 pub mod Served
 pub mod Compared

@@ -5,18 +5,20 @@ use Rattle.mps_base.specs.Numbers.{IsNumberText}
 use Rattle.mps_room.specs.RoomState.{RoomState}
 use Rattle.mps_cell.specs.Cells.{Opened}
 use Rattle.mps_hub.specs.Halls.{AreCellsWith, AreClosed, Hall}
+use Rattle.mps_global.specs.Global.{GlobalType}
 use Rattle.mps_local.specs.Local.{LocalType}
+use Rattle.mps_local.specs.Outcome.{AreProjections}
 use Rattle.mps_fidelity.specs.Fidelity.{AreOfOneProtocol}
 use Rattle.mps_program.specs.Faults.{IsLoadFault}
 use Rattle.mps_program.specs.Journals.{IsKeepingFault}
-use Rattle.mps_program.specs.Streams.{HasLoaded}
 use Rattle.mps_program.specs.declared.faults.ToolFault.{ToolFault}
 use Rattle.mps_program.specs.declared.faults.ToolFault.TheVariants.{Write, Bind, Accept, Lost, Memory}
 
--- the source gave a protocol without faults to its end, and the hub has so many new sessions of it, numbered from this number on
-pub record HasOpened (given left : Option (List ℕ)) (first n : ℕ) (hub : Hall) : Type 0 where
+-- the hub has so many new sessions of the protocol, numbered from this number on
+pub record HasOpened (roles : List (List ℕ)) (tree : GlobalType) (first n : ℕ) (hub : Hall) : Type 0 where
   pub types : List LocalType
-  pub loaded : HasLoaded given left hub.names types
+  pub projected : AreProjections roles tree types
+  pub names : hub.names ≡ roles
   pub first_is : hub.first ≡ first
   pub cells : AreCellsWith hub.names types first n hub.cells
   pub one : AreOfOneProtocol types

@@ -1,64 +1,27 @@
-//! From a protocol's text to the lines that show its roles' types.
+//! From a protocol to the lines that show its roles' types.
 ghost use Rattle.std.specs.Prelude.{◌≡◌, ◌+◌, ◌<◌, ◌≤◌, ◌^◌, ◌++◌, length, map, IfOk, IfErr, OnOk, None};
 ghost use Rattle.std.specs.List.{AllByRecursion};
 ghost use Rattle.mps_global.specs.Global.{plain as global_type};
 ghost use Rattle.mps_global.specs.Faults.{fault_of};
 ghost use Rattle.mps_local.specs.Local.{plain};
 ghost use Rattle.mps_local.specs.Shape.{AllPeers};
-ghost use Rattle.mps_local.specs.Outcome.{AreProjections, AreNotAll};
-ghost use Rattle.mps_open.specs.Texts.{IsProtocolText};
-ghost use Rattle.mps_program.specs.Check.{role_line, role_lines, AreLinesOf};
-ghost use Rattle.mps_program.specs.Check.{GivesNoProtocol, GivesNoTypes, HasWritten};
-ghost use Rattle.mps_program.specs.Private.Check.{GivesNoProjections};
+ghost use Rattle.mps_local.specs.Outcome.{AreProjections};
+ghost use Rattle.mps_program.specs.Check.{role_line, role_lines, AreLinesOf, GivesNoTypes};
 ghost use Rattle.mps_program.specs.Faults.{after_reads, after_writes, IsCheckFault};
 ghost use Rattle.mps_program.specs.Files.{HasReadAtMost, most_read};
-ghost use Rattle.mps_program.specs.declared.faults.ToolFault.TheVariants.{Memory as OutOfMemory};
 ghost use Rattle.mps_program.specs.Streams.{CantShow, HasShown};
 
 use crate::faults::ToolFault;
-use crate::files::{open_file, read_text, tell};
-use mps_base::{Role, RoleFault, Roles};
+use crate::files::{open_file, tell};
+use crate::load::{load, unprojected};
+use mps_base::{Role, Roles};
 use mps_dev::{OverWrite, Sink, Source};
-use mps_global::{Protocol, check};
+use mps_global::Protocol;
 use mps_local::{Local, ProjectFault, project_all, write_local};
-use mps_text::{read_protocol, write_protocol};
+use mps_open::roles_of;
 use std::alloc::{AllocError, Global};
 use std::io;
 use std::rt::Files;
-
-// The protocol without faults that the text spells.
-fn protocol_of<'a>(alloc: Global, text: &[u8]) -> Result<Protocol, ToolFault<'a>>
-    ensures read { IfOk result (λ p. IsProtocolText text.now p.roles.items (global_type p.body)) }
-    ensures faultless { IfOk result (λ p. fault_of p.roles.items (global_type p.body) ≡ None) }
-    ensures fault { IfErr result (GivesNoProtocol text.now) }
-{
-    let protocol = read_protocol(alloc, text)?;
-    check(&protocol)?;
-    Ok(protocol)
-}
-
-/// The protocol that the text spells, as it is written.
-pub(crate) fn written_protocol<'a>(alloc: Global, text: &[u8]) -> Result<Vec<u8>, ToolFault<'a>>
-    ensures written { IfOk result (λ written. HasWritten text.now written.items) }
-    ensures fault { IfErr result (GivesNoProtocol text.now) }
-{
-    let protocol = protocol_of(alloc, text)?;
-    Ok(write_protocol(alloc, &protocol)?)
-}
-
-/// Why the protocol gives no types, told by the name of the role.
-pub(crate) fn unprojected<'a>(protocol: &Protocol, fault: ProjectFault) -> ToolFault<'a>
-    requires { AreNotAll protocol.now.roles.items (global_type protocol.now.body) fault }
-    ensures { GivesNoProjections protocol.now.roles.items (global_type protocol.now.body) result }
-{
-    match fault {
-        ProjectFault::Memory => ToolFault::Memory,
-        ProjectFault::Unmergeable { role, choice } => ToolFault::Projection {
-            role: protocol.roles[role.index()],
-            choice,
-        },
-    }
-}
 
 // The local type of each role in order.
 fn types_of<'a>(alloc: Global, protocol: &Protocol) -> Result<Vec<Local>, ToolFault<'a>>
@@ -68,36 +31,25 @@ fn types_of<'a>(alloc: Global, protocol: &Protocol) -> Result<Vec<Local>, ToolFa
     ensures peers { IfOk result (λ types. AllByRecursion
         (AllPeers (λ peer. peer < length protocol.now.roles.items)) (map plain types.items)) }
     ensures fault { IfErr result
-        (GivesNoProjections protocol.now.roles.items (global_type protocol.now.body)) }
+        (GivesNoTypes protocol.now.roles.items (global_type protocol.now.body)) }
 {
     match project_all(alloc, protocol) {
         Ok(types) => Ok(types),
-        Err(fault) => Err(unprojected(protocol, fault)),
+        Err(ProjectFault::Unmergeable { role, choice }) => Err(unprojected(protocol, role, choice)),
+        Err(ProjectFault::Memory) => Err(ToolFault::Memory),
     }
 }
 
-/// The roles of a protocol without faults.
-pub(crate) fn roles_of<'a>(alloc: Global, protocol: &Protocol) -> Result<Roles, ToolFault<'a>>
+/// A line for each role of a protocol without faults: its name, ` : `, and its local type.
+pub fn lines_of<'a>(alloc: Global, protocol: &Protocol) -> Result<Vec<u8>, ToolFault<'a>>
     requires { fault_of protocol.now.roles.items (global_type protocol.now.body) ≡ None }
-    ensures ok { IfOk result (λ roles. roles ≡ protocol.now.roles.items) }
-    ensures fault { IfErr result (λ fault. fault ≡ OutOfMemory) }
+    ensures lines { IfOk result (λ out. AreLinesOf
+        protocol.now.roles.items (global_type protocol.now.body) out.items) }
+    ensures fault { IfErr result
+        (GivesNoTypes protocol.now.roles.items (global_type protocol.now.body)) }
 {
-    match Roles::of(alloc, protocol.roles.as_slice()) {
-        Ok(roles) => Ok(roles),
-        Err(RoleFault::Memory) => Err(ToolFault::Memory),
-        Err(RoleFault::RoleCount) => unreachable!(),
-        Err(RoleFault::DoubleRole) => unreachable!(),
-    }
-}
-
-/// A line for each role of the protocol that the text spells: its name, ` : `, and its local type.
-pub fn lines_of<'a>(alloc: Global, text: &[u8]) -> Result<Vec<u8>, ToolFault<'a>>
-    ensures lines { IfOk result (λ out. AreLinesOf text.now out.items) }
-    ensures fault { IfErr result (GivesNoTypes text.now) }
-{
-    let protocol = protocol_of(alloc, text)?;
-    let types = types_of(alloc, &protocol)?;
-    let roles = roles_of(alloc, &protocol)?;
+    let types = types_of(alloc, protocol)?;
+    let roles = roles_of(alloc, protocol)?;
     let mut out = Vec::new(alloc);
     write_lines(alloc, &mut out, &roles, 0, &types)?;
     Ok(out)
@@ -167,8 +119,8 @@ pub fn write_types<'a, R: Source, W: Sink>(
     ensures reads { R.failed_calls reader.new ≡ after_reads result (R.failed_calls reader.old) }
     ensures writes { W.failed_calls writer.new ≡ after_writes result (W.failed_calls writer.old) }
 {
-    let text = read_text(alloc, reader)?;
-    let lines = lines_of(alloc, text.as_slice())?;
+    let protocol = load(alloc, reader)?;
+    let lines = lines_of(alloc, &protocol)?;
     tell(writer, lines.as_slice())
 }
 

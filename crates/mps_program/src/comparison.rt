@@ -9,10 +9,11 @@ ghost use Rattle.mps_wire.specs.Runs.{max_reads};
 
 use crate::faults::ToolFault;
 use crate::files::{open_file, tell};
-use crate::load::read_sessions;
+use crate::load::{load, session_of};
 use crate::tally::Tally;
 use mps_base::Roles;
 use mps_dev::{OverRead, OverWrite, Source};
+use mps_open::roles_of;
 use mps_room::Room;
 use mps_session::{Session, same};
 use mps_wire::script::run_script;
@@ -189,6 +190,9 @@ pub fn compare_files<'a, R: Files + AllocGlobal + Print + Eprint>(
     ensures status { IfOk result (λ status. status ≤ 1) }
     ensures fault { IfErr result (IsCompareFault file.now script.now other.now) }
 {
-    let (roles, first, second) = read_sessions(rt.alloc(), &mut open_file(rt, file)?)?;
+    let protocol = load(rt.alloc(), &mut open_file(rt, file)?)?;
+    let first = session_of(rt.alloc(), &protocol)?;
+    let second = session_of(rt.alloc(), &protocol)?;
+    let roles = roles_of(rt.alloc(), &protocol)?;
     compare_scripts(rt, &roles, first, second, script, other)
 }

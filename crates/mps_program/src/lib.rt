@@ -18,9 +18,7 @@ pub use entry::{carry_out, end, end_after, end_with, obey, program};
 pub use faults::{ToolFault, fault_line, status};
 pub use files::{open_file, read_text};
 pub use journals::{FileKeeper, Keeping, keep_sessions};
-pub use load::{
-    read_many, read_session, read_sessions, roles_and_many, roles_and_session, roles_and_sessions,
-};
+pub use load::{load, session_of};
 pub use running::run_file;
-pub use serving::{Service, read_hub, serve_file, serve_to};
+pub use serving::{Service, hub_of, serve_file, serve_to};
 pub use tally::{Strict, Tally};

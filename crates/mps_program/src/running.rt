@@ -5,10 +5,11 @@ ghost use Rattle.mps_program.specs.Faults.{IsScriptFault, IsRunFault};
 
 use crate::faults::ToolFault;
 use crate::files::open_file;
-use crate::load::read_session;
+use crate::load::{load, session_of};
 use crate::tally::Strict;
 use mps_base::Roles;
 use mps_dev::{OverWrite, Sink};
+use mps_open::roles_of;
 use mps_session::Session;
 use mps_wire::script::run_script;
 use std::rt::Files;
@@ -68,7 +69,9 @@ pub fn run_file<'a, R: Files + AllocGlobal + Print + Eprint>(
     ensures status { IfOk result (λ status. status ≤ 1) }
     ensures fault { IfErr result (IsRunFault file.now script.now) }
 {
-    let (roles, session) = read_session(rt.alloc(), &mut open_file(rt, file)?)?;
+    let protocol = load(rt.alloc(), &mut open_file(rt, file)?)?;
+    let session = session_of(rt.alloc(), &protocol)?;
+    let roles = roles_of(rt.alloc(), &protocol)?;
     let mut writer = OverWrite::new(io::writer(rt));
     if !strict {
         run_script_file(rt, script, roles, session, &mut writer)?;

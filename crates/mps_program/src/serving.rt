@@ -1,22 +1,26 @@
 //! Sessions served to connections.
-ghost use Rattle.std.specs.Prelude.{◌≡◌, ◌+◌, ◌<◌, ◌≤◌, ◌^◌, false, length, IfErr, IfOk, OnOk};
+ghost use Rattle.std.specs.Prelude.{◌≡◌, ◌+◌, ◌<◌, ◌≤◌, ◌^◌, false, length, All, IfErr, IfOk, None, OnOk};
 ghost use Rattle.std.specs.Option.{option_map};
-ghost use Rattle.mps_program.specs.Faults.{after_reads, after_writes};
-ghost use Rattle.mps_program.specs.Files.{HasReadAtMost, most_read};
+ghost use Rattle.mps_global.specs.Global.{plain as global_type};
+ghost use Rattle.mps_global.specs.Faults.{fault_of};
+ghost use Rattle.mps_program.specs.Check.{GivesNoTypes};
+ghost use Rattle.mps_program.specs.Faults.{after_writes};
 ghost use Rattle.mps_program.specs.Journals.{IsKeepingFault, kept_of};
 ghost use Rattle.mps_program.specs.Served.{AreLinesUpTo, AreSessionLines, HasOpened, HasServed, HasServedUpTo, IfLost, IsBindFault, IsListeningLine, IsOutFault, IsPortFor, IsServeFault, IsSessionLine, IsTellFault};
-ghost use Rattle.mps_program.specs.Private.Served.{IsHubFault, TellsPort, TookOne, of_serving};
-ghost use Rattle.mps_program.specs.Streams.{CantLoad};
+ghost use Rattle.mps_program.specs.Private.Served.{IsHubFault, IsNewOf, TellsPort, TookOne, of_serving};
 
-use crate::check::written_protocol;
 use crate::faults::ToolFault;
-use crate::files::{open_file, read_text, tell};
+use crate::files::{open_file, tell};
 use crate::journals::{FileKeeper, Keeping, keep_sessions};
-use crate::load::read_many;
+use crate::load::{load, session_of};
 use mps_base::write_number;
-use mps_dev::{OverRead, OverWrite, Sink, Source};
+use mps_dev::{OverWrite, Sink};
+use mps_global::Protocol;
 use mps_hub::{Desk, Hub, Limits, ServeFault, Unguarded, serve_kept};
+use mps_open::roles_of;
 use mps_room::Room;
+use mps_session::Session;
+use mps_text::write_protocol;
 use mps_words::Journal;
 use std::alloc::{AllocError, Global};
 use std::fs::File;
@@ -256,24 +260,34 @@ where
     tell_sessions(rt.alloc(), writer, first, rooms.as_slice())
 }
 
-/// Reads a protocol, and opens so many sessions of it, of which the first has that number.
-pub fn read_hub<'a, R: Source>(
-    alloc: Global,
-    reader: &mut R,
-    first: u64,
-    sessions: u64,
-) -> Result<Hub, ToolFault<'a>>
-    requires calls { R.calls reader.old < 2 ^ 62 }
+// So many new sessions of a protocol without faults.
+fn sessions_of<'a>(alloc: Global, protocol: &Protocol, n: u64) -> Result<Vec<Session>, ToolFault<'a>>
+    requires faultless { fault_of protocol.now.roles.items (global_type protocol.now.body) ≡ None }
+    requires few { n ≤ 16 }
+    ensures count { IfOk result (λ sessions. length sessions.items ≡ n) }
+    ensures new { IfOk result (λ sessions. All
+        (IsNewOf protocol.now.roles.items (global_type protocol.now.body)) sessions.items) }
+    ensures fault { IfErr result (GivesNoTypes protocol.now.roles.items (global_type protocol.now.body)) }
+{
+    let mut sessions = Vec::with_capacity(alloc, n as usize)?;
+    for _ in 0..n {
+        sessions.push_reserved(session_of(alloc, protocol)?);
+    }
+    Ok(sessions)
+}
+
+/// Opens so many sessions of a protocol without faults, of which the first has that number.
+pub fn hub_of<'a>(alloc: Global, protocol: &Protocol, first: u64, sessions: u64) -> Result<Hub, ToolFault<'a>>
+    requires faultless { fault_of protocol.now.roles.items (global_type protocol.now.body) ≡ None }
     requires number { first ≤ 2 ^ 63 }
     requires some { (1 ≤ sessions) × (sessions ≤ 16) }
     ensures given { IfOk result (λ hub. hub.given ≡ false) }
     ensures opened { IfOk result (λ hub. HasOpened
-        (R.remaining reader.old) (R.remaining reader.new) first sessions hub) }
-    ensures fault { IfErr result (CantLoad (R.remaining reader.old) (R.remaining reader.new)) }
-    ensures most { HasReadAtMost most_read (R.remaining reader.old) (R.remaining reader.new) }
-    ensures reads { R.failed_calls reader.new ≡ after_reads result (R.failed_calls reader.old) }
+        protocol.now.roles.items (global_type protocol.now.body) first sessions hub) }
+    ensures fault { IfErr result (GivesNoTypes protocol.now.roles.items (global_type protocol.now.body)) }
 {
-    let (roles, made) = read_many(alloc, reader, sessions)?;
+    let made = sessions_of(alloc, protocol, sessions)?;
+    let roles = roles_of(alloc, protocol)?;
     Ok(Hub::of(alloc, &roles, first, made)?)
 }
 
@@ -320,10 +334,9 @@ where
         service.entry.first service.entry.sessions) }
 {
     let alloc = rt.alloc();
-    let text = read_text(alloc, &mut open_file(rt, file)?)?;
-    let mut reader = OverRead::new(text.as_slice());
-    let hub = read_hub(alloc, &mut reader, service.first, service.sessions)?;
-    let written = written_protocol(alloc, text.as_slice())?;
+    let protocol = load(alloc, &mut open_file(rt, file)?)?;
+    let hub = hub_of(alloc, &protocol, service.first, service.sessions)?;
+    let written = write_protocol(alloc, &protocol)?;
     let keeping = keeping_of(service.journal, written.as_slice());
     let mut writer = OverWrite::new(io::writer(rt));
     serve_to(rt, &mut writer, hub, service.port, service.limits, keeping)

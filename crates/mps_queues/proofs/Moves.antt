@@ -175,7 +175,7 @@ pub record StandsLast (f : Step → Bool) (es : List KeyedStep) (k : ℕ) : Type
   pub parts : es ≡ before ++ entry ∷ behind
   pub key : entry.key ≡ k
   pub passes : f entry.step ≡ true
-  pub final : keys_of f behind ≡ []
+  pub none_behind : keys_of f behind ≡ []
 
 nil_or : (c : List ℕ) → (c ≡ []) ⊎ ((o : Option ℕ) → last_key o c ≡ last_key None c)
 nil_or [] = inl refl
@@ -186,7 +186,7 @@ stands_last f [] k e = absurd cc
 stands_last f (x ∷ es) k e =
     let later = λ (h : last_key None (keys_of f es) ≡ Some k).
     let s = stands_last f es k h in
-    let r : StandsLast f (x ∷ es) k = record { before = x ∷ s.before; behind = s.behind; entry = s.entry; parts = ap (λ l. x ∷ l) s.parts; key = s.key; passes = s.passes; final = s.final } in
+    let r : StandsLast f (x ∷ es) k = record { before = x ∷ s.before; behind = s.behind; entry = s.entry; parts = ap (λ l. x ∷ l) s.parts; key = s.key; passes = s.passes; none_behind = s.none_behind } in
     r in
     ⊎_elim
     (λ (t : f x.step ≡ true).
@@ -195,7 +195,7 @@ stands_last f (x ∷ es) k e =
     (λ (z : keys_of f es ≡ []).
     let one : Some x.key ≡ Some k = sym (ap (last_key (Some x.key)) z) ∙ was in
     let same : x.key ≡ k = cc in
-    let r : StandsLast f (x ∷ es) k = record { before = []; behind = es; entry = x; parts = refl; key = same; passes = t; final = z } in
+    let r : StandsLast f (x ∷ es) k = record { before = []; behind = es; entry = x; parts = refl; key = same; passes = t; none_behind = z } in
     r)
     (λ (g : (o : Option ℕ) → last_key o (keys_of f es) ≡ last_key None (keys_of f es)). later (sym (g (Some x.key)) ∙ was))
     (nil_or (keys_of f es)))
@@ -206,8 +206,8 @@ module _ (es : List KeyedStep) (sound : AreSound es) (p q k : ℕ) where
   -- what is left of a chain without its last
   front_part : (f : Step → Bool) (s : StandsLast f es k) → (keys_of f es ≡ keys_of f s.before ++ k ∷ []) × (keys_of f (s.before ++ s.behind) ≡ keys_of f s.before)
   front_part f s = (
-    ap (keys_of f) s.parts ∙ keys_around f s.before s.behind s.entry s.passes ∙ ap₂ (λ (i : ℕ) (l : List ℕ). keys_of f s.before ++ i ∷ l) s.key s.final,
-    keys-append f s.before s.behind ∙ ap (λ l. keys_of f s.before ++ l) s.final ∙ append-nil (keys_of f s.before),
+    ap (keys_of f) s.parts ∙ keys_around f s.before s.behind s.entry s.passes ∙ ap₂ (λ (i : ℕ) (l : List ℕ). keys_of f s.before ++ i ∷ l) s.key s.none_behind,
+    keys-append f s.before s.behind ∙ ap (λ l. keys_of f s.before ++ l) s.none_behind ∙ append-nil (keys_of f s.before),
   )
 
   beside : (f g : Step → Bool) (s : StandsLast f es k) → g s.entry.step ≡ false → keys_of g (s.before ++ s.behind) ≡ keys_of g es

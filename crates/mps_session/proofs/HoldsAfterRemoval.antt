@@ -17,7 +17,7 @@ use Rattle.mps_machine.specs.Machine.{view_of, IsSound}
 use Rattle.mps_machine.proofs.Peers.{after_peers, fact_by_role}
 use Rattle.mps_machine.proofs.Stepping.{rule_parts, replay_parts}
 use Rattle.mps_arena.specs.Entries.{KeyedStep, steps, entry_at, AreSound}
-use Rattle.mps_arena.specs.Neighbours.{IsFree, CanGo}
+use Rattle.mps_arena.specs.Neighbours.{IsLastAndUnreceived, CanGo}
 use Rattle.mps_arena.specs.declared.node.Before.{Before}
 use Rattle.mps_arena.proofs.Chains.{entry_key, entry_middle}
 use Rattle.mps_arena.proofs.Histories.{steps_without}
@@ -80,7 +80,7 @@ module _ (types : List LocalType) (cursors : List Cursor) (issued : ℕ) (a b : 
   abbrev new : Lists
   new = record { cursors = set cursors p again; entries = a ++ b; issued = issued }
 
-  module _ (holds : Holds types old) (free : IsFree (a ++ x ∷ b) x) (sound : AreSound (a ++ b)) where
+  module _ (holds : Holds types old) (free : IsLastAndUnreceived (a ++ x ∷ b) x) (sound : AreSound (a ++ b)) where
     abbrev v : View
     v = holds.sound.view
 
@@ -94,7 +94,7 @@ module _ (types : List LocalType) (cursors : List Cursor) (issued : ℕ) (a b : 
     from : (d m : List KeyedStep) → b ≡ d ++ m → IsAside types a d x
     from d m e =
         let same : a ++ x ∷ b ≡ a ++ x ∷ (d ++ m) = ap (λ (l : List KeyedStep). a ++ x ∷ l) e in
-        aside.aside types a d m x v (subst AreSound same holds.kept) (subst (λ (l : List KeyedStep). IsFree l x) same free)
+        aside.aside types a d m x v (subst AreSound same holds.kept) (subst (λ (l : List KeyedStep). IsLastAndUnreceived l x) same free)
         (subst (λ (l : List KeyedStep). replay (opening types) (steps l) ≡ Some v) same holds.sound.replayed)
 
     pub all : IsAside types a b x
@@ -173,8 +173,8 @@ module _ (types : List LocalType) (c next : Lists) (k : ℕ) (x : KeyedStep) (ho
   abbrev b : List KeyedStep
   b = at.1
 
-  free : IsFree (a ++ x ∷ b) x
-  free = subst (λ (l : List KeyedStep). IsFree l x) at.2 (subst (λ (o : Option KeyedStep). IsSomeAnd o (IsFree c.entries)) found can)
+  free : IsLastAndUnreceived (a ++ x ∷ b) x
+  free = subst (λ (l : List KeyedStep). IsLastAndUnreceived l x) at.2 (subst (λ (o : Option KeyedStep). IsSomeAnd o (IsLastAndUnreceived c.entries)) found can)
 
   was : Holds types (record c { entries = a ++ x ∷ b })
   was = subst (λ (l : List KeyedStep). Holds types (record c { entries = l })) at.2 holds

@@ -17,7 +17,7 @@ use Rattle.mps_machine.proofs.Sound.{view_is}
 use Rattle.mps_machine.specs.Machine.{State, view_of, IsSound}
 use Rattle.mps_arena.specs.Entries.{KeyedStep, steps, entry_at, AreSound}
 use Rattle.mps_arena.specs.Keys.{last_key}
-use Rattle.mps_arena.specs.Neighbours.{CanGo, IsFree}
+use Rattle.mps_arena.specs.Neighbours.{CanGo, IsLastAndUnreceived}
 use Rattle.mps_arena.proofs.Chains.{entry_key}
 use Rattle.mps_arena.proofs.Keeping.{all_at, entry_split}
 use Rattle.mps_links.specs.Marks.{marked_keys, marked_steps, unmarked_steps, AreMarksClosed, marked_by, unmarked}
@@ -159,7 +159,7 @@ module _ (first now : Lists) (earlier ids : List ℕ) (going : AreGoing first no
 there : (es : List KeyedStep) (k : ℕ) → CanGo es k → (x : KeyedStep) × (entry_at k es ≡ Some x)
 there es k can = by_cases (entry_at k es) can refl
   where
-    by_cases : (o : Option KeyedStep) → IsSomeAnd o (IsFree es) → entry_at k es ≡ o → (x : KeyedStep) × (entry_at k es ≡ Some x)
+    by_cases : (o : Option KeyedStep) → IsSomeAnd o (IsLastAndUnreceived es) → entry_at k es ≡ o → (x : KeyedStep) × (entry_at k es ≡ Some x)
     by_cases None c e = absurd c
     by_cases (Some x) c e = (x, e)
 

@@ -18,7 +18,7 @@ use Rattle.mps_machine.proofs.Stepping.{rule_parts, replay_parts, replay_front}
 use Rattle.mps_machine.proofs.Lawful.{step_removed}
 use Rattle.mps_arena.specs.Entries.{KeyedStep, steps, keys_of, of_role, entry_at, AreSound}
 use Rattle.mps_arena.specs.Matched.{matched_receipt}
-use Rattle.mps_arena.specs.Neighbours.{next_of_role_in, receipt_in, matched_with, IsFree, IsUnreceived}
+use Rattle.mps_arena.specs.Neighbours.{next_of_role_in, receipt_in, matched_with, IsLastAndUnreceived, IsUnreceived}
 use Rattle.mps_arena.proofs.Chains.{entry_middle}
 use Rattle.mps_arena.proofs.Histories.{steps_without}
 use Rattle.mps_arena.proofs.Keeping.{others_are}
@@ -39,7 +39,7 @@ role_stays (t ∷ h) v w p e others =
     ∙ ap (λ (u : View). u.participant p) (sym ruled.2)
     ∙ cond-false (p == t.role) ruled.0 (v.participant p) (eqb_turned p t.role ∙ others t (inl refl))
 
-module _ (a b : List KeyedStep) (x : KeyedStep) (sound : AreSound (a ++ x ∷ b)) (free : IsFree (a ++ x ∷ b) x) where
+module _ (a b : List KeyedStep) (x : KeyedStep) (sound : AreSound (a ++ x ∷ b)) (free : IsLastAndUnreceived (a ++ x ∷ b) x) where
   abbrev es : List KeyedStep
   es = a ++ x ∷ b
 
@@ -51,7 +51,7 @@ module _ (a b : List KeyedStep) (x : KeyedStep) (sound : AreSound (a ++ x ∷ b)
 
   -- no later step is of its role
   pub others_follow : (t : Step) → IsIn t (steps b) → (t.role == s.role) ≡ false
-  others_follow t i = none_passes (of_role s.role) b t (role_ends a b x sound.distinct free.final) i
+  others_follow t i = none_passes (of_role s.role) b t (role_ends a b x sound.distinct free.last) i
 
   none_received : (e : Effect) → IsUnreceived es x e → matched_receipt e (matched_with es x) ≡ None
   none_received (Gives to m) u = u
@@ -60,7 +60,7 @@ module _ (a b : List KeyedStep) (x : KeyedStep) (sound : AreSound (a ++ x ∷ b)
 
   none_behind : keys_of (λ t. depends_on (steps es) t s) b ≡ []
   none_behind =
-      let next : next_of_role_in es x.key ≡ None = ap (option_and_then (λ (e : KeyedStep). _)) found ∙ free.final in
+      let next : next_of_role_in es x.key ≡ None = ap (option_and_then (λ (e : KeyedStep). _)) found ∙ free.last in
       let receipt : receipt_in es x.key ≡ None = ap (option_and_then (λ (e : KeyedStep). matched_receipt (effect e.step.act) (matched_with es e))) found ∙ none_received (effect s.act) free.unreceived in
       nothing_first _ (first_dependent es sound a b x refl ∙ ap₂ (earlier es) next receipt)
 
@@ -87,7 +87,7 @@ pub record IsAside (types : List LocalType) (a d : List KeyedStep) (x : KeyedSte
   pub ruled : rule left x.step ≡ Some full
   pub own : left.participant x.step.role ≡ (view_of types (steps a)).participant x.step.role
 
-module _ (types : List LocalType) (a d m : List KeyedStep) (x : KeyedStep) (v : View) (sound : AreSound (a ++ x ∷ (d ++ m))) (free : IsFree (a ++ x ∷ (d ++ m)) x) (is : replay (opening types) (steps (a ++ x ∷ (d ++ m))) ≡ Some v) where
+module _ (types : List LocalType) (a d m : List KeyedStep) (x : KeyedStep) (v : View) (sound : AreSound (a ++ x ∷ (d ++ m))) (free : IsLastAndUnreceived (a ++ x ∷ (d ++ m)) x) (is : replay (opening types) (steps (a ++ x ∷ (d ++ m))) ≡ Some v) where
   abbrev front : List KeyedStep
   front = a ++ x ∷ d
 

@@ -79,7 +79,7 @@ fn nothing(alloc: Global, again: bool) -> (StepIds, Option<StepIds>)
 impl Configuration {
     // Room for the numbers of the marked steps, so many, and once more where they are told again; or why the steps stay:
     // the least commit among them, or else out of memory.
-    fn room_for_marked(
+    fn room_for_chosen(
         &self,
         count: usize,
         again: bool,
@@ -133,14 +133,14 @@ impl Configuration {
             (final_fault (steps (lists_of self.old).entries) id) Memory ≡ refusal) }
         ensures err { OnErr result (lists_of self.new ≡ lists_of self.old) }
     {
-        let count = self.log.mark_from(id);
-        match self.room_for_marked(count, again) {
+        let count = self.log.choose_from(id);
+        match self.room_for_chosen(count, again) {
             Ok((mut ids, room)) => {
-                self.remove_marked(&mut ids);
+                self.remove_chosen(&mut ids);
                 Ok(ids_twice(ids, room))
             }
             Err(refusal) => {
-                self.log.unmark();
+                self.log.choose_none();
                 Err(refusal)
             }
         }
@@ -154,9 +154,9 @@ impl Configuration {
         ensures fault { result_err result ≡ final_fault (steps (lists_of self.old).entries) id }
         ensures kept { lists_of self.new ≡ lists_of self.old }
     {
-        self.log.mark_from(id);
+        self.log.choose_from(id);
         let by = self.log.least_final();
-        self.log.unmark();
+        self.log.choose_none();
         match by {
             Some(by) => Err(Refusal::Final { by }),
             None => Ok(()),
@@ -164,7 +164,7 @@ impl Configuration {
     }
 
     /// Removes the marked steps, the newest first, and adds their numbers to the others.
-    pub(crate) fn remove_marked(&mut self, ids: &mut Vec<StepId>)
+    pub(crate) fn remove_chosen(&mut self, ids: &mut Vec<StepId>)
         requires closed { AreMarksClosed (lists_of self.old).entries }
         requires members { AllByRecursion
             (λ e. e.step.role < length (lists_of self.old).cursors) (lists_of self.old).entries }
@@ -179,7 +179,7 @@ impl Configuration {
         ensures holds { (types : List LocalType) → Holds types (lists_of self.old)
             → Holds types (lists_of self.new) }
     {
-        while let Some(key) = self.log.newest_marked() {
+        while let Some(key) = self.log.newest_chosen() {
             let id = self.remove(key);
             ids.push_reserved(id);
         }

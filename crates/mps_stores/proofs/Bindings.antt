@@ -173,12 +173,12 @@ module _ (naming : Naming) where
       let mine : of_role p e.step ≡ true = eq-eqb e.step.role p is.0 in
       let chain = keys_around (of_role p) a b e mine in
       let apart : AreDistinct (keys_of (of_role p) a ++ e.key ∷ keys_of (of_role p) b) = subst AreDistinct chain (distinct (of_role p) (a ++ e ∷ b) d) in
-      let final : keys_of (of_role p) b ≡ [] = none_behind (keys_of (of_role p) a) (keys_of (of_role p) b) e.key apart (ap (last_key None) (sym chain) ∙ ap (λ (l : List KeyedStep). last_key None (keys_of (of_role p) l)) (sym w.2) ∙ last) in
+      let none_later : keys_of (of_role p) b ≡ [] = none_behind (keys_of (of_role p) a) (keys_of (of_role p) b) e.key apart (ap (last_key None) (sym chain) ∙ ap (λ (l : List KeyedStep). last_key None (keys_of (of_role p) l)) (sym w.2) ∙ last) in
       let was : store_at stores p ≡ bound slot e.key (bindings naming p a) =
-      s.each p small ∙ ap (bindings naming p) w.2 ∙ rebound-append p [] a (e ∷ b) ∙ rebound_others p (store_after naming p (bindings naming p a) e) b final ∙ after_binding p slot (bindings naming p a) e is in
+      s.each p small ∙ ap (bindings naming p) w.2 ∙ rebound-append p [] a (e ∷ b) ∙ rebound_others p (store_after naming p (bindings naming p a) e) b none_later ∙ after_binding p slot (bindings naming p a) e is in
       let older_is : older ≡ value_in slot (bindings naming p a) = sym kept ∙ t p slot a b e refl is in
       let back : unbound slot older (store_at stores p) ≡ bindings naming p (a ++ b) =
-      ap₂ (unbound slot) older_is was ∙ unbound-bound slot e.key (bindings naming p a) ∙ sym (rebound-append p [] a b ∙ rebound_others p (bindings naming p a) b final) in
+      ap₂ (unbound slot) older_is was ∙ unbound-bound slot e.key (bindings naming p a) ∙ sym (rebound-append p [] a b ∙ rebound_others p (bindings naming p a) b none_later) in
       let r : AreStores naming (a ++ b) now = record {
         each = λ q low.
             ⊎_elim
@@ -191,7 +191,7 @@ module _ (naming : Naming) where
             ∙ bindings_beside q a b e (λ store. after_other q store e (ap (λ (i : ℕ). i == q) is.0 ∙ n)))
             (cases_Bool (p == q));
         traced = traced_without a b e t (λ c l y parts store.
-            let other = not_of p c l y (ap (keys_of (of_role p)) (sym parts) ∙ final) in
+            let other = not_of p c l y (ap (keys_of (of_role p)) (sym parts) ∙ none_later) in
             after_other y.step.role store e (ap (λ (i : ℕ). i == y.step.role) is.0 ∙ ne_eqb p y.step.role (λ z. both_ways (y.step.role == p) other (eq-eqb y.step.role p (sym z)))));
       } in
       subst (λ (l : List KeyedStep). AreStores naming l now) (sym left) r

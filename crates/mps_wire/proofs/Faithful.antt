@@ -20,7 +20,7 @@ use Rattle.mps_room.specs.declared.numbers.Told.TheVariants.{Fresh, Kept, Wrong,
 use Rattle.mps_room.proofs.Faithful.{answer_other}
 use Rattle.mps_fidelity.specs.Fidelity.{AreOfOneProtocol}
 use Rattle.mps_wire.specs.Answers.{Answering, AnswersLines, AnswersInPart}
-use Rattle.mps_wire.specs.Fidelity.{mismatch, MeetsNoMismatch, IsFree}
+use Rattle.mps_wire.specs.Fidelity.{mismatch, MeetsNoMismatch, HasNoMismatch}
 use Rattle.mps_wire.specs.Talk.{AnswersToPart, talks, talks_to_part}
 use Rattle.mps_wire.specs.Talk as talking
 use Rattle.mps_lines.specs.Lines.{HasNoBreak, ended, IsSplit}
@@ -129,31 +129,31 @@ module _ (one_reply : (a : List ℕ) (r s : Reply) → SpellsReply a r → Spell
     kept_other : (c : C) (a b : Answer) → caller.kept c ≡ Some a → caller.kept c ≡ Some b → b ≢ mismatch → a ≢ mismatch
     kept_other c a b here there other e = other (same_Some b a (sym there ∙ here) ∙ e)
 
-    came_free : (c : C) (number : ℕ) (command : Command) (d : C) (came : Told) (r : Reply) → IsFree caller types c → IsNumbered caller.calls caller.last caller.kept c number command d came → talking.IsToldAs caller d came r → (r ≢ mismatched) × IsFree caller types d
+    came_free : (c : C) (number : ℕ) (command : Command) (d : C) (came : Told) (r : Reply) → HasNoMismatch caller types c → IsNumbered caller.calls caller.last caller.kept c number command d came → talking.IsToldAs caller d came r → (r ≢ mismatched) × HasNoMismatch caller types d
     came_free c number command d Fresh r free n told =
         let other = accepted_other n.answer n.accepted in (
           answered_other told.0 r told.2 (kept_other d told.0 n.answer told.1 n.told other),
           record { of_one_protocol = still c command n.answer d free.of_one_protocol n.call; keeps_none = λ a is. kept_other d a n.answer is n.told other },
         )
     came_free c number command d Kept r free n told =
-        let at : IsFree caller types d = subst (IsFree caller types) (sym n.unchanged) free in
+        let at : HasNoMismatch caller types d = subst (HasNoMismatch caller types) (sym n.unchanged) free in
         (answered_other told.0 r told.2 (at.keeps_none told.0 told.1), at)
-    came_free c number command d Wrong r free n told = ((λ e. cc), subst (IsFree caller types) (sym n.unchanged) free)
+    came_free c number command d Wrong r free n told = ((λ e. cc), subst (HasNoMismatch caller types) (sym n.unchanged) free)
     came_free c number command d (CalledInVain refusal) r free n told = (
       answered_other (Refused refusal) r told (none.other c command (Refused refusal) d free.of_one_protocol n.call),
       record { of_one_protocol = still c command (Refused refusal) d free.of_one_protocol n.call; keeps_none = λ a is. free.keeps_none a (sym n.kept_stays ∙ is) },
     )
 
-    reply_free : (line : List ℕ) (c : C) (r : Reply) (d : C) → IsFree caller types c → talking.RepliesTo caller line c r d → (r ≢ mismatched) × IsFree caller types d
-    reply_free line c r d free (talking.Unread u) = ((λ e. let b = u.bad in cc), subst (IsFree caller types) (sym u.unchanged) free)
+    reply_free : (line : List ℕ) (c : C) (r : Reply) (d : C) → HasNoMismatch caller types c → talking.RepliesTo caller line c r d → (r ≢ mismatched) × HasNoMismatch caller types d
+    reply_free line c r d free (talking.Unread u) = ((λ e. let b = u.bad in cc), subst (HasNoMismatch caller types) (sym u.unchanged) free)
     reply_free line c r d free (talking.Called s) = (
       answered_other s.answer r s.told (none.other c s.command s.answer d free.of_one_protocol s.call),
       record { of_one_protocol = still c s.command s.answer d free.of_one_protocol s.call; keeps_none = λ a is. free.keeps_none a (sym s.kept_stays ∙ is) },
     )
     reply_free line c r d free (talking.Numbered s) = came_free c s.number s.command d s.came r free s.numbered s.told
-    reply_free line c r d free (talking.Starved s) = ((λ e. let b = s.told in cc), subst (IsFree caller types) (sym s.unchanged) free)
+    reply_free line c r d free (talking.Starved s) = ((λ e. let b = s.told in cc), subst (HasNoMismatch caller types) (sym s.unchanged) free)
 
-    talk_line : (line : List ℕ) (c : C) (text : List ℕ) (d : C) → IsFree caller types c → talking.TalksLine caller line c text d → IsFit text × IsFree caller types d
+    talk_line : (line : List ℕ) (c : C) (text : List ℕ) (d : C) → HasNoMismatch caller types c → talking.TalksLine caller line c text d → IsFit text × HasNoMismatch caller types d
     talk_line line c text d free a =
         let r = reply_free line c a.reply d free a.replies in
         (text_fits text a.reply a.spelled r.0, r.1)
@@ -166,11 +166,11 @@ module _ (one_reply : (a : List ℕ) (r s : Reply) → SpellsReply a r → Spell
     lines_said [] c out d a = a
     lines_said (l ∷ lines) c out d a = (a.0, a.1, a.2, a.3, a.4.line_is, lines_said lines a.2 a.1 d a.5)
 
-    said_fits : (asked lines : List (List ℕ)) (c d : C) (out written unwritten rest : List ℕ) → IsFree caller types c → AnswersLines said asked c out d → out ≡ written ++ unwritten → IsSplit written lines rest → AllByRecursion Fits lines
+    said_fits : (asked lines : List (List ℕ)) (c d : C) (out written unwritten rest : List ℕ) → HasNoMismatch caller types c → AnswersLines said asked c out d → out ≡ written ++ unwritten → IsSplit written lines rest → AllByRecursion Fits lines
     said_fits asked lines c d out written unwritten rest free a e split =
-        written_fits said (IsFree caller types) talk_line asked lines c d out written unwritten rest free a e split
+        written_fits said (HasNoMismatch caller types) talk_line asked lines c d out written unwritten rest free a e split
 
-    pub talk_fits : (asked lines : List (List ℕ)) (c d : C) (out written unwritten rest : List ℕ) → IsFree caller types c → AnswersLines (talks caller) asked c out d → out ≡ written ++ unwritten → IsSplit written lines rest → AllByRecursion Fits lines
+    pub talk_fits : (asked lines : List (List ℕ)) (c d : C) (out written unwritten rest : List ℕ) → HasNoMismatch caller types c → AnswersLines (talks caller) asked c out d → out ≡ written ++ unwritten → IsSplit written lines rest → AllByRecursion Fits lines
     talk_fits asked lines c d out written unwritten rest free a e split = said_fits asked lines c d out written unwritten rest free (lines_said asked c out d a) e split
 
     -- answers of which the last is written in part, whole
@@ -181,7 +181,7 @@ module _ (one_reply : (a : List ℕ) (r s : Reply) → SpellsReply a r → Spell
         let more = completed (m ∷ lines) a.2 a.1 d a.5 in
         (more.0, (a.0, a.1 ++ more.0, a.2, ap (λ (x : List ℕ). x ++ more.0) a.3 ∙ append_assoc (ended a.0) a.1 more.0, a.4.line_is, more.1))
 
-    pub talk_part_fits : (asked lines : List (List ℕ)) (c d : C) (written rest : List ℕ) → IsFree caller types c → AnswersToPart (talks caller) (talks_to_part caller) asked c written d → IsSplit written lines rest → AllByRecursion Fits lines
+    pub talk_part_fits : (asked lines : List (List ℕ)) (c d : C) (written rest : List ℕ) → HasNoMismatch caller types c → AnswersToPart (talks caller) (talks_to_part caller) asked c written d → IsSplit written lines rest → AllByRecursion Fits lines
     talk_part_fits asked lines c d written rest free a split =
         let w = completed asked c written d a in
         said_fits asked lines c d (written ++ w.0) written w.0 rest free w.1 refl split

@@ -21,6 +21,6 @@ module _ {C : Type 0} (caller : Ghosts C) (types : C → List LocalType) where
     pub other : (c : C) (command : Command) (answer : Answer) (d : C) → AreOfOneProtocol (types c) → caller.calls c command answer d → answer ≢ mismatch
 
   -- the types are of one protocol, and the caller keeps no such answer
-  pub record IsFree (c : C) : Type 0 where
+  pub record HasNoMismatch (c : C) : Type 0 where
     pub of_one_protocol : AreOfOneProtocol (types c)
     pub keeps_none : (answer : Answer) → caller.kept c ≡ Some answer → answer ≢ mismatch

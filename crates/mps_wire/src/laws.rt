@@ -5,7 +5,7 @@ ghost use Rattle.mps_fidelity.specs.Fidelity.{AreOfOneProtocol};
 ghost use Rattle.mps_local.specs.Local.{LocalType};
 ghost use Rattle.mps_room.specs.declared.entry.Entry.{Entry};
 ghost use Rattle.mps_wire.specs.Answers.{Answered, AnsweredAll, AnsweredAllInPart, AnsweredInPart, AnswersLines};
-ghost use Rattle.mps_wire.specs.Fidelity.{IsFree, MeetsNoMismatch};
+ghost use Rattle.mps_wire.specs.Fidelity.{HasNoMismatch, MeetsNoMismatch};
 ghost use Rattle.mps_wire.specs.Making.{accepted_in_part, accepted_lines};
 ghost use Rattle.mps_wire.specs.Talk.{AnswersToPart, talks, talks_to_part};
 ghost use Rattle.mps_lines.specs.Lines.{IsSplit};
@@ -60,11 +60,11 @@ pub fn a_talk_makes_its_commands<C: Caller>()
 pub fn no_talk_meets_a_mismatch<C: Caller>()
     ensures whole { (types : C → List LocalType) → MeetsNoMismatch C.Caller types
         → (asked : List (List ℕ)) (before : C) (out : List ℕ) (after : C) (lines : List (List ℕ)) (rest : List ℕ)
-        → IsFree C.Caller types before → AnswersLines (talks C.Caller) asked before out after
+        → HasNoMismatch C.Caller types before → AnswersLines (talks C.Caller) asked before out after
         → IsSplit out lines rest → AllByRecursion (λ line. line ≢ codes "refused mismatch") lines }
     ensures part { (types : C → List LocalType) → MeetsNoMismatch C.Caller types
         → (asked : List (List ℕ)) (before : C) (out : List ℕ) (after : C) (lines : List (List ℕ)) (rest : List ℕ)
-        → IsFree C.Caller types before
+        → HasNoMismatch C.Caller types before
         → AnswersToPart (talks C.Caller) (talks_to_part C.Caller) asked before out after
         → IsSplit out lines rest → AllByRecursion (λ line. line ≢ codes "refused mismatch") lines }
 {

@@ -22,6 +22,6 @@ returns c =
       order = c.cmp.ensures ∙ (λ i. nat_cmp (first_seen i) (second_seen i));
       shorter = all.shorter;
       longer = all.longer;
-      floor = all.floor;
-      same_floor = all.same_floor;
+      reported = all.reported;
+      same_reported = all.same_reported;
     }

@@ -16,70 +16,70 @@ use Rattle.std.proofs.lemmas.List.{length-reverse}
 use Rattle.mps_session.proofs.TypeAt.{length_map}
 use Rattle.mps_session.proofs.RemoveMarked as rolling
 use Rattle.mps_session.proofs.configuration.Configuration.roll_back.Goals as goal
-use Rattle.mps_session.proofs.configuration.Configuration.roll_back.Goals.{After-mark_from-count, After-remove_marked, After-unmark}
+use Rattle.mps_session.proofs.configuration.Configuration.roll_back.Goals.{After-choose_from-count, After-remove_chosen, After-choose_none}
 
 -- what is marked
-abbrev set : After-mark_from-count → ℕ → Bool
+abbrev set : After-choose_from-count → ℕ → Bool
 set c = consequences (steps c.args.self.now.log.entries) c.args.id
 
-abbrev marks : After-mark_from-count → KeyedStep → Bool
+abbrev marks : After-choose_from-count → KeyedStep → Bool
 marks c e = set c e.step.id
 
-pub remove_marked-requires-clause-members : goal.remove_marked-requires-clause-members
-remove_marked-requires-clause-members c =
-    let k = (goal.at.remove_marked-requires-clause-members c).After-mark_from-count in
+pub remove_chosen-requires-clause-members : goal.remove_chosen-requires-clause-members
+remove_chosen-requires-clause-members c =
+    let k = (goal.at.remove_chosen-requires-clause-members c).After-choose_from-count in
     let n = length c.args.self.now.cursors.items in
-    subst (AllByRecursion (λ (e : KeyedStep). e.step.role < n)) (sym c.mark_from-count.ensures.marks) (all_again (marks k) (λ s. s.role < n) c.args.self.now.log.entries c.requires.members)
+    subst (AllByRecursion (λ (e : KeyedStep). e.step.role < n)) (sym c.choose_from-count.ensures.marks) (all_again (marks k) (λ s. s.role < n) c.args.self.now.log.entries c.requires.members)
 
-pub remove_marked-requires-clause-room : goal.remove_marked-requires-clause-room
-remove_marked-requires-clause-room c =
-    let k = (goal.at.remove_marked-requires-clause-room c).After-mark_from-count in
-    let marked = ap (λ (l : List KeyedStep). length (marked_keys l)) c.mark_from-count.ensures.marks ∙ marked_count c.args.self.now.log.entries (set k) in
-    omega (arith, marked, c.mark_from-count.ensures.count, c.in-Ok.ensures.none, c.in-Ok.ensures.first_room)
+pub remove_chosen-requires-clause-room : goal.remove_chosen-requires-clause-room
+remove_chosen-requires-clause-room c =
+    let k = (goal.at.remove_chosen-requires-clause-room c).After-choose_from-count in
+    let marked = ap (λ (l : List KeyedStep). length (marked_keys l)) c.choose_from-count.ensures.marks ∙ marked_count c.args.self.now.log.entries (set k) in
+    omega (arith, marked, c.choose_from-count.ensures.count, c.in-Ok.ensures.none, c.in-Ok.ensures.first_room)
 
 -- the numbers that were told
-all : (c : After-remove_marked) → c.remove_marked.new.ids.items ≡ reverse (numbers (within (steps c.args.self.now.log.entries) (consequences (steps c.args.self.now.log.entries) c.args.id)))
+all : (c : After-remove_chosen) → c.remove_chosen.new.ids.items ≡ reverse (numbers (within (steps c.args.self.now.log.entries) (consequences (steps c.args.self.now.log.entries) c.args.id)))
 all c =
-    c.remove_marked.ensures.numbers
+    c.remove_chosen.ensures.numbers
     ∙ ap₂ (λ (ids : List ℕ) (h : List Step). ids ++ reverse (numbers h)) c.in-Ok.ensures.first
-    (ap marked_steps c.mark_from-count.ensures.marks ∙ marked_within c.args.self.now.log.entries (consequences (steps c.args.self.now.log.entries) c.args.id))
+    (ap marked_steps c.choose_from-count.ensures.marks ∙ marked_within c.args.self.now.log.entries (consequences (steps c.args.self.now.log.entries) c.args.id))
 
 pub ids_twice-requires-clause-space : goal.ids_twice-requires-clause-space
 ids_twice-requires-clause-space c =
-    let k = (goal.at.ids_twice-requires-clause-space c).After-remove_marked in
+    let k = (goal.at.ids_twice-requires-clause-space c).After-remove_chosen in
     let gone = within (steps c.args.self.now.log.entries) (consequences (steps c.args.self.now.log.entries) c.args.id) in
     let long = ap (λ (l : List ℕ). length l) (all k) ∙ length-reverse (numbers gone) ∙ length_map (λ (s : Step). s.id) gone in
-    IfSome_then c.in-Ok.room c.in-Ok.ensures.room_again (λ more fits. omega (arith, fits, long, c.remove_marked.new.ids.ok.0, c.mark_from-count.ensures.count))
+    IfSome_then c.in-Ok.room c.in-Ok.ensures.room_again (λ more fits. omega (arith, fits, long, c.remove_chosen.new.ids.ok.0, c.choose_from-count.ensures.count))
 
 pub returns-in-Ok-clause-numbers : goal.returns-in-Ok-clause-numbers
-returns-in-Ok-clause-numbers c = c.ids_twice.ensures.first ∙ all ((goal.at.returns-in-Ok-clause-numbers c).After-remove_marked)
+returns-in-Ok-clause-numbers c = c.ids_twice.ensures.first ∙ all ((goal.at.returns-in-Ok-clause-numbers c).After-remove_chosen)
 
 pub returns-in-Ok-clause-history : goal.returns-in-Ok-clause-history
 returns-in-Ok-clause-history c =
-    let k = (goal.at.returns-in-Ok-clause-history c).After-mark_from-count in
-    c.remove_marked.ensures.history ∙ ap unmarked_steps c.mark_from-count.ensures.marks ∙ unmarked_left c.args.self.now.log.entries (set k)
+    let k = (goal.at.returns-in-Ok-clause-history c).After-choose_from-count in
+    c.remove_chosen.ensures.history ∙ ap unmarked_steps c.choose_from-count.ensures.marks ∙ unmarked_left c.args.self.now.log.entries (set k)
 
 pub returns-in-Ok-clause-holds : goal.returns-in-Ok-clause-holds
 returns-in-Ok-clause-holds c types holds =
-    let k = (goal.at.returns-in-Ok-clause-holds c).After-mark_from-count in
-    c.remove_marked.ensures.holds types
-    (rolling.again_holds_as types (lists_of c.args.self.now) (marks k) holds c.mark_from-count.new.self.entries c.mark_from-count.new.self.issued c.mark_from-count.ensures.marks c.mark_from-count.ensures.issued)
+    let k = (goal.at.returns-in-Ok-clause-holds c).After-choose_from-count in
+    c.remove_chosen.ensures.holds types
+    (rolling.again_holds_as types (lists_of c.args.self.now) (marks k) holds c.choose_from-count.new.self.entries c.choose_from-count.new.self.issued c.choose_from-count.ensures.marks c.choose_from-count.ensures.issued)
 
 -- where memory runs out all is as it was
-entries : (c : After-unmark) → c.unmark.new.self.entries ≡ c.args.self.now.log.entries
+entries : (c : After-choose_none) → c.choose_none.new.self.entries ≡ c.args.self.now.log.entries
 entries c =
-    c.unmark.ensures.entries ∙ ap (map unmarked) c.mark_from-count.ensures.marks
+    c.choose_none.ensures.entries ∙ ap (map unmarked) c.choose_from-count.ensures.marks
     ∙ rolling.unmarked_again c.args.self.now.log.entries (consequences (steps c.args.self.now.log.entries) c.args.id) c.requires.unmarked
 
-same : (c : After-unmark) → ◌≡◌ {A = Lists} (record { cursors = c.args.self.now.cursors.items; entries = c.unmark.new.self.entries; issued = c.unmark.new.self.issued }) (lists_of c.args.self.now)
+same : (c : After-choose_none) → ◌≡◌ {A = Lists} (record { cursors = c.args.self.now.cursors.items; entries = c.choose_none.new.self.entries; issued = c.choose_none.new.self.issued }) (lists_of c.args.self.now)
 same c =
-    ap₂ (λ (l : List KeyedStep) (i : ℕ). let d : Lists = record { cursors = c.args.self.now.cursors.items; entries = l; issued = i } in d) (entries c) (c.unmark.ensures.issued ∙ c.mark_from-count.ensures.issued)
+    ap₂ (λ (l : List KeyedStep) (i : ℕ). let d : Lists = record { cursors = c.args.self.now.cursors.items; entries = l; issued = i } in d) (entries c) (c.choose_none.ensures.issued ∙ c.choose_from-count.ensures.issued)
 
 pub returns-in-Err-clause-unmarked : goal.returns-in-Err-clause-unmarked
-returns-in-Err-clause-unmarked c = ap marked_keys (entries ((goal.at.returns-in-Err-clause-unmarked c).After-unmark)) ∙ c.requires.unmarked
+returns-in-Err-clause-unmarked c = ap marked_keys (entries ((goal.at.returns-in-Err-clause-unmarked c).After-choose_none)) ∙ c.requires.unmarked
 
 pub returns-in-Err-clause-holds : goal.returns-in-Err-clause-holds
-returns-in-Err-clause-holds c types holds = subst (Holds types) (sym (same ((goal.at.returns-in-Err-clause-holds c).After-unmark))) holds
+returns-in-Err-clause-holds c types holds = subst (Holds types) (sym (same ((goal.at.returns-in-Err-clause-holds c).After-choose_none))) holds
 
 pub returns-in-Err-clause-err : goal.returns-in-Err-clause-err
-returns-in-Err-clause-err c = same ((goal.at.returns-in-Err-clause-err c).After-unmark)
+returns-in-Err-clause-err c = same ((goal.at.returns-in-Err-clause-err c).After-choose_none)

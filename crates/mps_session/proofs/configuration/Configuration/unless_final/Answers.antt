@@ -6,18 +6,18 @@ use Rattle.mps_links.specs.Marks.{unmarked}
 use Rattle.mps_session.specs.Private.Configurations.{Lists, lists_of}
 use Rattle.mps_session.proofs.RemoveMarked as rolling
 use Rattle.mps_session.proofs.configuration.Configuration.unless_final.Goals as goal
-use Rattle.mps_session.proofs.configuration.Configuration.unless_final.Goals.{After-unmark}
+use Rattle.mps_session.proofs.configuration.Configuration.unless_final.Goals.{After-choose_none}
 
 -- the marks that were put on are taken off
-same : (c : After-unmark) → ◌≡◌ {A = Lists} (record { cursors = c.args.self.now.cursors.items; entries = c.unmark.new.self.entries; issued = c.unmark.new.self.issued }) (lists_of c.args.self.now)
+same : (c : After-choose_none) → ◌≡◌ {A = Lists} (record { cursors = c.args.self.now.cursors.items; entries = c.choose_none.new.self.entries; issued = c.choose_none.new.self.issued }) (lists_of c.args.self.now)
 same c =
     ap₂ (λ (l : List KeyedStep) (i : ℕ). let d : Lists = record { cursors = c.args.self.now.cursors.items; entries = l; issued = i } in d)
-    (c.unmark.ensures.entries ∙ ap (map unmarked) c.mark_from.ensures.marks
+    (c.choose_none.ensures.entries ∙ ap (map unmarked) c.choose_from.ensures.marks
     ∙ rolling.unmarked_again c.args.self.now.log.entries (consequences (steps c.args.self.now.log.entries) c.args.id) c.requires.unmarked)
-    (c.unmark.ensures.issued ∙ c.mark_from.ensures.issued)
+    (c.choose_none.ensures.issued ∙ c.choose_from.ensures.issued)
 
 pub returns-in-Some-clause-kept : goal.returns-in-Some-clause-kept
-returns-in-Some-clause-kept c = same ((goal.at.returns-in-Some-clause-kept c).After-unmark)
+returns-in-Some-clause-kept c = same ((goal.at.returns-in-Some-clause-kept c).After-choose_none)
 
 pub returns-in-None-clause-kept : goal.returns-in-None-clause-kept
-returns-in-None-clause-kept c = same ((goal.at.returns-in-None-clause-kept c).After-unmark)
+returns-in-None-clause-kept c = same ((goal.at.returns-in-None-clause-kept c).After-choose_none)

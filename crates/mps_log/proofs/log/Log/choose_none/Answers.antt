@@ -5,8 +5,8 @@ use Rattle.mps_queues.specs.Fronts.{AreFronts}
 use Rattle.mps_stores.specs.Stores.{AreStores, slot_of, mark_of}
 use Rattle.mps_log.specs.Private.Logged.{HasNoCommit}
 use Rattle.mps_log.proofs.Remarked.{all_again, sound_again, fronts_again, stores_again}
-use Rattle.mps_log.proofs.log.Log.unmark.Goals as goal
-use Rattle.mps_log.proofs.log.Log.unmark.Goals.{After-unmark}
+use Rattle.mps_log.proofs.log.Log.choose_none.Goals as goal
+use Rattle.mps_log.proofs.log.Log.choose_none.Goals.{After-unmark}
 
 abbrev nowhere : KeyedStep → Bool
 nowhere e = false

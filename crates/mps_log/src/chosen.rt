@@ -1,4 +1,4 @@
-//! Steps that are marked, to be taken back together.
+//! Steps that are chosen, to be taken back together. The arena marks each.
 ghost use Rattle.std.specs.Prelude.{◌≡◌, [], None, map, length, IsSome, IfSome};
 ghost use Rattle.mps_history.specs.Steps.{step_of, within};
 ghost use Rattle.mps_history.specs.Dependence.{consequences, least};
@@ -15,7 +15,7 @@ use mps_links::{least_final, mark_from, newest_marked, unmark};
 
 impl Log {
     /// Marks the step of that number and all that depend on it, and tells how many they are.
-    pub fn mark_from(&mut self, id: StepId) -> usize
+    pub fn choose_from(&mut self, id: StepId) -> usize
         requires present { IsSome (step_of (steps self.old.entries) id) }
         requires unmarked { marked_keys self.old.entries ≡ [] }
         ensures marks { self.new.entries
@@ -30,10 +30,10 @@ impl Log {
         mark_from(&mut self.arena, id)
     }
 
-    /// The newest marked step, where each step that depends on a marked one is marked. So nothing depends on it, and it
+    /// The newest chosen step, where each step that depends on a chosen one is chosen. So nothing depends on it, and it
     /// may be removed.
     #[inline(always)]
-    pub fn newest_marked(&self) -> Option<Key>
+    pub fn newest_chosen(&self) -> Option<Key>
         requires closed { AreMarksClosed self.now.entries }
         ensures newest { result ≡ last_key None (marked_keys self.now.entries) }
         ensures none { result ≡ None → marked_keys self.now.entries ≡ [] }
@@ -43,7 +43,7 @@ impl Log {
         newest_marked(&self.arena)
     }
 
-    /// The least number of a marked commit, where each step that depends on a marked one is marked. It does not allocate.
+    /// The least number of a chosen commit, where each step that depends on a chosen one is chosen. It does not allocate.
     /// Unproved: where no commit has ever joined it looks at no step.
     #[inline(always)]
     pub fn least_final(&self) -> Option<StepId>
@@ -56,8 +56,8 @@ impl Log {
         least_final(&self.arena)
     }
 
-    /// Takes all marks off, where each step that depends on a marked one is marked.
-    pub fn unmark(&mut self)
+    /// Chooses none any more, where each step that depends on a chosen one is chosen.
+    pub fn choose_none(&mut self)
         requires closed { AreMarksClosed self.old.entries }
         ensures entries { self.new.entries ≡ map unmarked self.old.entries }
         ensures issued { self.new.issued ≡ self.old.issued }

@@ -9,8 +9,8 @@ use Rattle.mps_links.proofs.Going.{marked_commits_are}
 use Rattle.mps_log.specs.Logged.{Logged}
 use Rattle.mps_log.specs.Private.Logged.{HasNoCommit}
 use Rattle.mps_log.proofs.Remarked.{all_again, sound_again, fronts_again, stores_again}
-use Rattle.mps_log.proofs.log.Log.mark_from.Goals as goal
-use Rattle.mps_log.proofs.log.Log.mark_from.Goals.{After-mark_from}
+use Rattle.mps_log.proofs.log.Log.choose_from.Goals as goal
+use Rattle.mps_log.proofs.log.Log.choose_from.Goals.{After-mark_from}
 
 -- which entries are marked
 abbrev marks : After-mark_from → KeyedStep → Bool

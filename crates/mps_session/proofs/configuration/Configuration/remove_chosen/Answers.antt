@@ -5,8 +5,8 @@ use Rattle.mps_links.specs.Marks.{marked_keys}
 use Rattle.mps_session.specs.Private.Configurations.{lists_of}
 use Rattle.mps_session.proofs.RemoveMarked as rolling
 use Rattle.mps_session.proofs.RemoveMarked.{AreGoing}
-use Rattle.mps_session.proofs.configuration.Configuration.remove_marked.Goals as goal
-use Rattle.mps_session.proofs.configuration.Configuration.remove_marked.Goals.{After-push_reserved}
+use Rattle.mps_session.proofs.configuration.Configuration.remove_chosen.Goals as goal
+use Rattle.mps_session.proofs.configuration.Configuration.remove_chosen.Goals.{After-push_reserved}
 
 newest : (c : After-push_reserved) → last_key None (marked_keys c.loop-key.self.log.entries) ≡ Some c.in-Some.key
 newest c = sym c.in-Some.ensures.newest
@@ -17,7 +17,7 @@ can c = c.in-Some.ensures.free
 fewer : (c : After-push_reserved) → length (marked_keys c.remove-id.new.self.log.entries) + 1 ≡ length (marked_keys c.loop-key.self.log.entries)
 fewer c =
     rolling.fewer_left (lists_of c.args.self.now) (lists_of c.loop-key.self) (lists_of c.remove-id.new.self) c.args.ids.now.items c.loop-key.ids.items c.in-Some.key c.remove-id.result
-    c.loop-key.invariant.going c.newest_marked.ensures.sound (newest c) (can c) c.remove-id.ensures.id c.remove-id.ensures.left
+    c.loop-key.invariant.going c.newest_chosen.ensures.sound (newest c) (can c) c.remove-id.ensures.id c.remove-id.ensures.left
 
 pub remove-id-requires-clause-role : goal.remove-id-requires-clause-role
 remove-id-requires-clause-role c =
@@ -33,10 +33,10 @@ loop-key-preserved c =
       going =
           subst (λ (ids : List ℕ). AreGoing (lists_of c.args.self.now) (lists_of c.remove-id.new.self) c.args.ids.now.items ids) (sym c.push_reserved.ensures.items)
           (rolling.turn (lists_of c.args.self.now) (lists_of c.loop-key.self) (lists_of c.remove-id.new.self) c.args.ids.now.items c.loop-key.ids.items c.in-Some.key c.remove-id.result
-          c.loop-key.invariant.going c.newest_marked.ensures.sound (newest k) (can k) c.remove-id.ensures.id c.remove-id.ensures.left);
+          c.loop-key.invariant.going c.newest_chosen.ensures.sound (newest k) (can k) c.remove-id.ensures.id c.remove-id.ensures.left);
       room = omega (arith, fewer k, c.loop-key.invariant.room, c.push_reserved.ensures.len, c.push_reserved.ensures.capacity);
     }
 
 pub returns-clause-history : goal.returns-clause-history
 returns-clause-history c =
-    rolling.all_gone (lists_of c.args.self.now) (lists_of c.loop-key.self) c.args.ids.now.items c.loop-key.ids.items c.loop-key.invariant.going (c.newest_marked.ensures.none c.in_default.is)
+    rolling.all_gone (lists_of c.args.self.now) (lists_of c.loop-key.self) c.args.ids.now.items c.loop-key.ids.items c.loop-key.invariant.going (c.newest_chosen.ensures.none c.in_default.is)

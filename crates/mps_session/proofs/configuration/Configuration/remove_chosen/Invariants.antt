@@ -3,7 +3,7 @@ use Rattle.std.specs.Prelude.{vec_capacity}
 use Rattle.mps_links.specs.Marks.{marked_keys}
 use Rattle.mps_session.specs.Private.Configurations.{lists_of}
 use Rattle.mps_session.proofs.RemoveMarked.{AreGoing}
-use Rattle.mps_session.proofs.configuration.Configuration.remove_marked.Given as goal
+use Rattle.mps_session.proofs.configuration.Configuration.remove_chosen.Given as goal
 
 abbrev pub invariant-loop-key : goal.invariant-loop-key
 invariant-loop-key l = record {
