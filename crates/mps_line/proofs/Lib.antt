@@ -6,4 +6,3 @@ pub mod ShownLines
 pub mod OneReply
 pub mod ReplyLines
 pub mod NumberedLines
-pub mod Spellings

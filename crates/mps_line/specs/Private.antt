@@ -1,5 +1,4 @@
 -- What no contract of a public function uses.
-pub mod Spellable
 pub mod Commands
 pub mod Replies
 pub mod Tokens

@@ -10,7 +10,6 @@
 //! ```
 #![tactic(auto)]
 
-mod answer_texts;
 pub mod laws;
 mod line_parts;
 pub mod read_commands;
@@ -20,7 +19,6 @@ pub mod read_replies;
 pub mod write_commands;
 pub mod write_replies;
 
-pub use answer_texts::answer_has_text;
 pub use read_commands::{LineFault, read_command, read_script_line};
 pub use read_conversations::read_numbered;
 pub use read_replies::{read_answer, read_join};

@@ -1,5 +1,5 @@
 //! The lines that answer others.
-ghost use Rattle.std.specs.Prelude.{◌≡◌, ℕ, List, [], ◌∷◌, ◌++◌, map, IsTrue, OnOk, OnErr};
+ghost use Rattle.std.specs.Prelude.{◌≡◌, ℕ, List, [], ◌∷◌, ◌++◌, map, OnOk, OnErr};
 ghost use Rattle.std.specs.Io.{StartsWith};
 ghost use Rattle.mps_base.specs.Appends.{Appends};
 ghost use Rattle.mps_command.specs.declared.answer.Answer.TheVariants.{Refused};
@@ -9,7 +9,6 @@ ghost use Rattle.mps_line.specs.Replies.{SpellsReply, message_token, done_tokens
 ghost use Rattle.mps_line.specs.declared.write_replies.Reply.TheVariants.{Answered, BadLine, Joined};
 ghost use Rattle.mps_line.specs.Codes.{code_of, refusal_code, violation_code};
 
-use crate::answer_texts::{answer_has_text, pass_has_text};
 use crate::line_parts::{write_count, write_name, write_step};
 use mps_base::{Message, Name, StepId};
 use mps_command::{Answer, Done, Refusal, Violation};
@@ -47,23 +46,6 @@ impl Reply {
             Reply::Taken => 17,
             Reply::Number => 19,
             Reply::Answered(_) | Reply::Joined { .. } => 0,
-        }
-    }
-
-    /// Whether the reply has a text, which each reply has. It does not allocate, so it can be asked where
-    /// there is none left to write the text.
-    pub fn has_text(&self) -> bool
-        ensures always { IsTrue result }
-        ensures text { (text : List ℕ) × SpellsReply text self.now }
-    {
-        match self {
-            Reply::Answered(answer) => answer_has_text(answer),
-            Reply::BadLine => true,
-            Reply::Joined { session, name } => pass_has_text(*session, name),
-            Reply::NoSession => true,
-            Reply::NoRole => true,
-            Reply::Taken => true,
-            Reply::Number => true,
         }
     }
 

@@ -88,16 +88,6 @@ fn reads_replies(rt: HostRuntime) -> Result<(), Fail> {
     Ok(())
 }
 
-// Whether the reply of that line has a text, also alone where it is an answer.
-fn has_text(alloc: Global, line: &[u8]) -> Result<bool, Fail> {
-    let reply = read_answer(alloc, line)?;
-    let alone = match &reply {
-        Reply::Answered(answer) => answer_has_text(answer),
-        _ => true,
-    };
-    Ok(alone && reply.has_text())
-}
-
 const EACH_REPLY: &[&str] = &[
     "done 1",
     "done 18446744073709551615 true",
