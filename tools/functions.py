@@ -57,7 +57,8 @@ def end_of(lines, first, indent):
 
 
 def functions_of_file(path, file, whole, names):
-    """The functions and the constants of one file. Callers can name all that is public in the whole of it, or what has one of these names."""
+    """The functions and the constants of one file. Callers can name all that is public in the whole of it, or what has one
+    of these names."""
     lines = path.read_text(encoding="utf-8").splitlines()
     kind = trait = ""
     of_trait = False
