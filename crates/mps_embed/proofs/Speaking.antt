@@ -5,7 +5,7 @@ use Rattle.mps_room.specs.contracts.solo.SoloCaller.TheImpl.{ghosts}
 use Rattle.mps_room.specs.declared.numbers.Numbers.{Numbers}
 use Rattle.mps_room.specs.declared.solo.Solo.{Solo}
 use Rattle.mps_wire.proofs.Making.{reply_keeps}
-use Rattle.mps_wire.specs.Talk.{RepliesTo}
+use Rattle.mps_wire.specs.Conversations.{RepliesTo}
 use Rattle.mps_embed.specs.Embedded.{EmbeddedState, IsAnswered}
 use Rattle.mps_embed.proofs.Places.{get_set_same, get_set_other}
 

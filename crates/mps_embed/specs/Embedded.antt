@@ -7,7 +7,7 @@ use Rattle.mps_room.specs.RoomState.{RoomState}
 use Rattle.mps_room.specs.contracts.solo.SoloCaller.TheImpl.{ghosts}
 use Rattle.mps_room.specs.declared.numbers.Numbers.{Numbers}
 use Rattle.mps_room.specs.declared.solo.Solo.{Solo}
-use Rattle.mps_wire.specs.Talk.{RepliesTo}
+use Rattle.mps_wire.specs.Conversations.{RepliesTo}
 
 -- such a room, as contracts see it
 pub record EmbeddedState : Type 0 where

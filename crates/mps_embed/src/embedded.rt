@@ -36,7 +36,7 @@ impl Model for Embedded {
     ghost use Rattle.mps_local.specs.Private.Codes.{coded_local};
     ghost use Rattle.mps_embed.specs.Embedded.{EmbeddedState};
     ghost use Rattle.mps_room.specs.Numbers.{kept_of};
-    ghost use Rattle.mps_wire.specs.Talk.{reply_of};
+    ghost use Rattle.mps_wire.specs.Conversations.{reply_of};
 
     ghost Value = { EmbeddedState };
 

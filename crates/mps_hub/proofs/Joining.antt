@@ -68,7 +68,7 @@ module _ {C R W : Type 0} (caller : Ghosts C) (pass : C → Known) (source : Sou
     before = before;
     after = after;
     taken = taken;
-    talked = h;
+    conversed = h;
   }
   joined session name before after reader' writer' Memory h joins taken = h.0
   joined session name before after reader' writer' Unkept h joins taken = h.0

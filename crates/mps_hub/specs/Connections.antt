@@ -13,7 +13,7 @@ use Rattle.mps_room.specs.declared.caller.Caller.{Ghosts}
 use Rattle.mps_wire.specs.Endings.{EndedAs}
 use Rattle.mps_wire.specs.Sending.{TookFront}
 use Rattle.mps_wire.specs.Streams.{streams}
-use Rattle.mps_wire.specs.Talk.{talks, talks_to_part}
+use Rattle.mps_wire.specs.Conversations.{converses, converses_in_part}
 use Rattle.mps_wire.specs.declared.conversation.Ending.{Ending}
 use Rattle.mps_wire.specs.declared.conversation.Ending.TheVariants.{Untold}
 use Rattle.mps_hub.specs.First.{HasNoFirstLine, IsFirstLine, IsJoin}
@@ -50,10 +50,10 @@ pub record WasCutShort {W : Type 0} (sink : SinkGhosts W) (old new : W) (reply :
 module _ {C R W : Type 0} (caller : Ghosts C) (source : SourceGhosts R) (sink : SinkGhosts W) (joined : Reply)
     (before : C) (reader : R) (writer : W) (after : C) (reader' : R) (writer' : W) where
   -- it was told so, and the lines that follow were its conversation
-  pub record HasTalked (ending : Ending) : Type 0 where
+  pub record HasConversed (ending : Ending) : Type 0 where
     pub told : W
     pub sent : WasSent sink writer told joined
-    pub ended : EndedAs (talks caller) (talks_to_part caller) before
+    pub ended : EndedAs (converses caller) (converses_in_part caller) before
         (streams source sink reader told) (streams source sink reader' writer') after ending
 
 -- What one connection comes to: a reader and a writer, as they were before it and as they are after it.
@@ -78,7 +78,7 @@ module _ {C R W : Type 0} (caller : Ghosts C) (pass : C → Known) (source : Sou
     pub before : C
     pub after : C
     pub taken : IsPassOf offer session name (pass before)
-    pub talked : HasTalked caller source sink (Joined session name) before joined writer after reader' writer' ending
+    pub conversed : HasConversed caller source sink (Joined session name) before joined writer after reader' writer' ending
 
   -- by how it ended
   abbrev pub HasAttended : Attended → Type 0

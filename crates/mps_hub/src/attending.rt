@@ -42,9 +42,8 @@ pub enum Attended {
 
 // The text of the reply, with its LF.
 fn text_of(alloc: Global, reply: &Reply) -> Result<Vec<u8>, AllocError>
-    ensures { (words : List ℕ) × SpellsReply words reply.now × IfOk result (λ text. text.items ≡ ended words) }
+    ensures { IfOk result (λ text. (words : List ℕ) × SpellsReply words reply.now × (text.items ≡ ended words)) }
 {
-    reply.has_text();
     let mut text = Vec::new(alloc);
     reply.write(&mut text)?;
     text.push(b'\n')?;
@@ -133,7 +132,7 @@ pub type Guest<'k, 'g, 'r, 'a, G, H, S, D> = Recorded<
 >;
 
 // Says that it joined, and converses. The pass stays one of its cell.
-fn talk<
+fn converse_joined<
     'k,
     'g,
     'r,
@@ -155,7 +154,7 @@ fn talk<
     requires writes { W.failed_calls writer.old < 2 ^ 61 }
     ensures cell { caller.new.inner.inner.pass.cell ≡ caller.old.inner.inner.pass.cell }
     ensures opening { caller.new.inner.inner.pass.opening ≡ caller.old.inner.inner.pass.opening }
-    ensures talked { HasJoined ⟦<Guest<'static, 'static, 'static, 'static, G, H, S, D> as Caller>⟧ R.Source W.Sink joined.now
+    ensures conversed { HasJoined ⟦<Guest<'static, 'static, 'static, 'static, G, H, S, D> as Caller>⟧ R.Source W.Sink joined.now
         caller.old reader.old writer.old caller.new reader.new writer.new result }
     ensures told { keeps_of caller.old.keeper ≡ false → whole_of caller.old.keeper ≡ true → IsTold result }
 {
@@ -171,13 +170,13 @@ fn talk<
 }
 
 // What a conversation leaves: how the connection ended, and the pass.
-struct Talked<'a> {
+struct Returned<'a> {
     ended: Attended,
     pass: Pass<'a>,
 }
 
 // Says that it joined, converses, and has the pass back as the conversation left it.
-fn talk_out<
+fn converse_and_return<
     'k,
     'g,
     'r,
@@ -194,18 +193,18 @@ fn talk_out<
     joined: &Reply,
     reader: &mut R,
     writer: &mut W,
-) -> Talked<'a>
+) -> Returned<'a>
     requires reads { R.calls reader.old < 2 ^ 62 }
     requires writes { W.failed_calls writer.old < 2 ^ 61 }
     ensures cell { result.pass.cell ≡ caller.entry.inner.inner.pass.cell }
     ensures opening { result.pass.opening ≡ caller.entry.inner.inner.pass.opening }
-    ensures talked { HasLeft ⟦<Guest<'static, 'static, 'static, 'static, G, H, S, D> as Caller>⟧ (λ c. c.inner.inner.pass) R.Source W.Sink joined.now
+    ensures conversed { HasLeft ⟦<Guest<'static, 'static, 'static, 'static, G, H, S, D> as Caller>⟧ (λ c. c.inner.inner.pass) R.Source W.Sink joined.now
         caller.entry reader.old writer.old reader.new writer.new result.pass result.ended }
     ensures told { keeps_of caller.entry.keeper ≡ false → whole_of caller.entry.keeper ≡ true → IsTold result.ended }
 {
     let mut caller = caller;
-    let ended = talk(alloc, &mut caller, joined, reader, writer);
-    Talked {
+    let ended = converse_joined(alloc, &mut caller, joined, reader, writer);
+    Returned {
         ended,
         pass: caller.inner.inner.pass,
     }
@@ -264,7 +263,9 @@ pub fn attend<
             let hold = Hold::new(rt, keeper_at(keepers, session - desk.first()));
             let caller = Recorded::new(hold, gated, line);
             let joined = Reply::Joined { session, name };
-            let Talked { ended, pass } = talk_out(alloc, caller, &joined, reader, writer);
+            let Returned { ended, pass } = converse_and_return(
+                alloc, caller, &joined, reader, writer,
+            );
             desk.give(rt, session, pass);
             ended
         }

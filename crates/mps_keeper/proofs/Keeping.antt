@@ -14,7 +14,7 @@ use Rattle.mps_room.specs.Numbers.{IsNumbered}
 use Rattle.mps_room.specs.declared.numbers.Told.{Told}
 use Rattle.mps_room.specs.declared.numbers.Told.TheVariants.{Fresh, Kept, Wrong, Refused}
 use Rattle.mps_wire.specs.Answers.{AnswersLines}
-use Rattle.mps_wire.specs.Talk.{RepliesTo, Unread, Called, Numbered, Starved, TalksLine, TalksAloud, TalksToPart, AnswersToPart, talks, talks_to_part}
+use Rattle.mps_wire.specs.Conversations.{RepliesTo, Unread, Called, Numbered, Starved, RepliesInText, ConversesLine, ConversesInPart, AnswersCut, converses, converses_in_part}
 use Rattle.mps_wire.proofs.Calling.{whole_is_part}
 use Rattle.mps_keeper.specs.Books.{TookMore}
 use Rattle.mps_keeper.specs.JournalLines.{SpellsJournalLine}
@@ -87,27 +87,27 @@ module _ {R : Type 0} (caller : Ghosts R) (keeps whole : R → Bool) (taken : R 
     replied line c reply d (Numbered s) = came c s.number s.command d s.came s.numbered
     replied line c reply d (Starved s) = stays c d s.unchanged
 
-    pub lines_lead : (lines : List (List ℕ)) (c : R) (out : List ℕ) (d : R) → AnswersLines (talks caller) lines c out d → Leads c d
+    pub lines_lead : (lines : List (List ℕ)) (c : R) (out : List ℕ) (d : R) → AnswersLines (converses caller) lines c out d → Leads c d
     lines_lead [] c out d a = stays c d a.1
     lines_lead (l ∷ lines) c out d a = further c a.2 d (replied l c a.4.line_is.reply a.2 a.4.line_is.replies) (lines_lead lines a.2 a.1 d a.5)
 
-    pub part_leads : (lines : List (List ℕ)) (c : R) (out : List ℕ) (d : R) → AnswersToPart (talks caller) (talks_to_part caller) lines c out d → Leads c d
+    pub part_leads : (lines : List (List ℕ)) (c : R) (out : List ℕ) (d : R) → AnswersCut (converses caller) (converses_in_part caller) lines c out d → Leads c d
     part_leads [] c out d a = stays c d a.1
     part_leads (l ∷ []) c out d a = replied l c a.line_is.reply d a.line_is.replies
     part_leads (l ∷ m ∷ lines) c out d a = further c a.2 d (replied l c a.4.line_is.reply a.2 a.4.line_is.replies) (part_leads (m ∷ lines) a.2 a.1 d a.5)
 
     -- one line more in front of answers, of the last of which a part is written
-    longer : (l : List ℕ) (done : List (List ℕ)) (c m e : R) (out others : List ℕ) (text : List ℕ) → out ≡ ended text ++ others → TalksAloud caller l c text m → AnswersToPart (talks caller) (talks_to_part caller) done m others e → AnswersToPart (talks caller) (talks_to_part caller) (l ∷ done) c out e
+    longer : (l : List ℕ) (done : List (List ℕ)) (c m e : R) (out others : List ℕ) (text : List ℕ) → out ≡ ended text ++ others → ConversesLine caller l c text m → AnswersCut (converses caller) (converses_in_part caller) done m others e → AnswersCut (converses caller) (converses_in_part caller) (l ∷ done) c out e
     longer l [] c m e out others text is line a =
         let same : ended text ≡ out = sym (is ∙ ap (λ (x : List ℕ). ended text ++ x) a.0 ∙ append-nil (ended text)) in
-        subst (λ (o : List ℕ). TalksToPart caller l c o e) same (subst (λ (s : R). TalksToPart caller l c (ended text) s) (sym a.1) (whole_is_part caller l c text m line))
+        subst (λ (o : List ℕ). ConversesInPart caller l c o e) same (subst (λ (s : R). ConversesInPart caller l c (ended text) s) (sym a.1) (whole_is_part caller l c text m line))
     longer l (n ∷ done) c m e out others text is line a = (text, others, m, is, line, a)
 
-    at_last : (l : List ℕ) (c : R) (written : List ℕ) (d : R) → keeps c ≡ true → whole c ≡ true → ((r : R) → caller.may_tell r ≡ whole r) → (b : Bool) → whole d ≡ b → TalksToPart caller l c written d → ToldIsKept caller taken (l ∷ []) c written d
+    at_last : (l : List ℕ) (c : R) (written : List ℕ) (d : R) → keeps c ≡ true → whole c ≡ true → ((r : R) → caller.may_tell r ≡ whole r) → (b : Bool) → whole d ≡ b → ConversesInPart caller l c written d → ToldIsKept caller taken (l ∷ []) c written d
     at_last l c written d s w tells true on a = record { asked = l ∷ []; others = []; first = refl; reached = d; answered = a; whole = tells d ∙ on; kept = (replied l c a.line_is.reply d a.line_is.replies).goes s on; since = no_more (taken d) }
     at_last l c written d s w tells false off a = record { asked = []; others = l ∷ []; first = refl; reached = c; answered = (a.silent (tells d ∙ off), refl); whole = tells c ∙ w; kept = nothing c; since = (replied l c a.line_is.reply d a.line_is.replies).more }
 
-    pub told_is_kept : ((r : R) → caller.may_tell r ≡ whole r) → (lines : List (List ℕ)) (c : R) (written : List ℕ) (d : R) → keeps c ≡ true → whole c ≡ true → AnswersToPart (talks caller) (talks_to_part caller) lines c written d → ToldIsKept caller taken lines c written d
+    pub told_is_kept : ((r : R) → caller.may_tell r ≡ whole r) → (lines : List (List ℕ)) (c : R) (written : List ℕ) (d : R) → keeps c ≡ true → whole c ≡ true → AnswersCut (converses caller) (converses_in_part caller) lines c written d → ToldIsKept caller taken lines c written d
     told_is_kept tells [] c written d s w a = record { asked = []; others = []; first = refl; reached = c; answered = (a.0, refl); whole = tells c ∙ w; kept = nothing c; since = (stays c d a.1).more }
     told_is_kept tells (l ∷ []) c written d s w a = at_last l c written d s w tells (whole d) refl a
     told_is_kept tells (l ∷ m ∷ lines) c written d s w a =

@@ -1,7 +1,8 @@
 -- What a keeper is known to have kept.
 use Rattle.std.specs.Prelude.{◌≡◌, ℕ, true, ⊤, List, [], ◌∷◌, ◌++◌, Option}
 use Rattle.mps_room.specs.declared.caller.Caller.{Ghosts}
-use Rattle.mps_wire.specs.Talk.{AnswersToPart, talks, talks_to_part}
+use Rattle.mps_wire.specs.Answers.{AnswersCut}
+use Rattle.mps_wire.specs.Conversations.{converses, converses_in_part}
 use Rattle.mps_room.specs.declared.entry.Entry.{Entry}
 use Rattle.mps_keeper.specs.JournalLines.{SpellsJournalLine}
 use Rattle.mps_keeper.specs.Books.{Took, TookMore}
@@ -30,7 +31,7 @@ module _ {R : Type 0} (caller : Ghosts R) (taken : R → Option (List ℕ)) (lin
     pub others : List (List ℕ)
     pub first : lines ≡ asked ++ others
     pub reached : R
-    pub answered : AnswersToPart (talks caller) (talks_to_part caller) asked before written reached
+    pub answered : AnswersCut (converses caller) (converses_in_part caller) asked before written reached
     pub whole : caller.may_tell reached ≡ true
     pub kept : KeptOn (caller.names before) (taken before) (taken reached) (caller.last before) (caller.last reached) (caller.made before) (caller.made reached)
     pub since : TookMore (taken reached) (taken after)

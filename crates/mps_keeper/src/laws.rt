@@ -16,7 +16,7 @@ ghost use Rattle.mps_keeper.specs.Restored.{LinesRestored};
 ghost use Rattle.mps_keeper.specs.Trails.{KeptOn, ToldIsKept};
 ghost use Rattle.mps_keeper.specs.declared.recorded.Recorded.{Recorded as RecordedOf};
 ghost use Rattle.mps_wire.specs.Answers.{AnswersLines};
-ghost use Rattle.mps_wire.specs.Talk.{AnswersToPart, talks, talks_to_part};
+ghost use Rattle.mps_wire.specs.Conversations.{converses, converses_in_part};
 
 use crate::keep::{Keep, Seated};
 use crate::recorded::Recorded;
@@ -58,17 +58,17 @@ pub fn a_legal_journal_runs_again()
 /// written to a conversation are the answers to the first of its lines, up to where nothing was lost.
 pub fn what_is_answered_is_kept<K: Keep, C: Seated>()
     ensures whole { (asked : List (List ℕ)) (before : RecordedOf K C) (out : List ℕ) (after : RecordedOf K C)
-        → AnswersLines (talks ⟦<Recorded<K, C> as Caller>⟧) asked before out after
+        → AnswersLines (converses ⟦<Recorded<K, C> as Caller>⟧) asked before out after
         → K.keeps before.keeper ≡ true → K.whole after.keeper ≡ true
         → KeptOn (C.names before.inner) (K.taken before.keeper) (K.taken after.keeper)
         (C.last before.inner) (C.last after.inner) (C.made before.inner) (C.made after.inner) }
     ensures part { (asked : List (List ℕ)) (before : RecordedOf K C) (out : List ℕ) (after : RecordedOf K C)
-        → AnswersToPart (talks ⟦<Recorded<K, C> as Caller>⟧) (talks_to_part ⟦<Recorded<K, C> as Caller>⟧) asked before out after
+        → AnswersCut (converses ⟦<Recorded<K, C> as Caller>⟧) (converses_in_part ⟦<Recorded<K, C> as Caller>⟧) asked before out after
         → K.keeps before.keeper ≡ true → K.whole after.keeper ≡ true
         → KeptOn (C.names before.inner) (K.taken before.keeper) (K.taken after.keeper)
         (C.last before.inner) (C.last after.inner) (C.made before.inner) (C.made after.inner) }
     ensures told { (asked : List (List ℕ)) (before : RecordedOf K C) (written : List ℕ) (after : RecordedOf K C)
-        → AnswersToPart (talks ⟦<Recorded<K, C> as Caller>⟧) (talks_to_part ⟦<Recorded<K, C> as Caller>⟧) asked before written after
+        → AnswersCut (converses ⟦<Recorded<K, C> as Caller>⟧) (converses_in_part ⟦<Recorded<K, C> as Caller>⟧) asked before written after
         → K.keeps before.keeper ≡ true → K.whole before.keeper ≡ true
         → ToldIsKept ⟦<Recorded<K, C> as Caller>⟧ (λ r. K.taken r.keeper) asked before written after }
 {}

@@ -68,7 +68,9 @@ pub fn session_of<'a>(alloc: Global, protocol: &Protocol) -> Result<Session, Too
 {
     match open_protocol(alloc, protocol) {
         Ok(session) => Ok(session),
-        Err(ProtocolFault::Unmergeable { role, choice }) => Err(unprojected(protocol, role, choice)),
+        Err(ProtocolFault::Unmergeable { role, choice }) => Err(unprojected(
+            protocol, role, choice,
+        )),
         Err(ProtocolFault::Memory) => Err(ToolFault::Memory),
         Err(ProtocolFault::Global(_)) => unreachable!(),
     }

@@ -261,7 +261,11 @@ where
 }
 
 // So many new sessions of a protocol without faults.
-fn sessions_of<'a>(alloc: Global, protocol: &Protocol, n: u64) -> Result<Vec<Session>, ToolFault<'a>>
+fn sessions_of<'a>(
+    alloc: Global,
+    protocol: &Protocol,
+    n: u64,
+) -> Result<Vec<Session>, ToolFault<'a>>
     requires faultless { fault_of protocol.now.roles.items (global_type protocol.now.body) ≡ None }
     requires few { n ≤ 16 }
     ensures count { IfOk result (λ sessions. length sessions.items ≡ n) }
@@ -277,7 +281,12 @@ fn sessions_of<'a>(alloc: Global, protocol: &Protocol, n: u64) -> Result<Vec<Ses
 }
 
 /// Opens so many sessions of a protocol without faults, of which the first has that number.
-pub fn hub_of<'a>(alloc: Global, protocol: &Protocol, first: u64, sessions: u64) -> Result<Hub, ToolFault<'a>>
+pub fn hub_of<'a>(
+    alloc: Global,
+    protocol: &Protocol,
+    first: u64,
+    sessions: u64,
+) -> Result<Hub, ToolFault<'a>>
     requires faultless { fault_of protocol.now.roles.items (global_type protocol.now.body) ≡ None }
     requires number { first ≤ 2 ^ 63 }
     requires some { (1 ≤ sessions) × (sessions ≤ 16) }

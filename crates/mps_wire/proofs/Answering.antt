@@ -4,7 +4,7 @@ use Rattle.std.proofs.lemmas.Bool.{cases_lt}
 use Rattle.mps_local.specs.Local.{LocalType}
 use Rattle.mps_line.specs.declared.write_replies.Reply.{Reply}
 use Rattle.mps_room.specs.declared.entry.Entry.{Entry}
-use Rattle.mps_wire.specs.Answers.{Answering, AnswersLines, Answered, AnsweredAll}
+use Rattle.mps_wire.specs.Answers.{Answering, AnswersLines, Answered, OfAllLines}
 use Rattle.mps_lines.specs.Lines.{HasNoBreak, ended, with_last, most_kept, front}
 use Rattle.mps_wire.specs.Script.{IsUnread, IsApplied, IsStarved, RepliesTo, AnswersLine}
 use Rattle.mps_lines.proofs.Splitting.{split_nothing, split_more, split_ended, front_front, front_short}
@@ -93,12 +93,12 @@ module _ {S : Type 0} (answers : Answering S) (start : S) where
     }
 
     -- the end of the bytes, with a rest
-    pub all_with_rest : (bytes kept out text : List ℕ) (mid after : S) → Answered answers start bytes kept out mid → (kept ≡ [] → ⊥) → answers kept mid text after → AnsweredAll answers start bytes (out ++ ended text) after
+    pub all_with_rest : (bytes kept out text : List ℕ) (mid after : S) → Answered answers start bytes kept out mid → (kept ≡ [] → ⊥) → answers kept mid text after → OfAllLines bytes (λ lines. AnswersLines answers lines start (out ++ ended text) after)
     all_with_rest bytes kept out text mid after a ne b = record {
       lines = a.lines;
       rest = a.rest;
       split = a.split;
-      answers_lines =
+      holds =
           subst (λ (l : List (List ℕ)). AnswersLines answers l start (out ++ ended text) after) (sym (a_last a.lines a.rest (λ e. ne (a.front_kept ∙ e))))
           (lines_push a.lines a.rest start mid after out text a.answers_lines (last_line kept a.rest text mid after a.front_kept b));
     }

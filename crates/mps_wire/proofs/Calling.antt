@@ -12,12 +12,12 @@ use Rattle.mps_lines.specs.Lines.{ended, max_line, most_kept, front}
 use Rattle.mps_lines.proofs.Splitting.{front_short}
 use Rattle.mps_room.specs.declared.caller.Caller.{Ghosts}
 use Rattle.mps_wire.specs.Sending.{TookFront}
-use Rattle.mps_wire.specs.Talk.{IsRequest, RepliesTo, Unread, Called, Numbered, Starved, TalksLine, talks, talks_to_part}
+use Rattle.mps_wire.specs.Conversations.{IsRequest, RepliesTo, Unread, Called, Numbered, Starved, RepliesInText, converses, converses_in_part}
 use Rattle.mps_wire.specs.Private.Endings.{IsWholly, IsPartly}
 use Rattle.mps_wire.proofs.Answering.{GoesByFront}
 use Rattle.mps_wire.proofs.Bytes.{Appends-none}
 use Rattle.mps_wire.proofs.Serving.{shown_ascii}
-use Rattle.mps_wire.proofs.Talking.{IsWholePart}
+use Rattle.mps_wire.proofs.Taking.{IsWholePart}
 
 -- a line that was read, by the names that are known, is a request
 pub request : (names known : List (List ℕ)) (line : List ℕ) (number given : Option ℕ) (command : Command) → length line ≤ max_line → known ≡ names → given ≡ number → (SpellsNumbered names line number command → AllByRecursion IsShown line) → SpellsNumbered known line given command → IsRequest names line number command
@@ -53,65 +53,85 @@ module _ {C : Type 0} (caller : Ghosts C) where
       by_case (Starved s) = let short = s.readable.short in absurd (omega arith)
 
   -- what a line does, its front does
-  front_line : (line : List ℕ) (c : C) (text : List ℕ) (d : C) → TalksLine caller line c text d → TalksLine caller (front line) c text d
-  front_line line c text d a =
+  front_reply : (line : List ℕ) (c d : C) (reply : Reply) → RepliesTo caller line c reply d → RepliesTo caller (front line) c reply d
+  front_reply line c d reply r =
       ⊎_elim
-      (λ (long : most_kept < length line). record { reply = a.reply; replies = long_front line c d a.reply long a.replies; spelled = a.spelled })
-      (λ (short : length line ≤ most_kept). subst (λ (l : List ℕ). TalksLine caller l c text d) (sym (front_short line short)) a)
+      (λ (long : most_kept < length line). long_front line c d reply long r)
+      (λ (short : length line ≤ most_kept). subst (λ (l : List ℕ). RepliesTo caller l c reply d) (sym (front_short line short)) r)
       (cases_lt most_kept (length line))
+
+  front_line : (line : List ℕ) (c : C) (text : List ℕ) (d : C) → RepliesInText caller line c text d → RepliesInText caller (front line) c text d
+  front_line line c text d a = record { reply = a.reply; replies = front_reply line c d a.reply a.replies; spelled = a.spelled }
 
   -- a line that was answered, by its front
   module _ (line kept : List ℕ) (is : front line ≡ kept) (c d : C) (taken taken' : Option (List ℕ)) where
-    pub wholly_front : IsWholly (talks caller) line c d taken taken' → IsWholly (talks caller) kept c d taken taken'
+    pub wholly_front : IsWholly (converses caller) line c d taken taken' → IsWholly (converses caller) kept c d taken taken'
     wholly_front w = record {
       text = w.text;
-      line_is = record { line_is = subst (λ (l : List ℕ). TalksLine caller l c w.text d) is (front_line line c w.text d w.line_is.line_is); aloud = w.line_is.aloud };
+      line_is = record { line_is = subst (λ (l : List ℕ). RepliesInText caller l c w.text d) is (front_line line c w.text d w.line_is.line_is); aloud = w.line_is.aloud };
       sent = w.sent;
     }
 
-    pub partly_front : IsPartly (talks_to_part caller) line c d taken taken' → IsPartly (talks_to_part caller) kept c d taken taken'
+    pub partly_front : IsPartly (converses_in_part caller) line c d taken taken' → IsPartly (converses_in_part caller) kept c d taken taken'
     partly_front w = record {
       written = w.written;
       line_is = record {
-        text = w.line_is.text;
-        unwritten = w.line_is.unwritten;
-        line_is = subst (λ (l : List ℕ). TalksLine caller l c w.line_is.text d) is (front_line line c w.line_is.text d w.line_is.line_is);
-        whole = w.line_is.whole;
+        reply = w.line_is.reply;
+        replies = subst (λ (l : List ℕ). RepliesTo caller l c w.line_is.reply d) is (front_reply line c d w.line_is.reply w.line_is.replies);
+        begun = w.line_is.begun;
         silent = w.line_is.silent;
       };
       sent = w.sent;
     }
 
-  whole_line : (line : List ℕ) (c : C) (text : List ℕ) (d : C) → TalksLine caller (front line) c text d → TalksLine caller line c text d
-  whole_line line c text d a =
+  whole_reply : (line : List ℕ) (c d : C) (reply : Reply) → RepliesTo caller (front line) c reply d → RepliesTo caller line c reply d
+  whole_reply line c d reply r =
       ⊎_elim
-      (λ (long : most_kept < length line). record { reply = a.reply; replies = long_line line c d a.reply long a.replies; spelled = a.spelled })
-      (λ (short : length line ≤ most_kept). subst (λ (l : List ℕ). TalksLine caller l c text d) (front_short line short) a)
+      (λ (long : most_kept < length line). long_line line c d reply long r)
+      (λ (short : length line ≤ most_kept). subst (λ (l : List ℕ). RepliesTo caller l c reply d) (front_short line short) r)
       (cases_lt most_kept (length line))
 
+  whole_line : (line : List ℕ) (c : C) (text : List ℕ) (d : C) → RepliesInText caller (front line) c text d → RepliesInText caller line c text d
+  whole_line line c text d a = record { reply = a.reply; replies = whole_reply line c d a.reply a.replies; spelled = a.spelled }
+
   -- a caller's lines go by their fronts
-  pub talks_by_front : GoesByFront (talks caller)
-  talks_by_front line c text d a = record { line_is = whole_line line c text d a.line_is; aloud = a.aloud }
+  pub converses_by_front : GoesByFront (converses caller)
+  converses_by_front line c text d a = record { line_is = whole_line line c text d a.line_is; aloud = a.aloud }
 
-  pub part_by_front : GoesByFront (talks_to_part caller)
-  part_by_front line c written d a = record { text = a.text; unwritten = a.unwritten; line_is = whole_line line c a.text d a.line_is; whole = a.whole; silent = a.silent }
+  pub part_by_front : GoesByFront (converses_in_part caller)
+  part_by_front line c written d a = record { reply = a.reply; replies = whole_reply line c d a.reply a.replies; begun = a.begun; silent = a.silent }
 
-  pub whole_is_part : IsWholePart (talks caller) (talks_to_part caller)
-  whole_is_part line c text d a = record { text = text; unwritten = []; line_is = a.line_is; whole = sym (append-nil (ended text)); silent = λ off. absurd (let bad : true ≡ false = sym a.aloud ∙ off in cc) }
+  pub whole_is_part : IsWholePart (converses caller) (converses_in_part caller)
+  whole_is_part line c text d a = record {
+    reply = a.line_is.reply;
+    replies = a.line_is.replies;
+    begun = inr (text, [], a.line_is.spelled, sym (append-nil (ended text)));
+    silent = λ off. absurd (let bad : true ≡ false = sym a.aloud ∙ off in cc);
+  }
 
-  module _ (line : List ℕ) (c d : C) (text : List ℕ) (told : TalksLine caller line c text d) where
+  module _ (line : List ℕ) (c d : C) (reply : Reply) (replies : RepliesTo caller line c reply d) where
     -- there was no memory for the text, or it may not be told
-    pub unwritten_line : (taken : Option (List ℕ)) → IsPartly (talks_to_part caller) line c d taken taken
-    unwritten_line taken = record { written = []; line_is = record { text = text; unwritten = ended text; line_is = told; whole = refl; silent = λ off. refl }; sent = Appends-none taken }
+    pub unwritten_line : (taken : Option (List ℕ)) → IsPartly (converses_in_part caller) line c d taken taken
+    unwritten_line taken = record { written = []; line_is = record { reply = reply; replies = replies; begun = inl refl; silent = λ off. refl }; sent = Appends-none taken }
 
-    -- the sink failed
-    pub cut_line : caller.may_tell d ≡ true → (taken taken' : Option (List ℕ)) (bytes : List ℕ) → bytes ≡ ended text → TookFront taken taken' bytes → IsPartly (talks_to_part caller) line c d taken taken'
-    cut_line aloud taken taken' bytes is took = record {
-      written = take took.count bytes;
-      line_is = record { text = text; unwritten = drop took.count bytes; line_is = told; whole = sym is ∙ sym (take-append-drop took.count bytes); silent = λ off. absurd (let bad : true ≡ false = sym aloud ∙ off in cc) };
-      sent = took.taken;
-    }
+    module _ (text : List ℕ) (spelled : SpellsReply text reply) (aloud : caller.may_tell d ≡ true) (taken taken' : Option (List ℕ)) (bytes : List ℕ) (is : bytes ≡ ended text) where
+      -- the sink failed
+      pub cut_line : TookFront taken taken' bytes → IsPartly (converses_in_part caller) line c d taken taken'
+      cut_line took = record {
+        written = take took.count bytes;
+        line_is = record {
+          reply = reply;
+          replies = replies;
+          begun = inr (text, drop took.count bytes, spelled, sym is ∙ sym (take-append-drop took.count bytes));
+          silent = λ off. absurd (let bad : true ≡ false = sym aloud ∙ off in cc);
+        };
+        sent = took.taken;
+      }
 
-    -- the sink took it all
-    pub sent_line : caller.may_tell d ≡ true → (taken taken' : Option (List ℕ)) (bytes : List ℕ) → bytes ≡ ended text → Appends taken taken' bytes → IsWholly (talks caller) line c d taken taken'
-    sent_line aloud taken taken' bytes is sent = record { text = text; line_is = record { line_is = told; aloud = aloud }; sent = subst (λ (b : List ℕ). Appends taken taken' b) is sent }
+      -- the sink took it all
+      pub sent_line : Appends taken taken' bytes → IsWholly (converses caller) line c d taken taken'
+      sent_line sent = record {
+        text = text;
+        line_is = record { line_is = record { reply = reply; replies = replies; spelled = spelled }; aloud = aloud };
+        sent = subst (λ (b : List ℕ). Appends taken taken' b) is sent;
+      }

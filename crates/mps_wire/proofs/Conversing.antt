@@ -7,7 +7,7 @@ use Rattle.mps_wire.specs.Answers.{Answering}
 use Rattle.mps_wire.specs.Endings.{EndedAs, WasAnswered, WasCut}
 use Rattle.mps_wire.specs.Private.Endings.{TurnedTo, TakesOn, TakesToPart, failed_by}
 use Rattle.mps_wire.specs.Runs.{Going}
-use Rattle.mps_wire.specs.Streams.{Streams, Counts}
+use Rattle.mps_wire.specs.Streams.{Streams, Counts, all_went_well, one_read_ended, one_read_failed, one_write_failed}
 use Rattle.mps_wire.specs.declared.conversation.Broken.{Broken}
 use Rattle.mps_wire.specs.declared.conversation.Ending.{Ending}
 use Rattle.mps_wire.specs.declared.conversation.Ending.TheVariants.{Closed, ReadFault, WriteFault, Turns, Memory, Untold}
@@ -67,14 +67,14 @@ module _ {S : Type 0} (answers part : Answering S) (start : S) where
     written = [];
     bytes = Consumes-none s.left;
     sent = Appends-none s.taken;
-    answered = record { lines = []; rest = []; split = split_nothing; done = []; others = []; first = refl; answers_lines = (refl, refl) };
+    answered = record { lines = []; rest = []; split = split_nothing; holds = record { answered = []; others = []; first = refl; answers_lines = (refl, refl) } };
   }
 
   -- the turn that ended it
-  pub ends_as : (first old now : Streams) (kept : List ℕ) (st : S) (e : Ending) → Counts first old 0 0 0 → TurnedTo answers part start first old now kept st (Some e) → EndedAs answers part start first now st e
-  ends_as first old now kept st Closed counts h = (h.0, counts_more first old now counts 0 1 0 h.1, h.2)
-  ends_as first old now kept st ReadFault counts h = (h.0, counts_more first old now counts 1 0 0 h.1)
+  pub ends_as : (first old now : Streams) (kept : List ℕ) (st : S) (e : Ending) → Counts first old all_went_well → TurnedTo answers part start first old now kept st (Some e) → EndedAs answers part start first now st e
+  ends_as first old now kept st Closed counts h = (h.0, counts_more first old now counts one_read_ended h.1, h.2)
+  ends_as first old now kept st ReadFault counts h = (h.0, counts_more first old now counts one_read_failed h.1)
   ends_as first old now kept st Turns counts h = absurd h
-  ends_as first old now kept st WriteFault counts h = (h.0, counts_more first old now counts 0 0 1 h.1)
-  ends_as first old now kept st Memory counts h = (h.0, counts_more first old now counts 0 0 0 h.1)
-  ends_as first old now kept st Untold counts h = (h.0, counts_more first old now counts 0 0 0 h.1)
+  ends_as first old now kept st WriteFault counts h = (h.0, counts_more first old now counts one_write_failed h.1)
+  ends_as first old now kept st Memory counts h = (h.0, counts_more first old now counts all_went_well h.1)
+  ends_as first old now kept st Untold counts h = (h.0, counts_more first old now counts all_went_well h.1)

@@ -19,10 +19,10 @@ use Rattle.mps_room.specs.declared.numbers.Told.{Told}
 use Rattle.mps_room.specs.declared.numbers.Told.TheVariants.{Fresh, Kept, Wrong, Refused as CalledInVain}
 use Rattle.mps_room.proofs.Faithful.{answer_other}
 use Rattle.mps_fidelity.specs.Fidelity.{AreOfOneProtocol}
-use Rattle.mps_wire.specs.Answers.{Answering, AnswersLines, AnswersInPart}
+use Rattle.mps_wire.specs.Answers.{Answering, AnswersCut, AnswersLines, CutAnywhere}
 use Rattle.mps_wire.specs.Fidelity.{mismatch, MeetsNoMismatch, HasNoMismatch}
-use Rattle.mps_wire.specs.Talk.{AnswersToPart, talks, talks_to_part}
-use Rattle.mps_wire.specs.Talk as talking
+use Rattle.mps_wire.specs.Conversations.{converses, converses_in_part}
+use Rattle.mps_wire.specs.Conversations as conversations
 use Rattle.mps_lines.specs.Lines.{HasNoBreak, ended, IsSplit}
 use Rattle.mps_wire.specs.Script.{RepliesTo, AnswersLine}
 
@@ -108,7 +108,7 @@ module _ (one_reply : (a : List ℕ) (r s : Reply) → SpellsReply a r → Spell
         written_fits (AnswersLine names types) (λ j. ⊤) script_line asked lines [] after out written unwritten rest tt a e split
 
     -- the same of answers up to some place in them
-    pub part_fits : (asked lines : List (List ℕ)) (written rest : List ℕ) → AnswersInPart (AnswersLine names types) [] asked written → IsSplit written lines rest → AllByRecursion Fits lines
+    pub part_fits : (asked lines : List (List ℕ)) (written rest : List ℕ) → CutAnywhere (AnswersLine names types) [] asked written → IsSplit written lines rest → AllByRecursion Fits lines
     part_fits asked lines written rest a split = script_fits a.answered lines a.out written a.unwritten rest a.after a.answers_lines a.part split
 
   -- ---- conversations
@@ -129,7 +129,7 @@ module _ (one_reply : (a : List ℕ) (r s : Reply) → SpellsReply a r → Spell
     kept_other : (c : C) (a b : Answer) → caller.kept c ≡ Some a → caller.kept c ≡ Some b → b ≢ mismatch → a ≢ mismatch
     kept_other c a b here there other e = other (same_Some b a (sym there ∙ here) ∙ e)
 
-    came_free : (c : C) (number : ℕ) (command : Command) (d : C) (came : Told) (r : Reply) → HasNoMismatch caller types c → IsNumbered caller.calls caller.last caller.kept c number command d came → talking.IsToldAs caller d came r → (r ≢ mismatched) × HasNoMismatch caller types d
+    came_free : (c : C) (number : ℕ) (command : Command) (d : C) (came : Told) (r : Reply) → HasNoMismatch caller types c → IsNumbered caller.calls caller.last caller.kept c number command d came → conversations.IsToldAs caller d came r → (r ≢ mismatched) × HasNoMismatch caller types d
     came_free c number command d Fresh r free n told =
         let other = accepted_other n.answer n.accepted in (
           answered_other told.0 r told.2 (kept_other d told.0 n.answer told.1 n.told other),
@@ -144,44 +144,50 @@ module _ (one_reply : (a : List ℕ) (r s : Reply) → SpellsReply a r → Spell
       record { of_one_protocol = still c command (Refused refusal) d free.of_one_protocol n.call; keeps_none = λ a is. free.keeps_none a (sym n.kept_stays ∙ is) },
     )
 
-    reply_free : (line : List ℕ) (c : C) (r : Reply) (d : C) → HasNoMismatch caller types c → talking.RepliesTo caller line c r d → (r ≢ mismatched) × HasNoMismatch caller types d
-    reply_free line c r d free (talking.Unread u) = ((λ e. let b = u.bad in cc), subst (HasNoMismatch caller types) (sym u.unchanged) free)
-    reply_free line c r d free (talking.Called s) = (
+    reply_free : (line : List ℕ) (c : C) (r : Reply) (d : C) → HasNoMismatch caller types c → conversations.RepliesTo caller line c r d → (r ≢ mismatched) × HasNoMismatch caller types d
+    reply_free line c r d free (conversations.Unread u) = ((λ e. let b = u.bad in cc), subst (HasNoMismatch caller types) (sym u.unchanged) free)
+    reply_free line c r d free (conversations.Called s) = (
       answered_other s.answer r s.told (none.other c s.command s.answer d free.of_one_protocol s.call),
       record { of_one_protocol = still c s.command s.answer d free.of_one_protocol s.call; keeps_none = λ a is. free.keeps_none a (sym s.kept_stays ∙ is) },
     )
-    reply_free line c r d free (talking.Numbered s) = came_free c s.number s.command d s.came r free s.numbered s.told
-    reply_free line c r d free (talking.Starved s) = ((λ e. let b = s.told in cc), subst (HasNoMismatch caller types) (sym s.unchanged) free)
+    reply_free line c r d free (conversations.Numbered s) = came_free c s.number s.command d s.came r free s.numbered s.told
+    reply_free line c r d free (conversations.Starved s) = ((λ e. let b = s.told in cc), subst (HasNoMismatch caller types) (sym s.unchanged) free)
 
-    talk_line : (line : List ℕ) (c : C) (text : List ℕ) (d : C) → HasNoMismatch caller types c → talking.TalksLine caller line c text d → IsFit text × HasNoMismatch caller types d
-    talk_line line c text d free a =
+    conversed_line : (line : List ℕ) (c : C) (text : List ℕ) (d : C) → HasNoMismatch caller types c → conversations.RepliesInText caller line c text d → IsFit text × HasNoMismatch caller types d
+    conversed_line line c text d free a =
         let r = reply_free line c a.reply d free a.replies in
         (text_fits text a.reply a.spelled r.0, r.1)
 
     -- the same lines, whether they may be told or not
     abbrev said : Answering C
-    said line c text d = talking.TalksLine caller line c text d
+    said line c text d = conversations.RepliesInText caller line c text d
 
-    lines_said : (lines : List (List ℕ)) (c : C) (out : List ℕ) (d : C) → AnswersLines (talks caller) lines c out d → AnswersLines said lines c out d
+    lines_said : (lines : List (List ℕ)) (c : C) (out : List ℕ) (d : C) → AnswersLines (converses caller) lines c out d → AnswersLines said lines c out d
     lines_said [] c out d a = a
     lines_said (l ∷ lines) c out d a = (a.0, a.1, a.2, a.3, a.4.line_is, lines_said lines a.2 a.1 d a.5)
 
     said_fits : (asked lines : List (List ℕ)) (c d : C) (out written unwritten rest : List ℕ) → HasNoMismatch caller types c → AnswersLines said asked c out d → out ≡ written ++ unwritten → IsSplit written lines rest → AllByRecursion Fits lines
     said_fits asked lines c d out written unwritten rest free a e split =
-        written_fits said (HasNoMismatch caller types) talk_line asked lines c d out written unwritten rest free a e split
+        written_fits said (HasNoMismatch caller types) conversed_line asked lines c d out written unwritten rest free a e split
 
-    pub talk_fits : (asked lines : List (List ℕ)) (c d : C) (out written unwritten rest : List ℕ) → HasNoMismatch caller types c → AnswersLines (talks caller) asked c out d → out ≡ written ++ unwritten → IsSplit written lines rest → AllByRecursion Fits lines
-    talk_fits asked lines c d out written unwritten rest free a e split = said_fits asked lines c d out written unwritten rest free (lines_said asked c out d a) e split
+    pub conversation_fits : (asked lines : List (List ℕ)) (c d : C) (out written unwritten rest : List ℕ) → HasNoMismatch caller types c → AnswersLines (converses caller) asked c out d → out ≡ written ++ unwritten → IsSplit written lines rest → AllByRecursion Fits lines
+    conversation_fits asked lines c d out written unwritten rest free a e split = said_fits asked lines c d out written unwritten rest free (lines_said asked c out d a) e split
 
-    -- answers of which the last is written in part, whole
-    completed : (lines : List (List ℕ)) (c : C) (written : List ℕ) (d : C) → AnswersToPart (talks caller) (talks_to_part caller) lines c written d → (unwritten : List ℕ) × AnswersLines said lines c (written ++ unwritten) d
-    completed [] c written d a = ([], (ap (λ (l : List ℕ). l ++ []) a.0, a.1))
-    completed (l ∷ []) c written d a = (a.unwritten, (a.text, [], d, sym a.whole ∙ sym (append-nil (ended a.text)), a.line_is, (refl, refl)))
+    -- of answers of which the last is written in part, those of which something is written, whole
+    completed : (lines : List (List ℕ)) (c : C) (written : List ℕ) (d : C) → AnswersCut (converses caller) (converses_in_part caller) lines c written d
+        → (told : List (List ℕ)) × (unwritten : List ℕ) × (e : C) × AnswersLines said told c (written ++ unwritten) e
+    completed [] c written d a = ([], [], d, (ap (λ (l : List ℕ). l ++ []) a.0, a.1))
+    completed (l ∷ []) c written d a =
+        ⊎_elim
+        (λ (none : written ≡ []). ([], [], c, (ap (λ (w : List ℕ). w ++ []) none, refl)))
+        (λ (f : (text : List ℕ) × (unwritten : List ℕ) × SpellsReply text a.reply × (ended text ≡ written ++ unwritten)).
+        (l ∷ [], f.1, d, (f.0, [], d, sym f.3 ∙ sym (append-nil (ended f.0)), record { reply = a.reply; replies = a.replies; spelled = f.2 }, (refl, refl))))
+        a.begun
     completed (l ∷ m ∷ lines) c written d a =
         let more = completed (m ∷ lines) a.2 a.1 d a.5 in
-        (more.0, (a.0, a.1 ++ more.0, a.2, ap (λ (x : List ℕ). x ++ more.0) a.3 ∙ append_assoc (ended a.0) a.1 more.0, a.4.line_is, more.1))
+        (l ∷ more.0, more.1, more.2, (a.0, a.1 ++ more.1, a.2, ap (λ (x : List ℕ). x ++ more.1) a.3 ∙ append_assoc (ended a.0) a.1 more.1, a.4.line_is, more.3))
 
-    pub talk_part_fits : (asked lines : List (List ℕ)) (c d : C) (written rest : List ℕ) → HasNoMismatch caller types c → AnswersToPart (talks caller) (talks_to_part caller) asked c written d → IsSplit written lines rest → AllByRecursion Fits lines
-    talk_part_fits asked lines c d written rest free a split =
+    pub conversation_part_fits : (asked lines : List (List ℕ)) (c d : C) (written rest : List ℕ) → HasNoMismatch caller types c → AnswersCut (converses caller) (converses_in_part caller) asked c written d → IsSplit written lines rest → AllByRecursion Fits lines
+    conversation_part_fits asked lines c d written rest free a split =
         let w = completed asked c written d a in
-        said_fits asked lines c d (written ++ w.0) written w.0 rest free w.1 refl split
+        said_fits w.0 lines c w.2 (written ++ w.1) written w.1 rest free w.3 refl split

@@ -6,7 +6,7 @@ pub mod Turning
 pub mod Outcomes
 pub mod Carrying
 pub mod Faithful
-pub mod Talking
+pub mod Taking
 pub mod Calling
 pub mod Conversing
 pub mod Making

@@ -19,7 +19,7 @@ use Rattle.mps_wire.specs.Making.{accepted_of, accepted_anew, accepted_line, acc
 use Rattle.mps_wire.specs.Streams.{Streams}
 use Rattle.mps_wire.specs.declared.conversation.Ending.{Ending}
 use Rattle.mps_wire.specs.declared.conversation.Ending.TheVariants.{Closed, ReadFault, WriteFault, Turns, Memory, Untold}
-use Rattle.mps_wire.specs.Talk.{RepliesTo, Unread, Called, Numbered, Starved, TalksLine, AnswersToPart, talks, talks_to_part}
+use Rattle.mps_wire.specs.Conversations.{RepliesTo, Unread, Called, Numbered, Starved, RepliesInText, converses, converses_in_part}
 
 grown_if : (b : Bool) (j : List Entry) (e : Entry) → (if b then j ++ e ∷ [] else j) ≡ j ++ (if b then e ∷ [] else [])
 grown_if true j e = refl
@@ -39,25 +39,25 @@ module _ {C F : Type 0} (caller : Ghosts C) (f : C → F) (keeps : (c : C) (x : 
   reply_keeps line c reply d (Numbered s) = came_keeps c s.number s.command d s.came s.numbered
   reply_keeps line c reply d (Starved s) = ap f s.unchanged
 
-  line_keeps : (line : List ℕ) (c : C) (text : List ℕ) (d : C) → TalksLine caller line c text d → f d ≡ f c
+  line_keeps : (line : List ℕ) (c : C) (text : List ℕ) (d : C) → RepliesInText caller line c text d → f d ≡ f c
   line_keeps line c text d a = reply_keeps line c a.reply d a.replies
 
-  pub lines_keep : (lines : List (List ℕ)) (c : C) (out : List ℕ) (d : C) → AnswersLines (talks caller) lines c out d → f d ≡ f c
+  pub lines_keep : (lines : List (List ℕ)) (c : C) (out : List ℕ) (d : C) → AnswersLines (converses caller) lines c out d → f d ≡ f c
   lines_keep [] c out d a = ap f a.1
   lines_keep (l ∷ lines) c out d a = lines_keep lines a.2 a.1 d a.5 ∙ line_keeps l c a.0 a.2 a.4.line_is
 
-  pub part_keeps : (lines : List (List ℕ)) (c : C) (out : List ℕ) (d : C) → AnswersToPart (talks caller) (talks_to_part caller) lines c out d → f d ≡ f c
+  pub part_keeps : (lines : List (List ℕ)) (c : C) (out : List ℕ) (d : C) → AnswersCut (converses caller) (converses_in_part caller) lines c out d → f d ≡ f c
   part_keeps [] c out d a = ap f a.1
-  part_keeps (l ∷ []) c out d a = line_keeps l c a.text d a.line_is
+  part_keeps (l ∷ []) c out d a = reply_keeps l c a.reply d a.replies
   part_keeps (l ∷ m ∷ lines) c out d a = part_keeps (m ∷ lines) a.2 a.1 d a.5 ∙ line_keeps l c a.0 a.2 a.4.line_is
 
-  pub ended_keeps : (first now : Streams) (c d : C) (e : Ending) → EndedAs (talks caller) (talks_to_part caller) c first now d e → f d ≡ f c
+  pub ended_keeps : (first now : Streams) (c d : C) (e : Ending) → EndedAs (converses caller) (converses_in_part caller) c first now d e → f d ≡ f c
   ended_keeps first now c d Closed h = let a = h.0.going.answered in lines_keep a.lines c h.0.going.out d a.answers_lines
   ended_keeps first now c d ReadFault h = let a = h.0.going.answered in lines_keep a.lines c h.0.going.out d a.answers_lines
   ended_keeps first now c d Turns h = let a = h.0.going.answered in lines_keep a.lines c h.0.going.out d a.answers_lines
-  ended_keeps first now c d WriteFault h = let a = h.0.answered in part_keeps a.done c h.0.written d a.answers_lines
-  ended_keeps first now c d Memory h = let a = h.0.answered in part_keeps a.done c h.0.written d a.answers_lines
-  ended_keeps first now c d Untold h = let a = h.0.answered in part_keeps a.done c h.0.written d a.answers_lines
+  ended_keeps first now c d WriteFault h = let a = h.0.answered.holds in part_keeps a.answered c h.0.written d a.answers_lines
+  ended_keeps first now c d Memory h = let a = h.0.answered.holds in part_keeps a.answered c h.0.written d a.answers_lines
+  ended_keeps first now c d Untold h = let a = h.0.answered.holds in part_keeps a.answered c h.0.written d a.answers_lines
 
 -- What was made grows by the accepted commands.
 module _ {C : Type 0} (caller : Ghosts C) (same_role : (c : C) (x : Command) (a : Answer) (d : C) → caller.calls c x a d → caller.role d ≡ caller.role c)
@@ -75,25 +75,25 @@ module _ {C : Type 0} (caller : Ghosts C) (same_role : (c : C) (x : Command) (a 
   came c number command d Wrong n = kept c d n.unchanged
   came c number command d (Refused refusal) n = called c command (answers.Refused refusal) d n.call
 
-  one : (line : List ℕ) (c : C) (text : List ℕ) (d : C) (reply : Reply) (spelled : SpellsReply text reply) (r : RepliesTo caller line c reply d) → caller.made d ≡ caller.made c ++ accepted_line caller line c text d (record { reply = reply; replies = r; spelled = spelled })
-  one line c text d reply spelled (Unread u) = kept c d u.unchanged
-  one line c text d reply spelled (Called s) = called c s.command s.answer d s.call
-  one line c text d reply spelled (Numbered s) = came c s.number s.command d s.came s.numbered
-  one line c text d reply spelled (Starved s) = kept c d s.unchanged
+  one : (line : List ℕ) (c : C) (d : C) (reply : Reply) (r : RepliesTo caller line c reply d) → caller.made d ≡ caller.made c ++ accepted_reply caller line c reply d r
+  one line c d reply (Unread u) = kept c d u.unchanged
+  one line c d reply (Called s) = called c s.command s.answer d s.call
+  one line c d reply (Numbered s) = came c s.number s.command d s.came s.numbered
+  one line c d reply (Starved s) = kept c d s.unchanged
 
-  line_makes : (line : List ℕ) (c : C) (text : List ℕ) (d : C) (a : TalksLine caller line c text d) → caller.made d ≡ caller.made c ++ accepted_line caller line c text d a
-  line_makes line c text d a = one line c text d a.reply a.spelled a.replies
+  line_makes : (line : List ℕ) (c : C) (text : List ℕ) (d : C) (a : RepliesInText caller line c text d) → caller.made d ≡ caller.made c ++ accepted_line caller line c text d a
+  line_makes line c text d a = one line c d a.reply a.replies
 
   more : (first others before mid after : List Entry) → mid ≡ before ++ first → after ≡ mid ++ others → after ≡ before ++ (first ++ others)
   more first others before mid after e f = f ∙ ap (λ (l : List Entry). l ++ others) e ∙ append_assoc before first others
 
-  pub lines_make : (lines : List (List ℕ)) (c : C) (out : List ℕ) (d : C) (a : AnswersLines (talks caller) lines c out d) → caller.made d ≡ caller.made c ++ accepted_lines caller lines c out d a
+  pub lines_make : (lines : List (List ℕ)) (c : C) (out : List ℕ) (d : C) (a : AnswersLines (converses caller) lines c out d) → caller.made d ≡ caller.made c ++ accepted_lines caller lines c out d a
   lines_make [] c out d a = ap caller.made a.1 ∙ sym (append-nil (caller.made c))
   lines_make (l ∷ lines) c out d a =
       more (accepted_line caller l c a.0 a.2 a.4.line_is) (accepted_lines caller lines a.2 a.1 d a.5) (caller.made c) (caller.made a.2) (caller.made d) (line_makes l c a.0 a.2 a.4.line_is) (lines_make lines a.2 a.1 d a.5)
 
-  pub part_makes : (lines : List (List ℕ)) (c : C) (out : List ℕ) (d : C) (a : AnswersToPart (talks caller) (talks_to_part caller) lines c out d) → caller.made d ≡ caller.made c ++ accepted_in_part caller lines c out d a
+  pub part_makes : (lines : List (List ℕ)) (c : C) (out : List ℕ) (d : C) (a : AnswersCut (converses caller) (converses_in_part caller) lines c out d) → caller.made d ≡ caller.made c ++ accepted_in_part caller lines c out d a
   part_makes [] c out d a = ap caller.made a.1 ∙ sym (append-nil (caller.made c))
-  part_makes (l ∷ []) c out d a = line_makes l c a.text d a.line_is
+  part_makes (l ∷ []) c out d a = one l c d a.reply a.replies
   part_makes (l ∷ m ∷ lines) c out d a =
       more (accepted_line caller l c a.0 a.2 a.4.line_is) (accepted_in_part caller (m ∷ lines) a.2 a.1 d a.5) (caller.made c) (caller.made a.2) (caller.made d) (line_makes l c a.0 a.2 a.4.line_is) (part_makes (m ∷ lines) a.2 a.1 d a.5)

@@ -14,7 +14,7 @@ use Rattle.mps_wire.specs.Answers.{Answering}
 use Rattle.mps_wire.specs.Runs.{of_opening, Replayed, ScriptRan, Ran, BreaksOff, Finished, Going, GaveAtLeast}
 use Rattle.mps_wire.specs.Private.Turns.{Turned}
 use Rattle.mps_wire.specs.Script.{AnswersLine}
-use Rattle.mps_wire.specs.Streams.{Streams, Counts}
+use Rattle.mps_wire.specs.Streams.{Counted, Streams, Counts, all_went_well, at_the_end, one_read_ended, one_read_failed, one_write_failed}
 use Rattle.mps_wire.proofs.Turning.{starved_first}
 
 -- why no run begins: the session isn't opened, or memory ran out
@@ -37,37 +37,37 @@ shut types (BadPeer role) count peer local memory = peer role refl
 shut types (Local role found) count peer local memory = local role found refl
 shut types OutOfMemory count peer local memory = memory refl
 
-pub same_counts : (s : Streams) → Counts s s 0 0 0
+pub same_counts : (s : Streams) → Counts s s all_went_well
 same_counts s = record { reads_failed = omega arith; reads_ended = omega arith; writes_failed = omega arith }
 
-module _ (first old now : Streams) (none : Counts first old 0 0 0) where
-  pub counts_more : (failed_reads ends failed_writes : ℕ) → Counts old now failed_reads ends failed_writes → Counts first now failed_reads ends failed_writes
-  counts_more failed_reads ends failed_writes c = record {
+module _ (first old now : Streams) (none : Counts first old all_went_well) where
+  pub counts_more : (t : Counted) → Counts old now t → Counts first now t
+  counts_more t c = record {
     reads_failed = omega (arith, none.reads_failed, c.reads_failed);
     reads_ended = omega (arith, none.reads_ended, c.reads_ended);
     writes_failed = omega (arith, none.writes_failed, c.writes_failed);
   }
 
-  -- the failed writes of a turn are the run's
-  breaks_off : {S : Type 0} (answers : Answering S) (start : S) (failed_writes : ℕ) → BreaksOff answers start first old now failed_writes → BreaksOff answers start first first now failed_writes
-  breaks_off answers start failed_writes (inl (cut, counts)) = inl (cut, counts_more 0 0 failed_writes counts)
-  breaks_off answers start failed_writes (inr (cut, counts)) = inr (cut, counts_more 0 1 failed_writes counts)
+  -- what a turn counts is what the run counts
+  breaks_off : {S : Type 0} (answers : Answering S) (start : S) (t : Counted) → BreaksOff answers start first old now t → BreaksOff answers start first first now t
+  breaks_off answers start t (inl (cut, counts)) = inl (cut, counts_more t counts)
+  breaks_off answers start t (inr (cut, counts)) = inr (cut, counts_more (at_the_end t) counts)
 
   -- a turn's fault is the run's
   pub breaks : {S : Type 0} (answers : Answering S) (start : S) (kept : List ℕ) (st : S) (fault : ReplayFault) → Turned answers start first old now kept st (Err fault) → Ran answers start first now (Err fault)
-  breaks answers start kept st ReadFault h = (h.0, counts_more 1 0 0 h.1)
-  breaks answers start kept st WriteFault h = breaks_off answers start 1 h
-  breaks answers start kept st Memory h = breaks_off answers start 0 h
+  breaks answers start kept st ReadFault h = (h.0, counts_more one_read_failed h.1)
+  breaks answers start kept st WriteFault h = breaks_off answers start one_write_failed h
+  breaks answers start kept st Memory h = breaks_off answers start all_went_well h
   breaks answers start kept st Turns h = absurd h
   breaks answers start kept st (Open fault) h = absurd h
 
 module _ {S : Type 0} (answers : Answering S) (start : S) (first old now : Streams) (kept : List ℕ) (st : S) (over : Bool) (h : Turned answers start first old now kept st (Ok over)) where
   -- the turn that found the end
-  pub at_end : over ≡ true → Finished answers start first now st × Counts old now 0 1 0
+  pub at_end : over ≡ true → Finished answers start first now st × Counts old now one_read_ended
   at_end e = subst (λ (b : Bool). Turned answers start first old now kept st (Ok b)) e h
 
   -- one before it
-  pub before_end : over ≡ false → Going answers start first now kept st × Counts old now 0 0 0 × GaveAtLeast 1 old now
+  pub before_end : over ≡ false → Going answers start first now kept st × Counts old now all_went_well × GaveAtLeast 1 old now
   before_end e = subst (λ (b : Bool). Turned answers start first old now kept st (Ok b)) e h
 
 -- memory ran out before the first read

@@ -7,7 +7,7 @@ use Rattle.mps_line.specs.declared.write_replies.Reply.TheVariants.{Answered, Nu
 use Rattle.mps_room.specs.declared.caller.Caller.{Ghosts}
 use Rattle.mps_room.specs.declared.numbers.Told.{Told}
 use Rattle.mps_room.specs.declared.numbers.Told.TheVariants.{Fresh, Kept, Wrong, Refused as CalledInVain}
-use Rattle.mps_wire.specs.Talk.{IsToldAs}
+use Rattle.mps_wire.specs.Conversations.{IsToldAs}
 
 -- the reply, by what came of a command and the answer that is kept, if there is one
 pub reply_of : Told → Option Answer → Reply

@@ -5,11 +5,11 @@ use Rattle.std.proofs.lemmas.Bool.{cases_eq, ne_eqb}
 use Rattle.std.proofs.lemmas.List.{take-append-drop}
 use Rattle.mps_dev.specs.Calls.{ends_after}
 use Rattle.mps_dev.specs.declared.traits.Failed.{Failed}
-use Rattle.mps_wire.specs.Answers.{Answering, AnswersLines, AnswersInPart, Answered, AnsweredAll, AnsweredInPart, AnsweredAllInPart}
+use Rattle.mps_wire.specs.Answers.{Answering, Answered, AnswersLines, CutAnywhere, OfAllLines, OfWholeLines}
 use Rattle.mps_wire.specs.Private.Places.{Place, TakesBytes, TakesEnd}
 use Rattle.mps_wire.specs.Sending.{TookFront}
 use Rattle.mps_lines.specs.Lines.{IsSplit, with_last}
-use Rattle.mps_wire.specs.Streams.{Streams, Counts}
+use Rattle.mps_wire.specs.Streams.{Streams, Counts, all_went_well, one_read_ended}
 use Rattle.mps_wire.specs.declared.script.ReplayFault.{ReplayFault}
 use Rattle.mps_wire.specs.declared.script.ReplayFault.TheVariants.{Memory}
 use Rattle.mps_wire.specs.Runs.{Going, Finished, Cut, CutAtEnd, BreaksOff, GaveAtLeast}
@@ -61,14 +61,14 @@ no_end (suc count) buf old new some e = omega (arith, e)
 
 -- the counts after a read that was answered, and so many failed writes
 module _ (old new : Streams) (count : ℕ) (buf : List ℕ) (failed_writes : ℕ) (none_unread : new.failed_reads ≡ old.failed_reads) (ends : new.ends ≡ ends_after {E = Failed} (Ok count) buf old.ends) where
-  pub counts_at_end : count ≡ 0 → 0 < length buf → new.failed_writes ≡ old.failed_writes + failed_writes → Counts old new 0 1 failed_writes
+  pub counts_at_end : count ≡ 0 → 0 < length buf → new.failed_writes ≡ old.failed_writes + failed_writes → Counts old new (record { failed_reads = 0; ends = 1; failed_writes = failed_writes })
   counts_at_end none room writes = record {
     reads_failed = omega arith;
     reads_ended = one_end count buf old.ends new.ends none room ends;
     writes_failed = writes;
   }
 
-  pub counts_before_end : count ≢ 0 → new.failed_writes ≡ old.failed_writes + failed_writes → Counts old new 0 0 failed_writes
+  pub counts_before_end : count ≢ 0 → new.failed_writes ≡ old.failed_writes + failed_writes → Counts old new (record { failed_reads = 0; ends = 0; failed_writes = failed_writes })
   counts_before_end some writes = record {
     reads_failed = omega arith;
     reads_ended = no_end count buf old.ends new.ends some ends;
@@ -80,7 +80,7 @@ none_more old new e = omega arith
 
 module _ {S : Type 0} (answers : Answering S) (start : S) where
   -- answers to lines are answers to the first of these and others
-  first_part : (lines others : List (List ℕ)) (out written unwritten : List ℕ) (st : S) → AnswersLines answers lines start out st → out ≡ written ++ unwritten → AnswersInPart answers start (lines ++ others) written
+  first_part : (lines others : List (List ℕ)) (out written unwritten : List ℕ) (st : S) → AnswersLines answers lines start out st → out ≡ written ++ unwritten → CutAnywhere answers start (lines ++ others) written
   first_part lines others out written unwritten st a e = record {
     answered = lines;
     others = others;
@@ -93,35 +93,35 @@ module _ {S : Type 0} (answers : Answering S) (start : S) where
   }
 
   -- the answers so far are answers to the first whole lines of what was read, whatever else was read
-  part_of : (bytes more kept out written unwritten : List ℕ) (st : S) → Answered answers start bytes kept out st → out ≡ written ++ unwritten → AnsweredInPart answers start (bytes ++ more) written
+  part_of : (bytes more kept out written unwritten : List ℕ) (st : S) → Answered answers start bytes kept out st → out ≡ written ++ unwritten → OfWholeLines (bytes ++ more) (λ lines. CutAnywhere answers start lines written)
   part_of bytes more kept out written unwritten st a e =
       let s = split_on more bytes a.lines a.rest a.split in
       record {
         lines = a.lines ++ s.0;
         rest = s.1;
         split = s.2;
-        in_part = first_part a.lines s.0 out written unwritten st a.answers_lines e;
+        holds = first_part a.lines s.0 out written unwritten st a.answers_lines e;
       }
 
   -- at the end too
-  part_at_end : (bytes kept out written unwritten : List ℕ) (st : S) → Answered answers start bytes kept out st → out ≡ written ++ unwritten → AnsweredAllInPart answers start bytes written
+  part_at_end : (bytes kept out written unwritten : List ℕ) (st : S) → Answered answers start bytes kept out st → out ≡ written ++ unwritten → OfAllLines bytes (λ lines. CutAnywhere answers start lines written)
   part_at_end bytes kept out written unwritten st a e = record {
     lines = a.lines;
     rest = a.rest;
     split = a.split;
-    in_part =
-        subst (λ (l : List (List ℕ)). AnswersInPart answers start l written) (last_after a.lines a.rest)
+    holds =
+        subst (λ (l : List (List ℕ)). CutAnywhere answers start l written) (last_after a.lines a.rest)
         (first_part a.lines (with_last [] a.rest) out written unwritten st a.answers_lines e);
   }
 
-  part_of_all : (bytes out written unwritten : List ℕ) (st : S) → AnsweredAll answers start bytes out st → out ≡ written ++ unwritten → AnsweredAllInPart answers start bytes written
+  part_of_all : (bytes out written unwritten : List ℕ) (st : S) → OfAllLines bytes (λ lines. AnswersLines answers lines start out st) → out ≡ written ++ unwritten → OfAllLines bytes (λ lines. CutAnywhere answers start lines written)
   part_of_all bytes out written unwritten st a e = record {
     lines = a.lines;
     rest = a.rest;
     split = a.split;
-    in_part =
-        subst (λ (l : List (List ℕ)). AnswersInPart answers start l written) (append-nil (with_last a.lines a.rest))
-        (first_part (with_last a.lines a.rest) [] out written unwritten st a.answers_lines e);
+    holds =
+        subst (λ (l : List (List ℕ)). CutAnywhere answers start l written) (append-nil (with_last a.lines a.rest))
+        (first_part (with_last a.lines a.rest) [] out written unwritten st a.holds e);
   }
 
   -- nothing was read or written yet
@@ -170,14 +170,14 @@ module _ {S : Type 0} (answers : Answering S) (start : S) where
       answered = part_at_end going.read at.kept going.out going.out [] at.state going.answered (sym (append-nil going.out));
     }
 
-    starves : (kept : List ℕ) (st : S) (r : Result Bool ReplayFault) → IsErrAnd r (λ e. e ≡ Memory) → BreaksOff answers start first old new 0 → Turned answers start first old new kept st r
+    starves : (kept : List ℕ) (st : S) (r : Result Bool ReplayFault) → IsErrAnd r (λ e. e ≡ Memory) → BreaksOff answers start first old new all_went_well → Turned answers start first old new kept st r
     starves kept st (Ok x) h b = absurd h
     starves kept st (Err e) h b = subst (λ (fault : ReplayFault). Turned answers start first old new kept st (Err fault)) (sym h) b
 
-    pub runs_out : (kept : List ℕ) (st : S) (r : Result Bool ReplayFault) → IsErrAnd r (λ e. e ≡ Memory) → (bytes : List ℕ) → Consumes old.left new.left bytes → new.taken ≡ old.taken → Counts old new 0 0 0 → Turned answers start first old new kept st r
+    pub runs_out : (kept : List ℕ) (st : S) (r : Result Bool ReplayFault) → IsErrAnd r (λ e. e ≡ Memory) → (bytes : List ℕ) → Consumes old.left new.left bytes → new.taken ≡ old.taken → Counts old new all_went_well → Turned answers start first old new kept st r
     runs_out kept st r h bytes more same counts = starves kept st r h (inl (starved bytes more same, counts))
 
-    pub runs_out_at_end : (kept : List ℕ) (st : S) (r : Result Bool ReplayFault) → IsErrAnd r (λ e. e ≡ Memory) → Consumes old.left new.left [] → IsAtEnd new.left → new.taken ≡ old.taken → Counts old new 0 1 0 → Turned answers start first old new kept st r
+    pub runs_out_at_end : (kept : List ℕ) (st : S) (r : Result Bool ReplayFault) → IsErrAnd r (λ e. e ≡ Memory) → Consumes old.left new.left [] → IsAtEnd new.left → new.taken ≡ old.taken → Counts old new one_read_ended → Turned answers start first old new kept st r
     runs_out_at_end kept st r h none over same counts = starves kept st r h (inr (starved_at_end none over same, counts))
 
     module _ (next : Place S) (bytes : List ℕ) (none_waits : at.waiting ≡ []) (more : Consumes old.left new.left bytes) (fed : TakesBytes answers start bytes at next) where
@@ -202,7 +202,7 @@ module _ {S : Type 0} (answers : Answering S) (start : S) where
             bytes = read_on bytes more;
             sent = sent_on written (waited next f.0 (λ (l : List ℕ). Appends old.taken new.taken (take front.count l)) none_waits f.1 front.taken);
             answered =
-                subst (λ (b : List ℕ). AnsweredInPart answers start b (going.out ++ written)) (append-nil (going.read ++ bytes))
+                subst (λ (b : List ℕ). OfWholeLines b (λ lines. CutAnywhere answers start lines (going.out ++ written))) (append-nil (going.read ++ bytes))
                 (part_of (going.read ++ bytes) [] next.kept (going.out ++ f.0) (going.out ++ written) (drop front.count f.0) next.state f.2 (parts going.out f.0 front.count));
           }
 
@@ -242,10 +242,10 @@ pub gave_none : (s : Streams) → GaveAtLeast 0 s s
 gave_none s = record { read = []; bytes = Consumes-none s.left; many = omega arith }
 
 -- a read that gave nothing was the last, and any other was not
-pub was_last : {S : Type 0} (answers : Answering S) (start : S) (first old new : Streams) (kept : List ℕ) (st : S) (count : ℕ) → count ≡ 0 → Finished answers start first new st × Counts old new 0 1 0 → Turned answers start first old new kept st (Ok (count == 0))
+pub was_last : {S : Type 0} (answers : Answering S) (start : S) (first old new : Streams) (kept : List ℕ) (st : S) (count : ℕ) → count ≡ 0 → Finished answers start first new st × Counts old new one_read_ended → Turned answers start first old new kept st (Ok (count == 0))
 was_last answers start first old new kept st count e done = rw e done
 
-pub was_not_last : {S : Type 0} (answers : Answering S) (start : S) (first old new : Streams) (kept : List ℕ) (st : S) (count : ℕ) → count ≢ 0 → Going answers start first new kept st × Counts old new 0 0 0 × GaveAtLeast 1 old new → Turned answers start first old new kept st (Ok (count == 0))
+pub was_not_last : {S : Type 0} (answers : Answering S) (start : S) (first old new : Streams) (kept : List ℕ) (st : S) (count : ℕ) → count ≢ 0 → Going answers start first new kept st × Counts old new all_went_well × GaveAtLeast 1 old new → Turned answers start first old new kept st (Ok (count == 0))
 was_not_last answers start first old new kept st count some going = rw (ne_eqb count 0 some) going
 
 pub gave_some : (old new : Streams) (count : ℕ) (buf : List ℕ) → count ≢ 0 → count ≤ length buf → Consumes old.left new.left (take count buf) → GaveAtLeast 1 old new

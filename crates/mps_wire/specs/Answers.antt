@@ -13,25 +13,18 @@ AnswersLines {S} answers (line ∷ lines) st out after =
     (text : List ℕ) × (others : List ℕ) × (mid : S) × (out ≡ ended text ++ others)
     × answers line st text mid × AnswersLines answers lines mid others after
 
--- The lines of bytes, from a state on.
+-- the same, where of the last text a part is written: as `part` says
+abbrev pub AnswersCut : {S : Type 0} → (answers part : Answering S) → List (List ℕ) → S → List ℕ → S → Type 0
+AnswersCut answers part [] st out after = (out ≡ []) × (after ≡ st)
+AnswersCut answers part (line ∷ []) st out after = part line st out after
+AnswersCut {S} answers part (line ∷ other ∷ lines) st out after =
+    (text : List ℕ) × (others : List ℕ) × (mid : S) × (out ≡ ended text ++ others)
+    × answers line st text mid × AnswersCut answers part (other ∷ lines) mid others after
+
+-- Two ways in which answers break off.
 module _ {S : Type 0} (answers : Answering S) (start : S) where
-  -- each whole line of the bytes is answered, and of the rest the front is kept
-  pub record Answered (bytes kept out : List ℕ) (after : S) : Type 0 where
-    pub lines : List (List ℕ)
-    pub rest : List ℕ
-    pub split : IsSplit bytes lines rest
-    pub front_kept : kept ≡ front rest
-    pub answers_lines : AnswersLines answers lines start out after
-
-  -- each line of the bytes is answered, a rest that no LF ends too
-  pub record AnsweredAll (bytes out : List ℕ) (after : S) : Type 0 where
-    pub lines : List (List ℕ)
-    pub rest : List ℕ
-    pub split : IsSplit bytes lines rest
-    pub answers_lines : AnswersLines answers (with_last lines rest) start out after
-
-  -- what is written are answers to the first of the lines, up to some place in the answers
-  pub record AnswersInPart (lines : List (List ℕ)) (written : List ℕ) : Type 0 where
+  -- anywhere: what is written are answers to the first of the lines, up to some place in them; no more is known of the state
+  pub record CutAnywhere (lines : List (List ℕ)) (written : List ℕ) : Type 0 where
     pub answered : List (List ℕ)
     pub others : List (List ℕ)
     pub first : lines ≡ answered ++ others
@@ -41,16 +34,33 @@ module _ {S : Type 0} (answers : Answering S) (start : S) where
     pub unwritten : List ℕ
     pub part : out ≡ written ++ unwritten
 
-  -- what is written are answers to the first whole lines of the bytes, up to some place in the answers
-  pub record AnsweredInPart (bytes written : List ℕ) : Type 0 where
-    pub lines : List (List ℕ)
-    pub rest : List ℕ
-    pub split : IsSplit bytes lines rest
-    pub in_part : AnswersInPart lines written
+  -- in the last answer: the first of the lines are answered, of the last of these in part, and the state is the one after them
+  pub record CutInLast (part : Answering S) (lines : List (List ℕ)) (written : List ℕ) (after : S) : Type 0 where
+    pub answered : List (List ℕ)
+    pub others : List (List ℕ)
+    pub first : lines ≡ answered ++ others
+    pub answers_lines : AnswersCut answers part answered start written after
 
-  -- the same, where a rest that no LF ends is a line too
-  pub record AnsweredAllInPart (bytes written : List ℕ) : Type 0 where
+-- Of the lines of bytes this holds.
+module _ (bytes : List ℕ) (Holds : List (List ℕ) → Type 0) where
+  -- of those that an LF ends
+  pub record OfWholeLines : Type 0 where
     pub lines : List (List ℕ)
     pub rest : List ℕ
     pub split : IsSplit bytes lines rest
-    pub in_part : AnswersInPart (with_last lines rest) written
+    pub holds : Holds lines
+
+  -- of these and of a rest that no LF ends
+  pub record OfAllLines : Type 0 where
+    pub lines : List (List ℕ)
+    pub rest : List ℕ
+    pub split : IsSplit bytes lines rest
+    pub holds : Holds (with_last lines rest)
+
+-- each whole line of the bytes is answered, and of the rest the front is kept
+pub record Answered {S : Type 0} (answers : Answering S) (start : S) (bytes kept out : List ℕ) (after : S) : Type 0 where
+  pub lines : List (List ℕ)
+  pub rest : List ℕ
+  pub split : IsSplit bytes lines rest
+  pub front_kept : kept ≡ front rest
+  pub answers_lines : AnswersLines answers lines start out after

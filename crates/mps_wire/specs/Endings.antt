@@ -1,10 +1,9 @@
 -- How a conversation ends.
 use Rattle.std.specs.Prelude.{ℕ, List}
 use Rattle.std.specs.Io.KnownBytes.{Appends, Consumes, IsAtEnd}
-use Rattle.mps_wire.specs.Answers.{Answering}
+use Rattle.mps_wire.specs.Answers.{Answering, CutInLast, OfWholeLines}
 use Rattle.mps_wire.specs.Runs.{Going, ReadMost}
-use Rattle.mps_wire.specs.Streams.{Streams, Counts}
-use Rattle.mps_wire.specs.Talk.{AnsweredToPart}
+use Rattle.mps_wire.specs.Streams.{Streams, Counts, all_went_well, one_read_ended, one_read_failed, one_write_failed}
 use Rattle.mps_wire.specs.declared.conversation.Ending.{Ending}
 use Rattle.mps_wire.specs.declared.conversation.Ending.TheVariants.{Closed, ReadFault, WriteFault, Turns, Memory, Untold}
 
@@ -22,13 +21,13 @@ module _ {S : Type 0} (answers part : Answering S) (start : S) (before after : S
     pub written : List ℕ
     pub bytes : Consumes before.left after.left read
     pub sent : Appends before.taken after.taken written
-    pub answered : AnsweredToPart answers part start read written st
+    pub answered : OfWholeLines read (λ lines. CutInLast answers start part lines written st)
 
   -- what the lines came to, by how it ended
   abbrev pub EndedAs : S → Ending → Type 0
-  EndedAs st Closed = WasAnswered answers start before after st × Counts before after 0 1 0 × IsAtEnd after.left
-  EndedAs st ReadFault = WasAnswered answers start before after st × Counts before after 1 0 0
-  EndedAs st Turns = WasAnswered answers start before after st × Counts before after 0 0 0 × ReadMost before after
-  EndedAs st WriteFault = WasCut st × Counts before after 0 0 1
-  EndedAs st Memory = WasCut st × Counts before after 0 0 0
-  EndedAs st Untold = WasCut st × Counts before after 0 0 0
+  EndedAs st Closed = WasAnswered answers start before after st × Counts before after one_read_ended × IsAtEnd after.left
+  EndedAs st ReadFault = WasAnswered answers start before after st × Counts before after one_read_failed
+  EndedAs st Turns = WasAnswered answers start before after st × Counts before after all_went_well × ReadMost before after
+  EndedAs st WriteFault = WasCut st × Counts before after one_write_failed
+  EndedAs st Memory = WasCut st × Counts before after all_went_well
+  EndedAs st Untold = WasCut st × Counts before after all_went_well

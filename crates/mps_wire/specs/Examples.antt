@@ -10,7 +10,7 @@ use Rattle.mps_line.specs.declared.write_replies.Reply.TheVariants.{Answered, Nu
 use Rattle.mps_machine.specs.Examples.{done}
 use Rattle.mps_room.specs.Examples.{PlainCaller, plain_caller, Tells, send_five, mark_m, mark_k, undo_nine, undo_three, at_first, after_one, after_two, after_a_call, after_three}
 use Rattle.mps_room.specs.declared.numbers.Told.{Told}
-use Rattle.mps_wire.specs.Talk.{IsToldAs}
+use Rattle.mps_wire.specs.Conversations.{IsToldAs}
 
 -- the reply to a command with this number
 abbrev pub GetsReply : PlainCaller → ℕ → Command → PlainCaller → Reply → Type 0

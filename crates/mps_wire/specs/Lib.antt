@@ -3,7 +3,7 @@ pub mod Streams
 pub mod Answers
 pub mod Script
 pub mod Runs
-pub mod Talk
+pub mod Conversations
 pub mod Endings
 pub mod Making
 pub mod Fidelity

@@ -8,9 +8,9 @@ use Rattle.mps_session.specs.declared.open.OpenFault.TheVariants.{RoleCount, Bad
 use Rattle.mps_room.specs.RoomState.{RoomState}
 use Rattle.mps_wire.specs.declared.script.ReplayFault.{ReplayFault}
 use Rattle.mps_wire.specs.declared.script.ReplayFault.TheVariants.{Open, ReadFault, WriteFault, Turns, Memory}
-use Rattle.mps_wire.specs.Answers.{Answering, Answered, AnsweredAll, AnsweredInPart, AnsweredAllInPart}
+use Rattle.mps_wire.specs.Answers.{Answering, Answered, AnswersLines, CutAnywhere, OfAllLines, OfWholeLines}
 use Rattle.mps_wire.specs.Script.{AnswersLine}
-use Rattle.mps_wire.specs.Streams.{Streams, Counts}
+use Rattle.mps_wire.specs.Streams.{Streams, Counts, Counted, all_went_well, at_the_end, one_read_ended, one_read_failed, one_write_failed}
 
 -- how often a stream is read from at most
 abbrev pub max_reads : ℕ
@@ -39,7 +39,7 @@ module _ {S : Type 0} (answers : Answering S) (start : S) (before after : Stream
     pub bytes : Consumes before.left after.left read
     pub over : IsAtEnd after.left
     pub sent : Appends before.taken after.taken out
-    pub answered : AnsweredAll answers start read out st
+    pub answered : OfAllLines read (λ lines. AnswersLines answers lines start out st)
 
   -- before the end: what was written are answers to the first whole lines of what was read, up to some place in the answers
   pub record Cut : Type 0 where
@@ -47,7 +47,7 @@ module _ {S : Type 0} (answers : Answering S) (start : S) (before after : Stream
     pub written : List ℕ
     pub bytes : Consumes before.left after.left read
     pub sent : Appends before.taken after.taken written
-    pub answered : AnsweredInPart answers start read written
+    pub answered : OfWholeLines read (λ lines. CutAnywhere answers start lines written)
 
   -- at the end: the same, where a rest that no LF ends is a line too
   pub record CutAtEnd : Type 0 where
@@ -56,7 +56,7 @@ module _ {S : Type 0} (answers : Answering S) (start : S) (before after : Stream
     pub bytes : Consumes before.left after.left read
     pub over : IsAtEnd after.left
     pub sent : Appends before.taken after.taken written
-    pub answered : AnsweredAllInPart answers start read written
+    pub answered : OfAllLines read (λ lines. CutAnywhere answers start lines written)
 
 -- the source gave so many bytes, or more
 pub record GaveAtLeast (count : ℕ) (before after : Streams) : Type 0 where
@@ -70,22 +70,21 @@ pub record ReadMost (before after : Streams) : Type 0 where
   pub gave : GaveAtLeast max_reads before after
 
 module _ {S : Type 0} (answers : Answering S) (start : S) (first before after : Streams) where
-  -- the answers break off after so many failed writes, before the end was found or with it; first are the streams before the run
-  abbrev pub BreaksOff : ℕ → Type 0
-  BreaksOff failed_writes =
-      (Cut answers start first after × Counts before after 0 0 failed_writes)
-      ⊎ (CutAtEnd answers start first after × Counts before after 0 1 failed_writes)
+  -- the answers break off after so much was counted, before the end was found or with it; first are the streams before the run
+  abbrev pub BreaksOff : Counted → Type 0
+  BreaksOff t =
+      (Cut answers start first after × Counts before after t)
+      ⊎ (CutAtEnd answers start first after × Counts before after (at_the_end t))
 
 module _ {S : Type 0} (answers : Answering S) (start : S) (before after : Streams) where
-  -- what a run comes to that began, by its result: what was answered, and how many more reads failed,
-  -- how many ended, and how many writes failed
+  -- what a run comes to that began, by its result: what was answered, and what was counted
   abbrev pub Ran : Result S ReplayFault → Type 0
-  Ran (Ok st) = Finished answers start before after st × Counts before after 0 1 0
-  Ran (Err ReadFault) = Stopped answers start before after × Counts before after 1 0 0
-  Ran (Err Turns) = Stopped answers start before after × Counts before after 0 0 0
+  Ran (Ok st) = Finished answers start before after st × Counts before after one_read_ended
+  Ran (Err ReadFault) = Stopped answers start before after × Counts before after one_read_failed
+  Ran (Err Turns) = Stopped answers start before after × Counts before after all_went_well
       × ReadMost before after
-  Ran (Err WriteFault) = BreaksOff answers start before before after 1
-  Ran (Err Memory) = BreaksOff answers start before before after 0
+  Ran (Err WriteFault) = BreaksOff answers start before before after one_write_failed
+  Ran (Err Memory) = BreaksOff answers start before before after all_went_well
   Ran (Err (Open fault)) = ⊥
 
 -- how a session that can't be opened is reported

@@ -24,8 +24,30 @@ streams source sink reader writer = record {
   failed_writes = sink.failed_calls writer;
 }
 
--- so many more reads failed, so many more ended, and so many more writes failed
-pub record Counts (before after : Streams) (failed_reads ends failed_writes : ℕ) : Type 0 where
-  pub reads_failed : after.failed_reads ≡ before.failed_reads + failed_reads
-  pub reads_ended : after.ends ≡ before.ends + ends
-  pub writes_failed : after.failed_writes ≡ before.failed_writes + failed_writes
+-- what came of reads and writes that is counted: how many reads failed, how many ended, and how many writes failed
+pub record Counted : Type 0 where
+  pub failed_reads : ℕ
+  pub ends : ℕ
+  pub failed_writes : ℕ
+
+abbrev pub all_went_well : Counted
+all_went_well = record { failed_reads = 0; ends = 0; failed_writes = 0 }
+
+abbrev pub one_read_failed : Counted
+one_read_failed = record { failed_reads = 1; ends = 0; failed_writes = 0 }
+
+abbrev pub one_read_ended : Counted
+one_read_ended = record { failed_reads = 0; ends = 1; failed_writes = 0 }
+
+abbrev pub one_write_failed : Counted
+one_write_failed = record { failed_reads = 0; ends = 0; failed_writes = 1 }
+
+-- the same, where the end was found too
+abbrev pub at_the_end : Counted → Counted
+at_the_end t = record t { ends = 1 }
+
+-- so many more are counted
+pub record Counts (before after : Streams) (t : Counted) : Type 0 where
+  pub reads_failed : after.failed_reads ≡ before.failed_reads + t.failed_reads
+  pub reads_ended : after.ends ≡ before.ends + t.ends
+  pub writes_failed : after.failed_writes ≡ before.failed_writes + t.failed_writes

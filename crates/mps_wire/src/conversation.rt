@@ -1,27 +1,22 @@
 //! A conversation over streams.
-ghost use Rattle.std.specs.Prelude.{◌≡◌, ◌+◌, ◌<◌, ◌≤◌, ◌^◌, ◌++◌, ℕ, List, length, Some, Err, OnOk, OnErr, IfNone, IsSome, false};
-ghost use Rattle.mps_command.specs.Changes.{change_of};
+ghost use Rattle.std.specs.Prelude.{◌≡◌, ◌+◌, ◌<◌, ◌≤◌, ◌^◌, ◌++◌, ℕ, List, length, Some, Err, OnOk, OnErr, IfNone, false};
 ghost use Rattle.mps_command.specs.declared.answer.Answer.{Answer as Response};
 ghost use Rattle.mps_command.specs.declared.command.Command.{Command as Asked};
 ghost use Rattle.mps_line.specs.Replies.{SpellsReply};
-ghost use Rattle.mps_line.specs.declared.write_replies.Reply.TheVariants.{Answered};
 ghost use Rattle.mps_lines.specs.Lines.{ended, front, most_kept};
+ghost use Rattle.mps_wire.specs.Conversations.{RepliesTo, converses, converses_in_part, reply_of};
 ghost use Rattle.mps_wire.specs.declared.conversation.Broken.TheVariants.{Memory as NoMemory, Untold as MayNot};
 ghost use Rattle.mps_wire.specs.Endings.{EndedAs};
 ghost use Rattle.mps_wire.specs.Private.Endings.{TurnedTo, IsPartly, IsWholly, TakesOn, TakesToPart, begun_or, failed_by};
 ghost use Rattle.mps_wire.specs.Runs.{Going, max_reads};
 ghost use Rattle.mps_wire.specs.Streams.{streams};
-ghost use Rattle.mps_wire.specs.Talk.{TalksLine, reply_of, talks, talks_to_part};
 
-use crate::reply::{Outcome, outcome_has_text, take_line, write_outcome};
+use crate::reply::{Outcome, take_line, write_outcome};
 use crate::script::MAX_READS;
 use crate::sending::send_all;
-use mps_command::{Answer, Command, Refusal};
 use mps_dev::{Failed, Sink, Source};
-use mps_line::laws::one_numbered;
-use mps_line::{LineFault, Reply, answer_has_text, read_numbered, write_answer};
-use mps_lines::{MAX_LINE, keep, line_end};
-use mps_room::{Caller, Told};
+use mps_lines::{keep, line_end};
+use mps_room::Caller;
 use std::alloc::{AllocError, Global};
 use thiserror::Error;
 
@@ -64,58 +59,6 @@ impl From<AllocError> for Broken {
     }
 }
 
-// Puts the reply and an LF in place of what the buffer had. Where memory runs out, the reply has a text all the same.
-fn put_reply<C: Caller>(caller: &C, outcome: &Outcome, text: &mut Vec<u8>) -> Result<(), AllocError>
-    ensures { (words : List ℕ) × SpellsReply words (reply_of outcome.now (C.kept caller.now))
-        × OnOk result (text.new.items ≡ ended words) }
-{
-    outcome_has_text(caller, outcome);
-    text.clear();
-    write_outcome(caller, outcome, text)?;
-    text.push(b'\n')?;
-    Ok(())
-}
-
-// Makes the call of a line, if it has one, and the text of the reply.
-fn make_reply<C: Caller>(
-    alloc: Global,
-    caller: &mut C,
-    line: &[u8],
-    text: &mut Vec<u8>,
-) -> Result<(), AllocError>
-    ensures { (words : List ℕ) × TalksLine C.Caller line.now caller.old words caller.new
-        × OnOk result (text.new.items ≡ ended words) }
-{
-    let outcome = take_line(alloc, caller, line);
-    put_reply(&*caller, &outcome, text)
-}
-
-// Answers a line, and writes the answer.
-fn send_reply<C: Caller, W: Sink>(
-    alloc: Global,
-    caller: &mut C,
-    writer: &mut W,
-    line: &[u8],
-    text: &mut Vec<u8>,
-) -> Result<(), Broken>
-    requires { W.failed_calls writer.old < 2 ^ 63 }
-    ensures writes { W.failed_calls writer.new ≡ W.failed_calls writer.old + failed_by result }
-    ensures ok { OnOk result (IsWholly (talks C.Caller) line.now caller.old caller.new
-        (W.taken writer.old) (W.taken writer.new)) }
-    ensures err { OnErr result (IsPartly (talks_to_part C.Caller) line.now caller.old caller.new
-        (W.taken writer.old) (W.taken writer.new)) }
-    ensures untold { result ≡ Err MayNot → C.may_tell caller.new ≡ false }
-{
-    make_reply(alloc, caller, line, text)?;
-    if !caller.may_tell() {
-        return Err(Broken::Untold);
-    }
-    match send_all(writer, text.as_slice()) {
-        Ok(()) => Ok(()),
-        Err(Failed) => Err(Broken::Write),
-    }
-}
-
 // Adds to a line that has begun what comes of it.
 fn keep_begun(line: &mut Vec<u8>, piece: &[u8]) -> Result<(), AllocError>
     requires { length line.old.items ≤ most_kept }
@@ -137,58 +80,105 @@ fn begun<'a>(line: &'a [u8], piece: &'a [u8]) -> &'a [u8]
     line
 }
 
-// Takes the next bytes, and answers each line that they end, before the next.
-fn feed<C: Caller, W: Sink>(
+// A conversation while it goes on.
+#[derive(Drop)]
+struct Conversation {
+    // the front of the line that comes
+    line: Vec<u8>,
+    // the text of the newest reply
+    text: Vec<u8>,
     alloc: Global,
-    caller: &mut C,
-    writer: &mut W,
-    line: &mut Vec<u8>,
-    text: &mut Vec<u8>,
-    bytes: &[u8],
-) -> Result<(), Broken>
-    requires kept { length line.old.items ≤ most_kept }
-    requires writes { W.failed_calls writer.old < 2 ^ 63 }
-    ensures writes { W.failed_calls writer.new ≡ W.failed_calls writer.old + failed_by result }
-    ensures kept { OnOk result (length line.new.items ≤ most_kept) }
-    ensures ok { OnOk result (TakesOn (talks C.Caller) bytes.now line.old.items caller.old (W.taken writer.old)
-        line.new.items caller.new (W.taken writer.new)) }
-    ensures err { OnErr result (TakesToPart (talks C.Caller) (talks_to_part C.Caller) bytes.now line.old.items
-        caller.old (W.taken writer.old) caller.new (W.taken writer.new)) }
-    ensures untold { result ≡ Err MayNot → C.may_tell caller.new ≡ false }
-{
-    let mut rest = bytes;
-    while let Some(k) = line_end(rest) {
-        let piece = &rest[..k];
-        keep_begun(line, piece)?;
-        send_reply(alloc, caller, writer, begun(line.as_slice(), piece), text)?;
-        line.clear();
-        rest = &rest[k + 1..];
+}
+
+impl Conversation {
+    // Puts the text of the reply, with an LF, in place of the one before.
+    fn put_reply<C: Caller>(&mut self, caller: &C, outcome: &Outcome) -> Result<(), AllocError>
+        ensures line { self.new.line.items ≡ self.old.line.items }
+        ensures text { OnOk result ((text : List ℕ) × SpellsReply text (reply_of outcome.now (C.kept caller.now))
+            × (self.new.text.items ≡ ended text)) }
+    {
+        self.text.clear();
+        write_outcome(caller, outcome, &mut self.text)?;
+        self.text.push(b'\n')?;
+        Ok(())
     }
-    keep(line, rest)?;
-    Ok(())
+
+    // Writes the reply to a line, if the caller says that it may be told.
+    fn tell<C: Caller, W: Sink>(
+        &mut self,
+        caller: &C,
+        writer: &mut W,
+        outcome: &Outcome,
+    ) -> Result<(), Broken>
+        requires { W.failed_calls writer.old < 2 ^ 63 }
+        ensures line { self.new.line.items ≡ self.old.line.items }
+        ensures writes { W.failed_calls writer.new ≡ W.failed_calls writer.old + failed_by result }
+        ensures ok { (line : List ℕ) (start : C) → RepliesTo C.Caller line start (reply_of outcome.now (C.kept caller.now)) caller.now
+            → OnOk result (IsWholly (converses C.Caller) line start caller.now (W.taken writer.old) (W.taken writer.new)) }
+        ensures err { (line : List ℕ) (start : C) → RepliesTo C.Caller line start (reply_of outcome.now (C.kept caller.now)) caller.now
+            → OnErr result (IsPartly (converses_in_part C.Caller) line start caller.now (W.taken writer.old) (W.taken writer.new)) }
+        ensures untold { result ≡ Err MayNot → C.may_tell caller.now ≡ false }
+    {
+        self.put_reply(caller, outcome)?;
+        if !caller.may_tell() {
+            return Err(Broken::Untold);
+        }
+        match send_all(writer, self.text.as_slice()) {
+            Ok(()) => Ok(()),
+            Err(Failed) => Err(Broken::Write),
+        }
+    }
+
+    // Takes the next bytes, and answers each line that they end, before the next.
+    fn feed<C: Caller, W: Sink>(
+        &mut self,
+        caller: &mut C,
+        writer: &mut W,
+        bytes: &[u8],
+    ) -> Result<(), Broken>
+        requires kept { length self.old.line.items ≤ most_kept }
+        requires writes { W.failed_calls writer.old < 2 ^ 63 }
+        ensures writes { W.failed_calls writer.new ≡ W.failed_calls writer.old + failed_by result }
+        ensures kept { OnOk result (length self.new.line.items ≤ most_kept) }
+        ensures ok { OnOk result (TakesOn (converses C.Caller) bytes.now self.old.line.items caller.old (W.taken writer.old)
+            self.new.line.items caller.new (W.taken writer.new)) }
+        ensures err { OnErr result (TakesToPart (converses C.Caller) (converses_in_part C.Caller) bytes.now self.old.line.items
+            caller.old (W.taken writer.old) caller.new (W.taken writer.new)) }
+        ensures untold { result ≡ Err MayNot → C.may_tell caller.new ≡ false }
+    {
+        let mut rest = bytes;
+        while let Some(k) = line_end(rest) {
+            let piece = &rest[..k];
+            keep_begun(&mut self.line, piece)?;
+            let outcome = take_line(self.alloc, caller, begun(self.line.as_slice(), piece));
+            self.tell(&*caller, writer, &outcome)?;
+            self.line.clear();
+            rest = &rest[k + 1..];
+        }
+        keep(&mut self.line, rest)?;
+        Ok(())
+    }
 }
 
 // Reads once, and answers the lines that are whole then. Says how the conversation ended, if it did.
 fn turn<C: Caller, R: Source, W: Sink>(
-    alloc: Global,
     caller: &mut C,
     reader: &mut R,
     writer: &mut W,
-    line: &mut Vec<u8>,
-    text: &mut Vec<u8>,
+    going: &mut Conversation,
     block: &mut [u8],
 ) -> Option<Ending>
-    requires short { length line.old.items ≤ most_kept }
+    requires short { length going.old.line.items ≤ most_kept }
     requires space { 0 < length block.old }
     requires reads { R.calls reader.old < 2 ^ 63 }
     requires writes { W.failed_calls writer.old < 2 ^ 63 }
-    ensures short { IfNone result (length line.new.items ≤ most_kept) }
+    ensures short { IfNone result (length going.new.line.items ≤ most_kept) }
     ensures reads { R.calls reader.new ≡ R.calls reader.old + 1 }
     ensures step { (start : C) (first : _)
-        → Going (talks C.Caller) start first (streams R.Source W.Sink reader.old writer.old) line.old.items caller.old
-        → TurnedTo (talks C.Caller) (talks_to_part C.Caller) start first
+        → Going (converses C.Caller) start first (streams R.Source W.Sink reader.old writer.old) going.old.line.items caller.old
+        → TurnedTo (converses C.Caller) (converses_in_part C.Caller) start first
         (streams R.Source W.Sink reader.old writer.old) (streams R.Source W.Sink reader.new writer.new)
-        line.new.items caller.new result }
+        going.new.line.items caller.new result }
     ensures untold { result ≡ Some Ending.Untold → C.may_tell caller.new ≡ false }
 {
     let Ok(count) = reader.read(block) else {
@@ -197,7 +187,7 @@ fn turn<C: Caller, R: Source, W: Sink>(
     if count == 0 {
         return Some(Ending::Closed);
     }
-    match feed(alloc, caller, writer, line, text, &block[..count]) {
+    match going.feed(caller, writer, &block[..count]) {
         Ok(()) => None,
         Err(Broken::Write) => Some(Ending::WriteFault),
         Err(Broken::Memory) => Some(Ending::Memory),
@@ -221,7 +211,7 @@ pub fn converse<C: Caller, R: Source, W: Sink>(
 ) -> Ending
     requires reads { R.calls reader.old < 2 ^ 62 }
     requires writes { W.failed_calls writer.old < 2 ^ 62 }
-    ensures ending { EndedAs (talks C.Caller) (talks_to_part C.Caller) caller.old
+    ensures ending { EndedAs (converses C.Caller) (converses_in_part C.Caller) caller.old
         (streams R.Source W.Sink reader.old writer.old) (streams R.Source W.Sink reader.new writer.new)
         caller.new result }
     ensures reads { R.calls reader.new ≤ R.calls reader.old + max_reads }
@@ -231,22 +221,16 @@ pub fn converse<C: Caller, R: Source, W: Sink>(
     ensures fixed { (f : C → ℕ)
         → ((c : C) (x : Asked) (a : Response) (d : C) → C.calls c x a d → f d ≡ f c) → f caller.new ≡ f caller.old }
 {
-    let mut line = Vec::new(alloc);
-    let mut text = Vec::new(alloc);
+    let mut going = Conversation {
+        line: Vec::new(alloc),
+        text: Vec::new(alloc),
+        alloc,
+    };
     let Ok(mut block) = vec![in alloc; 0u8; PIECE] else {
         return Ending::Memory;
     };
     for _ in 0..MAX_READS {
-        let ended = turn(
-            alloc,
-            caller,
-            reader,
-            writer,
-            &mut line,
-            &mut text,
-            block.as_mut_slice(),
-        );
-        match ended {
+        match turn(caller, reader, writer, &mut going, block.as_mut_slice()) {
             Some(ending) => return ending,
             None => {}
         }

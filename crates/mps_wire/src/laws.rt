@@ -4,10 +4,10 @@ ghost use Rattle.std.specs.List.{AllByRecursion};
 ghost use Rattle.mps_fidelity.specs.Fidelity.{AreOfOneProtocol};
 ghost use Rattle.mps_local.specs.Local.{LocalType};
 ghost use Rattle.mps_room.specs.declared.entry.Entry.{Entry};
-ghost use Rattle.mps_wire.specs.Answers.{Answered, AnsweredAll, AnsweredAllInPart, AnsweredInPart, AnswersLines};
+ghost use Rattle.mps_wire.specs.Answers.{Answered, AnswersCut, AnswersLines, CutAnywhere, OfAllLines, OfWholeLines};
 ghost use Rattle.mps_wire.specs.Fidelity.{HasNoMismatch, MeetsNoMismatch};
 ghost use Rattle.mps_wire.specs.Making.{accepted_in_part, accepted_lines};
-ghost use Rattle.mps_wire.specs.Talk.{AnswersToPart, talks, talks_to_part};
+ghost use Rattle.mps_wire.specs.Conversations.{converses, converses_in_part};
 ghost use Rattle.mps_lines.specs.Lines.{IsSplit};
 ghost use Rattle.mps_wire.specs.Script.{AnswersLine};
 
@@ -21,7 +21,7 @@ pub fn no_script_meets_a_mismatch()
     ensures whole { (names : List (List ℕ)) (types : List LocalType)
         (bytes out rest : List ℕ) (lines : List (List ℕ)) (after : List Entry)
         → AreOfOneProtocol types
-        → AnsweredAll (AnswersLine names types) [] bytes out after → IsSplit out lines rest
+        → OfAllLines bytes (λ asked. AnswersLines (AnswersLine names types) asked [] out after) → IsSplit out lines rest
         → AllByRecursion (λ line. line ≢ codes "refused mismatch") lines }
     ensures stopped { (names : List (List ℕ)) (types : List LocalType)
         (bytes kept out rest : List ℕ) (lines : List (List ℕ)) (after : List Entry)
@@ -31,13 +31,13 @@ pub fn no_script_meets_a_mismatch()
     ensures part { (names : List (List ℕ)) (types : List LocalType)
         (bytes written rest : List ℕ) (lines : List (List ℕ))
         → AreOfOneProtocol types
-        → AnsweredInPart (AnswersLine names types) [] bytes written
+        → OfWholeLines bytes (λ asked. CutAnywhere (AnswersLine names types) [] asked written)
         → IsSplit written lines rest
         → AllByRecursion (λ line. line ≢ codes "refused mismatch") lines }
     ensures part_at_end { (names : List (List ℕ)) (types : List LocalType)
         (bytes written rest : List ℕ) (lines : List (List ℕ))
         → AreOfOneProtocol types
-        → AnsweredAllInPart (AnswersLine names types) [] bytes written
+        → OfAllLines bytes (λ asked. CutAnywhere (AnswersLine names types) [] asked written)
         → IsSplit written lines rest
         → AllByRecursion (λ line. line ≢ codes "refused mismatch") lines }
 {
@@ -46,26 +46,26 @@ pub fn no_script_meets_a_mismatch()
 
 /// The accepted commands of a conversation are, in order, the entries that its caller made, where its lines are answered
 /// to their end, and where the last answer is written in part.
-pub fn a_talk_makes_its_commands<C: Caller>()
+pub fn a_conversation_makes_its_commands<C: Caller>()
     ensures whole { (lines : List (List ℕ)) (before : C) (out : List ℕ) (after : C)
-        (a : AnswersLines (talks C.Caller) lines before out after)
+        (a : AnswersLines (converses C.Caller) lines before out after)
         → C.made after ≡ C.made before ++ accepted_lines C.Caller lines before out after a }
     ensures part { (lines : List (List ℕ)) (before : C) (out : List ℕ) (after : C)
-        (a : AnswersToPart (talks C.Caller) (talks_to_part C.Caller) lines before out after)
+        (a : AnswersCut (converses C.Caller) (converses_in_part C.Caller) lines before out after)
         → C.made after ≡ C.made before ++ accepted_in_part C.Caller lines before out after a }
 {}
 
 /// Where no call of a caller is answered `Mismatch` in sessions of one protocol, no line that answers its conversation
 /// is `refused mismatch` there.
-pub fn no_talk_meets_a_mismatch<C: Caller>()
+pub fn no_conversation_meets_a_mismatch<C: Caller>()
     ensures whole { (types : C → List LocalType) → MeetsNoMismatch C.Caller types
         → (asked : List (List ℕ)) (before : C) (out : List ℕ) (after : C) (lines : List (List ℕ)) (rest : List ℕ)
-        → HasNoMismatch C.Caller types before → AnswersLines (talks C.Caller) asked before out after
+        → HasNoMismatch C.Caller types before → AnswersLines (converses C.Caller) asked before out after
         → IsSplit out lines rest → AllByRecursion (λ line. line ≢ codes "refused mismatch") lines }
     ensures part { (types : C → List LocalType) → MeetsNoMismatch C.Caller types
         → (asked : List (List ℕ)) (before : C) (out : List ℕ) (after : C) (lines : List (List ℕ)) (rest : List ℕ)
         → HasNoMismatch C.Caller types before
-        → AnswersToPart (talks C.Caller) (talks_to_part C.Caller) asked before out after
+        → AnswersCut (converses C.Caller) (converses_in_part C.Caller) asked before out after
         → IsSplit out lines rest → AllByRecursion (λ line. line ≢ codes "refused mismatch") lines }
 {
     one_reply_line();

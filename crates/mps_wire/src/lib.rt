@@ -17,5 +17,5 @@ pub mod script;
 pub mod sending;
 
 pub use conversation::{Ending, converse};
-pub use reply::{Outcome, outcome_has_text, take_line, write_outcome};
+pub use reply::{Outcome, take_line, write_outcome};
 pub use script::{ReplayFault, replay, run_script};

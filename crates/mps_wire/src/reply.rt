@@ -1,15 +1,15 @@
 //! The reply to one line of a conversation.
-ghost use Rattle.std.specs.Prelude.{◌≡◌, ℕ, List, IsTrue, OnOk, OnErr, IsSome};
+ghost use Rattle.std.specs.Prelude.{◌≡◌, OnOk, OnErr, IsSome};
 ghost use Rattle.std.specs.Io.{StartsWith};
 ghost use Rattle.mps_base.specs.Appends.{Appends};
 ghost use Rattle.mps_command.specs.Changes.{change_of};
 ghost use Rattle.mps_line.specs.Replies.{SpellsReply};
 ghost use Rattle.mps_wire.specs.Private.Commands.{RepliesToNumbered};
-ghost use Rattle.mps_wire.specs.Talk.{RepliesTo, reply_of};
+ghost use Rattle.mps_wire.specs.Conversations.{RepliesTo, reply_of};
 
 use mps_command::{Answer, Command, Refusal};
 use mps_line::laws::one_numbered;
-use mps_line::{LineFault, Reply, answer_has_text, read_numbered, write_answer};
+use mps_line::{LineFault, Reply, read_numbered, write_answer};
 use mps_lines::MAX_LINE;
 use mps_room::{Caller, Told};
 use std::alloc::{AllocError, Global};
@@ -68,20 +68,6 @@ pub fn write_outcome<C: Caller>(
         Outcome::Kept => match caller.kept() {
             Some(answer) => write_answer(answer, out),
             None => Reply::Number.write(out),
-        },
-    }
-}
-
-/// Whether the reply has a text, which each reply has. It does not allocate.
-pub fn outcome_has_text<C: Caller>(caller: &C, outcome: &Outcome) -> bool
-    ensures always { IsTrue result }
-    ensures text { (text : List ℕ) × SpellsReply text (reply_of outcome.now (C.kept caller.now)) }
-{
-    match outcome {
-        Outcome::Reply(reply) => reply.has_text(),
-        Outcome::Kept => match caller.kept() {
-            Some(answer) => answer_has_text(answer),
-            None => Reply::Number.has_text(),
         },
     }
 }

@@ -13,7 +13,7 @@ use Rattle.mps_room.specs.Numbers.{IsNumbered}
 use Rattle.mps_room.specs.declared.caller.Caller.{Ghosts}
 use Rattle.mps_room.specs.declared.entry.Entry.{Entry}
 use Rattle.mps_room.specs.declared.numbers.Told.{Told}
-use Rattle.mps_wire.specs.Talk.{IsToldAs}
+use Rattle.mps_wire.specs.Conversations.{IsToldAs}
 
 -- the texts of old and a text that answers the role's command, and the journal after it
 abbrev pub IsAnswered : (names : List (List ℕ)) → List LocalType → (journal : List Entry) → ℕ → Command → (after : List Entry) → (old new : List ℕ) → Type 0

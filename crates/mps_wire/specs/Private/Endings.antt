@@ -2,11 +2,10 @@
 use Rattle.std.specs.Prelude.{ℕ, List, [], ◌∷◌, Option, None, Some, Result, Ok, Err, ◌++◌}
 use Rattle.std.specs.Io.KnownBytes.{Appends, IsAtEnd}
 use Rattle.mps_lines.specs.Lines.{ended}
-use Rattle.mps_wire.specs.Answers.{Answering, Answered}
+use Rattle.mps_wire.specs.Answers.{Answering, Answered, CutInLast, OfWholeLines}
 use Rattle.mps_wire.specs.Endings.{WasAnswered, WasCut}
 use Rattle.mps_wire.specs.Runs.{Going, GaveAtLeast}
-use Rattle.mps_wire.specs.Streams.{Streams, Counts}
-use Rattle.mps_wire.specs.Talk.{AnsweredToPart}
+use Rattle.mps_wire.specs.Streams.{Streams, Counts, all_went_well, one_read_ended, one_read_failed, one_write_failed}
 use Rattle.mps_wire.specs.declared.conversation.Broken.{Broken}
 use Rattle.mps_wire.specs.declared.conversation.Broken.TheVariants.{Write, Memory as NoMemory, Untold as Unsaid}
 use Rattle.mps_wire.specs.declared.conversation.Ending.{Ending}
@@ -15,13 +14,13 @@ use Rattle.mps_wire.specs.declared.conversation.Ending.TheVariants.{Closed, Read
 module _ {S : Type 0} (answers part : Answering S) (start : S) (first before after : Streams) where
   -- what one read and its answers lead to: it goes on, or it ended; first are the streams before the conversation
   abbrev pub TurnedTo : List ℕ → S → Option Ending → Type 0
-  TurnedTo kept st None = Going answers start first after kept st × Counts before after 0 0 0 × GaveAtLeast 1 before after
-  TurnedTo kept st (Some Closed) = WasAnswered answers start first after st × Counts before after 0 1 0 × IsAtEnd after.left
-  TurnedTo kept st (Some ReadFault) = WasAnswered answers start first after st × Counts before after 1 0 0
+  TurnedTo kept st None = Going answers start first after kept st × Counts before after all_went_well × GaveAtLeast 1 before after
+  TurnedTo kept st (Some Closed) = WasAnswered answers start first after st × Counts before after one_read_ended × IsAtEnd after.left
+  TurnedTo kept st (Some ReadFault) = WasAnswered answers start first after st × Counts before after one_read_failed
   TurnedTo kept st (Some Turns) = ⊥
-  TurnedTo kept st (Some WriteFault) = WasCut answers part start first after st × Counts before after 0 0 1
-  TurnedTo kept st (Some Memory) = WasCut answers part start first after st × Counts before after 0 0 0
-  TurnedTo kept st (Some Untold) = WasCut answers part start first after st × Counts before after 0 0 0
+  TurnedTo kept st (Some WriteFault) = WasCut answers part start first after st × Counts before after one_write_failed
+  TurnedTo kept st (Some Memory) = WasCut answers part start first after st × Counts before after all_went_well
+  TurnedTo kept st (Some Untold) = WasCut answers part start first after st × Counts before after all_went_well
 
 -- how many writes failed
 abbrev pub failed_by : Result Unit Broken → ℕ
@@ -55,4 +54,4 @@ TakesOn {S} answers bytes kept c taken kept' d taken' = (first : S) (before out 
 -- the same, where that breaks off
 abbrev pub TakesToPart : {S : Type 0} → Answering S → Answering S → (bytes kept : List ℕ) → S → Option (List ℕ) → S → Option (List ℕ) → Type 0
 TakesToPart {S} answers part bytes kept c taken d taken' = (first : S) (before out : List ℕ) → Answered answers first before kept out c
-    → (more : List ℕ) × Appends taken taken' more × AnsweredToPart answers part first (before ++ bytes) (out ++ more) d
+    → (more : List ℕ) × Appends taken taken' more × OfWholeLines (before ++ bytes) (λ lines. CutInLast answers first part lines (out ++ more) d)

@@ -1,7 +1,7 @@
 -- Where a run is among its lines.
 use Rattle.std.specs.Prelude.{◌≡◌, ℕ, List, ◌++◌}
 use Rattle.mps_room.specs.declared.entry.Entry.{Entry}
-use Rattle.mps_wire.specs.Answers.{Answering, Answered, AnsweredAll}
+use Rattle.mps_wire.specs.Answers.{Answering, Answered, AnswersLines, OfAllLines}
 use Rattle.mps_wire.specs.Script.{AnswersLine}
 use Rattle.mps_wire.specs.declared.script.ScriptRun.{ScriptRun}
 
@@ -22,7 +22,7 @@ module _ {S : Type 0} (answers : Answering S) (start : S) where
   abbrev pub TakesEnd : Place S → Place S → Type 0
   TakesEnd old new = (before out : List ℕ) → Answered answers start before old.kept out old.state
       → (more : List ℕ) × (new.waiting ≡ old.waiting ++ more)
-      × AnsweredAll answers start before (out ++ more) new.state
+      × OfAllLines before (λ lines. AnswersLines answers lines start (out ++ more) new.state)
 
 -- how a line of a run is answered
 abbrev pub lines_of : ScriptRun → Answering (List Entry)

@@ -1,6 +1,6 @@
 use Rattle.std.proofs.Common.{◌∙◌, sym}
 use Rattle.std.proofs.lemmas.Bool.{eqb-true, eqb-false}
-use Rattle.mps_wire.proofs.Talking.{begun_none, begun_some}
+use Rattle.mps_wire.proofs.Taking.{begun_none, begun_some}
 use Rattle.mps_wire.proofs.conversation.begun.Goals as goal
 
 pub returns-then-is_empty : goal.returns-then-is_empty

@@ -4,7 +4,7 @@ use Rattle.std.proofs.lemmas.Result.{on_ok_weaker}
 use Rattle.mps_lines.specs.Lines.{front, most_kept}
 use Rattle.mps_lines.proofs.Splitting.{front_short}
 use Rattle.mps_wire.specs.Private.Endings.{begun_or}
-use Rattle.mps_wire.proofs.Talking.{begun_some}
+use Rattle.mps_wire.proofs.Taking.{begun_some}
 use Rattle.mps_wire.proofs.conversation.keep_begun.Goals as goal
 
 -- the test of a line of so many bytes

@@ -5,7 +5,7 @@ use Rattle.mps_wire.proofs.laws.no_script_meets_a_mismatch.Goals as goal
 
 pub returns-clause-whole : goal.returns-clause-whole
 returns-clause-whole c names types bytes out rest lines after own a split =
-    script_fits c.one_reply_line.ensures.reply names types own (with_last a.lines a.rest) lines out out [] rest after a.answers_lines (sym (append-nil out)) split
+    script_fits c.one_reply_line.ensures.reply names types own (with_last a.lines a.rest) lines out out [] rest after a.holds (sym (append-nil out)) split
 
 pub returns-clause-stopped : goal.returns-clause-stopped
 returns-clause-stopped c names types bytes kept out rest lines after own a split =
@@ -13,8 +13,8 @@ returns-clause-stopped c names types bytes kept out rest lines after own a split
 
 pub returns-clause-part : goal.returns-clause-part
 returns-clause-part c names types bytes written rest lines own a split =
-    part_fits c.one_reply_line.ensures.reply names types own a.lines lines written rest a.in_part split
+    part_fits c.one_reply_line.ensures.reply names types own a.lines lines written rest a.holds split
 
 pub returns-clause-part_at_end : goal.returns-clause-part_at_end
 returns-clause-part_at_end c names types bytes written rest lines own a split =
-    part_fits c.one_reply_line.ensures.reply names types own (with_last a.lines a.rest) lines written rest a.in_part split
+    part_fits c.one_reply_line.ensures.reply names types own (with_last a.lines a.rest) lines written rest a.holds split

@@ -3,7 +3,7 @@ use Rattle.mps_base.specs.declared.value.Value.TheVariants.{Text}
 use Rattle.mps_command.specs.declared.command.Command.TheVariants.{Forward}
 use Rattle.mps_command.specs.declared.command.Forward.TheVariants.{Send}
 use Rattle.mps_line.specs.Commands.{SpellsNumbered}
-use Rattle.mps_wire.specs.Talk.{Unread, Called, Numbered, Starved}
+use Rattle.mps_wire.specs.Conversations.{Unread, Called, Numbered, Starved}
 use Rattle.mps_wire.proofs.Calling.{request}
 use Rattle.mps_wire.proofs.reply.take_line.Goals as goal
 

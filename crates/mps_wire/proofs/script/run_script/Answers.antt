@@ -2,7 +2,7 @@ use Rattle.std.proofs.Common.{◌≡◌, [], length, Ok, Err, ap, ◌∙◌, ari
 use Rattle.mps_room.specs.RoomState.{RoomState}
 use Rattle.mps_wire.specs.Runs.{ScriptRan, max_reads}
 use Rattle.mps_wire.specs.Script.{AnswersLine}
-use Rattle.mps_wire.specs.Streams.{streams}
+use Rattle.mps_wire.specs.Streams.{all_went_well, one_read_ended, streams}
 use Rattle.mps_wire.specs.declared.script.TheConstants.{BLOCK}
 use Rattle.mps_wire.proofs.Bytes.{same_room}
 use Rattle.mps_wire.proofs.Carrying.{turned}
@@ -56,7 +56,7 @@ returns-then-branch-clause-outcome g c =
     let done =
     at_end (AnswersLine c.args.roles types) [] first old now c.turn.new.run.line.items c.turn.new.run.room.journal c.in_ok-turn.field-0
     (turned c.args.roles c.loop.run.room.names types c.loop.run.room.types i.names i.types old now c.loop.run.line.items c.turn.new.run.line.items c.loop.run.room.journal c.turn.new.run.room.journal (Ok c.in_ok-turn.field-0) c.in_ok-turn.ensures.step first i.going) c.if-branch.true in
-    ((done.0, counts_more first old now i.counts 0 1 0 done.1), c.in_ok-turn.ensures.names ∙ i.names, c.in_ok-turn.ensures.types ∙ i.types)
+    ((done.0, counts_more first old now i.counts one_read_ended done.1), c.in_ok-turn.ensures.names ∙ i.names, c.in_ok-turn.ensures.types ∙ i.types)
 
 pub loop-preserved : goal.loop-preserved
 loop-preserved g c =
@@ -75,7 +75,7 @@ loop-preserved g c =
       none_waits = c.in_ok-turn.ensures.none_wait;
       room = same_room c.loop.block.len BLOCK c.turn.new.block c.loop.block.items c.loop.block.ok.0 i.room;
       reads = omega (arith, c.in_ok-turn.ensures.reads, i.reads);
-      counts = counts_more first old now i.counts 0 0 0 on.1;
+      counts = counts_more first old now i.counts all_went_well on.1;
       gave = gave_more first old now _ i.gave on.2;
       going = on.0;
     }

@@ -2,7 +2,7 @@ use Rattle.std.proofs.Common.{◌≡◌, ◌+◌, ◌≤◌, [], length}
 use Rattle.mps_lines.specs.Lines.{most_kept}
 use Rattle.mps_wire.specs.Runs.{Going, GaveAtLeast}
 use Rattle.mps_wire.specs.Script.{AnswersLine}
-use Rattle.mps_wire.specs.Streams.{Counts, streams}
+use Rattle.mps_wire.specs.Streams.{Counts, all_went_well, streams}
 use Rattle.mps_wire.specs.declared.script.TheConstants.{BLOCK}
 use Rattle.mps_wire.proofs.script.run_script.Given as goal
 
@@ -17,7 +17,7 @@ invariant-loop g l =
       none_waits : l.run.answers.items ≡ [];
       room : length l.block.items ≡ BLOCK;
       reads : now.reads ≡ first.reads + l.counter;
-      counts : Counts first now 0 0 0;
+      counts : Counts first now all_went_well;
       gave : GaveAtLeast l.counter first now;
       going : Going (AnswersLine l.fn.roles l.fn.session.types) [] first now l.run.line.items l.run.room.journal;
     }

@@ -2,7 +2,7 @@ use native.Mathlib.Omega.{arith}
 use Rattle.std.proofs.Common.{refl, sym, ap, subst}
 use Rattle.mps_room.specs.Numbers.{kept_of}
 use Rattle.mps_room.specs.contracts.solo.SoloCaller.TheImpl.{ghosts}
-use Rattle.mps_wire.specs.Talk.{RepliesTo, reply_of}
+use Rattle.mps_wire.specs.Conversations.{RepliesTo, reply_of}
 use Rattle.mps_wire.specs.declared.reply.Outcome.{Outcome}
 use Rattle.mps_embed.specs.Embedded.{EmbeddedState}
 use Rattle.mps_embed.proofs.Speaking.{answered}

@@ -1,5 +1,5 @@
 use Rattle.mps_wire.proofs.Making.{lines_make, part_makes}
-use Rattle.mps_wire.proofs.laws.a_talk_makes_its_commands.Goals as goal
+use Rattle.mps_wire.proofs.laws.a_conversation_makes_its_commands.Goals as goal
 
 pub returns-clause-whole : goal.returns-clause-whole
 returns-clause-whole g c = λ lines a out d t. lines_make g.C.Caller g.met.C.Caller.same_role g.met.C.Caller.grows lines a out d t

@@ -3,7 +3,7 @@ use Rattle.mps_wire.specs.Streams.{streams}
 use Rattle.mps_wire.proofs.Making.{ended_keeps}
 use Rattle.mps_keeper.specs.Holds.{keeps_of, whole_of}
 use Rattle.mps_hub.proofs.Telling.{idle_whole, unused, idle_stays, ends_told}
-use Rattle.mps_hub.proofs.attending.talk.Goals as goal
+use Rattle.mps_hub.proofs.attending.converse_joined.Goals as goal
 
 pub returns-in-Ok-clause-cell : goal.returns-in-Ok-clause-cell
 returns-in-Ok-clause-cell g c = ended_keeps _ (λ h. h.inner.inner.pass.cell) (λ h x a k t. t.call.pass.cell) (streams g.R.Source g.W.Sink c.args.reader.now c.send.new.writer) (streams g.R.Source g.W.Sink c.converse.new.reader c.converse.new.writer) _ _ c.converse.result c.converse.ensures.ending

@@ -4,9 +4,8 @@ use Rattle.std.proofs.Math.Seq.{take-add}
 use Rattle.std.proofs.lemmas.List.{take_rest, take_more, drop-drop, take-append-drop}
 use Rattle.mps_lines.specs.Lines.{HasNoBreak, ended, front}
 use Rattle.mps_lines.proofs.Splitting.{split_ended}
-use Rattle.mps_wire.specs.Answers.{Answering, AnswersLines, Answered}
+use Rattle.mps_wire.specs.Answers.{Answering, Answered, AnswersCut, AnswersLines, CutInLast, OfWholeLines}
 use Rattle.mps_wire.specs.Private.Endings.{IsWholly, IsPartly, TakesOn, TakesToPart, begun_or}
-use Rattle.mps_wire.specs.Talk.{AnswersToPart, AnsweredToPart}
 use Rattle.mps_wire.proofs.Answering.{GoesByFront, answered_more, answered_line}
 use Rattle.mps_wire.proofs.Bytes.{Appends-trans, Appends-none}
 use Rattle.mps_wire.proofs.Turning.{split_on}
@@ -27,7 +26,7 @@ IsWholePart {S} answers part = (line : List ℕ) (st : S) (text : List ℕ) (aft
 
 module _ {S : Type 0} (answers part : Answering S) where
   -- one line more, answered in part
-  pub part_push : (lines : List (List ℕ)) (line : List ℕ) (st mid after : S) (out written : List ℕ) → AnswersLines answers lines st out mid → part line mid written after → AnswersToPart answers part (lines ++ line ∷ []) st (out ++ written) after
+  pub part_push : (lines : List (List ℕ)) (line : List ℕ) (st mid after : S) (out written : List ℕ) → AnswersLines answers lines st out mid → part line mid written after → AnswersCut answers part (lines ++ line ∷ []) st (out ++ written) after
   part_push [] line st mid after out written a b =
       subst (λ (o : List ℕ). part line st (o ++ written) after) (sym a.0) (subst (λ (s : S). part line s written after) a.1 b)
   part_push (l ∷ []) line st mid after out written a b =
@@ -37,7 +36,7 @@ module _ {S : Type 0} (answers part : Answering S) where
 
   module _ (whole : IsWholePart answers part) where
     -- whole answers, the last of them too
-    pub whole_part : (lines : List (List ℕ)) (st after : S) (out : List ℕ) → AnswersLines answers lines st out after → AnswersToPart answers part lines st out after
+    pub whole_part : (lines : List (List ℕ)) (st after : S) (out : List ℕ) → AnswersLines answers lines st out after → AnswersCut answers part lines st out after
     whole_part [] st after out a = a
     whole_part (l ∷ []) st after out a =
         let same : ended a.0 ≡ out = sym (a.3 ∙ ap (λ (x : List ℕ). ended a.0 ++ x) a.5.0 ∙ append-nil (ended a.0)) in
@@ -45,23 +44,25 @@ module _ {S : Type 0} (answers part : Answering S) where
     whole_part (l ∷ m ∷ lines) st after out a = (a.0, a.1, a.2, a.3, a.4, whole_part (m ∷ lines) a.2 after a.1 a.5)
 
     -- no more lines are answered, whatever else was read
-    pub stops : (start st : S) (bytes kept out more : List ℕ) → Answered answers start bytes kept out st → AnsweredToPart answers part start (bytes ++ more) out st
+    pub stops : (start st : S) (bytes kept out more : List ℕ) → Answered answers start bytes kept out st → OfWholeLines (bytes ++ more) (λ lines. CutInLast answers start part lines out st)
     stops start st bytes kept out more a =
         let s = split_on more bytes a.lines a.rest a.split in
-        record { lines = a.lines ++ s.0; rest = s.1; split = s.2; done = a.lines; others = s.0; first = refl; answers_lines = whole_part a.lines start st out a.answers_lines }
+        record { lines = a.lines ++ s.0; rest = s.1; split = s.2; holds = record { answered = a.lines; others = s.0; first = refl; answers_lines = whole_part a.lines start st out a.answers_lines } }
 
   -- the line is ended, and answered in part; whatever else was read
-  pub breaks : GoesByFront part → (start mid after : S) (bytes kept out written more : List ℕ) → Answered answers start bytes kept out mid → part kept mid written after → AnsweredToPart answers part start ((bytes ++ 10 ∷ []) ++ more) (out ++ written) after
+  pub breaks : GoesByFront part → (start mid after : S) (bytes kept out written more : List ℕ) → Answered answers start bytes kept out mid → part kept mid written after → OfWholeLines ((bytes ++ 10 ∷ []) ++ more) (λ lines. CutInLast answers start part lines (out ++ written) after)
   breaks by_front start mid after bytes kept out written more a b =
       let s = split_on more (bytes ++ 10 ∷ []) (a.lines ++ a.rest ∷ []) [] (split_ended bytes a.lines a.rest a.split) in
       record {
         lines = (a.lines ++ a.rest ∷ []) ++ s.0;
         rest = s.1;
         split = s.2;
-        done = a.lines ++ a.rest ∷ [];
-        others = s.0;
-        first = refl;
-        answers_lines = part_push a.lines a.rest start mid after out written a.answers_lines (by_front a.rest mid written after (subst (λ (l : List ℕ). part l mid written after) a.front_kept b));
+        holds = record {
+          answered = a.lines ++ a.rest ∷ [];
+          others = s.0;
+          first = refl;
+          answers_lines = part_push a.lines a.rest start mid after out written a.answers_lines (by_front a.rest mid written after (subst (λ (l : List ℕ). part l mid written after) a.front_kept b));
+        };
       }
 
 -- what was made of the bytes up to the rest
@@ -136,8 +137,8 @@ module _ {S : Type 0} (answers part : Answering S) (kept0 : List ℕ) (c0 : S) (
         ap (λ (l : List ℕ). l ++ drop n bytes) (whole_of before) ∙ append_assoc before (take n bytes) (drop n bytes) ∙ ap (λ (l : List ℕ). before ++ l) (take-append-drop n bytes) in (
           had.0 ++ line.written,
           Appends-trans took taken taken1 had.0 line.written had.1 line.sent,
-          subst (λ (o : List ℕ). AnsweredToPart answers part first (before ++ bytes) o d) (append_assoc out had.0 line.written)
-              (subst (λ (b : List ℕ). AnsweredToPart answers part first b ((out ++ had.0) ++ line.written) d) whole
+          subst (λ (o : List ℕ). OfWholeLines (before ++ bytes) (λ lines. CutInLast answers first part lines o d)) (append_assoc out had.0 line.written)
+              (subst (λ (b : List ℕ). OfWholeLines b (λ lines. CutInLast answers first part lines ((out ++ had.0) ++ line.written) d)) whole
               (breaks answers part by_front first c d (before ++ (take passed bytes ++ take k rest)) kept1 (out ++ had.0) line.written (drop n bytes) (line_so_far first before (out ++ had.0) had.2) line.line_is)),
         )
 
@@ -163,4 +164,4 @@ module _ {S : Type 0} (answers part : Answering S) (kept0 : List ℕ) (c0 : S) (
         let had = f.on first before out a in
         let all : (before ++ take n bytes) ++ drop n bytes ≡ before ++ bytes =
         append_assoc before (take n bytes) (drop n bytes) ∙ ap (λ (l : List ℕ). before ++ l) (take-append-drop n bytes) in
-        (had.0, had.1, subst (λ (b : List ℕ). AnsweredToPart answers part first b (out ++ had.0) c) all (stops answers part whole first c (before ++ take n bytes) kept (out ++ had.0) (drop n bytes) had.2))
+        (had.0, had.1, subst (λ (b : List ℕ). OfWholeLines b (λ lines. CutInLast answers first part lines (out ++ had.0) c)) all (stops answers part whole first c (before ++ take n bytes) kept (out ++ had.0) (drop n bytes) had.2))

@@ -1,5 +1,5 @@
 -- What a conversation does to its caller, and what the caller is answered.
-use Rattle.std.specs.Prelude.{◌≡◌, true, false, ℕ, ◌≤◌, List, [], ◌∷◌, ◌++◌, length, Option, None, Some}
+use Rattle.std.specs.Prelude.{◌≡◌, ◌⊎◌, true, false, ℕ, ◌≤◌, List, [], ◌++◌, length, Option, None, Some}
 use Rattle.std.specs.Str.{IsAscii}
 use Rattle.mps_base.specs.declared.value.Value.TheVariants.{Text}
 use Rattle.mps_command.specs.declared.answer.Answer.{Answer}
@@ -12,7 +12,7 @@ use Rattle.mps_line.specs.Commands.{SpellsNumbered}
 use Rattle.mps_line.specs.Replies.{SpellsReply}
 use Rattle.mps_line.specs.declared.write_replies.Reply.{Reply}
 use Rattle.mps_line.specs.declared.write_replies.Reply.TheVariants.{Answered, BadLine, Number}
-use Rattle.mps_lines.specs.Lines.{IsSplit, ended, max_line}
+use Rattle.mps_lines.specs.Lines.{ended, max_line}
 use Rattle.mps_room.specs.Numbers.{IsNumbered}
 use Rattle.mps_room.specs.declared.caller.Caller.{Ghosts}
 use Rattle.mps_room.specs.declared.numbers.Told.{Told}
@@ -40,6 +40,11 @@ abbrev pub reply_of : Outcome → Option Answer → Reply
 reply_of (Said reply) kept = reply
 reply_of AsKept (Some answer) = Answered answer
 reply_of AsKept None = Number
+
+-- nothing, or the front of a text that spells the reply, with its LF
+abbrev pub BeginsReply : Reply → List ℕ → Type 0
+BeginsReply reply written =
+    (written ≡ []) ⊎ ((text : List ℕ) × (unwritten : List ℕ) × SpellsReply text reply × (ended text ≡ written ++ unwritten))
 
 -- What one line does to a caller.
 module _ {C : Type 0} (caller : Ghosts C) (line : List ℕ) (c : C) where
@@ -85,46 +90,26 @@ module _ {C : Type 0} (caller : Ghosts C) (line : List ℕ) (c : C) where
     Starved : IsStarved reply d → RepliesTo reply d
 
   -- the text that answers the line, and the caller after it
-  pub record TalksLine (text : List ℕ) (d : C) : Type 0 where
+  pub record RepliesInText (text : List ℕ) (d : C) : Type 0 where
     pub reply : Reply
     pub replies : RepliesTo reply d
     pub spelled : SpellsReply text reply
 
   -- the text that answers the line, which may be told, and the caller after it
-  pub record TalksAloud (text : List ℕ) (d : C) : Type 0 where
-    pub line_is : TalksLine text d
+  pub record ConversesLine (text : List ℕ) (d : C) : Type 0 where
+    pub line_is : RepliesInText text d
     pub aloud : caller.may_tell d ≡ true
 
-  -- of the text that answers the line this part is written; none, where it may not be told
-  pub record TalksToPart (written : List ℕ) (d : C) : Type 0 where
-    pub text : List ℕ
-    pub unwritten : List ℕ
-    pub line_is : TalksLine text d
-    pub whole : ended text ≡ written ++ unwritten
+  -- this front of a text that answers the line is written; nothing, where it may not be told
+  pub record ConversesInPart (written : List ℕ) (d : C) : Type 0 where
+    pub reply : Reply
+    pub replies : RepliesTo reply d
+    pub begun : BeginsReply reply written
     pub silent : caller.may_tell d ≡ false → written ≡ []
 
 -- how a caller's lines are answered, and how they are in part
-abbrev pub talks : {C : Type 0} → Ghosts C → Answering C
-talks caller line c text d = TalksAloud caller line c text d
+abbrev pub converses : {C : Type 0} → Ghosts C → Answering C
+converses caller line c text d = ConversesLine caller line c text d
 
-abbrev pub talks_to_part : {C : Type 0} → Ghosts C → Answering C
-talks_to_part caller line c written d = TalksToPart caller line c written d
-
--- lines that are answered in order, of the last one in part, and the state after it; whatever they do to what state
-abbrev pub AnswersToPart : {S : Type 0} → Answering S → Answering S → List (List ℕ) → S → List ℕ → S → Type 0
-AnswersToPart answers part [] st out after = (out ≡ []) × (after ≡ st)
-AnswersToPart answers part (line ∷ []) st out after = part line st out after
-AnswersToPart {S} answers part (line ∷ other ∷ lines) st out after =
-    (text : List ℕ) × (others : List ℕ) × (mid : S) × (out ≡ ended text ++ others)
-    × answers line st text mid × AnswersToPart answers part (other ∷ lines) mid others after
-
-module _ {S : Type 0} (answers part : Answering S) (start : S) where
-  -- the first of the whole lines of the bytes are answered, of the last of these in part
-  pub record AnsweredToPart (bytes written : List ℕ) (after : S) : Type 0 where
-    pub lines : List (List ℕ)
-    pub rest : List ℕ
-    pub split : IsSplit bytes lines rest
-    pub done : List (List ℕ)
-    pub others : List (List ℕ)
-    pub first : lines ≡ done ++ others
-    pub answers_lines : AnswersToPart answers part done start written after
+abbrev pub converses_in_part : {C : Type 0} → Ghosts C → Answering C
+converses_in_part caller line c written d = ConversesInPart caller line c written d
