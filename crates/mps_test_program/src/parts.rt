@@ -1,11 +1,14 @@
 //! The program's words, files, protocols, scripts and faults.
+ghost use Rattle.std.specs.Prelude.{◌≡◌, length, IfOk};
+ghost use Rattle.mps_machine.specs.Machine.{initial};
+
 use mps_base::{Name, Roles};
 use mps_dev::{Pieces, Short};
 use mps_global::GlobalFault;
+use mps_open::roles_of;
 use mps_program::{
-    Tallies, Tally, ToolFault, check_file, compare_files, fault_line, lines_of, open_file,
-    read_many, read_session, read_sessions, read_text, roles_and_session, roles_and_sessions,
-    run_file, status, verdict_of, write_types,
+    Tallies, Tally, ToolFault, check_file, compare_files, fault_line, lines_of, load,
+    open_file, read_text, run_file, session_of, status, verdict_of, write_types,
 };
 use mps_session::Session;
 use mps_text::TextKind;
@@ -20,8 +23,8 @@ const RELAY: &str = "roles a b c ; a -> b : int . b -> c : int . end";
 const PAIRS: &str = "roles a b c d ; a -> b : int . c -> d : int . end";
 
 // The text in one piece.
-fn whole(alloc: Global, text: &str) -> Result<Vec<Vec<u8>>, Fail> {
-    Ok(vec![in alloc; Vec::from_slice(alloc, text.as_bytes())?]?)
+fn whole(alloc: Global, text: &str) -> Result<Vec<Vec<u8>>, AllocError> {
+    vec![in alloc; Vec::from_slice(alloc, text.as_bytes())?]
 }
 
 // The text in two pieces.
@@ -33,11 +36,22 @@ fn halves(alloc: Global, text: &str) -> Result<Vec<Vec<u8>>, Fail> {
     ]?)
 }
 
+// The roles of the protocol that comes in these pieces, and a new session of it.
+fn opened(alloc: Global, pieces: Vec<Vec<u8>>) -> Result<(Roles, Session), ToolFault<'static>>
+    ensures named { IfOk result (λ r. length r.0 ≡ length r.1.types) }
+    ensures new { IfOk result (λ r. r.1.state ≡ initial) }
+{
+    let protocol = load(alloc, &mut Pieces::new(pieces, None))?;
+    let session = session_of(alloc, &protocol)?;
+    let roles = roles_of(alloc, &protocol)?;
+    Ok((roles, session))
+}
+
 // The answers to the script on a new session of the protocol.
 pub(crate) fn answers(alloc: Global, protocol: &str, script: &str) -> Result<Vec<u8>, Fail> {
     let mut reader = Pieces::new(whole(alloc, script)?, None);
     let mut writer = Short::new(alloc, 2_000_000)?;
-    let Ok((roles, session)) = roles_and_session(alloc, protocol.as_bytes()) else {
+    let Ok((roles, session)) = opened(alloc, whole(alloc, protocol)?) else {
         return Err("a protocol".into());
     };
     if run_script(alloc, &mut reader, &mut writer, roles, session).is_err() {
@@ -283,8 +297,13 @@ fn counted(
 }
 
 // The lines of the protocol's roles, or the line of its fault.
-fn shown(alloc: Global, protocol: &str) -> Result<Vec<u8>, AllocError> {
-    match lines_of(alloc, protocol.as_bytes()) {
+fn shown(alloc: Global, pieces: Vec<Vec<u8>>) -> Result<Vec<u8>, AllocError> {
+    let loaded = load(alloc, &mut Pieces::new(pieces, None));
+    let lines = match &loaded {
+        Ok(protocol) => lines_of(alloc, protocol),
+        Err(fault) => return fault_line(alloc, fault),
+    };
+    match lines {
         Ok(lines) => Ok(lines),
         Err(fault) => fault_line(alloc, &fault),
     }
@@ -301,12 +320,9 @@ enum Had {
 // What is had of the protocol, or the line of its fault.
 fn given(alloc: Global, what: Had, protocol: &str) -> Result<Vec<u8>, Fail> {
     match what {
-        Had::Session => Ok(counted(alloc, counts(roles_and_session(alloc, protocol.as_bytes())))?),
-        Had::Loaded => {
-            let mut reader = Pieces::new(halves(alloc, protocol)?, None);
-            Ok(counted(alloc, counts(read_session(alloc, &mut reader)))?)
-        }
-        Had::Lines => Ok(shown(alloc, protocol)?),
+        Had::Session => Ok(counted(alloc, counts(opened(alloc, whole(alloc, protocol)?)))?),
+        Had::Loaded => Ok(counted(alloc, counts(opened(alloc, halves(alloc, protocol)?)))?),
+        Had::Lines => Ok(shown(alloc, whole(alloc, protocol)?)?),
     }
 }
 
@@ -377,8 +393,8 @@ const LONG: &[(usize, &str)] = &[
 #[test]
 fn reads_no_more_than_a_text(rt: HostRuntime) -> Result<(), Fail> {
     for (count, line) in LONG {
-        let mut reader = Pieces::new(blanks(rt.alloc(), *count)?, None);
-        let found = counted(rt.alloc(), counts(read_session(rt.alloc(), &mut reader)))?;
+        let pieces = blanks(rt.alloc(), *count)?;
+        let found = counted(rt.alloc(), counts(opened(rt.alloc(), pieces)))?;
         assert_eq!(rt; found.as_slice(), line.as_bytes());
     }
     Ok(())
@@ -501,11 +517,7 @@ fn tells_reads_that_fail(rt: HostRuntime) -> Result<(), Fail> {
     let mut reader = Pieces::new(whole(rt.alloc(), "roles a")?, Some(2));
     assert!(rt; is_failed_read(read_text(rt.alloc(), &mut reader)));
     let mut reader = Pieces::new(whole(rt.alloc(), RELAY)?, Some(2));
-    assert!(rt; is_failed_read(read_session(rt.alloc(), &mut reader)));
-    let mut reader = Pieces::new(whole(rt.alloc(), RELAY)?, Some(2));
-    assert!(rt; is_failed_read(read_sessions(rt.alloc(), &mut reader)));
-    let mut reader = Pieces::new(whole(rt.alloc(), RELAY)?, Some(2));
-    assert!(rt; is_failed_read(read_many(rt.alloc(), &mut reader, 3)));
+    assert!(rt; is_failed_read(load(rt.alloc(), &mut reader)));
     Ok(())
 }
 
@@ -571,7 +583,10 @@ fn told(
         first: Tally::new(),
         second: Tally::new(),
     };
-    let (roles, first, second) = roles_and_sessions(alloc, PAIRS.as_bytes())?;
+    let protocol = load(alloc, &mut Pieces::new(whole(alloc, PAIRS)?, None))?;
+    let first = session_of(alloc, &protocol)?;
+    let second = session_of(alloc, &protocol)?;
+    let roles = roles_of(alloc, &protocol)?;
     verdict_of(
         alloc,
         &roles,
