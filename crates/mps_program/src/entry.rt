@@ -133,27 +133,7 @@ pub fn end_after<R: AllocGlobal + Eprint>(rt: &R, done: Result<u8, ToolFault<'_>
     }
 }
 
-/// Has the work done on the words that the program is called with, and ends after it. Where the words
-/// can't be had, nothing is done.
-pub fn end_with<R, F>(rt: &R, work: F) -> ExitCode
-where
-    R: Env + AllocGlobal + Eprint,
-    F: for<'a> FnOnce(&'a [&'a str]) -> Result<u8, ToolFault<'a>>,
-    requires { F.IsAlwaysCallable work }
-    ensures { EndsAs (λ done. (words : _) × F.post work words done) (exit_status result) }
-{
-    let words = match words_of(rt) {
-        Ok(words) => words,
-        Err(fault) => return end(rt, &ToolFault::from(fault)),
-    };
-    let words: Vec<&str> = match words.iter().map(|word| word.as_str()).collect(rt.alloc()) {
-        Ok(words) => words,
-        Err(_) => return end(rt, &ToolFault::Memory),
-    };
-    end_after(rt, work(words.as_slice()))
-}
-
-/// Does what the words say that the program is called with, and ends after it.
+/// Does what the words say that the program is called with, and ends after it. Where the words can't be had, nothing is done.
 pub fn program<
     R: Env
         + Files<File = File>
@@ -169,5 +149,13 @@ pub fn program<
 >(rt: &R) -> ExitCode
     ensures { EndsAs IsObeyed (exit_status result) }
 {
-    end_with(rt, |words| obey(rt, words))
+    let words = match words_of(rt) {
+        Ok(words) => words,
+        Err(fault) => return end(rt, &ToolFault::from(fault)),
+    };
+    let words: Vec<&str> = match words.iter().map(|word| word.as_str()).collect(rt.alloc()) {
+        Ok(words) => words,
+        Err(_) => return end(rt, &ToolFault::Memory),
+    };
+    end_after(rt, obey(rt, words.as_slice()))
 }
