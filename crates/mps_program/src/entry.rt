@@ -1,7 +1,7 @@
 //! What the program does, from its words to its exit status.
 ghost use Rattle.std.specs.Prelude.{◌≡◌, ◌≢◌, ◌≤◌, IfErr, IfOk};
 ghost use Rattle.std.specs.Process.{exit_status};
-ghost use Rattle.mps_program.specs.Ends.{EndsAs, IsObeyed, status_after};
+ghost use Rattle.mps_program.specs.Ends.{EndsAs, status_after};
 ghost use Rattle.mps_program.specs.Faults.{status_of};
 ghost use Rattle.mps_program.specs.declared.faults.ToolFault.TheVariants.{Open as NoSession};
 
@@ -133,21 +133,14 @@ pub fn end_after<R: AllocGlobal + Eprint>(rt: &R, done: Result<u8, ToolFault<'_>
     }
 }
 
-/// Does what the words say that the program is called with, and ends after it. Where the words can't be had, nothing is done.
-pub fn program<
-    R: Env
-        + Files<File = File>
-        + AllocGlobal
-        + Print
-        + Eprint
-        + Net<Listener = TcpListener, Stream = TcpStream>
-        + Clock
-        + Threads
-        + Wait
-        + Sync
-        + 'static,
->(rt: &R) -> ExitCode
-    ensures { EndsAs IsObeyed (exit_status result) }
+/// Has the work done on the words that the program is called with, and ends after it. Where the words
+/// can't be had, nothing is done.
+pub fn end_with<R, F>(rt: &R, work: F) -> ExitCode
+where
+    R: Env + AllocGlobal + Eprint,
+    F: for<'a> FnOnce(&'a [&'a str]) -> Result<u8, ToolFault<'a>>,
+    requires { F.IsAlwaysCallable work }
+    ensures { EndsAs (λ done. (words : _) × F.post work words done) (exit_status result) }
 {
     let words = match words_of(rt) {
         Ok(words) => words,
@@ -157,5 +150,5 @@ pub fn program<
         Ok(words) => words,
         Err(_) => return end(rt, &ToolFault::Memory),
     };
-    end_after(rt, obey(rt, words.as_slice()))
+    end_after(rt, work(words.as_slice()))
 }
