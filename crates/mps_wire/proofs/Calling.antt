@@ -1,5 +1,5 @@
 -- What a caller's line does, from what its front does.
-use Rattle.std.proofs.Common.{true, false, ◌≡◌, ℕ, ◌<◌, ◌≤◌, List, [], Option, length, min, refl, sym, subst, ◌∙◌, arith, ⊎_elim, append-nil, length-take, take, drop}
+use Rattle.std.proofs.Common.{true, false, ◌≡◌, ℕ, ◌<◌, ◌≤◌, List, [], Option, length, min, refl, sym, subst, ◌∙◌, arith, ⊎_elim, inl, inr, append-nil, length-take, take, drop}
 use Rattle.std.specs.Io.KnownBytes.{Appends}
 use Rattle.std.proofs.lemmas.Bool.{cases_lt}
 use Rattle.std.proofs.lemmas.List.{take-append-drop}
@@ -7,6 +7,7 @@ use Rattle.std.specs.List.{AllByRecursion}
 use Rattle.mps_base.specs.Values.{IsShown}
 use Rattle.mps_command.specs.declared.command.Command.{Command}
 use Rattle.mps_line.specs.Commands.{SpellsNumbered}
+use Rattle.mps_line.specs.Replies.{SpellsReply}
 use Rattle.mps_line.specs.declared.write_replies.Reply.{Reply}
 use Rattle.mps_lines.specs.Lines.{ended, max_line, most_kept, front}
 use Rattle.mps_lines.proofs.Splitting.{front_short}

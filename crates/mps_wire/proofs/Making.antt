@@ -13,9 +13,9 @@ use Rattle.mps_room.specs.Numbers.{IsNumbered}
 use Rattle.mps_room.specs.declared.entry.Entry.{Entry}
 use Rattle.mps_room.specs.declared.numbers.Told.{Told}
 use Rattle.mps_room.specs.declared.numbers.Told.TheVariants.{Fresh, Kept, Wrong, Refused}
-use Rattle.mps_wire.specs.Answers.{AnswersLines}
+use Rattle.mps_wire.specs.Answers.{AnswersCut, AnswersLines}
 use Rattle.mps_wire.specs.Endings.{EndedAs}
-use Rattle.mps_wire.specs.Making.{accepted_of, accepted_anew, accepted_line, accepted_lines, accepted_in_part}
+use Rattle.mps_wire.specs.Making.{accepted_of, accepted_anew, accepted_reply, accepted_line, accepted_lines, accepted_in_part}
 use Rattle.mps_wire.specs.Streams.{Streams}
 use Rattle.mps_wire.specs.declared.conversation.Ending.{Ending}
 use Rattle.mps_wire.specs.declared.conversation.Ending.TheVariants.{Closed, ReadFault, WriteFault, Turns, Memory, Untold}

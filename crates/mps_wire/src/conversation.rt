@@ -92,13 +92,13 @@ struct Conversation {
 
 impl Conversation {
     // Puts the text of the reply, with an LF, in place of the one before.
-    fn put_reply<C: Caller>(&mut self, caller: &C, outcome: &Outcome) -> Result<(), AllocError>
+    fn put_reply<C: Caller>(&mut self, caller: &C, outcome: Outcome) -> Result<(), AllocError>
         ensures line { self.new.line.items ≡ self.old.line.items }
-        ensures text { OnOk result ((text : List ℕ) × SpellsReply text (reply_of outcome.now (C.kept caller.now))
+        ensures text { OnOk result ((text : List ℕ) × SpellsReply text (reply_of outcome (C.kept caller.now))
             × (self.new.text.items ≡ ended text)) }
     {
         self.text.clear();
-        write_outcome(caller, outcome, &mut self.text)?;
+        write_outcome(caller, &outcome, &mut self.text)?;
         self.text.push(b'\n')?;
         Ok(())
     }
@@ -108,14 +108,14 @@ impl Conversation {
         &mut self,
         caller: &C,
         writer: &mut W,
-        outcome: &Outcome,
+        outcome: Outcome,
     ) -> Result<(), Broken>
         requires { W.failed_calls writer.old < 2 ^ 63 }
         ensures line { self.new.line.items ≡ self.old.line.items }
         ensures writes { W.failed_calls writer.new ≡ W.failed_calls writer.old + failed_by result }
-        ensures ok { (line : List ℕ) (start : C) → RepliesTo C.Caller line start (reply_of outcome.now (C.kept caller.now)) caller.now
+        ensures ok { (line : List ℕ) (start : C) → RepliesTo C.Caller line start (reply_of outcome (C.kept caller.now)) caller.now
             → OnOk result (IsWholly (converses C.Caller) line start caller.now (W.taken writer.old) (W.taken writer.new)) }
-        ensures err { (line : List ℕ) (start : C) → RepliesTo C.Caller line start (reply_of outcome.now (C.kept caller.now)) caller.now
+        ensures err { (line : List ℕ) (start : C) → RepliesTo C.Caller line start (reply_of outcome (C.kept caller.now)) caller.now
             → OnErr result (IsPartly (converses_in_part C.Caller) line start caller.now (W.taken writer.old) (W.taken writer.new)) }
         ensures untold { result ≡ Err MayNot → C.may_tell caller.now ≡ false }
     {
@@ -151,7 +151,7 @@ impl Conversation {
             let piece = &rest[..k];
             keep_begun(&mut self.line, piece)?;
             let outcome = take_line(self.alloc, caller, begun(self.line.as_slice(), piece));
-            self.tell(&*caller, writer, &outcome)?;
+            self.tell(&*caller, writer, outcome)?;
             self.line.clear();
             rest = &rest[k + 1..];
         }
