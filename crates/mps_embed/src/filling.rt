@@ -1,12 +1,12 @@
 //! Answers and entries into a buffer of the caller's.
 ghost use Rattle.std.specs.Prelude.{◌≡◌, ℕ, ◌≤◌, Some, None, [], length, slice_get, IfOk, OnOk, OnErr};
-ghost use Rattle.mps_keeper.specs.JournalLines.{SpellsJournalLine, CanBeWritten};
+ghost use Rattle.mps_line.specs.JournalLines.{SpellsJournalLine, CanBeWritten};
 ghost use Rattle.mps_line.specs.Replies.{SpellsReply};
 ghost use Rattle.mps_room.specs.declared.entry.Entry.{Entry as Kept};
 ghost use Rattle.mps_embed.specs.Embedded.{front_over, IsFilled};
 
 use crate::embedded::Embedded;
-use mps_keeper::journal_lines::{has_journal_line, write_journal_line};
+use mps_line::journal_lines::{has_journal_line, write_journal_line};
 use mps_room::Room;
 use mps_wire::write_outcome;
 use std::alloc::AllocError;

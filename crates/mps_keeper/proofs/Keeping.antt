@@ -13,11 +13,11 @@ use Rattle.mps_room.specs.declared.entry.Entry.{Entry}
 use Rattle.mps_room.specs.Numbers.{IsNumbered}
 use Rattle.mps_room.specs.declared.numbers.Told.{Told}
 use Rattle.mps_room.specs.declared.numbers.Told.TheVariants.{Fresh, Kept, Wrong, Refused}
-use Rattle.mps_wire.specs.Answers.{AnswersLines}
-use Rattle.mps_wire.specs.Conversations.{RepliesTo, Unread, Called, Numbered, Starved, RepliesInText, ConversesLine, ConversesInPart, AnswersCut, converses, converses_in_part}
+use Rattle.mps_wire.specs.Answers.{AnswersCut, AnswersLines}
+use Rattle.mps_wire.specs.Conversations.{RepliesTo, Unread, Called, Numbered, Starved, RepliesInText, ConversesLine, ConversesInPart, converses, converses_in_part}
 use Rattle.mps_wire.proofs.Calling.{whole_is_part}
 use Rattle.mps_keeper.specs.Books.{TookMore}
-use Rattle.mps_keeper.specs.JournalLines.{SpellsJournalLine}
+use Rattle.mps_line.specs.JournalLines.{SpellsJournalLine}
 use Rattle.mps_keeper.specs.Recorded.{IsRecorded, IsKept, IsSettled}
 use Rattle.mps_keeper.specs.Trails.{SpellEntries, KeptOn, ToldIsKept}
 use Rattle.std.specs.Io.KnownBytes.{Appends}
@@ -93,7 +93,7 @@ module _ {R : Type 0} (caller : Ghosts R) (keeps whole : R → Bool) (taken : R 
 
     pub part_leads : (lines : List (List ℕ)) (c : R) (out : List ℕ) (d : R) → AnswersCut (converses caller) (converses_in_part caller) lines c out d → Leads c d
     part_leads [] c out d a = stays c d a.1
-    part_leads (l ∷ []) c out d a = replied l c a.line_is.reply d a.line_is.replies
+    part_leads (l ∷ []) c out d a = replied l c a.reply d a.replies
     part_leads (l ∷ m ∷ lines) c out d a = further c a.2 d (replied l c a.4.line_is.reply a.2 a.4.line_is.replies) (part_leads (m ∷ lines) a.2 a.1 d a.5)
 
     -- one line more in front of answers, of the last of which a part is written
@@ -104,8 +104,8 @@ module _ {R : Type 0} (caller : Ghosts R) (keeps whole : R → Bool) (taken : R 
     longer l (n ∷ done) c m e out others text is line a = (text, others, m, is, line, a)
 
     at_last : (l : List ℕ) (c : R) (written : List ℕ) (d : R) → keeps c ≡ true → whole c ≡ true → ((r : R) → caller.may_tell r ≡ whole r) → (b : Bool) → whole d ≡ b → ConversesInPart caller l c written d → ToldIsKept caller taken (l ∷ []) c written d
-    at_last l c written d s w tells true on a = record { asked = l ∷ []; others = []; first = refl; reached = d; answered = a; whole = tells d ∙ on; kept = (replied l c a.line_is.reply d a.line_is.replies).goes s on; since = no_more (taken d) }
-    at_last l c written d s w tells false off a = record { asked = []; others = l ∷ []; first = refl; reached = c; answered = (a.silent (tells d ∙ off), refl); whole = tells c ∙ w; kept = nothing c; since = (replied l c a.line_is.reply d a.line_is.replies).more }
+    at_last l c written d s w tells true on a = record { asked = l ∷ []; others = []; first = refl; reached = d; answered = a; whole = tells d ∙ on; kept = (replied l c a.reply d a.replies).goes s on; since = no_more (taken d) }
+    at_last l c written d s w tells false off a = record { asked = []; others = l ∷ []; first = refl; reached = c; answered = (a.silent (tells d ∙ off), refl); whole = tells c ∙ w; kept = nothing c; since = (replied l c a.reply d a.replies).more }
 
     pub told_is_kept : ((r : R) → caller.may_tell r ≡ whole r) → (lines : List (List ℕ)) (c : R) (written : List ℕ) (d : R) → keeps c ≡ true → whole c ≡ true → AnswersCut (converses caller) (converses_in_part caller) lines c written d → ToldIsKept caller taken lines c written d
     told_is_kept tells [] c written d s w a = record { asked = []; others = []; first = refl; reached = c; answered = (a.0, refl); whole = tells c ∙ w; kept = nothing c; since = (stays c d a.1).more }

@@ -1,4 +1,3 @@
-pub mod Lines
 pub mod Taking
 pub mod Counting
 pub mod Keeping

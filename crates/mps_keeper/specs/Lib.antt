@@ -1,4 +1,3 @@
-pub mod JournalLines
 pub mod Numbering
 pub mod Books
 pub mod Holds

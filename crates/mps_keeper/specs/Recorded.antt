@@ -7,7 +7,7 @@ use Rattle.mps_lines.specs.Lines.{ended}
 use Rattle.mps_room.specs.Journal.{is_accepted}
 use Rattle.mps_room.specs.declared.caller.Caller.{Ghosts as CallerGhosts}
 use Rattle.mps_keeper.specs.Books.{TookMore}
-use Rattle.mps_keeper.specs.JournalLines.{SpellsJournalLine}
+use Rattle.mps_line.specs.JournalLines.{SpellsJournalLine}
 use Rattle.mps_keeper.specs.Numbering.{CountsUp}
 use Rattle.mps_keeper.specs.declared.keep.Keep.{Ghosts as KeepGhosts}
 

@@ -4,7 +4,7 @@ use Rattle.mps_command.specs.declared.answer.Answer.{Answer}
 use Rattle.mps_command.specs.declared.command.Command.{Command}
 use Rattle.mps_room.specs.Callers.{entry}
 use Rattle.mps_room.specs.declared.entry.Entry.{Entry}
-use Rattle.mps_keeper.specs.JournalLines.{SpellsJournalLine}
+use Rattle.mps_line.specs.JournalLines.{SpellsJournalLine}
 use Rattle.mps_keeper.specs.Numbering.{CountsUp}
 
 -- the line is of the role at that place, and has this number and the first of these entries

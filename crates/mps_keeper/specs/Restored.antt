@@ -9,7 +9,7 @@ use Rattle.mps_room.specs.Numbers.{IsFresh, IsNumbered}
 use Rattle.mps_room.specs.declared.numbers.Told.{Told}
 use Rattle.mps_room.specs.declared.numbers.Told.TheVariants.{Fresh, Refused}
 use Rattle.mps_room.specs.declared.caller.Caller.{Ghosts}
-use Rattle.mps_keeper.specs.JournalLines.{SpellsJournalLine}
+use Rattle.mps_line.specs.JournalLines.{SpellsJournalLine}
 
 module _ {C : Type 0} (caller : Ghosts C) where
   -- a call without a number that was accepted

@@ -8,7 +8,7 @@ use Rattle.mps_lines.specs.Lines.{IsSplit, ended}
 use Rattle.std.specs.Io.KnownBytes.{Consumes, IsAtEnd}
 use Rattle.mps_dev.specs.declared.traits.Source.{Ghosts as SourceGhosts}
 use Rattle.mps_room.specs.declared.caller.Caller.{Ghosts}
-use Rattle.mps_keeper.specs.JournalLines.{SpellsJournalLine}
+use Rattle.mps_line.specs.JournalLines.{SpellsJournalLine}
 use Rattle.mps_keeper.specs.Restored.{LineRefused, LinesRestored}
 use Rattle.mps_keeper.specs.declared.restore.RestoreFault.{RestoreFault}
 use Rattle.mps_keeper.specs.declared.restore.RestoreFault.TheVariants.{Read, Line}

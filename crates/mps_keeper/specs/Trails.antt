@@ -4,7 +4,7 @@ use Rattle.mps_room.specs.declared.caller.Caller.{Ghosts}
 use Rattle.mps_wire.specs.Answers.{AnswersCut}
 use Rattle.mps_wire.specs.Conversations.{converses, converses_in_part}
 use Rattle.mps_room.specs.declared.entry.Entry.{Entry}
-use Rattle.mps_keeper.specs.JournalLines.{SpellsJournalLine}
+use Rattle.mps_line.specs.JournalLines.{SpellsJournalLine}
 use Rattle.mps_keeper.specs.Books.{Took, TookMore}
 use Rattle.mps_keeper.specs.Numbering.{CountsUp}
 

@@ -2,15 +2,19 @@
 ghost use Rattle.std.specs.Prelude.{◌≡◌, ◌+◌, ◌++◌, true, false};
 
 use crate::book::Book;
-use crate::journal_lines::LONGEST_LINE;
 use crate::keep::Keep;
 use mps_base::MAX_ROLES;
 use mps_dev::Sink;
+use mps_lines::MAX_LINE;
 use std::alloc::{AllocError, Global};
 use std::fs::File;
 use std::mem;
 use std::sync::atomic::{AtomicBool, AtomicU64, Ordering};
 use std::sync::{Condvar, Mutex, Wait};
+
+/// How many bytes a line has at most, with its LF, whose command came as a line of a conversation: a name, a number below
+/// 2^64, a command, and two spaces.
+pub const LONGEST_LINE: usize = 32 + 1 + 20 + 1 + MAX_LINE + 1;
 
 /// A disk that can be told to keep what was written.
 pub trait Disk {

@@ -1,7 +1,5 @@
 //! Laws of a kept journal.
 ghost use Rattle.std.specs.Prelude.{◌≡◌, ◌≢◌, ℕ, List, [], ◌∷◌, ◌++◌, ◌⊎◌, Option, None, Some, slice_get, true};
-ghost use Rattle.std.specs.List.{AllByRecursion};
-ghost use Rattle.mps_base.specs.RoleLists.{AreDistinct};
 ghost use Rattle.mps_command.specs.declared.command.Command.{Command};
 ghost use Rattle.mps_command.specs.declared.answer.Answer.{Answer};
 ghost use Rattle.mps_command.specs.declared.answer.Answer.TheVariants.{Refused};
@@ -9,38 +7,16 @@ ghost use Rattle.mps_command.specs.declared.answer.Refusal.TheVariants.{Memory};
 ghost use Rattle.mps_local.specs.Local.{LocalType};
 ghost use Rattle.mps_room.specs.Journal.{grown, reply, IsLegal, IsReply};
 ghost use Rattle.mps_room.specs.declared.entry.Entry.{Entry};
-ghost use Rattle.mps_line.specs.Commands.{SpellsScriptLine};
-ghost use Rattle.mps_keeper.specs.JournalLines.{SpellsJournalLine};
 ghost use Rattle.mps_keeper.specs.Remade.{HasRemade};
 ghost use Rattle.mps_keeper.specs.Restored.{LinesRestored};
 ghost use Rattle.mps_keeper.specs.Trails.{KeptOn, ToldIsKept};
 ghost use Rattle.mps_keeper.specs.declared.recorded.Recorded.{Recorded as RecordedOf};
-ghost use Rattle.mps_wire.specs.Answers.{AnswersLines};
+ghost use Rattle.mps_wire.specs.Answers.{AnswersCut, AnswersLines};
 ghost use Rattle.mps_wire.specs.Conversations.{converses, converses_in_part};
 
 use crate::keep::{Keep, Seated};
 use crate::recorded::Recorded;
-use mps_line::laws::one_numbered;
 use mps_room::Caller;
-
-/// A kept line has at most one role, one number and one command where no two roles have one name, and these have one line,
-/// with no line break in it. One without a number is a script's line.
-pub fn one_journal_line()
-    ensures role { (names : List (List ℕ)) (a : List ℕ) (p q : ℕ) (m n : Option ℕ) (c d : Command) → AreDistinct names
-        → SpellsJournalLine names a p m c → SpellsJournalLine names a q n d → p ≡ q }
-    ensures number { (names : List (List ℕ)) (a : List ℕ) (p q : ℕ) (m n : Option ℕ) (c d : Command)
-        → SpellsJournalLine names a p m c → SpellsJournalLine names a q n d → m ≡ n }
-    ensures command { (names : List (List ℕ)) (a : List ℕ) (p q : ℕ) (m n : Option ℕ) (c d : Command) → AreDistinct names
-        → SpellsJournalLine names a p m c → SpellsJournalLine names a q n d → c ≡ d }
-    ensures spelling { (names : List (List ℕ)) (a b : List ℕ) (p : ℕ) (n : Option ℕ) (c : Command)
-        → SpellsJournalLine names a p n c → SpellsJournalLine names b p n c → a ≡ b }
-    ensures no_line_feed { (names : List (List ℕ)) (a : List ℕ) (p : ℕ) (n : Option ℕ) (c : Command)
-        → SpellsJournalLine names a p n c → AllByRecursion (λ c. c ≢ 10) a }
-    ensures script { (names : List (List ℕ)) (a : List ℕ) (p : ℕ) (c : Command)
-        → SpellsJournalLine names a p None c → SpellsScriptLine names a p c }
-{
-    one_numbered();
-}
 
 /// The commands of a legal journal, run again from the opening: after those before it each gets the answer that it had, and
 /// leaves the journal that it left, unless memory runs out.

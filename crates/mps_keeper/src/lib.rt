@@ -1,11 +1,10 @@
 //! Sessions that outlive the process: a file keeps each accepted command, and a later process goes on from it.
 //!
-//! A kept line is a role's name and a line of its conversation that asks for a change (`read_journal_line`). A `Book` is the
+//! A kept line is a role's name and a line of its conversation that asks for a change (`read_journal_line` of mps_line). A `Book` is the
 //! file while it is written, and a `Recorded` is a caller whose accepted commands a `Keep` keeps.
 #![tactic(auto)]
 
 pub mod book;
-pub mod journal_lines;
 pub mod keep;
 pub mod keeper;
 pub mod laws;
@@ -14,11 +13,7 @@ pub mod restore;
 mod seated;
 
 pub use book::{Book, NotKept};
-pub use journal_lines::{
-    JournalLine, LONGEST_LINE, asks_for_change, has_journal_line, read_journal_line,
-    write_journal_line,
-};
 pub use keep::{Keep, Seated};
-pub use keeper::{Disk, Hold, Keeper};
+pub use keeper::{Disk, Hold, Keeper, LONGEST_LINE};
 pub use recorded::Recorded;
 pub use restore::{NotRestored, RestoreFault, Restored, Unaccepted, restore_from, restore_lines};

@@ -5,13 +5,13 @@ ghost use Rattle.mps_command.specs.declared.command.Command.{Command as Asked};
 ghost use Rattle.mps_lines.specs.Lines.{ended};
 ghost use Rattle.mps_room.specs.Journal.{is_accepted};
 ghost use Rattle.mps_keeper.specs.Books.{TookMore};
-ghost use Rattle.mps_keeper.specs.JournalLines.{SpellsJournalLine};
+ghost use Rattle.mps_line.specs.JournalLines.{SpellsJournalLine};
 ghost use Rattle.mps_keeper.specs.Recorded.{IsRecorded};
 
-use crate::journal_lines::{has_journal_line, write_journal_line};
 use crate::keep::{Keep, Seated};
 use mps_base::Roles;
 use mps_command::{Answer, Command};
+use mps_line::{has_journal_line, write_journal_line};
 use mps_room::{Caller, Told};
 
 /// A caller whose accepted commands a keeper keeps. Once a line is lost, what it is answered may not be told on.

@@ -11,12 +11,11 @@ ghost use Rattle.mps_keeper.specs.declared.restore.Unaccepted.{Unaccepted as Una
 ghost use Rattle.mps_keeper.specs.declared.restore.RestoreFault.TheVariants.{Line as AtLine, Memory as NoMemory};
 ghost use Rattle.std.specs.Io.KnownBytes.{Consumes, IsAtEnd};
 
-use crate::journal_lines::{asks_for_change, read_journal_line};
 use crate::recorded::is_accepted;
 use mps_base::Roles;
 use mps_command::{Answer, Command, Refusal};
 use mps_dev::Source;
-use mps_line::LineFault;
+use mps_line::{LineFault, asks_for_change, read_journal_line};
 use mps_lines::line_end;
 use mps_room::{Caller, Told};
 use std::alloc::{AllocError, Global};

@@ -6,3 +6,4 @@ pub mod ShownLines
 pub mod OneReply
 pub mod ReplyLines
 pub mod NumberedLines
+pub mod JournalLines

@@ -1,11 +1,12 @@
 //! Laws of the lines' spellings.
-ghost use Rattle.std.specs.Prelude.{◌≡◌, ◌≢◌, ℕ, ◌<◌, List, Option, length};
+ghost use Rattle.std.specs.Prelude.{◌≡◌, ◌≢◌, ℕ, ◌<◌, List, None, Option, length};
 ghost use Rattle.std.specs.List.{AllByRecursion};
 ghost use Rattle.mps_base.specs.RoleLists.{AreDistinct};
 ghost use Rattle.mps_base.specs.Values.{IsShown};
 ghost use Rattle.mps_command.specs.declared.command.Command.{Command};
 ghost use Rattle.mps_line.specs.declared.write_replies.Reply.{Reply};
 ghost use Rattle.mps_line.specs.Commands.{SpellsCommand, SpellsScriptLine, SpellsNumbered, NamesRolesOf};
+ghost use Rattle.mps_line.specs.JournalLines.{SpellsJournalLine};
 ghost use Rattle.mps_line.specs.Replies.{SpellsReply};
 
 use mps_base::spelling::one_spelling;
@@ -68,4 +69,23 @@ pub fn one_reply_line()
         → AllByRecursion (λ c. c ≢ 10) a }
 {
     one_spelling();
+}
+
+/// A journal's line has at most one role, one number and one command where no two roles have one name, and these have one line,
+/// with no line break in it. One without a number is a script's line.
+pub fn one_journal_line()
+    ensures role { (names : List (List ℕ)) (a : List ℕ) (p q : ℕ) (m n : Option ℕ) (c d : Command) → AreDistinct names
+        → SpellsJournalLine names a p m c → SpellsJournalLine names a q n d → p ≡ q }
+    ensures number { (names : List (List ℕ)) (a : List ℕ) (p q : ℕ) (m n : Option ℕ) (c d : Command)
+        → SpellsJournalLine names a p m c → SpellsJournalLine names a q n d → m ≡ n }
+    ensures command { (names : List (List ℕ)) (a : List ℕ) (p q : ℕ) (m n : Option ℕ) (c d : Command) → AreDistinct names
+        → SpellsJournalLine names a p m c → SpellsJournalLine names a q n d → c ≡ d }
+    ensures spelling { (names : List (List ℕ)) (a b : List ℕ) (p : ℕ) (n : Option ℕ) (c : Command)
+        → SpellsJournalLine names a p n c → SpellsJournalLine names b p n c → a ≡ b }
+    ensures no_line_feed { (names : List (List ℕ)) (a : List ℕ) (p : ℕ) (n : Option ℕ) (c : Command)
+        → SpellsJournalLine names a p n c → AllByRecursion (λ c. c ≢ 10) a }
+    ensures script { (names : List (List ℕ)) (a : List ℕ) (p : ℕ) (c : Command)
+        → SpellsJournalLine names a p None c → SpellsScriptLine names a p c }
+{
+    one_numbered();
 }

@@ -10,6 +10,7 @@
 //! ```
 #![tactic(auto)]
 
+pub mod journal_lines;
 pub mod laws;
 mod line_parts;
 pub mod read_commands;
@@ -19,6 +20,9 @@ pub mod read_replies;
 pub mod write_commands;
 pub mod write_replies;
 
+pub use journal_lines::{
+    JournalLine, asks_for_change, has_journal_line, read_journal_line, write_journal_line,
+};
 pub use read_commands::{LineFault, read_command, read_script_line};
 pub use read_conversations::read_numbered;
 pub use read_replies::{read_answer, read_join};

@@ -1,5 +1,5 @@
-use Rattle.mps_keeper.proofs.Lines.{numbered_written}
-use Rattle.mps_keeper.proofs.journal_lines.write_numbered.Goals as goal
+use Rattle.mps_line.proofs.JournalLines.{numbered_written}
+use Rattle.mps_line.proofs.journal_lines.write_numbered.Goals as goal
 
 pub returns-in_ok-push-in-Some-clause-ok : goal.returns-in_ok-push-in-Some-clause-ok
 returns-in_ok-push-in-Some-clause-ok c =

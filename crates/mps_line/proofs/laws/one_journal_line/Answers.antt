@@ -1,5 +1,5 @@
-use Rattle.mps_keeper.proofs.Lines.{same_role, same_number, same_command, one_spelling_of, no_line_feed, script_line}
-use Rattle.mps_keeper.proofs.laws.one_journal_line.Goals as goal
+use Rattle.mps_line.proofs.JournalLines.{same_role, same_number, same_command, one_spelling_of, no_line_feed, script_line}
+use Rattle.mps_line.proofs.laws.one_journal_line.Goals as goal
 
 pub returns-clause-role : goal.returns-clause-role
 returns-clause-role c = same_role

@@ -1,7 +1,7 @@
 use Rattle.std.proofs.Common.{sym, ap, ◌∙◌, Err}
 use Rattle.std.proofs.lemmas.Bool.{false≢true}
-use Rattle.mps_keeper.proofs.Lines.{no_such_role, none_after, asks_as_well}
-use Rattle.mps_keeper.proofs.journal_lines.read_journal_line.Goals as goal
+use Rattle.mps_line.proofs.JournalLines.{no_such_role, none_after, asks_as_well}
+use Rattle.mps_line.proofs.journal_lines.read_journal_line.Goals as goal
 
 pub returns-in_default-role_of-clause-bad : goal.returns-in_default-role_of-clause-bad
 returns-in_default-role_of-clause-bad c = λ e role number command h.

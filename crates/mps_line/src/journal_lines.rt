@@ -4,20 +4,17 @@ ghost use Rattle.std.specs.Io.{StartsWith};
 ghost use Rattle.mps_base.specs.Appends.{Appends};
 ghost use Rattle.mps_base.specs.Spaced.{spaced};
 ghost use Rattle.mps_command.specs.declared.command.Command.{Command as Asked};
-ghost use Rattle.mps_keeper.specs.JournalLines.{SpellsJournalLine, CanBeWritten};
+ghost use Rattle.mps_line.specs.JournalLines.{SpellsJournalLine, CanBeWritten};
 ghost use Rattle.mps_line.specs.Commands.{role_named, SpellsNumbered, MayHaveNumber, NamesRolesOf};
 ghost use Rattle.mps_line.specs.Private.Tokens.{HasNoSpace};
 ghost use Rattle.mps_line.specs.Tokens.{SpellsRole, SpellsNumber};
 
+use crate::read_commands::LineFault;
+use crate::read_conversations::read_numbered;
+use crate::write_commands::write_command;
 use mps_base::{Role, Roles, write_number};
 use mps_command::{Command, Forward};
-use mps_line::{LineFault, read_numbered, write_command};
-use mps_lines::MAX_LINE;
 use std::alloc::{AllocError, Global};
-
-/// How many bytes a line has at most, with its LF, whose command came as a line of a conversation: a name, a number below
-/// 2^64, a command, and two spaces.
-pub const LONGEST_LINE: usize = 32 + 1 + 20 + 1 + MAX_LINE + 1;
 
 /// What a line keeps: a role's command that was accepted, and its number if it had one.
 #[derive(Debug, Drop)]
@@ -38,7 +35,7 @@ fn first_space(bytes: &[u8]) -> Option<usize>
 }
 
 // What stands before the first space, and what after it.
-#[tactic(auto, using(mps_line::proofs::Splitting::no_space, mps_line::proofs::Splitting::never_spaced))]
+#[tactic(auto, using(crate::proofs::Splitting::no_space, crate::proofs::Splitting::never_spaced))]
 fn split_at_space(bytes: &[u8]) -> Option<(&[u8], &[u8])>
     ensures parts { IfSome result (λ parts. bytes.now ≡ spaced (parts.0.now ∷ parts.1.now ∷ [])) }
     ensures first { IfSome result (λ parts. HasNoSpace parts.0.now) }

@@ -17,7 +17,7 @@ use Rattle.mps_line.specs.Private.Tokens.{HasNoSpace}
 use Rattle.mps_line.proofs.Splitting.{one_split, name_has_no_space, joined}
 use Rattle.mps_line.proofs.NumberedLines.{may_as_well}
 use Rattle.mps_line.proofs.NumberedLines as numbers
-use Rattle.mps_keeper.specs.JournalLines.{SpellsJournalLine}
+use Rattle.mps_line.specs.JournalLines.{SpellsJournalLine}
 
 -- where one command of a line of a conversation asks for a change, so does any other
 may_as_well_numbered : (names : List (List ℕ)) (bytes : List ℕ) (m n : Option ℕ) (c d : Command) → SpellsNumbered names bytes m c → SpellsNumbered names bytes n d → MayHaveNumber d → MayHaveNumber c
