@@ -50,7 +50,7 @@ pub record WasCutShort {W : Type 0} (sink : SinkGhosts W) (old new : W) (reply :
 module _ {C R W : Type 0} (caller : Ghosts C) (source : SourceGhosts R) (sink : SinkGhosts W) (joined : Reply)
     (before : C) (reader : R) (writer : W) (after : C) (reader' : R) (writer' : W) where
   -- it was told so, and the lines that follow were its conversation
-  pub record HasConversed (ending : Ending) : Type 0 where
+  pub record WasConversation (ending : Ending) : Type 0 where
     pub told : W
     pub sent : WasSent sink writer told joined
     pub ended : EndedAs (converses caller) (converses_in_part caller) before
@@ -78,7 +78,7 @@ module _ {C R W : Type 0} (caller : Ghosts C) (pass : C → Known) (source : Sou
     pub before : C
     pub after : C
     pub taken : IsPassOf offer session name (pass before)
-    pub conversed : HasConversed caller source sink (Joined session name) before joined writer after reader' writer' ending
+    pub conversed : WasConversation caller source sink (Joined session name) before joined writer after reader' writer' ending
 
   -- by how it ended
   abbrev pub HasAttended : Attended → Type 0

@@ -6,7 +6,7 @@ use Rattle.mps_dev.specs.declared.traits.Source.{Ghosts as SourceGhosts}
 use Rattle.mps_line.specs.Codes.{code_of}
 use Rattle.mps_line.specs.declared.write_replies.Reply.{Reply}
 use Rattle.mps_room.specs.declared.caller.Caller.{Ghosts}
-use Rattle.mps_hub.specs.Connections.{HasConversed, WasCutShort, WasSent}
+use Rattle.mps_hub.specs.Connections.{WasConversation, WasCutShort, WasSent}
 use Rattle.mps_hub.specs.declared.attending.Attended.{Attended}
 use Rattle.mps_hub.specs.declared.attending.Attended.TheVariants.{NoLine, TurnedAway, Conversed, Memory, Unkept}
 
@@ -25,7 +25,7 @@ module _ {C R W : Type 0} (caller : Ghosts C) (source : SourceGhosts R) (sink : 
   abbrev pub HasJoined : Attended → Type 0
   HasJoined NoLine = ⊥
   HasJoined TurnedAway = WasCutShort sink writer writer' joined × (reader' ≡ reader)
-  HasJoined (Conversed ending) = HasConversed caller source sink joined before reader writer after reader' writer' ending
+  HasJoined (Conversed ending) = WasConversation caller source sink joined before reader writer after reader' writer' ending
   HasJoined Memory = (writer' ≡ writer) × (reader' ≡ reader)
   HasJoined Unkept = (writer' ≡ writer) × (reader' ≡ reader)
 
