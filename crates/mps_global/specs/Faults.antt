@@ -1,10 +1,11 @@
 -- What is wrong with a protocol.
 -- Global types are those of Honda, Yoshida, Carbone (Multiparty asynchronous session types, POPL 2008), without channels
 -- and parallel composition; limits and the order of faults are this project's.
-use Rattle.std.specs.Prelude.{ℕ, ◌+◌, max, Bool, true, false, ◌==◌, ◌&&◌, ◌||◌, not, List, [], ◌∷◌, ◌++◌, length, nat_lt, Option, None, Some, flat_map, take_while, if◌then◌else◌}
+use Rattle.std.specs.Prelude.{ℕ, ◌+◌, max, Bool, false, ◌==◌, ◌&&◌, ◌||◌, not, List, [], ◌∷◌, ◌++◌, length, nat_lt, Option, None, Some, flat_map, if◌then◌else◌}
 use Rattle.std.specs.List.{list_any}
 use Rattle.std.specs.Str.{bytes_eq}
 use Rattle.mps_global.specs.Global.{GlobalType, Branches, End, Var, Rec, Message, Choice, NoMore, More}
+use Rattle.mps_global.specs.Path.{Step, Loop, Act, Place, place, is_bound, is_unguarded}
 use Rattle.mps_global.specs.declared.faults.GlobalFault.{GlobalFault}
 use Rattle.mps_global.specs.declared.faults.GlobalFault.TheVariants as faults
 
@@ -50,57 +51,26 @@ abbrev mutual
   branch_depth NoMore = 0
   branch_depth (More label next others) = max (depth next) (branch_depth others)
 
--- a node of a tree, and the nodes on the path to it, the nearest first
-pub record Place : Type 0 where
-  pub node : GlobalType
-  pub above : List GlobalType
-
-abbrev pub place : GlobalType → List GlobalType → Place
-place node above = record { node = node; above = above }
-
 abbrev mutual
-  -- the nodes of a tree in preorder, where these nodes stand on the path to its root
-  pub places : List GlobalType → GlobalType → List Place
+  -- the nodes of a tree in preorder, where that is the path to its root
+  pub places : List Step → GlobalType → List (Place GlobalType)
   places above End = place End above ∷ []
   places above (Var name) = place (Var name) above ∷ []
-  places above (Rec name body) = place (Rec name body) above ∷ places (Rec name body ∷ above) body
+  places above (Rec name body) = place (Rec name body) above ∷ places (Loop name ∷ above) body
   places above (Message sender receiver sort next) =
-      place (Message sender receiver sort next) above ∷ places (Message sender receiver sort next ∷ above) next
+      place (Message sender receiver sort next) above ∷ places (Act ∷ above) next
   places above (Choice sender receiver branches) =
-      place (Choice sender receiver branches) above ∷ branch_places (Choice sender receiver branches ∷ above) branches
+      place (Choice sender receiver branches) above ∷ branch_places (Act ∷ above) branches
 
   -- the nodes of the branches
-  pub branch_places : List GlobalType → Branches → List Place
+  pub branch_places : List Step → Branches → List (Place GlobalType)
   branch_places above NoMore = []
   branch_places above (More label next others) = places above next ++ branch_places above others
-
--- how many nodes stand on the path from the root to a node, with both
-abbrev pub level : Place → ℕ
-level p = length p.above + 1
 
 -- the greatest of the numbers, or 0
 abbrev pub greatest : List ℕ → ℕ
 greatest [] = 0
 greatest (n ∷ ns) = max n (greatest ns)
-
--- whether the node is the `rec` of that variable
-abbrev pub binds : List ℕ → GlobalType → Bool
-binds name (Rec bound body) = bytes_eq name bound
-binds name node = false
-
--- whether the node is a message or a choice
-abbrev pub is_guard : GlobalType → Bool
-is_guard (Message sender receiver sort next) = true
-is_guard (Choice sender receiver branches) = true
-is_guard node = false
-
--- whether a `rec` of that variable stands on the path
-abbrev pub is_bound : List ℕ → List GlobalType → Bool
-is_bound name above = list_any (binds name) above
-
--- whether a `rec` of that variable stands below the nearest message or choice: among the nodes up to the first that guards
-abbrev pub is_unguarded : List ℕ → List GlobalType → Bool
-is_unguarded name above = list_any (binds name) (take_while (λ node. not (is_guard node)) above)
 
 -- of tests in a row, each with the fault that it tells, the fault of the first that is true
 abbrev pub first_true : {F : Type 0} → List (Bool × F) → Option F
@@ -126,15 +96,15 @@ label_tests names =
     (has_double names, faults.DoubleLabel) ∷ (nat_lt 16 (length names), faults.TooManyBranches) ∷ (length names == 0, faults.NoBranches) ∷ []
 
 -- what may be wrong with a variable that has that path
-abbrev pub variable_tests : List ℕ → List GlobalType → List (Bool × GlobalFault)
+abbrev pub variable_tests : List ℕ → List Step → List (Bool × GlobalFault)
 variable_tests name above = (not (is_bound name above), faults.Unbound) ∷ (is_unguarded name above, faults.Unguarded) ∷ []
 
 -- what may be wrong with a `rec` of that variable
-abbrev pub rec_tests : List ℕ → List GlobalType → List (Bool × GlobalFault)
+abbrev pub rec_tests : List ℕ → List Step → List (Bool × GlobalFault)
 rec_tests name above = (is_bound name above, faults.Shadowed) ∷ []
 
 -- what may be wrong at a node with that path
-abbrev pub node_tests : List (List ℕ) → List GlobalType → GlobalType → List (Bool × GlobalFault)
+abbrev pub node_tests : List (List ℕ) → List Step → GlobalType → List (Bool × GlobalFault)
 node_tests roles above End = []
 node_tests roles above (Var name) = variable_tests name above
 node_tests roles above (Rec name body) = rec_tests name above
@@ -142,11 +112,11 @@ node_tests roles above (Message sender receiver sort next) = pair_tests roles se
 node_tests roles above (Choice sender receiver branches) = pair_tests roles sender receiver ++ label_tests (labels branches)
 
 -- what may be wrong at these nodes, one after the other
-abbrev pub tests_at : List (List ℕ) → List Place → List (Bool × GlobalFault)
+abbrev pub tests_at : List (List ℕ) → List (Place GlobalType) → List (Bool × GlobalFault)
 tests_at roles ps = flat_map (λ p. node_tests roles p.above p.node) ps
 
 -- what is wrong at the first faulty one of them
-abbrev pub first_fault : List (List ℕ) → List Place → Option GlobalFault
+abbrev pub first_fault : List (List ℕ) → List (Place GlobalType) → Option GlobalFault
 first_fault roles ps = first_true (tests_at roles ps)
 
 -- the first fault of a protocol with these roles and this tree, or none

@@ -1,4 +1,5 @@
 pub mod Global
+pub mod Path
 pub mod Faults
 pub mod Arms
 pub mod Private

@@ -1,3 +1,2 @@
 -- What no contract of a public function uses.
 pub mod Weights
-pub mod Above

@@ -3,10 +3,11 @@ ghost use Rattle.std.specs.Prelude.{◌≡◌, ◌↔◌, ◌+◌, ◌<◌, ◌�
 ghost use Rattle.mps_base.specs.RoleLists.{AreRoles};
 ghost use Rattle.mps_global.specs.Global.{GlobalType, plain, plain_branches};
 ghost use Rattle.mps_global.specs.Faults.{is_among, has_double, labels, node_count, branch_nodes, depth, branch_depth};
-ghost use Rattle.mps_global.specs.Faults.{places, branch_places, level, greatest, binds, is_guard, is_bound, is_unguarded};
+ghost use Rattle.mps_global.specs.Path.{steps, level};
+ghost use Rattle.mps_global.specs.Faults.{places, branch_places, greatest};
 ghost use Rattle.mps_global.specs.Faults.{first_true, pair_tests, label_tests, variable_tests, rec_tests, node_tests, first_fault, fault_of};
-ghost use Rattle.mps_global.specs.Private.Above.{nodes_above};
 
+use crate::path::{Above, is_bound, is_unguarded};
 use crate::{Branches, Global, Protocol};
 use mps_base::{MAX_ROLES, MIN_ROLES, Name, VarName};
 use thiserror::Error;
@@ -47,13 +48,6 @@ pub enum GlobalFault {
     Shadowed,
     #[error("no message or choice stands between a `rec` and its variable")]
     Unguarded,
-}
-
-// The nodes on the path to a node, the nearest first.
-#[derive(Clone, Copy)]
-enum Above<'a> {
-    Root,
-    Under(&'a Global, &'a Above<'a>),
 }
 
 /// Whether a protocol is well-formed, or else its first fault. The tree may be of any size: nothing
@@ -181,18 +175,17 @@ fn are_within(branches: &Branches, limit: usize) -> bool
 #[cycle(walk)]
 fn first_fault(roles: &[Name], tree: &Global, above: &Above<'_>) -> Option<GlobalFault>
     ensures { result
-        ≡ first_fault roles.now (places (nodes_above above.now) (plain tree.now)) }
+        ≡ first_fault roles.now (places (steps above.now) (plain tree.now)) }
 {
     if let Some(fault) = node_fault(&*roles, &*tree, &*above) {
         return Some(fault);
     }
     match tree {
         Global::End | Global::Var(_) => None,
-        Global::Rec(_, next) | Global::Message { next, .. } => {
-            first_fault(&*roles, next, &Above::Under(&*tree, &*above))
-        }
+        Global::Rec(name, next) => first_fault(&*roles, next, &Above::Loop(&*name, &*above)),
+        Global::Message { next, .. } => first_fault(&*roles, next, &Above::Act(&*above)),
         Global::Choice { branches, .. } => {
-            first_branch_fault(&*roles, branches, &Above::Under(&*tree, &*above))
+            first_branch_fault(&*roles, branches, &Above::Act(&*above))
         }
     }
 }
@@ -202,7 +195,7 @@ fn first_fault(roles: &[Name], tree: &Global, above: &Above<'_>) -> Option<Globa
 #[tactic(auto, using(crate::proofs::Walks::first_of_both))]
 fn first_branch_fault(roles: &[Name], branches: &Branches, above: &Above<'_>) -> Option<GlobalFault>
     ensures { result ≡ first_fault roles.now
-        (branch_places (nodes_above above.now) (plain_branches branches.now)) }
+        (branch_places (steps above.now) (plain_branches branches.now)) }
 {
     match branches {
         Branches::NoMore => None,
@@ -216,7 +209,7 @@ fn first_branch_fault(roles: &[Name], branches: &Branches, above: &Above<'_>) ->
 // What is wrong at the node with that path.
 fn node_fault(roles: &[Name], node: &Global, above: &Above<'_>) -> Option<GlobalFault>
     ensures { result
-        ≡ first_true (node_tests roles.now (nodes_above above.now) (plain node.now)) }
+        ≡ first_true (node_tests roles.now (steps above.now) (plain node.now)) }
 {
     match node {
         Global::End => None,
@@ -240,7 +233,7 @@ fn node_fault(roles: &[Name], node: &Global, above: &Above<'_>) -> Option<Global
 
 // What is wrong with a variable that has that path.
 fn variable_fault(name: &VarName, above: &Above<'_>) -> Option<GlobalFault>
-    ensures { result ≡ first_true (variable_tests name.now (nodes_above above.now)) }
+    ensures { result ≡ first_true (variable_tests name.now (steps above.now)) }
 {
     if !is_bound(name, above) {
         return Some(GlobalFault::Unbound);
@@ -253,7 +246,7 @@ fn variable_fault(name: &VarName, above: &Above<'_>) -> Option<GlobalFault>
 
 // What is wrong with a `rec` of that variable, which has that path.
 fn rec_fault(name: &VarName, above: &Above<'_>) -> Option<GlobalFault>
-    ensures { result ≡ first_true (rec_tests name.now (nodes_above above.now)) }
+    ensures { result ≡ first_true (rec_tests name.now (steps above.now)) }
 {
     if is_bound(name, above) {
         return Some(GlobalFault::Shadowed);
@@ -323,43 +316,4 @@ fn has_more_than(branches: &Branches, limit: usize) -> bool
         Branches::NoMore => false,
         Branches::More { others, .. } => limit == 0 || has_more_than(others, limit - 1),
     }
-}
-
-// Whether a `rec` of the variable stands on the path.
-fn is_bound(name: &VarName, above: &Above<'_>) -> bool
-    ensures { result ≡ is_bound name.now (nodes_above above.now) }
-{
-    match above {
-        Above::Root => false,
-        Above::Under(node, above) => binds(name, node) || is_bound(name, above),
-    }
-}
-
-// Whether a `rec` of the variable stands on the path below the nearest message or choice.
-fn is_unguarded(name: &VarName, above: &Above<'_>) -> bool
-    ensures { result ≡ is_unguarded name.now (nodes_above above.now) }
-{
-    match above {
-        Above::Root => false,
-        Above::Under(node, above) => {
-            !is_guard(node) && (binds(name, node) || is_unguarded(name, above))
-        }
-    }
-}
-
-// Whether the node is the `rec` of the variable.
-fn binds(name: &VarName, node: &Global) -> bool
-    ensures { result ≡ binds name.now (plain node.now) }
-{
-    match node {
-        Global::Rec(bound, _) => name.is(bound),
-        _ => false,
-    }
-}
-
-// Whether the node is a message or a choice.
-fn is_guard(node: &Global) -> bool
-    ensures { result ≡ is_guard (plain node.now) }
-{
-    matches!(node, Global::Message { .. } | Global::Choice { .. })
 }

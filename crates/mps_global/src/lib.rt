@@ -16,6 +16,7 @@ ghost use Rattle.mps_global.specs.Private.Weights.{weight, branch_weight, waitin
 
 mod building;
 pub mod faults;
+pub mod path;
 mod walking;
 
 pub use faults::{GlobalFault, check, protocol_laws, size_laws};

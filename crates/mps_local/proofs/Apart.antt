@@ -5,6 +5,7 @@ use Rattle.std.specs.Option.{option_or}
 use Rattle.std.specs.Str.{bytes_eq}
 use Rattle.mps_global.specs.Global as global
 use Rattle.mps_global.specs.Global.{GlobalType}
+use Rattle.mps_global.specs.Path.{Step, Loop, Act}
 use Rattle.mps_global.specs.Faults.{is_among, labels, places, branch_places, first_true, pair_tests, label_tests, rec_tests, tests_at, first_fault}
 use Rattle.mps_global.specs.declared.faults.GlobalFault.{GlobalFault}
 use Rattle.mps_global.specs.declared.faults.GlobalFault.TheVariants as faults
@@ -53,23 +54,23 @@ both_pass a b h = let split = first_of_tests a b in both_none (first_true a) (fi
 
 mutual
   -- where no node has a fault
-  pub all_apart : (roles : List (List ℕ)) (above : List GlobalType) (tree : GlobalType) → first_fault roles (places above tree) ≡ None → AllApart roles tree
+  pub all_apart : (roles : List (List ℕ)) (above : List Step) (tree : GlobalType) → first_fault roles (places above tree) ≡ None → AllApart roles tree
   all_apart roles above global.End h = tt
   all_apart roles above (global.Var name) h = tt
   all_apart roles above (global.Rec name body) h =
-      let below = global.Rec name body ∷ above in
+      let below = Loop name ∷ above in
       all_apart roles below body (both_pass (rec_tests name above) (tests_at roles (places below body)) h).1
   all_apart roles above (global.Message sender receiver sort next) h =
-      let below = global.Message sender receiver sort next ∷ above in
+      let below = Act ∷ above in
       let a = apart roles sender receiver (tests_at roles (places below next)) h in
       (a.0, all_apart roles below next a.1)
   all_apart roles above (global.Choice sender receiver branches) h =
-      let below = global.Choice sender receiver branches ∷ above in
+      let below = Act ∷ above in
       let later = tests_at roles (branch_places below branches) in
       let a = apart roles sender receiver (label_tests (labels branches) ++ later) h in
       (a.0, all_branches_apart roles below branches (both_pass (label_tests (labels branches)) later a.1).1)
 
-  all_branches_apart : (roles : List (List ℕ)) (above : List GlobalType) (branches : global.Branches) → first_fault roles (branch_places above branches) ≡ None → AllBranchesApart roles branches
+  all_branches_apart : (roles : List (List ℕ)) (above : List Step) (branches : global.Branches) → first_fault roles (branch_places above branches) ≡ None → AllBranchesApart roles branches
   all_branches_apart roles above global.NoMore h = tt
   all_branches_apart roles above (global.More label next others) h =
       let split = first_of_both roles (places above next) (branch_places above others) in

@@ -8,6 +8,7 @@ use Rattle.std.proofs.lemmas.Bool.{cases_Bool, and_parts, and_from}
 use Rattle.std.proofs.lemmas.Bool.Decides.{nat_tests}
 use Rattle.std.proofs.lemmas.List.Sums.{take_while-cons}
 use Rattle.mps_global.specs.Global.{GlobalType}
+use Rattle.mps_global.specs.Path.{Step, Loop, Act, binds, is_act, is_bound, is_unguarded}
 use Rattle.mps_global.specs.Faults.{has_double, first_true, fault_of}
 use Rattle.mps_global.proofs.Sound.{sound_protocol}
 use Rattle.mps_global.proofs.Walks.{first_of_tests}
@@ -16,7 +17,7 @@ use Rattle.mps_local.specs.Actions.{labels}
 use Rattle.mps_local.specs.Shape.{node_count, depth}
 use Rattle.mps_local.specs.Projection.{projection}
 use Rattle.mps_local.specs.Loops.{is_closed, are_closed, ends_in, is_guarded, are_guarded, is_unshadowed, are_unshadowed, are_labels, is_labelled, are_labelled}
-use Rattle.mps_local.specs.LocalFaults.{places, branch_places, binds, is_guard, is_bound, is_unguarded, size_tests, label_tests, rec_tests, tests_at, fault_at, local_fault_of}
+use Rattle.mps_local.specs.LocalFaults.{places, branch_places, size_tests, label_tests, rec_tests, tests_at, fault_at, local_fault_of}
 use Rattle.mps_local.specs.declared.faults.LocalFault.TheVariants as faults
 use Rattle.mps_local.proofs.Apart.{both_none, both_pass}
 use Rattle.mps_local.proofs.Equal.{name_same, name_is, name_turned}
@@ -48,8 +49,8 @@ labels_fine double many none false false true e = absurd cc
 labels_fine double many none false false false e = refl
 
 -- below a `rec` its own variable is unguarded, and those that were
-under_rec : (z name : List ℕ) (body : LocalType) (above : List LocalType) → is_unguarded z (Rec name body ∷ above) ≡ (bytes_eq z name || is_unguarded z above)
-under_rec z name body above = ap (list_any (binds z)) (take_while-cons (λ node. not (is_guard node)) (Rec name body) above)
+under_rec : (z name : List ℕ) (above : List Step) → is_unguarded z (Loop name ∷ above) ≡ (bytes_eq z name || is_unguarded z above)
+under_rec z name above = ap (list_any (binds z)) (take_while-cons (λ step. not (is_act step)) (Loop name) above)
 
 or_first : (a b : Bool) → a ≡ true → (a || b) ≡ true
 or_first true b h = refl
@@ -68,7 +69,7 @@ not_true true e = absurd cc
 not_true false e = refl
 
 mutual
-  no_fault : (above : List LocalType) (bound : List (List ℕ)) (t : LocalType) → ((z : List ℕ) → list_any (bytes_eq z) bound ≡ list_any (binds z) above) → ((z : List ℕ) → is_unguarded z above ≡ true → ends_in z t ≡ false) → is_closed bound t ≡ true → is_guarded t ≡ true → is_unshadowed bound t ≡ true → is_labelled t ≡ true → fault_at (places above t) ≡ None
+  no_fault : (above : List Step) (bound : List (List ℕ)) (t : LocalType) → ((z : List ℕ) → list_any (bytes_eq z) bound ≡ list_any (binds z) above) → ((z : List ℕ) → is_unguarded z above ≡ true → ends_in z t ≡ false) → is_closed bound t ≡ true → is_guarded t ≡ true → is_unshadowed bound t ≡ true → is_labelled t ≡ true → fault_at (places above t) ≡ None
   no_fault above bound End f g c d u l = refl
   no_fault above bound (Var name) f g c d u l =
       (variable_fine faults.Unbound faults.Unguarded (is_bound name above) (is_unguarded name above) (sym (f name) ∙ c)
@@ -76,34 +77,34 @@ mutual
   no_fault above bound (Rec name body) f g c d u l =
       let us = and_parts (not (list_any (bytes_eq name) bound)) (is_unshadowed (name ∷ bound) body) u in
       let ds = and_parts (not (ends_in name body)) (is_guarded body) d in
-      both_told (rec_tests name above) (tests_at (places (Rec name body ∷ above) body))
+      both_told (rec_tests name above) (tests_at (places (Loop name ∷ above) body))
       (rec_fine faults.Shadowed (is_bound name above) (sym (f name) ∙ not_true (list_any (bytes_eq name) bound) us.0))
-      (no_fault (Rec name body ∷ above) (name ∷ bound) body
+      (no_fault (Loop name ∷ above) (name ∷ bound) body
       (λ z. ap (λ (b : Bool). bytes_eq z name || b) (f z))
       (λ z h.
       ⊎_elim
       (λ (e : bytes_eq z name ≡ true). subst (λ (k : List ℕ). ends_in k body ≡ false) (sym (name_is z name e)) (not_true (ends_in name body) ds.0))
       (λ (e : bytes_eq z name ≡ false).
       let off : bytes_eq name z ≡ false = name_turned name z ∙ e in
-      let h' : is_unguarded z above ≡ true = second_of (bytes_eq z name) (is_unguarded z above) (sym (under_rec z name body above) ∙ h) e in
+      let h' : is_unguarded z above ≡ true = second_of (bytes_eq z name) (is_unguarded z above) (sym (under_rec z name above) ∙ h) e in
       let k : cond (bytes_eq name z) false (ends_in z body) ≡ false = g z h' in
       rw off at k)
       (cases_Bool (bytes_eq z name)))
       c ds.1 us.1 l)
-  no_fault above bound (Send peer sort next) f g c d u l = no_fault (Send peer sort next ∷ above) bound next f (λ z h. absurd cc) c d u l
-  no_fault above bound (Recv peer sort next) f g c d u l = no_fault (Recv peer sort next ∷ above) bound next f (λ z h. absurd cc) c d u l
+  no_fault above bound (Send peer sort next) f g c d u l = no_fault (Act ∷ above) bound next f (λ z h. absurd cc) c d u l
+  no_fault above bound (Recv peer sort next) f g c d u l = no_fault (Act ∷ above) bound next f (λ z h. absurd cc) c d u l
   no_fault above bound (Select peer branches) f g c d u l =
       let ls = and_parts (are_labels (labels branches)) (are_labelled branches) l in
-      both_told (label_tests (labels branches)) (tests_at (branch_places (Select peer branches ∷ above) branches))
+      both_told (label_tests (labels branches)) (tests_at (branch_places (Act ∷ above) branches))
       (labels_fine faults.DoubleLabel faults.TooManyBranches faults.NoBranches (has_double (labels branches)) (nat_lt 16 (length (labels branches))) (length (labels branches) == 0) ls.0)
-      (no_faults (Select peer branches ∷ above) bound branches f (λ z h. absurd cc) c d u ls.1)
+      (no_faults (Act ∷ above) bound branches f (λ z h. absurd cc) c d u ls.1)
   no_fault above bound (Branch peer branches) f g c d u l =
       let ls = and_parts (are_labels (labels branches)) (are_labelled branches) l in
-      both_told (label_tests (labels branches)) (tests_at (branch_places (Branch peer branches ∷ above) branches))
+      both_told (label_tests (labels branches)) (tests_at (branch_places (Act ∷ above) branches))
       (labels_fine faults.DoubleLabel faults.TooManyBranches faults.NoBranches (has_double (labels branches)) (nat_lt 16 (length (labels branches))) (length (labels branches) == 0) ls.0)
-      (no_faults (Branch peer branches ∷ above) bound branches f (λ z h. absurd cc) c d u ls.1)
+      (no_faults (Act ∷ above) bound branches f (λ z h. absurd cc) c d u ls.1)
 
-  no_faults : (above : List LocalType) (bound : List (List ℕ)) (ts : Branches) → ((z : List ℕ) → list_any (bytes_eq z) bound ≡ list_any (binds z) above) → ((z : List ℕ) → is_unguarded z above ≡ true → ⊥) → are_closed bound ts ≡ true → are_guarded ts ≡ true → are_unshadowed bound ts ≡ true → are_labelled ts ≡ true → fault_at (branch_places above ts) ≡ None
+  no_faults : (above : List Step) (bound : List (List ℕ)) (ts : Branches) → ((z : List ℕ) → list_any (bytes_eq z) bound ≡ list_any (binds z) above) → ((z : List ℕ) → is_unguarded z above ≡ true → ⊥) → are_closed bound ts ≡ true → are_guarded ts ≡ true → are_unshadowed bound ts ≡ true → are_labelled ts ≡ true → fault_at (branch_places above ts) ≡ None
   no_faults above bound NoMore f g c d u l = refl
   no_faults above bound (More label t others) f g c d u l =
       let cs = and_parts (is_closed bound t) (are_closed bound others) c in
@@ -144,7 +145,7 @@ faultless roles role tree t h e =
     (omega arith) (omega arith)
 
 -- where a type's nodes have no fault, it does not come to an unguarded variable before an act
-unended : (z : List ℕ) (above : List LocalType) (t : LocalType) → is_unguarded z above ≡ true → fault_at (places above t) ≡ None → ends_in z t ≡ false
+unended : (z : List ℕ) (above : List Step) (t : LocalType) → is_unguarded z above ≡ true → fault_at (places above t) ≡ None → ends_in z t ≡ false
 unended z above End u h = refl
 unended z above (Var name) u h = by_test (bytes_eq name z) refl
   where
@@ -156,7 +157,7 @@ unended z above (Var name) u h = by_test (bytes_eq name z) refl
         absurd cc
     by_test false e = refl
 unended z above (Rec name body) u h = by_test (bytes_eq name z)
-    (unended z (Rec name body ∷ above) body (under_rec z name body above ∙ or_second (bytes_eq z name) (is_unguarded z above) u) (both_pass (rec_tests name above) (tests_at (places (Rec name body ∷ above) body)) h).1)
+    (unended z (Loop name ∷ above) body (under_rec z name above ∙ or_second (bytes_eq z name) (is_unguarded z above) u) (both_pass (rec_tests name above) (tests_at (places (Loop name ∷ above) body)) h).1)
   where
     by_test : (b : Bool) → ends_in z body ≡ false → cond b false (ends_in z body) ≡ false
     by_test true e = refl
@@ -183,16 +184,16 @@ choice_labels : (names : List (List ℕ)) → first_true (label_tests names) ≡
 choice_labels names h = labels_so faults.DoubleLabel faults.TooManyBranches faults.NoBranches (has_double names) (nat_lt 16 (length names)) (length names == 0) h
 
 mutual
-  fine : (above : List LocalType) (bound : List (List ℕ)) (t : LocalType) → ((z : List ℕ) → list_any (bytes_eq z) bound ≡ list_any (binds z) above) → fault_at (places above t) ≡ None → IsFine bound t
+  fine : (above : List Step) (bound : List (List ℕ)) (t : LocalType) → ((z : List ℕ) → list_any (bytes_eq z) bound ≡ list_any (binds z) above) → fault_at (places above t) ≡ None → IsFine bound t
   fine above bound End f h = record { closed = refl; guarded = refl; unshadowed = refl; labelled = refl }
   fine above bound (Var name) f h =
       let known = (both_pass ((not (is_bound name above), faults.Unbound) ∷ []) ((is_unguarded name above, faults.Unguarded) ∷ []) h).0 in
       record { closed = f name ∙ true_unless faults.Unbound (is_bound name above) known; guarded = refl; unshadowed = refl; labelled = refl }
   fine above bound (Rec name body) f h =
-      let below = Rec name body ∷ above in
+      let below = Loop name ∷ above in
       let b = both_pass (rec_tests name above) (tests_at (places below body)) h in
       let k = fine below (name ∷ bound) body (λ z. ap (λ (c : Bool). bytes_eq z name || c) (f z)) b.1 in
-      let own : is_unguarded name below ≡ true = under_rec name name body above ∙ or_first (bytes_eq name name) (is_unguarded name above) (name_same name) in
+      let own : is_unguarded name below ≡ true = under_rec name name above ∙ or_first (bytes_eq name name) (is_unguarded name above) (name_same name) in
       record {
         closed = k.closed;
         guarded = not_so (ends_in name body) (is_guarded body) (unended name below body own b.1) k.guarded;
@@ -200,23 +201,23 @@ mutual
         labelled = k.labelled;
       }
   fine above bound (Send peer sort next) f h =
-      let k = fine (Send peer sort next ∷ above) bound next f h in
+      let k = fine (Act ∷ above) bound next f h in
       record { closed = k.closed; guarded = k.guarded; unshadowed = k.unshadowed; labelled = k.labelled }
   fine above bound (Recv peer sort next) f h =
-      let k = fine (Recv peer sort next ∷ above) bound next f h in
+      let k = fine (Act ∷ above) bound next f h in
       record { closed = k.closed; guarded = k.guarded; unshadowed = k.unshadowed; labelled = k.labelled }
   fine above bound (Select peer branches) f h =
-      let below = Select peer branches ∷ above in
+      let below = Act ∷ above in
       let b = both_pass (label_tests (labels branches)) (tests_at (branch_places below branches)) h in
       let k = all_fine below bound branches f b.1 in
       record { closed = k.closed; guarded = k.guarded; unshadowed = k.unshadowed; labelled = and_from (are_labels (labels branches)) (are_labelled branches) (choice_labels (labels branches) b.0) k.labelled }
   fine above bound (Branch peer branches) f h =
-      let below = Branch peer branches ∷ above in
+      let below = Act ∷ above in
       let b = both_pass (label_tests (labels branches)) (tests_at (branch_places below branches)) h in
       let k = all_fine below bound branches f b.1 in
       record { closed = k.closed; guarded = k.guarded; unshadowed = k.unshadowed; labelled = and_from (are_labels (labels branches)) (are_labelled branches) (choice_labels (labels branches) b.0) k.labelled }
 
-  all_fine : (above : List LocalType) (bound : List (List ℕ)) (ts : Branches) → ((z : List ℕ) → list_any (bytes_eq z) bound ≡ list_any (binds z) above) → fault_at (branch_places above ts) ≡ None → AreFine bound ts
+  all_fine : (above : List Step) (bound : List (List ℕ)) (ts : Branches) → ((z : List ℕ) → list_any (bytes_eq z) bound ≡ list_any (binds z) above) → fault_at (branch_places above ts) ≡ None → AreFine bound ts
   all_fine above bound NoMore f h = record { closed = refl; guarded = refl; unshadowed = refl; labelled = refl }
   all_fine above bound (More label t others) f h =
       let split = first_of_both (places above t) (branch_places above others) in

@@ -7,7 +7,8 @@ use Rattle.std.proofs.lemmas.Bool.{and_parts, and_from}
 use Rattle.mps_base.specs.declared.value.Sort.{Sort}
 use Rattle.mps_global.specs.Global as global
 use Rattle.mps_global.specs.Global.{GlobalType}
-use Rattle.mps_global.specs.Faults.{labels as tree_labels, has_double, places, branch_places, binds, is_bound, is_unguarded, first_true, pair_tests, label_tests, rec_tests, tests_at, first_fault}
+use Rattle.mps_global.specs.Path.{Step, Loop, Act, binds, is_bound, is_unguarded}
+use Rattle.mps_global.specs.Faults.{labels as tree_labels, has_double, places, branch_places, first_true, pair_tests, label_tests, rec_tests, tests_at, first_fault}
 use Rattle.mps_global.specs.declared.faults.GlobalFault.TheVariants as faults
 use Rattle.mps_global.proofs.Walks.{first_of_both}
 use Rattle.mps_local.specs.Local.{LocalType, Branches, End, Var, Send, Recv, Select, Branch, NoMore, More}
@@ -36,21 +37,21 @@ labels_so double many none false false false h = refl
 
 mutual
   -- a tree without faults is closed in the variables of the `rec`s around it
-  pub sound_closed : (roles : List (List ℕ)) (above : List GlobalType) (bound : List (List ℕ)) → ((z : List ℕ) → list_any (binds z) above ≡ true → list_any (bytes_eq z) bound ≡ true) → (tree : GlobalType) → first_fault roles (places above tree) ≡ None → tree_closed bound tree ≡ true
+  pub sound_closed : (roles : List (List ℕ)) (above : List Step) (bound : List (List ℕ)) → ((z : List ℕ) → list_any (binds z) above ≡ true → list_any (bytes_eq z) bound ≡ true) → (tree : GlobalType) → first_fault roles (places above tree) ≡ None → tree_closed bound tree ≡ true
   sound_closed roles above bound f global.End h = refl
   sound_closed roles above bound f (global.Var name) h =
       f name (true_unless faults.Unbound (is_bound name above) (both_pass ((not (is_bound name above), faults.Unbound) ∷ []) ((is_unguarded name above, faults.Unguarded) ∷ []) h).0)
   sound_closed roles above bound f (global.Rec name body) h =
-      let b = both_pass (rec_tests name above) (tests_at roles (places (global.Rec name body ∷ above) body)) h in
-      sound_closed roles (global.Rec name body ∷ above) (name ∷ bound) (λ z k. or_more (bytes_eq z name) (list_any (binds z) above) (list_any (bytes_eq z) bound) (f z) k) body b.1
+      let b = both_pass (rec_tests name above) (tests_at roles (places (Loop name ∷ above) body)) h in
+      sound_closed roles (Loop name ∷ above) (name ∷ bound) (λ z k. or_more (bytes_eq z name) (list_any (binds z) above) (list_any (bytes_eq z) bound) (f z) k) body b.1
   sound_closed roles above bound f (global.Message sender receiver sort next) h =
-      let b = both_pass (pair_tests roles sender receiver) (tests_at roles (places (global.Message sender receiver sort next ∷ above) next)) h in
-      sound_closed roles (global.Message sender receiver sort next ∷ above) bound f next b.1
+      let b = both_pass (pair_tests roles sender receiver) (tests_at roles (places (Act ∷ above) next)) h in
+      sound_closed roles (Act ∷ above) bound f next b.1
   sound_closed roles above bound f (global.Choice sender receiver branches) h =
-      let b = both_pass (pair_tests roles sender receiver ++ label_tests (tree_labels branches)) (tests_at roles (branch_places (global.Choice sender receiver branches ∷ above) branches)) h in
-      sound_all_closed roles (global.Choice sender receiver branches ∷ above) bound f branches b.1
+      let b = both_pass (pair_tests roles sender receiver ++ label_tests (tree_labels branches)) (tests_at roles (branch_places (Act ∷ above) branches)) h in
+      sound_all_closed roles (Act ∷ above) bound f branches b.1
 
-  sound_all_closed : (roles : List (List ℕ)) (above : List GlobalType) (bound : List (List ℕ)) → ((z : List ℕ) → list_any (binds z) above ≡ true → list_any (bytes_eq z) bound ≡ true) → (branches : global.Branches) → first_fault roles (branch_places above branches) ≡ None → trees_closed bound branches ≡ true
+  sound_all_closed : (roles : List (List ℕ)) (above : List Step) (bound : List (List ℕ)) → ((z : List ℕ) → list_any (binds z) above ≡ true → list_any (bytes_eq z) bound ≡ true) → (branches : global.Branches) → first_fault roles (branch_places above branches) ≡ None → trees_closed bound branches ≡ true
   sound_all_closed roles above bound f global.NoMore h = refl
   sound_all_closed roles above bound f (global.More label next others) h =
       let split = first_of_both roles (places above next) (branch_places above others) in
@@ -134,32 +135,32 @@ not_among false b f e = refl
 
 mutual
   -- where no `rec` of the tree has the variable of one around it, none of the projection has
-  pub projection_unshadowed : (roles : List (List ℕ)) (role : ℕ) (above : List GlobalType) (bound : List (List ℕ)) → ((z : List ℕ) → list_any (bytes_eq z) bound ≡ true → list_any (binds z) above ≡ true) → (tree : GlobalType) (t : LocalType) → first_fault roles (places above tree) ≡ None → projection roles role tree ≡ Some t → is_unshadowed bound t ≡ true
+  pub projection_unshadowed : (roles : List (List ℕ)) (role : ℕ) (above : List Step) (bound : List (List ℕ)) → ((z : List ℕ) → list_any (bytes_eq z) bound ≡ true → list_any (binds z) above ≡ true) → (tree : GlobalType) (t : LocalType) → first_fault roles (places above tree) ≡ None → projection roles role tree ≡ Some t → is_unshadowed bound t ≡ true
   projection_unshadowed roles role above bound f global.End t h e = let k : End ≡ t = cc in subst (λ (z : LocalType). is_unshadowed bound z ≡ true) k refl
   projection_unshadowed roles role above bound f (global.Var name) t h e = let k : Var name ≡ t = cc in subst (λ (z : LocalType). is_unshadowed bound z ≡ true) k refl
   projection_unshadowed roles role above bound f (global.Rec name body) t h e =
-      let b = both_pass (rec_tests name above) (tests_at roles (places (global.Rec name body ∷ above) body)) h in
+      let b = both_pass (rec_tests name above) (tests_at roles (places (Loop name ∷ above) body)) h in
       by_parts (rec_parts roles role name body t e)
       (not_among (list_any (bytes_eq name) bound) (is_bound name above) (f name) (false_where faults.Shadowed (is_bound name above) b.0))
-      (λ u. projection_unshadowed roles role (global.Rec name body ∷ above) (name ∷ bound) (λ z k. or_more (bytes_eq z name) (list_any (bytes_eq z) bound) (list_any (binds z) above) (f z) k) body u b.1)
+      (λ u. projection_unshadowed roles role (Loop name ∷ above) (name ∷ bound) (λ z k. or_more (bytes_eq z name) (list_any (bytes_eq z) bound) (list_any (binds z) above) (f z) k) body u b.1)
     where
       by_parts : RecParts roles role name body t → list_any (bytes_eq name) bound ≡ false → ((u : LocalType) → projection roles role body ≡ Some u → is_unshadowed (name ∷ bound) u ≡ true) → is_unshadowed bound t ≡ true
       by_parts (idle g k) new again = subst (λ (z : LocalType). is_unshadowed bound z ≡ true) (sym k) refl
       by_parts (busy g u k l) new again = subst (λ (z : LocalType). is_unshadowed bound z ≡ true) (sym l) (not_so (list_any (bytes_eq name) bound) (is_unshadowed (name ∷ bound) u) new (again u k))
   projection_unshadowed roles role above bound f (global.Message sender receiver sort next) t h e =
       let from = place_of roles sender in let to = place_of roles receiver in
-      let b = both_pass (pair_tests roles sender receiver) (tests_at roles (places (global.Message sender receiver sort next ∷ above) next)) h in
+      let b = both_pass (pair_tests roles sender receiver) (tests_at roles (places (Act ∷ above) next)) h in
       let k = map_some (with_message role from to sort) (projection roles role next) t e in
       subst (λ (z : LocalType). is_unshadowed bound z ≡ true) k.2 (message_keeps (is_unshadowed bound) (role == from) (role == to) from to sort k.0 refl refl
-      (projection_unshadowed roles role (global.Message sender receiver sort next ∷ above) bound f next k.0 b.1 k.1))
+      (projection_unshadowed roles role (Act ∷ above) bound f next k.0 b.1 k.1))
   projection_unshadowed roles role above bound f (global.Choice sender receiver branches) t h e =
       let from = place_of roles sender in let to = place_of roles receiver in
-      let b = both_pass (pair_tests roles sender receiver ++ label_tests (tree_labels branches)) (tests_at roles (branch_places (global.Choice sender receiver branches ∷ above) branches)) h in
+      let b = both_pass (pair_tests roles sender receiver ++ label_tests (tree_labels branches)) (tests_at roles (branch_places (Act ∷ above) branches)) h in
       let k = and_then_some (with_choice role from to) (projections roles role branches) t e in
       choice_keeps (is_unshadowed bound) (are_unshadowed bound) (role == from) (role == to) from to k.0 t refl refl (λ l u us m. (and_parts (is_unshadowed bound u) (are_unshadowed bound us) m).0)
-      (projections_unshadowed roles role (global.Choice sender receiver branches ∷ above) bound f branches k.0 b.1 k.1) k.2
+      (projections_unshadowed roles role (Act ∷ above) bound f branches k.0 b.1 k.1) k.2
 
-  projections_unshadowed : (roles : List (List ℕ)) (role : ℕ) (above : List GlobalType) (bound : List (List ℕ)) → ((z : List ℕ) → list_any (bytes_eq z) bound ≡ true → list_any (binds z) above ≡ true) → (branches : global.Branches) (ts : Branches) → first_fault roles (branch_places above branches) ≡ None → projections roles role branches ≡ Some ts → are_unshadowed bound ts ≡ true
+  projections_unshadowed : (roles : List (List ℕ)) (role : ℕ) (above : List Step) (bound : List (List ℕ)) → ((z : List ℕ) → list_any (bytes_eq z) bound ≡ true → list_any (binds z) above ≡ true) → (branches : global.Branches) (ts : Branches) → first_fault roles (branch_places above branches) ≡ None → projections roles role branches ≡ Some ts → are_unshadowed bound ts ≡ true
   projections_unshadowed roles role above bound f global.NoMore ts h e = let k : NoMore ≡ ts = cc in subst (λ (z : Branches). are_unshadowed bound z ≡ true) k refl
   projections_unshadowed roles role above bound f (global.More label next others) ts h e =
       let split = first_of_both roles (places above next) (branch_places above others) in
@@ -175,33 +176,33 @@ same_labels roles role (global.More label next others) ts e =
 
 mutual
   -- a projection's choices have the labels of the tree's
-  pub projection_labelled : (roles : List (List ℕ)) (role : ℕ) (above : List GlobalType) (tree : GlobalType) (t : LocalType) → first_fault roles (places above tree) ≡ None → projection roles role tree ≡ Some t → is_labelled t ≡ true
+  pub projection_labelled : (roles : List (List ℕ)) (role : ℕ) (above : List Step) (tree : GlobalType) (t : LocalType) → first_fault roles (places above tree) ≡ None → projection roles role tree ≡ Some t → is_labelled t ≡ true
   projection_labelled roles role above global.End t h e = let k : End ≡ t = cc in subst (λ (z : LocalType). is_labelled z ≡ true) k refl
   projection_labelled roles role above (global.Var name) t h e = let k : Var name ≡ t = cc in subst (λ (z : LocalType). is_labelled z ≡ true) k refl
   projection_labelled roles role above (global.Rec name body) t h e =
-      let b = both_pass (rec_tests name above) (tests_at roles (places (global.Rec name body ∷ above) body)) h in
-      by_parts (rec_parts roles role name body t e) (λ u. projection_labelled roles role (global.Rec name body ∷ above) body u b.1)
+      let b = both_pass (rec_tests name above) (tests_at roles (places (Loop name ∷ above) body)) h in
+      by_parts (rec_parts roles role name body t e) (λ u. projection_labelled roles role (Loop name ∷ above) body u b.1)
     where
       by_parts : RecParts roles role name body t → ((u : LocalType) → projection roles role body ≡ Some u → is_labelled u ≡ true) → is_labelled t ≡ true
       by_parts (idle g k) again = subst (λ (z : LocalType). is_labelled z ≡ true) (sym k) refl
       by_parts (busy g u k l) again = subst (λ (z : LocalType). is_labelled z ≡ true) (sym l) (again u k)
   projection_labelled roles role above (global.Message sender receiver sort next) t h e =
       let from = place_of roles sender in let to = place_of roles receiver in
-      let b = both_pass (pair_tests roles sender receiver) (tests_at roles (places (global.Message sender receiver sort next ∷ above) next)) h in
+      let b = both_pass (pair_tests roles sender receiver) (tests_at roles (places (Act ∷ above) next)) h in
       let k = map_some (with_message role from to sort) (projection roles role next) t e in
       subst (λ (z : LocalType). is_labelled z ≡ true) k.2 (message_keeps is_labelled (role == from) (role == to) from to sort k.0 refl refl
-      (projection_labelled roles role (global.Message sender receiver sort next ∷ above) next k.0 b.1 k.1))
+      (projection_labelled roles role (Act ∷ above) next k.0 b.1 k.1))
   projection_labelled roles role above (global.Choice sender receiver branches) t h e =
       let from = place_of roles sender in let to = place_of roles receiver in
       let names = tree_labels branches in
-      let b = both_pass (pair_tests roles sender receiver ++ label_tests names) (tests_at roles (branch_places (global.Choice sender receiver branches ∷ above) branches)) h in
+      let b = both_pass (pair_tests roles sender receiver ++ label_tests names) (tests_at roles (branch_places (Act ∷ above) branches)) h in
       let k = and_then_some (with_choice role from to) (projections roles role branches) t e in
       let good = labels_so faults.DoubleLabel faults.TooManyBranches faults.NoBranches (has_double names) (nat_lt 16 (length names)) (length names == 0) (both_pass (pair_tests roles sender receiver) (label_tests names) b.0).1 in
       let here : are_labels (labels k.0) ≡ true = subst (λ (l : List (List ℕ)). are_labels l ≡ true) (sym (same_labels roles role branches k.0 k.1)) good in
       choice_keeps is_labelled (λ ts. are_labels (labels ts) && are_labelled ts) (role == from) (role == to) from to k.0 t refl refl (λ l u us m. (and_parts (is_labelled u) (are_labelled us) (and_parts (are_labels (labels (More l u us))) (are_labelled (More l u us)) m).1).0)
-      (and_from (are_labels (labels k.0)) (are_labelled k.0) here (projections_labelled roles role (global.Choice sender receiver branches ∷ above) branches k.0 b.1 k.1)) k.2
+      (and_from (are_labels (labels k.0)) (are_labelled k.0) here (projections_labelled roles role (Act ∷ above) branches k.0 b.1 k.1)) k.2
 
-  projections_labelled : (roles : List (List ℕ)) (role : ℕ) (above : List GlobalType) (branches : global.Branches) (ts : Branches) → first_fault roles (branch_places above branches) ≡ None → projections roles role branches ≡ Some ts → are_labelled ts ≡ true
+  projections_labelled : (roles : List (List ℕ)) (role : ℕ) (above : List Step) (branches : global.Branches) (ts : Branches) → first_fault roles (branch_places above branches) ≡ None → projections roles role branches ≡ Some ts → are_labelled ts ≡ true
   projections_labelled roles role above global.NoMore ts h e = let k : NoMore ≡ ts = cc in subst (λ (z : Branches). are_labelled z ≡ true) k refl
   projections_labelled roles role above (global.More label next others) ts h e =
       let split = first_of_both roles (places above next) (branch_places above others) in

@@ -3,6 +3,5 @@ pub mod Weights
 pub mod Bound
 pub mod Writing
 pub mod Copying
-pub mod Above
 pub mod Codes
 pub mod Outcome

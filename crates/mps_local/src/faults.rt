@@ -2,19 +2,20 @@
 ghost use Rattle.std.specs.Prelude.{◌≡◌, ◌≢◌, ◌+◌, ◌<◌, ◌≤◌, ◌↔◌, ℕ, List, [], None, Some, true, IsTrue, MatchOption, length, map, nat_lt};
 ghost use Rattle.mps_global.specs.Faults.{is_among, has_double, greatest, first_true, fault_of};
 ghost use Rattle.mps_global.specs.Global.{GlobalType};
+ghost use Rattle.mps_global.specs.Path.{steps, level};
 ghost use Rattle.mps_local.specs.Local.{LocalType, plain, plain_branches};
 ghost use Rattle.mps_local.specs.Actions.{labels};
 ghost use Rattle.mps_local.specs.Loops.{is_closed, is_guarded, is_unshadowed, is_labelled};
 ghost use Rattle.mps_local.specs.Shape.{node_count, branch_nodes, depth, branch_depth};
 ghost use Rattle.mps_local.specs.Projection.{projection};
-ghost use Rattle.mps_local.specs.LocalFaults.{places, branch_places, level, binds, is_guard, is_bound, is_unguarded};
+ghost use Rattle.mps_local.specs.LocalFaults.{places, branch_places};
 ghost use Rattle.mps_local.specs.LocalFaults.{label_tests, variable_tests, rec_tests, node_tests, fault_at, local_fault_of};
-ghost use Rattle.mps_local.specs.Private.Above.{nodes_above};
 ghost use Rattle.mps_local.specs.declared.faults.LocalFault.{LocalFault as Fault};
 
 use crate::{Branches, Local};
 use mps_base::{Name, VarName};
 use mps_global::faults::{MAX_BRANCHES, MAX_DEPTH, MAX_NODES};
+use mps_global::path::{Above, is_bound, is_unguarded};
 use std::alloc::AllocError;
 use thiserror::Error;
 
@@ -50,13 +51,6 @@ impl From<AllocError> for LocalFault {
     fn from(_: AllocError) -> LocalFault {
         LocalFault::Memory
     }
-}
-
-// The nodes on the path to a node, the nearest first.
-#[derive(Clone, Copy)]
-enum Above<'a> {
-    Root,
-    Under(&'a Local, &'a Above<'a>),
 }
 
 /// The first fault of a local type. The type may be of any size: nothing goes more than 257 nodes
@@ -177,18 +171,19 @@ fn are_within(branches: &Branches, limit: usize) -> bool
 // What is wrong with the first faulty node in preorder.
 #[cycle(walk)]
 fn fault_in(t: &Local, above: &Above<'_>) -> Option<LocalFault>
-    ensures { result ≡ fault_at (places (nodes_above above.now) (plain t.now)) }
+    ensures { result ≡ fault_at (places (steps above.now) (plain t.now)) }
 {
     if let Some(fault) = node_fault(&*t, &*above) {
         return Some(fault);
     }
     match t {
         Local::End | Local::Var(_) => None,
-        Local::Rec(_, next) | Local::Send { next, .. } | Local::Recv { next, .. } => {
-            fault_in(next, &Above::Under(&*t, &*above))
+        Local::Rec(name, next) => fault_in(next, &Above::Loop(&*name, &*above)),
+        Local::Send { next, .. } | Local::Recv { next, .. } => {
+            fault_in(next, &Above::Act(&*above))
         }
         Local::Select { branches, .. } | Local::Branch { branches, .. } => {
-            fault_in_branches(branches, &Above::Under(&*t, &*above))
+            fault_in_branches(branches, &Above::Act(&*above))
         }
     }
 }
@@ -198,7 +193,7 @@ fn fault_in(t: &Local, above: &Above<'_>) -> Option<LocalFault>
 #[tactic(auto, using(crate::proofs::Faulty::first_of_both))]
 fn fault_in_branches(branches: &Branches, above: &Above<'_>) -> Option<LocalFault>
     ensures { result
-        ≡ fault_at (branch_places (nodes_above above.now) (plain_branches branches.now)) }
+        ≡ fault_at (branch_places (steps above.now) (plain_branches branches.now)) }
 {
     match branches {
         Branches::NoMore => None,
@@ -211,7 +206,7 @@ fn fault_in_branches(branches: &Branches, above: &Above<'_>) -> Option<LocalFaul
 
 // What is wrong at the node with that path.
 fn node_fault(node: &Local, above: &Above<'_>) -> Option<LocalFault>
-    ensures { result ≡ first_true (node_tests (nodes_above above.now) (plain node.now)) }
+    ensures { result ≡ first_true (node_tests (steps above.now) (plain node.now)) }
 {
     match node {
         Local::End | Local::Send { .. } | Local::Recv { .. } => None,
@@ -223,7 +218,7 @@ fn node_fault(node: &Local, above: &Above<'_>) -> Option<LocalFault>
 
 // What is wrong with a variable that has that path.
 fn variable_fault(name: &VarName, above: &Above<'_>) -> Option<LocalFault>
-    ensures { result ≡ first_true (variable_tests name.now (nodes_above above.now)) }
+    ensures { result ≡ first_true (variable_tests name.now (steps above.now)) }
 {
     if !is_bound(name, above) {
         return Some(LocalFault::Unbound);
@@ -236,7 +231,7 @@ fn variable_fault(name: &VarName, above: &Above<'_>) -> Option<LocalFault>
 
 // What is wrong with a `rec` of that variable, which has that path.
 fn rec_fault(name: &VarName, above: &Above<'_>) -> Option<LocalFault>
-    ensures { result ≡ first_true (rec_tests name.now (nodes_above above.now)) }
+    ensures { result ≡ first_true (rec_tests name.now (steps above.now)) }
 {
     if is_bound(name, above) {
         return Some(LocalFault::Shadowed);
@@ -293,43 +288,4 @@ fn has_more_than(branches: &Branches, limit: usize) -> bool
         Branches::NoMore => false,
         Branches::More { others, .. } => limit == 0 || has_more_than(others, limit - 1),
     }
-}
-
-// Whether a `rec` of the variable stands on the path.
-fn is_bound(name: &VarName, above: &Above<'_>) -> bool
-    ensures { result ≡ is_bound name.now (nodes_above above.now) }
-{
-    match above {
-        Above::Root => false,
-        Above::Under(node, above) => binds(name, node) || is_bound(name, above),
-    }
-}
-
-// Whether a `rec` of the variable stands on the path below the nearest act.
-fn is_unguarded(name: &VarName, above: &Above<'_>) -> bool
-    ensures { result ≡ is_unguarded name.now (nodes_above above.now) }
-{
-    match above {
-        Above::Root => false,
-        Above::Under(node, above) => {
-            !is_guard(node) && (binds(name, node) || is_unguarded(name, above))
-        }
-    }
-}
-
-// Whether the node is the `rec` of the variable.
-fn binds(name: &VarName, node: &Local) -> bool
-    ensures { result ≡ binds name.now (plain node.now) }
-{
-    match node {
-        Local::Rec(bound, _) => name.is(bound),
-        _ => false,
-    }
-}
-
-// Whether the node is an act.
-fn is_guard(node: &Local) -> bool
-    ensures { result ≡ is_guard (plain node.now) }
-{
-    !matches!(node, Local::End | Local::Var(_) | Local::Rec(..))
 }

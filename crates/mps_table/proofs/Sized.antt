@@ -3,30 +3,31 @@ use Rattle.std.proofs.Common.{◌≡◌, ℕ, List, [], ◌∷◌, ◌++◌, len
 use Rattle.std.specs.Prelude.{filter, flat_map}
 use Rattle.std.proofs.lemmas.Grind.{flat_map-append}
 use Rattle.std.proofs.lemmas.List.Elements.{filter-append}
+use Rattle.mps_global.specs.Path.{Step, Loop, Act, Place}
 use Rattle.mps_local.specs.Local.{LocalType, Branches, End, Var, Rec, Send, Recv, Select, Branch, NoMore, More}
 use Rattle.mps_local.specs.Actions.{labels}
-use Rattle.mps_local.specs.LocalFaults.{Place, places, branch_places}
+use Rattle.mps_local.specs.LocalFaults.{places, branch_places}
 use Rattle.mps_table.specs.declared.laying.Draft.{Draft}
 use Rattle.mps_table.specs.Private.Drafts.{IsLaidOut, nowhere}
 use Rattle.mps_table.specs.Private.Laying.{size, branch_size, all_labels, branch_labels}
 use Rattle.mps_table.specs.Sizes.{has_row, node_labels, acts_and_ends, labels_of_choices}
 use Rattle.mps_table.proofs.Drafted.{length-all_rows}
 
-abbrev acts : List Place → List Place
+abbrev acts : List (Place LocalType) → List (Place LocalType)
 acts ps = filter (λ p. has_row p.node) ps
 
 mutual
   -- a type has as many actions and ends as it has rows
-  as_many : (above : List LocalType) (t : LocalType) → length (acts (places above t)) ≡ size t
+  as_many : (above : List Step) (t : LocalType) → length (acts (places above t)) ≡ size t
   as_many above End = refl
   as_many above (Var x) = refl
-  as_many above (Rec x u) = as_many (Rec x u ∷ above) u
-  as_many above (Send peer sort u) = omega (arith, as_many (Send peer sort u ∷ above) u)
-  as_many above (Recv peer sort u) = omega (arith, as_many (Recv peer sort u ∷ above) u)
-  as_many above (Select peer branches) = omega (arith, branches_as_many (Select peer branches ∷ above) branches)
-  as_many above (Branch peer branches) = omega (arith, branches_as_many (Branch peer branches ∷ above) branches)
+  as_many above (Rec x u) = as_many (Loop x ∷ above) u
+  as_many above (Send peer sort u) = omega (arith, as_many (Act ∷ above) u)
+  as_many above (Recv peer sort u) = omega (arith, as_many (Act ∷ above) u)
+  as_many above (Select peer branches) = omega (arith, branches_as_many (Act ∷ above) branches)
+  as_many above (Branch peer branches) = omega (arith, branches_as_many (Act ∷ above) branches)
 
-  branches_as_many : (above : List LocalType) (branches : Branches) → length (acts (branch_places above branches)) ≡ branch_size branches
+  branches_as_many : (above : List Step) (branches : Branches) → length (acts (branch_places above branches)) ≡ branch_size branches
   branches_as_many above NoMore = refl
   branches_as_many above (More label u others) =
       omega (
@@ -37,24 +38,24 @@ mutual
         branches_as_many above others,
       )
 
-abbrev labels_at : List Place → List (List ℕ)
+abbrev labels_at : List (Place LocalType) → List (List ℕ)
 labels_at ps = flat_map (λ p. node_labels p.node) ps
 
 mutual
   -- the labels that are laid out are those of its choices
-  same_labels : (above : List LocalType) (t : LocalType) → labels_at (places above t) ≡ all_labels t
+  same_labels : (above : List Step) (t : LocalType) → labels_at (places above t) ≡ all_labels t
   same_labels above End = refl
   same_labels above (Var x) = refl
-  same_labels above (Rec x u) = same_labels (Rec x u ∷ above) u
-  same_labels above (Send peer sort u) = same_labels (Send peer sort u ∷ above) u
-  same_labels above (Recv peer sort u) = same_labels (Recv peer sort u ∷ above) u
-  same_labels above (Select peer branches) = ap (λ ls. labels branches ++ ls) (same_branch_labels (Select peer branches ∷ above) branches)
-  same_labels above (Branch peer branches) = ap (λ ls. labels branches ++ ls) (same_branch_labels (Branch peer branches ∷ above) branches)
+  same_labels above (Rec x u) = same_labels (Loop x ∷ above) u
+  same_labels above (Send peer sort u) = same_labels (Act ∷ above) u
+  same_labels above (Recv peer sort u) = same_labels (Act ∷ above) u
+  same_labels above (Select peer branches) = ap (λ ls. labels branches ++ ls) (same_branch_labels (Act ∷ above) branches)
+  same_labels above (Branch peer branches) = ap (λ ls. labels branches ++ ls) (same_branch_labels (Act ∷ above) branches)
 
-  same_branch_labels : (above : List LocalType) (branches : Branches) → labels_at (branch_places above branches) ≡ branch_labels branches
+  same_branch_labels : (above : List Step) (branches : Branches) → labels_at (branch_places above branches) ≡ branch_labels branches
   same_branch_labels above NoMore = refl
   same_branch_labels above (More label u others) =
-      let both = flat_map-append (λ (p : Place). node_labels p.node) (places above u) (branch_places above others) in
+      let both = flat_map-append (λ (p : Place LocalType). node_labels p.node) (places above u) (branch_places above others) in
       let one = same_labels above u in
       let rest = same_branch_labels above others in
       cc (both, one, rest)

@@ -1,9 +1,10 @@
 -- How large a table has to be.
 use Rattle.std.specs.Prelude.{ℕ, Bool, true, false, List, [], filter, flat_map}
+use Rattle.mps_global.specs.Path.{Place}
 use Rattle.mps_local.specs.Local as local
 use Rattle.mps_local.specs.Local.{LocalType}
 use Rattle.mps_local.specs.Actions.{labels}
-use Rattle.mps_local.specs.LocalFaults.{Place, places}
+use Rattle.mps_local.specs.LocalFaults.{places}
 
 -- whether a node of a type is an action or an end: it is neither a variable nor a `rec`
 abbrev pub has_row : LocalType → Bool
@@ -18,7 +19,7 @@ node_labels (local.Branch peer branches) = labels branches
 node_labels t = []
 
 -- the actions and ends of a type
-abbrev pub acts_and_ends : LocalType → List Place
+abbrev pub acts_and_ends : LocalType → List (Place LocalType)
 acts_and_ends t = filter (λ p. has_row p.node) (places [] t)
 
 -- the labels of all its choices
