@@ -13,7 +13,7 @@ ghost use Rattle.mps_program.specs.Streams.{CantShow, HasShown};
 
 use crate::faults::ToolFault;
 use crate::files::{open_file, tell};
-use crate::load::{load, unprojected};
+use crate::load::{load_protocol, unprojected};
 use mps_base::{Role, Roles};
 use mps_dev::{OverWrite, Sink, Source};
 use mps_global::Protocol;
@@ -119,7 +119,7 @@ pub fn write_types<'a, R: Source, W: Sink>(
     ensures reads { R.failed_calls reader.new ≡ after_reads result (R.failed_calls reader.old) }
     ensures writes { W.failed_calls writer.new ≡ after_writes result (W.failed_calls writer.old) }
 {
-    let protocol = load(alloc, reader)?;
+    let protocol = load_protocol(alloc, reader)?;
     let lines = lines_of(alloc, &protocol)?;
     tell(writer, lines.as_slice())
 }

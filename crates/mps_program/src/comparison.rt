@@ -9,7 +9,7 @@ ghost use Rattle.mps_wire.specs.Runs.{max_reads};
 
 use crate::faults::ToolFault;
 use crate::files::{open_file, tell};
-use crate::load::{load, session_of};
+use crate::load::{load_protocol, session_of};
 use crate::tally::Tally;
 use mps_base::Roles;
 use mps_dev::{OverRead, OverWrite, Source};
@@ -190,7 +190,7 @@ pub fn compare_files<'a, R: Files + AllocGlobal + Print + Eprint>(
     ensures status { IfOk result (λ status. status ≤ 1) }
     ensures fault { IfErr result (IsCompareFault file.now script.now other.now) }
 {
-    let protocol = load(rt.alloc(), &mut open_file(rt, file)?)?;
+    let protocol = load_protocol(rt.alloc(), &mut open_file(rt, file)?)?;
     let first = session_of(rt.alloc(), &protocol)?;
     let second = session_of(rt.alloc(), &protocol)?;
     let roles = roles_of(rt.alloc(), &protocol)?;

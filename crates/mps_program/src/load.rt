@@ -34,7 +34,10 @@ fn protocol_of<'a>(alloc: Global, text: &[u8]) -> Result<Protocol, ToolFault<'a>
 /// Reads a protocol, and checks it.
 ///
 /// The text is read to its end, or one byte further than a protocol may go.
-pub fn load<'a, R: Source>(alloc: Global, reader: &mut R) -> Result<Protocol, ToolFault<'a>>
+pub fn load_protocol<'a, R: Source>(
+    alloc: Global,
+    reader: &mut R,
+) -> Result<Protocol, ToolFault<'a>>
     requires { R.calls reader.old < 2 ^ 62 }
     ensures read { IfOk result (λ p. HasLoaded
         (R.remaining reader.old) (R.remaining reader.new) p.roles.items (global_type p.body)) }

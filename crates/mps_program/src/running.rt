@@ -5,7 +5,7 @@ ghost use Rattle.mps_program.specs.Faults.{IsScriptFault, IsRunFault};
 
 use crate::faults::ToolFault;
 use crate::files::open_file;
-use crate::load::{load, session_of};
+use crate::load::{load_protocol, session_of};
 use crate::tally::Strict;
 use mps_base::Roles;
 use mps_dev::{OverWrite, Sink};
@@ -69,7 +69,7 @@ pub fn run_file<'a, R: Files + AllocGlobal + Print + Eprint>(
     ensures status { IfOk result (λ status. status ≤ 1) }
     ensures fault { IfErr result (IsRunFault file.now script.now) }
 {
-    let protocol = load(rt.alloc(), &mut open_file(rt, file)?)?;
+    let protocol = load_protocol(rt.alloc(), &mut open_file(rt, file)?)?;
     let session = session_of(rt.alloc(), &protocol)?;
     let roles = roles_of(rt.alloc(), &protocol)?;
     let mut writer = OverWrite::new(io::writer(rt));

@@ -12,7 +12,7 @@ ghost use Rattle.mps_program.specs.Private.Served.{IsHubFault, IsNewOf, TellsPor
 use crate::faults::ToolFault;
 use crate::files::{open_file, tell};
 use crate::journals::{FileKeeper, Keeping, keep_sessions};
-use crate::load::{load, session_of};
+use crate::load::{load_protocol, session_of};
 use mps_base::write_number;
 use mps_dev::{OverWrite, Sink};
 use mps_global::Protocol;
@@ -343,7 +343,7 @@ where
         service.entry.first service.entry.sessions) }
 {
     let alloc = rt.alloc();
-    let protocol = load(alloc, &mut open_file(rt, file)?)?;
+    let protocol = load_protocol(alloc, &mut open_file(rt, file)?)?;
     let hub = hub_of(alloc, &protocol, service.first, service.sessions)?;
     let written = write_protocol(alloc, &protocol)?;
     let keeping = keeping_of(service.journal, written.as_slice());

@@ -7,7 +7,7 @@ use mps_dev::{Pieces, Short};
 use mps_global::GlobalFault;
 use mps_open::roles_of;
 use mps_program::{
-    Tallies, Tally, ToolFault, check_file, compare_files, fault_line, lines_of, load,
+    Tallies, Tally, ToolFault, check_file, compare_files, fault_line, lines_of, load_protocol,
     open_file, read_text, run_file, session_of, status, verdict_of, write_types,
 };
 use mps_session::Session;
@@ -41,7 +41,7 @@ fn opened(alloc: Global, pieces: Vec<Vec<u8>>) -> Result<(Roles, Session), ToolF
     ensures named { IfOk result (λ r. length r.0 ≡ length r.1.types) }
     ensures new { IfOk result (λ r. r.1.state ≡ initial) }
 {
-    let protocol = load(alloc, &mut Pieces::new(pieces, None))?;
+    let protocol = load_protocol(alloc, &mut Pieces::new(pieces, None))?;
     let session = session_of(alloc, &protocol)?;
     let roles = roles_of(alloc, &protocol)?;
     Ok((roles, session))
@@ -298,7 +298,7 @@ fn counted(
 
 // The lines of the protocol's roles, or the line of its fault.
 fn shown(alloc: Global, pieces: Vec<Vec<u8>>) -> Result<Vec<u8>, AllocError> {
-    let loaded = load(alloc, &mut Pieces::new(pieces, None));
+    let loaded = load_protocol(alloc, &mut Pieces::new(pieces, None));
     let lines = match &loaded {
         Ok(protocol) => lines_of(alloc, protocol),
         Err(fault) => return fault_line(alloc, fault),
@@ -517,7 +517,7 @@ fn tells_reads_that_fail(rt: HostRuntime) -> Result<(), Fail> {
     let mut reader = Pieces::new(whole(rt.alloc(), "roles a")?, Some(2));
     assert!(rt; is_failed_read(read_text(rt.alloc(), &mut reader)));
     let mut reader = Pieces::new(whole(rt.alloc(), RELAY)?, Some(2));
-    assert!(rt; is_failed_read(load(rt.alloc(), &mut reader)));
+    assert!(rt; is_failed_read(load_protocol(rt.alloc(), &mut reader)));
     Ok(())
 }
 
@@ -583,7 +583,7 @@ fn told(
         first: Tally::new(),
         second: Tally::new(),
     };
-    let protocol = load(alloc, &mut Pieces::new(whole(alloc, PAIRS)?, None))?;
+    let protocol = load_protocol(alloc, &mut Pieces::new(whole(alloc, PAIRS)?, None))?;
     let first = session_of(alloc, &protocol)?;
     let second = session_of(alloc, &protocol)?;
     let roles = roles_of(alloc, &protocol)?;

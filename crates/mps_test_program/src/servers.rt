@@ -2,7 +2,7 @@
 
 use mps_dev::{Pieces, Short};
 use mps_hub::Limits;
-use mps_program::{hub_of, load, serve_to};
+use mps_program::{hub_of, load_protocol, serve_to};
 use std::alloc::Global;
 use std::fs::File;
 use std::io::{Read, Write};
@@ -51,7 +51,7 @@ where
     let alloc = rt.alloc();
     let text = vec![in alloc; Vec::from_slice(alloc, protocol)?]?;
     let mut writer = Short::new(alloc, 100)?;
-    let Ok(protocol) = load(alloc, &mut Pieces::new(text, None)) else {
+    let Ok(protocol) = load_protocol(alloc, &mut Pieces::new(text, None)) else {
         return Err("a protocol".into());
     };
     let Ok(hub) = hub_of(alloc, &protocol, first, sessions) else {
