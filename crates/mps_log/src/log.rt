@@ -186,6 +186,7 @@ impl Log {
     pub fn first_sent(&self, from: Role, to: Role) -> Option<&Step>
         ensures message { option_and_then (λ s. given_by s.act) (option_copied result)
             ≡ slice_get (unreceived from to (steps self.now.entries)) 0 }
+        ensures gives { IfSome (option_copied result) (λ s. IsSome (given_by s.act)) }
         // it is found by its number
         ensures step { IfSome (option_copied result) (λ s.
             message_sent (steps self.now.entries) s.id ≡ given_by s.act) }

@@ -1,5 +1,5 @@
 -- What a session answers, against the plain machine.
-use Rattle.std.specs.Prelude.{ℕ, ⊤, List, [], ◌∷◌, Option, Result, Ok, Err}
+use Rattle.std.specs.Prelude.{ℕ, ⊤, List, [], ◌∷◌, Option, None, Result, Ok, Err, IsSome, IfSome}
 use Rattle.std.specs.Borrow.{Bor}
 use Rattle.std.specs.Option.{option_and_then}
 use Rattle.mps_base.specs.declared.action.Act.{Act}
@@ -25,6 +25,15 @@ once (Err refusal) = Err refusal
 -- the message that was taken from the step of that number, if from any
 abbrev pub taken_of : List Step → Option ℕ → Option Message
 taken_of h source = option_and_then (message_sent h) source
+
+-- the step of that number, if one is named, gave a message
+abbrev pub IsSent : List Step → Option ℕ → Type 0
+IsSent h source = IfSome source (λ n. IsSome (message_sent h n))
+
+-- the step that a gist names as the one that sent what was taken
+abbrev pub source_of : Gist → Option ℕ
+source_of (Stepped id source) = source
+source_of gist = None
 
 -- the answer of which this is the gist, where these were the steps
 abbrev pub answer_of : List Step → Gist → Answer

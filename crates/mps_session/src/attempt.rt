@@ -1,11 +1,11 @@
 //! A change that a borrowed `Command` asks for: how rooms call a session.
-ghost use Rattle.std.specs.Prelude.{◌≡◌, ◌<◌, List, [], ◌∷◌, Ok, Some, length, IsSome, IfOk, OnErr};
+ghost use Rattle.std.specs.Prelude.{◌≡◌, ◌<◌, List, [], ◌∷◌, Ok, None, Some, length, IsSome, IfOk, OnErr};
 ghost use Rattle.mps_base.specs.declared.action.Step.{Step};
 ghost use Rattle.mps_command.specs.Changes.{change_of};
 ghost use Rattle.mps_command.specs.declared.command.Change.{Change};
 ghost use Rattle.mps_machine.specs.Machine as machine;
 ghost use Rattle.mps_machine.specs.Answering.{IsChanged};
-ghost use Rattle.mps_session.specs.Answers.{answer_of, once, taken_of};
+ghost use Rattle.mps_session.specs.Answers.{answer_of, once, source_of, taken_of, IsSent};
 
 use crate::gist::Gist;
 use crate::session::Session;
@@ -17,6 +17,7 @@ use mps_command::{Answer, Command, Done, Refusal, StepIds};
 fn stepped(told: (Done, Option<StepId>)) -> (Answer, Gist)
     ensures answer { result.0 ≡ machine.stepped (Ok told.0) }
     ensures gist { (h : List Step) → told.0.got ≡ taken_of h told.1 → result.0 ≡ answer_of h result.1 }
+    ensures sent { (h : List Step) → IsSent h told.1 → IsSent h (source_of result.1) }
 {
     let (done, source) = told;
     let gist = Gist::Stepped {
@@ -31,6 +32,7 @@ fn stepped(told: (Done, Option<StepId>)) -> (Answer, Gist)
 fn undid(id: StepId, told: StepIds) -> (Answer, Gist)
     ensures answer { result.0 ≡ machine.removed (Ok told) }
     ensures gist { (h : List Step) → told ≡ id ∷ [] → result.0 ≡ answer_of h result.1 }
+    ensures sent { source_of result.1 ≡ None }
 {
     (Answer::Undone(told), Gist::Undid(id))
 }
@@ -40,6 +42,7 @@ fn undid(id: StepId, told: StepIds) -> (Answer, Gist)
 fn took_back(told: (StepIds, Vec<StepId>)) -> (Answer, Gist)
     ensures answer { result.0 ≡ machine.removed (Ok told.0) }
     ensures gist { (h : List Step) → told.1.items ≡ told.0 → result.0 ≡ answer_of h result.1 }
+    ensures sent { source_of result.1 ≡ None }
 {
     let (ids, copy) = told;
     (Answer::Undone(ids), Gist::TookBack(copy))
@@ -54,8 +57,9 @@ impl Session {
         requires change { IsSome (change_of command.now) }
         ensures accepted { (change : Change) → change_of command.now ≡ Some change
             → IsChanged self.old.types role change (once result) self.old.state self.new.state }
-        // in the steps from before, the answer can be told from its gist
+        // by the steps from before, the answer can be told from its gist
         ensures gist { IfOk result (λ told. told.0 ≡ answer_of self.old.state.history told.1) }
+        ensures sent { IfOk result (λ told. IsSent self.old.state.history (source_of told.1)) }
         ensures types { self.new.types ≡ self.old.types }
         ensures err { OnErr result (self.new.state ≡ self.old.state) }
     {

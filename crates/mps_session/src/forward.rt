@@ -10,7 +10,7 @@ ghost use Rattle.mps_log.specs.Values.{given_by};
 ghost use Rattle.mps_machine.specs.Answering.{IsAnswer, IsServed};
 ghost use Rattle.mps_machine.specs.Machine as machine;
 ghost use Rattle.mps_machine.specs.Undoing.{IsNewest};
-ghost use Rattle.mps_session.specs.Answers.{once, taken_of};
+ghost use Rattle.mps_session.specs.Answers.{once, taken_of, IsSent};
 ghost use Rattle.mps_session.specs.Private.Configurations.{taken_from};
 
 use crate::configuration::once_more;
@@ -81,6 +81,7 @@ impl Session {
         ensures served { IsServed ⊤ (once result) self.old.state self.new.state
             (machine.forward self.old.types self.old.state role (act_of step.now)) }
         ensures source { IfOk result (λ told. told.0.got ≡ taken_of self.old.state.history told.1) }
+        ensures sent { IfOk result (λ told. IsSent self.old.state.history told.1) }
         ensures types { self.new.types ≡ self.old.types }
     {
         match step {
@@ -107,6 +108,7 @@ impl Session {
         ensures served { IsServed ⊤ (once result) self.old.state self.new.state
             (machine.forward self.old.types self.old.state role (act_of step.now)) }
         ensures source { IfOk result (λ told. told.0.got ≡ taken_of self.old.state.history told.1) }
+        ensures sent { IfOk result (λ told. IsSent self.old.state.history told.1) }
         ensures types { self.new.types ≡ self.old.types }
     {
         let kept = &self.configuration;
@@ -131,6 +133,7 @@ impl Session {
         ensures served { IsServed ⊤ (once result) self.old.state self.new.state
             (machine.forward self.old.types self.old.state role (act_of step.now)) }
         ensures source { IfOk result (λ told. told.0.got ≡ taken_of self.old.state.history told.1) }
+        ensures sent { IfOk result (λ told. IsSent self.old.state.history told.1) }
         ensures types { self.new.types ≡ self.old.types }
     {
         let node = self.configuration.allowed(role, step, None)?;

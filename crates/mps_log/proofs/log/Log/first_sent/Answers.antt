@@ -1,10 +1,12 @@
-use Rattle.std.proofs.Common.{◌≡◌, ◌<◌, arith, sym, ap, ◌∙◌, subst}
+use Rattle.std.proofs.Common.{◌≡◌, ◌<◌, arith, refl, sym, ap, ◌∙◌, subst}
 use Rattle.std.specs.Prelude.{slice_get}
 use Rattle.std.specs.Option.{option_and_then}
 use Rattle.mps_history.specs.Steps.{unreceived}
 use Rattle.mps_arena.specs.Entries.{steps}
 use Rattle.mps_log.specs.Logged.{Logged}
 use Rattle.mps_log.specs.Values.{given_by, message_of, message_sent}
+use Rattle.mps_queues.proofs.Moves.{first_waiting}
+use Rattle.mps_log.proofs.Queued.{gives}
 use Rattle.mps_log.proofs.Waiting.{first_message, first_entry, nothing_waits, sent_at}
 use Rattle.mps_log.proofs.log.Log.first_sent.Goals as goal
 use Rattle.mps_log.proofs.log.Log.first_sent.Goals.{then-index-ge8-via-then-index-ge8, then-index-ge8-via-else-index-ge8+then-index-ge8-2}
@@ -46,3 +48,11 @@ returns-clause-step c =
     let es = c.self.inside.arena.entries in
     subst (λ (l : Logged). message_sent (steps l.entries) c.get.result.now.id ≡ given_by c.get.result.now.act) c.self.view_is
     (sent_at es c.self.invariant.sound c.in_ok-key.key c.get.result.now c.get.ensures).1
+
+pub returns-clause-gives : goal.returns-clause-gives
+returns-clause-gives c =
+    let es = c.self.inside.arena.entries in
+    let sound = c.self.invariant.sound in
+    let at = sym (first_waiting es sound c.args.from c.args.to) ∙ sym (c.front.ensures es c.self.invariant.fronts) ∙ c.in_ok-key.was in
+    let gave = gives es sound c.args.from c.args.to 0 c.in_ok-key.key at in
+    rw (sym (sent_at es sound c.in_ok-key.key c.get.result.now c.get.ensures).0 ∙ gave.1) refl

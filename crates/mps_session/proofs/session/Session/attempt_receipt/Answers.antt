@@ -4,10 +4,10 @@ use Rattle.mps_local.specs.Local.{plain}
 use Rattle.mps_arena.specs.Entries.{steps}
 use Rattle.mps_links.specs.Marks.{marked_keys}
 use Rattle.mps_command.specs.Acts.{act_of}
-use Rattle.mps_session.specs.Answers.{taken_of}
+use Rattle.mps_session.specs.Answers.{taken_of, IsSent}
 use Rattle.mps_session.specs.Private.Configurations.{lists_of, state_of}
 use Rattle.mps_session.specs.SessionState.{SessionState}
-use Rattle.mps_session.proofs.FirstMessage.{moved_first, taken_first, taken_by_number}
+use Rattle.mps_session.proofs.FirstMessage.{moved_first, taken_first, taken_by_number, sent_by_number}
 use Rattle.mps_session.proofs.RemoveMarked.{push_unmarked}
 use Rattle.mps_session.proofs.ForwardAnswers as serving
 use Rattle.mps_session.proofs.ForwardServed as forwarding
@@ -68,3 +68,10 @@ returns-clause-source c =
     c.in_ok-got.ensures ∙ c.message_in-first.ensures ∙ taken_by_number h (option_copied c.first_sent-sent.result) c.first_sent-sent.ensures.step ∙ ap (taken_of h) (sym c.id_in-source.ensures)
     in
     subst (λ (m : SessionState). c.in_ok-got.got ≡ taken_of m.state.history c.id_in-source.result) c.self.view_is took
+
+pub returns-clause-sent : goal.returns-clause-sent
+returns-clause-sent c =
+    let h = steps c.self.inside.configuration.log.entries in
+    let sent = c.first_sent-sent in
+    let gave : IsSent h c.id_in-source.result = subst (IsSent h) (sym c.id_in-source.ensures) (sent_by_number h (option_copied sent.result) sent.ensures.step sent.ensures.gives) in
+    subst (λ (m : SessionState). IsSent m.state.history c.id_in-source.result) c.self.view_is gave
