@@ -8,7 +8,7 @@ use Rattle.mps_base.specs.declared.action.Step.{Step}
 use Rattle.mps_command.specs.declared.answer.Answer.{Answer}
 use Rattle.mps_command.specs.declared.answer.Answer.TheVariants.{Done, Undone}
 use Rattle.mps_command.specs.declared.answer.Refusal.{Refusal}
-use Rattle.mps_log.specs.Values.{message_sent}
+pub use Rattle.mps_log.specs.Values.{given_by, message_sent}
 use Rattle.mps_session.specs.declared.gist.Gist.{Gist}
 use Rattle.mps_session.specs.declared.gist.Gist.TheVariants.{Stepped, Undid, TookBack}
 
