@@ -1,5 +1,5 @@
 -- What a session answers, against the plain machine.
-use Rattle.std.specs.Prelude.{ℕ, ⊤, List, [], ◌∷◌, Option, None, Result, Ok, Err, IsSome, IfSome}
+use Rattle.std.specs.Prelude.{◌≡◌, ℕ, ⊤, List, [], ◌∷◌, Option, None, Result, Ok, Err, IsSome, IfSome}
 use Rattle.std.specs.Borrow.{Bor}
 use Rattle.std.specs.Option.{option_and_then}
 use Rattle.mps_base.specs.declared.action.Act.{Act}
@@ -8,6 +8,8 @@ use Rattle.mps_base.specs.declared.action.Step.{Step}
 use Rattle.mps_command.specs.declared.answer.Answer.{Answer}
 use Rattle.mps_command.specs.declared.answer.Answer.TheVariants.{Done, Undone}
 use Rattle.mps_command.specs.declared.answer.Refusal.{Refusal}
+use Rattle.mps_command.specs.declared.command.Command.{Command}
+use Rattle.mps_command.specs.declared.command.Command.TheVariants.{Forward, Undo, Rollback, Back}
 pub use Rattle.mps_log.specs.Values.{given_by, message_sent}
 use Rattle.mps_session.specs.declared.gist.Gist.{Gist}
 use Rattle.mps_session.specs.declared.gist.Gist.TheVariants.{Stepped, Undid, TookBack}
@@ -34,6 +36,14 @@ IsSent h source = IfSome source (λ n. IsSome (message_sent h n))
 abbrev pub source_of : Gist → Option ℕ
 source_of (Stepped id source) = source
 source_of gist = None
+
+-- an accepted command gets an answer of such a gist
+abbrev pub IsGistFor : Command → Gist → Type 0
+IsGistFor (Forward step) (Stepped id source) = ⊤
+IsGistFor (Undo n) (Undid m) = m ≡ n
+IsGistFor (Rollback n) (TookBack ids) = ⊤
+IsGistFor (Back name) (TookBack ids) = ⊤
+IsGistFor command gist = ⊥
 
 -- the answer of which this is the gist, where these were the steps
 abbrev pub answer_of : List Step → Gist → Answer
