@@ -27,15 +27,20 @@ impl Steps {
         }
     }
 
-    /// Makes room for one step more.
+    /// Makes room for one step more. It asks whether there is room, since most often there is, and `reserve` is a call.
     #[inline(always)]
     pub(crate) fn reserve_one(&mut self) -> Result<(), AllocError>
         ensures owners { self.new.owners.items ≡ self.old.owners.items }
         ensures places { self.new.places.items ≡ self.old.places.items }
         ensures room { OnOk result (HasRoom self.new) }
     {
-        self.owners.reserve(1)?;
-        self.places.reserve(1)
+        if self.owners.len() == self.owners.capacity() {
+            self.owners.reserve(1)?;
+        }
+        if self.places.len() == self.places.capacity() {
+            self.places.reserve(1)?;
+        }
+        Ok(())
     }
 
     /// Adds a step of the role, whose entry stands at the place.
