@@ -62,7 +62,7 @@ module _ (es : List KeyedStep) (sound : AreSound es) (p q : ℕ) where
   left_from (Some k) n e = ap (λ (m : ℕ). drop m queue) (place_at keys n k distinct_keys (sym e))
 
   -- each send that waits gave a message
-  gives : (n k : ℕ) → slice_get keys n ≡ Some k → (m : Message) × (message_of es k ≡ Some m)
+  pub gives : (n k : ℕ) → slice_get keys n ≡ Some k → (m : Message) × (message_of es k ≡ Some m)
   gives n k e =
       let sent = keys_of (sends p q) es in
       let got = length (keys_of (receives p q) es) in

@@ -1,13 +1,14 @@
 -- Messages that wait, by the keys of their sends.
-use Rattle.std.proofs.Common.{◌≡◌, ℕ, zero, suc, ◌+◌, ◌<◌, Bool, true, false, List, [], ◌∷◌, ◌++◌, length, drop, Option, Some, None, refl, sym, ap, ◌∙◌, subst, ⊎_elim, eq-eqb, append_assoc}
-use Rattle.std.specs.Prelude.{slice_get, IsSome}
+use Rattle.std.proofs.Common.{◌≡◌, ℕ, zero, suc, ◌+◌, ◌<◌, Bool, true, false, List, [], ◌∷◌, ◌++◌, length, drop, Option, Some, None, refl, sym, ap, ◌∙◌, subst, ⊎_elim, inl, inr, eq-eqb, append_assoc}
+use Rattle.std.specs.Prelude.{◌==◌, slice_get, IsSome}
 use Rattle.std.specs.List.{filter, AllByRecursion}
 use Rattle.std.specs.Option.{option_and_then, option_map}
-use Rattle.std.proofs.lemmas.Bool.{cases_Bool, both_ways}
+use Rattle.std.proofs.lemmas.Bool.{cases_Bool, both_ways, cond-true, cond-false}
 use Rattle.mps_base.specs.Effects.{Effect, Gives, Takes, Idle, effect}
 use Rattle.mps_base.specs.declared.action.Message.{Message}
 use Rattle.mps_base.specs.declared.action.Step.{Step}
-use Rattle.mps_history.specs.Steps.{sends, receives, given, messages_of, all_given, unreceived}
+use Rattle.mps_history.specs.Steps.{sends, receives, given, messages_of, all_given, unreceived, IsIn}
+use Rattle.mps_history.proofs.Order.{step_of_member}
 use Rattle.mps_arena.specs.Keys.{is_at, has, AreDistinct}
 use Rattle.mps_arena.specs.Entries.{KeyedStep, steps, keys_of, any_step, like, unlike, entry_at, IsSmall, HasSmallPeer, AreSound}
 use Rattle.mps_arena.specs.Neighbours.{matched_with, source_in, waiting}
@@ -19,7 +20,7 @@ use Rattle.mps_arena.proofs.Matched.{sends_pair}
 use Rattle.mps_arena.proofs.Nodes.{cases_entry}
 use Rattle.mps_queues.specs.Fronts.{waiting_keys}
 use Rattle.mps_queues.proofs.Moves.{get_drop_front, first_waiting}
-use Rattle.mps_log.specs.Values.{message_in, given_by, message_of}
+use Rattle.mps_log.specs.Values.{message_in, given_by, message_of, message_sent}
 
 -- a key of a chain is an entry's
 pub has_entry : (p : Step → Bool) (es : List KeyedStep) (k : ℕ) → has k (keys_of p es) ≡ true → IsSome (entry_at k es)
@@ -91,6 +92,9 @@ module _ (es : List KeyedStep) (sound : AreSound es) (p q : ℕ) where
   pub first_message : option_and_then (message_of es) (waiting es p q) ≡ slice_get (unreceived p q (steps es)) 0
   first_message = ap (option_and_then (message_of es)) (first_waiting es sound p q) ∙ sym (message_waits 0)
 
+  pub first_entry : (k : ℕ) → waiting es p q ≡ Some k → IsSome (entry_at k es)
+  first_entry k e = waiting_entry 0 k (sym (first_waiting es sound p q) ∙ e)
+
   -- where a message waits, there is a send that isn't received
   pub first_waits : IsSome (slice_get (unreceived p q (steps es)) 0) → IsSome (waiting es p q)
   first_waits h =
@@ -124,3 +128,27 @@ source_entry es k j e =
         let other = keys_of (unlike y.step.role (effect y.step.act)) es in
         has_entry (unlike y.step.role (effect y.step.act)) es j (matched_key_in y.key j own other (ap (λ (o : Option ℕ). is_at o j) h ∙ eq-eqb j j refl))
     of_act y Idle h = absurd cc
+
+-- a step is found by its number
+entry_is_in : (k : ℕ) (es : List KeyedStep) (y : KeyedStep) → entry_at k es ≡ Some y → IsIn y.step (steps es)
+entry_is_in k [] y e = absurd cc
+entry_is_in k (x ∷ es) y e =
+    ⊎_elim
+    (λ (t : (x.key == k) ≡ true).
+    let is : Some x ≡ Some y = sym (cond-true (x.key == k) (Some x) (entry_at k es) t) ∙ e in
+    let same : y ≡ x = cc in
+    inl (ap (λ (z : KeyedStep). z.step) same))
+    (λ (f : (x.key == k) ≡ false). inr (entry_is_in k es y (sym (cond-false (x.key == k) (Some x) (entry_at k es) f) ∙ e)))
+    (cases_Bool (x.key == k))
+
+-- so what the step of the number gave is what that of the key did
+pub sent_at : (es : List KeyedStep) → AreSound es → (k : ℕ) (s : Step) → option_map (λ (e : KeyedStep). e.step) (entry_at k es) ≡ Some s → (message_of es k ≡ given_by s.act) × (message_sent (steps es) s.id ≡ given_by s.act)
+sent_at es sound k s e =
+    ⊎_elim
+    (λ (z : entry_at k es ≡ None). let no : None ≡ Some s = sym (ap (option_map (λ (x : KeyedStep). x.step)) z) ∙ e in absurd cc)
+    (λ (w : (y : KeyedStep) × (entry_at k es ≡ Some y)).
+    let is : Some w.0.step ≡ Some s = sym (ap (option_map (λ (x : KeyedStep). x.step)) w.1) ∙ e in
+    let same : w.0.step ≡ s = cc in
+    subst (λ (t : Step). (message_of es k ≡ given_by t.act) × (message_sent (steps es) t.id ≡ given_by t.act)) same
+    (ap (option_and_then (λ (x : KeyedStep). given_by x.step.act)) w.1, ap (option_and_then (λ (t : Step). given_by t.act)) (step_of_member (steps es) w.0.step sound.rising (entry_is_in k es w.0 w.1))))
+    (cases_entry (entry_at k es))

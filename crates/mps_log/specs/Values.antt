@@ -5,8 +5,10 @@ use Rattle.mps_base.specs.declared.action.Act.{Act}
 use Rattle.mps_base.specs.Effects.{Effect, Gives, effect}
 use Rattle.mps_base.specs.declared.action.Message.{Message}
 use Rattle.mps_base.specs.declared.action.Message.TheVariants.{Value as Plain, Label}
+use Rattle.mps_base.specs.declared.action.Step.{Step}
 use Rattle.mps_base.specs.declared.value.Value.{Value}
 use Rattle.mps_history.specs.Slots.{value_in}
+use Rattle.mps_history.specs.Steps.{step_of}
 use Rattle.mps_arena.specs.Entries.{KeyedStep, entry_at}
 use Rattle.mps_arena.specs.Neighbours.{source_in}
 use Rattle.mps_stores.specs.Stores.{bindings, slot_of, mark_of}
@@ -28,6 +30,10 @@ value_of (Label label) = None
 -- the message that the step of the key gave
 abbrev pub message_of : List KeyedStep → ℕ → Option Message
 message_of es k = option_and_then (λ e. given_by e.step.act) (entry_at k es)
+
+-- the message that the step of that number gave
+abbrev pub message_sent : List Step → ℕ → Option Message
+message_sent h n = option_and_then (λ s. given_by s.act) (step_of h n)
 
 -- the message that the receipt of the key took: that of the send that it is matched with
 abbrev pub message_taken : List KeyedStep → ℕ → Option Message

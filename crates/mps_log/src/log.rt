@@ -1,5 +1,5 @@
 //! The log.
-ghost use Rattle.std.specs.Prelude.{◌≡◌, ◌<◌, ◌+◌, ◌==◌, ℕ, List, [], not, Some, None, IfOk, OnOk, OnErr, IsSome, length, slice_get};
+ghost use Rattle.std.specs.Prelude.{◌≡◌, ◌<◌, ◌+◌, ◌==◌, ℕ, List, [], not, Some, None, IfOk, OnOk, OnErr, IsSome, IfSome, length, slice_get};
 ghost use Rattle.std.specs.List.{filter};
 ghost use Rattle.std.specs.Option.{option_copied, option_map, option_and_then};
 ghost use Rattle.mps_base.specs.declared.action.Act.TheVariants.{Out, In, Mark, Commit};
@@ -12,7 +12,7 @@ ghost use Rattle.mps_base.specs.declared.value.Value.{Value};
 ghost use Rattle.mps_stores.specs.Stores.{Naming, slot_of, mark_of, bindings, AreStores};
 ghost use Rattle.mps_log.specs.Joins.{HasJoined};
 ghost use Rattle.mps_log.specs.Shown.{shown};
-ghost use Rattle.mps_log.specs.Values.{message_of, message_taken, value_taken, kept_in, kept_by, last_mark};
+ghost use Rattle.mps_log.specs.Values.{given_by, message_of, message_sent, message_taken, value_taken, kept_in, kept_by, last_mark};
 
 use crate::moves::Moves;
 use crate::queue::Queue;
@@ -180,6 +180,23 @@ impl Log {
         }
         let key = self.queues.nth(arena, from, to, k)?;
         message_at(arena, key)
+    }
+
+    /// The step that gave the first message that waits, of those that one role sent to another. Any roles may be named.
+    pub fn first_sent(&self, from: Role, to: Role) -> Option<&Step>
+        ensures message { option_and_then (λ s. given_by s.act) (option_copied result)
+            ≡ slice_get (unreceived from to (steps self.now.entries)) 0 }
+        ensures gives { IfSome (option_copied result) (λ s. IsSome (given_by s.act)) }
+        // it is found by its number
+        ensures step { IfSome (option_copied result) (λ s.
+            message_sent (steps self.now.entries) s.id ≡ given_by s.act) }
+    {
+        let arena = &self.arena;
+        if from.index() >= 8 || to.index() >= 8 {
+            return None;
+        }
+        let key = self.queues.front(from, to)?;
+        Some(arena.get(key))
     }
 
     /// What the role keeps in the slot: the value that the newest receipt into it took.

@@ -45,7 +45,7 @@ all_numbers : (P : ℕ → Type 0) (h : List Step) → AllByRecursion (λ (s : S
 all_numbers P [] all = tt
 all_numbers P (s ∷ h) all = (all.0, all_numbers P h all.1)
 
-found : (P : Step → Type 0) (test : Step → Bool) (h : List Step) (s : Step) → find test h ≡ Some s → AllByRecursion P h → P s × (test s ≡ true)
+pub found : (P : Step → Type 0) (test : Step → Bool) (h : List Step) (s : Step) → find test h ≡ Some s → AllByRecursion P h → P s × (test s ≡ true)
 found P test [] s e all = absurd cc
 found P test (t ∷ h) s e all =
     ⊎_elim
@@ -175,31 +175,33 @@ module _ (owners : List ℕ) (st : State) (own : AllByRecursion (λ s. owns owne
   unheard types p q (Rollback n) e = absurd cc
   unheard types p q (Back name) e = absurd cc
 
-  -- ---- what survives
+-- ---- what survives
 
-  taken_history : (n : ℕ) → AllByRecursion IsOwned (rolled_back_unless_final st n).1.history
+-- what holds of each step holds of each that survives
+module _ (P : Step → Type 0) (st : State) (all : AllByRecursion P st.history) where
+  taken_history : (n : ℕ) → AllByRecursion P (rolled_back_unless_final st n).1.history
   taken_history n =
-      unless_history IsOwned (final_fault st.history n) st (rolled_back st n) own
-      (AllByRecursion-filter IsOwned (λ s. not (consequences st.history n s.id)) st.history own)
+      unless_history P (final_fault st.history n) st (rolled_back st n) all
+      (AllByRecursion-filter P (λ s. not (consequences st.history n s.id)) st.history all)
 
-  back_history : (later : Option (List Step)) → AllByRecursion IsOwned (back_to later st).1.history
-  back_history None = own
-  back_history (Some []) = own
+  back_history : (later : Option (List Step)) → AllByRecursion P (back_to later st).1.history
+  back_history None = all
+  back_history (Some []) = all
   back_history (Some (s ∷ h)) = taken_history s.id
 
-  pub serve_history : (types : List LocalType) (p : ℕ) (change : Change) (ids : List ℕ) → Undone ids ≡ (serve types st p change).0 → AllByRecursion IsOwned (serve types st p change).1.history
+  pub serve_history : (types : List LocalType) (p : ℕ) (change : Change) (ids : List ℕ) → Undone ids ≡ (serve types st p change).0 → AllByRecursion P (serve types st p change).1.history
   serve_history types p (Forward step) ids e = absurd (none_removed ids _ e)
   serve_history types p (Undo n) ids e =
       let by = option_map Needed (least (dependents st.history n)) in
       let final = commit_fault (step_of st.history n) in
-      unless_history IsOwned (owner_fault p (step_of st.history n)) st (unless final st (unless by st (undone st n))) own
-      (unless_history IsOwned final st (unless by st (undone st n)) own
-      (unless_history IsOwned by st (undone st n) own (AllByRecursion-filter IsOwned (λ s. not (s.id == n)) st.history own)))
-  serve_history types p (Rollback n) ids e = unless_history IsOwned (owner_fault p (step_of st.history n)) st (rolled_back_unless_final st n) own (taken_history n)
+      unless_history P (owner_fault p (step_of st.history n)) st (unless final st (unless by st (undone st n))) all
+      (unless_history P final st (unless by st (undone st n)) all
+      (unless_history P by st (undone st n) all (AllByRecursion-filter P (λ s. not (s.id == n)) st.history all)))
+  serve_history types p (Rollback n) ids e = unless_history P (owner_fault p (step_of st.history n)) st (rolled_back_unless_final st n) all (taken_history n)
   serve_history types p (Back name) ids e = back_history (since_mark name (steps_of p st.history))
 
 -- a step joins the end of the history
-step_joined : (types : List LocalType) (st : State) (p : ℕ) (act : Act) (done : Done) (fault : Option Violation) (full : Bool) → Stepped done ≡ stepped (step_served types st p act done fault full).0 → (step_served types st p act done fault full).1.history ≡ st.history ++ record { id = st.next; role = p; act = act } ∷ []
+pub step_joined : (types : List LocalType) (st : State) (p : ℕ) (act : Act) (done : Done) (fault : Option Violation) (full : Bool) → Stepped done ≡ stepped (step_served types st p act done fault full).0 → (step_served types st p act done fault full).1.history ≡ st.history ++ record { id = st.next; role = p; act = act } ∷ []
 step_joined types st p act done (Some fault) full e = absurd cc
 step_joined types st p act done None true e = absurd cc
 step_joined types st p act done None false e = refl

@@ -8,7 +8,9 @@ pub mod Halving
 pub mod Lists
 pub mod Losing
 pub mod Refusing
+pub mod Tracing
 pub mod Recording
+pub mod Keeping
 pub mod Faithful
 pub mod Numbering
 pub mod Outcomes

@@ -15,8 +15,7 @@ use Rattle.mps_room.specs.Journal.{most_entries, run, undone_by, is_accepted, gr
 use Rattle.mps_room.specs.Private.Heard.{AreHeard, hears, with_place, takes_others}
 use Rattle.mps_room.specs.Private.Owners.{owns, AreOwners, AreGiven, owners_after}
 use Rattle.mps_room.specs.Private.Recorded.{IsRecorded}
-use Rattle.mps_room.specs.Private.Forms.{Fits}
-use Rattle.mps_room.proofs.Fitting.{fits_command}
+use Rattle.mps_room.proofs.Fitting.{fits_command, IsOfKind}
 use Rattle.mps_room.specs.declared.entry.Entry.{Entry}
 use Rattle.mps_room.proofs.Growing as growing
 use Rattle.mps_room.proofs.Refusing.{refused_too}
@@ -81,8 +80,8 @@ module _ (names : List (List ℕ)) (m : SessionState) (owners : List ℕ) (count
         joined ∙ entered ∙ sym (growing.grown_by j p change a kept) ∙ ap (λ (k : Command). grown j p k a) (sym asks)
 
     -- the answer is of the command's kind
-    pub fits_as : Fits command a
-    fits_as = fits_command m.types m.state p change command asks a is kept (omega (arith, old.owners.next, old.owners.few, space))
+    pub kind_as : IsOfKind command a
+    kind_as = fits_command m.types m.state p change command asks a is kept (omega (arith, old.owners.next, old.owners.few, space))
 
     pub replied_as : reply names m.types j p command ≡ a
     replied_as = ap (reply names m.types j p) asks ∙ replied

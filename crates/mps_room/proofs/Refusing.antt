@@ -39,11 +39,6 @@ refused names types j p Show refusal e = absurd cc
 
 -- what is in short supply is told where nothing else is refused: of memory only where there is room for an entry
 module _ (n : ℕ) where
-  abbrev IsShortOf : Refusal → Type 0
-  IsShortOf Full = most_entries ≤ n
-  IsShortOf Memory = n < most_entries
-  IsShortOf refusal = ⊥
-
   no_room : (a : Answer) → most_entries ≤ n → refusal_in a ≡ None → is_told a ≡ true → IsReply (Refused Full) (limited n a)
   no_room (Done done) full e told = rw (cond-false (nat_lt n most_entries) (Done done) (Refused Full) (le-ltb n most_entries full)) refl
   no_room (Undone ids) full e told = rw (cond-false (nat_lt n most_entries) (Undone ids) (Refused Full) (le-ltb n most_entries full)) refl
@@ -72,7 +67,7 @@ module _ (n : ℕ) where
   no_memory (Told m ids) room other e told = absurd cc
   no_memory (Shown text) room other e told = absurd cc
 
-  short_of : (a : Answer) (refusal : Refusal) → IsShortOf refusal → (n < most_entries → a ≢ Refused Full) → refusal_in a ≡ None → is_told a ≡ true → IsReply (Refused refusal) (limited n a)
+  short_of : (a : Answer) (refusal : Refusal) → IsShort n refusal → (n < most_entries → a ≢ Refused Full) → refusal_in a ≡ None → is_told a ≡ true → IsReply (Refused refusal) (limited n a)
   short_of a Full short other e told = no_room a short e told
   short_of a Memory short other e told = no_memory a short (other short) e told
   short_of a (Violates v) short other e told = absurd short
@@ -83,24 +78,14 @@ module _ (n : ℕ) where
   short_of a NoMark short other e told = absurd short
 
 -- while there is room for an entry a number is left
-pub short_reply : (names : List (List ℕ)) (types : List LocalType) (j : List Entry) (p : ℕ) (c : Command) (refusal : Refusal) → IsSome (change_of c) → IsShort j refusal → (length j < most_entries → (run types j).next ≤ most_numbers) → fault types (run types j) p c ≡ None → IsReply (Refused refusal) (reply names types j p c)
+pub short_reply : (names : List (List ℕ)) (types : List LocalType) (j : List Entry) (p : ℕ) (c : Command) (refusal : Refusal) → IsSome (change_of c) → IsShort (length j) refusal → (length j < most_entries → (run types j).next ≤ most_numbers) → fault types (run types j) p c ≡ None → IsReply (Refused refusal) (reply names types j p c)
 short_reply names types j p c refusal change short left none = by_command c change none
   where
     st : State
     st = run types j
 
     of : (asked : Change) → refusal_in (serve types st p asked).0 ≡ None → IsReply (Refused refusal) (limited (length j) (serve types st p asked).0)
-    of asked e = short_of (length j) (serve types st p asked).0 refusal (kept refusal short) (λ room. never_full types st p asked (left room)) e (told_change types st p asked)
-      where
-        kept : (refusal : Refusal) → IsShort j refusal → IsShortOf (length j) refusal
-        kept Full h = h
-        kept Memory h = h
-        kept (Violates v) h = h
-        kept NoStep h = h
-        kept NotYours h = h
-        kept (Final by) h = h
-        kept (Needed by) h = h
-        kept NoMark h = h
+    of asked e = short_of (length j) (serve types st p asked).0 refusal short (λ room. never_full types st p asked (left room)) e (told_change types st p asked)
 
     by_command : (c : Command) → IsSome (change_of c) → fault types st p c ≡ None → IsReply (Refused refusal) (reply names types j p c)
     by_command (Forward step) change e = of (changes.Forward step) e

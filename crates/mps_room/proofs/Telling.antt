@@ -70,7 +70,7 @@ module _ (types : List LocalType) (st : State) (j : List Entry) (p : ℕ) (chang
       }
   given_with (Undone ids) is kept =
       record {
-        surviving = serve_history owners st given.surviving types p change ids is;
+        surviving = serve_history (λ s. owns owners s.role s.id ≡ true) st given.surviving types p change ids is;
         undone = all_push (λ e. AllByRecursion (λ n. n ≤ length owners) (undone_by e.answer)) j (entry_of (Undone ids)) given.undone
             (subst (λ (b : Answer). AllByRecursion (λ n. n ≤ length owners) (undone_by b)) (sym is) (serve_ids owners st given.surviving types p change));
       }

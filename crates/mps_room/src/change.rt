@@ -1,26 +1,29 @@
 //! Changes of a room.
-ghost use Rattle.std.specs.Prelude.{◌≡◌, ◌≢◌, ℕ, ◌+◌, true, false, [], ◌∷◌, ◌++◌, ◌<◌, ◌≤◌, map, length, vec_len, vec_capacity, slice_index_or, IsSome, IfErr, IfOk, OnOk, OnErr};
+ghost use Rattle.std.specs.Prelude.{◌≡◌, ◌≢◌, ℕ, ◌+◌, true, false, [], ◌∷◌, ◌++◌, ◌<◌, ◌≤◌, Option, map, length, vec_len, vec_capacity, slice_index_or, IsSome, IfErr, IfOk, OnOk, OnErr};
 ghost use Rattle.mps_command.specs.Changes.{change_of};
 ghost use Rattle.mps_command.specs.declared.answer.Answer.TheVariants.{Refused};
-ghost use Rattle.mps_room.specs.Callers.{entry};
 ghost use Rattle.mps_room.specs.Journal.{grown, most_entries, reply, undone_by, IsReply};
 ghost use Rattle.mps_room.specs.Private.Heard.{hears, with_place, takes_others};
-ghost use Rattle.mps_room.specs.Private.Forms.{Fits};
-ghost use Rattle.mps_room.specs.Private.Owners.{owns, owners_after, is_step};
+ghost use Rattle.mps_room.specs.Private.Forms.{bare, short, source_place, Fits};
+ghost use Rattle.mps_room.specs.Private.Owners.{owns, owners_after, is_step, HasRoom};
 ghost use Rattle.mps_room.specs.Private.Recorded.{IsShort};
+ghost use Rattle.mps_session.specs.Answers.{source_of};
 
 use crate::heard::Heard;
 use crate::narrow_entry::NarrowEntry;
 use crate::room::{MAX_ENTRIES, Room};
+use crate::steps::Steps;
 use mps_base::{Role, StepId};
 use mps_command::{Answer, Command, Refusal};
+use mps_session::Gist;
+use std::slice;
 
-// Reserves memory for one entry more, and for what the command adds besides: the owner of a step, or, where the command may
-// take back steps of others, the entry's place in their lists. Says what is missing, if anything is.
+// Reserves memory for one entry more, and for what the command adds besides: a step, or, where the command may take back
+// steps of others, the entry's place in their lists. Says what is missing, if anything is.
 #[inline(always)]
 fn reserve_entry(
     journal: &mut Vec<NarrowEntry>,
-    owners: &mut Vec<u8>,
+    steps: &mut Steps,
     heard: &mut Heard,
     role: Role,
     command: &Command,
@@ -28,59 +31,60 @@ fn reserve_entry(
     requires hearers { heard.old.count ≤ 8 }
     requires lists { length heard.old.lists ≡ 8 }
     ensures journal { journal.new.items ≡ journal.old.items }
-    ensures owners { owners.new.items ≡ owners.old.items }
+    ensures owners { steps.new.owners.items ≡ steps.old.owners.items }
+    ensures places { steps.new.places.items ≡ steps.old.places.items }
     ensures hearers { heard.new.count ≡ heard.old.count }
     ensures lists { length heard.new.lists ≡ 8 }
     ensures heard { map (λ l. l.items) heard.new.lists ≡ map (λ l. l.items) heard.old.lists }
     ensures few { OnOk result (length journal.old.items < most_entries) }
     ensures place { OnOk result (vec_len journal.new + 1 ≤ vec_capacity journal.new) }
-    ensures owner_place { OnOk result (is_step command.now ≡ true
-        → vec_len owners.new + 1 ≤ vec_capacity owners.new) }
+    ensures step_place { OnOk result (is_step command.now ≡ true → HasRoom steps.new) }
     ensures heard_place { OnOk result (takes_others command.now ≡ true → (k : ℕ) (d : _) → k < heard.new.count → k ≢ role
         → vec_len (slice_index_or heard.new.lists k d) < vec_capacity (slice_index_or heard.new.lists k d)) }
-    ensures short { IfErr result (IsShort journal.old.items) }
+    ensures short { IfErr result (IsShort (length journal.old.items)) }
 {
     if journal.len() >= MAX_ENTRIES {
         return Err(Refusal::Full);
     }
     journal.reserve(1)?;
     match command {
-        Command::Forward(_) => owners.reserve(1)?,
+        Command::Forward(_) => steps.reserve_one()?,
         Command::Rollback(_) | Command::Back(_) => heard.reserve(role)?,
         _ => {}
     }
     Ok(())
 }
 
-// Adds the owner of a new step, or, where the command may take back steps of others, the entry's place to the lists of the
-// roles that hear of it.
+// Adds a new step, or, where the command may take back steps of others, the entry's place to the lists of the roles that
+// hear of it.
 #[inline(always)]
 fn note(
-    owners: &mut Vec<u8>,
+    steps: &mut Steps,
     heard: &mut Heard,
     role: Role,
     command: &Command,
-    answer: &Answer,
+    gist: &Gist,
     place: u32,
 )
-    requires fits { Fits command.now answer.now }
-    requires owner_place { is_step command.now ≡ true → vec_len owners.old + 1 ≤ vec_capacity owners.old }
+    requires fits { (source : Option ℕ) × Fits command.now gist.now source }
+    requires step_place { is_step command.now ≡ true → HasRoom steps.old }
     requires hearers { heard.old.count ≤ 8 }
     requires lists { length heard.old.lists ≡ 8 }
     requires heard_place { takes_others command.now ≡ true → (k : ℕ) (d : _) → k < heard.old.count → k ≢ role
         → vec_len (slice_index_or heard.old.lists k d) < vec_capacity (slice_index_or heard.old.lists k d) }
-    ensures owners { owners.new.items ≡ owners_after owners.old.items role answer.now }
+    ensures owners { steps.new.owners.items ≡ owners_after steps.old.owners.items role (bare gist.now) }
+    ensures places { steps.new.places.items ≡ owners_after steps.old.places.items place (bare gist.now) }
     ensures hearers { heard.new.count ≡ heard.old.count }
     ensures lists { length heard.new.lists ≡ 8 }
     ensures heard { takes_others command.now ≡ true → (p : ℕ) (d : _) → p < heard.old.count
         → (slice_index_or heard.new.lists p d).items
-        ≡ with_place (hears (owns owners.old.items p) p role (undone_by answer.now)) place (slice_index_or heard.old.lists p d).items }
+        ≡ with_place (hears (owns steps.old.owners.items p) p role (undone_by (bare gist.now))) place (slice_index_or heard.old.lists p d).items }
     ensures unheard { takes_others command.now ≡ false → heard.new.lists ≡ heard.old.lists }
 {
     match command {
-        Command::Forward(_) => owners.push_reserved(role.index() as u8),
+        Command::Forward(_) => steps.push(role, place),
         Command::Rollback(_) | Command::Back(_) => {
-            heard.note(owners.as_slice(), role, undone_by(answer), place);
+            heard.note(steps.owners.as_slice(), role, undone_by(gist), place);
         }
         _ => {}
     }
@@ -90,41 +94,56 @@ fn note(
 #[inline(always)]
 fn keep(
     journal: &mut Vec<NarrowEntry>,
-    owners: &mut Vec<u8>,
+    steps: &mut Steps,
     heard: &mut Heard,
     role: Role,
     command: Command,
-    answer: Answer,
+    gist: Gist,
 )
-    requires fits { Fits command answer }
+    requires fits { Fits command gist (source_place steps.old.places.items gist) }
     requires few { length journal.old.items < most_entries }
     requires place { vec_len journal.old + 1 ≤ vec_capacity journal.old }
-    requires owner_place { is_step command ≡ true → vec_len owners.old + 1 ≤ vec_capacity owners.old }
+    requires step_place { is_step command ≡ true → HasRoom steps.old }
     requires hearers { heard.old.count ≤ 8 }
     requires lists { length heard.old.lists ≡ 8 }
     requires heard_place { takes_others command ≡ true → (k : ℕ) (d : _) → k < heard.old.count → k ≢ role
         → vec_len (slice_index_or heard.old.lists k d) < vec_capacity (slice_index_or heard.old.lists k d) }
-    ensures journal { journal.new.items ≡ journal.old.items ++ entry role command answer ∷ [] }
-    ensures owners { owners.new.items ≡ owners_after owners.old.items role answer }
+    ensures journal { journal.new.items ≡ journal.old.items
+        ++ short role command gist (source_place steps.old.places.items gist) ∷ [] }
+    ensures owners { steps.new.owners.items ≡ owners_after steps.old.owners.items role (bare gist) }
+    ensures places { steps.new.places.items
+        ≡ owners_after steps.old.places.items (length journal.old.items) (bare gist) }
     ensures hearers { heard.new.count ≡ heard.old.count }
     ensures lists { length heard.new.lists ≡ 8 }
     ensures heard { takes_others command ≡ true → (p : ℕ) (d : _) → p < heard.old.count
         → (slice_index_or heard.new.lists p d).items
-        ≡ with_place (hears (owns owners.old.items p) p role (undone_by answer)) (length journal.old.items) (slice_index_or heard.old.lists p d).items }
+        ≡ with_place (hears (owns steps.old.owners.items p) p role (undone_by (bare gist))) (length journal.old.items) (slice_index_or heard.old.lists p d).items }
     ensures unheard { takes_others command ≡ false → heard.new.lists ≡ heard.old.lists }
 {
     let place = journal.len() as u32;
-    note(owners, heard, role, &command, &answer, place);
-    NarrowEntry::push(journal, role, command, answer);
+    let source = steps.place_of(source_of(&gist));
+    note(steps, heard, role, &command, &gist, place);
+    NarrowEntry::push(journal, role, command, gist, source);
 }
 
-// The numbers of the steps that an answer says were taken back.
-fn undone_by(answer: &Answer) -> &[StepId]
-    ensures { result.now ≡ undone_by answer.now }
+// The number of the step that sent what was taken, if anything was.
+fn source_of(gist: &Gist) -> Option<StepId>
+    ensures { result ≡ source_of gist.now }
 {
-    match answer {
-        Answer::Undone(ids) => ids.as_slice(),
-        _ => &[],
+    match gist {
+        Gist::Stepped { source, .. } => *source,
+        Gist::Undid(_) | Gist::TookBack(_) => None,
+    }
+}
+
+// The numbers of the steps that were taken back.
+fn undone_by(gist: &Gist) -> &[StepId]
+    ensures { result.now ≡ undone_by (bare gist.now) }
+{
+    match gist {
+        Gist::Stepped { .. } => &[],
+        Gist::Undid(id) => slice::from_ref(id),
+        Gist::TookBack(ids) => ids.as_slice(),
     }
 }
 
@@ -147,23 +166,23 @@ impl Room {
     {
         if let Err(lack) = reserve_entry(
             &mut self.journal,
-            &mut self.owners,
+            &mut self.steps,
             &mut self.heard,
             role,
             &command,
         ) {
             return Err(self.refused(role, &command, lack));
         }
-        let (kept, told) = self.session.accept(role, &command, true)?;
+        let (answer, gist) = self.session.attempt(role, &command)?;
         keep(
             &mut self.journal,
-            &mut self.owners,
+            &mut self.steps,
             &mut self.heard,
             role,
             command,
-            kept,
+            gist,
         );
-        Ok(told.unwrap())
+        Ok(answer)
     }
 
     // The refusal of a change for which there is no room in the journal or no memory: the machine's, if it refuses, else
@@ -171,7 +190,7 @@ impl Room {
     fn refused(&mut self, role: Role, command: &Command, lack: Refusal) -> Refusal
         requires role { role < length self.old.types }
         requires change { IsSome (change_of command.now) }
-        requires short { IsShort self.old.journal lack }
+        requires short { IsShort (length self.old.journal) lack }
         ensures refused { IsReply (Refused result)
             (reply self.old.names self.old.types self.old.journal role command.now) }
         ensures kept { self.new ≡ self.old }

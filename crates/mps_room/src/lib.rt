@@ -24,6 +24,7 @@ pub mod numbers;
 pub mod room;
 mod shown;
 pub mod solo;
+mod steps;
 
 pub use caller::Caller;
 pub use entry::Entry;

@@ -1,31 +1,29 @@
 //! Entries as the journal keeps them.
-ghost use Rattle.std.specs.Prelude.{◌≡◌, ◌+◌, ◌<◌, ◌≤◌, ◌^◌, ◌++◌, ◌∷◌, [], Some, IfOk, vec_len, vec_capacity};
-ghost use Rattle.mps_base.specs.declared.action.Message.TheVariants as messages;
-ghost use Rattle.mps_command.specs.declared.answer.Answer.TheVariants as answers;
+ghost use Rattle.std.specs.Prelude.{◌≡◌, ◌+◌, ◌<◌, ◌≤◌, ◌^◌, ◌++◌, ◌∷◌, [], None, IfOk, vec_len, vec_capacity};
 ghost use Rattle.mps_command.specs.declared.command.Command.TheVariants as commands;
-ghost use Rattle.mps_command.specs.declared.command.Forward.TheVariants as steps;
-ghost use Rattle.mps_room.specs.Callers.{entry};
 ghost use Rattle.mps_room.specs.Journal.{undone_by};
-ghost use Rattle.mps_room.specs.Private.Forms.{answer_in, command_in, entry_in, role_in, step_done, Fits, TakesSuch};
+ghost use Rattle.mps_room.specs.Private.Forms.{command_in, role_in, short, short_in, step_done, Fits, TakesSuch};
+ghost use Rattle.mps_room.specs.Private.Shorts.{given_in, message_at, message_of, whole, with_message};
+ghost use Rattle.mps_session.specs.declared.gist.Gist.TheVariants as gists;
 
 use crate::entry::Entry;
 use crate::narrow_name::NarrowName;
-use mps_base::{Message, Name, Role, StepId, Text, Value};
+use mps_base::{Message, Role, StepId, Value};
 use mps_command::{Answer, Command, Done, Forward, StepIds};
+use mps_session::Gist;
 use std::alloc::{AllocError, Global};
 use std::marker::Model;
 use std::slice;
 
-/// An entry in 64 bytes, where an `Entry` takes 144. A journal is mostly written, so an entry is made only for whoever
-/// asks for it.
+/// An entry in 64 bytes, where an `Entry` takes 144. A receipt names the entry of its send in place of the message that it
+/// took. A journal is mostly written, so an entry is made only for whoever asks for it.
 #[derive(Debug, Drop)]
 pub(crate) struct NarrowEntry {
     form: Form,
 }
 
 // An accepted command with its answer: what it was decides what there is to keep. What takes a byte stands first, then a
-// name, then the number of the new step, then what begins at a multiple of 8. So the longest, the receipt of a text, has no
-// gap.
+// name, then the number of the new step and the place of an entry, then what begins at a multiple of 8.
 #[derive(Debug, Drop)]
 enum Form {
     Sent {
@@ -38,28 +36,16 @@ enum Form {
         label: NarrowName,
         id: u32,
     },
-    ReceivedInt {
+    Received {
         pair: Pair,
         slot: NarrowName,
         id: u32,
-        value: i64,
-    },
-    ReceivedBool {
-        pair: Pair,
-        slot: NarrowName,
-        id: u32,
-        value: bool,
-    },
-    ReceivedText {
-        pair: Pair,
-        slot: NarrowName,
-        id: u32,
-        text: Text,
+        place: u32,
     },
     Picked {
         pair: Pair,
-        label: NarrowName,
         id: u32,
+        place: u32,
     },
     Marked {
         role: u8,
@@ -77,12 +63,7 @@ enum Form {
     RolledBack {
         role: u8,
         id: StepId,
-        ids: StepIds,
-    },
-    WentBackByOne {
-        role: u8,
-        mark: NarrowName,
-        id: StepId,
+        ids: Vec<StepId>,
     },
     WentBack {
         role: u8,
@@ -101,62 +82,97 @@ struct Pair {
 const _: () = prove!(size_of::<NarrowEntry>() == 64);
 
 impl Model for NarrowEntry {
-    ghost use Rattle.mps_room.specs.declared.entry.Entry.{Entry};
+    ghost use Rattle.mps_room.specs.Private.Forms.{short_in};
+    ghost use Rattle.mps_room.specs.Private.Shorts.{Short};
 
-    ghost Value = { Entry };
+    ghost Value = { Short };
 
-    ghost use Rattle.mps_room.specs.Private.Forms.{entry_in};
-
-    ghost view = { λ e. entry_in e.form };
+    ghost view = { λ e. short_in e.form };
 }
 
 impl NarrowEntry {
-    /// Puts the entry of a command and its answer at the end of a journal. It does not allocate. Each form is written where
-    /// it stays, since a form that came from one of several places would be moved in many small pieces.
+    /// Puts the entry of a command at the end of a journal, by the gist of its answer and the place of the entry that gave
+    /// the message that it took, if it took one. It does not allocate. Each form is written where it stays, since a form
+    /// that came from one of several places would be moved in many small pieces.
     #[inline(always)]
-    pub(crate) fn push(journal: &mut Vec<NarrowEntry>, role: Role, command: Command, answer: Answer)
-        requires fits { Fits command answer }
+    pub(crate) fn push(
+        journal: &mut Vec<NarrowEntry>,
+        role: Role,
+        command: Command,
+        gist: Gist,
+        place: Option<u32>,
+    )
+        requires fits { Fits command gist place }
         requires place { vec_len journal.old + 1 ≤ vec_capacity journal.old }
-        ensures { journal.new.items ≡ journal.old.items ++ entry role command answer ∷ [] }
+        ensures { journal.new.items ≡ journal.old.items ++ short role command gist place ∷ [] }
     {
         let by = role.index() as u8;
         match command {
-            Command::Forward(step) => match answer {
-                Answer::Done(done) => push_step(journal, role, step, done),
+            Command::Forward(step) => match gist {
+                Gist::Stepped { id, .. } => push_step(journal, role, step, id, place),
                 _ => unreachable!(),
             },
             Command::Undo(id) => put(journal, Form::Undone { role: by, id }),
-            Command::Rollback(id) => match answer {
-                Answer::Undone(ids) => put(journal, Form::RolledBack { role: by, id, ids }),
+            Command::Rollback(id) => match gist {
+                Gist::TookBack(ids) => put(journal, Form::RolledBack { role: by, id, ids }),
                 _ => unreachable!(),
             },
-            Command::Back(mark) => match answer {
-                Answer::Undone(ids) => push_return(journal, by, &mark, ids),
+            Command::Back(mark) => match gist {
+                Gist::TookBack(ids) => {
+                    let mark = NarrowName::of(&mark);
+                    put(
+                        journal,
+                        Form::WentBack {
+                            role: by,
+                            mark,
+                            ids,
+                        },
+                    );
+                }
                 _ => unreachable!(),
             },
             Command::News(_) | Command::Show => unreachable!(),
         }
     }
 
-    /// The entry itself.
-    pub(crate) fn entry(&self, alloc: Global) -> Result<Entry, AllocError>
-        ensures { IfOk result (λ entry. entry ≡ self.now) }
+    /// The entry itself, of a journal.
+    pub(crate) fn entry(&self, journal: &[NarrowEntry], alloc: Global) -> Result<Entry, AllocError>
+        ensures { IfOk result (λ entry. entry ≡ whole journal.now self.now) }
     {
         Ok(Entry {
             role: self.form.role(),
             command: self.form.command(alloc)?,
-            answer: self.form.answer(alloc)?,
+            answer: self.answer(journal, alloc)?,
+        })
+    }
+
+    // How it was answered.
+    fn answer(&self, journal: &[NarrowEntry], alloc: Global) -> Result<Answer, AllocError>
+        ensures { IfOk result (λ answer. answer
+            ≡ with_message (message_of journal.now self.now) self.now.entry.answer) }
+    {
+        Ok(match &self.form {
+            Form::Sent { id, .. }
+            | Form::Chose { id, .. }
+            | Form::Marked { id, .. }
+            | Form::Committed { id, .. } => done(*id, None),
+            Form::Received { id, place, .. } | Form::Picked { id, place, .. } => {
+                done(*id, message_at(journal, *place, alloc)?)
+            }
+            Form::Undone { id, .. } => Answer::Undone(StepIds::one(*id)),
+            Form::RolledBack { ids, .. } | Form::WentBack { ids, .. } => {
+                Answer::Undone(StepIds::of(Vec::from_slice(alloc, ids.as_slice())?))
+            }
         })
     }
 
     /// The numbers of the steps that were taken back.
     pub(crate) fn undone(&self) -> &[StepId]
-        ensures { result.now ≡ undone_by self.now.answer }
+        ensures { result.now ≡ undone_by self.now.entry.answer }
     {
         match &self.form {
-            Form::Undone { id, .. } | Form::WentBackByOne { id, .. } => slice::from_ref(id),
-            Form::RolledBack { ids, .. } => ids.as_slice(),
-            Form::WentBack { ids, .. } => ids.as_slice(),
+            Form::Undone { id, .. } => slice::from_ref(id),
+            Form::RolledBack { ids, .. } | Form::WentBack { ids, .. } => ids.as_slice(),
             _ => &[],
         }
     }
@@ -166,21 +182,28 @@ impl NarrowEntry {
 #[inline(always)]
 fn put(journal: &mut Vec<NarrowEntry>, form: Form)
     requires { vec_len journal.old + 1 ≤ vec_capacity journal.old }
-    ensures { journal.new.items ≡ journal.old.items ++ entry_in form ∷ [] }
+    ensures { journal.new.items ≡ journal.old.items ++ short_in form ∷ [] }
 {
     journal.push_reserved(NarrowEntry { form });
 }
 
-// Puts a step that was taken, and its answer.
+// Puts a step that was taken, and the place of the entry that gave the message that it took.
 #[inline(always)]
-fn push_step(journal: &mut Vec<NarrowEntry>, role: Role, step: Forward, done: Done)
-    requires such { TakesSuch step done.got }
-    requires small { done.id < 2 ^ 32 }
+fn push_step(
+    journal: &mut Vec<NarrowEntry>,
+    role: Role,
+    step: Forward,
+    id: StepId,
+    place: Option<u32>,
+)
+    requires such { TakesSuch step place }
+    requires small { id < 2 ^ 32 }
     requires place { vec_len journal.old + 1 ≤ vec_capacity journal.old }
-    ensures { journal.new.items ≡ journal.old.items ++ entry role (commands.Forward step) (answers.Done done) ∷ [] }
+    ensures { journal.new.items ≡ journal.old.items
+        ++ short role (commands.Forward step) (gists.Stepped id None) place ∷ [] }
 {
     let by = role.index() as u8;
-    let id = done.id.number() as u32;
+    let id = id.number() as u32;
     match step {
         Forward::Send { to, value } => {
             let pair = Pair::of(role, to);
@@ -191,78 +214,28 @@ fn push_step(journal: &mut Vec<NarrowEntry>, role: Role, step: Forward, done: Do
             let label = NarrowName::of(&label);
             put(journal, Form::Chose { pair, label, id });
         }
-        Forward::Receive { from, slot } => match done.got {
-            Some(Message::Value(value)) => {
-                push_receipt(journal, Pair::of(role, from), &slot, id, value);
-            }
-            _ => unreachable!(),
-        },
-        Forward::Pick { from } => match &done.got {
-            Some(Message::Label(label)) => {
-                let pair = Pair::of(role, from);
-                let label = NarrowName::of(label);
-                put(journal, Form::Picked { pair, label, id });
-            }
-            _ => unreachable!(),
-        },
+        Forward::Receive { from, slot } => {
+            let pair = Pair::of(role, from);
+            let slot = NarrowName::of(&slot);
+            let place = place.unwrap();
+            let form = Form::Received {
+                pair,
+                slot,
+                id,
+                place,
+            };
+            put(journal, form);
+        }
+        Forward::Pick { from } => {
+            let pair = Pair::of(role, from);
+            let place = place.unwrap();
+            put(journal, Form::Picked { pair, id, place });
+        }
         Forward::Mark { name } => {
             let name = NarrowName::of(&name);
             put(journal, Form::Marked { role: by, name, id });
         }
         Forward::Commit => put(journal, Form::Committed { role: by, id }),
-    }
-}
-
-// Puts a receipt of a value.
-#[inline(always)]
-fn push_receipt(journal: &mut Vec<NarrowEntry>, pair: Pair, slot: &Name, id: u32, value: Value)
-    requires { vec_len journal.old + 1 ≤ vec_capacity journal.old }
-    ensures { journal.new.items ≡ journal.old.items
-        ++ entry pair.role (commands.Forward (steps.Receive pair.peer slot.now)) (step_done id (Some (messages.Value value))) ∷ [] }
-{
-    let slot = NarrowName::of(slot);
-    match value {
-        Value::Int(value) => {
-            let form = Form::ReceivedInt {
-                pair,
-                slot,
-                id,
-                value,
-            };
-            put(journal, form);
-        }
-        Value::Bool(value) => {
-            let form = Form::ReceivedBool {
-                pair,
-                slot,
-                id,
-                value,
-            };
-            put(journal, form);
-        }
-        Value::Text(text) => {
-            let form = Form::ReceivedText {
-                pair,
-                slot,
-                id,
-                text,
-            };
-            put(journal, form);
-        }
-    }
-}
-
-// Puts a return to a mark. A session returns its numbers as a vector; one number alone has a form too, since their type
-// allows it.
-#[inline(always)]
-fn push_return(journal: &mut Vec<NarrowEntry>, role: u8, mark: &Name, ids: StepIds)
-    requires { vec_len journal.old + 1 ≤ vec_capacity journal.old }
-    ensures { journal.new.items ≡ journal.old.items ++ entry role (commands.Back mark.now) (answers.Undone ids) ∷ [] }
-{
-    let mark = NarrowName::of(mark);
-    match ids.try_into_vec() {
-        Ok(ids) => put(journal, Form::WentBack { role, mark, ids }),
-        Err(id) => put(journal, Form::WentBackByOne { role, mark, id }),
     }
 }
 
@@ -294,15 +267,12 @@ impl Form {
         Role::new(match self {
             Form::Sent { pair, .. }
             | Form::Chose { pair, .. }
-            | Form::ReceivedInt { pair, .. }
-            | Form::ReceivedBool { pair, .. }
-            | Form::ReceivedText { pair, .. }
+            | Form::Received { pair, .. }
             | Form::Picked { pair, .. } => pair.role,
             Form::Marked { role, .. }
             | Form::Committed { role, .. }
             | Form::Undone { role, .. }
             | Form::RolledBack { role, .. }
-            | Form::WentBackByOne { role, .. }
             | Form::WentBack { role, .. } => *role,
         })
     }
@@ -320,9 +290,7 @@ impl Form {
                 to: pair.peer(),
                 label: label.name(),
             }),
-            Form::ReceivedInt { pair, slot, .. }
-            | Form::ReceivedBool { pair, slot, .. }
-            | Form::ReceivedText { pair, slot, .. } => Command::Forward(Forward::Receive {
+            Form::Received { pair, slot, .. } => Command::Forward(Forward::Receive {
                 from: pair.peer(),
                 slot: slot.name(),
             }),
@@ -331,33 +299,39 @@ impl Form {
             Form::Committed { .. } => Command::Forward(Forward::Commit),
             Form::Undone { id, .. } => Command::Undo(*id),
             Form::RolledBack { id, .. } => Command::Rollback(*id),
-            Form::WentBackByOne { mark, .. } | Form::WentBack { mark, .. } => {
-                Command::Back(mark.name())
-            }
+            Form::WentBack { mark, .. } => Command::Back(mark.name()),
         })
     }
 
-    // How it was answered.
-    fn answer(&self, alloc: Global) -> Result<Answer, AllocError>
-        ensures { IfOk result (λ answer. answer ≡ answer_in self.now) }
+    // The message that it gave.
+    fn given(&self, alloc: Global) -> Result<Option<Message>, AllocError>
+        ensures { IfOk result (λ message. message ≡ given_in (command_in self.now)) }
     {
         Ok(match self {
-            Form::Sent { id, .. }
-            | Form::Chose { id, .. }
-            | Form::Marked { id, .. }
-            | Form::Committed { id, .. } => done(*id, None),
-            Form::ReceivedInt { id, value, .. } => took(*id, Value::Int(*value)),
-            Form::ReceivedBool { id, value, .. } => took(*id, Value::Bool(*value)),
-            Form::ReceivedText { id, text, .. } => took(*id, Value::Text(text.copy(alloc)?)),
-            Form::Picked { id, label, .. } => done(*id, Some(Message::Label(label.name()))),
-            Form::Undone { id, .. } | Form::WentBackByOne { id, .. } => {
-                Answer::Undone(StepIds::one(*id))
-            }
-            Form::RolledBack { ids, .. } => Answer::Undone(ids.copy(alloc)?),
-            Form::WentBack { ids, .. } => {
-                Answer::Undone(StepIds::of(Vec::from_slice(alloc, ids.as_slice())?))
-            }
+            Form::Sent { value, .. } => Some(Message::Value(value.copy(alloc)?)),
+            Form::Chose { label, .. } => Some(Message::Label(label.name())),
+            Form::Received { .. }
+            | Form::Picked { .. }
+            | Form::Marked { .. }
+            | Form::Committed { .. }
+            | Form::Undone { .. }
+            | Form::RolledBack { .. }
+            | Form::WentBack { .. } => None,
         })
+    }
+}
+
+// The message that the entry at the place gave.
+fn message_at(
+    journal: &[NarrowEntry],
+    place: u32,
+    alloc: Global,
+) -> Result<Option<Message>, AllocError>
+    ensures { IfOk result (λ message. message ≡ message_at journal.now place) }
+{
+    match journal.get(place as usize) {
+        Some(entry) => entry.form.given(alloc),
+        None => Ok(None),
     }
 }
 
@@ -369,11 +343,4 @@ fn done(id: u32, got: Option<Message>) -> Answer
         id: StepId::new(u64::from(id)),
         got,
     })
-}
-
-// The answer to a receipt of this number.
-fn took(id: u32, value: Value) -> Answer
-    ensures { result ≡ step_done id (Some (messages.Value value)) }
-{
-    done(id, Some(Message::Value(value)))
 }

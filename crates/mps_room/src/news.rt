@@ -4,6 +4,7 @@ ghost use Rattle.std.specs.List.{filter, AllByRecursion};
 ghost use Rattle.mps_room.specs.Journal.{is_own, news};
 ghost use Rattle.mps_room.specs.Private.Heard.{places, undone_at};
 ghost use Rattle.mps_room.specs.Private.Owners.{owns};
+ghost use Rattle.mps_room.specs.Private.Shorts.{journal_of};
 
 use crate::heard::owner_of;
 use crate::narrow_entry::NarrowEntry;
@@ -20,9 +21,9 @@ pub(crate) fn news(
     role: Role,
     known: u64,
 ) -> Result<Vec<StepId>, AllocError>
-    requires owned { (p n : ℕ) → is_own journal.now p n ≡ owns owners.now p n }
-    requires heard { heard.now ≡ places journal.now role }
-    ensures { IfOk result (λ ids. ids.items ≡ news journal.now role known) }
+    requires owned { (p n : ℕ) → is_own (journal_of journal.now) p n ≡ owns owners.now p n }
+    requires heard { heard.now ≡ places (journal_of journal.now) role }
+    ensures { IfOk result (λ ids. ids.items ≡ news (journal_of journal.now) role known) }
 {
     let mut ids = Vec::new(alloc);
     let told = after(heard, known);
@@ -43,7 +44,7 @@ fn after(places: &[u32], known: u64) -> &[u32]
 
 // The numbers of the steps that the entry at the place took back.
 fn undone_at(journal: &[NarrowEntry], place: u32) -> &[StepId]
-    ensures { result.now ≡ undone_at journal.now place }
+    ensures { result.now ≡ undone_at (journal_of journal.now) place }
 {
     match journal.get(place as usize) {
         Some(entry) => entry.undone(),

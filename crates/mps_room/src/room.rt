@@ -12,6 +12,7 @@ use crate::heard::Heard;
 use crate::narrow_entry::NarrowEntry;
 use crate::news::news;
 use crate::shown::shown_text;
+use crate::steps::Steps;
 use mps_base::{Role, Roles};
 use mps_command::{Answer, Command, Refusal, StepIds};
 use mps_session::Session;
@@ -29,8 +30,7 @@ pub struct Room {
     pub(crate) names: Roles,
     pub(crate) session: Session,
     pub(crate) journal: Vec<NarrowEntry>,
-    // whose steps they are, in the order of their numbers
-    pub(crate) owners: Vec<u8>,
+    pub(crate) steps: Steps,
     // what each role hears of
     pub(crate) heard: Heard,
     pub(crate) alloc: Global,
@@ -40,16 +40,17 @@ impl Model for Room {
     ghost use Rattle.std.specs.Coded.{codes};
     ghost use Rattle.std.specs.Prelude.{map};
     ghost use Rattle.mps_local.specs.Private.Codes.{coded_local};
-    ghost use Rattle.mps_room.specs.Private.Recorded.{IsRecorded};
+    ghost use Rattle.mps_room.specs.Private.Recorded.{IsKept};
+    ghost use Rattle.mps_room.specs.Private.Shorts.{journal_of};
     ghost use Rattle.mps_room.specs.RoomState.{RoomState};
 
     ghost Value = { RoomState };
 
     ghost coded = { Prim.hlevel (codes, coded_local) };
 
-    ghost view = { λ r. record { names = r.names; types = r.session.types; journal = r.journal.items } };
+    ghost view = { λ r. record { names = r.names; types = r.session.types; journal = journal_of r.journal.items } };
 
-    ghost invariant = { λ r. IsRecorded r.names r.session r.owners.items r.heard.count (map (λ l. l.items) r.heard.lists) r.journal.items };
+    ghost invariant = { λ r. IsKept r.names r.session r.steps.owners.items r.steps.places.items r.heard.count (map (λ l. l.items) r.heard.lists) r.journal.items };
 }
 
 impl Room {
@@ -64,7 +65,7 @@ impl Room {
             names,
             session,
             journal: Vec::new(alloc),
-            owners: Vec::new(alloc),
+            steps: Steps::new(alloc),
             heard,
             alloc,
         }
@@ -103,7 +104,7 @@ impl Room {
         ensures none { length self.now.journal ≤ k → result ≡ Ok None }
     {
         match self.journal.get(k as usize) {
-            Some(narrow) => Ok(Some(narrow.entry(self.alloc)?)),
+            Some(narrow) => Ok(Some(narrow.entry(self.journal.as_slice(), self.alloc)?)),
             None => Ok(None),
         }
     }
@@ -118,7 +119,7 @@ impl Room {
         let ids = news(
             self.alloc,
             self.journal.as_slice(),
-            self.owners.as_slice(),
+            self.steps.owners.as_slice(),
             self.heard.list(role),
             role,
             known,

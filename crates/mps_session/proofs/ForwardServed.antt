@@ -36,17 +36,17 @@ module _ (types : List LocalType) (c : Lists) (holds : Holds types c) (now : Ses
   barred refusal h = absurd h
 
   -- a refusal changes nothing
-  failed : (r : Result (Done × Option Done) Refusal) (refusal : Refusal) → r ≡ Err refusal → IsAnswer (Err refusal) (forward now.types now.state p act).0 → (new : State) → new ≡ now.state → IsServed ⊤ (once r) now.state new (forward now.types now.state p act)
+  failed : {B : Type 0} (r : Result (Done × B) Refusal) (refusal : Refusal) → r ≡ Err refusal → IsAnswer (Err refusal) (forward now.types now.state p act).0 → (new : State) → new ≡ now.state → IsServed ⊤ (once r) now.state new (forward now.types now.state p act)
   failed r refusal e answer new same = rw (e, same) (record { answer = answer; state = tt; err = refl; starved = λ m. tt })
 
-  pub refused_by : (r : Result (Done × Option Done) Refusal) (refusal : Refusal) → IsErrAnd r (λ e. e ≡ refusal) → IsBarred c p act refusal → (new : State) → new ≡ now.state → IsServed ⊤ (once r) now.state new (forward now.types now.state p act)
+  pub refused_by : {B : Type 0} (r : Result (Done × B) Refusal) (refusal : Refusal) → IsErrAnd r (λ e. e ≡ refusal) → IsBarred c p act refusal → (new : State) → new ≡ now.state → IsServed ⊤ (once r) now.state new (forward now.types now.state p act)
   refused_by r refusal was h new same =
       let e = err_from_is_err_and r was in
       failed r refusal (e.1 ∙ ap Err e.2) (barred refusal h) new same
 
   module _ (each : (t : LocalType) → StandsAt c p t → fault_in c p act t ≡ None) (room : c.issued < most_numbers) where
     -- memory may run out where the machine accepts
-    pub starved : (r : Result (Done × Option Done) Refusal) → IsErrAnd r (λ e. e ≡ Memory) → (new : State) → new ≡ now.state → IsServed ⊤ (once r) now.state new (forward now.types now.state p act)
+    pub starved : {B : Type 0} (r : Result (Done × B) Refusal) → IsErrAnd r (λ e. e ≡ Memory) → (new : State) → new ≡ now.state → IsServed ⊤ (once r) now.state new (forward now.types now.state p act)
     starved r was new same =
         let e = err_from_is_err_and r was in
         failed r Memory (e.1 ∙ ap Err e.2) (ap is_ok (ap (λ (x : Result Done Refusal × State). x.0) (serving.done types c holds now is p within act each room))) new same

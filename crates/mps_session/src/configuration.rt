@@ -1,6 +1,5 @@
 //! What a session keeps of its roles and its steps, and how an act changes it.
 ghost use Rattle.std.specs.Prelude.{◌≡◌, ◌+◌, ◌<◌, Some, None, vec_len, slice_set, IfOk, OnOk, OnErr, IfErr};
-ghost use Rattle.std.specs.Bool.{then_some};
 ghost use Rattle.std.specs.Option.{option_copied};
 ghost use Rattle.mps_command.specs.Acts.{act_of};
 ghost use Rattle.mps_local.specs.Local.{LocalType};
@@ -164,19 +163,4 @@ pub(crate) fn once_more(
         Some(Message::Label(label)) => Ok(Some(Message::Label(*label))),
         None => Ok(None),
     }
-}
-
-/// The same, where it is to be told again.
-#[inline(always)]
-pub(crate) fn once_more_if(
-    alloc: Global,
-    message: Option<&Message>,
-    again: bool,
-) -> Result<Option<Option<Message>>, AllocError>
-    ensures { IfOk result (λ copy. copy ≡ then_some again (option_copied message.entry)) }
-{
-    if !again {
-        return Ok(None);
-    }
-    Ok(Some(once_more(alloc, message)?))
 }

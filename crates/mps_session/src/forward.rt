@@ -1,34 +1,46 @@
 //! Steps forward: sends, receipts, choices, picks, marks and commits.
-ghost use Rattle.std.specs.Prelude.{◌≡◌, ◌≢◌, ◌+◌, ◌<◌, Bool, length, IfOk, OnOk, OnErr, Err, [], ◌∷◌, Ok, ⊤, Some, None};
-ghost use Rattle.std.specs.Bool.{then_some};
+ghost use Rattle.std.specs.Prelude.{◌≡◌, ◌≢◌, ◌+◌, ◌<◌, length, IfOk, OnOk, OnErr, Err, [], ◌∷◌, Ok, ⊤, Some, None};
+ghost use Rattle.std.specs.Option.{option_and_then, option_copied, option_map};
 ghost use Rattle.mps_base.specs.declared.action.Act.TheVariants.{Commit};
 ghost use Rattle.mps_command.specs.Acts.{act_of};
 ghost use Rattle.mps_command.specs.declared.answer.Refusal.TheVariants.{Violation as Violates, Final};
 ghost use Rattle.mps_command.specs.declared.answer.Violation.TheVariants.{Mismatch};
 ghost use Rattle.mps_fidelity.specs.Fidelity.{AreOfOneProtocol};
+ghost use Rattle.mps_log.specs.Values.{given_by};
 ghost use Rattle.mps_machine.specs.Answering.{IsAnswer, IsServed};
 ghost use Rattle.mps_machine.specs.Machine as machine;
 ghost use Rattle.mps_machine.specs.Undoing.{IsNewest};
-ghost use Rattle.mps_session.specs.Answers.{once};
+ghost use Rattle.mps_session.specs.Answers.{once, taken_of, IsSent};
 ghost use Rattle.mps_session.specs.Private.Configurations.{taken_from};
 
-use crate::configuration::{once_more, once_more_if};
+use crate::configuration::once_more;
 use crate::session::Session;
-use mps_base::{Message, Role, StepId};
+use mps_base::{Act, Message, Role, Step, StepId};
 use mps_command::{Done, Forward, Refusal};
 
-// The new step with the message that it took, and once more with the copy that there is for that.
+// The message that a step gave, if there is such a step.
 #[inline(always)]
-fn done_twice(
-    id: StepId,
-    got: Option<Message>,
-    more: Option<Option<Message>>,
-) -> (Done, Option<Done>)
-    ensures first { result.0 ≡ record { id = id; got = got } }
-    ensures again { (again : Bool) → more ≡ then_some again got
-        → result.1 ≡ then_some again result.0 }
+fn message_in(sent: Option<&Step>) -> Option<&Message>
+    ensures { option_copied result ≡ option_and_then (λ s. given_by s.act) (option_copied sent.entry) }
 {
-    (Done { id, got }, more.map(|got| Done { id, got }))
+    match sent {
+        Some(step) => match &step.act {
+            Act::Out { message, .. } => Some(message),
+            _ => None,
+        },
+        None => None,
+    }
+}
+
+// The number of a step, if there is one.
+#[inline(always)]
+fn id_in(sent: Option<&Step>) -> Option<StepId>
+    ensures { result ≡ option_map (λ s. s.id) (option_copied sent.entry) }
+{
+    match sent {
+        Some(step) => Some(step.id),
+        None => None,
+    }
 }
 
 impl Session {
@@ -54,78 +66,78 @@ impl Session {
     {
         // reads a field, since the proof needs what the session keeps, and not its value alone
         let _ = &self.types;
-        let (done, _) = self.accept_forward(role, &step, false)?;
+        let (done, _) = self.attempt_forward(role, &step)?;
         Ok(done)
     }
 
-    /// Does a step of the role, as `forward` does, and tells the answer, and once more where that is asked for.
+    /// Does a step of the role, as `forward` does, and tells besides from which step it took its message, if it took one.
     #[inline(always)]
-    pub(crate) fn accept_forward(
+    pub(crate) fn attempt_forward(
         &mut self,
         role: Role,
         step: &Forward,
-        again: bool,
-    ) -> Result<(Done, Option<Done>), Refusal>
+    ) -> Result<(Done, Option<StepId>), Refusal>
         requires { role < length self.old.types }
         ensures served { IsServed ⊤ (once result) self.old.state self.new.state
             (machine.forward self.old.types self.old.state role (act_of step.now)) }
-        ensures again { IfOk result (λ done. done.1 ≡ then_some again done.0) }
+        ensures source { IfOk result (λ told. told.0.got ≡ taken_of self.old.state.history told.1) }
+        ensures sent { IfOk result (λ told. IsSent self.old.state.history told.1) }
         ensures types { self.new.types ≡ self.old.types }
     {
         match step {
             Forward::Receive { from, .. } | Forward::Pick { from } => {
-                self.accept_receipt(role, *from, step, again)
+                self.attempt_receipt(role, *from, step)
             }
             Forward::Send { .. }
             | Forward::Choose { .. }
             | Forward::Mark { .. }
-            | Forward::Commit => { self.accept_other(role, step, again) }
+            | Forward::Commit => { self.attempt_other(role, step) }
         }
     }
 
-    // Does the step of a receipt or a pick. The message that waits is looked up once, for the verdict and for each copy.
+    // Does the step of a receipt or a pick. The message that waits is looked up once, for the verdict and for the answer.
     #[inline(always)]
-    fn accept_receipt(
+    fn attempt_receipt(
         &mut self,
         role: Role,
         from: Role,
         step: &Forward,
-        again: bool,
-    ) -> Result<(Done, Option<Done>), Refusal>
+    ) -> Result<(Done, Option<StepId>), Refusal>
         requires role { role < length self.old.types }
         requires takes { taken_from step.now ≡ Some from }
         ensures served { IsServed ⊤ (once result) self.old.state self.new.state
             (machine.forward self.old.types self.old.state role (act_of step.now)) }
-        ensures again { IfOk result (λ done. done.1 ≡ then_some again done.0) }
+        ensures source { IfOk result (λ told. told.0.got ≡ taken_of self.old.state.history told.1) }
+        ensures sent { IfOk result (λ told. IsSent self.old.state.history told.1) }
         ensures types { self.new.types ≡ self.old.types }
     {
         let kept = &self.configuration;
-        let first = kept.log.message(from, role, 0);
+        let sent = kept.log.first_sent(from, role);
+        let first = message_in(sent);
+        let source = id_in(sent);
         let node = kept.allowed(role, step, first)?;
         let got = once_more(kept.alloc, first)?;
-        let more = once_more_if(kept.alloc, first, again)?;
         let id = self.configuration.act(role, step, node)?;
-        Ok(done_twice(id, got, more))
+        Ok((Done { id, got }, source))
     }
 
     // Does the step of a send, a choice, a mark or a commit, which take no message.
     #[inline(always)]
-    fn accept_other(
+    fn attempt_other(
         &mut self,
         role: Role,
         step: &Forward,
-        again: bool,
-    ) -> Result<(Done, Option<Done>), Refusal>
+    ) -> Result<(Done, Option<StepId>), Refusal>
         requires role { role < length self.old.types }
         requires takes { taken_from step.now ≡ None }
         ensures served { IsServed ⊤ (once result) self.old.state self.new.state
             (machine.forward self.old.types self.old.state role (act_of step.now)) }
-        ensures again { IfOk result (λ done. done.1 ≡ then_some again done.0) }
+        ensures source { IfOk result (λ told. told.0.got ≡ taken_of self.old.state.history told.1) }
+        ensures sent { IfOk result (λ told. IsSent self.old.state.history told.1) }
         ensures types { self.new.types ≡ self.old.types }
     {
         let node = self.configuration.allowed(role, step, None)?;
         let id = self.configuration.act(role, step, node)?;
-        let more = if again { Some(None) } else { None };
-        Ok(done_twice(id, None, more))
+        Ok((Done { id, got: None }, None))
     }
 }

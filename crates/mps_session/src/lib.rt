@@ -10,11 +10,12 @@
 //! ```
 #![tactic(auto)]
 
-mod accept;
 mod alike;
+mod attempt;
 mod configuration;
 mod cursor;
 mod forward;
+pub mod gist;
 pub mod open;
 pub mod protocol;
 mod rollback;
@@ -26,6 +27,7 @@ mod undo;
 mod would;
 
 pub use alike::same;
+pub use gist::Gist;
 pub use mps_command::{Done, Forward, Refusal, StepIds, Violation};
 pub use mps_local::LocalFault;
 pub use mps_log::{Moves, Queue};

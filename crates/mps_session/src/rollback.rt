@@ -1,6 +1,5 @@
 //! Steps undone with all that depend on them.
-ghost use Rattle.std.specs.Prelude.{◌≡◌, ◌+◌, ◌<◌, ◌≤◌, ◌++◌, [], List, reverse, length, Some, None, is_some, unwrap_or, vec_len, vec_capacity, IsSome, IfOk, IfErr, IfSome, OnOk, OnErr, ⊤};
-ghost use Rattle.std.specs.Bool.{then_some};
+ghost use Rattle.std.specs.Prelude.{◌≡◌, ◌+◌, ◌<◌, ◌≤◌, ◌++◌, [], List, reverse, length, Some, None, unwrap_or, vec_len, vec_capacity, IsSome, IfOk, IfErr, OnOk, OnErr, ⊤};
 ghost use Rattle.std.specs.List.{AllByRecursion};
 ghost use Rattle.std.specs.Option.{option_map};
 ghost use Rattle.std.specs.Result.{result_err};
@@ -27,70 +26,52 @@ use mps_base::{Name, Role, StepId};
 use mps_command::{Refusal, StepIds};
 use std::alloc::{AllocError, Global};
 
-// Room for so many numbers, and once more where they are told again.
-fn room_for(
-    alloc: Global,
-    count: usize,
-    again: bool,
-) -> Result<(Vec<StepId>, Option<Vec<StepId>>), AllocError>
+// Room for so many numbers, and for a copy of them.
+fn room_for(alloc: Global, count: usize) -> Result<(Vec<StepId>, Vec<StepId>), AllocError>
     ensures none { IfOk result (λ room. vec_len room.0 ≡ 0) }
     ensures first { IfOk result (λ room. room.0.items ≡ []) }
     ensures first_room { IfOk result (λ room. count ≤ vec_capacity room.0) }
-    ensures again { IfOk result (λ room. is_some room.1 ≡ again) }
-    ensures empty_again { IfOk result (λ room. IfSome room.1 (λ more. more.items ≡ [])) }
-    ensures room_again { IfOk result (λ room. IfSome room.1 (λ more. count ≤ vec_capacity more)) }
+    ensures copy { IfOk result (λ room. room.1.items ≡ []) }
+    ensures copy_room { IfOk result (λ room. count ≤ vec_capacity room.1) }
 {
-    let first = Vec::with_capacity(alloc, count)?;
-    if !again {
-        return Ok((first, None));
-    }
-    let more = Vec::with_capacity(alloc, count)?;
-    Ok((first, Some(more)))
+    Ok((
+        Vec::with_capacity(alloc, count)?,
+        Vec::with_capacity(alloc, count)?,
+    ))
 }
 
-// The numbers, and once more in the room that there is for that.
-fn ids_twice(ids: Vec<StepId>, room: Option<Vec<StepId>>) -> (StepIds, Option<StepIds>)
-    requires empty { IfSome room (λ more. more.items ≡ []) }
-    requires space { IfSome room (λ more. vec_len ids ≤ vec_capacity more) }
+// The numbers, and a copy of them in the room that there is for it.
+fn with_copy(ids: Vec<StepId>, room: Vec<StepId>) -> (StepIds, Vec<StepId>)
+    requires empty { room.items ≡ [] }
+    requires space { vec_len ids ≤ vec_capacity room }
     ensures first { result.0 ≡ ids.items }
-    ensures again { result.1 ≡ then_some (is_some room) ids.items }
+    ensures copy { result.1.items ≡ ids.items }
 {
-    let again = match room {
-        Some(mut more) => {
-            if more.extend_from_slice(&ids).is_err() {
-                unreachable!()
-            }
-            Some(StepIds::of(more))
-        }
-        None => None,
-    };
-    (StepIds::of(ids), again)
+    let mut copy = room;
+    if copy.extend_from_slice(&ids).is_err() {
+        unreachable!()
+    }
+    (StepIds::of(ids), copy)
 }
 
-// No numbers, and once more where that is asked for.
-fn nothing(alloc: Global, again: bool) -> (StepIds, Option<StepIds>)
+// No numbers, and a copy of them.
+fn nothing(alloc: Global) -> (StepIds, Vec<StepId>)
     ensures first { result.0 ≡ [] }
-    ensures again { result.1 ≡ then_some again [] }
+    ensures copy { result.1.items ≡ [] }
 {
-    let more = if again { Some(Vec::new(alloc)) } else { None };
-    ids_twice(Vec::new(alloc), more)
+    (StepIds::of(Vec::new(alloc)), Vec::new(alloc))
 }
 
 impl Configuration {
-    // Room for the numbers of the marked steps, so many, and once more where they are told again; or why the steps stay:
-    // the least commit among them, or else out of memory.
-    fn room_for_chosen(
-        &self,
-        count: usize,
-        again: bool,
-    ) -> Result<(Vec<StepId>, Option<Vec<StepId>>), Refusal>
+    // Room for the numbers of the marked steps, so many, and for a copy of them; or why the steps stay: the least commit
+    // among them, or else out of memory.
+    fn room_for_chosen(&self, count: usize) -> Result<(Vec<StepId>, Vec<StepId>), Refusal>
         requires { AreMarksClosed (lists_of self.now).entries }
         ensures none { IfOk result (λ room. vec_len room.0 ≡ 0) }
         ensures first { IfOk result (λ room. room.0.items ≡ []) }
         ensures first_room { IfOk result (λ room. count ≤ vec_capacity room.0) }
-        ensures again { IfOk result (λ room. is_some room.1 ≡ again) }
-        ensures empty_again { IfOk result (λ room. IfSome room.1 (λ more. more.items ≡ [])) }
-        ensures room_again { IfOk result (λ room. IfSome room.1 (λ more. count ≤ vec_capacity more)) }
+        ensures copy { IfOk result (λ room. room.1.items ≡ []) }
+        ensures copy_room { IfOk result (λ room. count ≤ vec_capacity room.1) }
         ensures free { OnOk result
             (least (marked_commits (lists_of self.now).entries) ≡ None) }
         ensures fault { IfErr result (λ refusal. unwrap_or
@@ -100,18 +81,14 @@ impl Configuration {
         if let Some(by) = self.log.least_final() {
             return Err(Refusal::Final { by });
         }
-        Ok(room_for(self.alloc, count, again)?)
+        Ok(room_for(self.alloc, count)?)
     }
 
-    /// Removes the step of that number and all that depend on it, the newest first, and tells their numbers, and
-    /// once more where that is asked for. Where a commit is among them, the least is named. Nothing is changed then, nor
+    /// Removes the step of that number and all that depend on it, the newest first, and tells their numbers, with a copy
+    /// for who keeps what was answered. Where a commit is among them, the least is named. Nothing is changed then, nor
     /// where memory runs out.
     #[inline(never)]
-    pub(crate) fn roll_back(
-        &mut self,
-        id: StepId,
-        again: bool,
-    ) -> Result<(StepIds, Option<StepIds>), Refusal>
+    pub(crate) fn roll_back(&mut self, id: StepId) -> Result<(StepIds, Vec<StepId>), Refusal>
         requires present { IsSome (step_of (steps (lists_of self.old).entries) id) }
         requires unmarked { marked_keys (lists_of self.old).entries ≡ [] }
         requires members { AllByRecursion
@@ -119,7 +96,7 @@ impl Configuration {
         ensures numbers { IfOk result (λ ids. ids.0 ≡ reverse (numbers
             (within (steps (lists_of self.old).entries)
             (consequences (steps (lists_of self.old).entries) id)))) }
-        ensures again { IfOk result (λ ids. ids.1 ≡ then_some again ids.0) }
+        ensures copy { IfOk result (λ ids. ids.1.items ≡ ids.0) }
         ensures history { OnOk result (steps (lists_of self.new).entries
             ≡ without (steps (lists_of self.old).entries)
             (consequences (steps (lists_of self.old).entries) id)) }
@@ -134,10 +111,10 @@ impl Configuration {
         ensures err { OnErr result (lists_of self.new ≡ lists_of self.old) }
     {
         let count = self.log.choose_from(id);
-        match self.room_for_chosen(count, again) {
+        match self.room_for_chosen(count) {
             Ok((mut ids, room)) => {
                 self.remove_chosen(&mut ids);
-                Ok(ids_twice(ids, room))
+                Ok(with_copy(ids, room))
             }
             Err(refusal) => {
                 self.log.choose_none();
@@ -215,29 +192,28 @@ impl Session {
             ≡ Some (session_view self.old)) }
         ensures err { OnErr result (self.new.state ≡ self.old.state) }
     {
-        let (ids, _) = self.accept_rollback(role, id, false)?;
+        let (ids, _) = self.attempt_rollback(role, id)?;
         Ok(ids)
     }
 
-    /// Does what `rollback` does, and tells the numbers once more where that is asked for.
+    /// Does what `rollback` does, and tells a copy of the numbers besides.
     #[inline(always)]
-    pub(crate) fn accept_rollback(
+    pub(crate) fn attempt_rollback(
         &mut self,
         role: Role,
         id: StepId,
-        again: bool,
-    ) -> Result<(StepIds, Option<StepIds>), Refusal>
+    ) -> Result<(StepIds, Vec<StepId>), Refusal>
         requires { role < length self.old.types }
         ensures served { IsServed ⊤ (once result) self.old.state self.new.state
             (machine.rollback self.old.state role id) }
-        ensures again { IfOk result (λ ids. ids.1 ≡ then_some again ids.0) }
+        ensures copy { IfOk result (λ ids. ids.1.items ≡ ids.0) }
         ensures types { self.new.types ≡ self.old.types }
         ensures back { OnOk result (replay (session_view self.new)
             (within self.old.state.history (consequences self.old.state.history id))
             ≡ Some (session_view self.old)) }
     {
         self.configuration.own_step(role, id)?;
-        self.configuration.roll_back(id, again)
+        self.configuration.roll_back(id)
     }
 
     /// Returns the role to its last mark of the name: its first step after the mark is undone, and all that
@@ -253,30 +229,29 @@ impl Session {
             (within self.old.state.history (is_among ids)) ≡ Some (session_view self.old)) }
         ensures err { OnErr result (self.new.state ≡ self.old.state) }
     {
-        let (ids, _) = self.accept_back(role, name, false)?;
+        let (ids, _) = self.attempt_back(role, name)?;
         Ok(ids)
     }
 
-    /// Does what `back` does, and tells the numbers once more where that is asked for.
+    /// Does what `back` does, and tells a copy of the numbers besides.
     #[inline(always)]
-    pub(crate) fn accept_back(
+    pub(crate) fn attempt_back(
         &mut self,
         role: Role,
         name: &Name,
-        again: bool,
-    ) -> Result<(StepIds, Option<StepIds>), Refusal>
+    ) -> Result<(StepIds, Vec<StepId>), Refusal>
         requires { role < length self.old.types }
         ensures served { IsServed ⊤ (once result) self.old.state self.new.state
             (machine.back self.old.state role name.now) }
-        ensures again { IfOk result (λ ids. ids.1 ≡ then_some again ids.0) }
+        ensures copy { IfOk result (λ ids. ids.1.items ≡ ids.0) }
         ensures types { self.new.types ≡ self.old.types }
         ensures back { IfOk result (λ ids. replay (session_view self.new)
             (within self.old.state.history (is_among ids.0)) ≡ Some (session_view self.old)) }
     {
         match self.configuration.first_after(role, name) {
             None => Err(Refusal::NoMark),
-            Some(None) => Ok(nothing(self.configuration.alloc, again)),
-            Some(Some(id)) => self.configuration.roll_back(id, again),
+            Some(None) => Ok(nothing(self.configuration.alloc)),
+            Some(Some(id)) => self.configuration.roll_back(id),
         }
     }
 }

@@ -20,7 +20,7 @@ fn command_of(change: Change) -> Command
 }
 
 impl Session {
-    /// Makes the change that the role asks for, or says why not, as `accept` does. A single undo is answered like a rollback of one step. A refusal
+    /// Makes the change that the role asks for, or says why not, as `attempt` does. A single undo is answered like a rollback of one step. A refusal
     /// changes nothing.
     pub fn serve(&mut self, role: Role, change: Change) -> Answer
         requires { role < length self.old.types }
@@ -28,7 +28,7 @@ impl Session {
             self.old.state self.new.state }
         ensures types { self.new.types ≡ self.old.types }
     {
-        match self.accept(role, &command_of(change), false) {
+        match self.attempt(role, &command_of(change)) {
             Ok((answer, _)) => answer,
             Err(refusal) => Answer::Refused(refusal),
         }

@@ -1,6 +1,5 @@
 //! Steps undone.
-ghost use Rattle.std.specs.Prelude.{◌≡◌, ◌==◌, Ok, Err, ◌<◌, Some, None, length, vec_len, IfOk, IfErr, IfSome, OnOk, OnErr};
-ghost use Rattle.std.specs.Bool.{then_some};
+ghost use Rattle.std.specs.Prelude.{◌≡◌, ◌==◌, [], ◌∷◌, Ok, Err, ◌<◌, Some, None, length, vec_len, IfOk, IfErr, IfSome, OnOk, OnErr};
 ghost use Rattle.std.specs.List.{find};
 ghost use Rattle.std.specs.Option.{option_map};
 ghost use Rattle.mps_base.specs.declared.action.Step.{Step};
@@ -12,7 +11,7 @@ ghost use Rattle.mps_machine.specs.Answering.{IsServed};
 ghost use Rattle.mps_machine.specs.Rule.{rule};
 ghost use Rattle.mps_arena.specs.Entries.{steps, entry_at, AreSound};
 ghost use Rattle.mps_arena.specs.Neighbours.{CanGo};
-ghost use Rattle.mps_session.specs.Answers.{once, undo_answer};
+ghost use Rattle.mps_session.specs.Answers.{undo_answer};
 ghost use Rattle.mps_session.specs.Private.Configurations.{lists_of, state_of};
 ghost use Rattle.mps_session.specs.Private.Leaving.{HasLeft};
 ghost use Rattle.mps_session.specs.SessionState.{session_view};
@@ -116,22 +115,16 @@ impl Session {
         Ok(())
     }
 
-    /// Does what `undo` does, and tells its number, and once more where that is asked for.
+    /// Does what `undo` does, and tells its number.
     #[inline(always)]
-    pub(crate) fn accept_undo(
-        &mut self,
-        role: Role,
-        id: StepId,
-        again: bool,
-    ) -> Result<(StepIds, Option<StepIds>), Refusal>
+    pub(crate) fn attempt_undo(&mut self, role: Role, id: StepId) -> Result<StepIds, Refusal>
         requires { role < length self.old.types }
-        ensures served { IsServed ⊥ (once result) self.old.state self.new.state
+        ensures served { IsServed ⊥ result self.old.state self.new.state
             (machine.undo self.old.state role id) }
-        ensures again { IfOk result (λ ids. ids.1 ≡ then_some again ids.0) }
+        ensures id { IfOk result (λ ids. ids ≡ id ∷ []) }
         ensures types { self.new.types ≡ self.old.types }
     {
         self.undo(role, id)?;
-        let more = if again { Some(StepIds::one(id)) } else { None };
-        Ok((StepIds::one(id), more))
+        Ok(StepIds::one(id))
     }
 }

@@ -15,7 +15,7 @@ returns-in-Err-clause-refused c =
     let told : fault r.session.types r.session.state c.args.role command ≡ Some c.in-Err.refusal = sym c.in-Err.ensures.fault in
     refused m.names m.types m.journal c.args.role command c.in-Err.refusal
     (ap (λ (k : RoomState). fault k.types (run k.types k.journal) c.args.role command) (sym c.self.view_is)
-    ∙ ap (λ (st : State). fault r.session.types st c.args.role command) (sym c.self.invariant.state)
+    ∙ ap (λ (st : State). fault r.session.types st c.args.role command) (sym c.self.invariant.recorded.state)
     ∙ told)
 
 pub returns-clause-refused : goal.returns-clause-refused
@@ -25,7 +25,7 @@ returns-clause-refused c =
     let command = c.args.command.now in
     let told : fault r.session.types r.session.state c.args.role command ≡ None = sym c.in_default.ensures.fault in
     short_reply m.names m.types m.journal c.args.role command c.args.lack c.requires.change c.requires.short
-    (λ room. omega (arith, room, ap (λ (k : RoomState). length k.journal) c.self.view_is, c.self.invariant.owners.few, c.self.invariant.owners.next, ap (λ (k : RoomState). (run k.types k.journal).next) c.self.view_is, ap (λ (st : State). st.next) c.self.invariant.state))
+    (λ room. omega (arith, room, ap (λ (k : RoomState). length k.journal) c.self.view_is, c.self.invariant.recorded.owners.few, c.self.invariant.recorded.owners.next, ap (λ (k : RoomState). (run k.types k.journal).next) c.self.view_is, ap (λ (st : State). st.next) c.self.invariant.recorded.state))
     (ap (λ (k : RoomState). fault k.types (run k.types k.journal) c.args.role command) (sym c.self.view_is)
-    ∙ ap (λ (st : State). fault r.session.types st c.args.role command) (sym c.self.invariant.state)
+    ∙ ap (λ (st : State). fault r.session.types st c.args.role command) (sym c.self.invariant.recorded.state)
     ∙ told)

@@ -1,7 +1,6 @@
 use Rattle.std.proofs.Common.{◌≡◌, ◌++◌, ◌<◌, ℕ, Bool, List, length, map, sym, ap, ◌∙◌, subst, arith}
 use mathlib.Core.Path.{ap₂}
 use Rattle.std.specs.Prelude.{reverse}
-use Rattle.std.proofs.lemmas.Option.{IfSome_then}
 use Rattle.std.specs.List.{AllByRecursion}
 use Rattle.mps_base.specs.declared.action.Step.{Step}
 use Rattle.mps_history.specs.Dependence.{consequences}
@@ -44,15 +43,15 @@ all c =
     ∙ ap₂ (λ (ids : List ℕ) (h : List Step). ids ++ reverse (numbers h)) c.in-Ok.ensures.first
     (ap marked_steps c.choose_from-count.ensures.marks ∙ marked_within c.args.self.now.log.entries (consequences (steps c.args.self.now.log.entries) c.args.id))
 
-pub ids_twice-requires-clause-space : goal.ids_twice-requires-clause-space
-ids_twice-requires-clause-space c =
-    let k = (goal.at.ids_twice-requires-clause-space c).After-remove_chosen in
+pub with_copy-requires-clause-space : goal.with_copy-requires-clause-space
+with_copy-requires-clause-space c =
+    let k = (goal.at.with_copy-requires-clause-space c).After-remove_chosen in
     let gone = within (steps c.args.self.now.log.entries) (consequences (steps c.args.self.now.log.entries) c.args.id) in
     let long = ap (λ (l : List ℕ). length l) (all k) ∙ length-reverse (numbers gone) ∙ length_map (λ (s : Step). s.id) gone in
-    IfSome_then c.in-Ok.room c.in-Ok.ensures.room_again (λ more fits. omega (arith, fits, long, c.remove_chosen.new.ids.ok.0, c.choose_from-count.ensures.count))
+    omega (arith, c.in-Ok.ensures.copy_room, long, c.remove_chosen.new.ids.ok.0, c.choose_from-count.ensures.count)
 
 pub returns-in-Ok-clause-numbers : goal.returns-in-Ok-clause-numbers
-returns-in-Ok-clause-numbers c = c.ids_twice.ensures.first ∙ all ((goal.at.returns-in-Ok-clause-numbers c).After-remove_chosen)
+returns-in-Ok-clause-numbers c = c.with_copy.ensures.first ∙ all ((goal.at.returns-in-Ok-clause-numbers c).After-remove_chosen)
 
 pub returns-in-Ok-clause-history : goal.returns-in-Ok-clause-history
 returns-in-Ok-clause-history c =

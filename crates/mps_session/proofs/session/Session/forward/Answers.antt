@@ -24,18 +24,18 @@ returns-clause-newest c =
     let m = c.args.self.now in
     let sound = subst (λ (k : SessionState). IsSound k.types k.state) c.self.view_is c.self.invariant.holds.sound in
     let served = c.in_ok-done.ensures.served in
-    is_newest m.types m.state c.accept_forward.new.self.state c.args.role (act_of c.args.step) c.in_ok-done.done sound served.answer served.state
+    is_newest m.types m.state c.attempt_forward.new.self.state c.args.role (act_of c.args.step) c.in_ok-done.done sound served.answer served.state
 
 pub returns-clause-undone : goal.returns-clause-undone
 returns-clause-undone c other =
     let m = c.args.self.now in
     let sound = subst (λ (k : SessionState). IsSound k.types k.state) c.self.view_is c.self.invariant.holds.sound in
     let served = c.in_ok-done.ensures.served in
-    newest_undone m.types m.state c.accept_forward.new.self.state c.args.role (act_of c.args.step) c.in_ok-done.done sound served.answer served.state other
+    newest_undone m.types m.state c.attempt_forward.new.self.state c.args.role (act_of c.args.step) c.in_ok-done.done sound served.answer served.state other
 
 pub returns-clause-stays : goal.returns-clause-stays
 returns-clause-stays c commit =
     let m = c.args.self.now in
     let sound = subst (λ (k : SessionState). IsSound k.types k.state) c.self.view_is c.self.invariant.holds.sound in
     let served = c.in_ok-done.ensures.served in
-    stays_final m.types m.state c.accept_forward.new.self.state c.args.role (act_of c.args.step) c.in_ok-done.done sound served.answer served.state commit
+    stays_final m.types m.state c.attempt_forward.new.self.state c.args.role (act_of c.args.step) c.in_ok-done.done sound served.answer served.state commit

@@ -19,5 +19,5 @@ pub returns-in-Ok-clause-served : goal.returns-in-Ok-clause-served
 returns-in-Ok-clause-served c =
     let m = c.args.self.now in
     let is = c.in-Ok.ensures.accepted c.args.change (ap change_of c.command_of.ensures ∙ asked c.args.change) in
-    subst (λ (r : Result Answer Refusal). IsChanged m.types c.args.role c.args.change r m.state c.accept.new.self.state)
+    subst (λ (r : Result Answer Refusal). IsChanged m.types c.args.role c.args.change r m.state c.attempt.new.self.state)
     (sym (no_refusal c.in-Ok.answer (serve m.types m.state c.args.role c.args.change).0 is.answer)) is

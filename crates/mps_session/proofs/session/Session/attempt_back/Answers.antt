@@ -13,7 +13,7 @@ use Rattle.mps_session.specs.NumberSets.{is_among}
 use Rattle.mps_session.proofs.AfterLastMark.{first_there}
 use Rattle.mps_session.proofs.RemoveMarked.{leads_back, members_there}
 use Rattle.mps_session.proofs.NumbersOfSet.{within_none, within_told}
-use Rattle.mps_session.proofs.session.Session.accept_back.Goals as goal
+use Rattle.mps_session.proofs.session.Session.attempt_back.Goals as goal
 
 -- what holds of a value, and where there is one
 both : {X Y : Type 0} (r : Result X Y) (P R : X → Type 0) (Q : Type 0) → ((x : X) → P x → Q → R x) → IfOk r P → OnOk r Q → IfOk r R

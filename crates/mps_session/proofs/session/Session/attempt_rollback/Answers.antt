@@ -9,7 +9,7 @@ use Rattle.mps_arena.specs.Entries.{steps}
 use Rattle.mps_session.specs.Private.Configurations.{lists_of, state_of}
 use Rattle.mps_session.specs.SessionState.{SessionState, session_view}
 use Rattle.mps_session.proofs.RemoveMarked.{leads_back}
-use Rattle.mps_session.proofs.session.Session.accept_rollback.Goals as goal
+use Rattle.mps_session.proofs.session.Session.attempt_rollback.Goals as goal
 
 pub returns-clause-back : goal.returns-clause-back
 returns-clause-back c =

@@ -7,7 +7,7 @@ use Rattle.mps_session.specs.SessionState.{SessionState}
 use Rattle.mps_session.proofs.RemoveMarked.{push_unmarked}
 use Rattle.mps_session.proofs.ForwardAnswers as serving
 use Rattle.mps_session.proofs.ForwardServed as forwarding
-use Rattle.mps_session.proofs.session.Session.accept_other.Goals as goal
+use Rattle.mps_session.proofs.session.Session.attempt_other.Goals as goal
 
 pub allowed-requires-clause-stands : goal.allowed-requires-clause-stands
 allowed-requires-clause-stands c =
@@ -46,4 +46,4 @@ pub returns-clause-served : goal.returns-clause-served
 returns-clause-served c =
     let s = c.self.inside in
     forwarding.done (map plain s.types.items) (lists_of s.configuration) c.self.invariant.holds c.args.self.now c.self.view_is c.args.role c.requires.role c.args.step.now c.in_ok-node.ensures.allowed c.in_ok-node.ensures.numbers
-    c.in_ok-node.node c.in_ok-node.ensures.follows (lists_of c.act.new.self) c.in_ok-id.ensures.acted c.in_ok-id.id None c.done_twice.result.0 c.done_twice.ensures.first c.in_ok-id.ensures.id (forwarding.none_taken c.args.step.now _ c.requires.takes)
+    c.in_ok-node.node c.in_ok-node.ensures.follows (lists_of c.act.new.self) c.in_ok-id.ensures.acted c.in_ok-id.id None _ refl c.in_ok-id.ensures.id (forwarding.none_taken c.args.step.now _ c.requires.takes)

@@ -1,0 +1,65 @@
+//! Whose each step is, and where its entry stands.
+ghost use Rattle.std.specs.Prelude.{◌≡◌, ◌++◌, ◌∷◌, [], OnOk};
+ghost use Rattle.std.specs.Option.{option_and_then};
+ghost use Rattle.mps_room.specs.Private.Owners.{HasRoom};
+ghost use Rattle.mps_room.specs.Private.Shorts.{place_of};
+
+use mps_base::{Role, StepId};
+use std::alloc::{AllocError, Global};
+
+/// Of the steps that a number was given to, in the order of the numbers, whose each is and at which place of the journal
+/// its entry stands.
+#[derive(Drop)]
+pub(crate) struct Steps {
+    pub(crate) owners: Vec<u8>,
+    pub(crate) places: Vec<u32>,
+}
+
+impl Steps {
+    /// No steps. It does not allocate.
+    pub(crate) fn new(alloc: Global) -> Steps
+        ensures owners { result.owners.items ≡ [] }
+        ensures places { result.places.items ≡ [] }
+    {
+        Steps {
+            owners: Vec::new(alloc),
+            places: Vec::new(alloc),
+        }
+    }
+
+    /// Makes room for one step more. It asks whether there is room, since most often there is, and `reserve` is a call.
+    #[inline(always)]
+    pub(crate) fn reserve_one(&mut self) -> Result<(), AllocError>
+        ensures owners { self.new.owners.items ≡ self.old.owners.items }
+        ensures places { self.new.places.items ≡ self.old.places.items }
+        ensures room { OnOk result (HasRoom self.new) }
+    {
+        if self.owners.len() == self.owners.capacity() {
+            self.owners.reserve(1)?;
+        }
+        if self.places.len() == self.places.capacity() {
+            self.places.reserve(1)?;
+        }
+        Ok(())
+    }
+
+    /// Adds a step of the role, whose entry stands at the place.
+    #[inline(always)]
+    pub(crate) fn push(&mut self, role: Role, place: u32)
+        requires { HasRoom self.old }
+        ensures owners { self.new.owners.items ≡ self.old.owners.items ++ role ∷ [] }
+        ensures places { self.new.places.items ≡ self.old.places.items ++ place ∷ [] }
+    {
+        self.owners.push_reserved(role.index() as u8);
+        self.places.push_reserved(place);
+    }
+
+    /// The place of the entry of the step of that number, if one is named and it was given out.
+    #[inline(always)]
+    pub(crate) fn place_of(&self, id: Option<StepId>) -> Option<u32>
+        ensures { result ≡ option_and_then (place_of self.now.places.items) id }
+    {
+        let k = id?.number().checked_sub(1)?;
+        Some(*self.places.get(k as usize)?)
+    }
+}
