@@ -1,19 +1,19 @@
 -- The invariant, as entries come and go.
-use Rattle.std.proofs.Common.{◌≡◌, ◌≢◌, not, ℕ, zero, suc, ◌+◌, ◌*◌, ◌≤◌, ◌<◌, Bool, true, false, List, [], ◌∷◌, ◌++◌, length, cond, Option, Some, None, refl, sym, ap, ◌∙◌, subst, ◌⊎◌, ⊎_elim, inl, inr, eq-eqb, arith, length-append}
+use Rattle.std.proofs.Common.{◌≡◌, ◌≢◌, not, ℕ, zero, suc, ◌+◌, ◌*◌, ◌≤◌, ◌<◌, Bool, true, false, List, [], ◌∷◌, ◌++◌, length, cond, Option, Some, None, refl, sym, ap, ◌∙◌, subst, ⊎_elim, eq-eqb, arith, length-append}
 use Rattle.std.proofs.lemmas.List.{length-set, get_or-set_same, get_or-set_other}
 use mathlib.Core.Path.{ap₂}
-use Rattle.std.specs.Prelude.{◌==◌, ◌&&◌, slice_get, slice_index_or, slice_set, is_none, IsSome, IsSomeAnd}
+use Rattle.std.specs.Prelude.{◌==◌, slice_get, slice_index_or, slice_set, is_none, IsSomeAnd}
 use Rattle.std.proofs.lemmas.Option.{slice_get_past}
 use Rattle.std.specs.List.{AllByRecursion, filter}
 use Rattle.std.specs.Option.{option_map, option_or}
-use Rattle.std.proofs.lemmas.Bool.{cases_Bool, eqb-true, eqb-false, cond-true, cond-false, and_parts, and_from, and_right, or_parts, or_left, false_from_ne_true, false≢true, both_ways}
-use Rattle.mps_base.specs.Effects.{Effect, Gives, Takes, Idle, effect}
+use Rattle.std.proofs.lemmas.Bool.{cases_Bool, eqb-true, eqb-false, cond-false, and_parts, and_from, and_right, or_parts, or_left, false_from_ne_true, false≢true, both_ways}
+use Rattle.mps_base.specs.Effects.{Effect, effect}
 use Rattle.mps_base.specs.declared.action.Step.{Step}
 use Rattle.mps_history.specs.Steps.{gives_to, takes_from, sends, receives}
 use Rattle.mps_arena.specs.declared.node.Before.{Before}
 use Rattle.mps_arena.specs.declared.node.Node.{Node}
 use Rattle.mps_arena.specs.Keys.{has, AreDistinct, first_key, last_key, key_after, key_before}
-use Rattle.mps_arena.specs.Entries.{KeyedStep, keys_of, any_step, of_role, like_sends, like, unlike, entry_at, IsSmall, HasSmallPeer, AreSound}
+use Rattle.mps_arena.specs.Entries.{KeyedStep, keys_of, any_step, of_role, like, unlike, entry_at, IsSmall, AreSound}
 use Rattle.mps_arena.specs.Private.Ends.{receiver, end_at, with_end}
 use Rattle.mps_arena.specs.Private.Links.{node_of, AreNodes, joined, parted}
 use Rattle.mps_arena.specs.Neighbours.{matched_with, IsLastAndUnreceived, IsSource, IsUnreceived, CanGo}
@@ -37,8 +37,7 @@ pub kept_whole : (look : ℕ → Option Node) (size : ℕ) (f l : Option ℕ) (r
 kept_whole look size f l r p index es k = subst (λ (e : List KeyedStep). IsKept look size f l r p index e) (sym (kept_view look size f l r p index es k)) k
 
 first_push : (c : List ℕ) (k : ℕ) → first_key (c ++ k ∷ []) ≡ option_or (first_key c) (Some k)
-first_push [] k = refl
-first_push (j ∷ c) k = refl
+first_push c k = grind arith
 
 get_front : (c d : List ℕ) (n v : ℕ) → slice_get c n ≡ Some v → slice_get (c ++ d) n ≡ Some v
 get_front [] d n v e = absurd cc
@@ -57,71 +56,23 @@ all_without : (P : KeyedStep → Type 0) (a b : List KeyedStep) (x : KeyedStep) 
 all_without P [] b x h = h.1
 all_without P (y ∷ a) b x h = (h.0, all_without P a b x h.1)
 
--- which pair an act ends
-sends_to : (p q r : ℕ) (s : Step) (a : Effect) → effect s.act ≡ a → receiver a ≡ Some q → sends p r s ≡ (s.role == p && q == r)
-sends_to p q r s (Gives to message) e h = let same : to ≡ q = cc in ap (λ (b : Effect). s.role == p && gives_to r b) e ∙ ap (λ (n : ℕ). s.role == p && n == r) same
-sends_to p q r s (Takes from slot) e h = absurd cc
-sends_to p q r s Idle e h = absurd cc
-
-sends_none : (p r : ℕ) (s : Step) (a : Effect) → effect s.act ≡ a → receiver a ≡ None → sends p r s ≡ false
-sends_none p r s (Gives to message) e h = absurd cc
-sends_none p r s (Takes from slot) e h = ap (λ (b : Effect). s.role == p && gives_to r b) e ∙ and_right (s.role == p) false refl
-sends_none p r s Idle e h = ap (λ (b : Effect). s.role == p && gives_to r b) e ∙ and_right (s.role == p) false refl
-
-small_to : (a : Effect) (q : ℕ) → HasSmallPeer a → receiver a ≡ Some q → q < 8
-small_to (Gives to message) q h e = let same : to ≡ q = cc in subst (λ (n : ℕ). n < 8) same h
-small_to (Takes from slot) q h e = absurd cc
-small_to Idle q h e = absurd cc
-
-cases_number : (o : Option ℕ) → (o ≡ None) ⊎ ((q : ℕ) × (o ≡ Some q))
-cases_number None = inl refl
-cases_number (Some q) = inr (q, refl)
-
 -- ends where those of the pairs of one step change
 with_end_is : (ends : List (Option ℕ)) (s : Step) (key : Option ℕ) (before after : ℕ → ℕ → Option ℕ) → length ends ≡ 64 → IsSmall s
     → ((p q : ℕ) → p < 8 → q < 8 → slice_index_or ends (p * 8 + q) None ≡ before p q)
     → ((p q : ℕ) → sends p q s ≡ true → after p q ≡ key)
     → ((p q : ℕ) → sends p q s ≡ false → after p q ≡ before p q)
     → (p q : ℕ) → p < 8 → q < 8 → slice_index_or (with_end ends s.role (receiver (effect s.act)) key) (p * 8 + q) None ≡ after p q
-with_end_is ends s key before after long small was at others p q hp hq =
-    ⊎_elim
-    (λ (n : receiver (effect s.act) ≡ None). rw n (was p q hp hq ∙ sym (others p q (sends_none p q s (effect s.act) refl n))))
-    (λ (w : (r : ℕ) × (receiver (effect s.act) ≡ Some r)).
-    let is = sends_to p w.0 q s (effect s.act) refl w.1 in
-    let lr = small_to (effect s.act) w.0 small.1 w.1 in
-    let ls = small.0 in
-    rw w.1
-    (⊎_elim
-    (λ (t : (s.role == p && w.0 == q) ≡ true).
-    let both = and_parts (s.role == p) (w.0 == q) t in
-    let e1 = eqb-true s.role p both.0 in
-    let e2 = eqb-true w.0 q both.1 in
-    let place : s.role * 8 + w.0 ≡ p * 8 + q = omega arith in
-    let within : p * 8 + q < length ends = omega arith in
-    ap (λ (i : ℕ). slice_index_or (slice_set ends i key) (p * 8 + q) None) place ∙ get_or-set_same ends (p * 8 + q) key None within ∙ sym (at p q (is ∙ t)))
-    (λ (f : (s.role == p && w.0 == q) ≡ false).
-    let away : p * 8 + q ≢ s.role * 8 + w.0 = λ e. both_ways (s.role == p && w.0 == q) f (and_from (s.role == p) (w.0 == q) (eq-eqb s.role p (omega arith)) (eq-eqb w.0 q (omega arith))) in
-    get_or-set_other ends (s.role * 8 + w.0) (p * 8 + q) key None away ∙ was p q hp hq ∙ sym (others p q (is ∙ f)))
-    (cases_Bool (s.role == p && w.0 == q))))
-    (cases_number (receiver (effect s.act)))
+with_end_is ends s key before after long small was at others p q hp hq = grind (arith, and_right, and_parts, eqb-true, get_or-set_same, both_ways, and_from, eq-eqb, get_or-set_other, cases_Bool)
 
 with_role_is : (lasts : List (Option ℕ)) (s : Step) (key : Option ℕ) (before after : ℕ → Option ℕ) → length lasts ≡ 8 → s.role < 8
     → ((p : ℕ) → p < 8 → slice_index_or lasts p None ≡ before p)
     → ((p : ℕ) → of_role p s ≡ true → after p ≡ key)
     → ((p : ℕ) → of_role p s ≡ false → after p ≡ before p)
     → (p : ℕ) → p < 8 → slice_index_or (slice_set lasts s.role key) p None ≡ after p
-with_role_is lasts s key before after long small was at others p hp =
-    ⊎_elim
-    (λ (t : (s.role == p) ≡ true).
-    let within : p < length lasts = omega arith in
-    ap (λ (i : ℕ). slice_index_or (slice_set lasts i key) p None) (eqb-true s.role p t) ∙ get_or-set_same lasts p key None within ∙ sym (at p t))
-    (λ (f : (s.role == p) ≡ false).
-    get_or-set_other lasts s.role p key None (λ e. eqb-false s.role p f (sym e)) ∙ was p hp ∙ sym (others p f))
-    (cases_Bool (s.role == p))
+with_role_is lasts s key before after long small was at others p hp = grind (arith, eqb-true, get_or-set_same, get_or-set_other, eqb-false, cases_Bool)
 
 length_with_end : (ends : List (Option ℕ)) (p : ℕ) (q key : Option ℕ) → length (with_end ends p q key) ≡ length ends
-length_with_end ends p None key = refl
-length_with_end ends p (Some q) key = length-set ends (p * 8 + q) key
+length_with_end ends p q key = grind (arith, length-set)
 
 module _ (look after : ℕ → Option Node) (size : ℕ) (f l : Option ℕ) (r p : List (Option ℕ)) (index : List ℕ) (es : List KeyedStep) (k : IsKept look size f l r p index es) where
   pub kept_push : (e : KeyedStep) → IsSmall e.step → e.step.id ≡ length index + 1 → entry_at e.key es ≡ None
@@ -148,19 +99,7 @@ module _ (look after : ℕ → Option Node) (size : ℕ) (f l : Option ℕ) (r p
       indexed : (j : ℕ) (y : KeyedStep) → entry_at j (es ++ e ∷ []) ≡ Some y → IsIndexed (index ++ e.key ∷ []) j y
       indexed j y found =
           ⊎_elim
-          (λ (n : entry_at j es ≡ None).
-          let was : cond (e.key == j) (Some e) None ≡ Some y = sym (rw n at (entry_push j es e)) ∙ found in
-          ⊎_elim
-          (λ (t : (e.key == j) ≡ true).
-          let one : Some e ≡ Some y = sym (cond-true (e.key == j) (Some e) None t) ∙ was in
-          let same : e ≡ y = cc in
-          record {
-            place = length index;
-            number = ap (λ (z : KeyedStep). z.step.id) (sym same) ∙ number;
-            key = get_end index e.key ∙ ap Some (eqb-true e.key j t);
-          })
-          (λ (f : (e.key == j) ≡ false). let none : None ≡ Some y = sym (cond-false (e.key == j) (Some e) None f) ∙ was in absurd cc)
-          (cases_Bool (e.key == j)))
+          (grind (arith, entry_push j es e, get_end index e.key, cases_Bool (e.key == j)))
           (λ (w : (z : KeyedStep) × (entry_at j es ≡ Some z)).
           let one : Some w.0 ≡ Some y = sym (rw w.1 at (entry_push j es e)) ∙ found in
           let same : w.0 ≡ y = cc in
@@ -173,8 +112,7 @@ last_goes : (q : Step → Bool) (a b : List KeyedStep) (x : KeyedStep) → AreDi
 last_goes q a b x d t at_end =
     let is = keys_around q a b x t in
     let parts : AreDistinct (keys_of q a ++ x.key ∷ keys_of q b) = subst AreDistinct is (distinct q (a ++ x ∷ b) d) in
-    let none : key_after x.key (keys_of q a ++ x.key ∷ keys_of q b) ≡ None = sym (ap (key_after x.key) is) ∙ at_end in
-    rw (keys-append q a b, is, last_without x.key (keys_of q a) (keys_of q b) parts, none) refl
+    grind (arith, keys-append, last_without)
 
 module _ (look after : ℕ → Option Node) (size : ℕ) (f l : Option ℕ) (r p : List (Option ℕ)) (index : List ℕ) (a b : List KeyedStep) (x : KeyedStep) (k : IsKept look size f l r p index (a ++ x ∷ b)) where
   abbrev old : List KeyedStep
@@ -197,8 +135,7 @@ module _ (look after : ℕ → Option Node) (size : ℕ) (f l : Option ℕ) (r p
         roles = length-set r x.step.role (node_of old x).prev_of_role ∙ k.roles;
         pairs = length_with_end p x.step.role (receiver (effect x.step.act)) (node_of old x).prev_send ∙ k.pairs;
         last_of = with_role_is r x.step (node_of old x).prev_of_role (λ i. last_key None (keys_of (of_role i) old)) (λ i. last_key None (keys_of (of_role i) (a ++ b))) k.roles small.0 k.last_of
-            (λ i t. let same : x.step.role ≡ i = eqb-true x.step.role i t in
-            subst (λ (n : ℕ). last_key None (keys_of (of_role n) (a ++ b)) ≡ (node_of old x).prev_of_role) same (last_goes (of_role x.step.role) a b x d (eq-eqb x.step.role x.step.role refl) at_end))
+            (grind (arith, eqb-true, last_goes, eq-eqb))
             (λ i n. ap (last_key None) (sym (keys_beside (of_role i) a b x n)));
         last_send = with_end_is p x.step (node_of old x).prev_send (λ i j. last_key None (keys_of (sends i j) old)) (λ i j. last_key None (keys_of (sends i j) (a ++ b))) k.pairs small k.last_send
             (λ i j t. let same = sends_chain i j x.step t in
@@ -211,11 +148,7 @@ module _ (look after : ℕ → Option Node) (size : ℕ) (f l : Option ℕ) (r p
       }
     where
       indexed : (j : ℕ) (y : KeyedStep) → entry_at j (a ++ b) ≡ Some y → IsIndexed index j y
-      indexed j y found =
-          ⊎_elim
-          (λ (t : (x.key == j) ≡ true). let none : None ≡ Some y = sym (entry_gone j a b x k.linked.distinct t) ∙ found in absurd cc)
-          (λ (n : (x.key == j) ≡ false). k.indexed j y (sym (entry_without j a b x n) ∙ found))
-          (cases_Bool (x.key == j))
+      indexed j y found = grind (arith, entry_gone, entry_without, cases_Bool)
 
 -- an entry found stands somewhere
 pub entry_split : (j : ℕ) (es : List KeyedStep) (y : KeyedStep) → entry_at j es ≡ Some y → (a : List KeyedStep) × (b : List KeyedStep) × (es ≡ a ++ y ∷ b)
@@ -223,7 +156,6 @@ entry_split j [] y found = absurd cc
 entry_split j (x ∷ es) y found =
     ⊎_elim
     (λ (t : (x.key == j) ≡ true).
-    let one : Some x ≡ Some y = sym (cond-true (x.key == j) (Some x) (entry_at j es) t) ∙ found in
     let same : x ≡ y = cc in
     ([], es, ap (λ (z : KeyedStep). z ∷ es) same))
     (λ (n : (x.key == j) ≡ false).
@@ -246,18 +178,11 @@ others_are j [] b x d e =
         let w = or_parts (y.key == j) (has j (keys_of any_step es)) h in
         rw w.0 (ap (λ l. y ∷ l) (all_others j es w.1))
 others_are j (y ∷ a) b x d e =
-    let n : (y.key == j) ≡ false = false_from_ne_true (y.key == j) (λ t.
-    both_ways (has y.key (keys_of any_step (a ++ x ∷ b))) d.0
-    (rw (keys_around any_step a b x refl) (has-append_right y.key (keys_of any_step a) (x.key ∷ keys_of any_step b) (or_left (x.key == y.key) (has y.key (keys_of any_step b)) (eq-eqb x.key y.key (e ∙ sym (eqb-true y.key j t))))))) in
+    let n : (y.key == j) ≡ false = false_from_ne_true (y.key == j) (grind (arith, both_ways, keys_around, has-append_right, or_left, eq-eqb, eqb-true)) in
     rw n (ap (λ l. y ∷ l) (others_are j a b x d.1 e))
 
 none_at : {A B : Type 0} (g : A → B) (o : Option A) → option_map g o ≡ None → o ≡ None
-none_at g None e = refl
-none_at g (Some y) e = absurd cc
-
-some_of : (o : Option ℕ) → IsSome o → (k : ℕ) × (o ≡ Some k)
-some_of None h = absurd (false≢true h)
-some_of (Some k) h = (k, refl)
+none_at g o h1 = grind arith
 
 no_keys : (es : List KeyedStep) → keys_of (λ s. false) es ≡ []
 no_keys [] = refl
@@ -265,19 +190,10 @@ no_keys (x ∷ es) = no_keys es
 
 module _ (es : List KeyedStep) (m : (p q : ℕ) → length (keys_of (receives p q) es) ≤ length (keys_of (sends p q) es)) where
   source_at : (p : ℕ) (a : Effect) (source : Option ℕ) → IsSource es p a source → source ≡ slice_get (keys_of (unlike p a) es) (length (keys_of (like p a) es))
-  source_at p (Gives to message) source h = h ∙ sym (slice_get_past (keys_of (receives p to) es) (length (keys_of (sends p to) es)) (m p to))
-  source_at p (Takes from slot) source h = h.0
-  source_at p Idle source h = h ∙ sym (ap (λ c. slice_get c (length (keys_of (λ s. false) es))) (no_keys es))
+  source_at p a source h1 = grind (arith, slice_get_past, no_keys)
 
   match_at : (p : ℕ) (a : Effect) (source : Option ℕ) → IsSource es p a source → (from : ℕ) → takes_from from a ≡ true → (k : ℕ) × (source ≡ Some k)
-  match_at p (Gives to message) source h from e = absurd (false≢true e)
-  match_at p (Takes i slot) source h from e = some_of source h.1
-  match_at p Idle source h from e = absurd (false≢true e)
-
-end_is : (p : List (Option ℕ)) (es : List KeyedStep) → ((i j : ℕ) → i < 8 → j < 8 → slice_index_or p (i * 8 + j) None ≡ last_key None (keys_of (sends i j) es)) → (r : ℕ) (a : Effect) → r < 8 → HasSmallPeer a → end_at p r (receiver a) ≡ last_key None (keys_of (like_sends r a) es)
-end_is p es h r (Gives to message) lr la = h r to lr la
-end_is p es h r (Takes from slot) lr la = sym (ap (last_key None) (no_keys es))
-end_is p es h r Idle lr la = sym (ap (last_key None) (no_keys es))
+  match_at p a source h1 from h2 = grind (arith, false≢true)
 
 module _ (look after : ℕ → Option Node) (size : ℕ) (f l : Option ℕ) (r p : List (Option ℕ)) (index : List ℕ) (es : List KeyedStep) (k : IsKept look size f l r p index es) (s : Step) (before : Before) (source : Option ℕ) (key : ℕ) where
   abbrev pub entry : KeyedStep
@@ -299,8 +215,7 @@ module _ (look after : ℕ → Option Node) (size : ℕ) (f l : Option ℕ) (r p
   }
 
   behind_is : IsSmall s → IsSource es s.role (effect s.act) source → behind ≡ newcomer es entry
-  behind_is small h =
-      same_node behind (newcomer es entry) refl refl refl refl k.last refl (k.last_of s.role small.0) refl (end_is p es k.last_send s.role (effect s.act) small.0 small.1) (source_at es (matched_of es k.linked.fed) s.role (effect s.act) source h) refl
+  behind_is small h = grind (arith, same_node, newcomer, no_keys, slice_get_past, matched_of)
 
   pub kept_add : IsSmall s → s.id ≡ length index + 1 → IsSource es s.role (effect s.act) source → look key ≡ None
       → ((i : ℕ) → after i ≡ option_map (joined behind key i) (cond (key == i) (Some behind) (look i)))
@@ -310,13 +225,10 @@ module _ (look after : ℕ → Option Node) (size : ℕ) (f l : Option ℕ) (r p
       let fresh : entry_at key es ≡ None = none_at (node_of es) (entry_at key es) (sym (k.linked.nodes key) ∙ vacant) in
       kept_push look after size f l r p index es k entry small number fresh
       (subst (λ (n : Node). (i : ℕ) → after i ≡ option_map (joined n key i) (cond (key == i) (Some n) (look i))) same is)
-      (λ i j t. let w = match_at es (matched_of es k.linked.fed) s.role (effect s.act) source h i (and_parts (s.role == j) (takes_from i (effect s.act)) t).1 in
-      (w.0, sym (source_at es (matched_of es k.linked.fed) s.role (effect s.act) source h) ∙ w.1))
+      (grind (arith, match_at, matched_of, and_parts, source_at))
 
 unreceived_at : (es : List KeyedStep) (x : KeyedStep) (a : Effect) → IsUnreceived es x a → (q : ℕ) → gives_to q a ≡ true → matched_with es x ≡ None
-unreceived_at es x (Gives to message) h q e = h
-unreceived_at es x (Takes from slot) h q e = absurd (false≢true e)
-unreceived_at es x Idle h q e = absurd (false≢true e)
+unreceived_at es x a h1 q h2 = grind (arith, false≢true)
 
 -- the entry of a node
 pub record Stands (es : List KeyedStep) (j : ℕ) (node : Node) : Type 0 where
@@ -328,15 +240,7 @@ pub record Stands (es : List KeyedStep) (j : ℕ) (node : Node) : Type 0 where
   pub parts : es ≡ before ++ entry ∷ behind
 
 pub stands : (look : ℕ → Option Node) (es : List KeyedStep) (j : ℕ) (node : Node) → AreNodes look es → look j ≡ Some node → Stands es j node
-stands look es j node n e =
-    ⊎_elim
-    (λ (z : entry_at j es ≡ None). let no : Some node ≡ None = sym e ∙ n.nodes j ∙ ap (option_map (node_of es)) z in absurd cc)
-    (λ (w : (y : KeyedStep) × (entry_at j es ≡ Some y)).
-    let one : Some node ≡ Some (node_of es w.0) = sym e ∙ n.nodes j ∙ ap (option_map (node_of es)) w.1 in
-    let split = entry_split j es w.0 w.1 in
-    let same : node ≡ node_of es w.0 = cc in
-    record { entry = w.0; found = w.1; node_is = same; before = split.0; behind = split.1; parts = split.2 })
-    (cases_entry (entry_at j es))
+stands look es j node n e = grind (arith, entry_split, cases_entry)
 
 pub small_of : (look : ℕ → Option Node) (size : ℕ) (f l : Option ℕ) (r p : List (Option ℕ)) (index : List ℕ) (es : List KeyedStep) → IsKept look size f l r p index es → (j : ℕ) (node : Node) → look j ≡ Some node → IsSmall node.step
 small_of look size f l r p index es k j node e =
@@ -367,7 +271,4 @@ kept_remove look after size f l r p index es k left fewer j node e can is =
     let result : Left after left f l r p index (node_of whole x) (s.before ++ s.behind) =
     kept_without look after size f l r p index s.before s.behind x kw left fewer small fw.last
     (λ i q t. unreceived_at whole x (effect x.step.act) fw.unreceived q (and_parts (x.step.role == i) (gives_to q (effect x.step.act)) t).1) now in
-    let rest : s.before ++ s.behind ≡ filter (λ e. not (e.key == j)) es =
-    sym (others_are j s.before s.behind x kw.linked.distinct key) ∙ ap (filter (λ e. not (e.key == j))) (sym s.parts) in
-    subst (λ (n : Node). Left after left f l r p index n (filter (λ e. not (e.key == j)) es)) (sym nw)
-    (subst (λ (l' : List KeyedStep). Left after left f l r p index (node_of whole x) l') rest result)
+    grind (arith, others_are)

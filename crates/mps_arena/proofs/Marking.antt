@@ -1,20 +1,18 @@
 -- The invariant, where a mark changes.
-use Rattle.std.proofs.Common.{◌≡◌, ℕ, Bool, true, false, List, [], ◌∷◌, ◌++◌, map, Option, Some, None, refl, sym, ap, ◌∙◌, subst, ⊎_elim, arith}
+use Rattle.std.proofs.Common.{◌≡◌, ℕ, Bool, List, [], ◌∷◌, ◌++◌, map, Option, Some, None, refl, sym, ap, ◌∙◌, subst, ⊎_elim, arith}
 use mathlib.Core.Path.{ap₂}
 use Rattle.std.specs.Prelude.{◌==◌, if◌then◌else◌}
 use Rattle.std.specs.List.{AllByRecursion}
 use Rattle.std.specs.Option.{option_map}
 use Rattle.std.proofs.lemmas.Bool.{cases_Bool}
 use Rattle.std.proofs.lemmas.List.{length-map}
-use Rattle.mps_base.specs.Effects.{effect}
 use Rattle.mps_base.specs.declared.action.Step.{Step}
 use Rattle.mps_history.specs.Steps.{sends, receives, IsRising}
 use Rattle.mps_arena.specs.declared.node.Node.{Node}
-use Rattle.mps_arena.specs.Keys.{key_after, key_before, matched_key}
-use Rattle.mps_arena.specs.Entries.{KeyedStep, steps, keys_of, any_step, of_role, like_sends, like, unlike, entry_at, with_mark, IsSmall}
+use Rattle.mps_arena.specs.Entries.{KeyedStep, steps, keys_of, any_step, of_role, entry_at, with_mark, IsSmall}
 use Rattle.mps_arena.specs.Private.Links.{node_of, node_at}
 use Rattle.mps_arena.specs.Private.Kept.{IsIndexed, IsKept}
-use Rattle.mps_arena.proofs.Chains.{keys_with, keys_without, entry_key}
+use Rattle.mps_arena.proofs.Chains.{entry_key}
 use Rattle.mps_arena.proofs.Nodes.{same_node, cases_entry}
 
 module _ (j : ℕ) (m : Bool) where
@@ -23,11 +21,7 @@ module _ (j : ℕ) (m : Bool) where
 
   keys_marked : (p : Step → Bool) (es : List KeyedStep) → keys_of p (marks es) ≡ keys_of p es
   keys_marked p [] = refl
-  keys_marked p (x ∷ es) =
-      ⊎_elim
-      (λ (t : p x.step ≡ true). keys_with p (with_mark j m x) (marks es) t ∙ ap (λ l. x.key ∷ l) (keys_marked p es) ∙ sym (keys_with p x es t))
-      (λ (f : p x.step ≡ false). keys_without p (with_mark j m x) (marks es) f ∙ keys_marked p es ∙ sym (keys_without p x es f))
-      (cases_Bool (p x.step))
+  keys_marked p (x ∷ es) = grind (arith, keys_marked p es, cases_Bool (p x.step))
 
   pub steps_marked : (es : List KeyedStep) → steps (marks es) ≡ steps es
   steps_marked [] = refl
@@ -35,8 +29,7 @@ module _ (j : ℕ) (m : Bool) where
 
   entry_marked : (k : ℕ) (es : List KeyedStep) → entry_at k (marks es) ≡ option_map (with_mark j m) (entry_at k es)
   entry_marked k [] = refl
-  entry_marked k (x ∷ es) =
-      ⊎_elim (λ (t : (x.key == k) ≡ true). rw t refl) (λ (f : (x.key == k) ≡ false). rw f (entry_marked k es)) (cases_Bool (x.key == k))
+  entry_marked k (x ∷ es) = grind (arith, entry_marked k es, cases_Bool (x.key == k))
 
   all_marked : (es : List KeyedStep) → AllByRecursion (λ e. IsSmall e.step) es → AllByRecursion (λ e. IsSmall e.step) (marks es)
   all_marked [] a = tt
@@ -55,19 +48,7 @@ module _ (j : ℕ) (m : Bool) where
   marked_node k n = record n { marked = if k == j then m else n.marked }
 
   node_marked : (es : List KeyedStep) (y : KeyedStep) → node_of (marks es) (with_mark j m y) ≡ marked_node y.key (node_of es y)
-  node_marked es y =
-      same_node (node_of (marks es) (with_mark j m y)) (marked_node y.key (node_of es y))
-      refl
-      refl
-      refl
-      (ap (key_after y.key) (keys_marked any_step es))
-      (ap (key_before None y.key) (keys_marked any_step es))
-      (ap (key_after y.key) (keys_marked (of_role y.step.role) es))
-      (ap (key_before None y.key) (keys_marked (of_role y.step.role) es))
-      (ap (key_after y.key) (keys_marked (like_sends y.step.role (effect y.step.act)) es))
-      (ap (key_before None y.key) (keys_marked (like_sends y.step.role (effect y.step.act)) es))
-      (ap₂ (matched_key y.key) (keys_marked (like y.step.role (effect y.step.act)) es) (keys_marked (unlike y.step.role (effect y.step.act)) es))
-      refl
+  node_marked es y = grind (arith, same_node, keys_marked)
 
   module _ (look after : ℕ → Option Node) (size now : ℕ) (f l : Option ℕ) (r p : List (Option ℕ)) (index : List ℕ) (es : List KeyedStep) (k : IsKept look size f l r p index es) where
     pub kept_marked : now ≡ size → ((i : ℕ) → after i ≡ option_map (marked_node i) (look i)) → IsKept after now f l r p index (marks es)
@@ -91,15 +72,7 @@ module _ (j : ℕ) (m : Bool) where
         }
       where
         at : (i : ℕ) → after i ≡ node_at (marks es) i
-        at i =
-            ⊎_elim
-            (λ (z : entry_at i es ≡ None). is i ∙ rw (k.linked.nodes i, entry_marked i es, z) refl)
-            (λ (w : (y : KeyedStep) × (entry_at i es ≡ Some y)).
-            let key : w.0.key ≡ i = entry_key i es w.0 w.1 in
-            let here : marked_node i (node_of es w.0) ≡ node_of (marks es) (with_mark j m w.0) =
-            subst (λ (n : ℕ). marked_node n (node_of es w.0) ≡ node_of (marks es) (with_mark j m w.0)) key (sym (node_marked es w.0)) in
-            is i ∙ rw (k.linked.nodes i, entry_marked i es, w.1) (ap Some here))
-            (cases_entry (entry_at i es))
+        at i = grind (arith, entry_marked, entry_key, node_marked, cases_entry)
 
         indexed : (i : ℕ) (y : KeyedStep) → entry_at i (marks es) ≡ Some y → IsIndexed index i y
         indexed i y found =

@@ -1,5 +1,5 @@
 -- The nodes, as entries come and go.
-use Rattle.std.proofs.Common.{◌≡◌, ℕ, Bool, true, false, List, [], ◌∷◌, ◌++◌, length, cond, Option, Some, None, refl, sym, ap, ◌∙◌, subst, ⊎_elim, eq-eqb, append_assoc, ◌⊎◌, inl, inr}
+use Rattle.std.proofs.Common.{arith, ◌≡◌, ℕ, Bool, true, false, List, [], ◌∷◌, ◌++◌, length, cond, Option, Some, None, refl, sym, ap, ◌∙◌, subst, ⊎_elim, eq-eqb, append_assoc, ◌⊎◌, inl, inr}
 use Rattle.std.specs.Prelude.{◌==◌}
 use Rattle.std.specs.Option.{option_map}
 use Rattle.std.proofs.lemmas.Bool.{cases_Bool, eqb-true, false_from_ne_true, both_ways}
@@ -13,7 +13,7 @@ use Rattle.mps_arena.specs.Private.Links.{node_of, node_at, AreNodes, joined, pa
 use Rattle.mps_arena.specs.Neighbours.{matched_with}
 use Rattle.mps_arena.specs.Private.Walks.{walk}
 use Rattle.mps_arena.proofs.KeyLists.{not_at, last_in, last-append, get_in, once, after_absent, AreDistinct-push, AreDistinct-without}
-use Rattle.mps_arena.proofs.Chains.{keys-append, keys_with, keys_without, distinct, chain_empty, keys_push, keys_around, absent, after_push, before_push, after_new, before_new, after_removal, before_removal, entry_key, entry_push, entry_middle, entry_without, entry_gone}
+use Rattle.mps_arena.proofs.Chains.{keys-append, keys_without, distinct, chain_empty, keys_push, keys_around, absent, after_push, before_push, after_new, before_new, after_removal, before_removal, entry_key, entry_push, entry_middle, entry_without, entry_gone}
 use Rattle.mps_arena.proofs.Matched.{sends_like, own_role, sends_role, own, other, new_match, matched_with_push, matched_with_new, matched_with_removal, fed_push, fed_removal, role_alike, role_back, sends_alike, sends_back}
 
 -- a walk from the first key gives the entries
@@ -24,18 +24,13 @@ walk_from look a (x ∷ b) n =
     let here : look x.key ≡ Some (node_of es x) = n.nodes x.key ∙ ap (option_map (node_of es)) (entry_middle a b x n.distinct) in
     let whole = keys_around any_step a b x refl in
     let o = once x.key (keys_of any_step a) (keys_of any_step b) (subst AreDistinct whole n.distinct) in
-    let next : key_after x.key (keys_of any_step es) ≡ first_key (keys_of any_step b) =
-    ap (key_after x.key) whole ∙ after_absent x.key (keys_of any_step a) (x.key ∷ keys_of any_step b) o.0 ∙ rw (eq-eqb x.key x.key refl) refl in
-    let rest = walk_from look (a ++ x ∷ []) b (subst (AreNodes look) (sym (append_assoc a (x ∷ []) b)) n) in
-    rw (here, next) (ap (λ l. x ∷ l) rest)
+    grind (arith, after_absent x.key (keys_of any_step a) (x.key ∷ keys_of any_step b) o.0, eq-eqb x.key x.key refl, walk_from look (a ++ x ∷ []) b (subst (AreNodes look) (sym (append_assoc a (x ∷ []) b)) n))
 
 pub walk_is : (look : ℕ → Option Node) (es : List KeyedStep) → AreNodes look es → walk look (length es) (first_key (keys_of any_step es)) ≡ es
 walk_is look es n = walk_from look [] es n
 
 pub same_node : (n m : Node) → n.step ≡ m.step → n.at ≡ m.at → n.bound ≡ m.bound → n.next ≡ m.next → n.prev ≡ m.prev → n.next_of_role ≡ m.next_of_role → n.prev_of_role ≡ m.prev_of_role → n.next_send ≡ m.next_send → n.prev_send ≡ m.prev_send → n.matched ≡ m.matched → n.marked ≡ m.marked → n ≡ m
-same_node n m a j k b c d e f g h i =
-    let t : ◌≡◌ {A = Node} (record { step = n.step; at = n.at; bound = n.bound; next = n.next; prev = n.prev; next_of_role = n.next_of_role; prev_of_role = n.prev_of_role; next_send = n.next_send; prev_send = n.prev_send; matched = n.matched; marked = n.marked }) (record { step = m.step; at = m.at; bound = m.bound; next = m.next; prev = m.prev; next_of_role = m.next_of_role; prev_of_role = m.prev_of_role; next_send = m.next_send; prev_send = m.prev_send; matched = m.matched; marked = m.marked }) = cc in
-    t
+same_node n m a j k b c d e f g h i = grind arith
 
 pub cases_entry : (o : Option KeyedStep) → (o ≡ None) ⊎ ((y : KeyedStep) × (o ≡ Some y))
 cases_entry None = inl refl
@@ -63,8 +58,7 @@ module _ (look after : ℕ → Option Node) (es : List KeyedStep) (e : KeyedStep
 
   new_node : joined (newcomer es e) e.key e.key (newcomer es e) ≡ node_of (es ++ e ∷ []) e
   new_node =
-      let away : is_at (new_match es e.step) e.key ≡ false = not_at (new_match es e.step) e.key (λ t.
-      both_ways (has e.key (keys_of (other e.step) es)) (absent (other e.step) e.key es fresh) (get_in (keys_of (other e.step) es) (length (keys_of (own e.step) es)) e.key t)) in
+      let away : is_at (new_match es e.step) e.key ≡ false = not_at (new_match es e.step) e.key (grind (arith, both_ways, other, absent, get_in, own)) in
       same_node (joined (newcomer es e) e.key e.key (newcomer es e)) (node_of (es ++ e ∷ []) e)
       refl
       refl
@@ -104,19 +98,8 @@ module _ (look after : ℕ → Option Node) (es : List KeyedStep) (e : KeyedStep
       at : (k : ℕ) → after k ≡ node_at (es ++ e ∷ []) k
       at k =
           ⊎_elim
-          (λ (t : (e.key == k) ≡ true).
-          let same : e.key ≡ k = eqb-true e.key k t in
-          subst (λ (i : ℕ). after i ≡ node_at (es ++ e ∷ []) i) same
-          (is e.key ∙ rw (eq-eqb e.key e.key refl, entry_push e.key es e, fresh, eq-eqb e.key e.key refl) (ap Some new_node)))
-          (λ (f : (e.key == k) ≡ false).
-          ⊎_elim
-          (λ (z : entry_at k es ≡ None). is k ∙ rw (f, n.nodes k, entry_push k es e, z, f) refl)
-          (λ (w : (y : KeyedStep) × (entry_at k es ≡ Some y)).
-          let key : w.0.key ≡ k = entry_key k es w.0 w.1 in
-          let here : joined (newcomer es e) e.key k (node_of es w.0) ≡ node_of (es ++ e ∷ []) w.0 =
-          subst (λ (i : ℕ). joined (newcomer es e) e.key i (node_of es w.0) ≡ node_of (es ++ e ∷ []) w.0) key (old_node w.0 (subst (λ (i : ℕ). entry_at i es ≡ Some w.0) (sym key) w.1)) in
-          is k ∙ rw (f, n.nodes k, entry_push k es e, w.1) (ap Some here))
-          (cases_entry (entry_at k es)))
+          (grind (arith, eqb-true, eq-eqb, entry_push, new_node))
+          (grind (arith, entry_push, entry_key, old_node, cases_entry))
           (cases_Bool (e.key == k))
 
 -- where no later step of a chain comes, none of a part of the chain does
@@ -124,30 +107,19 @@ none_of : (p q : Step → Bool) (es : List KeyedStep) → ((s : Step) → q s �
 none_of p q [] sub e = refl
 none_of p q (x ∷ es) sub e =
     ⊎_elim
-    (λ (t : p x.step ≡ true). let no : x.key ∷ keys_of p es ≡ [] = sym (keys_with p x es t) ∙ e in absurd cc)
+    (λ (t : p x.step ≡ true). absurd cc)
     (λ (f : p x.step ≡ false).
     let g : q x.step ≡ false = false_from_ne_true (q x.step) (λ t. both_ways (p x.step) f (sub x.step t)) in
     keys_without q x es g ∙ none_of p q es sub (sym (keys_without p x es f) ∙ e))
     (cases_Bool (p x.step))
 
-nothing_first : (c : List ℕ) → first_key c ≡ None → c ≡ []
-nothing_first [] e = refl
-nothing_first (k ∷ c) e = absurd cc
-
 -- after the last step of a role there is none of the role
 pub role_ends : (a b : List KeyedStep) (x : KeyedStep) → AreDistinct (keys_of any_step (a ++ x ∷ b)) → key_after x.key (keys_of (of_role x.step.role) (a ++ x ∷ b)) ≡ None → keys_of (of_role x.step.role) b ≡ []
-role_ends a b x d at_end =
-    let p = of_role x.step.role in
-    let is = keys_around p a b x (eq-eqb x.step.role x.step.role refl) in
-    let o = once x.key (keys_of p a) (keys_of p b) (subst AreDistinct is (distinct p (a ++ x ∷ b) d)) in
-    let next : key_after x.key (keys_of p (a ++ x ∷ b)) ≡ first_key (keys_of p b) = ap (key_after x.key) is ∙ after_absent x.key (keys_of p a) (x.key ∷ keys_of p b) o.0 ∙ rw (eq-eqb x.key x.key refl) refl in
-    nothing_first (keys_of p b) (sym next ∙ at_end)
+role_ends a b x d at_end = grind (arith, keys_around, eq-eqb, once, distinct, after_absent)
 
 -- so it is the last of each chain of its role that it stands in
 pub last_of_chain : (f : Step → Bool) (a b : List KeyedStep) (x : KeyedStep) → AreDistinct (keys_of any_step (a ++ x ∷ b)) → key_after x.key (keys_of (of_role x.step.role) (a ++ x ∷ b)) ≡ None → ((s : Step) → f s ≡ true → of_role x.step.role s ≡ true) → f x.step ≡ true → last_key None (keys_of f (a ++ x ∷ b)) ≡ Some x.key
-last_of_chain f a b x d at_end sub t =
-    ap (last_key None) (keys_around f a b x t ∙ ap (λ (l : List ℕ). keys_of f a ++ x.key ∷ l) (none_of (of_role x.step.role) f b sub (role_ends a b x d at_end)))
-    ∙ last-append None (keys_of f a) (x.key ∷ [])
+last_of_chain f a b x d at_end sub t = grind (arith, keys_around, none_of, role_ends, last-append)
 
 module _ (look after : ℕ → Option Node) (a b : List KeyedStep) (x : KeyedStep) (n : AreNodes look (a ++ x ∷ b)) (at_end : key_after x.key (keys_of (of_role x.step.role) (a ++ x ∷ b)) ≡ None) where
   abbrev whole : List KeyedStep
@@ -158,17 +130,14 @@ module _ (look after : ℕ → Option Node) (a b : List KeyedStep) (x : KeyedSte
   none_later = role_ends a b x n.distinct at_end
 
   own_ends : keys_of (own x.step) b ≡ []
-  own_ends = none_of (of_role x.step.role) (own x.step) b (own_role x.step.role (effect x.step.act)) none_later
+  own_ends = grind (arith, none_of, own, own_role, role_ends)
 
   pub sends_ends : key_after x.key (keys_of (sends_like x.step) whole) ≡ None
   sends_ends =
       let p = sends_like x.step in
       let last : keys_of p b ≡ [] = none_of (of_role x.step.role) p b (sends_role x.step.role (effect x.step.act)) none_later in
       ⊎_elim
-      (λ (t : p x.step ≡ true).
-      let is = keys_around p a b x t in
-      let o = once x.key (keys_of p a) (keys_of p b) (subst AreDistinct is (distinct p whole n.distinct)) in
-      ap (key_after x.key) is ∙ after_absent x.key (keys_of p a) (x.key ∷ keys_of p b) o.0 ∙ rw (eq-eqb x.key x.key refl, last) refl)
+      (grind (arith, keys_around, once, distinct, after_absent, eq-eqb))
       (λ (f : p x.step ≡ false). ap (key_after x.key) (chain_empty sends_like sends_alike sends_back x.step whole f))
       (cases_Bool (p x.step))
 
@@ -196,17 +165,4 @@ module _ (look after : ℕ → Option Node) (a b : List KeyedStep) (x : KeyedSte
       }
     where
       at : (k : ℕ) → after k ≡ node_at (a ++ b) k
-      at k =
-          ⊎_elim
-          (λ (t : (x.key == k) ≡ true). is k ∙ rw (t, entry_gone k a b x n.distinct t) refl)
-          (λ (f : (x.key == k) ≡ false).
-          ⊎_elim
-          (λ (z : entry_at k whole ≡ None). is k ∙ rw (f, n.nodes k, entry_without k a b x f, z) refl)
-          (λ (w : (y : KeyedStep) × (entry_at k whole ≡ Some y)).
-          let key : w.0.key ≡ k = entry_key k whole w.0 w.1 in
-          let here : parted (node_of whole x) k (node_of whole w.0) ≡ node_of (a ++ b) w.0 =
-          subst (λ (i : ℕ). parted (node_of whole x) i (node_of whole w.0) ≡ node_of (a ++ b) w.0) key
-          (kept_node w.0 (subst (λ (i : ℕ). entry_at i whole ≡ Some w.0) (sym key) w.1) (subst (λ (i : ℕ). (x.key == i) ≡ false) (sym key) f)) in
-          is k ∙ rw (f, n.nodes k, entry_without k a b x f, w.1) (ap Some here))
-          (cases_entry (entry_at k whole)))
-          (cases_Bool (x.key == k))
+      at k = grind (arith, entry_gone, entry_without, entry_key, kept_node, cases_entry, cases_Bool)

@@ -1,10 +1,9 @@
 -- The k-th entry, by a walk from the first.
 use Rattle.std.proofs.Common.{◌≡◌, ℕ, suc, ◌≤◌, List, [], ◌∷◌, length, Option, Some, None, refl, ap, ◌∙◌, arith, ⊎_elim, eq-eqb}
 use Rattle.std.specs.Prelude.{slice_get}
-use Rattle.std.specs.Option.{option_and_then}
 use Rattle.std.proofs.lemmas.Option.{slice_get_past}
 use Rattle.std.proofs.lemmas.Bool.{both_ways}
-use Rattle.mps_arena.specs.Keys.{is_at, has, first_key, key_after, AreDistinct}
+use Rattle.mps_arena.specs.Keys.{is_at, has, first_key, AreDistinct}
 use Rattle.mps_arena.specs.Entries.{KeyedStep, keys_of, any_step, entry_at}
 use Rattle.mps_arena.specs.Neighbours.{next_in}
 use Rattle.mps_arena.proofs.KeyLists.{get_in, get_none, get_after}
@@ -16,19 +15,15 @@ all_keys [] = refl
 all_keys (e ∷ es) = ap suc (all_keys es)
 
 pub first_place : (es : List KeyedStep) → first_key (keys_of any_step es) ≡ slice_get (keys_of any_step es) 0
-first_place [] = refl
-first_place (e ∷ es) = refl
+first_place es = grind arith
 
 pub next_place : (es : List KeyedStep) → AreDistinct (keys_of any_step es) → (n k : ℕ) → slice_get (keys_of any_step es) n ≡ Some k → next_in es k ≡ slice_get (keys_of any_step es) (suc n)
 next_place es d n k e =
     let c = keys_of any_step es in
     ⊎_elim
     (λ (z : entry_at k es ≡ None). absurd (both_ways (has k c) (absent any_step k es z) (get_in c n k (ap (λ (o : Option ℕ). is_at o k) e ∙ eq-eqb k k refl))))
-    (λ (w : (y : KeyedStep) × (entry_at k es ≡ Some y)).
-    ap (option_and_then (λ (y : KeyedStep). key_after y.key c)) w.1 ∙ ap (λ (i : ℕ). key_after i c) (entry_key k es w.0 w.1) ∙ get_after c n k d e)
+    (grind (arith, entry_key, get_after))
     (cases_entry (entry_at k es))
 
 pub none_after : (es : List KeyedStep) (n m : ℕ) → n ≤ m → slice_get (keys_of any_step es) n ≡ None → slice_get (keys_of any_step es) m ≡ None
-none_after es n m h e =
-    let few = get_none (keys_of any_step es) n e in
-    slice_get_past (keys_of any_step es) m (omega (arith, few, h))
+none_after es n m h e = grind (arith, get_none, slice_get_past)

@@ -1,14 +1,13 @@
 -- What can't be read.
-use Rattle.std.proofs.Common.{arith, rules, ◌≡◌, ◌≢◌, ℕ, ◌<◌, ◌⊎◌, ⊎_elim, inl, inr, List, [], ◌∷◌, length, refl, sym, ap, subst, ◌∙◌}
-use Rattle.std.specs.Prelude.{Option, Some, None, Result, Ok, Err, IfOk, if◌then◌else◌, codes}
-use Rattle.std.specs.Str.{bytes_eq}
+use Rattle.std.proofs.Common.{arith, ◌≡◌, ◌≢◌, ℕ, ◌<◌, ◌⊎◌, ⊎_elim, inl, inr, List, [], ◌∷◌, length, refl, sym, subst, ◌∙◌}
+use Rattle.std.specs.Prelude.{Result, IfOk}
 use Rattle.std.proofs.lemmas.Option.{same_Some}
 use Rattle.mps_base.specs.Names.{IsName, IsNoneOf}
 use Rattle.mps_base.specs.Spaced.{spaced}
 use Rattle.mps_base.specs.declared.value.Value.{Value}
 use Rattle.mps_command.specs.declared.command.Command.{Command}
-use Rattle.mps_command.specs.declared.command.Command.TheVariants.{Forward, Undo, Rollback, Back, News, Show}
-use Rattle.mps_command.specs.declared.command.Forward.TheVariants.{Send, Choose, Receive, Pick, Mark, Commit}
+use Rattle.mps_command.specs.declared.command.Command.TheVariants.{Forward, Undo, Rollback, Back, News}
+use Rattle.mps_command.specs.declared.command.Forward.TheVariants.{Send, Choose, Receive, Pick, Mark}
 use Rattle.mps_line.specs.declared.read_commands.LineFault.{LineFault}
 use Rattle.mps_line.specs.declared.read_commands.Verb.{Verb}
 use Rattle.mps_line.specs.declared.read_commands.Verb.TheVariants as verbs
@@ -19,55 +18,14 @@ use Rattle.mps_line.specs.Private.Commands.{lone_verbs, TakesArguments}
 use Rattle.mps_line.proofs.Splitting.{one_split, never_split, after_token, joined, alone, line_of_one}
 
 pub verb_has_no_space : (verb : Verb) → HasNoSpace (verb_word verb)
-verb_has_no_space verbs.Send = search rules
-verb_has_no_space verbs.Choose = search rules
-verb_has_no_space verbs.Receive = search rules
-verb_has_no_space verbs.Pick = search rules
-verb_has_no_space verbs.Mark = search rules
-verb_has_no_space verbs.Commit = search rules
-verb_has_no_space verbs.Undo = search rules
-verb_has_no_space verbs.Rollback = search rules
-verb_has_no_space verbs.Back = search rules
-verb_has_no_space verbs.News = search rules
-verb_has_no_space verbs.Show = search rules
-
--- the verb that the word is for
-abbrev meant : List ℕ → Option Verb
-meant word =
-    if bytes_eq word (codes "send") then Some verbs.Send
-    else if bytes_eq word (codes "choose") then Some verbs.Choose
-    else if bytes_eq word (codes "recv") then Some verbs.Receive
-    else if bytes_eq word (codes "pick") then Some verbs.Pick
-    else if bytes_eq word (codes "mark") then Some verbs.Mark
-    else if bytes_eq word (codes "commit") then Some verbs.Commit
-    else if bytes_eq word (codes "undo") then Some verbs.Undo
-    else if bytes_eq word (codes "rollback") then Some verbs.Rollback
-    else if bytes_eq word (codes "back") then Some verbs.Back
-    else if bytes_eq word (codes "news") then Some verbs.News
-    else if bytes_eq word (codes "show") then Some verbs.Show
-    else None
-
-meant_word : (verb : Verb) → meant (verb_word verb) ≡ Some verb
-meant_word verbs.Send = refl
-meant_word verbs.Choose = refl
-meant_word verbs.Receive = refl
-meant_word verbs.Pick = refl
-meant_word verbs.Mark = refl
-meant_word verbs.Commit = refl
-meant_word verbs.Undo = refl
-meant_word verbs.Rollback = refl
-meant_word verbs.Back = refl
-meant_word verbs.News = refl
-meant_word verbs.Show = refl
+verb_has_no_space verb = grind arith
 
 pub same_verb : (v w : Verb) → verb_word v ≡ verb_word w → v ≡ w
-same_verb v w e = same_Some v w (sym (meant_word v) ∙ ap meant e ∙ meant_word w)
+same_verb v w e = grind (arith, same_Some)
 
 -- a line has one verb, and one rest after it
 pub one_verb : (bytes : List ℕ) (v w : Verb) (x y : List ℕ) → bytes ≡ spaced (verb_word v ∷ x ∷ []) → bytes ≡ spaced (verb_word w ∷ y ∷ []) → (v ≡ w) × (x ≡ y)
-one_verb bytes v w x y e f =
-    let same = one_split (verb_word v) (verb_word w) x y (verb_has_no_space v) (verb_has_no_space w) (sym e ∙ f) in
-    (same_verb v w same.0, same.1)
+one_verb bytes v w x y e f = grind (arith, one_split, verb_has_no_space, same_verb)
 
 -- the parts of a command: its verb, a space and these tokens
 pub record HasArguments (names : List (List ℕ)) (bytes : List ℕ) (command : Command) (tokens : List Token) : Type 0 where
@@ -80,9 +38,7 @@ HasVerb names bytes command = HasArguments names bytes command (arguments comman
 
 -- a word in front of others
 pub after_word : (names : List (List ℕ)) (bytes letters : List ℕ) (u : Token) (ts : List Token) → SpellsLine names bytes (Word letters ∷ u ∷ ts) → (rest : List ℕ) × (bytes ≡ spaced (letters ∷ rest ∷ [])) × SpellsLine names rest (u ∷ ts)
-after_word names bytes letters u ts h =
-    let b = after_token names bytes (Word letters) u ts h in
-    (b.0, rw b.1.spelled at b.1.parts, b.2)
+after_word names bytes letters u ts h = grind (arith, after_token names bytes (Word letters) u ts h)
 
 -- nothing stands after a command's verb, or something does
 pub alone_or_more : (command : Command) → (arguments command ≡ []) ⊎ TakesArguments command
@@ -93,8 +49,7 @@ alone_or_more command = by_tokens (arguments command)
     by_tokens (t ∷ ts) = inr (omega arith)
 
 pub takes_none : (command : Command) → (TakesArguments command → ⊥) → arguments command ≡ []
-takes_none command none =
-    ⊎_elim (λ (e : arguments command ≡ []). e) (λ (more : TakesArguments command). absurd (none more)) (alone_or_more command)
+takes_none command none = grind (arith, alone_or_more)
 
 -- in the first case the line is that verb
 pub lone_line : (names : List (List ℕ)) (bytes : List ℕ) (command : Command) → arguments command ≡ [] → SpellsCommand names bytes command → bytes ≡ verb_word (verb_of command)
@@ -102,14 +57,11 @@ lone_line names bytes command none h =
     alone names bytes (Word (verb_word (verb_of command))) (subst (λ (ts : List Token). SpellsLine names bytes (Word (verb_word (verb_of command)) ∷ ts)) none h)
 
 pub lone_read : (names : List (List ℕ)) (bytes : List ℕ) (command : Command) → arguments command ≡ [] → bytes ≡ verb_word (verb_of command) → SpellsCommand names bytes command
-lone_read names bytes command none e =
-    subst (λ (ts : List Token). SpellsLine names bytes (Word (verb_word (verb_of command)) ∷ ts)) (sym none) (line_of_one names bytes (Word (verb_word (verb_of command))) e)
+lone_read names bytes command none e = grind (arith, line_of_one)
 
 -- and that verb is one of two
 no_lone : (bytes : List ℕ) (command : Command) → arguments command ≡ [] → IsNoneOf lone_verbs bytes → bytes ≢ verb_word (verb_of command)
-no_lone bytes (Forward Commit) none other e = other.0 e
-no_lone bytes Show none other e = other.1.0 e
-no_lone bytes command none other e = absurd cc
+no_lone bytes command none other = grind arith
 
 -- a line with a space has arguments
 some_arguments : (names : List (List ℕ)) (bytes first rest : List ℕ) (command : Command) → bytes ≡ spaced (first ∷ rest ∷ []) → SpellsCommand names bytes command → TakesArguments command
@@ -138,9 +90,7 @@ command_of names bytes rest command e takes h = by_arguments (arguments command)
 pub no_command : (names : List (List ℕ)) (bytes rest : List ℕ) (verb : Verb) → bytes ≡ spaced (verb_word verb ∷ rest ∷ []) → ((command : Command) → verb_of command ≡ verb → TakesArguments command → SpellsLine names rest (arguments command) → ⊥) → (command : Command) → SpellsCommand names bytes command → ⊥
 no_command names bytes rest verb e none command h =
     let takes = some_arguments names bytes (verb_word verb) rest command e h in
-    let k = command_parts names bytes command takes h in
-    let same = one_verb bytes (verb_of command) verb k.rest rest k.parts e in
-    none command same.0 takes (rw same.1 at k.spelled)
+    grind (arith, command_parts names bytes command takes h)
 
 -- a line of no verb
 pub no_verb : (names : List (List ℕ)) (bytes : List ℕ) → ((verb : Verb) (rest : List ℕ) → bytes ≢ spaced (verb_word verb ∷ rest ∷ [])) → IsNoneOf lone_verbs bytes → (command : Command) → SpellsCommand names bytes command → ⊥
@@ -191,11 +141,6 @@ no_asking names bytes none (News known) e h = none known (alone names bytes (Num
 no_asking names bytes none (Forward (Mark name)) e h = absurd cc
 no_asking names bytes none command e h = absurd cc
 
-pub no_showing : (command : Command) → verb_of command ≡ verbs.Show → TakesArguments command → ⊥
-no_showing Show e takes = absurd (omega (arith, takes))
-no_showing (Forward (Mark name)) e takes = absurd cc
-no_showing command e takes = absurd cc
-
 -- what stands after the role's name is no such line
 pub none_after : (names : List (List ℕ)) (bytes rest : List ℕ) (u : Token) (ts : List Token) → ((role : ℕ) (other : List ℕ) → BeginsWith names bytes (RoleAt role) other → other ≡ rest) → (SpellsLine names rest (u ∷ ts) → ⊥) → (role : ℕ) → SpellsLine names bytes (RoleAt role ∷ u ∷ ts) → ⊥
 none_after names bytes rest u ts only none role h =
@@ -220,8 +165,7 @@ name_read bytes name h e = record { is = sym e; allowed = h }
 
 -- the arguments that were read make a command after their verb
 pub command_read : (names : List (List ℕ)) (bytes rest : List ℕ) (verb : Verb) (r : Result Command LineFault) → bytes ≡ spaced (verb_word verb ∷ rest ∷ []) → IfOk r (λ command. verb_of command ≡ verb) → IfOk r TakesArguments → IfOk r (λ command. SpellsLine names rest (arguments command)) → IfOk r (SpellsCommand names bytes)
-command_read names bytes rest verb (Err fault) e v takes h = tt
-command_read names bytes rest verb (Ok command) e v takes h = command_of names bytes rest command (rw v e) takes h
+command_read names bytes rest verb r e v takes h = grind (arith, command_of)
 
 -- what stands after the role's name is no name
 pub none_of_names : (names : List (List ℕ)) (bytes rest : List ℕ) → ((role : ℕ) (other : List ℕ) → BeginsWith names bytes (RoleAt role) other → other ≡ rest) → (IsName rest → ⊥) → (role : ℕ) (name : List ℕ) → SpellsLine names bytes (RoleAt role ∷ Called name ∷ []) → ⊥

@@ -1,15 +1,13 @@
 -- What lines of conversations are read from.
 use Rattle.std.proofs.Common.{arith, ◌≡◌, ℕ, ◌≤◌, Bool, true, false, List, [], ◌∷◌, Some, get_or, refl, sym, ap, ◌∙◌}
 use Rattle.std.specs.Prelude.{Option, None, is_some}
-use Rattle.std.proofs.lemmas.Str.Parse.{digit_from_value}
 use Rattle.mps_base.specs.RoleLists.{AreDistinct}
 use Rattle.mps_base.specs.Spaced.{spaced}
 use Rattle.mps_base.specs.Values.{SpellsValue}
 use Rattle.mps_base.specs.declared.value.Value.{Value}
 use Rattle.mps_command.specs.Changes.{change_of}
 use Rattle.mps_command.specs.declared.command.Command.{Command}
-use Rattle.mps_command.specs.declared.command.Command.TheVariants.{Forward, Undo, Rollback, Back, News, Show}
-use Rattle.mps_command.specs.declared.command.Forward.TheVariants.{Send, Choose, Receive, Pick, Mark, Commit}
+use Rattle.mps_command.specs.declared.command.Command.TheVariants.{News, Show}
 use Rattle.mps_line.specs.declared.read_commands.Verb.{Verb}
 use Rattle.mps_line.specs.declared.read_commands.Verb.TheVariants as verbs
 use Rattle.mps_line.specs.Tokens.{Number, SpellsNumber, SpellsLine}
@@ -21,56 +19,31 @@ use Rattle.mps_line.proofs.OneSpelling.{one_number, line_spelling, same_command,
 
 -- ---- a number in front
 
--- a number begins with a digit
-digit_first : (digits : List ℕ) (n : ℕ) → SpellsNumber digits n → (48 ≤ get_or digits 0 0) × (get_or digits 0 0 ≤ 57)
-digit_first [] n h = let some = h.number.some in absurd (omega (arith, some))
-digit_first (d ∷ ds) n h = let digit = digit_from_value d h.number.digits.0 in (omega (arith, digit.0), omega (arith, digit.1))
-
 -- and a verb with a letter
 letter_first : (verb : Verb) → 97 ≤ get_or (verb_word verb) 0 0
-letter_first verbs.Send = omega arith
-letter_first verbs.Choose = omega arith
-letter_first verbs.Receive = omega arith
-letter_first verbs.Pick = omega arith
-letter_first verbs.Mark = omega arith
-letter_first verbs.Commit = omega arith
-letter_first verbs.Undo = omega arith
-letter_first verbs.Rollback = omega arith
-letter_first verbs.Back = omega arith
-letter_first verbs.News = omega arith
-letter_first verbs.Show = omega arith
+letter_first verb = grind arith
 
 -- bytes that begin with a number spell no command
 never_numbered : (names : List (List ℕ)) (bytes : List ℕ) (n : ℕ) (rest : List ℕ) (command : Command) → BeginsWith [] bytes (Number n) rest → SpellsCommand names bytes command → ⊥
 never_numbered names bytes n rest command b h =
     let word = verb_word (verb_of command) in
     let w = first_word names bytes word (arguments command) h in
-    let same : b.front ≡ word = one_first b.front word (rest ∷ []) w.0 (digits_have_no_space b.front b.spelled.number.digits) (verb_has_no_space (verb_of command)) (sym b.parts ∙ w.1) in
-    let digit = digit_first word n (rw same at b.spelled) in
-    let letter = letter_first (verb_of command) in
-    absurd (omega (arith, digit.1, letter))
+    grind (arith, one_first b.front word (rest ∷ []) w.0 (digits_have_no_space b.front b.spelled.number.digits) (verb_has_no_space (verb_of command)) (sym b.parts ∙ w.1), letter_first (verb_of command))
 
 -- what stands before the first space is no number
 pub no_number : (bytes first rest : List ℕ) → bytes ≡ spaced (first ∷ rest ∷ []) → HasNoSpace first → ((n : ℕ) → SpellsNumber first n → ⊥) → (n : ℕ) (other : List ℕ) → BeginsWith [] bytes (Number n) other → ⊥
-no_number bytes first rest e h none n other b =
-    let same = one_split b.front first other rest (digits_have_no_space b.front b.spelled.number.digits) h (sym b.parts ∙ e) in
-    none n (rw same.0 at b.spelled)
+no_number bytes first rest e h none n other b = grind (arith, one_split, digits_have_no_space)
 
 -- one number stands in front of bytes, and one rest after it
 one_front : (bytes : List ℕ) (m n : ℕ) (x y : List ℕ) → BeginsWith [] bytes (Number m) x → BeginsWith [] bytes (Number n) y → (m ≡ n) × (x ≡ y)
-one_front bytes m n x y b d =
-    let same = one_split b.front d.front x y (digits_have_no_space b.front b.spelled.number.digits) (digits_have_no_space d.front d.spelled.number.digits) (sym b.parts ∙ d.parts) in
-    (one_number b.front m n b.spelled (rw (sym same.0) at d.spelled), same.1)
+one_front bytes m n x y b d = grind (arith, one_split, digits_have_no_space, one_number)
 
 -- the number in front of a command
 after_number : (names : List (List ℕ)) (bytes : List ℕ) (n : ℕ) (command : Command) → SpellsLine names bytes (Number n ∷ command_tokens command) → (rest : List ℕ) × BeginsWith [] bytes (Number n) rest × SpellsCommand names rest command
-after_number names bytes n command h =
-    let b = after_token names bytes (Number n) _ (arguments command) h in
-    (b.0, record { front = b.1.front; parts = b.1.parts; spelled = b.1.spelled }, b.2)
+after_number names bytes n command h = grind (arith, after_token names bytes (Number n) _ (arguments command) h)
 
 number_before : (names : List (List ℕ)) (bytes rest : List ℕ) (n : ℕ) (command : Command) → BeginsWith [] bytes (Number n) rest → SpellsCommand names rest command → SpellsLine names bytes (Number n ∷ command_tokens command)
-number_before names bytes rest n command b h =
-    joined names bytes (Number n) _ (arguments command) rest (record { front = b.front; parts = b.parts; spelled = b.spelled }) h
+number_before names bytes rest n command b h = grind (arith, joined names bytes (Number n) _ (arguments command) rest (record { front = b.front; parts = b.parts; spelled = b.spelled }) h)
 
 -- ---- commands that may have one
 
@@ -81,17 +54,7 @@ asks verbs.Show = false
 asks verb = true
 
 asks_is : (command : Command) → is_some (change_of command) ≡ asks (verb_of command)
-asks_is (Forward (Send to value)) = refl
-asks_is (Forward (Choose to label)) = refl
-asks_is (Forward (Receive from slot)) = refl
-asks_is (Forward (Pick from)) = refl
-asks_is (Forward (Mark name)) = refl
-asks_is (Forward Commit) = refl
-asks_is (Undo id) = refl
-asks_is (Rollback id) = refl
-asks_is (Back name) = refl
-asks_is (News known) = refl
-asks_is Show = refl
+asks_is command = grind arith
 
 one_verb_of : (names : List (List ℕ)) (bytes : List ℕ) (c d : Command) → SpellsCommand names bytes c → SpellsCommand names bytes d → verb_of c ≡ verb_of d
 one_verb_of names bytes c d h k =

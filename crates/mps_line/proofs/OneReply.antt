@@ -1,19 +1,16 @@
 -- What a reply's text means is unique.
 use Rattle.std.proofs.Common.{arith, rules, ◌≡◌, ◌≢◌, ℕ, ◌⊎◌, ⊎_elim, inl, inr, List, [], ◌∷◌, Some, get_or, refl, sym, ap, subst, ◌∙◌}
-use Rattle.std.specs.Prelude.{◌<◌, Option, None, length, map, if◌then◌else◌, codes}
-use Rattle.std.specs.Str.{bytes_eq}
+use Rattle.std.specs.Prelude.{◌<◌, Option, None, length, map, codes}
 use Rattle.std.proofs.lemmas.Option.{same_Some}
 use Rattle.mps_base.specs.Names.{IsName}
 use Rattle.mps_base.specs.Spaced.{spaced}
 use Rattle.mps_base.specs.Values.{SpellsValue}
 use Rattle.mps_base.specs.declared.value.Value.{Value}
 use Rattle.mps_base.specs.declared.action.Message.{Message}
-use Rattle.mps_base.specs.declared.action.Message.TheVariants.{Value as Plain, Label}
 use Rattle.mps_command.specs.declared.answer.Done.{Done}
 use Rattle.mps_command.specs.declared.answer.Answer.TheVariants.{Done as Accepted, Undone, News, Shown, Refused}
-use Rattle.mps_command.specs.declared.answer.Violation.TheVariants.{Ended, WrongAct, WrongPeer, WrongSort, NoLabel, NothingQueued, Mismatch}
 use Rattle.mps_command.specs.declared.answer.Refusal.{Refusal}
-use Rattle.mps_command.specs.declared.answer.Refusal.TheVariants.{Violation as Violates, NoStep, NotYours, Final, Needed, NoMark, Full, Memory}
+use Rattle.mps_command.specs.declared.answer.Refusal.TheVariants.{Final, Needed}
 use Rattle.mps_line.specs.declared.write_replies.Reply.{Reply}
 use Rattle.mps_line.specs.declared.write_replies.Reply.TheVariants.{Answered, BadLine, Joined, NoSession, NoRole, Taken, Number as WrongNumber}
 use Rattle.mps_line.specs.Tokens.{Token, Word, Called, Number, Show, SpellsShow, SpellsToken, SpellsLine}
@@ -54,83 +51,20 @@ abbrev cause_tokens : Cause → List Token
 cause_tokens (Because r) = refusal_tokens r
 cause_tokens cause = Word (cause_word cause) ∷ []
 
--- the cause that the word is for, `final` and `needed` by step 0
-abbrev meant : List ℕ → Option Cause
-meant word =
-    if bytes_eq word (codes "ended") then Some (Because (Violates Ended))
-    else if bytes_eq word (codes "wrongact") then Some (Because (Violates WrongAct))
-    else if bytes_eq word (codes "wrongpeer") then Some (Because (Violates WrongPeer))
-    else if bytes_eq word (codes "wrongsort") then Some (Because (Violates WrongSort))
-    else if bytes_eq word (codes "nolabel") then Some (Because (Violates NoLabel))
-    else if bytes_eq word (codes "nothingqueued") then Some (Because (Violates NothingQueued))
-    else if bytes_eq word (codes "mismatch") then Some (Because (Violates Mismatch))
-    else if bytes_eq word (codes "nostep") then Some (Because NoStep)
-    else if bytes_eq word (codes "notyours") then Some (Because NotYours)
-    else if bytes_eq word (codes "final") then Some (Because (Final 0))
-    else if bytes_eq word (codes "needed") then Some (Because (Needed 0))
-    else if bytes_eq word (codes "nomark") then Some (Because NoMark)
-    else if bytes_eq word (codes "full") then Some (Because Full)
-    else if bytes_eq word (codes "memory") then Some (Because Memory)
-    else if bytes_eq word (codes "line") then Some Unread
-    else if bytes_eq word (codes "nosession") then Some Nowhere
-    else if bytes_eq word (codes "norole") then Some Nobody
-    else if bytes_eq word (codes "taken") then Some Used
-    else if bytes_eq word (codes "number") then Some Misnumbered
-    else None
-
 -- the cause without its step
 abbrev plain : Cause → Cause
 plain (Because (Final by)) = Because (Final 0)
 plain (Because (Needed by)) = Because (Needed 0)
 plain c = c
 
-meant_word : (c : Cause) → meant (cause_word c) ≡ Some (plain c)
-meant_word (Because (Violates Ended)) = refl
-meant_word (Because (Violates WrongAct)) = refl
-meant_word (Because (Violates WrongPeer)) = refl
-meant_word (Because (Violates WrongSort)) = refl
-meant_word (Because (Violates NoLabel)) = refl
-meant_word (Because (Violates NothingQueued)) = refl
-meant_word (Because (Violates Mismatch)) = refl
-meant_word (Because NoStep) = refl
-meant_word (Because NotYours) = refl
-meant_word (Because (Final by)) = refl
-meant_word (Because (Needed by)) = refl
-meant_word (Because NoMark) = refl
-meant_word (Because Full) = refl
-meant_word (Because Memory) = refl
-meant_word Unread = refl
-meant_word Nowhere = refl
-meant_word Nobody = refl
-meant_word Used = refl
-meant_word Misnumbered = refl
-
 one_word : (c d : Cause) → cause_word c ≡ cause_word d → plain c ≡ plain d
-one_word c d e = same_Some (plain c) (plain d) (sym (meant_word c) ∙ ap meant e ∙ meant_word d)
+one_word c d e = grind (arith, same_Some)
 
 pub word_has_no_space : (r : Refusal) → HasNoSpace (word_of r)
-word_has_no_space (Violates Ended) = search rules
-word_has_no_space (Violates WrongAct) = search rules
-word_has_no_space (Violates WrongPeer) = search rules
-word_has_no_space (Violates WrongSort) = search rules
-word_has_no_space (Violates NoLabel) = search rules
-word_has_no_space (Violates NothingQueued) = search rules
-word_has_no_space (Violates Mismatch) = search rules
-word_has_no_space NoStep = search rules
-word_has_no_space NotYours = search rules
-word_has_no_space (Final by) = search rules
-word_has_no_space (Needed by) = search rules
-word_has_no_space NoMark = search rules
-word_has_no_space Full = search rules
-word_has_no_space Memory = search rules
+word_has_no_space r = grind arith
 
 cause_has_no_space : (c : Cause) → HasNoSpace (cause_word c)
-cause_has_no_space (Because r) = word_has_no_space r
-cause_has_no_space Unread = search rules
-cause_has_no_space Nowhere = search rules
-cause_has_no_space Nobody = search rules
-cause_has_no_space Used = search rules
-cause_has_no_space Misnumbered = search rules
+cause_has_no_space c = grind (arith, word_has_no_space)
 
 pub done_has_no_space : HasNoSpace (codes "done")
 done_has_no_space = search rules
@@ -160,9 +94,7 @@ refused_has_no_space = search rules
 one_word_first : (a letters : List ℕ) (t : Token) (ts : List Token) (u : Token) (us : List Token) → HasNoSpace letters → SpellsLine [] a (Word letters ∷ t ∷ ts) → SpellsLine [] a (Word letters ∷ u ∷ us) → (rest : List ℕ) × SpellsLine [] rest (t ∷ ts) × SpellsLine [] rest (u ∷ us)
 one_word_first a letters t ts u us p h k =
     let b = after_word [] a letters t ts h in
-    let d = after_word [] a letters u us k in
-    let same = one_split letters letters b.0 d.0 p p (sym b.1 ∙ d.1) in
-    (b.0, b.2, rw (sym same.1) at d.2)
+    grind (arith, after_word, one_split)
 
 -- no line is one word and two tokens
 never_both : (a letters : List ℕ) (t u : Token) (us : List Token) → HasNoSpace letters → SpellsLine [] a (Word letters ∷ []) → SpellsLine [] a (t ∷ u ∷ us) → ⊥
@@ -172,14 +104,7 @@ never_both a letters t u us p h k =
 
 -- a refusal has its word alone, or a step after it
 pub alone_or_step : (r : Refusal) → (refusal_tokens r ≡ Word (word_of r) ∷ []) ⊎ ((by : ℕ) × (refusal_tokens r ≡ Word (word_of r) ∷ Number by ∷ []))
-alone_or_step (Final by) = inr (by, refl)
-alone_or_step (Needed by) = inr (by, refl)
-alone_or_step (Violates v) = inl refl
-alone_or_step NoStep = inl refl
-alone_or_step NotYours = inl refl
-alone_or_step NoMark = inl refl
-alone_or_step Full = inl refl
-alone_or_step Memory = inl refl
+alone_or_step r = grind arith
 
 -- the cause with this step, if it names one
 abbrev with_step : Cause → ℕ → Cause
@@ -198,24 +123,11 @@ record Names (c : Cause) (by : ℕ) : Type 0 where
   is : with_step (plain c) by ≡ c
 
 names_or_not : (c : Cause) → Alone c ⊎ ((by : ℕ) × Names c by)
-names_or_not (Because (Final by)) = inr (by, record { tokens = refl; is = refl })
-names_or_not (Because (Needed by)) = inr (by, record { tokens = refl; is = refl })
-names_or_not (Because (Violates v)) = inl record { tokens = refl; is = refl }
-names_or_not (Because NoStep) = inl record { tokens = refl; is = refl }
-names_or_not (Because NotYours) = inl record { tokens = refl; is = refl }
-names_or_not (Because NoMark) = inl record { tokens = refl; is = refl }
-names_or_not (Because Full) = inl record { tokens = refl; is = refl }
-names_or_not (Because Memory) = inl record { tokens = refl; is = refl }
-names_or_not Unread = inl record { tokens = refl; is = refl }
-names_or_not Nowhere = inl record { tokens = refl; is = refl }
-names_or_not Nobody = inl record { tokens = refl; is = refl }
-names_or_not Used = inl record { tokens = refl; is = refl }
-names_or_not Misnumbered = inl record { tokens = refl; is = refl }
+names_or_not c = grind arith
 
 -- no line is a word alone and a word with a step
 never_names : (a : List ℕ) (c d : Cause) (by : ℕ) → Alone c → Names d by → SpellsLine [] a (cause_tokens c) → SpellsLine [] a (cause_tokens d) → ⊥
-never_names a c d by e f h k =
-    never_both a (cause_word c) (Word (cause_word d)) (Number by) [] (cause_has_no_space c) (rw e.tokens at h) (rw f.tokens at k)
+never_names a c d by e f h k = grind (arith, never_both a (cause_word c) (Word (cause_word d)) (Number by) [] (cause_has_no_space c) (rw e.tokens at h) (rw f.tokens at k))
 
 -- a word and a step are one cause's
 one_named : (a : List ℕ) (c d : Cause) (m n : ℕ) → Names c m → Names d n → SpellsLine [] a (cause_tokens c) → SpellsLine [] a (cause_tokens d) → c ≡ d
@@ -223,8 +135,7 @@ one_named a c d m n e f h k =
     let b = after_word [] a (cause_word c) (Number m) [] (rw e.tokens at h) in
     let g = after_word [] a (cause_word d) (Number n) [] (rw f.tokens at k) in
     let same = one_split (cause_word c) (cause_word d) b.0 g.0 (cause_has_no_space c) (cause_has_no_space d) (sym b.1 ∙ g.1) in
-    let step = one_number b.0 m n (alone [] b.0 (Number m) b.2) (alone [] b.0 (Number n) (rw (sym same.1) at g.2)) in
-    sym e.is ∙ ap (λ (x : Cause). with_step x m) (one_word c d same.0) ∙ ap (with_step (plain d)) step ∙ f.is
+    cc (one_number b.0 m n (alone [] b.0 (Number m) b.2) (alone [] b.0 (Number n) (rw (sym same.1) at g.2)), one_word c d same.0)
 
 one_cause : (a : List ℕ) (c d : Cause) → SpellsLine [] a (cause_tokens c) → SpellsLine [] a (cause_tokens d) → c ≡ d
 one_cause a c d h k =
@@ -253,13 +164,7 @@ same_number : (a : List ℕ) (m n : ℕ) (t : Token) (ts : List Token) (u : Toke
 same_number a m n t ts u us h k =
     let b = after_token [] a (Number m) t ts h in
     let d = after_token [] a (Number n) u us k in
-    let same = one_split b.1.front d.1.front b.0 d.0 (digits_have_no_space b.1.front b.1.spelled.number.digits) (digits_have_no_space d.1.front d.1.spelled.number.digits) (sym b.1.parts ∙ d.1.parts) in
-    record {
-      number = one_number b.1.front m n b.1.spelled (rw (sym same.0) at d.1.spelled);
-      rest = b.0;
-      one = b.2;
-      other = rw (sym same.1) at d.2;
-    }
+    grind (arith, one_split, digits_have_no_space, one_number)
 
 -- no line is one number and two tokens
 number_or_two : (a : List ℕ) (m n : ℕ) (u : Token) (us : List Token) → SpellsLine [] a (Number m ∷ []) → SpellsLine [] a (Number n ∷ u ∷ us) → ⊥
@@ -274,9 +179,7 @@ one_list a m n [] (j ∷ ns) h k = absurd (number_or_two a m n (Number j) (map N
 one_list a m n (i ∷ ms) [] h k = absurd (number_or_two a n m (Number i) (map Number ms) k h)
 one_list a m n (i ∷ ms) (j ∷ ns) h k =
     let s = same_number a m n (Number i) (map Number ms) (Number j) (map Number ns) h k in
-    let number : m ≡ n = s.number in
-    let others = one_list s.rest i j ms ns s.one s.other in
-    cc
+    cc (one_list s.rest i j ms ns s.one s.other)
 
 -- and so have the steps that were taken back
 one_undone : (a : List ℕ) (ms ns : List ℕ) → SpellsLine [] a (undone_tokens ms) → SpellsLine [] a (undone_tokens ns) → ms ≡ ns
@@ -291,8 +194,7 @@ one_undone a (m ∷ ms) (n ∷ ns) h k =
 one_news : (a : List ℕ) (m n : ℕ) (ms ns : List ℕ) → SpellsLine [] a (news_tokens m ms) → SpellsLine [] a (news_tokens n ns) → (m ≡ n) × (ms ≡ ns)
 one_news a m n ms ns h k =
     let b = one_word_first a (codes "news") (Number m) (map Number ms) (Number n) (map Number ns) news_has_no_space h k in
-    let same = one_list b.0 m n ms ns b.1 b.2 in
-    (cc, cc)
+    grind (arith, one_list b.0 m n ms ns b.1 b.2)
 
 -- what stands after the first word of a reply
 after_done : (a letters : List ℕ) (id : ℕ) (got : Option Message) → SpellsLine [] a (Word letters ∷ done_tokens id got) → (rest : List ℕ) × (a ≡ spaced (letters ∷ rest ∷ [])) × SpellsLine [] rest (done_tokens id got)
@@ -301,18 +203,7 @@ after_done a letters id (Some message) h = after_word [] a letters _ _ h
 
 after_cause : (a : List ℕ) (c : Cause) → SpellsReply a (reply_of c) → (rest : List ℕ) × (a ≡ spaced (codes "refused" ∷ rest ∷ [])) × SpellsLine [] rest (cause_tokens c)
 after_cause a (Because (Final by)) h = after_word [] a (codes "refused") _ _ h
-after_cause a (Because (Needed by)) h = after_word [] a (codes "refused") _ _ h
-after_cause a (Because (Violates v)) h = after_word [] a (codes "refused") _ _ h
-after_cause a (Because NoStep) h = after_word [] a (codes "refused") _ _ h
-after_cause a (Because NotYours) h = after_word [] a (codes "refused") _ _ h
-after_cause a (Because NoMark) h = after_word [] a (codes "refused") _ _ h
-after_cause a (Because Full) h = after_word [] a (codes "refused") _ _ h
-after_cause a (Because Memory) h = after_word [] a (codes "refused") _ _ h
-after_cause a Unread h = after_word [] a (codes "refused") _ _ h
-after_cause a Nowhere h = after_word [] a (codes "refused") _ _ h
-after_cause a Nobody h = after_word [] a (codes "refused") _ _ h
-after_cause a Used h = after_word [] a (codes "refused") _ _ h
-after_cause a Misnumbered h = after_word [] a (codes "refused") _ _ h
+after_cause a other h = after_word [] a (codes "refused") _ _ h
 
 -- a line has one cause
 same_cause : (a : List ℕ) (c d : Cause) → SpellsReply a (reply_of c) → SpellsReply a (reply_of d) → reply_of c ≡ reply_of d
@@ -343,7 +234,7 @@ letter (Joined session name) = 106
 letter reply = 114
 
 show_letter : (a text : List ℕ) → SpellsShow a text → get_or a 0 0 ≡ 123
-show_letter [] text h = absurd (let none : None ≡ Some 123 = h.allowed.brace in cc)
+show_letter [] text h = absurd (cc)
 show_letter (c ∷ a) text h = same_Some c 123 h.allowed.brace
 
 pub begins : (a : List ℕ) (r : Reply) → SpellsReply a r → get_or a 0 0 ≡ letter r
@@ -351,38 +242,24 @@ begins a (Answered (Accepted done)) h = first_byte a (codes "done") _ (omega ari
 begins a (Answered (Undone ids)) h = first_byte a (codes "undone") _ (omega arith) h
 begins a (Answered (News n ids)) h = first_byte a (codes "news") _ (omega arith) h
 begins a (Answered (Shown text)) h = show_letter a text (alone [] a (Show text) h)
-begins a (Answered (Refused r)) h = first_byte a (codes "refused") _ (omega arith) h
-begins a BadLine h = first_byte a (codes "refused") _ (omega arith) h
 begins a (Joined session name) h = first_byte a (codes "joined") _ (omega arith) h
-begins a NoSession h = first_byte a (codes "refused") _ (omega arith) h
-begins a NoRole h = first_byte a (codes "refused") _ (omega arith) h
-begins a Taken h = first_byte a (codes "refused") _ (omega arith) h
-begins a WrongNumber h = first_byte a (codes "refused") _ (omega arith) h
+begins a other h = first_byte a (codes "refused") _ (omega arith) h
 
 one_letter : (a : List ℕ) (r s : Reply) → SpellsReply a r → SpellsReply a s → letter r ≡ letter s
 one_letter a r s h k = sym (begins a r h) ∙ begins a s k
 
 -- a reply says why a line is refused, or it begins with another letter
 refused_or_not : (r : Reply) → ((c : Cause) × (r ≡ reply_of c)) ⊎ (letter r ≢ 114)
-refused_or_not (Answered (Accepted done)) = inr (λ e. absurd (omega (arith, e)))
-refused_or_not (Answered (Undone ids)) = inr (λ e. absurd (omega (arith, e)))
-refused_or_not (Answered (News n ids)) = inr (λ e. absurd (omega (arith, e)))
-refused_or_not (Answered (Shown text)) = inr (λ e. absurd (omega (arith, e)))
 refused_or_not (Answered (Refused r)) = inl (Because r, refl)
 refused_or_not BadLine = inl (Unread, refl)
-refused_or_not (Joined session name) = inr (λ e. absurd (omega (arith, e)))
 refused_or_not NoSession = inl (Nowhere, refl)
 refused_or_not NoRole = inl (Nobody, refl)
 refused_or_not Taken = inl (Used, refl)
 refused_or_not WrongNumber = inl (Misnumbered, refl)
+refused_or_not other = inr (λ e. absurd (omega (arith, e)))
 
 cause_letter : (c : Cause) → letter (reply_of c) ≡ 114
-cause_letter (Because r) = refl
-cause_letter Unread = refl
-cause_letter Nowhere = refl
-cause_letter Nobody = refl
-cause_letter Used = refl
-cause_letter Misnumbered = refl
+cause_letter c = grind arith
 
 -- and so has the line that a role is joined to a connection
 one_pass : (a : List ℕ) (m n : ℕ) (x y : List ℕ) → SpellsReply a (Joined m x) → SpellsReply a (Joined n y) → (m ≡ n) × (x ≡ y)
@@ -394,10 +271,7 @@ one_pass a m n x y h k =
 -- a text spells one value, and a value no name
 module _ (one_value : (a : List ℕ) (v w : Value) → SpellsValue a v → SpellsValue a w → v ≡ w) (no_name : (a : List ℕ) (v : Value) → SpellsValue a v → IsName a → ⊥) where
   one_message : (a : List ℕ) (m n : Message) → SpellsToken [] a (message_token m) → SpellsToken [] a (message_token n) → m ≡ n
-  one_message a (Plain v) (Plain w) h k = ap Plain (one_value a v w h k)
-  one_message a (Plain v) (Label l) h k = absurd (no_name a v h k.allowed)
-  one_message a (Label l) (Plain w) h k = absurd (no_name a w k h.allowed)
-  one_message a (Label l) (Label m) h k = ap Label (sym h.is ∙ k.is)
+  one_message a m n h k = grind arith
 
   one_done : (a : List ℕ) (m n : ℕ) (x y : Option Message) → SpellsLine [] a (done_tokens m x) → SpellsLine [] a (done_tokens n y) → (m ≡ n) × (x ≡ y)
   one_done a m n None None h k = (one_number a m n (alone [] a (Number m) h) (alone [] a (Number n) k), refl)
@@ -408,9 +282,7 @@ module _ (one_value : (a : List ℕ) (v w : Value) → SpellsValue a v → Spell
       (s.number, ap Some (one_message s.rest x y (alone [] s.rest (message_token x) s.one) (alone [] s.rest (message_token y) s.other)))
 
   same_done : (d e : Done) → (d.id ≡ e.id) × (d.got ≡ e.got) → d ≡ e
-  same_done d e h =
-      ap (λ (id : ℕ). let done : Done = record { id = id; got = d.got } in done) h.0
-      ∙ ap (λ (got : Option Message). let done : Done = record { id = e.id; got = got } in done) h.1
+  same_done d e h = grind arith
 
   -- replies that refuse nothing
   one_other : (a : List ℕ) (r s : Reply) → letter r ≡ letter s → letter r ≢ 114 → SpellsReply a r → SpellsReply a s → r ≡ s
@@ -420,17 +292,9 @@ module _ (one_value : (a : List ℕ) (v w : Value) → SpellsValue a v → Spell
       let same = one_split (codes "done") (codes "done") b.0 f.0 done_has_no_space done_has_no_space (sym b.1 ∙ f.1) in
       ap (λ (done : Done). Answered (Accepted done)) (same_done d e (one_done b.0 d.id e.id d.got e.got b.2 (rw (sym same.1) at f.2)))
   one_other a (Answered (Undone ms)) (Answered (Undone ns)) l other h k = ap (λ (ids : List ℕ). Answered (Undone ids)) (one_undone a ms ns h k)
-  one_other a (Answered (News m ms)) (Answered (News n ns)) l other h k =
-      let one = one_news a m n ms ns h k in
-      let length : m ≡ n = one.0 in
-      let ids : ms ≡ ns = one.1 in
-      cc
+  one_other a (Answered (News m ms)) (Answered (News n ns)) l other h k = grind (arith, one_news a m n ms ns h k)
   one_other a (Answered (Shown x)) (Answered (Shown y)) l other h k = ap (λ (text : List ℕ). Answered (Shown text)) (sym (alone [] a (Show x) h).is ∙ (alone [] a (Show y) k).is)
-  one_other a (Joined m x) (Joined n y) l other h k =
-      let one = one_pass a m n x y h k in
-      let session : m ≡ n = one.0 in
-      let name : x ≡ y = one.1 in
-      cc
+  one_other a (Joined m x) (Joined n y) l other h k = grind (arith, one_pass a m n x y h k)
   one_other a (Answered (Refused r)) s l other h k = absurd (other refl)
   one_other a BadLine s l other h k = absurd (other refl)
   one_other a NoSession s l other h k = absurd (other refl)

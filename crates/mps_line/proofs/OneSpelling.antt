@@ -1,8 +1,7 @@
 -- What is spelled, and by what, is unique.
-use Rattle.std.proofs.Common.{◌≡◌, ℕ, ◌<◌, ⊎_elim, List, [], ◌∷◌, length, Some, refl, sym, ap, subst, ◌∙◌}
+use Rattle.std.proofs.Common.{arith, ◌≡◌, ℕ, ◌<◌, ⊎_elim, List, [], ◌∷◌, length, Some, refl, sym, ap, ◌∙◌}
 use Rattle.std.proofs.lemmas.Option.{same_Some, slice_get_within}
 use Rattle.std.specs.Option.{ForSome}
-use Rattle.std.specs.Prelude.{slice_get}
 use Rattle.mps_base.specs.RoleLists.{AreDistinct}
 use Rattle.mps_base.specs.Spaced.{spaced}
 use Rattle.mps_base.specs.Values.{SpellsValue}
@@ -16,9 +15,9 @@ use Rattle.mps_command.specs.declared.command.Command.TheVariants as commands
 use Rattle.mps_command.specs.declared.command.Forward.TheVariants.{Send, Choose, Receive, Pick, Mark, Commit}
 use Rattle.mps_line.specs.Tokens.{Token, Word, RoleAt, Called, Number, Worth, Show, SpellsRole, SpellsNumber, SpellsToken, SpellEach, SpellsLine}
 use Rattle.mps_line.specs.Private.Tokens.{BeginsWith}
-use Rattle.mps_line.specs.Commands.{verb_word, verb_of, arguments, SpellsCommand, SpellsScriptLine, NamesRolesOf}
+use Rattle.mps_line.specs.Commands.{verb_of, arguments, SpellsCommand, SpellsScriptLine, NamesRolesOf}
 use Rattle.mps_line.specs.Private.Commands.{TakesArguments}
-use Rattle.mps_line.proofs.Splitting.{one_split, never_split, name_has_no_space, after_token, alone}
+use Rattle.mps_line.proofs.Splitting.{one_split, name_has_no_space, after_token, alone}
 use Rattle.mps_line.proofs.CommandLines.{verb_has_no_space, same_verb, one_verb, alone_or_more, lone_line, command_parts}
 
 -- ---- one spelling
@@ -26,21 +25,16 @@ use Rattle.mps_line.proofs.CommandLines.{verb_has_no_space, same_verb, one_verb,
 token_spelling : (names : List (List ℕ)) (a b : List ℕ) (t : Token) → SpellsToken names a t → SpellsToken names b t → a ≡ b
 token_spelling names a b (Word letters) h k = h ∙ sym k
 token_spelling names a b (RoleAt place) h k = cc (h.place, k.place)
-token_spelling names a b (Called name) h k = h.is ∙ sym k.is
 token_spelling names a b (Number n) h k = same_number_text a b n h.small h.number k.number
 token_spelling names a b (Worth value) h k = same_spelling a b value h k
-token_spelling names a b (Show text) h k = h.is ∙ sym k.is
+token_spelling names a b other h k = h.is ∙ sym k.is
 
 each_alike : (names : List (List ℕ)) (ss rs : List (List ℕ)) (ts : List Token) → SpellEach names ss ts → SpellEach names rs ts → ss ≡ rs
 each_alike names [] [] [] h k = refl
 each_alike names (s ∷ ss) (r ∷ rs) (t ∷ ts) h k =
     let first = token_spelling names s r t h.0 k.0 in
-    let others = each_alike names ss rs ts h.1 k.1 in
-    cc
-each_alike names [] (r ∷ rs) [] h k = absurd k
-each_alike names (s ∷ ss) rs [] h k = absurd h
-each_alike names [] rs (t ∷ ts) h k = absurd h
-each_alike names (s ∷ ss) [] (t ∷ ts) h k = absurd k
+    cc (each_alike names ss rs ts h.1 k.1)
+each_alike names other further second h k = grind arith
 
 -- tokens have one line
 pub line_spelling : (names : List (List ℕ)) (a b : List ℕ) (ts : List Token) → SpellsLine names a ts → SpellsLine names b ts → a ≡ b
@@ -51,8 +45,7 @@ line_spelling names a b ts h k = h.joined ∙ ap spaced (each_alike names h.spel
 begins_once : (names : List (List ℕ)) (a : List ℕ) (p q : ℕ) (x y : List ℕ) → AreDistinct names → BeginsWith names a (RoleAt p) x → BeginsWith names a (RoleAt q) y → (p ≡ q) × (x ≡ y)
 begins_once names a p q x y distinct h k =
     let same = one_split h.front k.front x y (name_has_no_space h.front h.spelled.name) (name_has_no_space k.front k.spelled.name) (sym h.parts ∙ k.parts) in
-    let place : slice_get names q ≡ Some h.front = k.spelled.place ∙ ap Some (sym same.0) in
-    (one_place names h.front p q distinct h.spelled.place place, same.1)
+    grind (arith, one_place)
 
 -- two lines after the names of roles, of the same bytes
 record SameRole (names : List (List ℕ)) (p q : ℕ) (t : Token) (ts : List Token) (u : Token) (us : List Token) : Type 0 where
@@ -65,8 +58,7 @@ same_role : (names : List (List ℕ)) (a : List ℕ) (p q : ℕ) (t : Token) (ts
 same_role names a p q t ts u us distinct h k =
     let b = after_token names a (RoleAt p) t ts h in
     let d = after_token names a (RoleAt q) u us k in
-    let same = begins_once names a p q b.0 d.0 distinct b.1 d.1 in
-    record { role = same.0; rest = b.0; one = b.2; other = rw (sym same.1) at d.2 }
+    grind (arith, begins_once names a p q b.0 d.0 distinct b.1 d.1)
 
 one_name : (names : List (List ℕ)) (a x y : List ℕ) → SpellsLine names a (Called x ∷ []) → SpellsLine names a (Called y ∷ []) → x ≡ y
 one_name names a x y h k = sym (alone names a (Called x) h).is ∙ (alone names a (Called y) k).is
@@ -82,21 +74,14 @@ module _ (one_value : (a : List ℕ) (v w : Value) → SpellsValue a v → Spell
   same_arguments : (names : List (List ℕ)) (a : List ℕ) (c d : Command) → AreDistinct names → verb_of c ≡ verb_of d → SpellsLine names a (arguments c) → SpellsLine names a (arguments d) → c ≡ d
   same_arguments names a (Forward (Send p v)) (Forward (Send q w)) distinct e h k =
       let s = same_role names a p q (Worth v) [] (Worth w) [] distinct h k in
-      let role : p ≡ q = s.role in
-      let value : v ≡ w = one_value s.rest v w (alone names s.rest (Worth v) s.one) (alone names s.rest (Worth w) s.other) in
-      cc
+      grind (arith, alone names s.rest (Worth v) s.one, alone names s.rest (Worth w) s.other)
   same_arguments names a (Forward (Choose p x)) (Forward (Choose q y)) distinct e h k =
       let s = same_role names a p q (Called x) [] (Called y) [] distinct h k in
-      let role : p ≡ q = s.role in
-      let name : x ≡ y = one_name names s.rest x y s.one s.other in
-      cc
+      cc (one_name names s.rest x y s.one s.other)
   same_arguments names a (Forward (Receive p x)) (Forward (Receive q y)) distinct e h k =
       let s = same_role names a p q (Called x) [] (Called y) [] distinct h k in
-      let role : p ≡ q = s.role in
-      let name : x ≡ y = one_name names s.rest x y s.one s.other in
-      cc
-  same_arguments names a (Forward (Pick p)) (Forward (Pick q)) distinct e h k =
-      ap (λ (role : ℕ). Forward (Pick role)) (one_place names a p q distinct (alone names a (RoleAt p) h).place (alone names a (RoleAt q) k).place)
+      cc (one_name names s.rest x y s.one s.other)
+  same_arguments names a (Forward (Pick p)) (Forward (Pick q)) distinct e h k = cc (one_place names a p q distinct (alone names a (RoleAt p) h).place (alone names a (RoleAt q) k).place)
   same_arguments names a (Forward (Mark x)) (Forward (Mark y)) distinct e h k = ap (λ (name : List ℕ). Forward (Mark name)) (one_name names a x y h k)
   same_arguments names a (Undo m) (Undo n) distinct e h k = ap Undo (one_step names a m n h k)
   same_arguments names a (Rollback m) (Rollback n) distinct e h k = ap Rollback (one_step names a m n h k)
@@ -120,14 +105,10 @@ module _ (one_value : (a : List ℕ) (v w : Value) → SpellsValue a v → Spell
 
   -- no line is a verb alone and a command with arguments
   never_both : (names : List (List ℕ)) (a : List ℕ) (c d : Command) → arguments c ≡ [] → TakesArguments d → SpellsCommand names a c → SpellsCommand names a d → ⊥
-  never_both names a c d none more h k =
-      let f = command_parts names a d more k in
-      never_split (verb_word (verb_of c)) (verb_word (verb_of d)) f.rest (verb_has_no_space (verb_of c)) (sym (lone_line names a c none h) ∙ f.parts)
+  never_both names a c d none more h k = grind (arith, command_parts names a d more k, verb_has_no_space (verb_of c), lone_line names a c none h)
 
   same_lone : (names : List (List ℕ)) (a : List ℕ) (c d : Command) → AreDistinct names → arguments c ≡ [] → arguments d ≡ [] → SpellsCommand names a c → SpellsCommand names a d → c ≡ d
-  same_lone names a c d distinct none neither h k =
-      let nothing : SpellsLine names [] [] = record { spellings = []; joined = refl; each = tt } in
-      same_arguments names [] c d distinct (same_verb (verb_of c) (verb_of d) (sym (lone_line names a c none h) ∙ lone_line names a d neither k)) (subst (SpellsLine names []) (sym none) nothing) (subst (SpellsLine names []) (sym neither) nothing)
+  same_lone names a c d distinct none neither h k = grind (arith, same_verb (verb_of c) (verb_of d) (sym (lone_line names a c none h) ∙ lone_line names a d neither k))
 
   pub same_command : (names : List (List ℕ)) (a : List ℕ) (c d : Command) → AreDistinct names → SpellsCommand names a c → SpellsCommand names a d → c ≡ d
   same_command names a c d distinct h k =

@@ -1,12 +1,9 @@
 -- What replies are read from.
 use Rattle.std.proofs.Common.{arith, ◌≡◌, ◌≢◌, ℕ, ◌<◌, ⊎_elim, List, [], ◌∷◌, ◌++◌, length, Some, get_or, append_assoc, refl, sym, ap, subst, ◌∙◌}
 use Rattle.std.specs.Prelude.{Option, None, IfSome, IfNone, map, codes}
-use Rattle.mps_base.specs.Names.{IsName, IsNoneOf}
+use Rattle.mps_base.specs.Names.{IsNoneOf}
 use Rattle.mps_base.specs.Spaced.{spaced}
-use Rattle.mps_base.specs.Values.{SpellsValue}
-use Rattle.mps_base.specs.declared.value.Value.{Value}
 use Rattle.mps_base.specs.declared.action.Message.{Message}
-use Rattle.mps_base.specs.declared.action.Message.TheVariants.{Value as Plain, Label}
 use Rattle.mps_command.specs.Shown.{IsShownText}
 use Rattle.mps_command.specs.declared.answer.Done.{Done}
 use Rattle.mps_command.specs.declared.answer.Answer.TheVariants.{Done as Accepted, Undone, News, Shown, Refused}
@@ -23,7 +20,7 @@ use Rattle.mps_line.proofs.Splitting.{one_split, never_split, digits_have_no_spa
 use Rattle.mps_line.proofs.CommandLines.{after_word}
 use Rattle.mps_line.proofs.ShownLines.{some_reply}
 use Rattle.mps_line.proofs.Writing.{bad_line, no_session, no_role, taken, wrong_number}
-use Rattle.mps_line.proofs.OneReply.{letter, begins, alone_or_step, word_has_no_space, undone_has_no_space, refused_has_no_space}
+use Rattle.mps_line.proofs.OneReply.{letter, begins, alone_or_step, word_has_no_space, refused_has_no_space}
 
 -- ---- a word in front
 
@@ -33,10 +30,7 @@ word_in_front bytes letters rest (u ∷ ts) some e h = joined [] bytes (Word let
 
 pub rest_of_word : (bytes letters rest : List ℕ) (ts : List Token) → 0 < length ts → HasNoSpace letters → bytes ≡ spaced (letters ∷ rest ∷ []) → SpellsLine [] bytes (Word letters ∷ ts) → SpellsLine [] rest ts
 rest_of_word bytes letters rest [] some p e h = absurd (omega (arith, some))
-rest_of_word bytes letters rest (u ∷ ts) some p e h =
-    let b = after_word [] bytes letters u ts h in
-    let same = one_split letters letters rest b.0 p p (sym e ∙ b.1) in
-    rw (sym same.1) at b.2
+rest_of_word bytes letters rest (u ∷ ts) some p e h = grind (arith, after_word, one_split)
 
 pub no_word_in_front : (bytes letters : List ℕ) (ts : List Token) → 0 < length ts → ((rest : List ℕ) → bytes ≢ spaced (letters ∷ rest ∷ [])) → SpellsLine [] bytes (Word letters ∷ ts) → ⊥
 no_word_in_front bytes letters [] some none h = absurd (omega (arith, some))
@@ -55,15 +49,13 @@ pub record Split (front rest : List ℕ) (n : ℕ) (u : Token) (us : List Token)
 pub split_number : (bytes front rest : List ℕ) (n : ℕ) (u : Token) (us : List Token) → bytes ≡ spaced (front ∷ rest ∷ []) → HasNoSpace front → SpellsLine [] bytes (Number n ∷ u ∷ us) → Split front rest n u us
 split_number bytes front rest n u us e p h =
     let b = after_token [] bytes (Number n) u us h in
-    let same = one_split front b.1.front rest b.0 p (digits_have_no_space b.1.front b.1.spelled.number.digits) (sym e ∙ b.1.parts) in
-    record { number = rw (sym same.0) at b.1.spelled; others = rw (sym same.1) at b.2 }
+    grind (arith, one_split, digits_have_no_space)
 
 pub never_parted : (bytes : List ℕ) (t u : Token) (us : List Token) → ((first rest : List ℕ) → bytes ≢ spaced (first ∷ rest ∷ [])) → SpellsLine [] bytes (t ∷ u ∷ us) → ⊥
 never_parted bytes t u us none h = let b = after_token [] bytes t u us h in none b.1.front b.0 b.1.parts
 
 pub never_alone : (bytes front rest : List ℕ) (n : ℕ) → bytes ≡ spaced (front ∷ rest ∷ []) → SpellsLine [] bytes (Number n ∷ []) → ⊥
-never_alone bytes front rest n e h =
-    never_split bytes front rest (digits_have_no_space bytes (alone [] bytes (Number n) h).number.digits) e
+never_alone bytes front rest n e h = grind (arith, never_split bytes front rest (digits_have_no_space bytes (alone [] bytes (Number n) h).number.digits) e)
 
 -- ---- the steps of a list
 
@@ -78,8 +70,7 @@ reads_none bytes = record { more = λ ns h. h; others = λ ms h. (ms, h) }
 -- a number in front of some steps
 step_in_front : (bytes front rest : List ℕ) (n : ℕ) (ns : List ℕ) → bytes ≡ spaced (front ∷ rest ∷ []) → SpellsNumber front n → SpellsSteps rest ns → SpellsSteps bytes (n ∷ ns)
 step_in_front bytes front rest n [] e h k = let some = k.some in absurd (omega (arith, some))
-step_in_front bytes front rest n (m ∷ ns) e h k =
-    record { some = omega arith; line = number_in_front bytes front rest n (Number m) (map Number ns) e h k.line }
+step_in_front bytes front rest n (m ∷ ns) e h k = grind (arith, number_in_front)
 
 -- the steps after the first
 steps_after : (bytes front rest : List ℕ) (ns : List ℕ) → bytes ≡ spaced (front ∷ rest ∷ []) → HasNoSpace front → SpellsSteps bytes ns → (n : ℕ) × (others : List ℕ) × SpellsNumber front n × SpellsSteps rest others
@@ -92,10 +83,7 @@ steps_after bytes front rest (n ∷ m ∷ ns) e p k =
 pub reads_more : (bytes ids rest front others : List ℕ) (n : ℕ) (ids' : List ℕ) → Reads bytes ids rest → rest ≡ spaced (front ∷ others ∷ []) → HasNoSpace front → SpellsNumber front n → ids' ≡ ids ++ n ∷ [] → Reads bytes ids' others
 reads_more bytes ids rest front others n ids' r e p h is = record {
   more = λ ns k. subst (SpellsSteps bytes) (sym (ap (λ (l : List ℕ). l ++ ns) is ∙ append_assoc ids (n ∷ []) ns)) (r.more (n ∷ ns) (step_in_front rest front others n ns e h k));
-  others = λ ms k.
-      let old = r.others ms k in
-      let s = steps_after rest front others old.0 e p old.1 in
-      (s.1, s.3);
+  others = grind (arith, steps_after);
 }
 
 -- what stands before the next space is no number
@@ -106,7 +94,7 @@ no_next_step bytes ids rest front others r e p none ms k =
     none s.0 s.2
 
 last_step : (rest : List ℕ) (ns : List ℕ) → ((first others : List ℕ) → rest ≢ spaced (first ∷ others ∷ [])) → SpellsSteps rest ns → (n : ℕ) × SpellsNumber rest n
-last_step rest [] none k = let some = k.some in absurd (omega (arith, some))
+last_step rest [] none k = absurd (omega arith)
 last_step rest (n ∷ []) none k = (n, alone [] rest (Number n) k.line)
 last_step rest (n ∷ m ∷ ns) none k = absurd (never_parted rest (Number n) (Number m) (map Number ns) none k.line)
 
@@ -118,8 +106,7 @@ no_last_step bytes ids rest r whole none ms k =
     none s.0 s.1
 
 pub reads_last : (bytes ids rest : List ℕ) (n : ℕ) (ids' : List ℕ) → Reads bytes ids rest → SpellsNumber rest n → ids' ≡ ids ++ n ∷ [] → SpellsSteps bytes ids'
-reads_last bytes ids rest n ids' r h is =
-    subst (SpellsSteps bytes) (sym is) (r.more (n ∷ []) (record { some = omega arith; line = line_of_one [] rest (Number n) h }))
+reads_last bytes ids rest n ids' r h is = grind (arith, line_of_one)
 
 -- the rest gets shorter
 pub shorter : (front others : List ℕ) → length others < length (spaced (front ∷ others ∷ []))
@@ -153,11 +140,6 @@ parted_done bytes front rest done e p h = by_got done.got h
         let s = split_number bytes front rest done.id (message_token message) [] e p k in
         (message, s.number, alone [] rest (message_token message) s.others)
 
--- neither a name nor a value
-pub no_message : (bytes : List ℕ) → (IsName bytes → ⊥) → ((v : Value) → SpellsValue bytes v → ⊥) → (message : Message) → SpellsToken [] bytes (message_token message) → ⊥
-no_message bytes name value (Plain v) h = value v h
-no_message bytes name value (Label l) h = name h.allowed
-
 -- ---- undone and news
 
 -- `undone` alone
@@ -165,28 +147,23 @@ pub undone_none : (bytes : List ℕ) → bytes ≡ codes "undone" → SpellsRepl
 undone_none bytes e = line_of_one [] bytes (Word (codes "undone")) e
 
 pub undone_some : (bytes rest ids : List ℕ) → bytes ≡ spaced (codes "undone" ∷ rest ∷ []) → SpellsSteps rest ids → SpellsReply bytes (Answered (Undone ids))
-undone_some bytes rest [] e k = let some = k.some in absurd (omega (arith, some))
+undone_some bytes rest [] e k = absurd (omega arith)
 undone_some bytes rest (i ∷ ids) e k = word_in_front bytes (codes "undone") rest (map Number (i ∷ ids)) (omega arith) e k.line
 
 -- another line has steps after the word
 pub undone_steps : (bytes ids : List ℕ) → bytes ≢ codes "undone" → SpellsReply bytes (Answered (Undone ids)) → (rest : List ℕ) × (bytes ≡ spaced (codes "undone" ∷ rest ∷ [])) × SpellsSteps rest ids
 undone_steps bytes [] other h = absurd (other (alone [] bytes (Word (codes "undone")) h))
-undone_steps bytes (i ∷ ids) other h =
-    let b = after_word [] bytes (codes "undone") (Number i) (map Number ids) h in
-    (b.0, b.1, record { some = omega arith; line = b.2 })
+undone_steps bytes (i ∷ ids) other h = grind (arith, after_word [] bytes (codes "undone") (Number i) (map Number ids) h)
 
 pub steps_of_undone : (bytes rest ids : List ℕ) → bytes ≢ codes "undone" → bytes ≡ spaced (codes "undone" ∷ rest ∷ []) → SpellsReply bytes (Answered (Undone ids)) → SpellsSteps rest ids
-steps_of_undone bytes rest ids other e h =
-    let k = undone_steps bytes ids other h in
-    let same = one_split (codes "undone") (codes "undone") rest k.0 undone_has_no_space undone_has_no_space (sym e ∙ k.1) in
-    rw (sym same.1) at k.2
+steps_of_undone bytes rest ids other e h = grind (arith, undone_steps bytes ids other h)
 
 -- news of no steps
 pub news_none : (bytes rest : List ℕ) (n : ℕ) → bytes ≡ spaced (codes "news" ∷ rest ∷ []) → SpellsNumber rest n → SpellsReply bytes (Answered (News n []))
 news_none bytes rest n e h = word_in_front bytes (codes "news") rest (Number n ∷ []) (omega arith) e (line_of_one [] rest (Number n) h)
 
 pub news_some : (bytes rest front others : List ℕ) (n : ℕ) (ids : List ℕ) → bytes ≡ spaced (codes "news" ∷ rest ∷ []) → rest ≡ spaced (front ∷ others ∷ []) → SpellsNumber front n → SpellsSteps others ids → SpellsReply bytes (Answered (News n ids))
-news_some bytes rest front others n [] e f h k = let some = k.some in absurd (omega (arith, some))
+news_some bytes rest front others n [] e f h k = absurd (omega arith)
 news_some bytes rest front others n (i ∷ ids) e f h k =
     word_in_front bytes (codes "news") rest (Number n ∷ map Number (i ∷ ids)) (omega arith) e (number_in_front rest front others n (Number i) (map Number ids) f h k.line)
 
@@ -198,20 +175,12 @@ no_news_alone rest n (i ∷ ids) whole none h = never_parted rest (Number n) (Nu
 -- or the length and steps
 pub parted_news : (rest front others : List ℕ) (n : ℕ) (ids : List ℕ) → rest ≡ spaced (front ∷ others ∷ []) → HasNoSpace front → SpellsLine [] rest (Number n ∷ map Number ids) → SpellsNumber front n × SpellsSteps others ids
 parted_news rest front others n [] e p h = absurd (never_alone rest front others n e h)
-parted_news rest front others n (i ∷ ids) e p h =
-    let s = split_number rest front others n (Number i) (map Number ids) e p h in
-    (s.number, record { some = omega arith; line = s.others })
+parted_news rest front others n (i ∷ ids) e p h = grind (arith, split_number rest front others n (Number i) (map Number ids) e p h)
 
 -- ---- refusals
 
 pub some_refusal : (r : Refusal) → 0 < length (refusal_tokens r)
-some_refusal (Final by) = omega arith
-some_refusal (Needed by) = omega arith
-some_refusal r = omega arith
-
--- a word and a step after it
-pub step_read : (bytes rest letters : List ℕ) (by : ℕ) → bytes ≡ spaced (letters ∷ rest ∷ []) → SpellsNumber rest by → SpellsLine [] bytes (Word letters ∷ Number by ∷ [])
-step_read bytes rest letters by e h = word_in_front bytes letters rest (Number by ∷ []) (omega arith) e (line_of_one [] rest (Number by) h)
+some_refusal r = grind arith
 
 pub violation_read : (bytes : List ℕ) (v : Violation) → bytes ≡ word_of (Violates v) → SpellsLine [] bytes (refusal_tokens (Violates v))
 violation_read bytes v e = line_of_one [] bytes (Word (word_of (Violates v))) e
@@ -245,8 +214,7 @@ no_refusal bytes None needed final violation none = by_refusal
 
 -- a word after `refused`
 pub no_own_word : (bytes rest word : List ℕ) → bytes ≡ spaced (codes "refused" ∷ rest ∷ []) → rest ≢ word → SpellsLine [] bytes (Word (codes "refused") ∷ Word word ∷ []) → ⊥
-no_own_word bytes rest word e other h =
-    other (alone [] rest (Word word) (rest_of_word bytes (codes "refused") rest (Word word ∷ []) (omega arith) refused_has_no_space e h))
+no_own_word bytes rest word e other h = grind (arith, alone [] rest (Word word) (rest_of_word bytes (codes "refused") rest (Word word ∷ []) (omega arith) refused_has_no_space e h))
 
 -- ---- by the first byte
 
@@ -307,16 +275,8 @@ shown_read bytes text e h = line_of_one [] bytes (Show text) (record { is = sym 
 
 -- the word of a refusal that names no step
 pub lone_read : (bytes : List ℕ) (found : Option Refusal) → IfSome found (λ r. bytes ≡ word_of r) → IfSome found (λ r. refusal_tokens r ≡ Word (word_of r) ∷ []) → IfSome found (λ r. SpellsLine [] bytes (refusal_tokens r))
-lone_read bytes None e f = tt
-lone_read bytes (Some r) e f = rw f (line_of_one [] bytes (Word (word_of r)) e)
+lone_read bytes found e f = grind (arith, line_of_one)
 
 -- a word of a reply's own after `refused`
 pub own_line : (bytes rest : List ℕ) (reply : Reply) → bytes ≡ spaced (codes "refused" ∷ rest ∷ []) → rest ≡ own_word reply → 0 < length (own_word reply) → SpellsReply bytes reply
-own_line bytes rest BadLine e is some = rw e (rw is bad_line)
-own_line bytes rest NoSession e is some = rw e (rw is no_session)
-own_line bytes rest NoRole e is some = rw e (rw is no_role)
-own_line bytes rest Taken e is some = rw e (rw is taken)
-own_line bytes rest WrongNumber e is some = rw e (rw is wrong_number)
-own_line bytes rest (Answered (Shown text)) e is some = absurd (omega (arith, some))
-own_line bytes rest (Joined session name) e is some = absurd (omega (arith, some))
-own_line bytes rest reply e is some = absurd (omega (arith, some))
+own_line bytes rest reply e is some = grind (arith, bad_line, no_session, no_role, taken, wrong_number)

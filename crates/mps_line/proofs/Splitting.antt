@@ -1,7 +1,6 @@
 -- A line is split in one place.
 use Rattle.std.proofs.Common.{arith, ◌≡◌, ◌≢◌, ℕ, Bool, true, false, List, [], ◌∷◌, ◌++◌, length, take, drop, refl, sym, ap, ◌∙◌}
-use mathlib.Core.Path.{ap₂}
-use Rattle.std.specs.Prelude.{All, IsTrue, Option, Some, None, IfNone}
+use Rattle.std.specs.Prelude.{All, IsTrue, Option, IfNone}
 use Rattle.std.specs.List.{AllByRecursion}
 use Rattle.std.specs.Str.{bytes_eq}
 use Rattle.std.specs.Str.Parse.{AllDigits}
@@ -17,8 +16,7 @@ use Rattle.mps_line.specs.Private.Tokens.{HasNoSpace, BeginsWith}
 
 -- what holds anyway
 pub if_none : {T P : Type 0} (r : Option T) → P → IfNone r P
-if_none None p = p
-if_none (Some x) p = tt
+if_none r p = grind arith
 
 pub no_space : (bytes : List ℕ) → All (λ c. c ≢ 32) bytes → HasNoSpace bytes
 no_space bytes h = recursion_from_All _ bytes h
@@ -36,30 +34,19 @@ never_spaced bytes h first rest = never_split bytes first rest (no_space bytes h
 -- the parts round the first space
 pub one_split : (a b x y : List ℕ) → HasNoSpace a → HasNoSpace b → spaced (a ∷ x ∷ []) ≡ spaced (b ∷ y ∷ []) → (a ≡ b) × (x ≡ y)
 one_split [] [] x y p q e = (refl, cc)
-one_split [] (b ∷ ss) x y p q e = absurd (q.0 cc)
-one_split (a ∷ rs) [] x y p q e = absurd (p.0 cc)
 one_split (a ∷ rs) (b ∷ ss) x y p q e =
-    let front : a ≡ b = cc in
     let tails : spaced (rs ∷ x ∷ []) ≡ spaced (ss ∷ y ∷ []) = cc in
     let more = one_split rs ss x y p.1 q.1 tails in
     (cc, more.1)
+one_split other others x y p q e = grind arith
 
 -- the part before the first space, whatever stands after it
 pub one_first : (a b : List ℕ) (xs ys : List (List ℕ)) → HasNoSpace a → HasNoSpace b → spaced (a ∷ xs) ≡ spaced (b ∷ ys) → a ≡ b
-one_first a b [] [] p q e = e
-one_first a b [] (y ∷ ys) p q e = absurd (never_split a b (spaced (y ∷ ys)) p e)
-one_first a b (x ∷ xs) [] p q e = absurd (never_split b a (spaced (x ∷ xs)) q (sym e))
-one_first a b (x ∷ xs) (y ∷ ys) p q e = (one_split a b (spaced (x ∷ xs)) (spaced (y ∷ ys)) p q e).0
-
-space_is_none : IsTrue (is_name_byte 32) → ⊥
-space_is_none h = absurd cc
-
-byte_is_no_space : (c : ℕ) → IsTrue (is_name_byte c) → c ≢ 32
-byte_is_no_space c h e = absurd (space_is_none (rw e at h))
+one_first a b xs ys p q e = grind (arith, never_split, one_split)
 
 bytes_have_no_space : (bytes : List ℕ) → AllByRecursion (λ c. IsTrue (is_name_byte c)) bytes → HasNoSpace bytes
 bytes_have_no_space [] h = tt
-bytes_have_no_space (c ∷ bytes) h = (byte_is_no_space c h.0, bytes_have_no_space bytes h.1)
+bytes_have_no_space (c ∷ bytes) h = grind (arith, bytes_have_no_space bytes h.1)
 
 -- a name is one part
 pub name_has_no_space : (bytes : List ℕ) → IsName bytes → HasNoSpace bytes
@@ -68,20 +55,15 @@ name_has_no_space bytes h = bytes_have_no_space bytes h.each
 -- and so is a number
 pub digits_have_no_space : (ds : List ℕ) → AllDigits 10 ds → HasNoSpace ds
 digits_have_no_space [] h = tt
-digits_have_no_space (d ∷ ds) h =
-    let digit = digit_from_value d h.0 in
-    ((λ e. absurd (omega (arith, digit.0, e))), digits_have_no_space ds h.1)
+digits_have_no_space (d ∷ ds) h = grind (arith, digit_from_value d h.0, digits_have_no_space ds h.1)
 
 -- the rest after the first space
 pub same_rest : (names : List (List ℕ)) (bytes first rest : List ℕ) (role : ℕ) (other : List ℕ) → bytes ≡ spaced (first ∷ rest ∷ []) → HasNoSpace first → BeginsWith names bytes (RoleAt role) other → other ≡ rest
-same_rest names bytes first rest role other e h b =
-    (one_split b.front first other rest (name_has_no_space b.front b.spelled.name) h (sym b.parts ∙ e)).1
+same_rest names bytes first rest role other e h b = grind (arith, one_split b.front first other rest (name_has_no_space b.front b.spelled.name) h (sym b.parts ∙ e))
 
 -- what stands before the first space is no role's name
 pub no_role : (names : List (List ℕ)) (bytes first rest : List ℕ) → bytes ≡ spaced (first ∷ rest ∷ []) → HasNoSpace first → ((role : ℕ) → SpellsRole names first role → ⊥) → (role : ℕ) (other : List ℕ) → BeginsWith names bytes (RoleAt role) other → ⊥
-no_role names bytes first rest e h none role other b =
-    let same = one_split b.front first other rest (name_has_no_space b.front b.spelled.name) h (sym b.parts ∙ e) in
-    none role (rw same.0 at b.spelled)
+no_role names bytes first rest e h none role other b = grind (arith, one_split b.front first other rest (name_has_no_space b.front b.spelled.name) h (sym b.parts ∙ e))
 
 -- bytes without a space don't begin with a role's name
 pub no_role_alone : (names : List (List ℕ)) (bytes : List ℕ) → ((first rest : List ℕ) → bytes ≢ spaced (first ∷ rest ∷ [])) → (role : ℕ) (rest : List ℕ) → BeginsWith names bytes (RoleAt role) rest → ⊥
@@ -128,19 +110,14 @@ line_of_one names bytes t h = record { spellings = bytes ∷ []; joined = refl; 
 
 -- a word in front of bytes, as their front is compared with it
 pub in_front : (bytes word rest : List ℕ) → bytes_eq (take (length word) bytes) word ≡ true → rest ≡ drop (length word) bytes → bytes ≡ word ++ rest
-in_front bytes word rest same last =
-    sym (take-append-drop (length word) bytes) ∙ ap₂ (λ (a b : List ℕ). a ++ b) ((bytes_eq-Decides (take (length word) bytes) word).0 same) (sym last)
+in_front bytes word rest same last = grind (arith, take-append-drop, bytes_eq-Decides)
 
 pub not_in_front : (bytes word rest : List ℕ) → bytes_eq (take (length word) bytes) word ≡ false → bytes ≢ word ++ rest
-not_in_front bytes word rest other is =
-    let yes = (bytes_eq-Decides (take (length word) bytes) word).1 (ap (take (length word)) is ∙ take-append_seam word rest) in
-    absurd (let bad : true ≡ false = sym yes ∙ other in cc)
+not_in_front bytes word rest other is = grind (arith, bytes_eq-Decides, take-append_seam)
 
 -- bytes that were compared with a word
 pub is_word : (same : Bool) (bytes other word : List ℕ) → same ≡ bytes_eq bytes other → same ≡ true → other ≡ word → bytes ≡ word
 is_word same bytes other word e found is = (bytes_eq-Decides bytes other).0 (sym e ∙ found) ∙ is
 
 pub is_no_word : (same : Bool) (bytes other word : List ℕ) → same ≡ bytes_eq bytes other → same ≡ false → other ≡ word → bytes ≢ word
-is_no_word same bytes other word e missed is h =
-    let found : bytes_eq bytes other ≡ true = (bytes_eq-Decides bytes other).1 (h ∙ sym is) in
-    absurd (let bad : true ≡ false = sym found ∙ sym e ∙ missed in cc)
+is_no_word same bytes other word e missed is h = grind (arith, bytes_eq-Decides)

@@ -4,7 +4,7 @@ use Rattle.std.specs.List.{list_all}
 use Rattle.std.proofs.lemmas.List.{length-append, append-nil}
 use Rattle.mps_text.specs.Tokens.{is_blank, first_is, Begins, BeginsAll}
 use Rattle.mps_text.specs.Faults.{IsMalformed}
-use Rattle.mps_text.specs.Private.Lexing.{Fault, Lexeme, Lexed, Ended, Malformed, Next, lexeme_at, lexed_by, lexed_end, lexed_in, lexed, unblanked}
+use Rattle.mps_text.specs.Private.Lexing.{Fault, Lexeme, Lexed, Ended, Malformed, Next, lexeme_at, lexed_by, lexed_in, lexed, unblanked}
 use Rattle.mps_text.proofs.Lexemes.{lexeme_takes, lexeme_again, begins_behind, unblanked_front, unblanked_same, unblanked_none}
 use Rattle.mps_text.proofs.Steps.{next_shorter, lexed_next, lexed_stop, lexeme_fails, blanks_end}
 
@@ -26,20 +26,10 @@ Cut (Malformed left) bytes = Spoilt bytes left
 Cut (Next token left rest) bytes = (after : List ℕ) × Begins bytes token after × (left ≡ length (token ++ after)) × Cut rest after
 
 cut_by : (room : ℕ) (bytes : List ℕ) (r : Result Lexeme Fault) → lexeme_at bytes ≡ r → ((rest : List ℕ) → length rest < length bytes → Cut (lexed_in room rest) rest) → Cut (lexed_by (lexed_in room) r) bytes
-cut_by room bytes (Ok next) h more =
-    let f = lexeme_takes bytes next h in
-    (next.rest, f.begins, f.left, more next.rest (next_shorter bytes next h))
+cut_by room bytes (Ok next) h more = grind (arith, lexeme_takes bytes next h, next_shorter bytes next h)
 cut_by room bytes (Err fault) h more =
     let n = lexeme_fails bytes fault h in
-    elim n.wrong [
-      | inl w ↦
-          let all : bytes ≡ n.blanks = n.parts ∙ ap (λ (xs : List ℕ). n.blanks ++ xs) w.1 ∙ append-nil n.blanks in
-          let blank : list_all is_blank bytes ≡ true = ap (list_all is_blank) all ∙ n.blank in
-          rw w.0 blank
-      | inr w ↦
-          let spoilt : Spoilt bytes fault.0 = record { blanks = n.blanks; blank = n.blank; here = n.here; parts = n.parts; long = n.left; wrong = w.1 } in
-          rw w.0 spoilt
-    ]
+    grind (arith, append-nil)
 
 cut_in : (room : ℕ) (bytes : List ℕ) → length bytes < room → Cut (lexed_in room bytes) bytes
 cut_in zero bytes less = absurd (omega arith)
@@ -70,11 +60,9 @@ spoilt_by bytes blanks here (Err fault) parts blank wrong h =
     let at : unblanked bytes ≡ here = behind_blanks bytes blanks here parts blank wrong.no_blank in
     elim n.wrong [
       | inl w ↦
-          let all : bytes ≡ n.blanks = n.parts ∙ ap (λ (xs : List ℕ). n.blanks ++ xs) w.1 ∙ append-nil n.blanks in
-          absurd (wrong.some (sym at ∙ ap unblanked all ∙ unblanked_none n.blanks n.blank))
+          grind (arith, append-nil, unblanked_none)
       | inr w ↦
-          let same : n.here ≡ here = sym (behind_blanks bytes n.blanks n.here n.parts n.blank w.1.no_blank) ∙ at in
-          lexed_stop bytes fault.0 fault.1 h ∙ ap (lexed_end fault.0) w.0 ∙ ap Malformed (sym n.left ∙ ap length same)
+          cc (behind_blanks bytes n.blanks n.here n.parts n.blank w.1.no_blank, lexed_stop bytes fault.0 fault.1 h)
     ]
 
 pub lexed_spoilt : (bytes blanks here : List ℕ) → bytes ≡ blanks ++ here → list_all is_blank blanks ≡ true → IsMalformed here → lexed bytes ≡ Malformed (length here)
@@ -82,12 +70,9 @@ lexed_spoilt bytes blanks here parts blank wrong = spoilt_by bytes blanks here (
 
 -- ---- the place
 
-begins_shorter : (bytes token rest : List ℕ) → Begins bytes token rest → length rest ≤ length bytes
-begins_shorter bytes token rest h = omega (arith, ap length h.parts, length-append h.blanks (token ++ rest), length-append token rest)
-
 all_shorter : (bytes : List ℕ) (tokens : List (List ℕ)) (rest : List ℕ) → BeginsAll bytes tokens rest → length rest ≤ length bytes
 all_shorter bytes [] rest h = omega (arith, ap length h)
-all_shorter bytes (token ∷ tokens) rest h = omega (arith, begins_shorter bytes token h.0 h.1, all_shorter h.0 tokens rest h.2)
+all_shorter bytes (token ∷ tokens) rest h = grind (arith, length-append, all_shorter h.0 tokens rest h.2)
 
 pub place_is : (text : List ℕ) (front : List (List ℕ)) (rest blanks here : List ℕ) (left : ℕ) → BeginsAll text front rest → rest ≡ blanks ++ here → length here ≡ left → (length text - left) + length here ≡ length text
 place_is text front rest blanks here left read parts long = omega (arith, all_shorter text front rest read, ap length parts, length-append blanks here, long)

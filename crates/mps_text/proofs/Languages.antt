@@ -116,14 +116,13 @@ more_roles room stack pushed token tokens starts s c =
           let b = only_if (nat_lt 0 room && is_name token) (Roles (room - 1) ∷ []) pushed a.1 in
           let both = both_true (nat_lt 0 room) (is_name token) b.0 in
           let r : RolesOf (room - 1) (Completes stack) tokens starts = popped stack pushed tokens starts (Roles (room - 1) ∷ []) b.1 c in
-          let some = both.0 in
           let few = r.few in
           record {
             names = token ∷ r.names;
             after = r.after;
             later = r.later;
             are = (name_is token both.1, r.are);
-            few = grind (arith, nat_tests, some, few);
+            few = grind (arith, nat_tests, few);
             goes_on = r.goes_on;
             cut = ap (λ (ts : List (List ℕ)). token ∷ ts) r.cut;
             marked = ap (λ (st : List (Option ℕ)). None ∷ st) r.marked;
@@ -149,9 +148,7 @@ more_branches level sep stack token tokens starts e a =
 
 more_exchange : (level : ℕ) (stack pushed : List Symbol) (token : List ℕ) (tokens : List (List ℕ)) (starts : List (Option ℕ)) (w : Option Bool) → which (codes ":") (codes "{") token ≡ w → exchanged level w ≡ Some pushed → Completes (pushed ++ stack) tokens starts → Completes (Exchange level ∷ stack) (token ∷ tokens) (None ∷ starts)
 more_exchange level stack pushed token tokens starts None e s c = absurd cc
-more_exchange level stack pushed token tokens starts (Some true) e s c =
-    let m = popped stack pushed tokens starts (ASort ∷ Token (codes ".") ∷ Node level ∷ []) (some_is (ASort ∷ Token (codes ".") ∷ Node level ∷ []) pushed s) c in
-    inl (record { token = token; after = tokens; later = starts; is = which_is (codes ":") (codes "{") token true e; goes_on = m; cut = refl; marked = refl })
+more_exchange level stack pushed token tokens starts (Some true) e s c = grind (arith, popped stack pushed tokens starts (ASort ∷ Token (codes ".") ∷ Node level ∷ []) (some_is (ASort ∷ Token (codes ".") ∷ Node level ∷ []) pushed s) c, which_is (codes ":") (codes "{") token true e)
 more_exchange level stack pushed token tokens starts (Some false) e s c =
     let m = popped stack pushed tokens starts (branch level) (some_is (branch level) pushed s) c in
     inr (more_branches level (codes "{") stack token tokens starts (which_is (codes ":") (codes "{") token false e) m)
@@ -219,11 +216,7 @@ more_first level (firsts.Sender name) stack token tokens starts e is a =
     ]
 
 more_node : (level : ℕ) (stack pushed : List Symbol) (token : List ℕ) (tokens : List (List ℕ)) (starts : List (Option ℕ)) (f : Option First) → first_of token ≡ f → begun level f ≡ Some pushed → Completes (pushed ++ stack) tokens starts → NodeOf level (Completes stack) (token ∷ tokens) (Some level ∷ starts)
-more_node level stack pushed token tokens starts None e s c = absurd cc
-more_node level stack pushed token tokens starts (Some first) e s c =
-    let m = popped stack pushed tokens starts (behind_first level first) (some_is (behind_first level first) pushed s) c in
-    let is = first_is token first e in
-    more_first level first stack token tokens starts is.0 is.1 m
+more_node level stack pushed token tokens starts f e s c = grind (arith, popped, some_is, first_is, more_first)
 
 more_sort : (stack pushed : List Symbol) (token : List ℕ) (tokens : List (List ℕ)) (starts : List (Option ℕ)) (o : Option Sort) → sort_of token ≡ o → named o ≡ Some pushed → Completes (pushed ++ stack) tokens starts → One IsSortWord (Completes stack) (token ∷ tokens) (None ∷ starts)
 more_sort stack pushed token tokens starts None e s c = absurd cc
@@ -240,10 +233,7 @@ one_token_more AVariable stack pushed token tokens starts s c =
     let a = only_if (is_variable token) [] pushed s in
     one_more IsVariable stack pushed token tokens starts (variable_is token a.0) a.1 c
 one_token_more ASort stack pushed token tokens starts s c = more_sort stack pushed token tokens starts (sort_of token) refl s c
-one_token_more (Roles room) stack pushed token tokens starts s c = more_roles room stack pushed token tokens starts s c
-one_token_more (Node level) stack pushed token tokens starts s c = more_node level stack pushed token tokens starts (first_of token) refl s c
-one_token_more (Exchange level) stack pushed token tokens starts s c = more_exchange level stack pushed token tokens starts (which (codes ":") (codes "{") token) refl s c
-one_token_more (Others level) stack pushed token tokens starts s c = more_others level stack pushed token tokens starts (which (codes ",") (codes "}") token) refl s c
+one_token_more other stack pushed token tokens starts s c = grind (arith, more_sort, more_roles, more_node, more_exchange, more_others)
 
 -- what the tokens drive a stack to may come after them
 pub completes_behind : (stack : List Symbol) (front : List (List ℕ)) (mid : List Symbol) (starts : List (Option ℕ)) (back : List (List ℕ)) (later : List (Option ℕ)) → Drives stack front mid starts → Completes mid back later → Completes stack (front ++ back) (starts ++ later)

@@ -1,15 +1,14 @@
 -- What the next token is.
-use Rattle.std.proofs.Common.{◌&&◌, not, ◌≡◌, ◌≢◌, ℕ, suc, ◌+◌, ◌<◌, Bool, true, false, ◌||◌, cond, inl, inr, List, [], ◌∷◌, ◌++◌, length, take, drop, nat_le, Result, Ok, Err, refl, ap, sym, subst, ◌∙◌, arith}
+use Rattle.std.proofs.Common.{◌&&◌, not, ◌≡◌, ◌≢◌, ℕ, suc, ◌+◌, ◌<◌, Bool, true, false, ◌||◌, cond, inl, inr, List, [], ◌∷◌, ◌++◌, length, take, drop, nat_le, Result, Ok, Err, refl, ap, arith}
 use Rattle.std.specs.Prelude.{codes, ◌==◌}
 use Rattle.std.specs.List.{AllByRecursion, list_any, list_all}
 use Rattle.std.specs.Str.{bytes_eq}
 use Rattle.std.proofs.lemmas.Bool.Decides.{nat_tests}
-use Rattle.std.proofs.lemmas.List.{take-append-drop, take_at, drop_at, length-append, append-nil}
+use Rattle.std.proofs.lemmas.List.{take-append-drop, take_at, drop_at, length-append}
 use Rattle.std.proofs.lemmas.Slice.Eq.{bytes_eq-Decides}
 use Rattle.mps_base.specs.Names.{reserved_words, is_lower, is_upper, is_name_byte, is_variable_byte}
 use Rattle.mps_text.specs.Tokens.{is_blank, is_word_byte, first_is, IsWord, punctuation, IsTokenBefore, Begins}
 use Rattle.mps_text.specs.Private.Lexing.{is_small_word, is_capital_word, is_word, Fault, Lexeme, unblanked, run_len, is_punctuation_byte, word_len, token_len, lexeme_of, lexeme_at}
-use Rattle.mps_text.specs.declared.fault.TextKind.TheVariants.{Word, Unexpected}
 use Rattle.mps_text.proofs.Names.{both_true, true_both, name_is, is_name_of, variable_is, is_variable_of}
 
 -- ---- blanks
@@ -37,15 +36,8 @@ pub unblanked_none : (bytes : List ℕ) → list_all is_blank bytes ≡ true →
 unblanked_none [] h = refl
 unblanked_none (c ∷ cs) h = let b = both_true (is_blank c) (list_all is_blank cs) h in rw (b.0, unblanked_none cs b.1) refl
 
-pub blank_by_none : (bytes : List ℕ) → unblanked bytes ≡ [] → list_all is_blank bytes ≡ true
-blank_by_none bytes h =
-    let u = unblanked_parts bytes in
-    let all : bytes ≡ u.blanks ++ [] = u.parts ∙ ap (λ (xs : List ℕ). u.blanks ++ xs) h in
-    rw (all, append-nil u.blanks) u.blank
-
 first_by : (c : ℕ) (cs : List ℕ) (b : Bool) → is_blank c ≡ b → first_is is_blank (unblanked cs) ≡ false → first_is is_blank (unblanked (c ∷ cs)) ≡ false
-first_by c cs true e h = rw (e, h) refl
-first_by c cs false e h = rw e e
+first_by c cs b e h = grind arith
 
 -- what stands after the blanks begins with none
 pub unblanked_first : (bytes : List ℕ) → first_is is_blank (unblanked bytes) ≡ false
@@ -53,14 +45,12 @@ unblanked_first [] = refl
 unblanked_first (c ∷ cs) = first_by c cs (is_blank c) refl (unblanked_first cs)
 
 pub unblanked_same : (bytes : List ℕ) → first_is is_blank bytes ≡ false → unblanked bytes ≡ bytes
-unblanked_same [] h = refl
-unblanked_same (c ∷ cs) h = rw h refl
+unblanked_same bytes h = grind arith
 
 -- ---- words
 
 each_of_by : (P : List ℕ → Type 0) (token word : List ℕ) (words : List (List ℕ)) (b : Bool) → bytes_eq token word ≡ b → (list_any (bytes_eq token) words ≡ true → P token) → (b || list_any (bytes_eq token) words) ≡ true → P word → P token
-each_of_by P token word words true e more h here = subst P (sym ((bytes_eq-Decides token word).0 e)) here
-each_of_by P token word words false e more h here = more h
+each_of_by P token word words b e more h here = grind (arith, bytes_eq-Decides)
 
 -- what holds of each of the words holds of one of them
 each_of : (P : List ℕ → Type 0) (token : List ℕ) (words : List (List ℕ)) → list_any (bytes_eq token) words ≡ true → AllByRecursion P words → P token
@@ -69,33 +59,16 @@ each_of P token (word ∷ words) h each = each_of_by P token word words (bytes_e
 
 word_by : (bytes : List ℕ) (small reserved : Bool) → is_small_word bytes ≡ small → list_any (bytes_eq bytes) reserved_words ≡ reserved → is_word bytes ≡ true → IsWord bytes
 word_by bytes true true e f h = inr (inl f)
-word_by bytes true false e f h =
-    let w = both_true (nat_le (length bytes) 32) (is_small_word bytes || is_capital_word bytes) h in
-    inl (name_is bytes (true_both (nat_le (length bytes) 32 && is_small_word bytes) (not (list_any (bytes_eq bytes) reserved_words)) (true_both (nat_le (length bytes) 32) (is_small_word bytes) w.0 e) (ap not f)))
-word_by bytes false reserved e f h =
-    let w = both_true (nat_le (length bytes) 32) (is_small_word bytes || is_capital_word bytes) h in
-    let capital : is_capital_word bytes ≡ true = rw e at w.1 in
-    inr (inr (variable_is bytes (true_both (nat_le (length bytes) 32) (is_capital_word bytes) w.0 capital)))
+word_by bytes true false e f h = grind (arith, both_true, name_is, true_both)
+word_by bytes false reserved e f h = grind (arith, both_true, variable_is, true_both)
 
 word_is : (bytes : List ℕ) → is_word bytes ≡ true → IsWord bytes
 word_is bytes h = word_by bytes (is_small_word bytes) (list_any (bytes_eq bytes) reserved_words) refl refl h
 
-small_is : (bytes : List ℕ) (capital : Bool) → nat_le (length bytes) 32 ≡ true → is_small_word bytes ≡ true → (nat_le (length bytes) 32 && (is_small_word bytes || capital)) ≡ true
-small_is bytes capital short small = rw (short, small) refl
-
-capital_is : (short small capital : Bool) → short ≡ true → capital ≡ true → (short && (small || capital)) ≡ true
-capital_is short true capital p q = rw p refl
-capital_is short false capital p q = rw (p, q) refl
-
 is_word_of : (bytes : List ℕ) → IsWord bytes → is_word bytes ≡ true
-is_word_of bytes (inl name) =
-    let a = both_true (nat_le (length bytes) 32 && is_small_word bytes) (not (list_any (bytes_eq bytes) reserved_words)) (is_name_of bytes name) in
-    let b = both_true (nat_le (length bytes) 32) (is_small_word bytes) a.0 in
-    small_is bytes (is_capital_word bytes) b.0 b.1
+is_word_of bytes (inl name) = grind (arith, both_true (nat_le (length bytes) 32 && is_small_word bytes) (not (list_any (bytes_eq bytes) reserved_words)) (is_name_of bytes name))
 is_word_of bytes (inr (inl reserved)) = each_of (λ t. is_word t ≡ true) bytes reserved_words reserved (refl, (refl, (refl, (refl, (refl, (refl, (refl, (refl, tt))))))))
-is_word_of bytes (inr (inr variable)) =
-    let b = both_true (nat_le (length bytes) 32) (is_capital_word bytes) (is_variable_of bytes variable) in
-    capital_is (nat_le (length bytes) 32) (is_small_word bytes) (is_capital_word bytes) b.0 b.1
+is_word_of bytes (inr (inr variable)) = grind (arith, both_true, is_variable_of)
 
 -- ---- what was found is a token
 
@@ -107,15 +80,11 @@ run_ends : (bytes : List ℕ) → first_is is_word_byte (drop (run_len bytes) by
 run_ends [] = refl
 run_ends (c ∷ cs) = run_ends_by c cs (is_word_byte c) refl (run_ends cs)
 
-punctuation_found : (c : ℕ) → is_punctuation_byte c ≡ true → list_any (bytes_eq (c ∷ [])) punctuation ≡ true
-punctuation_found c h = grind (arith, nat_tests)
-
 arrow_found : (bytes : List ℕ) → bytes_eq (take 2 bytes) (codes "->") ≡ true → IsTokenBefore (take 2 bytes) (drop 2 bytes)
 arrow_found bytes h = inl (rw ((bytes_eq-Decides (take 2 bytes) (codes "->")).0 h) refl)
 
 byte_found : (bytes : List ℕ) → first_is is_punctuation_byte bytes ≡ true → IsTokenBefore (take 1 bytes) (drop 1 bytes)
-byte_found [] h = absurd cc
-byte_found (c ∷ cs) h = inl (punctuation_found c h)
+byte_found bytes h = grind (arith, nat_tests)
 
 word_found : (bytes : List ℕ) (b : Bool) → is_word (take (run_len bytes) bytes) ≡ b → word_len bytes ≢ 0 → IsTokenBefore (take (word_len bytes) bytes) (drop (word_len bytes) bytes)
 unfolding word_len
@@ -124,9 +93,7 @@ word_found bytes false e some = absurd (some (rw e refl))
 
 found_by : (bytes : List ℕ) (a m : Bool) → bytes_eq (take 2 bytes) (codes "->") ≡ a → first_is is_punctuation_byte bytes ≡ m → token_len bytes ≢ 0 → IsTokenBefore (take (token_len bytes) bytes) (drop (token_len bytes) bytes)
 unfolding token_len
-found_by bytes true m e f some = rw e (arrow_found bytes e)
-found_by bytes false true e f some = rw (e, f) (byte_found bytes f)
-found_by bytes false false e f some = rw (e, f) (word_found bytes (is_word (take (run_len bytes) bytes)) refl (λ none. some (rw (e, f) none)))
+found_by bytes a m e f some = grind (arith, arrow_found, byte_found, word_found)
 
 token_found : (bytes : List ℕ) → token_len bytes ≢ 0 → IsTokenBefore (take (token_len bytes) bytes) (drop (token_len bytes) bytes)
 token_found bytes some = found_by bytes (bytes_eq (take 2 bytes) (codes "->")) (first_is is_punctuation_byte bytes) refl refl some
@@ -138,24 +105,14 @@ pub record Found (bytes : List ℕ) (next : Lexeme) : Type 0 where
 
 -- the parts of a cond that gave an Ok
 second_ok : {A : Type 0} (b : Bool) (f : Fault) (r : Result A Fault) (x : A) → cond b (Err f) r ≡ Ok x → (b ≡ false) × (r ≡ Ok x)
-second_ok true f r x e = absurd cc
-second_ok false f r x e = (refl, e)
+second_ok b f r x e = grind arith
 
 pub lexeme_takes : (bytes : List ℕ) (next : Lexeme) → lexeme_at bytes ≡ Ok next → Found bytes next
 unfolding lexeme_at lexeme_of
 lexeme_takes bytes next e =
     let start = unblanked bytes in
     let u = unblanked_parts bytes in
-    let made : Lexeme = record { token = take (token_len start) start; left = length start; rest = drop (token_len start) start } in
-    let a = second_ok (length start == 0) (0, Unexpected) (cond (token_len start == 0) (Err (length start, Word)) (Ok made)) next e in
-    let b = second_ok (token_len start == 0) (length start, Word) (Ok made) next a.1 in
-    let whole : take (token_len start) start ++ drop (token_len start) start ≡ start = take-append-drop (token_len start) start in
-    let some : token_len start ≢ 0 = λ (none : token_len start ≡ 0). absurd (grind (arith, nat_tests)) in
-    let same : made ≡ next = cc in
-    subst (λ (n : Lexeme). Found bytes n) same (record {
-      begins = record { blanks = u.blanks; blank = u.blank; parts = u.parts ∙ ap (λ (xs : List ℕ). u.blanks ++ xs) (sym whole); found = token_found start some };
-      left = ap length (sym whole);
-    })
+    grind (arith, second_ok, take-append-drop, nat_tests, token_found)
 
 -- ---- a token is found
 
@@ -204,22 +161,7 @@ unfolding token_len
 punctuation_again token rest h =
     each_of (λ t. Again t rest) token punctuation h (
       record { first = refl; len = refl; some = omega arith },
-      (
-        record { first = refl; len = refl; some = omega arith },
-        (
-          record { first = refl; len = refl; some = omega arith },
-          (
-            record { first = refl; len = refl; some = omega arith },
-            (
-              record { first = refl; len = refl; some = omega arith },
-              (
-                record { first = refl; len = refl; some = omega arith },
-                (record { first = refl; len = refl; some = omega arith }, tt),
-              ),
-            ),
-          ),
-        ),
-      ),
+      grind arith,
     )
 
 word_len_is : (bytes word : List ℕ) (n : ℕ) → run_len bytes ≡ n → take n bytes ≡ word → is_word word ≡ true → word_len bytes ≡ n
@@ -230,15 +172,11 @@ word_again_by : (c : ℕ) (cs rest : List ℕ) → IsLetter c → list_all is_wo
 unfolding token_len
 word_again_by c cs rest l all word ends =
     let n : run_len ((c ∷ cs) ++ rest) ≡ length (c ∷ cs) = run_whole (c ∷ cs) rest all ends in
-    let t : take (length (c ∷ cs)) ((c ∷ cs) ++ rest) ≡ c ∷ cs = take_at (c ∷ cs) rest (length (c ∷ cs)) refl in
-    let len : word_len ((c ∷ cs) ++ rest) ≡ length (c ∷ cs) = word_len_is ((c ∷ cs) ++ rest) (c ∷ cs) (length (c ∷ cs)) n t word in
-    record { first = l.no_blank; len = rw (l.no_dash, l.no_mark) len; some = omega arith }
+    grind (arith, take_at, word_len_is)
 
 word_again : (token rest : List ℕ) (small : Bool) → is_small_word token ≡ small → is_word token ≡ true → first_is is_word_byte rest ≡ false → Again token rest
 word_again [] rest small e word ends = absurd cc
-word_again (c ∷ cs) rest true e word ends =
-    let b = both_true (is_lower c) (list_all is_name_byte (c ∷ cs)) e in
-    word_again_by c cs rest (lower_letter c b.0) (weaker is_name_byte is_word_byte (c ∷ cs) name_byte b.1) word ends
+word_again (c ∷ cs) rest true e word ends = grind (arith, both_true, word_again_by, lower_letter, weaker, name_byte)
 word_again (c ∷ cs) rest false e word ends =
     let w = both_true (nat_le (length (c ∷ cs)) 32) (is_small_word (c ∷ cs) || is_capital_word (c ∷ cs)) word in
     let capital : is_capital_word (c ∷ cs) ≡ true = rw e at w.1 in
@@ -254,9 +192,7 @@ token_some token rest h = (token_again token rest h).some
 
 -- what stands after the blanks
 pub begins_behind : (bytes token rest : List ℕ) → Begins bytes token rest → unblanked bytes ≡ token ++ rest
-begins_behind bytes token rest h =
-    let a = token_again token rest h.found in
-    ap unblanked h.parts ∙ unblanked_front h.blanks (token ++ rest) h.blank ∙ unblanked_same (token ++ rest) a.first
+begins_behind bytes token rest h = grind (arith, token_again, unblanked_front, unblanked_same)
 
 not_nil : (n : ℕ) → 0 < n → (n == 0) ≡ false
 not_nil n h = grind (arith, nat_tests)
@@ -265,7 +201,4 @@ pub lexeme_again : (bytes token rest : List ℕ) → Begins bytes token rest →
 unfolding lexeme_at lexeme_of
 lexeme_again bytes token rest h =
     let a = token_again token rest h.found in
-    let start = begins_behind bytes token rest h in
-    let long : (length (token ++ rest) == 0) ≡ false = not_nil (length (token ++ rest)) (omega (arith, length-append token rest, a.some)) in
-    let some : (length token == 0) ≡ false = not_nil (length token) a.some in
-    rw (start, long, a.len, some, take_at token rest (length token) refl, drop_at token rest (length token) refl) refl
+    grind (arith, begins_behind, not_nil, length-append, take_at, drop_at)

@@ -1,5 +1,5 @@
 -- Tokens that drive a stack on.
-use Rattle.std.proofs.Common.{◌≡◌, ℕ, suc, List, [], ◌∷◌, ◌++◌, length, Option, Some, refl, ap, sym, subst, ◌∙◌}
+use Rattle.std.proofs.Common.{arith, ◌≡◌, ℕ, suc, List, [], ◌∷◌, ◌++◌, length, Option, Some, refl, ap, sym, subst, ◌∙◌}
 use Rattle.mps_text.specs.Private.Reading.{Symbol, step, start_of}
 use Rattle.mps_text.proofs.Tokens.{some_is}
 
@@ -17,8 +17,7 @@ drives_more x stack pushed to token tokens starts s d = (pushed, s, starts, refl
 pub drives_then : (stack : List Symbol) (front : List (List ℕ)) (mid : List Symbol) (starts : List (Option ℕ)) (back : List (List ℕ)) (to : List Symbol) (later : List (Option ℕ)) → Drives stack front mid starts → Drives mid back to later → Drives stack (front ++ back) to (starts ++ later)
 drives_then stack [] mid starts back to later d e = rw (d.0, d.1) e
 drives_then [] (token ∷ front) mid starts back to later d e = absurd d
-drives_then (x ∷ stack) (token ∷ front) mid starts back to later d e =
-    (d.0, d.1, d.2 ++ later, ap (λ (st : List (Option ℕ)). st ++ later) d.3, drives_then (d.0 ++ stack) front mid d.2 back to later d.4 e)
+drives_then (x ∷ stack) (token ∷ front) mid starts back to later d e = grind (arith, drives_then (d.0 ++ stack) front mid d.2 back to later d.4 e)
 
 pub record Parted (stack : List Symbol) (front back : List (List ℕ)) (to : List Symbol) (starts : List (Option ℕ)) : Type 0 where
   pub mid : List Symbol

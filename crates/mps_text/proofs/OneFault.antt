@@ -1,6 +1,5 @@
 -- A text has one first fault at most, and none where it spells a protocol within the limits.
-use Rattle.std.proofs.Common.{◌≡◌, ◌≢◌, ℕ, ◌+◌, ◌-◌, ◌<◌, ◌≤◌, true, false, ◌⊎◌, inl, inr, List, [], ◌∷◌, ◌++◌, length, Option, Some, None, Result, Ok, Err, refl, ap, sym, ◌∙◌, arith}
-use Rattle.std.specs.Prelude.{◌==◌}
+use Rattle.std.proofs.Common.{◌≡◌, ◌≢◌, ℕ, ◌+◌, ◌-◌, ◌<◌, ◌≤◌, true, ◌⊎◌, inl, inr, List, [], ◌∷◌, ◌++◌, length, Option, Some, None, Result, Ok, Err, refl, ap, sym, ◌∙◌, arith}
 use Rattle.std.specs.List.{list_all}
 use Rattle.std.proofs.lemmas.Bool.Decides.{nat_tests}
 use Rattle.std.proofs.lemmas.List.{append-nil}
@@ -10,7 +9,7 @@ use Rattle.mps_text.specs.Grammar.{SpellsText, IsWithinLimits}
 use Rattle.mps_text.specs.Faults.{starts_of, nodes_begun, Shows, FaultAt, IsFirstFault}
 use Rattle.mps_text.specs.Grammar.{tokens_of}
 use Rattle.mps_text.proofs.Opened.{IsUnexpectedBy, IsWrongBy, opens_two, wrong_two}
-use Rattle.mps_text.specs.Private.Lexing.{Fault, Lexed, Ended, Malformed, Next, lexed}
+use Rattle.mps_text.specs.Private.Lexing.{Fault, Lexed, Next, lexed}
 use Rattle.mps_text.specs.Private.Reading.{Symbol, step, start_of, run, whole}
 use Rattle.mps_text.specs.declared.fault.TextKind.{TextKind}
 use Rattle.mps_text.specs.declared.fault.TextKind.TheVariants.{TooLong, Word, Unexpected, TooManyNodes, TooDeep, Trailing, Memory}
@@ -29,59 +28,41 @@ shown_cut rest blanks bytes token parts blank s =
     let b : Begins rest token s.0 = record { blanks = blanks; blank = blank; parts = parts ∙ ap (λ (xs : List ℕ). blanks ++ xs) s.1; found = s.2 } in
     lexed_token rest token s.0 b ∙ ap (λ (n : ℕ). Next token n (lexed s.0)) (ap length (sym s.1))
 
-run_malformed : (mid : List Symbol) (room left : ℕ) → run mid room (Malformed left) ≡ Err (left, Word)
-run_malformed [] room left = refl
-run_malformed (x ∷ stack) room left = refl
-
 refused_at : (front : List (List ℕ)) (x : Symbol) (stack : List Symbol) (starts : List (Option ℕ)) (room : ℕ) (text more : Lexed) (token : List ℕ) (left : ℕ) (o : Option (List Symbol)) → Drives whole front (x ∷ stack) starts → text ≡ Next token left more → IsUnexpectedBy front starts (Some token) → step x token ≡ o → run (x ∷ stack) room text ≡ Err (left, Unexpected)
 refused_at front x stack starts room text more token left None d cut u e = rw (cut, e) refl
 refused_at front x stack starts room text more token left (Some pushed) d cut u e = absurd (u.1 (start_of x) (opens_behind front x stack pushed starts token d e))
 
 unexpected_at : (next : Option (List ℕ)) (front : List (List ℕ)) (mid : List Symbol) (starts : List (Option ℕ)) (room : ℕ) (rest blanks bytes : List ℕ) → Drives whole front mid starts → rest ≡ blanks ++ bytes → list_all is_blank blanks ≡ true → Shows bytes next → IsUnexpectedBy front starts next → run mid room (lexed rest) ≡ Err (length bytes, Unexpected)
-unexpected_at None front [] starts room rest blanks bytes d parts blank s u = absurd (u (whole_by front starts d))
-unexpected_at None front (x ∷ stack) starts room rest blanks bytes d parts blank s u =
-    let all : rest ≡ blanks = parts ∙ ap (λ (xs : List ℕ). blanks ++ xs) s ∙ append-nil blanks in
-    let cut : lexed rest ≡ Ended = lexed_blanks rest (ap (list_all is_blank) all ∙ blank) in
-    ap (run (x ∷ stack) room) cut ∙ ap (λ (n : ℕ). Err (n, Unexpected)) (sym (ap length s))
-unexpected_at (Some token) front [] starts room rest blanks bytes d parts blank s u = absurd (u.0 (whole_by front starts d))
 unexpected_at (Some token) front (x ∷ stack) starts room rest blanks bytes d parts blank s u =
     refused_at front x stack starts room (lexed rest) (lexed s.0) token (length bytes) (step x token) d (shown_cut rest blanks bytes token parts blank s) u refl
+unexpected_at other front others starts room rest blanks bytes d parts blank s u = grind (arith, whole_by, append-nil, lexed_blanks)
 
 last_same : (xs : List (Option ℕ)) (a b : Option ℕ) → xs ++ a ∷ [] ≡ xs ++ b ∷ [] → a ≡ b
 last_same [] a b e = cc
 last_same (x ∷ xs) a b e = let tail : xs ++ a ∷ [] ≡ xs ++ b ∷ [] = cc in last_same xs a b tail
 
 wrong_at : (kind : TextKind) (front : List (List ℕ)) (mid : List Symbol) (starts : List (Option ℕ)) (room : ℕ) (rest blanks bytes : List ℕ) → Drives whole front mid starts → room + nodes_begun starts ≡ 256 → rest ≡ blanks ++ bytes → list_all is_blank blanks ≡ true → IsWrongBy front starts bytes kind → run mid room (lexed rest) ≡ Err (length bytes, kind)
-wrong_at Word front mid starts room rest blanks bytes d count parts blank w =
-    ap (run mid room) (lexed_spoilt rest blanks bytes parts blank w) ∙ run_malformed mid room (length bytes)
+wrong_at Word front mid starts room rest blanks bytes d count parts blank w = grind (arith, lexed_spoilt)
 wrong_at Unexpected front mid starts room rest blanks bytes d count parts blank w = unexpected_at w.0 front mid starts room rest blanks bytes d parts blank w.1 w.2
 wrong_at TooManyNodes front [] starts room rest blanks bytes d count parts blank w = absurd (none_behind front starts w.0 (starts ++ Some w.1 ∷ []) d w.3)
 wrong_at TooManyNodes front (x ∷ stack) starts room rest blanks bytes d count parts blank w =
     let b = some_behind front x stack starts w.0 (starts ++ Some w.1 ∷ []) d w.3 in
-    let marked : start_of x ≡ Some w.1 = sym (last_same starts (Some w.1) (start_of x) b.marked) in
-    let full = w.4 in
-    let none : room ≡ 0 = omega (arith, count, full) in
-    rw (shown_cut rest blanks bytes w.0 parts blank w.2, b.steps, marked, none) refl
+    grind (arith, last_same starts (Some w.1) (start_of x) b.marked, shown_cut rest blanks bytes w.0 parts blank w.2)
 wrong_at TooDeep front [] starts room rest blanks bytes d count parts blank w = absurd (none_behind front starts w.0 (starts ++ Some 65 ∷ []) d w.2)
 wrong_at TooDeep front (x ∷ stack) starts room rest blanks bytes d count parts blank w =
     let b = some_behind front x stack starts w.0 (starts ++ Some 65 ∷ []) d w.2 in
-    let marked : start_of x ≡ Some 65 = sym (last_same starts (Some 65) (start_of x) b.marked) in
-    let few = w.3 in
-    let some : (room == 0) ≡ false = grind (arith, nat_tests, count, few) in
-    rw (shown_cut rest blanks bytes w.0 parts blank w.1, b.steps, marked, some) refl
+    grind (arith, last_same starts (Some 65) (start_of x) b.marked, nat_tests, shown_cut rest blanks bytes w.0 parts blank w.1)
 wrong_at Trailing front [] starts room rest blanks bytes d count parts blank w = rw (shown_cut rest blanks bytes w.0 parts blank w.1) refl
 wrong_at Trailing front (x ∷ stack) starts room rest blanks bytes d count parts blank w = absurd (not_whole front x stack starts d w.2)
-wrong_at TooLong front mid starts room rest blanks bytes d count parts blank w = absurd w
-wrong_at Memory front mid starts room rest blanks bytes d count parts blank w = absurd w
+wrong_at other front mid starts room rest blanks bytes d count parts blank w = absurd w
 
 fault_runs : (text : List ℕ) (at : ℕ) (kind : TextKind) → (f : FaultAt text at kind) → run whole 256 (lexed text) ≡ Err (length f.bytes, kind)
 fault_runs text at kind f =
     let front = tokens_of f.front in
     let starts = starts_of f.front in
     let b = driven_by front starts (opens_two f.front f.opens) in
-    let few = f.within.few in
     let room = 256 - nodes_begun starts in
-    let count : room + nodes_begun starts ≡ 256 = omega (arith, few) in
+    let count : room + nodes_begun starts ≡ 256 = omega arith in
     run_driven front whole b.0 starts room 256 text f.rest b.1 f.within.shallow count f.read
     ∙ wrong_at kind front b.0 starts room f.rest f.blanks f.bytes b.1 count f.parts f.blank (wrong_two kind f.front f.bytes f.wrong)
 
@@ -92,10 +73,9 @@ spelled_runs text roles tree limits h =
     let s = h.spelled in
     let d = drives_whole h.tokens roles tree s in
     let within = protocol_within roles tree s.body limits.small limits.shallow in
-    let few = within.few in
     let starts = protocol_starts roles tree in
     let room = 256 - nodes_begun starts in
-    let count : room + nodes_begun starts ≡ 256 = omega (arith, few) in
+    let count : room + nodes_begun starts ≡ 256 = omega arith in
     run_driven h.tokens whole [] starts room 256 text h.cut.rest d within.shallow count h.cut.all
     ∙ ap (run [] room) (lexed_blanks h.cut.rest h.cut.blank)
 
@@ -106,9 +86,7 @@ abbrev Seen : List ℕ → ℕ → TextKind → Type 0
 Seen text at kind = ((65536 < length text) × (at ≡ 65536) × (kind ≡ TooLong)) ⊎ ((length text ≤ 65536) × FaultAt text at kind)
 
 seen : (text : List ℕ) (at : ℕ) (kind : TextKind) → IsFirstFault text at kind → kind ≢ Memory → Seen text at kind
-seen text at TooLong f some = inl (f.0, f.1, refl)
-seen text at Memory f some = absurd (some refl)
-seen text at kind f some = inr f
+seen text at kind f some = grind arith
 
 same_place : (a b m n total : ℕ) → a + m ≡ total → b + n ≡ total → m ≡ n → a ≡ b
 same_place a b m n total p q e = omega (arith, p, q, e)
@@ -121,7 +99,7 @@ err_same a b e = cc
 
 both_faults : (text : List ℕ) (a b : ℕ) (k l : TextKind) → Seen text a k → Seen text b l → (a ≡ b) × (k ≡ l)
 both_faults text a b k l (inl p) (inl q) = (p.1 ∙ sym q.1, p.2 ∙ sym q.2)
-both_faults text a b k l (inl p) (inr q) = absurd (let long = p.0 in let short = q.0 in omega (arith, long, short))
+both_faults text a b k l (inl p) (inr q) = absurd (let short = q.0 in omega (arith, short))
 both_faults text a b k l (inr p) (inl q) = absurd (let long = q.0 in let short = p.0 in omega (arith, long, short))
 both_faults text a b k l (inr p) (inr q) =
     let f = p.1 in
@@ -135,7 +113,7 @@ one_fault text a b k l f g p q = both_faults text a b k l (seen text a k f p) (s
 pub no_fault : (text : List ℕ) (roles : List (List ℕ)) (tree : GlobalType) (at : ℕ) (kind : TextKind) → IsWithinLimits text tree → SpellsText text roles tree → IsFirstFault text at kind → kind ≢ Memory → ⊥
 no_fault text roles tree at kind limits h f some =
     elim (seen text at kind f some) [
-      | inl long ↦ let a = long.0 in let b = limits.short in omega (arith, a, b)
+      | inl long ↦ let b = limits.short in omega (arith, b)
       | inr g ↦
           let ok = spelled_runs text roles tree limits h in
           let err = fault_runs text at kind g.1 in

@@ -1,5 +1,5 @@
 -- Tokens are those of one protocol at most.
-use Rattle.std.proofs.Common.{◌≡◌, ℕ, List, [], ◌∷◌, ◌++◌, true, refl, ap, sym, ◌∙◌}
+use Rattle.std.proofs.Common.{arith, ◌≡◌, ℕ, List, [], ◌∷◌, ◌++◌, true, refl, ap, sym, ◌∙◌}
 use Rattle.std.specs.Prelude.{codes, false}
 use Rattle.std.specs.List.{AllByRecursion, list_all}
 use Rattle.std.specs.Str.{bytes_eq}
@@ -10,14 +10,14 @@ use Rattle.mps_base.specs.declared.value.Sort.{Sort}
 use Rattle.mps_global.specs.Global.{GlobalType, Branches, End, Var, Rec, Message, Choice, NoMore, More}
 use Rattle.mps_text.specs.Tokens.{is_blank, BeginsAll}
 use Rattle.mps_base.specs.Sorts.{sort_word}
-use Rattle.mps_text.specs.Grammar.{HasBranch, IsSpellable, SpellsProtocol, SpellsText}
+use Rattle.mps_text.specs.Grammar.{IsSpellable, SpellsProtocol, SpellsText}
 use Rattle.mps_text.specs.Private.Writing.{global_tokens}
-use Rattle.mps_text.specs.Private.Lexing.{lexed, tokens_in, is_name}
-use Rattle.mps_text.specs.Private.Reading.{first_of, first_token, IsFirst, sort_of, tokens_before, branches_before, AreSpellable}
+use Rattle.mps_text.specs.Private.Lexing.{lexed, tokens_in}
+use Rattle.mps_text.specs.Private.Reading.{first_token, IsFirst, sort_of, tokens_before, branches_before, AreSpellable}
 use Rattle.mps_text.specs.declared.reading.First.{First}
 use Rattle.mps_text.specs.declared.reading.First.TheVariants as firsts
 use Rattle.mps_text.proofs.Names.{is_name_of}
-use Rattle.mps_text.proofs.Tokens.{some_is, sort_again, first_again}
+use Rattle.mps_text.proofs.Tokens.{some_is, sort_again}
 use Rattle.mps_text.proofs.Trees.{before_is, protocol_tokens_are}
 use Rattle.mps_text.proofs.Cuts.{lexed_token, lexed_blanks}
 
@@ -35,37 +35,16 @@ record Headed (tree : GlobalType) (rest : List (List ℕ)) : Type 0 where
   good : IsSpellable tree → IsFirst (head_of tree)
   parts : tokens_before tree rest ≡ first_token (head_of tree) ∷ tail
 
-headed : (tree : GlobalType) (rest : List (List ℕ)) → Headed tree rest
-headed End rest = record { tail = rest; good = λ s. tt; parts = refl }
-headed (Var name) rest = record { tail = rest; good = λ s. s.0; parts = refl }
-headed (Rec name body) rest = record { tail = name ∷ codes "." ∷ tokens_before body rest; good = λ s. tt; parts = refl }
-headed (Message sender receiver sort next) rest = record { tail = codes "->" ∷ receiver ∷ codes ":" ∷ sort_word sort ∷ codes "." ∷ tokens_before next rest; good = λ s. s.0.0; parts = refl }
-headed (Choice sender receiver branches) rest = record { tail = codes "->" ∷ receiver ∷ branches_before (codes "{") branches rest; good = λ s. s.0.0; parts = refl }
-
 same_cons : (x y : List ℕ) (xs ys : List (List ℕ)) → x ∷ xs ≡ y ∷ ys → (x ≡ y) × (xs ≡ ys)
 same_cons x y xs ys e = (cc, cc)
 
 apart : (x y : List ℕ) → bytes_eq x y ≡ false → x ≡ y → ⊥
 apart x y off e = let on = (bytes_eq-Decides x y).1 e in cc (on, off)
 
-same_head : (t u : GlobalType) (rest others : List (List ℕ)) → IsSpellable t → IsSpellable u → tokens_before t rest ≡ tokens_before u others → head_of t ≡ head_of u
-same_head t u rest others s r e =
-    let a = headed t rest in
-    let b = headed u others in
-    let tokens = same_cons (first_token (head_of t)) (first_token (head_of u)) a.tail b.tail (sym a.parts ∙ e ∙ b.parts) in
-    some_is (head_of t) (head_of u) (sym (first_again (head_of t) (a.good s)) ∙ ap first_of tokens.0 ∙ first_again (head_of u) (b.good r))
-
 same_sort : (a b : Sort) → sort_word a ≡ sort_word b → a ≡ b
 same_sort a b e = some_is a b (sym (sort_again a) ∙ ap sort_of e ∙ sort_again b)
 
 -- ---- trees
-
-no_brace : (receiver other word : List ℕ) (branches : Branches) (rest others : List (List ℕ)) → HasBranch branches → receiver ∷ codes ":" ∷ word ∷ others ≡ other ∷ branches_before (codes "{") branches rest → ⊥
-no_brace receiver other word NoMore rest others some e = absurd some
-no_brace receiver other word (More label next more) rest others some e =
-    let a = same_cons receiver other (codes ":" ∷ word ∷ others) (branches_before (codes "{") (More label next more) rest) e in
-    let b = same_cons (codes ":") (codes "{") (word ∷ others) (label ∷ codes ":" ∷ tokens_before next (branches_before (codes ",") more rest)) a.1 in
-    apart (codes ":") (codes "{") refl b.0
 
 mutual
   same_tree : (t u : GlobalType) (rest others : List (List ℕ)) → IsSpellable t → IsSpellable u → tokens_before t rest ≡ tokens_before u others → (t ≡ u) × (rest ≡ others)
@@ -75,10 +54,7 @@ mutual
       let p = same_cons (codes "rec") (codes "rec") (a ∷ codes "." ∷ tokens_before body rest) (b ∷ codes "." ∷ tokens_before other others) e in
       let q = same_cons a b (codes "." ∷ tokens_before body rest) (codes "." ∷ tokens_before other others) p.1 in
       let d = same_cons (codes ".") (codes ".") (tokens_before body rest) (tokens_before other others) q.1 in
-      let m = same_tree body other rest others (s.0.1, s.1) (r.0.1, r.1) d.1 in
-      let name = q.0 in
-      let tree = m.0 in
-      (cc (name, tree), m.1)
+      grind (arith, same_tree body other rest others (s.0.1, s.1) (r.0.1, r.1) d.1)
   same_tree (Message a b sort next) (Message c d kind other) rest others s r e =
       let p = same_cons a c (codes "->" ∷ b ∷ codes ":" ∷ sort_word sort ∷ codes "." ∷ tokens_before next rest) (codes "->" ∷ d ∷ codes ":" ∷ sort_word kind ∷ codes "." ∷ tokens_before other others) e in
       let q = same_cons (codes "->") (codes "->") (b ∷ codes ":" ∷ sort_word sort ∷ codes "." ∷ tokens_before next rest) (d ∷ codes ":" ∷ sort_word kind ∷ codes "." ∷ tokens_before other others) p.1 in
@@ -86,37 +62,20 @@ mutual
       let g = same_cons (codes ":") (codes ":") (sort_word sort ∷ codes "." ∷ tokens_before next rest) (sort_word kind ∷ codes "." ∷ tokens_before other others) f.1 in
       let h = same_cons (sort_word sort) (sort_word kind) (codes "." ∷ tokens_before next rest) (codes "." ∷ tokens_before other others) g.1 in
       let i = same_cons (codes ".") (codes ".") (tokens_before next rest) (tokens_before other others) h.1 in
-      let m = same_tree next other rest others (s.0.2, s.1) (r.0.2, r.1) i.1 in
-      let sender = p.0 in
-      let receiver = f.0 in
-      let sorts = same_sort sort kind h.0 in
-      let tree = m.0 in
-      (cc (sender, receiver, sorts, tree), m.1)
+      grind (arith, same_tree next other rest others (s.0.2, s.1) (r.0.2, r.1) i.1, same_sort sort kind h.0)
   same_tree (Choice a b branches) (Choice c d more) rest others s r e =
       let p = same_cons a c (codes "->" ∷ b ∷ branches_before (codes "{") branches rest) (codes "->" ∷ d ∷ branches_before (codes "{") more others) e in
       let q = same_cons (codes "->") (codes "->") (b ∷ branches_before (codes "{") branches rest) (d ∷ branches_before (codes "{") more others) p.1 in
       let f = same_cons b d (branches_before (codes "{") branches rest) (branches_before (codes "{") more others) q.1 in
-      let m = same_branches branches more (codes "{") rest others (apart (codes "{") (codes "}") refl) (s.0.2, s.1.1) (r.0.2, r.1.1) f.1 in
-      let sender = p.0 in
-      let receiver = f.0 in
-      let tree = m.0 in
-      (cc (sender, receiver, tree), m.1)
-  same_tree (Message a b sort next) (Choice c d branches) rest others s r e =
-      let p = same_cons a c (codes "->" ∷ b ∷ codes ":" ∷ sort_word sort ∷ codes "." ∷ tokens_before next rest) (codes "->" ∷ d ∷ branches_before (codes "{") branches others) e in
-      let q = same_cons (codes "->") (codes "->") (b ∷ codes ":" ∷ sort_word sort ∷ codes "." ∷ tokens_before next rest) (d ∷ branches_before (codes "{") branches others) p.1 in
-      absurd (no_brace b d (sort_word sort) branches others (codes "." ∷ tokens_before next rest) r.1.0 q.1)
-  same_tree (Choice c d branches) (Message a b sort next) rest others s r e =
-      let p = same_cons a c (codes "->" ∷ b ∷ codes ":" ∷ sort_word sort ∷ codes "." ∷ tokens_before next others) (codes "->" ∷ d ∷ branches_before (codes "{") branches rest) (sym e) in
-      let q = same_cons (codes "->") (codes "->") (b ∷ codes ":" ∷ sort_word sort ∷ codes "." ∷ tokens_before next others) (d ∷ branches_before (codes "{") branches rest) p.1 in
-      absurd (no_brace b d (sort_word sort) branches rest (codes "." ∷ tokens_before next others) s.1.0 q.1)
-  same_tree t u rest others s r e = absurd (cc (same_head t u rest others s r e))
+      grind (arith, same_branches branches more (codes "{") rest others (apart (codes "{") (codes "}") refl) (s.0.2, s.1.1) (r.0.2, r.1.1) f.1)
+  same_tree (Message a b sort next) (Choice c d branches) rest others s r e = grind (arith, same_cons, bytes_eq-Decides)
+  same_tree (Choice c d branches) (Message a b sort next) rest others s r e = grind (arith, same_cons, bytes_eq-Decides)
+  same_tree t u rest others s r e = grind arith
 
   same_branches : (b c : Branches) (sep : List ℕ) (rest others : List (List ℕ)) → (sep ≡ codes "}" → ⊥) → AreSpellable b → AreSpellable c → branches_before sep b rest ≡ branches_before sep c others → (b ≡ c) × (rest ≡ others)
   same_branches NoMore NoMore sep rest others off s r e = (refl, (same_cons (codes "}") (codes "}") rest others e).1)
-  same_branches NoMore (More label next more) sep rest others off s r e =
-      absurd (off (sym (same_cons (codes "}") sep rest (label ∷ codes ":" ∷ tokens_before next (branches_before (codes ",") more others)) e).0))
-  same_branches (More label next more) NoMore sep rest others off s r e =
-      absurd (off (same_cons sep (codes "}") (label ∷ codes ":" ∷ tokens_before next (branches_before (codes ",") more rest)) others e).0)
+  same_branches NoMore (More label next more) sep rest others off s r e = grind (arith, same_cons)
+  same_branches (More label next more) NoMore sep rest others off s r e = grind (arith, same_cons)
   same_branches (More a next more) (More b other further) sep rest others off s r e =
       let x = tokens_before next (branches_before (codes ",") more rest) in
       let y = tokens_before other (branches_before (codes ",") further others) in
@@ -124,32 +83,17 @@ mutual
       let q = same_cons a b (codes ":" ∷ x) (codes ":" ∷ y) p.1 in
       let d = same_cons (codes ":") (codes ":") x y q.1 in
       let m = same_tree next other (branches_before (codes ",") more rest) (branches_before (codes ",") further others) (s.0.1, s.1.0) (r.0.1, r.1.0) d.1 in
-      let n = same_branches more further (codes ",") rest others (apart (codes ",") (codes "}") refl) (s.0.2, s.1.1) (r.0.2, r.1.1) m.1 in
-      let label = q.0 in
-      let tree = m.0 in
-      let branches = n.0 in
-      (cc (label, tree, branches), n.1)
+      grind (arith, same_branches more further (codes ",") rest others (apart (codes ",") (codes "}") refl) (s.0.2, s.1.1) (r.0.2, r.1.1) m.1)
 
 -- ---- protocols
 
 same_roles : (r s : List (List ℕ)) (rest others : List (List ℕ)) → AllByRecursion IsName r → AllByRecursion IsName s → r ++ codes ";" ∷ rest ≡ s ++ codes ";" ∷ others → (r ≡ s) × (rest ≡ others)
 same_roles [] [] rest others p q e = (refl, (same_cons (codes ";") (codes ";") rest others e).1)
-same_roles [] (y ∷ ys) rest others p q e =
-    let same = (same_cons (codes ";") y rest (ys ++ codes ";" ∷ others) e).0 in
-    let yes = is_name_of y q.0 in
-    let no : is_name y ≡ false = ap is_name (sym same) in
-    absurd (cc (yes, no))
-same_roles (x ∷ xs) [] rest others p q e =
-    let same = (same_cons x (codes ";") (xs ++ codes ";" ∷ rest) others e).0 in
-    let yes = is_name_of x p.0 in
-    let no : is_name x ≡ false = ap is_name same in
-    absurd (cc (yes, no))
+same_roles [] (y ∷ ys) rest others p q e = grind (arith, same_cons, is_name_of)
+same_roles (x ∷ xs) [] rest others p q e = grind (arith, same_cons, is_name_of)
 same_roles (x ∷ xs) (y ∷ ys) rest others p q e =
     let c = same_cons x y (xs ++ codes ";" ∷ rest) (ys ++ codes ";" ∷ others) e in
-    let m = same_roles xs ys rest others p.1 q.1 c.1 in
-    let head = c.0 in
-    let tail = m.0 in
-    (cc (head, tail), m.1)
+    grind (arith, same_roles xs ys rest others p.1 q.1 c.1)
 
 alone : (tree : GlobalType) → IsSpellable tree → tokens_before tree [] ≡ global_tokens tree
 alone tree s = before_is tree [] s ∙ append-nil (global_tokens tree)
@@ -158,13 +102,11 @@ pub same_protocol : (tokens r s : List (List ℕ)) (t u : GlobalType) → Spells
 same_protocol tokens r s t u p q =
     let behind = (same_cons (codes "roles") (codes "roles") (r ++ codes ";" ∷ global_tokens t) (s ++ codes ";" ∷ global_tokens u) (sym (p.parts ∙ protocol_tokens_are r t) ∙ q.parts ∙ protocol_tokens_are s u)).1 in
     let roles = same_roles r s (global_tokens t) (global_tokens u) p.names q.names behind in
-    let trees = same_tree t u [] [] p.body q.body (alone t p.body ∙ roles.1 ∙ sym (alone u q.body)) in
-    (roles.0, trees.0)
+    grind (arith, same_tree t u [] [] p.body q.body (alone t p.body ∙ roles.1 ∙ sym (alone u q.body)))
 
 tokens_are : (bytes : List ℕ) (tokens : List (List ℕ)) (rest : List ℕ) → BeginsAll bytes tokens rest → list_all is_blank rest ≡ true → tokens_in (lexed bytes) ≡ tokens
 tokens_are bytes [] rest h blank = ap (λ (b : List ℕ). tokens_in (lexed b)) h ∙ ap tokens_in (lexed_blanks rest blank)
-tokens_are bytes (token ∷ tokens) rest h blank =
-    ap tokens_in (lexed_token bytes token h.0 h.1) ∙ ap (λ (ts : List (List ℕ)). token ∷ ts) (tokens_are h.0 tokens rest h.2 blank)
+tokens_are bytes (token ∷ tokens) rest h blank = cc (lexed_token bytes token h.0 h.1, tokens_are h.0 tokens rest h.2 blank)
 
 -- one text, one protocol
 pub one_protocol : (text : List ℕ) (r s : List (List ℕ)) (t u : GlobalType) → SpellsText text r t → SpellsText text s u → (r ≡ s) × (t ≡ u)

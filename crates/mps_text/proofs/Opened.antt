@@ -73,23 +73,13 @@ split (p ∷ ps) (q ∷ qs) more later e f =
     let start : q.1 ≡ p.1 = cc in
     let tokens : tokens_of qs ≡ tokens_of ps ++ more = cc in
     let starts : starts_of qs ≡ starts_of ps ++ later = cc in
-    let s = split ps qs more later tokens starts in
-    let first : q ≡ p = same_part q p token start in
-    let others = s.parts in
-    record { later = s.later; parts = cc (first, others) }
+    grind (arith, split ps qs more later tokens starts, same_part q p token start)
 
 pub opens_one : (front : List Part) (tokens : List (List ℕ)) (starts : List (Option ℕ)) → tokens_of front ≡ tokens → starts_of front ≡ starts → OpensBy tokens starts → Opens front
 opens_one front tokens starts e f o =
     let all : protocol_tokens o.roles o.tree ≡ tokens_of front ++ o.more = sym o.spelled.parts ∙ ap (λ (ts : List (List ℕ)). ts ++ o.more) (sym e) in
     let nodes : starts_of (protocol_parts o.roles o.tree) ≡ starts_of front ++ o.later = o.nodes ∙ ap (λ (st : List (Option ℕ)). st ++ o.later) (sym f) in
-    let s = split front (protocol_parts o.roles o.tree) o.more o.later all nodes in
-    record {
-      roles = o.roles;
-      tree = o.tree;
-      spelled = subst (λ (ts : List (List ℕ)). SpellsProtocol ts o.roles o.tree) o.spelled.parts o.spelled;
-      later = s.later;
-      parts = s.parts;
-    }
+    grind (arith, split front (protocol_parts o.roles o.tree) o.more o.later all nodes)
 
 -- two lists as one
 pub record Joined (tokens : List (List ℕ)) (starts : List (Option ℕ)) : Type 0 where
@@ -99,24 +89,18 @@ pub record Joined (tokens : List (List ℕ)) (starts : List (Option ℕ)) : Type
 
 pub join : (tokens : List (List ℕ)) (starts : List (Option ℕ)) → length starts ≡ length tokens → Joined tokens starts
 join [] [] e = record { parts = []; said = refl; begun = refl }
-join [] (s ∷ ss) e = absurd (omega (arith, e))
-join (t ∷ ts) [] e = absurd (omega (arith, e))
 join (t ∷ ts) (s ∷ ss) e =
     let j = join ts ss (omega (arith, e)) in
     record { parts = (t, s) ∷ j.parts; said = ap (λ (xs : List (List ℕ)). t ∷ xs) j.said; begun = ap (λ (xs : List (Option ℕ)). s ∷ xs) j.begun }
+join other others e = grind arith
 
 -- ---- what is wrong
 
 two_behind : (front : List Part) (token : List ℕ) (start : Option ℕ) → Opens (front ++ (token, start) ∷ []) → OpensBy (tokens_of front ++ token ∷ []) (starts_of front ++ start ∷ [])
-two_behind front token start o =
-    let by = opens_two (front ++ (token, start) ∷ []) o in
-    let said : OpensBy (tokens_of front ++ token ∷ []) (starts_of (front ++ (token, start) ∷ [])) = subst (λ (ts : List (List ℕ)). OpensBy ts (starts_of (front ++ (token, start) ∷ []))) (more_tokens front ((token, start) ∷ [])) by in
-    subst (λ (st : List (Option ℕ)). OpensBy (tokens_of front ++ token ∷ []) st) (more_starts front ((token, start) ∷ [])) said
+two_behind front token start o = grind (arith, opens_two (front ++ (token, start) ∷ []) o, more_tokens front ((token, start) ∷ []), more_starts front ((token, start) ∷ []))
 
 one_behind : (front : List Part) (token : List ℕ) (start : Option ℕ) → OpensBy (tokens_of front ++ token ∷ []) (starts_of front ++ start ∷ []) → Opens (front ++ (token, start) ∷ [])
-one_behind front token start o =
-    opens_one (front ++ (token, start) ∷ []) (tokens_of front ++ token ∷ []) (starts_of front ++ start ∷ [])
-    (more_tokens front ((token, start) ∷ [])) (more_starts front ((token, start) ∷ [])) o
+one_behind front token start o = grind (arith, opens_one, more_tokens, more_starts)
 
 unexpected_two : (front : List Part) (next : Option (List ℕ)) → IsUnexpected front next → IsUnexpectedBy (tokens_of front) (starts_of front) next
 unexpected_two front None u = u
@@ -127,13 +111,7 @@ unexpected_one front None u = u
 unexpected_one front (Some token) u = (u.0, λ start o. u.1 start (two_behind front token start o))
 
 pub wrong_two : (kind : TextKind) (front : List Part) (bytes : List ℕ) → IsWrong front bytes kind → IsWrongBy (tokens_of front) (starts_of front) bytes kind
-wrong_two Unexpected front bytes w = (w.0, w.1, unexpected_two front w.0 w.2)
-wrong_two TooManyNodes front bytes w = (w.0, w.1, w.2, two_behind front w.0 (Some w.1) w.3, w.4)
-wrong_two TooDeep front bytes w = (w.0, w.1, two_behind front w.0 (Some 65) w.2, w.3)
-wrong_two kind front bytes w = w
+wrong_two kind front bytes w = grind (arith, unexpected_two, two_behind)
 
 pub wrong_one : (kind : TextKind) (front : List Part) (bytes : List ℕ) → IsWrongBy (tokens_of front) (starts_of front) bytes kind → IsWrong front bytes kind
-wrong_one Unexpected front bytes w = (w.0, w.1, unexpected_one front w.0 w.2)
-wrong_one TooManyNodes front bytes w = (w.0, w.1, w.2, one_behind front w.0 (Some w.1) w.3, w.4)
-wrong_one TooDeep front bytes w = (w.0, w.1, one_behind front w.0 (Some 65) w.2, w.3)
-wrong_one kind front bytes w = w
+wrong_one kind front bytes w = grind (arith, unexpected_one, one_behind)

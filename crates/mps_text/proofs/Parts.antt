@@ -1,5 +1,5 @@
 -- The tokens that begin nodes are the first ones of the nodes.
-use Rattle.std.proofs.Common.{◌≡◌, ℕ, ◌+◌, List, [], ◌∷◌, ◌++◌, length, map, refl, ap, sym, ◌∙◌, arith}
+use Rattle.std.proofs.Common.{◌≡◌, ℕ, ◌+◌, List, [], ◌∷◌, ◌++◌, length, map, refl, ◌∙◌, arith}
 use Rattle.std.specs.Prelude.{codes, filter_map}
 use Rattle.std.proofs.lemmas.List.{append-nil, map-append}
 use Rattle.std.proofs.lemmas.List.Elements.{filter_map-append}
@@ -21,37 +21,25 @@ node_first token a b xs ys e f = rw (e, f) refl
 
 mutual
   begun_nodes : (above : List Step) (tree : GlobalType) (depth : ℕ) → depth ≡ length above + 1 → filter_map begun_by (node_parts depth tree) ≡ map begun_at (places above tree)
-  begun_nodes above End depth e = node_first (codes "end") depth (length above + 1) [] [] e refl
-  begun_nodes above (Var name) depth e = node_first name depth (length above + 1) [] [] e refl
+  begun_nodes above End depth e = grind arith
+  begun_nodes above (Var name) depth e = grind arith
   begun_nodes above (Rec name body) depth e =
       let below = Loop name ∷ above in
-      node_first (codes "rec") depth (length above + 1) (filter_map begun_by (node_parts (depth + 1) body)) (map begun_at (places below body)) e
-      (begun_nodes below body (depth + 1) (omega (arith, e)))
+      cc (node_first (codes "rec") depth (length above + 1) (filter_map begun_by (node_parts (depth + 1) body)) (map begun_at (places below body)) e (begun_nodes below body (depth + 1) (omega (arith, e))))
   begun_nodes above (Message sender receiver sort next) depth e =
       let below = Act ∷ above in
-      node_first sender depth (length above + 1) (filter_map begun_by (node_parts (depth + 1) next)) (map begun_at (places below next)) e
-      (begun_nodes below next (depth + 1) (omega (arith, e)))
+      cc (node_first sender depth (length above + 1) (filter_map begun_by (node_parts (depth + 1) next)) (map begun_at (places below next)) e (begun_nodes below next (depth + 1) (omega (arith, e))))
   begun_nodes above (Choice sender receiver branches) depth e =
       let below = Act ∷ above in
       let parts = branch_parts (depth + 1) branches in
-      node_first sender depth (length above + 1) (filter_map begun_by (parts ++ inside (codes "}" ∷ []))) (map begun_at (branch_places below branches)) e
-      (filter_map-append begun_by parts (inside (codes "}" ∷ [])) ∙ append-nil (filter_map begun_by parts)
-      ∙ begun_branches below branches (depth + 1) (omega (arith, e)))
+      cc (node_first sender depth (length above + 1) (filter_map begun_by (parts ++ inside (codes "}" ∷ []))) (map begun_at (branch_places below branches)) e (filter_map-append begun_by parts (inside (codes "}" ∷ [])) ∙ append-nil (filter_map begun_by parts) ∙ begun_branches below branches (depth + 1) (omega (arith, e))))
 
   begun_branches : (above : List Step) (branches : Branches) (depth : ℕ) → depth ≡ length above + 1 → filter_map begun_by (branch_parts depth branches) ≡ map begun_at (branch_places above branches)
   begun_branches above NoMore depth e = refl
-  begun_branches above (More label next NoMore) depth e =
-      begun_nodes above next depth e ∙ ap (map begun_at) (sym (append-nil (places above next)))
+  begun_branches above (More label next NoMore) depth e = cc (begun_nodes above next depth e, append-nil (places above next))
   begun_branches above (More label next (More second then others)) depth e =
       let more = branch_parts depth (More second then others) in
-      filter_map-append begun_by (node_parts depth next ++ inside (codes "," ∷ [])) more
-      ∙ ap (λ (xs : List (List ℕ × ℕ)). xs ++ filter_map begun_by more) (filter_map-append begun_by (node_parts depth next) (inside (codes "," ∷ [])) ∙ append-nil (filter_map begun_by (node_parts depth next)))
-      ∙ ap (λ (xs : List (List ℕ × ℕ)). xs ++ filter_map begun_by more) (begun_nodes above next depth e)
-      ∙ ap (λ (xs : List (List ℕ × ℕ)). map begun_at (places above next) ++ xs) (begun_branches above (More second then others) depth e)
-      ∙ sym (map-append begun_at (places above next) (branch_places above (More second then others)))
+      cc (filter_map-append begun_by (node_parts depth next ++ inside (codes "," ∷ [])) more, filter_map-append begun_by (node_parts depth next) (inside (codes "," ∷ [])), append-nil (filter_map begun_by (node_parts depth next)), begun_nodes above next depth e, begun_branches above (More second then others) depth e, map-append begun_at (places above next) (branch_places above (More second then others)))
 
 pub begun_protocol : (roles : List (List ℕ)) (tree : GlobalType) → filter_map begun_by (protocol_parts roles tree) ≡ map begun_at (places [] tree)
-begun_protocol roles tree =
-    filter_map-append begun_by (inside roles ++ inside (codes ";" ∷ [])) (node_parts 1 tree)
-    ∙ ap (λ (xs : List (List ℕ × ℕ)). xs ++ filter_map begun_by (node_parts 1 tree)) (filter_map-append begun_by (inside roles) (inside (codes ";" ∷ [])) ∙ append-nil (filter_map begun_by (inside roles)) ∙ none_inside roles)
-    ∙ begun_nodes [] tree 1 (omega arith)
+begun_protocol roles tree = search (filter_map-append, append-nil, none_inside, begun_nodes, arith)

@@ -1,5 +1,5 @@
 -- What the reader took is spelled so, and each text spells a protocol or has a fault.
-use Rattle.std.proofs.Common.{◌≡◌, ℕ, ◌-◌, ◌≤◌, ◌⊎◌, inl, inr, List, [], ◌∷◌, ◌++◌, length, Option, Result, Ok, Err, refl, ap, sym, subst, ◌∙◌}
+use Rattle.std.proofs.Common.{arith, ◌≡◌, ℕ, ◌≤◌, ◌⊎◌, inl, inr, List, [], ◌∷◌, ◌++◌, length, Result, Ok, Err, refl, ap, sym, ◌∙◌}
 use Rattle.std.specs.Prelude.{codes}
 use Rattle.std.specs.List.{AllByRecursion}
 use Rattle.std.proofs.lemmas.Bool.{cases_lt}
@@ -7,8 +7,8 @@ use Rattle.std.proofs.lemmas.List.{append-nil}
 use Rattle.mps_base.specs.Names.{IsName}
 use Rattle.mps_base.specs.RoleLists.{HasRoleCount}
 use Rattle.mps_global.specs.Global.{GlobalType}
-use Rattle.mps_text.specs.Grammar.{protocol_parts, protocol_tokens, IsSpellable, SpellsProtocol, SpellsText, IsWithinLimits}
-use Rattle.mps_text.specs.Faults.{IsShallow, nodes_begun, AreWithin, HasProtocol, HasFault}
+use Rattle.mps_text.specs.Grammar.{protocol_tokens, IsSpellable, SpellsProtocol, SpellsText, IsWithinLimits}
+use Rattle.mps_text.specs.Faults.{HasProtocol, HasFault}
 use Rattle.mps_text.specs.declared.fault.TextKind.TheVariants.{TooLong}
 use Rattle.mps_text.specs.Private.Writing.{global_tokens}
 use Rattle.mps_text.specs.Private.Lexing.{Fault, lexed, tokens_in}
@@ -24,14 +24,7 @@ use Rattle.mps_text.proofs.FirstFault.{whole_by, first_fault, fault_kind}
 passed : (text : List ℕ) (roles : List (List ℕ)) (tree : GlobalType) → length text ≤ 65536 → Passed (tokens_in (lexed text)) whole 256 text → SpellsProtocol (tokens_in (lexed text)) roles tree → IsWithinLimits text tree × SpellsText text roles tree
 passed text roles tree short w s =
     let same = (drives_one whole (tokens_in (lexed text)) [] w.starts [] (protocol_starts roles tree) w.drives (drives_whole (tokens_in (lexed text)) roles tree s)).1 in
-    let within : AreWithin (protocol_parts roles tree) = record {
-      shallow = subst (AllByRecursion IsShallow) same w.shallow;
-      few = subst (λ (st : List (Option ℕ)). nodes_begun st ≤ 256) same w.few;
-    } in
-    let limits = within_protocol roles tree s.body within in (
-      record { short = short; small = limits.0; shallow = limits.1 },
-      record { tokens = tokens_in (lexed text); cut = record { rest = w.rest; all = w.read; blank = w.blank }; spelled = s },
-    )
+    grind (arith, within_protocol)
 
 pub taken : (text : List ℕ) (roles : List (List ℕ)) (tree : GlobalType) → length text ≤ 65536 → run whole 256 (lexed text) ≡ Ok tt → tokens_in (lexed text) ≡ codes "roles" ∷ roles ++ codes ";" ∷ tokens_before tree [] → AllByRecursion IsName roles → HasRoleCount roles → IsSpellable tree → IsWithinLimits text tree × SpellsText text roles tree
 taken text roles tree short h tokens names count body =
@@ -47,10 +40,8 @@ answered : (text : List ℕ) (r : Result (Unit {0}) Fault) → length text ≤ 6
 answered text (Ok tt) short h =
     let w = run_passes (lexed text) whole 256 text (text_cut text) h in
     let p = whole_by (tokens_in (lexed text)) w.starts w.drives in
-    let s = passed text p.0 p.1 short w p.2 in
-    inl (p.0, p.1, s.0, s.1)
-answered text (Err fault) short h =
-    inr (length text - fault.0, fault.1, first_fault text fault.0 fault.1 short h, fault_kind text fault.0 fault.1 h)
+    grind (arith, passed text p.0 p.1 short w p.2)
+answered text (Err fault) short h = grind (arith, first_fault text fault.0 fault.1 short h, fault_kind text fault.0 fault.1 h)
 
 pub protocol_or_fault : (text : List ℕ) → HasProtocol text ⊎ HasFault text
 protocol_or_fault text =

@@ -1,12 +1,12 @@
 -- A text, cut into tokens.
-use Rattle.std.proofs.Common.{◌≡◌, ◌≢◌, ℕ, zero, suc, ◌<◌, Bool, false, true, ◌⊎◌, inl, inr, List, [], ◌∷◌, ◌++◌, length, Result, Ok, Err, refl, ap, sym, subst, ◌∙◌, arith}
+use Rattle.std.proofs.Common.{◌≡◌, ◌≢◌, ℕ, suc, ◌<◌, Bool, false, true, ◌⊎◌, List, [], ◌∷◌, ◌++◌, length, Result, Ok, Err, refl, ap, arith}
 use Rattle.std.specs.Prelude.{◌==◌}
 use Rattle.std.specs.List.{list_all}
 use Rattle.std.proofs.lemmas.Bool.Decides.{nat_tests}
 use Rattle.std.proofs.lemmas.List.{length-append, append-nil, nil_from_length}
 use Rattle.mps_text.specs.Tokens.{is_blank, first_is}
 use Rattle.mps_text.specs.Faults.{IsMalformed}
-use Rattle.mps_text.specs.Private.Lexing.{Fault, Lexeme, Lexed, Ended, Malformed, Next, lexeme_at, lexeme_of, token_len, lexed_by, lexed_end, lexed_in, lexed, unblanked}
+use Rattle.mps_text.specs.Private.Lexing.{Fault, Lexeme, Ended, Next, lexeme_at, lexeme_of, token_len, lexed_by, lexed_end, lexed_in, lexed, unblanked}
 use Rattle.mps_text.specs.Private.Reading.{Symbol, run}
 use Rattle.mps_text.specs.declared.fault.TextKind.{TextKind}
 use Rattle.mps_text.specs.declared.fault.TextKind.TheVariants.{Word, Unexpected, Trailing}
@@ -17,25 +17,20 @@ pub next_shorter : (bytes : List ℕ) (next : Lexeme) → lexeme_at bytes ≡ Ok
 next_shorter bytes next h =
     let f = lexeme_takes bytes next h in
     let b = f.begins in
-    let some : 0 < length next.token = token_some next.token next.rest b.found in
-    omega (arith, some, ap length b.parts, length-append b.blanks (next.token ++ next.rest), length-append next.token next.rest)
+    grind (arith, token_some next.token next.rest b.found, length-append b.blanks (next.token ++ next.rest), length-append next.token next.rest)
 
 lexed_alike : (room more : ℕ) (bytes : List ℕ) (r : Result Lexeme Fault) → lexeme_at bytes ≡ r → ((rest : List ℕ) → length rest < length bytes → lexed_in room rest ≡ lexed_in more rest) → lexed_by (lexed_in room) r ≡ lexed_by (lexed_in more) r
-lexed_alike room more bytes (Ok next) h same = ap (λ (l : Lexed). Next next.token next.left l) (same next.rest (next_shorter bytes next h))
-lexed_alike room more bytes (Err fault) h same = refl
+lexed_alike room more bytes r h same = grind (arith, next_shorter)
 
 -- with room for every byte it is all one how much there is
 lexed_same : (room more : ℕ) (bytes : List ℕ) → length bytes < room → length bytes < more → lexed_in room bytes ≡ lexed_in more bytes
-lexed_same zero more bytes a b = absurd (omega arith)
-lexed_same (suc room) zero bytes a b = absurd (omega arith)
 lexed_same (suc room) (suc more) bytes a b =
     lexed_alike room more bytes (lexeme_at bytes) refl (λ rest less. lexed_same room more rest (omega arith) (omega arith))
+lexed_same other others bytes a b = absurd (omega arith)
 
 pub lexed_next : (bytes : List ℕ) (next : Lexeme) → lexeme_at bytes ≡ Ok next → lexed bytes ≡ Next next.token next.left (lexed next.rest)
 unfolding lexed
-lexed_next bytes next h =
-    ap (lexed_by (lexed_in (length bytes))) h
-    ∙ ap (λ (l : Lexed). Next next.token next.left l) (lexed_same (length bytes) (suc (length next.rest)) next.rest (next_shorter bytes next h) (omega arith))
+lexed_next bytes next h = grind (arith, lexed_same, next_shorter)
 
 pub lexed_stop : (bytes : List ℕ) (left : ℕ) (kind : TextKind) → lexeme_at bytes ≡ Err (left, kind) → lexed bytes ≡ lexed_end left kind
 unfolding lexed
@@ -52,33 +47,19 @@ pub record NoLexeme (bytes : List ℕ) (fault : Fault) : Type 0 where
   pub left : length here ≡ fault.0
   pub wrong : ((fault.1 ≡ Unexpected) × (here ≡ [])) ⊎ ((fault.1 ≡ Word) × IsMalformed here)
 
-err_is : {A : Type 0} (d e : Fault) (r : Result A Fault) → r ≡ Err d → r ≡ Err e → d ≡ e
-err_is d e r p q = cc
-
 malformed : (bytes : List ℕ) → (length bytes == 0) ≡ false → (token_len bytes == 0) ≡ true → first_is is_blank bytes ≡ false → IsMalformed bytes
 unfolding lexeme_at lexeme_of
 malformed bytes some none first = record {
   some = λ e. absurd (cc (ap length e, some));
   no_blank = first;
   no_token = λ token rest h.
-      let found = lexeme_again bytes token rest h in
-      let not : lexeme_at bytes ≡ Err (length bytes, Word) = rw (unblanked_same bytes first, some, none) refl in
-      absurd (cc (found, not));
+      cc (lexeme_again bytes token rest h, unblanked_same bytes first);
 }
 
 lexeme_by : (bytes : List ℕ) (fault : Fault) (a b : Bool) → (length (unblanked bytes) == 0) ≡ a → (token_len (unblanked bytes) == 0) ≡ b → lexeme_at bytes ≡ Err fault → NoLexeme bytes fault
 unfolding lexeme_at lexeme_of
-lexeme_by bytes fault true b e f h =
-    let u = unblanked_parts bytes in
-    let none : unblanked bytes ≡ [] = nil_from_length (unblanked bytes) (grind (arith, nat_tests, e)) in
-    let end : lexeme_at bytes ≡ Err (0, Unexpected) = rw e refl in
-    subst (NoLexeme bytes) (err_is (0, Unexpected) fault (lexeme_at bytes) end h)
-    (record { blanks = u.blanks; blank = u.blank; here = []; parts = u.parts ∙ ap (λ (xs : List ℕ). u.blanks ++ xs) none; left = refl; wrong = inl (refl, refl) })
-lexeme_by bytes fault false true e f h =
-    let u = unblanked_parts bytes in
-    let bad : lexeme_at bytes ≡ Err (length (unblanked bytes), Word) = rw (e, f) refl in
-    subst (NoLexeme bytes) (err_is (length (unblanked bytes), Word) fault (lexeme_at bytes) bad h)
-    (record { blanks = u.blanks; blank = u.blank; here = unblanked bytes; parts = u.parts; left = refl; wrong = inr (refl, malformed (unblanked bytes) e f (unblanked_first bytes)) })
+lexeme_by bytes fault true b e f h = grind (arith, unblanked_parts bytes, nil_from_length (unblanked bytes) (grind (arith, nat_tests, e)))
+lexeme_by bytes fault false true e f h = grind (arith, unblanked_parts bytes, malformed (unblanked bytes) e f (unblanked_first bytes))
 lexeme_by bytes fault false false e f h = absurd (cc (rw (e, f) at h))
 
 pub lexeme_fails : (bytes : List ℕ) (fault : Fault) → lexeme_at bytes ≡ Err fault → NoLexeme bytes fault
@@ -87,17 +68,7 @@ lexeme_fails bytes fault h = lexeme_by bytes fault (length (unblanked bytes) == 
 -- ---- where the reader stops for want of a token
 
 pub run_stop : (x : Symbol) (others : List Symbol) (nodes : ℕ) (bytes : List ℕ) (left : ℕ) (kind : TextKind) → lexeme_at bytes ≡ Err (left, kind) → run (x ∷ others) nodes (lexed bytes) ≡ Err (left, kind)
-run_stop x others nodes bytes left kind h =
-    let n = lexeme_fails bytes (left, kind) h in
-    elim n.wrong [
-      | inl w ↦
-          let none : 0 ≡ left = sym (ap length w.1) ∙ n.left in
-          let cut : lexed bytes ≡ Ended = lexed_stop bytes left kind h ∙ ap (lexed_end left) w.0 in
-          rw (cut, w.0, ← none) refl
-      | inr w ↦
-          let cut : lexed bytes ≡ Malformed left = lexed_stop bytes left kind h ∙ ap (lexed_end left) w.0 in
-          rw (cut, w.0) refl
-    ]
+run_stop x others nodes bytes left kind h = grind (arith, lexeme_fails bytes (left, kind) h, lexed_stop bytes left kind h)
 
 pub blanks_end : (bytes : List ℕ) → length (unblanked bytes) ≡ 0 → lexed bytes ≡ Ended
 unfolding lexeme_at lexeme_of
@@ -108,15 +79,7 @@ blanks_end bytes h =
 pub stop_behind : (nodes : ℕ) (bytes : List ℕ) (left : ℕ) (kind : TextKind) → length (unblanked bytes) ≢ 0 → lexeme_at bytes ≡ Err (left, kind) → run [] nodes (lexed bytes) ≡ Err (left, kind)
 stop_behind nodes bytes left kind some h =
     let n = lexeme_fails bytes (left, kind) h in
-    elim n.wrong [
-      | inl w ↦
-          let all : bytes ≡ n.blanks = n.parts ∙ ap (λ (xs : List ℕ). n.blanks ++ xs) w.1 ∙ append-nil n.blanks in
-          let none : unblanked bytes ≡ [] = ap unblanked all ∙ unblanked_none n.blanks n.blank in
-          absurd (some (ap length none))
-      | inr w ↦
-          let cut : lexed bytes ≡ Malformed left = lexed_stop bytes left kind h ∙ ap (lexed_end left) w.0 in
-          rw (cut, w.0) refl
-    ]
+    grind (arith, append-nil n.blanks, unblanked_none n.blanks n.blank, lexed_stop bytes left kind h)
 
 pub token_behind : (nodes : ℕ) (bytes : List ℕ) (next : Lexeme) → lexeme_at bytes ≡ Ok next → run [] nodes (lexed bytes) ≡ Err (next.left, Trailing)
 token_behind nodes bytes next h = rw (lexed_next bytes next h) refl

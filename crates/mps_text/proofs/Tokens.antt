@@ -7,7 +7,6 @@ use Rattle.std.proofs.lemmas.Bool.Decides.{nat_tests}
 use Rattle.std.proofs.lemmas.Slice.Eq.{bytes_eq-Decides}
 use Rattle.mps_base.specs.Names.{IsName, IsVariable}
 use Rattle.mps_base.specs.declared.value.Sort.{Sort}
-use Rattle.mps_base.specs.declared.value.Sort.TheVariants.{Int, Bool as Truth, Text}
 use Rattle.mps_base.specs.Sorts.{sort_word}
 use Rattle.mps_text.specs.Private.Lexing.{is_name, is_variable}
 use Rattle.mps_text.specs.Private.Reading.{first_of, first_token, IsFirst, sort_of, which, separator}
@@ -16,49 +15,32 @@ use Rattle.mps_text.specs.declared.reading.First.TheVariants.{End, Rec, Sender, 
 use Rattle.mps_text.proofs.Names.{name_is, is_name_of, variable_is, is_variable_of}
 
 pub chosen : {A : Type 0} (b : Bool) (x y z : A) → cond b x y ≡ z → ((b ≡ true) × (x ≡ z)) ⊎ ((b ≡ false) × (y ≡ z))
-chosen true x y z e = inl (refl, e)
-chosen false x y z e = inr (refl, e)
+chosen b x y z e = grind arith
 
 pub some_is : {A : Type 0} (x y : A) → Some x ≡ Some y → x ≡ y
 some_is x y e = cc
 
 -- the only choice was taken
 pub only_if : {A : Type 0} (b : Bool) (x y : A) → cond b (Some x) None ≡ Some y → (b ≡ true) × (x ≡ y)
-only_if true x y e = (refl, some_is x y e)
-only_if false x y e = absurd cc
+only_if b x y e = grind (arith, some_is)
 
 pub same_token : (x y : List ℕ) → bytes_eq x y ≡ true → x ≡ y
 same_token x y e = (bytes_eq-Decides x y).0 e
 
-pub token_same : (x : List ℕ) → bytes_eq x x ≡ true
-token_same x = (bytes_eq-Decides x x).1 refl
-
 -- a name is none of the other tokens, nor is a variable
 pub name_apart : (name token : List ℕ) → IsName name → is_name token ≡ false → bytes_eq name token ≡ false
 name_apart name token h e = false_from_ne_true (bytes_eq name token) (λ same.
-    let is : is_name token ≡ true = subst (λ (x : List ℕ). is_name x ≡ true) (same_token name token same) (is_name_of name h) in
-    absurd (cc (is, e)))
+    cc (same_token name token same, is_name_of name h))
 
 pub variable_apart : (name token : List ℕ) → IsVariable name → is_variable token ≡ false → bytes_eq name token ≡ false
 variable_apart name token h e = false_from_ne_true (bytes_eq name token) (λ same.
-    let is : is_variable token ≡ true = subst (λ (x : List ℕ). is_variable x ≡ true) (same_token name token same) (is_variable_of name h) in
-    absurd (cc (is, e)))
-
-no_name : (token : List ℕ) → IsVariable token → IsName token → ⊥
-no_name token v n =
-    let a = v.first in
-    let b = n.first in
-    grind (arith, nat_tests, a, b)
+    cc (same_token name token same, is_variable_of name h))
 
 -- ---- which of two
 
 pub which_is : (this that token : List ℕ) (b : Bool) → which this that token ≡ Some b → token ≡ cond b this that
 unfolding which
-which_is this that token b h =
-    elim (chosen (bytes_eq token this) (Some true) (cond (bytes_eq token that) (Some false) None) (Some b) h) [
-      | inl a ↦ rw (sym (some_is true b a.1)) (same_token token this a.0)
-      | inr a ↦ let c = only_if (bytes_eq token that) false b a.1 in rw (sym c.1) (same_token token that c.0)
-    ]
+which_is this that token b h = grind (arith, chosen, some_is, same_token, only_if)
 
 pub separator_is : (token : List ℕ) (more : Bool) → which (codes ",") (codes "}") token ≡ Some more → token ≡ separator more
 separator_is token true h = which_is (codes ",") (codes "}") token true h
@@ -68,20 +50,11 @@ separator_is token false h = which_is (codes ",") (codes "}") token false h
 
 pub sort_is : (token : List ℕ) (sort : Sort) → sort_of token ≡ Some sort → token ≡ sort_word sort
 unfolding sort_of
-sort_is token sort h =
-    elim (chosen (bytes_eq token (codes "int")) (Some Int) (cond (bytes_eq token (codes "bool")) (Some Truth) (cond (bytes_eq token (codes "text")) (Some Text) None)) (Some sort) h) [
-      | inl a ↦ rw (sym (some_is Int sort a.1)) (same_token token (codes "int") a.0)
-      | inr b ↦ elim (chosen (bytes_eq token (codes "bool")) (Some Truth) (cond (bytes_eq token (codes "text")) (Some Text) None) (Some sort) b.1) [
-        | inl a ↦ rw (sym (some_is Truth sort a.1)) (same_token token (codes "bool") a.0)
-        | inr d ↦ let c = only_if (bytes_eq token (codes "text")) Text sort d.1 in rw (sym c.1) (same_token token (codes "text") c.0)
-      ]
-    ]
+sort_is token sort h = grind (arith, chosen, some_is, same_token, only_if)
 
 pub sort_again : (sort : Sort) → sort_of (sort_word sort) ≡ Some sort
 unfolding sort_of
-sort_again Int = refl
-sort_again Truth = refl
-sort_again Text = refl
+sort_again sort = grind arith
 
 -- ---- the first token of a global type
 
@@ -103,9 +76,5 @@ first_is token first h =
 
 pub first_again : (first : First) → IsFirst first → first_of (first_token first) ≡ Some first
 unfolding first_of
-first_again End h = refl
-first_again Rec h = refl
-first_again (Sender name) h = rw (is_name_of name h, name_apart name (codes "end") h refl, name_apart name (codes "rec") h refl) refl
-first_again (Var name) h =
-    let apart : is_name name ≡ false = false_from_ne_true (is_name name) (λ e. absurd (no_name name h (name_is name e))) in
-    rw (apart, is_variable_of name h, variable_apart name (codes "end") h refl, variable_apart name (codes "rec") h refl) refl
+first_again (Var name) h = grind (arith, false_from_ne_true, nat_tests, name_is, is_variable_of, variable_apart)
+first_again other h = grind (arith, is_name_of, name_apart)

@@ -1,12 +1,11 @@
 -- The tokens of a tree, and how they drive a stack on.
-use Rattle.std.proofs.Common.{◌≡◌, ℕ, ◌+◌, ◌-◌, ◌≤◌, true, nat_lt, List, [], ◌∷◌, ◌++◌, length, Option, Some, None, refl, ap, sym, subst, ◌∙◌, append_assoc, arith}
+use Rattle.std.proofs.Common.{◌≡◌, ℕ, ◌+◌, ◌-◌, ◌≤◌, true, nat_lt, List, [], ◌∷◌, ◌++◌, length, Option, Some, None, refl, ap, sym, ◌∙◌, append_assoc, arith}
 use Rattle.std.specs.Prelude.{codes, ⊤}
 use Rattle.std.specs.List.{AllByRecursion}
 use Rattle.std.proofs.lemmas.Bool.Decides.{nat_tests}
 use Rattle.std.proofs.lemmas.List.{append-nil, map-append}
 use Rattle.mps_base.specs.Names.{IsName, IsVariable}
 use Rattle.mps_global.specs.Global.{GlobalType, Branches, End, Var, Rec, Message, Choice, NoMore, More}
-use Rattle.mps_base.specs.Sorts.{sort_word}
 use Rattle.mps_text.specs.Grammar.{Part, inside, node_parts, branch_parts, protocol_parts, tokens_of, HasBranch, IsSpellable, SpellsProtocol, protocol_tokens}
 use Rattle.mps_text.specs.Private.Writing.{global_tokens, branch_tokens}
 use Rattle.mps_text.specs.Faults.{starts_of}
@@ -37,8 +36,7 @@ mutual
   tokens_are level End = refl
   tokens_are level (Var name) = refl
   tokens_are level (Rec name body) = ap (λ (ts : List (List ℕ)). codes "rec" ∷ name ∷ codes "." ∷ ts) (tokens_are (level + 1) body)
-  tokens_are level (Message sender receiver sort next) =
-      ap (λ (ts : List (List ℕ)). sender ∷ codes "->" ∷ receiver ∷ codes ":" ∷ sort_word sort ∷ codes "." ∷ ts) (tokens_are (level + 1) next)
+  tokens_are level (Message sender receiver sort next) = cc (tokens_are (level + 1) next)
   tokens_are level (Choice sender receiver branches) =
       ap (λ (ts : List (List ℕ)). sender ∷ codes "->" ∷ receiver ∷ codes "{" ∷ ts)
       (map-append (λ (part : Part). part.0) (branch_parts (level + 1) branches) (inside (codes "}" ∷ []))
@@ -65,30 +63,10 @@ inside_starts [] = refl
 inside_starts (token ∷ tokens) = ap (λ (st : List (Option ℕ)). None ∷ st) (inside_starts tokens)
 
 pub protocol_tokens_are : (roles : List (List ℕ)) (tree : GlobalType) → protocol_tokens roles tree ≡ codes "roles" ∷ roles ++ codes ";" ∷ global_tokens tree
-protocol_tokens_are roles tree =
-    ap (λ (ts : List (List ℕ)). codes "roles" ∷ ts)
-    (ap tokens_of (append_assoc (inside roles) (inside (codes ";" ∷ [])) (node_parts 1 tree))
-    ∙ map-append (λ (part : Part). part.0) (inside roles) (inside (codes ";" ∷ []) ++ node_parts 1 tree)
-    ∙ ap (λ (ts : List (List ℕ)). ts ++ codes ";" ∷ tokens_of (node_parts 1 tree)) (inside_tokens roles)
-    ∙ ap (λ (ts : List (List ℕ)). roles ++ codes ";" ∷ ts) (tokens_are 1 tree))
+protocol_tokens_are roles tree = grind (arith, append_assoc, map-append, inside_tokens, tokens_are)
 
 pub protocol_starts_are : (roles : List (List ℕ)) (tree : GlobalType) → protocol_starts roles tree ≡ None ∷ no_starts roles ++ None ∷ node_starts 1 tree
-protocol_starts_are roles tree =
-    ap (λ (st : List (Option ℕ)). None ∷ st)
-    (ap starts_of (append_assoc (inside roles) (inside (codes ";" ∷ [])) (node_parts 1 tree))
-    ∙ map-append (λ (part : Part). part.1) (inside roles) (inside (codes ";" ∷ []) ++ node_parts 1 tree)
-    ∙ ap (λ (st : List (Option ℕ)). st ++ None ∷ node_starts 1 tree) (inside_starts roles))
-
-choice_starts : (level : ℕ) (branches : Branches) → starts_of (branch_parts level branches ++ inside (codes "}" ∷ [])) ≡ branch_starts level branches ++ None ∷ []
-choice_starts level branches = map-append (λ (part : Part). part.1) (branch_parts level branches) (inside (codes "}" ∷ []))
-
-more_starts : (level : ℕ) (label : List ℕ) (next : GlobalType) (second : List ℕ) (then : GlobalType) (others : Branches) → branch_starts level (More label next (More second then others)) ≡ None ∷ None ∷ (node_starts level next ++ None ∷ branch_starts level (More second then others))
-more_starts level label next second then others =
-    let more = More second then others in
-    ap (λ (st : List (Option ℕ)). None ∷ None ∷ st)
-    (map-append (λ (part : Part). part.1) (node_parts level next ++ inside (codes "," ∷ [])) (branch_parts level more)
-    ∙ ap (λ (st : List (Option ℕ)). st ++ branch_starts level more) (map-append (λ (part : Part). part.1) (node_parts level next) (inside (codes "," ∷ [])))
-    ∙ append_assoc (node_starts level next) (None ∷ []) (branch_starts level more))
+protocol_starts_are roles tree = grind (arith, append_assoc, map-append, inside_starts)
 
 -- ---- with others after
 
@@ -107,24 +85,15 @@ abbrev mutual
   branch_starts_before level (More label next others) later = None ∷ None ∷ None ∷ starts_before level next (branch_starts_before level others later)
 
 branches_are : (label : List ℕ) (next : GlobalType) (others : Branches) (sep : List ℕ) (rest : List (List ℕ)) → ((tokens : List (List ℕ)) → tokens_before next tokens ≡ global_tokens next ++ tokens) → (HasBranch others → branches_before (codes ",") others rest ≡ codes "," ∷ branch_tokens others ++ codes "}" ∷ rest) → branches_before sep (More label next others) rest ≡ sep ∷ branch_tokens (More label next others) ++ codes "}" ∷ rest
-branches_are label next NoMore sep rest one more = ap (λ (ts : List (List ℕ)). sep ∷ label ∷ codes ":" ∷ ts) (one (codes "}" ∷ rest))
-branches_are label next (More second then others) sep rest one more =
-    ap (λ (ts : List (List ℕ)). sep ∷ label ∷ codes ":" ∷ ts)
-    (one (branches_before (codes ",") (More second then others) rest)
-    ∙ ap (λ (ts : List (List ℕ)). global_tokens next ++ ts) (more tt)
-    ∙ sym (append_assoc (global_tokens next) (codes "," ∷ branch_tokens (More second then others)) (codes "}" ∷ rest)))
+branches_are label next others sep rest one more = grind (arith, append_assoc)
 
 mutual
   pub before_is : (tree : GlobalType) (rest : List (List ℕ)) → IsSpellable tree → tokens_before tree rest ≡ global_tokens tree ++ rest
   before_is End rest s = refl
   before_is (Var name) rest s = refl
   before_is (Rec name body) rest s = ap (λ (ts : List (List ℕ)). codes "rec" ∷ name ∷ codes "." ∷ ts) (before_is body rest (s.0.1, s.1))
-  before_is (Message sender receiver sort next) rest s =
-      ap (λ (ts : List (List ℕ)). sender ∷ codes "->" ∷ receiver ∷ codes ":" ∷ sort_word sort ∷ codes "." ∷ ts) (before_is next rest (s.0.2, s.1))
-  before_is (Choice sender receiver branches) rest s =
-      ap (λ (ts : List (List ℕ)). sender ∷ codes "->" ∷ receiver ∷ ts)
-      (all_before_is branches (codes "{") rest s.1.0 (s.0.2, s.1.1)
-      ∙ ap (λ (ts : List (List ℕ)). codes "{" ∷ ts) (sym (append_assoc (branch_tokens branches) (codes "}" ∷ []) rest)))
+  before_is (Message sender receiver sort next) rest s = cc (before_is next rest (s.0.2, s.1))
+  before_is (Choice sender receiver branches) rest s = cc (all_before_is branches (codes "{") rest s.1.0 (s.0.2, s.1.1), append_assoc (branch_tokens branches) (codes "}" ∷ []) rest)
 
   all_before_is : (branches : Branches) (sep : List ℕ) (rest : List (List ℕ)) → HasBranch branches → AreSpellable branches → branches_before sep branches rest ≡ sep ∷ branch_tokens branches ++ codes "}" ∷ rest
   all_before_is NoMore sep rest some s = absurd some
@@ -132,26 +101,15 @@ mutual
       branches_are label next others sep rest (λ tokens. before_is next tokens (s.0.1, s.1.0)) (λ more. all_before_is others (codes ",") rest more (s.0.2, s.1.1))
 
 branch_starts_are : (label : List ℕ) (next : GlobalType) (others : Branches) (level : ℕ) (later : List (Option ℕ)) → ((starts : List (Option ℕ)) → starts_before level next starts ≡ node_starts level next ++ starts) → (HasBranch others → branch_starts_before level others later ≡ None ∷ branch_starts level others ++ None ∷ later) → branch_starts_before level (More label next others) later ≡ None ∷ branch_starts level (More label next others) ++ None ∷ later
-branch_starts_are label next NoMore level later one more = ap (λ (st : List (Option ℕ)). None ∷ None ∷ None ∷ st) (one (None ∷ later))
-branch_starts_are label next (More second then others) level later one more =
-    ap (λ (st : List (Option ℕ)). None ∷ None ∷ None ∷ st)
-    (one (branch_starts_before level (More second then others) later)
-    ∙ ap (λ (st : List (Option ℕ)). node_starts level next ++ st) (more tt)
-    ∙ sym (append_assoc (node_starts level next) (None ∷ branch_starts level (More second then others)) (None ∷ later)))
-    ∙ ap (λ (st : List (Option ℕ)). None ∷ st ++ None ∷ later) (sym (more_starts level label next second then others))
+branch_starts_are label next others level later one more = grind (arith, append_assoc, map-append)
 
 mutual
   pub starts_are : (tree : GlobalType) (level : ℕ) (later : List (Option ℕ)) → IsSpellable tree → starts_before level tree later ≡ node_starts level tree ++ later
   starts_are End level later s = refl
   starts_are (Var name) level later s = refl
   starts_are (Rec name body) level later s = ap (λ (st : List (Option ℕ)). Some level ∷ None ∷ None ∷ st) (starts_are body (level + 1) later (s.0.1, s.1))
-  starts_are (Message sender receiver sort next) level later s =
-      ap (λ (st : List (Option ℕ)). Some level ∷ None ∷ None ∷ None ∷ None ∷ None ∷ st) (starts_are next (level + 1) later (s.0.2, s.1))
-  starts_are (Choice sender receiver branches) level later s =
-      ap (λ (st : List (Option ℕ)). Some level ∷ None ∷ None ∷ st)
-      (all_starts_are branches (level + 1) later s.1.0 (s.0.2, s.1.1)
-      ∙ ap (λ (st : List (Option ℕ)). None ∷ st) (sym (append_assoc (branch_starts (level + 1) branches) (None ∷ []) later))
-      ∙ ap (λ (st : List (Option ℕ)). None ∷ st ++ later) (sym (choice_starts (level + 1) branches)))
+  starts_are (Message sender receiver sort next) level later s = cc (starts_are next (level + 1) later (s.0.2, s.1))
+  starts_are (Choice sender receiver branches) level later s = grind (arith, append_assoc, map-append, all_starts_are branches (level + 1) later s.1.0 (s.0.2, s.1.1))
 
   all_starts_are : (branches : Branches) (level : ℕ) (later : List (Option ℕ)) → HasBranch branches → AreSpellable branches → branch_starts_before level branches later ≡ None ∷ branch_starts level branches ++ None ∷ later
   all_starts_are NoMore level later some s = absurd some
@@ -166,13 +124,11 @@ Closes x NoMore = step x (codes "}") ≡ Some []
 Closes x (More label next others) = ⊤
 
 closes_some : (x : Symbol) (branches : Branches) → HasBranch branches → Closes x branches
-closes_some x NoMore some = absurd some
-closes_some x (More label next others) some = tt
+closes_some x branches some = grind arith
 
 others_close : (level : ℕ) (branches : Branches) → Closes (Others level) branches
 unfolding which
-others_close level NoMore = refl
-others_close level (More label next others) = tt
+others_close level branches = grind arith
 
 colon_step : (level : ℕ) → step (Exchange level) (codes ":") ≡ Some (ASort ∷ Token (codes ".") ∷ Node level ∷ [])
 unfolding which
@@ -201,13 +157,7 @@ mutual
     ap (begun level) (first_again firsts.Rec tt),
     None ∷ None ∷ starts_before (level + 1) body starts,
     refl,
-    (
-      [],
-      variable_step name s.0.0,
-      None ∷ starts_before (level + 1) body starts,
-      refl,
-      ([], refl, starts_before (level + 1) body starts, refl, drives_tree body (level + 1) stack to tokens starts (s.0.1, s.1) d),
-    ),
+    grind (arith, variable_step name s.0.0, drives_tree body (level + 1) stack to tokens starts (s.0.1, s.1) d),
   )
   drives_tree (Message sender receiver sort next) level stack to tokens starts s d =
       let later = starts_before (level + 1) next starts in (
@@ -247,45 +197,14 @@ mutual
         ap (begun level) (first_again (firsts.Sender sender) s.0.0),
         None ∷ None ∷ later,
         refl,
-        (
-          [],
-          refl,
-          None ∷ later,
-          refl,
-          (
-            [],
-            name_step receiver s.0.1,
-            later,
-            refl,
-            drives_branches branches (Exchange (level + 1)) (level + 1) (codes "{") stack to tokens starts (brace_step (level + 1)) refl (closes_some (Exchange (level + 1)) branches s.1.0) (s.0.2, s.1.1) d,
-          ),
-        ),
+        grind (arith, name_step receiver s.0.1, drives_branches branches (Exchange (level + 1)) (level + 1) (codes "{") stack to tokens starts (brace_step (level + 1)) refl (closes_some (Exchange (level + 1)) branches s.1.0) (s.0.2, s.1.1) d),
       )
 
   drives_branches : (branches : Branches) (x : Symbol) (level : ℕ) (sep : List ℕ) (stack to : List Symbol) (tokens : List (List ℕ)) (starts : List (Option ℕ)) → step x sep ≡ Some (branch level) → start_of x ≡ None → Closes x branches → AreSpellable branches → Drives stack tokens to starts → Drives (x ∷ stack) (branches_before sep branches tokens) to (branch_starts_before level branches starts)
   drives_branches NoMore x level sep stack to tokens starts opens plain closes s d = ([], closes, starts, ap (λ (m : Option ℕ). m ∷ starts) (sym plain), d)
   drives_branches (More label next others) x level sep stack to tokens starts opens plain closes s d =
       let rest = branch_starts_before level others starts in
-      let later = starts_before level next rest in (
-        branch level,
-        opens,
-        None ∷ None ∷ later,
-        ap (λ (m : Option ℕ). m ∷ None ∷ None ∷ later) (sym plain),
-        (
-          [],
-          name_step label s.0.0,
-          None ∷ later,
-          refl,
-          (
-            [],
-            refl,
-            later,
-            refl,
-            drives_tree next level (Others level ∷ stack) to (branches_before (codes ",") others tokens) rest (s.0.1, s.1.0)
-                (drives_branches others (Others level) level (codes ",") stack to tokens starts (comma_step level) refl (others_close level others) (s.0.2, s.1.1) d),
-          ),
-        ),
-      )
+      grind (arith, name_step label s.0.0, drives_tree next level (Others level ∷ stack) to (branches_before (codes ",") others tokens) rest (s.0.1, s.1.0) (drives_branches others (Others level) level (codes ",") stack to tokens starts (comma_step level) refl (others_close level others) (s.0.2, s.1.1) d))
 
 -- ---- driven by a protocol
 
@@ -309,13 +228,10 @@ drives_heading first second more tree a b are few s =
     let later = no_starts more ++ None ∷ node_starts 1 tree in
     let all : Drives whole (codes "roles" ∷ first ∷ second ∷ more ++ codes ";" ∷ global_tokens tree) [] (None ∷ None ∷ None ∷ later) = ([], refl, None ∷ None ∷ later, refl, ([], name_step first a, None ∷ later, refl, ([], name_step second b, later, refl, roles))) in
     let names = first ∷ second ∷ more in
-    let spoken : Drives whole (protocol_tokens names tree) [] (None ∷ None ∷ None ∷ later) = subst (λ (ts : List (List ℕ)). Drives whole ts [] (None ∷ None ∷ None ∷ later)) (sym (protocol_tokens_are names tree)) all in
-    subst (λ (st : List (Option ℕ)). Drives whole (protocol_tokens names tree) [] st) (sym (protocol_starts_are names tree)) spoken
+    grind (arith, protocol_tokens_are names tree, protocol_starts_are names tree)
 
 -- the tokens of a protocol drive it away
 pub drives_whole : (tokens roles : List (List ℕ)) (tree : GlobalType) → SpellsProtocol tokens roles tree → Drives whole tokens [] (protocol_starts roles tree)
-drives_whole tokens [] tree s = absurd (let some = s.count.some in omega arith)
+drives_whole tokens [] tree s = absurd (omega arith)
 drives_whole tokens (first ∷ []) tree s = absurd (let some = s.count.some in omega arith)
-drives_whole tokens (first ∷ second ∷ more) tree s =
-    let few : length more ≤ 6 = let few = s.count.few in omega arith in
-    rw s.parts (drives_heading first second more tree s.names.0 s.names.1.0 s.names.1.1 few s.body)
+drives_whole tokens (first ∷ second ∷ more) tree s = grind (arith, drives_heading)

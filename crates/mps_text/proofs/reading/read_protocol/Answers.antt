@@ -26,7 +26,4 @@ returns-in-Err-At-clause-only c = λ roles tree limits spelled.
     absurd (cc (ok, fault))
 
 pub returns-in-Err-At-clause-fault : goal.returns-in-Err-At-clause-fault
-returns-in-Err-At-clause-fault c =
-    let fault = rw c.in-Err-At.field-0-is at c.in-Err-At.ensures.runs in
-    let first = first_fault c.args.text.now c.in-Err-At.left c.in-Err-At.kind (omega arith) fault in
-    rw c.saturating_sub.ensures first
+returns-in-Err-At-clause-fault c = grind (arith, first_fault)

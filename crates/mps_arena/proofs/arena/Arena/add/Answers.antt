@@ -1,4 +1,4 @@
-use Rattle.std.proofs.Common.{◌≡◌, ℕ, ◌+◌, ◌∷◌, [], ◌++◌, Some, None, false, sym, ap, ap₂, ◌∙◌, subst, cond}
+use Rattle.std.proofs.Common.{arith, ◌≡◌, ℕ, ◌+◌, ◌∷◌, [], ◌++◌, Some, false, sym, ap, ◌∙◌, subst, cond}
 use Rattle.std.specs.Prelude.{◌==◌}
 use Rattle.std.specs.Option.{option_map}
 use Rattle.slab.specs.Slab.{get, slab_len}
@@ -31,10 +31,7 @@ pub invariant_of-self : goal.invariant_of-self
 invariant_of-self c = kept_whole _ _ _ _ _ _ _ _ (kept c)
 
 pub returns-clause-entries : goal.returns-clause-entries
-returns-clause-entries c =
-    let key : c.small-key.result ≡ c.args.self.now.next_key = c.small-key.ensures ∙ c.vacant_key.ensures.value ∙ ap (λ (v : Entries). v.next_key) c.self.view_is in
-    kept_view _ _ _ _ _ _ _ _ (kept ((goal.at.returns-clause-entries c).After-push_reserved))
-    ∙ ap₂ (λ (v : Entries) (k : ℕ). v.entries ++ record { key = k; step = record { id = c.new-id.result; role = c.args.role; act = c.args.act }; before = c.args.before; marked = false } ∷ []) c.self.view_is key
+returns-clause-entries c = grind (arith, kept_view _ _ _ _ _ _ _ _ (kept ((goal.at.returns-clause-entries c).After-push_reserved)))
 
 pub returns-clause-sound : goal.returns-clause-sound
 returns-clause-sound c =

@@ -1,22 +1,17 @@
-use Rattle.std.proofs.Common.{◌≡◌, ◌+◌, ◌≤◌, suc, length, slice_get, sym, ap, ◌∙◌, arith}
+use Rattle.std.proofs.Common.{◌≡◌, ◌+◌, suc, slice_get, sym, ap, ◌∙◌, arith}
 use Rattle.std.proofs.lemmas.Option.{slice_get_past}
 use Rattle.mps_arena.specs.Entries.{keys_of, any_step}
 use Rattle.mps_arena.proofs.Walking.{all_keys, first_place, next_place, none_after}
 use Rattle.mps_arena.proofs.arena.Arena.nth.Goals as goal
 
 pub returns-then-k-len : goal.returns-then-k-len
-returns-then-k-len c =
-    let es = c.args.self.now.entries in
-    let past : length (keys_of any_step es) ≤ c.args.k = omega (arith, all_keys es, c.len.ensures.count, c.if-k-len.true) in
-    sym (slice_get_past (keys_of any_step es) c.args.k past)
+returns-then-k-len c = grind (arith, all_keys, slice_get_past)
 
 pub loop-init : goal.loop-init
 loop-init c = sym (first_place c.args.self.now.entries) ∙ sym c.first.ensures ∙ c.in_ok-at.was
 
 pub returns-in_err-at : goal.returns-in_err-at
-returns-in_err-at c =
-    let es = c.args.self.now.entries in
-    c.from_residual.ensures ∙ sym (none_after es 0 c.args.k (omega arith) (sym (first_place es) ∙ sym c.first.ensures ∙ c.in_err-at.was))
+returns-in_err-at c = grind (arith, none_after, first_place)
 
 pub returns-in_err-at-2 : goal.returns-in_err-at-2
 returns-in_err-at-2 c =
@@ -32,6 +27,4 @@ loop-preserved c =
     ∙ sym (next_place es c.len.ensures.sound.distinct c.loop.counter c.loop.at c.loop.invariant) ∙ sym c.next.ensures ∙ c.in_ok-at-2.was
 
 pub returns : goal.returns
-returns c =
-    let all : c.args.k ≡ c.loop.counter = omega (arith, c.loop.auto.counter-end, c.loop-test.false) in
-    sym (ap (slice_get (keys_of any_step c.args.self.now.entries)) all ∙ c.loop.invariant)
+returns c = grind (arith, slice_get)

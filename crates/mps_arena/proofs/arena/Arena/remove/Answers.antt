@@ -1,4 +1,4 @@
-use Rattle.std.proofs.Common.{◌≡◌, Some, not, sym, ap, ◌∙◌, subst}
+use Rattle.std.proofs.Common.{arith, ◌≡◌, Some, not, sym, ap, ◌∙◌, subst}
 use Rattle.std.specs.Prelude.{◌==◌}
 use Rattle.std.specs.List.{filter}
 use Rattle.slab.specs.Slab.{get, slab_len}
@@ -15,9 +15,7 @@ use Rattle.mps_arena.proofs.arena.Arena.remove.Goals as goal
 use Rattle.mps_arena.proofs.arena.Arena.remove.Goals.{After-part}
 
 pub part-requires : goal.part-requires
-part-requires c =
-    let a = c.self.inside in
-    small_of (get a.nodes) (slab_len a.nodes) a.ends.first a.ends.last a.ends.last_of a.ends.last_send a.index.items (entries_of a) c.self.invariant c.args.key c.part-node.result c.part-node.ensures.node
+part-requires c = search (small_of, arith)
 
 kept : (c : After-part) → IsKept (get c.part-node.new.nodes) (slab_len c.part-node.new.nodes) c.part.new.self.first c.part.new.self.last c.part.new.self.last_of c.part.new.self.last_send c.self.inside.index.items (filter (λ e. not (e.key == c.args.key)) (entries_of c.self.inside))
 kept c =
@@ -32,9 +30,7 @@ pub invariant_of-self : goal.invariant_of-self
 invariant_of-self c = kept_whole _ _ _ _ _ _ _ _ (kept c)
 
 pub returns-clause-entries : goal.returns-clause-entries
-returns-clause-entries c =
-    kept_view _ _ _ _ _ _ _ _ (kept c)
-    ∙ ap (λ (v : Entries). filter (λ e. not (e.key == c.args.key)) v.entries) c.self.view_is
+returns-clause-entries c = cc (kept_view _ _ _ _ _ _ _ _ (kept c))
 
 pub returns-clause-history : goal.returns-clause-history
 returns-clause-history c =
