@@ -1,5 +1,6 @@
 -- What a caller sees of an arena: the steps in order, each with its key and whether it is marked.
-use Rattle.std.specs.Prelude.{◌≡◌, ◌++◌, ℕ, Bool, true, false, ◌==◌, List, map, Option, ◌<◌, ◌≤◌, length, ⊤, if◌then◌else◌}
+use Rattle.std.specs.Prelude.{◌≡◌, ◌++◌, ℕ, Bool, true, false, ◌==◌, List, map, Option, ◌<◌, ◌≤◌, length, ⊤}
+use Rattle.std.specs.Prelude.{if◌then◌else◌}
 use Rattle.std.specs.List.{filter, find, AllByRecursion}
 use Rattle.mps_base.specs.Effects.{Effect, Gives, Takes, Idle, effect}
 use Rattle.mps_base.specs.declared.action.Step.{Step}
@@ -13,7 +14,8 @@ pub record KeyedStep : Type 0 where
   pub before : Before
   pub marked : Bool
 
--- the entries, the oldest first; how many numbers were given out; the key of the next entry; whether that needs no allocation
+-- the entries, the oldest first; how many numbers were given out; the key of the next entry; whether that needs no
+-- allocation
 pub record Entries : Type 0 where
   pub entries : List KeyedStep
   pub issued : ℕ
@@ -68,10 +70,12 @@ with_mark k m e = record e { marked = if e.key == k then m else e.marked }
 
 -- at no point of the history a pair had more receipts than sends
 abbrev pub IsFed : List KeyedStep → Type 0
-IsFed es = (c d : List KeyedStep) → es ≡ c ++ d → (p q : ℕ) → length (keys_of (receives p q) c) ≤ length (keys_of (sends p q) c)
+IsFed es =
+    (c d : List KeyedStep) → es ≡ c ++ d → (p q : ℕ)
+    → length (keys_of (receives p q) c) ≤ length (keys_of (sends p q) c)
 
--- what holds of the entries of each arena: no key stands twice, no pair ever had more receipts than sends, numbers rise,
--- roles and peers are below 8
+-- what holds of the entries of each arena: no key stands twice, no pair ever had more receipts than sends, numbers
+-- rise, roles and peers are below 8
 pub record AreSound (es : List KeyedStep) : Type 0 where
   pub distinct : AreDistinct (keys_of any_step es)
   pub fed : IsFed es

@@ -19,7 +19,9 @@ IsSource es p effect source = source ≡ None
 
 -- what a send or a receipt is matched with
 abbrev pub matched_with : List KeyedStep → KeyedStep → Option ℕ
-matched_with es e = matched_key e.key (keys_of (like e.step.role (effect e.step.act)) es) (keys_of (unlike e.step.role (effect e.step.act)) es)
+matched_with es e =
+    matched_key e.key (keys_of (like e.step.role (effect e.step.act)) es)
+    (keys_of (unlike e.step.role (effect e.step.act)) es)
 
 -- a send has no receipt
 abbrev pub IsUnreceived : List KeyedStep → KeyedStep → Effect → Type 0

@@ -1,12 +1,15 @@
 //! The arena.
-ghost use Rattle.std.specs.Prelude.{◌≡◌, ◌+◌, ◌^◌, [], ◌∷◌, ◌++◌, ◌==◌, not, false, None, IsTrue, IsOk, OnOk, IfOk, IsSome, Some, map, length, slice_get, ◌<◌};
+ghost use Rattle.std.specs.Prelude.{◌≡◌, ◌+◌, ◌^◌, [], ◌∷◌, ◌++◌, ◌==◌, not, false, None, IsTrue, IsOk, OnOk, IfOk};
+ghost use Rattle.std.specs.Prelude.{IsSome, Some, map, length, slice_get, ◌<◌};
 ghost use Rattle.std.specs.Option.{option_map};
 ghost use Rattle.std.specs.List.{filter, find};
 ghost use Rattle.mps_base.specs.Effects.{effect};
 ghost use Rattle.mps_history.specs.Steps.{sends, without};
 ghost use Rattle.mps_arena.specs.Keys.{first_key, last_key};
-ghost use Rattle.mps_arena.specs.Entries.{steps, any_step, of_role, keys_of, entry_at, with_mark, HasSmallPeer, AreSound};
-ghost use Rattle.mps_arena.specs.Neighbours.{IsSource, CanGo, next_in, prev_in, next_of_role_in, prev_of_role_in, next_send_in, prev_send_in, receipt_in, source_in, id_in};
+ghost use Rattle.mps_arena.specs.Entries.{steps, any_step, of_role, keys_of, entry_at, with_mark, HasSmallPeer};
+ghost use Rattle.mps_arena.specs.Entries.{AreSound};
+ghost use Rattle.mps_arena.specs.Neighbours.{IsSource, CanGo, next_in, prev_in, next_of_role_in, prev_of_role_in};
+ghost use Rattle.mps_arena.specs.Neighbours.{next_send_in, prev_send_in, receipt_in, source_in, id_in};
 
 use crate::ends::Ends;
 use crate::links::{join, key_of, part, set_marked};
@@ -66,8 +69,8 @@ impl Arena {
         Key::of(self.nodes.vacant_key())
     }
 
-    /// Puts an act of the role after all other steps, unmarked, and tells the number that it has. A receipt or a pick comes
-    /// with the send that it is matched with: the first of its pair that isn't received.
+    /// Puts an act of the role after all other steps, unmarked, and tells the number that it has. A receipt or a pick
+    /// comes with the send that it is matched with: the first of its pair that isn't received.
     #[inline(always)]
     pub fn add(&mut self, role: Role, act: Act, before: Before, source: Option<Key>) -> StepId
         requires ready { IsTrue self.old.is_ready }
@@ -200,7 +203,8 @@ impl Arena {
         source_at(&node.step.act, node.matched)
     }
 
-    /// The step's number; none where no step has the key. So it tells whether `get`, `before` and `marked` may be called.
+    /// The step's number; none where no step has the key. So it tells whether `get`, `before` and `marked` may be
+    /// called.
     pub fn id(&self, key: Key) -> Option<StepId>
         ensures { result ≡ id_in self.now.entries key }
     {

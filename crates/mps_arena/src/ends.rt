@@ -1,5 +1,6 @@
 //! The first and the last steps: of all, of each role, of each pair.
-ghost use Rattle.std.specs.Prelude.{◌≡◌, ℕ, ◌<◌, ◌+◌, ◌*◌, None, Some, false, length, slice_index_or, slice_set, is_none, if◌then◌else◌};
+ghost use Rattle.std.specs.Prelude.{◌≡◌, ℕ, ◌<◌, ◌+◌, ◌*◌, None, Some, false, length, slice_index_or, slice_set};
+ghost use Rattle.std.specs.Prelude.{is_none, if◌then◌else◌};
 ghost use Rattle.std.specs.Option.{option_or};
 ghost use Rattle.mps_base.specs.Effects.{effect};
 ghost use Rattle.mps_arena.specs.Private.Ends.{receiver, end_at, with_end};
@@ -82,7 +83,8 @@ impl Ends {
         ensures first { self.new.first ≡ option_or self.old.first (Some key) }
         ensures last { self.new.last ≡ Some key }
         ensures last_of { self.new.last_of ≡ slice_set self.old.last_of step.now.role (Some key) }
-        ensures last_send { self.new.last_send ≡ with_end self.old.last_send step.now.role (receiver (effect step.now.act)) (Some key) }
+        ensures last_send { self.new.last_send
+            ≡ with_end self.old.last_send step.now.role (receiver (effect step.now.act)) (Some key) }
     {
         let role = step.role.index();
         if self.first.is_none() {
@@ -101,7 +103,8 @@ impl Ends {
         ensures first { self.new.first ≡ (if is_none node.now.prev then node.now.next else self.old.first) }
         ensures last { self.new.last ≡ (if is_none node.now.next then node.now.prev else self.old.last) }
         ensures last_of { self.new.last_of ≡ slice_set self.old.last_of node.now.step.role node.now.prev_of_role }
-        ensures last_send { self.new.last_send ≡ with_end self.old.last_send node.now.step.role (receiver (effect node.now.step.act)) node.now.prev_send }
+        ensures last_send { self.new.last_send
+            ≡ with_end self.old.last_send node.now.step.role (receiver (effect node.now.step.act)) node.now.prev_send }
     {
         let role = node.step.role.index();
         if node.prev.is_none() {

@@ -7,7 +7,8 @@ ghost use Rattle.std.specs.Cmp.Lexicographic.{nat_list_eq_equiv};
 ghost use Rattle.std.specs.Cmp.Rules.{hashing};
 ghost use Rattle.std.specs.Hash as fed;
 ghost use Rattle.std.proofs.Common.{rules};
-ghost use Rattle.mps_base.specs.Names.{IsName, IsNoneOf, is_lower, is_name_byte, structure_words, sort_words, bool_words, reserved_words};
+ghost use Rattle.mps_base.specs.Names.{IsName, IsNoneOf, is_lower, is_name_byte, structure_words, sort_words};
+ghost use Rattle.mps_base.specs.Names.{bool_words, reserved_words};
 
 use crate::inline::{Inline, MAX_WORD};
 use std::hash::{Hash, Hasher};

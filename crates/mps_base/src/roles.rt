@@ -1,5 +1,6 @@
 //! The roles of a session.
-ghost use Rattle.std.specs.Prelude.{◌≡◌, ◌≢◌, ℕ, ◌<◌, ◌≤◌, ◌↔◌, Option, Some, List, length, All, IsTrue, IsSome, IsErrOf, IfOk, IfSome, IfNone, OnOk, slice_get};
+ghost use Rattle.std.specs.Prelude.{◌≡◌, ◌≢◌, ℕ, ◌<◌, ◌≤◌, ◌↔◌, Option, Some, List, length, All, IsTrue, IsSome};
+ghost use Rattle.std.specs.Prelude.{IsErrOf, IfOk, IfSome, IfNone, OnOk, slice_get};
 ghost use Rattle.mps_base.specs.Names.{IsName};
 ghost use Rattle.mps_base.specs.RoleLists.{HasRoleCount, AreDistinct, AreRoles};
 

@@ -13,13 +13,13 @@ abbrev pub length_of : Result ℕ AllocError → ℕ
 length_of (Ok length) = length
 length_of (Err why) = no_length
 
--- a text of that kind was written over the front of the bytes, as much of it as fits, and this is its whole length; or there
--- was no memory for it, and nothing was written
+-- a text of that kind was written over the front of the bytes, as much of it as fits, and this is its whole length; or
+-- there was no memory for it, and nothing was written
 abbrev pub IsTold : (IsText : List ℕ → Type 0) → (old new : List ℕ) → (count : ℕ) → Type 0
 IsTold IsText old new count = IsFilled IsText old new count ⊎ ((count ≡ no_length) × (new ≡ old))
 
--- there is a new room of the protocol that the text spells; or there is none, and the number and the place are those of the
--- text's fault
+-- there is a new room of the protocol that the text spells; or there is none, and the number and the place are those
+-- of the text's fault
 abbrev pub Opens : (text : List ℕ) → (opened : Bool) → (number place : ℕ) → Type 0
 Opens text true number place = (room : EmbeddedState) × IsNewRoomOf text room
 Opens text false number place =

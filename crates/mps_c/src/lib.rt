@@ -41,8 +41,8 @@ impl Handle {
     }
 }
 
-/// Opens a room of a new session of the protocol that the text spells, and puts its pointer into `room`. Where there is none,
-/// the number of the fault and its place are told.
+/// Opens a room of a new session of the protocol that the text spells, and puts its pointer into `room`. Where there
+/// is none, the number of the fault and its place are told.
 #[unsafe(no_mangle)]
 pub extern "C" fn mps_open(
     alloc: Global,
@@ -73,8 +73,8 @@ pub extern "C" fn mps_open(
     }
 }
 
-/// Runs the line as a command of the role of that name, and writes of the answer what fits. Gives the length of the whole
-/// answer, or SIZE_MAX where there was no memory for its text, which can then be asked for again.
+/// Runs the line as a command of the role of that name, and writes of the answer what fits. Gives the length of the
+/// whole answer, or SIZE_MAX where there was no memory for its text, which can then be asked for again.
 #[unsafe(no_mangle)]
 pub extern "C" fn mps_line(handle: &mut Handle, role: &[u8], line: &[u8], out: &mut [u8]) -> usize
     ensures known { (place : ℕ) → slice_get handle.old.room.room.names place ≡ Some role.now
@@ -104,8 +104,8 @@ pub extern "C" fn mps_entries(handle: &mut Handle) -> u64
     calls::entries(handle.room())
 }
 
-/// Writes of the k-th entry, from 0, as a script's line what fits, and gives the length of the whole, or SIZE_MAX. Past the
-/// end that is 0.
+/// Writes of the k-th entry, from 0, as a script's line what fits, and gives the length of the whole, or SIZE_MAX.
+/// Past the end that is 0.
 #[unsafe(no_mangle)]
 pub extern "C" fn mps_entry(handle: &mut Handle, k: u64, out: &mut [u8]) -> usize
     ensures same { handle.new.room ≡ handle.old.room }

@@ -1,5 +1,6 @@
 -- What a pass knows, and what a call tells it.
-use Rattle.std.specs.Prelude.{◌≡◌, ℕ, ◌≤◌, Bool, true, false, List, [], ◌∷◌, ◌++◌, length, MatchBool, if◌then◌else◌, Option, None}
+use Rattle.std.specs.Prelude.{◌≡◌, ℕ, ◌≤◌, Bool, true, false, List, [], ◌∷◌, ◌++◌, length, MatchBool, if◌then◌else◌}
+use Rattle.std.specs.Prelude.{Option, None}
 use Rattle.atomic_table.specs.Seated.{TableId}
 use Rattle.mps_command.specs.declared.answer.Answer.{Answer}
 use Rattle.mps_command.specs.declared.command.Command.{Command}
@@ -12,8 +13,8 @@ use Rattle.mps_cell.specs.Views.{Part, SeatView, part_of}
 use Rattle.mps_cell.specs.Rule.{StartsWith}
 
 -- a pass, as contracts see it: its cell and how that was opened; its role; the journal that its last call showed; the
--- greatest length that was reported to it; the entries that it made; whether its last look or try found the room out; and
--- its newest numbered command that was accepted
+-- greatest length that was reported to it; the entries that it made; whether its last look or try found the room out;
+-- and its newest numbered command that was accepted
 pub record Known : Type 0 where
   pub cell : TableId
   pub opening : Opening
@@ -27,7 +28,16 @@ pub record Known : Type 0 where
 -- what a seat of this cell knows
 abbrev pub known : TableId → SeatView → Known
 known id v = let p : Part = part_of v.parts in
-    record { cell = id; opening = p.opening; role = p.role; seen = p.seen; reported = p.reported; made = p.made; was_out = v.was_out; newest = None }
+    record {
+      cell = id;
+      opening = p.opening;
+      role = p.role;
+      seen = p.seen;
+      reported = p.reported;
+      made = p.made;
+      was_out = v.was_out;
+      newest = None;
+    }
 
 -- the same, with this numbered command
 abbrev pub carried : Known → Option Numbered → Known
@@ -41,7 +51,8 @@ pub record IsSamePass (k k' : Known) : Type 0 where
   pub opening : k'.opening ≡ k.opening
   pub role : k'.role ≡ k.role
 
--- an accepted command stands after a journal that begins with all that was seen, and that is no shorter than was told; its answer is the reply after that journal
+-- an accepted command stands after a journal that begins with all that was seen, and that is no shorter than was told;
+-- its answer is the reply after that journal
 pub record IsAccepted (k : Known) (c : Command) (a : Answer) (k' : Known) : Type 0 where
   pub before : List Entry
   pub begins : StartsWith before k.seen
@@ -50,14 +61,16 @@ pub record IsAccepted (k : Known) (c : Command) (a : Answer) (k' : Known) : Type
   pub joined : k'.seen ≡ before ++ entry k.role c a ∷ []
   pub made : k'.made ≡ k.made ++ entry k.role c a ∷ []
 
--- any other command leaves a journal that begins with all that was seen, and that is no shorter than was told; its answer is the reply after it, unless memory runs out
+-- any other command leaves a journal that begins with all that was seen, and that is no shorter than was told; its
+-- answer is the reply after it, unless memory runs out
 pub record IsAnswered (k : Known) (c : Command) (a : Answer) (k' : Known) : Type 0 where
   pub begins : StartsWith k'.seen k.seen
   pub reached : k.reported ≤ length k'.seen
   pub answer : IsReplyIn k.opening k'.seen k.role c a
   pub made : k'.made ≡ k.made
 
--- what one call tells: the journal that it shows is legal, has of the role just what the pass made, and is all that the pass was told of; and by its answer the command was accepted, or it was not
+-- what one call tells: the journal that it shows is legal, has of the role just what the pass made, and is all that
+-- the pass was told of; and by its answer the command was accepted, or it was not
 pub record Calls (k : Known) (c : Command) (a : Answer) (k' : Known) : Type 0 where
   pub pass : IsSamePass k k'
   pub legal : IsLegalIn k'.opening k'.seen
@@ -66,11 +79,14 @@ pub record Calls (k : Known) (c : Command) (a : Answer) (k' : Known) : Type 0 wh
   pub answered : MatchBool (is_accepted a) (IsAccepted k c a k') (IsAnswered k c a k')
 
 -- a call adds just an accepted command to what the pass made
-made_if : (b : Bool) (k : Known) (c : Command) (a : Answer) (k' : Known) → MatchBool b (IsAccepted k c a k') (IsAnswered k c a k') → k'.made ≡ (if b then k.made ++ entry k.role c a ∷ [] else k.made)
+made_if : (b : Bool) (k : Known) (c : Command) (a : Answer) (k' : Known)
+    → MatchBool b (IsAccepted k c a k') (IsAnswered k c a k')
+    → k'.made ≡ (if b then k.made ++ entry k.role c a ∷ [] else k.made)
 made_if true k c a k' h = h.made
 made_if false k c a k' h = h.made
 
-pub calls_grow : (k : Known) (c : Command) (a : Answer) (k' : Known) → Calls k c a k' → k'.made ≡ grown k.made k.role c a
+pub calls_grow : (k : Known) (c : Command) (a : Answer) (k' : Known) → Calls k c a k'
+    → k'.made ≡ grown k.made k.role c a
 calls_grow k c a k' h = made_if (is_accepted a) k c a k' h.answered
 
 -- ---- looks

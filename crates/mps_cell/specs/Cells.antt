@@ -15,8 +15,10 @@ pub record Opened : Type 0 where
   pub opening : Opening
   pub given : Bool
 
--- how the parts of a cell fit: its table has one word and one slot, the names are those of the opening, one for each type, and the first seat, where it is there, has all roles
-pub record IsOpened (table : TableId) (o : Opening) (names : List (List ℕ)) (first : Option (Seat RoomState SeatView)) : Type 0 where
+-- how the parts of a cell fit: its table has one word and one slot, the names are those of the opening, one for each
+-- type, and the first seat, where it is there, has all roles
+pub record IsOpened (table : TableId) (o : Opening) (names : List (List ℕ)) (first : Option (Seat RoomState SeatView))
+    : Type 0 where
   pub word : table.words ≡ 1
   pub slot : table.slots ≡ 1
   pub count : length names ≡ length o.types

@@ -1,5 +1,6 @@
 -- The rule of a cell's table, and what each step tells the seat that takes it.
-use Rattle.std.specs.Prelude.{◌≡◌, ◌≢◌, ℕ, ◌+◌, ◌*◌, ◌/◌, ◌%◌, ◌<◌, ◌≤◌, ◌==◌, Bool, List, [], ◌∷◌, ◌++◌, length, if◌then◌else◌, Option, Some, None, ◌⊎◌}
+use Rattle.std.specs.Prelude.{◌≡◌, ◌≢◌, ℕ, ◌+◌, ◌*◌, ◌/◌, ◌%◌, ◌<◌, ◌≤◌, ◌==◌, Bool, List, [], ◌∷◌, ◌++◌, length}
+use Rattle.std.specs.Prelude.{if◌then◌else◌, Option, Some, None, ◌⊎◌}
 use mathlib.Core.Option as maybe
 use lib.ListN.{get_elem?}
 use Rattle.atomic_table.specs.Table.{State, Me, Step, rest}
@@ -59,7 +60,8 @@ noted_by None seat j = None
 noted_by (Some t) seat j = if t == seat then Some j else None
 
 -- what holds of a seat, by the journal, the seat that has the room out, and the seat of each role
-pub record Rests (o : Opening) (j : List Entry) (away : Option ℕ) (owner : ℕ → ℕ) (seat : ℕ) (v : SeatView) : Type 0 where
+pub record Rests (o : Opening) (j : List Entry) (away : Option ℕ) (owner : ℕ → ℕ) (seat : ℕ) (v : SeatView)
+    : Type 0 where
   pub shows : AllShow j v.parts
   pub here : AllHere o owner seat v.parts
   pub apart : AllApart v.parts
@@ -75,7 +77,9 @@ abbrev pub home_of : Opening → Option ℕ → List Entry → maybe.Option Room
 home_of o None j = maybe.some (room_of o j)
 home_of o (Some t) j = maybe.none
 
--- There is one legal journal. At twice its length the room is at home with it, and no seat notes a journal. At one more the room is out, and one seat alone notes it. What each seat knows is true of it. Each role rests on one seat, and on no other
+-- There is one legal journal. At twice its length the room is at home with it, and no seat notes a journal. At one
+-- more the room is out, and one seat alone notes it. What each seat knows is true of it. Each role rests on one seat,
+-- and on no other
 pub record Kept (o : Opening) (s : State RoomState SeatView) : Type 0 where
   pub log : List Entry
   pub away : Option ℕ
@@ -97,11 +101,14 @@ Told v word j = (length j ≡ word / 2) × AllShow j v.parts × AllApart v.parts
 abbrev pub Looks : Step RoomState → Me RoomState SeatView → ℕ → Me RoomState SeatView → Type 0
 Looks st m r m' = ((j : List Entry) × Told m.0 r j) × (m' ≡ (looked r (r % 2 == 1) m.0, m.1))
 
--- a try that wins takes the room; one that fails tells that the room was out, or that another call came between, only where it expected twice the reported
+-- a try that wins takes the room; one that fails tells that the room was out, or that another call came between, only
+-- where it expected twice the reported
 abbrev pub Tries : Step RoomState → Me RoomState SeatView → ℕ → Me RoomState SeatView → Type 0
 Tries st m r m' =
-    (r ≡ st.first → (j : List Entry) × Told m.0 r j × (m' ≡ (took j m.0, (0, room_of (part_of m.0.parts).opening j) ∷ m.1)))
-    × (r ≢ st.first → ((j : List Entry) × Told m.0 r j) × (m' ≡ (looked r (st.first == 2 * (part_of m.0.parts).reported) m.0, m.1)))
+    (r ≡ st.first
+    → (j : List Entry) × Told m.0 r j × (m' ≡ (took j m.0, (0, room_of (part_of m.0.parts).opening j) ∷ m.1)))
+    × (r ≢ st.first
+    → ((j : List Entry) × Told m.0 r j) × (m' ≡ (looked r (st.first == 2 * (part_of m.0.parts).reported) m.0, m.1)))
 
 -- the journal of the room that the seat has
 abbrev pub journal_in : List (ℕ × RoomState) → List Entry

@@ -4,8 +4,8 @@ use Rattle.mps_room.specs.Callers.{entries_of}
 use Rattle.mps_room.specs.declared.entry.Entry.{Entry}
 use Rattle.mps_cell.specs.Openings.{Opening, no_opening}
 
--- what is known for one role: how its cell was opened; the journal that its last call showed (`seen`); the greatest length
--- of the journal that was reported to it (`reported`); and the entries that it made
+-- what is known for one role: how its cell was opened; the journal that its last call showed (`seen`); the greatest
+-- length of the journal that was reported to it (`reported`); and the entries that it made
 pub record Part : Type 0 where
   pub opening : Opening
   pub role : ℕ

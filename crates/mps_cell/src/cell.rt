@@ -82,7 +82,11 @@ impl Model for Cell {
 
     ghost coded = { Prim.hlevel (codes, coded_local) };
 
-    ghost view = { λ c. record { cell = c.table.shared.table_id; opening = opening_in c.table.shared.key; given = is_none c.first } };
+    ghost view = { λ c. record {
+      cell = c.table.shared.table_id;
+      opening = opening_in c.table.shared.key;
+      given = is_none c.first;
+    } };
 
     ghost invariant = { λ c. IsOpened c.table.shared.table_id (opening_in c.table.shared.key) c.names c.first };
 }
@@ -136,7 +140,8 @@ impl Cell {
         }
     }
 
-    /// The right to the passes, once in the cell's life. `passes_of` gives them for it, and the cell stays known beside.
+    /// The right to the passes, once in the cell's life. `passes_of` gives them for it, and the cell stays known
+    /// beside.
     pub fn deal(&mut self) -> Option<Deal>
         ensures cell { self.new.cell ≡ self.old.cell }
         ensures opening { self.new.opening ≡ self.old.opening }
@@ -169,8 +174,8 @@ impl Cell {
         ))
     }
 
-    /// Both in one: a pass for each role, in order, once in the cell's life. Where it reports out of memory none was handed
-    /// out, and later calls are told that the passes were given.
+    /// Both in one: a pass for each role, in order, once in the cell's life. Where it reports out of memory none was
+    /// handed out, and later calls are told that the passes were given.
     pub fn passes(&mut self) -> Result<Vec<Pass<'_>>, PassFault>
         ensures given { IsErrOf result Given ↔ (self.old.given ≡ true) }
         ensures passes { IfOk result (λ v. v.items

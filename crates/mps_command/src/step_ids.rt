@@ -58,8 +58,8 @@ impl StepIds {
         }
     }
 
-    /// The vector of these numbers, or the number that is kept without one, as `Rc::try_unwrap` gives back what it can't
-    /// take apart. It does not allocate.
+    /// The vector of these numbers, or the number that is kept without one, as `Rc::try_unwrap` gives back what it
+    /// can't take apart. It does not allocate.
     pub fn try_into_vec(self) -> Result<Vec<StepId>, StepId>
         ensures { MatchResult result (λ ids. ids.items ≡ self) (λ id. self ≡ id ∷ []) }
     {

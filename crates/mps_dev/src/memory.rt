@@ -1,4 +1,5 @@
-ghost use Rattle.std.specs.Prelude.{◌≡◌, ◌+◌, ◌^◌, ◌<◌, ◌↔◌, min, [], ◌++◌, length, take, drop, map, vec_items, IfOk, OnErr, IsErr, Some, None, Ok};
+ghost use Rattle.std.specs.Prelude.{◌≡◌, ◌+◌, ◌^◌, ◌<◌, ◌↔◌, min, [], ◌++◌, length, take, drop, map, vec_items, IfOk};
+ghost use Rattle.std.specs.Prelude.{OnErr, IsErr, Some, None, Ok};
 ghost use Rattle.std.specs.Io.{ReadsAtMost, WritesAtMost};
 ghost use Rattle.std.specs.Io.KnownBytes.{ReadConsumes, WriteAppends};
 ghost use Rattle.std.specs.List.{concat, flat_map, slice_index_or};

@@ -37,8 +37,8 @@ fn put_entry(room: &Room, k: u64, text: &mut Vec<u8>) -> Result<(), AllocError>
 }
 
 impl Embedded {
-    /// Writes the answer to the newest line, or as much of it as fits, and gives the length of the whole. It may be asked for
-    /// as often as wanted, so an answer isn't lost where memory runs out for its text.
+    /// Writes the answer to the newest line, or as much of it as fits, and gives the length of the whole. It may be
+    /// asked for as often as wanted, so an answer isn't lost where memory runs out for its text.
     pub fn answer_into(&mut self, out: &mut [u8]) -> Result<usize, AllocError>
         ensures same { self.new ≡ self.old }
         ensures ok { IfOk result (IsFilled (λ text. SpellsReply text self.old.reply) out.old out.new) }
@@ -50,8 +50,8 @@ impl Embedded {
         Ok(self.text.len())
     }
 
-    /// Writes the k-th entry of the journal, from 0, as a script's line, or as much of it as fits, and gives the length of the
-    /// whole line. Past the end that is 0.
+    /// Writes the k-th entry of the journal, from 0, as a script's line, or as much of it as fits, and gives the
+    /// length of the whole line. Past the end that is 0.
     pub fn entry_into(&mut self, k: u64, out: &mut [u8]) -> Result<usize, AllocError>
         ensures same { self.new ≡ self.old }
         ensures line { (entry : Kept) → slice_get self.old.room.journal k ≡ Some entry

@@ -1,4 +1,5 @@
--- Worked sessions of worked protocols, as theirs were worked out by hand, and sessions of types that are of no protocol.
+-- Worked sessions of worked protocols, as theirs were worked out by hand, and sessions of types that are of no
+-- protocol.
 use Rattle.std.specs.Prelude.{◌≡◌, true, List, [], ◌∷◌, None, codes}
 use Rattle.mps_base.specs.declared.value.Value.TheVariants.{Bool as Truth}
 use Rattle.mps_base.specs.declared.value.Sort.TheVariants.{Int as IntSort, Bool as BoolSort}
@@ -13,7 +14,8 @@ use Rattle.mps_local.specs.Examples as protocols
 use Rattle.mps_local.specs.Examples.{three, chosen, int_to, bool_to, in_loops, outer, relay, loops, turns}
 use Rattle.mps_local.specs.Local.{LocalType, Branches, End, Var, Rec, Send, Recv, Select, Branch, NoMore, More}
 use Rattle.mps_local.specs.Outcome.{AreProjections}
-use Rattle.mps_machine.specs.Examples.{a, b, c, verdict, unfitting, sends_int, receives_into, chooses, picks, rolls_back, done, done_with, done_label, violates, relayed_then, relay_done_then}
+use Rattle.mps_machine.specs.Examples.{a, b, c, verdict, unfitting, sends_int, receives_into, chooses, picks}
+use Rattle.mps_machine.specs.Examples.{rolls_back, done, done_with, done_label, violates, relayed_then, relay_done_then}
 use Rattle.mps_machine.specs.Machine.{Request, initial, view_of, answers, after}
 use Rattle.mps_machine.specs.View.{View}
 use Rattle.mps_fidelity.specs.Duality.{AreDual}
@@ -44,7 +46,8 @@ left_or_right left right = More (codes "l") left (More (codes "r") right NoMore)
 
 abbrev pub merging_types : List LocalType
 merging_types =
-    Rec (codes "X") (Rec (codes "Y") (Select b (left_or_right (Send c IntSort (Var (codes "X"))) (Send c IntSort (Var (codes "X"))))))
+    Rec (codes "X") (Rec (codes "Y")
+    (Select b (left_or_right (Send c IntSort (Var (codes "X"))) (Send c IntSort (Var (codes "X"))))))
     ∷ Rec (codes "X") (Rec (codes "Y") (Branch a (left_or_right (Var (codes "X")) (Var (codes "X")))))
     ∷ Rec (codes "X") (Rec (codes "Y") (Recv a IntSort (Var (codes "X"))))
     ∷ []
@@ -63,15 +66,19 @@ aside_types =
 -- c's answer and what followed from b's receipt are taken back, and another answer is given
 abbrev pub AnotherAnswerIsGiven : Type 0
 AnotherAnswerIsGiven =
-    answers verdict initial (relayed_then (chooses c a (codes "ok") ∷ rolls_back b 2 ∷ receives_into b a (codes "y") ∷ sends_int b c 9 ∷ receives_into c b (codes "z") ∷ chooses c a (codes "no") ∷ picks a c ∷ []))
-    ≡ relay_done_then (done 5 ∷ Undone (5 ∷ 4 ∷ 3 ∷ 2 ∷ []) ∷ done_with 6 5 ∷ done 7 ∷ done_with 8 9 ∷ done 9 ∷ done_label 10 (codes "no") ∷ [])
+    answers verdict initial (relayed_then (chooses c a (codes "ok") ∷ rolls_back b 2 ∷ receives_into b a (codes "y")
+    ∷ sends_int b c 9 ∷ receives_into c b (codes "z") ∷ chooses c a (codes "no") ∷ picks a c ∷ []))
+    ≡ relay_done_then (done 5 ∷ Undone (5 ∷ 4 ∷ 3 ∷ 2 ∷ []) ∷ done_with 6 5 ∷ done 7 ∷ done_with 8 9 ∷ done 9
+    ∷ done_label 10 (codes "no") ∷ [])
 
 -- a is two rounds ahead of b and c; a rollback of its second message to b leaves what b and c received before
 abbrev pub RoundsGoOn : Type 0
 RoundsGoOn =
     answers loop_types initial
-    (sends_int a c 1 ∷ sends_int a b 2 ∷ sends_int a c 3 ∷ sends_int a b 4 ∷ receives_into b a (codes "x") ∷ receives_into c a (codes "x")
-    ∷ sends_int a b 5 ∷ rolls_back a 4 ∷ receives_into b a (codes "x") ∷ receives_into c a (codes "x") ∷ sends_int a b 6 ∷ receives_into b a (codes "x") ∷ [])
+    (sends_int a c 1 ∷ sends_int a b 2 ∷ sends_int a c 3 ∷ sends_int a b 4 ∷ receives_into b a (codes "x")
+    ∷ receives_into c a (codes "x")
+    ∷ sends_int a b 5 ∷ rolls_back a 4 ∷ receives_into b a (codes "x") ∷ receives_into c a (codes "x") ∷ sends_int a b 6
+    ∷ receives_into b a (codes "x") ∷ [])
     ≡ done 1 ∷ done 2 ∷ done 3 ∷ done 4 ∷ done_with 5 2 ∷ done_with 6 1
     ∷ violates WrongPeer ∷ Undone (4 ∷ []) ∷ violates NothingQueued ∷ done_with 7 3 ∷ done 8 ∷ done_with 9 6 ∷ []
 
@@ -79,8 +86,10 @@ RoundsGoOn =
 abbrev pub EitherBranchIsTaken : Type 0
 EitherBranchIsTaken =
     answers merging_types initial
-    (chooses a b (codes "r") ∷ sends_int a c 1 ∷ receives_into c a (codes "x") ∷ chooses a b (codes "l") ∷ sends_int a c 2 ∷ receives_into c a (codes "x") ∷ picks b a ∷ picks b a ∷ [])
-    ≡ done 1 ∷ done 2 ∷ done_with 3 1 ∷ done 4 ∷ done 5 ∷ done_with 6 2 ∷ done_label 7 (codes "r") ∷ done_label 8 (codes "l") ∷ []
+    (chooses a b (codes "r") ∷ sends_int a c 1 ∷ receives_into c a (codes "x") ∷ chooses a b (codes "l")
+    ∷ sends_int a c 2 ∷ receives_into c a (codes "x") ∷ picks b a ∷ picks b a ∷ [])
+    ≡ done 1 ∷ done 2 ∷ done_with 3 1 ∷ done 4 ∷ done 5 ∷ done_with 6 2 ∷ done_label 7 (codes "r")
+    ∷ done_label 8 (codes "l") ∷ []
 
 -- where the types aren't of one protocol, a message need not be the expected one: b expects a bool
 abbrev pub TypesHaveToFit : Type 0
@@ -90,7 +99,8 @@ TypesHaveToFit = ¬ (IsFaithful (view_reached unfitting (sends_int a b 5 ∷ [])
 abbrev pub SortsHaveToAgree : Type 0
 SortsHaveToAgree = ¬ (AreDual a b (Send b IntSort End) (Recv a BoolSort End))
 
--- nor is it where a third role has the type of the one branch, and the branches differ in what it does: a takes the other
+-- nor is it where a third role has the type of the one branch, and the branches differ in what it does: a takes the
+-- other
 abbrev pub unmerged : GlobalType
 unmerged = chosen (int_to protocols.a protocols.c global.End) (bool_to protocols.a protocols.c global.End)
 
@@ -102,7 +112,9 @@ first_branch_types =
     ∷ []
 
 abbrev pub BranchesHaveToAgree : Type 0
-BranchesHaveToAgree = ¬ (IsFaithful (view_reached first_branch_types (chooses a b (codes "r") ∷ (a, Forward (steps.Send c (Truth true))) ∷ [])))
+BranchesHaveToAgree =
+    ¬ (IsFaithful
+    (view_reached first_branch_types (chooses a b (codes "r") ∷ (a, Forward (steps.Send c (Truth true))) ∷ [])))
 
 -- two roles that each send before they receive: messages wait in both directions
 abbrev pub both_send_first : List LocalType

@@ -29,7 +29,8 @@ Expects t p m = ⊤
 -- wherever messages of p wait for q, and q's type to come begins with an input from p, it expects the first of them
 abbrev pub IsFaithful : View → Type 0
 IsFaithful v =
-    (p q : ℕ) (m : Message) (ms : List Message) → v.queue p q ≡ m ∷ ms → Expects (unfolded (v.participant q).to_come) p m
+    (p q : ℕ) (m : Message) (ms : List Message) → v.queue p q ≡ m ∷ ms
+    → Expects (unfolded (v.participant q).to_come) p m
 
 -- between the two roles messages wait in one direction at most
 abbrev pub IsHalfDuplex : View → (p q : ℕ) → Type 0

@@ -4,8 +4,10 @@ ghost use Rattle.std.specs.Prelude.{◌≡◌, None};
 ghost use Rattle.mps_local.specs.Examples.{three, relay, loops};
 ghost use Rattle.mps_local.specs.Projection.{projection};
 ghost use Rattle.mps_machine.specs.Examples.{a, b, c, verdict};
-ghost use Rattle.mps_fidelity.specs.Examples.{DoInIt, loop_types, merging, merging_types, aside, aside_types, unmerged, first_branch_types};
-ghost use Rattle.mps_fidelity.specs.Examples.{AnotherAnswerIsGiven, RoundsGoOn, EitherBranchIsTaken, TypesHaveToFit, SortsHaveToAgree, BranchesHaveToAgree, OneHasToReceiveFirst};
+ghost use Rattle.mps_fidelity.specs.Examples.{DoInIt, loop_types, merging, merging_types, aside, aside_types, unmerged};
+ghost use Rattle.mps_fidelity.specs.Examples.{first_branch_types};
+ghost use Rattle.mps_fidelity.specs.Examples.{AnotherAnswerIsGiven, RoundsGoOn, EitherBranchIsTaken, TypesHaveToFit};
+ghost use Rattle.mps_fidelity.specs.Examples.{SortsHaveToAgree, BranchesHaveToAgree, OneHasToReceiveFirst};
 
 /// What three roles do in protocols without faults, and what they are answered there.
 pub fn worked_protocols()

@@ -1,7 +1,7 @@
--- What is wrong with a protocol.
--- Global types are those of Honda, Yoshida, Carbone (Multiparty asynchronous session types, POPL 2008), without channels
--- and parallel composition; limits and the order of faults are this project's.
-use Rattle.std.specs.Prelude.{ℕ, ◌+◌, max, Bool, false, ◌==◌, ◌&&◌, ◌||◌, not, List, [], ◌∷◌, ◌++◌, length, nat_lt, Option, None, Some, flat_map, if◌then◌else◌}
+-- What is wrong with a protocol. Global types are those of Honda, Yoshida, Carbone (Multiparty asynchronous session
+-- types, POPL 2008), without channels and parallel composition; limits and the order of faults are this project's.
+use Rattle.std.specs.Prelude.{ℕ, ◌+◌, max, Bool, false, ◌==◌, ◌&&◌, ◌||◌, not, List, [], ◌∷◌, ◌++◌, length, nat_lt}
+use Rattle.std.specs.Prelude.{Option, None, Some, flat_map, if◌then◌else◌}
 use Rattle.std.specs.List.{list_any}
 use Rattle.std.specs.Str.{bytes_eq}
 use Rattle.mps_global.specs.Global.{GlobalType, Branches, End, Var, Rec, Message, Choice, NoMore, More}
@@ -79,7 +79,8 @@ first_true (test ∷ tests) = if test.0 then Some test.1 else first_true tests
 
 -- what may be wrong with the roles
 abbrev pub role_tests : List (List ℕ) → List (Bool × GlobalFault)
-role_tests roles = (nat_lt (length roles) 2 || nat_lt 8 (length roles), faults.RoleCount) ∷ (has_double roles, faults.DoubleRole) ∷ []
+role_tests roles =
+    (nat_lt (length roles) 2 || nat_lt 8 (length roles), faults.RoleCount) ∷ (has_double roles, faults.DoubleRole) ∷ []
 
 -- what may be wrong with the size of the tree
 abbrev pub size_tests : GlobalType → List (Bool × GlobalFault)
@@ -88,16 +89,19 @@ size_tests tree = (nat_lt 256 (node_count tree), faults.TooManyNodes) ∷ (nat_l
 -- what may be wrong with the two roles of a message or a choice
 abbrev pub pair_tests : List (List ℕ) → (sender receiver : List ℕ) → List (Bool × GlobalFault)
 pair_tests roles sender receiver =
-    (not (is_among roles sender && is_among roles receiver), faults.UnknownRole) ∷ (bytes_eq sender receiver, faults.SelfMessage) ∷ []
+    (not (is_among roles sender && is_among roles receiver), faults.UnknownRole)
+    ∷ (bytes_eq sender receiver, faults.SelfMessage) ∷ []
 
 -- what may be wrong with the labels of a choice
 abbrev pub label_tests : List (List ℕ) → List (Bool × GlobalFault)
 label_tests names =
-    (has_double names, faults.DoubleLabel) ∷ (nat_lt 16 (length names), faults.TooManyBranches) ∷ (length names == 0, faults.NoBranches) ∷ []
+    (has_double names, faults.DoubleLabel) ∷ (nat_lt 16 (length names), faults.TooManyBranches)
+    ∷ (length names == 0, faults.NoBranches) ∷ []
 
 -- what may be wrong with a variable that has that path
 abbrev pub variable_tests : List ℕ → List Step → List (Bool × GlobalFault)
-variable_tests name above = (not (is_bound name above), faults.Unbound) ∷ (is_unguarded name above, faults.Unguarded) ∷ []
+variable_tests name above =
+    (not (is_bound name above), faults.Unbound) ∷ (is_unguarded name above, faults.Unguarded) ∷ []
 
 -- what may be wrong with a `rec` of that variable
 abbrev pub rec_tests : List ℕ → List Step → List (Bool × GlobalFault)
@@ -109,7 +113,8 @@ node_tests roles above End = []
 node_tests roles above (Var name) = variable_tests name above
 node_tests roles above (Rec name body) = rec_tests name above
 node_tests roles above (Message sender receiver sort next) = pair_tests roles sender receiver
-node_tests roles above (Choice sender receiver branches) = pair_tests roles sender receiver ++ label_tests (labels branches)
+node_tests roles above (Choice sender receiver branches) =
+    pair_tests roles sender receiver ++ label_tests (labels branches)
 
 -- what may be wrong at these nodes, one after the other
 abbrev pub tests_at : List (List ℕ) → List (Place GlobalType) → List (Bool × GlobalFault)

@@ -1,6 +1,6 @@
--- Global types as trees, apart from where they lie in memory.
--- Global types are those of Honda, Yoshida, Carbone (Multiparty asynchronous session types, POPL 2008), without channels
--- and parallel composition; limits and the order of faults are this project's.
+-- Global types as trees, apart from where they lie in memory. Global types are those of Honda, Yoshida, Carbone
+-- (Multiparty asynchronous session types, POPL 2008), without channels and parallel composition; limits and the order
+-- of faults are this project's.
 use Rattle.std.specs.Prelude.{ℕ, List}
 use Rattle.mps_base.specs.declared.value.Sort.{Sort}
 use Rattle.mps_global.specs.declared.Global.{Global, End as End', Var as Var', Rec', Message', Choice as Choice'}

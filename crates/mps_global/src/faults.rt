@@ -1,11 +1,13 @@
 //! Which protocols are well-formed.
-ghost use Rattle.std.specs.Prelude.{◌≡◌, ◌↔◌, ◌+◌, ◌<◌, ◌≤◌, ◌∷◌, ℕ, List, [], IsTrue, IsOk, IfErr, MatchOption, length, map, nat_lt};
+ghost use Rattle.std.specs.Prelude.{◌≡◌, ◌↔◌, ◌+◌, ◌<◌, ◌≤◌, ◌∷◌, ℕ, List, [], IsTrue, IsOk, IfErr, MatchOption};
+ghost use Rattle.std.specs.Prelude.{length, map, nat_lt};
 ghost use Rattle.mps_base.specs.RoleLists.{AreRoles};
 ghost use Rattle.mps_global.specs.Global.{GlobalType, plain, plain_branches};
 ghost use Rattle.mps_global.specs.Faults.{is_among, has_double, labels, node_count, branch_nodes, depth, branch_depth};
 ghost use Rattle.mps_global.specs.Path.{steps, level};
 ghost use Rattle.mps_global.specs.Faults.{places, branch_places, greatest};
-ghost use Rattle.mps_global.specs.Faults.{first_true, pair_tests, label_tests, variable_tests, rec_tests, node_tests, first_fault, fault_of};
+ghost use Rattle.mps_global.specs.Faults.{first_true, pair_tests, label_tests, variable_tests, rec_tests, node_tests};
+ghost use Rattle.mps_global.specs.Faults.{first_fault, fault_of};
 
 use crate::path::{Above, is_bound, is_unguarded};
 use crate::{Branches, Global, Protocol};

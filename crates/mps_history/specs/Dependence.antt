@@ -1,5 +1,6 @@
 -- Which steps depend on which: happened-before (Lamport 1978) over the steps of a history.
-use Rattle.std.specs.Prelude.{ℕ, Bool, ◌==◌, nat_lt, ◌&&◌, ◌||◌, not, min, if◌then◌else◌, List, [], ◌∷◌, length, Option, Some, None, unwrap_or, IsTrue}
+use Rattle.std.specs.Prelude.{ℕ, Bool, ◌==◌, nat_lt, ◌&&◌, ◌||◌, not, min, if◌then◌else◌, List, [], ◌∷◌, length, Option}
+use Rattle.std.specs.Prelude.{Some, None, unwrap_or, IsTrue}
 use Rattle.std.specs.List.{filter, list_any}
 use Rattle.mps_base.specs.declared.action.Step.{Step}
 use Rattle.mps_history.specs.Steps.{IsIn, numbers, sends, receives, within}

@@ -1,6 +1,7 @@
--- Histories: lists of numbered steps, the oldest first.
--- Order in one role and a send before its receipt are Lamport's happened-before (1978), which `Dependence` defines from the words here.
-use Rattle.std.specs.Prelude.{◌≡◌, ℕ, ◌<◌, ◌⊎◌, Bool, false, ◌==◌, ◌&&◌, not, List, [], ◌∷◌, ◌++◌, map, length, drop, Option, ⊤}
+-- Histories: lists of numbered steps, the oldest first. Order in one role and a send before its receipt are Lamport's
+-- happened-before (1978), which `Dependence` defines from the words here.
+use Rattle.std.specs.Prelude.{◌≡◌, ℕ, ◌<◌, ◌⊎◌, Bool, false, ◌==◌, ◌&&◌, not, List, [], ◌∷◌, ◌++◌, map, length, drop}
+use Rattle.std.specs.Prelude.{Option, ⊤}
 use Rattle.std.specs.List.{filter, find, AllByRecursion}
 use Rattle.mps_base.specs.declared.action.Act.{Act}
 use Rattle.mps_base.specs.Effects.{Effect, Gives, Takes, effect}

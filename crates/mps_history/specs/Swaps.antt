@@ -1,5 +1,5 @@
--- When one history becomes another by exchanging neighbours that have nothing to do with each other.
--- Exchanges of independent neighbours are Mazurkiewicz's traces (1977); for reversible computations Danos, Krivine (CONCUR 2004).
+-- When one history becomes another by exchanging neighbours that have nothing to do with each other. Exchanges of
+-- independent neighbours are Mazurkiewicz's traces (1977); for reversible computations Danos, Krivine (CONCUR 2004).
 use Rattle.std.specs.Prelude.{◌≡◌, ◌≢◌, ℕ, Bool, false, ◌==◌, ◌&&◌, List, ◌∷◌, ◌++◌, length, map}
 use Rattle.std.specs.List.{filter}
 use Rattle.mps_base.specs.declared.action.Act.{Act}
@@ -20,4 +20,5 @@ is_matched_after a s t =
 -- the first sends, any number of times
 pub data Swaps : List Step → List Step → Type 0 where
   Same : (k h : List Step) → deeds k ≡ deeds h → Swaps k h
-  Exchange : (k h a b : List Step) (s t : Step) → k ≡ a ++ s ∷ t ∷ b → s.role ≢ t.role → is_matched_after a s t ≡ false → Swaps (a ++ t ∷ s ∷ b) h → Swaps k h
+  Exchange : (k h a b : List Step) (s t : Step) → k ≡ a ++ s ∷ t ∷ b → s.role ≢ t.role → is_matched_after a s t ≡ false
+      → Swaps (a ++ t ∷ s ∷ b) h → Swaps k h

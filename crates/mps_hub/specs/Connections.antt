@@ -7,7 +7,8 @@ use Rattle.mps_dev.specs.declared.traits.Source.{Ghosts as SourceGhosts}
 use Rattle.mps_line.specs.Codes.{code_of}
 use Rattle.mps_line.specs.Replies.{SpellsReply}
 use Rattle.mps_line.specs.declared.write_replies.Reply.{Reply}
-use Rattle.mps_line.specs.declared.write_replies.Reply.TheVariants.{Answered, BadLine, Joined, NoSession, NoRole, Taken, Number}
+use Rattle.mps_line.specs.declared.write_replies.Reply.TheVariants.{Answered, BadLine, Joined, NoSession, NoRole, Taken}
+use Rattle.mps_line.specs.declared.write_replies.Reply.TheVariants.{Number}
 use Rattle.mps_lines.specs.Lines.{ended}
 use Rattle.mps_room.specs.declared.caller.Caller.{Ghosts}
 use Rattle.mps_wire.specs.Endings.{EndedAs}
@@ -24,10 +25,12 @@ use Rattle.mps_hub.specs.declared.attending.Attended.TheVariants.{NoLine, Turned
 -- the reply to a first line: that it is none, why it gets no pass, or that it joined
 abbrev pub RepliesToFirst : Offer → List ℕ → Reply → Type 0
 RepliesToFirst offer line BadLine = (session : ℕ) (name : List ℕ) → IsJoin line session name → ⊥
-RepliesToFirst offer line NoSession = (session : ℕ) × (name : List ℕ) × IsJoin line session name × (¬ IsSession offer.first (length offer.cells) session)
+RepliesToFirst offer line NoSession =
+    (session : ℕ) × (name : List ℕ) × IsJoin line session name × (¬ IsSession offer.first (length offer.cells) session)
 RepliesToFirst offer line NoRole = (session : ℕ) × (name : List ℕ) × IsJoin line session name
     × IsSession offer.first (length offer.cells) session × All (λ other. other ≢ name) offer.names
-RepliesToFirst offer line Taken = (session : ℕ) × (name : List ℕ) × IsJoin line session name × IsOffered offer session name
+RepliesToFirst offer line Taken =
+    (session : ℕ) × (name : List ℕ) × IsJoin line session name × IsOffered offer session name
 RepliesToFirst offer line (Joined session name) = IsJoin line session name × IsOffered offer session name
 RepliesToFirst offer line Number = ⊥
 RepliesToFirst offer line (Answered answer) = ⊥
@@ -78,7 +81,8 @@ module _ {C R W : Type 0} (caller : Ghosts C) (pass : C → Known) (source : Sou
     pub before : C
     pub after : C
     pub taken : IsPassOf offer session name (pass before)
-    pub conversed : WasConversation caller source sink (Joined session name) before joined writer after reader' writer' ending
+    pub conversed : WasConversation caller source sink
+        (Joined session name) before joined writer after reader' writer' ending
 
   -- by how it ended
   abbrev pub HasAttended : Attended → Type 0

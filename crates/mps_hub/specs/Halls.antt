@@ -17,22 +17,28 @@ pub record Hall : Type 0 where
 abbrev pub IsNew : List (List ℕ) → SessionState → Type 0
 IsNew names s = (s.state ≡ initial) × (length names ≡ length s.types)
 
--- there is a cell for each session, in order, opened with these names, the session's types and its number, which is this one for the first
-pub record AreCellsOf (names : List (List ℕ)) (first : ℕ) (sessions : List SessionState) (cells : List Opened) : Type 0 where
+-- there is a cell for each session, in order, opened with these names, the session's types and its number, which is
+-- this one for the first
+pub record AreCellsOf (names : List (List ℕ)) (first : ℕ) (sessions : List SessionState) (cells : List Opened)
+    : Type 0 where
   pub count : length cells ≡ length sessions
-  pub each : (i : ℕ) (o : Opened) → slice_get cells i ≡ Some o → (s : SessionState) × (slice_get sessions i ≡ Some s) × (o.opening ≡ opened_with names s.types (first + i))
+  pub each : (i : ℕ) (o : Opened) → slice_get cells i ≡ Some o
+      → (s : SessionState) × (slice_get sessions i ≡ Some s) × (o.opening ≡ opened_with names s.types (first + i))
 
 -- there are so many cells, each opened with these names, these types and its number, which is this one for the first
-pub record AreCellsWith (names : List (List ℕ)) (types : List LocalType) (first n : ℕ) (cells : List Opened) : Type 0 where
+pub record AreCellsWith (names : List (List ℕ)) (types : List LocalType) (first n : ℕ) (cells : List Opened)
+    : Type 0 where
   pub count : length cells ≡ n
   pub each : (i : ℕ) (o : Opened) → slice_get cells i ≡ Some o → o.opening ≡ opened_with names types (first + i)
 
 -- there is a deal for each cell, in order
 pub record AreDeals (cells : List Opened) (deals : List Dealt) : Type 0 where
   pub count : length deals ≡ length cells
-  pub each : (i : ℕ) (o : Opened) (d : Dealt) → slice_get cells i ≡ Some o → slice_get deals i ≡ Some d → IsDealOf o.cell o.opening d
+  pub each : (i : ℕ) (o : Opened) (d : Dealt) → slice_get cells i ≡ Some o → slice_get deals i ≡ Some d
+      → IsDealOf o.cell o.opening d
 
 -- what each cell closed with, in order
 pub record AreClosed (cells : List Opened) (rooms : List (Option RoomState)) : Type 0 where
   pub count : length rooms ≡ length cells
-  pub each : (i : ℕ) (o : Opened) (m : RoomState) → slice_get cells i ≡ Some o → slice_get rooms i ≡ Some (Some m) → Closes o.opening m
+  pub each : (i : ℕ) (o : Opened) (m : RoomState) → slice_get cells i ≡ Some o → slice_get rooms i ≡ Some (Some m)
+      → Closes o.opening m

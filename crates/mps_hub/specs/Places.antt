@@ -24,7 +24,8 @@ pub record IsAtPlace (cells : List Opened) (place : ℕ) (pass : Known) : Type 0
   pub there : slice_get cells place ≡ Some cell
   pub of_cell : IsOfCell cell pass
 
--- the pass is of the cell of this session, which is as many places behind the first as its number is above that of the first
+-- the pass is of the cell of this session, which is as many places behind the first as its number is above that of the
+-- first
 abbrev pub IsOfSession : Offer → ℕ → Known → Type 0
 IsOfSession offer session pass = IsAtPlace offer.cells (session - offer.first) pass
 

@@ -11,14 +11,17 @@ use Rattle.mps_hub.specs.declared.restoring.SessionFault.TheVariants.{Journal}
 
 -- at each place is the pass of the session and of the role at that place
 abbrev pub AreSeated : {C : Type 0} → Offer → (session : ℕ) → (pass : C → Known) → List C → Type 0
-AreSeated {C} offer session pass callers = (place : ℕ) (c : C) → slice_get callers place ≡ Some c → IsOfSession offer session (pass c) × ((pass c).role ≡ place)
+AreSeated {C} offer session pass callers =
+    (place : ℕ) (c : C) → slice_get callers place ≡ Some c
+    → IsOfSession offer session (pass c) × ((pass c).role ≡ place)
 
 -- it is no fault of a journal
 abbrev pub IsNoJournal : SessionFault → Type 0
 IsNoJournal (Journal fault) = ⊥
 IsNoJournal fault = ⊤
 
-module _ {C R : Type 0} (caller : Ghosts C) (pass : C → Known) (source : SourceGhosts R) (offer : Offer) (session : ℕ) (reader reader' : R) where
+module _ {C R : Type 0} (caller : Ghosts C) (pass : C → Known) (source : SourceGhosts R) (offer : Offer) (session : ℕ)
+    (reader reader' : R) where
   -- each whole line of all that the source gave was called by its role's pass of the session, and accepted
   pub record HasRestored (count size : ℕ) : Type 0 where
     pub before : List C

@@ -3,7 +3,8 @@ ghost use Rattle.std.specs.Prelude.{◌≡◌, ◌≢◌, ◌<◌, ◌^◌, ℕ,
 ghost use Rattle.mps_line.specs.Codes.{code_of};
 ghost use Rattle.mps_line.specs.Replies.{SpellsReply};
 ghost use Rattle.mps_lines.specs.Lines.{ended};
-ghost use Rattle.mps_wire.specs.declared.conversation.Broken.TheVariants.{Memory as NoMemory, Write as NotWritten, Untold as NeverSaid};
+ghost use Rattle.mps_wire.specs.declared.conversation.Broken.TheVariants.{Memory as NoMemory, Write as NotWritten};
+ghost use Rattle.mps_wire.specs.declared.conversation.Broken.TheVariants.{Untold as NeverSaid};
 ghost use Rattle.mps_hub.specs.Connections.{HasAttended, IsTold, RepliesToFirst, WasCutShort, WasSent};
 ghost use Rattle.mps_keeper.specs.Holds.{keeps_of, whole_of};
 ghost use Rattle.mps_hub.specs.Private.Connections.{HasJoined, HasLeft, IsAnsweredFirst};
@@ -198,7 +199,8 @@ fn converse_and_return<
     requires writes { W.failed_calls writer.old < 2 ^ 61 }
     ensures cell { result.pass.cell ≡ caller.entry.inner.inner.pass.cell }
     ensures opening { result.pass.opening ≡ caller.entry.inner.inner.pass.opening }
-    ensures conversed { HasLeft ⟦<Guest<'static, 'static, 'static, 'static, G, H, S, D> as Caller>⟧ (λ c. c.inner.inner.pass) R.Source W.Sink joined.now
+    ensures conversed { HasLeft ⟦<Guest<'static, 'static, 'static, 'static, G, H, S, D> as Caller>⟧
+        (λ c. c.inner.inner.pass) R.Source W.Sink joined.now
         caller.entry reader.old writer.old reader.new writer.new result.pass result.ended }
     ensures told { keeps_of caller.entry.keeper ≡ false → whole_of caller.entry.keeper ≡ true → IsTold result.ended }
 {
@@ -210,12 +212,13 @@ fn converse_and_return<
     }
 }
 
-/// Attends to one connection: to its first line and, where that joins, to its conversation. The pass goes back to the desk
-/// then, however the conversation ended.
+/// Attends to one connection: to its first line and, where that joins, to its conversation. The pass goes back to the
+/// desk then, however the conversation ended.
 ///
 /// The first line is `join SESSION ROLE`, of 512 bytes at most. The gate runs before each command; `connection` is the
-/// number that it is told. What the commands of the K-th session change is kept by the K-th of the keepers, where there is
-/// one, and nothing is answered that isn't kept. Where memory runs out over the first line, nothing is answered.
+/// number that it is told. What the commands of the K-th session change is kept by the K-th of the keepers, where
+/// there is one, and nothing is answered that isn't kept. Where memory runs out over the first line, nothing is
+/// answered.
 pub fn attend<
     H: Wait + 'static,
     G: Gate + 'static,
@@ -235,7 +238,8 @@ pub fn attend<
 ) -> Attended
     requires reads { R.calls reader.old < 2 ^ 61 }
     requires writes { W.failed_calls writer.old < 2 ^ 61 }
-    ensures attended { HasAttended ⟦<Guest<'static, 'static, 'static, 'static, G, H, S, D> as Caller>⟧ (λ c. c.inner.inner.pass)
+    ensures attended { HasAttended ⟦<Guest<'static, 'static, 'static, 'static, G, H, S, D> as Caller>⟧
+        (λ c. c.inner.inner.pass)
         R.Source W.Sink desk.now reader.old writer.old reader.new writer.new result }
     ensures told { length keepers.now ≡ 0 → IsTold result }
 {

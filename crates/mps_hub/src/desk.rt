@@ -1,5 +1,6 @@
 //! The passes that are not in use, which one thread at a time has.
-ghost use Rattle.std.specs.Prelude.{◌≡◌, ◌≢◌, ◌+◌, ◌<◌, ◌≤◌, ◌^◌, ◌↔◌, Some, None, IfOk, IfSome, IsErrOf, All, length, slice_set};
+ghost use Rattle.std.specs.Prelude.{◌≡◌, ◌≢◌, ◌+◌, ◌<◌, ◌≤◌, ◌^◌, ◌↔◌, Some, None, IfOk, IfSome, IsErrOf, All, length};
+ghost use Rattle.std.specs.Prelude.{slice_set};
 ghost use Rattle.mps_hub.specs.Places.{IsAtPlace, IsOfCell, IsOfSession, IsOffered, IsPassOf, IsSession, Offer};
 ghost use Rattle.mps_hub.specs.Private.Places.{AreNumbered, AtHome};
 
@@ -212,13 +213,15 @@ impl<'a> Desk<'a> {
         found
     }
 
-    /// Takes the pass of the role of that name in the session of that number. It waits while another thread has the passes out,
-    /// which is for one look, and does not allocate.
+    /// Takes the pass of the role of that name in the session of that number. It waits while another thread has the
+    /// passes out, which is for one look, and does not allocate.
     pub fn take<R: Wait>(&self, rt: &R, session: u64, name: &Name) -> Result<Pass<'a>, JoinFault>
         ensures pass { IfOk result (IsPassOf self.now session name.now) }
-        ensures no_session { IsErrOf result JoinFault.NoSession ↔ ¬ IsSession self.now.first (length self.now.cells) session }
+        ensures no_session { IsErrOf result JoinFault.NoSession
+            ↔ ¬ IsSession self.now.first (length self.now.cells) session }
         ensures no_role { IsErrOf result JoinFault.NoRole
-            ↔ (IsSession self.now.first (length self.now.cells) session × All (λ other. other ≢ name.now) self.now.names) }
+            ↔ (IsSession self.now.first (length self.now.cells) session
+            × All (λ other. other ≢ name.now) self.now.names) }
         ensures taken { IsErrOf result JoinFault.Taken → IsOffered self.now session name.now }
     {
         if session < self.first || session - self.first >= self.sessions {

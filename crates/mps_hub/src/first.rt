@@ -31,8 +31,8 @@ fn read_byte<R: Source>(reader: &mut R) -> Option<u8>
 
 /// Reads the first line of a connection, one byte a call, so that what comes after its LF is left for the conversation.
 ///
-/// Of a line of more than 512 bytes the first 513 are kept, which say that it is too long. `None` where a read failed, the
-/// reader came to its end, or it was read from `MAX_READS` times, before an LF.
+/// Of a line of more than 512 bytes the first 513 are kept, which say that it is too long. `None` where a read failed,
+/// the reader came to its end, or it was read from `MAX_READS` times, before an LF.
 pub fn first_line<R: Source>(alloc: Global, reader: &mut R) -> Result<Option<Vec<u8>>, AllocError>
     requires reads { R.calls reader.old < 2 ^ 62 }
     ensures line { IfOk result (λ found. IfSome found (λ line.

@@ -7,8 +7,8 @@ use mps_room::{Answer, Caller, Command, Told};
 
 /// Something that runs before each command of a connection is given to its pass. A test can hold a command there.
 pub trait Gate {
-    /// Both are counted from 1: connections as they are accepted, and the commands of each that are given to its pass. A
-    /// line that can't be read gives none, and neither does one whose number is not the next.
+    /// Both are counted from 1: connections as they are accepted, and the commands of each that are given to its pass.
+    /// A line that can't be read gives none, and neither does one whose number is not the next.
     fn before(&self, connection: u64, line: u64);
 }
 

@@ -6,8 +6,8 @@ use mps_cell::Held;
 use mps_room::Caller;
 use std::sync::Wait;
 
-/// No call of a pass is answered `Mismatch`, through a gate or without one, where the opening types of its cell are those
-/// of one protocol without faults. So no line that answers its conversation is `refused mismatch`: the law
+/// No call of a pass is answered `Mismatch`, through a gate or without one, where the opening types of its cell are
+/// those of one protocol without faults. So no line that answers its conversation is `refused mismatch`: the law
 /// `no_conversation_meets_a_mismatch` of mps_wire.
 pub fn a_pass_meets_no_mismatch<H: Wait + 'static, G: Gate + 'static>()
     ensures held { MeetsNoMismatch ⟦<Held<'static, 'static, H> as Caller>⟧ (λ h. h.pass.opening.types) }

@@ -6,8 +6,8 @@ use std::time::Duration;
 /// What a server asks of its connections.
 #[derive(Clone, Copy, Debug, PartialEq, Eq)]
 pub struct Limits {
-    /// How many are accepted. `None` is all that come: each has to send its first line within `FIRST_LINE` seconds then, and
-    /// one that can't be accepted is passed over. No more than `MAX_OPEN` are open at once in any case.
+    /// How many are accepted. `None` is all that come: each has to send its first line within `FIRST_LINE` seconds
+    /// then, and one that can't be accepted is passed over. No more than `MAX_OPEN` are open at once in any case.
     pub connections: Option<u64>,
     /// How long one may send nothing, or take none of its answers. `None` is for ever.
     pub idle: Option<Duration>,

@@ -23,7 +23,8 @@ impl Guests {
     }
 }
 
-// The listener's socket as a stream, since a listener has no `shutdown`: with it a call of `accept` that waits comes back.
+// The listener's socket as a stream, since a listener has no `shutdown`: with it a call of `accept` that waits comes
+// back.
 pub(crate) fn bell_of(listener: &TcpListener) -> Option<TcpStream> {
     match listener.try_clone() {
         Ok(listener) => Some(TcpStream::from(OwnedFd::from(listener))),

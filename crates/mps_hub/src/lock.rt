@@ -35,8 +35,8 @@ impl<T> Play<T, T> for PutBack {
     ghost then = { PutsBack };
 }
 
-// Takes the value out. It waits until it is at home. No contract asks the caller to put it back: tests/wakeups reads what
-// the desk does.
+// Takes the value out. It waits until it is at home. No contract asks the caller to put it back: tests/wakeups reads
+// what the desk does.
 pub(crate) fn take_out<T, R: Wait>(rt: &R, shared: &Shared<T, T, Snapshot<T>, Steady>) -> Seat<T, T>
     requires word { shared.now.table_id.words ≡ 1 }
     ensures cell { result.table_id ≡ shared.now.table_id }

@@ -13,8 +13,8 @@ pub const FIRST_LINE: u64 = 10;
 // How often a read is tried again that a signal interrupts.
 const INTERRUPTS: u64 = 1_000;
 
-// Reads once, and again where a signal interrupts it: with a time set the system says so also of a process that was stopped
-// and goes on.
+// Reads once, and again where a signal interrupts it: with a time set the system says so also of a process that was
+// stopped and goes on.
 fn read_on(mut stream: &TcpStream, buf: &mut [u8]) -> io::Result<usize>
     ensures { ReadsAtMost result buf.new }
 {
@@ -51,8 +51,8 @@ pub(crate) fn moment_after<R: Clock>(clock: &R, time: Duration) -> Option<Instan
     Instant::now(clock).ok()?.checked_add(time)
 }
 
-/// A connection's stream. Its first line has to have come by a moment, where there is one; after it each read waits as long
-/// as the connection may be idle.
+/// A connection's stream. Its first line has to have come by a moment, where there is one; after it each read waits as
+/// long as the connection may be idle.
 #[derive(Drop)]
 pub(crate) struct Patient<'s, R> {
     clock: &'s R,
@@ -62,8 +62,8 @@ pub(crate) struct Patient<'s, R> {
 }
 
 impl<'s, R: Clock> Patient<'s, R> {
-    // Waits so long for the first line, and then so long at each read; without an end, where it isn't said how long. None where
-    // the system can't do so.
+    // Waits so long for the first line, and then so long at each read; without an end, where it isn't said how long.
+    // None where the system can't do so.
     pub(crate) fn new(
         clock: &'s R,
         stream: &'s TcpStream,

@@ -71,8 +71,8 @@ impl<'a> Desk<'a> {
         }
     }
 
-    /// Gives the command of each whole line of all that the source gives to its role's pass, in order, and then puts the
-    /// passes back. After a fault they are dropped.
+    /// Gives the command of each whole line of all that the source gives to its role's pass, in order, and then puts
+    /// the passes back. After a fault they are dropped.
     pub fn restore<R: Wait + 'static, S: Source>(
         &self,
         rt: &R,
@@ -82,7 +82,8 @@ impl<'a> Desk<'a> {
     ) -> Result<Restored, SessionFault>
         requires session { IsSession self.now.first (length self.now.cells) session }
         requires reads { S.calls reader.old < 2 ^ 62 }
-        ensures ok { IfOk result (λ r. HasRestored ⟦<Held<'static, 'static, R> as Caller>⟧ (λ h. h.pass) S.Source self.now session
+        ensures ok { IfOk result
+            (λ r. HasRestored ⟦<Held<'static, 'static, R> as Caller>⟧ (λ h. h.pass) S.Source self.now session
             reader.old reader.new r.lines r.bytes) }
         ensures fault { (line : ℕ) (why : UnacceptedAs)
             → result ≡ Err (InJournal (AtLine (record { line = line; fault = why })))

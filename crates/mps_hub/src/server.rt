@@ -52,8 +52,8 @@ pub enum ServeFault {
     Unkept { session: u64 },
 }
 
-// Reads what the client still sends, for a while. If a connection is closed with bytes unread, the system may take back the
-// answers that the client hasn't read yet.
+// Reads what the client still sends, for a while. If a connection is closed with bytes unread, the system may take
+// back the answers that the client hasn't read yet.
 fn linger<R: Clock>(rt: &R, stream: &TcpStream) {
     let _shut = stream.shutdown(Shutdown::Write);
     let Some(until) = moment_after(rt, Duration::from_secs(LINGER)) else {
@@ -75,8 +75,8 @@ fn broken_of<S: Sink, D>(keepers: &[Keeper<S, D>]) -> Option<usize>
     keepers.iter().position(|keeper| keeper.is_broken())
 }
 
-// Attends to the connection at that place, and closes it. Answers are sent at once (`TCP_NODELAY`), where the system can. Where
-// lines were lost no connection goes on.
+// Attends to the connection at that place, and closes it. Answers are sent at once (`TCP_NODELAY`), where the system
+// can. Where lines were lost no connection goes on.
 fn connection<R: Wait + Clock + 'static, G: Gate + 'static, S: Sink + 'static, D: Disk + 'static>(
     rt: &R,
     alloc: Global,
@@ -212,11 +212,11 @@ fn accept_all<
     Ok(lost)
 }
 
-/// Accepts connections, attends to each in a thread of its own, and returns when all have ended. A connection whose thread
-/// can't be started is closed and counted as lost. After a fault no more are accepted.
+/// Accepts connections, attends to each in a thread of its own, and returns when all have ended. A connection whose
+/// thread can't be started is closed and counted as lost. After a fault no more are accepted.
 ///
-/// The K-th session is kept by the K-th of the keepers, where there is one. Where a keeper loses lines, nothing more is answered, and
-/// all connections are ended.
+/// The K-th session is kept by the K-th of the keepers, where there is one. Where a keeper loses lines, nothing more
+/// is answered, and all connections are ended.
 pub fn serve_kept<
     R: Threads + Wait + Clock + Sync + 'static,
     G: Gate + Sync + 'static,
@@ -253,8 +253,8 @@ pub fn serve_kept<
     counted(limits, accepted)
 }
 
-// What so many lost connections come to. What the closure of the scope ensures isn't known, since the desk that it borrows has
-// a lifetime: so `min`, and so a fault that tells of lost lines is told as one of accepting.
+// What so many lost connections come to. What the closure of the scope ensures isn't known, since the desk that it
+// borrows has a lifetime: so `min`, and so a fault that tells of lost lines is told as one of accepting.
 fn counted(limits: Limits, accepted: Result<u64, ServeFault>) -> Result<Served, ServeFault>
     ensures served { IfOk result (λ s. IfSome limits.connections (λ n. s.ended + s.lost ≡ n)) }
     ensures unkept { IfErr result (IsServeFaultOf 0 0) }

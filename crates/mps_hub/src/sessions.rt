@@ -1,5 +1,6 @@
 //! The sessions of a server.
-ghost use Rattle.std.specs.Prelude.{◌≡◌, ◌≢◌, ◌+◌, ◌≤◌, ◌^◌, ◌↔◌, [], true, false, map, length, vec_capacity, IfOk, IfErr, IfSome, IsSome, IsErrOf, All};
+ghost use Rattle.std.specs.Prelude.{◌≡◌, ◌≢◌, ◌+◌, ◌≤◌, ◌^◌, ◌↔◌, [], true, false, map, length, vec_capacity, IfOk};
+ghost use Rattle.std.specs.Prelude.{IfErr, IfSome, IsSome, IsErrOf, All};
 ghost use Rattle.mps_local.specs.Local.{plain};
 ghost use Rattle.mps_machine.specs.Machine.{initial};
 ghost use Rattle.mps_cell.specs.Cells.{IsDealOf, opened_with};
@@ -115,8 +116,8 @@ fn sessions_of(alloc: Global, types: &[Local], n: u64) -> Result<Vec<Session>, O
 }
 
 impl Hub {
-    /// Opens so many sessions of these roles with these types, numbered from 1. A fault says why no session has these types, or that memory
-    /// ran out.
+    /// Opens so many sessions of these roles with these types, numbered from 1. A fault says why no session has these
+    /// types, or that memory ran out.
     pub fn open(
         alloc: Global,
         names: &Roles,
@@ -135,8 +136,8 @@ impl Hub {
         Ok(Hub::of(alloc, names, 1, made)?)
     }
 
-    /// A hub of these sessions, in their order, in which nothing was done yet. The first of them has that number, and those
-    /// after it the next ones. Where memory runs out they are dropped.
+    /// A hub of these sessions, in their order, in which nothing was done yet. The first of them has that number, and
+    /// those after it the next ones. Where memory runs out they are dropped.
     pub fn of(
         alloc: Global,
         names: &Roles,
@@ -166,7 +167,8 @@ impl Hub {
         })
     }
 
-    /// The right to the passes, once in the hub's life. `desk_of` makes the desk for it, and the hub stays known beside.
+    /// The right to the passes, once in the hub's life. `desk_of` makes the desk for it, and the hub stays known
+    /// beside.
     pub fn deal(&mut self) -> Option<HubDeal>
         ensures names { self.new.names ≡ self.old.names }
         ensures first { self.new.first ≡ self.old.first }
@@ -197,7 +199,8 @@ impl Hub {
     /// The desk, with all passes.
     pub fn desk_of(&self, alloc: Global, deal: HubDeal) -> Result<Desk<'_>, AllocError>
         requires deal { AreDeals self.now.cells deal }
-        ensures desk { IfOk result (λ d. d ≡ record { names = self.now.names; first = self.now.first; cells = self.now.cells }) }
+        ensures desk { IfOk result
+            (λ d. d ≡ record { names = self.now.names; first = self.now.first; cells = self.now.cells }) }
     {
         let HubDeal { deals } = deal;
         let names = &self.names;
@@ -205,10 +208,12 @@ impl Hub {
         Desk::new(alloc, names, self.first, rows)
     }
 
-    /// Both in one: the desk, once in the hub's life. After an out-of-memory answer later calls are told that it was given.
+    /// Both in one: the desk, once in the hub's life. After an out-of-memory answer later calls are told that it was
+    /// given.
     pub fn desk(&mut self, alloc: Global) -> Result<Desk<'_>, PassFault>
         ensures given { IsErrOf result Given ↔ (self.old.given ≡ true) }
-        ensures desk { IfOk result (λ d. d ≡ record { names = self.old.names; first = self.old.first; cells = self.old.cells }) }
+        ensures desk { IfOk result
+            (λ d. d ≡ record { names = self.old.names; first = self.old.first; cells = self.old.cells }) }
     {
         let Some(deal) = self.deal() else {
             return Err(PassFault::Given);

@@ -11,7 +11,8 @@ use Rattle.mps_line.specs.JournalLines.{SpellsJournalLine}
 use Rattle.mps_keeper.specs.Numbering.{CountsUp}
 use Rattle.mps_keeper.specs.declared.keep.Keep.{Ghosts as KeepGhosts}
 
-module _ {K C : Type 0} (keep : KeepGhosts K) (caller : CallerGhosts C) (keeper : K) (c : C) (command : Command) (keeper' : K) (d : C) where
+module _ {K C : Type 0} (keep : KeepGhosts K) (caller : CallerGhosts C) (keeper : K) (c : C) (command : Command)
+    (keeper' : K) (d : C) where
   -- the command's line was kept, with its number if it had one
   pub record IsKept : Type 0 where
     pub number : Option ℕ
@@ -30,7 +31,8 @@ module _ {K C : Type 0} (keep : KeepGhosts K) (caller : CallerGhosts C) (keeper 
   IsSettled true = IsKept
   IsSettled false = IsQuiet
 
-  -- One call of the caller. A keeper that keeps lines has kept the line of what was accepted, unless lines were lost; after that it takes nothing; what it had it still has; and one that keeps none is as before.
+  -- One call of the caller. A keeper that keeps lines has kept the line of what was accepted, unless lines were lost;
+  -- after that it takes nothing; what it had it still has; and one that keeps none is as before.
   pub record IsRecorded (answer : Answer) : Type 0 where
     pub call : caller.calls c command answer d
     pub same : keep.keeps keeper' ≡ keep.keeps keeper

@@ -8,7 +8,8 @@ use Rattle.mps_line.specs.JournalLines.{SpellsJournalLine}
 use Rattle.mps_keeper.specs.Numbering.{CountsUp}
 
 -- the line is of the role at that place, and has this number and the first of these entries
-pub record IsOwnLine (names : List (List ℕ)) (place role : ℕ) (line : List ℕ) (number : Option ℕ) (entries later : List Entry) : Type 0 where
+pub record IsOwnLine (names : List (List ℕ)) (place role : ℕ) (line : List ℕ) (number : Option ℕ)
+    (entries later : List Entry) : Type 0 where
   pub command : Command
   pub spelled : SpellsJournalLine names line place number command
   pub answer : Answer
@@ -31,7 +32,8 @@ AreOwn names place role (line ∷ lines) numbers entries =
     ⊎ (IsOtherLine names place line × AreOwn names place role lines numbers entries)
 
 -- a caller, what it made of lines, and the last number to which they lead
-pub record HasRemade (role : ℕ) (made made' : List Entry) (last last' : ℕ) (names : List (List ℕ)) (place : ℕ) (lines : List (List ℕ)) : Type 0 where
+pub record HasRemade (role : ℕ) (made made' : List Entry) (last last' : ℕ) (names : List (List ℕ)) (place : ℕ)
+    (lines : List (List ℕ)) : Type 0 where
   pub entries : List Entry
   pub grown : made' ≡ made ++ entries
   pub numbers : List (Option ℕ)

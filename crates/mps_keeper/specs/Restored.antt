@@ -70,4 +70,5 @@ module _ {C : Type 0} (caller : Ghosts C) where
   -- so each line was, in order
   abbrev pub LinesRestored : (names : List (List ℕ)) → (callers : List C) → List (List ℕ) → (callers' : List C) → Type 0
   LinesRestored names callers [] callers' = callers' ≡ callers
-  LinesRestored names callers (line ∷ lines) callers' = (mid : List C) × LineRestored names callers line mid × LinesRestored names mid lines callers'
+  LinesRestored names callers (line ∷ lines) callers' =
+      (mid : List C) × LineRestored names callers line mid × LinesRestored names mid lines callers'

@@ -23,7 +23,8 @@ of_reading reading.Memory = Memory
 
 -- the line spells no command
 abbrev pub IsUnspelled : (names : List (List ℕ)) → List ℕ → Type 0
-IsUnspelled names line = (role : ℕ) (number : Option ℕ) (command : Command) → SpellsJournalLine names line role number command → ⊥
+IsUnspelled names line =
+    (role : ℕ) (number : Option ℕ) (command : Command) → SpellsJournalLine names line role number command → ⊥
 
 -- a line that is at fault; memory may run out at any
 abbrev pub IsFaulty : {C : Type 0} → Ghosts C → (names : List (List ℕ)) → List C → List ℕ → Unaccepted → Type 0
@@ -64,7 +65,8 @@ IsNoLine Read = Unit
 IsNoLine faults.Memory = Unit
 IsNoLine (Line fault) = ⊥
 
-module _ {C R : Type 0} (caller : Ghosts C) (source : SourceGhosts R) (names : List (List ℕ)) (callers : List C) (reader reader' : R) where
+module _ {C R : Type 0} (caller : Ghosts C) (source : SourceGhosts R) (names : List (List ℕ)) (callers : List C)
+    (reader reader' : R) where
   -- each whole line of all that the source gave was restored
   pub record RestoredFrom (callers' : List C) (count size : ℕ) : Type 0 where
     pub read : List ℕ

@@ -11,11 +11,14 @@ use Rattle.mps_keeper.specs.Numbering.{CountsUp}
 -- each is the line of the number and the entry in its place
 abbrev pub SpellEntries : (names : List (List ℕ)) → List (List ℕ) → List (Option ℕ) → List Entry → Type 0
 SpellEntries names [] [] [] = ⊤
-SpellEntries names (line ∷ lines) (number ∷ numbers) (e ∷ entries) = SpellsJournalLine names line e.role number e.command × SpellEntries names lines numbers entries
+SpellEntries names (line ∷ lines) (number ∷ numbers) (e ∷ entries) =
+    SpellsJournalLine names line e.role number e.command × SpellEntries names lines numbers entries
 SpellEntries names lines numbers entries = ⊥
 
--- what was taken since are the lines of the entries that were made since, in order, with the numbers that lead to the last one
-pub record KeptOn (names : List (List ℕ)) (taken taken' : Option (List ℕ)) (last last' : ℕ) (made made' : List Entry) : Type 0 where
+-- what was taken since are the lines of the entries that were made since, in order, with the numbers that lead to the
+-- last one
+pub record KeptOn (names : List (List ℕ)) (taken taken' : Option (List ℕ)) (last last' : ℕ) (made made' : List Entry)
+    : Type 0 where
   pub lines : List (List ℕ)
   pub numbers : List (Option ℕ)
   pub entries : List Entry
@@ -24,8 +27,11 @@ pub record KeptOn (names : List (List ℕ)) (taken taken' : Option (List ℕ)) (
   pub spelled : SpellEntries names lines numbers entries
   pub took : Took taken lines taken'
 
--- What was written of a conversation's answers is kept: it is the answers to the first of its lines (of the last of them a part), after which nothing was lost; what the keeper took until then are the lines of the entries that were made until then; and it still has them after the conversation.
-module _ {R : Type 0} (caller : Ghosts R) (taken : R → Option (List ℕ)) (lines : List (List ℕ)) (before : R) (written : List ℕ) (after : R) where
+-- What was written of a conversation's answers is kept: it is the answers to the first of its lines (of the last of
+-- them a part), after which nothing was lost; what the keeper took until then are the lines of the entries that were
+-- made until then; and it still has them after the conversation.
+module _ {R : Type 0} (caller : Ghosts R) (taken : R → Option (List ℕ)) (lines : List (List ℕ)) (before : R)
+    (written : List ℕ) (after : R) where
   pub record ToldIsKept : Type 0 where
     pub asked : List (List ℕ)
     pub others : List (List ℕ)
@@ -33,5 +39,6 @@ module _ {R : Type 0} (caller : Ghosts R) (taken : R → Option (List ℕ)) (lin
     pub reached : R
     pub answered : AnswersCut (converses caller) (converses_in_part caller) asked before written reached
     pub whole : caller.may_tell reached ≡ true
-    pub kept : KeptOn (caller.names before) (taken before) (taken reached) (caller.last before) (caller.last reached) (caller.made before) (caller.made reached)
+    pub kept : KeptOn (caller.names before) (taken before) (taken reached) (caller.last before) (caller.last reached)
+        (caller.made before) (caller.made reached)
     pub since : TookMore (taken reached) (taken after)

@@ -84,10 +84,12 @@ impl<W: Sink> Book<W> {
         ensures err { OnErr result (whole_of self.new ≡ false) }
         ensures more { TookMore (W.taken (sink_of self.old)) (W.taken (sink_of self.new)) }
         ensures count { OnErr result (lines_of self.new ≡ lines_of self.old) }
-        ensures added { (start : Option (List ℕ)) (lines : List (List ℕ)) (next : List (List ℕ)) → text.now ≡ flat_map ended next
+        ensures added { (start : Option (List ℕ)) (lines : List (List ℕ)) (next : List (List ℕ))
+            → text.now ≡ flat_map ended next
             → Took start lines (W.taken (sink_of self.old))
             → OnOk result (Took start (lines ++ next) (W.taken (sink_of self.new))) }
-        ensures part { (start : Option (List ℕ)) (lines : List (List ℕ)) (next : List (List ℕ)) → text.now ≡ flat_map ended next
+        ensures part { (start : Option (List ℕ)) (lines : List (List ℕ)) (next : List (List ℕ))
+            → text.now ≡ flat_map ended next
             → Took start lines (W.taken (sink_of self.old))
             → OnErr result (TookToPart start lines next (W.taken (sink_of self.new))) }
     {

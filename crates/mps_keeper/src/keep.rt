@@ -25,8 +25,8 @@ pub trait Keep {
     fn is_whole(&self) -> bool
         ensures { result ≡ whole self.now };
 
-    /// Keeps the line of the journal's entry of that number, counted from 1, after those before it. It comes with its LF. Once
-    /// lines were lost nothing more is taken.
+    /// Keeps the line of the journal's entry of that number, counted from 1, after those before it. It comes with its
+    /// LF. Once lines were lost nothing more is taken.
     fn keep(&mut self, place: u64, line: &[u8])
         ensures same { keeps self.new ≡ keeps self.old }
         ensures once { whole self.new ≡ true → whole self.old ≡ true }

@@ -12,8 +12,8 @@ use std::mem;
 use std::sync::atomic::{AtomicBool, AtomicU64, Ordering};
 use std::sync::{Condvar, Mutex, Wait};
 
-/// How many bytes a line has at most, with its LF, whose command came as a line of a conversation: a name, a number below
-/// 2^64, a command, and two spaces.
+/// How many bytes a line has at most, with its LF, whose command came as a line of a conversation: a name, a number
+/// below 2^64, a command, and two spaces.
 pub const LONGEST_LINE: usize = 32 + 1 + 20 + 1 + MAX_LINE + 1;
 
 /// A disk that can be told to keep what was written.
@@ -166,8 +166,8 @@ impl<W: Sink, D: Disk> Keeper<W, D> {
         }
     }
 
-    // Has the lines kept that wait, unless they are by then. Says whether so many are. Nothing is written after a failure,
-    // and nothing synced, since the next sync may succeed although lines were lost.
+    // Has the lines kept that wait, unless they are by then. Says whether so many are. Nothing is written after a
+    // failure, and nothing synced, since the next sync may succeed although lines were lost.
     fn flush<R: Wait>(&self, rt: &R, place: u64) -> bool {
         if self.has_kept(place) {
             return true;

@@ -18,20 +18,22 @@ use crate::keep::{Keep, Seated};
 use crate::recorded::Recorded;
 use mps_room::Caller;
 
-/// The commands of a legal journal, run again from the opening: after those before it each gets the answer that it had, and
-/// leaves the journal that it left, unless memory runs out.
+/// The commands of a legal journal, run again from the opening: after those before it each gets the answer that it
+/// had, and leaves the journal that it left, unless memory runs out.
 pub fn a_legal_journal_runs_again()
-    ensures answer { (names : List (List ℕ)) (types : List LocalType) (before : List Entry) (e : Entry) (after : List Entry)
+    ensures answer { (names : List (List ℕ)) (types : List LocalType) (before : List Entry) (e : Entry)
+        (after : List Entry)
         → IsLegal names types (before ++ e ∷ after) → (answer : Answer)
         → IsReply answer (reply names types before e.role e.command)
         → (answer ≡ e.answer) ⊎ (answer ≡ Refused Memory) }
-    ensures journal { (names : List (List ℕ)) (types : List LocalType) (before : List Entry) (e : Entry) (after : List Entry)
+    ensures journal { (names : List (List ℕ)) (types : List LocalType) (before : List Entry) (e : Entry)
+        (after : List Entry)
         → IsLegal names types (before ++ e ∷ after) → grown before e.role e.command e.answer ≡ before ++ e ∷ [] }
 {}
 
-/// Where nothing was lost, what the keeper took while a conversation was answered are the lines of the commands that it
-/// made, in order and with their numbers. So it is where the last answer is written in part. And whatever was lost: what was
-/// written to a conversation are the answers to the first of its lines, up to where nothing was lost.
+/// Where nothing was lost, what the keeper took while a conversation was answered are the lines of the commands that
+/// it made, in order and with their numbers. So it is where the last answer is written in part. And whatever was lost:
+/// what was written to a conversation are the answers to the first of its lines, up to where nothing was lost.
 pub fn what_is_answered_is_kept<K: Keep, C: Seated>()
     ensures whole { (asked : List (List ℕ)) (before : RecordedOf K C) (out : List ℕ) (after : RecordedOf K C)
         → AnswersLines (converses ⟦<Recorded<K, C> as Caller>⟧) asked before out after
@@ -39,20 +41,23 @@ pub fn what_is_answered_is_kept<K: Keep, C: Seated>()
         → KeptOn (C.names before.inner) (K.taken before.keeper) (K.taken after.keeper)
         (C.last before.inner) (C.last after.inner) (C.made before.inner) (C.made after.inner) }
     ensures part { (asked : List (List ℕ)) (before : RecordedOf K C) (out : List ℕ) (after : RecordedOf K C)
-        → AnswersCut (converses ⟦<Recorded<K, C> as Caller>⟧) (converses_in_part ⟦<Recorded<K, C> as Caller>⟧) asked before out after
+        → AnswersCut (converses ⟦<Recorded<K, C> as Caller>⟧)
+        (converses_in_part ⟦<Recorded<K, C> as Caller>⟧) asked before out after
         → K.keeps before.keeper ≡ true → K.whole after.keeper ≡ true
         → KeptOn (C.names before.inner) (K.taken before.keeper) (K.taken after.keeper)
         (C.last before.inner) (C.last after.inner) (C.made before.inner) (C.made after.inner) }
     ensures told { (asked : List (List ℕ)) (before : RecordedOf K C) (written : List ℕ) (after : RecordedOf K C)
-        → AnswersCut (converses ⟦<Recorded<K, C> as Caller>⟧) (converses_in_part ⟦<Recorded<K, C> as Caller>⟧) asked before written after
+        → AnswersCut (converses ⟦<Recorded<K, C> as Caller>⟧)
+        (converses_in_part ⟦<Recorded<K, C> as Caller>⟧) asked before written after
         → K.keeps before.keeper ≡ true → K.whole before.keeper ≡ true
         → ToldIsKept ⟦<Recorded<K, C> as Caller>⟧ (λ r. K.taken r.keeper) asked before written after }
 {}
 
-/// After lines were restored, the caller at each place made the entries of its role's lines, in order, and no others, and
-/// its last number is the one to which their numbers lead.
+/// After lines were restored, the caller at each place made the entries of its role's lines, in order, and no others,
+/// and its last number is the one to which their numbers lead.
 pub fn restoring_makes_the_entries<C: Caller>()
-    ensures { (names : List (List ℕ)) (place : ℕ) (lines : List (List ℕ)) (callers : List C) (callers_after : List C) (before : C)
+    ensures { (names : List (List ℕ)) (place : ℕ) (lines : List (List ℕ)) (callers : List C) (callers_after : List C)
+        (before : C)
         → LinesRestored C.Caller names callers lines callers_after → slice_get callers place ≡ Some before
         → (after : C) × (slice_get callers_after place ≡ Some after)
         × HasRemade (C.role before) (C.made before) (C.made after) (C.last before) (C.last after) names place lines }

@@ -1,7 +1,8 @@
 //! Sessions that outlive the process: a file keeps each accepted command, and a later process goes on from it.
 //!
-//! A kept line is a role's name and a line of its conversation that asks for a change (`read_journal_line` of mps_line). A `Book` is the
-//! file while it is written, and a `Recorded` is a caller whose accepted commands a `Keep` keeps.
+//! A kept line is a role's name and a line of its conversation that asks for a change (`read_journal_line` of
+//! mps_line). A `Book` is the file while it is written, and a `Recorded` is a caller whose accepted commands a `Keep`
+//! keeps.
 #![tactic(auto)]
 
 pub mod book;

@@ -23,8 +23,8 @@ pub struct Recorded<K, C> {
 }
 
 impl<K: Keep, C: Seated> Recorded<K, C> {
-    /// A caller whose commands the keeper keeps. It waits until what the caller has seen is kept, since a line that comes
-    /// again is answered without a call.
+    /// A caller whose commands the keeper keeps. It waits until what the caller has seen is kept, since a line that
+    /// comes again is answered without a call.
     ///
     /// A line is made in `line`. With room for `LONGEST_LINE` bytes none is lost for want of memory.
     pub fn new(keeper: K, inner: C, line: Vec<u8>) -> Recorded<K, C>
@@ -72,7 +72,8 @@ impl<K: Keep, C: Seated> Recorded<K, C> {
         ensures kept { K.whole self.new.keeper ≡ true → accepted ≡ true
             → IsTrue put × Appends (K.taken self.old.keeper) (K.taken self.new.keeper) self.old.line.items }
         ensures settled { accepted ≡ false → Appends (K.taken self.old.keeper) (K.taken self.new.keeper) [] }
-        ensures over { K.whole self.old.keeper ≡ false → Appends (K.taken self.old.keeper) (K.taken self.new.keeper) [] }
+        ensures over { K.whole self.old.keeper ≡ false
+            → Appends (K.taken self.old.keeper) (K.taken self.new.keeper) [] }
         ensures more { TookMore (K.taken self.old.keeper) (K.taken self.new.keeper) }
     {
         let place = self.inner.seen();

@@ -1,11 +1,13 @@
 //! How callers are brought to where a kept journal left them.
-ghost use Rattle.std.specs.Prelude.{◌≡◌, ◌≢◌, ◌+◌, length, ℕ, Err, Ok, true, IsSome, IsTrue, false, ◌<◌, ◌^◌, IfOk, IfErr, OnOk};
+ghost use Rattle.std.specs.Prelude.{◌≡◌, ◌≢◌, ◌+◌, length, ℕ, Err, Ok, true, IsSome, IsTrue, false, ◌<◌, ◌^◌, IfOk};
+ghost use Rattle.std.specs.Prelude.{IfErr, OnOk};
 ghost use Rattle.mps_command.specs.Changes.{change_of};
 ghost use Rattle.mps_command.specs.declared.answer.Answer.TheVariants.{Refused as Denied};
 ghost use Rattle.mps_command.specs.declared.answer.Refusal.TheVariants.{Memory as NoRoom};
 ghost use Rattle.mps_room.specs.Journal.{is_accepted};
 ghost use Rattle.mps_keeper.specs.Restored.{IsAcceptedOf, IsRefusedOf, LineRestored};
-ghost use Rattle.mps_keeper.specs.RestoredFaults.{of_reading, IsRestoredTo, IsFirstFault, IsFaulty, RestoredFrom, FaultFrom};
+ghost use Rattle.mps_keeper.specs.RestoredFaults.{of_reading, IsRestoredTo, IsFirstFault, IsFaulty, RestoredFrom};
+ghost use Rattle.mps_keeper.specs.RestoredFaults.{FaultFrom};
 ghost use Rattle.mps_keeper.specs.RestoredFaults.{IsNoLine, ReadsMore};
 ghost use Rattle.mps_keeper.specs.declared.restore.Unaccepted.{Unaccepted as UnacceptedAs};
 ghost use Rattle.mps_keeper.specs.declared.restore.RestoreFault.TheVariants.{Line as AtLine, Memory as NoMemory};
@@ -151,8 +153,8 @@ fn restore_line<C: Caller>(
     }
 }
 
-/// Gives the command of each whole line to its role's caller, in order. Each has to be accepted. A rest without LF is not
-/// looked at.
+/// Gives the command of each whole line to its role's caller, in order. Each has to be accepted. A rest without LF is
+/// not looked at.
 pub fn restore_lines<C: Caller>(
     alloc: Global,
     roles: &Roles,
@@ -160,8 +162,10 @@ pub fn restore_lines<C: Caller>(
     bytes: &[u8],
 ) -> Result<Restored, NotRestored>
     requires { length callers.old.items ≡ length roles.now }
-    ensures ok { IfOk result (λ r. IsRestoredTo C.Caller roles.now callers.old.items bytes.now callers.new.items r.lines r.bytes) }
-    ensures err { IfErr result (λ fault. IsFirstFault C.Caller roles.now callers.old.items bytes.now fault.line fault.fault) }
+    ensures ok { IfOk result
+        (λ r. IsRestoredTo C.Caller roles.now callers.old.items bytes.now callers.new.items r.lines r.bytes) }
+    ensures err { IfErr result
+        (λ fault. IsFirstFault C.Caller roles.now callers.old.items bytes.now fault.line fault.fault) }
 {
     let mut rest = bytes;
     let mut lines = 0;
@@ -193,7 +197,8 @@ fn read_once<R: Source>(
     requires space { 0 < length block.old }
     requires reads { R.calls reader.old < 2 ^ 63 }
     ensures reads { R.calls reader.new ≡ R.calls reader.old + 1 }
-    ensures more { OnOk result (ReadsMore (R.remaining reader.old) (R.remaining reader.new) all.old.items all.new.items) }
+    ensures more { OnOk result
+        (ReadsMore (R.remaining reader.old) (R.remaining reader.new) all.old.items all.new.items) }
     ensures end { result ≡ Ok true → IsAtEnd (R.remaining reader.new) }
     ensures no_line { IfErr result IsNoLine }
 {

@@ -55,7 +55,8 @@ arguments Show = []
 abbrev pub command_tokens : Command → List Token
 command_tokens command = Word (verb_word (verb_of command)) ∷ arguments command
 
--- `send PEER VALUE`, `choose PEER LABEL`, `recv PEER SLOT`, `pick PEER`, `mark NAME`, `commit`, `undo NUMBER`, `rollback NUMBER`, `back NAME`, `news NUMBER` or `show`
+-- `send PEER VALUE`, `choose PEER LABEL`, `recv PEER SLOT`, `pick PEER`, `mark NAME`, `commit`, `undo NUMBER`,
+-- `rollback NUMBER`, `back NAME`, `news NUMBER` or `show`
 abbrev pub SpellsCommand : (names : List (List ℕ)) → List ℕ → Command → Type 0
 SpellsCommand names bytes command = SpellsLine names bytes (command_tokens command)
 
@@ -73,7 +74,8 @@ numbered_tokens None command = command_tokens command
 numbered_tokens (Some number) command = Number number ∷ command_tokens command
 
 -- a line of a conversation: a command, or a number and a command that may have one
-pub record SpellsNumbered (names : List (List ℕ)) (bytes : List ℕ) (number : Option ℕ) (command : Command) : Type 0 where
+pub record SpellsNumbered (names : List (List ℕ)) (bytes : List ℕ) (number : Option ℕ) (command : Command)
+    : Type 0 where
   pub line : SpellsLine names bytes (numbered_tokens number command)
   pub allowed : OnSome number (MayHaveNumber command)
 

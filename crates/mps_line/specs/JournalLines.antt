@@ -6,7 +6,8 @@ use Rattle.mps_line.specs.Tokens.{SpellsRole}
 use Rattle.mps_line.specs.Commands.{SpellsNumbered, MayHaveNumber, NamesRolesOf}
 
 -- a role's name, and after a space a line of a conversation whose command asks for a change
-pub record SpellsJournalLine (names : List (List ℕ)) (bytes : List ℕ) (role : ℕ) (number : Option ℕ) (command : Command) : Type 0 where
+pub record SpellsJournalLine (names : List (List ℕ)) (bytes : List ℕ) (role : ℕ) (number : Option ℕ)
+    (command : Command) : Type 0 where
   pub name : List ℕ
   pub rest : List ℕ
   pub parts : bytes ≡ spaced (name ∷ rest ∷ [])

@@ -7,7 +7,8 @@ use Rattle.mps_base.specs.Values.{SpellsValue}
 use Rattle.mps_base.specs.declared.value.Value.{Value}
 use Rattle.mps_command.specs.Shown.{IsShownText}
 
--- a token of a line: a fixed word, the name of the role at that place, another name, a number, a value or a shown session
+-- a token of a line: a fixed word, the name of the role at that place, another name, a number, a value or a shown
+-- session
 pub data Token : Type 0 where
   Word : (letters : List ℕ) → Token
   RoleAt : (place : ℕ) → Token

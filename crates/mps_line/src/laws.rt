@@ -71,14 +71,15 @@ pub fn one_reply_line()
     one_spelling();
 }
 
-/// A journal's line has at most one role, one number and one command where no two roles have one name, and these have one line,
-/// with no line break in it. One without a number is a script's line.
+/// A journal's line has at most one role, one number and one command where no two roles have one name, and these have
+/// one line, with no line break in it. One without a number is a script's line.
 pub fn one_journal_line()
     ensures role { (names : List (List ℕ)) (a : List ℕ) (p q : ℕ) (m n : Option ℕ) (c d : Command) → AreDistinct names
         → SpellsJournalLine names a p m c → SpellsJournalLine names a q n d → p ≡ q }
     ensures number { (names : List (List ℕ)) (a : List ℕ) (p q : ℕ) (m n : Option ℕ) (c d : Command)
         → SpellsJournalLine names a p m c → SpellsJournalLine names a q n d → m ≡ n }
-    ensures command { (names : List (List ℕ)) (a : List ℕ) (p q : ℕ) (m n : Option ℕ) (c d : Command) → AreDistinct names
+    ensures command { (names : List (List ℕ)) (a : List ℕ) (p q : ℕ) (m n : Option ℕ) (c d : Command)
+        → AreDistinct names
         → SpellsJournalLine names a p m c → SpellsJournalLine names a q n d → c ≡ d }
     ensures spelling { (names : List (List ℕ)) (a b : List ℕ) (p : ℕ) (n : Option ℕ) (c : Command)
         → SpellsJournalLine names a p n c → SpellsJournalLine names b p n c → a ≡ b }

@@ -1,5 +1,6 @@
 //! The parts of a line. The contracts are of its tokens (`specs/Tokens.antt`).
-ghost use Rattle.std.specs.Prelude.{◌≡◌, ◌≢◌, ℕ, List, [], ◌∷◌, IfSome, IfNone, OnOk, OnErr, ◌<◌, All, length, slice_index, take};
+ghost use Rattle.std.specs.Prelude.{◌≡◌, ◌≢◌, ℕ, List, [], ◌∷◌, IfSome, IfNone, OnOk, OnErr, ◌<◌, All, length};
+ghost use Rattle.std.specs.Prelude.{slice_index, take};
 ghost use Rattle.mps_base.specs.Appends.{Appends};
 ghost use Rattle.mps_base.specs.Spaced.{spaced};
 ghost use Rattle.mps_line.specs.Tokens.{RoleAt, Called, Number, SpellsRole, SpellsName, SpellsNumber, SpellsLine};

@@ -8,7 +8,8 @@ ghost use Rattle.mps_command.specs.declared.answer.Violation.{Violation};
 ghost use Rattle.mps_line.specs.Replies.{SpellsReply, refusal_tokens, word_of};
 ghost use Rattle.mps_line.specs.Private.Replies.{lone_words, own_word, own_words};
 ghost use Rattle.mps_line.specs.Tokens.{Word, SpellsLine};
-ghost use Rattle.mps_line.specs.declared.write_replies.Reply.TheVariants.{Answered, BadLine, NoSession, NoRole, Taken, Number};
+ghost use Rattle.mps_line.specs.declared.write_replies.Reply.TheVariants.{Answered, BadLine, NoSession, NoRole, Taken};
+ghost use Rattle.mps_line.specs.declared.write_replies.Reply.TheVariants.{Number};
 
 use crate::line_parts::{after_word, read_step};
 use crate::read_commands::LineFault;

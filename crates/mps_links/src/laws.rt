@@ -6,7 +6,8 @@ ghost use Rattle.mps_history.specs.Dependence.{consequences};
 ghost use Rattle.mps_history.specs.Commits.{commits_from};
 ghost use Rattle.mps_arena.specs.Keys.{last_key};
 ghost use Rattle.mps_arena.specs.Entries.{KeyedStep, steps, entry_at, AreSound};
-ghost use Rattle.mps_links.specs.Marks.{marked_keys, marked_steps, AreMarksClosed, marked_by, unmarked_steps, marked_commits};
+ghost use Rattle.mps_links.specs.Marks.{marked_keys, marked_steps, AreMarksClosed, marked_by, unmarked_steps};
+ghost use Rattle.mps_links.specs.Marks.{marked_commits};
 
 /// Where the newest marked step goes, each step that depends on a marked one is still marked.
 pub fn marks_stay_closed()

@@ -30,11 +30,13 @@ at_c = 2
 
 -- the role at that place does that in the tree, and no choice is named
 abbrev pub Does : ℕ → GlobalType → LocalType → Type 0
-Does role tree t = (projection three role tree ≡ Some t) × (first_unmerged three role (examined three role 0 tree) ≡ None)
+Does role tree t =
+    (projection three role tree ≡ Some t) × (first_unmerged three role (examined three role 0 tree) ≡ None)
 
 -- c has no projection, and the first choice of the tree is named
 abbrev pub CantMergeFirst : GlobalType → Type 0
-CantMergeFirst tree = (projection three at_c tree ≡ None) × (first_unmerged three at_c (examined three at_c 0 tree) ≡ Some 0)
+CantMergeFirst tree =
+    (projection three at_c tree ≡ None) × (first_unmerged three at_c (examined three at_c 0 tree) ≡ Some 0)
 
 -- a chooses between two labels, and b takes the choice
 abbrev pub chosen : GlobalType → GlobalType → GlobalType
@@ -64,7 +66,9 @@ inner = global.Var (codes "Y")
 
 -- an integer goes from a to b and on to c, who tells a whether it will do
 abbrev pub relay : GlobalType
-relay = int_to a b (int_to b c (Choice c a (global.More (codes "ok") global.End (global.More (codes "no") global.End global.NoMore))))
+relay =
+    int_to a b (int_to b c
+    (Choice c a (global.More (codes "ok") global.End (global.More (codes "no") global.End global.NoMore))))
 
 -- the branches of two labels after which all ends
 abbrev pub ok_or_no : Branches

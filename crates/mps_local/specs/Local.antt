@@ -1,7 +1,8 @@
 -- Local types as trees, apart from where they lie in memory (Honda, Yoshida, Carbone, POPL 2008).
 use Rattle.std.specs.Prelude.{ℕ, List}
 use Rattle.mps_base.specs.declared.value.Sort.{Sort}
-use Rattle.mps_local.specs.declared.Local.{Local, End as End', Var as Var', Rec', Send', Recv', Select as Select', Branch as Branch'}
+use Rattle.mps_local.specs.declared.Local.{Local, End as End', Var as Var', Rec', Send', Recv', Select as Select'}
+use Rattle.mps_local.specs.declared.Local.{Branch as Branch'}
 use Rattle.mps_local.specs.declared.Branches.{Branches as Branches', NoMore as NoMore', More'}
 
 mutual

@@ -31,11 +31,13 @@ size_tests t = (nat_lt 256 (node_count t), faults.TooManyNodes) ∷ (nat_lt 64 (
 -- what may be wrong with the labels of a choice
 abbrev pub label_tests : List (List ℕ) → List (Bool × LocalFault)
 label_tests names =
-    (has_double names, faults.DoubleLabel) ∷ (nat_lt 16 (length names), faults.TooManyBranches) ∷ (length names == 0, faults.NoBranches) ∷ []
+    (has_double names, faults.DoubleLabel) ∷ (nat_lt 16 (length names), faults.TooManyBranches)
+    ∷ (length names == 0, faults.NoBranches) ∷ []
 
 -- what may be wrong with a variable that has that path
 abbrev pub variable_tests : List ℕ → List Step → List (Bool × LocalFault)
-variable_tests name above = (not (is_bound name above), faults.Unbound) ∷ (is_unguarded name above, faults.Unguarded) ∷ []
+variable_tests name above =
+    (not (is_bound name above), faults.Unbound) ∷ (is_unguarded name above, faults.Unguarded) ∷ []
 
 -- what may be wrong with a `rec` of that variable
 abbrev pub rec_tests : List ℕ → List Step → List (Bool × LocalFault)

@@ -1,6 +1,7 @@
 -- What one role does in a protocol without faults (Honda, Yoshida, Carbone, POPL 2008; without merging of
 -- branches that differ, and with `end` for a loop that a role takes no part in).
-use Rattle.std.specs.Prelude.{ℕ, suc, ◌+◌, Bool, true, false, ◌==◌, ◌&&◌, ◌||◌, not, List, [], ◌∷◌, ◌++◌, Option, Some, None, option_map, option_and_then, if◌then◌else◌}
+use Rattle.std.specs.Prelude.{ℕ, suc, ◌+◌, Bool, true, false, ◌==◌, ◌&&◌, ◌||◌, not, List, [], ◌∷◌, ◌++◌, Option, Some}
+use Rattle.std.specs.Prelude.{None, option_map, option_and_then, if◌then◌else◌}
 use Rattle.std.specs.List.{list_any, position_or_len}
 use Rattle.std.specs.Str.{bytes_eq}
 use Rattle.mps_base.specs.Sorts.{same_sort}
@@ -66,7 +67,8 @@ abbrev mutual
   -- whether two lists of branches are
   pub same_branches : Branches → Branches → Bool
   same_branches NoMore NoMore = true
-  same_branches (More label next others) (More other rest more) = bytes_eq label other && same next rest && same_branches others more
+  same_branches (More label next others) (More other rest more) =
+      bytes_eq label other && same next rest && same_branches others more
   same_branches b c = false
 
 -- whether each branch goes on with that type
@@ -136,10 +138,12 @@ abbrev mutual
   pub examined : (roles : List (List ℕ)) (role number : ℕ) → GlobalType → List Numbered
   examined roles role number global.End = []
   examined roles role number (global.Var name) = []
-  examined roles role number (global.Rec name body) = if is_idle roles role name body then [] else examined roles role number body
+  examined roles role number (global.Rec name body) =
+      if is_idle roles role name body then [] else examined roles role number body
   examined roles role number (global.Message sender receiver sort next) = examined roles role number next
   examined roles role number (global.Choice sender receiver branches) =
-      examined_in roles role (suc number) branches ++ record { number = number; choice = global.Choice sender receiver branches } ∷ []
+      examined_in roles role (suc number) branches
+      ++ record { number = number; choice = global.Choice sender receiver branches } ∷ []
 
   -- the same of the branches
   pub examined_in : (roles : List (List ℕ)) (role number : ℕ) → global.Branches → List Numbered
@@ -155,4 +159,5 @@ is_undefined (Some t) = false
 -- the number of the first choice of the list in which the role has no projection
 abbrev pub first_unmerged : (roles : List (List ℕ)) (role : ℕ) → List Numbered → Option ℕ
 first_unmerged roles role [] = None
-first_unmerged roles role (c ∷ cs) = if is_undefined (projection roles role c.choice) then Some c.number else first_unmerged roles role cs
+first_unmerged roles role (c ∷ cs) =
+    if is_undefined (projection roles role c.choice) then Some c.number else first_unmerged roles role cs

@@ -14,8 +14,10 @@ abbrev mutual
   local_tokens roles End = codes "end" ∷ []
   local_tokens roles (Var name) = name ∷ []
   local_tokens roles (Rec name body) = codes "rec" ∷ name ∷ codes "." ∷ local_tokens roles body
-  local_tokens roles (Send peer sort next) = codes "send" ∷ name_at roles peer ∷ sort_word sort ∷ codes "." ∷ local_tokens roles next
-  local_tokens roles (Recv peer sort next) = codes "recv" ∷ name_at roles peer ∷ sort_word sort ∷ codes "." ∷ local_tokens roles next
+  local_tokens roles (Send peer sort next) =
+      codes "send" ∷ name_at roles peer ∷ sort_word sort ∷ codes "." ∷ local_tokens roles next
+  local_tokens roles (Recv peer sort next) =
+      codes "recv" ∷ name_at roles peer ∷ sort_word sort ∷ codes "." ∷ local_tokens roles next
   local_tokens roles (Select peer branches) =
       codes "choose" ∷ name_at roles peer ∷ codes "{" ∷ branch_tokens roles branches ++ codes "}" ∷ []
   local_tokens roles (Branch peer branches) =

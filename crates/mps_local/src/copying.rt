@@ -3,7 +3,8 @@
 ghost use Rattle.std.specs.Prelude.{◌≡◌, ◌+◌, ◌<◌, ◌*◌, IfOk, OnOk};
 ghost use Rattle.mps_local.specs.Local.{plain, plain_branches};
 ghost use Rattle.mps_local.specs.Private.Weights.{weight, branch_weight};
-ghost use Rattle.mps_local.specs.Private.Copying.{Stacks, stacks, nothing_made, with_tree, with_branches, last_tree, last_branches, without_tree, without_branches};
+ghost use Rattle.mps_local.specs.Private.Copying.{Stacks, stacks, nothing_made, with_tree, with_branches, last_tree};
+ghost use Rattle.mps_local.specs.Private.Copying.{last_branches, without_tree, without_branches};
 ghost use Rattle.mps_local.specs.Private.Copying.{with_node, with_arm, with_next, with_all, left_weight};
 
 use crate::{Branches, Local};

@@ -1,5 +1,6 @@
 //! Which local types are well-formed.
-ghost use Rattle.std.specs.Prelude.{◌≡◌, ◌≢◌, ◌+◌, ◌<◌, ◌≤◌, ◌↔◌, ℕ, List, [], None, Some, true, IsTrue, MatchOption, length, map, nat_lt};
+ghost use Rattle.std.specs.Prelude.{◌≡◌, ◌≢◌, ◌+◌, ◌<◌, ◌≤◌, ◌↔◌, ℕ, List, [], None, Some, true, IsTrue, MatchOption};
+ghost use Rattle.std.specs.Prelude.{length, map, nat_lt};
 ghost use Rattle.mps_global.specs.Faults.{is_among, has_double, greatest, first_true, fault_of};
 ghost use Rattle.mps_global.specs.Global.{GlobalType};
 ghost use Rattle.mps_global.specs.Path.{steps, level};
@@ -9,7 +10,8 @@ ghost use Rattle.mps_local.specs.Loops.{is_closed, is_guarded, is_unshadowed, is
 ghost use Rattle.mps_local.specs.Shape.{node_count, branch_nodes, depth, branch_depth};
 ghost use Rattle.mps_local.specs.Projection.{projection};
 ghost use Rattle.mps_local.specs.LocalFaults.{places, branch_places};
-ghost use Rattle.mps_local.specs.LocalFaults.{label_tests, variable_tests, rec_tests, node_tests, fault_at, local_fault_of};
+ghost use Rattle.mps_local.specs.LocalFaults.{label_tests, variable_tests, rec_tests, node_tests, fault_at};
+ghost use Rattle.mps_local.specs.LocalFaults.{local_fault_of};
 ghost use Rattle.mps_local.specs.declared.faults.LocalFault.{LocalFault as Fault};
 
 use crate::{Branches, Local};

@@ -3,7 +3,8 @@ ghost use Rattle.std.specs.Prelude.{◌≡◌, ◌≤◌, [], length};
 ghost use Rattle.std.specs.List.{list_any};
 ghost use Rattle.std.specs.Str.{bytes_eq};
 ghost use Rattle.mps_global.specs.Global.{plain, plain_branches};
-ghost use Rattle.mps_local.specs.Projection.{occurs, occurs_in, is_closed, are_closed, is_idle, choice_count, branch_choices};
+ghost use Rattle.mps_local.specs.Projection.{occurs, occurs_in, is_closed, are_closed, is_idle, choice_count};
+ghost use Rattle.mps_local.specs.Projection.{branch_choices};
 ghost use Rattle.mps_local.specs.Private.Bound.{names_bound};
 
 use crate::projection::role_of;

@@ -1,5 +1,6 @@
 //! What one role of a protocol does in it.
-ghost use Rattle.std.specs.Prelude.{◌≡◌, ◌+◌, ◌<◌, ◌≤◌, ◌∷◌, ℕ, suc, List, Option, Some, None, length, map, IsTrue, IfOk, IfErr, IsSome, MatchOption, position};
+ghost use Rattle.std.specs.Prelude.{◌≡◌, ◌+◌, ◌<◌, ◌≤◌, ◌∷◌, ℕ, suc, List, Option, Some, None, length, map, IsTrue};
+ghost use Rattle.std.specs.Prelude.{IfOk, IfErr, IsSome, MatchOption, position};
 ghost use Rattle.std.specs.List.{AllByRecursion};
 ghost use Rattle.std.specs.Str.{bytes_eq};
 ghost use Rattle.mps_global.specs.Global.{GlobalType, plain as global_type, plain_branches as global_branches};

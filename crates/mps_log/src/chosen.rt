@@ -43,8 +43,8 @@ impl Log {
         newest_marked(&self.arena)
     }
 
-    /// The least number of a chosen commit, where each step that depends on a chosen one is chosen. It does not allocate.
-    /// Unproved: where no commit has ever joined it looks at no step.
+    /// The least number of a chosen commit, where each step that depends on a chosen one is chosen. It does not
+    /// allocate. Unproved: where no commit has ever joined it looks at no step.
     #[inline(always)]
     pub fn least_final(&self) -> Option<StepId>
         requires closed { AreMarksClosed self.now.entries }

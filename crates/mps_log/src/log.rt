@@ -1,5 +1,6 @@
 //! The log.
-ghost use Rattle.std.specs.Prelude.{◌≡◌, ◌<◌, ◌+◌, ◌==◌, ℕ, List, [], not, Some, None, IfOk, OnOk, OnErr, IsSome, IfSome, length, slice_get};
+ghost use Rattle.std.specs.Prelude.{◌≡◌, ◌<◌, ◌+◌, ◌==◌, ℕ, List, [], not, Some, None, IfOk, OnOk, OnErr, IsSome};
+ghost use Rattle.std.specs.Prelude.{IfSome, length, slice_get};
 ghost use Rattle.std.specs.List.{filter};
 ghost use Rattle.std.specs.Option.{option_copied, option_map, option_and_then};
 ghost use Rattle.mps_base.specs.declared.action.Act.TheVariants.{Out, In, Mark, Commit};
@@ -12,7 +13,8 @@ ghost use Rattle.mps_base.specs.declared.value.Value.{Value};
 ghost use Rattle.mps_stores.specs.Stores.{Naming, slot_of, mark_of, bindings, AreStores};
 ghost use Rattle.mps_log.specs.Joins.{HasJoined};
 ghost use Rattle.mps_log.specs.Shown.{shown};
-ghost use Rattle.mps_log.specs.Values.{given_by, message_of, message_sent, message_taken, value_taken, kept_in, kept_by, last_mark};
+ghost use Rattle.mps_log.specs.Values.{given_by, message_of, message_sent, message_taken, value_taken, kept_in};
+ghost use Rattle.mps_log.specs.Values.{kept_by, last_mark};
 
 use crate::moves::Moves;
 use crate::queue::Queue;
@@ -59,8 +61,8 @@ fn unbind(stores: &mut Stores, arena: &Arena, key: Key, name: Option<&Name>)
     }
 }
 
-// The queues and the stores without the step of the key: a send's message leaves its queue, a receipt's comes back to the
-// front, and the slot or the name that the step binds gets back what it was bound to.
+// The queues and the stores without the step of the key: a send's message leaves its queue, a receipt's comes back to
+// the front, and the slot or the name that the step binds gets back what it was bound to.
 fn give_back(queues: &mut Queues, slots: &mut Stores, marks: &mut Stores, arena: &Arena, key: Key)
     requires can { CanGo arena.now.entries key }
     requires sound { AreSound arena.now.entries }
@@ -94,7 +96,8 @@ pub(crate) fn message_at(arena: &Arena, key: Key) -> Option<&Message>
     }
 }
 
-// The message that the receipt of the key took: that of the send that it is matched with; none where the key is no receipt's.
+// The message that the receipt of the key took: that of the send that it is matched with; none where the key is no
+// receipt's.
 pub(crate) fn taken_at(arena: &Arena, key: Key) -> Option<&Message>
     ensures { option_copied result ≡ message_taken arena.now.entries key }
 {
@@ -168,8 +171,8 @@ impl Log {
         &self.arena
     }
 
-    /// The k-th message that waits, from 0, of those that one role sent to another. It takes O(k) time. Any roles may be
-    /// named.
+    /// The k-th message that waits, from 0, of those that one role sent to another. It takes O(k) time. Any roles may
+    /// be named.
     pub fn message(&self, from: Role, to: Role, k: usize) -> Option<&Message>
         ensures { option_copied result
             ≡ slice_get (unreceived from to (steps self.now.entries)) k }
@@ -323,7 +326,8 @@ impl Log {
     }
 
     /// Removes a step that is the last of its role and, if it is a send or a choice, isn't received. Its message
-    /// leaves the queue, or comes back to its front; its slot, or the name that it marks, gets back what it was bound to.
+    /// leaves the queue, or comes back to its front; its slot, or the name that it marks, gets back what it was bound
+    /// to.
     pub fn remove(&mut self, key: Key) -> Step
         requires { CanGo self.old.entries key }
         ensures step { option_map (λ e. e.step) (entry_at key self.old.entries) ≡ Some result }

@@ -14,9 +14,10 @@ abbrev pub IsAnswer : {A : Type 0} → Result A Refusal → Result A Refusal →
 IsAnswer (Err Memory) wanted = IsOk wanted
 IsAnswer result wanted = result ≡ wanted
 
--- The result is the machine's, unless memory runs out, and the state after it too; a refusal changes nothing. Memory runs out only
--- where it may.
-pub record IsServed {A : Type 0} (may_starve : Type 0) (result : Result A Refusal) (old new : State) (served : Result A Refusal × State) : Type 0 where
+-- The result is the machine's, unless memory runs out, and the state after it too; a refusal changes nothing. Memory
+-- runs out only where it may.
+pub record IsServed {A : Type 0} (may_starve : Type 0) (result : Result A Refusal) (old new : State)
+    (served : Result A Refusal × State) : Type 0 where
   pub answer : IsAnswer result served.0
   pub state : OnOk result (new ≡ served.1)
   pub err : OnErr result (new ≡ old)
@@ -36,6 +37,7 @@ result_of answer = Ok answer
 abbrev pub outcome : List LocalType → State → ℕ → Change → Result Answer Refusal × State
 outcome types st p change = let served = serve types st p change in (result_of served.0, served.1)
 
--- the result is the machine's answer to role p's change, unless memory runs out, and the state after it is the machine's
+-- the result is the machine's answer to role p's change, unless memory runs out, and the state after it is the
+-- machine's
 abbrev pub IsChanged : List LocalType → ℕ → Change → Result Answer Refusal → (old new : State) → Type 0
 IsChanged types p change result old new = IsServed (MayStarve change) result old new (outcome types old p change)

@@ -8,8 +8,10 @@ use Rattle.mps_history.specs.Steps.{numbers}
 use Rattle.mps_command.specs.declared.command.Forward.TheVariants as steps
 use Rattle.mps_command.specs.declared.command.Change.TheVariants.{Forward, Undo, Rollback, Back}
 use Rattle.mps_command.specs.declared.answer.Violation.{Violation}
-use Rattle.mps_command.specs.declared.answer.Violation.TheVariants.{Ended, WrongAct, WrongPeer, WrongSort, NoLabel, NothingQueued, Mismatch}
-use Rattle.mps_command.specs.declared.answer.Refusal.TheVariants.{Violation as Violates, NoStep, NotYours, Final, Needed, NoMark, Full}
+use Rattle.mps_command.specs.declared.answer.Violation.TheVariants.{Ended, WrongAct, WrongPeer, WrongSort, NoLabel}
+use Rattle.mps_command.specs.declared.answer.Violation.TheVariants.{NothingQueued, Mismatch}
+use Rattle.mps_command.specs.declared.answer.Refusal.TheVariants.{Violation as Violates, NoStep, NotYours, Final}
+use Rattle.mps_command.specs.declared.answer.Refusal.TheVariants.{Needed, NoMark, Full}
 use Rattle.mps_command.specs.declared.answer.Answer.{Answer}
 use Rattle.mps_command.specs.declared.answer.Answer.TheVariants.{Done, Undone, Refused}
 use Rattle.mps_machine.specs.Machine.{State, initial, view_of, Request, answers, after}
@@ -91,7 +93,8 @@ stream = Rec (codes "X") (Send b IntSort (Var (codes "X"))) ∷ Rec (codes "X") 
 abbrev pub round : List LocalType
 round =
     Rec (codes "X") (Select b (More (codes "go") (Recv b TextSort (Var (codes "X"))) (More (codes "stop") End NoMore)))
-    ∷ Rec (codes "X") (Branch a (More (codes "go") (Send a TextSort (Var (codes "X"))) (More (codes "stop") End NoMore)))
+    ∷ Rec (codes "X")
+    (Branch a (More (codes "go") (Send a TextSort (Var (codes "X"))) (More (codes "stop") End NoMore)))
     ∷ []
 
 -- the sender expects an int to be taken, the receiver a bool to come
@@ -120,7 +123,8 @@ from_number n = record { history = []; next = n }
 
 -- a value is relayed from a over b to c in four steps, and then more is asked for
 abbrev pub relayed_then : List Request → List Request
-relayed_then more = sends_int a b 5 ∷ receives_into b a (codes "x") ∷ sends_int b c 7 ∷ receives_into c b (codes "y") ∷ more
+relayed_then more =
+    sends_int a b 5 ∷ receives_into b a (codes "x") ∷ sends_int b c 7 ∷ receives_into c b (codes "y") ∷ more
 
 -- what the four steps are answered, and then more
 abbrev pub relay_done_then : List Answer → List Answer
@@ -129,7 +133,8 @@ relay_done_then more = done 1 ∷ done_with 2 5 ∷ done 3 ∷ done_with 4 7 ∷
 -- an undo waits for the undo of what depends on it
 abbrev pub AnUndoWaitsForTheReceipt : Type 0
 AnUndoWaitsForTheReceipt =
-    answers verdict initial (sends_int a b 5 ∷ receives_into b a (codes "x") ∷ undoes a 1 ∷ undoes b 2 ∷ undoes a 1 ∷ [])
+    answers verdict initial
+    (sends_int a b 5 ∷ receives_into b a (codes "x") ∷ undoes a 1 ∷ undoes b 2 ∷ undoes a 1 ∷ [])
     ≡ done 1 ∷ done_with 2 5 ∷ Refused (Needed 2) ∷ Undone (2 ∷ []) ∷ Undone (1 ∷ []) ∷ []
 
 -- a rollback of the first step removes all that depends on it, the newest first
@@ -154,19 +159,22 @@ ARollbackLeavesTheStrangers =
 -- an undone receipt takes the same message again
 abbrev pub AReceiptUndoneTakesTheSameMessageAgain : Type 0
 AReceiptUndoneTakesTheSameMessageAgain =
-    answers stream initial (sends_int a b 1 ∷ sends_int a b 2 ∷ receives_into b a (codes "x") ∷ undoes b 3 ∷ receives_into b a (codes "x") ∷ [])
+    answers stream initial (sends_int a b 1 ∷ sends_int a b 2 ∷ receives_into b a (codes "x") ∷ undoes b 3
+    ∷ receives_into b a (codes "x") ∷ [])
     ≡ done 1 ∷ done 2 ∷ done_with 3 1 ∷ Undone (3 ∷ []) ∷ done_with 4 1 ∷ []
 
 -- an undone send is gone, and its number with it
 abbrev pub AnUndoneSendIsGone : Type 0
 AnUndoneSendIsGone =
-    answers stream initial (sends_int a b 1 ∷ receives_into b a (codes "x") ∷ undoes b 2 ∷ undoes a 1 ∷ sends_int a b 9 ∷ receives_into b a (codes "x") ∷ [])
+    answers stream initial (sends_int a b 1 ∷ receives_into b a (codes "x") ∷ undoes b 2 ∷ undoes a 1 ∷ sends_int a b 9
+    ∷ receives_into b a (codes "x") ∷ [])
     ≡ done 1 ∷ done_with 2 1 ∷ Undone (2 ∷ []) ∷ Undone (1 ∷ []) ∷ done 3 ∷ done_with 4 9 ∷ []
 
 -- a second receipt into one slot is undone
 abbrev pub AReceiptIntoAUsedSlotIsUndone : Type 0
 AReceiptIntoAUsedSlotIsUndone =
-    answers stream initial (sends_int a b 1 ∷ sends_int a b 2 ∷ receives_into b a (codes "x") ∷ receives_into b a (codes "x") ∷ undoes b 4 ∷ [])
+    answers stream initial (sends_int a b 1 ∷ sends_int a b 2 ∷ receives_into b a (codes "x")
+    ∷ receives_into b a (codes "x") ∷ undoes b 4 ∷ [])
     ≡ done 1 ∷ done 2 ∷ done_with 3 1 ∷ done_with 4 2 ∷ Undone (4 ∷ []) ∷ []
 
 -- the least dependent is named, here the role's next send
@@ -184,7 +192,8 @@ TheLeastDependentIsNamedAReceipt =
 -- a return to a mark removes what came after it, then nothing, and needs the mark
 abbrev pub AReturnToAMarkLeavesTheMark : Type 0
 AReturnToAMarkLeavesTheMark =
-    answers stream initial (marks a (codes "m") ∷ sends_int a b 1 ∷ receives_into b a (codes "x") ∷ goes_back a (codes "m") ∷ goes_back a (codes "m") ∷ undoes a 1 ∷ goes_back a (codes "m") ∷ [])
+    answers stream initial (marks a (codes "m") ∷ sends_int a b 1 ∷ receives_into b a (codes "x")
+    ∷ goes_back a (codes "m") ∷ goes_back a (codes "m") ∷ undoes a 1 ∷ goes_back a (codes "m") ∷ [])
     ≡ done 1 ∷ done 2 ∷ done_with 3 1 ∷ Undone (3 ∷ 2 ∷ []) ∷ Undone [] ∷ Undone (1 ∷ []) ∷ Refused NoMark ∷ []
 
 -- a number is never used again
@@ -196,29 +205,39 @@ NumbersAreNeverUsedAgain =
 -- each refusal by its name
 abbrev pub RefusalsAreNamed : Type 0
 RefusalsAreNamed =
-    answers verdict initial (receives_into b a (codes "x") ∷ receives_into a b (codes "x") ∷ sends_int a c 5 ∷ sends_true a b ∷ undoes b 7 ∷ sends_int a b 5 ∷ undoes b 1 ∷ [])
-    ≡ violates NothingQueued ∷ violates WrongAct ∷ violates WrongPeer ∷ violates WrongSort ∷ Refused NoStep ∷ done 1 ∷ Refused NotYours ∷ []
+    answers verdict initial (receives_into b a (codes "x") ∷ receives_into a b (codes "x") ∷ sends_int a c 5
+    ∷ sends_true a b ∷ undoes b 7 ∷ sends_int a b 5 ∷ undoes b 1 ∷ [])
+    ≡ violates NothingQueued ∷ violates WrongAct ∷ violates WrongPeer ∷ violates WrongSort ∷ Refused NoStep ∷ done 1
+    ∷ Refused NotYours ∷ []
 
--- of several violations the first is told: another act before another peer, and another peer before another sort, before
--- an empty queue, and before a message of another sort that waits from that peer
+-- of several violations the first is told: another act before another peer, and another peer before another sort,
+-- before an empty queue, and before a message of another sort that waits from that peer
 abbrev pub TheFirstViolationIsTold : Type 0
 TheFirstViolationIsTold =
-    (answers verdict initial (sends_true a c ∷ receives_into b c (codes "x") ∷ receives_into a c (codes "x") ∷ sends_int b c 7 ∷ sends_true b a ∷ [])
+    (answers verdict initial (sends_true a c ∷ receives_into b c (codes "x") ∷ receives_into a c (codes "x")
+    ∷ sends_int b c 7 ∷ sends_true b a ∷ [])
     ≡ violates WrongPeer ∷ violates WrongPeer ∷ violates WrongAct ∷ violates WrongAct ∷ violates WrongAct ∷ [])
-    × (answers from_two initial (sends_true c b ∷ receives_into b c (codes "x") ∷ receives_into b a (codes "x") ∷ sends_int a b 5 ∷ receives_into b c (codes "x") ∷ receives_into b a (codes "x") ∷ [])
+    × (answers from_two initial (sends_true c b ∷ receives_into b c (codes "x") ∷ receives_into b a (codes "x")
+    ∷ sends_int a b 5 ∷ receives_into b c (codes "x") ∷ receives_into b a (codes "x") ∷ [])
     ≡ done 1 ∷ violates WrongPeer ∷ violates NothingQueued ∷ done 2 ∷ violates WrongPeer ∷ done_with 3 5 ∷ [])
 
 -- a choice is made, picked, and ends the part
 abbrev pub AChoiceIsMadeAndPicked : Type 0
 AChoiceIsMadeAndPicked =
-    answers verdict initial (relayed_then (chooses c a (codes "maybe") ∷ picks a c ∷ chooses c a (codes "ok") ∷ picks a c ∷ marks a (codes "e") ∷ sends_int a b 1 ∷ []))
-    ≡ relay_done_then (violates NoLabel ∷ violates NothingQueued ∷ done 5 ∷ done_label 6 (codes "ok") ∷ done 7 ∷ violates Ended ∷ [])
+    answers verdict initial (relayed_then (chooses c a (codes "maybe") ∷ picks a c ∷ chooses c a (codes "ok")
+    ∷ picks a c ∷ marks a (codes "e") ∷ sends_int a b 1 ∷ []))
+    ≡ relay_done_then
+    (violates NoLabel ∷ violates NothingQueued ∷ done 5 ∷ done_label 6 (codes "ok") ∷ done 7 ∷ violates Ended ∷ [])
 
 -- a loop with a choice is gone round to its end, each time by the branch that was chosen
 abbrev pub ALoopIsGoneRound : Type 0
 ALoopIsGoneRound =
-    answers round initial (chooses a b (codes "go") ∷ picks b a ∷ (b, Forward (steps.Send a (Words (codes "good day")))) ∷ chooses a b (codes "stop") ∷ receives_into a b (codes "w") ∷ chooses a b (codes "stop") ∷ picks b a ∷ picks b a ∷ [])
-    ≡ done 1 ∷ done_label 2 (codes "go") ∷ done 3 ∷ violates WrongAct ∷ Done (record { id = 4; got = Some (Plain (Words (codes "good day"))) }) ∷ done 5 ∷ done_label 6 (codes "stop") ∷ violates Ended ∷ []
+    answers round initial (chooses a b (codes "go") ∷ picks b a ∷ (b, Forward (steps.Send a (Words (codes "good day"))))
+    ∷ chooses a b (codes "stop") ∷ receives_into a b (codes "w") ∷ chooses a b (codes "stop") ∷ picks b a
+    ∷ picks b a ∷ [])
+    ≡ done 1 ∷ done_label 2 (codes "go") ∷ done 3 ∷ violates WrongAct
+    ∷ Done (record { id = 4; got = Some (Plain (Words (codes "good day"))) }) ∷ done 5 ∷ done_label 6 (codes "stop")
+    ∷ violates Ended ∷ []
 
 -- a message of another sort than the receiver expects stays
 abbrev pub AMessageOfAnotherSortIsAMismatch : Type 0
@@ -235,15 +254,19 @@ TheMessageWaitsAgain =
 -- after an undo of the second receipt into a slot, the slot has the first value, and the second message waits again
 abbrev pub TheSlotHasItsOldValue : Type 0
 TheSlotHasItsOldValue =
-    let v = view_of stream (after stream initial (sends_int a b 1 ∷ sends_int a b 2 ∷ receives_into b a (codes "x") ∷ receives_into b a (codes "x") ∷ undoes b 4 ∷ [])).history in
+    let v = view_of stream (after stream initial (sends_int a b 1 ∷ sends_int a b 2 ∷ receives_into b a (codes "x")
+    ∷ receives_into b a (codes "x") ∷ undoes b 4 ∷ [])).history in
     ((v.participant b).store ≡ (codes "x", Int (pos 1)) ∷ []) × (v.queue a b ≡ Plain (Int (pos 2)) ∷ [])
 
--- the number 100000 is given out, and none after it, also where the step is undone. An act that isn't allowed is reported as that
+-- the number 100000 is given out, and none after it, also where the step is undone. An act that isn't allowed is
+-- reported as that
 abbrev pub AHundredThousandNumbersAreGivenOut : Type 0
 AHundredThousandNumbersAreGivenOut =
-    let requests = sends_int a b 1 ∷ sends_int a b 2 ∷ sends_int c b 3 ∷ sends_int c d 4 ∷ marks a (codes "m") ∷ undoes a 100000 ∷ sends_int a b 5 ∷ [] in
+    let requests = sends_int a b 1 ∷ sends_int a b 2 ∷ sends_int c b 3 ∷ sends_int c d 4 ∷ marks a (codes "m")
+    ∷ undoes a 100000 ∷ sends_int a b 5 ∷ [] in
     (answers two_pairs (from_number 100000) requests
-    ≡ done 100000 ∷ violates Ended ∷ violates WrongPeer ∷ Refused Full ∷ Refused Full ∷ Undone (100000 ∷ []) ∷ Refused Full ∷ [])
+    ≡ done 100000 ∷ violates Ended ∷ violates WrongPeer ∷ Refused Full ∷ Refused Full ∷ Undone (100000 ∷ [])
+    ∷ Refused Full ∷ [])
     × ((after two_pairs (from_number 100000) requests).next ≡ 100001)
 
 -- a mark may have the number 100000, and none may have the next
@@ -256,48 +279,63 @@ AMarkMayHaveTheLastNumber =
 -- a return is to the role's own last mark of that name
 abbrev pub AReturnIsToTheLastMarkOfTheName : Type 0
 AReturnIsToTheLastMarkOfTheName =
-    let marked = marks a (codes "m") ∷ sends_int a b 1 ∷ marks a (codes "k") ∷ marks a (codes "m") ∷ sends_int a b 2 ∷ marks b (codes "m") ∷ [] in
+    let marked = marks a (codes "m") ∷ sends_int a b 1 ∷ marks a (codes "k") ∷ marks a (codes "m") ∷ sends_int a b 2
+    ∷ marks b (codes "m") ∷ [] in
     let st = after stream initial marked in
     (answers stream initial marked ≡ done 1 ∷ done 2 ∷ done 3 ∷ done 4 ∷ done 5 ∷ done 6 ∷ [])
-    × (answers stream st (goes_back b (codes "k") ∷ goes_back a (codes "m") ∷ goes_back a (codes "k") ∷ goes_back a (codes "m") ∷ goes_back a (codes "k") ∷ goes_back b (codes "m") ∷ [])
+    × (answers stream st (goes_back b (codes "k") ∷ goes_back a (codes "m") ∷ goes_back a (codes "k")
+    ∷ goes_back a (codes "m") ∷ goes_back a (codes "k") ∷ goes_back b (codes "m") ∷ [])
     ≡ Refused NoMark ∷ Undone (5 ∷ []) ∷ Undone (4 ∷ []) ∷ Undone (3 ∷ 2 ∷ []) ∷ Refused NoMark ∷ Undone [] ∷ [])
 
 -- a step that isn't there, or is another role's, is reported as that, whether others depend on it or not
 abbrev pub AnotherRolesStepIsNotYours : Type 0
 AnotherRolesStepIsNotYours =
-    answers verdict initial (sends_int a b 5 ∷ receives_into b a (codes "x") ∷ undoes c 1 ∷ undoes b 1 ∷ undoes a 3 ∷ rolls_back a 3 ∷ rolls_back b 1 ∷ rolls_back a 2 ∷ undoes a 1 ∷ [])
-    ≡ done 1 ∷ done_with 2 5 ∷ Refused NotYours ∷ Refused NotYours ∷ Refused NoStep ∷ Refused NoStep ∷ Refused NotYours ∷ Refused NotYours ∷ Refused (Needed 2) ∷ []
+    answers verdict initial (sends_int a b 5 ∷ receives_into b a (codes "x") ∷ undoes c 1 ∷ undoes b 1 ∷ undoes a 3
+    ∷ rolls_back a 3 ∷ rolls_back b 1 ∷ rolls_back a 2 ∷ undoes a 1 ∷ [])
+    ≡ done 1 ∷ done_with 2 5 ∷ Refused NotYours ∷ Refused NotYours ∷ Refused NoStep ∷ Refused NoStep ∷ Refused NotYours
+    ∷ Refused NotYours ∷ Refused (Needed 2) ∷ []
 
 -- at a choice another peer is told before another label, and a value is another kind of act
 abbrev pub AChoiceIsOfOnePeer : Type 0
 AChoiceIsOfOnePeer =
-    answers verdict initial (relayed_then (chooses c b (codes "maybe") ∷ chooses c b (codes "ok") ∷ picks a b ∷ sends_int c a 1 ∷ receives_into a c (codes "x") ∷ []))
-    ≡ relay_done_then (violates WrongPeer ∷ violates WrongPeer ∷ violates WrongPeer ∷ violates WrongAct ∷ violates WrongAct ∷ [])
+    answers verdict initial (relayed_then (chooses c b (codes "maybe") ∷ chooses c b (codes "ok") ∷ picks a b
+    ∷ sends_int c a 1 ∷ receives_into a c (codes "x") ∷ []))
+    ≡ relay_done_then
+    (violates WrongPeer ∷ violates WrongPeer ∷ violates WrongPeer ∷ violates WrongAct ∷ violates WrongAct ∷ [])
 
--- a label that the receiver doesn't expect stays, as does a value where a label is expected, and a label where a value is
+-- a label that the receiver doesn't expect stays, as does a value where a label is expected, and a label where a value
+-- is
 abbrev pub AnUnexpectedMessageIsAMismatch : Type 0
 AnUnexpectedMessageIsAMismatch =
     (answers other_label initial (chooses a b (codes "x") ∷ picks b a ∷ []) ≡ done 1 ∷ violates Mismatch ∷ [])
     × (answers value_for_a_label initial (sends_int a b 5 ∷ picks b a ∷ []) ≡ done 1 ∷ violates Mismatch ∷ [])
-    × (answers label_for_a_value initial (chooses a b (codes "x") ∷ receives_into b a (codes "s") ∷ []) ≡ done 1 ∷ violates Mismatch ∷ [])
+    × (answers label_for_a_value initial (chooses a b (codes "x") ∷ receives_into b a (codes "s") ∷ [])
+    ≡ done 1 ∷ violates Mismatch ∷ [])
 
 -- a slot that is bound again keeps its place
 abbrev pub ASlotKeepsItsPlace : Type 0
 ASlotKeepsItsPlace =
-    let sent = sends_int a b 1 ∷ sends_int a b 2 ∷ sends_int a b 3 ∷ receives_into b a (codes "x") ∷ receives_into b a (codes "y") ∷ receives_into b a (codes "x") ∷ [] in
-    ((view_of stream (after stream initial sent).history).participant b).store ≡ (codes "x", Int (pos 3)) ∷ (codes "y", Int (pos 2)) ∷ []
+    let sent = sends_int a b 1 ∷ sends_int a b 2 ∷ sends_int a b 3 ∷ receives_into b a (codes "x")
+    ∷ receives_into b a (codes "y") ∷ receives_into b a (codes "x") ∷ [] in
+    ((view_of stream (after stream initial sent).history).participant b).store
+    ≡ (codes "x", Int (pos 3)) ∷ (codes "y", Int (pos 2)) ∷ []
 
 -- whoever tries to undo a commit, or what it depends on, is told which commit stands in the way, and nothing changes
 abbrev pub ACommitStandsInTheWay : Type 0
 ACommitStandsInTheWay =
-    answers stream initial (marks a (codes "m") ∷ sends_int a b 1 ∷ receives_into b a (codes "x") ∷ commits b ∷ goes_back a (codes "m") ∷ rolls_back a 1 ∷ undoes a 2 ∷ undoes b 4 ∷ undoes b 3 ∷ undoes a 4 ∷ commits a ∷ rolls_back a 1 ∷ [])
-    ≡ done 1 ∷ done 2 ∷ done_with 3 1 ∷ done 4 ∷ Refused (Final 4) ∷ Refused (Final 4) ∷ Refused (Needed 3) ∷ Refused (Final 4) ∷ Refused (Needed 4) ∷ Refused NotYours ∷ done 5 ∷ Refused (Final 4) ∷ []
+    answers stream initial (marks a (codes "m") ∷ sends_int a b 1 ∷ receives_into b a (codes "x") ∷ commits b
+    ∷ goes_back a (codes "m") ∷ rolls_back a 1 ∷ undoes a 2 ∷ undoes b 4 ∷ undoes b 3 ∷ undoes a 4 ∷ commits a
+    ∷ rolls_back a 1 ∷ [])
+    ≡ done 1 ∷ done 2 ∷ done_with 3 1 ∷ done 4 ∷ Refused (Final 4) ∷ Refused (Final 4) ∷ Refused (Needed 3)
+    ∷ Refused (Final 4) ∷ Refused (Needed 4) ∷ Refused NotYours ∷ done 5 ∷ Refused (Final 4) ∷ []
 
 -- of a step of another role this is told before a commit, and a commit before a step that depends on it
 abbrev pub TheFirstReasonAgainstAnUndoIsTold : Type 0
 TheFirstReasonAgainstAnUndoIsTold =
-    answers stream initial (commits a ∷ sends_int a b 1 ∷ undoes a 1 ∷ rolls_back b 1 ∷ rolls_back a 1 ∷ rolls_back b 2 ∷ undoes b 1 ∷ [])
-    ≡ done 1 ∷ done 2 ∷ Refused (Final 1) ∷ Refused NotYours ∷ Refused (Final 1) ∷ Refused NotYours ∷ Refused NotYours ∷ []
+    answers stream initial
+    (commits a ∷ sends_int a b 1 ∷ undoes a 1 ∷ rolls_back b 1 ∷ rolls_back a 1 ∷ rolls_back b 2 ∷ undoes b 1 ∷ [])
+    ≡ done 1 ∷ done 2 ∷ Refused (Final 1) ∷ Refused NotYours ∷ Refused (Final 1) ∷ Refused NotYours ∷ Refused NotYours
+    ∷ []
 
 -- a commit doesn't keep what it doesn't depend on
 abbrev pub ACommitLeavesTheStrangers : Type 0
@@ -308,14 +346,18 @@ ACommitLeavesTheStrangers =
 -- what a role did after a commit can be undone, the commit not
 abbrev pub WhatCameAfterACommitCanBeUndone : Type 0
 WhatCameAfterACommitCanBeUndone =
-    answers stream initial (sends_int a b 1 ∷ commits a ∷ sends_int a b 2 ∷ sends_int a b 3 ∷ undoes a 4 ∷ rolls_back a 3 ∷ undoes a 2 ∷ rolls_back a 2 ∷ rolls_back a 1 ∷ undoes a 1 ∷ [])
-    ≡ done 1 ∷ done 2 ∷ done 3 ∷ done 4 ∷ Undone (4 ∷ []) ∷ Undone (3 ∷ []) ∷ Refused (Final 2) ∷ Refused (Final 2) ∷ Refused (Final 2) ∷ Refused (Needed 2) ∷ []
+    answers stream initial (sends_int a b 1 ∷ commits a ∷ sends_int a b 2 ∷ sends_int a b 3 ∷ undoes a 4
+    ∷ rolls_back a 3 ∷ undoes a 2 ∷ rolls_back a 2 ∷ rolls_back a 1 ∷ undoes a 1 ∷ [])
+    ≡ done 1 ∷ done 2 ∷ done 3 ∷ done 4 ∷ Undone (4 ∷ []) ∷ Undone (3 ∷ []) ∷ Refused (Final 2) ∷ Refused (Final 2)
+    ∷ Refused (Final 2) ∷ Refused (Needed 2) ∷ []
 
 -- a commit is allowed where the role's part has ended, and may have the number 100000
 abbrev pub ACommitIsAllowedAtTheEnd : Type 0
 ACommitIsAllowedAtTheEnd =
-    (answers two_pairs initial (sends_int a b 1 ∷ commits a ∷ sends_int a b 2 ∷ []) ≡ done 1 ∷ done 2 ∷ violates Ended ∷ [])
-    × (answers two_pairs (from_number 100000) (commits a ∷ commits a ∷ undoes a 100000 ∷ []) ≡ done 100000 ∷ Refused Full ∷ Refused (Final 100000) ∷ [])
+    (answers two_pairs initial (sends_int a b 1 ∷ commits a ∷ sends_int a b 2 ∷ [])
+    ≡ done 1 ∷ done 2 ∷ violates Ended ∷ [])
+    × (answers two_pairs (from_number 100000) (commits a ∷ commits a ∷ undoes a 100000 ∷ [])
+    ≡ done 100000 ∷ Refused Full ∷ Refused (Final 100000) ∷ [])
 
 -- a return that removes nothing is accepted after a commit too
 abbrev pub AnEmptyReturnIsNeverFinal : Type 0
@@ -326,5 +368,7 @@ AnEmptyReturnIsNeverFinal =
 -- where several commits stand in the way, the least is named
 abbrev pub TheLeastCommitIsNamed : Type 0
 TheLeastCommitIsNamed =
-    answers stream initial (marks a (codes "m") ∷ sends_int a b 1 ∷ receives_into b a (codes "x") ∷ commits b ∷ commits a ∷ rolls_back a 2 ∷ goes_back a (codes "m") ∷ rolls_back b 3 ∷ rolls_back a 5 ∷ [])
-    ≡ done 1 ∷ done 2 ∷ done_with 3 1 ∷ done 4 ∷ done 5 ∷ Refused (Final 4) ∷ Refused (Final 4) ∷ Refused (Final 4) ∷ Refused (Final 5) ∷ []
+    answers stream initial (marks a (codes "m") ∷ sends_int a b 1 ∷ receives_into b a (codes "x") ∷ commits b
+    ∷ commits a ∷ rolls_back a 2 ∷ goes_back a (codes "m") ∷ rolls_back b 3 ∷ rolls_back a 5 ∷ [])
+    ≡ done 1 ∷ done 2 ∷ done_with 3 1 ∷ done 4 ∷ done 5 ∷ Refused (Final 4) ∷ Refused (Final 4) ∷ Refused (Final 4)
+    ∷ Refused (Final 5) ∷ []

@@ -1,6 +1,7 @@
 -- The plain machine: a list of steps and the next number, and its answers to commands. An undo is allowed only where
 -- nothing that depends on the step survives (Danos, Krivine, CONCUR 2004). A commit is never undone.
-use Rattle.std.specs.Prelude.{◌≡◌, ℕ, ◌+◌, ◌<◌, Bool, false, ◌==◌, nat_lt, if◌then◌else◌, List, [], ◌∷◌, ◌++◌, reverse, Option, Some, None, is_some, unwrap_or, Result, Ok, Err}
+use Rattle.std.specs.Prelude.{◌≡◌, ℕ, ◌+◌, ◌<◌, Bool, false, ◌==◌, nat_lt, if◌then◌else◌, List, [], ◌∷◌, ◌++◌, reverse}
+use Rattle.std.specs.Prelude.{Option, Some, None, is_some, unwrap_or, Result, Ok, Err}
 use Rattle.std.specs.List.{AllByRecursion}
 use Rattle.std.specs.Option.{option_map}
 use Rattle.std.specs.Str.{bytes_eq}
@@ -17,7 +18,8 @@ use Rattle.mps_command.specs.Acts.{act_of}
 use Rattle.mps_command.specs.declared.command.Change.{Change}
 use Rattle.mps_command.specs.declared.command.Change.TheVariants.{Forward, Undo, Rollback, Back}
 use Rattle.mps_command.specs.declared.answer.Refusal.{Refusal}
-use Rattle.mps_command.specs.declared.answer.Refusal.TheVariants.{Violation as Violates, NoStep, NotYours, Final, Needed, NoMark, Full}
+use Rattle.mps_command.specs.declared.answer.Refusal.TheVariants.{Violation as Violates, NoStep, NotYours, Final}
+use Rattle.mps_command.specs.declared.answer.Refusal.TheVariants.{Needed, NoMark, Full}
 use Rattle.mps_command.specs.declared.answer.Done.{Done}
 use Rattle.mps_command.specs.declared.answer.Answer.{Answer}
 use Rattle.mps_command.specs.declared.answer.Answer.TheVariants.{Done as Stepped, Undone, Refused}
@@ -53,7 +55,11 @@ taken act m = taken_by_effect (effect act) m
 
 -- the step joins the end of the history with the next number
 abbrev pub accepted : State → ℕ → Act → State
-accepted st p act = record { history = st.history ++ record { id = st.next; role = p; act = act } ∷ []; next = st.next + 1 }
+accepted st p act = record {
+  history = st.history
+      ++ record { id = st.next; role = p; act = act } ∷ [];
+  next = st.next + 1;
+}
 
 -- a refusal that stands in the way, and then nothing changes, or else what follows
 abbrev pub unless : {A : Type 0} → Option Refusal → State → Result A Refusal × State → Result A Refusal × State
@@ -68,7 +74,8 @@ full_fault st = if nat_lt most_numbers st.next then Some Full else None
 abbrev pub done_by : List LocalType → State → ℕ → Act → Done
 done_by types st p act = record { id = st.next; got = taken act (moved (view_of types st.history) p act) }
 
--- the answer to an act of role p: why its type doesn't allow it, else Full where every number is given out, else the new step
+-- the answer to an act of role p: why its type doesn't allow it, else Full where every number is given out, else the
+-- new step
 abbrev pub forward : List LocalType → State → ℕ → Act → Result Done Refusal × State
 forward types st p act =
     unless (option_map Violates (violation (view_of types st.history) p act)) st
@@ -122,7 +129,8 @@ is_mark name act = false
 -- what comes after the last mark of the name, if there is one
 abbrev pub since_mark : List ℕ → List Step → Option (List Step)
 since_mark name [] = None
-since_mark name (s ∷ h) = if is_some (since_mark name h) then since_mark name h else if is_mark name s.act then Some h else None
+since_mark name (s ∷ h) =
+    if is_some (since_mark name h) then since_mark name h else if is_mark name s.act then Some h else None
 
 -- the answer of a return to a mark, by what comes after the mark: the first of these steps is rolled back
 abbrev pub back_to : Option (List Step) → State → Result (List ℕ) Refusal × State

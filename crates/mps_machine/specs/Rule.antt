@@ -1,8 +1,8 @@
--- The rule of one step, and replay.
--- Queues that keep order are those of Honda, Yoshida, Carbone (2008). That a monitor may serve as a memory for taking steps
--- back is from Mezzina, Pérez (Causally consistent reversible choreographies, PPDP 2017). The form of participant, store and
--- rule is this project's.
-use Rattle.std.specs.Prelude.{ℕ, ◌==◌, ◌&&◌, if◌then◌else◌, List, [], ◌∷◌, ◌++◌, drop, Option, Some, None, option_and_then}
+-- The rule of one step, and replay. Queues that keep order are those of Honda, Yoshida, Carbone (2008). That a monitor
+-- may serve as a memory for taking steps back is from Mezzina, Pérez (Causally consistent reversible choreographies,
+-- PPDP 2017). The form of participant, store and rule is this project's.
+use Rattle.std.specs.Prelude.{ℕ, ◌==◌, ◌&&◌, if◌then◌else◌, List, [], ◌∷◌, ◌++◌, drop, Option, Some, None}
+use Rattle.std.specs.Prelude.{option_and_then}
 use Rattle.std.specs.Option.{option_map}
 use Rattle.mps_base.specs.Effects.{Effect, Gives, Takes, Idle, effect}
 use Rattle.mps_base.specs.declared.action.Act.{Act}
@@ -36,15 +36,18 @@ moved v p act = moved_by_effect v p (effect act)
 abbrev pub type_after_effect : LocalType → Effect → Option Message → Option LocalType
 type_after_effect (Send peer sort next) (Gives to (Plain v)) m = if to == peer && fits v sort then Some next else None
 type_after_effect (Select peer branches) (Gives to (Label l)) m = if to == peer then branch_at l branches else None
-type_after_effect (Recv peer sort next) (Takes from (Some slot)) (Some (Plain v)) = if from == peer && fits v sort then Some next else None
-type_after_effect (Branch peer branches) (Takes from None) (Some (Label l)) = if from == peer then branch_at l branches else None
+type_after_effect (Recv peer sort next) (Takes from (Some slot)) (Some (Plain v)) =
+    if from == peer && fits v sort then Some next else None
+type_after_effect (Branch peer branches) (Takes from None) (Some (Label l)) =
+    if from == peer then branch_at l branches else None
 type_after_effect t effect m = None
 
 -- what may come after the act, which moves this message, where the unfolded type allows it
 abbrev pub type_after : LocalType → Act → Option Message → Option LocalType
 type_after t act m = type_after_effect t (effect act) m
 
--- the type to come after the effect, which moves this message, where it is allowed: an idle one leaves the type as it is
+-- the type to come after the effect, which moves this message, where it is allowed: an idle one leaves the type as it
+-- is
 abbrev pub to_come_after : LocalType → Effect → Option Message → Option LocalType
 to_come_after t Idle m = Some t
 to_come_after t effect m = type_after_effect (unfolded t) effect m
@@ -60,10 +63,15 @@ store_after store act m = store_after_effect store (effect act) m
 
 -- the act joins the past
 abbrev pub advanced : Participant → Act → Option Message → LocalType → Participant
-advanced c act m t = record { past = c.past ++ record { act = act; moved = m } ∷ []; to_come = t; store = store_after c.store act m }
+advanced c act m t = record {
+  past = c.past
+      ++ record { act = act; moved = m } ∷ [];
+  to_come = t;
+  store = store_after c.store act m;
+}
 
--- the role after the act, which moves this message, where its type allows it. A mark and a commit are allowed always, and
--- the type stays
+-- the role after the act, which moves this message, where its type allows it. A mark and a commit are allowed always,
+-- and the type stays
 abbrev pub participant_after : Participant → Act → Option Message → Option Participant
 participant_after c act m = option_map (advanced c act m) (to_come_after c.to_come (effect act) m)
 

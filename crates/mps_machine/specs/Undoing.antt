@@ -1,6 +1,7 @@
 -- What is promised of steps that are undone. A step may be undone only when its consequences are (Danos, Krivine,
 -- CONCUR 2004). A commit is never undone, nor is what it depends on.
-use Rattle.std.specs.Prelude.{◌≡◌, ◌≢◌, ◌↔◌, ◌⊎◌, ℕ, ◌+◌, ◌≤◌, ◌==◌, Bool, IsTrue, List, [], ◌∷◌, ◌++◌, reverse, Ok, Err}
+use Rattle.std.specs.Prelude.{◌≡◌, ◌≢◌, ◌↔◌, ◌⊎◌, ℕ, ◌+◌, ◌≤◌, ◌==◌, Bool, IsTrue, List, [], ◌∷◌, ◌++◌, reverse, Ok}
+use Rattle.std.specs.Prelude.{Err}
 use Rattle.mps_base.specs.declared.action.Act.{Act}
 use Rattle.mps_base.specs.declared.action.Act.TheVariants.{Mark, Commit}
 use Rattle.mps_base.specs.declared.action.Step.{Step}
@@ -44,17 +45,20 @@ pub record IsLeastDependent (h : List Step) (s t : Step) : Type 0 where
 abbrev pub IsUnneeded : List Step → Step → Type 0
 IsUnneeded h s = (t : Step) → IsIn t h → ¬ DependsOn h t s
 
--- an undo is refused as needed exactly where another surviving step depends on the role's own surviving step, which is no
--- commit
+-- an undo is refused as needed exactly where another surviving step depends on the role's own surviving step, which is
+-- no commit
 pub record RefusesNeeded (st : State) : Type 0 where
   -- where one depends on it, the undo is refused so
-  pub needed : (p n : ℕ) (s t : Step) → IsOwn st.history p n s → s.act ≢ Commit → IsIn t st.history → DependsOn st.history t s
+  pub needed : (p n : ℕ) (s t : Step) → IsOwn st.history p n s → s.act ≢ Commit → IsIn t st.history
+      → DependsOn st.history t s
       → (by : ℕ) × ((undo st p n).0 ≡ Err (Needed by))
   -- where it is refused so, one does, and the least of these is named
   pub named : (p n by : ℕ) → (undo st p n).0 ≡ Err (Needed by)
-      → (s : Step) × (t : Step) × IsOwn st.history p n s × (s.act ≢ Commit) × IsLeastDependent st.history s t × (t.id ≡ by)
+      → (s : Step) × (t : Step) × IsOwn st.history p n s × (s.act ≢ Commit) × IsLeastDependent st.history s t
+      × (t.id ≡ by)
   -- where none does, the step is removed
-  pub free : (p n : ℕ) (s : Step) → IsOwn st.history p n s → s.act ≢ Commit → IsUnneeded st.history s → undo st p n ≡ undone st n
+  pub free : (p n : ℕ) (s : Step) → IsOwn st.history p n s → s.act ≢ Commit → IsUnneeded st.history s
+      → undo st p n ≡ undone st n
 
 -- t survives, is a commit, and is s or depends on s
 pub record IsCommitFrom (h : List Step) (s t : Step) : Type 0 where
@@ -71,8 +75,8 @@ pub record IsLeastCommit (h : List Step) (s t : Step) : Type 0 where
 abbrev pub IsOpen : List Step → Step → Type 0
 IsOpen h s = (t : Step) → ¬ IsCommitFrom h s t
 
--- an undo is refused as final exactly where the role's own surviving step is a commit, and a rollback exactly where the step
--- is one or a surviving commit depends on it
+-- an undo is refused as final exactly where the role's own surviving step is a commit, and a rollback exactly where
+-- the step is one or a surviving commit depends on it
 pub record RefusesFinal (st : State) : Type 0 where
   -- an undo of a commit is refused so, names the commit, and changes nothing
   pub undo_refused : (p n : ℕ) (s : Step) → IsOwn st.history p n s → s.act ≡ Commit → undo st p n ≡ (Err (Final n), st)
@@ -97,10 +101,11 @@ pub record RemovedFuture (p n : ℕ) (ids : List ℕ) (old new : State) : Type 0
   pub told : ids ≡ reverse (numbers (within old.history gone))
   pub next : new.next ≡ old.next
 
--- a rollback of a role's own surviving step is accepted where no commit stands in the way, and one that is accepted removes
--- its causal future
+-- a rollback of a role's own surviving step is accepted where no commit stands in the way, and one that is accepted
+-- removes its causal future
 pub record RemovesFutures (st : State) : Type 0 where
-  pub accepted : (p n : ℕ) (s : Step) → IsOwn st.history p n s → IsOpen st.history s → (ids : List ℕ) × ((rollback st p n).0 ≡ Ok ids)
+  pub accepted : (p n : ℕ) (s : Step) → IsOwn st.history p n s → IsOpen st.history s
+      → (ids : List ℕ) × ((rollback st p n).0 ≡ Ok ids)
   pub exactly : (p n : ℕ) (ids : List ℕ) → (rollback st p n).0 ≡ Ok ids → RemovedFuture p n ids st (rollback st p n).1
 
 -- of role p's surviving steps this one is the last mark of the name, and those after it are these, in order
@@ -116,10 +121,12 @@ pub record ReturnsToMarks (st : State) : Type 0 where
   pub refused : (p : ℕ) (name : List ℕ)
       → (((back st p name).0 ≡ Err NoMark) ↔ ((s : Step) → IsIn s st.history → s.role ≡ p → s.act ≢ Mark name))
   -- where a step comes first after the mark, it is the rollback of that step
-  pub first : (p : ℕ) (name : List ℕ) (mark s : Step) (behind : List Step) → IsLastMark st.history p name mark (s ∷ behind)
+  pub first : (p : ℕ) (name : List ℕ) (mark s : Step) (behind : List Step)
+      → IsLastMark st.history p name mark (s ∷ behind)
       → back st p name ≡ rollback st p s.id
   -- where none does, nothing is undone
-  pub nothing : (p : ℕ) (name : List ℕ) (mark : Step) → IsLastMark st.history p name mark [] → back st p name ≡ (Ok [], st)
+  pub nothing : (p : ℕ) (name : List ℕ) (mark : Step) → IsLastMark st.history p name mark []
+      → back st p name ≡ (Ok [], st)
 
 -- whatever is asked for later, a surviving commit is still there, and so is what it depends on
 pub record KeepsCommits (types : List LocalType) (st : State) : Type 0 where

@@ -1,7 +1,7 @@
--- What a session holds: for each role its past, its type to come and its store; for each ordered pair of roles a queue.
--- Queues that keep order are those of Honda, Yoshida, Carbone (2008). That a monitor may serve as a memory for taking steps
--- back is from Mezzina, Pérez (Causally consistent reversible choreographies, PPDP 2017). The form of participant, store and
--- rule is this project's.
+-- What a session holds: for each role its past, its type to come and its store; for each ordered pair of roles a
+-- queue. Queues that keep order are those of Honda, Yoshida, Carbone (2008). That a monitor may serve as a memory for
+-- taking steps back is from Mezzina, Pérez (Causally consistent reversible choreographies, PPDP 2017). The form of
+-- participant, store and rule is this project's.
 use Rattle.std.specs.Prelude.{ℕ, suc, zero, List, [], ◌∷◌, Option}
 use Rattle.mps_base.specs.declared.action.Act.{Act}
 use Rattle.mps_base.specs.declared.action.Message.{Message}

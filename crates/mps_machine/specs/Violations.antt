@@ -11,7 +11,8 @@ use Rattle.mps_local.specs.Actions.{branch_at}
 use Rattle.mps_local.specs.Local.{LocalType, Branches, End, Send, Recv, Select, Branch}
 use Rattle.mps_local.specs.Unfolding.{unfolded}
 use Rattle.mps_command.specs.declared.answer.Violation.{Violation}
-use Rattle.mps_command.specs.declared.answer.Violation.TheVariants.{Ended, WrongAct, WrongPeer, WrongSort, NoLabel, NothingQueued, Mismatch}
+use Rattle.mps_command.specs.declared.answer.Violation.TheVariants.{Ended, WrongAct, WrongPeer, WrongSort, NoLabel}
+use Rattle.mps_command.specs.declared.answer.Violation.TheVariants.{NothingQueued, Mismatch}
 use Rattle.mps_machine.specs.View.{View}
 use Rattle.mps_machine.specs.Rule.{moved}
 
@@ -46,7 +47,8 @@ effect_fault (Branch peer branches) (Takes from None) m =
     if from == peer then waiting_fault (is_label_of branches) m else Some WrongPeer
 effect_fault t effect m = Some WrongAct
 
--- why an unfolded type doesn't allow the act, where m is the message that it moves. A mark and a commit are allowed always
+-- why an unfolded type doesn't allow the act, where m is the message that it moves. A mark and a commit are allowed
+-- always
 abbrev pub act_fault : LocalType → Act → Option Message → Option Violation
 act_fault t act m = effect_fault t (effect act) m
 

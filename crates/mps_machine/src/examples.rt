@@ -1,7 +1,20 @@
 //! Worked sessions, which show that the definitions say what they mean.
-ghost use Rattle.mps_machine.specs.Examples.{AnUndoWaitsForTheReceipt, ARollbackRemovesAllThatDepends, ARollbackLeavesWhatCameBefore, ARollbackLeavesTheStrangers, AReceiptUndoneTakesTheSameMessageAgain, AnUndoneSendIsGone, AReceiptIntoAUsedSlotIsUndone, TheLeastDependentIsNamedASend, TheLeastDependentIsNamedAReceipt, AReturnToAMarkLeavesTheMark, NumbersAreNeverUsedAgain, RefusalsAreNamed, TheFirstViolationIsTold, AChoiceIsMadeAndPicked, ALoopIsGoneRound, AMessageOfAnotherSortIsAMismatch, TheMessageWaitsAgain, TheSlotHasItsOldValue};
-ghost use Rattle.mps_machine.specs.Examples.{AHundredThousandNumbersAreGivenOut, AMarkMayHaveTheLastNumber, AReturnIsToTheLastMarkOfTheName, AnotherRolesStepIsNotYours, AChoiceIsOfOnePeer, AnUnexpectedMessageIsAMismatch, ASlotKeepsItsPlace};
-ghost use Rattle.mps_machine.specs.Examples.{ACommitStandsInTheWay, TheFirstReasonAgainstAnUndoIsTold, ACommitLeavesTheStrangers, WhatCameAfterACommitCanBeUndone, ACommitIsAllowedAtTheEnd, AnEmptyReturnIsNeverFinal, TheLeastCommitIsNamed};
+ghost use Rattle.mps_machine.specs.Examples.{AnUndoWaitsForTheReceipt, ARollbackRemovesAllThatDepends};
+ghost use Rattle.mps_machine.specs.Examples.{ARollbackLeavesWhatCameBefore, ARollbackLeavesTheStrangers};
+ghost use Rattle.mps_machine.specs.Examples.{AReceiptUndoneTakesTheSameMessageAgain, AnUndoneSendIsGone};
+ghost use Rattle.mps_machine.specs.Examples.{AReceiptIntoAUsedSlotIsUndone, TheLeastDependentIsNamedASend};
+ghost use Rattle.mps_machine.specs.Examples.{TheLeastDependentIsNamedAReceipt, AReturnToAMarkLeavesTheMark};
+ghost use Rattle.mps_machine.specs.Examples.{NumbersAreNeverUsedAgain, RefusalsAreNamed, TheFirstViolationIsTold};
+ghost use Rattle.mps_machine.specs.Examples.{AChoiceIsMadeAndPicked, ALoopIsGoneRound};
+ghost use Rattle.mps_machine.specs.Examples.{AMessageOfAnotherSortIsAMismatch, TheMessageWaitsAgain};
+ghost use Rattle.mps_machine.specs.Examples.{TheSlotHasItsOldValue};
+ghost use Rattle.mps_machine.specs.Examples.{AHundredThousandNumbersAreGivenOut, AMarkMayHaveTheLastNumber};
+ghost use Rattle.mps_machine.specs.Examples.{AReturnIsToTheLastMarkOfTheName, AnotherRolesStepIsNotYours};
+ghost use Rattle.mps_machine.specs.Examples.{AChoiceIsOfOnePeer, AnUnexpectedMessageIsAMismatch, ASlotKeepsItsPlace};
+ghost use Rattle.mps_machine.specs.Examples.{ACommitStandsInTheWay, TheFirstReasonAgainstAnUndoIsTold};
+ghost use Rattle.mps_machine.specs.Examples.{ACommitLeavesTheStrangers, WhatCameAfterACommitCanBeUndone};
+ghost use Rattle.mps_machine.specs.Examples.{ACommitIsAllowedAtTheEnd, AnEmptyReturnIsNeverFinal};
+ghost use Rattle.mps_machine.specs.Examples.{TheLeastCommitIsNamed};
 
 /// What the machine answers in short sessions, as worked out by hand.
 pub fn worked_sessions()

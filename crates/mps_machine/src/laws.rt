@@ -1,5 +1,6 @@
 //! Laws of the rule, of replay and of the plain machine.
-ghost use Rattle.std.specs.Prelude.{◌≡◌, ◌≢◌, ◌↔◌, ℕ, ◌+◌, ◌<◌, ◌==◌, ◌++◌, List, [], ◌∷◌, Some, None, Ok, IsSome, IsTrue, length, false};
+ghost use Rattle.std.specs.Prelude.{◌≡◌, ◌≢◌, ◌↔◌, ℕ, ◌+◌, ◌<◌, ◌==◌, ◌++◌, List, [], ◌∷◌, Some, None, Ok, IsSome};
+ghost use Rattle.std.specs.Prelude.{IsTrue, length, false};
 ghost use Rattle.std.specs.List.{filter};
 ghost use Rattle.mps_base.specs.declared.action.Act.{Act};
 ghost use Rattle.mps_base.specs.declared.action.Step.{Step};
@@ -12,7 +13,8 @@ ghost use Rattle.mps_machine.specs.View.{View, opening};
 ghost use Rattle.mps_machine.specs.Rule.{rule, replay};
 ghost use Rattle.mps_machine.specs.Violations.{violation};
 ghost use Rattle.mps_machine.specs.Machine.{State, initial, Request, serve, after, view_of, IsSound};
-ghost use Rattle.mps_machine.specs.Undoing.{UndoesSteps, RefusesNeeded, RefusesFinal, RemovesFutures, ReturnsToMarks, KeepsCommits};
+ghost use Rattle.mps_machine.specs.Undoing.{UndoesSteps, RefusesNeeded, RefusesFinal, RemovesFutures, ReturnsToMarks};
+ghost use Rattle.mps_machine.specs.Undoing.{KeepsCommits};
 
 /// The rule allows an act exactly where it has no violation.
 pub fn the_rule_is_defined()
@@ -44,7 +46,8 @@ pub fn neighbours_commute()
 /// and gives the view of the whole (Danos, Krivine, CONCUR 2004).
 pub fn an_unneeded_step_can_be_removed()
     ensures { (types : List LocalType) (h : List Step) (s : Step) (w : View)
-        → IsRising h → IsIn s h → ((t : Step) → IsIn t h → depends_on h t s ≡ false) → replay (opening types) h ≡ Some w →
+        → IsRising h → IsIn s h → ((t : Step) → IsIn t h → depends_on h t s ≡ false)
+        → replay (opening types) h ≡ Some w →
         (x : View) × (replay (opening types) (without h (λ m. m == s.id)) ≡ Some x)
         × (rule x s ≡ Some w) }
 {}
@@ -80,14 +83,15 @@ pub fn a_state_is_its_replay()
         → replay (opening types) st.history ≡ Some (view_of types st.history) }
 {}
 
-/// On a step that was just done nothing depends, and without it the history is the one from before. If it is no commit, its
-/// role can undo it; the number isn't given out again. An undo of a commit is refused, names the commit, and changes nothing.
+/// On a step that was just done nothing depends, and without it the history is the one from before. If it is no
+/// commit, its role can undo it; the number isn't given out again. An undo of a commit is refused, names the commit,
+/// and changes nothing.
 pub fn an_undo_gives_the_old_history()
     ensures { (types : List LocalType) (st : State) → IsSound types st → UndoesSteps types st }
 {}
 
-/// An undo of a role's own surviving step, which is no commit, is refused exactly where another surviving step depends on
-/// it, through any number of direct dependences. The least of these is named.
+/// An undo of a role's own surviving step, which is no commit, is refused exactly where another surviving step depends
+/// on it, through any number of direct dependences. The least of these is named.
 pub fn an_undo_is_refused_where_needed()
     ensures { (types : List LocalType) (st : State) → IsSound types st → RefusesNeeded st }
 {}
@@ -99,8 +103,8 @@ pub fn a_commit_is_refused_as_final()
     ensures { (types : List LocalType) (st : State) → IsSound types st → RefusesFinal st }
 {}
 
-/// A rollback that no commit stands in the way of is accepted, and removes exactly the chosen step and all that depend on
-/// it.
+/// A rollback that no commit stands in the way of is accepted, and removes exactly the chosen step and all that depend
+/// on it.
 pub fn a_rollback_removes_the_causal_future()
     ensures { (types : List LocalType) (st : State) → IsSound types st → RemovesFutures st }
 {}

@@ -50,7 +50,8 @@ waiting_from v p peer = option_and_then (λ q. first_of (v.queue q p)) peer
 abbrev pub IsLeft : LocalType → Act → Option Message → Option ℕ → Type 0
 IsLeft t act m choice = (type_after t act m ≡ continuation t choice) × IsSome (continuation t choice)
 
--- the type goes on so: not at all after an act that gives and takes nothing, else after its value, or in the branch of that place
+-- the type goes on so: not at all after an act that gives and takes nothing, else after its value, or in the branch of
+-- that place
 abbrev pub GoesOn : Advance → LocalType → Act → Option Message → Type 0
 GoesOn Stay t act m = effect act ≡ Idle
 GoesOn Next t act m = IsLeft t act m None

@@ -60,8 +60,8 @@ impl From<ProtocolFault> for Fault {
 }
 
 impl Fault {
-    /// Its number, for callers that have no enums: 1 for memory, 16 to 21 for a text, 32 to 43 for a protocol, and 48 and
-    /// the place of the role, from 0, for a projection. Each in the order of docs/FORMATS.md.
+    /// Its number, for callers that have no enums: 1 for memory, 16 to 21 for a text, 32 to 43 for a protocol, and 48
+    /// and the place of the role, from 0, for a projection. Each in the order of docs/FORMATS.md.
     pub fn number(&self) -> u32
         ensures { result ≡ number_of self.now }
     {

@@ -27,8 +27,8 @@ pub fn roles_of(alloc: Global, protocol: &Protocol) -> Result<Roles, AllocError>
     }
 }
 
-/// The roles of the protocol that the text spells, and a new session of it. No command is refused there with `Mismatch`,
-/// whatever the roles do.
+/// The roles of the protocol that the text spells, and a new session of it. No command is refused there with
+/// `Mismatch`, whatever the roles do.
 #[tactic(auto, using(crate::proofs::Causes::no_session))]
 pub fn open_text(alloc: Global, text: &[u8]) -> Result<(Roles, Session), Fault>
     ensures types { IfOk result (λ r. AreTypesOf text.now r.0 r.1.types) }

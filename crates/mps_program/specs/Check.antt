@@ -17,7 +17,8 @@ pub record HasNoProjection (roles : List (List ℕ)) (tree : GlobalType) (name :
   pub named : slice_get roles role ≡ Some name
   pub first : IsFirstUnmerged roles tree role choice
 
--- why a text gives no protocol without faults: its first fault, the fault of the protocol that it spells, or out of memory, where it is short enough
+-- why a text gives no protocol without faults: its first fault, the fault of the protocol that it spells, or out of
+-- memory, where it is short enough
 abbrev pub GivesNoProtocol : List ℕ → ToolFault → Type 0
 GivesNoProtocol text (Text at kind) = IsTextFault text at kind
 GivesNoProtocol text (Protocol fault) =

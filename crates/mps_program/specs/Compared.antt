@@ -45,7 +45,8 @@ module _ (names : List (List ℕ)) (types : List LocalType) where
 
   -- Of the first script and then of the second.
   module _ (before after before' after' : Streams) where
-    -- both were run to their ends, and this is told of the sessions that they left: whether their views are equal, and whether exchanges of independent neighbours turn one history into the other, numbers aside
+    -- both were run to their ends, and this is told of the sessions that they left: whether their views are equal, and
+    -- whether exchanges of independent neighbours turn one history into the other, numbers aside
     pub record HasCompared (line : List ℕ) (status : ℕ) : Type 0 where
       pub first : List Entry
       pub second : List Entry
@@ -54,9 +55,11 @@ module _ (names : List (List ℕ)) (types : List LocalType) where
       pub views : Tells (view_of types (run types first).history ≡ view_of types (run types second).history) line status
       pub swaps : Tells (Swaps (run types first).history (run types second).history) line status
 
-    -- why nothing is told: the run of the first broke off, and nothing of the second was read; or the first was run to its end, and the run of the second broke off; or both were run to their ends, and memory ran out
+    -- why nothing is told: the run of the first broke off, and nothing of the second was read; or the first was run to
+    -- its end, and the run of the second broke off; or both were run to their ends, and memory ran out
     abbrev pub CantCompare : ToolFault → Type 0
     CantCompare fault =
         (HasStopped before after fault × (after' ≡ before'))
         ⊎ (((first : List Entry) × HasRun before after first × HasStopped before' after' fault)
-        ⊎ ((first : List Entry) × (second : List Entry) × HasRun before after first × HasRun before' after' second × (fault ≡ Memory)))
+        ⊎ ((first : List Entry) × (second : List Entry) × HasRun before after first × HasRun before' after' second
+        × (fault ≡ Memory)))

@@ -3,16 +3,23 @@ use Rattle.std.specs.Prelude.{◌+◌, ◌⊎◌, ⊤, ◌≡◌, ℕ, List, Opt
 use Rattle.std.specs.String.{string_bytes}
 use Rattle.mps_base.specs.Numbers.{IsNumberText}
 use Rattle.mps_global.specs.declared.faults.GlobalFault.{GlobalFault}
-use Rattle.mps_global.specs.declared.faults.GlobalFault.TheVariants.{RoleCount, DoubleRole, TooManyNodes as ManyNodes, TooDeep as Deep, UnknownRole, SelfMessage, DoubleLabel, TooManyBranches, NoBranches, Unbound, Shadowed, Unguarded}
+use Rattle.mps_global.specs.declared.faults.GlobalFault.TheVariants.{RoleCount, DoubleRole, TooManyNodes as ManyNodes}
+use Rattle.mps_global.specs.declared.faults.GlobalFault.TheVariants.{TooDeep as Deep, UnknownRole, SelfMessage}
+use Rattle.mps_global.specs.declared.faults.GlobalFault.TheVariants.{DoubleLabel, TooManyBranches, NoBranches, Unbound}
+use Rattle.mps_global.specs.declared.faults.GlobalFault.TheVariants.{Shadowed, Unguarded}
 use Rattle.mps_text.specs.declared.fault.TextKind.{TextKind}
-use Rattle.mps_text.specs.declared.fault.TextKind.TheVariants.{TooLong, Word, Unexpected, TooManyNodes, TooDeep, Trailing, Memory as NoRoom}
+use Rattle.mps_text.specs.declared.fault.TextKind.TheVariants.{TooLong, Word, Unexpected, TooManyNodes, TooDeep}
+use Rattle.mps_text.specs.declared.fault.TextKind.TheVariants.{Trailing, Memory as NoRoom}
 use Rattle.mps_wire.specs.declared.script.ReplayFault.{ReplayFault}
-use Rattle.mps_wire.specs.declared.script.ReplayFault.TheVariants.{Open as NotOpened, ReadFault, WriteFault, Turns as TooManyReads, Memory as OutOfMemory}
+use Rattle.mps_wire.specs.declared.script.ReplayFault.TheVariants.{Open as NotOpened, ReadFault, WriteFault}
+use Rattle.mps_wire.specs.declared.script.ReplayFault.TheVariants.{Turns as TooManyReads, Memory as OutOfMemory}
 use Rattle.mps_words.specs.declared.faults.UseFault.{UseFault}
 use Rattle.mps_words.specs.declared.faults.UseFault.TheVariants.{Usage as Misuse, Memory as NoMemory}
 use Rattle.mps_program.specs.Streams.{CantType, CantShow}
 use Rattle.mps_program.specs.declared.faults.ToolFault.{ToolFault}
-use Rattle.mps_program.specs.declared.faults.ToolFault.TheVariants.{Usage, File, Text, Protocol, Projection, Open, Read, Write, Turns, Bind, Accept, Lost, JournalFile, JournalLine, JournalProtocol, JournalLost, Memory}
+use Rattle.mps_program.specs.declared.faults.ToolFault.TheVariants.{Usage, File, Text, Protocol, Projection, Open, Read}
+use Rattle.mps_program.specs.declared.faults.ToolFault.TheVariants.{Write, Turns, Bind, Accept, Lost, JournalFile}
+use Rattle.mps_program.specs.declared.faults.ToolFault.TheVariants.{JournalLine, JournalProtocol, JournalLost, Memory}
 
 -- the word for a fault of a text
 abbrev pub text_word : TextKind → List ℕ
@@ -41,7 +48,8 @@ protocol_word Unguarded = codes "unguarded"
 
 -- the line that tells of the journal of a session
 abbrev pub IsJournalLine : List ℕ → ℕ → Type 0
-IsJournalLine line session = (number : List ℕ) × (line ≡ codes "refused journal " ++ number) × IsNumberText number session
+IsJournalLine line session =
+    (number : List ℕ) × (line ≡ codes "refused journal " ++ number) × IsNumberText number session
 
 -- the line that tells the fault
 abbrev pub IsFaultLine : List ℕ → ToolFault → Type 0
@@ -62,12 +70,14 @@ IsFaultLine line (Lost session) =
     (number : List ℕ) × (line ≡ codes "refused lost " ++ number) × IsNumberText number session
 IsFaultLine line (JournalFile session) = IsJournalLine line session
 IsFaultLine line (JournalLine session at) =
-    (number : List ℕ) × (place : List ℕ) × (line ≡ codes "refused journal " ++ number ++ codes " " ++ place) × IsNumberText number session × IsNumberText place at
+    (number : List ℕ) × (place : List ℕ) × (line ≡ codes "refused journal " ++ number ++ codes " " ++ place)
+    × IsNumberText number session × IsNumberText place at
 IsFaultLine line JournalProtocol = line ≡ codes "refused journal protocol"
 IsFaultLine line (JournalLost session) = IsJournalLine line session
 IsFaultLine line Memory = line ≡ codes "refused memory"
 
--- 2 for the words, the files and the port, 3 for the protocol and what a journal has, 4 for a device, a lost session and memory
+-- 2 for the words, the files and the port, 3 for the protocol and what a journal has, 4 for a device, a lost session
+-- and memory
 abbrev pub status_of : ToolFault → ℕ
 status_of (Usage text) = 2
 status_of (File name why) = 2
@@ -136,7 +146,8 @@ abbrev pub IsFileFault : List ℕ → ToolFault → Type 0
 IsFileFault name (File file why) = file.now ≡ name
 IsFileFault name fault = ⊥
 
--- how the run of a script in an open session may break off: a read or a write fails, it is read from too often, or memory runs out
+-- how the run of a script in an open session may break off: a read or a write fails, it is read from too often, or
+-- memory runs out
 abbrev pub IsBreak : ToolFault → Type 0
 IsBreak Read = ⊤
 IsBreak Write = ⊤
@@ -157,7 +168,8 @@ IsLoadFault file fault =
 abbrev pub IsRunFault : List ℕ → List ℕ → ToolFault → Type 0
 IsRunFault file script fault = IsLoadFault file fault ⊎ IsScriptFault script fault
 
--- how the scripts of these two files may fail to be compared: one fails to be run, or what is said of them can't be written
+-- how the scripts of these two files may fail to be compared: one fails to be run, or what is said of them can't be
+-- written
 abbrev pub IsScriptsFault : List ℕ → List ℕ → ToolFault → Type 0
 IsScriptsFault script other fault = IsScriptFault script fault ⊎ (IsScriptFault other fault ⊎ (fault ≡ Write))
 
@@ -168,4 +180,5 @@ IsCompareFault file script other fault = IsLoadFault file fault ⊎ IsScriptsFau
 -- how a check of this file may fail: it can't be opened, or its types can't be shown
 abbrev pub IsCheckFault : List ℕ → ToolFault → Type 0
 IsCheckFault file fault =
-    IsFileFault file fault ⊎ ((given : Option (List ℕ)) × (left : Option (List ℕ)) × (took : Option (List ℕ)) × (taken : Option (List ℕ)) × CantShow given left took taken fault)
+    IsFileFault file fault ⊎ ((given : Option (List ℕ)) × (left : Option (List ℕ)) × (took : Option (List ℕ))
+    × (taken : Option (List ℕ)) × CantShow given left took taken fault)

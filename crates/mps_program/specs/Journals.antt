@@ -7,7 +7,8 @@ use Rattle.mps_keeper.specs.declared.restore.RestoreFault.TheVariants.{Read as N
 use Rattle.mps_keeper.specs.declared.restore.Unaccepted.{Unaccepted}
 use Rattle.mps_keeper.specs.declared.restore.Unaccepted.TheVariants.{Memory as Starved}
 use Rattle.mps_program.specs.declared.faults.ToolFault.{ToolFault}
-use Rattle.mps_program.specs.declared.faults.ToolFault.TheVariants.{File, JournalFile, JournalLine, JournalProtocol, JournalLost, Memory}
+use Rattle.mps_program.specs.declared.faults.ToolFault.TheVariants.{File, JournalFile, JournalLine, JournalProtocol}
+use Rattle.mps_program.specs.declared.faults.ToolFault.TheVariants.{JournalLost, Memory}
 
 -- how the folder itself may fail: it can't be used, it is of another protocol, or memory ran out
 abbrev pub IsFolderFault : List ℕ → ToolFault → Type 0

@@ -1,5 +1,6 @@
 -- What a server tells.
-use Rattle.std.specs.Prelude.{◌≡◌, ◌+◌, ◌<◌, ◌≤◌, ◌⊎◌, ⊤, ℕ, suc, List, [], ◌∷◌, ◌++◌, Option, Some, None, codes, length}
+use Rattle.std.specs.Prelude.{◌≡◌, ◌+◌, ◌<◌, ◌≤◌, ◌⊎◌, ⊤, ℕ, suc, List, [], ◌∷◌, ◌++◌, Option, Some, None, codes}
+use Rattle.std.specs.Prelude.{length}
 use Rattle.std.specs.Io.KnownBytes.{Appends}
 use Rattle.mps_base.specs.Numbers.{IsNumberText}
 use Rattle.mps_room.specs.RoomState.{RoomState}
@@ -29,11 +30,13 @@ IsPortFor wanted port = (wanted ≡ 0) ⊎ (port ≡ wanted)
 
 -- the line that tells the port
 abbrev pub IsListeningLine : ℕ → List ℕ → Type 0
-IsListeningLine port line = (number : List ℕ) × IsNumberText number port × (line ≡ codes "listening " ++ number ++ 10 ∷ [])
+IsListeningLine port line =
+    (number : List ℕ) × IsNumberText number port × (line ≡ codes "listening " ++ number ++ 10 ∷ [])
 
 -- the line that tells how many entries a session's journal has
 abbrev pub IsSessionLine : ℕ → ℕ → List ℕ → Type 0
-IsSessionLine session entries line = (number : List ℕ) × (count : List ℕ) × IsNumberText number session × IsNumberText count entries
+IsSessionLine session entries line =
+    (number : List ℕ) × (count : List ℕ) × IsNumberText number session × IsNumberText count entries
     × (line ≡ codes "session " ++ number ++ codes " " ++ count ++ 10 ∷ [])
 
 -- a line for each session from this one on, of which none is lost
@@ -41,16 +44,19 @@ abbrev pub AreSessionLines : ℕ → List (Option RoomState) → List ℕ → Ty
 AreSessionLines session [] lines = lines ≡ []
 AreSessionLines session (None ∷ rooms) lines = ⊥
 AreSessionLines session (Some m ∷ rooms) lines =
-    (line : List ℕ) × (others : List ℕ) × IsSessionLine session (length m.journal) line × (lines ≡ line ++ others) × AreSessionLines (suc session) rooms others
+    (line : List ℕ) × (others : List ℕ) × IsSessionLine session (length m.journal) line × (lines ≡ line ++ others)
+    × AreSessionLines (suc session) rooms others
 
 -- a line for each session from this one on, up to the first that is lost
 abbrev pub AreLinesUpTo : ℕ → List (Option RoomState) → ℕ → List ℕ → Type 0
 AreLinesUpTo session [] lost lines = ⊥
 AreLinesUpTo session (None ∷ rooms) lost lines = (lost ≡ session) × (lines ≡ [])
 AreLinesUpTo session (Some m ∷ rooms) lost lines =
-    (line : List ℕ) × (others : List ℕ) × IsSessionLine session (length m.journal) line × (lines ≡ line ++ others) × AreLinesUpTo (suc session) rooms lost others
+    (line : List ℕ) × (others : List ℕ) × IsSessionLine session (length m.journal) line × (lines ≡ line ++ others)
+    × AreLinesUpTo (suc session) rooms lost others
 
--- all was told: the port, which is the one that was wanted, and how many entries the room has that each session's cell closed with; the sessions are numbered from the first on
+-- all was told: the port, which is the one that was wanted, and how many entries the room has that each session's cell
+-- closed with; the sessions are numbered from the first on
 pub record HasServed (wanted first : ℕ) (cells : List Opened) (took taken : Option (List ℕ)) : Type 0 where
   pub port : ℕ
   pub port_is : IsPortFor wanted port
@@ -63,7 +69,8 @@ pub record HasServed (wanted first : ℕ) (cells : List Opened) (took taken : Op
   pub sent : Appends took taken (opening ++ lines)
 
 -- a session is lost: the port was told, and how many entries the rooms have that the cells before it closed with
-pub record HasServedUpTo (wanted first : ℕ) (cells : List Opened) (took taken : Option (List ℕ)) (lost : ℕ) : Type 0 where
+pub record HasServedUpTo (wanted first : ℕ) (cells : List Opened) (took taken : Option (List ℕ)) (lost : ℕ)
+    : Type 0 where
   pub port : ℕ
   pub port_is : IsPortFor wanted port
   pub rooms : List (Option RoomState)
@@ -79,7 +86,8 @@ abbrev pub IfLost : (ℕ → Type 0) → ToolFault → Type 0
 IfLost P (Lost session) = P session
 IfLost P fault = ⊤
 
--- how the telling of so many sessions from this one on may fail: one of them is lost, the line can't be written, or memory ran out
+-- how the telling of so many sessions from this one on may fail: one of them is lost, the line can't be written, or
+-- memory ran out
 abbrev pub IsTellFault : ℕ → ℕ → ToolFault → Type 0
 IsTellFault session n (Lost k) = (session ≤ k) × (k < session + n)
 IsTellFault session n Write = ⊤
@@ -91,7 +99,8 @@ abbrev pub IsBindFault : ToolFault → Type 0
 IsBindFault (Bind why) = ⊤
 IsBindFault fault = ⊥
 
--- how a server of so many sessions from this one on may fail, which are kept in this folder, if they are: as the telling does, or it has no port, or accepts no more, or the sessions fail to be kept
+-- how a server of so many sessions from this one on may fail, which are kept in this folder, if they are: as the
+-- telling does, or it has no port, or accepts no more, or the sessions fail to be kept
 abbrev pub IsOutFault : Option (List ℕ) → (first n : ℕ) → ToolFault → Type 0
 IsOutFault folder first n (Bind why) = ⊤
 IsOutFault folder first n Accept = ⊤

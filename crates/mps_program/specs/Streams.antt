@@ -1,4 +1,5 @@
--- A protocol from a source, and its types to a sink: given is what the source had left at first, took what the sink had taken.
+-- A protocol from a source, and its types to a sink: given is what the source had left at first, took what the sink
+-- had taken.
 use Rattle.std.specs.Prelude.{◌≡◌, ◌≤◌, ◌⊎◌, ℕ, ⊤, List, Option, None, length}
 use Rattle.std.specs.Io.KnownBytes.{Appends, Consumes, IsAtEnd}
 use Rattle.mps_global.specs.Global.{GlobalType}

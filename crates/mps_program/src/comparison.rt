@@ -176,8 +176,8 @@ fn compare_scripts<'a, R: Files + AllocGlobal + Print + Eprint>(
     Ok(status)
 }
 
-/// Runs the scripts in two files, each on a new session of the protocol in the file, and prints
-/// `same` or `different`. Gives the status, 0 or 1. Where lines were refused, standard error is told how many of each script.
+/// Runs the scripts in two files, each on a new session of the protocol in the file, and prints `same` or `different`.
+/// Gives the status, 0 or 1. Where lines were refused, standard error is told how many of each script.
 ///
 /// The protocol is read and checked before a script is opened, and both are opened before the first
 /// is read.

@@ -1,8 +1,10 @@
 //! What the program says when it can't go on.
 ghost use Rattle.std.specs.Prelude.{◌≡◌, OnOk, IfOk};
 ghost use Rattle.mps_base.specs.Appends.{Appends};
-ghost use Rattle.mps_program.specs.Faults.{IsFaultLine, of_script, of_text, of_use, protocol_word, status_of, text_word};
-ghost use Rattle.mps_program.specs.declared.faults.ToolFault.TheVariants.{Memory as OutOfMemory, Protocol as OfProtocol};
+ghost use Rattle.mps_program.specs.Faults.{IsFaultLine, of_script, of_text, of_use, protocol_word, status_of};
+ghost use Rattle.mps_program.specs.Faults.{text_word};
+ghost use Rattle.mps_program.specs.declared.faults.ToolFault.TheVariants.{Memory as OutOfMemory};
+ghost use Rattle.mps_program.specs.declared.faults.ToolFault.TheVariants.{Protocol as OfProtocol};
 
 use mps_base::{Name, write_number};
 use mps_global::GlobalFault;

@@ -1,7 +1,8 @@
 //! The files that keep a server's sessions.
 ghost use Rattle.std.specs.Prelude.{◌≡◌, ◌+◌, ◌<◌, ◌≤◌, ◌^◌, ℕ, IfErr, IfOk, length};
 ghost use Rattle.mps_hub.specs.Places.{IsSession};
-ghost use Rattle.mps_program.specs.Journals.{IsFolderFault, IsFileFaultOf, IsJournalFault, IsOneFault, IsRestoreFaultOf};
+ghost use Rattle.mps_program.specs.Journals.{IsFolderFault, IsFileFaultOf, IsJournalFault, IsOneFault};
+ghost use Rattle.mps_program.specs.Journals.{IsRestoreFaultOf};
 
 use crate::faults::ToolFault;
 use mps_dev::{OverRead, OverWrite};
@@ -219,11 +220,11 @@ fn keep_all<'a>(
     Ok(keepers)
 }
 
-/// The keeper of each of the desk's sessions, which are restored from the folder first. The folder is made where there is none,
-/// and gets the protocol where it has none.
+/// The keeper of each of the desk's sessions, which are restored from the folder first. The folder is made where there
+/// is none, and gets the protocol where it has none.
 ///
-/// The journals are locked as long as the keepers live. Where the folder is of another protocol, or a line of a journal isn't
-/// accepted, no file is changed; journals that weren't there may have been made, with nothing in them.
+/// The journals are locked as long as the keepers live. Where the folder is of another protocol, or a line of a
+/// journal isn't accepted, no file is changed; journals that weren't there may have been made, with nothing in them.
 pub fn keep_sessions<'a, R: Files<File = File> + AllocGlobal + Wait + 'static>(
     rt: &R,
     desk: &Desk<'_>,

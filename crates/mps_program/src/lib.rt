@@ -1,4 +1,5 @@
-//! The program: it checks protocols, runs and compares scripts of commands on multiparty sessions, and serves such sessions.
+//! The program: it checks protocols, runs and compares scripts of commands on multiparty sessions, and serves such
+//! sessions.
 #![tactic(auto)]
 
 mod check;

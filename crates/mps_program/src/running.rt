@@ -56,8 +56,9 @@ fn strict_status<'a, R: Eprint>(
     }
 }
 
-/// Runs the script on a new session of the protocol in the file, and prints the answers. Gives the status, which is 0; where
-/// the run is strict, it ends with the first line that is refused, whose number is told on standard error, and the status is 1.
+/// Runs the script on a new session of the protocol in the file, and prints the answers. Gives the status, which is 0;
+/// where the run is strict, it ends with the first line that is refused, whose number is told on standard error, and
+/// the status is 1.
 ///
 /// The protocol is read and checked before the script is opened.
 pub fn run_file<'a, R: Files + AllocGlobal + Print + Eprint>(

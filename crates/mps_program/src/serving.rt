@@ -6,7 +6,9 @@ ghost use Rattle.mps_global.specs.Faults.{fault_of};
 ghost use Rattle.mps_program.specs.Check.{GivesNoTypes};
 ghost use Rattle.mps_program.specs.Faults.{after_writes};
 ghost use Rattle.mps_program.specs.Journals.{IsKeepingFault, kept_of};
-ghost use Rattle.mps_program.specs.Served.{AreLinesUpTo, AreSessionLines, HasOpened, HasServed, HasServedUpTo, IfLost, IsBindFault, IsListeningLine, IsOutFault, IsPortFor, IsServeFault, IsSessionLine, IsTellFault};
+ghost use Rattle.mps_program.specs.Served.{AreLinesUpTo, AreSessionLines, HasOpened, HasServed, HasServedUpTo, IfLost};
+ghost use Rattle.mps_program.specs.Served.{IsBindFault, IsListeningLine, IsOutFault, IsPortFor, IsServeFault};
+ghost use Rattle.mps_program.specs.Served.{IsSessionLine, IsTellFault};
 ghost use Rattle.mps_program.specs.Private.Served.{IsHubFault, IsNewOf, TellsPort, TookOne, of_serving};
 
 use crate::faults::ToolFault;
@@ -94,7 +96,8 @@ fn tell_sessions<'a, W: Sink>(
     requires writes { W.failed_calls writer.old < 2 ^ 62 }
     ensures told { OnOk result (TookOne (AreSessionLines session rooms.now) (W.taken writer.old) (W.taken writer.new)) }
     ensures fault { IfErr result (IsTellFault session (length rooms.now)) }
-    ensures lost { IfErr result (IfLost (λ k. TookOne (AreLinesUpTo session rooms.now k) (W.taken writer.old) (W.taken writer.new))) }
+    ensures lost { IfErr result
+        (IfLost (λ k. TookOne (AreLinesUpTo session rooms.now k) (W.taken writer.old) (W.taken writer.new))) }
     ensures writes { W.failed_calls writer.new ≡ after_writes result (W.failed_calls writer.old) }
 {
     let Some((first, later)) = rooms.split_first() else {
@@ -148,8 +151,10 @@ fn keepers<'a, R: Files<File = File> + AllocGlobal + Wait + 'static>(
     keeping: Option<Keeping<'a, '_>>,
 ) -> Result<Vec<FileKeeper>, ToolFault<'a>>
     requires { sessions ≡ length desk.now.cells }
-    ensures count { IfOk result (λ keepers. length keepers.items ≡ kept_of (option_map (λ k. k.journal.folder.now) keeping.entry) sessions) }
-    ensures fault { IfErr result (IsKeepingFault (option_map (λ k. k.journal.folder.now) keeping.entry) desk.now.first sessions) }
+    ensures count { IfOk result
+        (λ keepers. length keepers.items ≡ kept_of (option_map (λ k. k.journal.folder.now) keeping.entry) sessions) }
+    ensures fault { IfErr result
+        (IsKeepingFault (option_map (λ k. k.journal.folder.now) keeping.entry) desk.now.first sessions) }
 {
     match keeping {
         Some(keeping) => keep_sessions(rt, desk, sessions, keeping),
@@ -222,8 +227,9 @@ where
     }
 }
 
-/// Restores the hub's sessions where they are kept, tells the port, serves them to connections, and then tells how many entries
-/// the journal of each session has. On standard error it tells how many connections were lost, if any were.
+/// Restores the hub's sessions where they are kept, tells the port, serves them to connections, and then tells how
+/// many entries the journal of each session has. On standard error it tells how many connections were lost, if any
+/// were.
 ///
 /// After a fault nothing more is told: the lines of sessions stop before the first that is lost, which the fault names.
 pub fn serve_to<'a, R, W: Sink>(
@@ -249,8 +255,10 @@ where
     requires few { length hub.cells ≤ 16 }
     requires writes { W.failed_calls writer.old < 2 ^ 62 }
     ensures told { OnOk result (HasServed port hub.first hub.cells (W.taken writer.old) (W.taken writer.new)) }
-    ensures fault { IfErr result (IsOutFault (option_map (λ k. k.journal.folder.now) keeping.entry) hub.first (length hub.cells)) }
-    ensures lost { IfErr result (IfLost (HasServedUpTo port hub.first hub.cells (W.taken writer.old) (W.taken writer.new))) }
+    ensures fault { IfErr result
+        (IsOutFault (option_map (λ k. k.journal.folder.now) keeping.entry) hub.first (length hub.cells)) }
+    ensures lost { IfErr result
+        (IfLost (HasServedUpTo port hub.first hub.cells (W.taken writer.old) (W.taken writer.new))) }
     ensures writes { W.failed_calls writer.new ≡ after_writes result (W.failed_calls writer.old) }
 {
     let first = hub.first();
@@ -300,8 +308,8 @@ pub fn hub_of<'a>(
     Ok(Hub::of(alloc, &roles, first, made)?)
 }
 
-/// How a server runs: its port, the number of its first session, how many sessions it has, its limits, and where the sessions
-/// are kept, if they are.
+/// How a server runs: its port, the number of its first session, how many sessions it has, its limits, and where the
+/// sessions are kept, if they are.
 #[derive(Clone, Copy)]
 pub struct Service<'a> {
     pub port: u16,
@@ -323,8 +331,8 @@ fn keeping_of<'a, 'p>(journal: Option<Journal<'a>>, protocol: &'p [u8]) -> Optio
 
 /// Serves sessions of the protocol in the file at a port of 127.0.0.1.
 ///
-/// The protocol is read and checked, the sessions are opened, and where they are kept they are restored, before the port is
-/// bound.
+/// The protocol is read and checked, the sessions are opened, and where they are kept they are restored, before the
+/// port is bound.
 pub fn serve_file<'a, R>(rt: &R, file: &'a str, service: Service<'a>) -> Result<(), ToolFault<'a>>
 where
     R: Files<File = File>

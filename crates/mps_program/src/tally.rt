@@ -39,7 +39,8 @@ impl Tally {
         !self.within
     }
 
-    // Hears the front of the bytes, up to the end of its line, and gives the rest. Of all answers only refusals begin with an r.
+    // Hears the front of the bytes, up to the end of its line, and gives the rest. Of all answers only refusals begin
+    // with an r.
     fn hear_line<'b>(&mut self, bytes: &'b [u8]) -> &'b [u8]
         requires { 0 < length bytes.now }
         ensures { length result.now < length bytes.now }

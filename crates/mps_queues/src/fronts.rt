@@ -1,5 +1,6 @@
 //! The queues by their fronts.
-ghost use Rattle.std.specs.Prelude.{◌≡◌, ℕ, ◌<◌, ◌+◌, ◌*◌, ◌==◌, not, List, [], ◌∷◌, ◌++◌, Some, None, IsTrue, IsSome, slice_get};
+ghost use Rattle.std.specs.Prelude.{◌≡◌, ℕ, ◌<◌, ◌+◌, ◌*◌, ◌==◌, not, List, [], ◌∷◌, ◌++◌, Some, None, IsTrue, IsSome};
+ghost use Rattle.std.specs.Prelude.{slice_get};
 ghost use Rattle.std.specs.List.{filter};
 ghost use Rattle.mps_history.specs.Steps.{sends, receives};
 ghost use Rattle.mps_arena.specs.Keys.{last_key};

@@ -1,5 +1,5 @@
--- Worked journals: what is answered after short journals, and what numbered commands come to, as it was worked out by hand.
--- The roles and their types are those of the worked sessions of mps_machine. Memory doesn't run out.
+-- Worked journals: what is answered after short journals, and what numbered commands come to, as it was worked out by
+-- hand. The roles and their types are those of the worked sessions of mps_machine. Memory doesn't run out.
 use Rattle.std.specs.Prelude.{◌≡◌, ℕ, true, List, [], ◌∷◌, ◌++◌, length, map, Option, None, Some, codes, pos}
 use Rattle.mps_base.specs.declared.value.Value.TheVariants.{Int}
 use Rattle.mps_local.specs.Local.{LocalType}
@@ -11,7 +11,8 @@ use Rattle.mps_command.specs.declared.answer.Answer.{Answer}
 use Rattle.mps_command.specs.declared.answer.Answer.TheVariants.{Undone, News, Refused}
 use Rattle.mps_command.specs.declared.answer.Refusal.TheVariants.{NoStep, Full}
 use Rattle.mps_machine.specs.Machine.{Request}
-use Rattle.mps_machine.specs.Examples.{a, b, c, sends_int, receives_into, undoes, rolls_back, relayed_then, done, done_with, relay_done_then, verdict}
+use Rattle.mps_machine.specs.Examples.{a, b, c, sends_int, receives_into, undoes, rolls_back, relayed_then, done}
+use Rattle.mps_machine.specs.Examples.{done_with, relay_done_then, verdict}
 use Rattle.mps_room.specs.Journal.{reply, grown, limited}
 use Rattle.mps_room.specs.Callers.{entry, entries_of}
 use Rattle.mps_room.specs.Numbers.{IsNumbered, last_of, kept_of}
@@ -45,14 +46,18 @@ replies types j (r ∷ rs) =
 -- the news is what others took back of a role's steps, and there is none after the last entry, or past it
 abbrev pub TheNewsIsWhatOthersTookBack : Type 0
 TheNewsIsWhatOthersTookBack =
-    replies verdict [] (map asks (relayed_then (rolls_back a 1 ∷ [])) ++ asks_news b 0 ∷ asks_news a 0 ∷ asks_news c 0 ∷ asks_news b 4 ∷ asks_news b 5 ∷ asks_news c 9 ∷ [])
-    ≡ relay_done_then (Undone (4 ∷ 3 ∷ 2 ∷ 1 ∷ []) ∷ News 5 (3 ∷ 2 ∷ []) ∷ News 5 [] ∷ News 5 (4 ∷ []) ∷ News 5 (3 ∷ 2 ∷ []) ∷ News 5 [] ∷ News 5 [] ∷ [])
+    replies verdict [] (map asks (relayed_then (rolls_back a 1 ∷ []))
+    ++ asks_news b 0 ∷ asks_news a 0 ∷ asks_news c 0 ∷ asks_news b 4 ∷ asks_news b 5 ∷ asks_news c 9 ∷ [])
+    ≡ relay_done_then (Undone (4 ∷ 3 ∷ 2 ∷ 1 ∷ []) ∷ News 5 (3 ∷ 2 ∷ []) ∷ News 5 [] ∷ News 5 (4 ∷ [])
+    ∷ News 5 (3 ∷ 2 ∷ []) ∷ News 5 [] ∷ News 5 [] ∷ [])
 
 -- what a role undid itself is no news to it
 abbrev pub AnOwnUndoIsNoNews : Type 0
 AnOwnUndoIsNoNews =
-    replies verdict [] (map asks (sends_int a b 5 ∷ receives_into b a (codes "x") ∷ undoes b 2 ∷ receives_into b a (codes "x") ∷ rolls_back a 1 ∷ []) ++ asks_news b 0 ∷ asks_news a 0 ∷ asks_news c 0 ∷ [])
-    ≡ done 1 ∷ done_with 2 5 ∷ Undone (2 ∷ []) ∷ done_with 3 5 ∷ Undone (3 ∷ 1 ∷ []) ∷ News 5 (3 ∷ []) ∷ News 5 [] ∷ News 5 [] ∷ []
+    replies verdict [] (map asks (sends_int a b 5 ∷ receives_into b a (codes "x") ∷ undoes b 2
+    ∷ receives_into b a (codes "x") ∷ rolls_back a 1 ∷ []) ++ asks_news b 0 ∷ asks_news a 0 ∷ asks_news c 0 ∷ [])
+    ≡ done 1 ∷ done_with 2 5 ∷ Undone (2 ∷ []) ∷ done_with 3 5 ∷ Undone (3 ∷ 1 ∷ []) ∷ News 5 (3 ∷ []) ∷ News 5 []
+    ∷ News 5 [] ∷ []
 
 -- a journal of 100,000 entries is full: what would be accepted is refused as that, and what is refused stays so
 abbrev pub AFullJournalAcceptsNothing : Type 0
@@ -70,10 +75,19 @@ pub record PlainCaller : Type 0 where
 
 -- one call: it gets the reply, and the journal grows
 abbrev pub IsPlainCall : PlainCaller → Command → Answer → PlainCaller → Type 0
-IsPlainCall x command answer y = (answer ≡ reply names verdict x.journal a command) × (y.journal ≡ grown x.journal a command answer)
+IsPlainCall x command answer y =
+    (answer ≡ reply names verdict x.journal a command) × (y.journal ≡ grown x.journal a command answer)
 
 abbrev pub plain_caller : Ghosts PlainCaller
-plain_caller = record { names = λ x. names; role = λ x. a; made = λ x. entries_of a x.journal; calls = IsPlainCall; last = λ x. last_of x.newest; kept = λ x. kept_of x.newest; may_tell = λ x. true }
+plain_caller = record {
+  names = λ x. names;
+  role = λ x. a;
+  made = λ x. entries_of a x.journal;
+  calls = IsPlainCall;
+  last = λ x. last_of x.newest;
+  kept = λ x. kept_of x.newest;
+  may_tell = λ x. true;
+}
 
 -- what a command with this number comes to
 abbrev pub Tells : PlainCaller → ℕ → Command → PlainCaller → Told → Type 0
@@ -103,17 +117,25 @@ abbrev pub after_one : PlainCaller
 after_one = record { journal = entry a send_five (done 1) ∷ []; newest = Some (record { number = 1; answer = done 1 }) }
 
 abbrev pub after_two : PlainCaller
-after_two = record { journal = after_one.journal ++ entry a mark_m (done 2) ∷ []; newest = Some (record { number = 2; answer = done 2 }) }
+after_two = record {
+  journal = after_one.journal
+      ++ entry a mark_m (done 2) ∷ [];
+  newest = Some (record { number = 2; answer = done 2 });
+}
 
 abbrev pub after_a_call : PlainCaller
 after_a_call = record { journal = after_two.journal ++ entry a mark_k (done 3) ∷ []; newest = after_two.newest }
 
 abbrev pub after_three : PlainCaller
-after_three = record { journal = after_a_call.journal ++ entry a undo_three (Undone (3 ∷ [])) ∷ []; newest = Some (record { number = 3; answer = Undone (3 ∷ []) }) }
+after_three = record {
+  journal = after_a_call.journal
+      ++ entry a undo_three (Undone (3 ∷ [])) ∷ [];
+  newest = Some (record { number = 3; answer = Undone (3 ∷ []) });
+}
 
--- a numbered command is called once. The last number again gets the answer that is kept, whatever it asks for; a number
--- that is neither the last nor the next is wrong, as 0 always is; one whose command is refused may come again; and a call
--- without a number leaves all this as it is
+-- a numbered command is called once. The last number again gets the answer that is kept, whatever it asks for; a
+-- number that is neither the last nor the next is wrong, as 0 always is; one whose command is refused may come again;
+-- and a call without a number leaves all this as it is
 abbrev pub ANumberIsCalledOnce : Type 0
 ANumberIsCalledOnce =
     Tells at_first 0 mark_m at_first told.Wrong

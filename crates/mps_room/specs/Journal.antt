@@ -1,5 +1,6 @@
 -- Journals: what a session accepted, each command with its role and its answer.
-use Rattle.std.specs.Prelude.{◌≡◌, ℕ, ◌<◌, ◌≤◌, ⊤, Bool, true, false, ◌==◌, ◌&&◌, nat_lt, if◌then◌else◌, List, [], ◌∷◌, ◌++◌, length, drop}
+use Rattle.std.specs.Prelude.{◌≡◌, ℕ, ◌<◌, ◌≤◌, ⊤, Bool, true, false, ◌==◌, ◌&&◌, nat_lt, if◌then◌else◌, List, [], ◌∷◌}
+use Rattle.std.specs.Prelude.{◌++◌, length, drop}
 use Rattle.std.specs.List.{filter, flat_map, list_any}
 use Rattle.std.specs.Option.{option_map_or}
 use Rattle.mps_local.specs.Local.{LocalType}
@@ -61,7 +62,8 @@ limited n answer = if nat_lt n most_entries then answer else Refused Full
 
 -- the answer to role p's command after a journal, where the roles have these names and opening types
 abbrev pub reply : (names : List (List ℕ)) → List LocalType → List Entry → ℕ → Command → Answer
-reply names types j p (commands.Forward step) = limited (length j) (serve types (run types j) p (changes.Forward step)).0
+reply names types j p (commands.Forward step) =
+    limited (length j) (serve types (run types j) p (changes.Forward step)).0
 reply names types j p (commands.Undo n) = limited (length j) (serve types (run types j) p (changes.Undo n)).0
 reply names types j p (commands.Rollback n) = limited (length j) (serve types (run types j) p (changes.Rollback n)).0
 reply names types j p (commands.Back name) = limited (length j) (serve types (run types j) p (changes.Back name)).0
@@ -79,7 +81,8 @@ abbrev pub grown : List Entry → ℕ → Command → Answer → List Entry
 grown j p c answer = if is_accepted answer then j ++ record { role = p; command = c; answer = answer } ∷ [] else j
 
 -- the entry is of an accepted change of one of the roles, with the answer that it gets after the entries before it
-pub record IsEntryAfter (names : List (List ℕ)) (types : List LocalType) (before : List Entry) (e : Entry) : Type 0 where
+pub record IsEntryAfter (names : List (List ℕ)) (types : List LocalType) (before : List Entry) (e : Entry)
+    : Type 0 where
   pub known : e.role < length types
   pub accepted : is_accepted e.answer ≡ true
   pub answer : e.answer ≡ reply names types before e.role e.command

@@ -28,7 +28,8 @@ IsPlaced last n Next = n ≡ last + 1
 IsPlaced last n Elsewhere = (n ≢ last + 1) × (n ≡ last → n ≡ 0)
 
 -- What a command with a number comes to, by what a call tells, the last number and the answer that is kept.
-module _ {C : Type 0} (calls : C → Command → Answer → C → Type 0) (last : C → ℕ) (kept : C → Option Answer) (c : C) (n : ℕ) (command : Command) (d : C) where
+module _ {C : Type 0} (calls : C → Command → Answer → C → Type 0) (last : C → ℕ) (kept : C → Option Answer) (c : C)
+    (n : ℕ) (command : Command) (d : C) where
   -- it has the next number and is accepted: its answer is kept under it
   pub record IsFresh : Type 0 where
     pub next : n ≡ last c + 1

@@ -1,5 +1,6 @@
 //! Changes of a room.
-ghost use Rattle.std.specs.Prelude.{◌≡◌, ◌≢◌, ℕ, ◌+◌, true, false, [], ◌∷◌, ◌++◌, ◌<◌, ◌≤◌, Option, map, length, vec_len, vec_capacity, slice_index_or, IsSome, IfErr, IfOk, OnOk, OnErr};
+ghost use Rattle.std.specs.Prelude.{◌≡◌, ◌≢◌, ℕ, ◌+◌, true, false, [], ◌∷◌, ◌++◌, ◌<◌, ◌≤◌, Option, map, length};
+ghost use Rattle.std.specs.Prelude.{vec_len, vec_capacity, slice_index_or, IsSome, IfErr, IfOk, OnOk, OnErr};
 ghost use Rattle.mps_command.specs.Changes.{change_of};
 ghost use Rattle.mps_command.specs.declared.answer.Answer.TheVariants.{Refused};
 ghost use Rattle.mps_room.specs.Journal.{grown, most_entries, reply, undone_by, IsReply};
@@ -18,8 +19,8 @@ use mps_command::{Answer, Command, Refusal};
 use mps_session::Gist;
 use std::slice;
 
-// Reserves memory for one entry more, and for what the command adds besides: a step, or, where the command may take back
-// steps of others, the entry's place in their lists. Says what is missing, if anything is.
+// Reserves memory for one entry more, and for what the command adds besides: a step, or, where the command may take
+// back steps of others, the entry's place in their lists. Says what is missing, if anything is.
 #[inline(always)]
 fn reserve_entry(
     journal: &mut Vec<NarrowEntry>,
@@ -39,7 +40,8 @@ fn reserve_entry(
     ensures few { OnOk result (length journal.old.items < most_entries) }
     ensures place { OnOk result (vec_len journal.new + 1 ≤ vec_capacity journal.new) }
     ensures step_place { OnOk result (is_step command.now ≡ true → HasRoom steps.new) }
-    ensures heard_place { OnOk result (takes_others command.now ≡ true → (k : ℕ) (d : _) → k < heard.new.count → k ≢ role
+    ensures heard_place { OnOk result
+        (takes_others command.now ≡ true → (k : ℕ) (d : _) → k < heard.new.count → k ≢ role
         → vec_len (slice_index_or heard.new.lists k d) < vec_capacity (slice_index_or heard.new.lists k d)) }
     ensures short { IfErr result (IsShort (length journal.old.items)) }
 {
@@ -55,8 +57,8 @@ fn reserve_entry(
     Ok(())
 }
 
-// Adds a new step, or, where the command may take back steps of others, the entry's place to the lists of the roles that
-// hear of it.
+// Adds a new step, or, where the command may take back steps of others, the entry's place to the lists of the roles
+// that hear of it.
 #[inline(always)]
 fn note(
     steps: &mut Steps,
@@ -78,7 +80,8 @@ fn note(
     ensures lists { length heard.new.lists ≡ 8 }
     ensures heard { takes_others command.now ≡ true → (p : ℕ) (d : _) → p < heard.old.count
         → (slice_index_or heard.new.lists p d).items
-        ≡ with_place (hears (owns steps.old.owners.items p) p role (undone_by (bare gist.now))) place (slice_index_or heard.old.lists p d).items }
+        ≡ with_place (hears (owns steps.old.owners.items p) p role (undone_by (bare gist.now))) place
+        (slice_index_or heard.old.lists p d).items }
     ensures unheard { takes_others command.now ≡ false → heard.new.lists ≡ heard.old.lists }
 {
     match command {
@@ -117,7 +120,8 @@ fn keep(
     ensures lists { length heard.new.lists ≡ 8 }
     ensures heard { takes_others command ≡ true → (p : ℕ) (d : _) → p < heard.old.count
         → (slice_index_or heard.new.lists p d).items
-        ≡ with_place (hears (owns steps.old.owners.items p) p role (undone_by (bare gist))) (length journal.old.items) (slice_index_or heard.old.lists p d).items }
+        ≡ with_place (hears (owns steps.old.owners.items p) p role (undone_by (bare gist))) (length journal.old.items)
+        (slice_index_or heard.old.lists p d).items }
     ensures unheard { takes_others command ≡ false → heard.new.lists ≡ heard.old.lists }
 {
     let place = journal.len() as u32;
@@ -185,8 +189,8 @@ impl Room {
         Ok(answer)
     }
 
-    // The refusal of a change for which there is no room in the journal or no memory: the machine's, if it refuses, else
-    // this one.
+    // The refusal of a change for which there is no room in the journal or no memory: the machine's, if it refuses,
+    // else this one.
     fn refused(&mut self, role: Role, command: &Command, lack: Refusal) -> Refusal
         requires role { role < length self.old.types }
         requires change { IsSome (change_of command.now) }

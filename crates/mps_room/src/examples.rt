@@ -1,5 +1,6 @@
 //! Worked journals, which show that the definitions say what they mean.
-ghost use Rattle.mps_room.specs.Examples.{TheNewsIsWhatOthersTookBack, AnOwnUndoIsNoNews, AFullJournalAcceptsNothing, ANumberIsCalledOnce, ANumberIsToldOneThing};
+ghost use Rattle.mps_room.specs.Examples.{TheNewsIsWhatOthersTookBack, AnOwnUndoIsNoNews, AFullJournalAcceptsNothing};
+ghost use Rattle.mps_room.specs.Examples.{ANumberIsCalledOnce, ANumberIsToldOneThing};
 
 /// What is answered after short journals, and what numbered commands come to, as worked out by hand.
 pub fn worked_journals()

@@ -1,5 +1,6 @@
 //! What each role hears of: the entries in which another role took back steps of its own.
-ghost use Rattle.std.specs.Prelude.{◌≡◌, ◌≢◌, ℕ, ◌+◌, ◌<◌, ◌≤◌, ◌==◌, [], ◌∷◌, ◌++◌, false, map, length, vec_len, vec_capacity, slice_index_or, OnOk};
+ghost use Rattle.std.specs.Prelude.{◌≡◌, ◌≢◌, ℕ, ◌+◌, ◌<◌, ◌≤◌, ◌==◌, [], ◌∷◌, ◌++◌, false, map, length, vec_len};
+ghost use Rattle.std.specs.Prelude.{vec_capacity, slice_index_or, OnOk};
 ghost use Rattle.std.specs.List.{list_any};
 ghost use Rattle.std.specs.Option.{option_map_or};
 ghost use Rattle.mps_room.specs.Private.Heard.{hears, with_place};
@@ -99,7 +100,8 @@ fn reserve_at(lists: &mut [Vec<u32>; 8], k: usize) -> Result<(), AllocError>
     ensures each { length lists.new ≡ length lists.old }
     ensures here { (d : _) → (slice_index_or lists.new k d).items ≡ (slice_index_or lists.old k d).items }
     ensures others { (i : ℕ) (d : _) → i ≢ k → slice_index_or lists.new i d ≡ slice_index_or lists.old i d }
-    ensures space { OnOk result ((d : _) → vec_len (slice_index_or lists.new k d) < vec_capacity (slice_index_or lists.new k d)) }
+    ensures space { OnOk result
+        ((d : _) → vec_len (slice_index_or lists.new k d) < vec_capacity (slice_index_or lists.new k d)) }
 {
     lists[k].reserve(1)
 }

@@ -15,15 +15,15 @@ use std::alloc::{AllocError, Global};
 use std::marker::Model;
 use std::slice;
 
-/// An entry in 64 bytes, where an `Entry` takes 144. A receipt names the entry of its send in place of the message that it
-/// took. A journal is mostly written, so an entry is made only for whoever asks for it.
+/// An entry in 64 bytes, where an `Entry` takes 144. A receipt names the entry of its send in place of the message
+/// that it took. A journal is mostly written, so an entry is made only for whoever asks for it.
 #[derive(Debug, Drop)]
 pub(crate) struct NarrowEntry {
     form: Form,
 }
 
-// An accepted command with its answer: what it was decides what there is to keep. What takes a byte stands first, then a
-// name, then the number of the new step and the place of an entry, then what begins at a multiple of 8.
+// An accepted command with its answer: what it was decides what there is to keep. What takes a byte stands first, then
+// a name, then the number of the new step and the place of an entry, then what begins at a multiple of 8.
 #[derive(Debug, Drop)]
 enum Form {
     Sent {
@@ -91,9 +91,9 @@ impl Model for NarrowEntry {
 }
 
 impl NarrowEntry {
-    /// Puts the entry of a command at the end of a journal, by the gist of its answer and the place of the entry that gave
-    /// the message that it took, if it took one. It does not allocate. Each form is written where it stays, since a form
-    /// that came from one of several places would be moved in many small pieces.
+    /// Puts the entry of a command at the end of a journal, by the gist of its answer and the place of the entry that
+    /// gave the message that it took, if it took one. It does not allocate. Each form is written where it stays, since
+    /// a form that came from one of several places would be moved in many small pieces.
     #[inline(always)]
     pub(crate) fn push(
         journal: &mut Vec<NarrowEntry>,

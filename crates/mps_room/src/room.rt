@@ -50,7 +50,8 @@ impl Model for Room {
 
     ghost view = { λ r. record { names = r.names; types = r.session.types; journal = journal_of r.journal.items } };
 
-    ghost invariant = { λ r. IsKept r.names r.session r.steps.owners.items r.steps.places.items r.heard.count (map (λ l. l.items) r.heard.lists) r.journal.items };
+    ghost invariant = { λ r. IsKept r.names r.session r.steps.owners.items r.steps.places.items r.heard.count
+        (map (λ l. l.items) r.heard.lists) r.journal.items };
 }
 
 impl Room {
@@ -138,7 +139,8 @@ impl Room {
     }
 
     /// Answers the role's command. What is accepted joins the journal with its answer. All memory is asked for before
-    /// anything changes; a refusal changes nothing, and out of memory is not reported where the command is refused anyway.
+    /// anything changes; a refusal changes nothing, and out of memory is not reported where the command is refused
+    /// anyway.
     #[inline(always)]
     pub fn apply(&mut self, role: Role, command: Command) -> Answer
         requires { role < length self.old.types }

@@ -7,8 +7,8 @@ ghost use Rattle.mps_room.specs.Private.Shorts.{place_of};
 use mps_base::{Role, StepId};
 use std::alloc::{AllocError, Global};
 
-/// Of the steps that a number was given to, in the order of the numbers, whose each is and at which place of the journal
-/// its entry stands.
+/// Of the steps that a number was given to, in the order of the numbers, whose each is and at which place of the
+/// journal its entry stands.
 #[derive(Drop)]
 pub(crate) struct Steps {
     pub(crate) owners: Vec<u8>,

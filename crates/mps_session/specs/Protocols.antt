@@ -17,5 +17,6 @@ of_projection projections.Memory = Memory
 -- ran out
 abbrev pub HasNoSession : List (List ℕ) → GlobalType → ProtocolFault → Type 0
 HasNoSession roles tree (Global fault) = fault_of roles tree ≡ Some fault
-HasNoSession roles tree (Unmergeable role choice) = (fault_of roles tree ≡ None) × IsFirstUnmerged roles tree role choice
+HasNoSession roles tree (Unmergeable role choice) =
+    (fault_of roles tree ≡ None) × IsFirstUnmerged roles tree role choice
 HasNoSession roles tree Memory = fault_of roles tree ≡ None

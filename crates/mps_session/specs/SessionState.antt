@@ -20,7 +20,8 @@ session_view m = machine.view_of m.types m.state.history
 -- steps, each with the message that it gives or takes where it is replayed after those that are done
 abbrev pub moved_from : List LocalType → List Step → List Step → List (Step × Option Message)
 moved_from types done [] = []
-moved_from types done (s ∷ h) = (s, moved (machine.view_of types done) s.role s.act) ∷ moved_from types (done ++ s ∷ []) h
+moved_from types done (s ∷ h) =
+    (s, moved (machine.view_of types done) s.role s.act) ∷ moved_from types (done ++ s ∷ []) h
 
 -- the surviving steps, each with the message that it gave or took
 abbrev pub moves_of : SessionState → List (Step × Option Message)

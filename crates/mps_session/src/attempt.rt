@@ -56,7 +56,8 @@ fn took_back(told: (StepIds, Vec<StepId>)) -> (Answer, Gist)
 
 impl Session {
     /// Does what the role asks for, or says why not. The answer is told, and the gist of it, for who keeps what was
-    /// answered. All memory is asked for before anything changes. A refusal changes nothing. The command isn't a question.
+    /// answered. All memory is asked for before anything changes. A refusal changes nothing. The command isn't a
+    /// question.
     #[inline(always)]
     pub fn attempt(&mut self, role: Role, command: &Command) -> Result<(Answer, Gist), Refusal>
         requires role { role < length self.old.types }

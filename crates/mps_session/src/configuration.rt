@@ -6,7 +6,8 @@ ghost use Rattle.mps_local.specs.Local.{LocalType};
 ghost use Rattle.mps_machine.specs.Machine.{most_numbers, taken};
 ghost use Rattle.mps_monitor.specs.Verdicts.{moved_by};
 ghost use Rattle.mps_table.specs.Graph.{IsNode};
-ghost use Rattle.mps_session.specs.Private.Configurations.{lists_of, IsReady, cursor_of, moved_in, StandsAt, fault_in, LeadsTo, HasActed, IsBarred};
+ghost use Rattle.mps_session.specs.Private.Configurations.{lists_of, IsReady, cursor_of, moved_in, StandsAt, fault_in};
+ghost use Rattle.mps_session.specs.Private.Configurations.{LeadsTo, HasActed, IsBarred};
 ghost use Rattle.mps_session.specs.Private.Cursors.{went};
 
 use crate::cursor::Cursor;
@@ -73,8 +74,8 @@ impl Configuration {
         next_node(&cursor.table, cursor.node, step, first)
     }
 
-    /// The node at which the role goes on after the command, or why it is refused, unless memory runs out. The message is
-    /// the first that waits for the role, if it would take one.
+    /// The node at which the role goes on after the command, or why it is refused, unless memory runs out. The message
+    /// is the first that waits for the role, if it would take one.
     #[inline(always)]
     pub(crate) fn allowed(
         &self,
@@ -104,8 +105,8 @@ impl Configuration {
         Ok(node)
     }
 
-    /// Does the step that the command asks for, after which the role stands at the node. Nothing is changed where memory
-    /// runs out.
+    /// Does the step that the command asks for, after which the role stands at the node. Nothing is changed where
+    /// memory runs out.
     #[inline(always)]
     pub(crate) fn act(
         &mut self,
@@ -149,8 +150,8 @@ impl Configuration {
     }
 }
 
-/// The message once more, where there is one. Its kinds are told apart here, and not by `Message::copy`: what that gives
-/// back would have a place of its own, which each receipt clears.
+/// The message once more, where there is one. Its kinds are told apart here, and not by `Message::copy`: what that
+/// gives back would have a place of its own, which each receipt clears.
 #[inline(always)]
 pub(crate) fn once_more(
     alloc: Global,

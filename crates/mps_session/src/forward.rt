@@ -70,7 +70,8 @@ impl Session {
         Ok(done)
     }
 
-    /// Does a step of the role, as `forward` does, and tells besides from which step it took its message, if it took one.
+    /// Does a step of the role, as `forward` does, and tells besides from which step it took its message, if it took
+    /// one.
     #[inline(always)]
     pub(crate) fn attempt_forward(
         &mut self,
@@ -95,7 +96,8 @@ impl Session {
         }
     }
 
-    // Does the step of a receipt or a pick. The message that waits is looked up once, for the verdict and for the answer.
+    // Does the step of a receipt or a pick. The message that waits is looked up once, for the verdict and for the
+    // answer.
     #[inline(always)]
     fn attempt_receipt(
         &mut self,

@@ -1,5 +1,6 @@
 //! Steps undone with all that depend on them.
-ghost use Rattle.std.specs.Prelude.{◌≡◌, ◌+◌, ◌<◌, ◌≤◌, ◌++◌, [], List, reverse, length, Some, None, unwrap_or, vec_len, vec_capacity, IsSome, IfOk, IfErr, OnOk, OnErr, ⊤};
+ghost use Rattle.std.specs.Prelude.{◌≡◌, ◌+◌, ◌<◌, ◌≤◌, ◌++◌, [], List, reverse, length, Some, None, unwrap_or};
+ghost use Rattle.std.specs.Prelude.{vec_len, vec_capacity, IsSome, IfOk, IfErr, OnOk, OnErr, ⊤};
 ghost use Rattle.std.specs.List.{AllByRecursion};
 ghost use Rattle.std.specs.Option.{option_map};
 ghost use Rattle.std.specs.Result.{result_err};
@@ -63,8 +64,8 @@ fn nothing(alloc: Global) -> (StepIds, Vec<StepId>)
 }
 
 impl Configuration {
-    // Room for the numbers of the marked steps, so many, and for a copy of them; or why the steps stay: the least commit
-    // among them, or else out of memory.
+    // Room for the numbers of the marked steps, so many, and for a copy of them; or why the steps stay: the least
+    // commit among them, or else out of memory.
     fn room_for_chosen(&self, count: usize) -> Result<(Vec<StepId>, Vec<StepId>), Refusal>
         requires { AreMarksClosed (lists_of self.now).entries }
         ensures none { IfOk result (λ room. vec_len room.0 ≡ 0) }
@@ -84,9 +85,9 @@ impl Configuration {
         Ok(room_for(self.alloc, count)?)
     }
 
-    /// Removes the step of that number and all that depend on it, the newest first, and tells their numbers, with a copy
-    /// for who keeps what was answered. Where a commit is among them, the least is named. Nothing is changed then, nor
-    /// where memory runs out.
+    /// Removes the step of that number and all that depend on it, the newest first, and tells their numbers, with a
+    /// copy for who keeps what was answered. Where a commit is among them, the least is named. Nothing is changed
+    /// then, nor where memory runs out.
     #[inline(never)]
     pub(crate) fn roll_back(&mut self, id: StepId) -> Result<(StepIds, Vec<StepId>), Refusal>
         requires present { IsSome (step_of (steps (lists_of self.old).entries) id) }
@@ -162,8 +163,8 @@ impl Configuration {
         }
     }
 
-    /// The number of the role's first step after its last mark of the name: `None` without such a mark, `Some(None)` where
-    /// no step of the role follows it.
+    /// The number of the role's first step after its last mark of the name: `None` without such a mark, `Some(None)`
+    /// where no step of the role follows it.
     pub(crate) fn first_after(&self, role: Role, name: &Name) -> Option<Option<StepId>>
         requires { role < 8 }
         ensures { result ≡ option_map first_number

@@ -20,8 +20,8 @@ fn command_of(change: Change) -> Command
 }
 
 impl Session {
-    /// Makes the change that the role asks for, or says why not, as `attempt` does. A single undo is answered like a rollback of one step. A refusal
-    /// changes nothing.
+    /// Makes the change that the role asks for, or says why not, as `attempt` does. A single undo is answered like a
+    /// rollback of one step. A refusal changes nothing.
     pub fn serve(&mut self, role: Role, change: Change) -> Answer
         requires { role < length self.old.types }
         ensures served { IsChanged self.old.types role change (result_of result)

@@ -2,7 +2,8 @@
 ghost use Rattle.std.specs.Prelude.{◌≡◌, ◌<◌, Some, length, IfOk, OnErr, vec_len};
 ghost use Rattle.std.specs.List.{AllByRecursion};
 ghost use Rattle.mps_machine.specs.Rule.{replay};
-ghost use Rattle.mps_machine.specs.Undoing.{UndoesSteps, RefusesNeeded, RefusesFinal, RemovesFutures, ReturnsToMarks, KeepsCommits};
+ghost use Rattle.mps_machine.specs.Undoing.{UndoesSteps, RefusesNeeded, RefusesFinal, RemovesFutures, ReturnsToMarks};
+ghost use Rattle.mps_machine.specs.Undoing.{KeepsCommits};
 ghost use Rattle.mps_machine.specs.View.{opening};
 ghost use Rattle.mps_session.specs.Runs.{AreServed};
 ghost use Rattle.mps_session.specs.SessionState.{session_view};
@@ -16,8 +17,8 @@ impl Session {
     /// Answers changes, each of its role, in turn. The list of answers is allocated before the first change is made.
     ///
     /// What binds the code is `served`: with the clauses of `forward`, `undo`, `rollback` and `back` it says what is
-    /// answered and what is left. `undone`, `refused`, `refused_final`, `kept`, `removed` and `returned` are laws of the
-    /// machine, said here of the state that is reached.
+    /// answered and what is left. `undone`, `refused`, `refused_final`, `kept`, `removed` and `returned` are laws of
+    /// the machine, said here of the state that is reached.
     pub fn serve_all(&mut self, requests: Vec<(Role, Change)>) -> Result<Vec<Answer>, AllocError>
         requires { AllByRecursion (λ request. request.0 < length self.old.types) requests.items }
         // each is answered as the machine answers it, in the state that the one before it left
@@ -32,7 +33,8 @@ impl Session {
         ensures undone { UndoesSteps self.new.types self.new.state }
         // an undo is refused as needed exactly where another surviving step depends on the step, which is no commit
         ensures refused { RefusesNeeded self.new.state }
-        // an undo is refused as final exactly where the step is a commit, and a rollback exactly where it would remove one
+        // an undo is refused as final exactly where the step is a commit, and a rollback exactly where it would remove
+        // one
         ensures refused_final { RefusesFinal self.new.state }
         // whatever is asked for later, a surviving commit stays, and so does all that it depends on
         ensures kept { KeepsCommits self.new.types self.new.state }

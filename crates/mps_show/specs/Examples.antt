@@ -26,5 +26,6 @@ AReceivedMessageIsShown =
 -- then b sent 7 to c, who received it into y and chose ok, which a didn't pick yet
 abbrev pub ALabelThatWaitsIsShown : Type 0
 ALabelThatWaitsIsShown =
-    text_after (sends_int a b 5 ∷ receives_into b a (codes "x") ∷ sends_int b c 7 ∷ receives_into c b (codes "y") ∷ chooses c a (codes "ok") ∷ [])
+    text_after (sends_int a b 5 ∷ receives_into b a (codes "x") ∷ sends_int b c 7 ∷ receives_into c b (codes "y")
+    ∷ chooses c a (codes "ok") ∷ [])
     ≡ codes "{\"history\":[[1,\"a\",\"send\",\"b\",5],[2,\"b\",\"recv\",\"a\",\"x\",5],[3,\"b\",\"send\",\"c\",7],[4,\"c\",\"recv\",\"b\",\"y\",7],[5,\"c\",\"choose\",\"a\",\"ok\"]],\"queues\":[[\"c\",\"a\",[{\"label\":\"ok\"}]]],\"roles\":[{\"expects\":\"pick c ok no\",\"past\":[1],\"role\":\"a\",\"store\":[]},{\"expects\":\"end\",\"past\":[2,3],\"role\":\"b\",\"store\":[[\"x\",5]]},{\"expects\":\"end\",\"past\":[4,5],\"role\":\"c\",\"store\":[[\"y\",7]]}]}"

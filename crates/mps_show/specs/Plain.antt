@@ -2,7 +2,8 @@
 use Rattle.std.specs.Prelude.{ℕ, ⊤, List}
 use Rattle.std.specs.List.{AllByRecursion}
 use Rattle.mps_base.specs.Values.{IsShown}
-use Rattle.serde_json.specs.Data.{Data, null, boolean, number, string, array, object, Items, no_items, item, Members, no_members, member}
+use Rattle.serde_json.specs.Data.{Data, null, boolean, number, string, array, object, Items, no_items, item, Members}
+use Rattle.serde_json.specs.Data.{no_members, member}
 
 -- bytes from the space to `~`
 abbrev pub AreShown : List ℕ → Type 0

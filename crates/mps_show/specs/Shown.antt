@@ -74,7 +74,8 @@ step_shown names m = row (number (unsigned m.0.id) ∷ role_name names m.0.role 
 -- the queue from p to q, where something waits in it
 abbrev pub queue_shown : List (List ℕ) → ℕ → ℕ → List Message → List Data
 queue_shown names p q [] = []
-queue_shown names p q (m ∷ queue) = row (role_name names p ∷ role_name names q ∷ row (map waiting_shown (m ∷ queue)) ∷ []) ∷ []
+queue_shown names p q (m ∷ queue) =
+    row (role_name names p ∷ role_name names q ∷ row (map waiting_shown (m ∷ queue)) ∷ []) ∷ []
 
 -- the queues of p, by receiver
 abbrev pub queues_from : List (List ℕ) → ℕ → View → ℕ → List Data
@@ -114,7 +115,8 @@ role_shown names past p c =
 
 abbrev pub roles_shown : List (List ℕ) → List LocalType → List Step → List Data
 roles_shown names types h =
-    map (λ p. role_shown names (numbers (steps_of p h)) p ((view_of types h).participant p)) (range_with_len 0 (length types))
+    map (λ p. role_shown names (numbers (steps_of p h)) p ((view_of types h).participant p))
+    (range_with_len 0 (length types))
 
 -- the history, and what replaying it gives, for roles of these names and types
 abbrev pub shown : List (List ℕ) → List LocalType → List Step → Data

@@ -5,7 +5,8 @@ ghost use Rattle.mps_history.specs.Steps.{numbers, steps_of};
 ghost use Rattle.mps_local.specs.Actions.{head};
 ghost use Rattle.mps_session.specs.SessionState.{session_view, moves_of};
 ghost use Rattle.mps_show.specs.Private.Rows.{own_number};
-ghost use Rattle.mps_show.specs.Shown.{row, step_shown, queue_shown, queues_from, queues_shown, waiting_shown, head_shown, number_shown, binding_shown, role_shown, roles_shown, shown};
+ghost use Rattle.mps_show.specs.Shown.{row, step_shown, queue_shown, queues_from, queues_shown, waiting_shown};
+ghost use Rattle.mps_show.specs.Shown.{head_shown, number_shown, binding_shown, role_shown, roles_shown, shown};
 ghost use Rattle.serde_json.specs.View.{view};
 
 use crate::json_parts;

@@ -6,7 +6,8 @@ ghost use Rattle.mps_base.specs.Texts.{IsPlainByte};
 ghost use Rattle.mps_base.specs.declared.action.Message.TheVariants.{Label};
 ghost use Rattle.mps_session.specs.Peers.{IsPeerKnown, IsKnown};
 ghost use Rattle.mps_show.specs.Plain.{IsPlain, ArePlainItems};
-ghost use Rattle.mps_show.specs.Shown.{role_name, value_shown, moved_shown, waiting_shown, taken_shown, out_shown, in_shown, act_shown, step_shown, number_shown, binding_shown};
+ghost use Rattle.mps_show.specs.Shown.{role_name, value_shown, moved_shown, waiting_shown, taken_shown, out_shown};
+ghost use Rattle.mps_show.specs.Shown.{in_shown, act_shown, step_shown, number_shown, binding_shown};
 ghost use Rattle.serde_json.specs.Data.{string, number};
 ghost use Rattle.serde_json.specs.Find.{of_integer};
 ghost use Rattle.serde_json.specs.View.{items_of};
@@ -183,7 +184,8 @@ fn put_in(
     requires { from < length names.now }
     ensures text { OnOk result (out.new.items ≡ out.old.items
         ++ items_text true (items_of (in_shown names.now from slot.now (option_copied moved.entry)))) }
-    ensures plain { OnOk result (ArePlainItems (items_of (in_shown names.now from slot.now (option_copied moved.entry)))) }
+    ensures plain { OnOk result
+        (ArePlainItems (items_of (in_shown names.now from slot.now (option_copied moved.entry)))) }
 {
     match slot {
         Some(slot) => {

@@ -6,7 +6,9 @@ ghost use Rattle.mps_local.specs.Actions.{head};
 ghost use Rattle.mps_session.specs.SessionState.{session_view, moves_of};
 ghost use Rattle.mps_show.specs.Plain.{IsPlain, ArePlainItems, AreShown};
 ghost use Rattle.mps_show.specs.Private.Rows.{joined, behind, own_number};
-ghost use Rattle.mps_show.specs.Shown.{row, role_name, step_shown, queue_shown, queues_from, queues_shown, waiting_shown, head_shown, number_shown, binding_shown, role_shown, roles_shown, shown, show_text};
+ghost use Rattle.mps_show.specs.Shown.{row, role_name, step_shown, queue_shown, queues_from, queues_shown};
+ghost use Rattle.mps_show.specs.Shown.{waiting_shown, head_shown, number_shown, binding_shown, role_shown, roles_shown};
+ghost use Rattle.mps_show.specs.Shown.{shown, show_text};
 ghost use Rattle.serde_json.specs.View.{items_of};
 ghost use Rattle.serde_json.specs.Written.{compact_text};
 
@@ -68,7 +70,8 @@ fn put_queues(out: &mut Vec<u8>, names: &Roles, session: &Session) -> Result<(),
     requires { length names.now ≡ length session.now.types }
     ensures text { OnOk result (out.new.items ≡ out.old.items
         ++ compact_text (row (queues_shown names.now (length session.now.types) (session_view session.now)))) }
-    ensures plain { OnOk result (IsPlain (row (queues_shown names.now (length session.now.types) (session_view session.now)))) }
+    ensures plain { OnOk result
+        (IsPlain (row (queues_shown names.now (length session.now.types) (session_view session.now)))) }
 {
     out.push(b'[')?;
     let n = session.roles();
@@ -255,7 +258,8 @@ fn put_store(out: &mut Vec<u8>, session: &Session, role: Role) -> Result<(), All
     requires { role < length session.now.types }
     ensures text { OnOk result (out.new.items ≡ out.old.items
         ++ compact_text (row (map binding_shown ((session_view session.now).participant role).store))) }
-    ensures plain { OnOk result (IsPlain (row (map binding_shown ((session_view session.now).participant role).store))) }
+    ensures plain { OnOk result
+        (IsPlain (row (map binding_shown ((session_view session.now).participant role).store))) }
 {
     out.push(b'[')?;
     let count = session.slots(role);

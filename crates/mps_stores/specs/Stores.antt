@@ -1,4 +1,5 @@
--- Names that steps bind: a receipt binds its slot, a mark its own name. Each role's names, each with the key of the step that bound it last, in the order in which they were first bound.
+-- Names that steps bind: a receipt binds its slot, a mark its own name. Each role's names, each with the key of the
+-- step that bound it last, in the order in which they were first bound.
 use Rattle.std.specs.Prelude.{◌≡◌, ℕ, ◌<◌, ◌==◌, if◌then◌else◌, List, [], ◌∷◌, ◌++◌, Option, None, Some, slice_index_or}
 use Rattle.std.specs.Option.{option_map_or}
 use Rattle.mps_base.specs.declared.action.Act.{Act}
@@ -47,7 +48,9 @@ bindings naming p es = rebound naming p [] es
 
 -- each step that binds a name keeps to what the name was bound right before it
 abbrev pub AreTraced : Naming → List KeyedStep → Type 0
-AreTraced naming es = (p : ℕ) (name : List ℕ) (a b : List KeyedStep) (e : KeyedStep) → es ≡ a ++ e ∷ b → IsBinding naming p name e → e.before.bound ≡ value_in name (bindings naming p a)
+AreTraced naming es =
+    (p : ℕ) (name : List ℕ) (a b : List KeyedStep) (e : KeyedStep) → es ≡ a ++ e ∷ b → IsBinding naming p name e
+    → e.before.bound ≡ value_in name (bindings naming p a)
 
 -- the stores are those of these entries, and each binding can be undone
 pub record AreStores (naming : Naming) (es : List KeyedStep) (stores : List Keys) : Type 0 where

@@ -34,8 +34,10 @@ abbrev pub IsRowOf : Graph → List LocalType → TableRow → LocalType → Typ
 IsRowOf g types End t = t ≡ local.End
 IsRowOf g types (Send peer sort next) t = (u : LocalType) × (t ≡ local.Send peer sort u) × StandsIn types next u
 IsRowOf g types (Recv peer sort next) t = (u : LocalType) × (t ≡ local.Recv peer sort u) × StandsIn types next u
-IsRowOf g types (Select peer first count) t = (b : Branches) × (t ≡ local.Select peer b) × HasBranches g types first count b
-IsRowOf g types (Branch peer first count) t = (b : Branches) × (t ≡ local.Branch peer b) × HasBranches g types first count b
+IsRowOf g types (Select peer first count) t =
+    (b : Branches) × (t ≡ local.Select peer b) × HasBranches g types first count b
+IsRowOf g types (Branch peer first count) t =
+    (b : Branches) × (t ≡ local.Branch peer b) × HasBranches g types first count b
 
 -- these are rows of those types, each of the one in its place
 abbrev pub AreRowsOf : Graph → List LocalType → List TableRow → List LocalType → Type 0

@@ -3,7 +3,8 @@ ghost use Rattle.std.specs.Prelude.{◌≡◌, ◌+◌, ◌<◌, ◌≤◌, ◌^
 ghost use Rattle.mps_local.specs.Local.{plain, plain_branches};
 ghost use Rattle.mps_local.specs.Actions.{labels};
 ghost use Rattle.mps_table.specs.Private.Laying.{size, branch_size, all_labels, branch_labels, start, starts};
-ghost use Rattle.mps_table.specs.Private.Drafts.{places_of, Adds, Lays, LaysBranches, IsLaidOut, row_count, label_count};
+ghost use Rattle.mps_table.specs.Private.Drafts.{places_of, Adds, Lays, LaysBranches, IsLaidOut, row_count};
+ghost use Rattle.mps_table.specs.Private.Drafts.{label_count};
 
 use crate::expect::Node;
 use crate::row::TableRow;

@@ -1,5 +1,6 @@
 //! The table of a local type.
-ghost use Rattle.std.specs.Prelude.{◌≡◌, ◌+◌, ◌≤◌, ℕ, Option, Some, length, slice_get, slice_range, option_map, option_and_then};
+ghost use Rattle.std.specs.Prelude.{◌≡◌, ◌+◌, ◌≤◌, ℕ, Option, Some, length, slice_get, slice_range, option_map};
+ghost use Rattle.std.specs.Prelude.{option_and_then};
 ghost use Rattle.mps_local.specs.Local.{LocalType};
 ghost use Rattle.mps_local.specs.Unfolding.{unfolded};
 ghost use Rattle.mps_local.specs.Actions.{Begins, type_left};

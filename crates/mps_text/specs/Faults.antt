@@ -1,11 +1,14 @@
 -- The first fault of a text.
-use Rattle.std.specs.Prelude.{◌≡◌, ◌≢◌, false, ℕ, ◌+◌, ◌<◌, ◌≤◌, ⊤, List, [], ◌∷◌, ◌++◌, length, map, Option, Some, None, IsTrue}
+use Rattle.std.specs.Prelude.{◌≡◌, ◌≢◌, false, ℕ, ◌+◌, ◌<◌, ◌≤◌, ⊤, List, [], ◌∷◌, ◌++◌, length, map, Option, Some}
+use Rattle.std.specs.Prelude.{None, IsTrue}
 use Rattle.std.specs.List.{AllByRecursion, list_all}
 use Rattle.mps_global.specs.Global.{GlobalType}
 use Rattle.mps_text.specs.Tokens.{is_blank, first_is, IsTokenBefore, Begins, BeginsAll}
-use Rattle.mps_text.specs.Grammar.{Part, protocol_parts, protocol_tokens, tokens_of, SpellsProtocol, SpellsText, IsWithinLimits}
+use Rattle.mps_text.specs.Grammar.{Part, protocol_parts, protocol_tokens, tokens_of, SpellsProtocol, SpellsText}
+use Rattle.mps_text.specs.Grammar.{IsWithinLimits}
 use Rattle.mps_text.specs.declared.fault.TextKind.{TextKind}
-use Rattle.mps_text.specs.declared.fault.TextKind.TheVariants.{TooLong, Word, Unexpected, TooManyNodes, TooDeep, Trailing, Memory}
+use Rattle.mps_text.specs.declared.fault.TextKind.TheVariants.{TooLong, Word, Unexpected, TooManyNodes, TooDeep}
+use Rattle.mps_text.specs.declared.fault.TextKind.TheVariants.{Trailing, Memory}
 
 -- for each token the depth of the node that it begins, or None
 abbrev pub starts_of : List Part → List (Option ℕ)
@@ -44,7 +47,8 @@ abbrev pub Shows : List ℕ → Option (List ℕ) → Type 0
 Shows bytes None = bytes ≡ []
 Shows bytes (Some token) = (after : List ℕ) × (bytes ≡ token ++ after) × IsTokenBefore token after
 
--- neither a blank nor a token stands in front of the bytes: they begin with a byte that begins no token, a `-` without `>`, or a malformed word
+-- neither a blank nor a token stands in front of the bytes: they begin with a byte that begins no token, a `-` without
+-- `>`, or a malformed word
 pub record IsMalformed (bytes : List ℕ) : Type 0 where
   pub some : bytes ≢ []
   pub no_blank : first_is is_blank bytes ≡ false
@@ -53,16 +57,19 @@ pub record IsMalformed (bytes : List ℕ) : Type 0 where
 -- no protocol goes on with that token, or ends there, after these tokens
 abbrev pub IsUnexpected : List Part → Option (List ℕ) → Type 0
 IsUnexpected front None = ¬ IsWhole (tokens_of front)
-IsUnexpected front (Some token) = (¬ IsWhole (tokens_of front)) × ((start : Option ℕ) → ¬ Opens (front ++ (token, start) ∷ []))
+IsUnexpected front (Some token) =
+    (¬ IsWhole (tokens_of front)) × ((start : Option ℕ) → ¬ Opens (front ++ (token, start) ∷ []))
 
 -- what is wrong at these bytes after the tokens
 abbrev pub IsWrong : List Part → List ℕ → TextKind → Type 0
 IsWrong front bytes Word = IsMalformed bytes
 IsWrong front bytes Unexpected = (next : Option (List ℕ)) × Shows bytes next × IsUnexpected front next
 IsWrong front bytes TooManyNodes =
-    (token : List ℕ) × (depth : ℕ) × Shows bytes (Some token) × Opens (front ++ (token, Some depth) ∷ []) × (nodes_begun (starts_of front) ≡ 256)
+    (token : List ℕ) × (depth : ℕ) × Shows bytes (Some token) × Opens (front ++ (token, Some depth) ∷ [])
+    × (nodes_begun (starts_of front) ≡ 256)
 IsWrong front bytes TooDeep =
-    (token : List ℕ) × Shows bytes (Some token) × Opens (front ++ (token, Some 65) ∷ []) × (nodes_begun (starts_of front) < 256)
+    (token : List ℕ) × Shows bytes (Some token) × Opens (front ++ (token, Some 65) ∷ [])
+    × (nodes_begun (starts_of front) < 256)
 IsWrong front bytes Trailing = (token : List ℕ) × Shows bytes (Some token) × IsWhole (tokens_of front)
 IsWrong front bytes kind = ⊥
 
@@ -80,7 +87,8 @@ pub record FaultAt (text : List ℕ) (at : ℕ) (kind : TextKind) : Type 0 where
   pub place : at + length bytes ≡ length text
   pub wrong : IsWrong front bytes kind
 
--- the text has this first fault: of a text that isn't too long, where it begins no more as a protocol does; memory may run out on any such text
+-- the text has this first fault: of a text that isn't too long, where it begins no more as a protocol does; memory may
+-- run out on any such text
 abbrev pub IsFirstFault : List ℕ → ℕ → TextKind → Type 0
 IsFirstFault text at TooLong = (65536 < length text) × (at ≡ 65536)
 IsFirstFault text at Memory = length text ≤ 65536

@@ -1,5 +1,6 @@
 -- Which tokens spell a protocol.
-use Rattle.std.specs.Prelude.{◌≡◌, ℕ, ◌+◌, ◌≤◌, ⊤, List, [], ◌∷◌, ◌++◌, length, map, codes, Option, Some, None, Result, Ok, Err}
+use Rattle.std.specs.Prelude.{◌≡◌, ℕ, ◌+◌, ◌≤◌, ⊤, List, [], ◌∷◌, ◌++◌, length, map, codes, Option, Some, None, Result}
+use Rattle.std.specs.Prelude.{Ok, Err}
 use Rattle.std.specs.List.{AllByRecursion}
 use Rattle.std.specs.Option.{option_map}
 use Rattle.mps_base.specs.Names.{IsName, IsVariable}
@@ -26,11 +27,14 @@ abbrev mutual
   pub node_parts : ℕ → GlobalType → List Part
   node_parts depth End = (codes "end", Some depth) ∷ []
   node_parts depth (Var name) = (name, Some depth) ∷ []
-  node_parts depth (Rec name body) = (codes "rec", Some depth) ∷ inside (name ∷ codes "." ∷ []) ++ node_parts (depth + 1) body
+  node_parts depth (Rec name body) =
+      (codes "rec", Some depth) ∷ inside (name ∷ codes "." ∷ []) ++ node_parts (depth + 1) body
   node_parts depth (Message sender receiver sort next) =
-      (sender, Some depth) ∷ inside (codes "->" ∷ receiver ∷ codes ":" ∷ sort_word sort ∷ codes "." ∷ []) ++ node_parts (depth + 1) next
+      (sender, Some depth) ∷ inside (codes "->" ∷ receiver ∷ codes ":" ∷ sort_word sort ∷ codes "." ∷ [])
+      ++ node_parts (depth + 1) next
   node_parts depth (Choice sender receiver branches) =
-      (sender, Some depth) ∷ inside (codes "->" ∷ receiver ∷ codes "{" ∷ []) ++ branch_parts (depth + 1) branches ++ inside (codes "}" ∷ [])
+      (sender, Some depth) ∷ inside (codes "->" ∷ receiver ∷ codes "{" ∷ []) ++ branch_parts (depth + 1) branches
+      ++ inside (codes "}" ∷ [])
 
   -- the tokens of branches, with a comma between two
   pub branch_parts : ℕ → Branches → List Part

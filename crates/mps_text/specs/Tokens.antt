@@ -27,7 +27,8 @@ punctuation = codes "->" ∷ codes ":" ∷ codes ";" ∷ codes "." ∷ codes ","
 
 -- the token is punctuation, or a well-formed word that the bytes after it don't make longer
 abbrev pub IsTokenBefore : List ℕ → List ℕ → Type 0
-IsTokenBefore token rest = IsTrue (list_any (bytes_eq token) punctuation) ⊎ (IsWord token × (first_is is_word_byte rest ≡ false))
+IsTokenBefore token rest =
+    IsTrue (list_any (bytes_eq token) punctuation) ⊎ (IsWord token × (first_is is_word_byte rest ≡ false))
 
 -- blanks, then the token, then the rest
 pub record Begins (bytes token rest : List ℕ) : Type 0 where

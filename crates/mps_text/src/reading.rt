@@ -1,6 +1,7 @@
 //! Reading a protocol.
 ghost use Rattle.std.specs.Prelude.{◌≡◌, ◌≢◌, ◌+◌, ◌<◌, ◌≤◌, ◌⊎◌, ℕ, List, []};
-ghost use Rattle.std.specs.Prelude.{◌∷◌, ◌++◌, length, map, filter_map, codes, IfOk, IfErr, OnOk, false, true, MatchOption};
+ghost use Rattle.std.specs.Prelude.{◌∷◌, ◌++◌, length, map, filter_map, codes, IfOk, IfErr, OnOk, false, true};
+ghost use Rattle.std.specs.Prelude.{MatchOption};
 ghost use Rattle.std.specs.List.{AllByRecursion};
 ghost use Rattle.mps_base.specs.Names.{IsName, IsVariable};
 ghost use Rattle.mps_base.specs.RoleLists.{HasRoleCount};
@@ -14,9 +15,12 @@ ghost use Rattle.mps_text.specs.Faults.{IsFirstFault, HasProtocol, HasFault};
 ghost use Rattle.mps_text.specs.declared.fault.TextKind.{TextKind};
 ghost use Rattle.mps_text.specs.declared.fault.TextKind.TheVariants.{Memory};
 ghost use Rattle.mps_text.specs.Private.Lexing.{lexed, tokens_in};
-ghost use Rattle.mps_text.specs.Private.Reading.{Symbol, Token, AName, AVariable, ASort, Roles, Node, Exchange, Others, branch, AreSpellable};
-ghost use Rattle.mps_text.specs.Private.Reading.{first_of, first_token, IsFirst, behind_first, sort_of, which, Reads, ReadsAll, Ends};
-ghost use Rattle.mps_text.specs.Private.Reading.{tokens_from, tokens_before, branches_before, exchange_tokens, behind_exchange, separator, behind_branch};
+ghost use Rattle.mps_text.specs.Private.Reading.{Symbol, Token, AName, AVariable, ASort, Roles, Node, Exchange, Others};
+ghost use Rattle.mps_text.specs.Private.Reading.{branch, AreSpellable};
+ghost use Rattle.mps_text.specs.Private.Reading.{first_of, first_token, IsFirst, behind_first, sort_of, which, Reads};
+ghost use Rattle.mps_text.specs.Private.Reading.{ReadsAll, Ends};
+ghost use Rattle.mps_text.specs.Private.Reading.{tokens_from, tokens_before, branches_before, exchange_tokens};
+ghost use Rattle.mps_text.specs.Private.Reading.{behind_exchange, separator, behind_branch};
 
 use crate::fault::{TextFault, TextKind};
 use crate::lexing::{Cursor, Halt, lexeme_at, name_of, take, unblanked, variable_of};

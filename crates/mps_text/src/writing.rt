@@ -9,7 +9,8 @@ ghost use Rattle.mps_global.specs.Private.Weights.{weight, branch_weight};
 ghost use Rattle.mps_text.specs.Grammar.{protocol_text, IsWithinLimits, SpellsText, SpellsOnly};
 ghost use Rattle.mps_text.specs.Grammar.{HasBranches, IsSpellable, IsNamed, AreNamed};
 ghost use Rattle.mps_text.specs.Private.Writing.{global_tokens, IsTodoNamed};
-ghost use Rattle.mps_text.specs.Private.Writing.{todo_tokens, todo_weight, left_tokens, left_weight, branches_tokens, others_tokens};
+ghost use Rattle.mps_text.specs.Private.Writing.{todo_tokens, todo_weight, left_tokens, left_weight, branches_tokens};
+ghost use Rattle.mps_text.specs.Private.Writing.{others_tokens};
 
 use mps_base::{Name, push_token};
 use mps_global::{Branches, Global, Protocol};

@@ -1,5 +1,7 @@
-//! The program, which checks protocols, runs and compares scripts of commands on multiparty sessions, and serves such sessions.
+//! The program, which checks protocols, runs and compares scripts of commands on multiparty sessions, and serves such
+//! sessions.
 #![tactic(auto)]
+
 ghost use Rattle.std.specs.Process.{exit_status};
 ghost use Rattle.mps_program.specs.Ends.{EndsAs, IsObeyed};
 

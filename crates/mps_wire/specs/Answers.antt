@@ -23,7 +23,8 @@ AnswersCut {S} answers part (line ∷ other ∷ lines) st out after =
 
 -- Two ways in which answers break off.
 module _ {S : Type 0} (answers : Answering S) (start : S) where
-  -- anywhere: what is written are answers to the first of the lines, up to some place in them; no more is known of the state
+  -- anywhere: what is written are answers to the first of the lines, up to some place in them; no more is known of the
+  -- state
   pub record CutAnywhere (lines : List (List ℕ)) (written : List ℕ) : Type 0 where
     pub answered : List (List ℕ)
     pub others : List (List ℕ)
@@ -34,7 +35,8 @@ module _ {S : Type 0} (answers : Answering S) (start : S) where
     pub unwritten : List ℕ
     pub part : out ≡ written ++ unwritten
 
-  -- in the last answer: the first of the lines are answered, of the last of these in part, and the state is the one after them
+  -- in the last answer: the first of the lines are answered, of the last of these in part, and the state is the one
+  -- after them
   pub record CutInLast (part : Answering S) (lines : List (List ℕ)) (written : List ℕ) (after : S) : Type 0 where
     pub answered : List (List ℕ)
     pub others : List (List ℕ)
@@ -58,7 +60,8 @@ module _ (bytes : List ℕ) (Holds : List (List ℕ) → Type 0) where
     pub holds : Holds (with_last lines rest)
 
 -- each whole line of the bytes is answered, and of the rest the front is kept
-pub record Answered {S : Type 0} (answers : Answering S) (start : S) (bytes kept out : List ℕ) (after : S) : Type 0 where
+pub record Answered {S : Type 0} (answers : Answering S) (start : S) (bytes kept out : List ℕ) (after : S)
+    : Type 0 where
   pub lines : List (List ℕ)
   pub rest : List ℕ
   pub split : IsSplit bytes lines rest

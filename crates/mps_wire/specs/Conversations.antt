@@ -27,8 +27,8 @@ pub record IsRequest (names : List (List ℕ)) (line : List ℕ) (number : Optio
   pub ascii : IsAscii line
   pub spelled : SpellsNumbered names line number command
 
--- what is told of a command with a number, to a caller that is now d: the answer that it keeps, that the number is wrong,
--- or the refusal
+-- what is told of a command with a number, to a caller that is now d: the answer that it keeps, that the number is
+-- wrong, or the refusal
 abbrev pub IsToldAs : {C : Type 0} → Ghosts C → (d : C) → Told → Reply → Type 0
 IsToldAs caller d Fresh reply = (answer : Answer) × (caller.kept d ≡ Some answer) × (reply ≡ Answered answer)
 IsToldAs caller d Kept reply = (answer : Answer) × (caller.kept d ≡ Some answer) × (reply ≡ Answered answer)
@@ -44,7 +44,8 @@ reply_of AsKept None = Number
 -- nothing, or the front of a text that spells the reply, with its LF
 abbrev pub BeginsReply : Reply → List ℕ → Type 0
 BeginsReply reply written =
-    (written ≡ []) ⊎ ((text : List ℕ) × (unwritten : List ℕ) × SpellsReply text reply × (ended text ≡ written ++ unwritten))
+    (written ≡ [])
+    ⊎ ((text : List ℕ) × (unwritten : List ℕ) × SpellsReply text reply × (ended text ≡ written ++ unwritten))
 
 -- What one line does to a caller.
 module _ {C : Type 0} (caller : Ghosts C) (line : List ℕ) (c : C) where
@@ -54,7 +55,8 @@ module _ {C : Type 0} (caller : Ghosts C) (line : List ℕ) (c : C) where
     pub bad : reply ≡ BadLine
     pub unchanged : d ≡ c
 
-  -- a command without a number: the caller makes one call with it, whose answer is told; the last number and its answer stay
+  -- a command without a number: the caller makes one call with it, whose answer is told; the last number and its
+  -- answer stay
   pub record IsCalled (reply : Reply) (d : C) : Type 0 where
     pub command : Command
     pub readable : IsRequest (caller.names c) line None command

@@ -5,7 +5,8 @@ use Rattle.mps_wire.specs.Answers.{Answering, CutInLast, OfWholeLines}
 use Rattle.mps_wire.specs.Runs.{Going, ReadMost}
 use Rattle.mps_wire.specs.Streams.{Streams, Counts, all_went_well, one_read_ended, one_read_failed, one_write_failed}
 use Rattle.mps_wire.specs.declared.conversation.Ending.{Ending}
-use Rattle.mps_wire.specs.declared.conversation.Ending.TheVariants.{Closed, ReadFault, WriteFault, Turns, Memory, Untold}
+use Rattle.mps_wire.specs.declared.conversation.Ending.TheVariants.{Closed, ReadFault, WriteFault, Turns, Memory}
+use Rattle.mps_wire.specs.declared.conversation.Ending.TheVariants.{Untold}
 
 -- From a state on, whatever lines do to what state.
 module _ {S : Type 0} (answers : Answering S) (start : S) (before after : Streams) where
@@ -25,9 +26,11 @@ module _ {S : Type 0} (answers part : Answering S) (start : S) (before after : S
 
   -- what the lines came to, by how it ended
   abbrev pub EndedAs : S → Ending → Type 0
-  EndedAs st Closed = WasAnswered answers start before after st × Counts before after one_read_ended × IsAtEnd after.left
+  EndedAs st Closed =
+      WasAnswered answers start before after st × Counts before after one_read_ended × IsAtEnd after.left
   EndedAs st ReadFault = WasAnswered answers start before after st × Counts before after one_read_failed
-  EndedAs st Turns = WasAnswered answers start before after st × Counts before after all_went_well × ReadMost before after
+  EndedAs st Turns =
+      WasAnswered answers start before after st × Counts before after all_went_well × ReadMost before after
   EndedAs st WriteFault = WasCut st × Counts before after one_write_failed
   EndedAs st Memory = WasCut st × Counts before after all_went_well
   EndedAs st Untold = WasCut st × Counts before after all_went_well

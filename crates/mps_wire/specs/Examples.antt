@@ -1,5 +1,5 @@
--- What a conversation replies to numbered commands, as it was worked out by hand. The caller and the commands are those of
--- the worked journals of mps_room.
+-- What a conversation replies to numbered commands, as it was worked out by hand. The caller and the commands are
+-- those of the worked journals of mps_room.
 use Rattle.std.specs.Prelude.{◌≡◌, ℕ, [], ◌∷◌}
 use Rattle.mps_command.specs.declared.answer.Answer.{Answer}
 use Rattle.mps_command.specs.declared.answer.Answer.TheVariants.{Undone, Refused}
@@ -8,7 +8,8 @@ use Rattle.mps_command.specs.declared.command.Command.{Command}
 use Rattle.mps_line.specs.declared.write_replies.Reply.{Reply}
 use Rattle.mps_line.specs.declared.write_replies.Reply.TheVariants.{Answered, Number}
 use Rattle.mps_machine.specs.Examples.{done}
-use Rattle.mps_room.specs.Examples.{PlainCaller, plain_caller, Tells, send_five, mark_m, mark_k, undo_nine, undo_three, at_first, after_one, after_two, after_a_call, after_three}
+use Rattle.mps_room.specs.Examples.{PlainCaller, plain_caller, Tells, send_five, mark_m, mark_k, undo_nine, undo_three}
+use Rattle.mps_room.specs.Examples.{at_first, after_one, after_two, after_a_call, after_three}
 use Rattle.mps_room.specs.declared.numbers.Told.{Told}
 use Rattle.mps_wire.specs.Conversations.{IsToldAs}
 

@@ -17,8 +17,10 @@ mismatch = Refused (Violates Mismatch)
 module _ {C : Type 0} (caller : Ghosts C) (types : C → List LocalType) where
   -- calls leave the types, and where these are of one protocol none is answered `Mismatch`
   pub record MeetsNoMismatch : Type 0 where
-    pub same_types : (c : C) (command : Command) (answer : Answer) (d : C) → caller.calls c command answer d → types d ≡ types c
-    pub other : (c : C) (command : Command) (answer : Answer) (d : C) → AreOfOneProtocol (types c) → caller.calls c command answer d → answer ≢ mismatch
+    pub same_types : (c : C) (command : Command) (answer : Answer) (d : C) → caller.calls c command answer d
+        → types d ≡ types c
+    pub other : (c : C) (command : Command) (answer : Answer) (d : C) → AreOfOneProtocol (types c)
+        → caller.calls c command answer d → answer ≢ mismatch
 
   -- the types are of one protocol, and the caller keeps no such answer
   pub record HasNoMismatch (c : C) : Type 0 where

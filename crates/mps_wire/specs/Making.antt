@@ -11,7 +11,8 @@ use Rattle.mps_room.specs.declared.entry.Entry.{Entry}
 use Rattle.mps_room.specs.declared.numbers.Told.{Told}
 use Rattle.mps_room.specs.declared.numbers.Told.TheVariants.{Fresh, Kept, Wrong, Refused}
 use Rattle.mps_wire.specs.Answers.{AnswersCut, AnswersLines}
-use Rattle.mps_wire.specs.Conversations.{RepliesTo, Unread, Called, Numbered, Starved, RepliesInText, converses, converses_in_part}
+use Rattle.mps_wire.specs.Conversations.{RepliesTo, Unread, Called, Numbered, Starved, RepliesInText, converses}
+use Rattle.mps_wire.specs.Conversations.{converses_in_part}
 
 -- of one command: its entry, where the answer accepts it
 abbrev pub accepted_of : ℕ → Command → Answer → List Entry
@@ -19,29 +20,35 @@ accepted_of role command answer = if is_accepted answer then entry role command 
 
 module _ {C : Type 0} (caller : Ghosts C) where
   -- of a command with a number: only one that is called now makes an entry
-  abbrev pub accepted_anew : (c : C) (number : ℕ) (command : Command) (d : C) (came : Told) → IsNumbered caller.calls caller.last caller.kept c number command d came → List Entry
+  abbrev pub accepted_anew : (c : C) (number : ℕ) (command : Command) (d : C) (came : Told)
+      → IsNumbered caller.calls caller.last caller.kept c number command d came → List Entry
   accepted_anew c number command d Fresh n = entry (caller.role c) command n.answer ∷ []
   accepted_anew c number command d Kept n = []
   accepted_anew c number command d Wrong n = []
   accepted_anew c number command d (Refused refusal) n = []
 
-  abbrev pub accepted_reply : (line : List ℕ) (c : C) (reply : Reply) (d : C) → RepliesTo caller line c reply d → List Entry
+  abbrev pub accepted_reply : (line : List ℕ) (c : C) (reply : Reply) (d : C) → RepliesTo caller line c reply d
+      → List Entry
   accepted_reply line c reply d (Unread u) = []
   accepted_reply line c reply d (Called s) = accepted_of (caller.role c) s.command s.answer
   accepted_reply line c reply d (Numbered s) = accepted_anew c s.number s.command d s.came s.numbered
   accepted_reply line c reply d (Starved s) = []
 
   -- of one line
-  abbrev pub accepted_line : (line : List ℕ) (c : C) (text : List ℕ) (d : C) → RepliesInText caller line c text d → List Entry
+  abbrev pub accepted_line : (line : List ℕ) (c : C) (text : List ℕ) (d : C) → RepliesInText caller line c text d
+      → List Entry
   accepted_line line c text d a = accepted_reply line c a.reply d a.replies
 
   -- of lines that are answered
-  abbrev pub accepted_lines : (lines : List (List ℕ)) (c : C) (out : List ℕ) (d : C) → AnswersLines (converses caller) lines c out d → List Entry
+  abbrev pub accepted_lines : (lines : List (List ℕ)) (c : C) (out : List ℕ) (d : C)
+      → AnswersLines (converses caller) lines c out d → List Entry
   accepted_lines [] c out d a = []
   accepted_lines (l ∷ lines) c out d a = accepted_line l c a.0 a.2 a.4.line_is ++ accepted_lines lines a.2 a.1 d a.5
 
   -- of lines that are answered, the last of them in part
-  abbrev pub accepted_in_part : (lines : List (List ℕ)) (c : C) (out : List ℕ) (d : C) → AnswersCut (converses caller) (converses_in_part caller) lines c out d → List Entry
+  abbrev pub accepted_in_part : (lines : List (List ℕ)) (c : C) (out : List ℕ) (d : C)
+      → AnswersCut (converses caller) (converses_in_part caller) lines c out d → List Entry
   accepted_in_part [] c out d a = []
   accepted_in_part (l ∷ []) c out d a = accepted_reply l c a.reply d a.replies
-  accepted_in_part (l ∷ m ∷ lines) c out d a = accepted_line l c a.0 a.2 a.4.line_is ++ accepted_in_part (m ∷ lines) a.2 a.1 d a.5
+  accepted_in_part (l ∷ m ∷ lines) c out d a =
+      accepted_line l c a.0 a.2 a.4.line_is ++ accepted_in_part (m ∷ lines) a.2 a.1 d a.5

@@ -10,7 +10,8 @@ use Rattle.mps_wire.specs.declared.script.ReplayFault.{ReplayFault}
 use Rattle.mps_wire.specs.declared.script.ReplayFault.TheVariants.{Open, ReadFault, WriteFault, Turns, Memory}
 use Rattle.mps_wire.specs.Answers.{Answering, Answered, AnswersLines, CutAnywhere, OfAllLines, OfWholeLines}
 use Rattle.mps_wire.specs.Script.{AnswersLine}
-use Rattle.mps_wire.specs.Streams.{Streams, Counts, Counted, all_went_well, at_the_end, one_read_ended, one_read_failed, one_write_failed}
+use Rattle.mps_wire.specs.Streams.{Streams, Counts, Counted, all_went_well, at_the_end, one_read_ended, one_read_failed}
+use Rattle.mps_wire.specs.Streams.{one_write_failed}
 
 -- how often a stream is read from at most
 abbrev pub max_reads : ℕ
@@ -41,7 +42,8 @@ module _ {S : Type 0} (answers : Answering S) (start : S) (before after : Stream
     pub sent : Appends before.taken after.taken out
     pub answered : OfAllLines read (λ lines. AnswersLines answers lines start out st)
 
-  -- before the end: what was written are answers to the first whole lines of what was read, up to some place in the answers
+  -- before the end: what was written are answers to the first whole lines of what was read, up to some place in the
+  -- answers
   pub record Cut : Type 0 where
     pub read : List ℕ
     pub written : List ℕ
@@ -70,7 +72,8 @@ pub record ReadMost (before after : Streams) : Type 0 where
   pub gave : GaveAtLeast max_reads before after
 
 module _ {S : Type 0} (answers : Answering S) (start : S) (first before after : Streams) where
-  -- the answers break off after so much was counted, before the end was found or with it; first are the streams before the run
+  -- the answers break off after so much was counted, before the end was found or with it; first are the streams before
+  -- the run
   abbrev pub BreaksOff : Counted → Type 0
   BreaksOff t =
       (Cut answers start first after × Counts before after t)

@@ -1,5 +1,6 @@
 //! A conversation over streams.
-ghost use Rattle.std.specs.Prelude.{◌≡◌, ◌+◌, ◌<◌, ◌≤◌, ◌^◌, ◌++◌, ℕ, List, length, Some, Err, OnOk, OnErr, IfNone, false};
+ghost use Rattle.std.specs.Prelude.{◌≡◌, ◌+◌, ◌<◌, ◌≤◌, ◌^◌, ◌++◌, ℕ, List, length, Some, Err, OnOk, OnErr, IfNone};
+ghost use Rattle.std.specs.Prelude.{false};
 ghost use Rattle.mps_command.specs.declared.answer.Answer.{Answer as Response};
 ghost use Rattle.mps_command.specs.declared.command.Command.{Command as Asked};
 ghost use Rattle.mps_line.specs.Replies.{SpellsReply};
@@ -7,7 +8,8 @@ ghost use Rattle.mps_lines.specs.Lines.{ended, front, most_kept};
 ghost use Rattle.mps_wire.specs.Conversations.{RepliesTo, converses, converses_in_part, reply_of};
 ghost use Rattle.mps_wire.specs.declared.conversation.Broken.TheVariants.{Memory as NoMemory, Untold as MayNot};
 ghost use Rattle.mps_wire.specs.Endings.{EndedAs};
-ghost use Rattle.mps_wire.specs.Private.Endings.{TurnedTo, IsPartly, IsWholly, TakesOn, TakesToPart, begun_or, failed_by};
+ghost use Rattle.mps_wire.specs.Private.Endings.{TurnedTo, IsPartly, IsWholly, TakesOn, TakesToPart, begun_or};
+ghost use Rattle.mps_wire.specs.Private.Endings.{failed_by};
 ghost use Rattle.mps_wire.specs.Runs.{Going, max_reads};
 ghost use Rattle.mps_wire.specs.Streams.{streams};
 
@@ -113,10 +115,14 @@ impl Conversation {
         requires { W.failed_calls writer.old < 2 ^ 63 }
         ensures line { self.new.line.items ≡ self.old.line.items }
         ensures writes { W.failed_calls writer.new ≡ W.failed_calls writer.old + failed_by result }
-        ensures ok { (line : List ℕ) (start : C) → RepliesTo C.Caller line start (reply_of outcome (C.kept caller.now)) caller.now
-            → OnOk result (IsWholly (converses C.Caller) line start caller.now (W.taken writer.old) (W.taken writer.new)) }
-        ensures err { (line : List ℕ) (start : C) → RepliesTo C.Caller line start (reply_of outcome (C.kept caller.now)) caller.now
-            → OnErr result (IsPartly (converses_in_part C.Caller) line start caller.now (W.taken writer.old) (W.taken writer.new)) }
+        ensures ok { (line : List ℕ) (start : C)
+            → RepliesTo C.Caller line start (reply_of outcome (C.kept caller.now)) caller.now
+            → OnOk result
+            (IsWholly (converses C.Caller) line start caller.now (W.taken writer.old) (W.taken writer.new)) }
+        ensures err { (line : List ℕ) (start : C)
+            → RepliesTo C.Caller line start (reply_of outcome (C.kept caller.now)) caller.now
+            → OnErr result (IsPartly (converses_in_part C.Caller) line start caller.now (W.taken writer.old)
+            (W.taken writer.new)) }
         ensures untold { result ≡ Err MayNot → C.may_tell caller.now ≡ false }
     {
         self.put_reply(caller, outcome)?;
@@ -140,9 +146,11 @@ impl Conversation {
         requires writes { W.failed_calls writer.old < 2 ^ 63 }
         ensures writes { W.failed_calls writer.new ≡ W.failed_calls writer.old + failed_by result }
         ensures kept { OnOk result (length self.new.line.items ≤ most_kept) }
-        ensures ok { OnOk result (TakesOn (converses C.Caller) bytes.now self.old.line.items caller.old (W.taken writer.old)
+        ensures ok { OnOk result
+            (TakesOn (converses C.Caller) bytes.now self.old.line.items caller.old (W.taken writer.old)
             self.new.line.items caller.new (W.taken writer.new)) }
-        ensures err { OnErr result (TakesToPart (converses C.Caller) (converses_in_part C.Caller) bytes.now self.old.line.items
+        ensures err { OnErr result
+            (TakesToPart (converses C.Caller) (converses_in_part C.Caller) bytes.now self.old.line.items
             caller.old (W.taken writer.old) caller.new (W.taken writer.new)) }
         ensures untold { result ≡ Err MayNot → C.may_tell caller.new ≡ false }
     {
@@ -175,7 +183,8 @@ fn turn<C: Caller, R: Source, W: Sink>(
     ensures short { IfNone result (length going.new.line.items ≤ most_kept) }
     ensures reads { R.calls reader.new ≡ R.calls reader.old + 1 }
     ensures step { (start : C) (first : _)
-        → Going (converses C.Caller) start first (streams R.Source W.Sink reader.old writer.old) going.old.line.items caller.old
+        → Going (converses C.Caller) start first
+        (streams R.Source W.Sink reader.old writer.old) going.old.line.items caller.old
         → TurnedTo (converses C.Caller) (converses_in_part C.Caller) start first
         (streams R.Source W.Sink reader.old writer.old) (streams R.Source W.Sink reader.new writer.new)
         going.new.line.items caller.new result }
@@ -197,12 +206,12 @@ fn turn<C: Caller, R: Source, W: Sink>(
 
 /// Runs each line of the reader as a command of the caller, and writes its answer before it looks at the next line.
 ///
-/// A line may begin with a number and a space (`read_numbered`). A client that lost an answer sends the same line again:
-/// the command isn't run a second time, and its answer is written again. At the end a rest that no LF ends isn't run.
-/// The reader is asked for `PIECE` bytes at a time, `MAX_READS` times at most. After `Closed`, `ReadFault` or `Turns` each
-/// whole line that was read is answered; after `WriteFault` or `Memory` the first of them are, and the answer of the last
-/// of these may be written in part, or not at all. After `Untold` the answer of the last isn't written, since the caller says
-/// that it may not be told.
+/// A line may begin with a number and a space (`read_numbered`). A client that lost an answer sends the same line
+/// again: the command isn't run a second time, and its answer is written again. At the end a rest that no LF ends
+/// isn't run. The reader is asked for `PIECE` bytes at a time, `MAX_READS` times at most. After `Closed`, `ReadFault`
+/// or `Turns` each whole line that was read is answered; after `WriteFault` or `Memory` the first of them are, and the
+/// answer of the last of these may be written in part, or not at all. After `Untold` the answer of the last isn't
+/// written, since the caller says that it may not be told.
 pub fn converse<C: Caller, R: Source, W: Sink>(
     alloc: Global,
     caller: &mut C,

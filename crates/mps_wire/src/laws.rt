@@ -44,8 +44,8 @@ pub fn no_script_meets_a_mismatch()
     one_reply_line();
 }
 
-/// The accepted commands of a conversation are, in order, the entries that its caller made, where its lines are answered
-/// to their end, and where the last answer is written in part.
+/// The accepted commands of a conversation are, in order, the entries that its caller made, where its lines are
+/// answered to their end, and where the last answer is written in part.
 pub fn a_conversation_makes_its_commands<C: Caller>()
     ensures whole { (lines : List (List ℕ)) (before : C) (out : List ℕ) (after : C)
         (a : AnswersLines (converses C.Caller) lines before out after)

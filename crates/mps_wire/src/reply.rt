@@ -14,7 +14,8 @@ use mps_lines::MAX_LINE;
 use mps_room::{Caller, Told};
 use std::alloc::{AllocError, Global};
 
-/// What a line of a conversation came to. No memory is needed to have it, so it is there also where there is none for its text.
+/// What a line of a conversation came to. No memory is needed to have it, so it is there also where there is none for
+/// its text.
 #[derive(Debug, Drop)]
 pub enum Outcome {
     /// It is replied so.

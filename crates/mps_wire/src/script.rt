@@ -91,8 +91,8 @@ fn reply_with_show(room: &Room, answers: &mut Vec<u8>) -> Result<(), AllocError>
     write_answer(&room.tell_show(), answers)
 }
 
-// Gives the role's command to the room, and writes the answer after the others. Questions are answered apart, so that no
-// other line makes place for their answers.
+// Gives the role's command to the room, and writes the answer after the others. Questions are answered apart, so that
+// no other line makes place for their answers.
 fn reply_to_command(
     room: &mut Room,
     role: Role,

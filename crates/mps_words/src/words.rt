@@ -46,8 +46,8 @@ struct Range {
     most: u64,
 }
 
-// A word that a command needs, or an option: what it stands for, what the help says of it, and in which range it is, if it is a
-// number.
+// A word that a command needs, or an option: what it stands for, what the help says of it, and in which range it is,
+// if it is a number.
 struct Word {
     name: &'static str,
     help: &'static str,

@@ -13,7 +13,8 @@ pub record IsIndexed (index : List ℕ) (k : ℕ) (e : KeyedStep) : Type 0 where
   pub number : e.step.id ≡ place + 1
   pub key : slice_get index place ≡ Some k
 
-pub record IsKept (look : ℕ → Option Node) (size : ℕ) (oldest newest : Option ℕ) (by_role by_pair : List (Option ℕ)) (index : List ℕ) (es : List KeyedStep) : Type 0 where
+pub record IsKept (look : ℕ → Option Node) (size : ℕ) (oldest newest : Option ℕ) (by_role by_pair : List (Option ℕ))
+    (index : List ℕ) (es : List KeyedStep) : Type 0 where
   pub linked : AreNodes look es
   pub count : size ≡ length es
   pub first : oldest ≡ first_key (keys_of any_step es)
@@ -21,7 +22,8 @@ pub record IsKept (look : ℕ → Option Node) (size : ℕ) (oldest newest : Opt
   pub roles : length by_role ≡ 8
   pub pairs : length by_pair ≡ 64
   pub last_of : (p : ℕ) → p < 8 → slice_index_or by_role p None ≡ last_key None (keys_of (of_role p) es)
-  pub last_send : (p q : ℕ) → p < 8 → q < 8 → slice_index_or by_pair (p * 8 + q) None ≡ last_key None (keys_of (sends p q) es)
+  pub last_send : (p q : ℕ) → p < 8 → q < 8
+      → slice_index_or by_pair (p * 8 + q) None ≡ last_key None (keys_of (sends p q) es)
   pub rising : IsRising (steps es)
   pub small : AllByRecursion (λ e. IsSmall e.step) es
   pub indexed : (k : ℕ) (e : KeyedStep) → entry_at k es ≡ Some e → IsIndexed index k e

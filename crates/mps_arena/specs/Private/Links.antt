@@ -17,7 +17,9 @@ node_of es e = record {
   prev_of_role = key_before None e.key (keys_of (of_role e.step.role) es);
   next_send = key_after e.key (keys_of (like_sends e.step.role (effect e.step.act)) es);
   prev_send = key_before None e.key (keys_of (like_sends e.step.role (effect e.step.act)) es);
-  matched = matched_key e.key (keys_of (like e.step.role (effect e.step.act)) es) (keys_of (unlike e.step.role (effect e.step.act)) es);
+  matched =
+      matched_key e.key (keys_of (like e.step.role (effect e.step.act)) es)
+      (keys_of (unlike e.step.role (effect e.step.act)) es);
   marked = e.marked;
 }
 

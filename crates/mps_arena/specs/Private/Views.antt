@@ -15,8 +15,12 @@ arena_value a = record {
   entries = entries_of a;
   issued = length a.index.items;
   next_key = a.nodes.vacant_key;
-  is_ready = nat_lt (slab_len a.nodes) a.nodes.capacity && nat_lt (vec_len a.index) (vec_capacity a.index) && nat_lt (a.nodes.vacant_key + 1) (2 ^ 32);
+  is_ready =
+      nat_lt (slab_len a.nodes) a.nodes.capacity && nat_lt (vec_len a.index) (vec_capacity a.index)
+      && nat_lt (a.nodes.vacant_key + 1) (2 ^ 32);
 }
 
 abbrev pub IsArena : Inside → Type 0
-IsArena a = IsKept (get a.nodes) (slab_len a.nodes) a.ends.first a.ends.last a.ends.last_of a.ends.last_send a.index.items (entries_of a)
+IsArena a =
+    IsKept (get a.nodes) (slab_len a.nodes) a.ends.first a.ends.last a.ends.last_of a.ends.last_send a.index.items
+    (entries_of a)

@@ -24,7 +24,8 @@ HasRoom m = let p : Part = part_of m.0.parts in m ≡ with_room p (journal_in m.
 abbrev pub Grows : ℕ → List Entry → List Entry → Type 0
 Grows role k j = (j ≡ k) ⊎ ((e : Entry) × (e.role ≡ role) × (j ≡ k ++ e ∷ []))
 
--- the seat has one part, and the room with a legal journal: the one that it took, or that with one entry of its role more
+-- the seat has one part, and the room with a legal journal: the one that it took, or that with one entry of its role
+-- more
 pub record HasAnswered (m : Me RoomState SeatView) : Type 0 where
   pub before : List Entry
   pub room : m ≡ with_room (part_of m.0.parts) before (room_of (part_of m.0.parts).opening (journal_in m.1))
@@ -33,15 +34,20 @@ pub record HasAnswered (m : Me RoomState SeatView) : Type 0 where
 
 -- one look and one try took the room
 abbrev pub Took : Me RoomState SeatView → Me RoomState SeatView → Type 0
-Took m m' = let p : Part = part_of m.0.parts in (j : List Entry) × Shows j p × (m' ≡ with_room (raised (length j) p) j (room_of p.opening j))
+Took m m' =
+    let p : Part = part_of m.0.parts in (j : List Entry) × Shows j p
+    × (m' ≡ with_room (raised (length j) p) j (room_of p.opening j))
 
 -- or they missed it, and told this length
 abbrev pub Missed : Me RoomState SeatView → ℕ → Me RoomState SeatView → Type 0
-Missed m found m' = let p : Part = part_of m.0.parts in (j : List Entry) × (length j ≡ found) × Shows j p × (m' ≡ resting (raised found p) true)
+Missed m found m' =
+    let p : Part = part_of m.0.parts in (j : List Entry) × (length j ≡ found) × Shows j p
+    × (m' ≡ resting (raised found p) true)
 
 -- any number of looks and tries missed it
 abbrev pub Waited : Me RoomState SeatView → Me RoomState SeatView → Type 0
-Waited m m' = let p : Part = part_of m.0.parts in (f : ℕ) × (b : Bool) × (p.reported ≤ f) × (m' ≡ resting (raised f p) b)
+Waited m m' =
+    let p : Part = part_of m.0.parts in (f : ℕ) × (b : Bool) × (p.reported ≤ f) × (m' ≡ resting (raised f p) b)
 
 -- the room was given back with this journal
 abbrev pub Gave : Me RoomState SeatView → List Entry → Me RoomState SeatView → Type 0
@@ -50,10 +56,12 @@ Gave m j m' = m' ≡ resting (showing j (part_of m.0.parts)) false
 -- two seats with one part each met, over this journal
 abbrev pub Met : Me RoomState SeatView → Me RoomState SeatView → Me RoomState SeatView → Me RoomState SeatView → Type 0
 Met m l m' l' = let p : Part = part_of m.0.parts in let q : Part = part_of l.0.parts in
-    (j : List Entry) × (b : Bool) × Shows j p × Shows j q × (m' ≡ resting (raised (length j) p) b) × (l' ≡ resting (raised (length j) q) false)
+    (j : List Entry) × (b : Bool) × Shows j p × Shows j q × (m' ≡ resting (raised (length j) p) b)
+    × (l' ≡ resting (raised (length j) q) false)
 
 -- how the parts of a pass fit: its seat is one of the cell's with one part, which is of the role
-pub record IsSeated (seat : TableId) (me : Me RoomState SeatView) (table : TableId) (role seen : ℕ) (names : List (List ℕ)) : Type 0 where
+pub record IsSeated (seat : TableId) (me : Me RoomState SeatView) (table : TableId) (role seen : ℕ)
+    (names : List (List ℕ)) : Type 0 where
   pub cell : seat ≡ table
   pub word : table.words ≡ 1
   pub free : IsResting me

@@ -13,7 +13,8 @@ use Rattle.mps_hub.specs.declared.attending.Attended.TheVariants.{NoLine, Turned
 -- what the writer was given of the reply to a first line that gets no pass, by how the connection ended
 abbrev pub IsAnsweredFirst : {W : Type 0} → SinkGhosts W → W → W → Reply → Attended → Type 0
 IsAnsweredFirst sink old new reply NoLine = ⊥
-IsAnsweredFirst sink old new reply TurnedAway = (WasSent sink old new reply × (code_of reply ≢ 0)) ⊎ WasCutShort sink old new reply
+IsAnsweredFirst sink old new reply TurnedAway =
+    (WasSent sink old new reply × (code_of reply ≢ 0)) ⊎ WasCutShort sink old new reply
 IsAnsweredFirst sink old new reply (Conversed ending) = ⊥
 IsAnsweredFirst sink old new reply Memory = new ≡ old
 IsAnsweredFirst sink old new reply Unkept = ⊥
@@ -25,12 +26,14 @@ module _ {C R W : Type 0} (caller : Ghosts C) (source : SourceGhosts R) (sink : 
   abbrev pub HasJoined : Attended → Type 0
   HasJoined NoLine = ⊥
   HasJoined TurnedAway = WasCutShort sink writer writer' joined × (reader' ≡ reader)
-  HasJoined (Conversed ending) = WasConversation caller source sink joined before reader writer after reader' writer' ending
+  HasJoined (Conversed ending) =
+      WasConversation caller source sink joined before reader writer after reader' writer' ending
   HasJoined Memory = (writer' ≡ writer) × (reader' ≡ reader)
   HasJoined Unkept = (writer' ≡ writer) × (reader' ≡ reader)
 
 -- what such a caller came to, and the pass that it left
-pub record HasLeft {C R W : Type 0} (caller : Ghosts C) (pass : C → Known) (source : SourceGhosts R) (sink : SinkGhosts W) (joined : Reply)
+pub record HasLeft {C R W : Type 0} (caller : Ghosts C) (pass : C → Known) (source : SourceGhosts R)
+    (sink : SinkGhosts W) (joined : Reply)
     (before : C) (reader : R) (writer : W) (reader' : R) (writer' : W) (left : Known) (ended : Attended) : Type 0 where
   pub after : C
   pub joined_as : HasJoined caller source sink joined before reader writer after reader' writer' ended

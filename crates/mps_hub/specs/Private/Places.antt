@@ -12,9 +12,11 @@ AtHome cell passes = (i : ℕ) (k : Known) → slice_get passes i ≡ Some (Some
 
 -- the cell at each place is of these names, and of the session with the next number, which is this one for the first
 abbrev pub AreNumbered : List (List ℕ) → (first : ℕ) → List Opened → Type 0
-AreNumbered names first cells = (i : ℕ) (o : Opened) → slice_get cells i ≡ Some o → (o.opening.names ≡ names) × (o.opening.session ≡ first + i)
+AreNumbered names first cells =
+    (i : ℕ) (o : Opened) → slice_get cells i ≡ Some o → (o.opening.names ≡ names) × (o.opening.session ≡ first + i)
 
--- how the parts of a desk fit: its table has one word and one slot, and there are so many cells, numbered from this number on, with these names, and each number is one of 64 bits
+-- how the parts of a desk fit: its table has one word and one slot, and there are so many cells, numbered from this
+-- number on, with these names, and each number is one of 64 bits
 pub record IsDesk (table : TableId) (names : List (List ℕ)) (first sessions : ℕ) (cells : List Opened) : Type 0 where
   pub word : table.words ≡ 1
   pub slot : table.slots ≡ 1

@@ -8,7 +8,9 @@ use Rattle.mps_links.specs.Private.Order.{earlier}
 
 -- the roles' keys, where f changes that of the step's role
 abbrev pub at_role : List KeyedStep → ℕ → (Option ℕ → Option ℕ) → List (Option ℕ) → List (Option ℕ)
-at_role es k f firsts = unwrap_or (option_map (λ e. slice_set firsts e.step.role (f (slice_index_or firsts e.step.role None))) (entry_at k es)) firsts
+at_role es k f firsts =
+    unwrap_or (option_map (λ e. slice_set firsts e.step.role (f (slice_index_or firsts e.step.role None)))
+    (entry_at k es)) firsts
 
 -- the roles' keys, where the step is pending too, if it is there
 abbrev pub with_pending : List KeyedStep → Option ℕ → List (Option ℕ) → List (Option ℕ)

@@ -10,4 +10,6 @@ unmarked_of p e = record e { marked = if e.step.role == p then false else e.mark
 -- after a marked step of the role each step of the role is marked
 abbrev pub AreLastMarked : ℕ → List KeyedStep → Type 0
 AreLastMarked p [] = ⊤
-AreLastMarked p (e ∷ es) = (e.step.role ≡ p → e.marked ≡ true → AllByRecursion (λ f. f.step.role ≡ p → f.marked ≡ true) es) × AreLastMarked p es
+AreLastMarked p (e ∷ es) =
+    (e.step.role ≡ p → e.marked ≡ true → AllByRecursion (λ f. f.step.role ≡ p → f.marked ≡ true) es)
+    × AreLastMarked p es

@@ -60,19 +60,25 @@ mutual
   pub type_inj : (t u : LocalType) → type_code t ≡ type_code u → t ≡ u
   type_inj End End p = refl
   type_inj (Var x) (Var y) p = ap Var ((coded_list coded_ℕ).inj x y (ap (λ g. front (rest g)) p))
-  type_inj (Rec x t) (Rec y u) p = ap₂ Rec ((coded_list coded_ℕ).inj x y (ap (λ g. front (rest g)) p)) (type_inj t u (ap (λ g. rest (rest g)) p))
+  type_inj (Rec x t) (Rec y u) p =
+      ap₂ Rec ((coded_list coded_ℕ).inj x y (ap (λ g. front (rest g)) p)) (type_inj t u (ap (λ g. rest (rest g)) p))
   type_inj (Send a s t) (Send b r u) p =
-      λ i. Send (ap (λ g. kind (front (front (rest g)))) p i) (sort_inj s r (ap (λ g. rest (front (rest g))) p) i) (type_inj t u (ap (λ g. rest (rest g)) p) i)
+      λ i. Send (ap (λ g. kind (front (front (rest g)))) p i) (sort_inj s r (ap (λ g. rest (front (rest g))) p) i)
+      (type_inj t u (ap (λ g. rest (rest g)) p) i)
   type_inj (Recv a s t) (Recv b r u) p =
-      λ i. Recv (ap (λ g. kind (front (front (rest g)))) p i) (sort_inj s r (ap (λ g. rest (front (rest g))) p) i) (type_inj t u (ap (λ g. rest (rest g)) p) i)
-  type_inj (Select a b) (Select c d) p = ap₂ Select (ap (λ g. kind (front (rest g))) p) (branches_inj b d (ap (λ g. rest (rest g)) p))
-  type_inj (Branch a b) (Branch c d) p = ap₂ Branch (ap (λ g. kind (front (rest g))) p) (branches_inj b d (ap (λ g. rest (rest g)) p))
+      λ i. Recv (ap (λ g. kind (front (front (rest g)))) p i) (sort_inj s r (ap (λ g. rest (front (rest g))) p) i)
+      (type_inj t u (ap (λ g. rest (rest g)) p) i)
+  type_inj (Select a b) (Select c d) p =
+      ap₂ Select (ap (λ g. kind (front (rest g))) p) (branches_inj b d (ap (λ g. rest (rest g)) p))
+  type_inj (Branch a b) (Branch c d) p =
+      ap₂ Branch (ap (λ g. kind (front (rest g))) p) (branches_inj b d (ap (λ g. rest (rest g)) p))
   type_inj t u p = absurd (let e = ap kind p in omega arith)
 
   pub branches_inj : (b c : Branches) → branches_code b ≡ branches_code c → b ≡ c
   branches_inj NoMore NoMore p = refl
   branches_inj (More x t b) (More y u c) p =
-      λ i. More ((coded_list coded_ℕ).inj x y (ap (λ g. front (front (rest g))) p) i) (type_inj t u (ap (λ g. rest (front (rest g))) p) i) (branches_inj b c (ap (λ g. rest (rest g)) p) i)
+      λ i. More ((coded_list coded_ℕ).inj x y (ap (λ g. front (front (rest g))) p) i)
+      (type_inj t u (ap (λ g. rest (front (rest g))) p) i) (branches_inj b c (ap (λ g. rest (rest g)) p) i)
   branches_inj b c p = absurd (let e = ap kind p in omega arith)
 
 abbrev pub coded_local : Coded LocalType

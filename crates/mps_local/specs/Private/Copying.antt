@@ -1,8 +1,10 @@
 -- What a copy is made of.
 use Rattle.std.specs.Prelude.{ℕ, ◌+◌, ◌*◌, List, [], ◌∷◌, map, reverse, drop, slice_index_or}
-use Rattle.mps_local.specs.Local.{LocalType, Branches, End, Var, Rec, Send, Recv, Select, Branch, NoMore, More, plain, plain_branches}
+use Rattle.mps_local.specs.Local.{LocalType, Branches, End, Var, Rec, Send, Recv, Select, Branch, NoMore, More, plain}
+use Rattle.mps_local.specs.Local.{plain_branches}
 use Rattle.mps_local.specs.Private.Weights.{weight, branch_weight}
-use Rattle.mps_local.specs.declared.Local.{Local, End as End', Var as Var', Rec', Send', Recv', Select as Select', Branch as Branch'}
+use Rattle.mps_local.specs.declared.Local.{Local, End as End', Var as Var', Rec', Send', Recv', Select as Select'}
+use Rattle.mps_local.specs.declared.Local.{Branch as Branch'}
 use Rattle.mps_local.specs.declared.Branches.{Branches as Branches', NoMore as NoMore', More'}
 use Rattle.mps_local.specs.declared.copying.Made.{Made}
 use Rattle.mps_local.specs.declared.copying.Todo.{Todo}
@@ -14,7 +16,10 @@ pub record Stacks : Type 0 where
   pub branches : List Branches
 
 abbrev pub stacks : Made → Stacks
-stacks made = record { trees = reverse (map plain made.trees.items); branches = reverse (map plain_branches made.branches.items) }
+stacks made = record {
+  trees = reverse (map plain made.trees.items);
+  branches = reverse (map plain_branches made.branches.items);
+}
 
 abbrev pub nothing_made : Stacks
 nothing_made = record { trees = []; branches = [] }
@@ -52,7 +57,8 @@ with_node (Branch' peer branches) s = with_tree (Branch peer (last_branches s)) 
 -- a branch like the first of these, made of the last
 abbrev pub with_arm : Branches' → Stacks → Stacks
 with_arm NoMore' s = with_branches NoMore s
-with_arm (More' label p next q rest) s = with_branches (More label (last_tree s) (last_branches s)) (without_branches (without_tree s))
+with_arm (More' label p next q rest) s =
+    with_branches (More label (last_tree s) (last_branches s)) (without_branches (without_tree s))
 
 -- the stacks when the next is made
 abbrev pub with_next : Todo → Stacks → Stacks

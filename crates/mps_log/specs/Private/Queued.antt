@@ -1,5 +1,6 @@
 -- The messages of a pair that are left to show.
-use Rattle.std.specs.Prelude.{◌≡◌, ◌==◌, ℕ, suc, if◌then◌else◌, List, [], ◌∷◌, length, drop, Option, Some, None, slice_get}
+use Rattle.std.specs.Prelude.{◌≡◌, ◌==◌, ℕ, suc, if◌then◌else◌, List, [], ◌∷◌, length, drop, Option, Some, None}
+use Rattle.std.specs.Prelude.{slice_get}
 use Rattle.mps_base.specs.declared.action.Message.{Message}
 use Rattle.mps_history.specs.Steps.{unreceived}
 use Rattle.mps_arena.specs.Entries.{steps, AreSound}

@@ -17,9 +17,13 @@ CantFollow names types before after fault =
     HasStopped names types before after fault
     ⊎ ((second : List Entry) × HasRun names types before after second × (fault ≡ Memory))
 
--- The script was run to its end on a session of these names, with the types of the first session; and this is told of the first and of the one that it left: whether their views are equal, and whether exchanges of independent neighbours turn one history into the other, numbers aside.
-pub record HasFollowed (names : List (List ℕ)) (first : SessionState) (before after : Streams) (line : List ℕ) (status : ℕ) : Type 0 where
+-- The script was run to its end on a session of these names, with the types of the first session; and this is told of
+-- the first and of the one that it left: whether their views are equal, and whether exchanges of independent
+-- neighbours turn one history into the other, numbers aside.
+pub record HasFollowed (names : List (List ℕ)) (first : SessionState) (before after : Streams) (line : List ℕ)
+    (status : ℕ) : Type 0 where
   pub second : List Entry
   pub ran : HasRun names first.types before after second
-  pub views : Tells (view_of first.types first.state.history ≡ view_of first.types (run first.types second).history) line status
+  pub views : Tells
+      (view_of first.types first.state.history ≡ view_of first.types (run first.types second).history) line status
   pub swaps : Tells (Swaps first.state.history (run first.types second).history) line status

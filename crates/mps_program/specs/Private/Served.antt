@@ -27,7 +27,8 @@ TookOne P took taken = (text : List ℕ) × P text × Appends took taken text
 abbrev pub TellsPort : (wanted : ℕ) → List ℕ → Type 0
 TellsPort wanted line = (port : ℕ) × IsPortFor wanted port × IsListeningLine port line
 
--- how the serving itself may fail: it has no port, or can't tell it, it accepts no more, memory ran out, or the sessions fail to be kept
+-- how the serving itself may fail: it has no port, or can't tell it, it accepts no more, memory ran out, or the
+-- sessions fail to be kept
 abbrev pub IsHubFault : Option (List ℕ) → (first n : ℕ) → ToolFault → Type 0
 IsHubFault folder first n Write = ⊤
 IsHubFault folder first n (Bind why) = ⊤

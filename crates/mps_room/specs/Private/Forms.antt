@@ -13,7 +13,8 @@ use Rattle.mps_session.specs.declared.gist.Gist.{Gist}
 use Rattle.mps_session.specs.declared.gist.Gist.TheVariants.{Stepped, Undid, TookBack}
 use Rattle.mps_room.specs.Private.Shorts.{Short, place_of}
 use Rattle.mps_room.specs.declared.narrow_entry.Form.{Form}
-use Rattle.mps_room.specs.declared.narrow_entry.Form.TheVariants.{Sent, Chose, Received, Picked, Marked, Committed, Undone, RolledBack, WentBack}
+use Rattle.mps_room.specs.declared.narrow_entry.Form.TheVariants.{Sent, Chose, Received, Picked, Marked, Committed}
+use Rattle.mps_room.specs.declared.narrow_entry.Form.TheVariants.{Undone, RolledBack, WentBack}
 
 -- whose entry it is
 abbrev pub role_in : Form → ℕ
@@ -63,7 +64,10 @@ source_in form = None
 
 -- the entry in short
 abbrev pub short_in : Form → Short
-short_in form = record { entry = record { role = role_in form; command = command_in form; answer = answer_in form }; source = source_in form }
+short_in form = record {
+  entry = record { role = role_in form; command = command_in form; answer = answer_in form };
+  source = source_in form;
+}
 
 -- the answer of this gist, without the message that was taken
 abbrev pub bare : Gist → Answer
@@ -77,7 +81,10 @@ source_place places gist = option_and_then (place_of places) (source_of gist)
 
 -- the entry in short of role p's command, by the gist of its answer and the place of the entry that gave the message
 abbrev pub short : ℕ → Command → Gist → Option ℕ → Short
-short p command gist place = record { entry = record { role = p; command = command; answer = bare gist }; source = place }
+short p command gist place = record {
+  entry = record { role = p; command = command; answer = bare gist };
+  source = place;
+}
 
 -- a step of this kind takes a message, or none
 abbrev pub TakesSuch : Forward → Option ℕ → Type 0

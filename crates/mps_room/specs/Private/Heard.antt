@@ -1,5 +1,6 @@
 -- Which entries are news to a role.
-use Rattle.std.specs.Prelude.{◌≡◌, ℕ, suc, ◌<◌, ◌≤◌, Bool, true, false, ◌==◌, ◌&&◌, not, if◌then◌else◌, List, [], ◌∷◌, ◌++◌, length, slice_get, slice_index_or}
+use Rattle.std.specs.Prelude.{◌≡◌, ℕ, suc, ◌<◌, ◌≤◌, Bool, true, false, ◌==◌, ◌&&◌, not, if◌then◌else◌, List, [], ◌∷◌}
+use Rattle.std.specs.Prelude.{◌++◌, length, slice_get, slice_index_or}
 use Rattle.std.specs.List.{list_any}
 use Rattle.std.specs.Option.{option_map_or}
 use Rattle.mps_command.specs.declared.command.Command.{Command}
@@ -13,7 +14,8 @@ takes_others (Rollback n) = true
 takes_others (Back name) = true
 takes_others command = false
 
--- whether role p hears of it that role q takes back these steps: it is another role's doing, and one of them is in p's set
+-- whether role p hears of it that role q takes back these steps: it is another role's doing, and one of them is in p's
+-- set
 abbrev pub hears : (set : ℕ → Bool) → (p q : ℕ) → List ℕ → Bool
 hears set p q ids = not (q == p) && list_any set ids
 

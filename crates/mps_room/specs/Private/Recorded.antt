@@ -16,7 +16,8 @@ IsShort n Memory = n < most_entries
 IsShort n refusal = ⊥
 
 -- the journal is legal, the session is as its commands leave it, and the owners and what each role hears of are known
-pub record IsRecorded (names : List (List ℕ)) (session : SessionState) (owned : List ℕ) (hearers : ℕ) (lists : List (List ℕ)) (j : List Entry) : Type 0 where
+pub record IsRecorded (names : List (List ℕ)) (session : SessionState) (owned : List ℕ) (hearers : ℕ)
+    (lists : List (List ℕ)) (j : List Entry) : Type 0 where
   pub count : length names ≡ length session.types
   pub legal : IsLegal names session.types j
   pub state : session.state ≡ run session.types j
@@ -26,6 +27,7 @@ pub record IsRecorded (names : List (List ℕ)) (session : SessionState) (owned 
   pub heard : AreHeard hearers lists j
 
 -- the same of the journal of entries in short, which can be traced
-pub record IsKept (names : List (List ℕ)) (session : SessionState) (owned places : List ℕ) (hearers : ℕ) (lists : List (List ℕ)) (js : List Short) : Type 0 where
+pub record IsKept (names : List (List ℕ)) (session : SessionState) (owned places : List ℕ) (hearers : ℕ)
+    (lists : List (List ℕ)) (js : List Short) : Type 0 where
   pub recorded : IsRecorded names session owned hearers lists (journal_of js)
   pub traced : AreTraced places owned session.state.history js

@@ -1,4 +1,5 @@
--- Entries in short, as a journal keeps them: a receipt names the entry of its send in place of the message that it took.
+-- Entries in short, as a journal keeps them: a receipt names the entry of its send in place of the message that it
+-- took.
 use Rattle.std.specs.Prelude.{◌≡◌, ℕ, zero, suc, List, map, length, Option, Some, None, slice_get, IsSome, IfSome}
 use Rattle.std.specs.List.{AllByRecursion}
 use Rattle.std.specs.Option.{option_and_then}
@@ -37,7 +38,11 @@ with_message got answer = answer
 
 -- the entry itself
 abbrev pub whole : List Short → Short → Entry
-whole js s = record { role = s.entry.role; command = s.entry.command; answer = with_message (message_of js s) s.entry.answer }
+whole js s = record {
+  role = s.entry.role;
+  command = s.entry.command;
+  answer = with_message (message_of js s) s.entry.answer;
+}
 
 -- the journal of these entries
 abbrev pub journal_of : List Short → List Entry
@@ -60,7 +65,8 @@ IsFound places js s = (m : Message) → given_by s.act ≡ Some m → given_at p
 abbrev pub IsGiven : List Short → Option ℕ → Type 0
 IsGiven js source = IfSome source (λ k. IsSome (message_at js k))
 
--- each step has a place, what each surviving step gave is found there, and each receipt names an entry that gave a message
+-- each step has a place, what each surviving step gave is found there, and each receipt names an entry that gave a
+-- message
 pub record AreTraced (places owners : List ℕ) (h : List Step) (js : List Short) : Type 0 where
   pub count : length places ≡ length owners
   pub found : AllByRecursion (λ s. IsFound places js s) h

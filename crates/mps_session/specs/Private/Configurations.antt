@@ -1,5 +1,6 @@
 -- What a session keeps, as lists, and how an act changes it.
-use Rattle.std.specs.Prelude.{◌≡◌, ℕ, ◌+◌, ◌<◌, ◌≤◌, ⊤, List, Option, Some, None, slice_get, slice_index_or, slice_set, IsSome}
+use Rattle.std.specs.Prelude.{◌≡◌, ℕ, ◌+◌, ◌<◌, ◌≤◌, ⊤, List, Option, Some, None, slice_get, slice_index_or, slice_set}
+use Rattle.std.specs.Prelude.{IsSome}
 use Rattle.mps_base.specs.declared.action.Act.{Act}
 use Rattle.mps_base.specs.Effects.{Effect, Gives, Takes, Idle, effect}
 use Rattle.mps_base.specs.declared.action.Message.{Message}
@@ -67,7 +68,9 @@ fault_in c p act t = act_fault (unfolded t) act (moved_in c p act)
 -- the act of role p, where its type allows it, leads to that node
 abbrev pub LeadsTo : Lists → ℕ → Act → ℕ → Type 0
 LeadsTo c p act node =
-    (before after : Participant) → StandsAt c p before.to_come → participant_after before act (moved_in c p act) ≡ Some after → StandsFor (cursor_of c p).table node after.to_come
+    (before after : Participant) → StandsAt c p before.to_come
+    → participant_after before act (moved_in c p act) ≡ Some after
+    → StandsFor (cursor_of c p).table node after.to_come
 
 -- the peer is below 8, and there is a message where one is taken
 abbrev pub IsReadyEffect : Lists → ℕ → Effect → Type 0

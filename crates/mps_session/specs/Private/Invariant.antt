@@ -22,7 +22,8 @@ pub record AreCursors (n : ℕ) (cursors : List Cursor) (v : View) : Type 0 wher
 -- each step keeps a node for what its role could still do right before it
 abbrev pub ArePlaced : List LocalType → Lists → Type 0
 ArePlaced types c =
-    (a b : List KeyedStep) (e : KeyedStep) → c.entries ≡ a ++ e ∷ b → StandsFor (cursor_of c e.step.role).table e.before.at ((view_of types (steps a)).participant e.step.role).to_come
+    (a b : List KeyedStep) (e : KeyedStep) → c.entries ≡ a ++ e ∷ b → StandsFor
+    (cursor_of c e.step.role).table e.before.at ((view_of types (steps a)).participant e.step.role).to_come
 
 -- what the session keeps is the view of its steps, which its roles did, and numbers are still counted
 pub record Holds (types : List LocalType) (c : Lists) : Type 0 where

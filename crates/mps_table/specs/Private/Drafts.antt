@@ -4,7 +4,8 @@ use Rattle.mps_local.specs.Local.{LocalType, Branches}
 use Rattle.mps_table.specs.declared.row.TableRow.{TableRow}
 use Rattle.mps_table.specs.declared.laying.Bound.{Bound, Nothing, Inside'}
 use Rattle.mps_table.specs.declared.laying.Draft.{Draft}
-use Rattle.mps_table.specs.Private.Laying.{Places, put_node, start, all_rows, branch_rows, all_labels, branch_labels, all_targets, branch_targets}
+use Rattle.mps_table.specs.Private.Laying.{Places, put_node, start, all_rows, branch_rows, all_labels, branch_labels}
+use Rattle.mps_table.specs.Private.Laying.{all_targets, branch_targets}
 
 -- the nodes of the variables of the `rec`s around a tree, the nearest first
 abbrev pub places_of : Bound → Places
@@ -27,12 +28,14 @@ label_count d = length d.labels.items
 -- the type is laid out after what the old draft has
 abbrev pub Lays : (old new : Draft) → Places → LocalType → Type 0
 Lays old new places t =
-    Adds old new (all_rows places (row_count old) (label_count old) t) (all_labels t) (all_targets places (row_count old) t)
+    Adds old new (all_rows places (row_count old) (label_count old) t) (all_labels t)
+    (all_targets places (row_count old) t)
 
 -- the branches are
 abbrev pub LaysBranches : (old new : Draft) → Places → Branches → Type 0
 LaysBranches old new places b =
-    Adds old new (branch_rows places (row_count old) (label_count old) b) (branch_labels b) (branch_targets places (row_count old) b)
+    Adds old new (branch_rows places (row_count old) (label_count old) b) (branch_labels b)
+    (branch_targets places (row_count old) b)
 
 -- where no variable is bound
 abbrev pub nowhere : Places

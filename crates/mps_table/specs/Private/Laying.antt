@@ -1,5 +1,5 @@
--- A local type laid out as a table: actions and ends in preorder, each choice's own labels before those of its branches.
--- A `rec` has no row: its node is that of its body, and a variable's that of its `rec`.
+-- A local type laid out as a table: actions and ends in preorder, each choice's own labels before those of its
+-- branches. A `rec` has no row: its node is that of its body, and a variable's that of its `rec`.
 use Rattle.std.specs.Prelude.{ℕ, ◌+◌, if◌then◌else◌, List, [], ◌∷◌, ◌++◌, length}
 use Rattle.std.specs.Str.{bytes_eq}
 use Rattle.mps_local.specs.Local as local
@@ -87,9 +87,11 @@ abbrev mutual
   all_rows places at first (local.Recv peer sort u) =
       Recv peer sort (start places (at + 1) u) ∷ all_rows places (at + 1) first u
   all_rows places at first (local.Select peer branches) =
-      Select peer first (length (labels branches)) ∷ branch_rows places (at + 1) (first + length (labels branches)) branches
+      Select peer first (length (labels branches))
+      ∷ branch_rows places (at + 1) (first + length (labels branches)) branches
   all_rows places at first (local.Branch peer branches) =
-      Branch peer first (length (labels branches)) ∷ branch_rows places (at + 1) (first + length (labels branches)) branches
+      Branch peer first (length (labels branches))
+      ∷ branch_rows places (at + 1) (first + length (labels branches)) branches
 
   pub branch_rows : Places → (at first : ℕ) → Branches → List TableRow
   branch_rows places at first local.NoMore = []

@@ -1,5 +1,6 @@
 -- The token in front, found from left to right.
-use Rattle.std.specs.Prelude.{◌≡◌, ℕ, zero, suc, ◌+◌, Bool, ◌==◌, nat_le, ◌&&◌, ◌||◌, not, List, [], ◌∷◌, length, take, drop, codes, Result, Ok, Err, if◌then◌else◌}
+use Rattle.std.specs.Prelude.{◌≡◌, ℕ, zero, suc, ◌+◌, Bool, ◌==◌, nat_le, ◌&&◌, ◌||◌, not, List, [], ◌∷◌, length, take}
+use Rattle.std.specs.Prelude.{drop, codes, Result, Ok, Err, if◌then◌else◌}
 use Rattle.std.specs.List.{list_all, list_any}
 use Rattle.std.specs.Str.{bytes_eq}
 use Rattle.mps_base.specs.Names.{is_lower, is_upper, is_name_byte, is_variable_byte, reserved_words}
@@ -60,7 +61,9 @@ word_len bytes = if is_word (take (run_len bytes) bytes) then run_len bytes else
 
 -- how many bytes the token in front takes, 0 where none stands there
 unfoldable pub token_len : List ℕ → ℕ
-token_len bytes = if bytes_eq (take 2 bytes) (codes "->") then 2 else (if first_is is_punctuation_byte bytes then 1 else word_len bytes)
+token_len bytes =
+    if bytes_eq (take 2 bytes) (codes "->") then 2 else
+    (if first_is is_punctuation_byte bytes then 1 else word_len bytes)
 
 -- a token, how many bytes are left from its first one on, and those after it
 pub record Lexeme : Type 0 where
@@ -90,7 +93,8 @@ is_name bytes = nat_le (length bytes) 32 && is_small_word bytes && not (list_any
 abbrev pub is_variable : List ℕ → Bool
 is_variable bytes = nat_le (length bytes) 32 && is_capital_word bytes
 
--- what stands in a text: its tokens, each with how many bytes are left from its first one on, up to the end or to what is no token
+-- what stands in a text: its tokens, each with how many bytes are left from its first one on, up to the end or to what
+-- is no token
 pub data Lexed : Type 0 where
   Ended : Lexed
   Malformed : (left : ℕ) → Lexed

@@ -1,5 +1,6 @@
 -- Reading tokens from left to right, up to the first fault.
-use Rattle.std.specs.Prelude.{◌≡◌, ℕ, ◌+◌, ◌-◌, ⊤, Bool, true, false, ◌==◌, ◌&&◌, nat_lt, List, [], ◌∷◌, ◌++◌, codes, Option, Some, None, Result, Ok, Err, if◌then◌else◌}
+use Rattle.std.specs.Prelude.{◌≡◌, ℕ, ◌+◌, ◌-◌, ⊤, Bool, true, false, ◌==◌, ◌&&◌, nat_lt, List, [], ◌∷◌, ◌++◌, codes}
+use Rattle.std.specs.Prelude.{Option, Some, None, Result, Ok, Err, if◌then◌else◌}
 use Rattle.std.specs.Str.{bytes_eq}
 use Rattle.mps_base.specs.Names.{IsName, IsVariable}
 use Rattle.mps_base.specs.declared.value.Sort.{Sort}
@@ -7,7 +8,8 @@ use Rattle.mps_base.specs.declared.value.Sort.TheVariants.{Int, Bool as Truth, T
 use Rattle.mps_global.specs.Global.{GlobalType, Branches, End, Var, Rec, Message, Choice, NoMore, More}
 use Rattle.mps_base.specs.Sorts.{sort_word}
 use Rattle.mps_text.specs.Grammar.{AreNamed, HaveBranches}
-use Rattle.mps_text.specs.Private.Lexing.{Fault, ◌>>=◌, Lexed, Ended, Malformed, Next, lexed, tokens_in, is_name, is_variable}
+use Rattle.mps_text.specs.Private.Lexing.{Fault, ◌>>=◌, Lexed, Ended, Malformed, Next, lexed, tokens_in, is_name}
+use Rattle.mps_text.specs.Private.Lexing.{is_variable}
 use Rattle.mps_text.specs.declared.fault.TextKind.TheVariants.{Word, Unexpected, TooManyNodes, TooDeep, Trailing}
 use Rattle.mps_text.specs.declared.lexing.Cursor.{Cursor}
 use Rattle.mps_text.specs.declared.lexing.Halt.{Halt}
@@ -142,7 +144,8 @@ run (x ∷ stack) nodes Ended = Err (0, Unexpected)
 run stack nodes (Malformed left) = Err (left, Word)
 run [] nodes (Next token left rest) = Err (left, Trailing)
 run (x ∷ stack) nodes (Next token left rest) =
-    pushed_by left (step x token) >>= λ pushed. counted (start_of x) nodes left >>= λ more. run (pushed ++ stack) more rest
+    pushed_by left (step x token) >>= λ pushed. counted (start_of x) nodes left >>= λ more. run
+    (pushed ++ stack) more rest
 
 -- a whole protocol
 abbrev pub whole : List Symbol
@@ -161,13 +164,16 @@ tokens_from cursor = tokens_in (lexed cursor.rest.now)
 abbrev pub Takes : Result Lexeme' Halt → Cursor → Cursor → Type 0
 Takes (Ok next) old new = lexed old.rest.now ≡ Next next.token.now next.left (lexed new.rest.now)
 Takes (Err halts.Memory) old new = ⊤
-Takes (Err (halts.At left kind)) old new = (x : Symbol) (others : List Symbol) → run_from (x ∷ others) old ≡ Err (left, kind)
+Takes (Err (halts.At left kind)) old new =
+    (x : Symbol) (others : List Symbol) → run_from (x ∷ others) old ≡ Err (left, kind)
 
 -- the stack's symbols are read, but for those that come then, or the first fault is found
 abbrev pub Reads : {X : Type 0} → List Symbol → (X → List Symbol) → Cursor → Cursor → Result X Halt → Type 0
-Reads stack behind old new (Ok x) = (others : List Symbol) → run_from (stack ++ others) old ≡ run_from (behind x ++ others) new
+Reads stack behind old new (Ok x) =
+    (others : List Symbol) → run_from (stack ++ others) old ≡ run_from (behind x ++ others) new
 Reads stack behind old new (Err halts.Memory) = ⊤
-Reads stack behind old new (Err (halts.At left kind)) = (others : List Symbol) → run_from (stack ++ others) old ≡ Err (left, kind)
+Reads stack behind old new (Err (halts.At left kind)) =
+    (others : List Symbol) → run_from (stack ++ others) old ≡ Err (left, kind)
 
 -- so much for all of the text
 abbrev pub ReadsAll : {X : Type 0} → List ℕ → Result X Halt → Type 0
@@ -191,12 +197,14 @@ abbrev mutual
   tokens_before (Rec name body) rest = codes "rec" ∷ name ∷ codes "." ∷ tokens_before body rest
   tokens_before (Message sender receiver sort next) rest =
       sender ∷ codes "->" ∷ receiver ∷ codes ":" ∷ sort_word sort ∷ codes "." ∷ tokens_before next rest
-  tokens_before (Choice sender receiver branches) rest = sender ∷ codes "->" ∷ receiver ∷ branches_before (codes "{") branches rest
+  tokens_before (Choice sender receiver branches) rest =
+      sender ∷ codes "->" ∷ receiver ∷ branches_before (codes "{") branches rest
 
   -- branches, with this token before the first and a comma before each other, and `}`, and then others
   pub branches_before : List ℕ → Branches → List (List ℕ) → List (List ℕ)
   branches_before sep NoMore rest = codes "}" ∷ rest
-  branches_before sep (More label next others) rest = sep ∷ label ∷ codes ":" ∷ tokens_before next (branches_before (codes ",") others rest)
+  branches_before sep (More label next others) rest =
+      sep ∷ label ∷ codes ":" ∷ tokens_before next (branches_before (codes ",") others rest)
 
 -- what stands after the receiver, up to the sort and `.` or to `{`
 abbrev pub exchange_tokens : Option Sort → List (List ℕ) → List (List ℕ)

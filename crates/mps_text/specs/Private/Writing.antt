@@ -1,6 +1,7 @@
 -- What a protocol is written from.
 use Rattle.std.specs.Prelude.{ℕ, ◌+◌, List, [], ◌∷◌, ◌++◌, codes}
-use Rattle.mps_global.specs.Global.{GlobalType, Branches, End, Var, Rec, Message, Choice, NoMore, More, plain, plain_branches}
+use Rattle.mps_global.specs.Global.{GlobalType, Branches, End, Var, Rec, Message, Choice, NoMore, More, plain}
+use Rattle.mps_global.specs.Global.{plain_branches}
 use Rattle.mps_base.specs.Sorts.{sort_word}
 use Rattle.mps_global.specs.Private.Weights.{weight, branch_weight}
 use Rattle.mps_text.specs.Grammar.{IsNamed, AreNamed}

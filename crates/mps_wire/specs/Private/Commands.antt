@@ -16,14 +16,16 @@ use Rattle.mps_room.specs.declared.numbers.Told.{Told}
 use Rattle.mps_wire.specs.Conversations.{IsToldAs}
 
 -- the texts of old and a text that answers the role's command, and the journal after it
-abbrev pub IsAnswered : (names : List (List ℕ)) → List LocalType → (journal : List Entry) → ℕ → Command → (after : List Entry) → (old new : List ℕ) → Type 0
+abbrev pub IsAnswered : (names : List (List ℕ)) → List LocalType → (journal : List Entry) → ℕ → Command
+    → (after : List Entry) → (old new : List ℕ) → Type 0
 IsAnswered names types journal role command after old new =
     (answer : Answer) × IsReply answer (journals.reply names types journal role command)
     × (after ≡ grown journal role command answer)
     × Appends (λ text. SpellsReply text (Answered answer)) old new
 
 -- a command with a number was given, and the reply tells what came of it
-pub record RepliesToNumbered {C : Type 0} (caller : Ghosts C) (c : C) (number : ℕ) (command : Command) (reply : Reply) (d : C) : Type 0 where
+pub record RepliesToNumbered {C : Type 0} (caller : Ghosts C) (c : C) (number : ℕ) (command : Command) (reply : Reply)
+    (d : C) : Type 0 where
   pub came : Told
   pub numbered : IsNumbered caller.calls caller.last caller.kept c number command d came
   pub told : IsToldAs caller d came reply

@@ -9,13 +9,16 @@ use Rattle.mps_wire.specs.Streams.{Streams, Counts, all_went_well, one_read_ende
 use Rattle.mps_wire.specs.declared.conversation.Broken.{Broken}
 use Rattle.mps_wire.specs.declared.conversation.Broken.TheVariants.{Write, Memory as NoMemory, Untold as Unsaid}
 use Rattle.mps_wire.specs.declared.conversation.Ending.{Ending}
-use Rattle.mps_wire.specs.declared.conversation.Ending.TheVariants.{Closed, ReadFault, WriteFault, Turns, Memory, Untold}
+use Rattle.mps_wire.specs.declared.conversation.Ending.TheVariants.{Closed, ReadFault, WriteFault, Turns, Memory}
+use Rattle.mps_wire.specs.declared.conversation.Ending.TheVariants.{Untold}
 
 module _ {S : Type 0} (answers part : Answering S) (start : S) (first before after : Streams) where
   -- what one read and its answers lead to: it goes on, or it ended; first are the streams before the conversation
   abbrev pub TurnedTo : List ℕ → S → Option Ending → Type 0
-  TurnedTo kept st None = Going answers start first after kept st × Counts before after all_went_well × GaveAtLeast 1 before after
-  TurnedTo kept st (Some Closed) = WasAnswered answers start first after st × Counts before after one_read_ended × IsAtEnd after.left
+  TurnedTo kept st None =
+      Going answers start first after kept st × Counts before after all_went_well × GaveAtLeast 1 before after
+  TurnedTo kept st (Some Closed) =
+      WasAnswered answers start first after st × Counts before after one_read_ended × IsAtEnd after.left
   TurnedTo kept st (Some ReadFault) = WasAnswered answers start first after st × Counts before after one_read_failed
   TurnedTo kept st (Some Turns) = ⊥
   TurnedTo kept st (Some WriteFault) = WasCut answers part start first after st × Counts before after one_write_failed
@@ -30,13 +33,15 @@ failed_by (Err NoMemory) = 0
 failed_by (Err Unsaid) = 0
 
 -- one line is answered, and its answer is written: the whole of it
-pub record IsWholly {S : Type 0} (answers : Answering S) (line : List ℕ) (c d : S) (taken taken' : Option (List ℕ)) : Type 0 where
+pub record IsWholly {S : Type 0} (answers : Answering S) (line : List ℕ) (c d : S) (taken taken' : Option (List ℕ))
+    : Type 0 where
   pub text : List ℕ
   pub line_is : answers line c text d
   pub sent : Appends taken taken' (ended text)
 
 -- or a part of it
-pub record IsPartly {S : Type 0} (part : Answering S) (line : List ℕ) (c d : S) (taken taken' : Option (List ℕ)) : Type 0 where
+pub record IsPartly {S : Type 0} (part : Answering S) (line : List ℕ) (c d : S) (taken taken' : Option (List ℕ))
+    : Type 0 where
   pub written : List ℕ
   pub line_is : part line c written d
   pub sent : Appends taken taken' written
@@ -47,11 +52,16 @@ begun_or [] piece = piece
 begun_or (c ∷ line) piece = c ∷ line
 
 -- bytes are taken line by line, and their answers written
-abbrev pub TakesOn : {S : Type 0} → Answering S → (bytes kept : List ℕ) → S → Option (List ℕ) → List ℕ → S → Option (List ℕ) → Type 0
-TakesOn {S} answers bytes kept c taken kept' d taken' = (first : S) (before out : List ℕ) → Answered answers first before kept out c
+abbrev pub TakesOn : {S : Type 0} → Answering S → (bytes kept : List ℕ) → S → Option (List ℕ) → List ℕ → S
+    → Option (List ℕ) → Type 0
+TakesOn {S} answers bytes kept c taken kept' d taken' =
+    (first : S) (before out : List ℕ) → Answered answers first before kept out c
     → (more : List ℕ) × Appends taken taken' more × Answered answers first (before ++ bytes) kept' (out ++ more) d
 
 -- the same, where that breaks off
-abbrev pub TakesToPart : {S : Type 0} → Answering S → Answering S → (bytes kept : List ℕ) → S → Option (List ℕ) → S → Option (List ℕ) → Type 0
-TakesToPart {S} answers part bytes kept c taken d taken' = (first : S) (before out : List ℕ) → Answered answers first before kept out c
-    → (more : List ℕ) × Appends taken taken' more × OfWholeLines (before ++ bytes) (λ lines. CutInLast answers first part lines (out ++ more) d)
+abbrev pub TakesToPart : {S : Type 0} → Answering S → Answering S → (bytes kept : List ℕ) → S → Option (List ℕ) → S
+    → Option (List ℕ) → Type 0
+TakesToPart {S} answers part bytes kept c taken d taken' =
+    (first : S) (before out : List ℕ) → Answered answers first before kept out c
+    → (more : List ℕ) × Appends taken taken' more
+    × OfWholeLines (before ++ bytes) (λ lines. CutInLast answers first part lines (out ++ more) d)
