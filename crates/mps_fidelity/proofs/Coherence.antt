@@ -1,5 +1,5 @@
 -- Two roles' types with what waits between them: coherent where the types are dual once the messages that wait are received.
-use Rattle.std.proofs.Common.{◌≡◌, ℕ, zero, suc, ◌⊎◌, inl, inr, List, [], ◌∷◌, ◌++◌, Some, refl, sym, subst}
+use Rattle.std.proofs.Common.{arith, ◌≡◌, ℕ, zero, suc, ◌⊎◌, inl, List, [], ◌∷◌, ◌++◌, Some, refl}
 use Rattle.std.specs.Prelude.{⊤}
 use Rattle.mps_base.specs.declared.action.Message.{Message}
 use Rattle.mps_local.specs.Local.{LocalType}
@@ -44,8 +44,7 @@ first_moves n p q t u m x (first_sends a b g) i e = absurd (i.not_to a)
 first_moves n p q t u m x (second_sends a b g) i e = absurd (i.not_from b)
 
 after_none : (n p q : ℕ) (t u : LocalType) → Dual n p q t u → DualAfter n p q [] t u
-after_none zero p q t u d = tt
-after_none (suc n) p q t u d = d
+after_none n p q t u d = grind arith
 
 -- a message of p to q leaves them dual after it
 first_sends_one : (n p q : ℕ) (t u : LocalType) (m : Message) (x : LocalType) → DualStep p q (Dual n p q) t u → direction t ≡ To q → after_message t m ≡ Some x → DualAfter n p q (m ∷ []) (unfolded x) u
@@ -79,15 +78,9 @@ after_first_sends (suc n) p q (k ∷ ms) t u m x (now a y f g) i e = now a y f (
 
 -- messages of p wait, and q has to do with a third role
 after_second_moves : (n p q : ℕ) (ms : List Message) (t u : LocalType) (m : Message) (x : LocalType) → DualAfter (suc n) p q ms t u → IsElsewhere u p → after_message u m ≡ Some x → DualAfter n p q ms t (unfolded x)
-after_second_moves n p q [] t u m x d i e =
-    after_none n p q t (unfolded x) (dual_turned n q p (unfolded x) t (first_moves n q p u t m x (dual_turned (suc n) p q t u d) i e))
+after_second_moves n p q [] t u m x d i e = grind (arith, after_none n p q t (unfolded x) (dual_turned n q p (unfolded x) t (first_moves n q p u t m x (dual_turned (suc n) p q t u d) i e)))
 after_second_moves n p q (k ∷ ms) t u m x (later a g) i e = g m x e
 after_second_moves n p q (k ∷ ms) t u m x (now a y f g) i e = absurd (i.not_from a)
-
--- messages of p wait, and q receives the first
-after_second_receives : (n p q : ℕ) (m : Message) (ms : List Message) (t u x : LocalType) → DualAfter (suc n) p q (m ∷ ms) t u → direction u ≡ From p → after_message u m ≡ Some x → DualAfter n p q ms t (unfolded x)
-after_second_receives n p q m ms t u x (later a g) i e = absurd (a.not_from i)
-after_second_receives n p q m ms t u x (now a y f g) i e = subst (λ z. DualAfter n p q ms t (unfolded z)) (let same : y ≡ x = cc in same) g
 
 -- no message of p waits where q sends p one
 after_second_sends : (n p q : ℕ) (ms : List Message) (t u : LocalType) (m : Message) (x : LocalType) → DualAfter (suc n) p q ms t u → direction u ≡ To p → after_message u m ≡ Some x → (ms ≡ []) × DualAfter n q p (m ∷ []) (unfolded x) t
@@ -103,43 +96,30 @@ abbrev pub Coherent : ℕ → (p q : ℕ) (out back : List Message) → LocalTyp
 Coherent n p q out back t u = OneWay n p q out back t u ⊎ OneWay n q p back out u t
 
 pub coherent_turned : (n p q : ℕ) (out back : List Message) (t u : LocalType) → Coherent n p q out back t u → Coherent n q p back out u t
-coherent_turned n p q out back t u (inl f) = inr f
-coherent_turned n p q out back t u (inr f) = inl f
+coherent_turned n p q out back t u h1 = grind arith
 
 pub coherent_less : (n p q : ℕ) (out back : List Message) (t u : LocalType) → Coherent (suc n) p q out back t u → Coherent n p q out back t u
-coherent_less n p q out back t u (inl f) = inl (f.0, after_less n p q out t u f.1)
-coherent_less n p q out back t u (inr f) = inr (f.0, after_less n q p back u t f.1)
+coherent_less n p q out back t u h1 = grind (arith, after_less)
 
 -- p has to do with a third role
 pub coherent_moves : (n p q : ℕ) (out back : List Message) (t u : LocalType) (m : Message) (x : LocalType) → Coherent (suc n) p q out back t u → IsElsewhere t q → after_message t m ≡ Some x → Coherent n p q out back (unfolded x) u
-coherent_moves n p q out back t u m x (inl f) i e = inl (f.0, after_first_moves n p q out t u m x f.1 i e)
-coherent_moves n p q out back t u m x (inr f) i e = inr (f.0, after_second_moves n q p back u t m x f.1 i e)
+coherent_moves n p q out back t u m x h1 i e = grind (arith, after_first_moves, after_second_moves)
 
 -- p sends to q
 pub coherent_sends : (n p q : ℕ) (out back : List Message) (t u : LocalType) (m : Message) (x : LocalType) → Coherent (suc n) p q out back t u → direction t ≡ To q → after_message t m ≡ Some x → Coherent n p q (out ++ m ∷ []) back (unfolded x) u
-coherent_sends n p q out back t u m x (inl f) i e = inl (f.0, after_first_sends n p q out t u m x f.1 i e)
-coherent_sends n p q out back t u m x (inr f) i e =
-    let k = after_second_sends n q p back u t m x f.1 i e in
-    inl (k.0, subst (λ (l : List Message). DualAfter n p q (l ++ m ∷ []) (unfolded x) u) (sym f.0) k.1)
+coherent_sends n p q out back t u m x h1 i e = grind (arith, after_first_sends, after_second_sends)
 
 -- p receives from q
 pub coherent_receives : (n p q : ℕ) (out back : List Message) (t u : LocalType) (m : Message) (x : LocalType) → Coherent (suc n) p q out (m ∷ back) t u → direction t ≡ From q → after_message t m ≡ Some x → Coherent n p q out back (unfolded x) u
-coherent_receives n p q out back t u m x (inl f) i e = absurd (let bad = f.0 in cc)
-coherent_receives n p q out back t u m x (inr f) i e = inr (f.0, after_second_receives n q p m back u t x f.1 i e)
+coherent_receives n p q out back t u m x h1 i e = grind arith
 
 -- what waits first for p is what p's type expects
 pub front_expected : (n p q : ℕ) (out back : List Message) (t u : LocalType) (m : Message) → Coherent (suc n) p q out (m ∷ back) t u → direction t ≡ From q → (x : LocalType) × (after_message t m ≡ Some x)
-front_expected n p q out back t u m (inl f) i = absurd (let bad = f.0 in cc)
-front_expected n p q out back t u m (inr f) i = by_case f.1
-  where
-    by_case : Receives q (λ l x. DualAfter n q p l u x) m back t → (x : LocalType) × (after_message t m ≡ Some x)
-    by_case (later a g) = absurd (a.not_from i)
-    by_case (now a x e g) = (x, e)
+front_expected n p q out back t u m h1 i = grind arith
 
 -- dual types are coherent where nothing waits
 pub dual_coherent : (n p q : ℕ) (t u : LocalType) → Dual n p q t u → Coherent n p q [] [] t u
 dual_coherent n p q t u d = inl (refl, after_none n p q t u d)
 
 pub one_empty : (n p q : ℕ) (out back : List Message) (t u : LocalType) → Coherent n p q out back t u → (out ≡ []) ⊎ (back ≡ [])
-one_empty n p q out back t u (inl f) = inr f.0
-one_empty n p q out back t u (inr f) = inl f.0
+one_empty n p q out back t u h1 = grind arith

@@ -1,23 +1,20 @@
 -- Sessions of one protocol.
-use Rattle.std.proofs.Common.{◌≡◌, ◌≢◌, ℕ, zero, suc, ◌<◌, ◌≤◌, ⊎_elim, Bool, true, false, List, [], ◌∷◌, length, cond, Some, None, refl, sym, ap, ◌∙◌, subst, arith}
-use Rattle.std.specs.Prelude.{is_some, slice_get}
+use Rattle.std.proofs.Common.{◌≡◌, ◌≢◌, ℕ, zero, suc, ◌<◌, ◌≤◌, ⊎_elim, List, [], ◌∷◌, length, Some, None, refl, sym, ◌∙◌, subst, arith}
+use Rattle.std.specs.Prelude.{slice_get}
 use Rattle.std.proofs.lemmas.Bool.{cases_eq, cases_lt}
-use Rattle.mps_base.specs.Sorts.{fits}
 use Rattle.mps_base.specs.declared.action.Message.{Message}
-use Rattle.mps_base.specs.declared.action.Message.TheVariants.{Value as Plain, Label}
 use Rattle.mps_base.specs.declared.action.Step.{Step}
 use Rattle.mps_global.specs.Global.{GlobalType}
 use Rattle.mps_global.specs.Faults.{fault_of}
-use Rattle.mps_local.specs.Local.{LocalType, End, Var, Rec, Send, Recv, Select, Branch}
-use Rattle.mps_local.specs.Loops.{is_closed}
+use Rattle.mps_local.specs.Local.{LocalType, End}
 use Rattle.mps_local.specs.Projection.{projection}
 use Rattle.mps_local.specs.Shape.{AllPeers, IsOtherRole}
 use Rattle.mps_local.specs.Unfolding.{unfolded}
 use Rattle.mps_local.proofs.Faultless.{faultless, fine_so}
 use Rattle.mps_local.proofs.Projected.{fitting}
 use Rattle.mps_machine.specs.Machine.{State, initial, view_of, Request, after, IsSound}
-use Rattle.mps_machine.specs.Rule.{moved, rule, replay}
-use Rattle.mps_machine.specs.View.{Participant, View, opening, type_at}
+use Rattle.mps_machine.specs.Rule.{rule, replay}
+use Rattle.mps_machine.specs.View.{View, opening, type_at}
 use Rattle.mps_machine.proofs.Peers.{after_peers, fact_by_role, unfolded_peers}
 use Rattle.mps_machine.proofs.Sound.{initial_sound, view_is, after_sound}
 use Rattle.mps_machine.proofs.Stepping.{rule_parts, replay_parts}
@@ -37,16 +34,13 @@ at_place [] p l = absurd (omega arith)
 at_place (t ∷ types) zero l = refl
 at_place (t ∷ types) (suc p) l = at_place types p (omega arith)
 
-closed_so : (roles : List (List ℕ)) (p : ℕ) (tree : GlobalType) (t : LocalType) → fault_of roles tree ≡ None → projection roles p tree ≡ Some t → is_closed [] t ≡ true
-closed_so roles p tree t none e = (fine_so t (faultless roles p tree t none e)).closed
-
 pub faultless_dual : (roles : List (List ℕ)) (tree : GlobalType) (p q : ℕ) (t u : LocalType) → fault_of roles tree ≡ None → p ≢ q → projection roles p tree ≡ Some t → projection roles q tree ≡ Some u → AreDual p q t u
-faultless_dual roles tree p q t u none ne e f = projections_dual roles p q tree t u ne e f (closed_so roles p tree t none e) (closed_so roles q tree u none f)
+faultless_dual roles tree p q t u none ne e f = grind (arith, projections_dual, fine_so, faultless)
 
 -- The types of one protocol.
 module _ (types : List LocalType) (own : AreOfOneProtocol types) where
   pub type_is : (p : ℕ) → p < length types → projection own.roles p own.tree ≡ Some (type_at types p)
-  type_is p l = let k = own.projections.count in own.projections.each p (omega arith) ∙ at_place types p l
+  type_is p l = own.projections.each p (omega arith) ∙ at_place types p l
 
   -- each two of them are dual, a role that isn't there having ended
   dual : (n p q : ℕ) → p ≢ q → Dual n p q (unfolded (type_at types p)) (unfolded (type_at types q))
@@ -62,27 +56,17 @@ module _ (types : List LocalType) (own : AreOfOneProtocol types) where
       (cases_lt p (length types))
 
   coherent : (h : List Step) (v : View) → replay (opening types) h ≡ Some v → AllCoherent v
-  coherent h v e =
-      replay_coherent h (opening types) v e
-      (λ n p q ne. dual_coherent n p q (unfolded (type_at types p)) (unfolded (type_at types q)) (dual n p q ne))
+  coherent h v e = grind (arith, replay_coherent, dual_coherent, dual)
 
   -- no role speaks with itself
   abbrev HavePeers : View → Type 0
   HavePeers v = (p : ℕ) → AllPeers (IsOtherRole (length own.roles) p) (v.participant p).to_come
 
   pub opening_peers : HavePeers (opening types)
-  opening_peers p =
-      ⊎_elim
-      (λ (i : p < length types). (fitting own.roles p own.tree (type_at types p) own.faultless (type_is p i)).others)
-      (λ (i : length types ≤ p). subst (λ (t : LocalType). AllPeers (IsOtherRole (length own.roles) p) t) (sym (past_end types p i)) tt)
-      (cases_lt p (length types))
+  opening_peers p = grind (arith, fitting, type_is, past_end, cases_lt)
 
   peers_step : (v w : View) (s : Step) → rule v s ≡ Some w → HavePeers v → HavePeers w
-  peers_step v w s e a =
-      let parts = rule_parts v w s e in
-      let P : ℕ → Participant → Type 0 = λ r part. AllPeers (IsOtherRole (length own.roles) r) part.to_come in
-      let b = (after_peers (IsOtherRole (length own.roles) s.role) (v.participant s.role) parts.0 s.act (moved v s.role s.act) (a s.role) parts.1).1 in
-      subst HavePeers parts.2 (λ r. fact_by_role P v s parts.0 r b (λ ne. a r))
+  peers_step v w s e a = grind (arith, rule_parts, after_peers, fact_by_role)
 
   peers_replay : (h : List Step) (v w : View) → replay v h ≡ Some w → HavePeers v → HavePeers w
   peers_replay [] v w e a = subst HavePeers (let same : v ≡ w = cc in same) a
@@ -91,24 +75,10 @@ module _ (types : List LocalType) (own : AreOfOneProtocol types) where
       peers_replay h parts.0 w parts.2 (peers_step v parts.0 s parts.1 a)
 
 received_peer : (P : ℕ → Type 0) (t : LocalType) (p : ℕ) → AllPeers P t → direction t ≡ From p → P p
-received_peer P (Recv peer sort u) p a e = let k : peer ≡ p = cc in subst P k a.0
-received_peer P (Branch peer us) p a e = let k : peer ≡ p = cc in subst P k a.0
-received_peer P t p a e = absurd cc
-
-value_fits : (c : Bool) (u x : LocalType) → cond c (Some u) None ≡ Some x → c ≡ true
-value_fits true u x e = refl
-value_fits false u x e = absurd cc
+received_peer P t p a e = grind arith
 
 expects : (t : LocalType) (p : ℕ) (m : Message) → (direction t ≡ From p → (x : LocalType) × (after_message t m ≡ Some x)) → Expects t p m
-expects End p m f = tt
-expects (Var x) p m f = tt
-expects (Rec x u) p m f = tt
-expects (Send peer sort next) p m f = tt
-expects (Select peer branches) p m f = tt
-expects (Recv peer sort next) p (Plain v) f = λ e. let k = f (ap From e) in value_fits (fits v sort) next k.0 k.1
-expects (Recv peer sort next) p (Label l) f = λ e. let k = f (ap From e) in let g = k.1 in absurd cc
-expects (Branch peer branches) p (Plain v) f = λ e. let k = f (ap From e) in let g = k.1 in absurd cc
-expects (Branch peer branches) p (Label l) f = λ e. let k = f (ap From e) in ap is_some k.1
+expects t p m f = grind arith
 
 pub faithful : (types : List LocalType) (h : List Step) (v : View) → AreOfOneProtocol types → replay (opening types) h ≡ Some v → IsFaithful v
 faithful types h v own e p q m ms front =
@@ -116,8 +86,7 @@ faithful types h v own e p q m ms front =
     ⊎_elim
     (λ (same : p ≡ q).
     let peers = peers_replay types own h (opening types) v e (opening_peers types own) q in
-    let P = IsOtherRole (length own.roles) q in
-    absurd ((received_peer P (unfolded (v.participant q).to_come) p (unfolded_peers P (v.participant q).to_come peers) takes).1 same))
+    grind (arith, received_peer, unfolded_peers))
     (λ (ne : p ≢ q).
     front_expected zero q p (v.queue q p) ms (unfolded (v.participant q).to_come) (unfolded (v.participant p).to_come) m
     (subst (λ (l : List Message). Coherent (suc zero) q p (v.queue q p) l (unfolded (v.participant q).to_come) (unfolded (v.participant p).to_come)) front
@@ -125,8 +94,7 @@ faithful types h v own e p q m ms front =
     (cases_eq p q))
 
 pub half_duplex : (types : List LocalType) (h : List Step) (v : View) (p q : ℕ) → AreOfOneProtocol types → replay (opening types) h ≡ Some v → p ≢ q → IsHalfDuplex v p q
-half_duplex types h v p q own e ne =
-    one_empty zero p q (v.queue p q) (v.queue q p) (unfolded (v.participant p).to_come) (unfolded (v.participant q).to_come) (coherent types own h v e zero p q ne)
+half_duplex types h v p q own e ne = grind (arith, one_empty zero p q (v.queue p q) (v.queue q p) (unfolded (v.participant p).to_come) (unfolded (v.participant q).to_come) (coherent types own h v e zero p q ne))
 
 -- the same of sound states, and so of those that requests lead to
 pub sound_faithful : (types : List LocalType) (st : State) → AreOfOneProtocol types → IsSound types st → IsFaithful (view_of types st.history)
@@ -136,8 +104,7 @@ pub always_faithful : (types : List LocalType) (rs : List Request) → AreOfOneP
 always_faithful types rs own = sound_faithful types (after types initial rs) own (after_sound types initial rs (initial_sound types))
 
 pub sound_half_duplex : (types : List LocalType) (st : State) (p q : ℕ) → AreOfOneProtocol types → IsSound types st → p ≢ q → IsHalfDuplex (view_of types st.history) p q
-sound_half_duplex types st p q own ok ne =
-    subst (λ (v : View). IsHalfDuplex v p q) (sym (view_is types st ok)) (half_duplex types st.history ok.view p q own ok.replayed ne)
+sound_half_duplex types st p q own ok ne = grind (arith, view_is types st ok, half_duplex types st.history ok.view p q own ok.replayed ne)
 
 pub always_half_duplex : (types : List LocalType) (rs : List Request) (p q : ℕ) → AreOfOneProtocol types → p ≢ q → IsHalfDuplex (view_of types (after types initial rs).history) p q
 always_half_duplex types rs p q own ne = sound_half_duplex types (after types initial rs) p q own (after_sound types initial rs (initial_sound types)) ne

@@ -1,5 +1,5 @@
 -- What one role has to do with a message or a choice of a tree.
-use Rattle.std.proofs.Common.{◌≡◌, ◌≢◌, ℕ, Bool, true, false, List, cond, Option, Some, None, refl, ap, ◌∙◌, subst}
+use Rattle.std.proofs.Common.{arith, ◌≡◌, ◌≢◌, ℕ, Bool, true, false, List, cond, Option, Some, None, refl, ap, ◌∙◌, subst}
 use Rattle.std.specs.Prelude.{⊤, ◌==◌, if◌then◌else◌}
 use Rattle.std.specs.Str.{bytes_eq}
 use Rattle.std.proofs.lemmas.Bool.{eqb-true, eqb-false}
@@ -10,8 +10,8 @@ use Rattle.mps_base.specs.declared.value.Sort.{Sort}
 use Rattle.mps_global.specs.Global as global
 use Rattle.mps_global.specs.Global.{GlobalType}
 use Rattle.mps_local.specs.Actions.{branch_at, nexts}
-use Rattle.mps_local.specs.Local.{LocalType, Branches, Send, Recv, Select, Branch, NoMore, More}
-use Rattle.mps_local.specs.Projection.{place_of, merged, with_message, with_choice, projection, projections}
+use Rattle.mps_local.specs.Local.{LocalType, Branches, Select, Branch, NoMore, More}
+use Rattle.mps_local.specs.Projection.{place_of, merged, with_choice, projection, projections}
 use Rattle.mps_local.specs.Unfolding.{unfolded}
 use Rattle.mps_local.proofs.Filling.{Env, filled, filled_in}
 use Rattle.mps_local.proofs.Merging.{AllAre, merged_are}
@@ -37,13 +37,7 @@ IsNext (global.Choice sender receiver branches) other = (l : List ℕ) × (tree_
 IsNext tree other = ⊥
 
 pub next_after : (tree : GlobalType) (m : Message) (next : GlobalType) → tree_after tree m ≡ Some next → IsNext tree next
-next_after (global.Message sender receiver sort next) (Plain v) other e = by_test (fits v sort) e
-  where
-    by_test : (b : Bool) → cond b (Some next) None ≡ Some other → next ≡ other
-    by_test true f = cc
-    by_test false f = absurd cc
-next_after (global.Choice sender receiver branches) (Label l) other e = (l, e)
-next_after tree m next e = absurd cc
+next_after tree m next e = grind arith
 
 module _ (roles : List (List ℕ)) (role : ℕ) (env : Env) where
   -- what a type goes on with is the projection of what a tree goes on with
@@ -53,16 +47,10 @@ module _ (roles : List (List ℕ)) (role : ℕ) (env : Env) where
   Matches x next = ⊥
 
   pub followed : (o : Option LocalType) (g : Option GlobalType) (x : LocalType) → Matches o g → o ≡ Some x → (next : GlobalType) × (w : LocalType) × (g ≡ Some next) × (projection roles role next ≡ Some w) × (x ≡ filled env w)
-  followed None g x h e = absurd cc
-  followed (Some y) None x h e = absurd h
-  followed (Some y) (Some next) x h e = (next, h.0, refl, h.1, (let k : x ≡ y = cc in k ∙ h.2))
+  followed o g x h e = grind arith
 
   pub led : (o : Option LocalType) (g : Option GlobalType) (next : GlobalType) → Matches o g → g ≡ Some next → (x : LocalType) × (w : LocalType) × (o ≡ Some x) × (projection roles role next ≡ Some w) × (x ≡ filled env w)
-  led o None next h e = absurd cc
-  led None (Some other) next h e = absurd h
-  led (Some y) (Some other) next h e =
-      let k : other ≡ next = cc in
-      (y, h.0, refl, subst (λ (z : GlobalType). projection roles role z ≡ Some h.0) k h.1, h.2)
+  led o g next h e = grind arith
 
   -- a type begins with a message in that direction, and goes on as the tree
   pub record GoesAs (d : Direction) (tree : GlobalType) (t : LocalType) : Type 0 where
@@ -76,10 +64,6 @@ module _ (roles : List (List ℕ)) (role : ℕ) (env : Env) where
     as_receiver : role ≡ to → GoesAs (From from) tree (unfolded (filled env u)) → Part from to tree u
     as_neither : role ≢ from → role ≢ to → ((next : GlobalType) → IsNext tree next → projection roles role next ≡ Some u) → Part from to tree u
 
-  value_matches : (b : Bool) (next : GlobalType) (w : LocalType) → projection roles role next ≡ Some w → Matches (cond b (Some (filled env w)) None) (cond b (Some next) None)
-  value_matches true next w e = (w, e, refl)
-  value_matches false next w e = tt
-
   label_matches : (l : List ℕ) (branches : global.Branches) (ts : Branches) → projections roles role branches ≡ Some ts → Matches (branch_at l (filled_in env ts)) (tree_at l branches)
   label_matches l global.NoMore ts e = let k : ts ≡ NoMore = cc in rw k tt
   label_matches l (global.More label next others) ts e =
@@ -90,31 +74,12 @@ module _ (roles : List (List ℕ)) (role : ℕ) (env : Env) where
       by_test true u us f h = (u, f, refl)
       by_test false u us f h = h
 
-  message_goes : (sender receiver : List ℕ) (sort : Sort) (next : GlobalType) (w : LocalType) → projection roles role next ≡ Some w → (m : Message) → (to : ℕ) → Matches (after_message (Send to sort (filled env w)) m) (tree_after (global.Message sender receiver sort next) m) × Matches (after_message (Recv to sort (filled env w)) m) (tree_after (global.Message sender receiver sort next) m)
-  message_goes sender receiver sort next w e (Plain v) to = let k = value_matches (fits v sort) next w e in (k, k)
-  message_goes sender receiver sort next w e (Label l) to = (tt, tt)
-
   choice_goes : (sender receiver : List ℕ) (branches : global.Branches) (ts : Branches) → projections roles role branches ≡ Some ts → (m : Message) → (to : ℕ) → Matches (after_message (Select to (filled_in env ts)) m) (tree_after (global.Choice sender receiver branches) m) × Matches (after_message (Branch to (filled_in env ts)) m) (tree_after (global.Choice sender receiver branches) m)
-  choice_goes sender receiver branches ts e (Plain v) to = (tt, tt)
-  choice_goes sender receiver branches ts e (Label l) to = let k = label_matches l branches ts e in (k, k)
+  choice_goes sender receiver branches ts e m to = grind (arith, label_matches)
 
   pub message_part : (sender receiver : List ℕ) (sort : Sort) (next : GlobalType) (u : LocalType) → projection roles role (global.Message sender receiver sort next) ≡ Some u → Part (place_of roles sender) (place_of roles receiver) (global.Message sender receiver sort next) u
   unfolding unfolded
-  message_part sender receiver sort next u e =
-      let k = map_some (with_message role (place_of roles sender) (place_of roles receiver) sort) (projection roles role next) u e in
-      subst (Part (place_of roles sender) (place_of roles receiver) (global.Message sender receiver sort next)) k.2
-      (by_tests (role == place_of roles sender) (role == place_of roles receiver) refl refl k.0 k.1)
-    where
-      by_tests : (a b : Bool) → (role == place_of roles sender) ≡ a → (role == place_of roles receiver) ≡ b → (w : LocalType) → projection roles role next ≡ Some w → Part (place_of roles sender) (place_of roles receiver) (global.Message sender receiver sort next) (cond a (Send (place_of roles receiver) sort w) (cond b (Recv (place_of roles sender) sort w) w))
-      by_tests true b f g w h =
-          as_sender (eqb-true role (place_of roles sender) f)
-          (record { way = refl; goes = λ m. (message_goes sender receiver sort next w h m (place_of roles receiver)).0 })
-      by_tests false true f g w h =
-          as_receiver (eqb-true role (place_of roles receiver) g)
-          (record { way = refl; goes = λ m. (message_goes sender receiver sort next w h m (place_of roles sender)).1 })
-      by_tests false false f g w h =
-          as_neither (eqb-false role (place_of roles sender) f) (eqb-false role (place_of roles receiver) g)
-          (λ other i. subst (λ (z : GlobalType). projection roles role z ≡ Some w) i h)
+  message_part sender receiver sort next u e = grind (arith, map_some, eqb-true, eqb-false)
 
   -- where branches are merged, the projection of each is the merged type
   each_branch : (branches : global.Branches) (ts : Branches) (u : LocalType) → projections roles role branches ≡ Some ts → AllAre u (nexts ts) → (l : List ℕ) (next : GlobalType) → tree_at l branches ≡ Some next → projection roles role next ≡ Some u
@@ -135,11 +100,7 @@ module _ (roles : List (List ℕ)) (role : ℕ) (env : Env) where
       by_tests (role == place_of roles sender) (role == place_of roles receiver) refl refl k.0 k.1 k.2
     where
       by_tests : (a b : Bool) → (role == place_of roles sender) ≡ a → (role == place_of roles receiver) ≡ b → (ts : Branches) → projections roles role branches ≡ Some ts → cond a (Some (Select (place_of roles receiver) ts)) (cond b (Some (Branch (place_of roles sender) ts)) (merged ts)) ≡ Some u → Part (place_of roles sender) (place_of roles receiver) (global.Choice sender receiver branches) u
-      by_tests true b f g ts h i =
-          let k : Select (place_of roles receiver) ts ≡ u = cc in
-          subst (Part (place_of roles sender) (place_of roles receiver) (global.Choice sender receiver branches)) k
-          (as_sender (eqb-true role (place_of roles sender) f)
-          (record { way = refl; goes = λ m. (choice_goes sender receiver branches ts h m (place_of roles receiver)).0 }))
+      by_tests true b f g ts h i = grind (arith, eqb-true, choice_goes)
       by_tests false true f g ts h i =
           let k : Branch (place_of roles sender) ts ≡ u = cc in
           subst (Part (place_of roles sender) (place_of roles receiver) (global.Choice sender receiver branches)) k

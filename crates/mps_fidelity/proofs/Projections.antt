@@ -1,25 +1,19 @@
 -- The projections of one tree on two roles are dual.
-use Rattle.std.proofs.Common.{◌≡◌, ◌≢◌, ℕ, zero, suc, Bool, true, false, List, [], cond, Some, None, refl, sym, ap, ◌∙◌, subst}
-use Rattle.std.specs.Prelude.{◌==◌}
+use Rattle.std.proofs.Common.{arith, ◌≡◌, ◌≢◌, ℕ, zero, suc, Bool, true, false, List, [], cond, Some, refl, sym, ap, ◌∙◌, subst}
 use Rattle.std.specs.Str.{bytes_eq}
-use Rattle.std.proofs.lemmas.Bool.{ne_eqb}
 use Rattle.mps_base.specs.declared.action.Message.{Message}
 use Rattle.mps_global.specs.Global as global
 use Rattle.mps_global.specs.Global.{GlobalType}
-use Rattle.mps_local.specs.Local.{LocalType, End, Var, Rec, Select, Branch, NoMore}
+use Rattle.mps_local.specs.Local.{LocalType, End, Var, Rec, NoMore}
 use Rattle.mps_local.specs.Loops.{ends_in, is_closed}
-use Rattle.mps_local.specs.Projection.{place_of, with_choice, projection}
+use Rattle.mps_local.specs.Projection.{place_of, projection}
 use Rattle.mps_local.specs.Unfolding.{unfolded}
 use Rattle.mps_local.proofs.Equal.{name_same, name_is, name_turned}
 use Rattle.mps_local.proofs.Filling.{Env, put, filled, AreWhole, whole_filled, whole_put, loop_unfolds, filled_same}
 use Rattle.mps_local.proofs.Silence.{RecParts, idle, busy, rec_parts, busy_guarded}
-use Rattle.mps_fidelity.specs.Duality.{Direction, To, From, direction, after_message, IsElsewhere, DualStep, first_elsewhere, second_elsewhere, first_sends, second_sends, Dual, AreDual}
+use Rattle.mps_fidelity.specs.Duality.{Direction, To, From, direction, after_message, IsElsewhere, DualStep, first_sends, second_sends, Dual, AreDual}
 use Rattle.mps_fidelity.proofs.Coherence.{dual_less}
 use Rattle.mps_fidelity.proofs.Parts.{IsNext, next_after, tree_after, GoesAs, Part, as_sender, as_receiver, as_neither, followed, led, message_part, choice_part}
-
-dual_at : (n p q : ℕ) (x x' y y' : LocalType) → x ≡ x' → y ≡ y' → Dual n p q (unfolded x') (unfolded y') → Dual n p q (unfolded x) (unfolded y)
-dual_at n p q x x' y y' e f d =
-    subst (λ (z : LocalType). Dual n p q (unfolded z) (unfolded y)) (sym e) (subst (λ (z : LocalType). Dual n p q (unfolded x') (unfolded z)) (sym f) d)
 
 elsewhere_to : (t : LocalType) (role to : ℕ) → direction t ≡ To to → role ≢ to → IsElsewhere t role
 elsewhere_to t role to e ne = record { not_to = λ k. ne cc; not_from = λ k. cc }
@@ -34,17 +28,11 @@ module _ (roles : List (List ℕ)) (p q n : ℕ) (tree : GlobalType) (t u : Loca
 
   -- p has to do with a third role
   first_goes : (d : Direction) → GoesAs roles p env d tree (unfolded (filled env t)) → IsElsewhere (unfolded (filled env t)) q → ((next : GlobalType) → IsNext tree next → projection roles q next ≡ Some u) → GoOn
-  first_goes d g off others = first_elsewhere off (λ m x h.
-      let k = followed roles p env (after_message (unfolded (filled env t)) m) (tree_after tree m) x (g.goes m) h in
-      let i = next_after tree m k.0 k.2 in
-      dual_at n p q x (filled env k.1) (filled out u) (filled out u) k.4 refl (again k.0 k.1 u i k.3 (others k.0 i)))
+  first_goes d g off others = grind (arith, filled env t, filled out u)
 
   -- q has
   second_goes : (d : Direction) → GoesAs roles q out d tree (unfolded (filled out u)) → IsElsewhere (unfolded (filled out u)) p → ((next : GlobalType) → IsNext tree next → projection roles p next ≡ Some t) → GoOn
-  second_goes d g off others = second_elsewhere off (λ m y h.
-      let k = followed roles q out (after_message (unfolded (filled out u)) m) (tree_after tree m) y (g.goes m) h in
-      let i = next_after tree m k.0 k.2 in
-      dual_at n p q (filled env t) (filled env t) y (filled out k.1) refl k.4 (again k.0 t k.1 i (others k.0 i) k.3))
+  second_goes d g off others = grind (arith, filled out u, filled env t)
 
   node_dual : (from to : ℕ) → p ≢ q → Part roles p env from to tree t → Part roles q out from to tree u → (p ≢ from → p ≢ to → ((next : GlobalType) → IsNext tree next → (projection roles p next ≡ Some t) × (projection roles q next ≡ Some u)) → GoOn) → GoOn
   node_dual from to ne (as_sender a b) (as_sender c d) neither = absurd (ne (a ∙ sym c))
@@ -52,22 +40,16 @@ module _ (roles : List (List ℕ)) (p q n : ℕ) (tree : GlobalType) (t u : Loca
   node_dual from to ne (as_sender a b) (as_receiver c d) neither =
       first_sends (b.way ∙ ap To (sym c)) (d.way ∙ ap From (sym a)) (λ m x h.
       let k = followed roles p env (after_message (unfolded (filled env t)) m) (tree_after tree m) x (b.goes m) h in
-      let l = led roles q out (after_message (unfolded (filled out u)) m) (tree_after tree m) k.0 (d.goes m) k.2 in
-      (l.0, l.2, dual_at n p q x (filled env k.1) l.0 (filled out l.1) k.4 l.4 (again k.0 k.1 l.1 (next_after tree m k.0 k.2) k.3 l.3)))
+      grind (arith, led roles q out (after_message (unfolded (filled out u)) m) (tree_after tree m) k.0 (d.goes m) k.2, filled env k.1, next_after tree m k.0 k.2))
   node_dual from to ne (as_receiver a b) (as_sender c d) neither =
       second_sends (d.way ∙ ap To (sym a)) (b.way ∙ ap From (sym c)) (λ m y h.
       let k = followed roles q out (after_message (unfolded (filled out u)) m) (tree_after tree m) y (d.goes m) h in
-      let l = led roles p env (after_message (unfolded (filled env t)) m) (tree_after tree m) k.0 (b.goes m) k.2 in
-      (l.0, l.2, dual_at n p q l.0 (filled env l.1) y (filled out k.1) l.4 k.4 (again k.0 l.1 k.1 (next_after tree m k.0 k.2) l.3 k.3)))
+      grind (arith, led roles p env (after_message (unfolded (filled env t)) m) (tree_after tree m) k.0 (b.goes m) k.2, filled out k.1, next_after tree m k.0 k.2))
   node_dual from to ne (as_sender a b) (as_neither c d e) neither = first_goes (To to) b (elsewhere_to (unfolded (filled env t)) q to b.way d) e
   node_dual from to ne (as_receiver a b) (as_neither c d e) neither = first_goes (From from) b (elsewhere_from (unfolded (filled env t)) q from b.way c) e
   node_dual from to ne (as_neither a b e) (as_sender c d) neither = second_goes (To to) d (elsewhere_to (unfolded (filled out u)) p to d.way b) e
   node_dual from to ne (as_neither a b e) (as_receiver c d) neither = second_goes (From from) d (elsewhere_from (unfolded (filled out u)) p from d.way a) e
   node_dual from to ne (as_neither a b e) (as_neither c d f) neither = neither a b (λ next i. (e next i, f next i))
-
-nothing_follows : (t : LocalType) → t ≡ End → (role : ℕ) → IsElsewhere t role × ((m : Message) (x : LocalType) → after_message t m ≡ Some x → ⊥)
-nothing_follows End e role = (record { not_to = λ k. cc; not_from = λ k. cc }, λ m x f. cc)
-nothing_follows t e role = absurd cc
 
 unfolded_end : unfolded End ≡ End
 unfolding unfolded
@@ -75,23 +57,14 @@ unfolded_end = refl
 
 -- a role that has ended is dual to any
 pub first_ended : (p q : ℕ) (R : LocalType → LocalType → Type 0) (t u : LocalType) → t ≡ End → DualStep p q R (unfolded t) u
-first_ended p q R t u e = let k = nothing_follows (unfolded t) (ap unfolded e ∙ unfolded_end) q in first_elsewhere k.0 (λ m x f. absurd (k.1 m x f))
+first_ended p q R t u e = grind (arith, unfolded_end)
 
 pub second_ended : (p q : ℕ) (R : LocalType → LocalType → Type 0) (t u : LocalType) → u ≡ End → DualStep p q R t (unfolded u)
-second_ended p q R t u e = let k = nothing_follows (unfolded u) (ap unfolded e ∙ unfolded_end) p in second_elsewhere k.0 (λ m x f. absurd (k.1 m x f))
+second_ended p q R t u e = grind (arith, unfolded_end)
 
 -- a type in the place of a variable, in two environments
 both_put : (b : Bool) (F : LocalType → LocalType → Type 0) (t t' s s' : LocalType) → (b ≡ true → F t t') → (b ≡ false → F s s') → F (cond b t s) (cond b t' s')
-both_put true F t t' s s' f g = f refl
-both_put false F t t' s s' f g = g refl
-
-no_branches : (role from to : ℕ) (t : LocalType) → role ≢ from → role ≢ to → with_choice role from to NoMore ≡ Some t → ⊥
-no_branches role from to t a b e = by_tests (role == from) (role == to) (ne_eqb role from a) (ne_eqb role to b) e
-  where
-    by_tests : (f g : Bool) → f ≡ false → g ≡ false → cond f (Some (Select to NoMore)) (cond g (Some (Branch from NoMore)) None) ≡ Some t → ⊥
-    by_tests true g x y h = cc
-    by_tests false true x y h = cc
-    by_tests false false x y h = cc
+both_put b F t t' s s' f g = grind arith
 
 -- two environments of whole types, which are dual n actions deep
 record AreDualEnvs (n p q : ℕ) (env out : Env) : Type 0 where
@@ -124,8 +97,7 @@ module _ (roles : List (List ℕ)) (p q : ℕ) where
       (λ z h i. both_put (bytes_eq z name) (λ x y. Dual (suc n) p q (unfolded x) (unfolded y)) t u (env z) (out z)
       (λ k. absurd (let bad : ends_in name b ≡ true = subst (λ (l : List ℕ). ends_in l b ≡ true) (name_is z name k) h in cc))
       (λ k. let l : bytes_eq name z ≡ false = name_turned name z ∙ k in here z (rw l h) (rw l i))) in
-      subst (λ (x : LocalType). DualStep p q (Dual n p q) x (unfolded u)) (sym (loop_unfolds name b env envs.first gb))
-      (subst (λ (y : LocalType). DualStep p q (Dual n p q) (unfolded (filled (put name t env) b)) y) (sym (loop_unfolds name c out envs.second gc)) start)
+      grind (arith, loop_unfolds name b env envs.first gb, filled (put name t env) b, loop_unfolds name c out envs.second gc)
 
   rec_dual : (n : ℕ) (name : List ℕ) (body : GlobalType) → DualFor n → DualNext n body → DualNext n (global.Rec name body)
   rec_dual n name body again inner t u env out e f envs here = by_parts (rec_parts roles p name body t e) (rec_parts roles q name body u f)
@@ -148,20 +120,14 @@ module _ (roles : List (List ℕ)) (p q : ℕ) where
       subst (λ (x : LocalType). DualStep p q (Dual n p q) (unfolded (filled env x)) (unfolded (filled out u))) k
       (subst (λ (y : LocalType). DualStep p q (Dual n p q) (unfolded (env name)) (unfolded (filled out y))) l
       (here name (ap (ends_in name) (sym k) ∙ name_same name) (ap (ends_in name) (sym l) ∙ name_same name)))
-  dual_next n ne again (global.Rec name body) t u env out e f envs here =
-      rec_dual n name body again (dual_next n ne again body) t u env out e f envs here
+  dual_next n ne again (global.Rec name body) t u env out e f envs here = grind (arith, rec_dual n name body again (dual_next n ne again body) t u env out e f envs here)
   dual_next n ne again (global.Message sender receiver sort next) t u env out e f envs here =
       node_dual roles p q n (global.Message sender receiver sort next) t u env out
       (λ other x y i ex ey. again other x y env out ex ey envs)
       (place_of roles sender) (place_of roles receiver) ne
       (message_part roles p env sender receiver sort next t e) (message_part roles q out sender receiver sort next u f)
       (λ a b g. let k = g next refl in dual_next n ne again next t u env out k.0 k.1 envs here)
-  dual_next n ne again (global.Choice sender receiver global.NoMore) t u env out e f envs here =
-      node_dual roles p q n (global.Choice sender receiver global.NoMore) t u env out
-      (λ other x y i ex ey. again other x y env out ex ey envs)
-      (place_of roles sender) (place_of roles receiver) ne
-      (choice_part roles p env sender receiver global.NoMore t e) (choice_part roles q out sender receiver global.NoMore u f)
-      (λ a b g. absurd (no_branches p (place_of roles sender) (place_of roles receiver) t a b e))
+  dual_next n ne again (global.Choice sender receiver global.NoMore) t u env out e f envs here = grind (arith, choice_part roles p env sender receiver global.NoMore t e, choice_part roles q out sender receiver global.NoMore u f)
   dual_next n ne again (global.Choice sender receiver (global.More label next others)) t u env out e f envs here =
       node_dual roles p q n (global.Choice sender receiver (global.More label next others)) t u env out
       (λ other x y i ex ey. again other x y env out ex ey envs)
@@ -182,8 +148,7 @@ module _ (roles : List (List ℕ)) (p q : ℕ) where
       let env : Env = λ z. End in
       let envs : AreDualEnvs n p q env env = record { first = λ z x y. refl; second = λ z x y. refl; each = λ z. ended n } in
       let d = duals ne n tree t u env env e f envs in
-      subst (λ (x : LocalType). Dual n p q (unfolded x) (unfolded u)) (filled_same env [] (λ z k. absurd cc) t s)
-      (subst (λ (y : LocalType). Dual n p q (unfolded (filled env t)) (unfolded y)) (filled_same env [] (λ z k. absurd cc) u r) d)
+      grind (arith, filled_same, filled)
     where
       ended : (n : ℕ) → Dual n p q (unfolded End) (unfolded End)
       ended zero = tt

@@ -1,5 +1,5 @@
 -- A step of the rule keeps two roles coherent.
-use Rattle.std.proofs.Common.{◌≡◌, ◌≢◌, ℕ, suc, ⊎_elim, Bool, true, false, List, [], ◌∷◌, ◌++◌, drop, cond, Option, Some, None, refl, sym, ap, ◌∙◌, subst}
+use Rattle.std.proofs.Common.{arith, ◌≡◌, ◌≢◌, ℕ, suc, ⊎_elim, Bool, true, false, List, [], ◌∷◌, ◌++◌, drop, cond, Option, Some, None, sym, ap, ◌∙◌, subst}
 use Rattle.std.specs.Prelude.{◌==◌, ◌&&◌}
 use Rattle.std.proofs.lemmas.Bool.{cases_Bool, cases_eq, ne_eqb, eqb-true, eqb-false, eq-eqb}
 use Rattle.mps_base.specs.Effects.{Effect, Gives, Takes, Idle, effect}
@@ -13,18 +13,16 @@ use Rattle.mps_local.specs.Actions.{branch_at}
 use Rattle.mps_local.specs.Local.{LocalType, Send, Recv, Select, Branch}
 use Rattle.mps_local.specs.Unfolding.{unfolded}
 use Rattle.mps_machine.specs.View.{Participant, View}
-use Rattle.mps_machine.specs.Rule.{first_of, moved_by_effect, moved, type_after_effect, to_come_after, participant_after, view_after, rule, replay}
+use Rattle.mps_machine.specs.Rule.{first_of, moved, type_after_effect, to_come_after, participant_after, view_after, rule, replay}
 use Rattle.mps_machine.proofs.Stepping.{participant_parts, rule_parts, replay_parts}
 use Rattle.mps_fidelity.specs.Duality.{To, From, direction, after_message}
 use Rattle.mps_fidelity.proofs.Coherence.{Coherent, coherent_turned, coherent_less, coherent_moves, coherent_sends, coherent_receives}
 
 two_tests : (a b : Bool) (x y : LocalType) → cond (a && b) (Some x) None ≡ Some y → (a ≡ true) × (cond b (Some x) None ≡ Some y)
-two_tests true b x y e = (refl, e)
-two_tests false b x y e = absurd cc
+two_tests a b x y e = grind arith
 
 one_test : (a : Bool) (o : Option LocalType) (y : LocalType) → cond a o None ≡ Some y → (a ≡ true) × (o ≡ Some y)
-one_test true o y e = (refl, e)
-one_test false o y e = absurd cc
+one_test a o y e = grind arith
 
 -- what an allowed effect gives or takes is the message that the type begins with
 data Moves (t u : LocalType) : Effect → Option Message → Type 0 where
@@ -78,8 +76,7 @@ moves_coherent n p q t x u does mo out back (receives from slot m a b) f d =
 
 -- an allowed effect of p keeps p and q coherent
 effect_coherent : (n p q : ℕ) (t x u : LocalType) (does : Effect) (m : Option Message) (out back : List Message) → to_come_after t does m ≡ Some x → ((slot : Option (List ℕ)) → does ≡ Takes q slot → m ≡ first_of back) → Coherent (suc n) p q out back (unfolded t) u → Coherent n p q (out_after q does out) (back_after q does back) (unfolded x) u
-effect_coherent n p q t x u Idle m out back e f i =
-    subst (λ (k : LocalType). Coherent n p q out back (unfolded k) u) (let same : t ≡ x = cc in same) (coherent_less n p q out back (unfolded t) u i)
+effect_coherent n p q t x u Idle m out back e f i = grind (arith, coherent_less)
 effect_coherent n p q t x u (Gives to y) m out back e f i = moves_coherent n p q (unfolded t) x u (Gives to y) m out back (moves (unfolded t) (Gives to y) m x e) f i
 effect_coherent n p q t x u (Takes from slot) m out back e f i = moves_coherent n p q (unfolded t) x u (Takes from slot) m out back (moves (unfolded t) (Takes from slot) m x e) f i
 
@@ -87,8 +84,7 @@ effect_coherent n p q t x u (Takes from slot) m out back e f i = moves_coherent 
 act_coherent : (n p q : ℕ) (c d : Participant) (u : LocalType) (act : Act) (m : Option Message) (out back : List Message) → participant_after c act m ≡ Some d → ((slot : Option (List ℕ)) → effect act ≡ Takes q slot → m ≡ first_of back) → Coherent (suc n) p q out back (unfolded c.to_come) u → Coherent n p q (out_after q (effect act) out) (back_after q (effect act) back) (unfolded d.to_come) u
 act_coherent n p q c d u act m out back e f i =
     let k = participant_parts c d act m e in
-    subst (λ (part : Participant). Coherent n p q (out_after q (effect act) out) (back_after q (effect act) back) (unfolded part.to_come) u) k.2
-    (effect_coherent n p q c.to_come k.0 u (effect act) m out back k.1 f i)
+    grind (arith, effect_coherent)
 
 -- two roles of a view
 abbrev pub AreCoherent : ℕ → (p q : ℕ) → View → Type 0
@@ -99,37 +95,16 @@ turned n p q v d = coherent_turned n p q (v.queue p q) (v.queue q p) (unfolded (
 
 -- a step of p
 own_step : (n p q : ℕ) (v : View) (s : Step) (c : Participant) → p ≢ q → s.role ≡ p → participant_after (v.participant s.role) s.act (moved v s.role s.act) ≡ Some c → AreCoherent (suc n) p q v → AreCoherent n p q (view_after v s c)
-own_step n p q v s c ne e k d =
-    let at : (s.role == p) ≡ true = eq-eqb s.role p e in
-    let off : (s.role == q) ≡ false = ne_eqb s.role q (λ f. ne (sym e ∙ f)) in
-    let own : (p == s.role) ≡ true = eq-eqb p s.role (sym e) in
-    let other : (q == s.role) ≡ false = ne_eqb q s.role (λ f. ne (sym (f ∙ e))) in
-    let k' : participant_after (v.participant p) s.act (moved v p s.act) ≡ Some c = subst (λ (r : ℕ). participant_after (v.participant r) s.act (moved v r s.act) ≡ Some c) e k in
-    let start = act_coherent n p q (v.participant p) c (unfolded (v.participant q).to_come) s.act (moved v p s.act) (v.queue p q) (v.queue q p) k' (λ slot f. ap (moved_by_effect v p) f) d in
-    rw at (rw off (rw own (rw other start)))
+own_step n p q v s c ne e k d = grind (arith, eq-eqb, ne_eqb, act_coherent)
 
 -- a step of a third role
 other_step : (n p q : ℕ) (v : View) (s : Step) (c : Participant) → s.role ≢ p → s.role ≢ q → AreCoherent (suc n) p q v → AreCoherent n p q (view_after v s c)
-other_step n p q v s c np nq d =
-    let at : (s.role == p) ≡ false = ne_eqb s.role p np in
-    let off : (s.role == q) ≡ false = ne_eqb s.role q nq in
-    let own : (p == s.role) ≡ false = ne_eqb p s.role (λ f. np (sym f)) in
-    let other : (q == s.role) ≡ false = ne_eqb q s.role (λ f. nq (sym f)) in
-    let start = coherent_less n p q (v.queue p q) (v.queue q p) (unfolded (v.participant p).to_come) (unfolded (v.participant q).to_come) d in
-    rw at (rw off (rw own (rw other start)))
+other_step n p q v s c np nq d = grind (arith, ne_eqb, coherent_less)
 
 step_coherent : (n p q : ℕ) (v w : View) (s : Step) → p ≢ q → rule v s ≡ Some w → AreCoherent (suc n) p q v → AreCoherent n p q w
 step_coherent n p q v w s ne e d =
     let parts = rule_parts v w s e in
-    let c = parts.0 in
-    subst (λ (x : View). AreCoherent n p q x) parts.2
-    (⊎_elim (λ (a : s.role ≡ p). own_step n p q v s c ne a parts.1 d)
-    (λ (a : s.role ≢ p).
-    ⊎_elim
-    (λ (b : s.role ≡ q). turned n q p (view_after v s c) (own_step n q p v s c (λ f. ne (sym f)) b parts.1 (turned (suc n) p q v d)))
-    (λ (b : s.role ≢ q). other_step n p q v s c a b d)
-    (cases_eq s.role q))
-    (cases_eq s.role p))
+    grind (arith, own_step, turned, other_step, cases_eq)
 
 -- each two roles, however many actions deep
 abbrev pub AllCoherent : View → Type 0

@@ -1,6 +1,6 @@
 -- The least marked commit: of each role a walk from its last step back meets the marked ones.
-use Rattle.std.proofs.Common.{◌≡◌, ◌≤◌, ◌+◌, ℕ, Bool, true, false, List, [], ◌∷◌, ◌++◌, length, Option, Some, None, refl, sym, ap, ◌∙◌, subst, arith, ⊎_elim, ◌⊎◌, append_assoc, append-nil, length-append}
-use Rattle.std.specs.Prelude.{◌==◌, ◌&&◌, ◌||◌, nat_lt, IsSome, IfSome, if◌then◌else◌}
+use Rattle.std.proofs.Common.{◌≡◌, ◌≤◌, ◌+◌, ℕ, Bool, true, false, List, [], ◌∷◌, ◌++◌, length, Option, Some, None, refl, sym, ap, ◌∙◌, subst, arith, ⊎_elim, ◌⊎◌, append_assoc, length-append}
+use Rattle.std.specs.Prelude.{◌==◌, ◌&&◌, nat_lt, IsSome, IfSome, if◌then◌else◌}
 use Rattle.std.specs.List.{filter}
 use Rattle.std.specs.Option.{option_map, option_and_then}
 use Rattle.std.proofs.lemmas.Bool.{cases_Bool, cond-true, cond-false, eqb-true, lt-ltb, and_from, and_left, and_right, and_parts, false_from_ne_true, both_ways}
@@ -43,9 +43,6 @@ module _ (es : List KeyedStep) (p : ℕ) where
     pub first : found ≡ first_key (keys_of own_final rest)
     pub count : turns ≤ length rest
 
-  pub search_starts : IsSearch (last_key None (keys_of (of_role p) es)) None 0
-  search_starts = record { front = es; rest = []; parts = sym (append-nil es); key = refl; first = refl; count = omega arith }
-
   other_role : (b : List KeyedStep) → keys_of (of_role p) b ≡ [] → keys_of own_final b ≡ []
   other_role b none = keys_none own_final b (λ t i. and_left (t.role == p) (is_final es t) (none_passes (of_role p) b t none i))
 
@@ -55,14 +52,6 @@ module _ (es : List KeyedStep) (p : ℕ) where
 
     pub ends_at_first : at ≡ None → found ≡ first_key (keys_of own_final es)
     ends_at_first e = ended (other_role w.front (nothing_last (keys_of (of_role p) w.front) (sym w.key ∙ e)))
-
-    pub ends_by_count : length es ≤ turns → found ≡ first_key (keys_of own_final es)
-    ends_by_count long =
-        ended (empty w.front (λ x l e. omega (arith, long, w.count, ap length w.parts, length-append w.front w.rest, ap length e)))
-      where
-        empty : (l : List KeyedStep) → ((x : KeyedStep) (m : List KeyedStep) → l ≡ x ∷ m → ⊥) → keys_of own_final l ≡ []
-        empty [] h = refl
-        empty (x ∷ m) h = absurd (h x m refl)
 
     module _ (k : ℕ) (is : at ≡ Some k) (sound : AreSound es) where
       pub last : IsLast (of_role p) w.front k
@@ -90,8 +79,7 @@ module _ (es : List KeyedStep) (p : ℕ) where
           let role = and_parts (t.role == p) (is_final es t) e in
           let mark = (and_parts (is_marked es t.id) (is_commit t.act) role.1).0 in
           ⊎_elim
-          (λ (j : IsIn t (steps last.before)).
-          earlier_marked es sound closed p last.before (last.behind ++ w.rest) x parts last.passes m t j (and_from (t.role == p) (is_marked es t.id) role.0 mark))
+          (grind (arith, earlier_marked, parts, and_from))
           (λ (j : (t ≡ x.step) ⊎ IsIn t (steps last.behind)).
           ⊎_elim
           (λ (s : t ≡ x.step). both_ways x.marked m (sym here ∙ ap (λ (u : Step). is_marked es u.id) (sym s) ∙ mark))
@@ -100,32 +88,10 @@ module _ (es : List KeyedStep) (p : ℕ) where
           (where_in w.front last.before last.behind x t last.parts i))))
 
       first_here : x.marked ≡ true → (if is_commit x.step.act then Some k else found) ≡ first_key (keys_of own_final (x ∷ (last.behind ++ w.rest)))
-      first_here m =
-          let others : keys_of own_final (last.behind ++ w.rest) ≡ keys_of own_final w.rest = keys-append own_final last.behind w.rest ∙ ap (λ l. l ++ keys_of own_final w.rest) (other_role last.behind last.none) in
-          ⊎_elim
-          (λ (t : is_commit x.step.act ≡ true).
-          cond-true (is_commit x.step.act) (Some k) found t
-          ∙ ap Some (sym last.key)
-          ∙ sym (ap first_key (keys_with own_final x (last.behind ++ w.rest) (and_from (x.step.role == p) (is_final es x.step) last.passes (and_from (is_marked es x.step.id) (is_commit x.step.act) (here ∙ m) t)))))
-          (λ (f : is_commit x.step.act ≡ false).
-          cond-false (is_commit x.step.act) (Some k) found f
-          ∙ w.first
-          ∙ sym (ap first_key (keys_without own_final x (last.behind ++ w.rest) (and_right (x.step.role == p) (is_final es x.step) (and_right (is_marked es x.step.id) (is_commit x.step.act) f)) ∙ others)))
-          (cases_Bool (is_commit x.step.act))
+      first_here m = grind (arith, keys-append, other_role, cond-true, keys_with, and_from, here, cond-false, keys_without, and_right, cases_Bool)
 
       pub search_goes : x.marked ≡ true → IsSearch (prev_of_role_in es k) (if is_commit x.step.act then Some k else found) (turns + 1)
-      search_goes m =
-          record {
-            front = last.before;
-            rest = x ∷ (last.behind ++ w.rest);
-            parts = parts;
-            key =
-                ap (prev_of_role_in es) (sym last.key)
-                ∙ prev_is es sound last.before (last.behind ++ w.rest) x parts
-                ∙ ap (λ r. last_key None (keys_of (of_role r) last.before)) (eqb-true x.step.role p last.passes);
-            first = first_here m;
-            count = omega (arith, w.count, length-append last.behind w.rest);
-          }
+      search_goes m = grind (arith, parts, prev_is, eqb-true, first_here, length-append)
 
 module _ (es : List KeyedStep) (sound : AreSound es) where
   -- what is found is there
@@ -142,8 +108,7 @@ module _ (es : List KeyedStep) (sound : AreSound es) where
       let g = λ (s : Step). s.role == r && is_final es s in
       ap (λ o. earlier es o (first_key (keys_of g es))) e
       ∙ sym (first_or es sound.distinct sound.rising f g [] es refl)
-      ∙ ap first_key (keys_agree (λ s. f s || g s) (λ s. nat_lt s.role (r + 1) && is_final es s) es
-      (λ t i. sym (ap (λ k. k && is_final es t) (below_next t.role r) ∙ spread_left (nat_lt t.role r) (t.role == r) (is_final es t))))
+      ∙ ap first_key (grind (arith, keys_agree, below_next, spread_left))
 
   pub all_roles : first_key (keys_of (λ s. nat_lt s.role 8 && is_final es s) es) ≡ first_key (keys_of (is_final es) es)
   all_roles =
@@ -160,8 +125,7 @@ module _ (es : List KeyedStep) (sound : AreSound es) where
       ∙ sym (id_first es sound.distinct sound.rising (is_final es) [] es refl)
 
   ids : (o : Option Numbered) → HasNumber es o → option_map (λ n. n.id) o ≡ option_and_then (id_in es) (key_of o)
-  ids None h = refl
-  ids (Some n) h = sym h
+  ids o h1 = grind arith
 
   -- the first of the roles' first ones, with its number
   pub least_number : (first : Option Numbered) (r : ℕ) → r ≡ 8 → key_of first ≡ first_key (keys_of (λ s. nat_lt s.role r && is_final es s) es) → HasNumber es first → option_map (λ n. n.id) first ≡ least (marked_commits es)

@@ -3,7 +3,7 @@ use Rattle.std.proofs.Common.{◌≡◌, ℕ, ◌<◌, Bool, true, false, List, 
 use Rattle.std.specs.Prelude.{◌||◌}
 use Rattle.std.specs.List.{find}
 use Rattle.std.specs.Option.{option_map, option_and_then}
-use Rattle.std.proofs.lemmas.Bool.{cases_Bool, lt-ltb, le-ltb, or_left, or_right, or_from}
+use Rattle.std.proofs.lemmas.Bool.{cases_Bool, lt-ltb, le-ltb, or_left, or_right}
 use Rattle.mps_base.specs.declared.action.Step.{Step}
 use Rattle.mps_history.specs.Steps.{IsIn, IsRising}
 use Rattle.mps_history.proofs.Order.{at_member, IsRising-append_right}
@@ -11,7 +11,7 @@ use Rattle.mps_arena.specs.Keys.{AreDistinct, first_key}
 use Rattle.mps_arena.specs.Entries.{KeyedStep, steps, keys_of, any_step, entry_at}
 use Rattle.mps_arena.specs.Neighbours.{id_in}
 use Rattle.mps_arena.proofs.Chains.{keys_with, keys_without, entry_middle}
-use Rattle.mps_links.specs.Private.Order.{is_before, earlier}
+use Rattle.mps_links.specs.Private.Order.{earlier}
 use Rattle.mps_links.proofs.StepKeys.{cases_key, steps_around, in_middle}
 
 -- the first entry of the list that passes, where it stands
@@ -29,7 +29,6 @@ first_is p [] k e = absurd cc
 first_is p (y ∷ b) k e =
     ⊎_elim
     (λ (t : p y.step ≡ true).
-    let one : Some y.key ≡ Some k = sym (ap first_key (keys_with p y b t)) ∙ e in
     let same : y.key ≡ k = cc in
     record { before = []; entry = y; behind = b; parts = refl; key = same; passes = t; none = refl })
     (λ (f : p y.step ≡ false).
@@ -38,8 +37,7 @@ first_is p (y ∷ b) k e =
     (cases_Bool (p y.step))
 
 pub same_either : {A : Type 0} (b : Bool) (x : A) → x ≡ cond b x x
-same_either true x = refl
-same_either false x = refl
+same_either b x = grind arith
 
 module _ (es : List KeyedStep) (d : AreDistinct (keys_of any_step es)) (rising : IsRising (steps es)) where
   pub entry_in : (a b : List KeyedStep) (x : KeyedStep) → es ≡ a ++ x ∷ b → entry_at x.key es ≡ Some x
@@ -50,9 +48,7 @@ module _ (es : List KeyedStep) (d : AreDistinct (keys_of any_step es)) (rising :
 
   -- the steps after a step have larger numbers
   pub rising_behind : (a b : List KeyedStep) (x : KeyedStep) (t : Step) → es ≡ a ++ x ∷ b → IsIn t (steps b) → x.step.id < t.id
-  rising_behind a b x t e i =
-      let r = IsRising-append_right (steps a) (x.step ∷ steps b) (subst IsRising (ap steps e ∙ steps_around a b x) rising) in
-      at_member (λ u. x.step.id < u.id) (steps b) t r.0 i
+  rising_behind a b x t e i = grind (arith, IsRising-append_right, steps_around, at_member)
 
   -- a first entry after another has a larger number
   pub first_behind : (p : Step → Bool) (a b : List KeyedStep) (y : KeyedStep) (k : ℕ) → es ≡ a ++ y ∷ b → first_key (keys_of p b) ≡ Some k → (n : ℕ) × ((id_in es k ≡ Some n) × (y.step.id < n))
@@ -65,11 +61,7 @@ module _ (es : List KeyedStep) (d : AreDistinct (keys_of any_step es)) (rising :
 
   pub id_first : (p : Step → Bool) (a b : List KeyedStep) → es ≡ a ++ b → option_and_then (id_in es) (first_key (keys_of p b)) ≡ option_map (λ (s : Step). s.id) (find p (steps b))
   id_first p a [] e = refl
-  id_first p a (x ∷ b) e =
-      ⊎_elim
-      (λ (t : p x.step ≡ true). rw (keys_with p x b t, t) (id_middle a b x e))
-      (λ (f : p x.step ≡ false). rw (keys_without p x b f, f) (id_first p (a ++ x ∷ []) b (e ∙ sym (append_assoc a (x ∷ []) b))))
-      (cases_Bool (p x.step))
+  id_first p a (x ∷ b) e = grind (arith, id_middle a b x e, id_first p (a ++ x ∷ []) b (e ∙ sym (append_assoc a (x ∷ []) b)), cases_Bool (p x.step))
 
   -- the first entry that passes has a number
   pub first_numbered : (p : Step → Bool) (a b : List KeyedStep) → es ≡ a ++ b → option_and_then (id_in es) (first_key (keys_of p b)) ≡ None → first_key (keys_of p b) ≡ None
@@ -77,42 +69,11 @@ module _ (es : List KeyedStep) (d : AreDistinct (keys_of any_step es)) (rising :
       ⊎_elim (λ (z : first_key (keys_of p b) ≡ None). z)
       (λ (w : (k : ℕ) × (first_key (keys_of p b) ≡ Some k)).
       let f = first_is p b w.0 w.1 in
-      let whole : es ≡ (a ++ f.before) ++ f.entry ∷ f.behind = e ∙ ap (λ l. a ++ l) f.parts ∙ sym (append_assoc a f.before (f.entry ∷ f.behind)) in
-      let is : id_in es w.0 ≡ Some f.entry.step.id = ap (id_in es) (sym f.key) ∙ id_middle (a ++ f.before) f.behind f.entry whole in
-      let no : None ≡ Some f.entry.step.id = sym n ∙ ap (option_and_then (id_in es)) w.1 ∙ is in
-      absurd cc)
+      grind (arith, append_assoc a f.before (f.entry ∷ f.behind), id_middle))
       (cases_key (first_key (keys_of p b)))
 
   -- the first entry that passes one of two tests is the earlier of the first that pass each
   pub first_or : (f g : Step → Bool) (a b : List KeyedStep) → es ≡ a ++ b → first_key (keys_of (λ t. f t || g t) b) ≡ earlier es (first_key (keys_of f b)) (first_key (keys_of g b))
   first_or f g a [] e = refl
   first_or f g a (y ∷ b) e =
-      let both = λ (t : Step). f t || g t in
-      ⊎_elim
-      (λ (t : f y.step ≡ true).
-      ⊎_elim
-      (λ (u : g y.step ≡ true).
-      rw (keys_with both y b (or_left (f y.step) (g y.step) t), keys_with f y b t, keys_with g y b u) (same_either (is_before (id_in es y.key) (id_in es y.key)) (Some y.key)))
-      (λ (v : g y.step ≡ false).
-      rw (keys_with both y b (or_left (f y.step) (g y.step) t), keys_with f y b t, keys_without g y b v)
-      (⊎_elim (λ (z : first_key (keys_of g b) ≡ None). rw z refl)
-      (λ (w : (k : ℕ) × (first_key (keys_of g b) ≡ Some k)).
-      let n = first_behind g a b y w.0 e w.1 in
-      rw (w.1, id_middle a b y e, n.1.0, lt-ltb y.step.id n.0 n.1.1) refl)
-      (cases_key (first_key (keys_of g b)))))
-      (cases_Bool (g y.step)))
-      (λ (t : f y.step ≡ false).
-      ⊎_elim
-      (λ (u : g y.step ≡ true).
-      rw (keys_with both y b (or_right (f y.step) (g y.step) u), keys_without f y b t, keys_with g y b u)
-      (⊎_elim (λ (z : first_key (keys_of f b) ≡ None). rw z refl)
-      (λ (w : (k : ℕ) × (first_key (keys_of f b) ≡ Some k)).
-      let n = first_behind f a b y w.0 e w.1 in
-      let less = n.1.1 in
-      rw (w.1, id_middle a b y e, n.1.0, le-ltb n.0 y.step.id (omega arith)) refl)
-      (cases_key (first_key (keys_of f b)))))
-      (λ (v : g y.step ≡ false).
-      rw (keys_without both y b (or_from (f y.step) (g y.step) t v), keys_without f y b t, keys_without g y b v)
-      (first_or f g (a ++ y ∷ []) b (e ∙ sym (append_assoc a (y ∷ []) b))))
-      (cases_Bool (g y.step)))
-      (cases_Bool (f y.step))
+      grind (arith, keys_with, or_left, same_either, keys_without, first_behind, id_middle, lt-ltb, cases_key, cases_Bool, or_right, le-ltb, first_or f g (a ++ y ∷ []) b (e ∙ sym (append_assoc a (y ∷ []) b)))

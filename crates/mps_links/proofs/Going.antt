@@ -1,6 +1,5 @@
 -- What is left of the marks, where the newest marked step goes.
-use Rattle.std.proofs.Common.{◌≡◌, ◌+◌, suc, ℕ, Bool, true, false, List, [], ◌∷◌, ◌++◌, length, map, not, Some, None, refl, sym, ap, ◌∙◌, subst, arith, ⊎_elim, inl, inr, length-append, append_assoc, append-nil}
-use mathlib.Core.Path.{ap₂}
+use Rattle.std.proofs.Common.{◌≡◌, ◌+◌, ℕ, Bool, true, false, List, [], ◌∷◌, ◌++◌, length, map, not, Some, None, refl, sym, ap, ◌∙◌, subst, arith, ⊎_elim, inl, inr, length-append, append_assoc, append-nil}
 use Rattle.std.specs.Prelude.{◌==◌, ◌&&◌, ◌||◌, nat_lt}
 use Rattle.std.specs.List.{filter}
 use Rattle.std.proofs.lemmas.Bool.{cases_Bool, cond-true, cond-false, ne_eqb, ltb-true, and_parts, and_from, and_right, or_left, false_from_ne_true, both_ways}
@@ -8,7 +7,7 @@ use Rattle.std.proofs.lemmas.List.{map-append}
 use Rattle.std.proofs.lemmas.List.Elements.{filter-append}
 use Rattle.mps_base.specs.declared.action.Step.{Step}
 use Rattle.mps_history.specs.Steps.{IsIn, IsRising, numbers, within, without, sends, receives, goes_to, comes_from}
-use Rattle.mps_history.specs.Dependence.{depends_on, is_matched, sent_before, received_before, consequences}
+use Rattle.mps_history.specs.Dependence.{depends_on, is_matched, consequences}
 use Rattle.mps_history.specs.Commits.{is_commit, commits_from}
 use Rattle.mps_history.proofs.Order.{rising_apart, IsIn-append, IsIn-append_left, IsIn-append_right}
 use Rattle.mps_arena.specs.Keys.{AreDistinct, last_key}
@@ -50,40 +49,19 @@ module _ (es : List KeyedStep) (k : ℕ) (sound : AreSound es) (newest : last_ke
   old_steps = ap steps last.parts ∙ steps_around a b x
 
   pub unmarked_stay : unmarked_steps (filter (λ e. not (e.key == k)) es) ≡ unmarked_steps es
-  unmarked_stay =
-      let p = λ (e : KeyedStep). not e.marked in
-      ap unmarked_steps left
-      ∙ ap steps (filter-append p a b ∙ ap (λ l. filter p a ++ l) (sym (cond-false (p x) (x ∷ filter p b) (filter p b) (ap not x_marked))) ∙ sym (filter-append p a (x ∷ b)))
-      ∙ sym (ap unmarked_steps last.parts)
+  unmarked_stay = grind (arith, left, filter-append, cond-false, x_marked)
 
   pub one_fewer : length (marked_keys (filter (λ e. not (e.key == k)) es)) + 1 ≡ length (marked_keys es)
-  one_fewer =
-      let whole = ap marked_keys last.parts ∙ marked-append a (x ∷ b) ∙ ap (λ l. marked_keys a ++ l) (marked_with x b x_marked) in
-      omega (
-        arith,
-        ap length (ap marked_keys left ∙ marked-append a b),
-        ap length whole,
-        length-append (marked_keys a) (marked_keys b),
-        length-append (marked_keys a) (x.key ∷ marked_keys b),
-      )
-    where
-      marked-append : (l m : List KeyedStep) → marked_keys (l ++ m) ≡ marked_keys l ++ marked_keys m
-      marked-append l m = ap (map (λ e. e.key)) (filter-append (λ e. e.marked) l m) ∙ map-append (λ e. e.key) (filter (λ e. e.marked) l) (filter (λ e. e.marked) m)
+  one_fewer = grind (arith, marked_with, x_marked, left, length-append, filter-append, map-append)
 
   -- the step of that key is the last of the marked ones
   pub last_marked : (y : KeyedStep) → entry_at k es ≡ Some y → marked_steps es ≡ marked_steps (filter (λ e. not (e.key == k)) es) ++ y.step ∷ []
   last_marked y found =
       let p = λ (e : KeyedStep). e.marked in
       let here : entry_at x.key es ≡ Some x = entry_in es sound.distinct sound.rising a b x last.parts in
-      let one : Some x ≡ Some y = sym here ∙ ap (λ j. entry_at j es) last.key ∙ found in
-      let same : x ≡ y = cc in
       let around : es ≡ (a ++ x ∷ []) ++ b = last.parts ∙ sym (append_assoc a (x ∷ []) b) in
       let none : filter p b ≡ [] = none_in (filter p b) (sym (keys_from es sound.rising (a ++ x ∷ []) b around) ∙ last.none) in
-      let front : marked_steps (a ++ b) ≡ steps (filter p a) = ap steps (filter-append p a b ∙ ap (λ l. filter p a ++ l) none ∙ append-nil (filter p a)) in
-      ap marked_steps last.parts
-      ∙ ap steps (filter-append p a (x ∷ b) ∙ ap (λ l. filter p a ++ l) (cond-true x.marked (x ∷ filter p b) (filter p b) x_marked ∙ ap (λ l. x ∷ l) none))
-      ∙ map-append (λ (e : KeyedStep). e.step) (filter p a) (x ∷ [])
-      ∙ ap₂ (λ (l : List Step) (e : KeyedStep). l ++ e.step ∷ []) (sym (ap marked_steps left ∙ front)) same
+      grind (arith, filter-append, append-nil, cond-true, x_marked, map-append, left)
     where
       none_in : (l : List KeyedStep) → map (λ e. e.key) l ≡ [] → l ≡ []
       none_in [] e = refl
@@ -123,42 +101,33 @@ module _ (es : List KeyedStep) (k : ℕ) (sound : AreSound es) (newest : last_ke
     mark_same u i = ap (λ l. is_marked l u.id) last.parts ∙ marked_beside a b x u.id (apart u i)
 
     count_same : (p : Step → Bool) (u : Step) → IsIn u (steps (a ++ b)) → (p x.step ≡ true → (x.step.role == u.role) ≡ true) → length (filter (λ y. nat_lt y.id u.id && p y) (steps es)) ≡ length (filter (λ y. nat_lt y.id u.id && p y) (steps (a ++ b)))
-    count_same p u i own =
-        let f = λ (y : Step). nat_lt y.id u.id && p y in
-        let quiet : f x.step ≡ false = false_from_ne_true (f x.step) (λ t. let w = and_parts (nat_lt x.step.id u.id) (p x.step) t in none_later u i w.0 (own w.1)) in
-        ap length (ap (filter f) old_steps ∙ filter_beside f (steps a) (steps b) x.step quiet ∙ ap (filter f) (sym new_steps))
+    count_same p u i own = grind (arith, false_from_ne_true, and_parts, none_later, old_steps, filter_beside, new_steps)
 
     on_same : (t s : Step) → IsIn t (steps (a ++ b)) → IsIn s (steps (a ++ b)) → depends_on (steps es) t s ≡ depends_on (steps (a ++ b)) t s
     on_same t s it is =
         let sent = count_same (sends s.role t.role) s is (λ e. (and_parts (x.step.role == s.role) (goes_to t.role x.step.act) e).0) in
         let got = count_same (receives s.role t.role) t it (λ e. (and_parts (x.step.role == t.role) (comes_from s.role x.step.act) e).0) in
-        ap (λ n. nat_lt s.id t.id && (s.role == t.role || (sends s.role t.role s && receives s.role t.role t && n == received_before s.role t.role t.id (steps es)))) sent
-        ∙ ap (λ n. nat_lt s.id t.id && (s.role == t.role || (sends s.role t.role s && receives s.role t.role t && sent_before s.role t.role s.id (steps (a ++ b)) == n))) got
+        (cc)
 
     pub still_closed : AreMarksClosed (filter (λ e. not (e.key == k)) es)
-    still_closed =
-        subst AreMarksClosed (sym left)
-        (λ t s it is m d.
-        sym (mark_same t it) ∙ closed t s (in_old t it) (in_old s is) (mark_same s is ∙ m) (on_same t s it is ∙ d))
+    still_closed = grind (arith, left, mark_same, in_old, on_same)
 
 pub none_go : (es : List KeyedStep) → marked_keys es ≡ [] → unmarked_steps es ≡ steps es
 none_go [] e = refl
 none_go (y ∷ es) e =
     ⊎_elim
-    (λ (t : y.marked ≡ true). let no : y.key ∷ marked_keys es ≡ [] = sym (marked_with y es t) ∙ e in absurd cc)
+    (λ (t : y.marked ≡ true). absurd cc)
     (λ (f : y.marked ≡ false).
     ap steps (cond-true (not y.marked) (y ∷ filter (λ e. not e.marked) es) (filter (λ e. not e.marked) es) (ap not f)) ∙ ap (λ l. y.step ∷ l) (none_go es (sym (marked_without y es f) ∙ e)))
     (cases_Bool y.marked)
 
 pub unmarked_left : (es : List KeyedStep) (set : ℕ → Bool) → unmarked_steps (map (marked_by set) es) ≡ without (steps es) set
 unmarked_left [] set = refl
-unmarked_left (y ∷ es) set =
-    ⊎_elim (λ (t : set y.step.id ≡ true). rw t (unmarked_left es set)) (λ (f : set y.step.id ≡ false). rw f (ap (λ l. y.step ∷ l) (unmarked_left es set))) (cases_Bool (set y.step.id))
+unmarked_left (y ∷ es) set = grind (arith, unmarked_left es set, cases_Bool (set y.step.id))
 
 pub marked_within : (es : List KeyedStep) (set : ℕ → Bool) → marked_steps (map (marked_by set) es) ≡ within (steps es) set
 marked_within [] set = refl
-marked_within (y ∷ es) set =
-    ⊎_elim (λ (t : set y.step.id ≡ true). rw t (ap (λ l. y.step ∷ l) (marked_within es set))) (λ (f : set y.step.id ≡ false). rw f (marked_within es set)) (cases_Bool (set y.step.id))
+marked_within (y ∷ es) set = grind (arith, marked_within es set, cases_Bool (set y.step.id))
 
 -- the marked commits, where a step and all that depend on it are marked
 pub marked_commits_are : (es : List KeyedStep) (n : ℕ) → marked_commits (map (marked_by (consequences (steps es) n)) es) ≡ commits_from (steps es) n
@@ -166,8 +135,7 @@ marked_commits_are es n = ap (λ (h : List Step). numbers (filter (λ s. is_comm
 
 pub marked_count : (es : List KeyedStep) (set : ℕ → Bool) → length (marked_keys (map (marked_by set) es)) ≡ length (within (steps es) set)
 marked_count [] set = refl
-marked_count (y ∷ es) set =
-    ⊎_elim (λ (t : set y.step.id ≡ true). rw t (ap suc (marked_count es set))) (λ (f : set y.step.id ≡ false). rw f (marked_count es set)) (cases_Bool (set y.step.id))
+marked_count (y ∷ es) set = grind (arith, marked_count es set, cases_Bool (set y.step.id))
 
 pub none_unmarked : (es : List KeyedStep) → marked_keys (map unmarked es) ≡ []
 none_unmarked [] = refl

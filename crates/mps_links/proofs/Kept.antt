@@ -1,5 +1,5 @@
 -- Pending keys keep their numbers.
-use Rattle.std.proofs.Common.{◌≡◌, ℕ, Bool, true, false, List, [], ◌∷◌, Option, Some, None, refl, ap, ◌∙◌, map, length, ◌<◌, ◌+◌, zero, suc, take, ⊎_elim, arith}
+use Rattle.std.proofs.Common.{◌≡◌, ℕ, Bool, List, [], ◌∷◌, Option, Some, None, refl, map, length, ◌<◌, ◌+◌, zero, suc, take, arith}
 use Rattle.std.specs.Prelude.{◌==◌, slice_index_or, slice_set}
 use Rattle.std.specs.Option.{option_map, unwrap_or}
 use Rattle.std.proofs.lemmas.Bool.{cases_Bool}
@@ -25,29 +25,18 @@ numbers_set es (x ∷ l) (suc i) n h own = (h.0, numbers_set es l i n h.1 own)
 -- a mark changes no number
 pub id_marked : (k : ℕ) (m : Bool) (j : ℕ) (es : List KeyedStep) → id_in (map (with_mark k m) es) j ≡ id_in es j
 id_marked k m j [] = refl
-id_marked k m j (e ∷ es) =
-    ⊎_elim
-    (λ (t : (e.key == j) ≡ true). rw t refl)
-    (λ (f : (e.key == j) ≡ false). rw f (id_marked k m j es))
-    (cases_Bool (e.key == j))
-
-number_marked : (k : ℕ) (m : Bool) (es : List KeyedStep) (o : Option Numbered) → HasNumber es o → HasNumber (map (with_mark k m) es) o
-number_marked k m es None h = tt
-number_marked k m es (Some n) h = id_marked k m n.key es ∙ h
+id_marked k m j (e ∷ es) = grind (arith, id_marked k m j es, cases_Bool (e.key == j))
 
 pub numbers_marked : (k : ℕ) (m : Bool) (es : List KeyedStep) (l : List (Option Numbered)) → HaveNumbers es l → HaveNumbers (map (with_mark k m) es) l
 numbers_marked k m es [] h = tt
-numbers_marked k m es (x ∷ l) h = (number_marked k m es x h.0, numbers_marked k m es l h.1)
+numbers_marked k m es (x ∷ l) h = grind (arith, id_marked, numbers_marked k m es l h.1)
 
 -- where f changes what is pending of the step's role
 pub role_is : (o : Option KeyedStep) (r : ℕ) (l : List (Option ℕ)) (f : Option ℕ → Option ℕ) → option_map (λ e. e.step.role) o ≡ Some r
     → unwrap_or (option_map (λ e. slice_set l e.step.role (f (slice_index_or l e.step.role None))) o) l ≡ slice_set l r (f (slice_index_or l r None))
-role_is None r l f is = absurd cc
-role_is (Some e) r l f is = let same : e.step.role ≡ r = cc in ap (λ (i : ℕ). slice_set l i (f (slice_index_or l i None))) same
+role_is o r l f h1 = grind arith
 
 -- one more is looked at
 pub one_more : (es : List KeyedStep) (l : List (Option Numbered)) (i : ℕ) (d : Option Numbered) → i < length l
     → earliest es (keys_alone (take (i + 1) l)) ≡ earlier es (earliest es (keys_alone (take i l))) (key_of (slice_index_or l i d))
-one_more es l i d small =
-    ap (earliest es) (map_more key_of l i d small)
-    ∙ fold-append (earlier es) None (keys_alone (take i l)) (key_of (slice_index_or l i d) ∷ [])
+one_more es l i d small = cc (map_more key_of l i d small, fold-append (earlier es) None (keys_alone (take i l)) (key_of (slice_index_or l i d) ∷ []))

@@ -3,7 +3,7 @@ use Rattle.std.proofs.Common.{◌≡◌, ℕ, Bool, true, false, List, [], ◌�
 use mathlib.Core.Path.{ap₂}
 use Rattle.std.specs.Prelude.{◌||◌}
 use Rattle.std.specs.Option.{option_or}
-use Rattle.std.proofs.lemmas.Bool.{cases_Bool, lt-ltb, le-ltb, or_left, or_right, or_from}
+use Rattle.std.proofs.lemmas.Bool.{cases_Bool, lt-ltb, le-ltb, or_left}
 use Rattle.mps_base.specs.declared.action.Step.{Step}
 use Rattle.mps_history.specs.Steps.{IsRising}
 use Rattle.mps_arena.specs.Keys.{AreDistinct, last_key}
@@ -82,29 +82,16 @@ module _ (es : List KeyedStep) (d : AreDistinct (keys_of any_step es)) (rising :
       (ap₂ is_before first second ∙ lt-ltb y.step.id w.entry.step.id less, ap₂ is_before second first ∙ le-ltb w.entry.step.id y.step.id (omega arith))
 
   some_kept : (j k y : ℕ) → option_or (later es (Some j) (Some k)) (Some y) ≡ later es (Some j) (Some k)
-  some_kept j k y =
-      ⊎_elim
-      (λ (t : is_before (id_in es j) (id_in es k) ≡ true). rw t refl)
-      (λ (f : is_before (id_in es j) (id_in es k) ≡ false). rw f refl)
-      (cases_Bool (is_before (id_in es j) (id_in es k)))
+  some_kept j k y = grind (arith, cases_Bool)
 
   later_both : (y : ℕ) (o l : Option ℕ) → IsLater y o → IsLater y l → option_or (later es o l) (Some y) ≡ later es (option_or o (Some y)) (option_or l (Some y))
-  later_both y None None f g = same_either (is_before (id_in es y) (id_in es y)) (Some y)
-  later_both y None (Some k) f g = rw (g k refl).0 refl
-  later_both y (Some j) None f g = rw (f j refl).1 refl
-  later_both y (Some j) (Some k) f g = some_kept j k y
+  later_both y o l h1 h2 = grind (arith, same_either, some_kept)
 
   later_left : (y : ℕ) (o l : Option ℕ) → IsLater y l → option_or (later es o l) (Some y) ≡ later es (option_or o (Some y)) l
-  later_left y None None g = refl
-  later_left y None (Some k) g = rw (g k refl).0 refl
-  later_left y (Some j) None g = refl
-  later_left y (Some j) (Some k) g = some_kept j k y
+  later_left y o l h1 = grind (arith, some_kept)
 
   later_right : (y : ℕ) (o l : Option ℕ) → IsLater y o → option_or (later es o l) (Some y) ≡ later es o (option_or l (Some y))
-  later_right y None None f = refl
-  later_right y None (Some k) f = refl
-  later_right y (Some j) None f = rw (f j refl).1 refl
-  later_right y (Some j) (Some k) f = some_kept j k y
+  later_right y o l h1 = grind (arith, some_kept)
 
   -- the last entry that passes one of two tests is the later of the last that pass each
   pub last_or : (f g : Step → Bool) (a b : List KeyedStep) → es ≡ a ++ b → last_key None (keys_of (λ t. f t || g t) b) ≡ later es (last_key None (keys_of f b)) (last_key None (keys_of g b))
@@ -115,27 +102,4 @@ module _ (es : List KeyedStep) (d : AreDistinct (keys_of any_step es)) (rising :
       let l = last_key None (keys_of g b) in
       let rest = last_or f g (a ++ y ∷ []) b (e ∙ sym (append_assoc a (y ∷ []) b)) in
       let more = λ (u : both y.step ≡ true). last_with both y b u ∙ ap (λ r. option_or r (Some y.key)) rest in
-      ⊎_elim
-      (λ (t : f y.step ≡ true).
-      ⊎_elim
-      (λ (u : g y.step ≡ true).
-      more (or_left (f y.step) (g y.step) t)
-      ∙ later_both y.key o l (last_later f a b y e) (last_later g a b y e)
-      ∙ ap₂ (later es) (sym (last_with f y b t)) (sym (last_with g y b u)))
-      (λ (v : g y.step ≡ false).
-      more (or_left (f y.step) (g y.step) t)
-      ∙ later_left y.key o l (last_later g a b y e)
-      ∙ ap₂ (later es) (sym (last_with f y b t)) (sym (last_without g y b v)))
-      (cases_Bool (g y.step)))
-      (λ (t : f y.step ≡ false).
-      ⊎_elim
-      (λ (u : g y.step ≡ true).
-      more (or_right (f y.step) (g y.step) u)
-      ∙ later_right y.key o l (last_later f a b y e)
-      ∙ ap₂ (later es) (sym (last_without f y b t)) (sym (last_with g y b u)))
-      (λ (v : g y.step ≡ false).
-      last_without both y b (or_from (f y.step) (g y.step) t v)
-      ∙ rest
-      ∙ ap₂ (later es) (sym (last_without f y b t)) (sym (last_without g y b v)))
-      (cases_Bool (g y.step)))
-      (cases_Bool (f y.step))
+      grind (arith, later_both y.key o l (last_later f a b y e) (last_later g a b y e), or_left, later_left, last_later, last_with, last_without, cases_Bool (g y.step), later_right y.key o l (last_later f a b y e), cases_Bool (f y.step))

@@ -1,8 +1,8 @@
 -- The least step that depends on another is the first that depends on it directly.
-use Rattle.std.proofs.Common.{◌≡◌, ℕ, ◌<◌, ◌⊎◌, Bool, true, false, List, [], ◌∷◌, ◌++◌, cond, min, not, Option, Some, refl, sym, ap, ◌∙◌, subst, arith, ⊎_elim, inl, inr, append_assoc}
+use Rattle.std.proofs.Common.{◌≡◌, ℕ, ◌<◌, ◌⊎◌, Bool, true, false, List, [], ◌∷◌, ◌++◌, min, not, Option, Some, refl, sym, ap, ◌∙◌, subst, arith, ⊎_elim, inl, append_assoc}
 use Rattle.std.specs.Prelude.{◌==◌, ◌&&◌, slice_get}
 use Rattle.std.specs.List.{filter, find}
-use Rattle.std.specs.Option.{option_map, unwrap_or}
+use Rattle.std.specs.Option.{option_map}
 use Rattle.std.proofs.lemmas.Bool.{cases_Bool, ne_eqb, eqb-false, and_parts, and_from, false_from_ne_true, both_ways, not-true, not_from_false}
 use Rattle.mps_base.specs.declared.action.Step.{Step}
 use Rattle.mps_history.specs.Steps.{IsIn, IsRising, numbers}
@@ -16,11 +16,7 @@ id_of o = option_map (λ (s : Step). s.id) o
 pub least_first : (l : List Step) → IsRising l → least (numbers l) ≡ id_of (slice_get l 0)
 least_first [] r = refl
 least_first (s ∷ []) r = let e : min s.id s.id ≡ s.id = omega arith in ap Some e
-least_first (s ∷ t ∷ l) r =
-    let next = least_first (t ∷ l) r.1 in
-    let less : s.id < t.id = r.0.0 in
-    let e : min s.id t.id ≡ s.id = omega arith in
-    ap (λ (o : Option ℕ). Some (min s.id (unwrap_or o s.id))) next ∙ ap Some e
+least_first (s ∷ t ∷ l) r = grind (arith, least_first (t ∷ l) r.1)
 
 pub first_filter : (p : Step → Bool) (h : List Step) → slice_get (filter p h) 0 ≡ find p h
 first_filter p [] = refl
@@ -28,11 +24,7 @@ first_filter p (x ∷ h) = ⊎_elim (λ (t : p x ≡ true). rw t refl) (λ (f : 
 
 pub find_filter : (p q : Step → Bool) (h : List Step) → find p (filter q h) ≡ find (λ x. q x && p x) h
 find_filter p q [] = refl
-find_filter p q (x ∷ h) =
-    ⊎_elim
-    (λ (t : q x ≡ true). rw t (ap (cond (p x) (Some x)) (find_filter p q h)))
-    (λ (f : q x ≡ false). rw f (find_filter p q h))
-    (cases_Bool (q x))
+find_filter p q (x ∷ h) = grind (arith, find_filter p q h, cases_Bool (q x))
 
 -- tests of which the first holds first where the second does find the same
 module _ (p q : Step → Bool) (h : List Step) (rising : IsRising h)
@@ -41,8 +33,7 @@ module _ (p q : Step → Bool) (h : List Step) (rising : IsRising h)
   not_before : (a b : List Step) (x u : Step) → IsRising (x ∷ b) → IsIn u (a ++ x ∷ b) → u.id < x.id → IsIn u a
   not_before a b x u r i less =
       ⊎_elim (λ (l : IsIn u a). l)
-      (λ (k : (u ≡ x) ⊎ IsIn u b).
-      absurd (⊎_elim (λ (e : u ≡ x). let same : u.id ≡ x.id = ap (λ (s : Step). s.id) e in omega arith) (λ (j : IsIn u b). let more = at_member (λ t. x.id < t.id) b u r.0 j in omega arith) k))
+      (grind (arith, at_member))
       (IsIn-append u a (x ∷ b) i)
 
   find_from : (a b : List Step) → h ≡ a ++ b → ((u : Step) → IsIn u a → p u ≡ false) → find p b ≡ find q b
@@ -51,13 +42,7 @@ module _ (p q : Step → Bool) (h : List Step) (rising : IsRising h)
       let here : IsIn x h = subst (λ (l : List Step). IsIn x l) (sym e) (IsIn-append_right x a (x ∷ b) (inl refl)) in
       let r : IsRising (x ∷ b) = IsRising-append_right a (x ∷ b) (subst IsRising e rising) in
       ⊎_elim
-      (λ (t : p x ≡ true).
-      let y : q x ≡ true =
-      ⊎_elim (λ (z : q x ≡ true). z)
-      (λ (w : (u : Step) × IsIn u h × (u.id < x.id) × (p u ≡ true)).
-      absurd (both_ways (p w.0) (none w.0 (not_before a b x w.0 r (subst (λ (l : List Step). IsIn w.0 l) e w.1) w.2)) w.3))
-      (first x here t) in
-      rw (t, y) refl)
+      (grind (arith, both_ways, not_before))
       (λ (f : p x ≡ false).
       let g : q x ≡ false = false_from_ne_true (q x) (λ z. both_ways (p x) f (sub x here z)) in
       let rest = find_from (a ++ x ∷ []) b (e ∙ sym (append_assoc a (x ∷ []) b))
@@ -80,17 +65,10 @@ module _ (h : List Step) (s : Step) (rising : IsRising h) (is : IsIn s h) where
 
   through : {t u : Step} → IsIn t h → DependsOn h t u → u ≡ s → (depends_on h t s ≡ true) ⊎ ((v : Step) × IsIn v h × (v.id < t.id) × (depends v ≡ true))
   through i (Directly t u e) same = inl (subst (λ (z : Step). depends_on h t z ≡ true) same e)
-  through i (Through t v u j e d) same =
-      let d' : DependsOn h v s = subst (λ (z : Step). DependsOn h v z) same d in
-      inr (v, j, earlier h t v e, and_from (consequences h s.id v.id) (not (v.id == s.id)) (consequences_all h rising is j d') (later v (DependsOn-earlier h d')))
+  through i (Through t v u j e d) same = grind (arith, earlier, and_from, consequences_all, not_from_false, ne_eqb, DependsOn-earlier)
 
   either : (t : Step) → IsIn t h → depends t ≡ true → (depends_on h t s ≡ true) ⊎ ((v : Step) × IsIn v h × (v.id < t.id) × (depends v ≡ true))
-  either t i e =
-      let w = and_parts (consequences h s.id t.id) (not (t.id == s.id)) e in
-      ⊎_elim
-      (λ (same : t ≡ s). absurd (eqb-false t.id s.id (not-true (t.id == s.id) w.1) (ap (λ (x : Step). x.id) same)))
-      (λ (d : DependsOn h t s). through i d refl)
-      (consequences_only h s t rising is i w.0)
+  either t i e = grind (arith, and_parts, eqb-false, not-true, through, consequences_only)
 
   -- the least of what depends on s is the first that depends on it directly
   pub least_is : least (dependents h s.id) ≡ option_map (λ (t : Step). t.id) (find (λ t. depends_on h t s) h)

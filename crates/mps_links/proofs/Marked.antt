@@ -1,5 +1,5 @@
 -- The marked steps, by their numbers and by their entries.
-use Rattle.std.proofs.Common.{◌≡◌, ◌<◌, ℕ, true, false, List, [], ◌∷◌, ◌++◌, map, refl, sym, ap, ◌∙◌, subst, arith, ⊎_elim, inl, inr, eq-eqb, append_assoc}
+use Rattle.std.proofs.Common.{◌≡◌, ◌<◌, ℕ, true, false, List, [], ◌∷◌, ◌++◌, map, refl, sym, ap, ◌∙◌, subst, arith, inl, inr, eq-eqb, append_assoc}
 use Rattle.std.specs.Prelude.{◌==◌, ◌&&◌}
 use Rattle.std.specs.List.{filter}
 use Rattle.std.proofs.lemmas.Bool.{cases_Bool, cond-true, cond-false, ne_eqb, and_right, or_from}
@@ -7,7 +7,6 @@ use Rattle.mps_base.specs.declared.action.Step.{Step}
 use Rattle.mps_history.specs.Steps.{IsIn, IsRising}
 use Rattle.mps_history.proofs.Order.{at_member}
 use Rattle.mps_arena.specs.Entries.{KeyedStep, steps, keys_of}
-use Rattle.mps_arena.proofs.Chains.{keys_with, keys_without}
 use Rattle.mps_links.specs.Marks.{marked_keys, is_marked, marked_steps}
 use Rattle.mps_links.proofs.StepKeys.{in_middle}
 
@@ -16,12 +15,7 @@ none_marked [] n f = refl
 none_marked (y ∷ b) n f = or_from (y.marked && y.step.id == n) (is_marked b n) (and_right y.marked (y.step.id == n) (f y.step (inl refl))) (none_marked b n (λ t i. f t (inr i)))
 
 marked_in : (a b : List KeyedStep) (x : KeyedStep) → IsRising (steps (a ++ x ∷ b)) → is_marked (a ++ x ∷ b) x.step.id ≡ x.marked
-marked_in [] b x r =
-    ⊎_elim
-    (λ (t : x.marked ≡ true). rw (t, eq-eqb x.step.id x.step.id refl) refl)
-    (λ (f : x.marked ≡ false).
-    rw f (none_marked b x.step.id (λ t i. let more = at_member (λ u. x.step.id < u.id) (steps b) t r.0 i in ne_eqb t.id x.step.id (λ e. omega arith))))
-    (cases_Bool x.marked)
+marked_in [] b x r = grind (arith, eq-eqb, none_marked, at_member, ne_eqb, cases_Bool)
 marked_in (y ∷ a) b x r =
     let less = at_member (λ u. y.step.id < u.id) (steps (a ++ x ∷ b)) x.step r.0 (in_middle (a ++ x ∷ b) a b x refl) in
     rw (and_right y.marked (y.step.id == x.step.id) (ne_eqb y.step.id x.step.id (λ e. omega arith))) (marked_in a b x r.1)
@@ -39,14 +33,7 @@ marked_without y b f = ap (map (λ e. e.key)) (cond-false y.marked (y ∷ filter
 -- the keys of the marked entries are those of the marked steps
 pub keys_from : (es : List KeyedStep) → IsRising (steps es) → (a b : List KeyedStep) → es ≡ a ++ b → keys_of (λ s. is_marked es s.id) b ≡ marked_keys b
 keys_from es r a [] e = refl
-keys_from es r a (y ∷ b) e =
-    let p = λ (s : Step). is_marked es s.id in
-    let here = marked_here es a b y r e in
-    let rest = keys_from es r (a ++ y ∷ []) b (e ∙ sym (append_assoc a (y ∷ []) b)) in
-    ⊎_elim
-    (λ (t : y.marked ≡ true). keys_with p y b (here ∙ t) ∙ ap (λ l. y.key ∷ l) rest ∙ sym (marked_with y b t))
-    (λ (f : y.marked ≡ false). keys_without p y b (here ∙ f) ∙ rest ∙ sym (marked_without y b f))
-    (cases_Bool y.marked)
+keys_from es r a (y ∷ b) e = grind (arith, marked_here es a b y r e, keys_from es r (a ++ y ∷ []) b (e ∙ sym (append_assoc a (y ∷ []) b)), cases_Bool y.marked)
 
 pub keys_marked : (es : List KeyedStep) → IsRising (steps es) → keys_of (λ s. is_marked es s.id) es ≡ marked_keys es
 keys_marked es r = keys_from es r [] es refl
@@ -54,13 +41,7 @@ keys_marked es r = keys_from es r [] es refl
 -- the marked steps by their numbers
 steps_from : (es : List KeyedStep) → IsRising (steps es) → (a b : List KeyedStep) → es ≡ a ++ b → filter (λ s. is_marked es s.id) (steps b) ≡ marked_steps b
 steps_from es r a [] e = refl
-steps_from es r a (y ∷ b) e =
-    let here = marked_here es a b y r e in
-    let rest = steps_from es r (a ++ y ∷ []) b (e ∙ sym (append_assoc a (y ∷ []) b)) in
-    ⊎_elim
-    (λ (t : y.marked ≡ true). rw (here, t) (ap (λ l. y.step ∷ l) rest))
-    (λ (f : y.marked ≡ false). rw (here, f) rest)
-    (cases_Bool y.marked)
+steps_from es r a (y ∷ b) e = grind (arith, marked_here es a b y r e, steps_from es r (a ++ y ∷ []) b (e ∙ sym (append_assoc a (y ∷ []) b)), cases_Bool y.marked)
 
 pub steps_marked : (es : List KeyedStep) → IsRising (steps es) → filter (λ s. is_marked es s.id) (steps es) ≡ marked_steps es
 steps_marked es r = steps_from es r [] es refl

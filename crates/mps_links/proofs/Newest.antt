@@ -1,11 +1,11 @@
 -- The newest marked step, and those of each role.
-use Rattle.std.proofs.Common.{◌≡◌, ◌<◌, ◌+◌, ℕ, Bool, true, false, List, [], ◌∷◌, ◌++◌, Option, Some, None, refl, sym, ap, ◌∙◌, subst, arith, ⊎_elim, ◌⊎◌, inl, inr, eq-eqb}
+use Rattle.std.proofs.Common.{◌≡◌, ◌<◌, ◌+◌, ℕ, Bool, true, false, List, [], ◌∷◌, ◌++◌, Option, Some, None, refl, sym, ap, ◌∙◌, subst, arith, ⊎_elim, ◌⊎◌, inl, inr}
 use Rattle.std.specs.Prelude.{◌==◌, ◌&&◌, ◌||◌, nat_lt}
 use Rattle.std.specs.List.{AllByRecursion}
 use Rattle.std.proofs.lemmas.Bool.{cases_Bool, eqb-true, eqb-false, ltb-true, ltb-false, lt-ltb, le-ltb, and_from, and_left, and_parts, or_left, false_from_ne_true, both_ways}
 use Rattle.mps_base.specs.declared.action.Step.{Step}
 use Rattle.mps_history.specs.Steps.{IsIn, IsRising}
-use Rattle.mps_history.specs.Dependence.{depends_on, is_matched}
+use Rattle.mps_history.specs.Dependence.{depends_on}
 use Rattle.mps_history.proofs.Order.{rising_apart, IsIn-append, IsIn-append_left, IsIn-append_right}
 use Rattle.mps_arena.specs.Keys.{first_key, last_key}
 use Rattle.mps_arena.specs.Entries.{KeyedStep, steps, keys_of, of_role, AreSound, IsSmall}
@@ -26,22 +26,10 @@ small_in (y ∷ es) t h (inr i) = small_in es t h.1 i
 
 -- one role more
 pub below_next : (n r : ℕ) → nat_lt n (r + 1) ≡ (nat_lt n r || n == r)
-below_next n r =
-    ⊎_elim
-    (λ (t : nat_lt n r ≡ true). let less = ltb-true n r t in lt-ltb n (r + 1) (omega arith) ∙ sym (or_left (nat_lt n r) (n == r) t))
-    (λ (f : nat_lt n r ≡ false).
-    let more = ltb-false n r f in
-    ⊎_elim
-    (λ (t : (n == r) ≡ true). let same = eqb-true n r t in rw (f, t) (lt-ltb n (r + 1) (omega arith)))
-    (λ (g : (n == r) ≡ false). let apart = eqb-false n r g in rw (f, g) (le-ltb n (r + 1) (omega arith)))
-    (cases_Bool (n == r)))
-    (cases_Bool (nat_lt n r))
+below_next n r = grind (arith, ltb-true, lt-ltb, or_left, ltb-false, eqb-true, eqb-false, le-ltb, cases_Bool)
 
 pub spread_left : (a b m : Bool) → ((a || b) && m) ≡ ((a && m) || (b && m))
-spread_left true b true = refl
-spread_left true true false = refl
-spread_left true false false = refl
-spread_left false b m = refl
+spread_left a b m = grind arith
 
 pub where_in : (es a b : List KeyedStep) (x : KeyedStep) (t : Step) → es ≡ a ++ x ∷ b → IsIn t (steps es) → IsIn t (steps a) ⊎ ((t ≡ x.step) ⊎ IsIn t (steps b))
 where_in es a b x t e i = IsIn-append t (steps a) (x.step ∷ steps b) (subst (λ (l : List Step). IsIn t l) (ap steps e ∙ steps_around a b x) i)
@@ -62,20 +50,13 @@ module _ (es : List KeyedStep) (sound : AreSound es) (closed : AreMarksClosed es
     earlier_marked m t i e =
         let w = and_parts (t.role == p) (mark t.id) e in
         let r : IsRising (steps a ++ x.step ∷ steps b) = subst IsRising (ap steps parts ∙ steps_around a b x) sound.rising in
-        let less = rising_apart (steps a) (x.step ∷ steps b) t x.step r i (inl refl) in
-        let same : t.role ≡ x.step.role = eqb-true t.role p w.0 ∙ sym (eqb-true x.step.role p own) in
-        let on : depends_on (steps es) x.step t ≡ true =
-        and_from (nat_lt t.id x.step.id) (t.role == x.step.role || is_matched (steps es) t x.step) (lt-ltb t.id x.step.id less) (or_left (t.role == x.step.role) (is_matched (steps es) t x.step) (eq-eqb t.role x.step.role same)) in
-        let in_es : IsIn t (steps es) = subst (λ (l : List Step). IsIn t l) (sym (ap steps parts ∙ steps_around a b x)) (IsIn-append_left t (steps a) (x.step ∷ steps b) i) in
-        both_ways x.marked m (sym here ∙ closed x.step t (in_middle es a b x parts) in_es w.1 on)
+        grind (arith, rising_apart (steps a) (x.step ∷ steps b) t x.step r i (inl refl), eqb-true t.role p w.0, eqb-true x.step.role p own, steps_around a b x, IsIn-append_left t (steps a) (x.step ∷ steps b) i, here, in_middle es a b x parts)
 
     module _ (none : keys_of (of_role p) b ≡ []) where
       pub last_marked : x.marked ≡ true → last_key None (keys_of q es) ≡ Some x.key
       last_marked m =
           let rest : keys_of q b ≡ [] = keys_none q b (λ t i. and_left (t.role == p) (mark t.id) (none_passes (of_role p) b t none i)) in
-          ap (λ l. last_key None (keys_of q l)) parts
-          ∙ ap (last_key None) (keys_around q a b x (and_from (x.step.role == p) (mark x.step.id) own (here ∙ m)) ∙ ap (λ l. keys_of q a ++ x.key ∷ l) rest)
-          ∙ last-append None (keys_of q a) (x.key ∷ [])
+          grind (arith, keys_around, and_from, here, last-append)
 
       pub none_marked : x.marked ≡ false → keys_of q es ≡ []
       none_marked m =
@@ -115,8 +96,5 @@ module _ (es : List KeyedStep) (sound : AreSound es) (closed : AreMarksClosed es
       let alone : keys_of on w.behind ≡ [] =
       keys_none on w.behind
       (λ t i.
-      false_from_ne_true (on t)
-      (λ d.
-      let there : IsIn t (steps es) = subst (λ (l : List Step). IsIn t l) (sym (ap steps w.parts ∙ steps_around w.before w.behind w.entry)) (IsIn-append_right t (steps w.before) (w.entry.step ∷ steps w.behind) (inr i)) in
-      both_ways (mark t.id) (none_passes p w.behind t w.none i) (closed t w.entry.step there (in_middle es w.before w.behind w.entry w.parts) w.passes d))) in
+      grind (arith, steps_around w.before w.behind w.entry, IsIn-append_right t (steps w.before) (w.entry.step ∷ steps w.behind) (inr i), none_passes p w.behind t w.none i, in_middle es w.before w.behind w.entry w.parts)) in
       subst (CanGo es) w.key (alone_can_go es sound w.before w.behind w.entry w.parts (ap first_key alone))

@@ -1,5 +1,5 @@
 -- The entry of a number.
-use Rattle.std.proofs.Common.{◌≡◌, ℕ, true, false, List, [], ◌∷◌, ◌++◌, Option, Some, sym, ap, ◌∙◌, subst, ⊎_elim}
+use Rattle.std.proofs.Common.{arith, ◌≡◌, ℕ, true, false, List, [], ◌∷◌, ◌++◌, Option, Some, sym, ap, ◌∙◌, subst, ⊎_elim}
 use Rattle.std.specs.Prelude.{◌==◌, IsSome}
 use Rattle.std.specs.List.{find}
 use Rattle.std.specs.Option.{option_map}
@@ -29,10 +29,7 @@ pub record IsNumbered (es : List KeyedStep) (n : ℕ) : Type 0 where
   pub key : option_map (λ e. e.key) (find (λ e. e.step.id == n) es) ≡ Some entry.key
 
 pub numbered : (es : List KeyedStep) (n : ℕ) → IsSome (step_of (steps es) n) → IsNumbered es n
-numbered es n h =
-    let w = found_by_number es n h in
-    let s = find_split (λ e. e.step.id == n) es w.0 w.1 in
-    record { before = s.1.0; entry = w.0; behind = s.1.1; parts = s.1.2; number = eqb-true w.0.step.id n s.0; key = ap (option_map (λ (e : KeyedStep). e.key)) w.1 }
+numbered es n h = grind (arith, found_by_number, find_split, eqb-true)
 
 -- a number that leads to a key is that of a step
 pub step_there : (es : List KeyedStep) (n k : ℕ) → option_map (λ e. e.key) (find (λ e. e.step.id == n) es) ≡ Some k → IsSome (step_of (steps es) n)

@@ -1,25 +1,24 @@
 -- The pass over the steps, the oldest first, from pending step to pending step.
-use Rattle.std.proofs.Common.{◌≡◌, ◌<◌, ℕ, Bool, true, false, List, [], ◌∷◌, ◌++◌, length, map, cond, Option, Some, None, refl, sym, ap, ◌∙◌, subst, arith, ⊎_elim, inl, inr, eq-eqb, append_assoc}
-use mathlib.Core.Path.{ap₂}
+use Rattle.std.proofs.Common.{◌≡◌, ◌<◌, ℕ, Bool, true, false, List, [], ◌∷◌, ◌++◌, length, map, cond, Option, Some, None, refl, sym, ap, ◌∙◌, arith, ⊎_elim, inl, inr, eq-eqb, append_assoc}
 use Rattle.std.specs.Prelude.{◌==◌, ◌&&◌, ◌||◌, slice_index_or, slice_set}
 use Rattle.std.specs.List.{AllByRecursion}
 use Rattle.std.specs.Option.{option_map, unwrap_or}
-use Rattle.std.proofs.lemmas.Bool.{cases_Bool, cond-true, cond-false, ne_eqb, eqb-true, eqb-false, and_parts, and_from, and_left, and_right, or_cases, or_left, or_right, or_from, false_from_ne_true, both_ways, false≢true}
+use Rattle.std.proofs.lemmas.Bool.{cases_Bool, cond-false, eqb-true, eqb-false, and_parts, and_from, and_left, and_right, or_cases, or_left, or_right, false_from_ne_true, both_ways, false≢true}
 use Rattle.std.proofs.lemmas.List.{get_or-set_same, get_or-set_other, length-set}
 use Rattle.mps_base.specs.Effects.{Effect, Gives, Takes, Idle, effect}
 use Rattle.mps_base.specs.declared.action.Step.{Step}
-use Rattle.mps_history.specs.Steps.{IsIn, within, sends, receives, gives_to}
-use Rattle.mps_history.specs.Dependence.{depends_on, is_matched, with, joined, sent_before, received_before}
+use Rattle.mps_history.specs.Steps.{IsIn, within, gives_to}
+use Rattle.mps_history.specs.Dependence.{depends_on, is_matched, with, joined}
 use Rattle.mps_history.proofs.Order.{same_step}
 use Rattle.mps_history.proofs.Reaching.{joins, any_member, member_any}
 use Rattle.mps_arena.specs.Keys.{first_key}
-use Rattle.mps_arena.specs.Entries.{KeyedStep, steps, keys_of, of_role, entry_at, AreSound}
+use Rattle.mps_arena.specs.Entries.{KeyedStep, steps, keys_of, AreSound}
 use Rattle.mps_arena.specs.Neighbours.{next_of_role_in, receipt_in}
 use Rattle.mps_arena.proofs.Chains.{keys_without}
 use Rattle.mps_links.specs.Private.Order.{earlier}
 use Rattle.mps_links.specs.Marks.{unmarked}
-use Rattle.mps_links.specs.Private.Pending.{at_role, with_pending, followed}
-use Rattle.mps_links.proofs.StepKeys.{cases_key, eqb_turned, keys_agree, keys_none, none_passes, nothing_first, in_middle}
+use Rattle.mps_links.specs.Private.Pending.{at_role, followed}
+use Rattle.mps_links.proofs.StepKeys.{cases_key, keys_agree, keys_none, none_passes, nothing_first, in_middle}
 use Rattle.mps_links.proofs.Firsts.{IsFirst, first_is, first_or, entry_in, rising_behind}
 use Rattle.mps_links.proofs.Links.{next_is, on_later}
 use Rattle.mps_links.proofs.Receipts.{receipt_is}
@@ -47,8 +46,7 @@ pub record IsMarking (es now : List KeyedStep) (whole : ℕ → Bool) (firsts : 
   pub counted : count ≡ length (within (steps es) set)
 
 same_Bool : (a b : Bool) → (a ≡ true → b ≡ true) → (b ≡ true → a ≡ true) → a ≡ b
-same_Bool true b f g = sym (f refl)
-same_Bool false b f g = sym (false_from_ne_true b (λ t. both_ways false refl (g t)))
+same_Bool a b h1 h2 = grind (arith, false_from_ne_true, both_ways)
 
 -- steps that don't join leave the set
 pub passed : (h : List Step) (set : ℕ → Bool) (a l : List Step) → ((t : Step) → IsIn t a → joins h set t ≡ false) → joined h set (a ++ l) ≡ joined h set l
@@ -57,8 +55,7 @@ passed h set (t ∷ a) l n =
     ap (λ (f : ℕ → Bool). joined h f (a ++ l)) (cond-false (joins h set t) (with set t.id) set (n t (inl refl))) ∙ passed h set a l (λ u i. n u (inr i))
 
 earlier_none : (es : List KeyedStep) (o : Option ℕ) → earlier es o None ≡ o
-earlier_none es None = refl
-earlier_none es (Some j) = refl
+earlier_none es o = grind arith
 
 -- one step more is in the set
 module _ (now : List KeyedStep) (sound : AreSound now) (set more : ℕ → Bool) (a d : List KeyedStep) (y : KeyedStep) (parts : now ≡ a ++ y ∷ d)
@@ -66,40 +63,11 @@ module _ (now : List KeyedStep) (sound : AreSound now) (set more : ℕ → Bool)
   abbrev h : List Step
   h = steps now
 
-  here : IsIn y.step h
-  here = in_middle now a d y parts
-
-  grows : (m : ℕ) → set m ≡ true → more m ≡ true
-  grows m e = grown m ∙ or_right (m == y.step.id) (set m) e
-
   joins_more : (t : Step) → joins h more t ≡ (joins h set t || depends_on h t y.step)
-  joins_more t =
-      same_Bool (joins h more t) (joins h set t || depends_on h t y.step)
-      (λ e.
-      let w = any_member (λ s. more s.id && depends_on h t s) h e in
-      let p = and_parts (more w.0.id) (depends_on h t w.0) w.2 in
-      ⊎_elim
-      (λ (q : (w.0.id == y.step.id) ≡ true).
-      let same = same_step h w.0 y.step sound.rising w.1 here (eqb-true w.0.id y.step.id q) in
-      or_right (joins h set t) (depends_on h t y.step) (subst (λ (s : Step). depends_on h t s ≡ true) same p.1))
-      (λ (q : set w.0.id ≡ true).
-      or_left (joins h set t) (depends_on h t y.step) (member_any (λ s. set s.id && depends_on h t s) h w.0 w.1 (and_from (set w.0.id) (depends_on h t w.0) q p.1)))
-      (or_cases (w.0.id == y.step.id) (set w.0.id) (sym (grown w.0.id) ∙ p.0)))
-      (λ e.
-      ⊎_elim
-      (λ (q : joins h set t ≡ true).
-      let w = any_member (λ s. set s.id && depends_on h t s) h q in
-      let p = and_parts (set w.0.id) (depends_on h t w.0) w.2 in
-      member_any (λ s. more s.id && depends_on h t s) h w.0 w.1 (and_from (more w.0.id) (depends_on h t w.0) (grows w.0.id p.0) p.1))
-      (λ (q : depends_on h t y.step ≡ true).
-      let own : more y.step.id ≡ true = grown y.step.id ∙ or_left (y.step.id == y.step.id) (set y.step.id) (eq-eqb y.step.id y.step.id refl) in
-      member_any (λ s. more s.id && depends_on h t s) h y.step here (and_from (more y.step.id) (depends_on h t y.step) own q))
-      (or_cases (joins h set t) (depends_on h t y.step) e))
+  joins_more t = grind (arith, false_from_ne_true, both_ways, joins, any_member, and_parts, same_step, in_middle, eqb-true, or_right, or_left, member_any, and_from, or_cases)
 
   pub fresh_more : ((t : Step) → IsIn t (steps d) → set t.id ≡ false) → (t : Step) → IsIn t (steps d) → more t.id ≡ false
-  fresh_more f t i =
-      let less = rising_behind now sound.distinct sound.rising a d y t parts i in
-      grown t.id ∙ or_from (t.id == y.step.id) (set t.id) (ne_eqb t.id y.step.id (λ e. omega arith)) (f t i)
+  fresh_more f t i = grind (arith, rising_behind now sound.distinct sound.rising a d y t parts i)
 
   module _ (r : ℕ) where
     -- what is pending of the role because of other steps, or as the next of the role
@@ -110,24 +78,7 @@ module _ (now : List KeyedStep) (sound : AreSound now) (set more : ℕ → Bool)
     received t = t.role == r && is_matched h y.step t
 
     both_are : (t : Step) → IsIn t (steps d) → (chained t || received t) ≡ joins_of h more r t
-    both_are t i =
-        let whole : joins h more t ≡ (joins h set t || (t.role == y.step.role || is_matched h y.step t)) =
-        joins_more t ∙ ap (λ b. joins h set t || b) (on_later now sound a d y parts t i) in
-        mixed (t.role == r) (y.step.role == r) (joins h set t) (t.role == y.step.role) (is_matched h y.step t) same_role ∙ sym (ap (λ b. t.role == r && b) whole)
-      where
-        same_role : (t.role == r) ≡ true → (t.role == y.step.role) ≡ (y.step.role == r)
-        same_role e = ap (λ n. n == y.step.role) (eqb-true t.role r e) ∙ eqb_turned r y.step.role
-
-        mixed : (own first j chain m : Bool) → (own ≡ true → chain ≡ first) → (cond first own (own && j) || (own && m)) ≡ (own && (j || (chain || m)))
-        mixed false true j chain m e = refl
-        mixed false false j chain m e = refl
-        mixed true first j chain m e = rw (e refl) (at_role_true first j m)
-          where
-            at_role_true : (first j m : Bool) → (cond first true j || m) ≡ (j || (first || m))
-            at_role_true true true m = refl
-            at_role_true true false m = refl
-            at_role_true false true m = refl
-            at_role_true false false m = refl
+    both_are t i = grind (arith, joins h more t, joins h set t, joins_more t, on_later now sound a d y parts t i)
 
     first_more : first_key (keys_of (joins_of h more r) d) ≡ earlier now (first_key (keys_of chained d)) (first_key (keys_of received d))
     first_more =
@@ -145,7 +96,7 @@ module _ (now : List KeyedStep) (sound : AreSound now) (set more : ℕ → Bool)
     next = at_role now y.key (λ o. next_of_role_in now y.key) firsts
 
     next_size : length next ≡ 8
-    next_size = ap length (at_y (λ o. next_of_role_in now y.key) firsts) ∙ length-set firsts y.step.role (next_of_role_in now y.key) ∙ pending.size
+    next_size = grind (arith, entry_in, length-set)
 
     next_each : (r : ℕ) → r < 8 → slice_index_or next r None ≡ first_key (keys_of (chained r) d)
     next_each r small =
@@ -154,17 +105,8 @@ module _ (now : List KeyedStep) (sound : AreSound now) (set more : ℕ → Bool)
         (λ (t : (y.step.role == r) ≡ true).
         let same : y.step.role ≡ r = eqb-true y.step.role r t in
         let within_firsts : y.step.role < length firsts = omega (arith, same, small, pending.size) in
-        ap (λ l. slice_index_or l r None) is
-        ∙ ap (λ i. slice_index_or (slice_set firsts y.step.role (next_of_role_in now y.key)) i None) (sym same)
-        ∙ get_or-set_same firsts y.step.role (next_of_role_in now y.key) None within_firsts
-        ∙ next_is now sound a d y parts
-        ∙ ap first_key (keys_agree (of_role y.step.role) (chained r) d (λ u i. ap (λ n. u.role == n) same ∙ sym (cond-true (y.step.role == r) (u.role == r) (joins_of h set r u) t))))
-        (λ (f : (y.step.role == r) ≡ false).
-        ap (λ l. slice_index_or l r None) is
-        ∙ get_or-set_other firsts y.step.role r (next_of_role_in now y.key) None (λ e. eqb-false y.step.role r f (sym e))
-        ∙ pending.each r small
-        ∙ ap first_key (keys_without (joins_of h set r) y d (and_left (y.step.role == r) (joins h set y.step) f))
-        ∙ ap first_key (keys_agree (joins_of h set r) (chained r) d (λ u i. sym (cond-false (y.step.role == r) (u.role == r) (joins_of h set r u) f))))
+        grind (arith, get_or-set_same firsts y.step.role (next_of_role_in now y.key) None within_firsts, next_is now sound a d y parts))
+        (grind (arith, get_or-set_other, eqb-false, keys_without, and_left, joins, keys_agree, cond-false))
         (cases_Bool (y.step.role == r))
 
     -- nothing receives it
@@ -193,10 +135,7 @@ module _ (now : List KeyedStep) (sound : AreSound now) (set more : ℕ → Bool)
       one_role t e = receiver (effect y.step.act) (goes t e) (goes z.step first.passes)
         where
           goes : (u : Step) → is_matched h y.step u ≡ true → gives_to u.role (effect y.step.act) ≡ true
-          goes u e =
-              let p = and_parts (sends y.step.role u.role y.step && receives y.step.role u.role u) (sent_before y.step.role u.role y.step.id h == received_before y.step.role u.role u.id h) e in
-              let q = and_parts (sends y.step.role u.role y.step) (receives y.step.role u.role u) p.0 in
-              (and_parts (y.step.role == y.step.role) (gives_to u.role (effect y.step.act)) q.0).1
+          goes u e = grind (arith, and_parts)
 
           receiver : (c : Effect) → gives_to t.role c ≡ true → gives_to z.step.role c ≡ true → t.role ≡ z.step.role
           receiver (Gives q m) e g = sym (eqb-true q t.role e) ∙ eqb-true q z.step.role g
@@ -204,9 +143,7 @@ module _ (now : List KeyedStep) (sound : AreSound now) (set more : ℕ → Bool)
           receiver Idle e g = absurd (false≢true e)
 
       at_z : (f : Option ℕ → Option ℕ) (l : List (Option ℕ)) → at_role now k f l ≡ slice_set l z.step.role (f (slice_index_or l z.step.role None))
-      at_z f l =
-          ap (λ (o : Option KeyedStep). unwrap_or (option_map (λ e. slice_set l e.step.role (f (slice_index_or l e.step.role None))) o) l)
-          (ap (λ j. entry_at j now) (sym first.key) ∙ entry_in now sound.distinct sound.rising (a ++ y ∷ first.before) first.behind z z_parts)
+      at_z f l = grind (arith, entry_in, z_parts)
 
       abbrev last : List (Option ℕ)
       last = at_role now k (λ o. earlier now o (Some k)) next
@@ -219,41 +156,13 @@ module _ (now : List KeyedStep) (sound : AreSound now) (set more : ℕ → Bool)
           (λ (t : (z.step.role == r) ≡ true).
           let same : z.step.role ≡ r = eqb-true z.step.role r t in
           let within_next : z.step.role < length next = omega (arith, same, small, next_size) in
-          let all : keys_of (is_matched h y.step) d ≡ keys_of (received r) d =
-          keys_agree (is_matched h y.step) (received r) d
-          (λ u i.
-          same_Bool (is_matched h y.step u) (received r u)
-          (λ m. and_from (u.role == r) (is_matched h y.step u) (eq-eqb u.role r (one_role u m ∙ same)) m)
-          (λ m. (and_parts (u.role == r) (is_matched h y.step u) m).1)) in
-          ap (λ l. slice_index_or l r None) moved
-          ∙ ap (λ i. slice_index_or (slice_set next z.step.role value) i None) (sym same)
-          ∙ get_or-set_same next z.step.role value None within_next
-          ∙ ap (λ i. earlier now (slice_index_or next i None) (Some k)) same
-          ∙ ap₂ (earlier now) (next_each r small) (sym is ∙ receipt_is now sound a d y parts ∙ ap first_key all)
-          ∙ sym (first_more r))
+          cc (keys_agree (is_matched h y.step) (received r) d (grind (arith, same_Bool, and_from, eq-eqb, one_role, and_parts)), get_or-set_same next z.step.role value None within_next, next_each r small, receipt_is now sound a d y parts, first_more r))
           (λ (f : (z.step.role == r) ≡ false).
-          let none : keys_of (received r) d ≡ [] =
-          keys_none (received r) d
-          (λ u i.
-          false_from_ne_true (received r u)
-          (λ m.
-          let p = and_parts (u.role == r) (is_matched h y.step u) m in
-          eqb-false z.step.role r f (sym (one_role u p.1) ∙ eqb-true u.role r p.0))) in
-          ap (λ l. slice_index_or l r None) moved
-          ∙ get_or-set_other next z.step.role r value None (λ e. eqb-false z.step.role r f (sym e))
-          ∙ none_received r none (slice_index_or next r None) (next_each r small))
+          grind (arith, keys_none (received r) d (grind (arith, false_from_ne_true, and_parts, eqb-false, one_role, eqb-true)), get_or-set_other, eqb-false, none_received, next_each))
           (cases_Bool (z.step.role == r))
 
       pending_both : ArePending h more d last
-      pending_both =
-          record {
-            size = ap length (at_z (λ o. earlier now o (Some k)) next) ∙ length-set next z.step.role (earlier now (slice_index_or next z.step.role None) (Some k)) ∙ next_size;
-            each = last_each;
-          }
+      pending_both = grind (arith, at_z, length-set, next_size, last_each)
 
     pub pending_more : ArePending h more d (followed now y.key firsts)
-    pending_more =
-        ⊎_elim
-        (λ (n : receipt_in now y.key ≡ None). subst (λ (o : Option ℕ). ArePending h more d (with_pending now o next)) (sym n) (pending_alone n))
-        (λ (w : (k : ℕ) × (receipt_in now y.key ≡ Some k)). subst (λ (o : Option ℕ). ArePending h more d (with_pending now o next)) (sym w.1) (pending_both w.0 w.1))
-        (cases_key (receipt_in now y.key))
+    pending_more = grind (arith, pending_alone, pending_both, cases_key)

@@ -1,10 +1,10 @@
 -- Entries that are there, by their keys.
-use Rattle.std.proofs.Common.{◌≡◌, ◌<◌, ◌++◌, ◌∷◌, ℕ, true, Bool, List, [], Option, Some, None, refl, sym, ap, ◌∙◌, subst, ⊎_elim, ◌⊎◌, inl, inr, eq-eqb}
-use Rattle.std.specs.Prelude.{◌==◌, IsSome, IfSome}
+use Rattle.std.proofs.Common.{arith, ◌≡◌, ◌<◌, ◌++◌, ◌∷◌, ℕ, true, Bool, List, [], Option, Some, None, refl, sym, ap, ◌∙◌, ⊎_elim, ◌⊎◌, inl, inr, eq-eqb}
+use Rattle.std.specs.Prelude.{IsSome, IfSome}
 use Rattle.std.specs.List.{AllByRecursion}
 use Rattle.std.specs.Option.{option_and_then}
 use Rattle.std.proofs.lemmas.Bool.{both_ways, false≢true}
-use Rattle.mps_base.specs.Effects.{Effect, Gives, Takes, Idle, effect}
+use Rattle.mps_base.specs.Effects.{Effect, effect}
 use Rattle.mps_base.specs.declared.action.Step.{Step}
 use Rattle.mps_arena.specs.Keys.{is_at, has, key_after}
 use Rattle.mps_arena.specs.Entries.{KeyedStep, keys_of, of_role, like, unlike, entry_at, IsSmall}
@@ -19,36 +19,27 @@ cases_entry None = inl refl
 cases_entry (Some e) = inr (e, refl)
 
 pub there : (k : ℕ) (es : List KeyedStep) → IsSome (entry_at k es) → (e : KeyedStep) × (entry_at k es ≡ Some e)
-there k es h =
-    ⊎_elim (λ (n : entry_at k es ≡ None). absurd (false≢true (subst IsSome n h))) (λ (w : (e : KeyedStep) × (entry_at k es ≡ Some e)). w) (cases_entry (entry_at k es))
+there k es h = grind (arith, false≢true, cases_entry)
 
 pub at_middle : (P : KeyedStep → Type 0) (a b : List KeyedStep) (x : KeyedStep) → AllByRecursion P (a ++ x ∷ b) → P x
 at_middle P [] b x h = h.0
 at_middle P (y ∷ a) b x h = at_middle P a b x h.1
 
 pub small_at : (k : ℕ) (es : List KeyedStep) (e : KeyedStep) → AllByRecursion (λ e. IsSmall e.step) es → entry_at k es ≡ Some e → e.step.role < 8
-small_at k es e small found =
-    let s = find_split (λ x. x.key == k) es e found in
-    (at_middle (λ x. IsSmall x.step) s.1.0 s.1.1 e (subst (AllByRecursion (λ x. IsSmall x.step)) s.1.2 small)).0
+small_at k es e small found = grind (arith, find_split, at_middle)
 
 -- what has a key in a chain is there
 pub chained_there : (p : Step → Bool) (k : ℕ) (es : List KeyedStep) → has k (keys_of p es) ≡ true → IsSome (entry_at k es)
-chained_there p k es h =
-    ⊎_elim
-    (λ (n : entry_at k es ≡ None). absurd (both_ways (has k (keys_of p es)) (absent p k es n) h))
-    (λ (w : (e : KeyedStep) × (entry_at k es ≡ Some e)). subst IsSome (sym w.1) cc)
-    (cases_entry (entry_at k es))
+chained_there p k es h = grind (arith, both_ways, absent, cases_entry)
 
 matched_with_is : (c : Effect) (o : Option ℕ) (j : ℕ) → matched_receipt c o ≡ Some j → o ≡ Some j
-matched_with_is (Gives q m) o j e = e
-matched_with_is (Takes from slot) o j e = absurd cc
-matched_with_is Idle o j e = absurd cc
+matched_with_is c o j h1 = grind arith
 
 -- the receipt of a step is there
 pub receipt_there : (es : List KeyedStep) (k j : ℕ) → receipt_in es k ≡ Some j → IsSome (entry_at j es)
 receipt_there es k j e =
     ⊎_elim
-    (λ (n : entry_at k es ≡ None). let no : None ≡ Some j = sym (ap (option_and_then (λ (y : KeyedStep). matched_receipt (effect y.step.act) (matched_with es y))) n) ∙ e in absurd cc)
+    (λ (n : entry_at k es ≡ None). absurd cc)
     (λ (w : (y : KeyedStep) × (entry_at k es ≡ Some y)).
     let y = w.0 in
     let is = matched_with_is (effect y.step.act) (matched_with es y) j (sym (ap (option_and_then (λ (y : KeyedStep). matched_receipt (effect y.step.act) (matched_with es y))) w.1) ∙ e) in
@@ -60,7 +51,7 @@ receipt_there es k j e =
 pub next_there : (es : List KeyedStep) (k j : ℕ) → next_of_role_in es k ≡ Some j → IsSome (entry_at j es)
 next_there es k j e =
     ⊎_elim
-    (λ (n : entry_at k es ≡ None). let no : None ≡ Some j = sym (ap (option_and_then (λ (y : KeyedStep). key_after y.key (keys_of (of_role y.step.role) es))) n) ∙ e in absurd cc)
+    (λ (n : entry_at k es ≡ None). absurd cc)
     (λ (w : (y : KeyedStep) × (entry_at k es ≡ Some y)).
     let y = w.0 in
     let is = sym (ap (option_and_then (λ (y : KeyedStep). key_after y.key (keys_of (of_role y.step.role) es))) w.1) ∙ e in
@@ -68,5 +59,4 @@ next_there es k j e =
     (cases_entry (entry_at k es))
 
 pub if_some : (P : ℕ → Type 0) (o : Option ℕ) → ((k : ℕ) → o ≡ Some k → P k) → IfSome o P
-if_some P None h = tt
-if_some P (Some k) h = h k refl
+if_some P o h1 = grind arith

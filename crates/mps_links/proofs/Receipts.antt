@@ -1,10 +1,10 @@
 -- The receipt of a send is the first later step that is matched with it.
-use Rattle.std.proofs.Common.{◌≡◌, ℕ, zero, suc, ◌+◌, ◌-◌, ◌≤◌, Bool, true, false, List, [], ◌∷◌, ◌++◌, length, None, refl, sym, ap, ◌∙◌, subst, arith, ⊎_elim, eq-eqb, append_assoc, length-append}
+use Rattle.std.proofs.Common.{◌≡◌, ℕ, zero, suc, ◌+◌, ◌-◌, ◌≤◌, Bool, true, false, List, [], ◌∷◌, ◌++◌, length, refl, sym, ap, ◌∙◌, subst, arith, ⊎_elim, eq-eqb, append_assoc, length-append}
 use Rattle.std.specs.Prelude.{◌==◌, ◌&&◌, nat_lt, slice_get}
 use Rattle.std.specs.List.{filter}
 use Rattle.std.specs.Option.{option_and_then}
-use Rattle.std.proofs.lemmas.Bool.{cases_Bool, ne_eqb, eqb-true, and_left, and_right, and_from}
-use Rattle.mps_base.specs.Effects.{Effect, Gives, Takes, Idle, effect}
+use Rattle.std.proofs.lemmas.Bool.{cases_Bool, eqb-true, and_left, and_right, and_from}
+use Rattle.mps_base.specs.Effects.{Effect, Gives, effect}
 use Rattle.mps_base.specs.declared.action.Message.{Message}
 use Rattle.mps_base.specs.declared.action.Step.{Step}
 use Rattle.mps_history.specs.Steps.{IsRising, sends, receives, gives_to, takes_from}
@@ -55,9 +55,7 @@ module _ (es : List KeyedStep) (sound : AreSound es) (a b : List KeyedStep) (x :
     at_place c (y ∷ e) zero is n =
         let place : received_before s.role q y.step.id (steps es) ≡ length (keys_of got c) = count_before got es c e y sound.rising is in
         ⊎_elim
-        (λ (t : got y.step ≡ true).
-        let same : (before == received_before s.role q y.step.id (steps es)) ≡ true = eq-eqb before (received_before s.role q y.step.id (steps es)) (omega (arith, n, place)) in
-        rw (keys_with got y e t) (sym (ap first_key (keys_with fits y e (and_from (got y.step) (before == received_before s.role q y.step.id (steps es)) t same)))))
+        (grind (arith, eq-eqb, keys_with, and_from))
         (λ (f : got y.step ≡ false).
         rw (keys_without got y e f, keys_without fits y e (and_left (got y.step) (before == received_before s.role q y.step.id (steps es)) f))
         (at_place (c ++ y ∷ []) e zero (shift c e y is) (ap (λ l. length l + zero) (keys_kept got c y f) ∙ n)))
@@ -66,31 +64,15 @@ module _ (es : List KeyedStep) (sound : AreSound es) (a b : List KeyedStep) (x :
         let place : received_before s.role q y.step.id (steps es) ≡ length (keys_of got c) = count_before got es c e y sound.rising is in
         ⊎_elim
         (λ (t : got y.step ≡ true).
-        let other : (before == received_before s.role q y.step.id (steps es)) ≡ false = ne_eqb before (received_before s.role q y.step.id (steps es)) (λ z. omega (arith, n, place)) in
-        rw (keys_with got y e t, keys_without fits y e (and_right (got y.step) (before == received_before s.role q y.step.id (steps es)) other))
-        (at_place (c ++ y ∷ []) e j (shift c e y is) (omega (arith, n, ap length (keys_push got c y t), length-append (keys_of got c) (y.key ∷ [])))))
+        grind (arith, keys_with got y e t, at_place (c ++ y ∷ []) e j (shift c e y is) (omega (arith, n, ap length (keys_push got c y t), length-append (keys_of got c) (y.key ∷ [])))))
         (λ (f : got y.step ≡ false).
         rw (keys_without got y e f, keys_without fits y e (and_left (got y.step) (before == received_before s.role q y.step.id (steps es)) f))
         (at_place (c ++ y ∷ []) e (suc j) (shift c e y is) (ap (λ l. length l + suc j) (keys_kept got c y f) ∙ n)))
         (cases_Bool (got y.step))
 
     module _ (m : Message) (act : effect s.act ≡ Gives q m) where
-      sending : (t : Step) → sends s.role t.role s ≡ (q == t.role)
-      sending t = ap (λ k. k && gives_to t.role (effect s.act)) (eq-eqb s.role s.role refl) ∙ ap (gives_to t.role) act
-
       match : (t : Step) → is_matched (steps es) s t ≡ fits t
-      match t =
-          let h = steps es in
-          ⊎_elim
-          (λ (y : (q == t.role) ≡ true).
-          let same : q ≡ t.role = eqb-true q t.role y in
-          ap (λ k. k && receives s.role t.role t && sent_before s.role t.role s.id h == received_before s.role t.role t.id h) (sending t ∙ y)
-          ∙ ap (λ r. receives s.role r t && sent_before s.role r s.id h == received_before s.role r t.id h) (sym same))
-          (λ (n : (q == t.role) ≡ false).
-          let apart : (t.role == q) ≡ false = sym (eqb_turned q t.role) ∙ n in
-          ap (λ k. k && receives s.role t.role t && sent_before s.role t.role s.id h == received_before s.role t.role t.id h) (sending t ∙ n)
-          ∙ sym (and_left (got t) (before == received_before s.role q t.id h) (and_left (t.role == q) (takes_from s.role (effect t.act)) apart)))
-          (cases_Bool (q == t.role))
+      match t = grind (arith, eqb-true, eq-eqb, eqb_turned, and_left, cases_Bool)
 
       pub receipt_of_send : receipt_in es x.key ≡ first_key (keys_of (is_matched (steps es) s) b)
       receipt_of_send =
@@ -115,20 +97,5 @@ module _ (es : List KeyedStep) (sound : AreSound es) (a b : List KeyedStep) (x :
           ∙ at_place (a ++ x ∷ []) b j (shift a b x parts) (ap (λ l. length l + j) kept ∙ at ∙ sym n)
           ∙ ap first_key (keys_agree fits (is_matched (steps es) s) b (λ t i. sym (match t)))
 
-  -- what sends nothing has no receipt, and nothing is matched with it
-  silent : ((q : ℕ) → gives_to q (effect s.act) ≡ false) → matched_receipt (effect s.act) (matched_with es x) ≡ None → receipt_in es x.key ≡ first_key (keys_of (is_matched (steps es) s) b)
-  silent quiet none =
-      let h = steps es in
-      ap (option_and_then (λ (y : KeyedStep). matched_receipt (effect y.step.act) (matched_with es y))) (entry_in es sound.distinct sound.rising a b x parts)
-      ∙ none
-      ∙ sym (ap first_key (keys_none (is_matched h s) b (λ t i.
-      and_left (sends s.role t.role s && receives s.role t.role t) (sent_before s.role t.role s.id h == received_before s.role t.role t.id h)
-      (and_left (sends s.role t.role s) (receives s.role t.role t) (and_right (s.role == s.role) (gives_to t.role (effect s.act)) (quiet t.role))))))
-
-  by_act : (c : Effect) → effect s.act ≡ c → receipt_in es x.key ≡ first_key (keys_of (is_matched (steps es) s) b)
-  by_act (Gives q m) e = receipt_of_send q m e
-  by_act (Takes from slot) e = silent (λ q. ap (gives_to q) e) (ap (λ (c : Effect). matched_receipt c (matched_with es x)) e)
-  by_act Idle e = silent (λ q. ap (gives_to q) e) (ap (λ (c : Effect). matched_receipt c (matched_with es x)) e)
-
   pub receipt_is : receipt_in es x.key ≡ first_key (keys_of (is_matched (steps es) s) b)
-  receipt_is = by_act (effect s.act) refl
+  receipt_is = grind (arith, receipt_of_send, entry_in, keys_none, and_left, and_right)

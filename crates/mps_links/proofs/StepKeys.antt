@@ -1,22 +1,21 @@
 -- The keys of the steps that pass a test, by the steps.
-use Rattle.std.proofs.Common.{◌≡◌, ℕ, Bool, true, false, List, [], ◌∷◌, ◌++◌, Option, Some, None, refl, sym, ap, ◌∙◌, subst, ⊎_elim, ◌⊎◌, inl, inr, eq-eqb}
+use Rattle.std.proofs.Common.{arith, ◌≡◌, ℕ, Bool, true, false, List, [], ◌∷◌, ◌++◌, Option, Some, None, refl, sym, ap, ◌∙◌, subst, ⊎_elim, ◌⊎◌, inl, inr}
 use Rattle.std.specs.Prelude.{◌==◌}
-use Rattle.std.proofs.lemmas.Bool.{cases_Bool, ne_eqb, eqb-true, eqb-false}
+use Rattle.std.proofs.lemmas.Bool.{cases_Bool}
 use Rattle.std.proofs.lemmas.List.{map-append}
 use Rattle.mps_base.specs.declared.action.Step.{Step}
 use Rattle.mps_history.specs.Steps.{IsIn}
 use Rattle.mps_history.proofs.Order.{IsIn-append_right}
 use Rattle.mps_arena.specs.Keys.{first_key}
 use Rattle.mps_arena.specs.Entries.{KeyedStep, steps, keys_of}
-use Rattle.mps_arena.proofs.Chains.{keys_with, keys_without}
+use Rattle.mps_arena.proofs.Chains.{keys_without}
 
 pub cases_key : (o : Option ℕ) → (o ≡ None) ⊎ ((k : ℕ) × (o ≡ Some k))
 cases_key None = inl refl
 cases_key (Some k) = inr (k, refl)
 
 pub eqb_turned : (a b : ℕ) → (a == b) ≡ (b == a)
-eqb_turned a b =
-    ⊎_elim (λ (t : (a == b) ≡ true). t ∙ sym (eq-eqb b a (sym (eqb-true a b t)))) (λ (f : (a == b) ≡ false). f ∙ sym (ne_eqb b a (λ e. eqb-false a b f (sym e)))) (cases_Bool (a == b))
+eqb_turned a b = grind (arith, cases_Bool (a == b))
 
 pub steps_around : (a b : List KeyedStep) (x : KeyedStep) → steps (a ++ x ∷ b) ≡ steps a ++ x.step ∷ steps b
 steps_around a b x = map-append (λ (e : KeyedStep). e.step) a (x ∷ b)
@@ -29,11 +28,7 @@ pub keys_agree : (p q : Step → Bool) (b : List KeyedStep) → ((t : Step) → 
 keys_agree p q [] e = refl
 keys_agree p q (y ∷ b) e =
     let rest = keys_agree p q b (λ t i. e t (inr i)) in
-    let here = e y.step (inl refl) in
-    ⊎_elim
-    (λ (t : q y.step ≡ true). keys_with p y b (here ∙ t) ∙ ap (λ l. y.key ∷ l) rest ∙ sym (keys_with q y b t))
-    (λ (f : q y.step ≡ false). keys_without p y b (here ∙ f) ∙ rest ∙ sym (keys_without q y b f))
-    (cases_Bool (q y.step))
+    grind (arith, cases_Bool (q y.step))
 
 pub keys_none : (p : Step → Bool) (b : List KeyedStep) → ((t : Step) → IsIn t (steps b) → p t ≡ false) → keys_of p b ≡ []
 keys_none p [] n = refl
@@ -43,11 +38,10 @@ pub none_passes : (p : Step → Bool) (b : List KeyedStep) (t : Step) → keys_o
 none_passes p [] t e i = absurd i
 none_passes p (y ∷ b) t e i =
     ⊎_elim
-    (λ (u : p y.step ≡ true). let no : y.key ∷ keys_of p b ≡ [] = sym (keys_with p y b u) ∙ e in absurd cc)
+    (λ (u : p y.step ≡ true). absurd cc)
     (λ (f : p y.step ≡ false).
     ⊎_elim (λ (s : t ≡ y.step). ap p s ∙ f) (λ (j : IsIn t (steps b)). none_passes p b t (sym (keys_without p y b f) ∙ e) j) i)
     (cases_Bool (p y.step))
 
 pub nothing_first : (c : List ℕ) → first_key c ≡ None → c ≡ []
-nothing_first [] e = refl
-nothing_first (k ∷ c) e = absurd cc
+nothing_first c h1 = grind arith

@@ -8,7 +8,7 @@ use Rattle.std.proofs.lemmas.List.{map-append, length-map}
 use Rattle.std.proofs.lemmas.List.Elements.{filter-append}
 use Rattle.mps_base.specs.declared.action.Step.{Step}
 use Rattle.mps_history.specs.Steps.{IsIn, IsRising, within}
-use Rattle.mps_history.specs.Dependence.{IsClosed, with, joined, consequences, depends_on}
+use Rattle.mps_history.specs.Dependence.{with, joined, consequences, depends_on}
 use Rattle.mps_history.proofs.Order.{at_member, from_members, rising_apart, IsRising-append_right, IsIn-append, IsIn-append_right}
 use Rattle.mps_history.proofs.Reaching.{joins, any_member, earlier as earlier_step, consequences_closed}
 use Rattle.mps_history.proofs.Removal.{filter-same}
@@ -22,7 +22,7 @@ use Rattle.mps_links.proofs.StepKeys.{keys_agree, keys_none, none_passes, nothin
 use Rattle.mps_links.proofs.Firsts.{IsFirst, first_is, first_or}
 use Rattle.mps_links.proofs.Newest.{below_next, spread_left, small_in}
 use Rattle.mps_links.proofs.Present.{at_middle}
-use Rattle.mps_links.proofs.Marked.{marked_with, marked_without, marked_here}
+use Rattle.mps_links.proofs.Marked.{marked_without, marked_here}
 use Rattle.mps_links.proofs.Unmarking.{marked_as, mark_middle}
 use Rattle.mps_links.proofs.Passing.{joins_of, ArePending, IsMarking, passed, pending_more, fresh_more}
 
@@ -36,8 +36,7 @@ module _ (es : List KeyedStep) (sound : AreSound es) (p : Step → Bool) (a b : 
       let f = λ (t : Step). nat_lt t.role r && p t in
       let g = λ (t : Step). t.role == r && p t in
       sym (first_or es sound.distinct sound.rising f g a b parts)
-      ∙ ap first_key (keys_agree (λ t. f t || g t) (λ t. nat_lt t.role (r + 1) && p t) b
-      (λ t i. sym (ap (λ k. k && p t) (below_next t.role r) ∙ spread_left (nat_lt t.role r) (t.role == r) (p t))))
+      ∙ ap first_key (grind (arith, keys_agree, below_next, spread_left))
 
   fold_firsts : (r : ℕ) (ks : List (Option ℕ)) (o : Option ℕ) → o ≡ first_below r
       → ((i : ℕ) → i < length ks → slice_index_or ks i None ≡ first_key (keys_of (λ t. t.role == r + i && p t) b))
@@ -92,10 +91,7 @@ module _ (set more : ℕ → Bool) where
     marks_kept y.step.id grown d (λ t i. let less = at_member (λ u. y.step.id < u.id) (steps d) t r.0 i in ne_eqb t.id y.step.id (λ e. omega arith)) h.1,
   )
   marks_more (e ∷ a) d y grown r h =
-      let less = at_member (λ u. e.step.id < u.id) (steps (a ++ y ∷ d)) y.step r.0 (in_middle (a ++ y ∷ d) a d y refl) in (
-        h.0 ∙ sym (grown e.step.id ∙ ap (λ b. b || set e.step.id) (ne_eqb e.step.id y.step.id (λ q. omega arith))),
-        marks_more a d y grown r.1 h.1,
-      )
+      let less = at_member (λ u. e.step.id < u.id) (steps (a ++ y ∷ d)) y.step r.0 (in_middle (a ++ y ∷ d) a d y refl) in grind (arith, grown e.step.id, marks_more a d y grown r.1 h.1)
 
   count_kept : (n : ℕ) → ((m : ℕ) → more m ≡ (m == n || set m)) → (l : List Step) → ((t : Step) → IsIn t l → (t.id == n) ≡ false) → within l more ≡ within l set
   count_kept n grown l apart = filter-same (λ s. more s.id) (λ s. set s.id) l (from_members (λ s. more s.id ≡ set s.id) l (λ t i. grown t.id ∙ ap (λ b. b || set t.id) (apart t i)))
@@ -105,20 +101,7 @@ module _ (set more : ℕ → Bool) where
       let after = IsRising-append_right a (s ∷ d) r in
       let front = count_kept s.id grown a (λ t i. let less = rising_apart a (s ∷ d) t s r i (inl refl) in ne_eqb t.id s.id (λ e. omega arith)) in
       let rear = count_kept s.id grown d (λ t i. let less = at_member (λ u. s.id < u.id) d t after.0 i in ne_eqb t.id s.id (λ e. omega arith)) in
-      let new = filter-append (λ t. more t.id) a (s ∷ d) in
-      let old = filter-append (λ t. set t.id) a (s ∷ d) in
-      let own : more s.id ≡ true = grown s.id ∙ or_left (s.id == s.id) (set s.id) (eq-eqb s.id s.id refl) in
-      omega (
-        arith,
-        ap length new,
-        ap length old,
-        length-append (within a more) (within (s ∷ d) more),
-        length-append (within a set) (within (s ∷ d) set),
-        ap length (cond-true (more s.id) (s ∷ within d more) (within d more) own),
-        ap length (cond-false (set s.id) (s ∷ within d set) (within d set) fresh),
-        ap length front,
-        ap length rear,
-      )
+      grind (arith, filter-append, grown, or_left, eq-eqb, length-append, cond-true, cond-false)
 
 -- a set that lacks a step has fewer than all
 pub lacks_one : (l : List Step) (set : ℕ → Bool) (t : Step) → IsIn t l → set t.id ≡ false → length (within l set) < length l
@@ -131,16 +114,8 @@ lacks_one (s ∷ l) set t (inl q) e =
     most [] = omega arith
     most (u ∷ l) =
         let rest = most l in
-        ⊎_elim
-        (λ (t : set u.id ≡ true). omega (arith, rest, ap length (cond-true (set u.id) (u ∷ within l set) (within l set) t)))
-        (λ (f : set u.id ≡ false). omega (arith, rest, ap length (cond-false (set u.id) (u ∷ within l set) (within l set) f)))
-        (cases_Bool (set u.id))
-lacks_one (s ∷ l) set t (inr i) e =
-    let rest = lacks_one l set t i e in
-    ⊎_elim
-    (λ (u : set s.id ≡ true). omega (arith, rest, ap length (cond-true (set s.id) (s ∷ within l set) (within l set) u)))
-    (λ (f : set s.id ≡ false). omega (arith, rest, ap length (cond-false (set s.id) (s ∷ within l set) (within l set) f)))
-    (cases_Bool (set s.id))
+        grind (arith, cases_Bool (set u.id))
+lacks_one (s ∷ l) set t (inr i) e = grind (arith, lacks_one l set t i e, cases_Bool (set s.id))
 
 -- the first turn
 module _ (es : List KeyedStep) (sound : AreSound es) (none : marked_keys es ≡ []) (a d : List KeyedStep) (y : KeyedStep) (parts : es ≡ a ++ y ∷ d) where
@@ -158,7 +133,7 @@ module _ (es : List KeyedStep) (sound : AreSound es) (none : marked_keys es ≡ 
   none_marked [] e = tt
   none_marked (x ∷ l) e =
       ⊎_elim
-      (λ (t : x.marked ≡ true). let no : x.key ∷ marked_keys l ≡ [] = sym (marked_with x l t) ∙ e in absurd cc)
+      (λ (t : x.marked ≡ true). absurd cc)
       (λ (f : x.marked ≡ false). (f, none_marked l (sym (marked_without x l f) ∙ e)))
       (cases_Bool x.marked)
 
@@ -185,14 +160,7 @@ module _ (es : List KeyedStep) (sound : AreSound es) (none : marked_keys es ≡ 
 
   -- no step up to y depends on it
   none_before : (t : Step) → t.id ≤ y.step.id → joins (steps es) single t ≡ false
-  none_before t less =
-      false_from_ne_true (joins (steps es) single t)
-      (λ e.
-      let w = any_member (λ s. single s.id && depends_on (steps es) t s) (steps es) e in
-      let p = and_parts (single w.0.id) (depends_on (steps es) t w.0) w.2 in
-      let same = eqb-true w.0.id y.step.id p.0 in
-      let above = earlier_step (steps es) t w.0 p.1 in
-      omega arith)
+  none_before t less = grind (arith, false_from_ne_true, joins, any_member, and_parts, eqb-true, earlier_step)
 
   pub starts : IsMarking es (map (with_mark y.key true) es) (consequences (steps es) y.step.id) (followed es y.key (replicate 8 None)) 1
   starts =
@@ -285,8 +253,7 @@ module _ (es now : List KeyedStep) (whole : ℕ → Bool) (firsts : List (Option
     pub turns : IsMarking es (map (with_mark k true) now) whole (followed now k firsts) (count + 1)
     turns =
         let marked : map (with_mark k true) now ≡ front ++ marked_as true y ∷ first.behind =
-        ap₂ (λ (j : ℕ) (l : List KeyedStep). map (with_mark j true) l) (sym first.key) split
-        ∙ mark_middle true front first.behind y (subst (λ (l : List KeyedStep). AreDistinct (keys_of any_step l)) split sound.distinct) in
+        grind (arith, split, mark_middle) in
         let r : IsRising (steps front ++ y.step ∷ steps first.behind) = subst IsRising (steps_are ∙ steps_split) sound.rising in
         record {
           set = more;
@@ -345,10 +312,6 @@ marks_closed es now n set rising alike marks whole t s it is m d =
     let mark_is = λ (u : Step) (i : IsIn u (steps now)).
     let w = entry_of now u i in
     let here : is_marked now u.id ≡ set u.id =
-    ap (λ (v : Step). is_marked now v.id) w.3.1
-    ∙ marked_here now w.0 w.2 w.1 r w.3.0
-    ∙ at_middle (λ e. e.marked ≡ set e.step.id) w.0 w.2 w.1 (subst (AllByRecursion (λ e. e.marked ≡ set e.step.id)) w.3.0 marks)
-    ∙ ap (λ (v : Step). set v.id) (sym w.3.1) in
+    grind (arith, marked_here, at_middle) in
     here in
-    let closed = subst (λ (f : ℕ → Bool). IsClosed (steps now) f) (sym (whole ∙ ap (λ l. consequences l n) (sym same))) (consequences_closed (steps now) n r) in
-    mark_is t it ∙ closed t s it is (sym (mark_is s is) ∙ m) d
+    grind (arith, consequences_closed (steps now) n r)

@@ -1,11 +1,11 @@
 -- Marks taken off, role by role and from the last step back.
-use Rattle.std.proofs.Common.{◌≡◌, ◌≤◌, ◌+◌, ℕ, Bool, true, false, List, [], ◌∷◌, ◌++◌, length, map, cond, Option, Some, None, refl, sym, ap, ◌∙◌, subst, arith, ⊎_elim, inl, eq-eqb, append_assoc, append-nil, length-append}
+use Rattle.std.proofs.Common.{◌≡◌, ◌≤◌, ◌+◌, ℕ, Bool, true, false, List, [], ◌∷◌, ◌++◌, length, map, Option, Some, None, refl, sym, ap, ◌∙◌, arith, ⊎_elim, inl, eq-eqb, append_assoc, length-append}
 use mathlib.Core.Path.{ap₂}
-use Rattle.std.specs.Prelude.{◌==◌, ◌||◌, nat_lt, if◌then◌else◌}
+use Rattle.std.specs.Prelude.{◌==◌, nat_lt, if◌then◌else◌}
 use Rattle.std.specs.List.{AllByRecursion}
-use Rattle.std.proofs.lemmas.Bool.{cases_Bool, cond-true, cond-false, eqb-true, lt-ltb, le-ltb, or_left, or_right, or_parts, and_from, false_from_ne_true, both_ways}
+use Rattle.std.proofs.lemmas.Bool.{cases_Bool, cond-true, cond-false, eqb-true, lt-ltb, le-ltb, or_left, or_right, or_parts, false_from_ne_true, both_ways}
 use Rattle.std.proofs.lemmas.List.{map-append}
-use Rattle.mps_history.specs.Dependence.{depends_on, is_matched}
+use Rattle.mps_history.specs.Dependence.{is_matched}
 use Rattle.mps_arena.specs.Keys.{has, AreDistinct, last_key}
 use Rattle.mps_arena.specs.Entries.{KeyedStep, steps, keys_of, any_step, of_role, entry_at, with_mark, AreSound, IsSmall}
 use Rattle.mps_arena.specs.Neighbours.{prev_of_role_in}
@@ -33,12 +33,9 @@ others_kept k m (y ∷ b) e =
 
 -- a mark written in the middle
 pub mark_middle : (m : Bool) (a b : List KeyedStep) (x : KeyedStep) → AreDistinct (keys_of any_step (a ++ x ∷ b)) → map (with_mark x.key m) (a ++ x ∷ b) ≡ a ++ marked_as m x ∷ b
-mark_middle m [] b x d =
-    ap₂ (λ (z : KeyedStep) (l : List KeyedStep). z ∷ l) (ap (λ v. marked_as v x) (cond-true (x.key == x.key) m x.marked (eq-eqb x.key x.key refl))) (others_kept x.key m b d.0)
+mark_middle m [] b x d = grind (arith, cond-true, eq-eqb, others_kept)
 mark_middle m (y ∷ a) b x d =
-    let n : (y.key == x.key) ≡ false = false_from_ne_true (y.key == x.key) (λ t.
-    both_ways (has y.key (keys_of any_step (a ++ x ∷ b))) d.0
-    (rw (keys_around any_step a b x refl) (has-append_right y.key (keys_of any_step a) (x.key ∷ keys_of any_step b) (or_left (x.key == y.key) (has y.key (keys_of any_step b)) (eq-eqb x.key y.key (sym (eqb-true y.key x.key t))))))) in
+    let n : (y.key == x.key) ≡ false = false_from_ne_true (y.key == x.key) (grind (arith, both_ways, keys_around, has-append_right, or_left, eq-eqb, eqb-true)) in
     ap₂ (λ (z : KeyedStep) (l : List KeyedStep). z ∷ l) (ap (λ v. marked_as v y) (cond-false (y.key == x.key) m y.marked n)) (mark_middle m a b x d.1)
 
 module _ (p : ℕ) where
@@ -81,9 +78,6 @@ module _ (p : ℕ) where
     pub key : at ≡ last_key None (keys_of (of_role p) front)
     pub count : turns ≤ length rest
 
-  pub walk_starts : (es : List KeyedStep) → IsWalk es es (last_key None (keys_of (of_role p) es)) 0
-  walk_starts es = record { front = es; rest = []; parts = sym (append-nil es); left = sym (append-nil es); key = refl; count = omega arith }
-
   module _ (es now : List KeyedStep) (at : Option ℕ) (turns : ℕ) (w : IsWalk es now at turns) where
     ended : off w.front ≡ w.front → now ≡ off es
     ended e = w.left ∙ ap (λ l. l ++ off w.rest) (sym e) ∙ sym (ap off w.parts ∙ map-append (unmarked_of p) w.front w.rest)
@@ -116,34 +110,13 @@ module _ (p : ℕ) where
       own = eqb-true x.step.role p last.passes
 
       pub walk_at : AreSound now → entry_at k now ≡ Some x
-      walk_at sound = ap (λ j. entry_at j now) (sym last.key) ∙ entry_in now sound.distinct sound.rising last.before (last.behind ++ off w.rest) x now_is
+      walk_at sound = grind (arith, entry_in, append_assoc)
 
       pub ends_unmarked : AreLastMarked p es → x.marked ≡ false → now ≡ off es
-      ends_unmarked h m =
-          let front = none_before last.before (last.behind ++ w.rest) x (subst (AreLastMarked p) es_is h) own m in
-          ended
-          (ap off last.parts
-          ∙ map-append (unmarked_of p) last.before (x ∷ last.behind)
-          ∙ ap₂ (λ (l r : List KeyedStep). l ++ r) front (ap₂ (λ (z : KeyedStep) (l : List KeyedStep). z ∷ l) (own_role x last.passes ∙ ap (λ v. marked_as v x) (sym m)) (none_of_role last.behind last.none))
-          ∙ sym last.parts)
+      ends_unmarked h m = grind (arith, none_before, append_assoc, own, ended, map-append, own_role, none_of_role)
 
       pub walk_goes : AreSound now → IsWalk es (map (with_mark k false) now) (prev_of_role_in now k) (turns + 1)
-      walk_goes sound =
-          record {
-            front = last.before;
-            rest = x ∷ (last.behind ++ w.rest);
-            parts = es_is;
-            left =
-                ap₂ (λ (j : ℕ) (l : List KeyedStep). map (with_mark j false) l) (sym last.key) now_is
-                ∙ mark_middle false last.before (last.behind ++ off w.rest) x (subst (λ (l : List KeyedStep). AreDistinct (keys_of any_step l)) now_is sound.distinct)
-                ∙ ap (λ l. last.before ++ l)
-                (ap₂ (λ (z : KeyedStep) (l : List KeyedStep). z ∷ l) (sym (own_role x last.passes)) (ap (λ l. l ++ off w.rest) (sym (none_of_role last.behind last.none)) ∙ sym (map-append (unmarked_of p) last.behind w.rest)));
-            key =
-                ap (prev_of_role_in now) (sym last.key)
-                ∙ prev_is now sound last.before (last.behind ++ off w.rest) x now_is
-                ∙ ap (λ r. last_key None (keys_of (of_role r) last.before)) own;
-            count = omega (arith, w.count, length-append last.behind w.rest);
-          }
+      walk_goes sound = grind (arith, es_is, now_is, mark_middle, own_role, none_of_role, map-append, prev_is, own, length-append)
 
 -- the marks of the roles below r are off
 abbrev pub unmarked_below : ℕ → KeyedStep → KeyedStep
@@ -151,25 +124,15 @@ unmarked_below r e = marked_as (if nat_lt e.step.role r then false else e.marked
 
 pub below_none : (es : List KeyedStep) → map (unmarked_below 0) es ≡ es
 below_none [] = refl
-below_none (y ∷ es) =
-    ap₂ (λ (z : KeyedStep) (l : List KeyedStep). z ∷ l) (ap (λ v. marked_as v y) (cond-false (nat_lt y.step.role 0) false y.marked (le-ltb y.step.role 0 (omega arith)))) (below_none es)
-
-role_off : (n r : ℕ) (m : Bool) → cond (n == r) false (cond (nat_lt n r) false m) ≡ cond (nat_lt n (r + 1)) false m
-role_off n r m =
-    ⊎_elim
-    (λ (t : (n == r) ≡ true). rw (below_next n r, t) (sym (ap (λ b. cond b false m) (or_right (nat_lt n r) true refl))))
-    (λ (f : (n == r) ≡ false).
-    ⊎_elim (λ (t : nat_lt n r ≡ true). rw (below_next n r, f, t) refl) (λ (g : nat_lt n r ≡ false). rw (below_next n r, f, g) refl) (cases_Bool (nat_lt n r)))
-    (cases_Bool (n == r))
+below_none (y ∷ es) = grind (arith, cond-false (nat_lt y.step.role 0) false y.marked (le-ltb y.step.role 0 (omega arith)), below_none es)
 
 pub below_more : (r : ℕ) (es : List KeyedStep) → map (unmarked_of r) (map (unmarked_below r) es) ≡ map (unmarked_below (r + 1)) es
 below_more r [] = refl
-below_more r (y ∷ es) = ap₂ (λ (z : KeyedStep) (l : List KeyedStep). z ∷ l) (ap (λ v. marked_as v y) (role_off y.step.role r y.marked)) (below_more r es)
+below_more r (y ∷ es) = grind (arith, below_next, or_right, cases_Bool, below_more r es)
 
 pub below_all : (es : List KeyedStep) → AllByRecursion (λ e. IsSmall e.step) es → map (unmarked_below 8) es ≡ map unmarked es
 below_all [] h = refl
-below_all (y ∷ es) h =
-    ap₂ (λ (z : KeyedStep) (l : List KeyedStep). z ∷ l) (ap (λ v. marked_as v y) (cond-true (nat_lt y.step.role 8) false y.marked (lt-ltb y.step.role 8 h.0.0))) (below_all es h.1)
+below_all (y ∷ es) h = cc (cond-true (nat_lt y.step.role 8) false y.marked (lt-ltb y.step.role 8 h.0.0), below_all es h.1)
 
 module _ (es : List KeyedStep) (sound : AreSound es) (closed : AreMarksClosed es) (r : ℕ) where
   own_mark : (y : KeyedStep) → y.step.role ≡ r → (unmarked_below r y).marked ≡ y.marked
@@ -180,13 +143,7 @@ module _ (es : List KeyedStep) (sound : AreSound es) (closed : AreMarksClosed es
   behind_marked a b x is same_role m c (z ∷ e) parts = (
     λ same.
         let whole : es ≡ (a ++ x ∷ c) ++ z ∷ e = is ∙ ap (λ l. a ++ x ∷ l) parts ∙ sym (append_assoc a (x ∷ c) (z ∷ e)) in
-        let less = rising_behind es sound.distinct sound.rising a b x z.step is (in_middle b c e z parts) in
-        let on : depends_on (steps es) z.step x.step ≡ true =
-        and_from (nat_lt x.step.id z.step.id) (x.step.role == z.step.role || is_matched (steps es) x.step z.step) (lt-ltb x.step.id z.step.id less)
-        (or_left (x.step.role == z.step.role) (is_matched (steps es) x.step z.step) (eq-eqb x.step.role z.step.role (same_role ∙ sym same))) in
-        own_mark z same
-        ∙ sym (marked_here es (a ++ x ∷ c) e z sound.rising whole)
-        ∙ closed z.step x.step (in_middle es (a ++ x ∷ c) e z whole) (in_middle es a b x is) (marked_here es a b x sound.rising is ∙ m) on,
+        grind (arith, rising_behind es sound.distinct sound.rising a b x z.step is (in_middle b c e z parts), or_left (x.step.role == z.step.role) (is_matched (steps es) x.step z.step) (eq-eqb x.step.role z.step.role (same_role ∙ sym same)), own_mark z same, marked_here es (a ++ x ∷ c) e z sound.rising whole, in_middle es (a ++ x ∷ c) e z whole, in_middle es a b x is, marked_here es a b x sound.rising is),
     behind_marked a b x is same_role m (c ++ z ∷ []) e (parts ∙ sym (append_assoc c (z ∷ []) e)),
   )
 

@@ -1,10 +1,8 @@
-use Rattle.std.proofs.Common.{◌≡◌, ℕ, [], ◌∷◌, ◌++◌, append_assoc, Some, None, sym, ap, ◌∙◌, subst}
-use mathlib.Core.Path.{ap₂}
+use Rattle.std.proofs.Common.{arith, ◌≡◌, ℕ, append_assoc, Some, None, sym, ap, ◌∙◌, subst}
 use Rattle.std.specs.Prelude.{◌==◌, IsSome}
 use Rattle.std.specs.List.{find}
 use Rattle.std.specs.Option.{option_map, option_and_then}
-use Rattle.mps_base.specs.declared.action.Step.{Step}
-use Rattle.mps_history.specs.Dependence.{depends_on, least, dependents}
+use Rattle.mps_history.specs.Dependence.{least, dependents}
 use Rattle.mps_arena.specs.Entries.{steps, entry_at}
 use Rattle.mps_arena.specs.Neighbours.{id_in, next_of_role_in, receipt_in, CanGo}
 use Rattle.mps_links.specs.Private.Numbered.{key_of, HasNumber}
@@ -26,31 +24,13 @@ key c =
 
 -- the first step that depends on this one
 first : (c : After-earlier) → key_of c.earlier.result ≡ earlier c.args.arena.now.entries (next_of_role_in c.args.arena.now.entries (step c).entry.key) (receipt_in c.args.arena.now.entries (step c).entry.key)
-first c =
-    let es = c.args.arena.now.entries in
-    (c.earlier.ensures es c.with_number-next.ensures.number c.with_number-receipt.ensures.number).0
-    ∙ ap₂ (earlier es) (c.with_number-next.ensures.key ∙ c.next_of_role.ensures ∙ ap (next_of_role_in es) (key c)) (c.with_number-receipt.ensures.key ∙ c.receipt.ensures ∙ ap (receipt_in es) (key c))
+first c = grind (arith, key)
 
 least_is : (c : After-earlier) → least (dependents (steps c.args.arena.now.entries) c.args.id) ≡ option_and_then (id_in c.args.arena.now.entries) (key_of c.earlier.result)
-least_is c =
-    let es = c.args.arena.now.entries in
-    let s = step c in
-    ap (λ (n : ℕ). least (dependents (steps es) n)) (sym s.number)
-    ∙ least_by_links es c.steps_are_sound.ensures s.before s.behind s.entry s.parts
-    ∙ ap (option_and_then (id_in es)) (sym (first c))
+least_is c = grind (arith, step, least_by_links, first)
 
 alone : (c : After-earlier) → option_and_then (id_in c.args.arena.now.entries) (key_of c.earlier.result) ≡ None → (k : ℕ) → option_map (λ e. e.key) (find (λ e. e.step.id == c.args.id) c.args.arena.now.entries) ≡ Some k → CanGo c.args.arena.now.entries k
-alone c none k at =
-    let es = c.args.arena.now.entries in
-    let s = step c in
-    let sound = c.steps_are_sound.ensures in
-    let on = λ (t : Step). depends_on (steps es) t s.entry.step in
-    let whole : es ≡ (s.before ++ s.entry ∷ []) ++ s.behind = s.parts ∙ sym (append_assoc s.before (s.entry ∷ []) s.behind) in
-    let is = first_dependent es sound s.before s.behind s.entry s.parts ∙ sym (first c) in
-    let free = first_numbered es sound.distinct sound.rising on (s.before ++ s.entry ∷ []) s.behind whole (ap (option_and_then (id_in es)) is ∙ none) in
-    let same : Some s.entry.key ≡ Some k = sym s.key ∙ at in
-    let this : s.entry.key ≡ k = cc in
-    subst (CanGo es) this (alone_can_go es sound s.before s.behind s.entry s.parts free)
+alone c none k at = grind (arith, step, append_assoc, first_dependent, first, first_numbered, alone_can_go)
 
 -- the step is there
 pub returns-in_err-key-clause-least : goal.returns-in_err-key-clause-least

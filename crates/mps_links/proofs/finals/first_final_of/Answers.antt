@@ -1,4 +1,4 @@
-use Rattle.std.proofs.Common.{◌≡◌, Some, sym, ap, ◌∙◌, subst}
+use Rattle.std.proofs.Common.{arith, ◌≡◌, Some, sym, ◌∙◌, subst}
 use Rattle.std.specs.Prelude.{IsSome}
 use Rattle.std.specs.Option.{option_map}
 use Rattle.mps_arena.specs.Entries.{KeyedStep, entry_at}
@@ -10,10 +10,7 @@ found : (c : After-steps_are_sound) → entry_at c.in-Some.key c.args.arena.now.
 found c = search_at c.args.arena.now.entries c.args.role _ _ _ c.loop.invariant.search c.in-Some.key c.in-Some.is c.steps_are_sound.ensures
 
 is_marked : (c : After-steps_are_sound) (m : _) → option_map (λ (e : KeyedStep). e.marked) (entry_at c.in-Some.key c.args.arena.now.entries) ≡ Some m → (last c.args.arena.now.entries c.args.role _ _ _ c.loop.invariant.search c.in-Some.key c.in-Some.is c.steps_are_sound.ensures).entry.marked ≡ m
-is_marked c m e =
-    let x = (last c.args.arena.now.entries c.args.role _ _ _ c.loop.invariant.search c.in-Some.key c.in-Some.is c.steps_are_sound.ensures).entry in
-    let is : Some x.marked ≡ Some m = ap (option_map (λ (e : KeyedStep). e.marked)) (sym (found c)) ∙ e in
-    cc
+is_marked c m e = grind (arith, last, found)
 
 pub returns-in_default : goal.returns-in_default
 returns-in_default c = ends_at_first c.args.arena.now.entries c.args.role _ _ _ c.loop.invariant.search c.in_default.is

@@ -1,4 +1,4 @@
-use Rattle.std.proofs.Common.{◌≡◌, ◌==◌, ◌&&◌, Some, None, sym, ap, ◌∙◌, subst}
+use Rattle.std.proofs.Common.{arith, ◌≡◌, ◌==◌, ◌&&◌, Some, None, sym, ap, ◌∙◌, subst}
 use Rattle.std.specs.Prelude.{IsSome}
 use Rattle.std.specs.Option.{option_map}
 use Rattle.std.proofs.lemmas.Bool.{and_left}
@@ -17,10 +17,7 @@ last : (c : After-steps_are_sound) → IsLast (of_role c.args.role) c.args.arena
 last c = last_is (of_role c.args.role) c.args.arena.now.entries c.in_ok-key.key (sym c.last_of.ensures ∙ c.in_ok-key.was)
 
 found : (c : After-steps_are_sound) → entry_at c.in_ok-key.key c.args.arena.now.entries ≡ Some (last c).entry
-found c =
-    let es = c.args.arena.now.entries in
-    let w = last c in
-    ap (λ k. entry_at k es) (sym w.key) ∙ entry_in es c.steps_are_sound.ensures.distinct c.steps_are_sound.ensures.rising w.before w.behind w.entry w.parts
+found c = grind (arith, last, entry_in)
 
 pub returns-in_err-key-clause-newest : goal.returns-in_err-key-clause-newest
 returns-in_err-key-clause-newest c =

@@ -22,12 +22,7 @@ role_at-role-requires-in-Some c =
 
 -- what is pending of the step's own role then
 own : (c : After-with_number) → keys_alone (slice_set c.args.self.now.firsts c.role_at-role.result c.with_number.result) ≡ at_role c.args.arena.now.entries c.args.key (λ o. next_of_role_in c.args.arena.now.entries c.args.key) (keys_alone c.args.self.now.firsts)
-own c =
-    let es = c.args.arena.now.entries in
-    let firsts = c.args.self.now.firsts in
-    map-set key_of firsts c.role_at-role.result c.with_number.result
-    ∙ ap (slice_set (keys_alone firsts) c.role_at-role.result) (c.with_number.ensures.key ∙ c.next_of_role.ensures)
-    ∙ sym (role_is (entry_at c.args.key es) c.role_at-role.result (keys_alone firsts) (λ o. next_of_role_in es c.args.key) c.role_at-role.ensures.role)
+own c = grind (arith, map-set, role_is)
 
 pub returns-in_default-clause-keys : goal.returns-in_default-clause-keys
 returns-in_default-clause-keys c =
