@@ -24,7 +24,7 @@ const PAIRS: &str = "roles a b c d ; a -> b : int . c -> d : int . end";
 
 // The text in one piece.
 fn whole(alloc: Global, text: &str) -> Result<Vec<Vec<u8>>, AllocError> {
-    vec![in alloc; Vec::from_slice(alloc, text.as_bytes())?]
+    Ok(vec![in alloc; Vec::from_slice(alloc, text.as_bytes())?]?)
 }
 
 // The text in two pieces.
