@@ -1,5 +1,5 @@
 -- From the parts of what a server tells to the whole.
-use Rattle.std.proofs.Common.{◌≡◌, ◌≤◌, ℕ, zero, suc, ◌+◌, List, [], ◌∷◌, ◌++◌, Option, Some, None, Result, Ok, Err, IfErr, IsErrAnd, OnOk, length, refl, sym, ap, ◌∙◌, subst, arith, inl, inr}
+use Rattle.std.proofs.Common.{◌≡◌, ◌≤◌, ℕ, zero, suc, ◌+◌, List, [], ◌∷◌, ◌++◌, Option, Some, None, Result, Ok, Err, IfErr, IsErrAnd, OnOk, length, get_or, refl, sym, ap, ◌∙◌, subst, arith, inl, inr}
 use Rattle.std.specs.Prelude.{All, slice_get}
 use Rattle.std.proofs.lemmas.Option.{slice_get_within, slice_get-get_or}
 use Rattle.std.proofs.lemmas.List.Elements.{All-get_or}
@@ -33,22 +33,23 @@ same_types roles tree s sessions i t all at =
         let less = slice_get_within (s ∷ sessions) j x at in
         let read = slice_get-get_or (s ∷ sessions) j s less in
         let new = All-get_or (IsNewOf roles tree) (s ∷ sessions) j s less all in
-        subst (IsNewOf roles tree) cc new
+        let same : get_or (s ∷ sessions) j s ≡ x = cc in
+        subst (IsNewOf roles tree) same new
 
 -- a hub of new sessions
-pub opened_hub : (roles : List (List ℕ)) (tree : GlobalType) (first n : ℕ) (sessions : List SessionState) (hub : Hall) → All (IsNewOf roles tree) sessions → length sessions ≡ n → 1 ≤ n → hub.names ≡ roles → hub.first ≡ first → AreCellsOf roles first sessions hub.cells → HasOpened roles tree first n hub
-opened_hub roles tree first n [] hub all count some names number cells = absurd (omega (arith, count, some))
-opened_hub roles tree first n (s ∷ sessions) hub all count some names number cells =
+pub opened_hub : (roles names : List (List ℕ)) (tree : GlobalType) (first n : ℕ) (sessions : List SessionState) (hub : Hall) → All (IsNewOf roles tree) sessions → length sessions ≡ n → 1 ≤ n → names ≡ roles → hub.names ≡ names → hub.first ≡ first → AreCellsOf names first sessions hub.cells → HasOpened roles tree first n hub
+opened_hub roles names tree first n [] hub all count some same named number cells = absurd (omega (arith, count, some))
+opened_hub roles names tree first n (s ∷ sessions) hub all count some same named number cells =
     let new = All-get_or (IsNewOf roles tree) (s ∷ sessions) zero s (omega arith) all in
     record {
       types = s.types;
       projected = new.projected;
-      names = names;
+      names = named ∙ same;
       first_is = number;
-      cells = subst (λ (r : List (List ℕ)). AreCellsWith r s.types first n hub.cells) (sym names) (record {
+      cells = subst (λ (r : List (List ℕ)). AreCellsWith r s.types first n hub.cells) (sym named) (record {
         count = cells.count ∙ count;
         each = λ i o e. let was = cells.each i o e in
-            was.2 ∙ ap (λ (t : List LocalType). opened_with roles t (first + i)) (same_types roles tree s sessions i was.0 all was.1);
+            was.2 ∙ ap (λ (t : List LocalType). opened_with names t (first + i)) (same_types roles tree s sessions i was.0 all was.1);
       });
       one = new.one;
     }

@@ -17,7 +17,7 @@ use crate::load::{load_protocol, unprojected};
 use mps_base::{Role, Roles};
 use mps_dev::{OverWrite, Sink, Source};
 use mps_global::Protocol;
-use mps_local::{Local, ProjectFault, project_all, write_local};
+use mps_local::{Local, project_all, write_local};
 use mps_open::roles_of;
 use std::alloc::{AllocError, Global};
 use std::io;
@@ -35,8 +35,7 @@ fn types_of<'a>(alloc: Global, protocol: &Protocol) -> Result<Vec<Local>, ToolFa
 {
     match project_all(alloc, protocol) {
         Ok(types) => Ok(types),
-        Err(ProjectFault::Unmergeable { role, choice }) => Err(unprojected(protocol, role, choice)),
-        Err(ProjectFault::Memory) => Err(ToolFault::Memory),
+        Err(fault) => Err(unprojected(protocol, fault)),
     }
 }
 

@@ -9,11 +9,10 @@ ghost use Rattle.mps_wire.specs.Runs.{max_reads};
 
 use crate::faults::ToolFault;
 use crate::files::{open_file, tell};
-use crate::load::{load_protocol, session_of};
+use crate::load::{load_protocol, open_session};
 use crate::tally::Tally;
 use mps_base::Roles;
 use mps_dev::{OverRead, OverWrite, Source};
-use mps_open::roles_of;
 use mps_room::Room;
 use mps_session::{Session, same};
 use mps_wire::script::run_script;
@@ -191,8 +190,7 @@ pub fn compare_files<'a, R: Files + AllocGlobal + Print + Eprint>(
     ensures fault { IfErr result (IsCompareFault file.now script.now other.now) }
 {
     let protocol = load_protocol(rt.alloc(), &mut open_file(rt, file)?)?;
-    let first = session_of(rt.alloc(), &protocol)?;
-    let second = session_of(rt.alloc(), &protocol)?;
-    let roles = roles_of(rt.alloc(), &protocol)?;
+    let (roles, first) = open_session(rt.alloc(), &protocol)?;
+    let (_, second) = open_session(rt.alloc(), &protocol)?;
     compare_scripts(rt, &roles, first, second, script, other)
 }

@@ -3,9 +3,10 @@ ghost use Rattle.std.specs.Prelude.{◌≡◌, ◌<◌, ◌^◌, None, IfOk, IfE
 ghost use Rattle.mps_fidelity.specs.Fidelity.{AreOfOneProtocol};
 ghost use Rattle.mps_global.specs.Global.{plain as global_type};
 ghost use Rattle.mps_global.specs.Faults.{fault_of};
-ghost use Rattle.mps_local.specs.Outcome.{AreProjections, IsFirstUnmerged};
+ghost use Rattle.mps_local.specs.Outcome.{AreNotAll, AreProjections};
 ghost use Rattle.mps_machine.specs.Machine.{initial};
 ghost use Rattle.mps_open.specs.Texts.{IsProtocolText};
+ghost use Rattle.mps_session.specs.Protocols.{HasNoSession};
 ghost use Rattle.mps_program.specs.Check.{GivesNoProtocol, GivesNoTypes, HasNoProjection};
 ghost use Rattle.mps_program.specs.Faults.{after_reads};
 ghost use Rattle.mps_program.specs.Files.{HasReadAtMost, most_read};
@@ -13,9 +14,11 @@ ghost use Rattle.mps_program.specs.Streams.{CantLoad, HasLoaded};
 
 use crate::faults::ToolFault;
 use crate::files::read_text;
-use mps_base::Role;
+use mps_base::Roles;
 use mps_dev::Source;
 use mps_global::{Protocol, check};
+use mps_local::ProjectFault;
+use mps_open::roles_of;
 use mps_session::{ProtocolFault, Session, open_protocol};
 use mps_text::read_protocol;
 use std::alloc::Global;
@@ -49,32 +52,52 @@ pub fn load_protocol<'a, R: Source>(
     protocol_of(alloc, text.as_slice())
 }
 
-/// Why the protocol gives no types, told by the name of the role, the first that has none.
-pub(crate) fn unprojected<'a>(protocol: &Protocol, role: Role, choice: usize) -> ToolFault<'a>
-    requires { IsFirstUnmerged protocol.now.roles.items (global_type protocol.now.body) role choice }
+/// Why the protocol gives no types, told by the name of the role.
+pub(crate) fn unprojected<'a>(protocol: &Protocol, fault: ProjectFault) -> ToolFault<'a>
+    requires { AreNotAll protocol.now.roles.items (global_type protocol.now.body) fault }
     ensures { GivesNoTypes protocol.now.roles.items (global_type protocol.now.body) result }
 {
-    ToolFault::Projection {
-        role: protocol.roles[role.index()],
-        choice,
+    match fault {
+        ProjectFault::Memory => ToolFault::Memory,
+        ProjectFault::Unmergeable { role, choice } => ToolFault::Projection {
+            role: protocol.roles[role.index()],
+            choice,
+        },
     }
 }
 
-/// A new session of a protocol without faults.
-pub fn session_of<'a>(alloc: Global, protocol: &Protocol) -> Result<Session, ToolFault<'a>>
-    requires { fault_of protocol.now.roles.items (global_type protocol.now.body) ≡ None }
-    ensures types { IfOk result (λ session. AreProjections
-        protocol.now.roles.items (global_type protocol.now.body) session.types) }
-    ensures new { IfOk result (λ session. session.state ≡ initial) }
-    ensures of_one_protocol { IfOk result (λ session. AreOfOneProtocol session.types) }
-    ensures fault { IfErr result (GivesNoTypes protocol.now.roles.items (global_type protocol.now.body)) }
+// Why a protocol without faults has no session, told by the name of the role.
+fn unopened<'a>(protocol: &Protocol, fault: ProtocolFault) -> ToolFault<'a>
+    requires faultless { fault_of protocol.now.roles.items (global_type protocol.now.body) ≡ None }
+    requires why { HasNoSession protocol.now.roles.items (global_type protocol.now.body) fault }
+    ensures { GivesNoTypes protocol.now.roles.items (global_type protocol.now.body) result }
 {
+    match fault {
+        ProtocolFault::Global(_) => unreachable!(),
+        ProtocolFault::Memory => ToolFault::Memory,
+        ProtocolFault::Unmergeable { role, choice } => {
+            unprojected(protocol, ProjectFault::Unmergeable { role, choice })
+        }
+    }
+}
+
+/// The roles of a protocol without faults, and a new session of it.
+pub fn open_session<'a>(
+    alloc: Global,
+    protocol: &Protocol,
+) -> Result<(Roles, Session), ToolFault<'a>>
+    requires { fault_of protocol.now.roles.items (global_type protocol.now.body) ≡ None }
+    ensures names { IfOk result (λ r. r.0 ≡ protocol.now.roles.items) }
+    ensures types { IfOk result (λ r. AreProjections
+        protocol.now.roles.items (global_type protocol.now.body) r.1.types) }
+    ensures new { IfOk result (λ r. r.1.state ≡ initial) }
+    ensures of_one_protocol { IfOk result (λ r. AreOfOneProtocol r.1.types) }
+    ensures fault { IfErr result (GivesNoTypes
+        protocol.now.roles.items (global_type protocol.now.body)) }
+{
+    let roles = roles_of(alloc, protocol)?;
     match open_protocol(alloc, protocol) {
-        Ok(session) => Ok(session),
-        Err(ProtocolFault::Unmergeable { role, choice }) => Err(unprojected(
-            protocol, role, choice,
-        )),
-        Err(ProtocolFault::Memory) => Err(ToolFault::Memory),
-        Err(ProtocolFault::Global(_)) => unreachable!(),
+        Ok(session) => Ok((roles, session)),
+        Err(fault) => Err(unopened(protocol, fault)),
     }
 }

@@ -5,11 +5,10 @@ ghost use Rattle.mps_program.specs.Faults.{IsScriptFault, IsRunFault};
 
 use crate::faults::ToolFault;
 use crate::files::open_file;
-use crate::load::{load_protocol, session_of};
+use crate::load::{load_protocol, open_session};
 use crate::tally::Strict;
 use mps_base::Roles;
 use mps_dev::{OverWrite, Sink};
-use mps_open::roles_of;
 use mps_session::Session;
 use mps_wire::script::run_script;
 use std::rt::Files;
@@ -71,8 +70,7 @@ pub fn run_file<'a, R: Files + AllocGlobal + Print + Eprint>(
     ensures fault { IfErr result (IsRunFault file.now script.now) }
 {
     let protocol = load_protocol(rt.alloc(), &mut open_file(rt, file)?)?;
-    let session = session_of(rt.alloc(), &protocol)?;
-    let roles = roles_of(rt.alloc(), &protocol)?;
+    let (roles, session) = open_session(rt.alloc(), &protocol)?;
     let mut writer = OverWrite::new(io::writer(rt));
     if !strict {
         run_script_file(rt, script, roles, session, &mut writer)?;

@@ -14,7 +14,7 @@ ghost use Rattle.mps_program.specs.Private.Served.{IsHubFault, IsNewOf, TellsPor
 use crate::faults::ToolFault;
 use crate::files::{open_file, tell};
 use crate::journals::{FileKeeper, Keeping, keep_sessions};
-use crate::load::{load_protocol, session_of};
+use crate::load::{load_protocol, open_session};
 use mps_base::write_number;
 use mps_dev::{OverWrite, Sink};
 use mps_global::Protocol;
@@ -283,7 +283,8 @@ fn sessions_of<'a>(
 {
     let mut sessions = Vec::with_capacity(alloc, n as usize)?;
     for _ in 0..n {
-        sessions.push_reserved(session_of(alloc, protocol)?);
+        let (_, session) = open_session(alloc, protocol)?;
+        sessions.push_reserved(session);
     }
     Ok(sessions)
 }

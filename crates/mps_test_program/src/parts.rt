@@ -5,10 +5,9 @@ ghost use Rattle.mps_machine.specs.Machine.{initial};
 use mps_base::{Name, Roles};
 use mps_dev::{Pieces, Short};
 use mps_global::GlobalFault;
-use mps_open::roles_of;
 use mps_program::{
     Tallies, Tally, ToolFault, check_file, compare_files, fault_line, lines_of, load_protocol,
-    open_file, read_text, run_file, session_of, status, verdict_of, write_types,
+    open_file, open_session, read_text, run_file, status, verdict_of, write_types,
 };
 use mps_session::Session;
 use mps_text::TextKind;
@@ -42,9 +41,7 @@ fn opened(alloc: Global, pieces: Vec<Vec<u8>>) -> Result<(Roles, Session), ToolF
     ensures new { IfOk result (λ r. r.1.state ≡ initial) }
 {
     let protocol = load_protocol(alloc, &mut Pieces::new(pieces, None))?;
-    let session = session_of(alloc, &protocol)?;
-    let roles = roles_of(alloc, &protocol)?;
-    Ok((roles, session))
+    open_session(alloc, &protocol)
 }
 
 // The answers to the script on a new session of the protocol.
@@ -584,9 +581,8 @@ fn told(
         second: Tally::new(),
     };
     let protocol = load_protocol(alloc, &mut Pieces::new(whole(alloc, PAIRS)?, None))?;
-    let first = session_of(alloc, &protocol)?;
-    let second = session_of(alloc, &protocol)?;
-    let roles = roles_of(alloc, &protocol)?;
+    let (roles, first) = open_session(alloc, &protocol)?;
+    let (_, second) = open_session(alloc, &protocol)?;
     verdict_of(
         alloc,
         &roles,

@@ -9,10 +9,10 @@ use Rattle.mps_program.proofs.serving.sessions_of.Goals as goal
 pub loop-preserved : goal.loop-preserved
 loop-preserved c =
     let h = c.loop.invariant in
-    let p = c.push_reserved-in-loop.ensures in
+    let p = c.push_reserved.ensures in
     let q = c.args.protocol.now in
-    let s : SessionState = c.in_ok-session_of.field-0 in
-    let is = c.in_ok-session_of.ensures in
+    let s : SessionState = c.in_ok-session.session in
+    let is = c.in_ok-session.ensures in
     let New = IsNewOf q.roles.items (global_type q.body) in
     record {
       count = omega (arith, p.len, h.count);

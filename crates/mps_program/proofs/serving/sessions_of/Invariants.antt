@@ -8,5 +8,5 @@ abbrev pub invariant-loop : goal.invariant-loop
 invariant-loop l = record {
   count : vec_len l.sessions ≡ l.counter;
   room : l.n ≤ vec_capacity l.sessions;
-  new : All (IsNewOf l.fn.protocol.now.roles.items (global_type l.fn.protocol.now.body)) l.sessions.items;
+  new : All (IsNewOf l.fn.protocol.roles.items (global_type l.fn.protocol.body)) l.sessions.items;
 }

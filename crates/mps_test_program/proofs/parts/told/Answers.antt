@@ -3,7 +3,7 @@ use Rattle.mps_session.proofs.SameProjections.{one_projection}
 use Rattle.mps_test_program.proofs.parts.told.Goals as goal
 
 -- a protocol has one list of projections
-pub verdict_of-requires-types : goal.verdict_of-requires-types
-verdict_of-requires-types c =
+pub verdict_of-requires-clause-types : goal.verdict_of-requires-clause-types
+verdict_of-requires-clause-types c =
     let p = c.in_ok-protocol.protocol in
-    one_projection p.roles.items (global_type p.body) c.in_ok-second.second.types c.in_ok-first.first.types c.in_ok-second.ensures.types c.in_ok-first.ensures.types
+    one_projection p.roles.items (global_type p.body) _ _ c.in_ok-second.ensures.types c.in_ok-roles.ensures.types
