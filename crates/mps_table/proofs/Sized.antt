@@ -55,9 +55,7 @@ mutual
   same_branch_labels above NoMore = refl
   same_branch_labels above (More label u others) =
       let both = flat_map-append (λ (p : Place). node_labels p.node) (places above u) (branch_places above others) in
-      let one = same_labels above u in
-      let rest = same_branch_labels above others in
-      cc (both, one, rest)
+      cc (same_labels above u, same_branch_labels above others)
 
 -- the draft of a type has a row for each action and end
 pub draft_rows : (d : Draft) (node : ℕ) (t : LocalType) → IsLaidOut d node t → length d.rows.items ≡ length (acts_and_ends t)
