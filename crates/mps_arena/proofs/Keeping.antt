@@ -182,7 +182,7 @@ others_are j (y ∷ a) b x d e =
     rw n (ap (λ l. y ∷ l) (others_are j a b x d.1 e))
 
 none_at : {A B : Type 0} (g : A → B) (o : Option A) → option_map g o ≡ None → o ≡ None
-none_at g o h1 = grind arith
+none_at g o e = grind arith
 
 no_keys : (es : List KeyedStep) → keys_of (λ s. false) es ≡ []
 no_keys [] = refl
@@ -190,10 +190,10 @@ no_keys (x ∷ es) = no_keys es
 
 module _ (es : List KeyedStep) (m : (p q : ℕ) → length (keys_of (receives p q) es) ≤ length (keys_of (sends p q) es)) where
   source_at : (p : ℕ) (a : Effect) (source : Option ℕ) → IsSource es p a source → source ≡ slice_get (keys_of (unlike p a) es) (length (keys_of (like p a) es))
-  source_at p a source h1 = grind (arith, slice_get_past, no_keys)
+  source_at p a source h = grind (arith, slice_get_past, no_keys)
 
   match_at : (p : ℕ) (a : Effect) (source : Option ℕ) → IsSource es p a source → (from : ℕ) → takes_from from a ≡ true → (k : ℕ) × (source ≡ Some k)
-  match_at p a source h1 from h2 = grind (arith, false≢true)
+  match_at p a source h from e = grind (arith, false≢true)
 
 module _ (look after : ℕ → Option Node) (size : ℕ) (f l : Option ℕ) (r p : List (Option ℕ)) (index : List ℕ) (es : List KeyedStep) (k : IsKept look size f l r p index es) (s : Step) (before : Before) (source : Option ℕ) (key : ℕ) where
   abbrev pub entry : KeyedStep
@@ -228,7 +228,7 @@ module _ (look after : ℕ → Option Node) (size : ℕ) (f l : Option ℕ) (r p
       (grind (arith, match_at, matched_of, and_parts, source_at))
 
 unreceived_at : (es : List KeyedStep) (x : KeyedStep) (a : Effect) → IsUnreceived es x a → (q : ℕ) → gives_to q a ≡ true → matched_with es x ≡ None
-unreceived_at es x a h1 q h2 = grind (arith, false≢true)
+unreceived_at es x a h q e = grind (arith, false≢true)
 
 -- the entry of a node
 pub record Stands (es : List KeyedStep) (j : ℕ) (node : Node) : Type 0 where

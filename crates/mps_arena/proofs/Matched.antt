@@ -21,7 +21,7 @@ pub role_back : (s t : Step) → of_role s.role t ≡ true → of_role t.role s 
 role_back s t e = eq-eqb s.role t.role (sym (eqb-true t.role s.role e))
 
 apart : (p q : ℕ) (a : Effect) → gives_to q a ≡ true → takes_from p a ≡ true → ⊥
-apart p q a h1 h2 = grind (arith, false≢true)
+apart p q a e f = grind (arith, false≢true)
 
 -- a send's pair
 pub sends_pair : (p q : ℕ) (t : Step) → sends p q t ≡ true → (m : Message) × (t.role ≡ p) × (effect t.act ≡ Gives q m)
@@ -43,7 +43,7 @@ pub sends_alike : (s t : Step) → sends_like s t ≡ true → sends_like s ≡ 
 sends_alike s t e = grind (arith, sends_pair, false≢true)
 
 sends_self : (s : Step) (a : Effect) (t : Step) → effect s.act ≡ a → like_sends s.role a t ≡ true → like_sends s.role a s ≡ true
-sends_self s a t h1 h2 = grind (arith, and_from, eq-eqb, false≢true)
+sends_self s a t e h = grind (arith, and_from, eq-eqb, false≢true)
 
 pub sends_back : (s t : Step) → sends_like s t ≡ true → sends_like t s ≡ true
 sends_back s t e = ap (λ (f : Step → Bool). f s) (sym (sends_alike s t e)) ∙ sends_self s (effect s.act) t refl e
@@ -154,10 +154,10 @@ module _ (a b : List KeyedStep) (x : KeyedStep) (d : AreDistinct (keys_of any_st
 
 -- the steps of the chains of a role are its steps
 pub own_role : (p : ℕ) (a : Effect) (s : Step) → like p a s ≡ true → of_role p s ≡ true
-own_role p a s h1 = grind (arith, and_parts, false≢true)
+own_role p a s e = grind (arith, and_parts, false≢true)
 
 pub sends_role : (p : ℕ) (a : Effect) (s : Step) → like_sends p a s ≡ true → of_role p s ≡ true
-sends_role p a s h1 = grind (arith, and_parts, false≢true)
+sends_role p a s e = grind (arith, and_parts, false≢true)
 
 pub sends_chain : (p q : ℕ) (t : Step) → sends p q t ≡ true → sends_like t ≡ sends p q
 sends_chain p q t e = let w = sends_pair p q t e in ap₂ like_sends w.1 w.2
@@ -197,7 +197,7 @@ module _ (a b : List KeyedStep) (x : KeyedStep) (d : AreDistinct (keys_of any_st
       let l = w.0 in
       rw w.1.0
       (⊎_elim
-      (grind (arith, matched_removal a b x d at_end (matched_of (a ++ x ∷ b) f) unreceived p q, keys-append (receives p q) l e, length-append (keys_of (receives p q) l) (keys_of (receives p q) e), keys-append (receives p q) a b, length-append (keys_of (receives p q) a) (keys_of (receives p q) b), keys-append (receives p q) a l, length-append (keys_of (receives p q) a) (keys_of (receives p q) l), keys-append (sends p q) a b, length-append (keys_of (sends p q) a) (keys_of (sends p q) b), keys-append (sends p q) a l, length-append (keys_of (sends p q) a) (keys_of (sends p q) l)))
+      (grind (arith, matched_removal a b x d at_end (matched_of (a ++ x ∷ b) f) unreceived p q, keys-append, length-append))
       (λ (n : sends p q x.step ≡ false).
       let before = f (a ++ x ∷ l) e (ap (λ k. a ++ x ∷ k) w.1.1 ∙ sym (append_assoc a (x ∷ l) e)) p q in
       grind (arith, keys_beside, keys_around, keys-append, length-append, cases_Bool))

@@ -66,30 +66,6 @@ word_has_no_space r = grind arith
 cause_has_no_space : (c : Cause) → HasNoSpace (cause_word c)
 cause_has_no_space c = grind (arith, word_has_no_space)
 
-pub done_has_no_space : HasNoSpace (codes "done")
-done_has_no_space = search rules
-
-pub final_has_no_space : HasNoSpace (codes "final")
-final_has_no_space = search rules
-
-pub needed_has_no_space : HasNoSpace (codes "needed")
-needed_has_no_space = search rules
-
-pub undone_has_no_space : HasNoSpace (codes "undone")
-undone_has_no_space = search rules
-
-pub news_has_no_space : HasNoSpace (codes "news")
-news_has_no_space = search rules
-
-pub joined_has_no_space : HasNoSpace (codes "joined")
-joined_has_no_space = search rules
-
-pub join_has_no_space : HasNoSpace (codes "join")
-join_has_no_space = search rules
-
-pub refused_has_no_space : HasNoSpace (codes "refused")
-refused_has_no_space = search rules
-
 -- two lines that begin with this word
 one_word_first : (a letters : List ℕ) (t : Token) (ts : List Token) (u : Token) (us : List Token) → HasNoSpace letters → SpellsLine [] a (Word letters ∷ t ∷ ts) → SpellsLine [] a (Word letters ∷ u ∷ us) → (rest : List ℕ) × SpellsLine [] rest (t ∷ ts) × SpellsLine [] rest (u ∷ us)
 one_word_first a letters t ts u us p h k =
@@ -184,16 +160,16 @@ one_list a m n (i ∷ ms) (j ∷ ns) h k =
 -- and so have the steps that were taken back
 one_undone : (a : List ℕ) (ms ns : List ℕ) → SpellsLine [] a (undone_tokens ms) → SpellsLine [] a (undone_tokens ns) → ms ≡ ns
 one_undone a [] [] h k = refl
-one_undone a [] (n ∷ ns) h k = absurd (never_both a (codes "undone") _ (Number n) (map Number ns) undone_has_no_space h k)
-one_undone a (m ∷ ms) [] h k = absurd (never_both a (codes "undone") _ (Number m) (map Number ms) undone_has_no_space k h)
+one_undone a [] (n ∷ ns) h k = absurd (never_both a (codes "undone") _ (Number n) (map Number ns) (search rules) h k)
+one_undone a (m ∷ ms) [] h k = absurd (never_both a (codes "undone") _ (Number m) (map Number ms) (search rules) k h)
 one_undone a (m ∷ ms) (n ∷ ns) h k =
-    let b = one_word_first a (codes "undone") (Number m) (map Number ms) (Number n) (map Number ns) undone_has_no_space h k in
+    let b = one_word_first a (codes "undone") (Number m) (map Number ms) (Number n) (map Number ns) (search rules) h k in
     one_list b.0 m n ms ns b.1 b.2
 
 -- and so has the news
 one_news : (a : List ℕ) (m n : ℕ) (ms ns : List ℕ) → SpellsLine [] a (news_tokens m ms) → SpellsLine [] a (news_tokens n ns) → (m ≡ n) × (ms ≡ ns)
 one_news a m n ms ns h k =
-    let b = one_word_first a (codes "news") (Number m) (map Number ms) (Number n) (map Number ns) news_has_no_space h k in
+    let b = one_word_first a (codes "news") (Number m) (map Number ms) (Number n) (map Number ns) (search rules) h k in
     grind (arith, one_list b.0 m n ms ns b.1 b.2)
 
 -- what stands after the first word of a reply
@@ -210,7 +186,7 @@ same_cause : (a : List ℕ) (c d : Cause) → SpellsReply a (reply_of c) → Spe
 same_cause a c d h k =
     let b = after_cause a c h in
     let f = after_cause a d k in
-    let same = one_split (codes "refused") (codes "refused") b.0 f.0 refused_has_no_space refused_has_no_space (sym b.1 ∙ f.1) in
+    let same = one_split (codes "refused") (codes "refused") b.0 f.0 (search rules) (search rules) (sym b.1 ∙ f.1) in
     ap reply_of (one_cause b.0 c d b.2 (rw (sym same.1) at f.2))
 
 -- a line begins with the first byte of its first word
@@ -264,7 +240,7 @@ cause_letter c = grind arith
 -- and so has the line that a role is joined to a connection
 one_pass : (a : List ℕ) (m n : ℕ) (x y : List ℕ) → SpellsReply a (Joined m x) → SpellsReply a (Joined n y) → (m ≡ n) × (x ≡ y)
 one_pass a m n x y h k =
-    let b = one_word_first a (codes "joined") (Number m) (Called x ∷ []) (Number n) (Called y ∷ []) joined_has_no_space h k in
+    let b = one_word_first a (codes "joined") (Number m) (Called x ∷ []) (Number n) (Called y ∷ []) (search rules) h k in
     let s = same_number b.0 m n (Called x) [] (Called y) [] b.1 b.2 in
     (s.number, sym (alone [] s.rest (Called x) s.one).is ∙ (alone [] s.rest (Called y) s.other).is)
 
@@ -289,7 +265,7 @@ module _ (one_value : (a : List ℕ) (v w : Value) → SpellsValue a v → Spell
   one_other a (Answered (Accepted d)) (Answered (Accepted e)) l other h k =
       let b = after_done a (codes "done") d.id d.got h in
       let f = after_done a (codes "done") e.id e.got k in
-      let same = one_split (codes "done") (codes "done") b.0 f.0 done_has_no_space done_has_no_space (sym b.1 ∙ f.1) in
+      let same = one_split (codes "done") (codes "done") b.0 f.0 (search rules) (search rules) (sym b.1 ∙ f.1) in
       ap (λ (done : Done). Answered (Accepted done)) (same_done d e (one_done b.0 d.id e.id d.got e.got b.2 (rw (sym same.1) at f.2)))
   one_other a (Answered (Undone ms)) (Answered (Undone ns)) l other h k = ap (λ (ids : List ℕ). Answered (Undone ids)) (one_undone a ms ns h k)
   one_other a (Answered (News m ms)) (Answered (News n ns)) l other h k = grind (arith, one_news a m n ms ns h k)

@@ -1,5 +1,5 @@
 -- What replies are read from.
-use Rattle.std.proofs.Common.{arith, ◌≡◌, ◌≢◌, ℕ, ◌<◌, ⊎_elim, List, [], ◌∷◌, ◌++◌, length, Some, get_or, append_assoc, refl, sym, ap, subst, ◌∙◌}
+use Rattle.std.proofs.Common.{rules, arith, ◌≡◌, ◌≢◌, ℕ, ◌<◌, ⊎_elim, List, [], ◌∷◌, ◌++◌, length, Some, get_or, append_assoc, refl, sym, ap, subst, ◌∙◌}
 use Rattle.std.specs.Prelude.{Option, None, IfSome, IfNone, map, codes}
 use Rattle.mps_base.specs.Names.{IsNoneOf}
 use Rattle.mps_base.specs.Spaced.{spaced}
@@ -20,7 +20,7 @@ use Rattle.mps_line.proofs.Splitting.{one_split, never_split, digits_have_no_spa
 use Rattle.mps_line.proofs.CommandLines.{after_word}
 use Rattle.mps_line.proofs.ShownLines.{some_reply}
 use Rattle.mps_line.proofs.Writing.{bad_line, no_session, no_role, taken, wrong_number}
-use Rattle.mps_line.proofs.OneReply.{letter, begins, alone_or_step, word_has_no_space, refused_has_no_space}
+use Rattle.mps_line.proofs.OneReply.{letter, begins, alone_or_step, word_has_no_space}
 
 -- ---- a word in front
 
@@ -214,7 +214,7 @@ no_refusal bytes None needed final violation none = by_refusal
 
 -- a word after `refused`
 pub no_own_word : (bytes rest word : List ℕ) → bytes ≡ spaced (codes "refused" ∷ rest ∷ []) → rest ≢ word → SpellsLine [] bytes (Word (codes "refused") ∷ Word word ∷ []) → ⊥
-no_own_word bytes rest word e other h = grind (arith, alone [] rest (Word word) (rest_of_word bytes (codes "refused") rest (Word word ∷ []) (omega arith) refused_has_no_space e h))
+no_own_word bytes rest word e other h = grind (arith, alone [] rest (Word word) (rest_of_word bytes (codes "refused") rest (Word word ∷ []) (omega arith) (search rules) e h))
 
 -- ---- by the first byte
 

@@ -1,74 +1,47 @@
 -- How bytes are cut.
-use Rattle.std.proofs.Common.{◌≡◌, ◌≢◌, ℕ, zero, suc, ◌+◌, ◌-◌, ◌<◌, ◌≤◌, true, false, Some, List, [], ◌∷◌, ◌++◌, length, take, drop, map, refl, sym, ap, ◌∙◌, subst, arith, get_or, append_assoc, append-nil, add-one, take-append-drop, drop-cons, length-append, length-drop, min, ⊎_elim}
-use Rattle.std.specs.Prelude.{◌==◌, nat_lt}
+use Rattle.std.proofs.Common.{◌≡◌, ◌≢◌, ℕ, suc, ◌+◌, ◌-◌, ◌<◌, ◌≤◌, true, Some, List, [], ◌∷◌, ◌++◌, length, take, drop, map, refl, sym, ap, ◌∙◌, subst, arith, get_or, append_assoc, append-nil, add-one, take-append-drop, drop-cons, length-append, length-drop, min, ⊎_elim}
+use Rattle.std.specs.Prelude.{◌==◌}
 use Rattle.std.proofs.lemmas.List.{get_or-take, map-append, length-take, length-take-le, take-take}
 use Rattle.std.proofs.Math.Seq.{take-append-add, take-append_seam}
 use Rattle.std.specs.List.{AllByRecursion, concat, flat_map, fold}
-use Rattle.std.proofs.lemmas.Bool.{cases_Bool, cases_lt, lt-ltb, ne_eqb, eqb-true, eqb-false, eq-eqb, cond-true, cond-false}
+use Rattle.std.proofs.lemmas.Bool.{cases_Bool, cases_lt, lt-ltb, ne_eqb, eq-eqb, cond-true, cond-false}
 use Rattle.mps_lines.specs.Lines.{HasNoBreak, ended, IsSplit, most_kept, front}
-use Rattle.mps_lines.specs.Cuts.{Cut, cut, led_by, line_of, Pending, pending_of, fed, nothing, last_of}
+use Rattle.mps_lines.specs.Cuts.{Cut, cut, line_of, Pending, pending_of, fed, nothing, last_of}
 use Rattle.mps_lines.specs.declared.line.Line.{Line}
 use Rattle.mps_lines.proofs.Splitting.{front_fits, front_front, front_short, split_nothing, take_min, AllByRecursion-append}
 
 -- a rest without LF
 pub cut_rest : (r : List ℕ) → HasNoBreak r → cut r ≡ record { lines = []; rest = r }
 cut_rest [] h = refl
-cut_rest (c ∷ r) h =
-    cond-false (c == 10) _ _ (ne_eqb c 10 h.0)
-    ∙ ap (λ (k : Cut). led_by c k.lines k.rest) (cut_rest r h.1)
+cut_rest (c ∷ r) h = cc (cond-false (c == 10) _ _ (ne_eqb c 10 h.0), cut_rest r h.1)
 
 -- a line in front
 pub cut_line : (line bytes : List ℕ) → HasNoBreak line → cut (line ++ 10 ∷ bytes) ≡ record { lines = line ∷ (cut bytes).lines; rest = (cut bytes).rest }
 cut_line [] bytes h = refl
-cut_line (c ∷ line) bytes h =
-    cond-false (c == 10) _ _ (ne_eqb c 10 h.0)
-    ∙ ap (λ (k : Cut). led_by c k.lines k.rest) (cut_line line bytes h.1)
+cut_line (c ∷ line) bytes h = cc (cond-false (c == 10) _ _ (ne_eqb c 10 h.0), cut_line line bytes h.1)
 
 -- lines and a rest are cut as they were put together
 cut_of : (lines : List (List ℕ)) (rest : List ℕ) → AllByRecursion HasNoBreak lines → HasNoBreak rest → cut (flat_map ended lines ++ rest) ≡ record { lines = lines; rest = rest }
 cut_of [] rest each h = cut_rest rest h
-cut_of (line ∷ lines) rest each h =
-    ap cut (append_assoc (line ++ 10 ∷ []) (flat_map ended lines) rest ∙ append_assoc line (10 ∷ []) (flat_map ended lines ++ rest))
-    ∙ cut_line line (flat_map ended lines ++ rest) each.0
-    ∙ ap (λ (k : Cut). let r : Cut = record { lines = line ∷ k.lines; rest = k.rest } in r) (cut_of lines rest each.1 h)
+cut_of (line ∷ lines) rest each h = cc (append_assoc (line ++ 10 ∷ []) (flat_map ended lines) rest, append_assoc line (10 ∷ []) (flat_map ended lines ++ rest), cut_line line (flat_map ended lines ++ rest) each.0, cut_of lines rest each.1 h)
 
 -- a split is how the bytes are cut
 pub cut_is : (bytes : List ℕ) (lines : List (List ℕ)) (rest : List ℕ) → IsSplit bytes lines rest → cut bytes ≡ record { lines = lines; rest = rest }
 cut_is bytes lines rest s = ap cut s.whole ∙ cut_of lines rest s.each s.unended
 
--- a split with a byte in front
-led_split : (c : ℕ) (bytes : List ℕ) (lines : List (List ℕ)) (rest : List ℕ) → c ≢ 10 → IsSplit bytes lines rest → IsSplit (c ∷ bytes) (led_by c lines rest).lines (led_by c lines rest).rest
-led_split c bytes [] rest h s = record { whole = ap (λ l. c ∷ l) s.whole; each = tt; unended = (h, s.unended) }
-led_split c bytes (line ∷ lines) rest h s = record { whole = ap (λ l. c ∷ l) s.whole; each = ((h, s.each.0), s.each.1); unended = s.unended }
-
 -- bytes are split as they are cut
 pub cut_splits : (bytes : List ℕ) → IsSplit bytes (cut bytes).lines (cut bytes).rest
 cut_splits [] = split_nothing
-cut_splits (c ∷ bytes) =
-    ⊎_elim
-    (λ (e : (c == 10) ≡ true).
-    let is : c ≡ 10 = eqb-true c 10 e in
-    let s = cut_splits bytes in
-    let k : IsSplit (c ∷ bytes) ([] ∷ (cut bytes).lines) (cut bytes).rest = record { whole = ap (λ (x : ℕ). x ∷ bytes) is ∙ ap (λ l. 10 ∷ l) s.whole; each = (tt, s.each); unended = s.unended } in
-    subst (λ (r : Cut). IsSplit (c ∷ bytes) r.lines r.rest) (sym (cond-true (c == 10) (record { lines = [] ∷ (cut bytes).lines; rest = (cut bytes).rest }) (led_by c (cut bytes).lines (cut bytes).rest) e)) k)
-    (λ (e : (c == 10) ≡ false).
-    let k = led_split c bytes (cut bytes).lines (cut bytes).rest (eqb-false c 10 e) (cut_splits bytes) in
-    subst (λ (r : Cut). IsSplit (c ∷ bytes) r.lines r.rest) (sym (cond-false (c == 10) (record { lines = [] ∷ (cut bytes).lines; rest = (cut bytes).rest }) (led_by c (cut bytes).lines (cut bytes).rest) e)) k)
-    (cases_Bool (c == 10))
+cut_splits (c ∷ bytes) = grind (arith, cut_splits bytes, cases_Bool (c == 10))
 
 -- the first line that waits
 pub next_cut : (items : List ℕ) (k : ℕ) → k < length items → get_or items k 0 ≡ 10 → HasNoBreak (take k items) → cut items ≡ record { lines = take k items ∷ (cut (drop 1 (drop k items))).lines; rest = (cut (drop 1 (drop k items))).rest }
-next_cut items k within end before =
-    let split : drop k items ≡ 10 ∷ drop (suc k) items = drop-cons items k 0 within ∙ ap (λ (c : ℕ). c ∷ drop (suc k) items) end in
-    let tail : drop (suc k) items ≡ drop 1 (drop k items) = ap (drop 1) (sym split) in
-    ap cut (sym (take-append-drop k items) ∙ ap (λ (l : List ℕ). take k items ++ l) (split ∙ ap (λ (l : List ℕ). 10 ∷ l) tail))
-    ∙ cut_line (take k items) (drop 1 (drop k items)) before
+next_cut items k within end before = cc (drop-cons items k 0 within, take-append-drop k items, cut_line (take k items) (drop 1 (drop k items)) before)
 
 -- a front of a line has no break
 no_break-take : (n : ℕ) (xs : List ℕ) → HasNoBreak xs → HasNoBreak (take n xs)
-no_break-take zero xs h = tt
-no_break-take (suc n) [] h = tt
 no_break-take (suc n) (c ∷ xs) h = (h.0, no_break-take n xs h.1)
+no_break-take other others h = tt
 
 -- a line is told by its front
 pub told_by_front : (l : List ℕ) → line_of (front l) ≡ line_of l
@@ -76,8 +49,7 @@ told_by_front l =
     ⊎_elim
     (λ (long : 512 < length l).
     let many : length (front l) ≡ 513 = length-take-le 513 l (omega arith) in
-    let short : 512 < length (front l) = omega (arith, many) in
-    cond-true (nat_lt 512 (length (front l))) _ _ (lt-ltb 512 (length (front l)) short) ∙ sym (cond-true (nat_lt 512 (length l)) _ _ (lt-ltb 512 (length l) long)))
+    grind (arith, cond-true, lt-ltb))
     (λ (few : length l ≤ 512). ap line_of (front_short l (omega arith)))
     (cases_lt 512 (length l))
 
@@ -91,10 +63,7 @@ all_rest items e = (cut_splits items).whole ∙ ap (λ (l : List (List ℕ)). fl
 -- whole lines in front
 cut_after : (lines : List (List ℕ)) (bytes : List ℕ) → AllByRecursion HasNoBreak lines → cut (flat_map ended lines ++ bytes) ≡ record { lines = lines ++ (cut bytes).lines; rest = (cut bytes).rest }
 cut_after [] bytes each = refl
-cut_after (line ∷ lines) bytes each =
-    ap cut (append_assoc (line ++ 10 ∷ []) (flat_map ended lines) bytes ∙ append_assoc line (10 ∷ []) (flat_map ended lines ++ bytes))
-    ∙ cut_line line (flat_map ended lines ++ bytes) each.0
-    ∙ ap (λ (k : Cut). let r : Cut = record { lines = line ∷ k.lines; rest = k.rest } in r) (cut_after lines bytes each.1)
+cut_after (line ∷ lines) bytes each = cc (append_assoc (line ++ 10 ∷ []) (flat_map ended lines) bytes, append_assoc line (10 ∷ []) (flat_map ended lines ++ bytes), cut_line line (flat_map ended lines ++ bytes) each.0, cut_after lines bytes each.1)
 
 -- what is told of a cut
 abbrev told : Cut → Pending
@@ -128,25 +97,18 @@ front_told r p h =
 pub cut_more : (bytes p : List ℕ) → cut (bytes ++ p) ≡ record { lines = (cut bytes).lines ++ (cut ((cut bytes).rest ++ p)).lines; rest = (cut ((cut bytes).rest ++ p)).rest }
 cut_more bytes p =
     let s = cut_splits bytes in
-    ap (λ (l : List ℕ). cut (l ++ p)) s.whole
-    ∙ ap cut (append_assoc (flat_map ended (cut bytes).lines) (cut bytes).rest p)
-    ∙ cut_after (cut bytes).lines ((cut bytes).rest ++ p) s.each
+    grind (arith, append_assoc, cut_after)
 
 -- one more piece
 fed_piece : (bytes p : List ℕ) → fed (pending_of bytes) p ≡ pending_of (bytes ++ p)
 fed_piece bytes p =
     let r = (cut bytes).rest in
     let lines = (cut bytes).lines in
-    ap (λ (k : Pending). let q : Pending = record { waiting = map line_of lines ++ k.waiting; rest = k.rest } in q) (front_told r p (cut_splits bytes).unended)
-    ∙ ap (λ (l : List Line). let q : Pending = record { waiting = l; rest = front (cut (r ++ p)).rest } in q) (sym (map-append line_of lines (cut (r ++ p)).lines))
-    ∙ ap told (sym (cut_more bytes p))
+    grind (arith, front_told r p (cut_splits bytes).unended, map-append line_of lines (cut (r ++ p)).lines, cut_more bytes p)
 
 fed_pieces : (bytes : List ℕ) (pieces : List (List ℕ)) → fold fed (pending_of bytes) pieces ≡ pending_of (bytes ++ concat pieces)
 fed_pieces bytes [] = ap pending_of (sym (append-nil bytes))
-fed_pieces bytes (p ∷ pieces) =
-    ap (λ (s : Pending). fold fed s pieces) (fed_piece bytes p)
-    ∙ fed_pieces (bytes ++ p) pieces
-    ∙ ap pending_of (append_assoc bytes p (concat pieces))
+fed_pieces bytes (p ∷ pieces) = cc (fed_piece bytes p, fed_pieces (bytes ++ p) pieces, append_assoc bytes p (concat pieces))
 
 -- all pieces, from the beginning
 pub pieces_told : (pieces : List (List ℕ)) → fold fed nothing pieces ≡ pending_of (concat pieces)
@@ -154,15 +116,11 @@ pieces_told pieces = fed_pieces [] pieces
 
 -- a rest with a byte is a last line
 pub last_is : (r : List ℕ) → 0 < length r → last_of r ≡ Some (line_of r)
-last_is [] h = absurd (omega arith)
-last_is (c ∷ r) h = refl
+last_is r h = grind arith
 
 -- the bytes before the rest are those of the lines
 whole_take : (items front r : List ℕ) (n : ℕ) → items ≡ front ++ r → n ≡ length r → take (length items - n) items ≡ front
-whole_take items front r n e h =
-    ap (λ (l : List ℕ). take (length l - n) l) e
-    ∙ ap (λ (k : ℕ). take k (front ++ r)) (let long : length (front ++ r) - n ≡ length front = omega (arith, length-append front r, h) in long)
-    ∙ take-append_seam front r
+whole_take items front r n e h = grind (arith, length-append front r, take-append_seam front r)
 
 -- no LF stands before the rest, so no line waits
 pub no_line : (items : List ℕ) (n : ℕ) → n ≡ length (cut items).rest → HasNoBreak (take (length items - n) items) → (cut items).lines ≡ []
@@ -174,12 +132,7 @@ no_line items n h none =
 
 -- the first line, found before the rest
 pub next_whole : (items : List ℕ) (n k : ℕ) → k < length (take n items) → get_or (take n items) k 0 ≡ 10 → HasNoBreak (take k (take n items)) → cut items ≡ record { lines = take k items ∷ (cut (drop 1 (drop k items))).lines; rest = (cut (drop 1 (drop k items))).rest }
-next_whole items n k within end before =
-    let size = length-take n items in
-    let low : k < n = omega (arith, size) in
-    next_cut items k (omega (arith, size))
-    (sym (get_or-take n items k 0 low) ∙ end)
-    (subst HasNoBreak (take-take k n items (omega arith)) before)
+next_whole items n k within end before = grind (arith, length-take, next_cut, get_or-take, take-take)
 
 -- no byte is an LF, said by places
 pub no_break_places : (bytes : List ℕ) → ((j : ℕ) → j < length bytes → ¬ ((get_or bytes j 0 == 10) ≡ true)) → HasNoBreak bytes
@@ -193,12 +146,7 @@ rest_behind p k within end none =
     let parts : p ≡ take k p ++ 10 ∷ tail =
     sym (take-append-drop k p) ∙ ap (λ (l : List ℕ). take k p ++ l) (drop-cons p k 0 within ∙ ap (λ (c : ℕ). c ∷ drop (suc k) p) end ∙ ap (λ (j : ℕ). 10 ∷ drop j p) (sym (add-one k))) in
     let s = cut_splits (take k p) in
-    sym (
-    ap (λ (l : List ℕ). (cut l).rest) parts
-    ∙ ap (λ (c : Cut). c.rest) (cut_more (take k p) (10 ∷ tail))
-    ∙ ap (λ (c : Cut). c.rest) (cut_line (cut (take k p)).rest tail s.unended)
-    ∙ ap (λ (c : Cut). c.rest) (cut_rest tail none)
-    )
+    grind (arith, cut_more, cut_line, cut_rest)
 
 -- a piece of which the lines and the front of the rest are kept, after a rest
 pub record IsKept (r p kept : List ℕ) (n : ℕ) : Type 0 where
@@ -235,8 +183,7 @@ kept_piece r p start had count h few within e at_start behind counted = go (cut 
       let p_size : length p ≡ length bytes + length t = ap (λ (l : List ℕ). length l) s.whole ∙ length-append bytes t in
       let some : 0 < length bytes = omega (arith, length-append (ended line) (flat_map ended lines), length-append line (10 ∷ [])) in
       let start_is : start ≡ length bytes = omega (arith, size, t_size, p_size, within) in
-      let had_is = behind (omega arith) in
-      let count_is : count ≡ min most_kept (length t) = omega (arith, counted, had_is, size, t_size) in
+      let count_is : count ≡ min most_kept (length t) = omega (arith, counted, size, t_size) in
       let kept_t : take count t ≡ front t = ap (λ (k : ℕ). take k t) count_is ∙ take_min most_kept t in
       let kept : take (start + count) p ≡ bytes ++ front t =
       ap (λ (l : List ℕ). take (start + count) l) s.whole ∙ ap (λ (k : ℕ). take (k + count) (bytes ++ t)) start_is ∙ take-append-add bytes t count ∙ ap (λ (l : List ℕ). bytes ++ l) kept_t in
@@ -246,30 +193,18 @@ kept_piece r p start had count h few within e at_start behind counted = go (cut 
       (ap cut (behind_r t) ∙ cut_of ((r ++ line) ∷ lines) t each s.unended)
       (ap (λ (l : List ℕ). cut (r ++ l)) kept ∙ ap cut (behind_r (front t)) ∙ cut_of ((r ++ line) ∷ lines) (front t) each (no_break-take most_kept t s.unended))
       (ap (λ (l : List ℕ). r ++ l) (sym s.whole))
-      (let n : had + count ≡ count = omega (arith, had_is) in n ∙ (let m : count ≡ length (take count t) = omega (arith, length-take count t, count_is) in m) ∙ ap (λ (l : List ℕ). length l) kept_t)
+      (let n : had + count ≡ count = omega arith in n ∙ (let m : count ≡ length (take count t) = omega (arith, length-take count t, count_is) in m) ∙ ap (λ (l : List ℕ). length l) kept_t)
 
 -- the rest is no longer than the bytes
 pub rest_within : (items : List ℕ) → length (cut items).rest ≤ length items
 rest_within items =
     let bytes = flat_map ended (cut items).lines in
-    let long : length items ≡ length bytes + length (cut items).rest = ap (λ (l : List ℕ). length l) (cut_splits items).whole ∙ length-append bytes (cut items).rest in
-    omega (arith, long)
+    grind (arith, cut_splits items, length-append bytes (cut items).rest)
 
 -- the rest, once a piece is kept
 pub kept_rest : (items p kept new : List ℕ) (n : ℕ) → IsKept (cut items).rest p kept n → new ≡ items ++ kept → (n ≡ length (cut new).rest) × (n ≤ most_kept)
-kept_rest items p kept new n k e =
-    let rest = front (cut ((cut items).rest ++ p)).rest in
-    let now : (cut new).rest ≡ rest = ap (λ (l : List ℕ). (cut l).rest) e ∙ ap (λ (c : Cut). c.rest) (cut_more items kept) ∙ ap (λ (c : Cut). c.rest) k.is_cut in
-    (k.is_long ∙ ap (λ (l : List ℕ). length l) (sym now), omega (arith, k.is_long, length-take most_kept (cut ((cut items).rest ++ p)).rest))
-
--- a cut, as it is seen
-abbrev pending_of_cut : Cut → Pending
-pending_of_cut c = record { waiting = map line_of c.lines; rest = c.rest }
+kept_rest items p kept new n k e = grind (arith, cut_more items kept, length-take most_kept (cut ((cut items).rest ++ p)).rest)
 
 -- the lines and the rest, once a piece is kept
 pub kept_view : (items p kept new : List ℕ) (n : ℕ) → IsKept (cut items).rest p kept n → new ≡ items ++ kept → record { waiting = map line_of (cut new).lines; rest = (cut new).rest } ≡ fed (record { waiting = map line_of (cut items).lines; rest = (cut items).rest }) p
-kept_view items p kept new n k e =
-    ap (λ (l : List ℕ). pending_of_cut (cut l)) e
-    ∙ ap pending_of_cut (cut_more items kept)
-    ∙ ap (λ (c : Cut). let s : Pending = record { waiting = map line_of ((cut items).lines ++ c.lines); rest = c.rest } in s) k.is_cut
-    ∙ ap (λ (l : List Line). let s : Pending = record { waiting = l; rest = front (cut ((cut items).rest ++ p)).rest } in s) (map-append line_of (cut items).lines (cut ((cut items).rest ++ p)).lines)
+kept_view items p kept new n k e = grind (arith, cut_more, map-append)

@@ -125,7 +125,7 @@ module _ (es : List KeyedStep) (sound : AreSound es) where
       ∙ sym (id_first es sound.distinct sound.rising (is_final es) [] es refl)
 
   ids : (o : Option Numbered) → HasNumber es o → option_map (λ n. n.id) o ≡ option_and_then (id_in es) (key_of o)
-  ids o h1 = grind arith
+  ids o h = grind arith
 
   -- the first of the roles' first ones, with its number
   pub least_number : (first : Option Numbered) (r : ℕ) → r ≡ 8 → key_of first ≡ first_key (keys_of (λ s. nat_lt s.role r && is_final es s) es) → HasNumber es first → option_map (λ n. n.id) first ≡ least (marked_commits es)

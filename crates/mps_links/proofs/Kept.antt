@@ -34,7 +34,7 @@ numbers_marked k m es (x ∷ l) h = grind (arith, id_marked, numbers_marked k m 
 -- where f changes what is pending of the step's role
 pub role_is : (o : Option KeyedStep) (r : ℕ) (l : List (Option ℕ)) (f : Option ℕ → Option ℕ) → option_map (λ e. e.step.role) o ≡ Some r
     → unwrap_or (option_map (λ e. slice_set l e.step.role (f (slice_index_or l e.step.role None))) o) l ≡ slice_set l r (f (slice_index_or l r None))
-role_is o r l f h1 = grind arith
+role_is o r l f is = grind arith
 
 -- one more is looked at
 pub one_more : (es : List KeyedStep) (l : List (Option Numbered)) (i : ℕ) (d : Option Numbered) → i < length l

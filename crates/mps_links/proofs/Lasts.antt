@@ -85,13 +85,13 @@ module _ (es : List KeyedStep) (d : AreDistinct (keys_of any_step es)) (rising :
   some_kept j k y = grind (arith, cases_Bool)
 
   later_both : (y : ℕ) (o l : Option ℕ) → IsLater y o → IsLater y l → option_or (later es o l) (Some y) ≡ later es (option_or o (Some y)) (option_or l (Some y))
-  later_both y o l h1 h2 = grind (arith, same_either, some_kept)
+  later_both y o l f g = grind (arith, same_either, some_kept)
 
   later_left : (y : ℕ) (o l : Option ℕ) → IsLater y l → option_or (later es o l) (Some y) ≡ later es (option_or o (Some y)) l
-  later_left y o l h1 = grind (arith, some_kept)
+  later_left y o l g = grind (arith, some_kept)
 
   later_right : (y : ℕ) (o l : Option ℕ) → IsLater y o → option_or (later es o l) (Some y) ≡ later es o (option_or l (Some y))
-  later_right y o l h1 = grind (arith, some_kept)
+  later_right y o l f = grind (arith, some_kept)
 
   -- the last entry that passes one of two tests is the later of the last that pass each
   pub last_or : (f g : Step → Bool) (a b : List KeyedStep) → es ≡ a ++ b → last_key None (keys_of (λ t. f t || g t) b) ≡ later es (last_key None (keys_of f b)) (last_key None (keys_of g b))

@@ -31,10 +31,7 @@ module _ (p q : Step → Bool) (h : List Step) (rising : IsRising h)
     (sub : (t : Step) → IsIn t h → q t ≡ true → p t ≡ true)
     (first : (t : Step) → IsIn t h → p t ≡ true → (q t ≡ true) ⊎ ((u : Step) × IsIn u h × (u.id < t.id) × (p u ≡ true))) where
   not_before : (a b : List Step) (x u : Step) → IsRising (x ∷ b) → IsIn u (a ++ x ∷ b) → u.id < x.id → IsIn u a
-  not_before a b x u r i less =
-      ⊎_elim (λ (l : IsIn u a). l)
-      (grind (arith, at_member))
-      (IsIn-append u a (x ∷ b) i)
+  not_before a b x u r i less = grind (arith, at_member, IsIn-append u a (x ∷ b) i)
 
   find_from : (a b : List Step) → h ≡ a ++ b → ((u : Step) → IsIn u a → p u ≡ false) → find p b ≡ find q b
   find_from a [] e none = refl

@@ -46,7 +46,7 @@ pub record IsMarking (es now : List KeyedStep) (whole : ℕ → Bool) (firsts : 
   pub counted : count ≡ length (within (steps es) set)
 
 same_Bool : (a b : Bool) → (a ≡ true → b ≡ true) → (b ≡ true → a ≡ true) → a ≡ b
-same_Bool a b h1 h2 = grind (arith, false_from_ne_true, both_ways)
+same_Bool a b f g = grind (arith, false_from_ne_true, both_ways)
 
 -- steps that don't join leave the set
 pub passed : (h : List Step) (set : ℕ → Bool) (a l : List Step) → ((t : Step) → IsIn t a → joins h set t ≡ false) → joined h set (a ++ l) ≡ joined h set l

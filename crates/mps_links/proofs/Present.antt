@@ -33,7 +33,7 @@ pub chained_there : (p : Step → Bool) (k : ℕ) (es : List KeyedStep) → has 
 chained_there p k es h = grind (arith, both_ways, absent, cases_entry)
 
 matched_with_is : (c : Effect) (o : Option ℕ) (j : ℕ) → matched_receipt c o ≡ Some j → o ≡ Some j
-matched_with_is c o j h1 = grind arith
+matched_with_is c o j e = grind arith
 
 -- the receipt of a step is there
 pub receipt_there : (es : List KeyedStep) (k j : ℕ) → receipt_in es k ≡ Some j → IsSome (entry_at j es)
@@ -59,4 +59,4 @@ next_there es k j e =
     (cases_entry (entry_at k es))
 
 pub if_some : (P : ℕ → Type 0) (o : Option ℕ) → ((k : ℕ) → o ≡ Some k → P k) → IfSome o P
-if_some P o h1 = grind arith
+if_some P o h = grind arith

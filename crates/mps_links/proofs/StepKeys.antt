@@ -44,4 +44,4 @@ none_passes p (y ∷ b) t e i =
     (cases_Bool (p y.step))
 
 pub nothing_first : (c : List ℕ) → first_key c ≡ None → c ≡ []
-nothing_first c h1 = grind arith
+nothing_first c e = grind arith

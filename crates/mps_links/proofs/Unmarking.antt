@@ -34,9 +34,7 @@ others_kept k m (y ∷ b) e =
 -- a mark written in the middle
 pub mark_middle : (m : Bool) (a b : List KeyedStep) (x : KeyedStep) → AreDistinct (keys_of any_step (a ++ x ∷ b)) → map (with_mark x.key m) (a ++ x ∷ b) ≡ a ++ marked_as m x ∷ b
 mark_middle m [] b x d = grind (arith, cond-true, eq-eqb, others_kept)
-mark_middle m (y ∷ a) b x d =
-    let n : (y.key == x.key) ≡ false = false_from_ne_true (y.key == x.key) (grind (arith, both_ways, keys_around, has-append_right, or_left, eq-eqb, eqb-true)) in
-    ap₂ (λ (z : KeyedStep) (l : List KeyedStep). z ∷ l) (ap (λ v. marked_as v y) (cond-false (y.key == x.key) m y.marked n)) (mark_middle m a b x d.1)
+mark_middle m (y ∷ a) b x d = grind (arith, false_from_ne_true (y.key == x.key) (grind (arith, both_ways, keys_around, has-append_right, or_left, eq-eqb, eqb-true)), mark_middle m a b x d.1)
 
 module _ (p : ℕ) where
   abbrev off : List KeyedStep → List KeyedStep

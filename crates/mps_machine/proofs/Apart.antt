@@ -25,17 +25,11 @@ slide [] v w0 w s e r p = (v, refl, e ∙ r)
 slide (t ∷ b) v w0 w s e r p =
     let parts = replay_parts w0 w t b r in
     let c = commute v w0 parts.0 s t e parts.1 p.0 p.1 in
-    let rest = slide b c.0 parts.0 w s c.2 parts.2 (p.2 c.0 c.1) in
-    (rest.0, replay_from v c.0 t b c.1 ∙ rest.1, rest.2)
+    grind (arith, slide b c.0 parts.0 w s c.2 parts.2 (p.2 c.0 c.1), replay_from v c.0 t b c.1)
 
 -- a step doesn't count before its own number, nor do later ones
 pub none_before : (t : Step) (b : List Step) (p q : ℕ) → IsRising (t ∷ b) → received_before p q t.id (t ∷ b) ≡ 0
-none_before t b p q r =
-    ap length (filter-none (λ s. nat_lt s.id t.id && receives p q s) (t ∷ b) (
-      and_left (nat_lt t.id t.id) (receives p q t) (le-ltb t.id t.id (omega arith)),
-      from_members (λ s. (nat_lt s.id t.id && receives p q s) ≡ false) b
-          (λ s i. and_left (nat_lt s.id t.id) (receives p q s) (let more = at_member (λ u. t.id < u.id) b s r.0 i in le-ltb s.id t.id (omega arith))),
-    ))
+none_before t b p q r = grind (arith, filter-none, and_left, le-ltb, from_members, at_member)
 
 pub passes_from : (b : List Step) (v : View) (s : Step) → IsRising b → ((t : Step) → IsIn t b → (s.role ≢ t.role) × (sends s.role t.role s ≡ true → receives s.role t.role t ≡ true → length (v.queue s.role t.role) ≢ received_before s.role t.role t.id b)) → Passes v s b
 passes_from [] v s r f = tt
@@ -46,19 +40,7 @@ passes_from (t ∷ b) v s r f =
       (λ x e.
           passes_from b x s r.1
           (λ u i.
-          let there = f u (inr i) in
-          let p = s.role in
-          let q = u.role in (
-            there.0,
-            (λ y z same.
-                let less = at_member (λ k. t.id < k.id) b u r.0 i in
-                let quiet : sends p q t ≡ false = and_left (t.role == p) _ (ne_eqb t.role p (λ k. here.0 (sym k))) in
-                let length_after = queue_step v x t p q e in
-                let silent : one_if (sends p q t) ≡ 0 = ap one_if quiet in
-                let counts = length_filter_step (λ k. nat_lt k.id u.id && receives p q k) t b in
-                let counted : one_if (nat_lt t.id u.id && receives p q t) ≡ one_if (receives p q t) = ap (λ k. one_if (k && receives p q t)) (lt-ltb t.id u.id less) in
-                there.1 y z (omega arith)),
-          ))),
+          grind (arith, at_member, and_left, ne_eqb, queue_step, one_if, length_filter_step, lt-ltb))),
     )
 
 -- counting the sends before a step, by numbers and by places
@@ -66,20 +48,13 @@ pub sent_before_place : (a l : List Step) (s : Step) (p q : ℕ) → IsRising (a
 sent_before_place a l s p q r =
     let f = λ (x : Step). nat_lt x.id s.id && sends p q x in
     let rest = IsRising-append_right a (s ∷ l) r in
-    ap length (filter-append f a (s ∷ l)
-    ∙ ap (λ k. filter f a ++ k) (filter-none f (s ∷ l) (
-      and_left (nat_lt s.id s.id) (sends p q s) (le-ltb s.id s.id (omega arith)),
-      from_members (λ x. f x ≡ false) l (λ x i. and_left (nat_lt x.id s.id) (sends p q x) (let more = at_member (λ u. s.id < u.id) l x rest.0 i in le-ltb x.id s.id (omega arith))),
-    )))
+    ap length (grind (arith, filter-append, filter-none, and_left, le-ltb, from_members, at_member))
     ∙ (length-append (filter f a) [] ∙ (let none : length (filter f a) + 0 ≡ length (filter f a) = omega arith in none))
     ∙ ap length (filter-same f (sends p q) a (from_members (λ x. f x ≡ sends p q x) a (λ x i. ap (λ k. k && sends p q x) (lt-ltb x.id s.id (rising_apart a (s ∷ l) x s r i (inl refl))))))
 
 -- counting the receipts before a later step
 pub received_before_place : (a l : List Step) (t : Step) (p q : ℕ) → IsRising (a ++ l) → IsIn t l → received_before p q t.id (a ++ l) ≡ length (filter (receives p q) a) + received_before p q t.id l
-received_before_place a l t p q r i =
-    let f = λ (x : Step). nat_lt x.id t.id && receives p q x in
-    ap length (filter-append f a l) ∙ length-append (filter f a) (filter f l)
-    ∙ ap (λ (k : List Step). length k + length (filter f l)) (filter-same f (receives p q) a (from_members (λ x. f x ≡ receives p q x) a (λ x j. ap (λ k. k && receives p q x) (lt-ltb x.id t.id (rising_apart a l x t r j i)))))
+received_before_place a l t p q r i = grind (arith, filter-append, length-append, filter-same, from_members, lt-ltb, rising_apart)
 
 -- what a later step that isn't in a closed set has to do with an earlier one that is: nothing
 module _ (set : ℕ → Bool) (a l : List Step) (s : Step) (rising : IsRising (a ++ s ∷ l)) (closed : IsClosed (a ++ s ∷ l) set) (member : set s.id ≡ true) where
@@ -90,9 +65,7 @@ module _ (set : ℕ → Bool) (a l : List Step) (s : Step) (rising : IsRising (a
   in_all t i = IsIn-append_right t a (s ∷ l) (inr i)
 
   independent : (t u : Step) → IsIn t (without l set) → IsIn u (a ++ s ∷ l) → set u.id ≡ true → depends_on (a ++ s ∷ l) t u ≡ false
-  independent t u i j m =
-      let k = outsider t i in
-      false_from_ne_true (depends_on (a ++ s ∷ l) t u) (λ e. false≢true (sym k.1 ∙ closed t u (in_all t k.0) j m e))
+  independent t u i j m = grind (arith, outsider, false_from_ne_true, false≢true, in_all)
 
   s_in : IsIn s (a ++ s ∷ l)
   s_in = IsIn-append_right s a (s ∷ l) (inl refl)
@@ -102,28 +75,14 @@ module _ (set : ℕ → Bool) (a l : List Step) (s : Step) (rising : IsRising (a
 
   -- the outsider is of another role, and isn't matched with s
   no_link : (t : Step) → IsIn t (without l set) → (s.role == t.role || is_matched (a ++ s ∷ l) s t) ≡ false
-  no_link t i =
-      let off = independent t s i s_in member in
-      let on : nat_lt s.id t.id ≡ true = lt-ltb s.id t.id (later t (outsider t i).0) in
-      sym (ap (λ (b : Bool). b && (s.role == t.role || is_matched (a ++ s ∷ l) s t)) on) ∙ off
+  no_link t i = cc (independent t s i s_in member, lt-ltb s.id t.id (later t (outsider t i).0))
 
   other_role : (t : Step) → IsIn t (without l set) → s.role ≢ t.role
   other_role t i e = eqb-false s.role t.role (or_parts (s.role == t.role) (is_matched (a ++ s ∷ l) s t) (no_link t i)).0 e
 
   -- the receipts of an outsider's role between s and it are none of the set
   kept_receipts : (t : Step) → IsIn t (without l set) → (p : ℕ) → received_before p t.role t.id (without l set) ≡ received_before p t.role t.id l
-  kept_receipts t i p =
-      ap length (filter-filter (λ x. nat_lt x.id t.id && receives p t.role x) (λ x. not (set x.id)) l
-      (from_members (λ x. (nat_lt x.id t.id && receives p t.role x) ≡ true → not (set x.id) ≡ true) l
-      (λ x j e.
-      let parts = and_parts (nat_lt x.id t.id) (receives p t.role x) e in
-      let role = (and_parts (x.role == t.role) _ parts.1).0 in
-      not_from_false (set x.id)
-      (false_from_ne_true (set x.id)
-      (λ m.
-      let off = independent t x i (in_all x j) m in
-      let on : depends_on (a ++ s ∷ l) t x ≡ true = and_from (nat_lt x.id t.id) _ parts.0 (or_left (x.role == t.role) _ role) in
-      false≢true (sym off ∙ on))))))
+  kept_receipts t i p = grind (arith, filter-filter, from_members, and_parts, not_from_false, false_from_ne_true, independent, in_all, and_from, or_left, false≢true)
 
   unequal : (v0 v : View) (t : Step) → IsIn t (without l set) → ((p q : ℕ) → v0.queue p q ≡ []) → replay v0 a ≡ Some v → sends s.role t.role s ≡ true → receives s.role t.role t ≡ true → length (v.queue s.role t.role) ≢ received_before s.role t.role t.id (without l set)
   unequal v0 v t i fresh ea y z same =
@@ -139,11 +98,7 @@ module _ (set : ℕ → Bool) (a l : List Step) (s : Step) (rising : IsRising (a
       let got = received_before_place a (s ∷ l) t p q rising (inr k.0) in
       let here = length_filter_step (λ x. nat_lt x.id t.id && receives p q x) s l in
       let quiet : receives p q s ≡ false = and_left (s.role == q) _ (ne_eqb s.role q (other_role t i)) in
-      let silent : one_if (nat_lt s.id t.id && receives p q s) ≡ 0 = ap one_if (ap (λ (b : Bool). nat_lt s.id t.id && b) quiet ∙ and_right (nat_lt s.id t.id) false refl) in
-      let kept = kept_receipts t i p in
-      let count = queue_count v0 v a p q ea in
-      let empty : length (v0.queue p q) ≡ 0 = ap length (fresh p q) in
-      ne (omega arith)
+      grind (arith, one_if (nat_lt s.id t.id && receives p q s), and_right (nat_lt s.id t.id) false refl, kept_receipts t i p, queue_count v0 v a p q ea)
 
   pub passes : (v0 v : View) → ((p q : ℕ) → v0.queue p q ≡ []) → replay v0 a ≡ Some v → Passes v s (without l set)
   passes v0 v fresh ea =

@@ -1,5 +1,5 @@
 -- Why the machine refuses a step, by whether its act is allowed.
-use Rattle.std.proofs.Common.{◌≡◌, ℕ, Bool, true, false, List, Option, Some, None, Result, Ok, refl, ap, ◌∙◌}
+use Rattle.std.proofs.Common.{arith, ◌≡◌, ℕ, Bool, List, Option, Some, None, Result, Ok, ap}
 use Rattle.std.specs.Prelude.{nat_lt, if◌then◌else◌}
 use Rattle.std.specs.Option.{option_map}
 use Rattle.mps_base.specs.declared.action.Act.{Act}
@@ -22,10 +22,5 @@ module _ (types : List LocalType) (st : State) (p : ℕ) (act : Act) where
   pub forward_refused : (fault : Violation) → violation (view_of types st.history) p act ≡ Some fault → refusal_in (stepped (forward types st p act).0) ≡ Some (Violates fault)
   forward_refused fault e = ap (λ (f : Option Violation). refusal_in (step_answer f (nat_lt most_numbers st.next))) e
 
-  no_violation : (full : Bool) → refusal_in (step_answer None full) ≡ None
-  no_violation true = refl
-  no_violation false = refl
-
   pub forward_allowed : violation (view_of types st.history) p act ≡ None → refusal_in (stepped (forward types st p act).0) ≡ None
-  forward_allowed e =
-      ap (λ (f : Option Violation). refusal_in (step_answer f (nat_lt most_numbers st.next))) e ∙ no_violation (nat_lt most_numbers st.next)
+  forward_allowed e = grind arith

@@ -1,8 +1,8 @@
 -- The laws, from the lemmas on steps.
-use Rattle.std.proofs.Common.{◌≡◌, ◌≢◌, ℕ, ◌+◌, ◌<◌, ◌≤◌, ◌⊎◌, Bool, true, false, List, [], ◌∷◌, ◌++◌, length, Some, refl, sym, ap, ◌∙◌, subst, arith, ⊎_elim, inl, inr, eq-eqb, length-append}
+use Rattle.std.proofs.Common.{◌≡◌, ◌≢◌, ℕ, ◌+◌, ◌<◌, ◌≤◌, true, false, List, [], ◌∷◌, ◌++◌, length, Some, refl, sym, ap, ◌∙◌, subst, arith, inl, inr, eq-eqb, length-append}
 use Rattle.std.specs.Prelude.{◌==◌, ◌&&◌, nat_lt}
 use Rattle.std.specs.List.{filter}
-use Rattle.std.proofs.lemmas.Bool.{cases_order, cond-true, cond-false, and_parts, and_from, ne_eqb, eqb-true, eqb-false, lt-ltb}
+use Rattle.std.proofs.lemmas.Bool.{cases_order, cond-true, and_parts, and_from, ne_eqb, eqb-true, lt-ltb}
 use Rattle.std.proofs.lemmas.List.Elements.{filter-append}
 use Rattle.mps_base.specs.declared.action.Step.{Step}
 use Rattle.mps_local.specs.Local.{LocalType}
@@ -13,7 +13,7 @@ use Rattle.mps_history.proofs.Order.{at_member, from_members, same_step, rising_
 use Rattle.mps_history.proofs.Removal.{filter-none, filter-same}
 use Rattle.mps_machine.specs.View.{View, opening}
 use Rattle.mps_machine.specs.Rule.{rule, replay}
-use Rattle.mps_machine.proofs.Stepping.{queue_count, a_send_gives, a_receipt_waits, rule_parts, replay_parts, replay_from, replay-append, replay_front}
+use Rattle.mps_machine.proofs.Stepping.{queue_count, a_send_gives, replay_parts, replay-append, replay_front}
 use Rattle.mps_machine.proofs.Commuting.{Waits, commute}
 use Rattle.mps_machine.proofs.Apart.{left_out, none_before, received_before_place}
 
@@ -22,45 +22,26 @@ pub unmatched_waits : (types : List LocalType) (a : List Step) (v : View) (s t :
 unmatched_waits types a v s t ea off y z =
     let p = s.role in
     let q = t.role in
-    let tests : (sends p q s && receives p q t) ≡ true = and_from (sends p q s) (receives p q t) y z in
-    let apart : (length (filter (sends p q) a) == length (filter (receives p q) a)) ≡ false = sym (ap (λ (b : Bool). b && (length (filter (sends p q) a) == length (filter (receives p q) a))) tests) ∙ off in
-    let ne = eqb-false (length (filter (sends p q) a)) (length (filter (receives p q) a)) apart in
-    let count = queue_count (opening types) v a p q ea in
-    ⊎_elim (λ (e : length (v.queue p q) ≡ 0). absurd (ne (omega arith)))
-    (λ (e : (length (v.queue p q) < 0) ⊎ (0 < length (v.queue p q))). omega arith)
-    (cases_order (length (v.queue p q)) 0)
+    grind (arith, and_from (sends p q s) (receives p q t) y z, queue_count (opening types) v a p q ea, cases_order (length (v.queue p q)) 0)
 
 pub exchanged : (types : List LocalType) (a b : List Step) (s t : Step) (w : View) → replay (opening types) (a ++ s ∷ t ∷ b) ≡ Some w → s.role ≢ t.role → is_matched_after a s t ≡ false → replay (opening types) (a ++ t ∷ s ∷ b) ≡ Some w
 exchanged types a b s t w e ne off =
     let front = replay_front (opening types) w a (s ∷ t ∷ b) e in
     let first = replay_parts front.0 w s (t ∷ b) front.2 in
     let second = replay_parts first.0 w t b first.2 in
-    let c = commute front.0 first.0 second.0 s t first.1 second.1 ne (unmatched_waits types a front.0 s t front.1 off) in
-    replay-append (opening types) front.0 a (t ∷ s ∷ b) front.1
-    ∙ replay_from front.0 c.0 t (s ∷ b) c.1
-    ∙ replay_from c.0 second.0 s b c.2
-    ∙ second.2
+    grind (arith, commute front.0 first.0 second.0 s t first.1 second.1 ne (unmatched_waits types a front.0 s t front.1 off), replay-append (opening types) front.0 a (t ∷ s ∷ b) front.1)
 
 -- one number is one step
 pub within_one : (h : List Step) (s : Step) → IsRising h → IsIn s h → within h (λ m. m == s.id) ≡ s ∷ []
 within_one [] s r i = absurd i
-within_one (x ∷ h) s r (inl e) =
-    let same : x.id ≡ s.id = ap (λ (y : Step). y.id) (sym e) in
-    cond-true (x.id == s.id) (x ∷ within h (λ m. m == s.id)) (within h (λ m. m == s.id)) (eq-eqb x.id s.id same)
-    ∙ ap (λ l. x ∷ l) (filter-none (λ t. t.id == s.id) h (from_members (λ t. (t.id == s.id) ≡ false) h (λ t i. let less = at_member (λ u. x.id < u.id) h t r.0 i in ne_eqb t.id s.id (λ k. omega arith))))
-    ∙ ap (λ y. y ∷ []) (sym e)
+within_one (x ∷ h) s r (inl e) = grind (arith, cond-true, eq-eqb, filter-none, from_members, at_member, ne_eqb)
 within_one (x ∷ h) s r (inr i) =
     let less = at_member (λ u. x.id < u.id) h s r.0 i in
-    cond-false (x.id == s.id) (x ∷ within h (λ m. m == s.id)) (within h (λ m. m == s.id)) (ne_eqb x.id s.id (λ k. omega arith))
-    ∙ within_one h s r.1 i
+    grind (arith, within_one h s r.1 i)
 
 pub step_removed : (types : List LocalType) (h : List Step) (s : Step) (w : View) → IsRising h → IsIn s h → ((t : Step) → IsIn t h → depends_on h t s ≡ false) → replay (opening types) h ≡ Some w → (x : View) × (replay (opening types) (without h (λ m. m == s.id)) ≡ Some x) × (rule x s ≡ Some w)
 step_removed types h s w r i none e =
-    let closed : IsClosed h (λ m. m == s.id) = λ t u it iu m d.
-    let same = same_step h u s r iu i (eqb-true u.id s.id m) in
-    let off = none t it in
-    let on : depends_on h t s ≡ true = subst (λ (y : Step). depends_on h t y ≡ true) same d in
-    absurd (let bad = sym off ∙ on in cc) in
+    let closed : IsClosed h (λ m. m == s.id) = grind (arith, same_step, eqb-true) in
     let left = left_out (λ m. m == s.id) types h w r closed e in
     let last : replay left.0 (s ∷ []) ≡ Some w = subst (λ (l : List Step). replay left.0 l ≡ Some w) (within_one h s r i) left.2 in
     let parts = replay_parts left.0 w s [] last in
@@ -76,9 +57,7 @@ fewer_sent : (a b : List Step) (t s : Step) (p q : ℕ) → IsRising (a ++ t ∷
 fewer_sent a b t s p q r less =
     let f = λ (x : Step). nat_lt x.id s.id && sends p q x in
     let same : filter f a ≡ filter (sends p q) a = filter-same f (sends p q) a (from_members (λ x. f x ≡ sends p q x) a (λ x i. let below = rising_apart a (t ∷ b) x t r i (inl refl) in ap (λ k. k && sends p q x) (lt-ltb x.id s.id (omega arith)))) in
-    let whole : sent_before p q s.id (a ++ t ∷ b) ≡ length (filter f a) + length (filter f (t ∷ b)) = ap length (filter-append f a (t ∷ b)) ∙ length-append (filter f a) (filter f (t ∷ b)) in
-    let front : length (filter f a) ≡ length (filter (sends p q) a) = ap length same in
-    omega arith
+    grind (arith, filter-append, length-append)
 
 later_than_send : (types : List LocalType) (a b : List Step) (s t : Step) (w : View) → IsRising (a ++ t ∷ b) → t.id < s.id → replay (opening types) (a ++ t ∷ b) ≡ Some w → is_matched (a ++ t ∷ b) s t ≡ true → ⊥
 later_than_send types a b s t w r less e m =
@@ -89,31 +68,7 @@ later_than_send types a b s t w r less e m =
     let same = eqb-true (sent_before p q s.id h) (received_before p q t.id h) tests.1 in
     let z = (and_parts (sends p q s) (receives p q t) tests.0).1 in
     let front = replay_front (opening types) w a (t ∷ b) e in
-    let first = replay_parts front.0 w t b front.2 in
-    let parts = rule_parts front.0 first.0 t first.1 in
-    let waits = a_receipt_waits p q t.id t.role t.act front.0 (front.0.participant t.role) parts.0 parts.1 z in
-    let count = queue_count (opening types) front.0 a p q front.1 in
-    let sent = fewer_sent a b t s p q r less in
-    let got = received_before_place a (t ∷ b) t p q r (inl refl) in
-    let none = none_before t b p q (IsRising-append_right a (t ∷ b) r) in
-    omega arith
+    grind (arith, replay_parts front.0 w t b front.2, queue_count (opening types) front.0 a p q front.1, fewer_sent a b t s p q r less, received_before_place a (t ∷ b) t p q r (inl refl), none_before t b p q (IsRising-append_right a (t ∷ b) r))
 
 pub matched_later : (types : List LocalType) (h : List Step) (s t : Step) (w : View) → IsRising h → IsIn s h → IsIn t h → replay (opening types) h ≡ Some w → is_matched h s t ≡ true → s.id < t.id
-matched_later types h s t w r is it e m =
-    ⊎_elim
-    (λ (same : s.id ≡ t.id).
-    let one = same_step h s t r is it same in
-    let tests = (and_parts (sends s.role t.role s && receives s.role t.role t) _ m).0 in
-    let both = and_parts (sends s.role t.role s) (receives s.role t.role t) tests in
-    let got : receives s.role t.role s ≡ true = subst (λ (y : Step). receives s.role t.role y ≡ true) (sym one) both.1 in
-    let no = (a_send_gives s.role t.role s.id s.role s.act both.0).0 in
-    absurd (let bad = sym no ∙ got in cc))
-    (λ (o : (s.id < t.id) ⊎ (t.id < s.id)).
-    ⊎_elim (λ (l : s.id < t.id). l)
-    (λ (l : t.id < s.id).
-    let k = split_member h t it in
-    absurd (later_than_send types k.0 k.1 s t w (subst IsRising k.2 r) l
-    (subst (λ (g : List Step). replay (opening types) g ≡ Some w) k.2 e)
-    (subst (λ (g : List Step). is_matched g s t ≡ true) k.2 m)))
-    o)
-    (cases_order s.id t.id)
+matched_later types h s t w r is it e m = grind (arith, same_step, and_parts, a_send_gives, split_member, later_than_send, cases_order)

@@ -1,25 +1,22 @@
 -- Every state that requests lead to is sound.
-use Rattle.std.proofs.Common.{◌≡◌, ℕ, ◌+◌, ◌<◌, Bool, true, false, not, List, [], ◌∷◌, ◌++◌, Option, Some, None, Result, Ok, refl, sym, ap, ◌∙◌, subst, arith, ⊎_elim}
+use Rattle.std.proofs.Common.{◌≡◌, ℕ, ◌+◌, ◌<◌, Bool, List, [], ◌∷◌, ◌++◌, Option, None, Result, refl, ap, ◌∙◌, subst, arith}
 use Rattle.std.specs.Prelude.{◌==◌, unwrap_or}
-use Rattle.std.specs.List.{filter, AllByRecursion}
+use Rattle.std.specs.List.{AllByRecursion}
 use Rattle.std.specs.Option.{option_map}
 use Rattle.std.proofs.lemmas.Bool.{cases_Bool, eqb-true, not_from_false}
 use Rattle.mps_base.specs.declared.action.Act.{Act}
 use Rattle.mps_base.specs.declared.action.Step.{Step}
 use Rattle.mps_local.specs.Local.{LocalType}
-use Rattle.mps_history.specs.Steps.{IsIn, IsRising, numbers, step_of, steps_of, without, within}
-use Rattle.mps_history.specs.Dependence.{IsClosed, consequences, least, dependents}
+use Rattle.mps_history.specs.Steps.{IsIn, IsRising, numbers, step_of, without}
+use Rattle.mps_history.specs.Dependence.{IsClosed, least, dependents}
 use Rattle.mps_history.proofs.Order.{at_member, from_members, IsIn-filter, IsRising-filter, IsRising-push, AllByRecursion-filter}
 use Rattle.mps_history.proofs.Reaching.{consequences_closed, consequences_self}
-use Rattle.mps_command.specs.declared.answer.Done.{Done}
 use Rattle.mps_command.specs.declared.answer.Refusal.{Refusal}
-use Rattle.mps_command.specs.declared.answer.Refusal.TheVariants.{Violation as Violates, Needed}
+use Rattle.mps_command.specs.declared.answer.Refusal.TheVariants.{Needed}
 use Rattle.mps_machine.specs.View.{View, opening}
 use Rattle.mps_machine.specs.Violations.{violation}
-use Rattle.mps_command.specs.Acts.{act_of}
 use Rattle.mps_command.specs.declared.command.Change.{Change}
-use Rattle.mps_command.specs.declared.command.Change.TheVariants.{Forward, Undo, Rollback, Back}
-use Rattle.mps_machine.specs.Machine.{State, initial, view_of, accepted, unless, full_fault, done_by, forward, owner_fault, commit_fault, final_fault, undone, undo, rolled_back, rolled_back_unless_final, rollback, since_mark, back_to, Request, serve, after, IsSound}
+use Rattle.mps_machine.specs.Machine.{State, initial, view_of, accepted, unless, forward, owner_fault, commit_fault, undone, undo, rollback, back_to, Request, serve, after, IsSound}
 use Rattle.mps_machine.proofs.Stepping.{replay-append, replay_from}
 use Rattle.mps_machine.proofs.Apart.{left_out}
 use Rattle.mps_machine.proofs.Defined.{allowed_step}
@@ -54,28 +51,17 @@ accepted_sound types st p act ok fine =
 pub without_sound : (types : List LocalType) (st : State) (set : ℕ → Bool) → IsSound types st → IsClosed st.history set → IsSound types (record st { history = without st.history set })
 without_sound types st set ok closed =
     let left = left_out set types st.history ok.view ok.rising closed ok.replayed in
-    record {
-      rising = IsRising-filter (λ s. not (set s.id)) st.history ok.rising;
-      below = AllByRecursion-filter (λ s. s.id < st.next) (λ s. not (set s.id)) st.history ok.below;
-      view = left.0;
-      replayed = left.1;
-    }
+    grind (arith, IsRising-filter, AllByRecursion-filter)
 
 -- a refusal changes nothing, so what follows is all that has to be sound
 unless_sound : {A : Type 0} (types : List LocalType) (fault : Option Refusal) (st : State) (served : Result A Refusal × State) → IsSound types st → (fault ≡ None → IsSound types served.1) → IsSound types (unless fault st served).1
-unless_sound types (Some refusal) st served ok next = ok
-unless_sound types None st served ok next = next refl
+unless_sound types fault st served ok next = grind arith
 
 pub none_under : {A B : Type 0} (f : A → B) (o : Option A) → option_map f o ≡ None → o ≡ None
-none_under f None e = refl
-none_under f (Some x) e = absurd cc
+none_under f o e = grind arith
 
 pub forward_sound : (types : List LocalType) (st : State) (p : ℕ) (act : Act) → IsSound types st → IsSound types (forward types st p act).1
-forward_sound types st p act ok =
-    let fault = violation (view_of types st.history) p act in
-    let new : Result Done Refusal × State = (Ok (done_by types st p act), accepted st p act) in
-    unless_sound types (option_map Violates fault) st (unless (full_fault st) st new) ok
-    (λ e. unless_sound types (full_fault st) st new ok (λ _. accepted_sound types st p act ok (none_under Violates fault e)))
+forward_sound types st p act ok = grind (arith, unless_sound, accepted_sound, none_under)
 
 pub least_none : (ns : List ℕ) → least ns ≡ None → ns ≡ []
 least_none [] e = refl
@@ -87,15 +73,7 @@ no_member (x ∷ h) e s i = absurd cc
 
 -- where no other step depends on step n, it alone is closed
 pub alone_closed : (h : List Step) (n : ℕ) → IsRising h → dependents h n ≡ [] → IsClosed h (λ m. m == n)
-alone_closed h n r none t s it is e d =
-    ⊎_elim (λ (y : (t.id == n) ≡ true). y)
-    (λ (f : (t.id == n) ≡ false).
-    let set = consequences h n in
-    let s_in : set s.id ≡ true = subst (λ (m : ℕ). set m ≡ true) (sym (eqb-true s.id n e)) (consequences_self h n) in
-    let t_in = consequences_closed h n r t s it is s_in d in
-    absurd (no_member (filter (λ x. not (x.id == n)) (within h set)) none t
-    (IsIn-filter (λ x. not (x.id == n)) t (within h set) (IsIn-filter (λ x. set x.id) t h it t_in) (not_from_false (t.id == n) f))))
-    (cases_Bool (t.id == n))
+alone_closed h n r none t s it is e d = grind (arith, eqb-true, consequences_self, consequences_closed, no_member, IsIn-filter, not_from_false, cases_Bool)
 
 undo_sound : (types : List LocalType) (st : State) (p n : ℕ) → IsSound types st → IsSound types (undo st p n).1
 undo_sound types st p n ok =
@@ -103,28 +81,16 @@ undo_sound types st p n ok =
     let last = unless (option_map Needed by) st (undone st n) in
     unless_sound types (owner_fault p (step_of st.history n)) st (unless (commit_fault (step_of st.history n)) st last) ok
     (λ _. unless_sound types (commit_fault (step_of st.history n)) st last ok
-    (λ _. unless_sound types (option_map Needed by) st (undone st n) ok
-    (λ e. without_sound types st (λ m. m == n) ok (alone_closed st.history n ok.rising (least_none (dependents st.history n) (none_under Needed by e))))))
-
-rolled_back_sound : (types : List LocalType) (st : State) (n : ℕ) → IsSound types st → IsSound types (rolled_back_unless_final st n).1
-rolled_back_sound types st n ok =
-    unless_sound types (final_fault st.history n) st (rolled_back st n) ok
-    (λ _. without_sound types st (consequences st.history n) ok (consequences_closed st.history n ok.rising))
+    (grind (arith, unless_sound, without_sound, alone_closed, least_none, none_under)))
 
 rollback_sound : (types : List LocalType) (st : State) (p n : ℕ) → IsSound types st → IsSound types (rollback st p n).1
-rollback_sound types st p n ok =
-    unless_sound types (owner_fault p (step_of st.history n)) st (rolled_back_unless_final st n) ok (λ _. rolled_back_sound types st n ok)
+rollback_sound types st p n ok = grind (arith, unless_sound, without_sound, consequences_closed)
 
 back_sound : (types : List LocalType) (st : State) (found : Option (List Step)) → IsSound types st → IsSound types (back_to found st).1
-back_sound types st None ok = ok
-back_sound types st (Some []) ok = ok
-back_sound types st (Some (s ∷ h)) ok = rolled_back_sound types st s.id ok
+back_sound types st found ok = grind (arith, unless_sound, without_sound, consequences_closed)
 
 pub serve_sound : (types : List LocalType) (st : State) (p : ℕ) (command : Change) → IsSound types st → IsSound types (serve types st p command).1
-serve_sound types st p (Forward step) ok = forward_sound types st p (act_of step) ok
-serve_sound types st p (Undo n) ok = undo_sound types st p n ok
-serve_sound types st p (Rollback n) ok = rollback_sound types st p n ok
-serve_sound types st p (Back name) ok = back_sound types st (since_mark name (steps_of p st.history)) ok
+serve_sound types st p command ok = grind (arith, forward_sound, undo_sound, rollback_sound, back_sound)
 
 pub after_sound : (types : List LocalType) (st : State) (rs : List Request) → IsSound types st → IsSound types (after types st rs)
 after_sound types st [] ok = ok

@@ -1,28 +1,25 @@
 -- One step of the rule, and what it does to the queues.
-use Rattle.std.proofs.Common.{◌≡◌, ℕ, ◌+◌, ◌<◌, Bool, true, false, List, [], ◌∷◌, ◌++◌, length, drop, cond, Option, Some, None, refl, sym, ap, ◌∙◌, subst, arith, length-append}
-use Rattle.std.specs.Prelude.{◌==◌, ◌&&◌, option_and_then}
+use Rattle.std.proofs.Common.{◌≡◌, ℕ, ◌+◌, ◌<◌, Bool, true, false, List, [], ◌∷◌, ◌++◌, length, drop, cond, Option, Some, refl, ap, ◌∙◌, arith, length-append}
+use Rattle.std.specs.Prelude.{option_and_then}
 use Rattle.std.specs.Option.{option_map}
 use Rattle.std.specs.List.{filter}
 use Rattle.std.proofs.lemmas.Bool.{and_parts, eqb-true}
-use Rattle.mps_base.specs.Effects.{Effect, Gives, Takes, Idle, effect}
+use Rattle.mps_base.specs.Effects.{Takes, effect}
 use Rattle.mps_base.specs.declared.action.Act.{Act}
 use Rattle.mps_base.specs.declared.action.Act.TheVariants.{In}
 use Rattle.mps_base.specs.declared.action.Message.{Message}
 use Rattle.mps_base.specs.declared.action.Step.{Step}
-use Rattle.mps_local.specs.Local.{LocalType, End, Var, Rec, Send, Recv, Select, Branch}
-use Rattle.mps_history.specs.Steps.{gives_to, takes_from, messages_of, sends, receives, given}
-use Rattle.mps_local.specs.Unfolding.{unfolded}
+use Rattle.mps_local.specs.Local.{LocalType}
+use Rattle.mps_history.specs.Steps.{sends, receives, given}
 use Rattle.mps_machine.specs.View.{Participant, View}
-use Rattle.mps_machine.specs.Rule.{first_of, moved_by_effect, moved, type_after_effect, to_come_after, advanced, participant_after, view_after, rule, replay}
+use Rattle.mps_machine.specs.Rule.{first_of, moved, to_come_after, advanced, participant_after, view_after, rule, replay}
 
 -- what `map` gives came from a value
 pub map_some : {A B : Type 0} (f : A → B) (o : Option A) (y : B) → option_map f o ≡ Some y → (x : A) × (o ≡ Some x) × (f x ≡ y)
-map_some f None y e = absurd cc
-map_some f (Some x) y e = (x, refl, cc)
+map_some f o y e = grind arith
 
 pub and_then_some : {A B : Type 0} (f : A → Option B) (o : Option A) (y : B) → option_and_then f o ≡ Some y → (x : A) × (o ≡ Some x) × (f x ≡ Some y)
-and_then_some f None y e = absurd cc
-and_then_some f (Some x) y e = (x, refl, e)
+and_then_some f o y e = grind arith
 
 -- the parts of an allowed step
 pub rule_parts : (v w : View) (s : Step) → rule v s ≡ Some w → (c : Participant) × (participant_after (v.participant s.role) s.act (moved v s.role s.act) ≡ Some c) × (view_after v s c ≡ w)
@@ -50,25 +47,11 @@ pub replay_front : (v w : View) (a b : List Step) → replay v (a ++ b) ≡ Some
 replay_front v w [] b e = (v, refl, e)
 replay_front v w (s ∷ a) b e =
     let p = replay_parts v w s (a ++ b) e in
-    let r = replay_front p.0 w a b p.2 in
-    (r.0, replay_from v p.0 s a p.1 ∙ r.1, r.2)
-
--- nothing is taken where nothing waits
-takes_nothing : (t : LocalType) (from : ℕ) (slot : Option (List ℕ)) → type_after_effect t (Takes from slot) None ≡ None
-takes_nothing End from slot = refl
-takes_nothing (Var x) from slot = refl
-takes_nothing (Rec x t) from slot = refl
-takes_nothing (Send p sort t) from slot = refl
-takes_nothing (Recv p sort t) from None = refl
-takes_nothing (Recv p sort t) from (Some x) = refl
-takes_nothing (Select p bs) from slot = refl
-takes_nothing (Branch p bs) from None = refl
-takes_nothing (Branch p bs) from (Some x) = refl
+    grind (arith, replay_front p.0 w a b p.2, replay_from v p.0 s a p.1)
 
 -- what is taken, where that is allowed, is there
 takes_something : (t u : LocalType) (queue : List Message) (from : ℕ) (slot : Option (List ℕ)) → to_come_after t (Takes from slot) (first_of queue) ≡ Some u → 0 < length queue
-takes_something t u [] from slot e = absurd (let n = takes_nothing (unfolded t) from slot in let bad : None ≡ Some u = sym n ∙ e in cc)
-takes_something t u (m ∷ queue) from slot e = omega arith
+takes_something t u queue from slot e = grind arith
 
 -- the parts of an allowed act: the type to come, and the role with it
 pub participant_parts : (c d : Participant) (act : Act) (m : Option Message) → participant_after c act m ≡ Some d → (u : LocalType) × (to_come_after c.to_come (effect act) m ≡ Some u) × (advanced c act m u ≡ d)
@@ -76,65 +59,35 @@ participant_parts c d act m e = map_some (advanced c act m) (to_come_after c.to_
 
 -- a receipt that is allowed finds a message
 pub a_receipt_finds : (c d : Participant) (queue : List Message) (from : ℕ) (slot : Option (List ℕ)) → participant_after c (In from slot) (first_of queue) ≡ Some d → 0 < length queue
-a_receipt_finds c d queue from slot e =
-    let parts = participant_parts c d (In from slot) (first_of queue) e in
-    takes_something c.to_come parts.0 queue from slot parts.1
+a_receipt_finds c d queue from slot e = grind (arith, participant_parts, takes_something)
 
 pub first_of-append : (xs ys : List Message) → 0 < length xs → first_of (xs ++ ys) ≡ first_of xs
-first_of-append [] ys h = absurd (omega arith)
-first_of-append (x ∷ xs) ys h = refl
+first_of-append xs ys h = grind arith
 
 -- whether a step counts
 abbrev pub one_if : Bool → ℕ
 one_if b = cond b 1 0
 
 changed_length : (sent got : Bool) (new xs : List Message) → (sent ≡ true → (got ≡ false) × (length new ≡ 1)) → (got ≡ true → 0 < length xs) → length (cond sent (xs ++ new) (cond got (drop 1 xs) xs)) + one_if got ≡ length xs + one_if sent
-changed_length true true new xs h k = absurd (let bad = (h refl).0 in cc)
-changed_length true false new xs h k = omega (arith, length-append xs new, (h refl).1)
-changed_length false true new [] h k = absurd (let bad = k refl in omega arith)
-changed_length false true new (x ∷ xs) h k = omega arith
-changed_length false false new xs h k = refl
-
-and_false : (b : Bool) → (b && false) ≡ false
-and_false true = refl
-and_false false = refl
-
-one_given : (p q r : ℕ) (does : Effect) → (r == p && gives_to q does) ≡ true → ((r == q && takes_from p does) ≡ false) × (length (messages_of does) ≡ 1)
-one_given p q r (Gives to m) e = (and_false (r == q), refl)
-one_given p q r (Takes from slot) e = let bad = sym (and_false (r == p)) ∙ e in absurd cc
-one_given p q r Idle e = let bad = sym (and_false (r == p)) ∙ e in absurd cc
+changed_length sent got new xs h k = grind (arith, length-append)
 
 -- a send gives one message and is no receipt
 pub a_send_gives : (p q n r : ℕ) (act : Act) → let s : Step = record { id = n; role = r; act = act } in sends p q s ≡ true → (receives p q s ≡ false) × (length (given act) ≡ 1)
-a_send_gives p q n r act e = one_given p q r (effect act) e
-
-taken_waits : (p q r : ℕ) (does : Effect) (v : View) (t u : LocalType) → to_come_after t does (moved_by_effect v r does) ≡ Some u → (r == q && takes_from p does) ≡ true → 0 < length (v.queue p q)
-taken_waits p q r (Gives to m) v t u e y = let bad = sym (and_false (r == q)) ∙ y in absurd cc
-taken_waits p q r (Takes from slot) v t u e y =
-    let parts = and_parts (r == q) (from == p) y in
-    let finds = takes_something t u (v.queue from r) from slot e in
-    subst (λ (k : ℕ). 0 < length (v.queue p k)) (eqb-true r q parts.0) (subst (λ (k : ℕ). 0 < length (v.queue k r)) (eqb-true from p parts.1) finds)
-taken_waits p q r Idle v t u e y = let bad = sym (and_false (r == q)) ∙ y in absurd cc
+a_send_gives p q n r act e = grind arith
 
 -- an allowed receipt finds a message in its queue
 pub a_receipt_waits : (p q n r : ℕ) (act : Act) (v : View) (c d : Participant) → participant_after c act (moved v r act) ≡ Some d → let s : Step = record { id = n; role = r; act = act } in receives p q s ≡ true → 0 < length (v.queue p q)
-a_receipt_waits p q n r act v c d e y =
-    let parts = participant_parts c d act (moved v r act) e in
-    taken_waits p q r (effect act) v c.to_come parts.0 parts.1 y
+a_receipt_waits p q n r act v c d e y = grind (arith, participant_parts, and_parts, takes_something, eqb-true)
 
 -- what is taken by an allowed act waits
 pub taken_there : (c d : Participant) (act : Act) (v : View) (r from : ℕ) (slot : Option (List ℕ)) → effect act ≡ Takes from slot → participant_after c act (moved v r act) ≡ Some d → 0 < length (v.queue from r)
-taken_there c d act v r from slot is e =
-    let parts = participant_parts c d act (moved v r act) e in
-    takes_something c.to_come parts.0 (v.queue from r) from slot (subst (λ (does : Effect). to_come_after c.to_come does (moved_by_effect v r does) ≡ Some parts.0) is parts.1)
+taken_there c d act v r from slot is e = grind (arith, participant_parts, takes_something)
 
 -- what one step does to the length of a queue
 pub queue_step : (v w : View) (s : Step) (p q : ℕ) → rule v s ≡ Some w → length (w.queue p q) + one_if (receives p q s) ≡ length (v.queue p q) + one_if (sends p q s)
 queue_step v w s p q e =
     let parts = rule_parts v w s e in
-    subst (λ (u : View). length (u.queue p q) + one_if (receives p q s) ≡ length (v.queue p q) + one_if (sends p q s)) parts.2
-    (changed_length (sends p q s) (receives p q s) (given s.act) (v.queue p q) (a_send_gives p q s.id s.role s.act)
-    (a_receipt_waits p q s.id s.role s.act v (v.participant s.role) parts.0 parts.1))
+    grind (arith, changed_length, a_send_gives, a_receipt_waits)
 
 -- a filter counts the first, and the others
 pub length_filter_step : (f : Step → Bool) (s : Step) (h : List Step) → length (filter f (s ∷ h)) ≡ one_if (f s) + length (filter f h)
@@ -149,6 +102,4 @@ pub queue_count : (v w : View) (h : List Step) (p q : ℕ) → replay v h ≡ So
 queue_count v w [] p q e = ap (λ (u : View). length (u.queue p q) + 0) (let same : w ≡ v = cc in same)
 queue_count v w (s ∷ h) p q e =
     let parts = replay_parts v w s h e in
-    let rest = queue_count parts.0 w h p q parts.2 in
-    let here = queue_step v parts.0 s p q parts.1 in
-    omega (arith, length_filter_step (sends p q) s h, length_filter_step (receives p q) s h)
+    grind (arith, queue_count parts.0 w h p q parts.2, queue_step v parts.0 s p q parts.1, length_filter_step (sends p q) s h, length_filter_step (receives p q) s h)

@@ -1,38 +1,28 @@
 -- Histories lead to one view just where swaps lead from one to the other.
-use Rattle.std.proofs.Common.{◌≡◌, ◌≢◌, ℕ, ◌<◌, true, false, List, [], ◌∷◌, ◌++◌, length, Option, Some, None, refl, sym, ap, ◌∙◌, subst, arith, ⊎_elim, append_assoc, append-nil}
-use Rattle.std.specs.Prelude.{◌==◌, ◌&&◌, option_and_then}
-use Rattle.std.specs.List.{filter, AllByRecursion}
-use Rattle.std.proofs.lemmas.Bool.{cases_Bool, cond-true, cond-false, and_parts, and_left, ne_eqb, eqb-true, eqb-false, eq-eqb, false_from_ne_true}
+use Rattle.std.proofs.Common.{◌≡◌, ◌≢◌, ℕ, ◌<◌, true, false, List, [], ◌∷◌, ◌++◌, length, Option, Some, refl, sym, ap, ◌∙◌, subst, arith, ⊎_elim, append_assoc, append-nil}
+use Rattle.std.specs.Prelude.{◌==◌, option_and_then}
+use Rattle.std.specs.List.{AllByRecursion}
+use Rattle.std.proofs.lemmas.Bool.{cases_Bool, cond-true, and_left, ne_eqb, eqb-true, eqb-false, eq-eqb}
 use Rattle.std.proofs.lemmas.List.{append_cancel_left}
 use Rattle.mps_base.specs.declared.action.Act.{Act}
-use Rattle.mps_base.specs.declared.action.Message.{Message}
 use Rattle.mps_base.specs.declared.action.Step.{Step}
 use Rattle.mps_local.specs.Local.{LocalType}
-use Rattle.mps_history.specs.Steps.{sends, receives}
+use Rattle.mps_history.specs.Steps.{receives}
 use Rattle.mps_history.specs.Swaps.{deeds, is_matched_after, Swaps, Same, Exchange}
-use Rattle.mps_machine.specs.View.{Deed, Participant, View, opening}
-use Rattle.mps_machine.specs.Rule.{moved, participant_after, view_after, rule, replay}
-use Rattle.mps_machine.proofs.Stepping.{rule_parts, replay_parts, replay_from, replay-append, queue_step, queue_count, a_receipt_waits, one_if, participant_parts}
+use Rattle.mps_machine.specs.View.{Deed, View, opening}
+use Rattle.mps_machine.specs.Rule.{moved, rule, replay}
+use Rattle.mps_machine.proofs.Stepping.{rule_parts, replay_parts, replay_from, replay-append, queue_step, queue_count, one_if, participant_parts}
 use Rattle.mps_machine.proofs.Lawful.{exchanged}
 
--- the rule doesn't look at numbers
-rule_at : (v : View) (n m r : ℕ) (act : Act) → rule v (record { id = n; role = r; act = act }) ≡ rule v (record { id = m; role = r; act = act })
-rule_at v n m r act = refl
-
 rule_same : (v : View) (s t : Step) → s.role ≡ t.role → s.act ≡ t.act → rule v s ≡ rule v t
-rule_same v s t r a =
-    subst (λ (k : ℕ). rule v s ≡ rule v (record { id = t.id; role = k; act = t.act })) r
-    (subst (λ (b : Act). rule v s ≡ rule v (record { id = t.id; role = s.role; act = b })) a (rule_at v s.id t.id s.role s.act))
+rule_same v s t r a = grind arith
 
 and_then_same : {A B : Type 0} (f g : A → Option B) (o : Option A) → ((x : A) → f x ≡ g x) → option_and_then f o ≡ option_and_then g o
-and_then_same f g None same = refl
-and_then_same f g (Some x) same = same x
+and_then_same f g o same = grind arith
 
 -- nor does replay
 replay_same : (v : View) (k h : List Step) → deeds k ≡ deeds h → replay v k ≡ replay v h
 replay_same v [] [] e = refl
-replay_same v [] (t ∷ h) e = absurd cc
-replay_same v (s ∷ k) [] e = absurd cc
 replay_same v (s ∷ k) (t ∷ h) e =
     let first : ◌≡◌ {A = ℕ × Act} (s.role, s.act) (t.role, t.act) = cc in
     let rest : deeds k ≡ deeds h = cc in
@@ -40,6 +30,7 @@ replay_same v (s ∷ k) (t ∷ h) e =
     let a : s.act ≡ t.act = ap (λ x. x.1) first in
     ap (option_and_then (λ w. replay w k)) (rule_same v s t r a)
     ∙ and_then_same (λ w. replay w k) (λ w. replay w h) (rule v t) (λ w. replay_same w k h rest)
+replay_same v other others e = absurd cc
 
 -- swaps keep the view
 pub swaps_keep : (types : List LocalType) {k h : List Step} (v : View) → replay (opening types) k ≡ Some v → Swaps k h → replay (opening types) h ≡ Some v
@@ -51,10 +42,6 @@ swaps_keep types v e (Exchange k h a b s t split ne off rest) =
 pub swaps_lead_to_one_view : (types : List LocalType) (k h : List Step) (v w : View) → replay (opening types) k ≡ Some v → replay (opening types) h ≡ Some w → Swaps k h → v ≡ w
 swaps_lead_to_one_view types k h v w ek eh swaps = let kept = swaps_keep types v ek swaps in cc
 
--- a step puts its deed last in the past of its role
-past_grows : (c d : Participant) (act : Act) (m : Option Message) → participant_after c act m ≡ Some d → d.past ≡ c.past ++ record { act = act; moved = m } ∷ []
-past_grows c d act m e = sym (ap (λ (x : Participant). x.past) (participant_parts c d act m e).2)
-
 abbrev pub past_of : View → ℕ → List Deed
 past_of v p = (v.participant p).past
 
@@ -63,33 +50,18 @@ abbrev pub deed_of : View → Step → Deed
 deed_of v s = record { act = s.act; moved = moved v s.role s.act }
 
 pub past_step : (v w : View) (s : Step) → rule v s ≡ Some w → past_of w s.role ≡ past_of v s.role ++ deed_of v s ∷ []
-past_step v w s e =
-    let parts = rule_parts v w s e in
-    let c = parts.0 in
-    let own : (view_after v s c).participant s.role ≡ c = cond-true (s.role == s.role) c (v.participant s.role) (eq-eqb s.role s.role refl) in
-    ap (λ (u : View). past_of u s.role) (sym parts.2) ∙ ap (λ (x : Participant). x.past) own ∙ past_grows (v.participant s.role) c s.act (moved v s.role s.act) parts.1
+past_step v w s e = grind (arith, rule_parts, cond-true, eq-eqb, participant_parts)
 
 pub past_stays : (v w : View) (s : Step) (p : ℕ) → rule v s ≡ Some w → (p == s.role) ≡ false → past_of w p ≡ past_of v p
-past_stays v w s p e other =
-    let parts = rule_parts v w s e in
-    let c = parts.0 in
-    let old : (view_after v s c).participant p ≡ v.participant p = cond-false (p == s.role) c (v.participant p) other in
-    ap (λ (u : View). past_of u p) (sym parts.2) ∙ ap (λ (x : Participant). x.past) old
+past_stays v w s p e other = grind (arith, rule_parts v w s e)
 
 -- a replay only adds to a past
 past_added : (h : List Step) (v w : View) (p : ℕ) → replay v h ≡ Some w → (new : List Deed) × (past_of w p ≡ past_of v p ++ new)
-past_added [] v w p e =
-    let same : w ≡ v = cc in
-    ([], ap (λ (u : View). past_of u p) same ∙ sym (append-nil (past_of v p)))
+past_added [] v w p e = grind (arith, append-nil)
 past_added (s ∷ h) v w p e =
     let parts = replay_parts v w s h e in
     let rest = past_added h parts.0 w p parts.2 in
-    ⊎_elim
-    (λ (y : (p == s.role) ≡ true).
-    let own = subst (λ (k : ℕ). past_of parts.0 k ≡ past_of v k ++ deed_of v s ∷ []) (sym (eqb-true p s.role y)) (past_step v parts.0 s parts.1) in
-    (deed_of v s ∷ rest.0, rest.1 ∙ ap (λ (l : List Deed). l ++ rest.0) own ∙ append_assoc (past_of v p) (deed_of v s ∷ []) rest.0))
-    (λ (n : (p == s.role) ≡ false). (rest.0, rest.1 ∙ ap (λ (l : List Deed). l ++ rest.0) (past_stays v parts.0 s p parts.1 n)))
-    (cases_Bool (p == s.role))
+    grind (arith, eqb-true, past_step, append_assoc, past_stays, cases_Bool)
 
 -- the deed of the first step is the first that is new to its role
 first_deed : (v w : View) (s : Step) (h : List Step) → replay v (s ∷ h) ≡ Some w → (new : List Deed) × (past_of w s.role ≡ past_of v s.role ++ deed_of v s ∷ new)
@@ -103,9 +75,7 @@ not_longer past new d e = let bad = append_cancel_left past [] (d ∷ new) (appe
 
 -- where a replay adds a deed to the past of a role, the first step of that role did it
 find_first : (h : List Step) (v w : View) (p : ℕ) (d : Deed) (new : List Deed) → replay v h ≡ Some w → past_of w p ≡ past_of v p ++ d ∷ new → (a : List Step) × (b : List Step) × (t : Step) × (h ≡ a ++ t ∷ b) × AllByRecursion (λ u. u.role ≢ p) a × (t.role ≡ p) × (t.act ≡ d.act)
-find_first [] v w p d new e grown =
-    let same : v ≡ w = cc in
-    absurd (not_longer (past_of v p) new d (ap (λ (u : View). past_of u p) same ∙ grown))
+find_first [] v w p d new e grown = grind (arith, not_longer)
 find_first (s ∷ h) v w p d new e grown =
     let parts = replay_parts v w s h e in
     ⊎_elim
@@ -127,31 +97,18 @@ abbrev IsReady : View → Step → Type 0
 IsReady v t = (p : ℕ) → receives p t.role t ≡ true → 0 < length (v.queue p t.role)
 
 ready_step : (v w : View) (t : Step) → rule v t ≡ Some w → IsReady v t
-ready_step v w t e p y =
-    let parts = rule_parts v w t e in
-    a_receipt_waits p t.role t.id t.role t.act v (v.participant t.role) parts.0 parts.1 y
+ready_step v w t e p y = grind (arith, rule_parts v w t e)
 
 -- and waits still after a step of another role
 ready_later : (v w : View) (u t : Step) → rule v u ≡ Some w → u.role ≢ t.role → IsReady v t → IsReady w t
-ready_later v w u t e ne ready p y =
-    let count = queue_step v w u p t.role e in
-    let quiet : receives p t.role u ≡ false = and_left (u.role == t.role) _ (ne_eqb u.role t.role ne) in
-    let silent : one_if (receives p t.role u) ≡ 0 = ap one_if quiet in
-    let some = ready p y in
-    omega arith
+ready_later v w u t e ne ready p y = grind (arith, queue_step, and_left, ne_eqb, one_if)
 
 -- so no step in between sent it
 unmatched : (types : List LocalType) (a : List Step) (v : View) (u t : Step) → replay (opening types) a ≡ Some v → IsReady v t → is_matched_after a u t ≡ false
 unmatched types a v u t ea ready =
     let p = u.role in
     let q = t.role in
-    false_from_ne_true (is_matched_after a u t)
-    (λ m.
-    let tests = and_parts (sends p q u && receives p q t) (length (filter (sends p q) a) == length (filter (receives p q) a)) m in
-    let same = eqb-true (length (filter (sends p q) a)) (length (filter (receives p q) a)) tests.1 in
-    let count = queue_count (opening types) v a p q ea in
-    let some = ready p (and_parts (sends p q u) (receives p q t) tests.0).1 in
-    omega arith)
+    grind (arith, queue_count (opening types) v a p q ea)
 
 -- a step that is ready may be taken before steps of other roles, by exchanges
 to_front : (types : List LocalType) (b a c : List Step) (t : Step) (v w : View) (h : List Step) → AllByRecursion (λ u. u.role ≢ t.role) b → replay (opening types) a ≡ Some v → replay v (b ++ t ∷ c) ≡ Some w → IsReady v t → (replay v (t ∷ (b ++ c)) ≡ Some w) × (Swaps (a ++ t ∷ (b ++ c)) h → Swaps (a ++ (b ++ t ∷ c)) h)
@@ -185,10 +142,7 @@ one_deed s t r a = cc
 -- histories of equal pasts are joined by swaps: from the front, the next step of the one is brought to the front of the other
 bring : (types : List LocalType) (h k ak ah : List Step) (v wk wh : View) → replay (opening types) ak ≡ Some v → replay v k ≡ Some wk → replay v h ≡ Some wh → ((p : ℕ) → past_of wk p ≡ past_of wh p) → deeds ak ≡ deeds ah → Swaps (ak ++ k) (ah ++ h)
 bring types [] [] ak ah v wk wh ea ek eh same d = Same (ak ++ []) (ah ++ []) (deeds_joined ak ah [] [] d refl)
-bring types [] (t ∷ k) ak ah v wk wh ea ek eh same d =
-    let first = first_deed v wk t k ek in
-    let still : v ≡ wh = cc in
-    absurd (not_longer (past_of v t.role) first.0 (deed_of v t) (ap (λ (u : View). past_of u t.role) still ∙ sym (same t.role) ∙ first.1))
+bring types [] (t ∷ k) ak ah v wk wh ea ek eh same d = grind (arith, first_deed, not_longer)
 bring types (s ∷ h) k ak ah v wk wh ea ek eh same d =
     let first = first_deed v wh s h eh in
     let parts = replay_parts v wh s h eh in
@@ -204,11 +158,7 @@ bring types (s ∷ h) k ak ah v wk wh ea ek eh same d =
     let ea' : replay (opening types) (ak ++ t ∷ []) ≡ Some x = replay-append (opening types) v ak (t ∷ []) ea ∙ replay_from v x t [] et in
     let rest : replay x (b ++ c) ≡ Some wk = sym (replay_from v x t (b ++ c) et) ∙ front.0 in
     let d' = deeds_joined ak ah (t ∷ []) (s ∷ []) d (one_deed t s found.5 found.6) in
-    let swaps = bring types h (b ++ c) (ak ++ t ∷ []) (ah ++ s ∷ []) x wk wh ea' rest parts.2 same d' in
-    let swaps' : Swaps (ak ++ t ∷ (b ++ c)) (ah ++ s ∷ h) =
-    subst (λ (l : List Step). Swaps l (ah ++ s ∷ h)) (append_assoc ak (t ∷ []) (b ++ c))
-    (subst (λ (l : List Step). Swaps ((ak ++ t ∷ []) ++ (b ++ c)) l) (append_assoc ah (s ∷ []) h) swaps) in
-    subst (λ (l : List Step). Swaps (ak ++ l) (ah ++ s ∷ h)) (sym found.3) (front.1 swaps')
+    grind (arith, bring types h (b ++ c) (ak ++ t ∷ []) (ah ++ s ∷ []) x wk wh ea' rest parts.2 same d', append_assoc ak (t ∷ []) (b ++ c), append_assoc ah (s ∷ []) h)
 
 -- histories in which each role did the same are joined by swaps
 pub one_past_by_swaps : (types : List LocalType) (k h : List Step) (v w : View) → replay (opening types) k ≡ Some v → replay (opening types) h ≡ Some w → ((p : ℕ) → past_of v p ≡ past_of w p) → Swaps k h

@@ -1,18 +1,13 @@
 -- What waits is what was sent but the first, as many as were received.
-use Rattle.std.proofs.Common.{◌≡◌, ℕ, suc, ◌<◌, true, false, List, [], ◌∷◌, ◌++◌, length, drop, Some, refl, sym, ap, ◌∙◌, arith, ⊎_elim, append_assoc, append-nil}
+use Rattle.std.proofs.Common.{◌≡◌, ℕ, ◌<◌, true, false, List, [], ◌∷◌, ◌++◌, length, drop, Some, sym, ap, ◌∙◌, arith, append_assoc, append-nil}
 use Rattle.std.specs.List.{filter}
 use Rattle.std.proofs.lemmas.Bool.{cases_Bool}
 use Rattle.mps_base.specs.declared.action.Message.{Message}
 use Rattle.mps_base.specs.declared.action.Step.{Step}
-use Rattle.mps_history.specs.Steps.{sends, receives, given, all_given}
+use Rattle.mps_history.specs.Steps.{sends, receives, all_given}
 use Rattle.mps_machine.specs.View.{View}
 use Rattle.mps_machine.specs.Rule.{queue_after, replay}
 use Rattle.mps_machine.proofs.Stepping.{rule_parts, replay_parts, a_send_gives, a_receipt_waits}
-
--- what is taken first is the first of what waits
-drop_first : (n : ℕ) (xs ys : List Message) → 0 < length xs → drop n (drop 1 xs ++ ys) ≡ drop (suc n) (xs ++ ys)
-drop_first n [] ys h = absurd (omega arith)
-drop_first n (x ∷ xs) ys h = refl
 
 module _ (p q : ℕ) where
   -- the messages that wait at first, and then those that are sent, without as many as are received
@@ -20,17 +15,7 @@ module _ (p q : ℕ) where
   left queue h = drop (length (filter (receives p q) h)) (queue ++ all_given (filter (sends p q) h))
 
   one_step : (v : View) (s : Step) (h : List Step) → (sends p q s ≡ true → receives p q s ≡ false) → (receives p q s ≡ true → 0 < length (v.queue p q)) → left (queue_after p q s (v.queue p q)) h ≡ left (v.queue p q) (s ∷ h)
-  one_step v s h apart waits =
-      ⊎_elim
-      (λ (t : sends p q s ≡ true).
-      rw (t, apart t)
-      (ap (drop (length (filter (receives p q) h))) (append_assoc (v.queue p q) (given s.act) (all_given (filter (sends p q) h)))))
-      (λ (f : sends p q s ≡ false).
-      ⊎_elim
-      (λ (g : receives p q s ≡ true). rw (f, g) (drop_first (length (filter (receives p q) h)) (v.queue p q) (all_given (filter (sends p q) h)) (waits g)))
-      (λ (g : receives p q s ≡ false). rw (f, g) refl)
-      (cases_Bool (receives p q s)))
-      (cases_Bool (sends p q s))
+  one_step v s h apart waits = grind (arith, append_assoc, cases_Bool)
 
   queue_left : (v w : View) (h : List Step) → replay v h ≡ Some w → w.queue p q ≡ left (v.queue p q) h
   queue_left v w [] e = ap (λ (u : View). u.queue p q) (let same : w ≡ v = cc in same) ∙ sym (append-nil (v.queue p q))

@@ -1,9 +1,8 @@
 -- The front of a queue, as sends and receipts come and go.
-use Rattle.std.proofs.Common.{◌≡◌, ◌≢◌, ℕ, zero, suc, ◌+◌, ◌*◌, ◌<◌, ◌≤◌, ◌⊎◌, Bool, true, false, List, [], ◌∷◌, ◌++◌, length, drop, not, Option, Some, None, refl, sym, ap, ◌∙◌, subst, arith, ⊎_elim, inl, inr, eq-eqb, append-nil, length-append}
+use Rattle.std.proofs.Common.{◌≡◌, ℕ, zero, suc, ◌+◌, ◌*◌, ◌<◌, ◌≤◌, ◌⊎◌, Bool, true, false, List, [], ◌∷◌, ◌++◌, length, drop, not, Option, Some, None, refl, sym, ap, ◌∙◌, subst, arith, ⊎_elim, inl, inr, eq-eqb, append-nil, length-append}
 use mathlib.Core.Path.{ap₂}
 use Rattle.std.specs.Prelude.{◌==◌, ◌&&◌, slice_get, slice_index_or, slice_set}
 use Rattle.std.specs.List.{filter}
-use Rattle.std.specs.Option.{option_and_then}
 use Rattle.std.proofs.lemmas.Bool.{cases_Bool, cond-false, eqb-true, and_parts, and_from, and_right, or_left, false_from_ne_true, both_ways}
 use Rattle.std.proofs.lemmas.List.{get_or-set_same, get_or-set_other, get_or_default}
 use Rattle.std.proofs.lemmas.Option.{slice_get_past}
@@ -11,7 +10,7 @@ use Rattle.mps_base.specs.Effects.{Effect, Idle, effect}
 use Rattle.mps_base.specs.declared.action.Step.{Step}
 use Rattle.mps_history.specs.Steps.{sends, receives, gives_to, takes_from}
 use Rattle.mps_arena.specs.Keys.{is_at, has, AreDistinct, last_key, key_after, key_before}
-use Rattle.mps_arena.specs.Entries.{KeyedStep, keys_of, any_step, like_sends, entry_at, AreSound}
+use Rattle.mps_arena.specs.Entries.{KeyedStep, keys_of, any_step, entry_at, AreSound}
 use Rattle.mps_arena.specs.Neighbours.{waiting, next_send_in, prev_send_in}
 use Rattle.mps_arena.proofs.KeyLists.{get_after, get_in, get_none, has-append_right}
 use Rattle.mps_arena.proofs.Chains.{keys-append, keys_with, keys_without, keys_push, keys_kept, keys_around, keys_beside, distinct, absent, passes, entry_key}
@@ -29,29 +28,20 @@ get_push (j ∷ c) zero k h = refl
 get_push (j ∷ c) (suc n) k h = get_push c n k (omega (arith, h))
 
 get_before : (before : Option ℕ) (c : List ℕ) (n k : ℕ) → AreDistinct c → slice_get c (suc n) ≡ Some k → key_before before k c ≡ slice_get c n
-get_before before [] n k d e = absurd cc
-get_before before (j ∷ []) n k d e = absurd cc
-get_before before (j ∷ i ∷ c) zero k d e =
-    let same : i ≡ k = cc in
-    let n' : (j == k) ≡ false = false_from_ne_true (j == k) (λ t. both_ways (has k (i ∷ c)) (subst (λ (m : ℕ). has m (i ∷ c) ≡ false) (eqb-true j k t) d.0) (or_left (i == k) (has k c) (eq-eqb i k same))) in
-    rw (n', eq-eqb i k same) refl
 get_before before (j ∷ i ∷ c) (suc n) k d e =
     let n' : (j == k) ≡ false = false_from_ne_true (j == k) (λ t. both_ways (has k (i ∷ c)) (subst (λ (m : ℕ). has m (i ∷ c) ≡ false) (eqb-true j k t) d.0) (get_in (i ∷ c) (suc n) k (ap (λ (o : Option ℕ). is_at o k) e ∙ eq-eqb k k refl))) in
     cond-false (j == k) before (key_before (Some j) k (i ∷ c)) n' ∙ get_before (Some j) (i ∷ c) n k d.1 e
+get_before before other others k d e = grind (arith, false_from_ne_true, both_ways, eqb-true, or_left, eq-eqb)
 
 last_get : (before : Option ℕ) (c : List ℕ) (n : ℕ) → length c ≡ suc n → last_key before c ≡ slice_get c n
-last_get before [] n e = absurd (omega (arith, e))
 last_get before (j ∷ []) zero e = refl
-last_get before (j ∷ []) (suc n) e = absurd (omega (arith, e))
-last_get before (j ∷ i ∷ c) zero e = absurd (omega (arith, e))
 last_get before (j ∷ i ∷ c) (suc n) e = last_get (Some j) (i ∷ c) n (omega (arith, e))
+last_get before other others e = absurd (omega (arith, e))
 
 get_drop : (c : List ℕ) (k n : ℕ) → AreDistinct (c ++ k ∷ []) → dropped (Some k) (slice_get (c ++ k ∷ []) n) ≡ slice_get c n
 get_drop [] k zero d = rw (eq-eqb k k refl) refl
 get_drop [] k (suc n) d = refl
-get_drop (j ∷ c) k zero d =
-    let n' : (k == j) ≡ false = false_from_ne_true (k == j) (λ t. both_ways (has j (c ++ k ∷ [])) d.0 (has-append_right j c (k ∷ []) (or_left (k == j) false t))) in
-    rw n' refl
+get_drop (j ∷ c) k zero d = grind (arith, false_from_ne_true, both_ways, has-append_right, or_left)
 get_drop (j ∷ c) k (suc n) d = get_drop c k n d.1
 
 -- pairs of steps
@@ -78,20 +68,7 @@ pub front_set : (fronts : List (Option ℕ)) (es now : List KeyedStep) (p q at :
 front_set fronts es now p q at v long hp hq place f here others = record { each = each }
   where
     each : (i j : ℕ) → i < 8 → j < 8 → front_at (slice_set fronts at v) i j ≡ waiting now i j
-    each i j hi hj =
-        ⊎_elim
-        (λ (t : (p == i && q == j) ≡ true).
-        let w = and_parts (p == i) (q == j) t in
-        let e1 = eqb-true p i w.0 in
-        let e2 = eqb-true q j w.1 in
-        let same : at ≡ i * 8 + j = omega arith in
-        let within : i * 8 + j < length fronts = omega arith in
-        ap (λ (k : ℕ). slice_index_or (slice_set fronts k v) (i * 8 + j) None) same ∙ get_or-set_same fronts (i * 8 + j) v None within ∙ sym here ∙ ap₂ (waiting now) e1 e2)
-        (λ (n : (p == i && q == j) ≡ false).
-        let differ : i ≡ p → j ≡ q → ⊥ = λ a b. both_ways (p == i && q == j) n (and_from (p == i) (q == j) (eq-eqb p i (sym a)) (eq-eqb q j (sym b))) in
-        let away : i * 8 + j ≢ at = λ z. differ (omega arith) (omega arith) in
-        get_or-set_other fronts at (i * 8 + j) v None away ∙ f.each i j hi hj ∙ sym (others i j differ))
-        (cases_Bool (p == i && q == j))
+    each i j hi hj = grind (arith, and_parts, eqb-true, get_or-set_same, both_ways, and_from, eq-eqb, get_or-set_other, cases_Bool)
 
 module _ (es : List KeyedStep) (sound : AreSound es) (p q : ℕ) where
   abbrev sent : List ℕ
@@ -104,21 +81,11 @@ module _ (es : List KeyedStep) (sound : AreSound es) (p q : ℕ) where
   waiting_push e t = rw (keys_push (sends p q) es e t, keys_kept (receives p q) es e (sends_takes p q p q e.step t)) (get_push sent (length got) e.key (matched_of es sound.fed p q))
 
   pub others_push : (e : KeyedStep) → sends p q e.step ≡ true → (i j : ℕ) → (i ≡ p → j ≡ q → ⊥) → waiting (es ++ e ∷ []) i j ≡ waiting es i j
-  others_push e t i j n = rw (keys_kept (sends i j) es e (sends_at p q i j e.step t ∙ other_pair p q i j n), keys_kept (receives i j) es e (sends_takes p q i j e.step t)) refl
+  others_push e t i j n = grind (arith, keys_kept, sends_pair, false_from_ne_true, and_parts, eqb-true, sends_takes)
 
   -- a send's neighbours in its chain
   send_links : (k : ℕ) → has k sent ≡ true → (next_send_in es k ≡ key_after k sent) × (prev_send_in es k ≡ key_before None k sent)
-  send_links k h =
-      ⊎_elim
-      (λ (z : entry_at k es ≡ None). absurd (both_ways (has k sent) (absent (sends p q) k es z) h))
-      (λ (w : (y : KeyedStep) × (entry_at k es ≡ Some y)).
-      let y = w.0 in
-      let key = entry_key k es y w.1 in
-      let chain = sends_chain p q y.step (passes (sends p q) k es y sound.distinct w.1 h) in (
-        ap (option_and_then (λ (e : KeyedStep). key_after e.key (keys_of (like_sends e.step.role (effect e.step.act)) es))) w.1 ∙ ap₂ (λ (i : ℕ) (g : Step → Bool). key_after i (keys_of g es)) key chain,
-        ap (option_and_then (λ (e : KeyedStep). key_before None e.key (keys_of (like_sends e.step.role (effect e.step.act)) es))) w.1 ∙ ap₂ (λ (i : ℕ) (g : Step → Bool). key_before None i (keys_of g es)) key chain,
-      ))
-      (cases_entry (entry_at k es))
+  send_links k h = grind (arith, both_ways, absent, entry_key, sends_chain, passes, cases_entry)
 
   at_place : (n k : ℕ) → slice_get sent n ≡ Some k → has k sent ≡ true
   at_place n k e = get_in sent n k (ap (λ (o : Option ℕ). is_at o k) e ∙ eq-eqb k k refl)
@@ -131,14 +98,10 @@ module _ (es : List KeyedStep) (sound : AreSound es) (p q : ℕ) where
   waiting_take e t =
       let n = length got in
       let more : length (got ++ e.key ∷ []) ≡ suc n = omega (arith, length-append got (e.key ∷ [])) in
-      rw (keys_push (receives p q) es e t, keys_kept (sends p q) es e (receives_gives p q p q e.step t), more)
-      (⊎_elim
-      (λ (z : slice_get sent n ≡ None). rw z (slice_get_past sent (suc n) (let w = get_none sent n z in omega arith)))
-      (λ (w : (k : ℕ) × (slice_get sent n ≡ Some k)). rw w.1 (sym ((send_links w.0 (at_place n w.0 w.1)).0 ∙ get_after sent n w.0 (distinct (sends p q) es sound.distinct) w.1)))
-      (cases_key (slice_get sent n)))
+      grind (arith, keys_push, keys_kept, receives_gives, slice_get_past, get_none, send_links, at_place, get_after, distinct, cases_key)
 
   pub others_take : (e : KeyedStep) → receives p q e.step ≡ true → (i j : ℕ) → (i ≡ p → j ≡ q → ⊥) → waiting (es ++ e ∷ []) i j ≡ waiting es i j
-  others_take e t i j n = rw (keys_kept (sends i j) es e (receives_gives p q i j e.step t), keys_kept (receives i j) es e (receives_at p q i j e.step t ∙ other_pair_turned p q i j n)) refl
+  others_take e t i j n = grind (arith, keys_kept, receives_gives, receives_pair, false_from_ne_true, and_parts, eqb-true)
 
 -- a place after the first ones
 pub get_drop_front : {A : Type 0} (c : List A) (g n m : ℕ) → m ≡ g + n → slice_get (drop g c) n ≡ slice_get c m
@@ -160,9 +123,7 @@ module _ (es : List KeyedStep) (sound : AreSound es) (p q : ℕ) where
       let c = keys_of (sends p q) es in
       let g = length (keys_of (receives p q) es) in
       let place : slice_get c (g + n) ≡ Some k = sym (get_drop_front c g n (g + n) refl) ∙ e in
-      (send_links es sound p q k (at_place es sound p q (g + n) k place)).0
-      ∙ get_after c (g + n) k (distinct (sends p q) es sound.distinct) place
-      ∙ sym (get_drop_front c g (suc n) (suc (g + n)) (omega arith))
+      grind (arith, send_links es sound p q k (at_place es sound p q (g + n) k place), get_after c (g + n) k (distinct (sends p q) es sound.distinct) place, get_drop_front c g (suc n) (suc (g + n)) (omega arith))
 
   pub none_waits : (n m : ℕ) → n ≤ m → slice_get left_in n ≡ None → slice_get left_in m ≡ None
   none_waits n m h e = let few = get_none left_in n e in slice_get_past left_in m (omega (arith, few, h))
@@ -193,7 +154,6 @@ stands_last f (x ∷ es) k e =
     let was : last_key (Some x.key) (keys_of f es) ≡ Some k = sym (ap (last_key None) (keys_with f x es t)) ∙ e in
     ⊎_elim
     (λ (z : keys_of f es ≡ []).
-    let one : Some x.key ≡ Some k = sym (ap (last_key (Some x.key)) z) ∙ was in
     let same : x.key ≡ k = cc in
     let r : StandsLast f (x ∷ es) k = record { before = []; behind = es; entry = x; parts = refl; key = same; passes = t; none_behind = z } in
     r)
@@ -205,10 +165,7 @@ stands_last f (x ∷ es) k e =
 module _ (es : List KeyedStep) (sound : AreSound es) (p q k : ℕ) where
   -- what is left of a chain without its last
   front_part : (f : Step → Bool) (s : StandsLast f es k) → (keys_of f es ≡ keys_of f s.before ++ k ∷ []) × (keys_of f (s.before ++ s.behind) ≡ keys_of f s.before)
-  front_part f s = (
-    ap (keys_of f) s.parts ∙ keys_around f s.before s.behind s.entry s.passes ∙ ap₂ (λ (i : ℕ) (l : List ℕ). keys_of f s.before ++ i ∷ l) s.key s.none_behind,
-    keys-append f s.before s.behind ∙ ap (λ l. keys_of f s.before ++ l) s.none_behind ∙ append-nil (keys_of f s.before),
-  )
+  front_part f s = grind (arith, keys_around, keys-append, append-nil)
 
   beside : (f g : Step → Bool) (s : StandsLast f es k) → g s.entry.step ≡ false → keys_of g (s.before ++ s.behind) ≡ keys_of g es
   beside f g s n = sym (ap (keys_of g) s.parts ∙ keys_beside g s.before s.behind s.entry n)
@@ -254,8 +211,7 @@ module _ (es : List KeyedStep) (sound : AreSound es) (p q k : ℕ) where
 
 -- the front that is read
 pub front_read : (fronts : List (Option ℕ)) (es : List KeyedStep) (p q at : ℕ) (d : Option ℕ) → length fronts ≡ 64 → p < 8 → q < 8 → at ≡ p * 8 + q → AreFronts es fronts → slice_index_or fronts at d ≡ waiting es p q
-front_read fronts es p q at d long hp hq place f =
-    get_or_default fronts at d None (omega (arith, long, hp, hq, place)) ∙ ap (λ (k : ℕ). slice_index_or fronts k None) place ∙ f.each p q hp hq
+front_read fronts es p q at d long hp hq place f = grind (arith, get_or_default)
 
 -- what is neither a send nor a receipt leaves the fronts
 module _ (x : KeyedStep) (idle : effect x.step.act ≡ Idle) where
@@ -266,19 +222,11 @@ module _ (x : KeyedStep) (idle : effect x.step.act ≡ Idle) where
   no_receipt p q = ap (λ (a : Effect). x.step.role == q && takes_from p a) idle ∙ and_right (x.step.role == q) false refl
 
   pub idle_joins : (es : List KeyedStep) (fronts : List (Option ℕ)) → AreFronts es fronts → AreFronts (es ++ x ∷ []) fronts
-  idle_joins es fronts f = record {
-    each = λ p q hp hq.
-        f.each p q hp hq ∙ sym (ap₂ (λ (c d : List ℕ). slice_get c (length d)) (keys_kept (sends p q) es x (no_send p q)) (keys_kept (receives p q) es x (no_receipt p q)));
-  }
+  idle_joins es fronts f = grind (arith, keys_kept, and_right)
 
   pub idle_goes : (es : List KeyedStep) (fronts : List (Option ℕ)) → AreSound es → entry_at x.key es ≡ Some x → AreFronts es fronts → AreFronts (filter (λ e. not (e.key == x.key)) es) fronts
   idle_goes es fronts sound found f =
       let w = entry_split x.key es x found in
       let d = subst (λ (l : List KeyedStep). AreDistinct (keys_of any_step l)) w.2 sound.distinct in
       let left : filter (λ e. not (e.key == x.key)) es ≡ w.0 ++ w.1 = ap (filter (λ e. not (e.key == x.key))) w.2 ∙ others_are x.key w.0 w.1 x d refl in
-      let same : (g : Step → Bool) → g x.step ≡ false → keys_of g es ≡ keys_of g (filter (λ e. not (e.key == x.key)) es) =
-      λ g n. ap (keys_of g) w.2 ∙ keys_beside g w.0 w.1 x n ∙ ap (keys_of g) (sym left) in
-      record {
-        each = λ p q hp hq.
-            f.each p q hp hq ∙ ap₂ (λ (c d : List ℕ). slice_get c (length d)) (same (sends p q) (no_send p q)) (same (receives p q) (no_receipt p q));
-      }
+      grind (arith, keys_beside, left, no_send, no_receipt)

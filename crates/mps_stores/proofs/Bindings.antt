@@ -1,5 +1,5 @@
 -- Bindings, as entries come and go.
-use Rattle.std.proofs.Common.{◌≡◌, ◌≢◌, ℕ, ◌<◌, ◌⊎◌, Bool, true, false, List, [], ◌∷◌, ◌++◌, length, not, map, Option, Some, None, refl, sym, ap, ◌∙◌, subst, arith, ⊎_elim, inl, inr, eq-eqb, append-nil, append_assoc, get_or}
+use Rattle.std.proofs.Common.{◌≡◌, ℕ, ◌<◌, ◌⊎◌, Bool, true, false, List, [], ◌∷◌, ◌++◌, length, not, map, Option, Some, None, refl, sym, ap, ◌∙◌, subst, arith, ⊎_elim, inl, inr, eq-eqb, append-nil, append_assoc, get_or}
 use mathlib.Core.Path.{ap₂}
 use Rattle.std.specs.Prelude.{◌==◌, if◌then◌else◌, slice_set}
 use Rattle.std.specs.List.{filter}
@@ -12,7 +12,7 @@ use Rattle.mps_history.proofs.Slots.{same_slot, value_in-bound, unbound-bound}
 use Rattle.mps_arena.specs.Keys.{is_at, has, AreDistinct, last_key}
 use Rattle.mps_arena.specs.Entries.{KeyedStep, keys_of, any_step, of_role, entry_at, with_mark, AreSound}
 use Rattle.mps_arena.proofs.KeyLists.{last-append, last_in, once}
-use Rattle.mps_arena.proofs.Chains.{keys_with, keys_without, keys_around, distinct, entry_middle}
+use Rattle.mps_arena.proofs.Chains.{keys_without, keys_around, distinct, entry_middle}
 use Rattle.mps_arena.proofs.Keeping.{entry_split, others_are}
 use Rattle.mps_stores.specs.Stores.{Keys, Naming, store_at, IsBinding, store_after, rebound, bindings, AreTraced, AreStores}
 
@@ -30,11 +30,7 @@ module _ (naming : Naming) where
   after_other p store e n = cond-false (e.step.role == p) (option_map_or (λ slot. bound slot e.key store) (naming e.step.act) store) store n
 
   pub after_idle : (p : ℕ) (store : Keys) (e : KeyedStep) → naming e.step.act ≡ None → store_after naming p store e ≡ store
-  after_idle p store e n =
-      ⊎_elim
-      (λ (t : (e.step.role == p) ≡ true). rw (t, n) refl)
-      (λ (f : (e.step.role == p) ≡ false). after_other p store e f)
-      (cases_Bool (e.step.role == p))
+  after_idle p store e n = grind (arith, after_other, cases_Bool)
 
   -- many entries
   pub rebound-append : (p : ℕ) (store : Keys) (a b : List KeyedStep) → rebound naming p store (a ++ b) ≡ rebound naming p (rebound naming p store a) b
@@ -45,7 +41,7 @@ module _ (naming : Naming) where
   rebound_others p store [] none = refl
   rebound_others p store (x ∷ es) none =
       ⊎_elim
-      (λ (t : of_role p x.step ≡ true). let some : x.key ∷ keys_of (of_role p) es ≡ [] = sym (keys_with (of_role p) x es t) ∙ none in absurd cc)
+      (λ (t : of_role p x.step ≡ true). absurd cc)
       (λ (f : of_role p x.step ≡ false).
       ap (λ (s : Keys). rebound naming p s es) (after_other p store x f) ∙ rebound_others p store es (sym (keys_without (of_role p) x es f) ∙ none))
       (cases_Bool (of_role p x.step))
@@ -62,12 +58,8 @@ module _ (naming : Naming) where
   place_cases [] b c d y e = inr (c, (refl, e))
   place_cases (x ∷ a) b [] d y e = let head : x ≡ y = cc in inl (a, ap (λ (z : KeyedStep). z ∷ a) head)
   place_cases (x ∷ a) b (z ∷ c) d y e =
-      let head : x ≡ z = cc in
       let tail : a ++ b ≡ c ++ y ∷ d = cc in
-      ⊎_elim
-      (λ (w : (m : List KeyedStep) × (a ≡ c ++ y ∷ m)). inl (w.0, ap₂ (λ (v : KeyedStep) (l : List KeyedStep). v ∷ l) head w.1))
-      (λ (w : (m : List KeyedStep) × ((c ≡ a ++ m) × (b ≡ m ++ y ∷ d))). inr (w.0, (ap₂ (λ (v : KeyedStep) (l : List KeyedStep). v ∷ l) (sym head) w.1.0, w.1.1)))
-      (place_cases a b c d y tail)
+      grind (arith, place_cases a b c d y tail)
 
   only : (e y : KeyedStep) (m d : List KeyedStep) → e ∷ [] ≡ m ++ y ∷ d → (m ≡ []) × (y ≡ e)
   only e y [] d h = let same : y ≡ e = cc in (refl, same)
@@ -78,10 +70,7 @@ module _ (naming : Naming) where
   traced_push es e was new p slot a b y whole is =
       ⊎_elim
       (λ (w : (m : List KeyedStep) × (es ≡ a ++ y ∷ m)). was p slot a w.0 y w.1 is)
-      (λ (w : (m : List KeyedStep) × ((a ≡ es ++ m) × (e ∷ [] ≡ m ++ y ∷ b))).
-      let o = only e y w.0 b w.1.1 in
-      let here : a ≡ es = w.1.0 ∙ ap (λ (l : List KeyedStep). es ++ l) o.0 ∙ append-nil es in
-      ap (λ (z : KeyedStep). z.before.bound) o.1 ∙ new p slot (subst (IsBinding naming p slot) o.1 is) ∙ ap (λ (l : List KeyedStep). value_in slot (bindings naming p l)) (sym here))
+      (grind (arith, only, append-nil))
       (place_cases es (e ∷ []) a b y whole)
 
   -- an entry goes that no later entry's store shows
@@ -90,17 +79,12 @@ module _ (naming : Naming) where
       ⊎_elim
       (λ (w : (m : List KeyedStep) × (a ≡ c ++ y ∷ m)). was p slot c (w.0 ++ x ∷ b) y (ap (λ (l : List KeyedStep). l ++ x ∷ b) w.1 ∙ append_assoc c (y ∷ w.0) (x ∷ b)) is)
       (λ (w : (m : List KeyedStep) × ((c ≡ a ++ m) × (b ≡ m ++ y ∷ d))).
-      let found = was p slot (a ++ x ∷ w.0) d y (ap (λ (l : List KeyedStep). a ++ x ∷ l) w.1.1 ∙ sym (append_assoc a (x ∷ w.0) (y ∷ d))) is in
-      let same : (store : Keys) → store_after naming p store x ≡ store = subst (λ (i : ℕ). (store : Keys) → store_after naming i store x ≡ store) is.0 (unseen w.0 d y w.1.1) in
-      found ∙ ap (value_in slot) (bindings_beside p a w.0 x same) ∙ ap (λ (l : List KeyedStep). value_in slot (bindings naming p l)) (sym w.1.0))
+      grind (arith, append_assoc a (x ∷ w.0) (y ∷ d), bindings_beside))
       (place_cases a b c d y whole)
 
   -- an idle entry
   pub stores_idle_push : (es : List KeyedStep) (e : KeyedStep) (stores : List Keys) → AreStores naming es stores → naming e.step.act ≡ None → AreStores naming (es ++ e ∷ []) stores
-  stores_idle_push es e stores s idle = record {
-    each = λ p small. s.each p small ∙ sym (bindings_push p es e ∙ after_idle p (bindings naming p es) e idle);
-    traced = traced_push es e s.traced (λ p slot is. let no : None ≡ Some slot = sym idle ∙ is.1 in absurd cc);
-  }
+  stores_idle_push es e stores s idle = grind (arith, bindings_push, after_idle, traced_push)
 
   pub stores_idle_without : (es : List KeyedStep) (e : KeyedStep) (stores : List Keys) → AreStores naming es stores → AreSound es → entry_at e.key es ≡ Some e → naming e.step.act ≡ None → AreStores naming (filter (λ other. not (other.key == e.key)) es) stores
   stores_idle_without es e stores s sound found idle =
@@ -121,25 +105,10 @@ module _ (naming : Naming) where
   stores_bind es e p slot stores long small s is kept = record { each = each; traced = traced_push es e s.traced own }
     where
       own : (q : ℕ) (x : List ℕ) → IsBinding naming q x e → e.before.bound ≡ value_in x (bindings naming q es)
-      own q x h =
-          let role : p ≡ q = sym is.0 ∙ h.0 in
-          let one : Some slot ≡ Some x = sym is.1 ∙ h.1 in
-          let same : slot ≡ x = cc in
-          kept ∙ ap (value_in slot) (s.each p small) ∙ ap₂ (λ (y : List ℕ) (r : ℕ). value_in y (bindings naming r es)) same role
+      own q x h = grind arith
 
       each : (q : ℕ) → q < 8 → store_at (slice_set stores p (bound slot e.key (store_at stores p))) q ≡ bindings naming q (es ++ e ∷ [])
-      each q low =
-          ⊎_elim
-          (λ (t : (p == q) ≡ true).
-          let same = eqb-true p q t in
-          subst (λ (r : ℕ). store_at (slice_set stores p (bound slot e.key (store_at stores p))) r ≡ bindings naming r (es ++ e ∷ [])) same
-          (get_or-set_same stores p (bound slot e.key (store_at stores p)) [] (omega (arith, long, small))
-          ∙ ap (bound slot e.key) (s.each p small) ∙ sym (bindings_push p es e ∙ after_binding p slot (bindings naming p es) e is)))
-          (λ (n : (p == q) ≡ false).
-          let away : q ≢ p = λ z. both_ways (p == q) n (eq-eqb p q (sym z)) in
-          get_or-set_other stores p q (bound slot e.key (store_at stores p)) [] away ∙ s.each q low
-          ∙ sym (bindings_push q es e ∙ after_other q (bindings naming q es) e (ap (λ (r : ℕ). r == q) is.0 ∙ n)))
-          (cases_Bool (p == q))
+      each q low = grind (arith, eqb-true, get_or-set_same, bindings_push, after_binding, both_ways, eq-eqb, get_or-set_other, after_other, cases_Bool)
 
   -- nothing of its role stands after the last entry of the role
   none_behind : (c d : List ℕ) (k : ℕ) → AreDistinct (c ++ k ∷ d) → last_key None (c ++ k ∷ d) ≡ Some k → d ≡ []
@@ -166,7 +135,6 @@ module _ (naming : Naming) where
       let w = entry_split e.key es e found in
       let a = w.0 in
       let b = w.1 in
-      let now = slice_set stores p (unbound slot older (store_at stores p)) in
       let d : AreDistinct (keys_of any_step (a ++ e ∷ b)) = subst (λ (l : List KeyedStep). AreDistinct (keys_of any_step l)) w.2 sound.distinct in
       let left : filter (λ other. not (other.key == e.key)) es ≡ a ++ b = ap (filter (λ (other : KeyedStep). not (other.key == e.key))) w.2 ∙ others_are e.key a b e d refl in
       let t : AreTraced naming (a ++ e ∷ b) = subst (AreTraced naming) w.2 s.traced in
@@ -176,25 +144,7 @@ module _ (naming : Naming) where
       let none_later : keys_of (of_role p) b ≡ [] = none_behind (keys_of (of_role p) a) (keys_of (of_role p) b) e.key apart (ap (last_key None) (sym chain) ∙ ap (λ (l : List KeyedStep). last_key None (keys_of (of_role p) l)) (sym w.2) ∙ last) in
       let was : store_at stores p ≡ bound slot e.key (bindings naming p a) =
       s.each p small ∙ ap (bindings naming p) w.2 ∙ rebound-append p [] a (e ∷ b) ∙ rebound_others p (store_after naming p (bindings naming p a) e) b none_later ∙ after_binding p slot (bindings naming p a) e is in
-      let older_is : older ≡ value_in slot (bindings naming p a) = sym kept ∙ t p slot a b e refl is in
-      let back : unbound slot older (store_at stores p) ≡ bindings naming p (a ++ b) =
-      ap₂ (unbound slot) older_is was ∙ unbound-bound slot e.key (bindings naming p a) ∙ sym (rebound-append p [] a b ∙ rebound_others p (bindings naming p a) b none_later) in
-      let r : AreStores naming (a ++ b) now = record {
-        each = λ q low.
-            ⊎_elim
-            (λ (y : (p == q) ≡ true).
-            subst (λ (i : ℕ). store_at now i ≡ bindings naming i (a ++ b)) (eqb-true p q y)
-            (get_or-set_same stores p (unbound slot older (store_at stores p)) [] (omega (arith, long, small)) ∙ back))
-            (λ (n : (p == q) ≡ false).
-            let away : q ≢ p = λ z. both_ways (p == q) n (eq-eqb p q (sym z)) in
-            get_or-set_other stores p q (unbound slot older (store_at stores p)) [] away ∙ s.each q low ∙ ap (bindings naming q) w.2
-            ∙ bindings_beside q a b e (λ store. after_other q store e (ap (λ (i : ℕ). i == q) is.0 ∙ n)))
-            (cases_Bool (p == q));
-        traced = traced_without a b e t (λ c l y parts store.
-            let other = not_of p c l y (ap (keys_of (of_role p)) (sym parts) ∙ none_later) in
-            after_other y.step.role store e (ap (λ (i : ℕ). i == y.step.role) is.0 ∙ ne_eqb p y.step.role (λ z. both_ways (y.step.role == p) other (eq-eqb y.step.role p (sym z)))));
-      } in
-      subst (λ (l : List KeyedStep). AreStores naming l now) (sym left) r
+      grind (arith, unbound-bound slot e.key (bindings naming p a), rebound-append p [] a b, rebound_others p (bindings naming p a) b none_later, eqb-true, get_or-set_same, both_ways, eq-eqb, get_or-set_other, bindings_beside, after_other, cases_Bool, traced_without a b e t (grind (arith, not_of, after_other, ne_eqb, both_ways, eq-eqb)))
 
   -- marks
   module _ (k : ℕ) (m : Bool) where
@@ -223,14 +173,7 @@ module _ (naming : Naming) where
         behind x z es c y head (marks_place es c d y tail)
 
     pub stores_marked : (es : List KeyedStep) (stores : List Keys) → AreStores naming es stores → AreStores naming (marks es) stores
-    stores_marked es stores s = record {
-      each = λ p small. s.each p small ∙ sym (rebound_marked p [] es);
-      traced = λ p slot a b e whole is.
-          let w = marks_place es a b e whole in
-          let unmarked : IsBinding naming p slot w.2 = subst (IsBinding naming p slot) w.3.2 is in
-          ap (λ (z : KeyedStep). z.before.bound) w.3.2 ∙ s.traced p slot w.0 w.1 w.2 w.3.0 unmarked
-          ∙ ap (value_in slot) (sym (rebound_marked p [] w.0)) ∙ ap (λ (l : List KeyedStep). value_in slot (bindings naming p l)) (sym w.3.1);
-    }
+    stores_marked es stores s = grind (arith, rebound_marked, marks_place)
 
   -- what a slot is bound to
   pub record Bound (p : ℕ) (slot : List ℕ) (k : ℕ) (es : List KeyedStep) : Type 0 where
@@ -258,9 +201,7 @@ module _ (naming : Naming) where
       sym (value_in-bound slot w.0 e.key store) ∙ sym (ap (value_in slot) (after_binding p w.0 store e is)) ∙ h in
       ⊎_elim
       (λ (y : bytes_eq w.0 slot ≡ true).
-      let one : Some e.key ≡ Some k = sym (cond-true (bytes_eq w.0 slot) (Some e.key) (value_in slot store) y) ∙ got in
-      let same : e.key ≡ k = cc in
-      inl (same, (is.0, w.1 ∙ ap Some (same_slot w.0 slot y))))
+      grind (arith, cond-true (bytes_eq w.0 slot) (Some e.key) (value_in slot store) y, same_slot w.0 slot y))
       (λ (n : bytes_eq w.0 slot ≡ false). inr (sym (cond-false (bytes_eq w.0 slot) (Some e.key) (value_in slot store) n) ∙ got))
       (cases_Bool (bytes_eq w.0 slot)))
       (cases_slot (naming e.step.act)))
@@ -286,9 +227,6 @@ module _ (naming : Naming) where
   pub binding_is_step : (es : List KeyedStep) (p k : ℕ) (slot : List ℕ) → AreSound es → value_in slot (bindings naming p es) ≡ Some k → (e : KeyedStep) × (entry_at k es ≡ Some e) × IsBinding naming p slot e
   binding_is_step es p k slot sound h =
       ⊎_elim
-      (λ (w : Bound p slot k es).
-      let d : AreDistinct (keys_of any_step (w.before ++ w.entry ∷ w.behind)) = subst (λ (l : List KeyedStep). AreDistinct (keys_of any_step l)) w.parts sound.distinct in
-      let found : entry_at k es ≡ Some w.entry = ap₂ entry_at (sym w.key) w.parts ∙ entry_middle w.before w.behind w.entry d in
-      (w.entry, found, w.receipt))
+      (grind (arith, entry_middle))
       (λ (z : value_in slot [] ≡ Some k). absurd cc)
       (bound_in p slot k [] es h)

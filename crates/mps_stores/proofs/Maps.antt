@@ -1,6 +1,6 @@
 -- A map that keeps its keys in the order in which they were first inserted is a list of slots.
 use Rattle.std.proofs.Common.{◌≡◌, ℕ, zero, suc, ◌<◌, true, false, List, [], ◌∷◌, length, Option, Some, None, refl, sym, ap, ◌∙◌, ⊎_elim, arith}
-use Rattle.std.specs.Prelude.{if◌then◌else◌, slice_get}
+use Rattle.std.specs.Prelude.{slice_get}
 use Rattle.std.specs.List.{position}
 use Rattle.std.specs.Map.{keys_of, values_of, lookup, set_value, remove_entry}
 use Rattle.std.specs.Str.{bytes_eq}
@@ -13,21 +13,12 @@ use Rattle.mps_history.proofs.Slots.{same_slot}
 use Rattle.mps_stores.specs.Stores.{Keys}
 
 turned : (a b : List ℕ) → bytes_eq a b ≡ bytes_eq b a
-turned a b =
-    ⊎_elim
-    (λ (yes : bytes_eq a b ≡ true). yes ∙ sym ((bytes_eq-Decides b a).1 (sym (same_slot a b yes))))
-    (λ (no : bytes_eq a b ≡ false). ⊎_elim
-    (λ (yes : bytes_eq b a ≡ true). (bytes_eq-Decides a b).1 (sym (same_slot b a yes)) ∙ sym yes)
-    (λ (other : bytes_eq b a ≡ false). no ∙ sym other)
-    (cases_Bool (bytes_eq b a)))
-    (cases_Bool (bytes_eq a b))
+turned a b = grind (arith, bytes_eq-Decides, same_slot, cases_Bool)
 
 module _ (slot : List ℕ) where
   pub lookup_is_value : (store : Keys) → lookup (bytes_eq slot) store ≡ value_in slot store
   lookup_is_value [] = refl
-  lookup_is_value (entry ∷ store) =
-      ap (λ b. if b then Some entry.1 else lookup (bytes_eq slot) store) (turned slot entry.0)
-      ∙ ap (λ (found : Option ℕ). if bytes_eq entry.0 slot then Some entry.1 else found) (lookup_is_value store)
+  lookup_is_value (entry ∷ store) = cc (turned slot entry.0, lookup_is_value store)
 
   module _ (v : ℕ) where
     pub insert_is_bound : (store : Keys) → insert_entry bytes_eq store slot v ≡ bound slot v store
@@ -48,18 +39,14 @@ module _ (slot : List ℕ) where
 
   pub remove_is_unbound : (store : Keys) → remove_entry (bytes_eq slot) store ≡ unbound slot None store
   remove_is_unbound [] = refl
-  remove_is_unbound (entry ∷ store) =
-      ⊎_elim
-      (λ (yes : bytes_eq entry.0 slot ≡ true). rw (turned slot entry.0, yes) refl)
-      (λ (no : bytes_eq entry.0 slot ≡ false). rw (turned slot entry.0, no) (ap (λ (l : Keys). entry ∷ l) (remove_is_unbound store)))
-      (cases_Bool (bytes_eq entry.0 slot))
+  remove_is_unbound (entry ∷ store) = grind (arith, turned slot entry.0, remove_is_unbound store, cases_Bool (bytes_eq entry.0 slot))
 
   -- where the slot isn't bound, there is nothing to undo
   pub unbound_stays : (older : Option ℕ) (store : Keys) → value_in slot store ≡ None → unbound slot older store ≡ store
   unbound_stays older [] none = refl
   unbound_stays older (entry ∷ store) none =
       ⊎_elim
-      (λ (yes : bytes_eq entry.0 slot ≡ true). let is : Some entry.1 ≡ None = rw yes at none in absurd cc)
+      (λ (yes : bytes_eq entry.0 slot ≡ true). absurd cc)
       (λ (no : bytes_eq entry.0 slot ≡ false). let rest : value_in slot store ≡ None = rw no at none in rw no (ap (λ (l : Keys). entry ∷ l) (unbound_stays older store rest)))
       (cases_Bool (bytes_eq entry.0 slot))
 

@@ -8,7 +8,7 @@ use Rattle.mps_table.specs.declared.laying.Draft.{Draft}
 use Rattle.mps_table.specs.Graph.{Graph}
 use Rattle.mps_table.specs.Private.Graph.{IsSound}
 use Rattle.mps_table.specs.Standing.{StandsFor}
-use Rattle.mps_table.specs.Private.Laying.{size, all_labels, all_targets, all_rows}
+use Rattle.mps_table.specs.Private.Laying.{size, all_labels, all_rows}
 use Rattle.mps_table.specs.Private.Drafts.{IsLaidOut, nowhere}
 use Rattle.mps_table.proofs.Laid.{laid_stands, laid_sound, size_small}
 
@@ -22,13 +22,11 @@ pub draft_sound : (d : Draft) (node : ℕ) (t : LocalType) → IsLaidOut d node 
 draft_sound d node t p closed guarded =
     subst (λ (es : List TableRow). IsSound es d.labels.items d.targets.items node) (sym p.rows)
     (subst (λ (ls : List (List ℕ)). IsSound (all_rows nowhere 0 0 t) ls d.targets.items node) (sym p.labels)
-    (subst (λ (ns : List ℕ). IsSound (all_rows nowhere 0 0 t) (all_labels t) ns node) (sym p.targets)
-    (subst (λ (n : ℕ). IsSound (all_rows nowhere 0 0 t) (all_labels t) (all_targets nowhere 0 t) n) (sym p.first) (laid_sound t closed guarded))))
+    (grind (arith, laid_sound)))
 
 -- the draft as a table
 abbrev pub graph_of : Draft → ℕ → Graph
 graph_of d node = record { rows = d.rows.items; labels = d.labels.items; targets = d.targets.items; first = node }
 
 pub draft_stands : (d : Draft) (node : ℕ) (t : LocalType) → IsLaidOut d node t → is_closed [] t ≡ true → is_guarded t ≡ true → StandsFor (graph_of d node) node t
-draft_stands d node t p closed guarded =
-    laid_stands (graph_of d node) nowhere t closed guarded p.rows p.labels p.targets p.first
+draft_stands d node t p closed guarded = grind (arith, laid_stands (graph_of d node) nowhere t closed guarded p.rows p.labels p.targets p.first)

@@ -1,13 +1,13 @@
 -- What a draft has after several steps.
-use Rattle.std.proofs.Common.{◌≡◌, ℕ, ◌+◌, ◌≤◌, List, [], ◌∷◌, length, refl, sym, ap, ◌∙◌, subst, arith, length-append, append_assoc, Result}
-use Rattle.std.specs.Prelude.{◌++◌, OnOk, Ok, Err}
+use Rattle.std.proofs.Common.{◌≡◌, ℕ, ◌+◌, ◌≤◌, List, [], ◌∷◌, length, refl, sym, subst, arith, length-append, append_assoc, Result}
+use Rattle.std.specs.Prelude.{OnOk}
 use Rattle.mps_base.specs.declared.value.Sort.{Sort}
 use Rattle.mps_local.specs.Local.{LocalType, Branches, End, Var, Rec, Send, Recv, Select, Branch, NoMore, More}
 use Rattle.mps_local.specs.Actions.{labels}
 use Rattle.mps_table.specs.declared.row.TableRow.{TableRow}
 use Rattle.mps_table.specs.declared.row.TableRow.TheVariants as rows
 use Rattle.mps_table.specs.declared.laying.Draft.{Draft}
-use Rattle.mps_table.specs.Private.Laying.{Places, put_node, size, branch_size, start, all_rows, branch_rows, all_labels, branch_labels, all_targets, branch_targets}
+use Rattle.mps_table.specs.Private.Laying.{Places, put_node, size, branch_size, start, all_rows, branch_rows, all_labels, branch_labels, all_targets}
 use Rattle.mps_table.specs.Private.Drafts.{Adds, Lays, LaysBranches, row_count, label_count}
 
 mutual
@@ -30,47 +30,16 @@ mutual
         length-branch_rows places (at + size u) (first + length (all_labels u)) others,
       )
 
--- one after the other
-adds_both : (a b c : Draft) (es fs : List TableRow) (ls ms : List (List ℕ)) (ns os : List ℕ) → Adds a b es ls ns → Adds b c fs ms os → Adds a c (es ++ fs) (ls ++ ms) (ns ++ os)
-adds_both a b c es fs ls ms ns os p q =
-    record {
-      rows = q.rows ∙ ap (λ (xs : List TableRow). xs ++ fs) p.rows ∙ append_assoc a.rows.items es fs;
-      labels = q.labels ∙ ap (λ (xs : List (List ℕ)). xs ++ ms) p.labels ∙ append_assoc a.labels.items ls ms;
-      targets = q.targets ∙ ap (λ (xs : List ℕ). xs ++ os) p.targets ∙ append_assoc a.targets.items ns os;
-    }
-
-more_rows : (a b : Draft) (es : List TableRow) (ls : List (List ℕ)) (ns : List ℕ) → Adds a b es ls ns → row_count b ≡ row_count a + length es
-more_rows a b es ls ns p = ap length p.rows ∙ length-append a.rows.items es
-
-more_labels : (a b : Draft) (es : List TableRow) (ls : List (List ℕ)) (ns : List ℕ) → Adds a b es ls ns → label_count b ≡ label_count a + length ls
-more_labels a b es ls ns p = ap length p.labels ∙ length-append a.labels.items ls
-
 -- how many rows and labels are there then
 pub rows_then : (a b : Draft) (places : Places) (t : LocalType) → Lays a b places t → row_count b ≡ row_count a + size t
-rows_then a b places t p =
-    let k = more_rows a b (all_rows places (row_count a) (label_count a) t) (all_labels t) (all_targets places (row_count a) t) p in
-    omega (arith, k, length-all_rows places (row_count a) (label_count a) t)
+rows_then a b places t p = grind (arith, length-append, length-all_rows)
 
 pub labels_then : (a b : Draft) (places : Places) (t : LocalType) → Lays a b places t → label_count b ≡ label_count a + length (all_labels t)
-labels_then a b places t p =
-    more_labels a b (all_rows places (row_count a) (label_count a) t) (all_labels t) (all_targets places (row_count a) t) p
-
--- where a draft has so many rows and labels
-lays_at : (b c : Draft) (places : Places) (t : LocalType) (at first : ℕ) → row_count b ≡ at → label_count b ≡ first → Lays b c places t → Adds b c (all_rows places at first t) (all_labels t) (all_targets places at t)
-lays_at b c places t at first e f p =
-    subst (λ (n : ℕ). Adds b c (all_rows places n first t) (all_labels t) (all_targets places n t)) e
-    (subst (λ (m : ℕ). Adds b c (all_rows places (row_count b) m t) (all_labels t) (all_targets places (row_count b) t)) f p)
-
-branches_at : (b c : Draft) (places : Places) (bs : Branches) (at first : ℕ) → row_count b ≡ at → label_count b ≡ first → LaysBranches b c places bs → Adds b c (branch_rows places at first bs) (branch_labels bs) (branch_targets places at bs)
-branches_at b c places bs at first e f p =
-    subst (λ (n : ℕ). Adds b c (branch_rows places n first bs) (branch_labels bs) (branch_targets places n bs)) e
-    (subst (λ (m : ℕ). Adds b c (branch_rows places (row_count b) m bs) (branch_labels bs) (branch_targets places (row_count b) bs)) f p)
+labels_then a b places t p = grind (arith, length-append)
 
 -- a row and then what follows it
 pub row_first : (a b c : Draft) (places : Places) (row : TableRow) (u : LocalType) → Adds a b (row ∷ []) [] [] → Lays b c places u → Adds a c (row ∷ all_rows places (row_count a + 1) (label_count a) u) (all_labels u) (all_targets places (row_count a + 1) u)
-row_first a b c places row u p q =
-    adds_both a b c (row ∷ []) (all_rows places (row_count a + 1) (label_count a) u) [] (all_labels u) [] (all_targets places (row_count a + 1) u) p
-    (lays_at b c places u (row_count a + 1) (label_count a) (more_rows a b (row ∷ []) [] [] p) (let k = more_labels a b (row ∷ []) [] [] p in omega (arith, k)) q)
+row_first a b c places row u p q = grind (arith, append_assoc, length-append)
 
 -- an output, whose row leads to the start of what follows
 pub send_lays : (a b c : Draft) (places : Places) (peer : ℕ) (sort : Sort) (node at : ℕ) (t u v w : LocalType) → t ≡ Send peer sort u → v ≡ u → w ≡ u → at ≡ row_count a → node ≡ start places (at + 1) v → Adds a b (rows.Send peer sort node ∷ []) [] [] → Lays b c places w → Lays a c places t
@@ -90,11 +59,7 @@ recv_lays a b c places peer sort node at t u v w is same next place from p q =
 
 -- a branch and then the others
 pub branch_first : (a b c : Draft) (places : Places) (label : List ℕ) (u : LocalType) (others : Branches) → Lays a b places u → LaysBranches b c places others → LaysBranches a c places (More label u others)
-branch_first a b c places label u others p q =
-    adds_both a b c (all_rows places (row_count a) (label_count a) u)
-    (branch_rows places (row_count a + size u) (label_count a + length (all_labels u)) others)
-    (all_labels u) (branch_labels others) (all_targets places (row_count a) u) (branch_targets places (row_count a + size u) others) p
-    (branches_at b c places others (row_count a + size u) (label_count a + length (all_labels u)) (rows_then a b places u p) (labels_then a b places u p) q)
+branch_first a b c places label u others p q = grind (arith, append_assoc, rows_then, labels_then)
 
 -- the same, of a list of branches that begins so
 pub more_lays : (a b c : Draft) (places : Places) (label : List ℕ) (bs : Branches) (u v : LocalType) (others rest : Branches) → bs ≡ More label u others → v ≡ u → rest ≡ others → Lays a b places v → LaysBranches b c places rest → LaysBranches a c places bs
@@ -105,14 +70,7 @@ more_lays a b c places label bs u v others rest is same left p q =
 
 -- what fits for a type and then for other branches, fits for those once the type is laid out
 pub fits_then : (a b : Draft) (places : Places) (label : List ℕ) (bs : Branches) (u v : LocalType) (others rest : Branches) → bs ≡ More label u others → v ≡ u → rest ≡ others → Lays a b places v → row_count a + branch_size bs ≤ 256 → label_count a + length (branch_labels bs) ≤ 256 → (row_count b + branch_size rest ≤ 256) × (label_count b + length (branch_labels rest) ≤ 256)
-fits_then a b places label bs u v others rest is same left p f g =
-    let laid = subst (λ (x : LocalType). Lays a b places x) same p in
-    let fits : row_count a + branch_size (More label u others) ≤ 256 = subst (λ (x : Branches). row_count a + branch_size x ≤ 256) is f in
-    let fits_labels : label_count a + length (branch_labels (More label u others)) ≤ 256 = subst (λ (x : Branches). label_count a + length (branch_labels x) ≤ 256) is g in (
-      subst (λ (x : Branches). row_count b + branch_size x ≤ 256) (sym left) (omega (arith, rows_then a b places u laid, fits)),
-      subst (λ (x : Branches). label_count b + length (branch_labels x) ≤ 256) (sym left) (omega (arith, labels_then a b places u laid, fits_labels, length-append (all_labels u) (branch_labels others))),
-    )
+fits_then a b places label bs u v others rest is same left p f g = grind (arith, rows_then, labels_then, length-append)
 
 pub on_ok : {A E : Type 0} (r : Result A E) (P Q : Type 0) → (P → Q) → OnOk r P → OnOk r Q
-on_ok (Ok x) P Q f p = f p
-on_ok (Err e) P Q f p = p
+on_ok r P Q f p = grind arith

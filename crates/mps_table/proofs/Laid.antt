@@ -66,23 +66,17 @@ mutual
   length-all_targets places at (Rec x u) = length-all_targets (put_node x (start places at u) places) at u
   length-all_targets places at (Send peer sort u) = length-all_targets places (at + 1) u
   length-all_targets places at (Recv peer sort u) = length-all_targets places (at + 1) u
-  length-all_targets places at (Select peer b) =
-      length-both (starts places (at + 1) b) (branch_targets places (at + 1) b) (labels b) (branch_labels b) (length-starts places (at + 1) b) (length-branch_targets places (at + 1) b)
-  length-all_targets places at (Branch peer b) =
-      length-both (starts places (at + 1) b) (branch_targets places (at + 1) b) (labels b) (branch_labels b) (length-starts places (at + 1) b) (length-branch_targets places (at + 1) b)
+  length-all_targets places at (Select peer b) = cc (length-both (starts places (at + 1) b) (branch_targets places (at + 1) b) (labels b) (branch_labels b) (length-starts places (at + 1) b) (length-branch_targets places (at + 1) b))
+  length-all_targets places at (Branch peer b) = cc (length-both (starts places (at + 1) b) (branch_targets places (at + 1) b) (labels b) (branch_labels b) (length-starts places (at + 1) b) (length-branch_targets places (at + 1) b))
 
   length-branch_targets : (places : Places) (at : ℕ) (b : Branches) → length (branch_targets places at b) ≡ length (branch_labels b)
   length-branch_targets places at NoMore = refl
-  length-branch_targets places at (More label u others) =
-      length-both (all_targets places at u) (branch_targets places (at + size u) others) (all_labels u) (branch_labels others) (length-all_targets places at u) (length-branch_targets places (at + size u) others)
+  length-branch_targets places at (More label u others) = cc (length-both (all_targets places at u) (branch_targets places (at + size u) others) (all_labels u) (branch_labels others) (length-all_targets places at u) (length-branch_targets places (at + size u) others))
 
 -- what a list has from a place on, it has in two parts
 has_both : {A : Type 0} (list : List A) (from : ℕ) (xs ys : List A) → HasFrom list from (xs ++ ys) → HasFrom list from xs × HasFrom list (from + length xs) ys
 has_both list from [] ys h = (tt, rw add-zero h)
-has_both list from (x ∷ xs) ys h =
-    let r = has_both list (suc from) xs ys h.1 in
-    let k : from + suc (length xs) ≡ suc from + length xs = omega arith in
-    ((h.0, r.0), rw k r.1)
+has_both list from (x ∷ xs) ys h = grind (arith, has_both list (suc from) xs ys h.1)
 
 has_at : {A : Type 0} (list : List A) (from to : ℕ) (xs : List A) → from ≡ to → HasFrom list from xs → HasFrom list to xs
 has_at list from to xs e h = subst (λ (n : ℕ). HasFrom list n xs) e h
@@ -116,8 +110,6 @@ guard_of x u g = let p = and_parts (not (ends_in x u)) (is_guarded u) g in (by_t
 
 -- the node of a type's start stands for the type, filled
 begins_at : (types : List LocalType) (places : Places) (env : Env) (at : ℕ) (t : LocalType) → AreWhole env → is_guarded t ≡ true → ((z : List ℕ) → ends_in z t ≡ true → StandsIn types (places z) (env z)) → HasFrom types at (flat env t) → StandsIn types (start places at t) (filled env t)
-begins_at types places env at End w g f h = h.0 ∙ ap Some (sym unfolded_end)
-begins_at types places env at (Var x) w g f h = f x (name_same x)
 begins_at types places env at (Rec x u) w g f h =
     let p = guard_of x u g in
     let t = filled env (Rec x u) in
@@ -128,26 +120,19 @@ begins_at types places env at (Rec x u) w g f h =
     here : (b : Bool) (z : List ℕ) → bytes_eq z x ≡ b → ends_in z u ≡ true → ends_in x u ≡ false → StandsIn types (places z) (cond b (filled env (Rec x u)) (env z))
     here true z e k p = absurd (let bad : ends_in x u ≡ true = subst (λ (y : List ℕ). ends_in y u ≡ true) (name_is z x e) k in cc)
     here false z e k p = f z (let l : bytes_eq x z ≡ false = name_turned x z ∙ e in rw l k)
-begins_at types places env at (Send peer sort u) w g f h = h.0 ∙ ap Some (sym (unfolded_send peer sort (filled env u)))
-begins_at types places env at (Recv peer sort u) w g f h = h.0 ∙ ap Some (sym (unfolded_recv peer sort (filled env u)))
-begins_at types places env at (Select peer b) w g f h = h.0 ∙ ap Some (sym (unfolded_select peer (filled_in env b)))
-begins_at types places env at (Branch peer b) w g f h = h.0 ∙ ap Some (sym (unfolded_branch peer (filled_in env b)))
+begins_at types places env at other w g f h = grind (arith, unfolded_end, name_same, unfolded_send, filled, unfolded_recv, unfolded_select, filled_in, unfolded_branch)
 
 -- what a closed type comes to before any action is bound
 ends_bound : (bound : List (List ℕ)) (z : List ℕ) (t : LocalType) → is_closed bound t ≡ true → ends_in z t ≡ true → list_any (bytes_eq z) bound ≡ true
-ends_bound bound z End c e = absurd cc
 ends_bound bound z (Var y) c e = subst (λ (n : List ℕ). list_any (bytes_eq n) bound ≡ true) (name_is y z e) c
 ends_bound bound z (Rec y u) c e =
-    ⊎_elim (λ (f : bytes_eq y z ≡ true). absurd (let k : false ≡ true = rw f at e in cc))
+    ⊎_elim (λ (f : bytes_eq y z ≡ true). absurd (cc))
     (λ (f : bytes_eq y z ≡ false).
     let k : ends_in z u ≡ true = rw f at e in
     let l : bytes_eq z y ≡ false = name_turned z y ∙ f in
     rw l at (ends_bound (y ∷ bound) z u c k))
     (cases_Bool (bytes_eq y z))
-ends_bound bound z (Send peer sort u) c e = absurd cc
-ends_bound bound z (Recv peer sort u) c e = absurd cc
-ends_bound bound z (Select peer b) c e = absurd cc
-ends_bound bound z (Branch peer b) c e = absurd cc
+ends_bound bound z other c e = absurd cc
 
 -- each of these variables has a node that stands for its type
 abbrev pub Agree : List LocalType → List (List ℕ) → Places → Env → Type 0
@@ -163,10 +148,7 @@ branches_stand types targets places env bound at first (More label u others) w a
     let gs = and_parts (is_guarded u) (are_guarded others) g in
     let cs = and_parts (is_closed bound u) (are_closed bound others) c in
     let hs = has_both types at (flat env u) (flat_in env others) h in
-    let rest = has_at types (at + length (flat env u)) (at + size u) (flat_in env others) (ap (λ (n : ℕ). at + n) (length-flat env u)) hs.1 in (
-      (start places at u, k.0, starts_stand types places env bound at u w a gs.0 cs.0 hs.0),
-      branches_stand types targets places env bound (at + size u) (suc first) others w a gs.1 cs.1 rest k.1,
-    )
+    let rest = has_at types (at + length (flat env u)) (at + size u) (flat_in env others) (ap (λ (n : ℕ). at + n) (length-flat env u)) hs.1 in grind (arith, starts_stand types places env bound, branches_stand types targets places env bound (at + size u) (suc first) others w a gs.1 cs.1 rest k.1)
 
 labels-filled_in : (env : Env) (b : Branches) → labels (filled_in env b) ≡ labels b
 labels-filled_in env NoMore = refl
@@ -174,13 +156,11 @@ labels-filled_in env (More label u others) = ap (λ (ls : List (List ℕ)). labe
 
 both_rows : (g : Graph) (types : List LocalType) (xs ys : List TableRow) (ts us : List LocalType) → AreRowsOf g types xs ts → AreRowsOf g types ys us → AreRowsOf g types (xs ++ ys) (ts ++ us)
 both_rows g types [] ys [] us a b = b
-both_rows g types [] ys (t ∷ ts) us a b = absurd a
-both_rows g types (x ∷ xs) ys [] us a b = absurd a
 both_rows g types (x ∷ xs) ys (t ∷ ts) us a b = (a.0, both_rows g types xs ys ts us a.1 b)
+both_rows g types other ys others us a b = absurd a
 
 put_agrees : (types : List LocalType) (b : Bool) (n m : ℕ) (t u : LocalType) → StandsIn types n t → (b ≡ false → StandsIn types m u) → StandsIn types (cond b n m) (cond b t u)
-put_agrees types true n m t u f g = f
-put_agrees types false n m t u f g = g refl
+put_agrees types b n m t u f g = grind arith
 
 -- in a `rec` its variable has the node of the `rec`
 rec_agrees : (types : List LocalType) (places : Places) (env : Env) (bound : List (List ℕ)) (at : ℕ) (x : List ℕ) (u : LocalType) → AreWhole env → Agree types bound places env → is_guarded (Rec x u) ≡ true → is_closed bound (Rec x u) ≡ true → HasFrom types at (flat env (Rec x u)) → Agree types (x ∷ bound) (put_node x (start places at u) places) (put x (filled env (Rec x u)) env)
@@ -205,15 +185,9 @@ mutual
       (rec_agrees types places env bound at x u w a gs cs h)
       (guard_of x u gs).1 cs h k l
   rows_laid g types places env bound at first (Send peer sort u) w a gs cs h k l =
-      let rest = has_at types (suc at) (at + 1) (flat env u) (sym (add-one at)) h.1 in (
-        (filled env u, refl, starts_stand types places env bound (at + 1) u w a gs cs rest),
-        rows_laid g types places env bound (at + 1) first u w a gs cs rest k l,
-      )
+      let rest = has_at types (suc at) (at + 1) (flat env u) (sym (add-one at)) h.1 in grind (arith, filled env u, starts_stand types places env bound (at + 1) u w a gs cs rest, rows_laid g types places env bound (at + 1) first u w a gs cs rest k l)
   rows_laid g types places env bound at first (Recv peer sort u) w a gs cs h k l =
-      let rest = has_at types (suc at) (at + 1) (flat env u) (sym (add-one at)) h.1 in (
-        (filled env u, refl, starts_stand types places env bound (at + 1) u w a gs cs rest),
-        rows_laid g types places env bound (at + 1) first u w a gs cs rest k l,
-      )
+      let rest = has_at types (suc at) (at + 1) (flat env u) (sym (add-one at)) h.1 in grind (arith, filled env u, starts_stand types places env bound (at + 1) u w a gs cs rest, rows_laid g types places env bound (at + 1) first u w a gs cs rest k l)
   rows_laid g types places env bound at first (Select peer b) w a gs cs h k l =
       let rest = has_at types (suc at) (at + 1) (flat_in env b) (sym (add-one at)) h.1 in
       let ks = has_both g.labels first (labels b) (branch_labels b) k in
@@ -265,11 +239,7 @@ laid_stands g places t c guarded e l m f =
     let laid = rows_laid g types places env [] 0 0 t whole agree guarded c (has_all types)
     (subst (λ (xs : List (List ℕ)). HasFrom xs 0 (all_labels t)) (sym l) (has_all (all_labels t)))
     (subst (λ (xs : List ℕ). HasFrom xs 0 (all_targets places 0 t)) (sym m) (has_all (all_targets places 0 t))) in
-    let stands = starts_stand types places env [] 0 t whole agree guarded c (has_all types) in (
-      types,
-      subst (λ (xs : List TableRow). AreRowsOf g types xs types) (sym e) laid,
-      subst (λ (n : ℕ). StandsIn types n t) (sym f) (subst (λ (u : LocalType). StandsIn types (start places 0 t) u) same stands),
-    )
+    let stands = starts_stand types places env [] 0 t whole agree guarded c (has_all types) in grind arith
 
 both_within : (many : ℕ) (xs ys : List TableRow) → AllByRecursion (IsWithin many) xs → AllByRecursion (IsWithin many) ys → AllByRecursion (IsWithin many) (xs ++ ys)
 both_within many [] ys a b = b
@@ -294,9 +264,7 @@ mutual
   branches_within many places at first NoMore h = tt
   branches_within many places at first (More label u others) h =
       let k = length-append (all_labels u) (branch_labels others) in
-      both_within many (all_rows places at first u) (branch_rows places (at + size u) (first + length (all_labels u)) others)
-      (rows_within many places at first u (omega arith))
-      (branches_within many places (at + size u) (first + length (all_labels u)) others (omega arith))
+      grind (arith, both_within many (all_rows places at first u) (branch_rows places (at + size u) (first + length (all_labels u)) others) (rows_within many places at first u (omega arith)) (branches_within many places (at + size u) (first + length (all_labels u)) others (omega arith)))
 
 both_known : (n : ℕ) (xs ys : List ℕ) → AllByRecursion (λ m. m < n) xs → AllByRecursion (λ m. m < n) ys → AllByRecursion (λ m. m < n) (xs ++ ys)
 both_known n [] ys a b = b
@@ -309,10 +277,7 @@ starts_known types places env bound at (More label u others) w a g c h =
     let gs = and_parts (is_guarded u) (are_guarded others) g in
     let cs = and_parts (is_closed bound u) (are_closed bound others) c in
     let hs = has_both types at (flat env u) (flat_in env others) h in
-    let rest = has_at types (at + length (flat env u)) (at + size u) (flat_in env others) (ap (λ (n : ℕ). at + n) (length-flat env u)) hs.1 in (
-      slice_get_within types (start places at u) (unfolded (filled env u)) (starts_stand types places env bound at u w a gs.0 cs.0 hs.0),
-      starts_known types places env bound (at + size u) others w a gs.1 cs.1 rest,
-    )
+    let rest = has_at types (at + length (flat env u)) (at + size u) (flat_in env others) (ap (λ (n : ℕ). at + n) (length-flat env u)) hs.1 in grind (arith, slice_get_within types (start places at u) (unfolded (filled env u)) (starts_stand types places env bound at u w a gs.0 cs.0 hs.0), starts_known types places env bound (at + size u) others w a gs.1 cs.1 rest)
 
 mutual
   -- after each label is a node
@@ -325,18 +290,14 @@ mutual
       (whole_put x t env (whole_filled env w (Rec x u)) w)
       (rec_agrees types places env bound at x u w a g c h)
       (guard_of x u g).1 c h
-  targets_known types places env bound at (Send peer sort u) w a g c h =
-      targets_known types places env bound (at + 1) u w a g c (has_at types (suc at) (at + 1) (flat env u) (sym (add-one at)) h.1)
-  targets_known types places env bound at (Recv peer sort u) w a g c h =
-      targets_known types places env bound (at + 1) u w a g c (has_at types (suc at) (at + 1) (flat env u) (sym (add-one at)) h.1)
+  targets_known types places env bound at (Send peer sort u) w a g c h = grind (arith, targets_known types places env bound (at + 1) u w a g c (has_at types (suc at) (at + 1) (flat env u) (sym (add-one at)) h.1))
+  targets_known types places env bound at (Recv peer sort u) w a g c h = grind (arith, targets_known types places env bound (at + 1) u w a g c (has_at types (suc at) (at + 1) (flat env u) (sym (add-one at)) h.1))
   targets_known types places env bound at (Select peer b) w a g c h =
       let rest = has_at types (suc at) (at + 1) (flat_in env b) (sym (add-one at)) h.1 in
-      both_known (length types) (starts places (at + 1) b) (branch_targets places (at + 1) b)
-      (starts_known types places env bound (at + 1) b w a g c rest) (branch_targets_known types places env bound (at + 1) b w a g c rest)
+      grind (arith, both_known (length types) (starts places (at + 1) b) (branch_targets places (at + 1) b) (starts_known types places env bound (at + 1) b w a g c rest) (branch_targets_known types places env bound (at + 1) b w a g c rest))
   targets_known types places env bound at (Branch peer b) w a g c h =
       let rest = has_at types (suc at) (at + 1) (flat_in env b) (sym (add-one at)) h.1 in
-      both_known (length types) (starts places (at + 1) b) (branch_targets places (at + 1) b)
-      (starts_known types places env bound (at + 1) b w a g c rest) (branch_targets_known types places env bound (at + 1) b w a g c rest)
+      grind (arith, both_known (length types) (starts places (at + 1) b) (branch_targets places (at + 1) b) (starts_known types places env bound (at + 1) b w a g c rest) (branch_targets_known types places env bound (at + 1) b w a g c rest))
 
   branch_targets_known : (types : List LocalType) (places : Places) (env : Env) (bound : List (List ℕ)) (at : ℕ) (b : Branches) → AreWhole env → Agree types bound places env → are_guarded b ≡ true → are_closed bound b ≡ true → HasFrom types at (flat_in env b) → AllByRecursion (λ m. m < length types) (branch_targets places at b)
   branch_targets_known types places env bound at NoMore w a g c h = tt
@@ -352,21 +313,17 @@ mutual
 -- rows of types lead to nodes
 rows_lead : (g : Graph) (types : List LocalType) (es : List TableRow) (ts : List LocalType) → AreRowsOf g types es ts → AllByRecursion (LeadsWithin (length types)) es
 rows_lead g types [] [] a = tt
-rows_lead g types [] (t ∷ ts) a = absurd a
-rows_lead g types (e ∷ es) [] a = absurd a
 rows_lead g types (rows.End ∷ es) (t ∷ ts) a = (tt, rows_lead g types es ts a.1)
-rows_lead g types (rows.Send peer sort next ∷ es) (t ∷ ts) a =
-    (slice_get_within types next (unfolded a.0.0) a.0.2, rows_lead g types es ts a.1)
-rows_lead g types (rows.Recv peer sort next ∷ es) (t ∷ ts) a =
-    (slice_get_within types next (unfolded a.0.0) a.0.2, rows_lead g types es ts a.1)
+rows_lead g types (rows.Send peer sort next ∷ es) (t ∷ ts) a = grind (arith, slice_get_within types next (unfolded a.0.0) a.0.2, rows_lead g types es ts a.1)
+rows_lead g types (rows.Recv peer sort next ∷ es) (t ∷ ts) a = grind (arith, slice_get_within types next (unfolded a.0.0) a.0.2, rows_lead g types es ts a.1)
 rows_lead g types (rows.Select peer first count ∷ es) (t ∷ ts) a = (tt, rows_lead g types es ts a.1)
 rows_lead g types (rows.Branch peer first count ∷ es) (t ∷ ts) a = (tt, rows_lead g types es ts a.1)
+rows_lead g types other others a = absurd a
 
 as_many : (g : Graph) (types : List LocalType) (es : List TableRow) (ts : List LocalType) → AreRowsOf g types es ts → length ts ≡ length es
 as_many g types [] [] a = refl
-as_many g types [] (t ∷ ts) a = absurd a
-as_many g types (e ∷ es) [] a = absurd a
 as_many g types (e ∷ es) (t ∷ ts) a = ap suc (as_many g types es ts a.1)
+as_many g types other others a = absurd a
 
 -- what is laid out of a closed and guarded type is a sound table
 pub laid_sound : (t : LocalType) → is_closed [] t ≡ true → is_guarded t ≡ true → IsSound (all_rows nowhere 0 0 t) (all_labels t) (all_targets nowhere 0 t) (start nowhere 0 t)
@@ -375,7 +332,7 @@ laid_sound t c guarded =
     let env : Env = λ z. End in
     let types = flat env t in
     let whole : AreWhole env = λ z x s. refl in
-    let agree : Agree types [] nowhere env = λ z k. absurd (let bad : false ≡ true = k in cc) in
+    let agree : Agree types [] nowhere env = λ z k. absurd (cc) in
     let laid = rows_laid g types nowhere env [] 0 0 t whole agree guarded c (has_all types) (has_all (all_labels t)) (has_all (all_targets nowhere 0 t)) in
     let many = as_many g types (all_rows nowhere 0 0 t) types laid in
     record {
@@ -399,7 +356,4 @@ mutual
 
   branches_small : (b : Branches) → (branch_size b ≤ branch_nodes b) × (length (labels b) + length (branch_labels b) ≤ branch_nodes b)
   branches_small NoMore = (omega arith, omega arith)
-  branches_small (More label u others) =
-      let k = size_small u in
-      let l = branches_small others in
-      (omega arith, omega (arith, length-append (all_labels u) (branch_labels others)))
+  branches_small (More label u others) = grind (arith, size_small u, branches_small others, length-append (all_labels u) (branch_labels others))

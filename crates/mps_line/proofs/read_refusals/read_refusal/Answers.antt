@@ -1,13 +1,13 @@
+use Rattle.std.proofs.Common.{rules}
 use Rattle.std.specs.Prelude.{codes}
-use Rattle.mps_line.proofs.OneReply.{final_has_no_space, needed_has_no_space}
 use Rattle.mps_line.proofs.ReplyLines.{no_step_after, no_refusal, lone_read, violation_read}
 use Rattle.mps_line.proofs.read_refusals.read_refusal.Goals as goal
 
 pub returns-in-None-clause-none : goal.returns-in-None-clause-none
-returns-in-None-clause-none c = λ r h. no_step_after _ (codes "needed") _ r needed_has_no_space c.in-Some.ensures.read c.in-None.ensures.none h
+returns-in-None-clause-none c = λ r h. no_step_after _ (codes "needed") _ r (search rules) c.in-Some.ensures.read c.in-None.ensures.none h
 
 pub returns-in-None-read_step-clause-none : goal.returns-in-None-read_step-clause-none
-returns-in-None-read_step-clause-none c = λ r h. no_step_after _ (codes "final") _ r final_has_no_space c.in-Some-after_word.ensures.read c.in-None-read_step.ensures.none h
+returns-in-None-read_step-clause-none c = λ r h. no_step_after _ (codes "final") _ r (search rules) c.in-Some-after_word.ensures.read c.in-None-read_step.ensures.none h
 
 pub returns-in-Some-read_violation-clause-read : goal.returns-in-Some-read_violation-clause-read
 returns-in-Some-read_violation-clause-read c = violation_read _ _ c.in-Some-read_violation.ensures.read

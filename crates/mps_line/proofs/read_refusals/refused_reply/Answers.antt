@@ -1,8 +1,7 @@
-use Rattle.std.proofs.Common.{arith}
+use Rattle.std.proofs.Common.{rules, arith}
 use Rattle.std.specs.Prelude.{[], ◌∷◌, codes}
 use Rattle.mps_line.specs.Replies.{refusal_tokens}
 use Rattle.mps_line.specs.Tokens.{Word}
-use Rattle.mps_line.proofs.OneReply.{refused_has_no_space}
 use Rattle.mps_line.proofs.ReplyLines.{word_in_front, rest_of_word, no_word_in_front, no_own_word, some_refusal}
 use Rattle.mps_line.proofs.read_refusals.refused_reply.Goals as goal
 
@@ -29,7 +28,7 @@ returns-in-Some-read_refusal-clause-read c = word_in_front _ (codes "refused") _
 
 pub returns-in-None-clause-refusal : goal.returns-in-None-clause-refusal
 returns-in-None-clause-refusal c = λ e r h.
-    c.in_default-read_refusal.ensures.none r (rest_of_word _ (codes "refused") _ (refusal_tokens r) (some_refusal r) refused_has_no_space c.in-Some.ensures.read h)
+    c.in_default-read_refusal.ensures.none r (rest_of_word _ (codes "refused") _ (refusal_tokens r) (some_refusal r) (search rules) c.in-Some.ensures.read h)
 
 pub returns-in-None-clause-line : goal.returns-in-None-clause-line
 returns-in-None-clause-line c = λ e h. no_own_word _ _ (codes "line") c.in-Some.ensures.read c.in-None.ensures.none.0 h

@@ -1,7 +1,6 @@
-use Rattle.std.proofs.Common.{arith}
+use Rattle.std.proofs.Common.{rules, arith}
 use Rattle.std.specs.Prelude.{[], ◌∷◌, codes}
 use Rattle.mps_line.specs.Tokens.{Number, Called}
-use Rattle.mps_line.proofs.OneReply.{joined_has_no_space}
 use Rattle.mps_line.proofs.ReplyLines.{word_in_front, rest_of_word, no_word_in_front}
 use Rattle.mps_line.proofs.read_replies.joined_reply.Goals as goal
 
@@ -10,7 +9,7 @@ returns-in_default-clause-bad c = λ e session name h. no_word_in_front _ (codes
 
 pub returns-in_default-read_number_and_name-clause-bad : goal.returns-in_default-read_number_and_name-clause-bad
 returns-in_default-read_number_and_name-clause-bad c = λ e session name h.
-    c.in_default-read_number_and_name.ensures.none session name (rest_of_word _ (codes "joined") _ (Number session ∷ Called name ∷ []) (omega arith) joined_has_no_space c.in-Some.ensures.read h)
+    c.in_default-read_number_and_name.ensures.none session name (rest_of_word _ (codes "joined") _ (Number session ∷ Called name ∷ []) (omega arith) (search rules) c.in-Some.ensures.read h)
 
 pub returns-clause-read : goal.returns-clause-read
 returns-clause-read c = word_in_front _ (codes "joined") _ (Number _ ∷ Called _ ∷ []) (omega arith) c.in-Some.ensures.read c.in-Some-read_number_and_name.ensures.read

@@ -3,7 +3,6 @@ use Rattle.std.proofs.Common.{arith, rules, sym, ap, Err}
 use Rattle.mps_command.specs.declared.answer.Answer.TheVariants.{News}
 use Rattle.mps_line.specs.declared.write_replies.Reply.TheVariants.{Answered}
 use Rattle.mps_line.specs.Tokens.{Number}
-use Rattle.mps_line.proofs.OneReply.{news_has_no_space}
 use Rattle.mps_line.proofs.ReplyLines.{rest_of_word, no_word_in_front, news_none, news_some, no_news_alone, parted_news}
 use Rattle.mps_line.proofs.read_replies.news_reply.Goals as goal
 
@@ -12,7 +11,7 @@ returns-in_default-clause-bad c = λ e n ids h. no_word_in_front _ (codes "news"
 
 pub returns-in-None-clause-bad : goal.returns-in-None-clause-bad
 returns-in-None-clause-bad c = λ e n ids h.
-    no_news_alone _ n ids c.in_default-split_at_space.ensures.none c.in-None.ensures.none (rest_of_word _ (codes "news") _ (Number n ∷ map Number ids) (omega arith) news_has_no_space c.in-Some.ensures.read h)
+    no_news_alone _ n ids c.in_default-split_at_space.ensures.none c.in-None.ensures.none (rest_of_word _ (codes "news") _ (Number n ∷ map Number ids) (omega arith) (search rules) c.in-Some.ensures.read h)
 
 pub returns-in-Some-read_count-clause-read : goal.returns-in-Some-read_count-clause-read
 returns-in-Some-read_count-clause-read c =
@@ -21,11 +20,11 @@ returns-in-Some-read_count-clause-read c =
 
 pub returns-in_default-read_count-clause-bad : goal.returns-in_default-read_count-clause-bad
 returns-in_default-read_count-clause-bad c = λ e n ids h.
-    c.in_default-read_count.ensures.none n (parted_news _ _ _ n ids c.in-Some-split_at_space.ensures.parts c.in-Some-split_at_space.ensures.first (rest_of_word _ (codes "news") _ (Number n ∷ map Number ids) (omega arith) news_has_no_space c.in-Some.ensures.read h)).0
+    c.in_default-read_count.ensures.none n (parted_news _ _ _ n ids c.in-Some-split_at_space.ensures.parts c.in-Some-split_at_space.ensures.first (rest_of_word _ (codes "news") _ (Number n ∷ map Number ids) (omega arith) (search rules) c.in-Some.ensures.read h)).0
 
 pub returns-in_err-ids-clause-bad : goal.returns-in_err-ids-clause-bad
 returns-in_err-ids-clause-bad c = λ e n ids h.
-    c.in_err-ids.ensures.bad (ap Err (sym (rw e at c.from_residual.ensures.1))) ids (parted_news _ _ _ n ids c.in-Some-split_at_space.ensures.parts c.in-Some-split_at_space.ensures.first (rest_of_word _ (codes "news") _ (Number n ∷ map Number ids) (omega arith) news_has_no_space c.in-Some.ensures.read h)).1
+    c.in_err-ids.ensures.bad (ap Err (sym (rw e at c.from_residual.ensures.1))) ids (parted_news _ _ _ n ids c.in-Some-split_at_space.ensures.parts c.in-Some-split_at_space.ensures.first (rest_of_word _ (codes "news") _ (Number n ∷ map Number ids) (omega arith) (search rules) c.in-Some.ensures.read h)).1
 
 pub returns-clause-read : goal.returns-clause-read
 returns-clause-read c =

@@ -1,5 +1,5 @@
-use Rattle.std.proofs.Common.{◌≡◌, ◌+◌, ◌<◌, ◌≤◌, length, take, ap, ◌∙◌, arith}
-use Rattle.mps_lines.specs.Cuts.{Pending, cut, fed}
+use Rattle.std.proofs.Common.{◌≡◌, ◌+◌, ◌<◌, ◌≤◌, length, take, arith}
+use Rattle.mps_lines.specs.Cuts.{cut}
 use Rattle.mps_lines.proofs.Cutting.{IsKept, cut_splits, kept_piece, kept_rest, kept_view}
 use Rattle.mps_lines.proofs.lines.Lines.feed.Goals as goal
 use Rattle.mps_lines.proofs.lines.Lines.feed.Goals.{After-extend_from_slice, then-start-eq0, else-start-eq0}
@@ -11,10 +11,7 @@ kept c =
     let start = c.last_start-start in
     let had = c.if-start-eq0.had in
     let few : length (cut items).rest ≤ 513 = omega (arith, c.self.invariant.0, c.self.invariant.1) in
-    let begun : start.result ≡ 0 → had ≡ length (cut items).rest = λ e. elim c.if-start-eq0.branch [
-      | then-start-eq0 w ↦ w.had-is ∙ c.self.invariant.0
-      | else-start-eq0 w ↦ absurd (omega (arith, w.if-start-eq0.false))
-    ] in
+    let begun : start.result ≡ 0 → had ≡ length (cut items).rest = grind (arith, then-start-eq0, else-start-eq0) in
     let behind : 0 < start.result → had ≡ 0 = λ e. elim c.if-start-eq0.branch [
       | then-start-eq0 w ↦ absurd (omega (arith, w.if-start-eq0.true))
       | else-start-eq0 w ↦ w.had-is
@@ -29,5 +26,4 @@ invariant_of-self-2 c =
 pub returns-clause-ok : goal.returns-clause-ok
 returns-clause-ok c =
     let l = (goal.at.returns-clause-ok c).After-extend_from_slice in
-    kept_view c.self.inside.bytes.items _ _ _ _ (kept l) c.in_ok-extend_from_slice.ensures.ok
-    ∙ ap (λ (s : Pending). fed s c.args.piece.now) c.self.view_is
+    cc (kept_view c.self.inside.bytes.items _ _ _ _ (kept l) c.in_ok-extend_from_slice.ensures.ok)

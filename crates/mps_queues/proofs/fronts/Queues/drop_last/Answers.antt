@@ -1,10 +1,7 @@
-use Rattle.std.proofs.Common.{◌≡◌, ℕ, ◌+◌, ◌*◌, List, not, Option, sym, ◌∙◌, subst}
-use mathlib.Core.Path.{ap₂}
+use Rattle.std.proofs.Common.{arith, not}
 use Rattle.std.specs.Prelude.{◌==◌}
 use Rattle.std.specs.List.{filter}
 use Rattle.mps_arena.specs.Entries.{KeyedStep}
-use Rattle.mps_queues.specs.Fronts.{AreFronts}
-use Rattle.mps_queues.specs.Private.Fronts.{dropped}
 use Rattle.mps_queues.proofs.Moves.{front_set, front_read, waiting_drop, others_drop}
 use Rattle.mps_queues.proofs.fronts.Queues.drop_last.Goals as goal
 
@@ -15,8 +12,4 @@ returns c k e =
     let es = c.args.arena.now.entries in
     let now = filter (λ (x : KeyedStep). not (x.key == k)) es in
     let fronts = c.self.inside.fronts in
-    let was : AreFronts es fronts = subst (λ (l : List (Option ℕ)). AreFronts es l) (sym c.self.view_is) c.requires.fronts in
-    let at = c.index.result * 8 + c.index-2.result in
-    let place : at ≡ c.args.from * 8 + c.args.to = ap₂ (λ (x y : ℕ). x * 8 + y) c.index.ensures.place c.index-2.ensures.place in
-    let is = c.dropped_front.ensures ∙ ap₂ dropped c.last_send-last.ensures (front_read fronts es p q at _ c.self.invariant c.requires.from c.requires.to place was) ∙ sym (waiting_drop es c.steps_are_sound.ensures p q k e) in
-    front_set fronts es now p q at c.dropped_front.result c.self.invariant c.requires.from c.requires.to place was (sym is) (others_drop es c.steps_are_sound.ensures p q k e)
+    grind (arith, front_read fronts es p q, waiting_drop es c.steps_are_sound.ensures p q k e, front_set fronts es now p q, others_drop es c.steps_are_sound.ensures p q k e)

@@ -1,4 +1,4 @@
-use Rattle.std.proofs.Common.{◌≡◌, ℕ, ◌<◌, List, [], ◌∷◌, ◌++◌, length, Option, sym, ap, ◌∙◌, subst}
+use Rattle.std.proofs.Common.{arith, ◌≡◌, ℕ, ◌<◌, List, [], ◌∷◌, ◌++◌, length, Option, ◌∙◌, subst}
 use Rattle.std.specs.Prelude.{Result, Ok, Err, IfOk, OnOk, slice_set}
 use Rattle.mps_history.specs.Slots.{bound, value_in}
 use Rattle.mps_arena.specs.Entries.{KeyedStep}
@@ -11,8 +11,7 @@ follows_from : {E : Type 0} (r : Result (Option ℕ) E) (stores : List Keys) (p 
     → IfOk r (λ older. (naming : Naming) (es : List KeyedStep) (e : KeyedStep) → AreStores naming es stores → IsBinding naming p name e → e.key ≡ key → e.before.bound ≡ older → AreStores naming (es ++ e ∷ []) (slice_set stores p now))
 follows_from (Err error) stores p key name now long small replaced bound_is = tt
 follows_from (Ok older) stores p key name now long small replaced bound_is = λ naming es e s is same kept.
-    let now_is : now ≡ bound name e.key (store_at stores p) = bound_is ∙ ap (λ (k : ℕ). bound name k (store_at stores p)) (sym same) in
-    rw now_is (stores_bind naming es e p name stores long small s is (kept ∙ replaced))
+    grind (arith, stores_bind naming es e p name stores long small s is (kept ∙ replaced))
 
 pub returns-clause-follows : goal.returns-clause-follows
 returns-clause-follows c =

@@ -1,12 +1,11 @@
-use Rattle.std.proofs.Common.{◌≡◌, ℕ, zero, suc, [], ◌∷◌, ◌++◌, List, replicate, refl, ap, ◌∙◌}
+use Rattle.std.proofs.Common.{◌≡◌, ℕ, suc, [], ◌∷◌, ◌++◌, List, replicate, refl, ap, ◌∙◌}
 use Rattle.mps_arena.specs.Entries.{KeyedStep}
 use Rattle.mps_stores.specs.Stores.{store_at}
 use Rattle.mps_stores.proofs.stores.Stores.new.Goals as goal
 
 nothing : (n p : ℕ) → store_at (replicate n []) p ≡ []
-nothing zero p = refl
-nothing (suc n) zero = refl
 nothing (suc n) (suc p) = nothing n p
+nothing other others = refl
 
 none_in : (a b : List KeyedStep) (e : KeyedStep) → [] ≡ a ++ e ∷ b → ⊥
 none_in [] b e whole = absurd cc
