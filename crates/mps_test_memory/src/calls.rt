@@ -7,7 +7,7 @@ ghost use Rattle.mps_history.specs.Steps.{step_of};
 ghost use Rattle.mps_links.specs.Marks.{marked_keys};
 ghost use Rattle.mps_local.specs.Outcome.{AreProjections};
 
-use crate::outcomes::{Outcome, Until, answered, refused};
+use crate::outcomes::{Came, Outcome, Until, answered, came_to, refused};
 use crate::parties::opened;
 use crate::rows::PROTOCOL;
 use mps_arena::{Arena, Before};
@@ -18,7 +18,7 @@ use mps_links::{least_dependent, least_final, mark_from};
 use mps_local::{Local, LocalFault, ProjectFault, project};
 use mps_session::{OpenFault, ProtocolFault, Session, open_protocol, same};
 use mps_table::compile;
-use mps_text::{TextKind, read_protocol, write_protocol};
+use mps_text::{TextFault, TextKind, read_protocol, write_protocol};
 use std::alloc::Global;
 
 // The protocol, which has no fault.
@@ -30,9 +30,30 @@ fn protocol(alloc: Global) -> Option<Protocol>
     Some(protocol)
 }
 
+// The protocol as text.
+fn wanted_text(alloc: Global) -> Option<Vec<u8>> {
+    let Ok(wanted) = read_protocol(alloc, PROTOCOL) else {
+        return None;
+    };
+    write_protocol(alloc, &wanted).ok()
+}
+
 fn is_the_protocol(alloc: Global, protocol: &Protocol) -> Option<bool> {
-    let wanted = read_protocol(alloc, PROTOCOL).ok()?;
-    Some(write_protocol(alloc, protocol).ok()? == write_protocol(alloc, &wanted).ok()?)
+    let Ok(text) = write_protocol(alloc, protocol) else {
+        return None;
+    };
+    Some(text == wanted_text(alloc)?)
+}
+
+// What comes of reading the protocol.
+fn reading_judged(alloc: Global, read: Result<Protocol, TextFault>) -> Option<Outcome> {
+    match read {
+        Ok(protocol) => answered(is_the_protocol(alloc, &protocol)?),
+        Err(fault) if fault.kind == TextKind::Memory => refused(read_protocol(
+            alloc, PROTOCOL,
+        ).is_ok()),
+        Err(_) => Some(Outcome::Other),
+    }
 }
 
 /// Reads a protocol.
@@ -44,31 +65,36 @@ pub fn reads_a_protocol(alloc: Global, until: Until) -> Option<Outcome> {
     if until == Until::After {
         return Some(Outcome::Reached);
     }
-    match read {
-        Ok(protocol) => answered(is_the_protocol(alloc, &protocol)?),
-        Err(fault) if fault.kind == TextKind::Memory => refused(read_protocol(
-            alloc, PROTOCOL,
-        ).is_ok()),
-        Err(_) => Some(Outcome::Other),
+    reading_judged(alloc, read)
+}
+
+fn roles_made(alloc: Global, names: &[Name]) -> Came {
+    match Roles::of(alloc, names) {
+        Ok(roles) => came_to(roles.count() == names.len()),
+        Err(RoleFault::Memory) => Came::Memory,
+        Err(_) => Came::Other,
+    }
+}
+
+// Makes the list of these roles.
+fn makes_roles_of(alloc: Global, names: &[Name], until: Until) -> Option<Outcome> {
+    if until == Until::Before {
+        return Some(Outcome::Reached);
+    }
+    let made = roles_made(alloc, names);
+    if until == Until::After {
+        return Some(Outcome::Reached);
+    }
+    match made {
+        Came::Memory => refused(roles_made(alloc, names) == Came::Wanted),
+        made => answered(made == Came::Wanted),
     }
 }
 
 /// Makes the list of roles.
 pub fn makes_roles(alloc: Global, until: Until) -> Option<Outcome> {
     let protocol = protocol(alloc)?;
-    let names = protocol.roles.as_slice();
-    if until == Until::Before {
-        return Some(Outcome::Reached);
-    }
-    let roles = Roles::of(alloc, names);
-    if until == Until::After {
-        return Some(Outcome::Reached);
-    }
-    match roles {
-        Ok(roles) => answered(roles.count() == names.len()),
-        Err(RoleFault::Memory) => refused(Roles::of(alloc, names).is_ok()),
-        Err(_) => Some(Outcome::Other),
-    }
+    makes_roles_of(alloc, protocol.roles.as_slice(), until)
 }
 
 // What the first role does in the protocol.
@@ -81,44 +107,85 @@ fn first_type(alloc: Global, protocol: &Protocol) -> Result<Local, ProjectFault>
     project(alloc, protocol, Role::new(0))
 }
 
-/// Projects the protocol on its first role.
-pub fn projects(alloc: Global, until: Until) -> Option<Outcome> {
-    let protocol = protocol(alloc)?;
+fn type_made(alloc: Global, protocol: &Protocol) -> Came
+    requires { fault_of protocol.now.roles.items (global_type protocol.now.body) ≡ None }
+{
+    match first_type(alloc, protocol) {
+        Ok(Local::Rec { .. }) => Came::Wanted,
+        Err(ProjectFault::Memory) => Came::Memory,
+        _ => Came::Other,
+    }
+}
+
+// Projects this protocol on its first role.
+fn projects_it(alloc: Global, protocol: &Protocol, until: Until) -> Option<Outcome>
+    requires { fault_of protocol.now.roles.items (global_type protocol.now.body) ≡ None }
+{
     if until == Until::Before {
         return Some(Outcome::Reached);
     }
-    let projected = first_type(alloc, &protocol);
+    let made = type_made(alloc, protocol);
     if until == Until::After {
         return Some(Outcome::Reached);
     }
-    match projected {
-        Ok(Local::Rec { .. }) => answered(true),
-        Err(ProjectFault::Memory) => refused(first_type(alloc, &protocol).is_ok()),
-        _ => Some(Outcome::Other),
+    match made {
+        Came::Memory => refused(type_made(alloc, protocol) == Came::Wanted),
+        made => answered(made == Came::Wanted),
     }
+}
+
+/// Projects the protocol on its first role.
+pub fn projects(alloc: Global, until: Until) -> Option<Outcome> {
+    let protocol = protocol(alloc)?;
+    projects_it(alloc, &protocol, until)
+}
+
+fn table_made(alloc: Global, tree: &Local) -> Came {
+    match compile(alloc, tree) {
+        Ok(_) => Came::Wanted,
+        Err(LocalFault::Memory) => Came::Memory,
+        Err(_) => Came::Other,
+    }
+}
+
+// Makes the table of the type.
+fn compiles_it(alloc: Global, tree: &Local, until: Until) -> Option<Outcome> {
+    if until == Until::Before {
+        return Some(Outcome::Reached);
+    }
+    let made = table_made(alloc, tree);
+    if until == Until::After {
+        return Some(Outcome::Reached);
+    }
+    match made {
+        Came::Memory => refused(table_made(alloc, tree) == Came::Wanted),
+        made => answered(made == Came::Wanted),
+    }
+}
+
+// What the first role does.
+fn first_tree(alloc: Global) -> Option<Local> {
+    let protocol = protocol(alloc)?;
+    first_type(alloc, &protocol).ok()
 }
 
 /// Makes the table of the first role's type.
 pub fn compiles(alloc: Global, until: Until) -> Option<Outcome> {
-    let protocol = protocol(alloc)?;
-    let tree = first_type(alloc, &protocol).ok()?;
-    if until == Until::Before {
-        return Some(Outcome::Reached);
-    }
-    let table = compile(alloc, &tree);
-    if until == Until::After {
-        return Some(Outcome::Reached);
-    }
-    match table {
-        Ok(_) => answered(true),
-        Err(LocalFault::Memory) => refused(compile(alloc, &tree).is_ok()),
-        Err(_) => Some(Outcome::Other),
-    }
+    let tree = first_tree(alloc)?;
+    compiles_it(alloc, &tree, until)
 }
 
 // Two types, of which either has nothing to say.
 fn silence(alloc: Global) -> Option<Vec<Local>> {
     Some(vec![in alloc; Local::End, Local::End].ok()?)
+}
+
+fn session_made(alloc: Global, types: Vec<Local>) -> Came {
+    match Session::open(alloc, types) {
+        Ok(session) => came_to(session.roles() == 2),
+        Err(OpenFault::Memory) => Came::Memory,
+        Err(_) => Came::Other,
+    }
 }
 
 /// Opens a session of types.
@@ -127,39 +194,64 @@ pub fn opens_a_session(alloc: Global, until: Until) -> Option<Outcome> {
     if until == Until::Before {
         return Some(Outcome::Reached);
     }
-    let opened = Session::open(alloc, types);
+    let made = session_made(alloc, types);
+    if until == Until::After {
+        return Some(Outcome::Reached);
+    }
+    match made {
+        Came::Memory => refused(session_made(alloc, silence(alloc)?) == Came::Wanted),
+        made => answered(made == Came::Wanted),
+    }
+}
+
+fn protocol_opened(alloc: Global, protocol: &Protocol) -> Came {
+    match open_protocol(alloc, protocol) {
+        Ok(session) => came_to(session.roles() == 3),
+        Err(ProtocolFault::Memory) => Came::Memory,
+        Err(_) => Came::Other,
+    }
+}
+
+// Opens a session of this protocol.
+fn opens_it(alloc: Global, protocol: &Protocol, until: Until) -> Option<Outcome> {
+    if until == Until::Before {
+        return Some(Outcome::Reached);
+    }
+    let opened = protocol_opened(alloc, protocol);
     if until == Until::After {
         return Some(Outcome::Reached);
     }
     match opened {
-        Ok(session) => answered(session.roles() == 2),
-        Err(OpenFault::Memory) => refused(Session::open(alloc, silence(alloc)?).is_ok()),
-        Err(_) => Some(Outcome::Other),
+        Came::Memory => refused(protocol_opened(alloc, protocol) == Came::Wanted),
+        opened => answered(opened == Came::Wanted),
     }
 }
 
 /// Opens a session of the protocol.
 pub fn opens_a_protocol(alloc: Global, until: Until) -> Option<Outcome> {
     let protocol = protocol(alloc)?;
-    if until == Until::Before {
-        return Some(Outcome::Reached);
+    opens_it(alloc, &protocol, until)
+}
+
+// The first role commits: the number of that step.
+fn committed(session: &mut Session) -> Option<StepId>
+    ensures { session.new.types ≡ session.old.types }
+{
+    if session.roles() == 0 {
+        return None;
     }
-    let opened = open_protocol(alloc, &protocol);
-    if until == Until::After {
-        return Some(Outcome::Reached);
-    }
-    match opened {
-        Ok(session) => answered(session.roles() == 3),
-        Err(ProtocolFault::Memory) => refused(open_protocol(alloc, &protocol).is_ok()),
-        Err(_) => Some(Outcome::Other),
+    match session.forward(Role::new(0), Forward::Commit) {
+        Ok(done) => Some(done.id),
+        Err(_) => None,
     }
 }
 
-/// Asks a session whether it would accept a rollback that a commit stands in the way of.
-pub fn asks_whether(alloc: Global, until: Until) -> Option<Outcome> {
-    let (_, mut session) = opened(alloc)?;
+// Asks the session whether it would accept a rollback that this commit stands in the way of.
+fn asks_beside(session: &mut Session, id: StepId, until: Until) -> Option<Outcome> {
     let first = StepId::new(1);
-    let id = session.forward(Role::new(0), Forward::Commit).ok()?.id;
+    if session.roles() == 0 {
+        return None;
+    }
     if until == Until::Before {
         return Some(Outcome::Reached);
     }
@@ -168,6 +260,13 @@ pub fn asks_whether(alloc: Global, until: Until) -> Option<Outcome> {
         return Some(Outcome::Reached);
     }
     answered(id.is(first) && would == Err(Refusal::Final { by: first }))
+}
+
+/// Asks a session whether it would accept a rollback that a commit stands in the way of.
+pub fn asks_whether(alloc: Global, until: Until) -> Option<Outcome> {
+    let (_, mut session) = opened(alloc)?;
+    let id = committed(&mut session)?;
+    asks_beside(&mut session, id, until)
 }
 
 // A new session of the protocol.
@@ -181,19 +280,53 @@ fn session_of(alloc: Global, protocol: &Protocol) -> Option<Session>
     }
 }
 
-/// Compares two sessions.
-pub fn compares(alloc: Global, until: Until) -> Option<Outcome> {
-    let protocol = protocol(alloc)?;
-    let first = session_of(alloc, &protocol)?;
-    let second = session_of(alloc, &protocol)?;
+// Compares the sessions.
+fn compares_both(first: &Session, second: &Session, until: Until) -> Option<Outcome>
+    requires types { first.now.types ≡ second.now.types }
+{
     if until == Until::Before {
         return Some(Outcome::Reached);
     }
-    let is_same = same(&first, &second);
+    let is_same = same(first, second);
     if until == Until::After {
         return Some(Outcome::Reached);
     }
     answered(is_same)
+}
+
+// Compares two sessions of this protocol.
+fn compares_two(alloc: Global, protocol: &Protocol, until: Until) -> Option<Outcome> {
+    let first = session_of(alloc, protocol)?;
+    let second = session_of(alloc, protocol)?;
+    compares_both(&first, &second, until)
+}
+
+/// Compares two sessions.
+pub fn compares(alloc: Global, until: Until) -> Option<Outcome> {
+    let protocol = protocol(alloc)?;
+    compares_two(alloc, &protocol, until)
+}
+
+// a sends.
+fn sent(session: &mut Session) -> bool
+    requires { 1 < length session.old.types }
+    ensures { session.new.types ≡ session.old.types }
+{
+    let (to, value) = (Role::new(1), Value::Int(5));
+    session
+        .forward(Role::new(0), Forward::Send { to, value })
+        .is_ok()
+}
+
+// b receives what a sent.
+fn received(session: &mut Session, slot: Name) -> bool
+    requires { 1 < length session.old.types }
+    ensures { session.new.types ≡ session.old.types }
+{
+    let from = Role::new(0);
+    session
+        .forward(Role::new(1), Forward::Receive { from, slot })
+        .is_ok()
 }
 
 // A new session of the protocol in which b received what a sent.
@@ -201,16 +334,13 @@ fn relayed(alloc: Global, protocol: &Protocol) -> Option<Session>
     ensures { IfSome result (λ session. AreProjections
         protocol.now.roles.items (global_type protocol.now.body) session.types) }
 {
-    let (a, b) = (Role::new(0), Role::new(1));
-    let value = Value::Int(5);
     let slot = Name::read(b"x")?;
     let mut session = session_of(alloc, protocol)?;
-    if session.roles() < 2 {
-        return None;
+    if session.roles() >= 2 && sent(&mut session) && received(&mut session, slot) {
+        Some(session)
+    } else {
+        None
     }
-    session.forward(a, Forward::Send { to: b, value }).ok()?;
-    session.forward(b, Forward::Receive { from: a, slot }).ok()?;
-    Some(session)
 }
 
 // Whether these are both steps, the newest first.
@@ -253,12 +383,17 @@ fn rolled_back(session: &mut Session, untried: &Session, until: Until) -> Option
     }
 }
 
+// The same with two sessions of this protocol.
+fn rolls_back_one(alloc: Global, protocol: &Protocol, until: Until) -> Option<Outcome> {
+    let mut session = relayed(alloc, protocol)?;
+    let untried = relayed(alloc, protocol)?;
+    rolled_back(&mut session, &untried, until)
+}
+
 /// Rolls a step back. Where memory runs out, the session is compared with one in which that was never tried.
 pub fn rolls_back_beside(alloc: Global, until: Until) -> Option<Outcome> {
     let protocol = protocol(alloc)?;
-    let mut session = relayed(alloc, &protocol)?;
-    let untried = relayed(alloc, &protocol)?;
-    rolled_back(&mut session, &untried, until)
+    rolls_back_one(alloc, &protocol, until)
 }
 
 // ---- links
@@ -275,15 +410,25 @@ fn add_a_mark(arena: &mut Arena) -> Option<()>
     Some(())
 }
 
+// Puts three of them there.
+fn add_three_marks(arena: &mut Arena) -> Option<()>
+    requires none { marked_keys arena.old.entries ≡ [] }
+    ensures none { marked_keys arena.new.entries ≡ [] }
+{
+    add_a_mark(arena)?;
+    add_a_mark(arena)?;
+    add_a_mark(arena)
+}
+
 // An arena with three marks of the first role.
 fn three_marks(alloc: Global) -> Option<Arena>
     ensures none { IfSome result (λ arena. marked_keys arena.entries ≡ []) }
 {
     let mut arena = Arena::new(alloc);
-    add_a_mark(&mut arena)?;
-    add_a_mark(&mut arena)?;
-    add_a_mark(&mut arena)?;
-    Some(arena)
+    match add_three_marks(&mut arena) {
+        Some(()) => Some(arena),
+        None => None,
+    }
 }
 
 // The number of a step that is there.
@@ -297,18 +442,23 @@ fn present(arena: &Arena, number: u64) -> Option<StepId>
     }
 }
 
-/// Looks for the least step that depends on one.
-pub fn finds_a_dependent(alloc: Global, until: Until) -> Option<Outcome> {
-    let arena = three_marks(alloc)?;
-    let id = present(&arena, 1)?;
+// Looks for the least step that depends on the first.
+fn finds_in(arena: &Arena, until: Until) -> Option<Outcome> {
+    let id = present(arena, 1)?;
     if until == Until::Before {
         return Some(Outcome::Reached);
     }
-    let found = least_dependent(&arena, id);
+    let found = least_dependent(arena, id);
     if until == Until::After {
         return Some(Outcome::Reached);
     }
     answered(found.map(|by| by.number()) == Some(2))
+}
+
+/// Looks for the least step that depends on one.
+pub fn finds_a_dependent(alloc: Global, until: Until) -> Option<Outcome> {
+    let arena = three_marks(alloc)?;
+    finds_in(&arena, until)
 }
 
 // Puts a commit of the first role after all other steps.
@@ -322,32 +472,46 @@ fn add_a_commit(arena: &mut Arena) -> Option<()>
     Some(())
 }
 
-/// Looks for the least commit among a step and all that depend on it.
-pub fn finds_a_commit(alloc: Global, until: Until) -> Option<Outcome> {
-    let mut arena = three_marks(alloc)?;
-    add_a_commit(&mut arena)?;
-    let id = present(&arena, 2)?;
-    mark_from(&mut arena, id);
+// Looks for the least commit among the second step and all that depend on it.
+fn finds_a_commit_in(arena: &mut Arena, until: Until) -> Option<Outcome>
+    requires none { marked_keys arena.old.entries ≡ [] }
+{
+    let id = present(arena, 2)?;
+    mark_from(arena, id);
     if until == Until::Before {
         return Some(Outcome::Reached);
     }
-    let found = least_final(&arena);
+    let found = least_final(arena);
     if until == Until::After {
         return Some(Outcome::Reached);
     }
     answered(found.map(|by| by.number()) == Some(4))
 }
 
-/// Marks a step and all that depend on it.
-pub fn marks_from(alloc: Global, until: Until) -> Option<Outcome> {
+/// Looks for the least commit among a step and all that depend on it.
+pub fn finds_a_commit(alloc: Global, until: Until) -> Option<Outcome> {
     let mut arena = three_marks(alloc)?;
-    let id = present(&arena, 2)?;
+    add_a_commit(&mut arena)?;
+    finds_a_commit_in(&mut arena, until)
+}
+
+// Marks the second step and all that depend on it.
+fn marks_in(arena: &mut Arena, until: Until) -> Option<Outcome>
+    requires none { marked_keys arena.old.entries ≡ [] }
+{
+    let id = present(arena, 2)?;
     if until == Until::Before {
         return Some(Outcome::Reached);
     }
-    let count = mark_from(&mut arena, id);
+    let count = mark_from(arena, id);
     if until == Until::After {
         return Some(Outcome::Reached);
     }
     answered(count == 2)
+}
+
+/// Marks a step and all that depend on it.
+pub fn marks_from(alloc: Global, until: Until) -> Option<Outcome> {
+    let mut arena = three_marks(alloc)?;
+    marks_in(&mut arena, until)
 }

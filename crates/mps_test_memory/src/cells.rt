@@ -1,8 +1,8 @@
 //! Cells and their passes.
 ghost use Rattle.std.specs.Prelude.{◌≡◌, false, IfSome, All};
 
-use crate::outcomes::{Outcome, Until, answered, refused};
-use crate::parties::{Passes, compared, names, opened};
+use crate::outcomes::{Came, Outcome, Until, answered, came_to, refused};
+use crate::parties::{Passes, compared, opened};
 use crate::rows::Row;
 use mps_cell::{Cell, Pass, PassFault, meet};
 use std::alloc::Global;
@@ -17,36 +17,37 @@ fn cell(alloc: Global) -> Option<Cell>
     Cell::open(alloc, names, session).ok()
 }
 
-// Asks passes for the command of the row.
+// All passes of the cell.
+fn all_passes<'r, 'c, R: Wait>(
+    rt: &'r R,
+    alloc: Global,
+    cell: &'c mut Cell,
+) -> Option<Passes<'r, 'c, R>> {
+    match cell.passes() {
+        Ok(all) => Some(Passes { rt, alloc, all }),
+        Err(_) => None,
+    }
+}
+
+// Asks passes of the cells for the command of the row.
 fn passes_asked<R: Wait>(
     rt: &R,
     alloc: Global,
     row: &Row<'_>,
     until: Until,
-    first: Vec<Pass<'_>>,
-    second: Vec<Pass<'_>>,
+    first: &mut Cell,
+    second: &mut Cell,
 ) -> Option<Outcome> {
-    let names = names(alloc)?;
-    let mut first = Passes {
-        rt,
-        alloc,
-        all: first,
-    };
-    let mut second = Passes {
-        rt,
-        alloc,
-        all: second,
-    };
-    compared(alloc, &names, row, until, &mut first, &mut second)
+    let mut first = all_passes(rt, alloc, first)?;
+    let mut second = all_passes(rt, alloc, second)?;
+    compared(alloc, row, until, &mut first, &mut second)
 }
 
 /// Asks a pass for the command of the row.
 pub fn pass_asked<R: Wait>(rt: &R, alloc: Global, row: &Row<'_>, until: Until) -> Option<Outcome> {
     let mut first = cell(alloc)?;
     let mut second = cell(alloc)?;
-    let first = first.passes().ok()?;
-    let second = second.passes().ok()?;
-    passes_asked(rt, alloc, row, until, first, second)
+    passes_asked(rt, alloc, row, until, &mut first, &mut second)
 }
 
 /// Opens a cell.
@@ -62,37 +63,42 @@ pub fn opens_a_cell(alloc: Global, until: Until) -> Option<Outcome> {
     if made { answered(true) } else { refused(true) }
 }
 
-/// Hands out the passes of a cell. Where memory ran out, they count as given.
-pub fn hands_out_passes(alloc: Global, until: Until) -> Option<Outcome> {
-    let mut cell = cell(alloc)?;
-    if until == Until::Before {
-        return Some(Outcome::Reached);
-    }
-    let fault = match cell.passes() {
-        Ok(all) => {
-            if until == Until::After {
-                return Some(Outcome::Reached);
-            }
-            return answered(all.len() == 3);
-        }
-        Err(fault) => fault,
-    };
-    if until == Until::After {
-        return Some(Outcome::Reached);
-    }
-    let is_given = matches!(cell.passes(), Err(PassFault::Given));
-    if fault == PassFault::Memory {
-        refused(is_given)
-    } else {
-        Some(Outcome::Other)
+fn handed_out(cell: &mut Cell) -> Came {
+    match cell.passes() {
+        Ok(all) => came_to(all.len() == 3),
+        Err(PassFault::Memory) => Came::Memory,
+        Err(_) => Came::Other,
     }
 }
 
-/// Has a pass ask for the length of the journal.
-pub fn asks_for_the_front(alloc: Global, until: Until) -> Option<Outcome> {
+// Whether its passes count as given.
+fn are_given(cell: &mut Cell) -> bool {
+    matches!(cell.passes(), Err(PassFault::Given))
+}
+
+// Hands out the passes of the cell.
+fn hands_out(cell: &mut Cell, until: Until) -> Option<Outcome> {
+    if until == Until::Before {
+        return Some(Outcome::Reached);
+    }
+    let handed = handed_out(cell);
+    if until == Until::After {
+        return Some(Outcome::Reached);
+    }
+    match handed {
+        Came::Memory => refused(are_given(cell)),
+        handed => answered(handed == Came::Wanted),
+    }
+}
+
+/// Hands out the passes of a cell. Where memory ran out, they count as given.
+pub fn hands_out_passes(alloc: Global, until: Until) -> Option<Outcome> {
     let mut cell = cell(alloc)?;
-    let mut all = cell.passes().ok()?;
-    let pass = all.get_mut(0)?;
+    hands_out(&mut cell, until)
+}
+
+// Has the pass ask for the length of the journal.
+fn front_asked(pass: &mut Pass<'_>, until: Until) -> Option<Outcome> {
     if until == Until::Before {
         return Some(Outcome::Reached);
     }
@@ -101,6 +107,13 @@ pub fn asks_for_the_front(alloc: Global, until: Until) -> Option<Outcome> {
         return Some(Outcome::Reached);
     }
     answered(front == 0)
+}
+
+/// Has a pass ask for the length of the journal.
+pub fn asks_for_the_front(alloc: Global, until: Until) -> Option<Outcome> {
+    let mut cell = cell(alloc)?;
+    let mut all = cell.passes().ok()?;
+    front_asked(all.get_mut(0)?, until)
 }
 
 // The last of these passes of the cell.
@@ -122,18 +135,25 @@ pub fn has_two_meet(alloc: Global, until: Until) -> Option<Outcome> {
     two_meet(&cell, &mut all, until)
 }
 
+// Has the two passes meet.
+fn passes_meet(first: &mut Pass<'_>, second: &mut Pass<'_>, until: Until) -> Option<Outcome>
+    requires { second.old.cell ≡ first.old.cell }
+{
+    if until == Until::Before {
+        return Some(Outcome::Reached);
+    }
+    let order = meet(first, second);
+    if until == Until::After {
+        return Some(Outcome::Reached);
+    }
+    answered(order == Ordering::Equal)
+}
+
 // Has the last two of these passes of the cell meet.
 fn two_meet<'a>(cell: &'a Cell, all: &mut Vec<Pass<'a>>, until: Until) -> Option<Outcome>
     requires { All (λ p. p.cell ≡ cell.now.cell) all.old.items }
 {
     let mut second = last(cell, all)?;
     let mut first = last(cell, all)?;
-    if until == Until::Before {
-        return Some(Outcome::Reached);
-    }
-    let order = meet(&mut first, &mut second);
-    if until == Until::After {
-        return Some(Outcome::Reached);
-    }
-    answered(order == Ordering::Equal)
+    passes_meet(&mut first, &mut second, until)
 }

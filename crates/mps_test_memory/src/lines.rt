@@ -1,7 +1,8 @@
 //! Calls that read and write lines.
-ghost use Rattle.std.specs.Prelude.{◌≡◌, false, IfSome};
+ghost use Rattle.std.specs.Prelude.{◌≡◌, false, length, IfSome};
+ghost use Rattle.mps_dev.specs.Pieces.{calls_of};
 
-use crate::outcomes::{Outcome, Until, answered, refused};
+use crate::outcomes::{Came, Outcome, Until, answered, refused};
 use crate::parties::{names, opened, opened_of};
 use mps_base::{Role, Roles, StepId};
 use mps_command::{Answer, StepIds};
@@ -19,20 +20,40 @@ const SAY: &[u8] = b"send c \"a text that is longer than what a value holds in p
 
 pub const TOLD: &[u8] = b"done 2 \"a text that is longer than what a value holds in place\"";
 
-/// Reads a command with a text.
-pub fn reads_a_command(alloc: Global, until: Until) -> Option<Outcome> {
-    let names = names(alloc)?;
+fn command_read(alloc: Global, names: &Roles) -> Came {
+    match read_command(alloc, names, SAY) {
+        Ok(_) => Came::Wanted,
+        Err(LineFault::Memory) => Came::Memory,
+        Err(_) => Came::Other,
+    }
+}
+
+// Reads a command with a text, of these roles.
+fn reads_a_command_of(alloc: Global, names: &Roles, until: Until) -> Option<Outcome> {
     if until == Until::Before {
         return Some(Outcome::Reached);
     }
-    let read = read_command(alloc, &names, SAY);
+    let read = command_read(alloc, names);
     if until == Until::After {
         return Some(Outcome::Reached);
     }
     match read {
-        Ok(_) => answered(true),
-        Err(LineFault::Memory) => refused(read_command(alloc, &names, SAY).is_ok()),
-        Err(_) => Some(Outcome::Other),
+        Came::Memory => refused(command_read(alloc, names) == Came::Wanted),
+        read => answered(read == Came::Wanted),
+    }
+}
+
+/// Reads a command with a text.
+pub fn reads_a_command(alloc: Global, until: Until) -> Option<Outcome> {
+    let names = names(alloc)?;
+    reads_a_command_of(alloc, &names, until)
+}
+
+fn answer_read(alloc: Global, line: &[u8]) -> Came {
+    match read_answer(alloc, line) {
+        Ok(_) => Came::Wanted,
+        Err(LineFault::Memory) => Came::Memory,
+        Err(_) => Came::Other,
     }
 }
 
@@ -41,14 +62,29 @@ pub fn reads_an_answer(alloc: Global, line: &[u8], until: Until) -> Option<Outco
     if until == Until::Before {
         return Some(Outcome::Reached);
     }
-    let read = read_answer(alloc, line);
+    let read = answer_read(alloc, line);
     if until == Until::After {
         return Some(Outcome::Reached);
     }
     match read {
-        Ok(_) => answered(true),
-        Err(LineFault::Memory) => refused(read_answer(alloc, line).is_ok()),
-        Err(_) => Some(Outcome::Other),
+        Came::Memory => refused(answer_read(alloc, line) == Came::Wanted),
+        read => answered(read == Came::Wanted),
+    }
+}
+
+// Writes the answer at the end of the text.
+fn writes_to(answer: &Answer, text: &mut Vec<u8>, until: Until) -> Option<Outcome> {
+    if until == Until::Before {
+        return Some(Outcome::Reached);
+    }
+    let is_written = write_answer(answer, text).is_ok();
+    if until == Until::After {
+        return Some(Outcome::Reached);
+    }
+    if is_written {
+        answered(text.as_slice() == b"undone 12345".as_slice())
+    } else {
+        refused(b"undone 12345".as_slice().starts_with(text.as_slice()))
     }
 }
 
@@ -56,16 +92,24 @@ pub fn reads_an_answer(alloc: Global, line: &[u8], until: Until) -> Option<Outco
 pub fn writes_an_answer(alloc: Global, until: Until) -> Option<Outcome> {
     let answer = Answer::Undone(StepIds::one(StepId::new(12_345)));
     let mut text = Vec::new(alloc);
+    writes_to(&answer, &mut text, until)
+}
+
+// Writes what the session shows at the end of the text.
+fn shows_to(names: &Roles, session: &Session, text: &mut Vec<u8>, until: Until) -> Option<Outcome>
+    requires { length names.now ≡ length session.now.types }
+{
     if until == Until::Before {
         return Some(Outcome::Reached);
     }
-    let written = write_answer(&answer, &mut text);
+    let is_written = write_show(names, session, text).is_ok();
     if until == Until::After {
         return Some(Outcome::Reached);
     }
-    match written {
-        Ok(()) => answered(text.as_slice() == b"undone 12345".as_slice()),
-        Err(_) => refused(b"undone 12345".as_slice().starts_with(text.as_slice())),
+    if is_written {
+        answered(!text.is_empty())
+    } else {
+        refused(text.is_empty() && write_show(names, session, text).is_ok())
     }
 }
 
@@ -73,17 +117,7 @@ pub fn writes_an_answer(alloc: Global, until: Until) -> Option<Outcome> {
 pub fn writes_a_show(alloc: Global, until: Until) -> Option<Outcome> {
     let (names, session) = opened(alloc)?;
     let mut text = Vec::new(alloc);
-    if until == Until::Before {
-        return Some(Outcome::Reached);
-    }
-    let written = write_show(&names, &session, &mut text);
-    if until == Until::After {
-        return Some(Outcome::Reached);
-    }
-    match written {
-        Ok(()) => answered(!text.is_empty()),
-        Err(_) => refused(text.is_empty() && write_show(&names, &session, &mut text).is_ok()),
-    }
+    shows_to(&names, &session, &mut text, until)
 }
 
 // ---- conversations
@@ -100,12 +134,34 @@ fn solo(alloc: Global, protocol: &[u8]) -> Option<Solo> {
     Some(Solo::new(room, Role::new(0)))
 }
 
-// What a conversation of these lines comes to.
-fn talk(alloc: Global, caller: &mut Solo, lines: &[u8]) -> Option<(Vec<u8>, Ending)> {
-    let mut reader = Pieces::new(in_one_piece(alloc, lines)?, None);
-    let mut writer = Short::new(alloc, 99).ok()?;
-    let ending = converse(alloc, caller, &mut reader, &mut writer);
-    Some((Vec::from_slice(alloc, writer.bytes()).ok()?, ending))
+// What comes, and what is told, both over memory.
+#[derive(Drop)]
+struct Streams {
+    reader: Pieces,
+    writer: Short,
+}
+
+// These bytes in one piece, and room for 99 bytes of answers.
+fn streams_of(alloc: Global, bytes: &[u8]) -> Option<Streams>
+    ensures reads { IfSome result (λ s. calls_of s.reader ≡ 0) }
+    ensures writes { IfSome result (λ s. s.writer.failed_calls ≡ 0) }
+{
+    let pieces = in_one_piece(alloc, bytes)?;
+    match Short::new(alloc, 99) {
+        Ok(writer) => Some(Streams {
+            reader: Pieces::new(pieces, None),
+            writer,
+        }),
+        Err(_) => None,
+    }
+}
+
+// How the conversation ends.
+fn talk(alloc: Global, caller: &mut Solo, streams: &mut Streams) -> Ending
+    requires reads { calls_of streams.old.reader ≡ 0 }
+    requires writes { streams.old.writer.failed_calls ≡ 0 }
+{
+    converse(alloc, caller, &mut streams.reader, &mut streams.writer)
 }
 
 // Whether a further conversation finds the step, or finds that there is none.
@@ -115,32 +171,61 @@ fn finds(alloc: Global, caller: &mut Solo, is_there: bool) -> Option<bool> {
     } else {
         b"refused nostep\n".as_slice()
     };
-    let (told, ending) = talk(alloc, caller, b"undo 1\n")?;
-    Some(told.as_slice() == wanted && ending == Ending::Closed)
+    let mut streams = streams_of(alloc, b"undo 1\n")?;
+    let ending = talk(alloc, caller, &mut streams);
+    Some(streams.writer.bytes() == wanted && ending == Ending::Closed)
+}
+
+// What it comes to where this was told, the conversation ended so, the step is there, or isn't, and is found to be so.
+fn talk_judged(told: &[u8], ending: Ending, is_there: bool, is_found: bool) -> Option<Outcome> {
+    let is_done = told == b"done 1\n".as_slice();
+    let is_closed = ending == Ending::Closed;
+    if is_done && is_closed {
+        answered(is_there && is_found)
+    } else if told == b"refused memory\n".as_slice() && is_closed {
+        refused(!is_there && is_found)
+    } else if is_done && ending == Ending::Memory {
+        // the bytes after the last LF weren't kept
+        refused(is_there && is_found)
+    } else if told.is_empty() && ending == Ending::Memory {
+        refused(is_found)
+    } else {
+        Some(Outcome::Other)
+    }
+}
+
+// Holds the conversation.
+fn converses_over(
+    alloc: Global,
+    caller: &mut Solo,
+    streams: &mut Streams,
+    until: Until,
+) -> Option<Outcome>
+    requires reads { calls_of streams.old.reader ≡ 0 }
+    requires writes { streams.old.writer.failed_calls ≡ 0 }
+{
+    if until == Until::Before {
+        return Some(Outcome::Reached);
+    }
+    let ending = talk(alloc, caller, streams);
+    if until == Until::After {
+        return Some(Outcome::Reached);
+    }
+    let is_there = caller.room.entries() == 1;
+    let is_found = finds(alloc, caller, is_there)?;
+    talk_judged(streams.writer.bytes(), ending, is_there, is_found)
+}
+
+// Holds the conversation of these bytes.
+fn converses_with(alloc: Global, caller: &mut Solo, bytes: &[u8], until: Until) -> Option<Outcome> {
+    let mut streams = streams_of(alloc, bytes)?;
+    converses_over(alloc, caller, &mut streams, until)
 }
 
 /// Holds a conversation of these bytes, of which `send b 5` is the one whole line.
 pub fn converses(alloc: Global, protocol: &[u8], bytes: &[u8], until: Until) -> Option<Outcome> {
     let mut caller = solo(alloc, protocol)?;
-    let mut reader = Pieces::new(in_one_piece(alloc, bytes)?, None);
-    let mut writer = Short::new(alloc, 99).ok()?;
-    if until == Until::Before {
-        return Some(Outcome::Reached);
-    }
-    let ending = converse(alloc, &mut caller, &mut reader, &mut writer);
-    if until == Until::After {
-        return Some(Outcome::Reached);
-    }
-    let is_there = caller.room.entries() == 1;
-    let is_found = finds(alloc, &mut caller, is_there)?;
-    match (writer.bytes(), ending) {
-        (b"done 1\n", Ending::Closed) => answered(is_there && is_found),
-        (b"refused memory\n", Ending::Closed) => refused(!is_there && is_found),
-        // the bytes after the last LF weren't kept
-        (b"done 1\n", Ending::Memory) => refused(is_there && is_found),
-        (b"", Ending::Memory) => refused(is_found),
-        _ => Some(Outcome::Other),
-    }
+    converses_with(alloc, &mut caller, bytes, until)
 }
 
 // ---- connections
@@ -154,26 +239,26 @@ fn hub(alloc: Global) -> Option<Hub>
     Hub::of(alloc, &names, 1, sessions).ok()
 }
 
-// What a connection with these lines is told, and how it ends.
+// How the connection ends.
 fn connect<R: Wait + 'static>(
     rt: &R,
     alloc: Global,
     desk: &Desk<'_>,
-    lines: &[u8],
-) -> Option<(Vec<u8>, Attended)> {
-    let mut reader = Pieces::new(in_one_piece(alloc, lines)?, None);
-    let mut writer = Short::new(alloc, 99).ok()?;
-    let ended = attend(
+    streams: &mut Streams,
+) -> Attended
+    requires reads { calls_of streams.old.reader ≡ 0 }
+    requires writes { streams.old.writer.failed_calls ≡ 0 }
+{
+    attend(
         rt,
         alloc,
         desk,
         &Unguarded,
         no_keepers(),
         1,
-        &mut reader,
-        &mut writer,
-    );
-    Some((Vec::from_slice(alloc, writer.bytes()).ok()?, ended))
+        &mut streams.reader,
+        &mut streams.writer,
+    )
 }
 
 // Whether the pass is back, and a further connection finds the step, or finds that there is none.
@@ -188,39 +273,33 @@ fn is_back<R: Wait + 'static>(
     } else {
         b"joined 1 a\nrefused nostep\n".as_slice()
     };
-    let (told, _) = connect(rt, alloc, desk, b"join 1 a\nundo 1\n")?;
-    Some(told.as_slice() == wanted)
+    let mut streams = streams_of(alloc, b"join 1 a\nundo 1\n")?;
+    let _ = connect(rt, alloc, desk, &mut streams);
+    Some(streams.writer.bytes() == wanted)
 }
 
-// Attends to a connection of the desk, and judges what it was told.
-fn attends_at<R: Wait + 'static>(
+// Attends to the connection, and judges what it was told.
+fn attends_to<R: Wait + 'static>(
     rt: &R,
     alloc: Global,
     desk: &Desk<'_>,
+    streams: &mut Streams,
     until: Until,
-) -> Option<Outcome> {
-    let mut reader = Pieces::new(in_one_piece(alloc, b"join 1 a\nsend b 5\n")?, None);
-    let mut writer = Short::new(alloc, 99).ok()?;
+) -> Option<Outcome>
+    requires reads { calls_of streams.old.reader ≡ 0 }
+    requires writes { streams.old.writer.failed_calls ≡ 0 }
+{
     if until == Until::Before {
         return Some(Outcome::Reached);
     }
-    let ended = attend(
-        rt,
-        alloc,
-        desk,
-        &Unguarded,
-        no_keepers(),
-        1,
-        &mut reader,
-        &mut writer,
-    );
+    let ended = connect(rt, alloc, desk, streams);
     if until == Until::After {
         return Some(Outcome::Reached);
     }
-    told(rt, alloc, desk, writer.bytes(), ended)
+    told(rt, alloc, desk, streams.writer.bytes(), ended)
 }
 
-// What the connection was told, and how it ended.
+// What it comes to where the connection was told this, and ended so.
 fn told<R: Wait + 'static>(
     rt: &R,
     alloc: Global,
@@ -228,18 +307,33 @@ fn told<R: Wait + 'static>(
     bytes: &[u8],
     ended: Attended,
 ) -> Option<Outcome> {
-    match (bytes, ended) {
-        (b"joined 1 a\ndone 1\n", Attended::Conversed(Ending::Closed)) => {
-            answered(is_back(rt, alloc, desk, true)?)
-        }
-        (b"joined 1 a\nrefused memory\n", Attended::Conversed(Ending::Closed)) => {
-            refused(is_back(rt, alloc, desk, false)?)
-        }
-        (b"joined 1 a\n", Attended::Conversed(Ending::Memory)) | (b"", Attended::Memory) => {
-            refused(is_back(rt, alloc, desk, true)? || is_back(rt, alloc, desk, false)?)
-        }
-        _ => Some(Outcome::Other),
+    let is_closed = ended == Attended::Conversed(Ending::Closed);
+    if bytes == b"joined 1 a\ndone 1\n".as_slice() && is_closed {
+        answered(is_back(rt, alloc, desk, true)?)
+    } else if bytes == b"joined 1 a\nrefused memory\n".as_slice() && is_closed {
+        refused(is_back(rt, alloc, desk, false)?)
+    } else if is_untold(bytes, ended) {
+        refused(is_back(rt, alloc, desk, true)? || is_back(rt, alloc, desk, false)?)
+    } else {
+        Some(Outcome::Other)
     }
+}
+
+// Whether memory ran out for the first line, or for a later one.
+fn is_untold(bytes: &[u8], ended: Attended) -> bool {
+    (bytes.is_empty() && ended == Attended::Memory)
+        || (bytes == b"joined 1 a\n".as_slice() && ended == Attended::Conversed(Ending::Memory))
+}
+
+// Attends to such a connection of the desk.
+fn attends_at<R: Wait + 'static>(
+    rt: &R,
+    alloc: Global,
+    desk: &Desk<'_>,
+    until: Until,
+) -> Option<Outcome> {
+    let mut streams = streams_of(alloc, b"join 1 a\nsend b 5\n")?;
+    attends_to(rt, alloc, desk, &mut streams, until)
 }
 
 /// Attends to a connection that joins and sends one command.

@@ -24,14 +24,37 @@ pub enum Outcome {
     Other,
 }
 
+/// What a call by itself comes to.
+#[derive(Clone, Copy, PartialEq, Eq)]
+pub enum Came {
+    /// To the answer with ample memory.
+    Wanted,
+    /// To the answer that memory ran out.
+    Memory,
+    /// To another one.
+    Other,
+}
+
+/// What a call comes to that is answered as with ample memory, or isn't.
+pub fn came_to(is_wanted: bool) -> Came {
+    if is_wanted { Came::Wanted } else { Came::Other }
+}
+
+/// How far a run goes, by its word.
+const UNTILS: &[(&str, Until)] = &[
+    ("before", Until::Before),
+    ("after", Until::After),
+    ("whole", Until::Over),
+];
+
 /// How far a run of that word goes.
 pub fn until_named(word: &[u8]) -> Option<Until> {
-    match word {
-        b"before" => Some(Until::Before),
-        b"after" => Some(Until::After),
-        b"whole" => Some(Until::Over),
-        _ => None,
+    for (name, until) in UNTILS {
+        if name.as_bytes() == word {
+            return Some(*until);
+        }
     }
+    None
 }
 
 /// What it comes to where the answer is, or isn't, that of ample memory.

@@ -2,11 +2,12 @@
 ghost use Rattle.std.specs.Prelude.{◌≡◌, ◌<◌, length, IfSome};
 ghost use Rattle.mps_machine.specs.Machine.{initial};
 
-use crate::outcomes::{Outcome, Until, answered, refused};
+use crate::outcomes::{Came, Outcome, Until, answered, came_to, refused};
 use crate::rows::{HEARD, PROTOCOL, Row};
-use mps_base::{Role, Roles};
+use mps_base::{Role, Roles, StepId};
 use mps_cell::Pass;
-use mps_command::{Answer, Command, Refusal, StepIds};
+use mps_command::{Answer, Command, Forward, Refusal, StepIds};
+use mps_global::Protocol;
 use mps_line::{read_script_line, write_answer};
 use mps_room::Room;
 use mps_session::{Session, open_protocol};
@@ -32,18 +33,29 @@ pub fn opened(alloc: Global) -> Option<(Roles, Session)>
     opened_of(alloc, PROTOCOL)
 }
 
+// The roles of the protocol, and a new session of it.
+fn opened_from(alloc: Global, protocol: &Protocol) -> Option<(Roles, Session)>
+    ensures new { IfSome result (λ r. r.1.state ≡ initial) }
+    ensures names { IfSome result (λ r. length r.0 ≡ length r.1.types) }
+{
+    let Ok(session) = open_protocol(alloc, protocol) else {
+        return None;
+    };
+    match Roles::of(alloc, protocol.roles.as_slice()) {
+        Ok(names) if names.count() == session.roles() => Some((names, session)),
+        _ => None,
+    }
+}
+
 /// The roles of this protocol, and a new session of it.
 pub fn opened_of(alloc: Global, text: &[u8]) -> Option<(Roles, Session)>
     ensures new { IfSome result (λ r. r.1.state ≡ initial) }
     ensures names { IfSome result (λ r. length r.0 ≡ length r.1.types) }
 {
-    let protocol = read_protocol(alloc, text).ok()?;
-    let session = open_protocol(alloc, &protocol).ok()?;
-    let names = Roles::of(alloc, protocol.roles.as_slice()).ok()?;
-    if names.count() != session.roles() {
-        return None;
+    match read_protocol(alloc, text) {
+        Ok(protocol) => opened_from(alloc, &protocol),
+        Err(_) => None,
     }
-    Some((names, session))
 }
 
 /// A session by itself.
@@ -73,20 +85,37 @@ fn undone(ids: Result<StepIds, Refusal>) -> Answer {
     }
 }
 
+// The answer to a step.
+fn step_answer(session: &mut Session, role: Role, step: Forward) -> Answer
+    requires { role < length session.old.types }
+{
+    match session.forward(role, step) {
+        Ok(done) => Answer::Done(done),
+        Err(refusal) => Answer::Refused(refusal),
+    }
+}
+
+// The answer to an undo.
+fn undo_answer(session: &mut Session, role: Role, id: StepId) -> Answer
+    requires { role < length session.old.types }
+{
+    match session.undo(role, id) {
+        Ok(_) => Answer::Undone(StepIds::one(id)),
+        Err(refusal) => Answer::Refused(refusal),
+    }
+}
+
 // The session's answer by the call for that command.
 fn session_answer(session: &mut Session, role: Role, command: Command) -> Option<Answer>
     requires { role < length session.old.types }
 {
-    Some(match command {
-        Command::Forward(step) => match session.forward(role, step) {
-            Ok(done) => Answer::Done(done),
-            Err(refusal) => Answer::Refused(refusal),
-        },
-        Command::Undo(id) => undone(session.undo(role, id).map(|_| StepIds::one(id))),
-        Command::Rollback(id) => undone(session.rollback(role, id)),
-        Command::Back(name) => undone(session.back(role, &name)),
-        Command::News(_) | Command::Show => return None,
-    })
+    match command {
+        Command::Forward(step) => Some(step_answer(session, role, step)),
+        Command::Undo(id) => Some(undo_answer(session, role, id)),
+        Command::Rollback(id) => Some(undone(session.rollback(role, id))),
+        Command::Back(name) => Some(undone(session.back(role, &name))),
+        Command::News(_) | Command::Show => None,
+    }
 }
 
 impl Party for Alone {
@@ -173,12 +202,23 @@ fn asked<P: Party>(alloc: Global, names: &Roles, party: &mut P, line: &str) -> O
     party.ask(role, command)
 }
 
+fn is_refused(answer: &Answer) -> bool {
+    matches!(answer, Answer::Refused(_))
+}
+
+// Whether the line is not refused.
+fn is_done<P: Party>(alloc: Global, names: &Roles, party: &mut P, line: &str) -> bool {
+    match asked(alloc, names, party, line) {
+        Some(answer) => !is_refused(&answer),
+        None => false,
+    }
+}
+
 // Whether none of the lines is refused.
 fn are_done<P: Party>(alloc: Global, names: &Roles, party: &mut P, lines: &[&str]) -> bool {
     for line in lines {
-        match asked(alloc, names, party, line) {
-            None | Some(Answer::Refused(_)) => return false,
-            Some(_) => {}
+        if !is_done(alloc, names, party, line) {
+            return false;
         }
     }
     true
@@ -190,14 +230,34 @@ fn text_of(alloc: Global, answer: &Answer) -> Option<Vec<u8>> {
     Some(text)
 }
 
+// Whether the answers have the same text.
+fn are_same(alloc: Global, first: &Answer, second: &Answer) -> Option<bool> {
+    let first = text_of(alloc, first)?;
+    Some(first == text_of(alloc, second)?)
+}
+
+// Whether the parties stand alike.
+fn stand_alike<P: Party, Q: Party>(first: &mut P, second: &mut Q) -> Option<bool> {
+    let first = first.state()?;
+    Some(first == second.state()?)
+}
+
 // Whether both parties stand as they have to after their answers, which are the same.
 fn are_alike<P: Party, Q: Party>(
     alloc: Global,
     first: (&mut P, &Answer),
     second: (&mut Q, &Answer),
 ) -> Option<bool> {
-    let same = text_of(alloc, first.1)? == text_of(alloc, second.1)?;
-    Some(same && first.0.state()? == second.0.state()?)
+    if are_same(alloc, first.1, second.1)? {
+        stand_alike(first.0, second.0)
+    } else {
+        Some(false)
+    }
+}
+
+// Whether the party stands as before.
+fn stands<P: Party>(party: &mut P, before: &[u8]) -> Option<bool> {
+    Some(party.state()?.as_slice() == before)
 }
 
 // Whether the party, which was told that memory ran out, stands as before, and now answers as the other did.
@@ -209,15 +269,71 @@ fn goes_on<P: Party, Q: Party>(
     first: &mut P,
     second: (&mut Q, &Answer),
 ) -> Option<bool> {
-    if first.state()?.as_slice() != before {
+    if !stands(first, before)? {
         return Some(false);
     }
     let answer = asked(alloc, names, first, line)?;
     are_alike(alloc, (first, &answer), second)
 }
 
-/// Asks the first for the command of the row, and compares it with the second, which is asked with ample memory.
-pub fn compared<P: Party, Q: Party>(
+/// Whether the answer is that memory ran out.
+pub fn ran_out(answer: &Answer) -> bool {
+    matches!(answer, Answer::Refused(Refusal::Memory))
+}
+
+// What it comes to that the first is answered so, where the second, which is asked with ample memory, is answered so.
+fn judged<P: Party, Q: Party>(
+    alloc: Global,
+    names: &Roles,
+    line: &str,
+    before: &[u8],
+    first: (&mut P, &Answer),
+    second: (&mut Q, &Answer),
+) -> Option<Outcome> {
+    if ran_out(first.1) {
+        refused(goes_on(alloc, names, line, before, first.0, second)?)
+    } else {
+        answered(are_alike(alloc, first, second)?)
+    }
+}
+
+// The same, with what the second is answered.
+fn judged_beside<P: Party, Q: Party>(
+    alloc: Global,
+    names: &Roles,
+    line: &str,
+    before: &[u8],
+    until: Until,
+    first: (&mut P, &Answer),
+    second: &mut Q,
+) -> Option<Outcome> {
+    if until == Until::After {
+        return Some(Outcome::Reached);
+    }
+    let wanted = asked(alloc, names, second, line)?;
+    judged(alloc, names, line, before, first, (second, &wanted))
+}
+
+// Asks the first for the command of the line, where that is how it stands before, and compares it with the second.
+fn compared_at<P: Party, Q: Party>(
+    alloc: Global,
+    names: &Roles,
+    line: &str,
+    before: &[u8],
+    until: Until,
+    first: &mut P,
+    second: &mut Q,
+) -> Option<Outcome> {
+    let (role, command) = read_script_line(alloc, names, line.as_bytes()).ok()?;
+    if until == Until::Before {
+        return Some(Outcome::Reached);
+    }
+    let answer = first.ask(role, command)?;
+    judged_beside(alloc, names, line, before, until, (first, &answer), second)
+}
+
+// The same for the row.
+fn compared_by<P: Party, Q: Party>(
     alloc: Global,
     names: &Roles,
     row: &Row<'_>,
@@ -230,26 +346,19 @@ pub fn compared<P: Party, Q: Party>(
         return None;
     }
     let before = first.state()?;
-    let (role, command) = read_script_line(alloc, names, line.as_bytes()).ok()?;
-    if until == Until::Before {
-        return Some(Outcome::Reached);
-    }
-    let answer = first.ask(role, command)?;
-    if until == Until::After {
-        return Some(Outcome::Reached);
-    }
-    let wanted = asked(alloc, names, second, line)?;
-    if !matches!(answer, Answer::Refused(Refusal::Memory)) {
-        return answered(are_alike(alloc, (first, &answer), (second, &wanted))?);
-    }
-    refused(goes_on(
-        alloc,
-        names,
-        line,
-        before.as_slice(),
-        first,
-        (second, &wanted),
-    )?)
+    compared_at(alloc, names, line, before.as_slice(), until, first, second)
+}
+
+/// Asks the first for the command of the row, and compares it with the second, which is asked with ample memory.
+pub fn compared<P: Party, Q: Party>(
+    alloc: Global,
+    row: &Row<'_>,
+    until: Until,
+    first: &mut P,
+    second: &mut Q,
+) -> Option<Outcome> {
+    let names = names(alloc)?;
+    compared_by(alloc, &names, row, until, first, second)
 }
 
 /// The names of the protocol's roles.
@@ -260,57 +369,53 @@ pub fn names(alloc: Global) -> Option<Roles> {
 /// Asks a session for the command of the row.
 pub fn session_asked(alloc: Global, row: &Row<'_>, until: Until) -> Option<Outcome> {
     let mut first = Alone::new(alloc)?;
-    session_asked_beside(alloc, &mut first, row, until)
-}
-
-// The same beside a second session.
-fn session_asked_beside(
-    alloc: Global,
-    first: &mut Alone,
-    row: &Row<'_>,
-    until: Until,
-) -> Option<Outcome> {
     let mut second = Alone::new(alloc)?;
-    compared(alloc, &names(alloc)?, row, until, first, &mut second)
+    compared(alloc, row, until, &mut first, &mut second)
 }
 
 /// Asks a room for the command of the row.
 pub fn room_asked(alloc: Global, row: &Row<'_>, until: Until) -> Option<Outcome> {
     let mut first = Roomed::new(alloc, PROTOCOL)?;
-    room_asked_beside(alloc, &mut first, row, until)
+    let mut second = Roomed::new(alloc, PROTOCOL)?;
+    compared(alloc, row, until, &mut first, &mut second)
 }
 
-// The same beside a second room.
-fn room_asked_beside(
-    alloc: Global,
-    first: &mut Roomed,
-    row: &Row<'_>,
-    until: Until,
-) -> Option<Outcome> {
-    let mut second = Roomed::new(alloc, PROTOCOL)?;
-    compared(alloc, &names(alloc)?, row, until, first, &mut second)
+fn entry_found(room: &Room) -> Came {
+    match room.entry(3) {
+        Ok(entry) => came_to(entry.is_some()),
+        Err(_) => Came::Memory,
+    }
+}
+
+// Asks the room for an entry.
+fn entry_asked(room: &Room, until: Until) -> Option<Outcome> {
+    if until == Until::Before {
+        return Some(Outcome::Reached);
+    }
+    let found = entry_found(room);
+    if until == Until::After {
+        return Some(Outcome::Reached);
+    }
+    match found {
+        Came::Memory => refused(entry_found(room) != Came::Memory),
+        found => answered(found == Came::Wanted),
+    }
+}
+
+// Whether the lines after which c has heard the text are done.
+fn is_heard(alloc: Global, party: &mut Roomed) -> bool {
+    match names(alloc) {
+        Some(names) => are_done(alloc, &names, party, HEARD),
+        None => false,
+    }
 }
 
 /// Asks a room for the entry of a receipt of a text.
 pub fn gives_an_entry(alloc: Global, until: Until) -> Option<Outcome> {
     let mut party = Roomed::new(alloc, PROTOCOL)?;
-    entry_given(alloc, &mut party, until)
-}
-
-// Asks for the entry once the lines before it are done.
-fn entry_given(alloc: Global, party: &mut Roomed, until: Until) -> Option<Outcome> {
-    if !are_done(alloc, &names(alloc)?, party, HEARD) {
-        return None;
-    }
-    if until == Until::Before {
-        return Some(Outcome::Reached);
-    }
-    let given = party.room.entry(3);
-    if until == Until::After {
-        return Some(Outcome::Reached);
-    }
-    match given {
-        Ok(entry) => answered(entry.is_some()),
-        Err(_) => refused(party.room.entry(3).is_ok()),
+    if is_heard(alloc, &mut party) {
+        entry_asked(&party.room, until)
+    } else {
+        None
     }
 }

@@ -1,7 +1,7 @@
 //! Three commands of one role to a new room, of which the first two are refused whatever memory there is.
 
 use crate::outcomes::{Outcome, Until, answered, refused};
-use crate::parties::{Party, Roomed};
+use crate::parties::{Party, Roomed, ran_out};
 use crate::rows::VERDICT;
 use mps_base::{Name, Role, StepId, Value};
 use mps_command::{Answer, Command, Forward, Refusal, Violation};
@@ -65,23 +65,34 @@ fn goes_on(room: &mut Roomed, before: &[u8]) -> Option<bool> {
     Some(is_first(&send(room)?))
 }
 
-/// Asks a new room for a receipt, an undo and a send.
-pub fn three_asked(alloc: Global, until: Until) -> Option<Outcome> {
-    let mut room = Roomed::new(alloc, VERDICT)?;
-    let before = room.state()?;
-    let slot = Name::read(b"x")?;
+// What it comes to that the three are answered so.
+fn judged(room: &mut Roomed, before: &[u8], answers: &Answers) -> Option<Outcome> {
+    if !are_refused(answers) {
+        return Some(Outcome::Other);
+    }
+    if ran_out(&answers.sent) {
+        refused(goes_on(room, before)?)
+    } else {
+        answered(is_first(&answers.sent))
+    }
+}
+
+// Asks the room for the three.
+fn three_asked_of(room: &mut Roomed, before: &[u8], slot: Name, until: Until) -> Option<Outcome> {
     if until == Until::Before {
         return Some(Outcome::Reached);
     }
-    let answers = ask_all(&mut room, slot)?;
+    let answers = ask_all(room, slot)?;
     if until == Until::After {
         return Some(Outcome::Reached);
     }
-    if !are_refused(&answers) {
-        return Some(Outcome::Other);
-    }
-    match answers.sent {
-        Answer::Refused(Refusal::Memory) => refused(goes_on(&mut room, before.as_slice())?),
-        sent => answered(is_first(&sent)),
-    }
+    judged(room, before, &answers)
+}
+
+/// Asks a new room for a receipt, an undo and a send.
+pub fn three_asked(alloc: Global, until: Until) -> Option<Outcome> {
+    let slot = Name::read(b"x")?;
+    let mut room = Roomed::new(alloc, VERDICT)?;
+    let before = room.state()?;
+    three_asked_of(&mut room, before.as_slice(), slot, until)
 }
