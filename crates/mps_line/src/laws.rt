@@ -58,8 +58,8 @@ pub fn one_numbered()
     one_spelling();
 }
 
-/// Each reply has one text, which stands on one line and has a byte at least, and a text is at most
-/// one reply's.
+/// Each reply has at most one text, which stands on one line and has a byte at least, and a text is at
+/// most one reply's.
 pub fn one_reply_line()
     ensures spelling { (a b : List ℕ) (r : Reply) → SpellsReply a r → SpellsReply b r → a ≡ b }
     ensures reply { (a : List ℕ) (r s : Reply) → SpellsReply a r → SpellsReply a s → r ≡ s }

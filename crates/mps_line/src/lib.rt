@@ -1,7 +1,7 @@
 //! The lines of a script and of a conversation, and the lines that answer them.
 //!
-//! A `Reply` is whatever may answer a line. Each command and each reply has one spelling, which is read and written
-//! here; a line that spells none is `LineFault::Bad`.
+//! A `Reply` is whatever may answer a line. Each command has one spelling, and each reply at most one, which are read
+//! and written here; a line that spells none is `LineFault::Bad`.
 //!
 //! ```
 //! let (role, command) = read_script_line(alloc, &roles, b"a undo 3")?;

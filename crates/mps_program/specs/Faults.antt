@@ -164,7 +164,7 @@ abbrev pub IsLoadFault : List ℕ → ToolFault → Type 0
 IsLoadFault file fault =
     IsFileFault file fault ⊎ ((given : Option (List ℕ)) × (left : Option (List ℕ)) × CantType given left fault)
 
--- how a run of these two files may fail: the first gives no protocol, or the script fails to be run
+-- how a run of these two files may fail: the first gives no types, or the script fails to be run
 abbrev pub IsRunFault : List ℕ → List ℕ → ToolFault → Type 0
 IsRunFault file script fault = IsLoadFault file fault ⊎ IsScriptFault script fault
 
@@ -173,7 +173,7 @@ IsRunFault file script fault = IsLoadFault file fault ⊎ IsScriptFault script f
 abbrev pub IsScriptsFault : List ℕ → List ℕ → ToolFault → Type 0
 IsScriptsFault script other fault = IsScriptFault script fault ⊎ (IsScriptFault other fault ⊎ (fault ≡ Write))
 
--- how a comparison of the scripts of two files may fail: the protocol isn't had, or the scripts fail to be compared
+-- how a comparison of the scripts of two files may fail: the first gives no types, or the scripts fail to be compared
 abbrev pub IsCompareFault : List ℕ → List ℕ → List ℕ → ToolFault → Type 0
 IsCompareFault file script other fault = IsLoadFault file fault ⊎ IsScriptsFault script other fault
 

@@ -106,6 +106,6 @@ IsOutFault folder first n (Bind why) = ⊤
 IsOutFault folder first n Accept = ⊤
 IsOutFault folder first n fault = IsTellFault first n fault ⊎ IsKeepingFault folder first n fault
 
--- how a server of this file may fail: the protocol isn't had, or the server fails
+-- how a server of this file may fail: the file gives no types, or the server fails
 abbrev pub IsServeFault : List ℕ → Option (List ℕ) → (first n : ℕ) → ToolFault → Type 0
 IsServeFault file folder first n fault = IsLoadFault file fault ⊎ IsOutFault folder first n fault

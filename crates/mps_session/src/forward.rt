@@ -96,8 +96,8 @@ impl Session {
         }
     }
 
-    // Does the step of a receipt or a pick. The message that waits is looked up once, for the verdict and for the
-    // answer.
+    // Does the step of a receipt or a pick. The step that sent the message that waits is looked up once, for the
+    // verdict, the answer and the gist.
     #[inline(always)]
     fn attempt_receipt(
         &mut self,

@@ -1,8 +1,8 @@
 //! Answers in short.
 use mps_base::StepId;
 
-/// What a session answered to a change, in short: where a step took a message, it names the step that sent it. Who has
-/// the command and the steps before it can tell the answer from it.
+/// What a session answered to a change, in short: where a step took a message, it names a step that gave the same
+/// message, which is the one that sent it. Whoever has the steps from before can tell the answer from it.
 #[derive(Debug, Drop)]
 pub enum Gist {
     /// The number of a new step, and, where it took a message, that of the step that sent it.
