@@ -1,7 +1,7 @@
 //! What the program does, from its words to its exit status.
 ghost use Rattle.std.specs.Prelude.{◌≡◌, ◌≢◌, ◌≤◌, IfErr, IfOk};
 ghost use Rattle.std.specs.Process.{exit_status};
-ghost use Rattle.mps_program.specs.Ends.{EndsAs, status_after};
+ghost use Rattle.mps_program.specs.Ends.{EndsAs, IsObeyed, status_after};
 ghost use Rattle.mps_program.specs.Faults.{status_of};
 ghost use Rattle.mps_program.specs.declared.faults.ToolFault.TheVariants.{Open as NoSession};
 
@@ -151,4 +151,23 @@ where
         Err(_) => return end(rt, &ToolFault::Memory),
     };
     end_after(rt, work(words.as_slice()))
+}
+
+/// Does what the words say that the program is called with, and ends after it.
+pub fn program<
+    R: Env
+        + Files<File = File>
+        + AllocGlobal
+        + Print
+        + Eprint
+        + Net<Listener = TcpListener, Stream = TcpStream>
+        + Clock
+        + Threads
+        + Wait
+        + Sync
+        + 'static,
+>(rt: &R) -> ExitCode
+    ensures { EndsAs IsObeyed (exit_status result) }
+{
+    end_with(rt, |words| obey(rt, words))
 }

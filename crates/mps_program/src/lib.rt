@@ -15,7 +15,7 @@ mod tally;
 
 pub use check::{check_file, lines_of, write_types};
 pub use comparison::{Tallies, compare_files, verdict_of};
-pub use entry::{carry_out, end, end_after, end_with, obey};
+pub use entry::{carry_out, end, end_after, end_with, obey, program};
 pub use faults::{ToolFault, fault_line, status};
 pub use files::{open_file, read_text};
 pub use journals::{FileKeeper, Keeping, keep_sessions};
