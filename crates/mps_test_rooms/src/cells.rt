@@ -1,10 +1,11 @@
 ghost use Rattle.std.specs.Prelude.{◌≡◌, false, IfOk, IfSome, All};
+ghost use Rattle.mps_cell.specs.Cells.{IsDealOf};
 
 use crate::numbers;
-use crate::numbers::is_numbered;
+use crate::numbers::are_numbered;
 use crate::texts::{TWO_PAIRS, VERDICT, asked, opened, told};
 use mps_base::{Name, Role, StepId, Value};
-use mps_cell::{Busy, Cell, Held, Pass, PassFault, Pause, meet};
+use mps_cell::{Busy, Cell, Deal, Held, Leave, Pass, PassFault, Pause, meet};
 use mps_command::{Answer, Command, Forward};
 use mps_room::{Caller, Room};
 use std::alloc::Global;
@@ -48,41 +49,85 @@ fn asked_of(alloc: Global, all: &[Pass<'_>], line: &str) -> Result<(usize, Comma
     Ok((role.index(), command))
 }
 
+// What the line is answered by a call of its role's pass.
+fn call_of<R: Wait>(
+    rt: &R,
+    alloc: Global,
+    all: &mut [Pass<'_>],
+    line: &str,
+) -> Result<Answer, Fail> {
+    let (place, command) = asked_of(alloc, all, line)?;
+    match all.get_mut(place) {
+        Some(pass) => Ok(pass.call(rt, command)),
+        None => Err("a pass".into()),
+    }
+}
+
+// The same by a try of a free cell.
+fn try_of(alloc: Global, all: &mut [Pass<'_>], line: &str) -> Result<Answer, Fail> {
+    let (place, command) = asked_of(alloc, all, line)?;
+    match all.get_mut(place) {
+        Some(pass) => match pass.try_call(command) {
+            Ok(answer) => Ok(answer),
+            Err(_) => Err("busy".into()),
+        },
+        None => Err("a pass".into()),
+    }
+}
+
 // Whether the row is answered as it says, by a call of its role's pass.
 fn is_called<R: Wait>(rt: &R, alloc: Global, all: &mut [Pass<'_>], row: Row) -> Result<bool, Fail> {
-    let (place, command) = asked_of(alloc, all, row.0)?;
-    let pass = all.get_mut(place).ok_or("a pass")?;
-    let answer = pass.call(rt, command);
+    let answer = call_of(rt, alloc, all, row.0)?;
     Ok(told(alloc, &answer)?.as_str() == row.1)
 }
 
 // The same by a try of a free cell.
 fn is_tried(alloc: Global, all: &mut [Pass<'_>], row: Row) -> Result<bool, Fail> {
-    let (place, command) = asked_of(alloc, all, row.0)?;
-    let pass = all.get_mut(place).ok_or("a pass")?;
-    match pass.try_call(command) {
-        Ok(answer) => Ok(told(alloc, &answer)?.as_str() == row.1),
-        Err(_) => Ok(false),
+    let answer = try_of(alloc, all, row.0)?;
+    Ok(told(alloc, &answer)?.as_str() == row.1)
+}
+
+// Whether each row is answered as it says, one after the other.
+fn are_called<R: Wait>(rt: &R, alloc: Global, all: &mut [Pass<'_>]) -> Result<bool, Fail> {
+    for row in UNDONE {
+        if !is_called(rt, alloc, all, *row)? {
+            return Ok(false);
+        }
+    }
+    Ok(true)
+}
+
+// The same by tries of a free cell.
+fn are_tried(alloc: Global, all: &mut [Pass<'_>]) -> Result<bool, Fail> {
+    for row in UNDONE {
+        if !is_tried(alloc, all, *row)? {
+            return Ok(false);
+        }
+    }
+    Ok(true)
+}
+
+// All passes of the cell.
+fn passes(cell: &mut Cell) -> Result<Vec<Pass<'_>>, Fail> {
+    match cell.passes() {
+        Ok(all) => Ok(all),
+        Err(_) => Err("passes".into()),
     }
 }
 
 #[test]
 fn answers_calls(rt: HostRuntime) -> Result<(), Fail> {
     let mut cell = cell(rt.alloc(), VERDICT)?;
-    let mut all = cell.passes().ok().ok_or("passes")?;
-    for row in UNDONE {
-        assert!(rt; is_called(&rt, rt.alloc(), all.as_mut_slice(), *row)?);
-    }
+    let mut all = passes(&mut cell)?;
+    assert!(rt; are_called(&rt, rt.alloc(), all.as_mut_slice())?);
     Ok(())
 }
 
 #[test]
 fn answers_tries_of_a_free_cell(rt: HostRuntime) -> Result<(), Fail> {
     let mut cell = cell(rt.alloc(), VERDICT)?;
-    let mut all = cell.passes().ok().ok_or("passes")?;
-    for row in UNDONE {
-        assert!(rt; is_tried(rt.alloc(), all.as_mut_slice(), *row)?);
-    }
+    let mut all = passes(&mut cell)?;
+    assert!(rt; are_tried(rt.alloc(), all.as_mut_slice())?);
     Ok(())
 }
 
@@ -100,18 +145,36 @@ fn are_in_order(all: &[Pass<'_>], count: usize) -> bool {
     place == count
 }
 
+// Whether the cell gives four passes in order.
+fn gives_four(cell: &mut Cell) -> bool {
+    match cell.passes() {
+        Ok(all) => are_in_order(all.as_slice(), 4),
+
+        // where memory is refused on purpose
+        Err(fault) => fault == PassFault::Memory,
+    }
+}
+
+// Whether it has given its passes.
+fn has_given(cell: &mut Cell) -> bool {
+    matches!(cell.passes(), Err(PassFault::Given))
+}
+
 #[test]
 fn gives_its_passes_once(rt: HostRuntime) -> Result<(), Fail> {
     let mut cell = cell(rt.alloc(), TWO_PAIRS)?;
-    match cell.passes() {
-        Ok(all) => assert!(rt; are_in_order(all.as_slice(), 4)),
-
-        // where memory is refused on purpose
-        Err(fault) => assert!(rt; fault == PassFault::Memory),
-    }
-    assert!(rt; matches!(cell.passes(), Err(PassFault::Given)));
-    assert!(rt; matches!(cell.passes(), Err(PassFault::Given)));
+    assert!(rt; gives_four(&mut cell));
+    assert!(rt; has_given(&mut cell));
+    assert!(rt; has_given(&mut cell));
     Ok(())
+}
+
+// The passes of a and c, of those of the four roles; the others go.
+fn of_a_and_c(mut all: Vec<Pass<'_>>) -> Option<(Pass<'_>, Pass<'_>)> {
+    all.truncate(3);
+    let c = all.pop()?;
+    all.truncate(1);
+    Some((all.pop()?, c))
 }
 
 // A command of a pass.
@@ -158,12 +221,17 @@ fn called<R: Wait>(rt: &R, pass: &mut Pass<'_>, ask: Ask) -> Option<Answer>
     Some(pass.call(rt, command(ask)?))
 }
 
+// Whether the answer shows a session.
+fn is_shown(answer: &Answer) -> bool {
+    matches!(answer, Answer::Shown(_))
+}
+
 // How long the journal is that a try of `show` shows to the pass.
 fn shown(pass: &mut Pass<'_>) -> Option<u64>
     ensures cell { pass.new.cell ≡ pass.old.cell }
 {
     match pass.try_call(Command::Show) {
-        Ok(Answer::Shown(_)) => Some(pass.seen()),
+        Ok(answer) if is_shown(&answer) => Some(pass.seen()),
         _ => None,
     }
 }
@@ -206,23 +274,59 @@ fn meetings<R: Wait>(rt: &R, a: &mut Pass<'_>, c: &mut Pass<'_>) -> Option<bool>
     )
 }
 
+// Lets the last of these passes of the cell go. Says whether there was one.
+fn skip<'a>(cell: &'a Cell, all: &mut Vec<Pass<'a>>) -> bool
+    requires all { All (λ p. p.cell ≡ cell.now.cell) all.old.items }
+    ensures rest { All (λ p. p.cell ≡ cell.now.cell) all.new.items }
+{
+    last(cell, all).is_some()
+}
+
+// Whether c meets the last of these passes of the cell as it has to.
+fn meets_last<'a, R: Wait>(
+    rt: &R,
+    cell: &'a Cell,
+    c: &mut Pass<'a>,
+    all: &mut Vec<Pass<'a>>,
+) -> bool
+    requires c { c.old.cell ≡ cell.now.cell }
+    requires all { All (λ p. p.cell ≡ cell.now.cell) all.old.items }
+    ensures cell { c.new.cell ≡ c.old.cell }
+{
+    match last(cell, all) {
+        Some(mut a) => meetings(rt, &mut a, c) == Some(true),
+        None => false,
+    }
+}
+
+// c's leave, once a and c of the cell's four passes have met as they have to.
+fn met<R: Wait>(rt: &R, cell: &Cell, deal: Deal) -> Option<Leave>
+    requires { IsDealOf cell.now.cell cell.now.opening deal }
+    ensures { IfSome result (λ leave. leave.cell ≡ cell.now.cell) }
+{
+    let mut all = cell.passes_of(deal).ok()?;
+    if !skip(cell, &mut all) {
+        return None;
+    }
+    let mut c = last(cell, &mut all)?;
+    if skip(cell, &mut all) && meets_last(rt, cell, &mut c, &mut all) {
+        Some(c.leave())
+    } else {
+        None
+    }
+}
+
+// How many entries the room has that the cell is closed to, once a and c have met as they have to.
+fn entries_after<R: Wait>(rt: &R, mut cell: Cell) -> Option<u64> {
+    let deal = cell.deal()?;
+    let leave = met(rt, &cell, deal)?;
+    Some(cell.close_with(leave)?.entries())
+}
+
 #[test]
 fn two_passes_meet(rt: HostRuntime) -> Result<(), Fail> {
-    let mut cell = cell(rt.alloc(), TWO_PAIRS)?;
-    let deal = cell.deal().ok_or("given")?;
-    let mut all = cell.passes_of(deal)?;
-    let d = last(&cell, &mut all).ok_or("four")?;
-    let mut c = last(&cell, &mut all).ok_or("four")?;
-    let b = last(&cell, &mut all).ok_or("four")?;
-    let mut a = last(&cell, &mut all).ok_or("four")?;
-    assert!(rt; meetings(&rt, &mut a, &mut c) == Some(true));
-    let leave = c.leave();
-    drop(a);
-    drop(b);
-    drop(d);
-    drop(all);
-    let room = cell.close_with(leave).ok_or("at home")?;
-    assert!(rt; room.entries() == 1);
+    let cell = cell(rt.alloc(), TWO_PAIRS)?;
+    assert!(rt; entries_after(&rt, cell) == Some(1));
     Ok(())
 }
 
@@ -291,31 +395,58 @@ fn probed<R: Wait>(rt: &R, a: &mut Pass<'_>, c: &mut Pass<'_>) -> Option<bool> {
 const SENT: &str =
     r#"{"history":[[1,"a","send","b",1]],"queues":[["a","b",[1]]],"roles":[{"expects":"end","past":[1],"role":"a","store":[]},{"expects":"recv a int","past":[],"role":"b","store":[]},{"expects":"send d int","past":[],"role":"c","store":[]},{"expects":"recv c int","past":[],"role":"d","store":[]}]}"#;
 
+// Whether the answer shows a's message.
+fn is_sent(answer: &Answer) -> bool {
+    matches!(answer, Answer::Shown(text) if text.as_bytes() == SENT.as_bytes())
+}
+
+// Whether the pass is shown a's message.
+fn is_shown_sent<R: Wait>(rt: &R, pass: &mut Pass<'_>) -> bool {
+    is_sent(&pass.call(rt, Command::Show))
+}
+
+// Whether c finds the room out while a sends, and a is shown its message then.
+fn is_found_out<R: Wait>(rt: &R, all: Vec<Pass<'_>>) -> bool {
+    match of_a_and_c(all) {
+        Some((mut a, mut c)) => {
+            probed(rt, &mut a, &mut c) == Some(true) && is_shown_sent(rt, &mut a)
+        }
+        None => false,
+    }
+}
+
 #[test]
 fn finds_the_room_out(rt: HostRuntime) -> Result<(), Fail> {
     let mut cell = cell(rt.alloc(), TWO_PAIRS)?;
-    let mut all = cell.passes().ok().ok_or("passes")?;
-    let _d = all.pop().ok_or("four")?;
-    let mut c = all.pop().ok_or("four")?;
-    let _b = all.pop().ok_or("four")?;
-    let mut a = all.pop().ok_or("four")?;
-    assert!(rt; probed(&rt, &mut a, &mut c) == Some(true));
-    let shown = a.call(&rt, Command::Show);
-    assert!(rt; matches!(&shown, Answer::Shown(text) if text.as_bytes() == SENT.as_bytes()));
+    assert!(rt; is_found_out(&rt, passes(&mut cell)?));
     Ok(())
 }
 
 // ---- threads
+
+// The step that the answer says is done.
+fn done(answer: &Answer) -> Option<StepId> {
+    match answer {
+        Answer::Done(done) => Some(done.id),
+        _ => None,
+    }
+}
+
+// Whether the answer is that steps were taken back.
+fn is_undone(answer: &Answer) -> bool {
+    matches!(answer, Answer::Undone(_))
+}
 
 // A command of the pass and its undo: whether both were accepted.
 fn made_and_undone<R: Wait>(rt: &R, pass: &mut Pass<'_>, ask: Ask) -> bool
     ensures cell { pass.new.cell ≡ pass.old.cell }
 {
     match called(rt, pass, ask) {
-        Some(Answer::Done(done)) => {
-            matches!(pass.call(rt, Command::Undo(done.id)), Answer::Undone(_))
-        }
-        _ => false,
+        Some(answer) => match done(&answer) {
+            Some(id) => is_undone(&pass.call(rt, Command::Undo(id))),
+            None => false,
+        },
+        None => false,
     }
 }
 
@@ -330,11 +461,8 @@ fn many<R: Wait>(rt: &R, mut pass: Pass<'_>, ask: Ask, times: u64) -> bool {
 }
 
 // a's sends and c's marks, in two threads.
-fn both<R: Threads + Wait + Sync>(rt: &R, mut all: Vec<Pass<'_>>) -> Option<(bool, bool)> {
-    let _d = all.pop()?;
-    let c = all.pop()?;
-    let _b = all.pop()?;
-    let a = all.pop()?;
+fn both<R: Threads + Wait + Sync>(rt: &R, all: Vec<Pass<'_>>) -> Option<(bool, bool)> {
+    let (a, c) = of_a_and_c(all)?;
     Some(join(
         rt,
         move || many(rt, a, Ask::Send, 1000),
@@ -348,13 +476,20 @@ fn counts(room: &Room) -> (u64, usize, u64) {
     (room.entries(), session.len(), session.issued())
 }
 
+// What the cell's room counts, if it is at home.
+fn counts_at_home(cell: Cell) -> Option<(u64, usize, u64)> {
+    match cell.close() {
+        Some(room) => Some(counts(&room)),
+        None => None,
+    }
+}
+
 #[test]
 fn two_threads_fill_the_room(rt: HostRuntime) -> Result<(), Fail> {
     let mut cell = cell(rt.alloc(), TWO_PAIRS)?;
-    let done = both(&rt, cell.passes().ok().ok_or("passes")?);
+    let done = both(&rt, passes(&mut cell)?);
     assert!(rt; done == Some((true, true)));
-    let room = cell.close().ok_or("at home")?;
-    assert!(rt; counts(&room) == (4000, 0, 2000));
+    assert!(rt; counts_at_home(cell) == Some((4000, 0, 2000)));
     Ok(())
 }
 
@@ -421,16 +556,28 @@ fn equal_pairs<'a>(cell: &'a Cell, mut all: Vec<Pass<'a>>) -> usize
     count
 }
 
+// How many of the cell's passes are shown so many entries once all have marked, and how many pairs of them have seen
+// equally much then.
+fn marked_by_all<R: Threads + Wait + Sync>(
+    rt: &R,
+    cell: &Cell,
+    deal: Deal,
+    entries: u64,
+) -> Option<(usize, usize)>
+    requires { IsDealOf cell.now.cell cell.now.opening deal }
+{
+    let mut all = cell.passes_of(deal).ok()?;
+    all_mark(rt, cell, all.as_mut_slice());
+    let shown = all_shown(cell, all.as_mut_slice(), entries);
+    Some((shown, equal_pairs(cell, all)))
+}
+
 #[test]
 fn eight_threads_fill_the_room(rt: HostRuntime) -> Result<(), Fail> {
     let mut cell = cell(rt.alloc(), SILENCE)?;
     let deal = cell.deal().ok_or("given")?;
-    let mut all = cell.passes_of(deal)?;
-    all_mark(&rt, &cell, all.as_mut_slice());
-    assert!(rt; all_shown(&cell, all.as_mut_slice(), 16_000) == 8);
-    assert!(rt; equal_pairs(&cell, all) == 28);
-    let room = cell.close().ok_or("at home")?;
-    assert!(rt; counts(&room) == (16_000, 0, 8_000));
+    assert!(rt; marked_by_all(&rt, &cell, deal, 16_000) == Some((8, 28)));
+    assert!(rt; counts_at_home(cell) == Some((16_000, 0, 8_000)));
     Ok(())
 }
 
@@ -483,9 +630,9 @@ impl<R: Clock> Pause for Hold<'_, '_, R> {
 
 // The number of the step that the answer says is done.
 fn number(answer: &Answer) -> Option<u64> {
-    match answer {
-        Answer::Done(done) => Some(done.id.number()),
-        _ => None,
+    match done(answer) {
+        Some(id) => Some(id.number()),
+        None => None,
     }
 }
 
@@ -524,33 +671,40 @@ fn tried_and_called<R: Wait + Clock>(rt: &R, mut c: Pass<'_>, signs: &Signs) -> 
     })
 }
 
-// a's send, of which c is told nothing, and then a's mark and c's, in two threads. Gives the number of a's mark, and what c
-// finds.
+// a's mark and c's, in two threads. Gives the number of a's mark, and what c finds.
 fn overlapped<R: Threads + Wait + Clock + Sync>(
     rt: &R,
-    mut all: Vec<Pass<'_>>,
-) -> Option<(Option<u64>, Option<Found>)> {
-    let _d = all.pop()?;
-    let c = all.pop()?;
-    let _b = all.pop()?;
-    let mut a = all.pop()?;
-    let _sent = called(rt, &mut a, Ask::Send)?;
+    a: Pass<'_>,
+    c: Pass<'_>,
+) -> (Option<u64>, Option<Found>) {
     let signs = &Signs {
         out: AtomicU64::new(0),
         tried: AtomicU64::new(0),
         back: AtomicU64::new(0),
     };
-    Some(join(
+    join(
         rt,
         move || kept_out(rt, a, signs),
         move || tried_and_called(rt, c, signs),
-    ))
+    )
+}
+
+// The same after a's send, of which c is told nothing.
+fn overlapped_after_a_send<R: Threads + Wait + Clock + Sync>(
+    rt: &R,
+    all: Vec<Pass<'_>>,
+) -> Option<(Option<u64>, Option<Found>)> {
+    let (mut a, c) = of_a_and_c(all)?;
+    if called(rt, &mut a, Ask::Send).is_none() {
+        return None;
+    }
+    Some(overlapped(rt, a, c))
 }
 
 #[test]
 fn a_call_waits_for_the_room(rt: HostRuntime) -> Result<(), Fail> {
     let mut cell = cell(rt.alloc(), TWO_PAIRS)?;
-    let found = overlapped(&rt, cell.passes().ok().ok_or("passes")?);
+    let found = overlapped_after_a_send(&rt, passes(&mut cell)?);
     let c = Found {
         busy: Some(1),
         seen: 0,
@@ -558,8 +712,7 @@ fn a_call_waits_for_the_room(rt: HostRuntime) -> Result<(), Fail> {
         is_back: true,
     };
     assert!(rt; found == Some((Some(2), Some(c))));
-    let room = cell.close().ok_or("at home")?;
-    assert!(rt; counts(&room) == (3, 3, 3));
+    assert!(rt; counts_at_home(cell) == Some((3, 3, 3)));
     Ok(())
 }
 
@@ -585,19 +738,44 @@ fn undone_by_its_bound<C: Caller>(caller: &mut C, roles: usize) -> Option<Answer
     Some(caller.call(Command::Undo(StepId::new(1))))
 }
 
+// Whether nothing is kept yet.
+fn is_fresh<C: Caller>(caller: &C) -> bool {
+    caller.last() == 0 && caller.kept().is_none()
+}
+
+// What an undo with no number is answered.
+fn undone_text<C: Caller>(alloc: Global, caller: &mut C) -> Result<String, Fail> {
+    match undone_by_its_bound(caller, 4) {
+        Some(answer) => told(alloc, &answer),
+        None => Err("four".into()),
+    }
+}
+
+// Whether the rows come to what they say, one after the other, and then an undo with no number.
+fn goes_by_numbers<R: Wait>(alloc: Global, held: &mut Held<'_, '_, R>) -> Result<bool, Fail> {
+    are_numbered(alloc, held, NUMBERED)?;
+    Ok(
+        held.pass.seen() == 3
+            && undone_text(alloc, held)?.as_str() == "undone 1"
+            && held.last() == 3,
+    )
+}
+
+// The pass of the first role, and what it waits by.
+fn first_held<'r, 'a, R: Wait>(rt: &'r R, cell: &'a mut Cell) -> Option<Held<'r, 'a, R>> {
+    let mut all = cell.passes().ok()?;
+    all.truncate(1);
+    Some(Held {
+        rt,
+        pass: all.pop()?,
+    })
+}
+
 #[test]
 fn keeps_the_answer_to_a_number(rt: HostRuntime) -> Result<(), Fail> {
     let mut cell = cell(rt.alloc(), TWO_PAIRS)?;
-    let mut all = cell.passes().ok().ok_or("passes")?;
-    all.truncate(1);
-    let pass = all.pop().ok_or("a pass")?;
-    let mut held = Held { rt: &rt, pass };
-    assert!(rt; held.last() == 0 && held.kept().is_none());
-    for row in NUMBERED {
-        assert!(rt; is_numbered(rt.alloc(), &mut held, *row)?, "{}", row.0);
-    }
-    assert!(rt; held.pass.seen() == 3);
-    let answer = undone_by_its_bound(&mut held, 4).ok_or("four")?;
-    assert!(rt; told(rt.alloc(), &answer)?.as_str() == "undone 1" && held.last() == 3);
+    let mut held = first_held(&rt, &mut cell).ok_or("a pass")?;
+    assert!(rt; is_fresh(&held));
+    assert!(rt; goes_by_numbers(rt.alloc(), &mut held)?);
     Ok(())
 }

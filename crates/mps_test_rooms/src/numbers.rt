@@ -30,17 +30,28 @@ const AFTER_ONE: &[(u64, Place)] = &[
     (3, Place::Elsewhere),
 ];
 
+// The answer that step 7 was taken back.
+fn undone(alloc: Global) -> Result<Answer, Fail> {
+    Ok(Answer::Undone(StepIds::of(vec![in alloc; StepId::new(7)]?)))
+}
+
+// Whether it is kept under the number 1.
+fn is_kept(alloc: Global, numbers: &Numbers) -> Result<bool, Fail> {
+    match numbers.kept() {
+        Some(kept) => Ok(told(alloc, kept)?.as_str() == "undone 7" && numbers.last() == 1),
+        None => Ok(false),
+    }
+}
+
 #[test]
 fn keeps_the_newest_number(rt: HostRuntime) -> Result<(), Fail> {
-    let alloc = rt.alloc();
+    let answer = undone(rt.alloc())?;
     let mut numbers = Numbers::new();
     assert!(rt; numbers.last() == 0 && numbers.kept().is_none());
     assert!(rt; stand(&numbers, AT_FIRST));
-    let ids = StepIds::of(vec![in alloc; StepId::new(7)]?);
-    numbers.keep(1, Answer::Undone(ids));
+    numbers.keep(1, answer);
     assert!(rt; stand(&numbers, AFTER_ONE));
-    let kept = told(alloc, numbers.kept().ok_or("an answer")?)?;
-    assert!(rt; numbers.last() == 1 && kept.as_str() == "undone 7");
+    assert!(rt; is_kept(rt.alloc(), &numbers)?);
     Ok(())
 }
 
@@ -54,19 +65,45 @@ fn numbered<C: Caller>(alloc: Global, caller: &mut C, line: &str) -> Result<Told
     }
 }
 
+// The same in words.
+fn came_text<C: Caller>(alloc: Global, caller: &mut C, line: &str) -> Result<String, Fail> {
+    let came = numbered(alloc, caller, line)?;
+    Ok(format!(in alloc; "{came:?}")?)
+}
+
+// The answer that is kept.
+fn kept_text<C: Caller>(alloc: Global, caller: &C) -> Result<String, Fail> {
+    match caller.kept() {
+        Some(answer) => told(alloc, answer),
+        None => Err("an answer".into()),
+    }
+}
+
 // A line with its number, what it comes to, and what is kept then, under which number.
 pub(crate) type Row<'a> = (&'a str, &'a str, u64, &'a str);
 
 // Whether the row comes to what it says.
-pub(crate) fn is_numbered<C: Caller>(
+fn is_numbered<C: Caller>(alloc: Global, caller: &mut C, row: Row<'_>) -> Result<bool, Fail> {
+    let came = came_text(alloc, caller, row.0)?;
+    Ok(
+        came.as_str() == row.1
+            && caller.last() == row.2
+            && kept_text(alloc, caller)?.as_str() == row.3,
+    )
+}
+
+// The rows come to what they say, one after the other.
+pub(crate) fn are_numbered<C: Caller>(
     alloc: Global,
     caller: &mut C,
-    row: Row<'_>,
-) -> Result<bool, Fail> {
-    let came = numbered(alloc, caller, row.0)?;
-    let came = format!(in alloc; "{came:?}")?;
-    let kept = told(alloc, caller.kept().ok_or("an answer")?)?;
-    Ok(came.as_str() == row.1 && caller.last() == row.2 && kept.as_str() == row.3)
+    rows: &[Row<'_>],
+) -> Result<(), Fail> {
+    for row in rows {
+        if !is_numbered(alloc, caller, *row)? {
+            return Err(row.0.into());
+        }
+    }
+    Ok(())
 }
 
 const NUMBERED: &[Row<'static>] = &[
@@ -96,16 +133,25 @@ fn new_solo(alloc: Global) -> Result<Solo, Fail> {
     Ok(Solo::new(room, Role::new(0)))
 }
 
+// What the caller is told of the news from the first entry on.
+fn news<C: Caller>(alloc: Global, caller: &mut C) -> Result<String, Fail> {
+    told(alloc, &caller.call(Command::News(0)))
+}
+
+// Whether the rows come to what they say, one after the other, and what the room has then.
+fn goes_by_numbers(alloc: Global, solo: &mut Solo) -> Result<bool, Fail> {
+    are_numbered(alloc, solo, NUMBERED)?;
+    Ok(
+        solo.room.entries() == 5
+            && news(alloc, solo)?.as_str() == "news 5"
+            && solo.last() == 5
+            && solo.roles().count() == 3,
+    )
+}
+
 #[test]
 fn calls_with_numbers(rt: HostRuntime) -> Result<(), Fail> {
     let mut solo = new_solo(rt.alloc())?;
-    for row in NUMBERED {
-        assert!(rt; is_numbered(rt.alloc(), &mut solo, *row)?, "{}", row.0);
-    }
-    assert_eq!(rt; solo.room.entries(), 5);
-    let answer = solo.call(Command::News(0));
-    assert_eq!(rt; told(rt.alloc(), &answer)?.as_str(), "news 5");
-    assert_eq!(rt; solo.last(), 5);
-    assert_eq!(rt; solo.roles().count(), 3);
+    assert!(rt; goes_by_numbers(rt.alloc(), &mut solo)?);
     Ok(())
 }

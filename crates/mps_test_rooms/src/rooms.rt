@@ -1,7 +1,7 @@
 use crate::texts::{TWO_PAIRS, VERDICT, asked, room, told};
 use mps_base::{Name, Role, StepId};
 use mps_command::{Answer, Command, Forward, Refusal};
-use mps_room::Room;
+use mps_room::{Entry, Room};
 use std::alloc::Global;
 use std::test::Fail;
 
@@ -37,28 +37,58 @@ fn entry_text(alloc: Global, role: Role, command: &Command, answer: &str) -> Res
     Ok(format!(in alloc; "{place} {command:?} {answer}")?)
 }
 
-// An entry in words, by its place from 0.
-fn text_at(alloc: Global, room: &Room, place: u64) -> Result<String, Fail> {
-    let Some(entry) = room.entry(place)? else {
-        return Err("an entry".into());
-    };
+// An entry in words.
+fn text_of(alloc: Global, entry: &Entry) -> Result<String, Fail> {
     let answer = told(alloc, &entry.answer)?;
     entry_text(alloc, entry.role, &entry.command, answer.as_str())
 }
 
+// The same by its place from 0.
+fn text_at(alloc: Global, room: &Room, place: u64) -> Result<String, Fail> {
+    match room.entry(place)? {
+        Some(entry) => text_of(alloc, &entry),
+        None => Err("an entry".into()),
+    }
+}
+
+// The row's entry in words.
+fn text_wanted(alloc: Global, room: &Room, row: Row) -> Result<String, Fail> {
+    let (role, command) = asked(alloc, room.names(), row.0)?;
+    entry_text(alloc, role, &command, row.1)
+}
+
 // Whether the entry at the place is that of the row.
 fn is_at(alloc: Global, room: &Room, place: u64, row: Row) -> Result<bool, Fail> {
-    let (role, command) = asked(alloc, room.names(), row.0)?;
-    let wanted = entry_text(alloc, role, &command, row.1)?;
+    let wanted = text_wanted(alloc, room, row)?;
     Ok(text_at(alloc, room, place)?.as_str() == wanted.as_str())
 }
 
-// What the row's line is answered, and whether it was accepted.
-fn answer_text(alloc: Global, room: &mut Room, line: &str) -> Result<(String, bool), Fail> {
+// What the line is answered.
+fn answer_to(alloc: Global, room: &mut Room, line: &str) -> Result<Answer, Fail> {
     let (role, command) = asked(alloc, room.names(), line)?;
-    let answer = answered(room, role, command)?;
-    let accepted = matches!(answer, Answer::Done(_) | Answer::Undone(_));
-    Ok((told(alloc, &answer)?, accepted))
+    answered(room, role, command)
+}
+
+// Whether the answer is the one that is wanted.
+fn is_wanted(alloc: Global, answer: &Answer, wanted: &str) -> Result<(), Fail> {
+    let text = told(alloc, answer)?;
+    if text.as_str() == wanted {
+        Ok(())
+    } else {
+        Err(format!(in alloc; "{text}, and not {wanted}")?.into())
+    }
+}
+
+// Whether the answer accepts a command that changes something.
+fn accepts(answer: &Answer) -> bool {
+    matches!(answer, Answer::Done(_) | Answer::Undone(_))
+}
+
+// Whether the row's line was accepted, which is answered as the row says.
+fn is_accepted(alloc: Global, room: &mut Room, row: Row) -> Result<bool, Fail> {
+    let answer = answer_to(alloc, room, row.0)?;
+    is_wanted(alloc, &answer, row.1)?;
+    Ok(accepts(&answer))
 }
 
 // Whether the journal has the row's line where it was accepted, and else as many entries as before.
@@ -78,17 +108,13 @@ fn is_kept(
 
 // Whether the session's value has this text.
 fn is_shown(alloc: Global, room: &Room, wanted: &str) -> Result<bool, Fail> {
-    Ok(room.show()?.to_string(alloc)?.as_str() == wanted)
+    Ok(value_text(alloc, room)?.as_str() == wanted)
 }
 
 // The row is played: its answer is as it says, and the journal has it where it was accepted.
 fn play_row(alloc: Global, room: &mut Room, row: Row) -> Result<(), Fail> {
     let before = room.entries();
-    let (text, accepted) = answer_text(alloc, room, row.0)?;
-    if text.as_str() != row.1 {
-        let wanted = row.1;
-        return Err(format!(in alloc; "{text}, and not {wanted}")?.into());
-    }
+    let accepted = is_accepted(alloc, room, row)?;
     if !is_kept(alloc, room, row, before, accepted)? {
         return Err("another entry".into());
     }
@@ -258,6 +284,11 @@ const EACH_KIND: &[Row] = &[
     ("b commit", "done 11"),
 ];
 
+// Whether nothing stands in the journal after its entries.
+fn has_no_more(room: &Room) -> Result<bool, Fail> {
+    Ok(room.entry(room.entries())?.is_none())
+}
+
 // The rows, of which each is accepted, are the journal's entries.
 fn has_entries(alloc: Global, room: &Room, rows: &[Row]) -> Result<bool, Fail> {
     for (k, row) in rows.iter().enumerate() {
@@ -265,14 +296,19 @@ fn has_entries(alloc: Global, room: &Room, rows: &[Row]) -> Result<bool, Fail> {
             return Ok(false);
         }
     }
-    Ok(room.entries() == rows.len() as u64 && room.entry(room.entries())?.is_none())
+    Ok(room.entries() == rows.len() as u64 && has_no_more(room)?)
+}
+
+// Whether the room keeps an entry for each row.
+fn keeps_each(alloc: Global, room: &mut Room) -> Result<bool, Fail> {
+    play(alloc, room, EACH_KIND)?;
+    has_entries(alloc, room, EACH_KIND)
 }
 
 #[test]
 fn keeps_each_kind_of_entry(rt: HostRuntime) -> Result<(), Fail> {
     let mut room = room(rt.alloc(), EACH_SORT)?;
-    play(rt.alloc(), &mut room, EACH_KIND)?;
-    assert!(rt; has_entries(rt.alloc(), &room, EACH_KIND)?);
+    assert!(rt; keeps_each(rt.alloc(), &mut room)?);
     Ok(())
 }
 
@@ -291,6 +327,15 @@ fn mark_and_undo(room: &mut Room, times: u64) -> Result<(), Fail> {
         let _ = answered(room, Role::new(0), Command::Undo(StepId::new(k + 1)))?;
     }
     Ok(())
+}
+
+// The rows are played once there are 99,998 entries.
+fn play_nearly_full(alloc: Global, room: &mut Room, rows: &[Row]) -> Result<(), Fail> {
+    mark_and_undo(room, 49_999)?;
+    if room.entries() != 99_998 {
+        return Err("entries".into());
+    }
+    play(alloc, room, rows)
 }
 
 const MARKS_SHOWN: &str =
@@ -314,9 +359,7 @@ const FULL: &[Row] = &[
 #[test]
 fn is_full_with_a_hundred_thousand_entries(rt: HostRuntime) -> Result<(), Fail> {
     let mut room = room(rt.alloc(), TWO_PAIRS)?;
-    mark_and_undo(&mut room, 49_999)?;
-    assert_eq!(rt; room.entries(), 99_998);
-    play(rt.alloc(), &mut room, FULL)
+    play_nearly_full(rt.alloc(), &mut room, FULL)
 }
 
 // A commit stands in the way before it is looked at whether the journal is full.
@@ -334,31 +377,34 @@ const FULL_WITH_A_COMMIT: &[Row] = &[
 #[test]
 fn names_a_commit_where_the_journal_is_full(rt: HostRuntime) -> Result<(), Fail> {
     let mut room = room(rt.alloc(), TWO_PAIRS)?;
-    mark_and_undo(&mut room, 49_999)?;
-    play(rt.alloc(), &mut room, FULL_WITH_A_COMMIT)
+    play_nearly_full(rt.alloc(), &mut room, FULL_WITH_A_COMMIT)
 }
 
 // ---- out of memory
 
+// Whether the answer is that memory ran out.
+fn ran_out(answer: &Answer) -> bool {
+    matches!(answer, Answer::Refused(Refusal::Memory))
+}
+
 // What the line is answered, where memory may run out once: nothing has changed then, and the command is given again.
 fn answered_at_last(alloc: Global, room: &mut Room, line: &str) -> Result<Answer, Fail> {
     let before = counts(room);
-    let (role, first) = asked(alloc, room.names(), line)?;
-    let (_, again) = asked(alloc, room.names(), line)?;
-    let answer = answered(room, role, first)?;
-    if !matches!(answer, Answer::Refused(Refusal::Memory)) {
+    let answer = answer_to(alloc, room, line)?;
+    if !ran_out(&answer) {
         return Ok(answer);
     }
-    if counts(room) != before {
-        return Err("out of memory changes something".into());
+    if counts(room) == before {
+        answer_to(alloc, room, line)
+    } else {
+        Err("out of memory changes something".into())
     }
-    answered(room, role, again)
 }
 
-// Whether the row is answered as it says, where memory may run out once.
-fn is_answered_at_last(alloc: Global, room: &mut Room, row: Row) -> Result<bool, Fail> {
+// The row is answered as it says, where memory may run out once.
+fn is_answered_at_last(alloc: Global, room: &mut Room, row: Row) -> Result<(), Fail> {
     let answer = answered_at_last(alloc, room, row.0)?;
-    Ok(told(alloc, &answer)?.as_str() == row.1)
+    is_wanted(alloc, &answer, row.1)
 }
 
 // Under `rt try --test --fail-alloc` a request for memory is refused on the way.
@@ -366,11 +412,7 @@ fn is_answered_at_last(alloc: Global, room: &mut Room, row: Row) -> Result<bool,
 fn changes_nothing_for_want_of_memory(rt: HostRuntime) -> Result<(), Fail> {
     let mut room = room(rt.alloc(), VERDICT)?;
     for row in ROLLED_BACK {
-        assert!(rt;
-            is_answered_at_last(rt.alloc(), &mut room, *row)?,
-            "{}",
-            row.0
-        );
+        is_answered_at_last(rt.alloc(), &mut room, *row)?;
     }
     Ok(())
 }
@@ -394,21 +436,35 @@ fn count_taken(answer: &Answer) -> Option<usize> {
     }
 }
 
+// How many steps a takes back with its first one.
+fn taken_back(room: &mut Room) -> Result<Option<usize>, Fail> {
+    let answer = answered(room, Role::new(0), Command::Rollback(StepId::new(1)))?;
+    Ok(count_taken(&answer))
+}
+
 #[test]
 fn takes_back_a_thousand_steps(rt: HostRuntime) -> Result<(), Fail> {
     let mut room = marked(rt.alloc(), 1000)?;
-    let answer = answered(&mut room, Role::new(0), Command::Rollback(StepId::new(1)))?;
-    assert_eq!(rt; count_taken(&answer), Some(1000));
+    assert_eq!(rt; taken_back(&mut room)?, Some(1000));
     assert_eq!(rt; counts(&room), (1001, 0, 1000));
     Ok(())
 }
 
+// What shows the session, as it is answered.
+fn shown_text(alloc: Global, room: &mut Room) -> Result<String, Fail> {
+    let answer = answered(room, Role::new(0), Command::Show)?;
+    told(alloc, &answer)
+}
+
+// The same as a value.
+fn value_text(alloc: Global, room: &Room) -> Result<String, Fail> {
+    Ok(room.show()?.to_string(alloc)?)
+}
+
 // How long the text is that shows the session, as it is answered and as a value.
 fn shown_lengths(alloc: Global, room: &mut Room) -> Result<(usize, usize), Fail> {
-    let answer = answered(room, Role::new(0), Command::Show)?;
-    let text = told(alloc, &answer)?;
-    let value = room.show()?.to_string(alloc)?;
-    Ok((text.len(), value.len()))
+    let length = shown_text(alloc, room)?.len();
+    Ok((length, value_text(alloc, room)?.len()))
 }
 
 // The numbers 1 to 1,100 have 3,293 digits, and stand in the history and in the past of a. Beside the number a step has

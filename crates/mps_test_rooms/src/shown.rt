@@ -1,3 +1,5 @@
+ghost use Rattle.std.specs.Prelude.{◌<◌, length};
+
 use crate::texts::{VERDICT, asked, opened};
 use mps_base::{Name, Role, Roles, Sort};
 use mps_command::Command;
@@ -10,23 +12,26 @@ use std::test::Fail;
 // What roles do in turn, and what is shown then.
 type Row = (&'static [&'static str], &'static str);
 
+// Whether the role may do that: a step, an undo or a rollback.
+fn is_done(session: &mut Session, role: Role, command: Command) -> bool
+    requires { role < length session.old.types }
+{
+    match command {
+        Command::Forward(step) => session.forward(role, step).is_ok(),
+        Command::Undo(id) => session.undo(role, id).is_ok(),
+        Command::Rollback(id) => session.rollback(role, id).is_ok(),
+        _ => false,
+    }
+}
+
 // The role of the line does what it says, and is not refused.
 fn does(alloc: Global, names: &Roles, session: &mut Session, line: &str) -> Result<(), Fail> {
     let (role, command) = asked(alloc, names, line)?;
-    if role.index() >= session.roles() {
-        return Err("a role".into());
+    if role.index() < session.roles() && is_done(session, role, command) {
+        Ok(())
+    } else {
+        Err("it is refused".into())
     }
-    match command {
-        Command::Forward(step) => {
-            session.forward(role, step)?;
-        }
-        Command::Undo(id) => session.undo(role, id)?,
-        Command::Rollback(id) => {
-            session.rollback(role, id)?;
-        }
-        _ => return Err("a step, an undo or a rollback".into()),
-    }
-    Ok(())
 }
 
 // What is shown after other bytes.
@@ -47,14 +52,23 @@ fn value_text(alloc: Global, names: &Roles, session: &Session) -> Result<String,
     Ok(show(alloc, names, session)?.to_string(alloc)?)
 }
 
+// What is wanted was written after other bytes.
+fn is_written(alloc: Global, written: &str, wanted: &str) -> Result<(), Fail> {
+    if written.strip_prefix("> ") == Some(wanted) {
+        Ok(())
+    } else {
+        Err(format!(in alloc; "{written} for {wanted}")?.into())
+    }
+}
+
 // Whether this is shown, after what was written before, and by the value too.
 fn shows(alloc: Global, names: &Roles, session: &Session, wanted: &str) -> Result<(), Fail> {
-    let written = written(alloc, names, session)?;
-    let value = value_text(alloc, names, session)?;
-    if written.strip_prefix("> ") == Some(wanted) && value.as_str() == wanted {
-        return Ok(());
+    is_written(alloc, written(alloc, names, session)?.as_str(), wanted)?;
+    if value_text(alloc, names, session)?.as_str() == wanted {
+        Ok(())
+    } else {
+        Err("another value".into())
     }
-    Err(format!(in alloc; "{written} for {wanted}")?.into())
 }
 
 // Whether each row comes out as it is wanted, one after the other in the session.
