@@ -27,34 +27,28 @@ fn send(room: &mut Roomed) -> Option<Answer> {
     room.ask(Role::new(0), Command::Forward(Forward::Send { to, value }))
 }
 
-// The answers to the three.
-#[derive(Drop)]
-struct Answers {
-    received: Answer,
-    undone: Answer,
-    sent: Answer,
-}
-
-// Asks for the three, one after the other.
-fn ask_all(room: &mut Roomed, slot: Name) -> Option<Answers> {
-    Some(Answers {
-        received: receive(room, slot)?,
-        undone: undo(room)?,
-        sent: send(room)?,
-    })
-}
-
 // Whether the answer is that step 1 is done.
 fn is_first(answer: &Answer) -> bool {
     matches!(answer, Answer::Done(done) if done.id.number() == 1 && done.got.is_none())
 }
 
-// Whether the receipt and the undo are refused for their own reasons.
-fn are_refused(answers: &Answers) -> bool {
+// Whether the answer is that the role may not do that now.
+fn is_wrong_act(answer: &Answer) -> bool {
     matches!(
-        answers.received,
+        answer,
         Answer::Refused(Refusal::Violation(Violation::WrongAct))
-    ) && matches!(answers.undone, Answer::Refused(Refusal::NoStep))
+    )
+}
+
+// Whether the answer is that there is no such step.
+fn is_no_step(answer: &Answer) -> bool {
+    matches!(answer, Answer::Refused(Refusal::NoStep))
+}
+
+// Asks for the first two: whether they are refused for their own reasons.
+fn are_refused(room: &mut Roomed, slot: Name) -> Option<bool> {
+    let is_wrong = is_wrong_act(&receive(room, slot)?);
+    Some(is_no_step(&undo(room)?) && is_wrong)
 }
 
 // Whether the room stands as before, and now does the send.
@@ -65,15 +59,15 @@ fn goes_on(room: &mut Roomed, before: &[u8]) -> Option<bool> {
     Some(is_first(&send(room)?))
 }
 
-// What it comes to that the three are answered so.
-fn judged(room: &mut Roomed, before: &[u8], answers: &Answers) -> Option<Outcome> {
-    if !are_refused(answers) {
+// What it comes to that the first two are refused so, or aren't, and the third is answered so.
+fn judged(room: &mut Roomed, before: &[u8], are_refused: bool, sent: &Answer) -> Option<Outcome> {
+    if !are_refused {
         return Some(Outcome::Other);
     }
-    if ran_out(&answers.sent) {
+    if ran_out(sent) {
         refused(goes_on(room, before)?)
     } else {
-        answered(is_first(&answers.sent))
+        answered(is_first(sent))
     }
 }
 
@@ -82,11 +76,12 @@ fn three_asked_of(room: &mut Roomed, before: &[u8], slot: Name, until: Until) ->
     if until == Until::Before {
         return Some(Outcome::Reached);
     }
-    let answers = ask_all(room, slot)?;
+    let are_refused = are_refused(room, slot)?;
+    let sent = send(room)?;
     if until == Until::After {
         return Some(Outcome::Reached);
     }
-    judged(room, before, &answers)
+    judged(room, before, are_refused, &sent)
 }
 
 /// Asks a new room for a receipt, an undo and a send.

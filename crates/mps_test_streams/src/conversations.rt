@@ -250,25 +250,30 @@ fn ends_where_a_write_fails(rt: HostRuntime) -> Result<(), Fail> {
     Ok(())
 }
 
+// How many entries there are after a's line, which is answered so in so much room.
+fn entries_once_asked(
+    alloc: Global,
+    solo: &mut Solo,
+    space: usize,
+    want: &[u8],
+    end: Ending,
+) -> Result<Option<u64>, Fail> {
+    let line = in_one_piece(alloc, "1 send b 5\n")?;
+    let went_so = talks(alloc, solo, line, room(space), want, end)?;
+    Ok(if went_so {
+        Some(solo.room.entries())
+    } else {
+        None
+    })
+}
+
 #[test]
 fn asks_again_in_a_second_conversation(rt: HostRuntime) -> Result<(), Fail> {
-    let alloc = rt.alloc();
-    let mut solo = new_solo(alloc)?;
-    let line = in_one_piece(alloc, "1 send b 5\n")?;
-    assert!(rt; talks(alloc, &mut solo, line, room(0), b"", Ending::WriteFault)?);
-    assert_eq!(rt; solo.room.entries(), 1);
-    let line = in_one_piece(alloc, "1 send b 5\n")?;
-    assert!(rt;
-        talks(
-            alloc,
-            &mut solo,
-            line,
-            room(100),
-            b"done 1\n",
-            Ending::Closed
-        )?
-    );
-    assert_eq!(rt; solo.room.entries(), 1);
+    let mut solo = new_solo(rt.alloc())?;
+    let entries = entries_once_asked(rt.alloc(), &mut solo, 0, b"", Ending::WriteFault)?;
+    assert_eq!(rt; entries, Some(1));
+    let entries = entries_once_asked(rt.alloc(), &mut solo, 100, b"done 1\n", Ending::Closed)?;
+    assert_eq!(rt; entries, Some(1));
     Ok(())
 }
 

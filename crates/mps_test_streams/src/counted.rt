@@ -74,6 +74,12 @@ fn runs_scripts(rt: HostRuntime) -> Result<(), Fail> {
     Ok(())
 }
 
+// How many entries a's conversation in a new room makes.
+fn entries_after(alloc: Global, words: &str, numbered: bool, count: u64) -> Result<u64, Fail> {
+    let said = lines(alloc, words, numbered, count)?;
+    Ok(talk(alloc, new_room(alloc)?, Role::new(0), said)?.entries())
+}
+
 // Of a conversation of a whether its lines have numbers, their words, and how many entries they make at most.
 const TALKS: [(bool, &str, u64); 5] = [
     (false, "send b 123456", u64::MAX),
@@ -88,12 +94,24 @@ fn talks(rt: HostRuntime) -> Result<(), Fail> {
     let alloc = rt.alloc();
     for (numbered, words, most) in TALKS {
         for count in LENGTHS {
-            let said = lines(alloc, words, numbered, count)?;
-            let room = talk(alloc, new_room(alloc)?, Role::new(0), said)?;
-            assert_eq!(rt; room.entries(), count.min(most), "{words}");
+            let entries = entries_after(alloc, words, numbered, count)?;
+            assert_eq!(rt; entries, count.min(most), "{words}");
         }
     }
     Ok(())
+}
+
+// A room in which a gave so many numbers.
+fn after_giving(alloc: Global, count: u64) -> Result<Room, Fail> {
+    let given = lines(alloc, "send b 123456", false, count)?;
+    talk(alloc, new_room(alloc)?, Role::new(0), given)
+}
+
+// How many entries there are once b took them.
+fn entries_in_turn(alloc: Global, count: u64) -> Result<u64, Fail> {
+    let room = after_giving(alloc, count)?;
+    let taken = lines(alloc, "recv a x", false, count)?;
+    Ok(talk(alloc, room, Role::new(1), taken)?.entries())
 }
 
 // Of so many numbers each is given in one conversation, and taken in the next.
@@ -101,11 +119,7 @@ fn talks(rt: HostRuntime) -> Result<(), Fail> {
 fn talks_in_turn(rt: HostRuntime) -> Result<(), Fail> {
     let alloc = rt.alloc();
     for count in LENGTHS {
-        let given = lines(alloc, "send b 123456", false, count)?;
-        let room = talk(alloc, new_room(alloc)?, Role::new(0), given)?;
-        let taken = lines(alloc, "recv a x", false, count)?;
-        let room = talk(alloc, room, Role::new(1), taken)?;
-        assert_eq!(rt; room.entries(), 2 * count);
+        assert_eq!(rt; entries_in_turn(alloc, count)?, 2 * count);
     }
     Ok(())
 }

@@ -110,15 +110,33 @@ fn line_and_letters(alloc: Global, line: &[u8], count: usize) -> Result<Vec<Vec<
     Ok(pieces)
 }
 
+// The desk of the hub.
+fn desk_of(alloc: Global, hub: &mut Hub) -> Result<Desk<'_>, Fail>
+    requires { hub.old.given ≡ false }
+{
+    match hub.deal() {
+        Some(deal) => Ok(hub.desk_of(alloc, deal)?),
+        None => Err("given".into()),
+    }
+}
+
+// How a connection ends that joins and sends so many letters.
+fn ended_after<R: Wait + 'static>(
+    rt: &R,
+    alloc: Global,
+    desk: &Desk<'_>,
+    letters: usize,
+) -> Result<Attended, Fail> {
+    let pieces = line_and_letters(alloc, b"join 1 a\n", letters)?;
+    attended(rt, alloc, desk, pieces, b"joined 1 a\n")
+}
+
 #[test]
 fn gives_a_pass_back_after_too_many_reads(rt: HostRuntime) -> Result<(), Fail> {
-    let alloc = rt.alloc();
-    let mut hub = hub(alloc)?;
-    let deal = hub.deal().ok_or("given")?;
-    let desk = hub.desk_of(alloc, deal)?;
+    let mut hub = hub(rt.alloc())?;
+    let desk = desk_of(rt.alloc(), &mut hub)?;
     for (letters, ending) in [(1_000_001, Ending::Turns), (1, Ending::Closed)] {
-        let pieces = line_and_letters(alloc, b"join 1 a\n", letters)?;
-        let ended = attended(&rt, alloc, &desk, pieces, b"joined 1 a\n")?;
+        let ended = ended_after(&rt, rt.alloc(), &desk, letters)?;
         assert!(rt; ended == Attended::Conversed(ending));
     }
     Ok(())
@@ -131,21 +149,24 @@ fn long_line(alloc: Global, letters: usize) -> Result<Vec<Vec<u8>>, Fail> {
     Ok(vec![in alloc; line]?)
 }
 
+// How a connection ends whose first line has so many letters, and that is answered so.
+fn ended_at<R: Wait + 'static>(
+    rt: &R,
+    alloc: Global,
+    desk: &Desk<'_>,
+    letters: usize,
+    answers: &[u8],
+) -> Result<Attended, Fail> {
+    attended(rt, alloc, desk, long_line(alloc, letters)?, answers)
+}
+
 #[test]
 fn looks_for_a_first_line_in_a_million_reads(rt: HostRuntime) -> Result<(), Fail> {
-    let alloc = rt.alloc();
-    let mut hub = hub(alloc)?;
-    let deal = hub.deal().ok_or("given")?;
-    let desk = hub.desk_of(alloc, deal)?;
-    let found = attended(
-        &rt,
-        alloc,
-        &desk,
-        long_line(alloc, 999_999)?,
-        b"refused line\n",
-    )?;
+    let mut hub = hub(rt.alloc())?;
+    let desk = desk_of(rt.alloc(), &mut hub)?;
+    let found = ended_at(&rt, rt.alloc(), &desk, 999_999, b"refused line\n")?;
     assert!(rt; found == Attended::TurnedAway);
-    let lost = attended(&rt, alloc, &desk, long_line(alloc, 1_000_000)?, b"")?;
+    let lost = ended_at(&rt, rt.alloc(), &desk, 1_000_000, b"")?;
     assert!(rt; lost == Attended::NoLine);
     Ok(())
 }
@@ -165,44 +186,44 @@ const FIRST_LINES: &[(&[u8], &[u8])] = &[
     (b"join 1 b\n", b"joined 1 b\n"),
 ];
 
-#[test]
-fn answers_first_lines(rt: HostRuntime) -> Result<(), Fail> {
-    let alloc = rt.alloc();
-    let mut hub = hub(alloc)?;
-    let deal = hub.deal().ok_or("given")?;
-    let desk = hub.desk_of(alloc, deal)?;
-    for (line, answer) in FIRST_LINES {
-        let pieces = line_and_letters(alloc, line, 0)?;
-        attended(&rt, alloc, &desk, pieces, answer)?;
-    }
-    Ok(())
-}
-
-// What the first line of a joins to.
+// How a connection ends that sends this line alone, and is answered so.
 fn joining<R: Wait + 'static>(
     rt: &R,
     alloc: Global,
     desk: &Desk<'_>,
+    line: &[u8],
     answer: &[u8],
 ) -> Result<Attended, Fail> {
-    let pieces = line_and_letters(alloc, b"join 1 a\n", 0)?;
+    let pieces = line_and_letters(alloc, line, 0)?;
     attended(rt, alloc, desk, pieces, answer)
 }
 
 #[test]
-fn tells_that_a_pass_is_taken(rt: HostRuntime) -> Result<(), Fail> {
-    let alloc = rt.alloc();
-    let mut hub = hub(alloc)?;
-    let deal = hub.deal().ok_or("given")?;
-    let desk = hub.desk_of(alloc, deal)?;
+fn answers_first_lines(rt: HostRuntime) -> Result<(), Fail> {
+    let mut hub = hub(rt.alloc())?;
+    let desk = desk_of(rt.alloc(), &mut hub)?;
+    for (line, answer) in FIRST_LINES {
+        joining(&rt, rt.alloc(), &desk, line, answer)?;
+    }
+    Ok(())
+}
+
+// Whether a's pass is refused as taken while it is, and not once it is given back.
+fn is_taken<R: Wait + 'static>(rt: &R, alloc: Global, desk: &Desk<'_>) -> Result<bool, Fail> {
     let name = Name::read(b"a").ok_or("a name")?;
-    let Ok(pass) = desk.take(&rt, 1, &name) else {
+    let Ok(pass) = desk.take(rt, 1, &name) else {
         return Err("no pass".into());
     };
-    assert!(rt; joining(&rt, alloc, &desk, b"refused taken\n")? == Attended::TurnedAway);
-    desk.give(&rt, 1, pass);
-    assert!(rt;
-        joining(&rt, alloc, &desk, b"joined 1 a\n")? == Attended::Conversed(Ending::Closed)
-    );
+    let taken = joining(rt, alloc, desk, b"join 1 a\n", b"refused taken\n")?;
+    desk.give(rt, 1, pass);
+    let given = joining(rt, alloc, desk, b"join 1 a\n", b"joined 1 a\n")?;
+    Ok(taken == Attended::TurnedAway && given == Attended::Conversed(Ending::Closed))
+}
+
+#[test]
+fn tells_that_a_pass_is_taken(rt: HostRuntime) -> Result<(), Fail> {
+    let mut hub = hub(rt.alloc())?;
+    let desk = desk_of(rt.alloc(), &mut hub)?;
+    assert!(rt; is_taken(&rt, rt.alloc(), &desk)?);
     Ok(())
 }

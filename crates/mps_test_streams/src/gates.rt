@@ -143,24 +143,73 @@ fn entries(alloc: Global, hub: Hub) -> Result<u64, Fail> {
     Ok(Room::entries(room))
 }
 
+// What a client sends, and what it is told: that it joined, and so many bytes more, of which the last are these.
+type Client = (&'static [u8], &'static [u8], usize, &'static [u8]);
+
+// Connections of the clients, in order.
+fn all_sent<R: Net<Stream = TcpStream>>(
+    rt: &R,
+    alloc: Global,
+    addr: SocketAddr,
+    clients: &[Client],
+) -> Result<Vec<TcpStream>, Fail> {
+    let mut streams = Vec::new(alloc);
+    for client in clients {
+        streams.push(sent(rt, addr, client.0)?)?;
+    }
+    Ok(streams)
+}
+
+// Whether each of them is told what it has to be.
+fn have_joined(alloc: Global, streams: Vec<TcpStream>, clients: &[Client]) -> Result<bool, Fail> {
+    for (stream, client) in streams.into_iter().zip(clients) {
+        if !has_joined(alloc, stream, client.1, client.2, client.3)? {
+            return Ok(false);
+        }
+    }
+    Ok(true)
+}
+
+// Whether a server of the hub attends to the clients, which have come before, and tells each what it has to.
+fn has_told<
+    R: Net<Listener = TcpListener, Stream = TcpStream> + Clock + Threads + Wait + Sync + 'static,
+    G: Gate + Sync + 'static,
+>(rt: &R, alloc: Global, hub: &mut Hub, clients: &[Client], gate: &G) -> Result<bool, Fail>
+    requires { hub.old.given ≡ false }
+{
+    let listener = TcpListener::bind(rt, "127.0.0.1:0")?;
+    let streams = all_sent(rt, alloc, listener.local_addr()?, clients)?;
+    let count = clients.len() as u64;
+    Ok(has_served(rt, alloc, &listener, hub, count, gate)? && have_joined(alloc, streams, clients)?)
+}
+
+// How many entries a new session of two pairs has after that.
+fn entries_after<
+    R: Net<Listener = TcpListener, Stream = TcpStream> + Clock + Threads + Wait + Sync + 'static,
+    G: Gate + Sync + 'static,
+>(rt: &R, alloc: Global, clients: &[Client], gate: &G) -> Result<Option<u64>, Fail> {
+    let mut hub = hub_of_pairs(alloc)?;
+    if has_told(rt, alloc, &mut hub, clients, gate)? {
+        Ok(Some(entries(alloc, hub)?))
+    } else {
+        Ok(None)
+    }
+}
+
+const TWO: &[Client] = &[
+    (b"join 1 a\n1 send b 1\n", b"joined 1 a\ndone ", 2, b"\n"),
+    (b"join 1 c\nsend d 2\n", b"joined 1 c\ndone ", 2, b"\n"),
+];
+
 #[test]
 fn two_connections_meet_at_the_gate(rt: HostRuntime) -> Result<(), Fail> {
-    let alloc = rt.alloc();
-    let listener = TcpListener::bind(&rt, "127.0.0.1:0")?;
-    let addr = listener.local_addr()?;
-    let first = sent(&rt, addr, b"join 1 a\n1 send b 1\n")?;
-    let second = sent(&rt, addr, b"join 1 c\nsend d 2\n")?;
     let gate = Meeting {
         first: AtomicU64::new(0),
         second: AtomicU64::new(0),
         met: AtomicU64::new(0),
     };
-    let mut hub = hub_of_pairs(alloc)?;
-    assert!(rt; has_served(&rt, alloc, &listener, &mut hub, 2, &gate)?);
+    assert!(rt; entries_after(&rt, rt.alloc(), TWO, &gate)? == Some(2));
     assert!(rt; gate.met.load(SeqCst) == 2);
-    assert!(rt; has_joined(alloc, first, b"joined 1 a\ndone ", 2, b"\n")?);
-    assert!(rt; has_joined(alloc, second, b"joined 1 c\ndone ", 2, b"\n")?);
-    assert!(rt; entries(alloc, hub)? == 2);
     Ok(())
 }
 
@@ -187,24 +236,28 @@ impl Gate for Order {
     }
 }
 
+const FOUR: &[Client] = &[
+    (b"join 1 b\nrecv a x\n", b"joined 1 b\ndone ", 4, b" 1\n"),
+    (b"join 1 d\nrecv c x\n", b"joined 1 d\ndone ", 4, b" 2\n"),
+    (
+        b"join 1 a\nsend b 1\nundo 9\n",
+        b"joined 1 a\ndone ",
+        17,
+        b"\nrefused nostep\n",
+    ),
+    (
+        b"join 1 c\nsend d 2\nundo 9\n",
+        b"joined 1 c\ndone ",
+        17,
+        b"\nrefused nostep\n",
+    ),
+];
+
 #[test]
 fn four_clients_share_a_session(rt: HostRuntime) -> Result<(), Fail> {
-    let alloc = rt.alloc();
-    let listener = TcpListener::bind(&rt, "127.0.0.1:0")?;
-    let addr = listener.local_addr()?;
-    let b = sent(&rt, addr, b"join 1 b\nrecv a x\n")?;
-    let d = sent(&rt, addr, b"join 1 d\nrecv c x\n")?;
-    let a = sent(&rt, addr, b"join 1 a\nsend b 1\nundo 9\n")?;
-    let c = sent(&rt, addr, b"join 1 c\nsend d 2\nundo 9\n")?;
     let gate = Order {
         sent: AtomicU64::new(0),
     };
-    let mut hub = hub_of_pairs(alloc)?;
-    assert!(rt; has_served(&rt, alloc, &listener, &mut hub, 4, &gate)?);
-    assert!(rt; has_joined(alloc, b, b"joined 1 b\ndone ", 4, b" 1\n")?);
-    assert!(rt; has_joined(alloc, d, b"joined 1 d\ndone ", 4, b" 2\n")?);
-    assert!(rt; has_joined(alloc, a, b"joined 1 a\ndone ", 17, b"\nrefused nostep\n")?);
-    assert!(rt; has_joined(alloc, c, b"joined 1 c\ndone ", 17, b"\nrefused nostep\n")?);
-    assert!(rt; entries(alloc, hub)? == 4);
+    assert!(rt; entries_after(&rt, rt.alloc(), FOUR, &gate)? == Some(4));
     Ok(())
 }

@@ -88,54 +88,88 @@ const ASKED: &[u8] =
 // What of it is kept.
 const KEPT: &[u8] = b"a 1 send b 5\na 2 mark m\na mark k\na 3 undo 3\n";
 
-// How a conversation ends, what is kept of it, whether all was, and what is told, where the book has so many lines and takes so
-// many bytes.
-fn kept(alloc: Global, lines: u64, space: usize) -> Result<(Ending, Vec<u8>, bool, Vec<u8>), Fail> {
-    let (roles, session) = opened(alloc, RELAY)?;
-    if session.roles() != 3 {
-        return Err("three roles".into());
+// A caller with a book.
+type Keeping = Recorded<Book<Short>, Solo>;
+
+// The caller of the role at that place in a new relay.
+fn solo(alloc: Global, place: usize) -> Result<Solo, Fail> {
+    let (names, session) = opened(alloc, RELAY)?;
+    if place >= session.roles() {
+        return Err("a role".into());
     }
-    let solo = Solo::new(Room::open(alloc, roles, session), Role::new(0));
+    Ok(Solo::new(Room::open(alloc, names, session), Role::new(place as u8)))
+}
+
+// The caller of a in a new relay, with a book that has so many lines and takes so many bytes.
+fn with_book(alloc: Global, lines: u64, space: usize) -> Result<Keeping, Fail> {
+    let solo = solo(alloc, 0)?;
     let book = Book::new(Short::new(alloc, space)?, lines);
-    let mut caller = Recorded::new(book, solo, Vec::new(alloc));
+    Ok(Recorded::new(book, solo, Vec::new(alloc)))
+}
+
+// How the conversation ends, and what is told.
+fn talked(alloc: Global, caller: &mut Keeping) -> Result<(Ending, Vec<u8>), Fail> {
     let mut reader = Pieces::new(vec![in alloc; Vec::from_slice(alloc, ASKED)?]?, None);
     let mut writer = Short::new(alloc, 2_000)?;
-    let ending = converse(alloc, &mut caller, &mut reader, &mut writer);
-    let lines = Vec::from_slice(alloc, caller.keeper.sink().bytes())?;
-    let told = Vec::from_slice(alloc, writer.bytes())?;
-    Ok((ending, lines, caller.keeper.is_whole(), told))
+    let ending = converse(alloc, caller, &mut reader, &mut writer);
+    Ok((ending, Vec::from_slice(alloc, writer.bytes())?))
+}
+
+// How a conversation ends, what is kept of it, whether all was, and what is told.
+#[derive(Drop)]
+struct Kept {
+    ending: Ending,
+    lines: Vec<u8>,
+    is_whole: bool,
+    told: Vec<u8>,
+}
+
+// The same where the book has so many lines and takes so many bytes.
+fn kept_by(alloc: Global, lines: u64, space: usize) -> Result<Kept, Fail> {
+    let mut caller = with_book(alloc, lines, space)?;
+    let (ending, told) = talked(alloc, &mut caller)?;
+    Ok(Kept {
+        ending,
+        lines: Vec::from_slice(alloc, caller.keeper.sink().bytes())?,
+        is_whole: caller.keeper.is_whole(),
+        told,
+    })
 }
 
 #[test]
 fn keeps_what_is_accepted(rt: HostRuntime) -> Result<(), Fail> {
-    let (ending, lines, is_whole, told) = kept(rt.alloc(), 0, 2_000)?;
-    assert!(rt; ending == Ending::Closed && is_whole);
-    assert!(rt; lines.as_slice() == KEPT);
-    assert!(rt; told.starts_with(b"done 1\ndone 1\nrefused nostep\n{"));
-    assert!(rt; told.ends_with(b"}\ndone 2\ndone 3\ndone 2\nrefused line\nundone 3\n"));
+    let kept = kept_by(rt.alloc(), 0, 2_000)?;
+    assert!(rt; kept.ending == Ending::Closed && kept.is_whole);
+    assert!(rt; kept.lines.as_slice() == KEPT);
+    assert!(rt; kept.told.starts_with(b"done 1\ndone 1\nrefused nostep\n{"));
+    assert!(rt;
+        kept.told
+            .ends_with(b"}\ndone 2\ndone 3\ndone 2\nrefused line\nundone 3\n")
+    );
     Ok(())
 }
 
 // How many lines are told where the book takes so many bytes: an answer for each whole line of a, two of which are told
 // twice, and what changes nothing up to there.
 fn is_cut(alloc: Global, space: usize) -> Result<bool, Fail> {
-    let (ending, lines, is_whole, told) = kept(alloc, 0, space)?;
-    let answers = told.iter().filter(|&&byte| byte == b'\n').count();
+    let kept = kept_by(alloc, 0, space)?;
+    let answers = kept.told.iter().filter(|&&byte| byte == b'\n').count();
     let wanted = match space {
         0..=12 => 0,
         13..=23 => 4,
         24..=32 => 5,
         _ => 8,
     };
-    let front = KEPT.get(..space).ok_or("a front")?;
-    Ok(ending == Ending::Untold && !is_whole && lines.as_slice() == front && answers == wanted)
+    let is_untold = kept.ending == Ending::Untold && !kept.is_whole;
+    let is_front = KEPT.get(..space) == Some(kept.lines.as_slice());
+    Ok(is_untold && is_front && answers == wanted)
 }
 
 #[test]
 fn loses_a_line_out_of_order(rt: HostRuntime) -> Result<(), Fail> {
-    let (ending, lines, whole, told) = kept(rt.alloc(), 5, 2_000)?;
-    assert!(rt; ending == Ending::Untold && !whole);
-    assert!(rt; lines.is_empty() && told.is_empty());
+    let kept = kept_by(rt.alloc(), 5, 2_000)?;
+    assert!(rt; kept.ending == Ending::Untold && !kept.is_whole);
+    assert!(rt; kept.lines.is_empty() && kept.told.is_empty());
     Ok(())
 }
 
@@ -155,11 +189,7 @@ fn callers(alloc: Global, roles: &Roles) -> Result<Vec<Solo>, Fail>
 {
     let mut callers = Vec::new(alloc);
     for place in 0..roles.count() {
-        let (names, session) = opened(alloc, RELAY)?;
-        if place >= session.roles() {
-            return Err("a role".into());
-        }
-        callers.push(Solo::new(Room::open(alloc, names, session), Role::new(place as u8)))?;
+        callers.push(solo(alloc, place)?)?;
     }
     if callers.len() == roles.count() {
         Ok(callers)
@@ -257,6 +287,25 @@ fn answers<R: Wait + 'static>(
     Ok(Vec::from_slice(alloc, writer.bytes())?)
 }
 
+// Whether a connection that sends these lines is answered so.
+fn is_told<R: Wait + 'static>(
+    rt: &R,
+    alloc: Global,
+    desk: &Desk<'_>,
+    lines: &[u8],
+    wanted: &[u8],
+) -> Result<bool, Fail> {
+    Ok(answers(rt, alloc, desk, lines)?.as_slice() == wanted)
+}
+
+const BY_A: &[u8] = b"join 2 a\n1 send b 5\n2 rollback 1\n";
+
+const TOLD_A: &[u8] = b"joined 2 a\ndone 1\nundone 2 1\n";
+
+const BY_B: &[u8] = b"join 2 b\nnews 0\n";
+
+const TOLD_B: &[u8] = b"joined 2 b\nnews 3 2\n";
+
 // A session that goes on from lines: a repeats its last line, goes on, and b hears of it.
 fn goes_on<R: Wait + 'static>(
     rt: &R,
@@ -271,13 +320,11 @@ fn goes_on<R: Wait + 'static>(
     let Ok(restored) = desk.restore(rt, alloc, session, &mut lines) else {
         return Err("not restored".into());
     };
-    let told = answers(rt, alloc, desk, b"join 2 a\n1 send b 5\n2 rollback 1\n")?;
-    let heard = answers(rt, alloc, desk, b"join 2 b\nnews 0\n")?;
     let is_whole = restored.lines == 2 && restored.bytes == 24;
     Ok(
         is_whole
-            && told.as_slice() == b"joined 2 a\ndone 1\nundone 2 1\n".as_slice()
-            && heard.as_slice() == b"joined 2 b\nnews 3 2\n".as_slice(),
+            && is_told(rt, alloc, desk, BY_A, TOLD_A)?
+            && is_told(rt, alloc, desk, BY_B, TOLD_B)?,
     )
 }
 

@@ -1,3 +1,6 @@
+ghost use Rattle.std.specs.Prelude.{◌≡◌, ◌<◌, ◌^◌};
+ghost use Rattle.mps_dev.specs.Pieces.{calls_of};
+
 use crate::pieces::{
     Way, add_line, cut_long_line, empty_lines, fails_from, in_one_piece, in_pieces,
     in_single_bytes, in_two_pieces, refused_lines, room, told_by,
@@ -20,20 +23,35 @@ const ANSWERS: &str = "done 1\ndone 2 5\ndone 3\ndone 4 7\n";
 // How a run went: what was written, and the fault that ended it.
 type Outcome = (Vec<u8>, Option<ReplayFault>);
 
-// Runs the pieces as a script of the roles a, b and so on, with these types.
+// Runs a script of the roles a, b and so on, with these types. Gives the fault that ended it.
+fn run(
+    alloc: Global,
+    types: Vec<Local>,
+    reader: &mut Pieces,
+    writer: &mut Short,
+) -> Result<Option<ReplayFault>, Fail>
+    requires reads { calls_of reader.old ≡ 0 }
+    requires writes { writer.old.failed_calls ≡ 0 }
+    ensures reads { calls_of reader.new < 2 ^ 62 }
+{
+    let roles = names(alloc, types.len())?;
+    let fault = replay(alloc, reader, writer, roles, types).err();
+    if fault == Some(ReplayFault::Memory) {
+        return Err("enough memory".into());
+    }
+    Ok(fault)
+}
+
+// The same of these pieces, with what is written.
 fn outcome(
     alloc: Global,
     types: Vec<Local>,
     pieces: Vec<Vec<u8>>,
     way: Way,
 ) -> Result<Outcome, Fail> {
-    let roles = names(alloc, types.len())?;
     let mut reader = Pieces::new(pieces, way.fails_from);
     let mut writer = Short::new(alloc, way.room)?;
-    let fault = replay(alloc, &mut reader, &mut writer, roles, types).err();
-    if fault == Some(ReplayFault::Memory) {
-        return Err("enough memory".into());
-    }
+    let fault = run(alloc, types, &mut reader, &mut writer)?;
     Ok((Vec::from_slice(alloc, writer.bytes())?, fault))
 }
 
@@ -63,11 +81,16 @@ fn relays(
 
 // Whether a relay's script, as one piece and in single bytes, runs to its end and is answered so.
 fn is_answered(alloc: Global, script: &str, want: &str) -> Result<bool, Fail> {
-    let whole = in_one_piece(alloc, script)?;
-    let single = in_single_bytes(alloc, script)?;
+    let want = want.as_bytes();
     Ok(
-        relays(alloc, whole, room(200), want.as_bytes(), None)?
-            && relays(alloc, single, room(200), want.as_bytes(), None)?,
+        relays(alloc, in_one_piece(alloc, script)?, room(200), want, None)?
+            && relays(
+                alloc,
+                in_single_bytes(alloc, script)?,
+                room(200),
+                want,
+                None,
+            )?,
     )
 }
 
@@ -275,12 +298,16 @@ fn repeated(alloc: Global, line: &str, times: u32) -> Result<Vec<u8>, Fail> {
     Ok(text)
 }
 
+// What a script of so many numbers comes to.
+fn counted(alloc: Global, numbers: u32) -> Result<Outcome, Fail> {
+    let types = vec![in alloc; counts(alloc, 1)?, Local::End]?;
+    let pieces = vec![in alloc; repeated(alloc, "a send b 1", numbers)?]?;
+    outcome(alloc, types, pieces, room(2_000_000))
+}
+
 #[test]
 fn is_full_after_a_hundred_thousand_numbers(rt: HostRuntime) -> Result<(), Fail> {
-    let alloc = rt.alloc();
-    let types = vec![in alloc; counts(alloc, 1)?, Local::End]?;
-    let pieces = vec![in alloc; repeated(alloc, "a send b 1", 100_001)?]?;
-    let (written, fault) = outcome(alloc, types, pieces, room(2_000_000))?;
+    let (written, fault) = counted(rt.alloc(), 100_001)?;
     assert_eq!(rt; fault, None);
     assert!(rt; written.starts_with(b"done 1\ndone 2\n"));
     assert!(rt; written.ends_with(b"done 99999\ndone 100000\nrefused full\n"));
@@ -296,45 +323,89 @@ fn long_line(alloc: Global, length: usize) -> Result<Vec<Vec<u8>>, Fail> {
 
 const LONG_ANSWERED: &[u8] = b"refused line\ndone 1\n";
 
+// Whether such a line is answered so.
+fn is_long(alloc: Global, length: usize) -> Result<bool, Fail> {
+    relays(
+        alloc,
+        long_line(alloc, length)?,
+        room(200),
+        LONG_ANSWERED,
+        None,
+    )
+}
+
+// The same where it comes in two pieces.
+fn is_long_in_two(alloc: Global, length: usize) -> Result<bool, Fail> {
+    let pieces = cut_long_line(alloc, length, "a send b 5")?;
+    relays(alloc, pieces, room(200), LONG_ANSWERED, None)
+}
+
 #[test]
 fn answers_long_lines(rt: HostRuntime) -> Result<(), Fail> {
     for length in [MAX_LINE, MAX_LINE + 1, BLOCK, BLOCK + 1, 1_000_001] {
-        let pieces = long_line(rt.alloc(), length)?;
-        assert!(rt;
-            relays(rt.alloc(), pieces, room(200), LONG_ANSWERED, None)?,
-            "of {length}"
-        );
+        assert!(rt; is_long(rt.alloc(), length)?, "of {length}");
     }
     for length in [MAX_LINE, MAX_LINE + 1, 100_000] {
-        let pieces = cut_long_line(rt.alloc(), length, "a send b 5")?;
         assert!(rt;
-            relays(rt.alloc(), pieces, room(200), LONG_ANSWERED, None)?,
+            is_long_in_two(rt.alloc(), length)?,
             "of {length} in two pieces"
         );
     }
     Ok(())
 }
 
-// Whether a relay's script in these pieces stops at the fault.
-fn stops(
-    alloc: Global,
-    texts: &[&str],
-    way: Way,
-    want: &str,
-    fault: ReplayFault,
-) -> Result<bool, Fail> {
+// The device that fails.
+#[derive(Clone, Copy)]
+enum Device {
+    Reader,
+    Writer,
+}
+
+// The fault that ends a run then.
+fn fault_of(device: Device) -> ReplayFault {
+    match device {
+        Device::Reader => ReplayFault::ReadFault,
+        Device::Writer => ReplayFault::WriteFault,
+    }
+}
+
+// The pieces of a relay's script, from which read on reads fail, how many bytes of answers are taken, what these are, and
+// the device at which it stops.
+type Stop = (
+    &'static [&'static str],
+    Option<u64>,
+    usize,
+    &'static str,
+    Device,
+);
+
+const STOPS: &[Stop] = &[
+    (&[SCRIPT], Some(1), 1_000, "", Device::Reader),
+    (
+        &["a send b 5\nb re", "cv a x\n"],
+        Some(2),
+        1_000,
+        "done 1\n",
+        Device::Reader,
+    ),
+    (&[SCRIPT], None, 3, "don", Device::Writer),
+];
+
+fn stops(alloc: Global, row: &Stop) -> Result<bool, Fail> {
+    let (texts, fails_from, room, want, device) = row;
+    let way = Way {
+        fails_from: *fails_from,
+        room: *room,
+    };
     let pieces = in_pieces(alloc, texts)?;
-    relays(alloc, pieces, way, want.as_bytes(), Some(fault))
+    relays(alloc, pieces, way, want.as_bytes(), Some(fault_of(*device)))
 }
 
 #[test]
 fn ends_at_faults(rt: HostRuntime) -> Result<(), Fail> {
-    let alloc = rt.alloc();
-    let (read, write) = (ReplayFault::ReadFault, ReplayFault::WriteFault);
-    let halves = ["a send b 5\nb re", "cv a x\n"];
-    assert!(rt; stops(alloc, &[SCRIPT], fails_from(1), "", read)?);
-    assert!(rt; stops(alloc, &halves, fails_from(2), "done 1\n", read)?);
-    assert!(rt; stops(alloc, &[SCRIPT], room(3), "don", write)?);
+    for row in STOPS {
+        assert!(rt; stops(rt.alloc(), row)?, "{}", row.3);
+    }
     Ok(())
 }
 
@@ -345,27 +416,36 @@ fn a_block_and_a_byte(alloc: Global) -> Result<Vec<Vec<u8>>, Fail> {
     Ok(vec![in alloc; piece]?)
 }
 
-#[test]
-fn reads_a_block_at_a_time(rt: HostRuntime) -> Result<(), Fail> {
-    let alloc = rt.alloc();
+// The answers to the lines of the first block.
+fn first_answers(alloc: Global) -> Result<Vec<u8>, Fail> {
     let mut answers = Vec::from_slice(alloc, b"done 1\n")?;
     answers.extend_from_slice(repeated(alloc, "refused ended", 4095)?.as_slice())?;
+    Ok(answers)
+}
+
+// Whether the second read fails after them.
+fn has_first(alloc: Global) -> Result<bool, Fail> {
+    let answers = first_answers(alloc)?;
     let way = Way {
         fails_from: Some(2),
         room: 100_000,
     };
     let fault = Some(ReplayFault::ReadFault);
-    let first = relays(alloc, a_block_and_a_byte(alloc)?, way, &answers, fault)?;
-    assert!(rt; first, "the lines of the first block");
+    relays(alloc, a_block_and_a_byte(alloc)?, way, &answers, fault)
+}
+
+// Whether one more line is answered where it doesn't.
+fn has_all(alloc: Global) -> Result<bool, Fail> {
+    let mut answers = first_answers(alloc)?;
     add_line(&mut answers, "refused line")?;
-    let all = relays(
-        alloc,
-        a_block_and_a_byte(alloc)?,
-        room(100_000),
-        &answers,
-        None,
-    )?;
-    assert!(rt; all, "all lines");
+    let way = room(100_000);
+    relays(alloc, a_block_and_a_byte(alloc)?, way, &answers, None)
+}
+
+#[test]
+fn reads_a_block_at_a_time(rt: HostRuntime) -> Result<(), Fail> {
+    assert!(rt; has_first(rt.alloc())?, "the lines of the first block");
+    assert!(rt; has_all(rt.alloc())?, "all lines");
     Ok(())
 }
 
@@ -395,20 +475,32 @@ fn stops_after_a_million_reads(rt: HostRuntime) -> Result<(), Fail> {
     Ok(())
 }
 
-// What a run of the two lines ends with that has no room for an answer, and what is left to read then.
+// The bytes that are left to read, 20 at most.
+fn left(alloc: Global, reader: &mut Pieces) -> Result<Vec<u8>, Fail>
+    requires { calls_of reader.old < 2 ^ 62 }
+{
+    let mut rest = [0u8; 20];
+    match reader.read(&mut rest) {
+        Ok(count) => Ok(Vec::from_slice(alloc, rest.get(..count).ok_or("a count")?)?),
+        Err(_) => Err("a read".into()),
+    }
+}
+
+// What a run of the lines ends with that has no room for an answer.
+fn without_room(alloc: Global, reader: &mut Pieces) -> Result<Option<ReplayFault>, Fail>
+    requires { calls_of reader.old ≡ 0 }
+    ensures { calls_of reader.new < 2 ^ 62 }
+{
+    let mut writer = Short::new(alloc, 0)?;
+    run(alloc, types(alloc, RELAY)?, reader, &mut writer)
+}
+
+// The same of two lines, and what is left to read then.
 fn left_unread(alloc: Global) -> Result<(Option<ReplayFault>, Vec<u8>), Fail> {
-    let types = types(alloc, RELAY)?;
-    let roles = names(alloc, types.len())?;
     let pieces = in_pieces(alloc, &["a send b 5\n", "b recv a x\n"])?;
     let mut reader = Pieces::new(pieces, None);
-    let mut writer = Short::new(alloc, 0)?;
-    let fault = replay(alloc, &mut reader, &mut writer, roles, types).err();
-    let mut rest = [0u8; 20];
-    let count = reader.read(&mut rest).or(Err("a read"))?;
-    Ok((
-        fault,
-        Vec::from_slice(alloc, rest.get(..count).ok_or("a count")?)?,
-    ))
+    let fault = without_room(alloc, &mut reader)?;
+    Ok((fault, left(alloc, &mut reader)?))
 }
 
 #[test]
@@ -421,41 +513,64 @@ fn answers_before_it_reads_on(rt: HostRuntime) -> Result<(), Fail> {
 
 // ---- a session that is handed in
 
-// The entries, the steps that survive and the numbers given out after a script, or the fault that ended its run.
-type Left = Result<(u64, usize, u64), ReplayFault>;
+// The entries, the steps that survive and the numbers given out after a script, or what failed.
+type Left<F> = Result<(u64, usize, u64), F>;
 
-// What a relay's script writes, and what it leaves, on a session that was opened before.
-fn on_a_session(alloc: Global, script: &str, way: Way) -> Result<(Vec<u8>, Left), Fail> {
+// What a script leaves of the session.
+fn left_of(
+    alloc: Global,
+    reader: &mut Pieces,
+    writer: &mut Short,
+) -> Result<Left<ReplayFault>, Fail>
+    requires reads { calls_of reader.old ≡ 0 }
+    requires writes { writer.old.failed_calls ≡ 0 }
+{
     let (roles, session) = opened(alloc, RELAY)?;
-    let mut reader = Pieces::new(in_one_piece(alloc, script)?, way.fails_from);
-    let mut writer = Short::new(alloc, way.room)?;
-    let ended = run_script(alloc, &mut reader, &mut writer, roles, session);
-    let left = ended.map(|room| (
-        room.entries(),
-        room.session().len(),
-        room.session().issued(),
-    ));
-    Ok((Vec::from_slice(alloc, writer.bytes())?, left))
+    match run_script(alloc, reader, writer, roles, session) {
+        Ok(room) => Ok(Ok((
+            room.entries(),
+            room.session().len(),
+            room.session().issued(),
+        ))),
+        Err(fault) => Ok(Err(fault)),
+    }
 }
 
-fn leaves(alloc: Global, script: &str, way: Way, want: &str, end: Left) -> Result<bool, Fail> {
-    let (written, left) = on_a_session(alloc, script, way)?;
-    Ok(written.as_slice() == want.as_bytes() && left == end)
+// A relay's script, from which read on reads fail, how many bytes of answers are taken, what these are, and what is left
+// of a session that was opened before.
+type OnASession = (&'static str, Option<u64>, usize, &'static str, Left<Device>);
+
+const ON_A_SESSION: &[OnASession] = &[
+    (SCRIPT, None, 200, ANSWERS, Ok((4, 4, 4))),
+    ("", None, 200, "", Ok((0, 0, 0))),
+    (
+        "a send b 5\na undo 1\na send b 6",
+        None,
+        200,
+        "done 1\nundone 1\ndone 2\n",
+        Ok((3, 1, 2)),
+    ),
+    (SCRIPT, Some(1), 1_000, "", Err(Device::Reader)),
+    (SCRIPT, Some(2), 1_000, ANSWERS, Err(Device::Reader)),
+    (SCRIPT, None, 8, "done 1\nd", Err(Device::Writer)),
+];
+
+fn leaves(alloc: Global, row: &OnASession) -> Result<bool, Fail> {
+    let mut reader = Pieces::new(in_one_piece(alloc, row.0)?, row.1);
+    let mut writer = Short::new(alloc, row.2)?;
+    let left = left_of(alloc, &mut reader, &mut writer)?;
+    let want = match row.4 {
+        Ok(counts) => Ok(counts),
+        Err(device) => Err(fault_of(device)),
+    };
+    Ok(writer.bytes() == row.3.as_bytes() && left == want)
 }
 
 #[test]
 fn runs_on_a_session_that_is_handed_in(rt: HostRuntime) -> Result<(), Fail> {
-    let alloc = rt.alloc();
-    assert!(rt; leaves(alloc, SCRIPT, room(200), ANSWERS, Ok((4, 4, 4)))?);
-    assert!(rt; leaves(alloc, "", room(200), "", Ok((0, 0, 0)))?);
-    let undone = "a send b 5\na undo 1\na send b 6";
-    let told = "done 1\nundone 1\ndone 2\n";
-    assert!(rt; leaves(alloc, undone, room(200), told, Ok((3, 1, 2)))?);
-    let read = Err(ReplayFault::ReadFault);
-    assert!(rt; leaves(alloc, SCRIPT, fails_from(1), "", read)?);
-    assert!(rt; leaves(alloc, SCRIPT, fails_from(2), ANSWERS, read)?);
-    let write = Err(ReplayFault::WriteFault);
-    assert!(rt; leaves(alloc, SCRIPT, room(8), "done 1\nd", write)?);
+    for row in ON_A_SESSION {
+        assert!(rt; leaves(rt.alloc(), row)?, "{}", row.0);
+    }
     Ok(())
 }
 
@@ -499,22 +614,34 @@ fn picks(alloc: Global) -> Result<Local, Fail> {
     })
 }
 
+// A type that takes a text of a.
+fn takes(alloc: Global) -> Result<Local, Fail> {
+    Ok(Local::recv(alloc, Role::new(0), Sort::Text, Local::End)?)
+}
+
+// Whether a value is refused where one of another sort is expected.
+fn refuses_a_value(alloc: Global) -> Result<bool, Fail> {
+    let script = "a send b 5\nb recv a x\n";
+    mismatches(alloc, gives(alloc)?, takes(alloc)?, script)
+}
+
+// Whether a value is refused where a label is expected.
+fn refuses_a_value_for_a_label(alloc: Global) -> Result<bool, Fail> {
+    let script = "a send b 5\nb pick a\n";
+    mismatches(alloc, gives(alloc)?, picks(alloc)?, script)
+}
+
+// Whether a label is refused that is none of those expected.
+fn refuses_a_label(alloc: Global) -> Result<bool, Fail> {
+    let script = "a choose b maybe\nb pick a\n";
+    mismatches(alloc, tells(alloc)?, picks(alloc)?, script)
+}
+
 #[test]
 fn refuses_a_message_of_another_kind(rt: HostRuntime) -> Result<(), Fail> {
-    let alloc = rt.alloc();
-    let takes = Local::recv(alloc, Role::new(0), Sort::Text, Local::End)?;
-    assert!(rt; mismatches(alloc, gives(alloc)?, takes, "a send b 5\nb recv a x\n")?);
-    // a value where a label is expected, and a label that is none of those expected
-    assert!(rt;
-        mismatches(
-            alloc,
-            gives(alloc)?,
-            picks(alloc)?,
-            "a send b 5\nb pick a\n"
-        )?
-    );
-    let choice = "a choose b maybe\nb pick a\n";
-    assert!(rt; mismatches(alloc, tells(alloc)?, picks(alloc)?, choice)?);
+    assert!(rt; refuses_a_value(rt.alloc())?);
+    assert!(rt; refuses_a_value_for_a_label(rt.alloc())?);
+    assert!(rt; refuses_a_label(rt.alloc())?);
     Ok(())
 }
 
@@ -529,31 +656,18 @@ const SORTS_TOLD: &[u8] = b"done 1\ndone 2 \"good day\"\ndone 3\ndone 4 true\n\
     done 5\ndone 6 \"\"\ndone 7\ndone 8 false\n\
     done 9\ndone 10 -9223372036854775808\n";
 
+// Whether these pieces are answered so.
+fn are_passed(alloc: Global, pieces: Vec<Vec<u8>>) -> Result<bool, Fail> {
+    let types = types(alloc, EACH_SORT)?;
+    comes_to(alloc, types, pieces, room(200), SORTS_TOLD, None)
+}
+
 #[test]
 fn passes_values_of_each_sort(rt: HostRuntime) -> Result<(), Fail> {
-    let alloc = rt.alloc();
-    let whole = in_one_piece(alloc, SORTS_ASKED)?;
-    assert!(rt;
-        comes_to(
-            alloc,
-            types(alloc, EACH_SORT)?,
-            whole,
-            room(200),
-            SORTS_TOLD,
-            None
-        )?
-    );
-    let single = in_single_bytes(alloc, SORTS_ASKED)?;
-    assert!(rt;
-        comes_to(
-            alloc,
-            types(alloc, EACH_SORT)?,
-            single,
-            room(200),
-            SORTS_TOLD,
-            None
-        )?
-    );
+    let whole = in_one_piece(rt.alloc(), SORTS_ASKED)?;
+    assert!(rt; are_passed(rt.alloc(), whole)?);
+    let single = in_single_bytes(rt.alloc(), SORTS_ASKED)?;
+    assert!(rt; are_passed(rt.alloc(), single)?);
     Ok(())
 }
 
@@ -597,29 +711,48 @@ fn is_past_a_limit(alloc: Global, count: usize, fault: LocalFault) -> Result<boo
     )
 }
 
-#[test]
-fn opens_no_session(rt: HostRuntime) -> Result<(), Fail> {
-    let alloc = rt.alloc();
-    let (a, b) = (Role::new(0), Role::new(1));
-    let itself = OpenFault::BadPeer { role: a };
-    assert!(rt; is_not_opened(alloc, sends(alloc, 0, 1)?, Local::End, itself)?);
+// Whether a, who gives itself an int, is told as bad.
+fn is_bad(alloc: Global) -> Result<bool, Fail> {
+    let itself = OpenFault::BadPeer { role: Role::new(0) };
+    is_not_opened(alloc, sends(alloc, 0, 1)?, Local::End, itself)
+}
+
+// Whether the idle loop of b is told.
+fn is_unguarded(alloc: Global) -> Result<bool, Fail> {
     let unguarded = OpenFault::Local {
-        role: b,
+        role: Role::new(1),
         fault: LocalFault::Unguarded,
     };
-    assert!(rt; is_not_opened(alloc, Local::End, idle(alloc)?, unguarded)?);
-    assert!(rt; is_past_a_limit(alloc, 64, LocalFault::TooDeep)?);
-    assert!(rt; is_past_a_limit(alloc, 255, LocalFault::TooDeep)?);
-    assert!(rt; is_past_a_limit(alloc, 256, LocalFault::TooManyNodes)?);
+    is_not_opened(alloc, Local::End, idle(alloc)?, unguarded)
+}
+
+// How many outputs of a are too many, in which way.
+const PAST_A_LIMIT: &[(usize, LocalFault)] = &[
+    (64, LocalFault::TooDeep),
+    (255, LocalFault::TooDeep),
+    (256, LocalFault::TooManyNodes),
+];
+
+#[test]
+fn opens_no_session(rt: HostRuntime) -> Result<(), Fail> {
+    assert!(rt; is_bad(rt.alloc())?);
+    assert!(rt; is_unguarded(rt.alloc())?);
+    for (count, fault) in PAST_A_LIMIT {
+        assert!(rt; is_past_a_limit(rt.alloc(), *count, *fault)?, "{count}");
+    }
     Ok(())
+}
+
+// Whether a session opens where a gives b so many ints.
+fn is_opened(alloc: Global, count: usize) -> Result<bool, Fail> {
+    let types = vec![in alloc; sends(alloc, 1, count)?, Local::End]?;
+    let script = in_one_piece(alloc, "a send b 5\n")?;
+    comes_to(alloc, types, script, room(200), b"done 1\n", None)
 }
 
 // 64 levels are not too deep
 #[test]
 fn opens_the_deepest_session(rt: HostRuntime) -> Result<(), Fail> {
-    let alloc = rt.alloc();
-    let types = vec![in alloc; sends(alloc, 1, 63)?, Local::End]?;
-    let script = in_one_piece(alloc, "a send b 5\n")?;
-    assert!(rt; comes_to(alloc, types, script, room(200), b"done 1\n", None)?);
+    assert!(rt; is_opened(rt.alloc(), 63)?);
     Ok(())
 }
