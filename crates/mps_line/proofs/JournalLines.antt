@@ -1,17 +1,15 @@
 -- What kept lines are made of, and what is read from them.
-use Rattle.std.proofs.Common.{arith, ◌≡◌, ◌≢◌, ℕ, List, [], ◌∷◌, ◌++◌, length, Some, refl, sym, ap, ◌∙◌, append_assoc}
-use Rattle.std.specs.Prelude.{Option, None, slice_get, Result, Ok, Err, OnOk, ⊤, IsTrue, ◌<◌, ◌^◌}
+use Rattle.std.proofs.Common.{arith, ◌≡◌, ◌≢◌, ℕ, List, [], ◌∷◌, ◌++◌, Some, refl, sym, ap, ◌∙◌, append_assoc}
+use Rattle.std.specs.Prelude.{Option, None, Result, Ok, Err, OnOk, IsTrue}
 use Rattle.mps_base.specs.Names.{is_name_byte}
-use Rattle.mps_base.specs.Numbers.{IsNumberText}
 use Rattle.std.specs.List.{AllByRecursion}
-use Rattle.std.proofs.lemmas.Option.{same_Some}
 use Rattle.mps_base.specs.Appends.{Appends}
 use Rattle.mps_base.specs.RoleLists.{AreDistinct}
 use Rattle.mps_base.specs.Spaced.{spaced}
 use Rattle.mps_base.specs.Values.{IsShown}
 use Rattle.mps_base.proofs.RoleLists.{one_place}
 use Rattle.mps_command.specs.declared.command.Command.{Command}
-use Rattle.mps_line.specs.Commands.{SpellsCommand, SpellsNumbered, SpellsScriptLine, MayHaveNumber, command_tokens, arguments, verb_word, verb_of}
+use Rattle.mps_line.specs.Commands.{SpellsCommand, SpellsNumbered, SpellsScriptLine, MayHaveNumber, arguments, verb_word, verb_of}
 use Rattle.mps_line.specs.Tokens.{Word, RoleAt, Number, SpellsRole, SpellsNumber}
 use Rattle.mps_line.specs.Private.Tokens.{HasNoSpace}
 use Rattle.mps_line.proofs.Splitting.{one_split, name_has_no_space, joined}
@@ -110,4 +108,13 @@ numbered_written names (Ok x) old mid pushed new n command may a p b = (
   a.0 ++ 32 ∷ b.0,
   b.1 ∙ ap (λ (m : List ℕ). m ++ b.0) (p ∙ ap (λ (m : List ℕ). m ++ 32 ∷ []) a.1) ∙ append_assoc (old ++ a.0) (32 ∷ []) b.0 ∙ append_assoc old a.0 (32 ∷ b.0),
   record { line = joined names (a.0 ++ 32 ∷ b.0) (Number n) (Word (verb_word (verb_of command))) (arguments command) b.0 (record { front = a.0; parts = refl; spelled = a.2 }) b.2; allowed = may },
+)
+
+-- the name of the role, a space and what is written after them
+pub role_written : {T E : Type 0} (names : List (List ℕ)) (r : Result T E) (old mid pushed new : List ℕ) (role : ℕ) (n : Option ℕ) (command : Command) → MayHaveNumber command → Appends (λ text. SpellsRole names text role) old mid → pushed ≡ mid ++ 32 ∷ [] → OnOk r (Appends (λ text. SpellsNumbered names text n command) pushed new) → OnOk r (Appends (λ text. SpellsJournalLine names text role n command) old new)
+role_written names (Err e) old mid pushed new role n command asks a p b = tt
+role_written names (Ok x) old mid pushed new role n command asks a p b = (
+  a.0 ++ 32 ∷ b.0,
+  b.1 ∙ ap (λ (m : List ℕ). m ++ b.0) (p ∙ ap (λ (m : List ℕ). m ++ 32 ∷ []) a.1) ∙ append_assoc (old ++ a.0) (32 ∷ []) b.0 ∙ append_assoc old a.0 (32 ∷ b.0),
+  record { name = a.0; rest = b.0; parts = refl; known = a.2; spelled = b.2; asks = asks },
 )

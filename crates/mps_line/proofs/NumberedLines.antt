@@ -7,7 +7,6 @@ use Rattle.mps_base.specs.Values.{SpellsValue}
 use Rattle.mps_base.specs.declared.value.Value.{Value}
 use Rattle.mps_command.specs.Changes.{change_of}
 use Rattle.mps_command.specs.declared.command.Command.{Command}
-use Rattle.mps_command.specs.declared.command.Command.TheVariants.{News, Show}
 use Rattle.mps_line.specs.declared.read_commands.Verb.{Verb}
 use Rattle.mps_line.specs.declared.read_commands.Verb.TheVariants as verbs
 use Rattle.mps_line.specs.Tokens.{Number, SpellsNumber, SpellsLine}

@@ -13,7 +13,7 @@ use Rattle.mps_command.specs.declared.command.Command.{Command}
 use Rattle.mps_command.specs.declared.command.Command.TheVariants.{Forward, Undo, Rollback, Back, News}
 use Rattle.mps_command.specs.declared.command.Command.TheVariants as commands
 use Rattle.mps_command.specs.declared.command.Forward.TheVariants.{Send, Choose, Receive, Pick, Mark, Commit}
-use Rattle.mps_line.specs.Tokens.{Token, Word, RoleAt, Called, Number, Worth, Show, SpellsRole, SpellsNumber, SpellsToken, SpellEach, SpellsLine}
+use Rattle.mps_line.specs.Tokens.{Token, Word, RoleAt, Called, Number, Worth, SpellsRole, SpellsNumber, SpellsToken, SpellEach, SpellsLine}
 use Rattle.mps_line.specs.Private.Tokens.{BeginsWith}
 use Rattle.mps_line.specs.Commands.{verb_of, arguments, SpellsCommand, SpellsScriptLine, NamesRolesOf}
 use Rattle.mps_line.specs.Private.Commands.{TakesArguments}

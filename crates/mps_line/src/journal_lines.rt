@@ -1,19 +1,16 @@
 //! The lines of a journal that is kept in a file.
-ghost use Rattle.std.specs.Prelude.{◌≡◌, ◌≢◌, ℕ, ◌<◌, List, [], ◌∷◌, Option, All, IfOk, IfSome, IfNone, OnOk, OnErr};
-ghost use Rattle.std.specs.Prelude.{IsErrOf, IsTrue, ◌↔◌, length, slice_index, take};
+ghost use Rattle.std.specs.Prelude.{◌≡◌, ℕ, Option, IfOk, OnOk, OnErr, IsErrOf, IsTrue, ◌↔◌};
 ghost use Rattle.std.specs.Io.{StartsWith};
 ghost use Rattle.mps_base.specs.Appends.{Appends};
-ghost use Rattle.mps_base.specs.Spaced.{spaced};
 ghost use Rattle.mps_command.specs.declared.command.Command.{Command as Asked};
 ghost use Rattle.mps_line.specs.JournalLines.{SpellsJournalLine, CanBeWritten};
 ghost use Rattle.mps_line.specs.Commands.{role_named, SpellsNumbered, MayHaveNumber, NamesRolesOf};
-ghost use Rattle.mps_line.specs.Private.Tokens.{HasNoSpace};
-ghost use Rattle.mps_line.specs.Tokens.{SpellsRole, SpellsNumber};
 
+use crate::line_parts::{read_role, split_at_space, write_count, write_role};
 use crate::read_commands::LineFault;
-use crate::read_conversations::read_numbered;
+use crate::read_conversations::{asks_for_change, read_numbered};
 use crate::write_commands::write_command;
-use mps_base::{Role, Roles, write_number};
+use mps_base::{Role, Roles};
 use mps_command::{Command, Forward};
 use std::alloc::{AllocError, Global};
 
@@ -23,49 +20,6 @@ pub struct JournalLine {
     pub role: Role,
     pub number: Option<u64>,
     pub command: Command,
-}
-
-// Where the first space stands.
-fn first_space(bytes: &[u8]) -> Option<usize>
-    ensures within { IfSome result (λ place. place < length bytes.now) }
-    ensures space { IfSome result (λ place. slice_index bytes.now place ≡ 32) }
-    ensures before { IfSome result (λ place. All (λ c. c ≢ 32) (take place bytes.now)) }
-    ensures none { IfNone result (All (λ c. c ≢ 32) bytes.now) }
-{
-    bytes.iter().position(|&byte| byte == b' ')
-}
-
-// What stands before the first space, and what after it.
-#[tactic(auto, using(crate::proofs::Splitting::no_space, crate::proofs::Splitting::never_spaced))]
-fn split_at_space(bytes: &[u8]) -> Option<(&[u8], &[u8])>
-    ensures parts { IfSome result (λ parts. bytes.now ≡ spaced (parts.0.now ∷ parts.1.now ∷ [])) }
-    ensures first { IfSome result (λ parts. HasNoSpace parts.0.now) }
-    ensures none { IfNone result ((first rest : List ℕ) → bytes.now ≢ spaced (first ∷ rest ∷ [])) }
-{
-    let place = first_space(bytes)?;
-    Some((&bytes[..place], &bytes[place + 1..]))
-}
-
-// The role of that name.
-fn role_of(roles: &Roles, bytes: &[u8]) -> Option<Role>
-    ensures read { IfSome result (SpellsRole roles.now bytes.now) }
-    ensures none { IfNone result ((role : ℕ) → SpellsRole roles.now bytes.now role → ⊥) }
-{
-    roles.find_spelled(bytes)
-}
-
-/// Whether the command asks for a change.
-pub fn asks_for_change(command: &Command) -> bool
-    ensures { IsTrue result ↔ MayHaveNumber command.now }
-{
-    match command {
-        Command::Forward(_) => true,
-        Command::Undo(_) => true,
-        Command::Rollback(_) => true,
-        Command::Back(_) => true,
-        Command::News(_) => false,
-        Command::Show => false,
-    }
 }
 
 // The role that the command names, if it names one.
@@ -132,17 +86,9 @@ fn write_parts(
         (λ text. SpellsJournalLine roles.now text role number command.now) out.old.items out.new.items) }
     ensures err { OnErr result (StartsWith out.new.items out.old.items) }
 {
-    out.extend_from_slice(roles.name(role).as_bytes())?;
+    write_role(roles, role, out)?;
     out.push(b' ')?;
     write_numbered(roles, number, command, out)
-}
-
-// Writes the number, as `write_number` does. Its contract is of the token: a number below 2^64.
-fn write_count(n: u64, out: &mut Vec<u8>) -> Result<(), AllocError>
-    ensures ok { OnOk result (Appends (λ text. SpellsNumber text n) out.old.items out.new.items) }
-    ensures err { OnErr result (out.new.items ≡ out.old.items) }
-{
-    write_number(n, out)
 }
 
 // Writes the number, if there is one, and the command, or a part of them.
@@ -181,7 +127,7 @@ pub fn read_journal_line(
     let Some((name, rest)) = split_at_space(bytes) else {
         return Err(LineFault::Bad);
     };
-    let Some(role) = role_of(roles, name) else {
+    let Some(role) = read_role(roles, name) else {
         return Err(LineFault::Bad);
     };
     let (number, command) = read_numbered(alloc, roles, rest)?;

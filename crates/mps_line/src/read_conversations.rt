@@ -32,14 +32,14 @@ pub fn read_numbered(
         return Ok((None, command));
     };
     let command = read_command(alloc, roles, rest)?;
-    if !may_have_number(&command) {
+    if !asks_for_change(&command) {
         return Err(LineFault::Bad);
     }
     Ok((Some(number), command))
 }
 
-// Whether a number may stand in front of the command.
-fn may_have_number(command: &Command) -> bool
+/// Whether the command asks for a change. A number may stand in front of such a command alone.
+pub fn asks_for_change(command: &Command) -> bool
     ensures { IsTrue result ↔ MayHaveNumber command.now }
 {
     match command {

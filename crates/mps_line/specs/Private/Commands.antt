@@ -1,7 +1,6 @@
 -- Verbs with arguments, and those that stand alone.
 use Rattle.std.specs.Prelude.{ℕ, ◌<◌, List, [], ◌∷◌, length, codes}
 use Rattle.mps_command.specs.declared.command.Command.{Command}
-use Rattle.mps_line.specs.declared.read_commands.Verb.TheVariants as verbs
 use Rattle.mps_line.specs.Commands.{arguments}
 
 -- the verbs after which nothing stands

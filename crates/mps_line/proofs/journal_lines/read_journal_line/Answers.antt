@@ -3,9 +3,9 @@ use Rattle.std.proofs.lemmas.Bool.{false≢true}
 use Rattle.mps_line.proofs.JournalLines.{no_such_role, none_after, asks_as_well}
 use Rattle.mps_line.proofs.journal_lines.read_journal_line.Goals as goal
 
-pub returns-in_default-role_of-clause-bad : goal.returns-in_default-role_of-clause-bad
-returns-in_default-role_of-clause-bad c = λ e role number command h.
-    no_such_role _ _ _ _ c.in-Some.ensures.parts c.in-Some.ensures.first c.in_default-role_of.ensures.none role number command h
+pub returns-in_default-read_role-clause-bad : goal.returns-in_default-read_role-clause-bad
+returns-in_default-read_role-clause-bad c = λ e role number command h.
+    no_such_role _ _ _ _ c.in-Some.ensures.parts c.in-Some.ensures.first c.in_default-read_role.ensures.none role number command h
 
 pub returns-in_err-number-clause-bad : goal.returns-in_err-number-clause-bad
 returns-in_err-number-clause-bad c = λ e role number command h.

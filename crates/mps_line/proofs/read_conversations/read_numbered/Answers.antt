@@ -19,10 +19,10 @@ returns-in_err-command-2-clause-memory c = λ e.
     let k = c.in_err-command-2.ensures.memory (ap Err (sym (rw e at c.from_residual-in_err-command-2.ensures.1))) in
     (Some c.in-Some.number, k.0, k.1, command_numbered _ _ _ _ (Forward (Send k.0 (Text k.1))) c.in-Some.ensures.read refl k.2)
 
-pub returns-then-not-may_have_number-clause-bad : goal.returns-then-not-may_have_number-clause-bad
-returns-then-not-may_have_number-clause-bad c = λ e number command h.
-    none_numbered _ _ _ _ c.in-Some.ensures.read (λ d may k. false≢true (sym c.if-not-may_have_number.true ∙ c.may_have_number.ensures.1 (may_as_well _ _ c.in_ok-command-2.command d c.in_ok-command-2.ensures.read k may))) number command h
+pub returns-then-not-asks_for_change-clause-bad : goal.returns-then-not-asks_for_change-clause-bad
+returns-then-not-asks_for_change-clause-bad c = λ e number command h.
+    none_numbered _ _ _ _ c.in-Some.ensures.read (λ d may k. false≢true (sym c.if-not-asks_for_change.true ∙ c.asks_for_change.ensures.1 (may_as_well _ _ c.in_ok-command-2.command d c.in_ok-command-2.ensures.read k may))) number command h
 
 pub returns-clause-read : goal.returns-clause-read
 returns-clause-read c =
-    command_numbered _ _ _ _ _ c.in-Some.ensures.read (c.may_have_number.ensures.0 c.if-not-may_have_number.false) c.in_ok-command-2.ensures.read
+    command_numbered _ _ _ _ _ c.in-Some.ensures.read (c.asks_for_change.ensures.0 c.if-not-asks_for_change.false) c.in_ok-command-2.ensures.read
