@@ -6,14 +6,14 @@ ghost use Rattle.std.specs.Option.{option_copied, option_map, option_and_then};
 ghost use Rattle.mps_base.specs.declared.action.Act.TheVariants.{Out, In, Mark, Commit};
 ghost use Rattle.mps_history.specs.Steps.{without, unreceived};
 ghost use Rattle.mps_arena.specs.Entries.{steps, entry_at, AreSound};
-ghost use Rattle.mps_arena.specs.Neighbours.{waiting, CanGo};
+ghost use Rattle.mps_arena.specs.Neighbours.{id_in, waiting, CanGo};
 ghost use Rattle.mps_queues.specs.Fronts.{AreFronts};
 ghost use Rattle.std.specs.Map.Iter.{deref_pair};
 ghost use Rattle.mps_base.specs.declared.value.Value.{Value};
 ghost use Rattle.mps_stores.specs.Stores.{Naming, slot_of, mark_of, bindings, AreStores};
 ghost use Rattle.mps_log.specs.Joins.{HasJoined};
 ghost use Rattle.mps_log.specs.Shown.{shown};
-ghost use Rattle.mps_log.specs.Values.{given_by, message_of, message_sent, message_taken, value_taken, kept_in};
+ghost use Rattle.mps_log.specs.Values.{message_of, message_sent, message_taken, value_taken, kept_in};
 ghost use Rattle.mps_log.specs.Values.{kept_by, last_mark};
 
 use crate::moves::Moves;
@@ -185,21 +185,22 @@ impl Log {
         message_at(arena, key)
     }
 
-    /// The step that gave the first message that waits, of those that one role sent to another. Any roles may be named.
-    pub fn first_sent(&self, from: Role, to: Role) -> Option<&Step>
-        ensures message { option_and_then (λ s. given_by s.act) (option_copied result)
+    /// The number of the step that gave the first message that waits, of those that one role sent to another. Any roles
+    /// may be named.
+    pub fn first_sent(&self, from: Role, to: Role) -> Option<StepId>
+        ensures step { result
+            ≡ option_and_then (id_in self.now.entries) (waiting self.now.entries from to) }
+        // by its number the message is found again
+        ensures message { option_and_then (message_sent (steps self.now.entries)) result
             ≡ slice_get (unreceived from to (steps self.now.entries)) 0 }
-        ensures gives { IfSome (option_copied result) (λ s. IsSome (given_by s.act)) }
-        // it is found by its number
-        ensures step { IfSome (option_copied result) (λ s.
-            message_sent (steps self.now.entries) s.id ≡ given_by s.act) }
+        ensures gives { IfSome result (λ id. IsSome (message_sent (steps self.now.entries) id)) }
     {
         let arena = &self.arena;
         if from.index() >= 8 || to.index() >= 8 {
             return None;
         }
         let key = self.queues.front(from, to)?;
-        Some(arena.get(key))
+        Some(arena.get(key).id)
     }
 
     /// What the role keeps in the slot: the value that the newest receipt into it took.

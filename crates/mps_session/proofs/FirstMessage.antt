@@ -1,9 +1,7 @@
 -- The message that a receipt or a pick takes is the first that waits from its peer.
-use Rattle.std.proofs.Common.{◌≡◌, ℕ, List, Option, Some, None, refl, sym, ap, ◌∙◌, subst}
-use Rattle.std.specs.Prelude.{slice_get, IsSome, IfSome}
-use Rattle.std.specs.Option.{option_map, option_and_then}
+use Rattle.std.proofs.Common.{◌≡◌, ℕ, Option, Some, ap, ◌∙◌}
+use Rattle.std.specs.Prelude.{slice_get}
 use Rattle.mps_base.specs.declared.action.Message.{Message}
-use Rattle.mps_base.specs.declared.action.Step.{Step}
 use Rattle.mps_command.specs.Acts.{act_of}
 use Rattle.mps_command.specs.declared.command.Forward.{Forward}
 use Rattle.mps_command.specs.declared.command.Forward.TheVariants.{Receive, Pick}
@@ -11,8 +9,6 @@ use Rattle.mps_history.specs.Steps.{unreceived}
 use Rattle.mps_machine.specs.Machine.{taken}
 use Rattle.mps_monitor.specs.Verdicts.{moved_by}
 use Rattle.mps_arena.specs.Entries.{steps}
-use Rattle.mps_log.specs.Values.{given_by, message_sent}
-use Rattle.mps_session.specs.Answers.{taken_of, IsSent}
 use Rattle.mps_session.specs.Private.Configurations.{Lists, moved_in, taken_from}
 
 module _ (c : Lists) (p from : ℕ) (first : Option Message) (is : first ≡ slice_get (unreceived from p (steps c.entries)) 0) where
@@ -28,13 +24,3 @@ module _ (c : Lists) (p from : ℕ) (first : Option Message) (is : first ≡ sli
   taken_first (Receive q slot) same = from_peer q same
   taken_first (Pick q) same = from_peer q same
   taken_first command same = cc
-
--- what the step gave is what was taken of the step of its number
-pub taken_by_number : (h : List Step) (sent : Option Step) → IfSome sent (λ s. message_sent h s.id ≡ given_by s.act) → option_and_then (λ s. given_by s.act) sent ≡ taken_of h (option_map (λ s. s.id) sent)
-taken_by_number h None is = refl
-taken_by_number h (Some s) is = sym is
-
--- and that step gave one
-pub sent_by_number : (h : List Step) (sent : Option Step) → IfSome sent (λ s. message_sent h s.id ≡ given_by s.act) → IfSome sent (λ s. IsSome (given_by s.act)) → IsSent h (option_map (λ s. s.id) sent)
-sent_by_number h None is gives = tt
-sent_by_number h (Some s) is gives = subst (λ (m : Option Message). IsSome m) (sym is) gives

@@ -1,12 +1,10 @@
 //! Steps forward: sends, receipts, choices, picks, marks and commits.
 ghost use Rattle.std.specs.Prelude.{◌≡◌, ◌≢◌, ◌+◌, ◌<◌, length, IfOk, OnOk, OnErr, Err, [], ◌∷◌, Ok, ⊤, Some, None};
-ghost use Rattle.std.specs.Option.{option_and_then, option_copied, option_map};
 ghost use Rattle.mps_base.specs.declared.action.Act.TheVariants.{Commit};
 ghost use Rattle.mps_command.specs.Acts.{act_of};
 ghost use Rattle.mps_command.specs.declared.answer.Refusal.TheVariants.{Violation as Violates, Final};
 ghost use Rattle.mps_command.specs.declared.answer.Violation.TheVariants.{Mismatch};
 ghost use Rattle.mps_fidelity.specs.Fidelity.{AreOfOneProtocol};
-ghost use Rattle.mps_log.specs.Values.{given_by};
 ghost use Rattle.mps_machine.specs.Answering.{IsAnswer, IsServed};
 ghost use Rattle.mps_machine.specs.Machine as machine;
 ghost use Rattle.mps_machine.specs.Undoing.{IsNewest};
@@ -15,33 +13,8 @@ ghost use Rattle.mps_session.specs.Private.Configurations.{taken_from};
 
 use crate::configuration::once_more;
 use crate::session::Session;
-use mps_base::{Act, Message, Role, Step, StepId};
+use mps_base::{Role, StepId};
 use mps_command::{Done, Forward, Refusal};
-
-// The message that a step gave, if there is such a step.
-#[inline(always)]
-fn message_in(sent: Option<&Step>) -> Option<&Message>
-    ensures { option_copied result ≡ option_and_then (λ s. given_by s.act) (option_copied sent.entry) }
-{
-    match sent {
-        Some(step) => match &step.act {
-            Act::Out { message, .. } => Some(message),
-            _ => None,
-        },
-        None => None,
-    }
-}
-
-// The number of a step, if there is one.
-#[inline(always)]
-fn id_in(sent: Option<&Step>) -> Option<StepId>
-    ensures { result ≡ option_map (λ s. s.id) (option_copied sent.entry) }
-{
-    match sent {
-        Some(step) => Some(step.id),
-        None => None,
-    }
-}
 
 impl Session {
     /// Does a step of the role, or says why not. A refusal changes nothing.
@@ -96,8 +69,8 @@ impl Session {
         }
     }
 
-    // Does the step of a receipt or a pick. The step that sent the message that waits is looked up once, for the
-    // verdict, the answer and the gist.
+    // Does the step of a receipt or a pick. The message that waits is looked up once, for the verdict, the answer and the
+    // gist. No other step looks for one, so it has a way of its own.
     #[inline(always)]
     fn attempt_receipt(
         &mut self,
@@ -113,12 +86,11 @@ impl Session {
         ensures sent { IfOk result (λ told. IsSent self.old.state.history told.1) }
         ensures types { self.new.types ≡ self.old.types }
     {
-        let kept = &self.configuration;
-        let sent = kept.log.first_sent(from, role);
-        let first = message_in(sent);
-        let source = id_in(sent);
-        let node = kept.allowed(role, step, first)?;
-        let got = once_more(kept.alloc, first)?;
+        let configuration = &self.configuration;
+        let source = configuration.log.first_sent(from, role);
+        let first = configuration.log.message(from, role, 0);
+        let node = configuration.allowed(role, step, first)?;
+        let got = once_more(configuration.alloc, first)?;
         let id = self.configuration.act(role, step, node)?;
         Ok((Done { id, got }, source))
     }

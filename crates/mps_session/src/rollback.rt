@@ -27,13 +27,13 @@ use mps_base::{Name, Role, StepId};
 use mps_command::{Refusal, StepIds};
 use std::alloc::{AllocError, Global};
 
-// Room for so many numbers, and for a copy of them.
-fn room_for(alloc: Global, count: usize) -> Result<(Vec<StepId>, Vec<StepId>), AllocError>
-    ensures none { IfOk result (λ room. vec_len room.0 ≡ 0) }
-    ensures first { IfOk result (λ room. room.0.items ≡ []) }
-    ensures first_room { IfOk result (λ room. count ≤ vec_capacity room.0) }
-    ensures copy { IfOk result (λ room. room.1.items ≡ []) }
-    ensures copy_room { IfOk result (λ room. count ≤ vec_capacity room.1) }
+// Memory for so many numbers, and for a copy of them.
+fn space_for(alloc: Global, count: usize) -> Result<(Vec<StepId>, Vec<StepId>), AllocError>
+    ensures none { IfOk result (λ space. vec_len space.0 ≡ 0) }
+    ensures first { IfOk result (λ space. space.0.items ≡ []) }
+    ensures first_space { IfOk result (λ space. count ≤ vec_capacity space.0) }
+    ensures copy { IfOk result (λ space. space.1.items ≡ []) }
+    ensures copy_space { IfOk result (λ space. count ≤ vec_capacity space.1) }
 {
     Ok((
         Vec::with_capacity(alloc, count)?,
@@ -41,14 +41,14 @@ fn room_for(alloc: Global, count: usize) -> Result<(Vec<StepId>, Vec<StepId>), A
     ))
 }
 
-// The numbers, and a copy of them in the room that there is for it.
-fn with_copy(ids: Vec<StepId>, room: Vec<StepId>) -> (StepIds, Vec<StepId>)
-    requires empty { room.items ≡ [] }
-    requires space { vec_len ids ≤ vec_capacity room }
+// The numbers, and a copy of them in the memory that there is for it.
+fn with_copy(ids: Vec<StepId>, space: Vec<StepId>) -> (StepIds, Vec<StepId>)
+    requires empty { space.items ≡ [] }
+    requires space { vec_len ids ≤ vec_capacity space }
     ensures first { result.0 ≡ ids.items }
     ensures copy { result.1.items ≡ ids.items }
 {
-    let mut copy = room;
+    let mut copy = space;
     if copy.extend_from_slice(&ids).is_err() {
         unreachable!()
     }
@@ -64,15 +64,15 @@ fn nothing(alloc: Global) -> (StepIds, Vec<StepId>)
 }
 
 impl Configuration {
-    // Room for the numbers of the marked steps, so many, and for a copy of them; or why the steps stay: the least
+    // Memory for the numbers of the chosen steps, so many, and for a copy of them; or why the steps stay: the least
     // commit among them, or else out of memory.
-    fn room_for_chosen(&self, count: usize) -> Result<(Vec<StepId>, Vec<StepId>), Refusal>
+    fn space_for_chosen(&self, count: usize) -> Result<(Vec<StepId>, Vec<StepId>), Refusal>
         requires { AreMarksClosed (lists_of self.now).entries }
-        ensures none { IfOk result (λ room. vec_len room.0 ≡ 0) }
-        ensures first { IfOk result (λ room. room.0.items ≡ []) }
-        ensures first_room { IfOk result (λ room. count ≤ vec_capacity room.0) }
-        ensures copy { IfOk result (λ room. room.1.items ≡ []) }
-        ensures copy_room { IfOk result (λ room. count ≤ vec_capacity room.1) }
+        ensures none { IfOk result (λ space. vec_len space.0 ≡ 0) }
+        ensures first { IfOk result (λ space. space.0.items ≡ []) }
+        ensures first_space { IfOk result (λ space. count ≤ vec_capacity space.0) }
+        ensures copy { IfOk result (λ space. space.1.items ≡ []) }
+        ensures copy_space { IfOk result (λ space. count ≤ vec_capacity space.1) }
         ensures free { OnOk result
             (least (marked_commits (lists_of self.now).entries) ≡ None) }
         ensures fault { IfErr result (λ refusal. unwrap_or
@@ -82,14 +82,14 @@ impl Configuration {
         if let Some(by) = self.log.least_final() {
             return Err(Refusal::Final { by });
         }
-        Ok(room_for(self.alloc, count)?)
+        Ok(space_for(self.alloc, count)?)
     }
 
     /// Removes the step of that number and all that depend on it, the newest first, and tells their numbers, with a
     /// copy for who keeps what was answered. Where a commit is among them, the least is named. Nothing is changed
     /// then, nor where memory runs out.
     #[inline(never)]
-    pub(crate) fn roll_back(&mut self, id: StepId) -> Result<(StepIds, Vec<StepId>), Refusal>
+    pub(crate) fn take_back(&mut self, id: StepId) -> Result<(StepIds, Vec<StepId>), Refusal>
         requires present { IsSome (step_of (steps (lists_of self.old).entries) id) }
         requires unmarked { marked_keys (lists_of self.old).entries ≡ [] }
         requires members { AllByRecursion
@@ -112,10 +112,10 @@ impl Configuration {
         ensures err { OnErr result (lists_of self.new ≡ lists_of self.old) }
     {
         let count = self.log.choose_from(id);
-        match self.room_for_chosen(count) {
-            Ok((mut ids, room)) => {
+        match self.space_for_chosen(count) {
+            Ok((mut ids, space)) => {
                 self.remove_chosen(&mut ids);
-                Ok(with_copy(ids, room))
+                Ok(with_copy(ids, space))
             }
             Err(refusal) => {
                 self.log.choose_none();
@@ -141,12 +141,12 @@ impl Configuration {
         }
     }
 
-    /// Removes the marked steps, the newest first, and adds their numbers to the others.
+    /// Removes the chosen steps, the newest first, and adds their numbers to the others.
     pub(crate) fn remove_chosen(&mut self, ids: &mut Vec<StepId>)
         requires closed { AreMarksClosed (lists_of self.old).entries }
         requires members { AllByRecursion
             (λ e. e.step.role < length (lists_of self.old).cursors) (lists_of self.old).entries }
-        requires room { vec_len ids.old + length (marked_keys (lists_of self.old).entries)
+        requires space { vec_len ids.old + length (marked_keys (lists_of self.old).entries)
             ≤ vec_capacity ids.old }
         ensures numbers { ids.new.items ≡ ids.old.items
             ++ reverse (numbers (marked_steps (lists_of self.old).entries)) }
@@ -214,7 +214,7 @@ impl Session {
             ≡ Some (session_view self.old)) }
     {
         self.configuration.own_step(role, id)?;
-        self.configuration.roll_back(id)
+        self.configuration.take_back(id)
     }
 
     /// Returns the role to its last mark of the name: its first step after the mark is undone, and all that
@@ -252,7 +252,7 @@ impl Session {
         match self.configuration.first_after(role, name) {
             None => Err(Refusal::NoMark),
             Some(None) => Ok(nothing(self.configuration.alloc)),
-            Some(Some(id)) => self.configuration.roll_back(id),
+            Some(Some(id)) => self.configuration.take_back(id),
         }
     }
 }

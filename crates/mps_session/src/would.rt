@@ -14,7 +14,7 @@ use mps_command::{Command, Forward, Refusal};
 
 impl Session {
     /// Why the command of the role would be refused, apart from lack of memory or numbers. How things stand may always
-    /// be asked. It does not allocate. Steps are marked on the way, and nothing is changed when it returns.
+    /// be asked. It does not allocate. It chooses steps on the way, and none is chosen when it returns.
     pub fn would(&mut self, role: Role, command: &Command) -> Result<(), Refusal>
         requires { role < length self.old.types }
         // In a session of one protocol no answer is Mismatch.
@@ -27,8 +27,8 @@ impl Session {
         match command {
             Command::Forward(step) => self.would_forward(role, step),
             Command::Undo(id) => self.would_undo(role, *id),
-            Command::Rollback(id) => self.would_roll_back(role, *id),
-            Command::Back(name) => self.would_go_back(role, name),
+            Command::Rollback(id) => self.would_rollback(role, *id),
+            Command::Back(name) => self.would_back(role, name),
             Command::News(_) | Command::Show => Ok(()),
         }
     }
@@ -39,9 +39,9 @@ impl Session {
         ensures { result_err result ≡ refusal_in
             (machine.serve self.now.types self.now.state role (changes.Forward step.now)).0 }
     {
-        let kept = &self.configuration;
-        let first = kept.first_for(role, step);
-        match kept.verdict(role, step, first) {
+        let configuration = &self.configuration;
+        let first = configuration.first_for(role, step);
+        match configuration.verdict(role, step, first) {
             Ok(_) => Ok(()),
             Err(fault) => Err(Refusal::Violation(fault)),
         }
@@ -58,7 +58,7 @@ impl Session {
     }
 
     // Why the rollback of the step of that number would be refused.
-    fn would_roll_back(&mut self, role: Role, id: StepId) -> Result<(), Refusal>
+    fn would_rollback(&mut self, role: Role, id: StepId) -> Result<(), Refusal>
         requires { role < length self.old.types }
         ensures fault { result_err result ≡ refusal_in
             (machine.serve self.old.types self.old.state role (changes.Rollback id)).0 }
@@ -69,7 +69,7 @@ impl Session {
     }
 
     // Why the return to the last mark of the name would be refused.
-    fn would_go_back(&mut self, role: Role, name: &Name) -> Result<(), Refusal>
+    fn would_back(&mut self, role: Role, name: &Name) -> Result<(), Refusal>
         requires { role < length self.old.types }
         ensures fault { result_err result ≡ refusal_in
             (machine.serve self.old.types self.old.state role (changes.Back name.now)).0 }

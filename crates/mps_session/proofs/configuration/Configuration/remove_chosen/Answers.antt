@@ -34,7 +34,7 @@ loop-key-preserved c =
           subst (λ (ids : List ℕ). AreGoing (lists_of c.args.self.now) (lists_of c.remove-id.new.self) c.args.ids.now.items ids) (sym c.push_reserved.ensures.items)
           (rolling.turn (lists_of c.args.self.now) (lists_of c.loop-key.self) (lists_of c.remove-id.new.self) c.args.ids.now.items c.loop-key.ids.items c.in-Some.key c.remove-id.result
           c.loop-key.invariant.going c.newest_chosen.ensures.sound (newest k) (can k) c.remove-id.ensures.id c.remove-id.ensures.left);
-      room = omega (arith, fewer k, c.loop-key.invariant.room, c.push_reserved.ensures.len, c.push_reserved.ensures.capacity);
+      space = omega (arith, fewer k, c.loop-key.invariant.space, c.push_reserved.ensures.len, c.push_reserved.ensures.capacity);
     }
 
 pub returns-clause-history : goal.returns-clause-history

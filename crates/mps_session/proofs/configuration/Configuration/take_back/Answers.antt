@@ -14,8 +14,8 @@ use Rattle.mps_session.specs.Private.Invariant.{Holds}
 use Rattle.std.proofs.lemmas.List.{length-reverse}
 use Rattle.mps_session.proofs.TypeAt.{length_map}
 use Rattle.mps_session.proofs.RemoveMarked as rolling
-use Rattle.mps_session.proofs.configuration.Configuration.roll_back.Goals as goal
-use Rattle.mps_session.proofs.configuration.Configuration.roll_back.Goals.{After-choose_from-count, After-remove_chosen, After-choose_none}
+use Rattle.mps_session.proofs.configuration.Configuration.take_back.Goals as goal
+use Rattle.mps_session.proofs.configuration.Configuration.take_back.Goals.{After-choose_from-count, After-remove_chosen, After-choose_none}
 
 -- what is marked
 abbrev set : After-choose_from-count → ℕ → Bool
@@ -30,11 +30,11 @@ remove_chosen-requires-clause-members c =
     let n = length c.args.self.now.cursors.items in
     subst (AllByRecursion (λ (e : KeyedStep). e.step.role < n)) (sym c.choose_from-count.ensures.marks) (all_again (marks k) (λ s. s.role < n) c.args.self.now.log.entries c.requires.members)
 
-pub remove_chosen-requires-clause-room : goal.remove_chosen-requires-clause-room
-remove_chosen-requires-clause-room c =
-    let k = (goal.at.remove_chosen-requires-clause-room c).After-choose_from-count in
+pub remove_chosen-requires-clause-space : goal.remove_chosen-requires-clause-space
+remove_chosen-requires-clause-space c =
+    let k = (goal.at.remove_chosen-requires-clause-space c).After-choose_from-count in
     let marked = ap (λ (l : List KeyedStep). length (marked_keys l)) c.choose_from-count.ensures.marks ∙ marked_count c.args.self.now.log.entries (set k) in
-    omega (arith, marked, c.choose_from-count.ensures.count, c.in-Ok.ensures.none, c.in-Ok.ensures.first_room)
+    omega (arith, marked, c.choose_from-count.ensures.count, c.in-Ok.ensures.none, c.in-Ok.ensures.first_space)
 
 -- the numbers that were told
 all : (c : After-remove_chosen) → c.remove_chosen.new.ids.items ≡ reverse (numbers (within (steps c.args.self.now.log.entries) (consequences (steps c.args.self.now.log.entries) c.args.id)))
@@ -48,7 +48,7 @@ with_copy-requires-clause-space c =
     let k = (goal.at.with_copy-requires-clause-space c).After-remove_chosen in
     let gone = within (steps c.args.self.now.log.entries) (consequences (steps c.args.self.now.log.entries) c.args.id) in
     let long = ap (λ (l : List ℕ). length l) (all k) ∙ length-reverse (numbers gone) ∙ length_map (λ (s : Step). s.id) gone in
-    omega (arith, c.in-Ok.ensures.copy_room, long, c.remove_chosen.new.ids.ok.0, c.choose_from-count.ensures.count)
+    omega (arith, c.in-Ok.ensures.copy_space, long, c.remove_chosen.new.ids.ok.0, c.choose_from-count.ensures.count)
 
 pub returns-in-Ok-clause-numbers : goal.returns-in-Ok-clause-numbers
 returns-in-Ok-clause-numbers c = c.with_copy.ensures.first ∙ all ((goal.at.returns-in-Ok-clause-numbers c).After-remove_chosen)

@@ -20,13 +20,13 @@ both : {X Y : Type 0} (r : Result X Y) (P R : X → Type 0) (Q : Type 0) → ((x
 both (Ok x) P R Q f p q = f x p q
 both (Err e) P R Q f p q = tt
 
-pub roll_back-requires-clause-present : goal.roll_back-requires-clause-present
-roll_back-requires-clause-present c =
+pub take_back-requires-clause-present : goal.take_back-requires-clause-present
+take_back-requires-clause-present c =
     first_there c.args.name.now c.args.role (steps c.self.inside.configuration.log.entries) c.in-Some-Some.id c.self.invariant.holds.sound.rising
     (ap Some (sym c.in-Some-Some.field-0-is) ∙ sym c.in-Some-Some.is ∙ c.first_after.ensures)
 
-pub roll_back-requires-clause-members : goal.roll_back-requires-clause-members
-roll_back-requires-clause-members c =
+pub take_back-requires-clause-members : goal.take_back-requires-clause-members
+take_back-requires-clause-members c =
     let s = c.self.inside in
     members_there (map plain s.types.items) (lists_of s.configuration) c.self.invariant.holds
 
@@ -40,10 +40,10 @@ returns-in-Some-Some-clause-back c =
     let s = c.self.inside in
     let types = map plain s.types.items in
     let h = steps s.configuration.log.entries in
-    let left = steps c.roll_back.new.self.log.entries in
+    let left = steps c.take_back.new.self.log.entries in
     let id = c.in-Some-Some.id in
-    both c.roll_back.result (λ ids. ids.0 ≡ reverse (numbers (within h (consequences h id)))) (λ ids. replay (machine.view_of types left) (within c.args.self.now.state.history (is_among ids.0)) ≡ Some (session_view c.args.self.now)) (left ≡ without h (consequences h id))
+    both c.take_back.result (λ ids. ids.0 ≡ reverse (numbers (within h (consequences h id)))) (λ ids. replay (machine.view_of types left) (within c.args.self.now.state.history (is_among ids.0)) ≡ Some (session_view c.args.self.now)) (left ≡ without h (consequences h id))
     (λ ids went stay. subst (λ (m : SessionState). replay (machine.view_of types left) (within m.state.history (is_among ids.0)) ≡ Some (session_view m)) c.self.view_is
     (ap (λ (l : List Step). replay (machine.view_of types left) l) (within_told h (consequences h id) ids.0 went)
     ∙ leads_back types (state_of (lists_of s.configuration)) left id c.self.invariant.holds.sound stay))
-    c.roll_back.ensures.numbers c.roll_back.ensures.history
+    c.take_back.ensures.numbers c.take_back.ensures.history

@@ -1,13 +1,11 @@
 use Rattle.std.proofs.Common.{◌≡◌, map, refl, sym, ap, ◌∙◌, subst}
-use Rattle.std.specs.Option.{option_copied}
 use Rattle.mps_local.specs.Local.{plain}
-use Rattle.mps_arena.specs.Entries.{steps}
 use Rattle.mps_links.specs.Marks.{marked_keys}
 use Rattle.mps_command.specs.Acts.{act_of}
 use Rattle.mps_session.specs.Answers.{taken_of, IsSent}
 use Rattle.mps_session.specs.Private.Configurations.{lists_of, state_of}
 use Rattle.mps_session.specs.SessionState.{SessionState}
-use Rattle.mps_session.proofs.FirstMessage.{moved_first, taken_first, taken_by_number, sent_by_number}
+use Rattle.mps_session.proofs.FirstMessage.{moved_first, taken_first}
 use Rattle.mps_session.proofs.RemoveMarked.{push_unmarked}
 use Rattle.mps_session.proofs.ForwardAnswers as serving
 use Rattle.mps_session.proofs.ForwardServed as forwarding
@@ -19,7 +17,7 @@ allowed-requires-clause-stands c =
     serving.is_node (map plain s.types.items) (lists_of s.configuration) c.self.invariant.holds c.args.self.now c.self.view_is c.args.role c.requires.role
 
 pub allowed-requires-clause-first : goal.allowed-requires-clause-first
-allowed-requires-clause-first c = moved_first (lists_of c.self.inside.configuration) c.args.role c.args.from _ (c.message_in-first.ensures ∙ c.first_sent-sent.ensures.message) c.args.step.now c.requires.takes
+allowed-requires-clause-first c = moved_first (lists_of c.self.inside.configuration) c.args.role c.args.from _ c.message-first.ensures c.args.step.now c.requires.takes
 
 pub returns-in_err-node-clause-served : goal.returns-in_err-node-clause-served
 returns-in_err-node-clause-served c =
@@ -59,19 +57,12 @@ pub returns-clause-served : goal.returns-clause-served
 returns-clause-served c =
     let s = c.self.inside in
     forwarding.done (map plain s.types.items) (lists_of s.configuration) c.self.invariant.holds c.args.self.now c.self.view_is c.args.role c.requires.role c.args.step.now c.in_ok-node.ensures.allowed c.in_ok-node.ensures.numbers
-    c.in_ok-node.node c.in_ok-node.ensures.follows (lists_of c.act.new.self) c.in_ok-id.ensures.acted c.in_ok-id.id c.in_ok-got.got _ refl c.in_ok-id.ensures.id (c.in_ok-got.ensures ∙ taken_first (lists_of c.self.inside.configuration) c.args.role c.args.from _ (c.message_in-first.ensures ∙ c.first_sent-sent.ensures.message) c.args.step.now c.requires.takes)
+    c.in_ok-node.node c.in_ok-node.ensures.follows (lists_of c.act.new.self) c.in_ok-id.ensures.acted c.in_ok-id.id c.in_ok-got.got _ refl c.in_ok-id.ensures.id (c.in_ok-got.ensures ∙ taken_first (lists_of c.self.inside.configuration) c.args.role c.args.from _ c.message-first.ensures c.args.step.now c.requires.takes)
 
 pub returns-clause-source : goal.returns-clause-source
 returns-clause-source c =
-    let h = steps c.self.inside.configuration.log.entries in
-    let took : c.in_ok-got.got ≡ taken_of h c.id_in-source.result =
-    c.in_ok-got.ensures ∙ c.message_in-first.ensures ∙ taken_by_number h (option_copied c.first_sent-sent.result) c.first_sent-sent.ensures.step ∙ ap (taken_of h) (sym c.id_in-source.ensures)
-    in
-    subst (λ (m : SessionState). c.in_ok-got.got ≡ taken_of m.state.history c.id_in-source.result) c.self.view_is took
+    subst (λ (m : SessionState). c.in_ok-got.got ≡ taken_of m.state.history c.first_sent-source.result) c.self.view_is
+    (c.in_ok-got.ensures ∙ c.message-first.ensures ∙ sym c.first_sent-source.ensures.message)
 
 pub returns-clause-sent : goal.returns-clause-sent
-returns-clause-sent c =
-    let h = steps c.self.inside.configuration.log.entries in
-    let sent = c.first_sent-sent in
-    let gave : IsSent h c.id_in-source.result = subst (IsSent h) (sym c.id_in-source.ensures) (sent_by_number h (option_copied sent.result) sent.ensures.step sent.ensures.gives) in
-    subst (λ (m : SessionState). IsSent m.state.history c.id_in-source.result) c.self.view_is gave
+returns-clause-sent c = subst (λ (m : SessionState). IsSent m.state.history c.first_sent-source.result) c.self.view_is c.first_sent-source.ensures.gives

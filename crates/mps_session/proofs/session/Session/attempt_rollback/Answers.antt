@@ -15,6 +15,6 @@ pub returns-clause-back : goal.returns-clause-back
 returns-clause-back c =
     let s = c.self.inside in
     let types = map plain s.types.items in
-    let left = steps c.roll_back.new.self.log.entries in
-    on_ok_weaker c.roll_back.result (λ history. subst (λ (m : SessionState). replay (machine.view_of types left) (within m.state.history (consequences m.state.history c.args.id)) ≡ Some (session_view m)) c.self.view_is
-    (leads_back types (state_of (lists_of s.configuration)) left c.args.id c.self.invariant.holds.sound history)) c.roll_back.ensures.history
+    let left = steps c.take_back.new.self.log.entries in
+    on_ok_weaker c.take_back.result (λ history. subst (λ (m : SessionState). replay (machine.view_of types left) (within m.state.history (consequences m.state.history c.args.id)) ≡ Some (session_view m)) c.self.view_is
+    (leads_back types (state_of (lists_of s.configuration)) left c.args.id c.self.invariant.holds.sound history)) c.take_back.ensures.history

@@ -1,7 +1,7 @@
 use Rattle.std.proofs.Common.{Some, sym, ap, ◌∙◌}
 use Rattle.mps_arena.specs.Entries.{steps}
 use Rattle.mps_session.proofs.AfterLastMark.{first_there}
-use Rattle.mps_session.proofs.session.Session.would_go_back.Goals as goal
+use Rattle.mps_session.proofs.session.Session.would_back.Goals as goal
 
 pub unless_final-requires-clause-present : goal.unless_final-requires-clause-present
 unless_final-requires-clause-present c =
