@@ -14,7 +14,7 @@ use Rattle.mps_session.specs.SessionState.{SessionState}
 use Rattle.mps_room.specs.Journal.{most_entries, run, undone_by, is_accepted, grown, limited, reply, IsLegal, IsReply}
 use Rattle.mps_room.specs.Private.Heard.{AreHeard, hears, with_place, takes_others}
 use Rattle.mps_room.specs.Private.Owners.{owns, AreOwners, AreGiven, owners_after}
-use Rattle.mps_room.specs.Private.Recorded.{IsRecorded}
+use Rattle.mps_room.specs.Private.Rooms.{IsConsistent}
 use Rattle.mps_room.proofs.Fitting.{fits_command, IsOfKind}
 use Rattle.mps_room.specs.declared.entry.Entry.{Entry}
 use Rattle.mps_room.proofs.Growing as growing
@@ -22,12 +22,12 @@ use Rattle.mps_room.proofs.Refusing.{refused_too}
 use Rattle.mps_room.proofs.Owning.{owners_with}
 use Rattle.mps_room.proofs.Telling.{given_with, heard_with}
 
-module _ (names : List (List ℕ)) (m : SessionState) (owners : List ℕ) (count : ℕ) (lists : List (List ℕ)) (j : List Entry) (old : IsRecorded names m owners count lists j) (p : ℕ) (known : p < length m.types) (change : Change) (a : Answer) (is : a ≡ (serve m.types m.state p change).0) (kept : is_accepted a ≡ true) (space : length j < most_entries) where
+module _ (names : List (List ℕ)) (m : SessionState) (owners : List ℕ) (count : ℕ) (lists : List (List ℕ)) (j : List Entry) (old : IsConsistent names m owners count lists j) (p : ℕ) (known : p < length m.types) (change : Change) (a : Answer) (is : a ≡ (serve m.types m.state p change).0) (kept : is_accepted a ≡ true) (space : length j < most_entries) where
   abbrev pub one_more : List Entry
   one_more = j ++ record { role = p; command = command_of change; answer = a } ∷ []
 
   -- the session after the change is that of the journal with its entry
-  pub recorded_with : (now : SessionState) (heard : List (List ℕ)) → now.types ≡ m.types → now.state ≡ (serve m.types m.state p change).1 → AreHeard count heard one_more → IsRecorded names now (owners_after owners p a) count heard one_more
+  pub recorded_with : (now : SessionState) (heard : List (List ℕ)) → now.types ≡ m.types → now.state ≡ (serve m.types m.state p change).1 → AreHeard count heard one_more → IsConsistent names now (owners_after owners p a) count heard one_more
   recorded_with now heard types state hears =
       let by_run = is ∙ ap (λ (st : State). (serve m.types st p change).0) old.state in
       let legal = growing.legal_with names m.types j p change a by_run known old.legal space kept in
@@ -69,11 +69,11 @@ module _ (names : List (List ℕ)) (m : SessionState) (owners : List ℕ) (count
     entered : j ++ entry ∷ [] ≡ one_more
     entered = ap (λ (k : Command). let e : Entry = record { role = p; command = k; answer = a } in j ++ e ∷ []) asks
 
-    pub recorded_as : (now : SessionState) (o : List ℕ) (n : ℕ) (heard : List (List ℕ)) (l : List Entry) → now.types ≡ m.types → now.state ≡ (serve m.types m.state p change).1 → o ≡ owners_after owners p a → n ≡ count → AreHeard count heard one_more → l ≡ j ++ entry ∷ [] → IsRecorded names now o n heard l
-    recorded_as now o n heard l types state owned counted hears joined =
-        subst (λ (q : List ℕ). IsRecorded names now q n heard l) (sym owned)
-        (subst (λ (q : ℕ). IsRecorded names now (owners_after owners p a) q heard l) (sym counted)
-        (subst (λ (q : List Entry). IsRecorded names now (owners_after owners p a) count heard q) (sym (joined ∙ entered)) (recorded_with now heard types state hears)))
+    pub consistent_as : (now : SessionState) (o : List ℕ) (n : ℕ) (heard : List (List ℕ)) (l : List Entry) → now.types ≡ m.types → now.state ≡ (serve m.types m.state p change).1 → o ≡ owners_after owners p a → n ≡ count → AreHeard count heard one_more → l ≡ j ++ entry ∷ [] → IsConsistent names now o n heard l
+    consistent_as now o n heard l types state owned counted hears joined =
+        subst (λ (q : List ℕ). IsConsistent names now q n heard l) (sym owned)
+        (subst (λ (q : ℕ). IsConsistent names now (owners_after owners p a) q heard l) (sym counted)
+        (subst (λ (q : List Entry). IsConsistent names now (owners_after owners p a) count heard q) (sym (joined ∙ entered)) (recorded_with now heard types state hears)))
 
     pub grown_as : (l : List Entry) → l ≡ j ++ entry ∷ [] → l ≡ grown j p command a
     grown_as l joined =
@@ -87,7 +87,7 @@ module _ (names : List (List ℕ)) (m : SessionState) (owners : List ℕ) (count
     replied_as = ap (reply names m.types j p) asks ∙ replied
 
 -- a refusal of the session is the room's
-module _ (names : List (List ℕ)) (m : SessionState) (owners : List ℕ) (count : ℕ) (lists : List (List ℕ)) (j : List Entry) (old : IsRecorded names m owners count lists j) (p : ℕ) (change : Change) (command : Command) (asks : command ≡ command_of change) (space : length j < most_entries) where
+module _ (names : List (List ℕ)) (m : SessionState) (owners : List ℕ) (count : ℕ) (lists : List (List ℕ)) (j : List Entry) (old : IsConsistent names m owners count lists j) (p : ℕ) (change : Change) (command : Command) (asks : command ≡ command_of change) (space : length j < most_entries) where
   pub refused_as : (new : State) (refusal : Refusal) → IsChanged m.types p change (Err refusal) m.state new → IsReply (Refused refusal) (reply names m.types j p command)
   refused_as new refusal h =
       subst (λ (w : Answer). IsReply (Refused refusal) w)

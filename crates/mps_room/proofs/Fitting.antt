@@ -33,7 +33,7 @@ use Rattle.mps_machine.specs.View.{View}
 use Rattle.mps_machine.specs.Violations.{is_value_of, is_label_of, waiting_fault, effect_fault, violation}
 use Rattle.mps_room.specs.Journal.{undone_by, is_accepted}
 use Rattle.mps_room.specs.Private.Forms.{source_place, TakesSuch, Fits}
-use Rattle.mps_room.specs.Private.Shorts.{Short, message_at, IsGiven}
+use Rattle.mps_room.specs.Private.Narrow.{Narrow, message_at, IsGiven}
 use Rattle.mps_session.specs.Answers.{answer_of, source_of, taken_of, IsGistFor}
 use Rattle.mps_session.specs.declared.gist.Gist.{Gist}
 use Rattle.mps_session.specs.declared.gist.Gist.TheVariants as gists
@@ -141,7 +141,7 @@ fits_command types st p change command asks a is kept few =
 -- ---- gists
 
 -- where a message is taken an entry is named, and else none
-module _ (js : List Short) where
+module _ (js : List Narrow) where
   names_one : (from : ℕ) (slot : List ℕ) (place : Option ℕ) → TakesMessage (steps.Receive from slot) (option_and_then (message_at js) place) → IsSome place
   names_one from slot None such = absurd such
   names_one from slot (Some k) such = refl

@@ -9,7 +9,7 @@ pub mod Lists
 pub mod Losing
 pub mod Refusing
 pub mod Tracing
-pub mod Recording
+pub mod Consistency
 pub mod Keeping
 pub mod Faithful
 pub mod Numbering

@@ -18,7 +18,7 @@ use Rattle.mps_machine.specs.Machine.{State, most_numbers, serve}
 use Rattle.mps_machine.proofs.Answering.{answers_itself, never_memory, never_full}
 use Rattle.mps_session.proofs.WhichRefusal.{same_refusal}
 use Rattle.mps_room.specs.Journal.{most_entries, run, limited, reply, is_accepted, IsReply}
-use Rattle.mps_room.specs.Private.Recorded.{IsShort}
+use Rattle.mps_room.specs.Private.Rooms.{IsLack}
 use Rattle.mps_room.specs.declared.entry.Entry.{Entry}
 use Rattle.mps_room.proofs.Growing.{room_for}
 use Rattle.mps_room.proofs.Numbering.{is_told, told_change}
@@ -67,25 +67,25 @@ module _ (n : ℕ) where
   no_memory (Told m ids) room other e told = absurd cc
   no_memory (Shown text) room other e told = absurd cc
 
-  short_of : (a : Answer) (refusal : Refusal) → IsShort n refusal → (n < most_entries → a ≢ Refused Full) → refusal_in a ≡ None → is_told a ≡ true → IsReply (Refused refusal) (limited n a)
-  short_of a Full short other e told = no_room a short e told
-  short_of a Memory short other e told = no_memory a short (other short) e told
-  short_of a (Violates v) short other e told = absurd short
-  short_of a NoStep short other e told = absurd short
-  short_of a NotYours short other e told = absurd short
-  short_of a (Final by) short other e told = absurd short
-  short_of a (Needed by) short other e told = absurd short
-  short_of a NoMark short other e told = absurd short
+  lack_of : (a : Answer) (refusal : Refusal) → IsLack n refusal → (n < most_entries → a ≢ Refused Full) → refusal_in a ≡ None → is_told a ≡ true → IsReply (Refused refusal) (limited n a)
+  lack_of a Full short other e told = no_room a short e told
+  lack_of a Memory short other e told = no_memory a short (other short) e told
+  lack_of a (Violates v) short other e told = absurd short
+  lack_of a NoStep short other e told = absurd short
+  lack_of a NotYours short other e told = absurd short
+  lack_of a (Final by) short other e told = absurd short
+  lack_of a (Needed by) short other e told = absurd short
+  lack_of a NoMark short other e told = absurd short
 
 -- while there is room for an entry a number is left
-pub short_reply : (names : List (List ℕ)) (types : List LocalType) (j : List Entry) (p : ℕ) (c : Command) (refusal : Refusal) → IsSome (change_of c) → IsShort (length j) refusal → (length j < most_entries → (run types j).next ≤ most_numbers) → fault types (run types j) p c ≡ None → IsReply (Refused refusal) (reply names types j p c)
-short_reply names types j p c refusal change short left none = by_command c change none
+pub lack_reply : (names : List (List ℕ)) (types : List LocalType) (j : List Entry) (p : ℕ) (c : Command) (refusal : Refusal) → IsSome (change_of c) → IsLack (length j) refusal → (length j < most_entries → (run types j).next ≤ most_numbers) → fault types (run types j) p c ≡ None → IsReply (Refused refusal) (reply names types j p c)
+lack_reply names types j p c refusal change short left none = by_command c change none
   where
     st : State
     st = run types j
 
     of : (asked : Change) → refusal_in (serve types st p asked).0 ≡ None → IsReply (Refused refusal) (limited (length j) (serve types st p asked).0)
-    of asked e = short_of (length j) (serve types st p asked).0 refusal short (λ room. never_full types st p asked (left room)) e (told_change types st p asked)
+    of asked e = lack_of (length j) (serve types st p asked).0 refusal short (λ room. never_full types st p asked (left room)) e (told_change types st p asked)
 
     by_command : (c : Command) → IsSome (change_of c) → fault types st p c ≡ None → IsReply (Refused refusal) (reply names types j p c)
     by_command (Forward step) change e = of (changes.Forward step) e

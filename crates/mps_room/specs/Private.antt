@@ -1,7 +1,7 @@
 -- What no contract of a public function uses.
 pub mod Owners
-pub mod Shorts
+pub mod Narrow
 pub mod Heard
-pub mod Recorded
+pub mod Rooms
 pub mod Forms
 pub mod Names

@@ -5,9 +5,9 @@ ghost use Rattle.mps_command.specs.Changes.{change_of};
 ghost use Rattle.mps_command.specs.declared.answer.Answer.TheVariants.{Refused};
 ghost use Rattle.mps_room.specs.Journal.{grown, most_entries, reply, undone_by, IsReply};
 ghost use Rattle.mps_room.specs.Private.Heard.{hears, with_place, takes_others};
-ghost use Rattle.mps_room.specs.Private.Forms.{bare, short, source_place, Fits};
-ghost use Rattle.mps_room.specs.Private.Owners.{owns, owners_after, is_step, HasRoom};
-ghost use Rattle.mps_room.specs.Private.Recorded.{IsShort};
+ghost use Rattle.mps_room.specs.Private.Forms.{narrow_answer, narrow, source_place, Fits};
+ghost use Rattle.mps_room.specs.Private.Owners.{owns, owners_after, is_step, HasSpace};
+ghost use Rattle.mps_room.specs.Private.Rooms.{IsLack};
 ghost use Rattle.mps_session.specs.Answers.{source_of};
 
 use crate::heard::Heard;
@@ -39,11 +39,11 @@ fn reserve_entry(
     ensures heard { map (λ l. l.items) heard.new.lists ≡ map (λ l. l.items) heard.old.lists }
     ensures few { OnOk result (length journal.old.items < most_entries) }
     ensures place { OnOk result (vec_len journal.new + 1 ≤ vec_capacity journal.new) }
-    ensures step_place { OnOk result (is_step command.now ≡ true → HasRoom steps.new) }
+    ensures step_place { OnOk result (is_step command.now ≡ true → HasSpace steps.new) }
     ensures heard_place { OnOk result
         (takes_others command.now ≡ true → (k : ℕ) (d : _) → k < heard.new.count → k ≢ role
         → vec_len (slice_index_or heard.new.lists k d) < vec_capacity (slice_index_or heard.new.lists k d)) }
-    ensures short { IfErr result (IsShort (length journal.old.items)) }
+    ensures lack { IfErr result (IsLack (length journal.old.items)) }
 {
     if journal.len() >= MAX_ENTRIES {
         return Err(Refusal::Full);
@@ -69,25 +69,25 @@ fn note(
     place: u32,
 )
     requires fits { (source : Option ℕ) × Fits command.now gist.now source }
-    requires step_place { is_step command.now ≡ true → HasRoom steps.old }
+    requires step_place { is_step command.now ≡ true → HasSpace steps.old }
     requires hearers { heard.old.count ≤ 8 }
     requires lists { length heard.old.lists ≡ 8 }
     requires heard_place { takes_others command.now ≡ true → (k : ℕ) (d : _) → k < heard.old.count → k ≢ role
         → vec_len (slice_index_or heard.old.lists k d) < vec_capacity (slice_index_or heard.old.lists k d) }
-    ensures owners { steps.new.owners.items ≡ owners_after steps.old.owners.items role (bare gist.now) }
-    ensures places { steps.new.places.items ≡ owners_after steps.old.places.items place (bare gist.now) }
+    ensures owners { steps.new.owners.items ≡ owners_after steps.old.owners.items role (narrow_answer gist.now) }
+    ensures places { steps.new.places.items ≡ owners_after steps.old.places.items place (narrow_answer gist.now) }
     ensures hearers { heard.new.count ≡ heard.old.count }
     ensures lists { length heard.new.lists ≡ 8 }
     ensures heard { takes_others command.now ≡ true → (p : ℕ) (d : _) → p < heard.old.count
         → (slice_index_or heard.new.lists p d).items
-        ≡ with_place (hears (owns steps.old.owners.items p) p role (undone_by (bare gist.now))) place
+        ≡ with_place (hears (owns steps.old.owners.items p) p role (undone_by (narrow_answer gist.now))) place
         (slice_index_or heard.old.lists p d).items }
     ensures unheard { takes_others command.now ≡ false → heard.new.lists ≡ heard.old.lists }
 {
     match command {
         Command::Forward(_) => steps.push(role, place),
         Command::Rollback(_) | Command::Back(_) => {
-            heard.note(steps.owners.as_slice(), role, undone_by(gist), place);
+            heard.note(steps, role, undone_by(gist), place);
         }
         _ => {}
     }
@@ -106,21 +106,21 @@ fn keep(
     requires fits { Fits command gist (source_place steps.old.places.items gist) }
     requires few { length journal.old.items < most_entries }
     requires place { vec_len journal.old + 1 ≤ vec_capacity journal.old }
-    requires step_place { is_step command ≡ true → HasRoom steps.old }
+    requires step_place { is_step command ≡ true → HasSpace steps.old }
     requires hearers { heard.old.count ≤ 8 }
     requires lists { length heard.old.lists ≡ 8 }
     requires heard_place { takes_others command ≡ true → (k : ℕ) (d : _) → k < heard.old.count → k ≢ role
         → vec_len (slice_index_or heard.old.lists k d) < vec_capacity (slice_index_or heard.old.lists k d) }
     ensures journal { journal.new.items ≡ journal.old.items
-        ++ short role command gist (source_place steps.old.places.items gist) ∷ [] }
-    ensures owners { steps.new.owners.items ≡ owners_after steps.old.owners.items role (bare gist) }
+        ++ narrow role command gist (source_place steps.old.places.items gist) ∷ [] }
+    ensures owners { steps.new.owners.items ≡ owners_after steps.old.owners.items role (narrow_answer gist) }
     ensures places { steps.new.places.items
-        ≡ owners_after steps.old.places.items (length journal.old.items) (bare gist) }
+        ≡ owners_after steps.old.places.items (length journal.old.items) (narrow_answer gist) }
     ensures hearers { heard.new.count ≡ heard.old.count }
     ensures lists { length heard.new.lists ≡ 8 }
     ensures heard { takes_others command ≡ true → (p : ℕ) (d : _) → p < heard.old.count
         → (slice_index_or heard.new.lists p d).items
-        ≡ with_place (hears (owns steps.old.owners.items p) p role (undone_by (bare gist))) (length journal.old.items)
+        ≡ with_place (hears (owns steps.old.owners.items p) p role (undone_by (narrow_answer gist))) (length journal.old.items)
         (slice_index_or heard.old.lists p d).items }
     ensures unheard { takes_others command ≡ false → heard.new.lists ≡ heard.old.lists }
 {
@@ -142,7 +142,7 @@ fn source_of(gist: &Gist) -> Option<StepId>
 
 // The numbers of the steps that were taken back.
 fn undone_by(gist: &Gist) -> &[StepId]
-    ensures { result.now ≡ undone_by (bare gist.now) }
+    ensures { result.now ≡ undone_by (narrow_answer gist.now) }
 {
     match gist {
         Gist::Stepped { .. } => &[],
@@ -152,19 +152,14 @@ fn undone_by(gist: &Gist) -> &[StepId]
 }
 
 impl Room {
-    /// Does the change that the command asks for, or says why not. What is accepted joins the journal with its answer,
-    /// which is told besides.
+    /// Answers a change, as `apply` does: what is accepted joins the journal with its answer.
     #[inline(always)]
-    pub(crate) fn change(&mut self, role: Role, command: Command) -> Result<Answer, Refusal>
+    pub(crate) fn change(&mut self, role: Role, command: Command) -> Answer
         requires role { role < length self.old.types }
         requires change { IsSome (change_of command) }
-        ensures answer { IfOk result (λ told. IsReply told
-            (reply self.old.names self.old.types self.old.journal role command)) }
-        ensures journal { IfOk result (λ told. self.new.journal
-            ≡ grown self.old.journal role command told) }
-        ensures refused { IfErr result (λ refusal. IsReply (Refused refusal)
-            (reply self.old.names self.old.types self.old.journal role command)) }
-        ensures err { OnErr result (self.new.journal ≡ self.old.journal) }
+        ensures answer { IsReply result
+            (reply self.old.names self.old.types self.old.journal role command) }
+        ensures journal { self.new.journal ≡ grown self.old.journal role command result }
         ensures names { self.new.names ≡ self.old.names }
         ensures types { self.new.types ≡ self.old.types }
     {
@@ -175,26 +170,30 @@ impl Room {
             role,
             &command,
         ) {
-            return Err(self.refused(role, &command, lack));
+            return Answer::Refused(self.refused(role, &command, lack));
         }
-        let (answer, gist) = self.session.attempt(role, &command)?;
-        keep(
-            &mut self.journal,
-            &mut self.steps,
-            &mut self.heard,
-            role,
-            command,
-            gist,
-        );
-        Ok(answer)
+        match self.session.attempt(role, &command) {
+            Ok((answer, gist)) => {
+                keep(
+                    &mut self.journal,
+                    &mut self.steps,
+                    &mut self.heard,
+                    role,
+                    command,
+                    gist,
+                );
+                answer
+            }
+            Err(refusal) => Answer::Refused(refusal),
+        }
     }
 
-    // The refusal of a change for which there is no room in the journal or no memory: the machine's, if it refuses,
+    // The refusal of a change for which there is no place in the journal or no memory: the machine's, if it refuses,
     // else this one.
     fn refused(&mut self, role: Role, command: &Command, lack: Refusal) -> Refusal
         requires role { role < length self.old.types }
         requires change { IsSome (change_of command.now) }
-        requires short { IsShort (length self.old.journal) lack }
+        requires lack { IsLack (length self.old.journal) lack }
         ensures refused { IsReply (Refused result)
             (reply self.old.names self.old.types self.old.journal role command.now) }
         ensures kept { self.new ≡ self.old }

@@ -2,10 +2,10 @@
 ghost use Rattle.std.specs.Prelude.{◌≡◌, ◌≢◌, ℕ, ◌+◌, ◌<◌, ◌≤◌, ◌==◌, [], ◌∷◌, ◌++◌, false, map, length, vec_len};
 ghost use Rattle.std.specs.Prelude.{vec_capacity, slice_index_or, OnOk};
 ghost use Rattle.std.specs.List.{list_any};
-ghost use Rattle.std.specs.Option.{option_map_or};
 ghost use Rattle.mps_room.specs.Private.Heard.{hears, with_place};
 ghost use Rattle.mps_room.specs.Private.Owners.{owns};
 
+use crate::steps::Steps;
 use mps_base::{Role, StepId};
 use std::alloc::{AllocError, Global};
 
@@ -53,7 +53,7 @@ impl Heard {
         self.lists[role.index()].as_slice()
     }
 
-    /// Makes room for one place more in the list of each role but this one.
+    /// Reserves memory for one place more in the list of each role but this one.
     #[inline(never)]
     pub(crate) fn reserve(&mut self, asker: Role) -> Result<(), AllocError>
         requires few { self.old.count ≤ 8 }
@@ -75,7 +75,7 @@ impl Heard {
     /// Adds the place of an entry to the list of each role that hears of it: one of these steps, which the asker took
     /// back, was its own.
     #[inline(never)]
-    pub(crate) fn note(&mut self, owners: &[u8], asker: Role, ids: &[StepId], place: u32)
+    pub(crate) fn note(&mut self, steps: &Steps, asker: Role, ids: &[StepId], place: u32)
         requires few { self.old.count ≤ 8 }
         requires each { length self.old.lists ≡ 8 }
         requires space { (k : ℕ) (d : _) → k < self.old.count → k ≢ asker
@@ -83,9 +83,10 @@ impl Heard {
         ensures count { self.new.count ≡ self.old.count }
         ensures each { length self.new.lists ≡ 8 }
         ensures lists { (p : ℕ) (d : _) → p < self.old.count → (slice_index_or self.new.lists p d).items
-            ≡ with_place (hears (owns owners.now p) p asker ids.now) place (slice_index_or self.old.lists p d).items }
+            ≡ with_place (hears (owns steps.now.owners.items p) p asker ids.now) place
+            (slice_index_or self.old.lists p d).items }
     {
-        let lost = losers(owners, ids);
+        let lost = losers(steps, ids);
         for k in 0..self.count {
             if lost[k] && k != asker.index() {
                 push_at(&mut self.lists, k, place);
@@ -94,7 +95,7 @@ impl Heard {
     }
 }
 
-// Makes room for one place more in one list.
+// Reserves memory for one place more in one list.
 fn reserve_at(lists: &mut [Vec<u32>; 8], k: usize) -> Result<(), AllocError>
     requires { k < length lists.old }
     ensures each { length lists.new ≡ length lists.old }
@@ -118,12 +119,12 @@ fn push_at(lists: &mut [Vec<u32>; 8], k: usize, place: u32)
 }
 
 // Whether each role owns one of the steps.
-fn losers(owners: &[u8], ids: &[StepId]) -> [bool; 8]
-    ensures { (p : ℕ) → p < 8 → slice_index_or result p false ≡ list_any (owns owners.now p) ids.now }
+fn losers(steps: &Steps, ids: &[StepId]) -> [bool; 8]
+    ensures { (p : ℕ) → p < 8 → slice_index_or result p false ≡ list_any (owns steps.now.owners.items p) ids.now }
 {
     let mut lost = [false; 8];
     for id in ids {
-        if let Some(owner) = owner_of(owners, *id) {
+        if let Some(owner) = steps.owner_of(*id) {
             // the owners of a room are below 8, which isn't asked of these
             let place = owner.index();
             if place < 8 {
@@ -132,12 +133,4 @@ fn losers(owners: &[u8], ids: &[StepId]) -> [bool; 8]
         }
     }
     lost
-}
-
-/// Whose step it is.
-pub(crate) fn owner_of(owners: &[u8], id: StepId) -> Option<Role>
-    ensures { (p : ℕ) → owns owners.now p id ≡ option_map_or (λ owner. owner == p) result false }
-{
-    let place = id.number().checked_sub(1)?;
-    Some(Role::new(*owners.get(place as usize)?))
 }

@@ -2,8 +2,8 @@
 ghost use Rattle.std.specs.Prelude.{◌≡◌, ◌+◌, ◌<◌, ◌≤◌, ◌^◌, ◌++◌, ◌∷◌, [], None, IfOk, vec_len, vec_capacity};
 ghost use Rattle.mps_command.specs.declared.command.Command.TheVariants as commands;
 ghost use Rattle.mps_room.specs.Journal.{undone_by};
-ghost use Rattle.mps_room.specs.Private.Forms.{command_in, role_in, short, short_in, step_done, Fits, TakesSuch};
-ghost use Rattle.mps_room.specs.Private.Shorts.{given_in, message_at, message_of, whole, with_message};
+ghost use Rattle.mps_room.specs.Private.Forms.{command_in, role_in, narrow, narrow_in, step_done, Fits, TakesSuch};
+ghost use Rattle.mps_room.specs.Private.Narrow.{given_in, message_at, message_of, whole, with_message};
 ghost use Rattle.mps_session.specs.declared.gist.Gist.TheVariants as gists;
 
 use crate::entry::Entry;
@@ -82,12 +82,12 @@ struct Pair {
 const _: () = prove!(size_of::<NarrowEntry>() == 64);
 
 impl Model for NarrowEntry {
-    ghost use Rattle.mps_room.specs.Private.Forms.{short_in};
-    ghost use Rattle.mps_room.specs.Private.Shorts.{Short};
+    ghost use Rattle.mps_room.specs.Private.Forms.{narrow_in};
+    ghost use Rattle.mps_room.specs.Private.Narrow.{Narrow};
 
-    ghost Value = { Short };
+    ghost Value = { Narrow };
 
-    ghost view = { λ e. short_in e.form };
+    ghost view = { λ e. narrow_in e.form };
 }
 
 impl NarrowEntry {
@@ -104,7 +104,7 @@ impl NarrowEntry {
     )
         requires fits { Fits command gist place }
         requires place { vec_len journal.old + 1 ≤ vec_capacity journal.old }
-        ensures { journal.new.items ≡ journal.old.items ++ short role command gist place ∷ [] }
+        ensures { journal.new.items ≡ journal.old.items ++ narrow role command gist place ∷ [] }
     {
         let by = role.index() as u8;
         match command {
@@ -182,7 +182,7 @@ impl NarrowEntry {
 #[inline(always)]
 fn put(journal: &mut Vec<NarrowEntry>, form: Form)
     requires { vec_len journal.old + 1 ≤ vec_capacity journal.old }
-    ensures { journal.new.items ≡ journal.old.items ++ short_in form ∷ [] }
+    ensures { journal.new.items ≡ journal.old.items ++ narrow_in form ∷ [] }
 {
     journal.push_reserved(NarrowEntry { form });
 }
@@ -200,7 +200,7 @@ fn push_step(
     requires small { id < 2 ^ 32 }
     requires place { vec_len journal.old + 1 ≤ vec_capacity journal.old }
     ensures { journal.new.items ≡ journal.old.items
-        ++ short role (commands.Forward step) (gists.Stepped id None) place ∷ [] }
+        ++ narrow role (commands.Forward step) (gists.Stepped id None) place ∷ [] }
 {
     let by = role.index() as u8;
     let id = id.number() as u32;

@@ -4,10 +4,10 @@ ghost use Rattle.std.specs.List.{filter, AllByRecursion};
 ghost use Rattle.mps_room.specs.Journal.{is_own, news};
 ghost use Rattle.mps_room.specs.Private.Heard.{places, undone_at};
 ghost use Rattle.mps_room.specs.Private.Owners.{owns};
-ghost use Rattle.mps_room.specs.Private.Shorts.{journal_of};
+ghost use Rattle.mps_room.specs.Private.Narrow.{journal_of};
 
-use crate::heard::owner_of;
 use crate::narrow_entry::NarrowEntry;
+use crate::steps::Steps;
 use mps_base::{Role, StepId};
 use std::alloc::{AllocError, Global};
 
@@ -16,19 +16,19 @@ use std::alloc::{AllocError, Global};
 pub(crate) fn news(
     alloc: Global,
     journal: &[NarrowEntry],
-    owners: &[u8],
+    steps: &Steps,
     heard: &[u32],
     role: Role,
     known: u64,
 ) -> Result<Vec<StepId>, AllocError>
-    requires owned { (p n : ℕ) → is_own (journal_of journal.now) p n ≡ owns owners.now p n }
+    requires owned { (p n : ℕ) → is_own (journal_of journal.now) p n ≡ owns steps.now.owners.items p n }
     requires heard { heard.now ≡ places (journal_of journal.now) role }
     ensures { IfOk result (λ ids. ids.items ≡ news (journal_of journal.now) role known) }
 {
     let mut ids = Vec::new(alloc);
     let told = after(heard, known);
     for place in told {
-        push_own(owners, role, undone_at(journal, *place), &mut ids)?;
+        push_own(steps, role, undone_at(journal, *place), &mut ids)?;
     }
     Ok(ids)
 }
@@ -54,15 +54,15 @@ fn undone_at(journal: &[NarrowEntry], place: u32) -> &[StepId]
 
 // Adds those of the numbers that are of the role's steps.
 fn push_own(
-    owners: &[u8],
+    steps: &Steps,
     role: Role,
     ids: &[StepId],
     out: &mut Vec<StepId>,
 ) -> Result<(), AllocError>
-    ensures { OnOk result (out.new.items ≡ out.old.items ++ filter (owns owners.now role) ids.now) }
+    ensures { OnOk result (out.new.items ≡ out.old.items ++ filter (owns steps.now.owners.items role) ids.now) }
 {
     for id in ids {
-        if owns(owners, role, *id) {
+        if owns(steps, role, *id) {
             out.push(*id)?;
         }
     }
@@ -70,8 +70,8 @@ fn push_own(
 }
 
 // Whether the step is the role's.
-fn owns(owners: &[u8], role: Role, id: StepId) -> bool
-    ensures { result ≡ owns owners.now role id }
+fn owns(steps: &Steps, role: Role, id: StepId) -> bool
+    ensures { result ≡ owns steps.now.owners.items role id }
 {
-    owner_of(owners, id).is_some_and(|owner| owner.is(role))
+    steps.owner_of(id).is_some_and(|owner| owner.is(role))
 }

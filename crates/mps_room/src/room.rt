@@ -40,8 +40,8 @@ impl Model for Room {
     ghost use Rattle.std.specs.Coded.{codes};
     ghost use Rattle.std.specs.Prelude.{map};
     ghost use Rattle.mps_local.specs.Private.Codes.{coded_local};
-    ghost use Rattle.mps_room.specs.Private.Recorded.{IsKept};
-    ghost use Rattle.mps_room.specs.Private.Shorts.{journal_of};
+    ghost use Rattle.mps_room.specs.Private.Rooms.{IsRoom};
+    ghost use Rattle.mps_room.specs.Private.Narrow.{journal_of};
     ghost use Rattle.mps_room.specs.RoomState.{RoomState};
 
     ghost Value = { RoomState };
@@ -50,7 +50,7 @@ impl Model for Room {
 
     ghost view = { λ r. record { names = r.names; types = r.session.types; journal = journal_of r.journal.items } };
 
-    ghost invariant = { λ r. IsKept r.names r.session r.steps.owners.items r.steps.places.items r.heard.count
+    ghost invariant = { λ r. IsRoom r.names r.session r.steps.owners.items r.steps.places.items r.heard.count
         (map (λ l. l.items) r.heard.lists) r.journal.items };
 }
 
@@ -120,7 +120,7 @@ impl Room {
         let ids = news(
             self.alloc,
             self.journal.as_slice(),
-            self.steps.owners.as_slice(),
+            &self.steps,
             self.heard.list(role),
             role,
             known,
@@ -153,10 +153,7 @@ impl Room {
         match command {
             Command::News(known) => self.tell_news(role, known),
             Command::Show => self.tell_show(),
-            change => match self.change(role, change) {
-                Ok(answer) => answer,
-                Err(refusal) => Answer::Refused(refusal),
-            },
+            _ => self.change(role, command),
         }
     }
 

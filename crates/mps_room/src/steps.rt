@@ -1,8 +1,8 @@
 //! Whose each step is, and where its entry stands.
-ghost use Rattle.std.specs.Prelude.{◌≡◌, ◌++◌, ◌∷◌, [], OnOk};
-ghost use Rattle.std.specs.Option.{option_and_then};
-ghost use Rattle.mps_room.specs.Private.Owners.{HasRoom};
-ghost use Rattle.mps_room.specs.Private.Shorts.{place_of};
+ghost use Rattle.std.specs.Prelude.{◌≡◌, ◌==◌, ℕ, false, ◌++◌, ◌∷◌, [], OnOk};
+ghost use Rattle.std.specs.Option.{option_and_then, option_map_or};
+ghost use Rattle.mps_room.specs.Private.Owners.{owns, HasSpace};
+ghost use Rattle.mps_room.specs.Private.Narrow.{place_of};
 
 use mps_base::{Role, StepId};
 use std::alloc::{AllocError, Global};
@@ -27,12 +27,12 @@ impl Steps {
         }
     }
 
-    /// Makes room for one step more. It asks whether there is room, since most often there is, and `reserve` is a call.
+    /// Reserves memory for one step more. It asks whether there is any, since most often there is, and `reserve` is a call.
     #[inline(always)]
     pub(crate) fn reserve_one(&mut self) -> Result<(), AllocError>
         ensures owners { self.new.owners.items ≡ self.old.owners.items }
         ensures places { self.new.places.items ≡ self.old.places.items }
-        ensures room { OnOk result (HasRoom self.new) }
+        ensures space { OnOk result (HasSpace self.new) }
     {
         if self.owners.len() == self.owners.capacity() {
             self.owners.reserve(1)?;
@@ -46,12 +46,20 @@ impl Steps {
     /// Adds a step of the role, whose entry stands at the place.
     #[inline(always)]
     pub(crate) fn push(&mut self, role: Role, place: u32)
-        requires { HasRoom self.old }
+        requires { HasSpace self.old }
         ensures owners { self.new.owners.items ≡ self.old.owners.items ++ role ∷ [] }
         ensures places { self.new.places.items ≡ self.old.places.items ++ place ∷ [] }
     {
         self.owners.push_reserved(role.index() as u8);
         self.places.push_reserved(place);
+    }
+
+    /// Whose the step of that number is, if it was given out.
+    pub(crate) fn owner_of(&self, id: StepId) -> Option<Role>
+        ensures { (p : ℕ) → owns self.now.owners.items p id ≡ option_map_or (λ owner. owner == p) result false }
+    {
+        let k = id.number().checked_sub(1)?;
+        Some(Role::new(*self.owners.get(k as usize)?))
     }
 
     /// The place of the entry of the step of that number, if one is named and it was given out.

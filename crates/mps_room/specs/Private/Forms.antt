@@ -11,7 +11,7 @@ use Rattle.mps_command.specs.declared.command.Forward.TheVariants as steps
 use Rattle.mps_session.specs.Answers.{source_of}
 use Rattle.mps_session.specs.declared.gist.Gist.{Gist}
 use Rattle.mps_session.specs.declared.gist.Gist.TheVariants.{Stepped, Undid, TookBack}
-use Rattle.mps_room.specs.Private.Shorts.{Short, place_of}
+use Rattle.mps_room.specs.Private.Narrow.{Narrow, place_of}
 use Rattle.mps_room.specs.declared.narrow_entry.Form.{Form}
 use Rattle.mps_room.specs.declared.narrow_entry.Form.TheVariants.{Sent, Chose, Received, Picked, Marked, Committed}
 use Rattle.mps_room.specs.declared.narrow_entry.Form.TheVariants.{Undone, RolledBack, WentBack}
@@ -62,27 +62,27 @@ source_in (Received pair slot id place) = Some place
 source_in (Picked pair id place) = Some place
 source_in form = None
 
--- the entry in short
-abbrev pub short_in : Form → Short
-short_in form = record {
+-- the narrow entry
+abbrev pub narrow_in : Form → Narrow
+narrow_in form = record {
   entry = record { role = role_in form; command = command_in form; answer = answer_in form };
   source = source_in form;
 }
 
--- the answer of this gist, without the message that was taken
-abbrev pub bare : Gist → Answer
-bare (Stepped id source) = step_done id None
-bare (Undid id) = answers.Undone (id ∷ [])
-bare (TookBack ids) = answers.Undone ids.items
+-- the narrow answer of this gist, which is without the message that was taken
+abbrev pub narrow_answer : Gist → Answer
+narrow_answer (Stepped id source) = step_done id None
+narrow_answer (Undid id) = answers.Undone (id ∷ [])
+narrow_answer (TookBack ids) = answers.Undone ids.items
 
 -- the place of the entry that gave the message that was taken, if one was
 abbrev pub source_place : (places : List ℕ) → Gist → Option ℕ
 source_place places gist = option_and_then (place_of places) (source_of gist)
 
--- the entry in short of role p's command, by the gist of its answer and the place of the entry that gave the message
-abbrev pub short : ℕ → Command → Gist → Option ℕ → Short
-short p command gist place = record {
-  entry = record { role = p; command = command; answer = bare gist };
+-- the narrow entry of role p's command, by the gist of its answer and the place of the entry that gave the message
+abbrev pub narrow : ℕ → Command → Gist → Option ℕ → Narrow
+narrow p command gist place = record {
+  entry = record { role = p; command = command; answer = narrow_answer gist };
   source = place;
 }
 
@@ -92,7 +92,8 @@ TakesSuch (steps.Receive from slot) place = IsSome place
 TakesSuch (steps.Pick from) place = IsSome place
 TakesSuch step place = place ≡ None
 
--- the command gets an answer of such a gist where it is accepted, and the number of a new step is small
+-- what `IsGistFor` says of a command and its gist, in which the number of a new step is small; a place is named just where
+-- a message is taken
 abbrev pub Fits : Command → Gist → Option ℕ → Type 0
 Fits (commands.Forward step) (Stepped id source) place = TakesSuch step place × (id < 2 ^ 32)
 Fits (commands.Undo n) (Undid m) place = (m ≡ n) × (place ≡ None)

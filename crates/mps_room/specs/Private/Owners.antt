@@ -27,8 +27,8 @@ abbrev pub owners_after : (owners : List ℕ) → ℕ → Answer → List ℕ
 owners_after owners p (Done done) = owners ++ p ∷ []
 owners_after owners p answer = owners
 
--- there is room for one step more
-pub record HasRoom (steps : Steps) : Type 0 where
+-- there is memory for one step more
+pub record HasSpace (steps : Steps) : Type 0 where
   pub owner : vec_len steps.owners + 1 ≤ vec_capacity steps.owners
   pub place : vec_len steps.places + 1 ≤ vec_capacity steps.places
 

@@ -8,11 +8,11 @@ use Rattle.mps_room.proofs.Losing.{marked, one_more, or_false}
 use Rattle.mps_room.proofs.heard.losers.Goals as goal
 use Rattle.mps_room.proofs.heard.losers.Goals.{in-Some+then-place-lt8, in-Some+else-place-lt8, in_default}
 
-still_lost : (c : goal.Joined-owner_of) (p : ℕ) → p < 8 → (get_or c.match-owner_of.lost p false || list_any (owns c.args.owners.now p) (drop (c.loop-id.id-index + 1) c.args.ids.now)) ≡ list_any (owns c.args.owners.now p) c.args.ids.now
+still_lost : (c : goal.Joined-owner_of) (p : ℕ) → p < 8 → (get_or c.match-owner_of.lost p false || list_any (owns c.args.steps.now.owners.items p) (drop (c.loop-id.id-index + 1) c.args.ids.now)) ≡ list_any (owns c.args.steps.now.owners.items p) c.args.ids.now
 still_lost c p small =
     let i = c.loop-id.id-index in
     let ids = c.args.ids.now in
-    let mine = owns c.args.owners.now p in
+    let mine = owns c.args.steps.now.owners.items p in
     let was = get_or c.loop-id.lost p false in
     let rest = list_any mine (drop (i + 1) ids) in
     let here : list_any mine (drop i ids) ≡ (mine c.id-item.result || rest) =

@@ -9,5 +9,5 @@ abbrev pub invariant-loop-id : goal.invariant-loop-id
 invariant-loop-id l =
     record {
       each : length l.lost ≡ 8;
-      all : (p : ℕ) → p < 8 → (slice_index_or l.lost p false || list_any (owns l.owners p) (drop l.id-index l.ids)) ≡ list_any (owns l.owners p) l.ids;
+      all : (p : ℕ) → p < 8 → (slice_index_or l.lost p false || list_any (owns l.steps.owners.items p) (drop l.id-index l.ids)) ≡ list_any (owns l.steps.owners.items p) l.ids;
     }

@@ -6,4 +6,4 @@ use Rattle.mps_room.proofs.news.push_own.Given as goal
 
 abbrev pub invariant-loop-id : goal.invariant-loop-id
 invariant-loop-id l =
-    l.out.items ++ filter (owns l.owners l.role) (drop l.id-index l.ids) ≡ l.fn.out.items ++ filter (owns l.owners l.role) l.ids
+    l.out.items ++ filter (owns l.steps.owners.items l.role) (drop l.id-index l.ids) ≡ l.fn.out.items ++ filter (owns l.steps.owners.items l.role) l.ids

@@ -9,6 +9,6 @@ invariant-loop-k l =
     record {
       count : l.self.count ≡ l.fn.self.count;
       each : length l.self.lists ≡ 8;
-      done : (p : ℕ) (d : _) → p < l.k → (slice_index_or l.self.lists p d).items ≡ with_place (hears (owns l.owners p) p l.asker l.ids) l.place (slice_index_or l.fn.self.lists p d).items;
+      done : (p : ℕ) (d : _) → p < l.k → (slice_index_or l.self.lists p d).items ≡ with_place (hears (owns l.steps.owners.items p) p l.asker l.ids) l.place (slice_index_or l.fn.self.lists p d).items;
       left : (p : ℕ) (d : _) → l.k ≤ p → slice_index_or l.self.lists p d ≡ slice_index_or l.fn.self.lists p d;
     }
