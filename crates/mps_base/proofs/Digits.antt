@@ -1,6 +1,6 @@
 -- Digits that are read one by one.
-use Rattle.std.proofs.Common.{◌≡◌, ℕ, suc, ◌+◌, ◌*◌, ◌^◌, ◌<◌, ◌≤◌, List, [], ◌∷◌, length, drop, get_or, refl, ap, subst, sym, ◌∙◌, arith}
-use Rattle.std.proofs.Math.Nat.{pow-le-pow_right, pow-suc}
+use Rattle.std.proofs.Common.{◌≡◌, ℕ, ◌+◌, ◌*◌, ◌^◌, ◌<◌, ◌≤◌, List, [], ◌∷◌, length, drop, get_or, ap, ◌∙◌, arith}
+use Rattle.std.proofs.Math.Nat.{pow-le-pow_right}
 use Rattle.std.specs.Char.{digit_value}
 use Rattle.std.specs.Str.Parse.{AllDigits, digits_value, digits_value_after}
 use Rattle.std.proofs.lemmas.List.{drop_more}
@@ -20,10 +20,7 @@ module _ (ds : List ℕ) where
     here = read.value ∙ ap (digits_value_after 10 n) (drop_more ds i 0 more)
 
     pub read_more : digit_value (get_or ds i 0) < 10 → IsRead (i + 1) (n * 10 + digit_value (get_or ds i 0))
-    read_more digit = record {
-      value = here;
-      digits = λ rest. read.digits (subst (AllDigits 10) (sym (drop_more ds i 0 more)) (digit, rest));
-    }
+    read_more digit = grind (arith, here, drop_more)
 
     pub so_many : n * 10 + digit_value (get_or ds i 0) ≤ digits_value 10 ds
     so_many = omega (arith, here, at_least (n * 10 + digit_value (get_or ds i 0)) (drop (i + 1) ds))
@@ -31,9 +28,3 @@ module _ (ds : List ℕ) where
 -- few digits stand for a number that has room for one more
 pub few : (i n : ℕ) → i < 19 → n < 10 ^ i → n < 10 ^ 18
 few i n less h = omega (arith, h, pow-le-pow_right {n = 10} (omega arith) {i = i} {j = 18} (omega (arith, less)))
-
--- one digit more stands for less than ten times as much
-pub one_more : (i n d : ℕ) → n < 10 ^ i → d < 10 → n * 10 + d < 10 ^ (i + 1)
-one_more i n d h less =
-    let next : 10 ^ (i + 1) ≡ 10 ^ i * 10 = ap (λ (k : ℕ). 10 ^ k) (let s : i + 1 ≡ suc i = omega arith in s) ∙ pow-suc 10 i in
-    omega (arith, h, less, next)

@@ -1,5 +1,5 @@
 -- How a short word is put into its array.
-use Rattle.std.proofs.Common.{◌≡◌, ℕ, ◌-◌, ◌≤◌, List, ◌++◌, length, take, drop, replicate, refl, ap, sym, ◌∙◌}
+use Rattle.std.proofs.Common.{arith, ◌≡◌, ℕ, ◌-◌, ◌≤◌, List, ◌++◌, length, drop, replicate, ap, ◌∙◌}
 use Rattle.std.proofs.lemmas.List.{take_at, drop-replicate}
 use Rattle.mps_base.specs.Private.Inline.{IsKept}
 
@@ -8,9 +8,4 @@ pub kept : (bytes array : List ℕ) → length bytes ≤ 32 → array ≡ bytes 
 kept bytes array h e =
     let rest = drop-replicate (length bytes) 32 0 in
     let whole : array ≡ bytes ++ replicate (32 - length bytes) 0 = e ∙ ap (λ (r : List ℕ). bytes ++ r) rest in
-    let front : take (length bytes) array ≡ bytes = ap (take (length bytes)) whole ∙ take_at bytes _ (length bytes) refl in
-    record {
-      short = rw front h;
-      long = ap length front;
-      padded = ap (λ (r : List ℕ). r ++ replicate (32 - length bytes) 0) front ∙ sym whole;
-    }
+    grind (arith, take_at)

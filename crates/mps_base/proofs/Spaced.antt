@@ -3,12 +3,10 @@ use Rattle.std.proofs.Common.{◌≡◌, ◌≢◌, ℕ, ◌<◌, List, [], ◌�
 use Rattle.mps_base.specs.Spaced.{spaced, with_token, with_tokens}
 
 pub first_token : (bytes token : List ℕ) → length bytes ≡ 0 → with_token bytes token ≡ bytes ++ token
-first_token [] token h = refl
-first_token (c ∷ cs) token h = absurd (omega (arith, h))
+first_token bytes token h = grind arith
 
 pub next_token : (bytes token : List ℕ) → length bytes ≢ 0 → with_token bytes token ≡ bytes ++ 32 ∷ token
-next_token [] token h = absurd (h refl)
-next_token (c ∷ cs) token h = refl
+next_token bytes token h = grind arith
 
 pub written_parts : (out : List ℕ) (front back : List (List ℕ)) → with_tokens out (front ++ back) ≡ with_tokens (with_tokens out front) back
 written_parts out [] back = refl
@@ -20,6 +18,4 @@ written_more c cs token (next ∷ tokens) =
     written_more c (cs ++ 32 ∷ token) next tokens ∙ ap (λ (xs : List ℕ). c ∷ xs) (append_assoc cs (32 ∷ token) (32 ∷ spaced (next ∷ tokens)))
 
 pub written_all : (first : List ℕ) (tokens : List (List ℕ)) → 0 < length first → with_tokens [] (first ∷ tokens) ≡ spaced (first ∷ tokens)
-written_all first [] some = refl
-written_all [] (next ∷ tokens) some = absurd (omega arith)
-written_all (c ∷ cs) (next ∷ tokens) some = written_more c cs next tokens
+written_all first tokens some = grind (arith, written_more)

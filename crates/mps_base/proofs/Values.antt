@@ -1,5 +1,5 @@
 -- Each value has one spelling.
-use Rattle.std.proofs.Common.{arith, rules, ◌≡◌, ◌≢◌, ℕ, Bool, List, [], ◌∷◌, ◌++◌, sym, ◌∙◌, ℤ, pos, negsuc, true, false}
+use Rattle.std.proofs.Common.{arith, ◌≡◌, ◌≢◌, ℕ, Bool, List, [], ◌∷◌, ◌++◌, ℤ}
 use Rattle.std.specs.List.{AllByRecursion}
 use Rattle.std.specs.Str.Parse.{AllDigits}
 use Rattle.std.proofs.lemmas.List.{same_from_push}
@@ -13,9 +13,7 @@ use Rattle.mps_base.proofs.Numbers.{int_is_signed}
 
 -- the same spelling, the same text
 pub quoted_same : (a b : List ℕ) → quoted a ≡ quoted b → a ≡ b
-quoted_same a b e =
-    let tails : a ++ 34 ∷ [] ≡ b ++ 34 ∷ [] = cc in
-    (same_from_push a b 34 34 tails).0
+quoted_same a b e = grind (arith, same_from_push)
 
 -- bytes that spell no integer, no truth value and no text spell no value
 pub no_value : (bytes : List ℕ) → ((z : ℤ) → IsIntText bytes z → ⊥) → ((b : Bool) → bytes ≢ bool_word b) → ((t : List ℕ) → bytes ≡ quoted t → IsText t → ⊥) → (v : Value) → SpellsValue bytes v → ⊥
@@ -24,9 +22,7 @@ no_value bytes no_int no_bool no_text (BoolValue b) h = no_bool b h
 no_value bytes no_int no_bool no_text (Text t) h = no_text t h.0 h.1
 
 pub same_spelling : (a b : List ℕ) (v : Value) → SpellsValue a v → SpellsValue b v → a ≡ b
-same_spelling a b (Int z) p q = int_is_signed a z p ∙ sym (int_is_signed b z q)
-same_spelling a b (BoolValue w) p q = p ∙ sym q
-same_spelling a b (Text t) p q = p.0 ∙ sym q.0
+same_spelling a b v p q = grind (arith, int_is_signed)
 
 -- ---- the bytes of a spelling
 
@@ -44,15 +40,5 @@ shown_text : (t : List ℕ) → AllByRecursion IsPlainByte t → AllByRecursion 
 shown_text [] h = tt
 shown_text (c ∷ cs) h = (record { low = h.0.low; high = h.0.high }, shown_text cs h.1)
 
-quote : IsShown 34
-quote = record { low = omega arith; high = omega arith }
-
-shown_word : (b : Bool) → AllByRecursion IsShown (bool_word b)
-shown_word true = search rules
-shown_word false = search rules
-
 pub shown : (a : List ℕ) (v : Value) → SpellsValue a v → AllByRecursion IsShown a
-shown a (Int (pos n)) h = shown_digits a h.1.digits
-shown a (Int (negsuc n)) h = rw h.2 (record { low = omega arith; high = omega arith }, shown_digits h.1 h.3.digits)
-shown a (BoolValue b) h = rw h (shown_word b)
-shown a (Text t) h = rw h.0 (quote, shown_append t (34 ∷ []) (shown_text t h.1.each) (quote, tt))
+shown a v h = grind (arith, shown_digits, shown_append, shown_text)

@@ -1,5 +1,6 @@
 //! Values and their sorts.
-ghost use Rattle.std.specs.Prelude.{◌≡◌, ◌↔◌, true, IsTrue, IsSome, IfSome, IfOk, All};
+ghost use Rattle.std.specs.Prelude.{◌≡◌, ◌↔◌, true, IsTrue, IsSome, IfSome, IfOk};
+ghost use Rattle.std.specs.List.{AllByRecursion};
 ghost use Rattle.mps_base.specs.Sorts.{sort_word, same_sort, sort_of, fits};
 ghost use Rattle.mps_base.specs.Texts.{IsText, IsPlainByte};
 ghost use Rattle.mps_base.specs.declared.value.Sort.{Sort};
@@ -109,7 +110,19 @@ impl Text {
 pub(crate) fn is_text(bytes: &[u8]) -> bool
     ensures { IsTrue result ↔ IsText bytes.now }
 {
-    bytes.len() <= MAX_TEXT && bytes.iter().all(|&byte| is_plain(byte))
+    bytes.len() <= MAX_TEXT && are_plain(bytes)
+}
+
+// Whether each byte is shown as itself between quotes. It doesn't end at the first that isn't, so the compiler looks at
+// sixteen at a time.
+fn are_plain(bytes: &[u8]) -> bool
+    ensures { IsTrue result ↔ AllByRecursion IsPlainByte bytes.now }
+{
+    let mut plain = true;
+    for byte in bytes {
+        plain &= is_plain(*byte);
+    }
+    plain
 }
 
 // Whether the byte is shown as itself between quotes.

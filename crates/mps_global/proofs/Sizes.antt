@@ -7,18 +7,12 @@ use Rattle.mps_global.specs.Faults.{node_count, branch_nodes, depth, branch_dept
 -- a tree has a node
 pub some_node : (tree : GlobalType) → 0 < node_count tree
 some_node End = omega arith
-some_node (Var name) = omega arith
-some_node (Rec name body) = omega arith
-some_node (Message sender receiver sort next) = omega arith
-some_node (Choice sender receiver branches) = omega arith
+some_node other = omega arith
 
 -- a path from the root has a node
 pub some_depth : (tree : GlobalType) → 0 < depth tree
 some_depth End = omega arith
-some_depth (Var name) = omega arith
-some_depth (Rec name body) = omega arith
-some_depth (Message sender receiver sort next) = omega arith
-some_depth (Choice sender receiver branches) = omega arith
+some_depth other = omega arith
 
 mutual
   -- the list is as long as the tree has nodes

@@ -1,13 +1,13 @@
 -- A pair of neighbours, by their numbers and by their places.
-use Rattle.std.proofs.Common.{◌≡◌, ℕ, ◌<◌, Bool, true, false, List, [], ◌∷◌, ◌++◌, length, refl, sym, ap, ◌∙◌, subst, arith, ⊎_elim, inl, append_assoc, append-nil}
+use Rattle.std.proofs.Common.{◌≡◌, ℕ, Bool, true, false, List, [], ◌∷◌, ◌++◌, refl, sym, ap, ◌∙◌, subst, arith, ⊎_elim, inl, append_assoc, append-nil}
 use Rattle.std.specs.Prelude.{◌==◌, ◌&&◌, nat_lt}
 use Rattle.std.specs.List.{filter}
 use Rattle.std.proofs.lemmas.Bool.{cases_Bool, and_left, and_parts, and_right, lt-ltb, le-ltb, false≢true}
 use Rattle.std.proofs.lemmas.List.Elements.{filter-append}
-use Rattle.mps_base.specs.Effects.{Effect, Gives, Takes, Idle, effect}
+use Rattle.mps_base.specs.Effects.{Effect, effect}
 use Rattle.mps_base.specs.declared.action.Step.{Step}
 use Rattle.mps_history.specs.Steps.{IsRising, gives_to, takes_from, goes_to, comes_from, sends, receives}
-use Rattle.mps_history.specs.Dependence.{sent_before, received_before, is_matched}
+use Rattle.mps_history.specs.Dependence.{is_matched}
 use Rattle.mps_history.specs.Swaps.{is_matched_after}
 use Rattle.mps_history.proofs.Order.{at_member, from_members, rising_apart, IsRising-append_right}
 use Rattle.mps_history.proofs.Removal.{filter-none, filter-same}
@@ -18,18 +18,13 @@ before_place p a l s r =
     let f = λ (x : Step). nat_lt x.id s.id && p x in
     let rest = IsRising-append_right a (s ∷ l) r in
     filter-append f a (s ∷ l)
-    ∙ ap (λ k. filter f a ++ k) (filter-none f (s ∷ l) (
-      and_left (nat_lt s.id s.id) (p s) (le-ltb s.id s.id (omega arith)),
-      from_members (λ x. f x ≡ false) l (λ x i. and_left (nat_lt x.id s.id) (p x) (let more = at_member (λ u. s.id < u.id) l x rest.0 i in le-ltb x.id s.id (omega arith))),
-    ))
+    ∙ ap (λ k. filter f a ++ k) (grind (arith, filter-none, and_left, le-ltb, from_members, at_member))
     ∙ append-nil (filter f a)
     ∙ filter-same f p a (from_members (λ x. f x ≡ p x) a (λ x i. ap (λ k. k && p x) (lt-ltb x.id s.id (rising_apart a (s ∷ l) x s r i (inl refl)))))
 
 -- what gives something takes nothing
 gives_only : (p q : ℕ) (effect : Effect) → gives_to q effect ≡ true → takes_from p effect ≡ false
-gives_only p q (Gives to message) e = refl
-gives_only p q (Takes from slot) e = absurd (false≢true e)
-gives_only p q Idle e = absurd (false≢true e)
+gives_only p q effect e = grind (arith, false≢true)
 
 pub pairing : (a b : List Step) (s t : Step) → IsRising (a ++ s ∷ t ∷ b) → is_matched (a ++ s ∷ t ∷ b) s t ≡ is_matched_after a s t
 pairing a b s t r =
@@ -38,15 +33,6 @@ pairing a b s t r =
     let quiet : receives s.role t.role s ≡ false = and_right (s.role == t.role) (comes_from s.role s.act) (gives_only s.role t.role (effect s.act) (and_parts (s.role == s.role) (goes_to t.role s.act) y).1) in
     let h = a ++ s ∷ t ∷ b in
     let split : (a ++ s ∷ []) ++ t ∷ b ≡ h = append_assoc a (s ∷ []) (t ∷ b) in
-    let none : filter (receives s.role t.role) (s ∷ []) ≡ [] = filter-none (receives s.role t.role) (s ∷ []) (quiet, tt) in
-    let sent : sent_before s.role t.role s.id h ≡ length (filter (sends s.role t.role) a) = ap length (before_place (sends s.role t.role) a (t ∷ b) s r) in
-    let got : received_before s.role t.role t.id h ≡ length (filter (receives s.role t.role) a) =
-    ap length (ap (λ (k : List Step). filter (λ x. nat_lt x.id t.id && receives s.role t.role x) k) (sym split)
-    ∙ before_place (receives s.role t.role) (a ++ s ∷ []) b t (subst IsRising (sym split) r)
-    ∙ filter-append (receives s.role t.role) a (s ∷ [])
-    ∙ ap (λ k. filter (receives s.role t.role) a ++ k) none
-    ∙ append-nil (filter (receives s.role t.role) a)) in
-    ap (λ n. sends s.role t.role s && receives s.role t.role t && n == received_before s.role t.role t.id h) sent
-    ∙ ap (λ n. sends s.role t.role s && receives s.role t.role t && length (filter (sends s.role t.role) a) == n) got)
+    cc (filter-none (receives s.role t.role) (s ∷ []) (quiet, tt), before_place (sends s.role t.role) a (t ∷ b) s r, before_place (receives s.role t.role) (a ++ s ∷ []) b t (subst IsRising (sym split) r), filter-append (receives s.role t.role) a (s ∷ []), append-nil (filter (receives s.role t.role) a)))
     (λ (n : sends s.role t.role s ≡ false). and_left _ _ (and_left (sends s.role t.role s) (receives s.role t.role t) n) ∙ sym (and_left _ _ (and_left (sends s.role t.role s) (receives s.role t.role t) n)))
     (cases_Bool (sends s.role t.role s))

@@ -34,8 +34,7 @@ IsIn-append t (x ∷ a) b (inr i) = ⊎_elim (λ (j : IsIn t a). inl (inr j)) (�
 -- a later step has a larger number
 pub rising_apart : (a b : List Step) (s t : Step) → IsRising (a ++ b) → IsIn s a → IsIn t b → s.id < t.id
 rising_apart [] b s t r i j = absurd i
-rising_apart (x ∷ a) b s t r (inl e) j =
-    subst (λ (y : Step). y.id < t.id) (sym e) (at_member (λ u. x.id < u.id) (a ++ b) t r.0 (IsIn-append_right t a b j))
+rising_apart (x ∷ a) b s t r (inl e) j = grind (arith, at_member, IsIn-append_right)
 rising_apart (x ∷ a) b s t r (inr i) j = rising_apart a b s t r.1 i j
 
 pub IsRising-append_right : (a b : List Step) → IsRising (a ++ b) → IsRising b
@@ -46,21 +45,14 @@ IsRising-append_right (x ∷ a) b r = IsRising-append_right a b r.1
 pub same_step : (h : List Step) (s t : Step) → IsRising h → IsIn s h → IsIn t h → s.id ≡ t.id → s ≡ t
 same_step [] s t r i j e = absurd i
 same_step (x ∷ h) s t r (inl p) (inl q) e = p ∙ sym q
-same_step (x ∷ h) s t r (inl p) (inr j) e =
-    let less = at_member (λ u. x.id < u.id) h t r.0 j in
-    let same : s.id ≡ x.id = ap (λ (y : Step). y.id) p in
-    absurd (omega arith)
-same_step (x ∷ h) s t r (inr i) (inl q) e =
-    let less = at_member (λ u. x.id < u.id) h s r.0 i in
-    let same : t.id ≡ x.id = ap (λ (y : Step). y.id) q in
-    absurd (omega arith)
+same_step (x ∷ h) s t r (inl p) (inr j) e = grind (arith, at_member)
+same_step (x ∷ h) s t r (inr i) (inl q) e = grind (arith, at_member)
 same_step (x ∷ h) s t r (inr i) (inr j) e = same_step h s t r.1 i j e
 
 -- a step is found by its number
 pub step_of_member : (h : List Step) (s : Step) → IsRising h → IsIn s h → step_of h s.id ≡ Some s
 step_of_member [] s r i = absurd i
-step_of_member (x ∷ h) s r (inl e) =
-    cond-true (x.id == s.id) (Some x) (step_of h s.id) (eq-eqb x.id s.id (ap (λ (y : Step). y.id) (sym e))) ∙ ap Some (sym e)
+step_of_member (x ∷ h) s r (inl e) = grind (arith, cond-true, eq-eqb)
 step_of_member (x ∷ h) s r (inr i) =
     let less = at_member (λ u. x.id < u.id) h s r.0 i in
     cond-false (x.id == s.id) (Some x) (step_of h s.id) (ne_eqb x.id s.id (λ e. omega arith)) ∙ step_of_member h s r.1 i
@@ -70,10 +62,7 @@ pub step_of_found : (h : List Step) (n : ℕ) (s : Step) → step_of h n ≡ Som
 step_of_found [] n s e = absurd cc
 step_of_found (x ∷ h) n s e =
     ⊎_elim
-    (λ (t : (x.id == n) ≡ true).
-    let is : Some x ≡ Some s = sym (cond-true (x.id == n) (Some x) (step_of h n) t) ∙ e in
-    let same : s ≡ x = cc in
-    (inl same, ap (λ (y : Step). y.id) same ∙ eqb-true x.id n t))
+    (grind (arith, cond-true, eqb-true))
     (λ (f : (x.id == n) ≡ false).
     let rest = step_of_found h n s (sym (cond-false (x.id == n) (Some x) (step_of h n) f) ∙ e) in
     (inr rest.0, rest.1))

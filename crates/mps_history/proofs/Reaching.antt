@@ -38,14 +38,7 @@ abbrev pub next_set : List Step → (ℕ → Bool) → Step → (ℕ → Bool)
 next_set h set t = cond (joins h set t) (with set t.id) set
 
 next_set_grows : (h : List Step) (set : ℕ → Bool) (t : Step) (m : ℕ) → set m ≡ true → next_set h set t m ≡ true
-next_set_grows h set t m e =
-    cond_both (joins h set t) (with set t.id) set (λ (f : ℕ → Bool). f m ≡ true) (λ y. or_right (m == t.id) (set m) e) (λ n. e)
-
--- no step but t joins at t
-next_set_others : (h : List Step) (set : ℕ → Bool) (t : Step) (m : ℕ) → m < t.id → next_set h set t m ≡ set m
-next_set_others h set t m less =
-    cond_both (joins h set t) (with set t.id) set (λ (f : ℕ → Bool). f m ≡ set m)
-    (λ y. ap (λ (c : Bool). c || set m) (ne_eqb m t.id (λ e. omega arith))) (λ n. refl)
+next_set_grows h set t m e = grind (arith, cond_both, or_right)
 
 joined_grows : (h : List Step) (set : ℕ → Bool) (l : List Step) (m : ℕ) → set m ≡ true → joined h set l m ≡ true
 joined_grows h set [] m e = e
@@ -54,21 +47,12 @@ joined_grows h set (t ∷ l) m e = joined_grows h (next_set h set t) l m (next_s
 -- a number below those of the steps to come is settled
 joined_settled : (h : List Step) (set : ℕ → Bool) (l : List Step) (m : ℕ) → AllByRecursion (λ t. m < t.id) l → joined h set l m ≡ set m
 joined_settled h set [] m a = refl
-joined_settled h set (t ∷ l) m a = joined_settled h (next_set h set t) l m a.1 ∙ next_set_others h set t m a.0
+joined_settled h set (t ∷ l) m a = grind (arith, cond_both, ne_eqb, joined_settled h (next_set h set t) l m a.1)
 
 -- what depends on a member is one
 joined_closed : (h : List Step) (set : ℕ → Bool) (l : List Step) (t u : Step) → IsRising l → IsIn u h → IsIn t l → depends_on h t u ≡ true → joined h set l u.id ≡ true → joined h set l t.id ≡ true
 joined_closed h set [] t u r iu it d e = absurd it
-joined_closed h set (x ∷ l) t u r iu (inl q) d e =
-    let less = earlier h t u d in
-    let same : t.id ≡ x.id = ap (λ (y : Step). y.id) q in
-    let below : u.id < x.id = omega arith in
-    let settled = joined_settled h set (x ∷ l) u.id (below, from_members (λ y. u.id < y.id) l (λ y i. let more = at_member (λ z. x.id < z.id) l y r.0 i in omega arith)) in
-    let member : set u.id ≡ true = sym settled ∙ e in
-    let dx : depends_on h x u ≡ true = subst (λ (y : Step). depends_on h y u ≡ true) q d in
-    let test : joins h set x ≡ true = member_any (λ s. set s.id && depends_on h x s) h u iu (and_from (set u.id) (depends_on h x u) member dx) in
-    let here : next_set h set x t.id ≡ true = ap (λ (f : ℕ → Bool). f t.id) (cond-true (joins h set x) (with set x.id) set test) ∙ or_left (t.id == x.id) (set t.id) (eq-eqb t.id x.id same) in
-    joined_grows h (next_set h set x) l t.id here
+joined_closed h set (x ∷ l) t u r iu (inl q) d e = grind (arith, earlier, joined_settled, from_members, at_member, member_any, and_from, cond-true, or_left, eq-eqb, joined_grows)
 joined_closed h set (x ∷ l) t u r iu (inr i) d e = joined_closed h (next_set h set x) l t u r.1 iu i d e
 
 pub consequences_closed : (h : List Step) (n : ℕ) → IsRising h → IsClosed h (consequences h n)
@@ -103,8 +87,7 @@ joined_reaches h s set (x ∷ l) r sub o =
 
 -- the members are the step and all that depends on it
 pub consequences_only : (h : List Step) (s t : Step) → IsRising h → IsIn s h → IsIn t h → consequences h s.id t.id ≡ true → (t ≡ s) ⊎ DependsOn h t s
-consequences_only h s t r is it e =
-    joined_reaches h s (λ m. m == s.id) h r (λ u i. i) (λ u i q. inl (same_step h u s r i is (eqb-true u.id s.id q))) t it e
+consequences_only h s t r is it e = grind (arith, joined_reaches, same_step, eqb-true)
 
 -- the step itself
 pub consequences_self : (h : List Step) (n : ℕ) → consequences h n n ≡ true

@@ -1,5 +1,5 @@
 -- What filters keep, and what a new last step has to do with the others.
-use Rattle.std.proofs.Common.{◌≡◌, ◌<◌, Bool, true, false, List, [], ◌∷◌, ◌++◌, cond, refl, sym, ap, ◌∙◌, arith, ⊎_elim, inl, eq-eqb, not, append-nil}
+use Rattle.std.proofs.Common.{◌≡◌, ◌<◌, Bool, true, false, List, [], ◌∷◌, ◌++◌, cond, refl, sym, ap, ◌∙◌, arith, ⊎_elim, inl, eq-eqb, append-nil}
 use Rattle.std.specs.Prelude.{◌==◌}
 use Rattle.std.specs.List.{filter, AllByRecursion}
 use Rattle.std.proofs.lemmas.Bool.{cases_Bool, cond-true, cond-false, ne_eqb, false≢true, false_from_ne_true}
@@ -52,15 +52,7 @@ module _ (h : List Step) (s : Step) (rising : IsRising (h ++ s ∷ [])) where
       (consequences_only (h ++ s ∷ []) s t rising (IsIn-append_right s h (s ∷ []) (inl refl)) (IsIn-append_left t h (s ∷ []) i) e))
 
   pub last_alone : within (h ++ s ∷ []) (consequences (h ++ s ∷ []) s.id) ≡ s ∷ []
-  last_alone =
-      let set = consequences (h ++ s ∷ []) s.id in
-      filter-append (λ t. set t.id) h (s ∷ [])
-      ∙ ap (λ l. l ++ filter (λ t. set t.id) (s ∷ [])) (filter-none (λ t. set t.id) h (from_members (λ t. set t.id ≡ false) h not_consequence))
-      ∙ cond-true (set s.id) (s ∷ []) [] (consequences_self (h ++ s ∷ []) s.id)
+  last_alone = grind (arith, filter-append, filter-none, from_members, not_consequence, cond-true, consequences_self)
 
   pub without_last : without (h ++ s ∷ []) (λ m. m == s.id) ≡ h
-  without_last =
-      filter-append (λ t. not (t.id == s.id)) h (s ∷ [])
-      ∙ ap (λ l. l ++ filter (λ t. not (t.id == s.id)) (s ∷ [])) (filter-all (λ t. not (t.id == s.id)) h (from_members (λ t. not (t.id == s.id) ≡ true) h (λ t i. ap not (not_last t i))))
-      ∙ ap (λ l. h ++ l) (cond-false (not (s.id == s.id)) (s ∷ []) [] (ap not (eq-eqb s.id s.id refl)))
-      ∙ append-nil h
+  without_last = grind (arith, filter-append, filter-all, from_members, not_last, cond-false, eq-eqb, append-nil)

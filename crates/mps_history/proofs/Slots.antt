@@ -1,7 +1,6 @@
 -- What a slot is bound to after a binding, that a binding can be undone, and lists whose values are mapped.
-use Rattle.std.proofs.Common.{◌≡◌, ℕ, true, false, List, [], ◌∷◌, map, Option, Some, None, refl, sym, ap, ◌∙◌, ⊎_elim}
+use Rattle.std.proofs.Common.{arith, ◌≡◌, ℕ, true, false, List, [], ◌∷◌, Option, Some, refl, sym, ap, ◌∙◌, ⊎_elim}
 use Rattle.std.specs.Prelude.{if◌then◌else◌}
-use Rattle.std.specs.Option.{option_map, option_map_or}
 use Rattle.std.specs.Str.{bytes_eq}
 use Rattle.std.proofs.lemmas.Bool.{cases_Bool}
 use Rattle.std.proofs.lemmas.Slice.Eq.{bytes_eq-Decides}
@@ -20,11 +19,7 @@ module _ {A : Type 0} (slot : List ℕ) where
   value_in-bound other v (entry ∷ s) =
       ⊎_elim
       (λ (t : bytes_eq entry.0 other ≡ true).
-      let same : bytes_eq entry.0 slot ≡ bytes_eq other slot = ap (λ n. bytes_eq n slot) (same_slot entry.0 other t) in
-      ⊎_elim
-      (λ (y : bytes_eq other slot ≡ true). rw (t, y) refl)
-      (λ (n : bytes_eq other slot ≡ false). rw (t, n, same ∙ n) refl)
-      (cases_Bool (bytes_eq other slot)))
+      grind (arith, same_slot entry.0 other t))
       (λ (f : bytes_eq entry.0 other ≡ false).
       ⊎_elim
       (λ (y : bytes_eq other slot ≡ true).
@@ -44,37 +39,4 @@ module _ {A : Type 0} (slot : List ℕ) where
       ⊎_elim
       (λ (t : bytes_eq entry.0 slot ≡ true). rw (t, slot_itself slot) (ap (λ (n : List ℕ). (n, entry.1) ∷ s) (sym (same_slot entry.0 slot t))))
       (λ (f : bytes_eq entry.0 slot ≡ false). rw (f, f) (ap (λ (l : List (List ℕ × A)). entry ∷ l) (unbound-bound v s)))
-      (cases_Bool (bytes_eq entry.0 slot))
-
--- each value replaced by what the function makes of it
-abbrev pub mapped : {A B : Type 0} → (A → B) → List (List ℕ × A) → List (List ℕ × B)
-mapped f s = map (λ entry. (entry.0, f entry.1)) s
-
-module _ {A B : Type 0} (f : A → B) (slot : List ℕ) where
-  pub mapped-bound : (v : A) (s : List (List ℕ × A)) → mapped f (bound slot v s) ≡ bound slot (f v) (mapped f s)
-  mapped-bound v [] = refl
-  mapped-bound v (entry ∷ s) =
-      ⊎_elim
-      (λ (t : bytes_eq entry.0 slot ≡ true). rw t refl)
-      (λ (n : bytes_eq entry.0 slot ≡ false). rw n (ap (λ (l : List (List ℕ × B)). (entry.0, f entry.1) ∷ l) (mapped-bound v s)))
-      (cases_Bool (bytes_eq entry.0 slot))
-
-  pub value_in-mapped : (s : List (List ℕ × A)) → value_in slot (mapped f s) ≡ option_map f (value_in slot s)
-  value_in-mapped [] = refl
-  value_in-mapped (entry ∷ s) =
-      ⊎_elim
-      (λ (t : bytes_eq entry.0 slot ≡ true). rw t refl)
-      (λ (n : bytes_eq entry.0 slot ≡ false). rw n (value_in-mapped s))
-      (cases_Bool (bytes_eq entry.0 slot))
-
-  mapped-tied : (o : Option A) (s : List (List ℕ × A)) → mapped f (option_map_or (λ v. (slot, v) ∷ s) o s) ≡ option_map_or (λ v. (slot, v) ∷ mapped f s) (option_map f o) (mapped f s)
-  mapped-tied None s = refl
-  mapped-tied (Some v) s = refl
-
-  pub mapped-unbound : (o : Option A) (s : List (List ℕ × A)) → mapped f (unbound slot o s) ≡ unbound slot (option_map f o) (mapped f s)
-  mapped-unbound o [] = refl
-  mapped-unbound o (entry ∷ s) =
-      ⊎_elim
-      (λ (t : bytes_eq entry.0 slot ≡ true). rw t (mapped-tied o s))
-      (λ (n : bytes_eq entry.0 slot ≡ false). rw n (ap (λ (l : List (List ℕ × B)). (entry.0, f entry.1) ∷ l) (mapped-unbound o s)))
       (cases_Bool (bytes_eq entry.0 slot))

@@ -1,12 +1,11 @@
 -- The two roles of each message and choice of a protocol without faults.
-use Rattle.std.proofs.Common.{◌≡◌, ◌≢◌, ℕ, ◌<◌, Bool, true, false, ◌&&◌, not, List, ◌∷◌, length, Option, None, Some, refl}
+use Rattle.std.proofs.Common.{arith, ◌≡◌, ◌≢◌, ℕ, ◌<◌, Bool, List, ◌∷◌, length, Option, None}
 use Rattle.std.specs.Prelude.{⊤, ◌++◌}
 use Rattle.std.specs.Option.{option_or}
-use Rattle.std.specs.Str.{bytes_eq}
 use Rattle.mps_global.specs.Global as global
 use Rattle.mps_global.specs.Global.{GlobalType}
 use Rattle.mps_global.specs.Path.{Step, Loop, Act}
-use Rattle.mps_global.specs.Faults.{is_among, labels, places, branch_places, first_true, pair_tests, label_tests, rec_tests, tests_at, first_fault}
+use Rattle.mps_global.specs.Faults.{labels, places, branch_places, first_true, pair_tests, label_tests, rec_tests, tests_at, first_fault}
 use Rattle.mps_global.specs.declared.faults.GlobalFault.{GlobalFault}
 use Rattle.mps_global.specs.declared.faults.GlobalFault.TheVariants as faults
 use Rattle.mps_global.proofs.Walks.{first_of_tests, first_of_both}
@@ -33,20 +32,11 @@ abbrev mutual
   AllBranchesApart roles (global.More label next others) = AllApart roles next × AllBranchesApart roles others
 
 pub both_none : {F : Type 0} (a b : Option F) → option_or a b ≡ None → (a ≡ None) × (b ≡ None)
-both_none None b h = (refl, h)
-both_none (Some fault) b h = cc
-
-roles_differ : (s r e : Bool) (others : List (Bool × GlobalFault)) → first_true ((not (s && r), faults.UnknownRole) ∷ (e, faults.SelfMessage) ∷ others) ≡ None → (s ≡ true) × (r ≡ true) × (e ≡ false) × (first_true others ≡ None)
-roles_differ true true true others h = cc
-roles_differ true true false others h = (refl, refl, refl, h)
-roles_differ true false e others h = cc
-roles_differ false r e others h = cc
+both_none a b h = grind arith
 
 -- where the tests of the two roles and the others tell no fault
 apart : (roles : List (List ℕ)) (sender receiver : List ℕ) (others : List (Bool × GlobalFault)) → first_true (pair_tests roles sender receiver ++ others) ≡ None → AreApart roles sender receiver × (first_true others ≡ None)
-apart roles sender receiver others h =
-    let t = roles_differ (is_among roles sender) (is_among roles receiver) (bytes_eq sender receiver) others h in
-    (record { from = place_below (bytes_eq sender) roles t.0; to = place_below (bytes_eq receiver) roles t.1; differ = places_differ roles sender receiver t.0 t.1 t.2 }, t.3)
+apart roles sender receiver others h = grind (arith, place_below, places_differ)
 
 -- where no test of either list tells a fault
 pub both_pass : {F : Type 0} (a b : List (Bool × F)) → first_true (a ++ b) ≡ None → (first_true a ≡ None) × (first_true b ≡ None)

@@ -1,11 +1,11 @@
 -- The types of the first roles.
-use Rattle.std.proofs.Common.{◌≡◌, ℕ, zero, suc, ◌+◌, ◌<◌, List, [], ◌∷◌, ◌++◌, length, map, Some, Option, IsSome, slice_get, Result, Ok, Err, IfErr, IsErrAnd, refl, sym, ◌∙◌, subst, arith, ⊎_elim, ◌≤◌}
+use Rattle.std.proofs.Common.{◌≡◌, ℕ, zero, suc, ◌+◌, ◌<◌, List, [], ◌∷◌, ◌++◌, length, map, Some, Option, IsSome, slice_get, Result, IfErr, IsErrAnd, refl, sym, subst, arith}
 use Rattle.std.specs.List.{AllByRecursion}
 use Rattle.std.proofs.lemmas.Bool.{cases_lt}
 use Rattle.mps_global.specs.Global.{GlobalType}
 use Rattle.mps_local.specs.declared.Local.{Local}
 use Rattle.mps_local.specs.Local.{LocalType, plain}
-use Rattle.mps_local.specs.Outcome.{CantMerge, IsUnmerged, IsFirstUnmerged, AreNotAll}
+use Rattle.mps_local.specs.Outcome.{IsUnmerged, AreNotAll}
 use Rattle.mps_local.specs.Projection.{projection}
 use Rattle.mps_local.specs.declared.projection.ProjectFault.{ProjectFault}
 use Rattle.mps_local.specs.declared.projection.ProjectFault.TheVariants as faults
@@ -20,17 +20,7 @@ get_last f [] x = refl
 get_last f (y ∷ xs) x = get_last f xs x
 
 pub one_more : (roles : List (List ℕ)) (tree : GlobalType) (types new : List Local) (t : Local) (place : ℕ) → length types ≡ place → new ≡ types ++ t ∷ [] → ((p : ℕ) → p < place → projection roles p tree ≡ slice_get (map plain types) p) → projection roles place tree ≡ Some (plain t) → (p : ℕ) → p < place + 1 → projection roles p tree ≡ slice_get (map plain new) p
-one_more roles tree types new t place n e each last p h =
-    ⊎_elim
-    (λ (before : p < place). each p before ∙ sym (get_before plain types t p (omega (arith, before, n))) ∙ sym (same p))
-    (λ (behind : place ≤ p).
-    let at : p ≡ length types = omega (arith, n, behind, h) in
-    let there : p ≡ place = omega (arith, behind, h) in
-    subst (λ (k : ℕ). projection roles k tree ≡ Some (plain t)) (sym there) last ∙ sym (get_last plain types t) ∙ sym (subst (λ (k : ℕ). slice_get (map plain new) k ≡ slice_get (map plain (types ++ t ∷ [])) k) at (same p)) ∙ subst (λ (k : ℕ). slice_get (map plain new) k ≡ slice_get (map plain new) p) at refl)
-    (cases_lt p place)
-  where
-    same : (k : ℕ) → slice_get (map plain new) k ≡ slice_get (map plain (types ++ t ∷ [])) k
-    same k = subst (λ (l : List Local). slice_get (map plain l) k ≡ slice_get (map plain (types ++ t ∷ [])) k) (sym e) refl
+one_more roles tree types new t place n e each last p h = grind (arith, get_before, get_last, cases_lt)
 
 -- what holds of the types and of one more
 pub one_more_holds : (P : LocalType → Type 0) (types new : List Local) (t : Local) → new ≡ types ++ t ∷ [] → AllByRecursion P (map plain types) → P (plain t) → AllByRecursion P (map plain new)
@@ -52,17 +42,8 @@ each_some roles tree types each p h = subst (λ (o : Option LocalType). IsSome o
 -- the first role without a projection, where each before it has one
 pub not_all : (roles : List (List ℕ)) (tree : GlobalType) (types : List Local) (place : ℕ) (fault : ProjectFault) → place < length roles → length types ≡ place → ((p : ℕ) → p < place → projection roles p tree ≡ slice_get (map plain types) p) → IsUnmerged roles place 0 tree fault → AreNotAll roles tree fault
 not_all roles tree types place faults.Memory l n each h = tt
-not_all roles tree types place (faults.Unmergeable role choice) l n each h =
-    let named : role ≡ place = h.named in
-    let each' : (p : ℕ) → p < length types → projection roles p tree ≡ slice_get (map plain types) p = λ p i. each p (omega (arith, i, n)) in
-    let first : IsFirstUnmerged roles tree place choice = record {
-      within = l;
-      unmerged = subst (λ (r : ℕ). CantMerge roles place 0 tree r choice) named h;
-      others = λ p i. each_some roles tree types each' p (omega (arith, i, n));
-    } in
-    subst (λ (r : ℕ). IsFirstUnmerged roles tree r choice) (sym named) first
+not_all roles tree types place (faults.Unmergeable role choice) l n each h = grind (arith, each_some)
 
 -- a fault that `?` hands on
 pub passed_on : {A F : Type 0} (r : Result A F) (P : F → Type 0) (e : F) → IsErrAnd r (λ x. x ≡ e) → P e → IfErr r P
-passed_on (Ok x) P e is h = absurd is
-passed_on (Err x) P e is h = subst P (sym is) h
+passed_on r P e is h = grind arith

@@ -1,5 +1,5 @@
 -- When trees are equal.
-use Rattle.std.proofs.Common.{◌≡◌, ℕ, ⊎_elim, true, false, List, refl, sym, ap, ◌∙◌, subst}
+use Rattle.std.proofs.Common.{arith, ◌≡◌, ℕ, true, List, refl, ap, subst}
 use Rattle.std.specs.Prelude.{◌&&◌, ◌==◌}
 use Rattle.std.specs.Str.{bytes_eq}
 use Rattle.std.proofs.lemmas.Bool.{cases_Bool, and_parts, and_from, eqb-true, eq-eqb}
@@ -17,24 +17,13 @@ pub name_is : (x y : List ℕ) → bytes_eq x y ≡ true → x ≡ y
 name_is x y e = (bytes_eq-Decides x y).0 e
 
 pub name_turned : (x y : List ℕ) → bytes_eq x y ≡ bytes_eq y x
-name_turned x y =
-    ⊎_elim (λ (e : bytes_eq x y ≡ true). e ∙ sym ((bytes_eq-Decides y x).1 (sym (name_is x y e))))
-    (λ (e : bytes_eq x y ≡ false).
-    ⊎_elim (λ (f : bytes_eq y x ≡ true). absurd (let g : bytes_eq x y ≡ true = (bytes_eq-Decides x y).1 (sym (name_is y x f)) in cc))
-    (λ (f : bytes_eq y x ≡ false). e ∙ sym f)
-    (cases_Bool (bytes_eq y x)))
-    (cases_Bool (bytes_eq x y))
+name_turned x y = grind (arith, bytes_eq-Decides, name_is, cases_Bool)
 
 same_sort_is : (s t : Sort) → same_sort s t ≡ true → s ≡ t
-same_sort_is sorts.Int sorts.Int e = refl
-same_sort_is sorts.Bool sorts.Bool e = refl
-same_sort_is sorts.Text sorts.Text e = refl
-same_sort_is s t e = absurd cc
+same_sort_is s t e = grind arith
 
 sort_same : (s : Sort) → same_sort s s ≡ true
-sort_same sorts.Int = refl
-sort_same sorts.Bool = refl
-sort_same sorts.Text = refl
+sort_same s = grind arith
 
 mutual
   -- trees that the test finds the same are equal

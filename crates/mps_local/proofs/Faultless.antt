@@ -1,5 +1,5 @@
 -- A type has no fault exactly where it is closed, guarded and unshadowed, has labels and is within the limits.
-use Rattle.std.proofs.Common.{◌≡◌, ℕ, ◌≤◌, ⊎_elim, Bool, true, false, List, [], ◌∷◌, ◌++◌, length, cond, Option, Some, None, refl, sym, ap, ◌∙◌, subst, arith}
+use Rattle.std.proofs.Common.{◌≡◌, ℕ, ◌≤◌, ⊎_elim, Bool, true, false, List, [], ◌∷◌, ◌++◌, length, cond, Option, Some, None, refl, sym, ap, ◌∙◌, arith}
 use Rattle.std.specs.Prelude.{◌||◌, ◌&&◌, ◌==◌, nat_lt, not}
 use Rattle.std.specs.List.{list_any}
 use Rattle.std.specs.Option.{option_or}
@@ -26,47 +26,36 @@ use Rattle.mps_local.proofs.Looping.{true_unless, false_where, labels_so, not_so
 use Rattle.mps_local.proofs.Projected.{fitting}
 
 none_then : {F : Type 0} (a b : Option F) → a ≡ None → b ≡ None → option_or a b ≡ None
-none_then None b e f = f
-none_then (Some fault) b e f = absurd cc
+none_then a b e f = grind arith
 
 -- where neither list of tests tells a fault, both together tell none
 both_told : {F : Type 0} (a b : List (Bool × F)) → first_true a ≡ None → first_true b ≡ None → first_true (a ++ b) ≡ None
 both_told a b e f = first_of_tests a b ∙ none_then (first_true a) (first_true b) e f
 
 variable_fine : {F : Type 0} (unbound unguarded : F) (a b : Bool) → a ≡ true → b ≡ false → first_true ((not a, unbound) ∷ (b, unguarded) ∷ []) ≡ None
-variable_fine unbound unguarded true true e f = absurd cc
-variable_fine unbound unguarded true false e f = refl
-variable_fine unbound unguarded false b e f = absurd cc
+variable_fine unbound unguarded a b e f = grind arith
 
 rec_fine : {F : Type 0} (shadowed : F) (a : Bool) → a ≡ false → first_true ((a, shadowed) ∷ []) ≡ None
-rec_fine shadowed true e = absurd cc
-rec_fine shadowed false e = refl
+rec_fine shadowed a e = grind arith
 
 labels_fine : {F : Type 0} (double many none : F) (a b c : Bool) → (not a && not b && not c) ≡ true → first_true ((a, double) ∷ (b, many) ∷ (c, none) ∷ []) ≡ None
-labels_fine double many none true b c e = absurd cc
-labels_fine double many none false true c e = absurd cc
-labels_fine double many none false false true e = absurd cc
-labels_fine double many none false false false e = refl
+labels_fine double many none a b c e = grind arith
 
 -- below a `rec` its own variable is unguarded, and those that were
 under_rec : (z name : List ℕ) (above : List Step) → is_unguarded z (Loop name ∷ above) ≡ (bytes_eq z name || is_unguarded z above)
 under_rec z name above = ap (list_any (binds z)) (take_while-cons (λ step. not (is_act step)) (Loop name) above)
 
 or_first : (a b : Bool) → a ≡ true → (a || b) ≡ true
-or_first true b h = refl
-or_first false b h = absurd cc
+or_first a b h = grind arith
 
 or_second : (a b : Bool) → b ≡ true → (a || b) ≡ true
-or_second true b h = refl
-or_second false b h = h
+or_second a b h = grind arith
 
 second_of : (a b : Bool) → (a || b) ≡ true → a ≡ false → b ≡ true
-second_of true b h e = absurd cc
-second_of false b h e = h
+second_of a b h e = grind arith
 
 not_true : (a : Bool) → not a ≡ true → a ≡ false
-not_true true e = absurd cc
-not_true false e = refl
+not_true a e = grind arith
 
 mutual
   no_fault : (above : List Step) (bound : List (List ℕ)) (t : LocalType) → ((z : List ℕ) → list_any (bytes_eq z) bound ≡ list_any (binds z) above) → ((z : List ℕ) → is_unguarded z above ≡ true → ends_in z t ≡ false) → is_closed bound t ≡ true → is_guarded t ≡ true → is_unshadowed bound t ≡ true → is_labelled t ≡ true → fault_at (places above t) ≡ None
@@ -81,15 +70,7 @@ mutual
       (rec_fine faults.Shadowed (is_bound name above) (sym (f name) ∙ not_true (list_any (bytes_eq name) bound) us.0))
       (no_fault (Loop name ∷ above) (name ∷ bound) body
       (λ z. ap (λ (b : Bool). bytes_eq z name || b) (f z))
-      (λ z h.
-      ⊎_elim
-      (λ (e : bytes_eq z name ≡ true). subst (λ (k : List ℕ). ends_in k body ≡ false) (sym (name_is z name e)) (not_true (ends_in name body) ds.0))
-      (λ (e : bytes_eq z name ≡ false).
-      let off : bytes_eq name z ≡ false = name_turned name z ∙ e in
-      let h' : is_unguarded z above ≡ true = second_of (bytes_eq z name) (is_unguarded z above) (sym (under_rec z name above) ∙ h) e in
-      let k : cond (bytes_eq name z) false (ends_in z body) ≡ false = g z h' in
-      rw off at k)
-      (cases_Bool (bytes_eq z name)))
+      (grind (arith, name_is, not_true, name_turned, second_of, under_rec, cases_Bool))
       c ds.1 us.1 l)
   no_fault above bound (Send peer sort next) f g c d u l = no_fault (Act ∷ above) bound next f (λ z h. absurd cc) c d u l
   no_fault above bound (Recv peer sort next) f g c d u l = no_fault (Act ∷ above) bound next f (λ z h. absurd cc) c d u l
@@ -116,20 +97,9 @@ mutual
       (no_fault above bound t f (λ z h. absurd (g z h)) cs.0 ds.0 us.0 ls.0)
       (no_faults above bound others f g cs.1 ds.1 us.1 ls.1)
 
-within : (limit n : ℕ) → n ≤ limit → nat_lt limit n ≡ false
-within limit n h = grind (arith, nat_tests)
-
-limits_fine : {F : Type 0} (many deep : F) (a b : Bool) → a ≡ false → b ≡ false → first_true ((a, many) ∷ (b, deep) ∷ []) ≡ None
-limits_fine many deep true b e f = absurd cc
-limits_fine many deep false true e f = absurd cc
-limits_fine many deep false false e f = refl
-
 -- such a type has no fault
 pub faultless_so : (t : LocalType) → is_closed [] t ≡ true → is_guarded t ≡ true → is_unshadowed [] t ≡ true → is_labelled t ≡ true → node_count t ≤ 256 → depth t ≤ 64 → local_fault_of t ≡ None
-faultless_so t c g u l n d =
-    both_told (size_tests t) (tests_at (places [] t))
-    (limits_fine faults.TooManyNodes faults.TooDeep (nat_lt 256 (node_count t)) (nat_lt 64 (depth t)) (within 256 (node_count t) n) (within 64 (depth t) d))
-    (no_fault [] [] t (λ z. refl) (λ z k. absurd cc) c g u l)
+faultless_so t c g u l n d = grind (arith, first_of_tests, nat_tests, no_fault)
 
 -- and projections are such types
 pub faultless : (roles : List (List ℕ)) (role : ℕ) (tree : GlobalType) (t : LocalType) → fault_of roles tree ≡ None → projection roles role tree ≡ Some t → local_fault_of t ≡ None
@@ -146,15 +116,10 @@ faultless roles role tree t h e =
 
 -- where a type's nodes have no fault, it does not come to an unguarded variable before an act
 unended : (z : List ℕ) (above : List Step) (t : LocalType) → is_unguarded z above ≡ true → fault_at (places above t) ≡ None → ends_in z t ≡ false
-unended z above End u h = refl
 unended z above (Var name) u h = by_test (bytes_eq name z) refl
   where
     by_test : (b : Bool) → bytes_eq name z ≡ b → b ≡ false
-    by_test true e =
-        let k : is_unguarded name above ≡ true = subst (λ (x : List ℕ). is_unguarded x above ≡ true) (sym (name_is name z e)) u in
-        let free = (both_pass ((not (is_bound name above), faults.Unbound) ∷ []) ((is_unguarded name above, faults.Unguarded) ∷ []) h).1 in
-        let l = false_where faults.Unguarded (is_unguarded name above) free in
-        absurd cc
+    by_test true e = grind (arith, name_is name z e)
     by_test false e = refl
 unended z above (Rec name body) u h = by_test (bytes_eq name z)
     (unended z (Loop name ∷ above) body (under_rec z name above ∙ or_second (bytes_eq z name) (is_unguarded z above) u) (both_pass (rec_tests name above) (tests_at (places (Loop name ∷ above) body)) h).1)
@@ -162,10 +127,7 @@ unended z above (Rec name body) u h = by_test (bytes_eq name z)
     by_test : (b : Bool) → ends_in z body ≡ false → cond b false (ends_in z body) ≡ false
     by_test true e = refl
     by_test false e = e
-unended z above (Send peer sort next) u h = refl
-unended z above (Recv peer sort next) u h = refl
-unended z above (Select peer branches) u h = refl
-unended z above (Branch peer branches) u h = refl
+unended z above other u h = refl
 
 -- what holds of a type whose nodes have no fault, where these variables are bound
 pub record IsFine (bound : List (List ℕ)) (t : LocalType) : Type 0 where
@@ -186,20 +148,13 @@ choice_labels names h = labels_so faults.DoubleLabel faults.TooManyBranches faul
 mutual
   fine : (above : List Step) (bound : List (List ℕ)) (t : LocalType) → ((z : List ℕ) → list_any (bytes_eq z) bound ≡ list_any (binds z) above) → fault_at (places above t) ≡ None → IsFine bound t
   fine above bound End f h = record { closed = refl; guarded = refl; unshadowed = refl; labelled = refl }
-  fine above bound (Var name) f h =
-      let known = (both_pass ((not (is_bound name above), faults.Unbound) ∷ []) ((is_unguarded name above, faults.Unguarded) ∷ []) h).0 in
-      record { closed = f name ∙ true_unless faults.Unbound (is_bound name above) known; guarded = refl; unshadowed = refl; labelled = refl }
+  fine above bound (Var name) f h = grind (arith, both_pass, true_unless)
   fine above bound (Rec name body) f h =
       let below = Loop name ∷ above in
       let b = both_pass (rec_tests name above) (tests_at (places below body)) h in
       let k = fine below (name ∷ bound) body (λ z. ap (λ (c : Bool). bytes_eq z name || c) (f z)) b.1 in
       let own : is_unguarded name below ≡ true = under_rec name name above ∙ or_first (bytes_eq name name) (is_unguarded name above) (name_same name) in
-      record {
-        closed = k.closed;
-        guarded = not_so (ends_in name body) (is_guarded body) (unended name below body own b.1) k.guarded;
-        unshadowed = not_so (list_any (bytes_eq name) bound) (is_unshadowed (name ∷ bound) body) (f name ∙ false_where faults.Shadowed (is_bound name above) b.0) k.unshadowed;
-        labelled = k.labelled;
-      }
+      grind (arith, not_so (ends_in name body) (is_guarded body) (unended name below body own b.1) k.guarded)
   fine above bound (Send peer sort next) f h =
       let k = fine (Act ∷ above) bound next f h in
       record { closed = k.closed; guarded = k.guarded; unshadowed = k.unshadowed; labelled = k.labelled }
@@ -224,15 +179,7 @@ mutual
       let b = both_none (fault_at (places above t)) (fault_at (branch_places above others)) (cc (split, h)) in
       let k = fine above bound t f b.0 in
       let l = all_fine above bound others f b.1 in
-      record {
-        closed = and_from (is_closed bound t) (are_closed bound others) k.closed l.closed;
-        guarded = and_from (is_guarded t) (are_guarded others) k.guarded l.guarded;
-        unshadowed = and_from (is_unshadowed bound t) (are_unshadowed bound others) k.unshadowed l.unshadowed;
-        labelled = and_from (is_labelled t) (are_labelled others) k.labelled l.labelled;
-      }
-
-no_more_than : (limit n : ℕ) → nat_lt limit n ≡ false → n ≤ limit
-no_more_than limit n h = grind (arith, nat_tests)
+      grind (arith, and_from)
 
 -- a type without a fault is fine
 pub fine_so : (t : LocalType) → local_fault_of t ≡ None → IsFine [] t
@@ -240,6 +187,4 @@ fine_so t h = fine [] [] t (λ z. refl) (both_pass (size_tests t) (tests_at (pla
 
 -- and within the limits
 pub limits_so : (t : LocalType) → local_fault_of t ≡ None → (node_count t ≤ 256) × (depth t ≤ 64)
-limits_so t h =
-    let b = both_pass ((nat_lt 256 (node_count t), faults.TooManyNodes) ∷ []) ((nat_lt 64 (depth t), faults.TooDeep) ∷ []) (both_pass (size_tests t) (tests_at (places [] t)) h).0 in
-    (no_more_than 256 (node_count t) (false_where faults.TooManyNodes (nat_lt 256 (node_count t)) b.0), no_more_than 64 (depth t) (false_where faults.TooDeep (nat_lt 64 (depth t)) b.1))
+limits_so t h = grind (arith, both_pass, nat_tests, false_where)

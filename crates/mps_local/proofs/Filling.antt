@@ -1,5 +1,5 @@
 -- Types in the places of variables.
-use Rattle.std.proofs.Common.{◌≡◌, ℕ, ◌+◌, ⊎_elim, Bool, true, false, List, ◌∷◌, cond, refl, sym, ap, ◌∙◌, subst, add-one}
+use Rattle.std.proofs.Common.{arith, ◌≡◌, ℕ, ◌+◌, ⊎_elim, Bool, true, false, List, ◌∷◌, cond, refl, sym, ap, ◌∙◌, subst, add-one}
 use Rattle.std.specs.Prelude.{◌||◌, ◌&&◌, if◌then◌else◌}
 use Rattle.std.specs.List.{list_any}
 use Rattle.std.specs.Str.{bytes_eq}
@@ -7,7 +7,7 @@ use Rattle.std.proofs.lemmas.Bool.{cases_Bool}
 use mathlib.Core.Path.{fun_ext}
 use Rattle.mps_local.specs.Local.{LocalType, Branches, End, Var, Rec, Send, Recv, Select, Branch, NoMore, More}
 use Rattle.mps_local.specs.Loops.{ends_in, is_closed, are_closed}
-use Rattle.mps_local.specs.Unfolding.{replaced, replaced_in, leading, opened_times, unfolded}
+use Rattle.mps_local.specs.Unfolding.{replaced, replaced_in, leading, unfolded}
 use Rattle.mps_local.proofs.Equal.{name_same, name_is, name_turned}
 
 -- a type for each name
@@ -33,12 +33,10 @@ abbrev mutual
   filled_in env (More label u others) = More label (filled env u) (filled_in env others)
 
 put_same : (b : Bool) (t r s : LocalType) → (b ≡ false → r ≡ s) → cond b t r ≡ cond b t s
-put_same true t r s f = refl
-put_same false t r s f = f refl
+put_same b t r s f = grind arith
 
 put_replaced : (b : Bool) (x : List ℕ) (t v r s : LocalType) → replaced x t v ≡ v → replaced x t r ≡ s → replaced x t (cond b v r) ≡ cond b v s
-put_replaced true x t v r s e f = e
-put_replaced false x t v r s e f = f
+put_replaced b x t v r s e f = grind arith
 
 mutual
   pub replaced_filled : (x : List ℕ) (t : LocalType) (env out : Env) → ((z : List ℕ) → replaced x t (env z) ≡ out z) → ((z : List ℕ) → bytes_eq z x ≡ false → env z ≡ out z) → (u : LocalType) → replaced x t (filled env u) ≡ filled out u
@@ -46,10 +44,7 @@ mutual
   replaced_filled x t env out f g (Var y) = f y
   replaced_filled x t env out f g (Rec y u) =
       ⊎_elim
-      (λ (e : bytes_eq y x ≡ true).
-      let same : put y (Var y) env ≡ put y (Var y) out =
-      fun_ext (λ z. put_same (bytes_eq z y) (Var y) (env z) (out z) (λ h. g z (subst (λ (k : List ℕ). bytes_eq z k ≡ false) (name_is y x e) h))) in
-      rw e (ap (λ (k : Env). Rec y (filled k u)) same))
+      (grind (arith, fun_ext, put_same, name_is))
       (λ (e : bytes_eq y x ≡ false).
       rw e (ap (λ (k : LocalType). Rec y k) (replaced_filled x t (put y (Var y) env) (put y (Var y) out)
       (λ z. put_replaced (bytes_eq z y) x t (Var y) (env z) (out z) (rw e refl) (f z))
@@ -78,88 +73,58 @@ pub whole_filled : (env : Env) → AreWhole env → (u : LocalType) → IsWhole 
 whole_filled env w u x s = replaced_filled x s env env (λ z. w z x s) (λ z e. refl) u
 
 pub put_cases : (b : Bool) (F : LocalType → Type 0) (t s : LocalType) → (b ≡ true → F t) → (b ≡ false → F s) → F (cond b t s)
-put_cases true F t s f g = f refl
-put_cases false F t s f g = g refl
+put_cases b F t s f g = grind arith
 
 pub whole_put : (x : List ℕ) (t : LocalType) (env : Env) → IsWhole t → AreWhole env → AreWhole (put x t env)
 whole_put x t env w ws z = put_cases (bytes_eq z x) IsWhole t (env z) (λ e. w) (λ e. ws z)
 
 pub opened_filled : (x : List ℕ) (t : LocalType) (env : Env) → AreWhole env → (u : LocalType) → replaced x t (filled (put x (Var x) env) u) ≡ filled (put x t env) u
-opened_filled x t env w u =
-    replaced_filled x t (put x (Var x) env) (put x t env)
-    (λ z. here (bytes_eq z x) z)
-    (λ z e. rw e refl)
-    u
-  where
-    here : (b : Bool) (z : List ℕ) → replaced x t (cond b (Var x) (env z)) ≡ cond b t (env z)
-    here true z = rw (name_same x) refl
-    here false z = w z x t
+opened_filled x t env w u = grind (arith, replaced_filled, name_same)
 
 leading_replaced : (x : List ℕ) (t v : LocalType) → ends_in x v ≡ false → leading (replaced x t v) ≡ leading v
-leading_replaced x t End e = refl
-leading_replaced x t (Var y) e = rw e refl
 leading_replaced x t (Rec y u) e =
     ⊎_elim (λ (f : bytes_eq y x ≡ true). rw f refl)
     (λ (f : bytes_eq y x ≡ false).
     let k : ends_in x u ≡ false = rw f at e in
     rw f (ap (λ (n : ℕ). n + 1) (leading_replaced x t u k)))
     (cases_Bool (bytes_eq y x))
-leading_replaced x t (Send peer sort u) e = refl
-leading_replaced x t (Recv peer sort u) e = refl
-leading_replaced x t (Select peer branches) e = refl
-leading_replaced x t (Branch peer branches) e = refl
+leading_replaced x t other e = grind arith
 
 -- a guarded recursive type unfolds as what it opens to
 pub unfolded_rec : (x : List ℕ) (v : LocalType) → ends_in x v ≡ false → unfolded (Rec x v) ≡ unfolded (replaced x (Rec x v) v)
 unfolding unfolded
-unfolded_rec x v e =
-    ap (λ (n : ℕ). opened_times n (Rec x v)) (add-one (leading v))
-    ∙ ap (λ (n : ℕ). opened_times n (replaced x (Rec x v) v)) (sym (leading_replaced x (Rec x v) v e))
+unfolded_rec x v e = grind (arith, add-one, leading_replaced)
 
 ends_replaced : (x : List ℕ) (t : LocalType) → ends_in x (replaced x End t) ≡ false
-ends_replaced x End = refl
-ends_replaced x (Var y) =
-    ⊎_elim (λ (f : bytes_eq y x ≡ true). rw f refl) (λ (f : bytes_eq y x ≡ false). rw f f) (cases_Bool (bytes_eq y x))
+ends_replaced x (Var y) = grind (arith, cases_Bool)
 ends_replaced x (Rec y u) =
     ⊎_elim (λ (f : bytes_eq y x ≡ true). rw f (rw f refl))
     (λ (f : bytes_eq y x ≡ false). rw f (rw f (ends_replaced x u)))
     (cases_Bool (bytes_eq y x))
-ends_replaced x (Send peer sort u) = refl
-ends_replaced x (Recv peer sort u) = refl
-ends_replaced x (Select peer branches) = refl
-ends_replaced x (Branch peer branches) = refl
+ends_replaced x other = refl
 
 pub ends_whole : (x : List ℕ) (t : LocalType) → IsWhole t → ends_in x t ≡ false
 ends_whole x t w = subst (λ (k : LocalType). ends_in x k ≡ false) (w x End) (ends_replaced x t)
 
 pub ends_filled : (x : List ℕ) (env : Env) (u : LocalType) → ((z : List ℕ) → ends_in z u ≡ true → ends_in x (env z) ≡ false) → ends_in x (filled env u) ≡ false
-ends_filled x env End f = refl
-ends_filled x env (Var y) f = f y (name_same y)
 ends_filled x env (Rec y u) f =
     ⊎_elim (λ (e : bytes_eq y x ≡ true). rw e refl)
     (λ (e : bytes_eq y x ≡ false).
     rw e (ends_filled x (put y (Var y) env) u
-    (λ z h. put_cases (bytes_eq z y) (λ k. ends_in x k ≡ false) (Var y) (env z) (λ k. e)
-    (λ k. f z (let l : bytes_eq y z ≡ false = name_turned y z ∙ k in rw l h)))))
+    (grind (arith, put_cases, name_turned))))
     (cases_Bool (bytes_eq y x))
-ends_filled x env (Send peer sort u) f = refl
-ends_filled x env (Recv peer sort u) f = refl
-ends_filled x env (Select peer branches) f = refl
-ends_filled x env (Branch peer branches) f = refl
+ends_filled x env other f = grind (arith, name_same)
 
 -- a loop's body, with the loop in the place of its variable, is what the loop unfolds as
 pub loop_unfolds : (name : List ℕ) (b : LocalType) (env : Env) → AreWhole env → ends_in name b ≡ false → unfolded (filled env (Rec name b)) ≡ unfolded (filled (put name (filled env (Rec name b)) env) b)
 loop_unfolds name b env w guard =
     unfolded_rec name (filled (put name (Var name) env) b)
     (ends_filled name (put name (Var name) env) b (λ z h.
-    put_cases (bytes_eq z name) (λ k. ends_in name k ≡ false) (Var name) (env z)
-    (λ e. absurd (let bad : ends_in name b ≡ true = subst (λ (k : List ℕ). ends_in k b ≡ true) (name_is z name e) h in cc))
-    (λ e. ends_whole name (env z) (w z))))
+    grind (arith, put_cases, name_is, ends_whole)))
     ∙ ap unfolded (opened_filled name (filled env (Rec name b)) env w b)
 
 both_true : (a b : Bool) → (a && b) ≡ true → (a ≡ true) × (b ≡ true)
-both_true true b e = (refl, e)
-both_true false b e = absurd cc
+both_true a b e = grind arith
 
 mutual
   -- a type whose variables stand for themselves stays

@@ -21,9 +21,7 @@ all_at R (y ∷ xs) (suc k) x a e = all_at R xs k x a.1 e
 
 pub lead : (b : Branches) (place : ℕ) (label : List ℕ) → AreDistinct (labels b) → slice_get (labels b) place ≡ Some label → branch_at label b ≡ slice_get (nexts b) place
 lead NoMore place label d e = refl
-lead (More l t others) zero label d e =
-    let same : bytes_eq l label ≡ true = subst (λ (x : List ℕ). bytes_eq l x ≡ true) (let k : l ≡ label = cc in k) (name_same l) in
-    rw same refl
+lead (More l t others) zero label d e = cc (name_same l)
 lead (More l t others) (suc place) label d e =
     let other : label ≢ l = all_at (λ x. x ≢ l) (labels others) place label d.0 e in
     ⊎_elim (λ (h : bytes_eq l label ≡ true). absurd (other (sym (name_is l label h))))

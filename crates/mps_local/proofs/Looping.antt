@@ -1,5 +1,5 @@
 -- The loops and the labels of the projections of a protocol without faults.
-use Rattle.std.proofs.Common.{◌≡◌, ℕ, Bool, true, false, List, [], ◌∷◌, length, cond, Some, None, refl, sym, ap, ◌∙◌, subst}
+use Rattle.std.proofs.Common.{arith, ◌≡◌, ℕ, Bool, true, false, List, [], ◌∷◌, length, cond, Some, None, refl, sym, ap, ◌∙◌, subst}
 use Rattle.std.specs.Prelude.{◌&&◌, ◌++◌, ◌==◌, nat_lt, not}
 use Rattle.std.specs.List.{list_any}
 use Rattle.std.specs.Str.{bytes_eq}
@@ -7,7 +7,7 @@ use Rattle.std.proofs.lemmas.Bool.{and_parts, and_from}
 use Rattle.mps_base.specs.declared.value.Sort.{Sort}
 use Rattle.mps_global.specs.Global as global
 use Rattle.mps_global.specs.Global.{GlobalType}
-use Rattle.mps_global.specs.Path.{Step, Loop, Act, binds, is_bound, is_unguarded}
+use Rattle.mps_global.specs.Path.{Step, Loop, Act, binds, is_bound}
 use Rattle.mps_global.specs.Faults.{labels as tree_labels, has_double, places, branch_places, first_true, pair_tests, label_tests, rec_tests, tests_at, first_fault}
 use Rattle.mps_global.specs.declared.faults.GlobalFault.TheVariants as faults
 use Rattle.mps_global.proofs.Walks.{first_of_both}
@@ -21,26 +21,20 @@ use Rattle.mps_local.proofs.Unmerged.{map_some, and_then_some}
 
 -- a test that tells no fault is false, and where its opposite tells none it is true
 pub false_where : {F : Type 0} (fault : F) (a : Bool) → first_true ((a, fault) ∷ []) ≡ None → a ≡ false
-false_where fault true h = cc
-false_where fault false h = refl
+false_where fault a h = grind arith
 
 pub true_unless : {F : Type 0} (fault : F) (a : Bool) → first_true ((not a, fault) ∷ []) ≡ None → a ≡ true
-true_unless fault true h = refl
-true_unless fault false h = cc
+true_unless fault a h = grind arith
 
 -- labels without a fault are distinct, and 1 to 16
 pub labels_so : {F : Type 0} (double many none : F) (a b c : Bool) → first_true ((a, double) ∷ (b, many) ∷ (c, none) ∷ []) ≡ None → (not a && not b && not c) ≡ true
-labels_so double many none true b c h = cc
-labels_so double many none false true c h = cc
-labels_so double many none false false true h = cc
-labels_so double many none false false false h = refl
+labels_so double many none a b c h = grind arith
 
 mutual
   -- a tree without faults is closed in the variables of the `rec`s around it
   pub sound_closed : (roles : List (List ℕ)) (above : List Step) (bound : List (List ℕ)) → ((z : List ℕ) → list_any (binds z) above ≡ true → list_any (bytes_eq z) bound ≡ true) → (tree : GlobalType) → first_fault roles (places above tree) ≡ None → tree_closed bound tree ≡ true
   sound_closed roles above bound f global.End h = refl
-  sound_closed roles above bound f (global.Var name) h =
-      f name (true_unless faults.Unbound (is_bound name above) (both_pass ((not (is_bound name above), faults.Unbound) ∷ []) ((is_unguarded name above, faults.Unguarded) ∷ []) h).0)
+  sound_closed roles above bound f (global.Var name) h = grind (arith, true_unless, both_pass)
   sound_closed roles above bound f (global.Rec name body) h =
       let b = both_pass (rec_tests name above) (tests_at roles (places (Loop name ∷ above) body)) h in
       sound_closed roles (Loop name ∷ above) (name ∷ bound) (λ z k. or_more (bytes_eq z name) (list_any (binds z) above) (list_any (bytes_eq z) bound) (f z) k) body b.1
@@ -60,19 +54,13 @@ mutual
 
 -- what holds of the parts of a projection holds of it
 message_keeps : (F : LocalType → Bool) (a b : Bool) (from to : ℕ) (sort : Sort) (u : LocalType) → F (Send to sort u) ≡ F u → F (Recv from sort u) ≡ F u → F u ≡ true → F (cond a (Send to sort u) (cond b (Recv from sort u) u)) ≡ true
-message_keeps F true b from to sort u e f h = e ∙ h
-message_keeps F false true from to sort u e f h = f ∙ h
-message_keeps F false false from to sort u e f h = h
+message_keeps F a b from to sort u e f h = grind arith
 
 choice_keeps : (F : LocalType → Bool) (G : Branches → Bool) (a b : Bool) (from to : ℕ) (ts : Branches) (t : LocalType) → F (Select to ts) ≡ G ts → F (Branch from ts) ≡ G ts → ((l : List ℕ) (u : LocalType) (us : Branches) → G (More l u us) ≡ true → F u ≡ true) → G ts ≡ true → cond a (Some (Select to ts)) (cond b (Some (Branch from ts)) (merged ts)) ≡ Some t → F t ≡ true
 choice_keeps F G true b from to ts t e f g h k = let l : Select to ts ≡ t = cc in subst (λ (z : LocalType). F z ≡ true) l (e ∙ h)
 choice_keeps F G false true from to ts t e f g h k = let l : Branch from ts ≡ t = cc in subst (λ (z : LocalType). F z ≡ true) l (f ∙ h)
 choice_keeps F G false false from to NoMore t e f g h k = absurd cc
-choice_keeps F G false false from to (More l u us) t e f g h k = by_test _ k
-  where
-    by_test : (c : Bool) → cond c (Some u) None ≡ Some t → F t ≡ true
-    by_test true m = let same : u ≡ t = cc in subst (λ (z : LocalType). F z ≡ true) same (g l u us h)
-    by_test false m = absurd cc
+choice_keeps F G false false from to (More l u us) t e f g h k = grind arith
 
 mutual
   -- a projection has no more free variables than the tree
@@ -101,8 +89,7 @@ mutual
       subst (λ (z : Branches). are_closed bound z ≡ true) (sym k.4) (and_from (is_closed bound k.0) (are_closed bound k.1) (projection_closed roles role bound next k.0 m.0 k.2) (projections_closed roles role bound others k.1 m.1 k.3))
 
 pub not_so : (a b : Bool) → a ≡ false → b ≡ true → (not a && b) ≡ true
-not_so true b e f = absurd cc
-not_so false b e f = f
+not_so a b e f = grind arith
 
 mutual
   -- a projection is guarded, whatever the tree
@@ -130,8 +117,7 @@ mutual
       subst (λ (z : Branches). are_guarded z ≡ true) (sym k.4) (and_from (is_guarded k.0) (are_guarded k.1) (projection_guarded roles role next k.0 k.2) (projections_guarded roles role others k.1 k.3))
 
 not_among : (a b : Bool) → (a ≡ true → b ≡ true) → b ≡ false → a ≡ false
-not_among true b f e = absurd (let k = f refl in cc)
-not_among false b f e = refl
+not_among a b f e = grind arith
 
 mutual
   -- where no `rec` of the tree has the variable of one around it, none of the projection has

@@ -1,5 +1,5 @@
 -- Which branches merge.
-use Rattle.std.proofs.Common.{◌≡◌, ◌≢◌, Bool, true, false, cond, List, [], Some, None, refl, sym, ap, subst}
+use Rattle.std.proofs.Common.{arith, ◌≡◌, ◌≢◌, true, List, [], Some, refl}
 use Rattle.std.specs.List.{AllByRecursion}
 use Rattle.std.proofs.lemmas.Bool.{and_parts, and_from}
 use Rattle.mps_local.specs.Local.{LocalType, Branches, NoMore, More}
@@ -22,18 +22,7 @@ go_on t NoMore h = refl
 go_on t (More label u others) h = and_from (same u t) (go_on_with t others) (same_of_equal u t h.0) (go_on t others h.1)
 
 pub merged_are : (b : Branches) (t : LocalType) → merged b ≡ Some t → (nexts b ≢ []) × AllAre t (nexts b)
-merged_are NoMore t e = absurd cc
-merged_are (More label u others) t e = by_test (go_on_with u others) refl e
-  where
-    by_test : (c : Bool) → go_on_with u others ≡ c → cond c (Some u) None ≡ Some t → (nexts (More label u others) ≢ []) × AllAre t (nexts (More label u others))
-    by_test true f g =
-        let k : u ≡ t = cc in
-        ((λ h. absurd cc), (k, subst (λ (x : LocalType). AllAre x (nexts others)) k (all_are u others f)))
-    by_test false f g = absurd cc
+merged_are b t e = grind (arith, all_are)
 
 pub are_merged : (b : Branches) (t : LocalType) → (nexts b ≢ []) × AllAre t (nexts b) → merged b ≡ Some t
-are_merged NoMore t h = absurd (h.0 refl)
-are_merged (More label u others) t h =
-    let k : u ≡ t = h.1.0 in
-    let g : go_on_with u others ≡ true = subst (λ (x : LocalType). go_on_with x others ≡ true) (sym k) (go_on t others h.1.1) in
-    rw g (ap Some k)
+are_merged b t h = grind (arith, go_on)

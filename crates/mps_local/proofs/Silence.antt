@@ -1,6 +1,6 @@
 -- Where a role takes no part, and what its projections are like.
-use Rattle.std.proofs.Common.{◌≡◌, ℕ, ⊎_elim, Bool, true, false, List, [], ◌∷◌, cond, Some, refl, sym, ap, ◌∙◌, subst}
-use Rattle.std.specs.Prelude.{◌||◌, ◌&&◌, ◌==◌, not, option_and_then}
+use Rattle.std.proofs.Common.{arith, ◌≡◌, ℕ, Bool, true, false, List, [], ◌∷◌, cond, Some, refl, sym, ap, ◌∙◌, subst}
+use Rattle.std.specs.Prelude.{◌||◌, ◌==◌}
 use Rattle.std.specs.List.{list_any}
 use Rattle.std.specs.Option.{option_map}
 use Rattle.std.specs.Str.{bytes_eq}
@@ -28,15 +28,11 @@ rec_parts roles role name body t e = by_test (is_idle roles role name body) refl
     by_test false f g = let k = map_some (Rec name) (projection roles role body) t g in busy f k.0 k.1 (sym k.2)
 
 pub more_parts : (roles : List (List ℕ)) (role : ℕ) (label : List ℕ) (next : GlobalType) (others : global.Branches) (ts : Branches) → projections roles role (global.More label next others) ≡ Some ts → (u : LocalType) × (us : Branches) × (projection roles role next ≡ Some u) × (projections roles role others ≡ Some us) × (ts ≡ More label u us)
-more_parts roles role label next others ts e =
-    let k = and_then_some (λ t. option_and_then (λ ts. Some (More label t ts)) (projections roles role others)) (projection roles role next) ts e in
-    let l = and_then_some (λ ts. Some (More label k.0 ts)) (projections roles role others) ts k.2 in
-    (k.0, l.0, k.1, l.1, let m : ts ≡ More label k.0 l.0 = cc in m)
+more_parts roles role label next others ts e = grind (arith, and_then_some)
 
 -- more variables are bound
 pub or_more : (a b c : Bool) → (b ≡ true → c ≡ true) → (a || b) ≡ true → (a || c) ≡ true
-or_more true b c f e = refl
-or_more false b c f e = f e
+or_more a b c f e = grind arith
 
 mutual
   pub closed_in_more : (some more : List (List ℕ)) → ((z : List ℕ) → list_any (bytes_eq z) some ≡ true → list_any (bytes_eq z) more ≡ true) → (tree : GlobalType) → is_closed some tree ≡ true → is_closed more tree ≡ true
@@ -63,46 +59,28 @@ record AreSilent (roles : List (List ℕ)) (role : ℕ) (x : List ℕ) (branches
   closed : are_closed (x ∷ []) branches ≡ true
 
 or_both : (a b : Bool) → a ≡ false → b ≡ false → (a || b) ≡ false
-or_both true b e f = absurd cc
-or_both false b e f = f
+or_both a b e f = grind arith
 
 ends_in_rec : (x y : List ℕ) (u : LocalType) → ends_in x (Rec y u) ≡ true → ends_in x u ≡ true
-ends_in_rec x y u e = by_test (bytes_eq y x) e
-  where
-    by_test : (b : Bool) → cond b false (ends_in x u) ≡ true → ends_in x u ≡ true
-    by_test true f = absurd cc
-    by_test false f = f
+ends_in_rec x y u e = grind arith
 
 message_silent : (a b : Bool) (x : List ℕ) (from to : ℕ) (sort : Sort) (u : LocalType) → ends_in x (cond a (Send to sort u) (cond b (Recv from sort u) u)) ≡ true → (a ≡ false) × (b ≡ false) × (ends_in x u ≡ true)
-message_silent true b x from to sort u h = absurd cc
-message_silent false true x from to sort u h = absurd cc
-message_silent false false x from to sort u h = (refl, refl, h)
+message_silent a b x from to sort u h = grind arith
 
 choice_silent : (a b : Bool) (x : List ℕ) (from to : ℕ) (ts : Branches) (t : LocalType) → cond a (Some (Select to ts)) (cond b (Some (Branch from ts)) (merged ts)) ≡ Some t → ends_in x t ≡ true → (a ≡ false) × (b ≡ false) × (merged ts ≡ Some t)
-choice_silent true b x from to ts t e h = absurd (let k : Select to ts ≡ t = cc in let l = ap (ends_in x) k ∙ h in cc)
-choice_silent false true x from to ts t e h = absurd (let k : Branch from ts ≡ t = cc in let l = ap (ends_in x) k ∙ h in cc)
-choice_silent false false x from to ts t e h = (refl, refl, e)
+choice_silent a b x from to ts t e h = grind arith
 
 mutual
   -- where a role's projection comes to a variable before any action
   pub silent_end : (roles : List (List ℕ)) (role : ℕ) (x : List ℕ) (tree : GlobalType) (t : LocalType) → projection roles role tree ≡ Some t → ends_in x t ≡ true → IsSilent roles role x tree
   silent_end roles role x global.End t e h = absurd (let k : End ≡ t = cc in let l = ap (ends_in x) k ∙ h in cc)
-  silent_end roles role x (global.Var name) t e h =
-      let k : Var name ≡ t = cc in
-      let l : bytes_eq name x ≡ true = ap (ends_in x) k ∙ h in
-      record { absent = refl; closed = rw l refl }
+  silent_end roles role x (global.Var name) t e h = grind arith
   silent_end roles role x (global.Rec name body) t e h = by_parts (rec_parts roles role name body t e)
       (λ u f g. silent_end roles role x body u f g)
     where
       by_parts : RecParts roles role name body t → ((u : LocalType) → projection roles role body ≡ Some u → ends_in x u ≡ true → IsSilent roles role x body) → IsSilent roles role x (global.Rec name body)
       by_parts (idle f g) again = absurd (let k = ap (ends_in x) (sym g) ∙ h in cc)
-      by_parts (busy f u g k) again =
-          let s = again u g (ends_in_rec x name u (ap (ends_in x) (sym k) ∙ h)) in
-          record { absent = s.absent; closed = closed_in_more (x ∷ []) (name ∷ x ∷ []) (λ z l. wider (bytes_eq z name) (list_any (bytes_eq z) (x ∷ [])) l) body s.closed }
-        where
-          wider : (a b : Bool) → b ≡ true → (a || b) ≡ true
-          wider true b l = refl
-          wider false b l = l
+      by_parts (busy f u g k) again = grind (arith, ends_in_rec, closed_in_more)
   silent_end roles role x (global.Message sender receiver sort next) t e h =
       let from = place_of roles sender in let to = place_of roles receiver in
       let k = map_some (with_message role from to sort) (projection roles role next) t e in
@@ -127,14 +105,4 @@ mutual
 
 -- a loop that is not idle does not come to its variable before an action
 pub busy_guarded : (roles : List (List ℕ)) (role : ℕ) (name : List ℕ) (body : GlobalType) (u : LocalType) → is_idle roles role name body ≡ false → projection roles role body ≡ Some u → ends_in name u ≡ false
-busy_guarded roles role name body u f e =
-    ⊎_elim
-    (λ (h : ends_in name u ≡ true).
-    let s = silent_end roles role name body u e h in
-    absurd (let k = idle_from (occurs roles role body) (is_closed (name ∷ []) body) s.absent s.closed in cc))
-    (λ (h : ends_in name u ≡ false). h)
-    (cases_Bool (ends_in name u))
-  where
-    idle_from : (a b : Bool) → a ≡ false → b ≡ true → (not a && b) ≡ true
-    idle_from true b h k = absurd cc
-    idle_from false b h k = k
+busy_guarded roles role name body u f e = grind (arith, silent_end, cases_Bool)

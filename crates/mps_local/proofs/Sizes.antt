@@ -10,22 +10,12 @@ use Rattle.mps_local.specs.Shape.{node_count, branch_nodes, depth, branch_depth}
 -- a type has a node
 pub some_node : (t : LocalType) → 0 < node_count t
 some_node End = omega arith
-some_node (Var name) = omega arith
-some_node (Rec name body) = omega arith
-some_node (Send peer sort next) = omega arith
-some_node (Recv peer sort next) = omega arith
-some_node (Select peer branches) = omega arith
-some_node (Branch peer branches) = omega arith
+some_node other = omega arith
 
 -- a path from the root has a node
 pub some_depth : (t : LocalType) → 0 < depth t
 some_depth End = omega arith
-some_depth (Var name) = omega arith
-some_depth (Rec name body) = omega arith
-some_depth (Send peer sort next) = omega arith
-some_depth (Recv peer sort next) = omega arith
-some_depth (Select peer branches) = omega arith
-some_depth (Branch peer branches) = omega arith
+some_depth other = omega arith
 
 mutual
   -- the list is as long as the type has nodes

@@ -1,15 +1,14 @@
 -- Which faults the tests of a type tell.
-use Rattle.std.proofs.Common.{◌≢◌, Bool, true, false, cond, List, [], ◌∷◌, ◌++◌, Option, Some}
+use Rattle.std.proofs.Common.{arith, ◌≢◌, Bool, cond, List, [], ◌∷◌, ◌++◌, Option, Some}
 use Rattle.std.specs.List.{AllByRecursion}
 use Rattle.mps_global.specs.Faults.{first_true}
 use Rattle.mps_global.specs.Path.{Step, Place}
-use Rattle.mps_local.specs.Local.{LocalType, End, Var, Rec, Send, Recv, Select, Branch}
+use Rattle.mps_local.specs.Local.{LocalType}
 use Rattle.mps_local.specs.LocalFaults.{places, size_tests, node_tests, tests_at, local_fault_of}
 use Rattle.mps_local.specs.declared.faults.LocalFault.TheVariants as faults
 
 one_more : {F : Type 0} (fault : F) (wrong : Bool) (told : F) (later : Option F) → told ≢ fault → later ≢ Some fault → cond wrong (Some told) later ≢ Some fault
-one_more fault true told later p q h = p (cc h)
-one_more fault false told later p q h = q h
+one_more fault wrong told later p q = grind arith
 
 -- where no test tells a fault, neither does the first that is true
 never_first : {F : Type 0} (fault : F) (tests : List (Bool × F)) → AllByRecursion (λ test. test.1 ≢ fault) tests → first_true tests ≢ Some fault
@@ -23,13 +22,7 @@ all_of_both P (t ∷ ts) b p q = (p.0, all_of_both P ts b p.1 q)
 
 -- no test of a node tells out of memory
 at_node : (above : List Step) (t : LocalType) → AllByRecursion (λ test. test.1 ≢ faults.Memory) (node_tests above t)
-at_node above End = tt
-at_node above (Var name) = (λ h. cc, (λ h. cc, tt))
-at_node above (Rec name body) = (λ h. cc, tt)
-at_node above (Send peer sort next) = tt
-at_node above (Recv peer sort next) = tt
-at_node above (Select peer branches) = (λ h. cc, (λ h. cc, (λ h. cc, tt)))
-at_node above (Branch peer branches) = (λ h. cc, (λ h. cc, (λ h. cc, tt)))
+at_node above t = grind arith
 
 at_nodes : (ps : List (Place LocalType)) → AllByRecursion (λ test. test.1 ≢ faults.Memory) (tests_at ps)
 at_nodes [] = tt

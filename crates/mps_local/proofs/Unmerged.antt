@@ -1,5 +1,5 @@
 -- Where there is no projection, a choice is the first that has none.
-use Rattle.std.proofs.Common.{◌≡◌, ℕ, suc, ◌+◌, Bool, true, false, cond, List, [], ◌∷◌, ◌++◌, Option, Some, None, refl, ap, ◌∙◌}
+use Rattle.std.proofs.Common.{arith, ◌≡◌, ℕ, suc, ◌+◌, Bool, true, false, cond, List, [], ◌∷◌, ◌++◌, Option, Some, None, refl, ap, ◌∙◌}
 use Rattle.std.specs.Prelude.{IsSome, option_and_then}
 use Rattle.std.specs.Option.{option_map}
 use Rattle.mps_global.specs.Global as global
@@ -9,16 +9,13 @@ use Rattle.mps_local.specs.Projection.{place_of, is_idle, with_message, with_cho
 use Rattle.mps_local.proofs.Examined.{none_first}
 
 pub map_some : {A B : Type 0} (f : A → B) (o : Option A) (y : B) → option_map f o ≡ Some y → (x : A) × (o ≡ Some x) × (f x ≡ y)
-map_some f None y e = absurd cc
-map_some f (Some x) y e = (x, refl, cc)
+map_some f o y e = grind arith
 
 map_none : {A B : Type 0} (f : A → B) (o : Option A) → option_map f o ≡ None → o ≡ None
-map_none f None e = refl
-map_none f (Some x) e = absurd cc
+map_none f o e = grind arith
 
 pub and_then_some : {A B : Type 0} (f : A → Option B) (o : Option A) (y : B) → option_and_then f o ≡ Some y → (x : A) × (o ≡ Some x) × (f x ≡ Some y)
-and_then_some f None y e = absurd cc
-and_then_some f (Some x) y e = (x, refl, e)
+and_then_some f o y e = grind arith
 
 -- the last of the list has none
 last_named : (roles : List (List ℕ)) (role : ℕ) (cs : List Numbered) (c : Numbered) → projection roles role c.choice ≡ None → IsSome (first_unmerged roles role (cs ++ c ∷ []))
@@ -31,18 +28,10 @@ last_named roles role (d ∷ cs) c e = by_test (is_undefined (projection roles r
 
 -- where there is no projection, a choice is named
 pub named : (roles : List (List ℕ)) (role number : ℕ) (tree : GlobalType) → projection roles role tree ≡ None → IsSome (first_unmerged roles role (examined roles role number tree))
-named roles role number global.End e = absurd cc
-named roles role number (global.Var name) e = absurd cc
-named roles role number (global.Rec name body) e =
-    by_test (is_idle roles role name body) e (named roles role number body)
-  where
-    by_test : (b : Bool) → cond b (Some End) (option_map (Rec name) (projection roles role body)) ≡ None → (projection roles role body ≡ None → IsSome (first_unmerged roles role (examined roles role number body))) → IsSome (first_unmerged roles role (cond b [] (examined roles role number body)))
-    by_test true h again = absurd cc
-    by_test false h again = again (map_none (Rec name) (projection roles role body) h)
+named roles role number (global.Rec name body) e = grind (arith, named roles role number body)
 named roles role number (global.Message sender receiver sort next) e =
     named roles role number next (map_none (with_message role (place_of roles sender) (place_of roles receiver) sort) (projection roles role next) e)
-named roles role number (global.Choice sender receiver branches) e =
-    last_named roles role (examined_in roles role (suc number) branches) (record { number = number; choice = global.Choice sender receiver branches }) e
+named roles role number others e = grind (arith, last_named)
 
 mutual
   -- where there is one, none is

@@ -6,7 +6,7 @@ use Rattle.std.proofs.lemmas.List.{append-nil}
 use Rattle.mps_base.specs.Sorts.{sort_word}
 use Rattle.mps_base.specs.Spaced.{spaced, with_tokens}
 use Rattle.mps_base.proofs.Spaced.{written_all}
-use Rattle.mps_local.specs.Local.{LocalType, Branches, End, Var, Rec, Send, Recv, Select, Branch, NoMore, More}
+use Rattle.mps_local.specs.Local.{LocalType, Branches, Rec, Send, Recv, Select, Branch, More}
 use Rattle.mps_local.specs.Text.{name_at, local_tokens, branch_tokens}
 use Rattle.mps_local.specs.Private.Writing.{branches_tokens, others_tokens, todo_tokens, todo_weight, IsTodoKnown, left_tokens, left_weight}
 use Rattle.mps_local.specs.declared.writing.Todo.{Todo}
@@ -26,19 +26,13 @@ more_known count [] next n h = (n, tt)
 more_known count (first ∷ waiting) next n h = (h.0, more_known count waiting next n h.1)
 
 pub branches_more : (roles : List (List ℕ)) (label : List ℕ) (next : LocalType) (others : Branches) (left : List (List ℕ)) → branches_tokens roles (More label next others) ++ left ≡ label ∷ codes ":" ∷ (local_tokens roles next ++ (others_tokens roles others ++ left))
-branches_more roles label next NoMore left = ap (λ (ts : List (List ℕ)). label ∷ codes ":" ∷ ts) (append_assoc (local_tokens roles next) (codes "}" ∷ []) left)
-branches_more roles label next (More second then others) left =
-    let more = More second then others in
-    ap (λ (ts : List (List ℕ)). label ∷ codes ":" ∷ ts)
-    (ap (λ (ts : List (List ℕ)). ts ++ left) (append_assoc (local_tokens roles next) (codes "," ∷ branch_tokens roles more) (codes "}" ∷ []))
-    ∙ append_assoc (local_tokens roles next) (others_tokens roles more) left)
+branches_more roles label next others left = grind (arith, append_assoc)
 
 -- the tokens of a type, written one after the other, are its text
 pub as_text : (roles : List (List ℕ)) (t : LocalType) → with_tokens [] (local_tokens roles t) ≡ spaced (local_tokens roles t)
-as_text roles End = refl
-as_text roles (Var name) = refl
 as_text roles (Rec name body) = written_all (codes "rec") (name ∷ codes "." ∷ local_tokens roles body) (omega arith)
 as_text roles (Send peer sort next) = written_all (codes "send") (name_at roles peer ∷ sort_word sort ∷ codes "." ∷ local_tokens roles next) (omega arith)
 as_text roles (Recv peer sort next) = written_all (codes "recv") (name_at roles peer ∷ sort_word sort ∷ codes "." ∷ local_tokens roles next) (omega arith)
 as_text roles (Select peer branches) = written_all (codes "choose") (name_at roles peer ∷ codes "{" ∷ branch_tokens roles branches ++ codes "}" ∷ []) (omega arith)
 as_text roles (Branch peer branches) = written_all (codes "pick") (name_at roles peer ∷ codes "{" ∷ branch_tokens roles branches ++ codes "}" ∷ []) (omega arith)
+as_text roles other = refl

@@ -1,5 +1,4 @@
-use Rattle.std.proofs.Common.{◌+◌, arith, get_or, ⊎_elim}
-use Rattle.std.proofs.lemmas.Str.{digit_value_digit}
+use Rattle.std.proofs.Common.{arith, ⊎_elim}
 use Rattle.std.proofs.lemmas.Str.Parse.{digit_at}
 use Rattle.mps_base.proofs.Digits.{few}
 use Rattle.mps_base.proofs.number.read_few.Goals as goal
