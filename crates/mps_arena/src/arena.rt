@@ -53,8 +53,8 @@ impl Arena {
         }
     }
 
-    /// Makes room for one step more, and tells the key that it will have. Where 2^32 - 1 keys are in use, there is no
-    /// room. Nothing else asks for memory.
+    /// Reserves memory for one step more, and tells the key that it will have. Where 2^32 - 1 keys are in use, there is
+    /// none. Nothing else asks for memory.
     #[inline(always)]
     pub fn reserve_one(&mut self) -> Result<Key, AllocError>
         ensures ready { OnOk result (IsTrue self.new.is_ready) }

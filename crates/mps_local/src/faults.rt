@@ -40,7 +40,7 @@ pub enum LocalFault {
     Shadowed,
     #[error("no act stands between a `rec` and its variable")]
     Unguarded,
-    /// No type has this fault: it is for those who need room for a type.
+    /// No type has this fault: it is for those who need memory for a type.
     #[error("out of memory")]
     Memory,
 }
@@ -83,7 +83,7 @@ pub fn local_fault_laws()
         → is_unshadowed [] t ≡ true → is_labelled t ≡ true
         → node_count t ≤ 256 → depth t ≤ 64 → local_fault_of t ≡ None }
 
-    // Room for a type is no matter of the type.
+    // Memory for a type is no matter of the type.
     ensures memory { (t : LocalType) → local_fault_of t ≢ Some Fault.Memory }
 {}
 

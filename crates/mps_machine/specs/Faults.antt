@@ -1,4 +1,4 @@
--- Why a command is refused, before it is looked at whether there is room for what it brings.
+-- Why a command is refused, before it is looked at whether what it brings has a place.
 use Rattle.std.specs.Prelude.{ℕ, List, Option, Some, None, option_and_then}
 use Rattle.mps_local.specs.Local.{LocalType}
 use Rattle.mps_command.specs.Changes.{change_of}

@@ -55,7 +55,7 @@ taken_from set p j = flat_map (λ e. if e.role == p then [] else filter set (und
 abbrev pub news : List Entry → ℕ → ℕ → List ℕ
 news j p n = taken_from (is_own j p) p (drop n j)
 
--- the answer after n entries: a refusal stays one, and else there has to be room for one entry more
+-- the answer after n entries: a refusal stays one, and else the journal has to have a place for one entry more
 abbrev pub limited : ℕ → Answer → Answer
 limited n (Refused refusal) = Refused refusal
 limited n answer = if nat_lt n most_entries then answer else Refused Full
