@@ -1,16 +1,16 @@
 -- A step that may go, what stands last with it, and what stays where it moves or binds nothing.
-use Rattle.std.proofs.Common.{◌≡◌, ℕ, Bool, true, not, List, Option, Some, None, refl, sym, ap, ◌∙◌, subst, ⊎_elim}
-use Rattle.std.specs.Prelude.{◌==◌, IsSomeAnd}
-use Rattle.std.specs.List.{AllByRecursion, filter}
+use Rattle.std.proofs.Common.{arith, ◌≡◌, ℕ, Bool, true, not, List, Option, Some, None, refl, sym, ap, ◌∙◌, subst}
+use Rattle.std.specs.Prelude.{◌==◌}
+use Rattle.std.specs.List.{filter}
 use Rattle.std.specs.Option.{option_map}
 use Rattle.mps_base.specs.declared.action.Act.{Act}
 use Rattle.mps_base.specs.declared.action.Act.TheVariants.{Out, In}
 use Rattle.mps_base.specs.declared.action.Message.{Message}
 use Rattle.mps_base.specs.declared.action.Step.{Step}
 use Rattle.mps_base.specs.Effects.{Idle, effect}
-use Rattle.mps_arena.specs.Keys.{AreDistinct, last_key, key_after}
-use Rattle.mps_arena.specs.Entries.{KeyedStep, keys_of, any_step, of_role, entry_at, IsSmall, AreSound}
-use Rattle.mps_arena.specs.Neighbours.{CanGo, IsLastAndUnreceived}
+use Rattle.mps_arena.specs.Keys.{last_key}
+use Rattle.mps_arena.specs.Entries.{KeyedStep, keys_of, of_role, entry_at, IsSmall, AreSound}
+use Rattle.mps_arena.specs.Neighbours.{CanGo}
 use Rattle.mps_arena.proofs.Chains.{entry_key}
 use Rattle.mps_arena.proofs.Keeping.{entry_split, all_at}
 use Rattle.mps_arena.proofs.Nodes.{cases_entry, last_of_chain}
@@ -29,33 +29,7 @@ pub record Leaves (es : List KeyedStep) (k : ℕ) (s : Step) : Type 0 where
   pub last : (f : Step → Bool) → ((t : Step) → f t ≡ true → of_role s.role t ≡ true) → f s ≡ true → last_key None (keys_of f es) ≡ Some k
 
 pub leaves : (es : List KeyedStep) (k : ℕ) (s : Step) → AreSound es → CanGo es k → option_map (λ e. e.step) (entry_at k es) ≡ Some s → Leaves es k s
-leaves es k s sound can is =
-    ⊎_elim
-    (λ (z : entry_at k es ≡ None). let no : None ≡ Some s = sym (ap (option_map (λ (e : KeyedStep). e.step)) z) ∙ is in absurd cc)
-    (λ (w : (y : KeyedStep) × (entry_at k es ≡ Some y)).
-    let x = w.0 in
-    let one : Some x.step ≡ Some s = sym (ap (option_map (λ (e : KeyedStep). e.step)) w.1) ∙ is in
-    let same : x.step ≡ s = cc in
-    let split = entry_split k es x w.1 in
-    let a = split.0 in
-    let b = split.1 in
-    let free : IsLastAndUnreceived es x = subst (λ (o : Option KeyedStep). IsSomeAnd o (IsLastAndUnreceived es)) w.1 can in
-    let key = entry_key k es x w.1 in
-    let d = subst (λ (l : List KeyedStep). AreDistinct (keys_of any_step l)) split.2 sound.distinct in
-    let at_end = subst (λ (l : List KeyedStep). key_after x.key (keys_of (of_role x.step.role) l) ≡ None) split.2 free.last in
-    let r : Leaves es k s = record {
-      entry = x;
-      found = w.1;
-      key = key;
-      step = same;
-      small = subst IsSmall same (all_at (λ e. IsSmall e.step) a b x (subst (λ (l : List KeyedStep). AllByRecursion (λ e. IsSmall e.step) l) split.2 sound.small));
-      last = λ f sub t.
-          ap (λ (l : List KeyedStep). last_key None (keys_of f l)) split.2
-          ∙ last_of_chain f a b x d at_end (λ u h. subst (λ (y : Step). of_role y.role u ≡ true) (sym same) (sub u h)) (ap f same ∙ t)
-          ∙ ap Some key;
-    } in
-    r)
-    (cases_entry (entry_at k es))
+leaves es k s sound can is = grind (arith, entry_split, entry_key, all_at, last_of_chain, cases_entry)
 
 module _ (es : List KeyedStep) (k : ℕ) (s : Step) (l : Leaves es k s) (sound : AreSound es) where
   here : entry_at l.entry.key es ≡ Some l.entry

@@ -17,7 +17,7 @@ use Rattle.mps_arena.proofs.Nodes.{cases_entry}
 use Rattle.mps_queues.specs.Fronts.{waiting_keys}
 use Rattle.mps_queues.proofs.Moves.{get_drop_front, next_waiting}
 use Rattle.mps_log.specs.Private.Queued.{place_of_key, left_of, IsQueue}
-use Rattle.mps_log.specs.Values.{message_in, given_by, message_of}
+use Rattle.mps_log.specs.Values.{message_of}
 use Rattle.mps_log.specs.declared.queue.Queue.TheInside.{Inside}
 use Rattle.mps_log.proofs.Waiting.{message_waits, waiting_entry}
 
@@ -58,8 +58,7 @@ module _ (es : List KeyedStep) (sound : AreSound es) (p q : ℕ) where
 
   -- what is left from the key of a place on is what is left from that place on
   pub left_from : (at : Option ℕ) (n : ℕ) → at ≡ slice_get keys n → drop (place_of_key at keys) queue ≡ drop n queue
-  left_from None n e = queue_over (length keys) (slice_get_past keys (length keys) (omega arith)) ∙ sym (queue_over n (sym e))
-  left_from (Some k) n e = ap (λ (m : ℕ). drop m queue) (place_at keys n k distinct_keys (sym e))
+  left_from at n e = grind (arith, queue_over, slice_get_past, place_at, distinct_keys)
 
   -- each send that waits gave a message
   pub gives : (n k : ℕ) → slice_get keys n ≡ Some k → (m : Message) × (message_of es k ≡ Some m)
@@ -68,12 +67,7 @@ module _ (es : List KeyedStep) (sound : AreSound es) (p q : ℕ) where
       let got = length (keys_of (receives p q) es) in
       let place : slice_get sent (got + n) ≡ Some k = sym (get_drop_front sent got n (got + n) refl) ∙ e in
       let in_chain = get_in sent (got + n) k (ap (λ (o : Option ℕ). is_at o k) place ∙ eq-eqb k k refl) in
-      ⊎_elim
-      (λ (z : entry_at k es ≡ None). absurd (both_ways (has k sent) (absent (sends p q) k es z) in_chain))
-      (λ (w : (y : KeyedStep) × (entry_at k es ≡ Some y)).
-      let pair = sends_pair p q w.0.step (passes (sends p q) k es w.0 sound.distinct w.1 in_chain) in
-      (pair.0, ap (option_and_then (λ (x : KeyedStep). given_by x.step.act)) w.1 ∙ ap message_in pair.2))
-      (cases_entry (entry_at k es))
+      grind (arith, both_ways, absent, sends_pair, passes, cases_entry)
 
 module _ (w : Inside) (walk : IsQueue w) where
   abbrev pub es_of : List KeyedStep
@@ -102,11 +96,7 @@ module _ (w : Inside) (walk : IsQueue w) where
 
     -- one further
     pub goes_on : (next : Option ℕ) → next ≡ next_send_in es_of k → IsQueue (record { arena = w.arena; from = w.from; to = w.to; at = next })
-    goes_on next e = record {
-      sound = walk.sound;
-      passed = suc walk.passed;
-      at = e ∙ next_waiting es_of walk.sound w.from w.to walk.passed k at_key;
-    }
+    goes_on next e = grind (arith, next_waiting es_of walk.sound w.from w.to walk.passed k at_key)
 
     -- what was left began with that message, and after it is what is left then
     pub shows : (m : Message) → message_of es_of k ≡ Some m → (next : Option ℕ) → next ≡ next_send_in es_of k → left_of w ≡ m ∷ left_of (record { arena = w.arena; from = w.from; to = w.to; at = next })

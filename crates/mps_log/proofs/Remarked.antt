@@ -1,17 +1,15 @@
 -- Entries whose marks change: queues, slots and steps stay.
-use Rattle.std.proofs.Common.{◌≡◌, ℕ, Bool, true, false, List, [], ◌∷◌, ◌++◌, map, length, Option, refl, sym, ap, ◌∙◌, subst, ⊎_elim}
+use Rattle.std.proofs.Common.{arith, ◌≡◌, ℕ, Bool, true, false, List, [], ◌∷◌, ◌++◌, map, Option, refl, sym, ap, ◌∙◌, subst, ⊎_elim}
 use mathlib.Core.Path.{ap₂}
-use Rattle.std.specs.Prelude.{slice_get}
 use Rattle.std.specs.List.{AllByRecursion}
 use Rattle.std.proofs.lemmas.Bool.{cases_Bool}
 use Rattle.mps_base.specs.declared.action.Step.{Step}
-use Rattle.mps_history.specs.Slots.{value_in}
 use Rattle.mps_history.specs.Steps.{IsRising, sends, receives}
 use Rattle.mps_arena.specs.Keys.{AreDistinct}
 use Rattle.mps_arena.specs.Entries.{KeyedStep, steps, keys_of, any_step, IsSmall, AreSound}
 use Rattle.mps_arena.proofs.Chains.{keys_with, keys_without}
 use Rattle.mps_queues.specs.Fronts.{AreFronts}
-use Rattle.mps_stores.specs.Stores.{Keys, Naming, IsBinding, bindings, rebound, store_after, AreStores}
+use Rattle.mps_stores.specs.Stores.{Keys, Naming, rebound, store_after, AreStores}
 
 module _ (m : KeyedStep → Bool) where
   abbrev pub remarked : KeyedStep → KeyedStep
@@ -54,10 +52,7 @@ module _ (m : KeyedStep → Bool) where
   }
 
   pub fronts_again : (es : List KeyedStep) (fronts : List (Option ℕ)) → AreFronts es fronts → AreFronts (again es) fronts
-  fronts_again es fronts f = record {
-    each = λ p q small little.
-        f.each p q small little ∙ sym (ap₂ (λ (l r : List ℕ). slice_get l (length r)) (keys_again (sends p q) es) (keys_again (receives p q) es));
-  }
+  fronts_again es fronts f = grind (arith, keys_again)
 
   rebound_again : (naming : Naming) (p : ℕ) (store : Keys) (es : List KeyedStep) → rebound naming p store (again es) ≡ rebound naming p store es
   rebound_again naming p store [] = refl
@@ -96,7 +91,5 @@ module _ (m : KeyedStep → Bool) where
     each = λ p small. s.each p small ∙ sym (rebound_again naming p [] es);
     traced = λ p name a b e whole is.
         let w = place_again es a b e whole in
-        let binding : IsBinding naming p name w.entry = subst (IsBinding naming p name) w.same is in
-        ap (λ (z : KeyedStep). z.before.bound) w.same ∙ s.traced p name w.before w.behind w.entry w.parts binding
-        ∙ ap (value_in name) (sym (rebound_again naming p [] w.before)) ∙ ap (λ (l : List KeyedStep). value_in name (bindings naming p l)) (sym w.front);
+        grind (arith, rebound_again);
   }

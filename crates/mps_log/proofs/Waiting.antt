@@ -1,16 +1,15 @@
 -- Messages that wait, by the keys of their sends.
-use Rattle.std.proofs.Common.{◌≡◌, ℕ, zero, suc, ◌+◌, ◌<◌, Bool, true, false, List, [], ◌∷◌, ◌++◌, length, drop, Option, Some, None, refl, sym, ap, ◌∙◌, subst, ⊎_elim, inl, inr, eq-eqb, append_assoc}
+use Rattle.std.proofs.Common.{arith, ◌≡◌, ℕ, zero, suc, ◌+◌, ◌<◌, Bool, true, false, List, [], ◌∷◌, ◌++◌, length, Option, Some, None, refl, sym, ap, ◌∙◌, subst, ⊎_elim, inr, eq-eqb, append_assoc}
 use Rattle.std.specs.Prelude.{◌==◌, slice_get, IsSome}
 use Rattle.std.specs.List.{filter, AllByRecursion}
 use Rattle.std.specs.Option.{option_and_then, option_map}
 use Rattle.std.proofs.lemmas.Bool.{cases_Bool, both_ways, cond-true, cond-false}
 use Rattle.mps_base.specs.Effects.{Effect, Gives, Takes, Idle, effect}
-use Rattle.mps_base.specs.declared.action.Message.{Message}
 use Rattle.mps_base.specs.declared.action.Step.{Step}
 use Rattle.mps_history.specs.Steps.{sends, receives, given, messages_of, all_given, unreceived, IsIn}
 use Rattle.mps_history.proofs.Order.{step_of_member}
 use Rattle.mps_arena.specs.Keys.{is_at, has, AreDistinct}
-use Rattle.mps_arena.specs.Entries.{KeyedStep, steps, keys_of, any_step, like, unlike, entry_at, IsSmall, HasSmallPeer, AreSound}
+use Rattle.mps_arena.specs.Entries.{KeyedStep, steps, keys_of, any_step, like, unlike, entry_at, IsSmall, AreSound}
 use Rattle.mps_arena.specs.Neighbours.{matched_with, source_in, waiting}
 use Rattle.mps_arena.specs.Matched.{matched_source}
 use Rattle.mps_arena.proofs.KeyLists.{get_in, matched_key_in}
@@ -24,11 +23,7 @@ use Rattle.mps_log.specs.Values.{message_in, given_by, message_of, message_sent}
 
 -- a key of a chain is an entry's
 pub has_entry : (p : Step → Bool) (es : List KeyedStep) (k : ℕ) → has k (keys_of p es) ≡ true → IsSome (entry_at k es)
-has_entry p es k h =
-    ⊎_elim
-    (λ (z : entry_at k es ≡ None). absurd (both_ways (has k (keys_of p es)) (absent p k es z) h))
-    (λ (w : (y : KeyedStep) × (entry_at k es ≡ Some y)). rw w.1 refl)
-    (cases_entry (entry_at k es))
+has_entry p es k h = grind (arith, both_ways, absent, cases_entry)
 
 module _ (es : List KeyedStep) (sound : AreSound es) (p q : ℕ) where
   -- the messages of a chain of sends are those of its keys, in order
@@ -49,19 +44,13 @@ module _ (es : List KeyedStep) (sound : AreSound es) (p q : ℕ) where
           let w = sends_pair p q y.step t in
           ap (λ (c : Effect). slice_get (messages_of c ++ all_given (filter (sends p q) (steps b))) 0) w.2
           ∙ sym (ap (option_and_then (λ (x : KeyedStep). given_by x.step.act)) found ∙ ap message_in w.2)
-      with_message t rest (suc n) =
-          let w = sends_pair p q y.step t in
-          ap (λ (c : Effect). slice_get (messages_of c ++ all_given (filter (sends p q) (steps b))) (suc n)) w.2
-          ∙ rest n
+      with_message t rest (suc n) = grind (arith, sends_pair)
 
   -- so what waits is what the waiting sends gave
   pub message_waits : (n : ℕ) → slice_get (unreceived p q (steps es)) n ≡ option_and_then (message_of es) (slice_get (waiting_keys es p q) n)
   message_waits n =
       let g = length (keys_of (receives p q) es) in
-      ap (λ (k : ℕ). slice_get (drop k (all_given (filter (sends p q) (steps es)))) n) (count_steps (receives p q) es)
-      ∙ get_drop_front (all_given (filter (sends p q) (steps es))) g n (g + n) refl
-      ∙ messages_at [] es refl (g + n)
-      ∙ ap (option_and_then (message_of es)) (sym (get_drop_front (keys_of (sends p q) es) g n (g + n) refl))
+      cc (count_steps (receives p q) es, get_drop_front (all_given (filter (sends p q) (steps es))) g n (g + n) refl, messages_at [] es refl (g + n), get_drop_front (keys_of (sends p q) es) g n (g + n) refl)
 
   pub waiting_entry : (n k : ℕ) → slice_get (waiting_keys es p q) n ≡ Some k → IsSome (entry_at k es)
   waiting_entry n k e =
@@ -75,18 +64,12 @@ module _ (es : List KeyedStep) (sound : AreSound es) (p q : ℕ) where
   no_stranger far [] small = refl
   no_stranger far (y ∷ b) small =
       ⊎_elim
-      (λ (t : sends p q y.step ≡ true).
-      let w = sends_pair p q y.step t in
-      absurd (far (subst (λ (r : ℕ). r < 8) w.1 small.0.0) (subst HasSmallPeer w.2 small.0.1)))
+      (grind (arith, sends_pair))
       (λ (f : sends p q y.step ≡ false). keys_without (sends p q) y b f ∙ no_stranger far b small.1)
       (cases_Bool (sends p q y.step))
 
   pub nothing_waits : (p < 8 → q < 8 → ⊥) → (n : ℕ) → slice_get (unreceived p q (steps es)) n ≡ None
-  nothing_waits far n =
-      let g = length (keys_of (receives p q) es) in
-      let c = keys_of (sends p q) es in
-      message_waits n
-      ∙ ap (option_and_then (message_of es)) (get_drop_front c g n (g + n) refl ∙ ap (λ (l : List ℕ). slice_get l (g + n)) (no_stranger far es sound.small))
+  nothing_waits far n = grind (arith, message_waits, get_drop_front, no_stranger)
 
   -- the first message is what the first waiting send gave
   pub first_message : option_and_then (message_of es) (waiting es p q) ≡ slice_get (unreceived p q (steps es)) 0
@@ -97,19 +80,12 @@ module _ (es : List KeyedStep) (sound : AreSound es) (p q : ℕ) where
 
   -- where a message waits, there is a send that isn't received
   pub first_waits : IsSome (slice_get (unreceived p q (steps es)) 0) → IsSome (waiting es p q)
-  first_waits h =
-      subst (λ (o : Option ℕ). IsSome o) (sym (first_waiting es sound p q))
-      (was_some (slice_get (waiting_keys es p q) 0) (subst (λ (o : Option Message). IsSome o) (message_waits 0) h))
-    where
-      was_some : (o : Option ℕ) → IsSome (option_and_then (message_of es) o) → IsSome o
-      was_some None k = k
-      was_some (Some x) k = refl
+  first_waits h = grind (arith, first_waiting, message_waits)
 
 -- the k-th step is that of the k-th key
 pub steps_at : (es : List KeyedStep) → AreSound es → (a b : List KeyedStep) → es ≡ a ++ b → (n : ℕ) → slice_get (steps b) n ≡ option_and_then (λ k. option_map (λ (e : KeyedStep). e.step) (entry_at k es)) (slice_get (keys_of any_step b) n)
 steps_at es sound a [] e n = refl
-steps_at es sound a (y ∷ b) e zero =
-    sym (ap (option_map (λ (x : KeyedStep). x.step)) (subst (λ (l : List KeyedStep). entry_at y.key l ≡ Some y) (sym e) (entry_middle a b y (subst (λ (l : List KeyedStep). AreDistinct (keys_of any_step l)) e sound.distinct))))
+steps_at es sound a (y ∷ b) e zero = grind (arith, entry_middle)
 steps_at es sound a (y ∷ b) e (suc n) = steps_at es sound (a ++ y ∷ []) b (e ∙ sym (append_assoc a (y ∷ []) b)) n
 
 -- the send that a receipt is matched with is an entry's
@@ -134,21 +110,10 @@ entry_is_in : (k : ℕ) (es : List KeyedStep) (y : KeyedStep) → entry_at k es 
 entry_is_in k [] y e = absurd cc
 entry_is_in k (x ∷ es) y e =
     ⊎_elim
-    (λ (t : (x.key == k) ≡ true).
-    let is : Some x ≡ Some y = sym (cond-true (x.key == k) (Some x) (entry_at k es) t) ∙ e in
-    let same : y ≡ x = cc in
-    inl (ap (λ (z : KeyedStep). z.step) same))
+    (grind (arith, cond-true))
     (λ (f : (x.key == k) ≡ false). inr (entry_is_in k es y (sym (cond-false (x.key == k) (Some x) (entry_at k es) f) ∙ e)))
     (cases_Bool (x.key == k))
 
 -- so what the step of the number gave is what that of the key did
 pub sent_at : (es : List KeyedStep) → AreSound es → (k : ℕ) (s : Step) → option_map (λ (e : KeyedStep). e.step) (entry_at k es) ≡ Some s → (message_of es k ≡ given_by s.act) × (message_sent (steps es) s.id ≡ given_by s.act)
-sent_at es sound k s e =
-    ⊎_elim
-    (λ (z : entry_at k es ≡ None). let no : None ≡ Some s = sym (ap (option_map (λ (x : KeyedStep). x.step)) z) ∙ e in absurd cc)
-    (λ (w : (y : KeyedStep) × (entry_at k es ≡ Some y)).
-    let is : Some w.0.step ≡ Some s = sym (ap (option_map (λ (x : KeyedStep). x.step)) w.1) ∙ e in
-    let same : w.0.step ≡ s = cc in
-    subst (λ (t : Step). (message_of es k ≡ given_by t.act) × (message_sent (steps es) t.id ≡ given_by t.act)) same
-    (ap (option_and_then (λ (x : KeyedStep). given_by x.step.act)) w.1, ap (option_and_then (λ (t : Step). given_by t.act)) (step_of_member (steps es) w.0.step sound.rising (entry_is_in k es w.0 w.1))))
-    (cases_entry (entry_at k es))
+sent_at es sound k s e = grind (arith, step_of_member, entry_is_in, cases_entry)

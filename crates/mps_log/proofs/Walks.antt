@@ -1,15 +1,14 @@
 -- A walk over the entries, from a key on.
-use Rattle.std.proofs.Common.{◌≡◌, ℕ, false, List, [], ◌∷◌, ◌++◌, Option, Some, None, refl, sym, ap, ◌∙◌, subst, eq-eqb, append_assoc}
+use Rattle.std.proofs.Common.{arith, ◌≡◌, ℕ, false, List, [], ◌∷◌, ◌++◌, Option, Some, None, refl, sym, ap, ◌∙◌, subst, eq-eqb, append_assoc}
 use mathlib.Core.Path.{ap₂}
 use Rattle.std.specs.Prelude.{◌==◌, IsSome}
 use Rattle.std.specs.Option.{option_and_then, option_map, option_or}
 use Rattle.std.proofs.lemmas.Bool.{cond-true, cond-false, eqb-true, or_left, false_from_ne_true, both_ways}
-use Rattle.mps_base.specs.Effects.{Effect, Idle, effect}
+use Rattle.mps_base.specs.Effects.{Idle, effect}
 use Rattle.mps_base.specs.declared.action.Step.{Step}
-use Rattle.mps_arena.specs.Keys.{has, AreDistinct, first_key, key_after}
+use Rattle.mps_arena.specs.Keys.{AreDistinct, first_key}
 use Rattle.mps_arena.specs.Entries.{KeyedStep, keys_of, any_step, entry_at}
-use Rattle.mps_arena.specs.Matched.{matched_source}
-use Rattle.mps_arena.specs.Neighbours.{next_in, source_in, matched_with}
+use Rattle.mps_arena.specs.Neighbours.{next_in, source_in}
 use Rattle.mps_arena.proofs.KeyLists.{once, after_absent, has-append_right}
 use Rattle.mps_arena.proofs.Chains.{keys_around, entry_middle, entry_key}
 use Rattle.mps_log.specs.Shown.{moved_of, shown}
@@ -20,9 +19,7 @@ use Rattle.mps_log.specs.declared.moves.Moves.TheInside.{Inside}
 from_middle : (a b : List KeyedStep) (y : KeyedStep) → AreDistinct (keys_of any_step (a ++ y ∷ b)) → from_key (Some y.key) (a ++ y ∷ b) ≡ y ∷ b
 from_middle [] b y d = cond-true (y.key == y.key) (y ∷ b) (from_key (Some y.key) b) (eq-eqb y.key y.key refl)
 from_middle (x ∷ a) b y d =
-    let n : (x.key == y.key) ≡ false = false_from_ne_true (x.key == y.key) (λ t.
-    both_ways (has x.key (keys_of any_step (a ++ y ∷ b))) d.0
-    (rw (keys_around any_step a b y refl) (has-append_right x.key (keys_of any_step a) (y.key ∷ keys_of any_step b) (or_left (y.key == x.key) (has x.key (keys_of any_step b)) (eq-eqb y.key x.key (sym (eqb-true x.key y.key t))))))) in
+    let n : (x.key == y.key) ≡ false = false_from_ne_true (x.key == y.key) (grind (arith, both_ways, keys_around, has-append_right, or_left, eq-eqb, eqb-true)) in
     cond-false (x.key == y.key) (x ∷ (a ++ y ∷ b)) (from_key (Some y.key) (a ++ y ∷ b)) n ∙ from_middle a b y d.1
 
 -- the entries from the first key of a part on are that part
@@ -39,12 +36,9 @@ module _ (m : Inside) (walk : IsWalk m) where
   abbrev pub es : List KeyedStep
   es = m.arena.now.entries
 
-  distinct_parts : AreDistinct (keys_of any_step (walk.before ++ walk.left))
-  distinct_parts = subst (λ (l : List KeyedStep). AreDistinct (keys_of any_step l)) walk.parts walk.sound.distinct
-
   -- what is left is that part
   pub left_is : left_of m ≡ shown es walk.left
-  left_is = ap (shown es) (ap₂ from_key walk.at walk.parts ∙ from_part walk.before walk.left distinct_parts)
+  left_is = grind (arith, from_part)
 
   module _ (k : ℕ) (here : m.at ≡ Some k) where
     pub first : (y : KeyedStep) × (b : List KeyedStep) × (walk.left ≡ y ∷ b) × (y.key ≡ k)
@@ -69,13 +63,7 @@ module _ (m : Inside) (walk : IsWalk m) where
     there = rw found refl
 
     next_is : next_in es k ≡ first_key (keys_of any_step b)
-    next_is =
-        let o = once y.key (keys_of any_step walk.before) (keys_of any_step b) (subst AreDistinct (keys_around any_step walk.before b y refl) parts_distinct) in
-        ap (option_and_then (λ (x : KeyedStep). key_after x.key (keys_of any_step es))) found
-        ∙ ap (λ (l : List KeyedStep). key_after y.key (keys_of any_step l)) whole
-        ∙ ap (key_after y.key) (keys_around any_step walk.before b y refl)
-        ∙ after_absent y.key (keys_of any_step walk.before) (y.key ∷ keys_of any_step b) o.0
-        ∙ cond-true (y.key == y.key) (first_key (keys_of any_step b)) (key_after y.key (keys_of any_step b)) (eq-eqb y.key y.key refl)
+    next_is = grind (arith, once, keys_around, parts_distinct, found, whole, after_absent, cond-true, eq-eqb)
 
     -- one further
     pub goes_on : (next : Option ℕ) → next ≡ next_in es k → IsWalk (record { arena = m.arena; at = next })
@@ -99,20 +87,8 @@ module _ (m : Inside) (walk : IsWalk m) where
 
 -- what a step moved, by its act
 pub moved_by_act : (es : List KeyedStep) (k : ℕ) (s : Step) → option_map (λ e. e.step) (entry_at k es) ≡ Some s → option_and_then (moved_of es) (entry_at k es) ≡ option_or (given_by s.act) (option_and_then (message_of es) (source_in es k))
-moved_by_act es k s e = by_entry (entry_at k es) refl e
-  where
-    by_entry : (o : Option KeyedStep) → entry_at k es ≡ o → option_map (λ e. e.step) o ≡ Some s → option_and_then (moved_of es) o ≡ option_or (given_by s.act) (option_and_then (message_of es) (source_in es k))
-    by_entry None is h = absurd cc
-    by_entry (Some y) is h =
-        let same : y.step ≡ s = cc in
-        ap₂ (λ (t : Step) (j : ℕ). option_or (given_by t.act) (option_and_then (message_of es) (source_in es j))) same (entry_key k es y is)
+moved_by_act es k s e = grind (arith, entry_key)
 
 -- what takes nothing has no match
 pub idle_has_none : (es : List KeyedStep) (k : ℕ) (s : Step) → option_map (λ e. e.step) (entry_at k es) ≡ Some s → effect s.act ≡ Idle → source_in es k ≡ None
-idle_has_none es k s e idle = by_entry (entry_at k es) refl e
-  where
-    by_entry : (o : Option KeyedStep) → entry_at k es ≡ o → option_map (λ e. e.step) o ≡ Some s → option_and_then (λ (x : KeyedStep). matched_source (effect x.step.act) (matched_with es x)) o ≡ None
-    by_entry None is h = refl
-    by_entry (Some y) is h =
-        let same : y.step ≡ s = cc in
-        ap (λ (a : Effect). matched_source a (matched_with es y)) (ap (λ (t : Step). effect t.act) same ∙ idle)
+idle_has_none es k s e idle = grind arith

@@ -1,10 +1,9 @@
 -- The message that a receipt or a pick takes is the first that waits from its peer.
-use Rattle.std.proofs.Common.{◌≡◌, ℕ, Option, Some, ap, ◌∙◌}
+use Rattle.std.proofs.Common.{arith, ◌≡◌, ℕ, Option, Some, ap, ◌∙◌}
 use Rattle.std.specs.Prelude.{slice_get}
 use Rattle.mps_base.specs.declared.action.Message.{Message}
 use Rattle.mps_command.specs.Acts.{act_of}
 use Rattle.mps_command.specs.declared.command.Forward.{Forward}
-use Rattle.mps_command.specs.declared.command.Forward.TheVariants.{Receive, Pick}
 use Rattle.mps_history.specs.Steps.{unreceived}
 use Rattle.mps_machine.specs.Machine.{taken}
 use Rattle.mps_monitor.specs.Verdicts.{moved_by}
@@ -16,11 +15,7 @@ module _ (c : Lists) (p from : ℕ) (first : Option Message) (is : first ≡ sli
   from_peer q same = let peer : from ≡ q = cc in is ∙ ap (λ (r : ℕ). slice_get (unreceived r p (steps c.entries)) 0) peer
 
   pub moved_first : (command : Forward) → taken_from command ≡ Some from → moved_by command first ≡ moved_in c p (act_of command)
-  moved_first (Receive q slot) same = from_peer q same
-  moved_first (Pick q) same = from_peer q same
-  moved_first command same = cc
+  moved_first command same = grind (arith, from_peer)
 
   pub taken_first : (command : Forward) → taken_from command ≡ Some from → first ≡ taken (act_of command) (moved_in c p (act_of command))
-  taken_first (Receive q slot) same = from_peer q same
-  taken_first (Pick q) same = from_peer q same
-  taken_first command same = cc
+  taken_first command same = grind (arith, from_peer)

@@ -1,19 +1,14 @@
 -- What the machine answers, from what a session keeps.
-use mathlib.Core.Path.{ap₂}
 use Rattle.std.proofs.lemmas.List.{map-append}
-use Rattle.mps_base.specs.declared.action.Step.{Step}
-use Rattle.mps_arena.specs.Entries.{KeyedStep, steps}
-use Rattle.mps_log.specs.Joins.{joining}
-use Rattle.std.proofs.Common.{◌≡◌, [], ◌∷◌, ◌+◌, ℕ, ◌<◌, ◌≤◌, List, length, Option, Some, None, Result, Ok, Err, sym, ap, ◌∙◌, arith}
-use Rattle.std.specs.Prelude.{nat_lt, is_ok, IsErrAnd}
+use Rattle.mps_arena.specs.Entries.{steps}
+use Rattle.std.proofs.Common.{◌≡◌, ◌+◌, ℕ, ◌<◌, ◌≤◌, List, length, Option, Some, None, Result, Ok, Err, sym, ap, ◌∙◌, arith}
 use Rattle.std.specs.Option.{option_map}
-use Rattle.std.proofs.lemmas.Result.{err_from_is_err_and}
 use Rattle.std.proofs.lemmas.Bool.{cond-true, cond-false, lt-ltb, le-ltb}
 use Rattle.mps_base.specs.declared.action.Act.{Act}
 use Rattle.mps_base.specs.declared.action.Message.{Message}
 use Rattle.mps_command.specs.declared.answer.Done.{Done}
 use Rattle.mps_command.specs.declared.answer.Refusal.{Refusal}
-use Rattle.mps_command.specs.declared.answer.Refusal.TheVariants.{Violation as Violates, Full, Memory}
+use Rattle.mps_command.specs.declared.answer.Refusal.TheVariants.{Violation as Violates, Full}
 use Rattle.mps_command.specs.declared.answer.Violation.{Violation}
 use Rattle.mps_local.specs.Local.{LocalType}
 use Rattle.mps_local.specs.Unfolding.{unfolded}
@@ -23,8 +18,7 @@ use Rattle.mps_machine.specs.Violations.{act_fault, violation}
 use Rattle.mps_table.proofs.Standing.{node_stands}
 use Rattle.mps_table.specs.Graph.{IsNode}
 use Rattle.mps_table.specs.Standing.{StandsFor}
-use Rattle.mps_machine.specs.Answering.{IsAnswer}
-use Rattle.mps_session.specs.Private.Configurations.{Lists, cursor_of, state_of, moved_in, StandsAt, fault_in, LeadsTo, IsReady, HasActed, logged}
+use Rattle.mps_session.specs.Private.Configurations.{Lists, cursor_of, state_of, moved_in, StandsAt, fault_in, LeadsTo, IsReady, HasActed}
 use Rattle.mps_session.specs.Private.Invariant.{Holds}
 use Rattle.mps_session.specs.SessionState.{SessionState}
 use Rattle.mps_session.proofs.HoldsAfterAct as accepting
@@ -44,15 +38,8 @@ module _ (types : List LocalType) (st : State) (p : ℕ) (act : Act) where
   answers_fault : (fault : Violation) → violation (view_of types st.history) p act ≡ Some fault → forward types st p act ≡ (Err (Violates fault), st)
   answers_fault fault e = ap (λ (f : Option Violation). answered f (full_fault st)) e
 
-  answers_full : violation (view_of types st.history) p act ≡ None → most_numbers < st.next → forward types st p act ≡ (Err Full, st)
-  answers_full e full =
-      ap (λ (f : Option Violation). answered f (full_fault st)) e
-      ∙ ap (answered None) (cond-true (nat_lt most_numbers st.next) (Some Full) None (lt-ltb most_numbers st.next full))
-
   answers_done : violation (view_of types st.history) p act ≡ None → st.next ≤ most_numbers → forward types st p act ≡ new
-  answers_done e room =
-      ap (λ (f : Option Violation). answered f (full_fault st)) e
-      ∙ ap (answered None) (cond-false (nat_lt most_numbers st.next) (Some Full) None (le-ltb most_numbers st.next room))
+  answers_done e room = grind (arith, cond-false, le-ltb)
 
 module _ (types : List LocalType) (c : Lists) (holds : Holds types c) (now : SessionState) (is : ◌≡◌ {A = SessionState} (record { types = types; state = state_of c }) now) (p : ℕ) (within : p < length now.types) where
   pub in_types : p < length types
@@ -81,16 +68,14 @@ module _ (types : List LocalType) (c : Lists) (holds : Holds types c) (now : Ses
         ∙ each (v.participant p).to_come stands
 
     pub refused : (fault : Violation) → ((t : LocalType) → StandsAt c p t → fault_in c p act t ≡ Some fault) → Err (Violates fault) ≡ (forward now.types now.state p act).0
-    refused fault each =
-        ap (λ (r : Result Done Refusal × State). r.0) (sym (answers_fault types (state_of c) p act fault (found (Some fault) each)) ∙ machine_is)
+    refused fault each = grind (arith, answers_fault types (state_of c) p act fault (found (Some fault) each))
 
     module _ (each : (t : LocalType) → StandsFor (cursor_of c p).table (cursor_of c p).node t → act_fault (unfolded t) act (moved_in c p act) ≡ None) where
       pub fine : violation v p act ≡ None
       fine = found None each
 
       pub full : most_numbers ≤ c.issued → Err Full ≡ (forward now.types now.state p act).0
-      full past =
-          ap (λ (r : Result Done Refusal × State). r.0) (sym (answers_full types (state_of c) p act fine (omega (arith, past))) ∙ machine_is)
+      full past = grind (arith, cond-true, lt-ltb, fine, machine_is)
 
       pub ready : IsReady c p act
       ready =
@@ -108,14 +93,4 @@ module _ (types : List LocalType) (c : Lists) (holds : Holds types c) (now : Ses
           accepting.acted_holds types c holds p act in_types fine on.0 on.1 node (follows (v.participant p) on.0 stands on.1) next acted room
 
       pub state_then : (node : ℕ) (next : Lists) → HasActed p act node c next → state_of next ≡ accepted (state_of c) p act
-      state_then node next acted =
-          ap₂ (λ (l : List Step) (k : ℕ). let st : State = record { history = l; next = k + 1 } in st)
-          (ap steps acted.joined.entries ∙ map-append (λ (e : KeyedStep). e.step) c.entries (joining (logged c) p act (cursor_of c p).node acted.joined.key ∷ []))
-          acted.joined.issued
-
--- where the machine accepts, memory may run out
-pub out_of_memory : (r : Result Done Refusal) (a : Done) (st : State) (answer : Result Done Refusal × State) → answer ≡ (Ok a, st) → IsErrAnd r (λ e. e ≡ Memory) → IsAnswer r answer.0
-out_of_memory r a st answer e failed =
-    let p = err_from_is_err_and r failed in
-    let is : r ≡ Err Memory = p.1 ∙ ap Err p.2 in
-    rw is (ap is_ok (ap (λ (x : Result Done Refusal × State). x.0) e))
+      state_then node next acted = grind (arith, map-append)

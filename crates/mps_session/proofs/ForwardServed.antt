@@ -1,8 +1,7 @@
 -- What comes of a step that a session does, or refuses.
-use mathlib.Core.Path.{ap₂}
 use Rattle.std.proofs.lemmas.Result.{err_from_is_err_and}
 use Rattle.std.specs.Prelude.{IsErrAnd, is_ok, ⊤}
-use Rattle.std.proofs.Common.{◌≡◌, ◌+◌, ℕ, ◌<◌, List, length, Option, None, Result, Ok, Err, refl, sym, ap, ◌∙◌}
+use Rattle.std.proofs.Common.{arith, ◌≡◌, ◌+◌, ℕ, ◌<◌, List, length, Option, None, Result, Ok, Err, refl, sym, ap, ◌∙◌}
 use Rattle.mps_base.specs.declared.action.Act.{Act}
 use Rattle.mps_base.specs.declared.action.Message.{Message}
 use Rattle.mps_command.specs.Acts.{act_of}
@@ -10,7 +9,6 @@ use Rattle.mps_command.specs.declared.answer.Done.{Done}
 use Rattle.mps_command.specs.declared.answer.Refusal.{Refusal}
 use Rattle.mps_command.specs.declared.answer.Refusal.TheVariants.{Violation as Violates, Full, Memory}
 use Rattle.mps_command.specs.declared.command.Forward.{Forward}
-use Rattle.mps_command.specs.declared.command.Forward.TheVariants.{Receive, Pick}
 use Rattle.mps_local.specs.Local.{LocalType}
 use Rattle.mps_machine.specs.Machine.{State, most_numbers, taken, forward}
 use Rattle.mps_machine.specs.Answering.{IsAnswer, IsServed}
@@ -22,9 +20,7 @@ use Rattle.mps_session.proofs.ForwardAnswers as serving
 
 -- where no message is taken
 pub none_taken : (command : Forward) (m : Option Message) → taken_from command ≡ None → None ≡ taken (act_of command) m
-none_taken (Receive from slot) m e = cc
-none_taken (Pick from) m e = cc
-none_taken command m e = refl
+none_taken command m e = grind arith
 
 module _ (types : List LocalType) (c : Lists) (holds : Holds types c) (now : SessionState) (is : ◌≡◌ {A = SessionState} (record { types = types; state = state_of c }) now) (p : ℕ) (within : p < length now.types) (command : Forward) where
   abbrev act : Act
@@ -40,9 +36,7 @@ module _ (types : List LocalType) (c : Lists) (holds : Holds types c) (now : Ses
   failed r refusal e answer new same = rw (e, same) (record { answer = answer; state = tt; err = refl; starved = λ m. tt })
 
   pub refused_by : {B : Type 0} (r : Result (Done × B) Refusal) (refusal : Refusal) → IsErrAnd r (λ e. e ≡ refusal) → IsBarred c p act refusal → (new : State) → new ≡ now.state → IsServed ⊤ (once r) now.state new (forward now.types now.state p act)
-  refused_by r refusal was h new same =
-      let e = err_from_is_err_and r was in
-      failed r refusal (e.1 ∙ ap Err e.2) (barred refusal h) new same
+  refused_by r refusal was h new same = grind (arith, err_from_is_err_and, failed, barred)
 
   module _ (each : (t : LocalType) → StandsAt c p t → fault_in c p act t ≡ None) (room : c.issued < most_numbers) where
     -- memory may run out where the machine accepts
@@ -60,9 +54,7 @@ module _ (types : List LocalType) (c : Lists) (holds : Holds types c) (now : Ses
           let whole = serving.done types c holds now is p within act each room in
           record {
             answer =
-                ap Ok told_is
-                ∙ ap₂ (λ (n : ℕ) (m : Option Message). let r : Result Done Refusal = Ok (record { id = n; got = m }) in r) id_is got_is
-                ∙ ap (λ (r : Result Done Refusal × State). r.0) (sym whole);
+                (cc);
             state = serving.state_then types c holds now is p within act each node next acted ∙ ap (λ (r : Result Done Refusal × State). r.1) (sym whole);
             err = tt;
             starved = λ m. tt;

@@ -1,5 +1,5 @@
 -- What the machine answers to an undo of a role's own step.
-use Rattle.std.proofs.Common.{◌≡◌, ℕ, true, false, Some, None, Err, refl, sym, ap, ◌∙◌}
+use Rattle.std.proofs.Common.{arith, ◌≡◌, ℕ, true, false, Some, None, Err, ap, ◌∙◌}
 use Rattle.std.specs.Prelude.{if◌then◌else◌}
 use Rattle.std.proofs.lemmas.Bool.{cond-true, cond-false}
 use Rattle.mps_command.specs.declared.answer.Refusal.TheVariants.{Final, Needed}
@@ -23,17 +23,11 @@ module _ (c : Lists) (kept : AreSound c.entries) (p n k : ℕ) (at : key_of c.en
       ∙ ap (λ (i : ℕ). if is_commit x.step.act then Some (Final i) else None) (numbered.number c.entries kept n k at)
 
   pub committed : is_commit x.step.act ≡ true → undo (state_of c) p n ≡ (Err (Final n), state_of c)
-  committed holds =
-      undo_is (state_of c) p n None (Some (Final n)) (least (dependents (steps c.entries) n)) own
-      (fault_is ∙ cond-true (is_commit x.step.act) (Some (Final n)) None holds) refl
+  committed holds = grind (arith, undo_is, fault_is, cond-true)
 
   module _ (other : is_commit x.step.act ≡ false) where
     pub needed : (by : ℕ) → Some by ≡ least (dependents (steps c.entries) n) → undo (state_of c) p n ≡ (Err (Needed by), state_of c)
-    needed by e =
-        undo_is (state_of c) p n None None (Some by) own
-        (fault_is ∙ cond-false (is_commit x.step.act) (Some (Final n)) None other) (sym e)
+    needed by e = grind (arith, undo_is, fault_is, cond-false)
 
     pub free : None ≡ least (dependents (steps c.entries) n) → undo (state_of c) p n ≡ undone (state_of c) n
-    free e =
-        undo_is (state_of c) p n None None None own
-        (fault_is ∙ cond-false (is_commit x.step.act) (Some (Final n)) None other) (sym e)
+    free e = grind (arith, undo_is, fault_is, cond-false)

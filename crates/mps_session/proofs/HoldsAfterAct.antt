@@ -1,21 +1,19 @@
 -- What a session keeps after an accepted act is what the view has then.
-use Rattle.std.proofs.Common.{◌≡◌, ◌≢◌, ℕ, zero, suc, ◌+◌, ◌<◌, List, [], ◌∷◌, ◌++◌, length, get_or, set, Option, Some, None, refl, sym, ap, ◌∙◌, subst, arith, ⊎_elim, ◌⊎◌, inl, inr}
-use Rattle.std.specs.Prelude.{slice_get, unwrap_or, IsSome}
+use Rattle.std.proofs.Common.{◌≡◌, ℕ, zero, suc, ◌+◌, ◌<◌, List, [], ◌∷◌, ◌++◌, length, get_or, set, Option, Some, None, refl, sym, ap, ◌∙◌, subst, arith, ⊎_elim, ◌⊎◌, inl, inr}
 use Rattle.std.specs.List.{AllByRecursion}
 use mathlib.Core.Path.{ap₂}
 use Rattle.std.proofs.lemmas.Bool.{cases_eq}
 use Rattle.std.proofs.lemmas.List.{get_or-set_same, get_or-set_other, length-set, map-append}
-use Rattle.mps_base.specs.Effects.{Effect, Gives, Takes, Idle, effect}
+use Rattle.mps_base.specs.Effects.{effect}
 use Rattle.mps_base.specs.RoleLists.{HasRoleCount}
 use Rattle.mps_base.specs.declared.action.Act.{Act}
-use Rattle.mps_base.specs.declared.action.Act.TheVariants.{Out, In, Mark, Commit}
 use Rattle.mps_base.specs.declared.action.Message.{Message}
 use Rattle.mps_base.specs.declared.action.Step.{Step}
 use Rattle.mps_history.specs.Steps.{unreceived}
 use Rattle.mps_local.specs.Local.{LocalType}
 use Rattle.mps_local.specs.Shape.{IsOtherRole}
 use Rattle.mps_machine.specs.View.{Participant, View, opening, type_at}
-use Rattle.mps_machine.specs.Rule.{first_of, moved_by_effect, moved, participant_after, view_after, replay}
+use Rattle.mps_machine.specs.Rule.{moved, participant_after, view_after, replay}
 use Rattle.mps_machine.specs.Violations.{violation}
 use Rattle.mps_machine.specs.Machine.{State, initial, most_numbers, view_of, accepted, IsSound}
 use Rattle.mps_machine.proofs.Defined.{allowed_step}
@@ -28,20 +26,12 @@ use Rattle.mps_arena.proofs.Matched.{sound_nil}
 use Rattle.mps_log.specs.Joins.{joining}
 use Rattle.mps_log.proofs.Waiting.{first_waits}
 use Rattle.mps_table.specs.Standing.{StandsFor}
-use Rattle.mps_session.specs.Private.Configurations.{Lists, cursor_of, state_of, logged, moved_for, moved_in, IsReady, IsReadyEffect, HasActed}
+use Rattle.mps_session.specs.Private.Configurations.{Lists, cursor_of, state_of, logged, moved_in, IsReady, IsReadyEffect, HasActed}
 use Rattle.mps_session.specs.Private.Cursors.{IsFor, nowhere, went}
 use Rattle.mps_session.specs.declared.cursor.Cursor.{Cursor}
 use Rattle.mps_session.specs.Private.Invariant.{AreCursors, ArePlaced, Holds}
 use Rattle.mps_session.specs.Private.Opening.{AreStarts, IsOpening}
 use Rattle.mps_session.specs.Peers.{HasPeers, HavePeers}
-
-get_first : (queue : List Message) → slice_get queue 0 ≡ first_of queue
-get_first [] = refl
-get_first (m ∷ queue) = refl
-
-first_is_some : (queue : List Message) → 0 < length queue → IsSome (slice_get queue 0)
-first_is_some [] h = absurd (omega arith)
-first_is_some (m ∷ queue) h = refl
 
 -- where one more stands last, a place is an old one or the last
 split_push : (es a b : List KeyedStep) (e y : KeyedStep) → es ++ e ∷ [] ≡ a ++ y ∷ b → ((c : List KeyedStep) × (es ≡ a ++ y ∷ c)) ⊎ ((a ≡ es) × (y ≡ e))
@@ -63,13 +53,7 @@ all_push P (y ∷ xs) x a p = (a.0, all_push P xs x a.1 p)
 
 -- each role keeps its table
 pub same_table : (cursors : List Cursor) (p r : ℕ) (node : ℕ) → p < length cursors → (get_or (set cursors p (went node (get_or cursors p nowhere))) r nowhere).table ≡ (get_or cursors r nowhere).table
-same_table cursors p r node inside =
-    ⊎_elim
-    (λ (e : r ≡ p). ap (λ (k : ℕ). (get_or (set cursors p (went node (get_or cursors p nowhere))) k nowhere).table) e
-    ∙ ap (λ (x : Cursor). x.table) (get_or-set_same cursors p (went node (get_or cursors p nowhere)) nowhere inside)
-    ∙ ap (λ (k : ℕ). (get_or cursors k nowhere).table) (sym e))
-    (λ (ne : r ≢ p). ap (λ (x : Cursor). x.table) (get_or-set_other cursors p r (went node (get_or cursors p nowhere)) nowhere ne))
-    (cases_eq r p)
+same_table cursors p r node inside = grind (arith, get_or-set_same, inside, get_or-set_other, cases_eq)
 
 module _ (types : List LocalType) (c : Lists) (holds : Holds types c) where
   abbrev pub n : ℕ
@@ -93,12 +77,7 @@ module _ (types : List LocalType) (c : Lists) (holds : Holds types c) where
 
   -- so an act moves the message that it moves in the view
   pub moves_the_same : (p : ℕ) (act : Act) → moved_in c p act ≡ moved v p act
-  moves_the_same p act = by_effect (effect act)
-    where
-      by_effect : (e : Effect) → moved_for c p e ≡ moved_by_effect v p e
-      by_effect (Gives to m) = refl
-      by_effect (Takes from slot) = get_first (unreceived from p h) ∙ ap first_of (sym (waits_there from p))
-      by_effect Idle = refl
+  moves_the_same p act = grind (arith, waits_there)
 
   module _ (p : ℕ) (act : Act) (fine : violation v p act ≡ None) where
     abbrev step : Step
@@ -108,19 +87,11 @@ module _ (types : List LocalType) (c : Lists) (holds : Holds types c) where
     pub moves_on : (after : Participant) × (participant_after (v.participant p) act (moved_in c p act) ≡ Some after)
     moves_on =
         let k = allowed_step v step fine in
-        let parts = rule_parts v k.0 step k.1 in
-        (parts.0, subst (λ (m : Option Message). participant_after (v.participant p) act m ≡ Some parts.0) (sym (moves_the_same p act)) parts.1)
+        grind (arith, rule_parts v k.0 step k.1, moves_the_same p act)
 
   -- an allowed act names a role of the session, and finds the message that it takes
   ready_act : (p : ℕ) (before after : Participant) (act : Act) → Speaks (IsOtherRole n p) act → participant_after before act (moved_in c p act) ≡ Some after → IsReadyEffect c p (effect act)
-  ready_act p before after (Out to m) s e = omega (arith, holds.roles.few, s.0)
-  ready_act p before after (In from slot) s e =
-      let queue = unreceived from p h in
-      let found : participant_after before (In from slot) (first_of queue) ≡ Some after = subst (λ (m : Option Message). participant_after before (In from slot) m ≡ Some after) (get_first queue) e in
-      let some = first_is_some queue (a_receipt_finds before after queue from slot found) in
-      (omega (arith, holds.roles.few, s.0), first_waits c.entries holds.kept from p some)
-  ready_act p before after (Mark name) s e = tt
-  ready_act p before after Commit s e = tt
+  ready_act p before after act s e = grind (arith, a_receipt_finds, first_waits)
 
   module _ (p : ℕ) (act : Act) (less : p < n) (fine : violation v p act ≡ None) (after : Participant) (moves : participant_after (v.participant p) act (moved_in c p act) ≡ Some after) where
     abbrev then : Step
@@ -136,9 +107,7 @@ module _ (types : List LocalType) (c : Lists) (holds : Holds types c) where
     ready = (omega (arith, holds.roles.few, less), ready_act p (v.participant p) after act peers_then.0 moves)
 
     new_view : view_of types (h ++ then ∷ []) ≡ view_after v then after
-    new_view =
-        ap (λ (o : Option View). unwrap_or o (opening types))
-        (replay-append (opening types) v h (then ∷ []) replayed ∙ replay_from v (view_after v then after) then [] (rule_from v then after stepped))
+    new_view = cc (replay-append (opening types) v h (then ∷ []) replayed, replay_from v (view_after v then after) then [] (rule_from v then after stepped))
 
     module _ (node : ℕ) (stands : StandsFor (cursor_of c p).table node after.to_come) (next : Lists) (acted : HasActed p act node c next) where
       abbrev new : Cursor
@@ -167,17 +136,8 @@ module _ (types : List LocalType) (c : Lists) (holds : Holds types c) where
                 (λ ne. subst (λ (x : Cursor). IsFor x (v.participant r).to_come) (sym (get_or-set_other c.cursors p r new nowhere ne)) (holds.cursors.each r within));
           }
 
-      table_then : (r : ℕ) → (cursor_of next r).table ≡ (cursor_of c r).table
-      table_then r = ap (λ (l : List Cursor). (get_or l r nowhere).table) acted.cursors ∙ same_table c.cursors p r node inside
-
       placed_then : ArePlaced types next
-      placed_then a b y e =
-          ⊎_elim
-          (λ (w : (d : List KeyedStep) × (c.entries ≡ a ++ y ∷ d)).
-          rw (table_then y.step.role) (holds.placed a w.0 y w.1))
-          (λ (w : (a ≡ c.entries) × (y ≡ last)).
-          rw (table_then y.step.role, w.1, w.0) (holds.cursors.each p less))
-          (split_push c.entries a b last y (sym acted.joined.entries ∙ e))
+      placed_then a b y e = grind (arith, same_table, inside, split_push)
 
       -- what is kept after an allowed act is the view of the steps
       pub acted_holds : c.issued < most_numbers → Holds types next
@@ -194,9 +154,8 @@ module _ (types : List LocalType) (c : Lists) (holds : Holds types c) where
 
 starts_long : (types : List LocalType) (cursors : List Cursor) → AreStarts types cursors → length cursors ≡ length types
 starts_long [] [] a = refl
-starts_long [] (x ∷ cursors) a = absurd a
-starts_long (t ∷ types) [] a = absurd a
 starts_long (t ∷ types) (x ∷ cursors) a = ap suc (starts_long types cursors a.1)
+starts_long other others a = absurd a
 
 start_at : (types : List LocalType) (cursors : List Cursor) (p : ℕ) → AreStarts types cursors → p < length types → IsFor (get_or cursors p nowhere) (type_at types p)
 start_at [] cursors p a h = absurd (omega arith)
@@ -213,11 +172,7 @@ opened_holds types c count peers o = record {
   members = subst (AllByRecursion (λ (y : KeyedStep). y.step.role < length types)) (sym o.entries) tt;
   kept = subst AreSound (sym o.entries) sound_nil;
   cursors = subst (λ (l : List KeyedStep). AreCursors (length types) c.cursors (view_of types (steps l))) (sym o.entries)
-      (record {
-        long = starts_long types c.cursors o.cursors;
-        peers = peers;
-        each = λ p h. start_at types c.cursors p o.cursors h;
-      });
+      (grind (arith, starts_long, start_at));
   placed = λ a b e h. absurd (nowhere_in a b e (sym o.entries ∙ h));
   few = omega (arith, o.issued);
 }

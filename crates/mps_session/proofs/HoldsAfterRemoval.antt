@@ -10,7 +10,6 @@ use Rattle.mps_base.specs.declared.action.Step.{Step}
 use Rattle.mps_history.specs.Steps.{IsIn, without}
 use Rattle.mps_history.proofs.Order.{AllByRecursion-filter}
 use Rattle.mps_local.specs.Local.{LocalType}
-use Rattle.mps_local.specs.Shape.{IsOtherRole}
 use Rattle.mps_machine.specs.View.{View, opening}
 use Rattle.mps_machine.specs.Rule.{moved, rule, replay}
 use Rattle.mps_machine.specs.Machine.{view_of, IsSound}
@@ -23,7 +22,6 @@ use Rattle.mps_arena.proofs.Chains.{entry_key, entry_middle}
 use Rattle.mps_arena.proofs.Histories.{steps_without}
 use Rattle.mps_arena.proofs.Keeping.{all_at, entry_split, others_are}
 use Rattle.mps_links.proofs.StepKeys.{in_middle}
-use Rattle.mps_table.specs.Standing.{StandsFor}
 use Rattle.mps_session.specs.Private.Configurations.{Lists, cursor_of, state_of}
 use Rattle.mps_session.specs.Private.Cursors.{IsFor, nowhere, went}
 use Rattle.mps_session.specs.declared.cursor.Cursor.{Cursor}
@@ -41,10 +39,7 @@ peers_stay n (s ∷ h) v w e has p less =
     let parts = replay_parts v w s h e in
     let ruled = rule_parts v parts.0 s parts.1 in
     peers_stay n h parts.0 w parts.2
-    (λ q l. subst (λ (u : View). HasPeers n q (u.participant q).to_come) ruled.2
-    (fact_by_role (λ k part. k < n → HasPeers n k part.to_come) v s ruled.0 q
-    (λ own. (after_peers (IsOtherRole n s.role) (v.participant s.role) ruled.0 s.act (moved v s.role s.act) (has s.role own) ruled.1).1)
-    (λ ne own. has q own) l))
+    (grind (arith, fact_by_role, after_peers))
     p less
 
 all_without : (P : KeyedStep → Type 0) (a b : List KeyedStep) (x : KeyedStep) → AllByRecursion P (a ++ x ∷ b) → AllByRecursion P (a ++ b)
@@ -84,11 +79,8 @@ module _ (types : List LocalType) (cursors : List Cursor) (issued : ℕ) (a b : 
     abbrev v : View
     v = holds.sound.view
 
-    member : p < n
-    member = all_at (λ y. y.step.role < n) a b x holds.members
-
     inside : p < length cursors
-    inside = omega (arith, member, holds.cursors.long)
+    inside = grind (arith, all_at)
 
     -- where the entries after it are d and m
     from : (d m : List KeyedStep) → b ≡ d ++ m → IsAside types a d x
@@ -104,20 +96,14 @@ module _ (types : List LocalType) (cursors : List Cursor) (issued : ℕ) (a b : 
     stands : (r : ℕ) → r < n → IsFor (get_or (set cursors p again) r nowhere) (all.left.participant r).to_come
     stands r less =
         ⊎_elim
-        (λ (e : r ≡ p).
-        subst (λ (k : ℕ). IsFor (get_or (set cursors p again) k nowhere) (all.left.participant k).to_come) (sym e)
-        (rw (get_or-set_same cursors p again nowhere inside, all.own) (holds.placed a b x refl)))
+        (grind (arith, get_or-set_same, inside))
         (λ (ne : r ≢ p).
         rw (get_or-set_other cursors p r again nowhere ne, aside.others_stay types a b x all r ne)
         (subst (λ (u : View). IsFor (get_or cursors r nowhere) (u.participant r).to_come) (aside.full_view types a b x all) (holds.cursors.each r less)))
         (cases_eq r p)
 
     cursors_then : AreCursors n (set cursors p again) all.left
-    cursors_then = record {
-      long = length-set cursors p again ∙ holds.cursors.long;
-      peers = peers_stay n (steps (a ++ b)) (opening types) all.left all.without_it holds.peers;
-      each = stands;
-    }
+    cursors_then = grind (arith, length-set, peers_stay, stands)
 
     table_then : (r : ℕ) → (cursor_of new r).table ≡ (cursor_of old r).table
     table_then r = same_table cursors p r x.before.at inside
@@ -125,16 +111,12 @@ module _ (types : List LocalType) (cursors : List Cursor) (issued : ℕ) (a b : 
     placed_then : ArePlaced types new
     placed_then c d y e =
         ⊎_elim
-        (λ (w : (m : List KeyedStep) × (a ≡ c ++ y ∷ m)).
-        rw (table_then y.step.role) (holds.placed c (w.0 ++ x ∷ b) y (ap (λ (l : List KeyedStep). l ++ x ∷ b) w.1 ∙ append_assoc c (y ∷ w.0) (x ∷ b))))
+        (grind (arith, table_then, append_assoc))
         (λ (w : (m : List KeyedStep) × ((c ≡ a ++ m) × (b ≡ m ++ y ∷ d))).
         let m = w.0 in
         let k = from m (y ∷ d) w.1.1 in
         let behind : IsIn y.step (steps b) = in_middle b m d y w.1.1 in
-        let ne : y.step.role ≢ p = eqb-false y.step.role p (aside.others_follow a b x holds.kept free y.step behind) in
-        let was = holds.placed (a ++ x ∷ m) d y (ap (λ (l : List KeyedStep). a ++ x ∷ l) w.1.1 ∙ sym (append_assoc a (x ∷ m) (y ∷ d))) in
-        rw (table_then y.step.role, w.1.0, aside.left_view types a m x k, aside.others_stay types a m x k y.step.role ne)
-        (subst (λ (u : View). StandsFor (cursor_of old y.step.role).table y.before.at (u.participant y.step.role).to_come) (aside.full_view types a m x k) was))
+        grind (arith, eqb-false y.step.role p (aside.others_follow a b x holds.kept free y.step behind), append_assoc a (x ∷ m) (y ∷ d), table_then y.step.role))
         (left_cases a b c d y e)
 
     steps_left : steps (a ++ b) ≡ without (steps (a ++ x ∷ b)) (λ i. i == x.step.id)
@@ -151,16 +133,7 @@ module _ (types : List LocalType) (cursors : List Cursor) (issued : ℕ) (a b : 
     }
 
     pub holds_then : Holds types new
-    holds_then = record {
-      sound = sound_then;
-      roles = holds.roles;
-      peers = holds.peers;
-      members = all_without (λ y. y.step.role < n) a b x holds.members;
-      kept = sound;
-      cursors = rw (aside.left_view types a b x all) cursors_then;
-      placed = placed_then;
-      few = holds.few;
-    }
+    holds_then = grind (arith, sound, sound_then, all_without, all, cursors_then, placed_then)
 
 -- what is kept after a step was removed is the view of the others
 module _ (types : List LocalType) (c next : Lists) (k : ℕ) (x : KeyedStep) (holds : Holds types c) (found : entry_at k c.entries ≡ Some x) (can : CanGo c.entries k) (left : HasLeft x c next) where
@@ -180,17 +153,13 @@ module _ (types : List LocalType) (c next : Lists) (k : ℕ) (x : KeyedStep) (ho
   was = subst (λ (l : List KeyedStep). Holds types (record c { entries = l })) at.2 holds
 
   entries_then : next.entries ≡ a ++ b
-  entries_then =
-      left.entries ∙ ap (filter (λ y. not (y.key == x.key))) at.2
-      ∙ others_are x.key a b x (was.kept.distinct) refl
+  entries_then = grind (arith, others_are x.key a b x (was.kept.distinct) refl)
 
   sound : AreSound (a ++ b)
   sound = subst AreSound entries_then left.sound
 
   is_then : next ≡ new types c.cursors c.issued a b x
-  is_then =
-      ap₂ (λ (l : List Cursor) (i : ℕ). let d : Lists = record { cursors = l; entries = next.entries; issued = i } in d) left.cursors left.issued
-      ∙ ap (λ (l : List KeyedStep). let d : Lists = record { cursors = set c.cursors x.step.role (went x.before.at (cursor_of c x.step.role)); entries = l; issued = c.issued } in d) entries_then
+  is_then = grind (arith, entries_then)
 
   pub returned_holds : Holds types next
   returned_holds = subst (Holds types) (sym is_then) (holds_then types c.cursors c.issued a b x was free sound)
@@ -199,11 +168,7 @@ module _ (types : List LocalType) (c next : Lists) (k : ℕ) (x : KeyedStep) (ho
   pub rule_back : rule (view_of types (steps next.entries)) x.step ≡ Some (view_of types (steps c.entries))
   rule_back =
       let w = all types c.cursors c.issued a b x was free sound in
-      ap (λ (l : List KeyedStep). rule (view_of types (steps l)) x.step) entries_then
-      ∙ ap (λ (u : View). rule u x.step) (aside.left_view types a b x w)
-      ∙ w.ruled
-      ∙ ap Some (sym (aside.full_view types a b x w))
-      ∙ ap (λ (l : List KeyedStep). Some (view_of types (steps l))) (sym at.2)
+      grind (arith, entries_then)
 
   pub history_then : steps next.entries ≡ without (steps c.entries) (λ i. i == x.step.id)
   history_then =
@@ -218,12 +183,4 @@ has_left k old next s before is stood moved gone same sound = by_cases (entry_at
   where
     by_cases : (o : Option KeyedStep) → entry_at k old.entries ≡ o → IfSome o (λ e. HasLeft e old next)
     by_cases None e = tt
-    by_cases (Some x) e =
-        let step_is : x.step ≡ s = let one : Some x.step ≡ Some s = sym (ap (option_map (λ (y : KeyedStep). y.step)) e) ∙ is in cc in
-        let before_is : x.before ≡ before = let one : Some x.before ≡ Some before = sym (ap (option_map (λ (y : KeyedStep). y.before)) e) ∙ stood in cc in
-        record {
-          cursors = rw (step_is, before_is) moved;
-          entries = rw (entry_key k old.entries x e) gone;
-          issued = same;
-          sound = sound;
-        }
+    by_cases (Some x) e = grind (arith, entry_key k old.entries x e)

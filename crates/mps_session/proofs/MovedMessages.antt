@@ -1,12 +1,11 @@
 -- The message that each step moved, by the entries and by the replay.
-use Rattle.std.proofs.Common.{◌≡◌, ℕ, ◌<◌, List, [], ◌∷◌, ◌++◌, length, Option, Some, refl, sym, ap, ◌∙◌, subst, arith, append_assoc, None}
+use Rattle.std.proofs.Common.{◌≡◌, ℕ, ◌<◌, List, [], ◌∷◌, ◌++◌, length, Option, Some, refl, sym, ap, ◌∙◌, arith, append_assoc}
 use mathlib.Core.Path.{ap₂}
 use Rattle.std.specs.Prelude.{slice_get, unwrap_or}
-use Rattle.std.specs.Option.{option_and_then, option_or, option_map}
+use Rattle.std.specs.Option.{option_and_then, option_or}
 use Rattle.std.proofs.lemmas.List.{map-append}
-use Rattle.mps_base.specs.Effects.{Idle, effect}
 use Rattle.mps_base.specs.declared.action.Act.{Act}
-use Rattle.mps_base.specs.declared.action.Act.TheVariants.{Out, In, Mark, Commit}
+use Rattle.mps_base.specs.declared.action.Act.TheVariants.{In}
 use Rattle.mps_base.specs.declared.action.Message.{Message}
 use Rattle.mps_base.specs.declared.action.Step.{Step}
 use Rattle.mps_history.specs.Steps.{unreceived}
@@ -16,7 +15,7 @@ use Rattle.mps_machine.specs.Rule.{first_of, moved, participant_after, replay}
 use Rattle.mps_machine.specs.Machine.{view_of}
 use Rattle.mps_machine.proofs.Stepping.{rule_parts, replay_parts, replay-append, a_receipt_finds}
 use Rattle.mps_machine.proofs.Unreceived.{queue_is}
-use Rattle.mps_arena.specs.Entries.{KeyedStep, steps, entry_at, AreSound}
+use Rattle.mps_arena.specs.Entries.{KeyedStep, steps, AreSound}
 use Rattle.mps_arena.specs.Neighbours.{waiting}
 use Rattle.mps_arena.proofs.Chains.{entry_middle}
 use Rattle.mps_arena.proofs.Matched.{sound_left, last_fresh}
@@ -44,8 +43,7 @@ first_is [] h = absurd (omega arith)
 first_is (m ∷ queue) h = (m, refl)
 
 get_first : (queue : List Message) → slice_get queue 0 ≡ first_of queue
-get_first [] = refl
-get_first (x ∷ queue) = refl
+get_first queue = grind arith
 
 module _ (types : List LocalType) where
   module _ (a b : List KeyedStep) (e : KeyedStep) (v : View) (c : Participant) (sound : AreSound (a ++ e ∷ b)) (before : replay (opening types) (steps a) ≡ Some v) where
@@ -55,24 +53,15 @@ module _ (types : List LocalType) where
     abbrev r : ℕ
     r = e.step.role
 
-    here : entry_at e.key es ≡ Some e
-    here = entry_middle a b e sound.distinct
-
-    moves_nothing : effect e.step.act ≡ Idle → message_taken es e.key ≡ None
-    moves_nothing idle = ap (option_and_then (message_of es)) (idle_has_none es e.key e.step (ap (option_map (λ (x : KeyedStep). x.step)) here) idle)
-
     same_message : (act : Act) → e.step.act ≡ act → participant_after (v.participant r) act (moved v r act) ≡ Some c → option_or (given_by act) (message_taken es e.key) ≡ moved v r act
-    same_message (Out to m) is h = refl
-    same_message (Mark name) is h = moves_nothing (ap effect is)
-    same_message Commit is h = moves_nothing (ap effect is)
     same_message (In from slot) is h =
         let first = first_is (v.queue from r) (a_receipt_finds (v.participant r) c (v.queue from r) from slot h) in
         let waits : option_and_then (message_of a) (waiting a from r) ≡ Some first.0 =
         first_message a (sound_left a (e ∷ b) sound) from r ∙ get_first (unreceived from r (steps a)) ∙ ap first_of (sym (queue_is (opening types) v (steps a) from r before)) ∙ first.1 in
         let now = taken_new a e (sound_left a (e ∷ b) sound) (last_fresh a b e sound) from slot first.0 is waits in
         let whole = append_assoc a (e ∷ []) b in
-        let later : message_taken ((a ++ e ∷ []) ++ b) e.key ≡ Some first.0 = taken_stays_all (a ++ e ∷ []) b e.key first.0 (rw whole sound) now in
-        subst (λ (l : List KeyedStep). message_taken l e.key ≡ Some first.0) whole later ∙ sym first.1
+        grind (arith, taken_stays_all)
+    same_message other is h = grind (arith, idle_has_none, entry_middle)
 
   moved_part : (es a b : List KeyedStep) (v w : View) → es ≡ a ++ b → AreSound es → replay (opening types) (steps a) ≡ Some v → replay v (steps b) ≡ Some w → shown es b ≡ moved_from types (steps a) (steps b)
   moved_part es a [] v w is sound before rest = refl
@@ -81,14 +70,10 @@ module _ (types : List LocalType) where
       let ruled = rule_parts v parts.0 e.step parts.1 in
       let whole = append_assoc a (e ∷ []) b in
       let there : replay (opening types) (steps (a ++ e ∷ [])) ≡ Some parts.0 =
-      ap (replay (opening types)) (map-append (λ (x : KeyedStep). x.step) a (e ∷ []))
-      ∙ replay-append (opening types) v (steps a) (e.step ∷ []) before
-      ∙ ap (λ (o : Option View). option_and_then (λ u. Some u) o) parts.1 in
+      cc (map-append (λ (x : KeyedStep). x.step) a (e ∷ []), replay-append (opening types) v (steps a) (e.step ∷ []) before) in
       let view : v ≡ view_of types (steps a) = sym (ap (λ (o : Option View). unwrap_or o (opening types)) before) in
       let one : moved_of es e ≡ moved (view_of types (steps a)) e.step.role e.step.act =
-      ap (λ (l : List KeyedStep). moved_of l e) is
-      ∙ same_message a b e v ruled.0 (subst AreSound is sound) before e.step.act refl ruled.1
-      ∙ ap (λ (u : View). moved u e.step.role e.step.act) view in
+      grind (arith, same_message) in
       ap₂ (λ (o : Option Message) (l : List Moved). (e.step, o) ∷ l) one
       (moved_part es (a ++ e ∷ []) b parts.0 w (is ∙ sym whole) sound there parts.2
       ∙ ap (λ (h : List Step). moved_from types h (steps b)) (map-append (λ (x : KeyedStep). x.step) a (e ∷ [])))

@@ -1,5 +1,5 @@
 -- The steps of a set are those whose numbers are told.
-use Rattle.std.proofs.Common.{◌≡◌, ℕ, Bool, true, false, List, [], ◌∷◌, reverse, refl, sym, ap, ◌∙◌, ⊎_elim, inl, inr, eq-eqb}
+use Rattle.std.proofs.Common.{arith, ◌≡◌, ℕ, Bool, true, false, List, [], ◌∷◌, reverse, refl, sym, ap, ◌∙◌, ⊎_elim, inl, inr, eq-eqb}
 use Rattle.std.specs.Prelude.{◌==◌}
 use Rattle.std.proofs.lemmas.Bool.{cases_Bool, cond-true, cond-false, eqb-true, or_cases, or_left, or_right, false_from_ne_true}
 use Rattle.std.proofs.lemmas.List.Sorted.{IsPermutation-reverse, list_any-IsPermutation}
@@ -18,17 +18,8 @@ within_no set s h f = cond-false (set s.id) (s ∷ within h set) (within h set) 
 -- the number of a step of the set is told
 kept : (set : ℕ → Bool) (h : List Step) (s : Step) → IsIn s h → set s.id ≡ true → is_among (numbers (within h set)) s.id ≡ true
 kept set [] s i t = absurd i
-kept set (x ∷ h) s (inl e) t =
-    let same : x.id ≡ s.id = ap (λ (y : Step). y.id) (sym e) in
-    ap (λ (l : List Step). is_among (numbers l) s.id) (within_yes set x h (ap set same ∙ t))
-    ∙ or_left (x.id == s.id) (is_among (numbers (within h set)) s.id) (eq-eqb x.id s.id same)
-kept set (x ∷ h) s (inr i) t =
-    let rest = kept set h s i t in
-    ⊎_elim
-    (λ (y : set x.id ≡ true).
-    ap (λ (l : List Step). is_among (numbers l) s.id) (within_yes set x h y) ∙ or_right (x.id == s.id) (is_among (numbers (within h set)) s.id) rest)
-    (λ (f : set x.id ≡ false). ap (λ (l : List Step). is_among (numbers l) s.id) (within_no set x h f) ∙ rest)
-    (cases_Bool (set x.id))
+kept set (x ∷ h) s (inl e) t = grind (arith, within_yes, or_left, eq-eqb)
+kept set (x ∷ h) s (inr i) t = grind (arith, cond-true, or_right, cond-false, cases_Bool, kept set h s i t)
 
 -- and no other number
 only : (set : ℕ → Bool) (h : List Step) (n : ℕ) → is_among (numbers (within h set)) n ≡ true → set n ≡ true
@@ -48,16 +39,7 @@ told_reversed ids n = sym (list_any-IsPermutation (λ m. m == n) ids (reverse id
 
 -- the steps of a set, by their numbers in any order
 pub within_told : (h : List Step) (set : ℕ → Bool) (ids : List ℕ) → ids ≡ reverse (numbers (within h set)) → within h (is_among ids) ≡ within h set
-within_told h set ids is =
-    filter-same (λ s. is_among ids s.id) (λ s. set s.id) h
-    (from_members (λ s. is_among ids s.id ≡ set s.id) h
-    (λ s i.
-    ap (λ (l : List ℕ). is_among l s.id) is ∙ told_reversed (numbers (within h set)) s.id
-    ∙ ⊎_elim
-    (λ (y : set s.id ≡ true). kept set h s i y ∙ sym y)
-    (λ (f : set s.id ≡ false).
-    false_from_ne_true (is_among (numbers (within h set)) s.id) (λ t. let no = only set h s.id t in absurd cc) ∙ sym f)
-    (cases_Bool (set s.id))))
+within_told h set ids is = grind (arith, filter-same, from_members, told_reversed, kept, false_from_ne_true, only, cases_Bool)
 
 -- no number tells no step
 pub within_none : (h : List Step) (ids : List ℕ) → ids ≡ [] → within h (is_among ids) ≡ []

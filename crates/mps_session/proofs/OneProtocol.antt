@@ -31,10 +31,7 @@ pub no_bad_peer : (types : List LocalType) → AreOfOneProtocol types → (p : �
 no_bad_peer types own p first = first.bad ((can_open types own).peers p first.within)
 
 pub no_fault : (types : List LocalType) → AreOfOneProtocol types → (p : ℕ) (fault : LocalFault) → IsFirstFaulty types p fault → ⊥
-no_fault types own p fault first =
-    let none = (can_open types own).faultless p first.least.within in
-    let some = first.least.faulty in
-    absurd cc
+no_fault types own p fault first = grind (arith, can_open)
 
 -- and no command is refused there for the message that waits
 pub no_mismatch : (types : List LocalType) (st : State) (p : ℕ) (command : Forward) (refusal : Refusal) → IsSound types st → IsAnswer (Err refusal) (forward types st p (act_of command)).0 → AreOfOneProtocol types → refusal ≢ Violates Mismatch

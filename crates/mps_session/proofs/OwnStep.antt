@@ -1,5 +1,5 @@
 -- The entry of a number, and whose step it is.
-use Rattle.std.proofs.Common.{◌≡◌, ℕ, true, false, List, [], ◌∷◌, Option, Some, None, refl, sym, ap, ◌∙◌, subst, ⊎_elim}
+use Rattle.std.proofs.Common.{arith, ◌≡◌, ℕ, true, false, List, [], ◌∷◌, Option, Some, None, refl, sym, ap, ◌∙◌, subst, ⊎_elim}
 use Rattle.std.specs.Prelude.{◌==◌}
 use Rattle.std.specs.List.{find}
 use Rattle.std.specs.Option.{option_map}
@@ -21,9 +21,7 @@ pub nothing_numbered : (es : List KeyedStep) (n : ℕ) → key_of es n ≡ None 
 nothing_numbered [] n e = refl
 nothing_numbered (x ∷ es) n e =
     ⊎_elim
-    (λ (t : (x.step.id == n) ≡ true).
-    let no : Some x.key ≡ None = sym (ap (option_map (λ (y : KeyedStep). y.key)) (cond-true (x.step.id == n) (Some x) (find (λ y. y.step.id == n) es) t)) ∙ e in
-    absurd cc)
+    (grind (arith, cond-true))
     (λ (f : (x.step.id == n) ≡ false).
     cond-false (x.step.id == n) (Some x.step) (step_of (steps es) n) f
     ∙ nothing_numbered es n (sym (ap (option_map (λ (y : KeyedStep). y.key)) (cond-false (x.step.id == n) (Some x) (find (λ y. y.step.id == n) es) f)) ∙ e))
@@ -40,11 +38,8 @@ module _ (es : List KeyedStep) (sound : AreSound es) (n k : ℕ) (at : key_of es
   pub number : entry.step.id ≡ n
   number = it.number
 
-  same_key : entry.key ≡ k
-  same_key = let one : Some entry.key ≡ Some k = sym it.key ∙ at in cc
-
   pub found : entry_at k es ≡ Some entry
-  found = subst (λ (j : ℕ). entry_at j es ≡ Some entry) same_key (entry_in es sound.distinct sound.rising it.before it.behind entry it.parts)
+  found = grind (arith, entry_in)
 
   pub step_found : step_of (steps es) n ≡ Some entry.step
   step_found = subst (λ (m : ℕ). step_of (steps es) m ≡ Some entry.step) number (step_of_member (steps es) entry.step sound.rising (in_middle es it.before it.behind entry it.parts))
@@ -60,8 +55,4 @@ module _ (es : List KeyedStep) (sound : AreSound es) (n k : ℕ) (at : key_of es
     not_owned f = owner_is ∙ cond-false (entry.step.role == p) None (Some NotYours) f
 
     pub owner : owner_fault p (step_of (steps es) n) ≡ None → entry.step.role ≡ p
-    owner e =
-        ⊎_elim
-        (λ (t : (entry.step.role == p) ≡ true). eqb-true entry.step.role p t)
-        (λ (f : (entry.step.role == p) ≡ false). let no : Some NotYours ≡ None = sym (not_owned f) ∙ e in absurd cc)
-        (cases_Bool (entry.step.role == p))
+    owner e = grind (arith, eqb-true, not_owned, cases_Bool)

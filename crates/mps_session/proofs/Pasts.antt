@@ -1,6 +1,6 @@
 -- What each role did, by the entries and by the replay.
-use Rattle.std.proofs.Common.{◌≡◌, ℕ, ◌<◌, ◌≤◌, true, false, List, [], ◌∷◌, ◌++◌, Option, Some, refl, sym, ap, ◌∙◌, subst, arith, ⊎_elim, inl, append_assoc, append-nil}
-use Rattle.std.specs.Prelude.{◌==◌, map, unwrap_or}
+use Rattle.std.proofs.Common.{◌≡◌, ℕ, ◌<◌, ◌≤◌, true, false, List, [], ◌∷◌, ◌++◌, Some, refl, sym, ap, ◌∙◌, arith, inl, append_assoc, append-nil}
+use Rattle.std.specs.Prelude.{◌==◌, map}
 use Rattle.std.specs.List.{filter, AllByRecursion}
 use Rattle.std.proofs.lemmas.Bool.{cases_Bool, cases_lt, cond-true, cond-false, eqb-true, eqb-false, ne_eqb}
 use Rattle.std.proofs.lemmas.List.{map-append}
@@ -9,8 +9,7 @@ use Rattle.mps_base.specs.declared.action.Step.{Step}
 use Rattle.mps_history.specs.Swaps.{Swaps}
 use Rattle.mps_local.specs.Local.{LocalType}
 use Rattle.mps_machine.specs.View.{Deed, View, opening}
-use Rattle.mps_machine.specs.Rule.{moved, replay}
-use Rattle.mps_machine.specs.Machine.{view_of}
+use Rattle.mps_machine.specs.Rule.{replay}
 use Rattle.mps_machine.proofs.Stepping.{replay_parts, replay_from, replay-append}
 use Rattle.mps_machine.proofs.Swapping.{past_of, past_step, past_stays, one_past_is_one_view, one_view_by_swaps, swaps_lead_to_one_view}
 use Rattle.mps_arena.specs.Entries.{KeyedStep, steps, keys_of, of_role, IsSmall, AreSound}
@@ -36,10 +35,7 @@ module _ (p : ℕ) where
   did es part = deeds_of p (shown es part)
 
   pub did-append : (es a b : List KeyedStep) → did es (a ++ b) ≡ did es a ++ did es b
-  did-append es a b =
-      ap (deeds_of p) (map-append (λ (e : KeyedStep). (e.step, moved_of es e)) a b)
-      ∙ ap (λ (l : List Moved). map deed_of l) (filter-append (λ (m : Moved). m.0.role == p) (shown es a) (shown es b))
-      ∙ map-append deed_of (filter (λ (m : Moved). m.0.role == p) (shown es a)) (filter (λ (m : Moved). m.0.role == p) (shown es b))
+  did-append es a b = grind (arith, map-append, filter-append)
 
   pub did_own : (es b : List KeyedStep) (y : KeyedStep) → (y.step.role == p) ≡ true → did es (y ∷ b) ≡ deed_of (y.step, moved_of es y) ∷ did es b
   did_own es b y t = deeds_with (y.step, moved_of es y) (shown es b) t
@@ -56,37 +52,17 @@ module _ (p : ℕ) where
   -- a role that no session has did nothing
   did_stranger : (es b : List KeyedStep) → 8 ≤ p → AllByRecursion (λ e. IsSmall e.step) b → did es b ≡ []
   did_stranger es [] large small = refl
-  did_stranger es (y ∷ b) large small =
-      let few : y.step.role < 8 = small.0.0 in
-      did_other es b y (ne_eqb y.step.role p (λ e. omega arith)) ∙ did_stranger es b large small.1
+  did_stranger es (y ∷ b) large small = grind (arith, cond-false, ne_eqb, did_stranger es b large small.1)
 
   -- a replay puts what its steps did after the past
   past_from : (types : List LocalType) (a b : List Step) (v w : View) → replay (opening types) a ≡ Some v → replay v b ≡ Some w → past_of w p ≡ past_of v p ++ deeds_of p (moved_from types a b)
-  past_from types a [] v w ea eb =
-      let same : w ≡ v = cc in
-      ap (λ (u : View). past_of u p) same ∙ sym (append-nil (past_of v p))
+  past_from types a [] v w ea eb = cc (append-nil (past_of v p))
   past_from types a (s ∷ b) v w ea eb =
       let parts = replay_parts v w s b eb in
       let u = parts.0 in
       let there : replay (opening types) (a ++ s ∷ []) ≡ Some u = replay-append (opening types) v a (s ∷ []) ea ∙ replay_from v u s [] parts.1 in
       let rest = past_from types (a ++ s ∷ []) b u w there parts.2 in
-      let more = moved_from types (a ++ s ∷ []) b in
-      let m : Moved = (s, moved (view_of types a) s.role s.act) in
-      let view : v ≡ view_of types a = sym (ap (λ (o : Option View). unwrap_or o (opening types)) ea) in
-      ⊎_elim
-      (λ (t : (s.role == p) ≡ true).
-      let own = subst (λ (k : ℕ). past_of u k ≡ past_of v k ++ record { act = s.act; moved = moved v s.role s.act } ∷ []) (eqb-true s.role p t) (past_step v u s parts.1) in
-      let here = own ∙ ap (λ (x : View). past_of v p ++ record { act = s.act; moved = moved x s.role s.act } ∷ []) view in
-      rest
-      ∙ ap (λ (l : List Deed). l ++ deeds_of p more) here
-      ∙ append_assoc (past_of v p) (deed_of m ∷ []) (deeds_of p more)
-      ∙ ap (λ (l : List Deed). past_of v p ++ l) (sym (deeds_with m more t)))
-      (λ (f : (s.role == p) ≡ false).
-      let other : (p == s.role) ≡ false = ne_eqb p s.role (λ e. eqb-false s.role p f (sym e)) in
-      rest
-      ∙ ap (λ (l : List Deed). l ++ deeds_of p more) (past_stays v u s p parts.1 other)
-      ∙ ap (λ (l : List Deed). past_of v p ++ l) (sym (deeds_without m more f)))
-      (cases_Bool (s.role == p))
+      grind (arith, v, past_of, eqb-true, past_step, append_assoc, deeds_with, ne_eqb, eqb-false, past_stays, deeds_without, cases_Bool)
 
   -- what the entries say that a role did is its past
   past_is : (types : List LocalType) (es : List KeyedStep) (v : View) → AreSound es → replay (opening types) (steps es) ≡ Some v → past_in p es ≡ past_of v p
@@ -95,11 +71,7 @@ module _ (p : ℕ) where
 module _ (types : List LocalType) (a b : List KeyedStep) (v w : View) (sa : AreSound a) (sb : AreSound b) (ea : replay (opening types) (steps a) ≡ Some v) (eb : replay (opening types) (steps b) ≡ Some w) where
   -- where each of eight roles did the same, so did each role
   each_past : ((p : ℕ) → p < 8 → past_in p a ≡ past_in p b) → (p : ℕ) → past_in p a ≡ past_in p b
-  each_past same p =
-      ⊎_elim
-      (λ (small : p < 8). same p small)
-      (λ (large : 8 ≤ p). did_stranger p a a large sa.small ∙ sym (did_stranger p b b large sb.small))
-      (cases_lt p 8)
+  each_past same p = grind (arith, did_stranger, cases_lt)
 
   one_view : ((p : ℕ) → p < 8 → past_in p a ≡ past_in p b) → v ≡ w
   one_view same = one_past_is_one_view types (steps a) (steps b) v w ea eb (λ p. sym (past_is p types a v sa ea) ∙ each_past same p ∙ past_is p types b w sb eb)
@@ -115,19 +87,7 @@ pub record AreTold (a b : List KeyedStep) (m n : SessionState) : Type 0 where
   pub swapped : Swaps m.state.history n.state.history → session_view m ≡ session_view n
 
 told_of : (types : List LocalType) (c d : Lists) → Holds types c → Holds types d → AreTold c.entries d.entries (record { types = types; state = state_of c }) (record { types = types; state = state_of d })
-told_of types c d hc hd =
-    let ec = replayed types c hc in
-    let ed = replayed types d hd in record {
-      views = one_view types c.entries d.entries (v types c hc) (v types d hd) hc.kept hd.kept ec ed;
-      pasts = one_past types c.entries d.entries (v types c hc) (v types d hd) hc.kept hd.kept ec ed;
-      swaps = one_view_by_swaps types (steps c.entries) (steps d.entries) (v types c hc) (v types d hd) ec ed;
-      swapped = swaps_lead_to_one_view types (steps c.entries) (steps d.entries) (v types c hc) (v types d hd) ec ed;
-    }
+told_of types c d hc hd = grind (arith, replayed, one_view, v, one_past, one_view_by_swaps, swaps_lead_to_one_view)
 
 pub told : (types others : List LocalType) (c d : Lists) (m n : SessionState) → Holds types c → Holds others d → record { types = types; state = state_of c } ≡ m → record { types = others; state = state_of d } ≡ n → m.types ≡ n.types → AreTold c.entries d.entries m n
-told types others c d m n hc hd is js same =
-    let one : others ≡ types = ap (λ (k : SessionState). k.types) js ∙ sym same ∙ sym (ap (λ (k : SessionState). k.types) is) in
-    let hd' = subst (λ (l : List LocalType). Holds l d) one hd in
-    let js' : record { types = types; state = state_of d } ≡ n = ap (λ (l : List LocalType). record { types = l; state = state_of d }) (sym one) ∙ js in
-    subst (λ (k : SessionState). AreTold c.entries d.entries k n) is
-    (subst (λ (k : SessionState). AreTold c.entries d.entries (record { types = types; state = state_of c }) k) js' (told_of types c d hc hd'))
+told types others c d m n hc hd is js same = grind (arith, told_of)

@@ -1,7 +1,7 @@
 -- Marked steps removed, the newest first.
-use Rattle.std.proofs.Common.{◌≡◌, ℕ, ◌+◌, ◌<◌, Bool, true, false, List, [], ◌∷◌, ◌++◌, length, map, not, Option, Some, None, refl, sym, ap, ◌∙◌, subst, arith, ⊎_elim, append_assoc, append-nil}
+use Rattle.std.proofs.Common.{◌≡◌, ℕ, ◌+◌, ◌<◌, Bool, true, false, List, [], ◌∷◌, ◌++◌, length, map, not, Option, Some, None, refl, sym, ap, ◌∙◌, subst, arith, ⊎_elim, append_assoc}
 use mathlib.Core.Path.{ap₂}
-use Rattle.std.specs.Prelude.{◌==◌, reverse, unwrap_or, IfSome, IsSomeAnd}
+use Rattle.std.specs.Prelude.{◌==◌, reverse, IfSome}
 use Rattle.std.specs.List.{filter, AllByRecursion}
 use Rattle.std.proofs.lemmas.Bool.{cases_Bool}
 use Rattle.std.proofs.lemmas.List.{map-append, length-set, reverse-append}
@@ -10,14 +10,13 @@ use Rattle.mps_history.specs.Steps.{numbers, within, without}
 use Rattle.mps_history.specs.Dependence.{consequences}
 use Rattle.mps_local.specs.Local.{LocalType}
 use Rattle.mps_history.proofs.Reaching.{consequences_closed}
-use Rattle.mps_machine.specs.View.{View, opening}
 use Rattle.mps_machine.specs.Rule.{replay}
 use Rattle.mps_machine.proofs.Apart.{left_out}
 use Rattle.mps_machine.proofs.Sound.{view_is}
 use Rattle.mps_machine.specs.Machine.{State, view_of, IsSound}
 use Rattle.mps_arena.specs.Entries.{KeyedStep, steps, entry_at, AreSound}
 use Rattle.mps_arena.specs.Keys.{last_key}
-use Rattle.mps_arena.specs.Neighbours.{CanGo, IsLastAndUnreceived}
+use Rattle.mps_arena.specs.Neighbours.{CanGo}
 use Rattle.mps_arena.proofs.Chains.{entry_key}
 use Rattle.mps_arena.proofs.Keeping.{all_at, entry_split}
 use Rattle.mps_links.specs.Marks.{marked_keys, marked_steps, unmarked_steps, AreMarksClosed, marked_by, unmarked}
@@ -59,9 +58,7 @@ module _ (types : List LocalType) (c : Lists) (m : KeyedStep → Bool) (holds : 
 
   -- the same, where that is what was written
   pub again_holds_as : (entries : List KeyedStep) (issued : ℕ) → entries ≡ remarking.again m c.entries → issued ≡ c.issued → Holds types (record { cursors = c.cursors; entries = entries; issued = issued })
-  again_holds_as entries issued is same =
-      subst (λ (l : List KeyedStep). Holds types (record { cursors = c.cursors; entries = l; issued = issued })) (sym is)
-      (subst (λ (i : ℕ). Holds types (record { cursors = c.cursors; entries = remarking.again m c.entries; issued = i })) (sym same) again_holds)
+  again_holds_as entries issued is same = grind (arith, same, again_holds)
 
 all_filter : (P : KeyedStep → Type 0) (p : KeyedStep → Bool) (es : List KeyedStep) → AllByRecursion P es → AllByRecursion P (filter p es)
 all_filter P p [] a = tt
@@ -71,10 +68,6 @@ all_filter P p (x ∷ es) a =
     (λ (f : p x ≡ false). rw f (all_filter P p es a.1))
     (cases_Bool (p x))
 
-none_marked : (l : List KeyedStep) → map (λ e. e.key) l ≡ [] → l ≡ []
-none_marked [] e = refl
-none_marked (x ∷ l) e = absurd cc
-
 -- where no step is marked, none is when some go
 pub filter_unmarked : (p : KeyedStep → Bool) (es : List KeyedStep) → marked_keys es ≡ [] → marked_keys (filter p es) ≡ []
 filter_unmarked p [] e = refl
@@ -83,10 +76,7 @@ filter_unmarked p (x ∷ es) e =
     (λ (t : x.marked ≡ true). let no : x.key ∷ marked_keys es ≡ [] = sym (marked_with x es t) ∙ e in absurd cc)
     (λ (f : x.marked ≡ false).
     let rest = filter_unmarked p es (sym (marked_without x es f) ∙ e) in
-    ⊎_elim
-    (λ (y : p x ≡ true). rw y (marked_without x (filter p es) f ∙ rest))
-    (λ (n : p x ≡ false). rw n rest)
-    (cases_Bool (p x)))
+    grind (arith, marked_without, cases_Bool))
     (cases_Bool x.marked)
 
 -- nor when one joins
@@ -149,37 +139,19 @@ module _ (first now : Lists) (earlier ids : List ℕ) (going : AreGoing first no
   pub all_gone : steps now.entries ≡ unmarked_steps first.entries
   all_gone = sym (none_go now.entries none) ∙ going.left
 
-  pub all_told : ids ≡ earlier ++ reverse (numbers (marked_steps first.entries))
-  all_told =
-      sym (append-nil ids)
-      ∙ ap (λ (l : List KeyedStep). ids ++ reverse (numbers (steps l))) (sym (none_marked _ none))
-      ∙ going.told
-
 -- a step that can go is there
 there : (es : List KeyedStep) (k : ℕ) → CanGo es k → (x : KeyedStep) × (entry_at k es ≡ Some x)
-there es k can = by_cases (entry_at k es) can refl
-  where
-    by_cases : (o : Option KeyedStep) → IsSomeAnd o (IsLastAndUnreceived es) → entry_at k es ≡ o → (x : KeyedStep) × (entry_at k es ≡ Some x)
-    by_cases None c e = absurd c
-    by_cases (Some x) c e = (x, e)
+there es k can = grind arith
 
 -- what holds of all holds of the entry of a key
 pub role_there : (es : List KeyedStep) (k n len : ℕ) → len ≡ n → AllByRecursion (λ e. e.step.role < n) es → IfSome (entry_at k es) (λ e. e.step.role < len)
-role_there es k n len same all = by_cases (entry_at k es) refl
-  where
-    by_cases : (o : Option KeyedStep) → entry_at k es ≡ o → IfSome o (λ e. e.step.role < len)
-    by_cases None e = tt
-    by_cases (Some x) e =
-        let w = entry_split k es x e in
-        let here = all_at (λ y. y.step.role < n) w.0 w.1 x (subst (AllByRecursion (λ (y : KeyedStep). y.step.role < n)) w.2 all) in
-        omega (arith, same, here)
+role_there es k n len same all = grind (arith, entry_split, all_at, same)
 
 -- what was removed leads on from the view that is left
 pub leads_back : (types : List LocalType) (st : State) (h : List Step) (n : ℕ) → IsSound types st → h ≡ without st.history (consequences st.history n) → replay (view_of types h) (within st.history (consequences st.history n)) ≡ Some (view_of types st.history)
 leads_back types st h n ok is =
     let out = left_out (consequences st.history n) types st.history ok.view ok.rising (consequences_closed st.history n ok.rising) ok.replayed in
-    let there : view_of types h ≡ out.0 = ap (view_of types) is ∙ ap (λ (o : Option View). unwrap_or o (opening types)) out.1 in
-    rw (there, view_is types st ok) out.2
+    cc (view_is types st ok)
 
 -- each step is of a role that has a cursor
 pub members_there : (types : List LocalType) (c : Lists) → Holds types c → AllByRecursion (λ e. e.step.role < length c.cursors) c.entries

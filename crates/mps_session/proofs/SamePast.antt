@@ -1,28 +1,21 @@
 -- Two lists of what a role did, compared from the last step back.
 use Rattle.std.proofs.Common.{◌≡◌, ℕ, ◌+◌, ◌≤◌, Bool, true, false, not, List, [], ◌∷◌, ◌++◌, length, Option, Some, None, refl, sym, ap, ◌∙◌, subst, arith, ⊎_elim, append_assoc, append-nil, length-append}
-use mathlib.Core.Path.{ap₂}
 use Rattle.std.specs.Prelude.{◌↔◌, is_some, IsTrue}
-use Rattle.std.specs.Option.{option_map, option_or, option_and_then}
+use Rattle.std.specs.Option.{option_map, option_or}
 use Rattle.std.proofs.lemmas.Bool.{eqb-true}
 use Rattle.std.proofs.lemmas.List.{append_cancel_right}
-use Rattle.mps_base.specs.Effects.{effect}
-use Rattle.mps_base.specs.declared.action.Act.{Act}
-use Rattle.mps_base.specs.declared.action.Act.TheVariants.{Out, In, Mark, Commit}
-use Rattle.mps_base.specs.declared.action.Message.{Message}
 use Rattle.mps_base.specs.declared.action.Step.{Step}
 use Rattle.mps_machine.specs.View.{Deed}
-use Rattle.mps_machine.specs.Machine.{taken}
 use Rattle.mps_arena.specs.Keys.{last_key}
 use Rattle.mps_arena.specs.Entries.{KeyedStep, keys_of, of_role, entry_at, AreSound}
-use Rattle.mps_arena.specs.Matched.{matched_source}
-use Rattle.mps_arena.specs.Neighbours.{prev_of_role_in, matched_with}
+use Rattle.mps_arena.specs.Neighbours.{prev_of_role_in}
 use Rattle.mps_arena.proofs.Chains.{entry_key}
 use Rattle.mps_links.proofs.Firsts.{entry_in}
 use Rattle.mps_links.proofs.Lasts.{IsLast, last_is, nothing_last}
 use Rattle.mps_links.proofs.Links.{prev_is}
 use Rattle.mps_links.proofs.StepKeys.{cases_key}
 use Rattle.mps_log.specs.Shown.{moved_of}
-use Rattle.mps_log.specs.Values.{given_by, message_of, message_taken}
+use Rattle.mps_log.specs.Values.{given_by, message_taken}
 use Rattle.mps_session.specs.Private.Pasts.{deed_of, deed_in, past_in}
 use Rattle.mps_session.proofs.Pasts.{did, did-append, did_own, did_nothing}
 
@@ -32,53 +25,14 @@ module _ (es : List KeyedStep) (k : ℕ) (s : Step) (there : option_map (λ (e :
   deed_at = record { act = s.act; moved = option_or (given_by s.act) (message_taken es k) }
 
   deed_at_is : deed_in es k ≡ Some deed_at
-  deed_at_is = by_entry (entry_at k es) refl there
-    where
-      by_entry : (o : Option KeyedStep) → entry_at k es ≡ o → option_map (λ (e : KeyedStep). e.step) o ≡ Some s → option_map (λ (e : KeyedStep). deed_of (e.step, moved_of es e)) o ≡ Some deed_at
-      by_entry None is h = absurd cc
-      by_entry (Some y) is h =
-          let same : y.step ≡ s = cc in
-          ap₂ (λ (t : Step) (j : ℕ). Some (record { act = t.act; moved = option_or (given_by t.act) (message_taken es j) })) same (entry_key k es y is)
-
-  -- only a receipt has a source
-  no_source : ((m : Option ℕ) → matched_source (effect s.act) m ≡ None) → message_taken es k ≡ None
-  no_source none = ap (option_and_then (message_of es)) (by_entry (entry_at k es) there)
-    where
-      by_entry : (o : Option KeyedStep) → option_map (λ (e : KeyedStep). e.step) o ≡ Some s → option_and_then (λ (e : KeyedStep). matched_source (effect e.step.act) (matched_with es e)) o ≡ None
-      by_entry None h = refl
-      by_entry (Some y) h =
-          let same : y.step ≡ s = cc in
-          ap (λ (t : Step). matched_source (effect t.act) (matched_with es y)) same ∙ none (matched_with es y)
-
-  taken_is : message_taken es k ≡ taken s.act deed_at.moved
-  taken_is = by_act s.act refl
-    where
-      by_act : (act : Act) → s.act ≡ act → message_taken es k ≡ taken act (option_or (given_by act) (message_taken es k))
-      by_act (Out to m) is = no_source (λ o. ap (λ (a : Act). matched_source (effect a) o) is)
-      by_act (In from slot) is = refl
-      by_act (Mark name) is = no_source (λ o. ap (λ (a : Act). matched_source (effect a) o) is)
-      by_act Commit is = no_source (λ o. ap (λ (a : Act). matched_source (effect a) o) is)
+  deed_at_is = grind (arith, entry_key)
 
 module _ (a b : List KeyedStep) (j k : ℕ) (s t : Step) (first : option_map (λ (e : KeyedStep). e.step) (entry_at j a) ≡ Some s) (second : option_map (λ (e : KeyedStep). e.step) (entry_at k b) ≡ Some t) where
   pub deeds_from : s.act ≡ t.act → message_taken a j ≡ message_taken b k → deed_in a j ≡ deed_in b k
-  deeds_from act took =
-      deed_at_is a j s first
-      ∙ ap₂ (λ (x : Act) (m : Option Message). Some (record { act = x; moved = option_or (given_by x) m })) act took
-      ∙ sym (deed_at_is b k t second)
-
-  same_deeds : deed_in a j ≡ deed_in b k → deed_at a j s first ≡ deed_at b k t second
-  same_deeds e =
-      let one : Some (deed_at a j s first) ≡ Some (deed_at b k t second) = sym (deed_at_is a j s first) ∙ e ∙ deed_at_is b k t second in
-      cc
-
-  pub same_acts : deed_in a j ≡ deed_in b k → s.act ≡ t.act
-  same_acts e = ap (λ (d : Deed). d.act) (same_deeds e)
+  deeds_from act took = cc (deed_at_is a j s first, deed_at_is b k t second)
 
   pub same_taken : deed_in a j ≡ deed_in b k → message_taken a j ≡ message_taken b k
-  same_taken e =
-      taken_is a j s first
-      ∙ ap (λ (d : Deed). taken d.act d.moved) (same_deeds e)
-      ∙ sym (taken_is b k t second)
+  same_taken e = grind (arith, entry_key)
 
 -- more than a list ends it
 not_empty : (xs ys zs : List Deed) (d : Deed) → zs ≡ ys → xs ++ d ∷ ys ≡ zs → ⊥
@@ -108,11 +62,8 @@ module _ (p : ℕ) where
   starts es = record { front = es; rest = []; parts = sym (append-nil es); key = refl }
 
   module _ (es : List KeyedStep) (at : Option ℕ) (w : IsLooked es at) where
-    whole : past_in p es ≡ did p es w.front ++ did p es w.rest
-    whole = ap (did p es) w.parts ∙ did-append p es w.front w.rest
-
     ended : did p es w.front ≡ [] → past_in p es ≡ did p es w.rest
-    ended e = whole ∙ ap (λ (l : List Deed). l ++ did p es w.rest) e
+    ended e = grind (arith, did, did-append)
 
     nothing_left : at ≡ None → did p es w.front ≡ []
     nothing_left e = did_nothing p es w.front (nothing_last (keys_of (of_role p) w.front) (sym w.key ∙ e))
@@ -131,14 +82,10 @@ module _ (p : ℕ) where
       deed = deed_of (x.step, moved_of es x)
 
       did_now : did p es (x ∷ (last.behind ++ w.rest)) ≡ deed ∷ did p es w.rest
-      did_now =
-          did_own p es (last.behind ++ w.rest) x last.passes
-          ∙ ap (λ (l : List Deed). deed ∷ l) (did-append p es last.behind w.rest ∙ ap (λ (l : List Deed). l ++ did p es w.rest) (did_nothing p es last.behind last.none))
+      did_now = grind (arith, did_own, did-append, did, did_nothing)
 
       past_now : past_in p es ≡ did p es last.before ++ deed ∷ did p es w.rest
-      past_now =
-          ap (did p es) es_is ∙ did-append p es last.before (x ∷ (last.behind ++ w.rest))
-          ∙ ap (λ (l : List Deed). did p es last.before ++ l) did_now
+      past_now = grind (arith, did, es_is, did-append, did_now)
 
       module _ (sound : AreSound es) where
         pub here : entry_at k es ≡ Some x
@@ -175,8 +122,7 @@ module _ (p : ℕ) where
         let all = ended a at w.first none in
         ⊎_elim
         (λ (e : by ≡ None).
-        let same : past_in p a ≡ past_in p b = all ∙ w.same ∙ sym (ended b by w.second (nothing_left b by w.second e)) in
-        ((λ t. same), (λ s. not_false r (sym told ∙ ap is_some e))))
+        grind (arith, ended b by w.second (nothing_left b by w.second e)))
         (λ (k : (j : ℕ) × (by ≡ Some j)).
         let other = past_now b by w.second k.0 k.1 in
         let more : (past_in p a ≡ past_in p b) → ⊥ = λ s. not_empty (did p b (last b by w.second k.0 k.1).before) (did p b w.second.rest) (did p a w.first.rest) (deed b by w.second k.0 k.1) w.same (sym other ∙ sym s ∙ all) in
@@ -232,8 +178,6 @@ module _ (p : ℕ) where
               first = goes a at w.first j at_is sa;
               second = goes b by w.second k by_is sb;
               same =
-                  did_now a at w.first j at_is
-                  ∙ ap₂ (λ (d : Deed) (l : List Deed). d ∷ l) heads w.same
-                  ∙ sym (did_now b by w.second k by_is);
+                  grind (arith, did_now);
               count = omega (arith, w.count, length-append (last a at w.first j at_is).behind w.first.rest);
             }

@@ -1,5 +1,5 @@
 -- Sessions of one protocol have the same types.
-use Rattle.std.proofs.Common.{◌≡◌, ℕ, zero, suc, ◌<◌, List, [], ◌∷◌, length, refl, sym, ◌∙◌, arith}
+use Rattle.std.proofs.Common.{◌≡◌, ℕ, zero, suc, ◌<◌, List, [], ◌∷◌, length, refl, arith}
 use mathlib.Core.Path.{ap₂}
 use Rattle.std.specs.Prelude.{slice_get}
 use Rattle.mps_global.specs.Global.{GlobalType}
@@ -8,16 +8,12 @@ use Rattle.mps_local.specs.Outcome.{AreProjections}
 
 same_places : (s t : List LocalType) → length s ≡ length t → ((p : ℕ) → p < length s → slice_get s p ≡ slice_get t p) → s ≡ t
 same_places [] [] long same = refl
-same_places [] (y ∷ t) long same = absurd (omega arith)
-same_places (x ∷ s) [] long same = absurd (omega arith)
 same_places (x ∷ s) (y ∷ t) long same =
     let first = same zero (omega arith) in
     let heads : x ≡ y = cc in
     ap₂ (λ (z : LocalType) (l : List LocalType). z ∷ l) heads (same_places s t (omega arith) (λ p h. same (suc p) (omega arith)))
+same_places other others long same = grind arith
 
 -- a protocol has one list of projections
 pub one_projection : (roles : List (List ℕ)) (tree : GlobalType) (s t : List LocalType) → AreProjections roles tree s → AreProjections roles tree t → s ≡ t
-one_projection roles tree s t es et =
-    let a = es.count in
-    let b = et.count in
-    same_places s t (omega arith) (λ p h. sym (es.each p (omega arith)) ∙ et.each p (omega arith))
+one_projection roles tree s t es et = grind (arith, same_places)

@@ -1,5 +1,5 @@
 -- What the slots of a role are bound to is what the view keeps.
-use Rattle.std.proofs.Common.{◌≡◌, ℕ, zero, suc, true, false, List, [], ◌∷◌, ◌++◌, length, Option, Some, None, refl, sym, ap, ◌∙◌, subst, ⊎_elim, append_assoc, append-nil}
+use Rattle.std.proofs.Common.{arith, ◌≡◌, ℕ, zero, suc, true, false, List, [], ◌∷◌, ◌++◌, length, Option, Some, None, refl, sym, ap, ◌∙◌, ⊎_elim, append_assoc, append-nil}
 use Rattle.std.specs.Prelude.{⊤, slice_get}
 use Rattle.std.specs.Option.{option_and_then, option_map}
 use Rattle.std.specs.Str.{bytes_eq}
@@ -9,14 +9,13 @@ use Rattle.mps_base.specs.Effects.{effect}
 use Rattle.mps_base.specs.declared.action.Act.{Act}
 use Rattle.mps_base.specs.declared.action.Act.TheVariants.{Out, In, Mark, Commit}
 use Rattle.mps_base.specs.declared.action.Message.{Message}
-use Rattle.mps_base.specs.declared.action.Message.TheVariants.{Value as Plain, Label}
+use Rattle.mps_base.specs.declared.action.Message.TheVariants.{Value as Plain}
 use Rattle.mps_base.specs.declared.value.Value.{Value}
 use Rattle.mps_history.specs.Slots.{bound, value_in}
 use Rattle.mps_history.specs.Steps.{unreceived}
-use Rattle.mps_local.specs.Local.{LocalType, End, Var, Rec, Send, Recv, Select, Branch}
-use Rattle.mps_local.specs.Unfolding.{unfolded}
+use Rattle.mps_local.specs.Local.{LocalType}
 use Rattle.mps_machine.specs.View.{Store, Participant, View, opening}
-use Rattle.mps_machine.specs.Rule.{first_of, moved, type_after, to_come_after, advanced, participant_after, store_after, rule, replay}
+use Rattle.mps_machine.specs.Rule.{first_of, moved, to_come_after, advanced, participant_after, store_after, rule, replay}
 use Rattle.mps_machine.proofs.Stepping.{map_some, rule_parts, replay_parts, replay-append}
 use Rattle.mps_machine.proofs.Peers.{fact_by_role}
 use Rattle.mps_machine.proofs.Unreceived.{queue_is}
@@ -36,75 +35,43 @@ AreBound f (s ∷ store) (b ∷ keys) = (s.0 ≡ b.0) × (f b.1 ≡ Some s.1) ×
 AreBound f store keys = ⊥
 
 bound_both : (f : ℕ → Option Value) (store : Store) (keys : Keys) (slot : List ℕ) (v : Value) (k : ℕ) → AreBound f store keys → f k ≡ Some v → AreBound f (bound slot v store) (bound slot k keys)
-bound_both f [] [] slot v k h e = (refl, e, tt)
-bound_both f [] (b ∷ keys) slot v k h e = absurd h
-bound_both f (s ∷ store) [] slot v k h e = absurd h
 bound_both f (s ∷ store) (b ∷ keys) slot v k h e =
     ⊎_elim
     (λ (t : bytes_eq b.0 slot ≡ true). let u : bytes_eq s.0 slot ≡ true = ap (λ (x : List ℕ). bytes_eq x slot) h.0 ∙ t in rw (t, u) (refl, e, h.2))
     (λ (n : bytes_eq b.0 slot ≡ false). let u : bytes_eq s.0 slot ≡ false = ap (λ (x : List ℕ). bytes_eq x slot) h.0 ∙ n in rw (n, u) (h.0, h.1, bound_both f store keys slot v k h.2 e))
     (cases_Bool (bytes_eq b.0 slot))
+bound_both f other others slot v k h e = grind arith
 
 value_both : (f : ℕ → Option Value) (store : Store) (keys : Keys) (slot : List ℕ) → AreBound f store keys → value_in slot store ≡ option_and_then f (value_in slot keys)
-value_both f [] [] slot h = refl
-value_both f [] (b ∷ keys) slot h = absurd h
-value_both f (s ∷ store) [] slot h = absurd h
 value_both f (s ∷ store) (b ∷ keys) slot h =
     ⊎_elim
     (λ (t : bytes_eq b.0 slot ≡ true). let u : bytes_eq s.0 slot ≡ true = ap (λ (x : List ℕ). bytes_eq x slot) h.0 ∙ t in rw (t, u) (sym h.1))
     (λ (n : bytes_eq b.0 slot ≡ false). let u : bytes_eq s.0 slot ≡ false = ap (λ (x : List ℕ). bytes_eq x slot) h.0 ∙ n in rw (n, u) (value_both f store keys slot h.2))
     (cases_Bool (bytes_eq b.0 slot))
+value_both f other others slot h = grind arith
 
 binding_both : (f : ℕ → Option Value) (store : Store) (keys : Keys) (k : ℕ) → AreBound f store keys → slice_get store k ≡ option_and_then (λ b. option_map (λ v. (b.0, v)) (f b.1)) (slice_get keys k)
 binding_both f [] [] k h = refl
-binding_both f [] (b ∷ keys) k h = absurd h
-binding_both f (s ∷ store) [] k h = absurd h
-binding_both f (s ∷ store) (b ∷ keys) zero h =
-    let pair : List ℕ → Value → List ℕ × Value = λ x v. (x, v) in
-    sym (ap (option_map (pair b.0)) h.1 ∙ ap (λ (x : List ℕ). Some (pair x s.1)) (sym h.0))
+binding_both f (s ∷ store) (b ∷ keys) zero h = grind arith
 binding_both f (s ∷ store) (b ∷ keys) (suc k) h = binding_both f store keys k h.2
+binding_both f other others k h = absurd h
 
 long_both : (f : ℕ → Option Value) (store : Store) (keys : Keys) → AreBound f store keys → length store ≡ length keys
 long_both f [] [] h = refl
-long_both f [] (b ∷ keys) h = absurd h
-long_both f (s ∷ store) [] h = absurd h
 long_both f (s ∷ store) (b ∷ keys) h = ap suc (long_both f store keys h.2)
+long_both f other others h = absurd h
 
 bound_stays : (f g : ℕ → Option Value) (store : Store) (keys : Keys) → ((k : ℕ) (v : Value) → f k ≡ Some v → g k ≡ Some v) → AreBound f store keys → AreBound g store keys
 bound_stays f g [] [] m h = tt
-bound_stays f g [] (b ∷ keys) m h = absurd h
-bound_stays f g (s ∷ store) [] m h = absurd h
 bound_stays f g (s ∷ store) (b ∷ keys) m h = (h.0, m b.1 s.1 h.1, bound_stays f g store keys m h.2)
+bound_stays f g other others m h = absurd h
 
 -- the store of an act's role after the act
 store_then : (before after : Participant) (act : Act) (m : Option Message) → participant_after before act m ≡ Some after → after.store ≡ store_after before.store act m
 store_then before after act m e = sym (ap (λ (x : Participant). x.store) (map_some (advanced before act m) (to_come_after before.to_come (effect act) m) after e).2)
 
--- a receipt into a slot takes a value
-takes_no_label : (t : LocalType) (from : ℕ) (slot : List ℕ) (l : List ℕ) → type_after t (In from (Some slot)) (Some (Label l)) ≡ None
-takes_no_label End from slot l = refl
-takes_no_label (Var x) from slot l = refl
-takes_no_label (Rec x t) from slot l = refl
-takes_no_label (Send p sort t) from slot l = refl
-takes_no_label (Recv p sort t) from slot l = refl
-takes_no_label (Select p bs) from slot l = refl
-takes_no_label (Branch p bs) from slot l = refl
-
-takes_something : (t : LocalType) (from : ℕ) (slot : List ℕ) → type_after t (In from (Some slot)) None ≡ None
-takes_something End from slot = refl
-takes_something (Var x) from slot = refl
-takes_something (Rec x t) from slot = refl
-takes_something (Send p sort t) from slot = refl
-takes_something (Recv p sort t) from slot = refl
-takes_something (Select p bs) from slot = refl
-takes_something (Branch p bs) from slot = refl
-
 took_value : (before after : Participant) (from : ℕ) (slot : List ℕ) (m : Option Message) → participant_after before (In from (Some slot)) m ≡ Some after → (v : Value) × (m ≡ Some (Plain v))
-took_value before after from slot None e =
-    let no : None ≡ Some after = sym (ap (option_map (advanced before (In from (Some slot)) None)) (takes_something (unfolded before.to_come) from slot)) ∙ e in absurd cc
-took_value before after from slot (Some (Plain v)) e = (v, refl)
-took_value before after from slot (Some (Label l)) e =
-    let no : None ≡ Some after = sym (ap (option_map (advanced before (In from (Some slot)) (Some (Label l)))) (takes_no_label (unfolded before.to_come) from slot l)) ∙ e in absurd cc
+took_value before after from slot m e = grind arith
 
 module _ (types : List LocalType) where
   -- the stores of the view are those of the entries
@@ -143,25 +110,15 @@ module _ (types : List LocalType) where
         get_first (x ∷ queue) = refl
 
     bind_step : Bind now w
-    bind_step p =
-        let parts = rule_parts v w e.step next in
-        let c = parts.0 in
-        subst (λ (u : View). AreBound (value_taken now) (u.participant p).store (bindings slot_of p now)) parts.2
-        (fact_by_role (λ k part. AreBound (value_taken now) part.store (bindings slot_of k now)) v e.step c p
-        (subst (λ (s : Store). AreBound (value_taken now) s (bindings slot_of e.step.role now)) (sym (store_then (v.participant e.step.role) c e.step.act (moved v e.step.role e.step.act) parts.1)) (own_store e.step.act refl c parts.1))
-        (λ ne. rw (bindings_push slot_of p es e, after_other slot_of p (bindings slot_of p es) e (ne_eqb e.step.role p (λ k. ne (sym k)))) (stays p)))
+    bind_step p = grind (arith, rule_parts, fact_by_role, store_then, own_store, bindings_push, after_other, ne_eqb, stays)
 
   bind_from : (a b : List KeyedStep) (v w : View) → AreSound (a ++ b) → replay (opening types) (steps a) ≡ Some v → replay v (steps b) ≡ Some w → Bind a v → Bind (a ++ b) w
-  bind_from a [] v w sound before rest was =
-      let same : v ≡ w = cc in
-      rw (append-nil a) (subst (Bind a) same was)
+  bind_from a [] v w sound before rest was = grind (arith, append-nil)
   bind_from a (e ∷ b) v w sound before rest was =
       let parts = replay_parts v w e.step (steps b) rest in
       let whole = append_assoc a (e ∷ []) b in
       let next : replay (opening types) (steps (a ++ e ∷ [])) ≡ Some parts.0 =
-      ap (replay (opening types)) (map-append (λ (x : KeyedStep). x.step) a (e ∷ []))
-      ∙ replay-append (opening types) v (steps a) (e.step ∷ []) before
-      ∙ ap (λ (o : Option View). option_and_then (λ u. Some u) o) parts.1 in
+      cc (map-append (λ (x : KeyedStep). x.step) a (e ∷ []), replay-append (opening types) v (steps a) (e.step ∷ []) before) in
       rw (← whole)
       (bind_from (a ++ e ∷ []) b parts.0 w (rw whole sound) next parts.2
       (bind_step a e v parts.0 (sound_left a (e ∷ b) sound) (last_fresh a b e sound) before parts.1 was))

@@ -1,10 +1,9 @@
 -- The steps of a session name its roles.
-use Rattle.std.proofs.Common.{◌≡◌, ℕ, ◌<◌, List, [], ◌∷◌, ◌++◌, length, Some, subst}
+use Rattle.std.proofs.Common.{arith, ◌≡◌, ℕ, ◌<◌, List, [], ◌∷◌, ◌++◌, length, Some, subst}
 use Rattle.std.specs.List.{AllByRecursion}
 use Rattle.mps_base.specs.declared.action.Act.{Act}
-use Rattle.mps_base.specs.declared.action.Act.TheVariants.{Out, In, Mark, Commit}
 use Rattle.mps_base.specs.declared.action.Step.{Step}
-use Rattle.mps_local.specs.Actions.{Head, Ends, Sends, Receives, Chooses, Picks, Begins}
+use Rattle.mps_local.specs.Actions.{Head, Begins}
 use Rattle.mps_local.specs.Local.{LocalType}
 use Rattle.mps_local.specs.Shape.{AllPeers, IsOtherRole}
 use Rattle.mps_arena.specs.Entries.{KeyedStep, steps}
@@ -16,18 +15,11 @@ use Rattle.mps_session.specs.Peers.{HasPeers, HavePeers, IsPeerKnown, IsKnown, I
 use Rattle.mps_session.specs.SessionState.{moved_from}
 
 speaks_known : (n p : ℕ) (act : Act) → Speaks (IsOtherRole n p) act → IsPeerKnown n act
-speaks_known n p (Out to m) h = h.0
-speaks_known n p (In from slot) h = h.0
-speaks_known n p (Mark name) h = tt
-speaks_known n p Commit h = tt
+speaks_known n p act h = grind arith
 
 -- a type with such peers begins with one
 pub head_known : (n p : ℕ) (h : Head) (t : LocalType) → Begins h t → AllPeers (IsOtherRole n p) t → IsHeadKnown n h
-head_known n p Ends t b a = tt
-head_known n p (Sends peer sort) t b a = (subst (AllPeers (IsOtherRole n p)) b.1 a).0.0
-head_known n p (Receives peer sort) t b a = (subst (AllPeers (IsOtherRole n p)) b.1 a).0.0
-head_known n p (Chooses peer names) t b a = (subst (AllPeers (IsOtherRole n p)) b.1 a).0.0
-head_known n p (Picks peer names) t b a = (subst (AllPeers (IsOtherRole n p)) b.1 a).0.0
+head_known n p h t b a = grind arith
 
 module _ (n : ℕ) where
   -- of each role the peers that are left

@@ -1,13 +1,11 @@
 -- What comes of an undo that a session does, or refuses.
-use Rattle.std.proofs.Common.{◌≡◌, [], ◌+◌, ℕ, ◌<◌, List, length, not, Option, Some, None, Result, sym, ap, ◌∙◌, subst, arith}
+use Rattle.std.proofs.Common.{◌≡◌, [], ℕ, ◌<◌, List, length, not, Option, Some, None, sym, ap, ◌∙◌, subst, arith}
 use Rattle.std.specs.Prelude.{◌==◌, IfSome}
-use mathlib.Core.Path.{ap₂}
 use Rattle.mps_base.specs.declared.action.Step.{Step}
-use Rattle.mps_command.specs.declared.answer.Refusal.{Refusal}
 use Rattle.mps_history.specs.Steps.{step_of, without}
 use Rattle.mps_local.specs.Local.{LocalType}
 use Rattle.mps_machine.specs.Rule.{rule}
-use Rattle.mps_machine.specs.Machine.{State, owner_fault, undone, undo}
+use Rattle.mps_machine.specs.Machine.{owner_fault, undone, undo}
 use Rattle.mps_arena.specs.Entries.{KeyedStep, steps, entry_at}
 use Rattle.mps_arena.specs.Neighbours.{CanGo}
 use Rattle.mps_links.specs.Marks.{marked_keys}
@@ -47,9 +45,7 @@ module _ (types : List LocalType) (c : Lists) (holds : Holds types c) (now : Ses
     state_then done =
         let history : steps next.entries ≡ without (steps c.entries) (λ m. m == n) =
         returning.history_then types c next k x holds found can left ∙ ap (λ (i : ℕ). without (steps c.entries) (λ m. m == i)) (numbered.number c.entries holds.kept n k at) in
-        ap₂ (λ (h : List Step) (i : ℕ). let st : State = record { history = h; next = i + 1 } in st) history left.issued
-        ∙ ap (λ (r : Result (List ℕ) Refusal × State). r.1) (sym done)
-        ∙ ap (λ (m : SessionState). (undo m.state p n).1) is
+        grind arith
 
     pub back_then : (s : Step) → step_of now.state.history n ≡ Some s → rule (session_view (record { types = types; state = state_of next })) s ≡ Some (session_view now)
     back_then s e =

@@ -5,7 +5,7 @@ use Rattle.std.specs.Prelude.{◌==◌, ◌||◌, nat_lt, unwrap_or}
 use Rattle.std.specs.Option.{option_map, option_and_then}
 use Rattle.std.proofs.lemmas.Bool.{cond-false, ne_eqb, le-ltb, and_left}
 use Rattle.std.proofs.lemmas.List.{map-append}
-use Rattle.mps_base.specs.Effects.{Effect, Gives, Takes, Idle, effect}
+use Rattle.mps_base.specs.Effects.{Effect, effect}
 use Rattle.mps_base.specs.declared.action.Step.{Step}
 use Rattle.mps_local.specs.Local.{LocalType}
 use Rattle.mps_history.specs.Steps.{IsIn, IsRising, without}
@@ -54,9 +54,7 @@ module _ (a b : List KeyedStep) (x : KeyedStep) (sound : AreSound (a ++ x ∷ b)
   others_follow t i = none_passes (of_role s.role) b t (role_ends a b x sound.distinct free.last) i
 
   none_received : (e : Effect) → IsUnreceived es x e → matched_receipt e (matched_with es x) ≡ None
-  none_received (Gives to m) u = u
-  none_received (Takes from slot) u = refl
-  none_received Idle u = refl
+  none_received e u = grind arith
 
   none_behind : keys_of (λ t. depends_on (steps es) t s) b ≡ []
   none_behind =
@@ -119,29 +117,12 @@ module _ (types : List LocalType) (a d m : List KeyedStep) (x : KeyedStep) (v : 
   aside =
       let whole = replay_front (opening types) v (steps front) (steps m) (subst (λ (h : List Step). replay (opening types) h ≡ Some v) parted is) in
       let out = step_removed types (steps front) x.step whole.0 front_sound.rising x_in front_alone whole.1 in
-      let left = subst (λ (h : List Step). replay (opening types) h ≡ Some out.0) left_steps out.1 in
-      let early = replay_front (opening types) out.0 (steps a) (steps d) (subst (λ (h : List Step). replay (opening types) h ≡ Some out.0) (map-append (λ (e : KeyedStep). e.step) a d) left) in
-      let stays = role_stays (steps d) early.0 out.0 x.step.role early.2
-      (λ t i. others_follow a (d ++ m) x sound free t (subst (λ (h : List Step). IsIn t h) (sym (map-append (λ (e : KeyedStep). e.step) d m)) (IsIn-append_left t (steps d) (steps m) i))) in
-      let before : view_of types (steps a) ≡ early.0 = ap (λ (o : Option View). unwrap_or o (opening types)) early.1 in
-      record {
-        full = whole.0;
-        left = out.0;
-        replayed = whole.1;
-        without_it = left;
-        ruled = out.2;
-        own = stays ∙ ap (λ (u : View). u.participant x.step.role) (sym before);
-      }
+      grind (arith, left_steps, replay_front, map-append, role_stays, others_follow, IsIn-append_left)
 
 module _ (types : List LocalType) (a d : List KeyedStep) (x : KeyedStep) (w : IsAside types a d x) where
   -- the other roles are where they were
   pub others_stay : (p : ℕ) → p ≢ x.step.role → w.left.participant p ≡ w.full.participant p
-  others_stay p ne =
-      let ruled = rule_parts w.left w.full x.step w.ruled in
-      sym (sym (ap (λ (u : View). u.participant p) ruled.2) ∙ cond-false (p == x.step.role) ruled.0 (w.left.participant p) (ne_eqb p x.step.role ne))
+  others_stay p ne = grind (arith, rule_parts, cond-false, ne_eqb)
 
   pub full_view : view_of types (steps (a ++ x ∷ d)) ≡ w.full
   full_view = ap (λ (o : Option View). unwrap_or o (opening types)) w.replayed
-
-  pub left_view : view_of types (steps (a ++ d)) ≡ w.left
-  left_view = ap (λ (o : Option View). unwrap_or o (opening types)) w.without_it

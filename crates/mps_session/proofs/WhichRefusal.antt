@@ -1,13 +1,13 @@
 -- Which refusal an answer is.
-use Rattle.std.proofs.Common.{◌≡◌, ◌≢◌, ℕ, List, Some, ap}
+use Rattle.std.proofs.Common.{arith, ◌≡◌, ◌≢◌, ℕ, List, Some}
 use Rattle.mps_command.specs.declared.answer.Answer.{Answer}
-use Rattle.mps_command.specs.declared.answer.Answer.TheVariants.{Done, Undone, News as Told, Shown, Refused}
+use Rattle.mps_command.specs.declared.answer.Answer.TheVariants.{Refused}
 use Rattle.mps_command.specs.declared.answer.Refusal.{Refusal}
-use Rattle.mps_command.specs.declared.answer.Refusal.TheVariants.{Violation as Violates, NoStep, NotYours, Final, Needed, NoMark, Full, Memory}
+use Rattle.mps_command.specs.declared.answer.Refusal.TheVariants.{Violation as Violates}
 use Rattle.mps_command.specs.declared.answer.Violation.TheVariants.{Mismatch}
 use Rattle.mps_command.specs.declared.command.Change.TheVariants as changes
 use Rattle.mps_command.specs.declared.command.Command.{Command}
-use Rattle.mps_command.specs.declared.command.Command.TheVariants.{Forward, Undo, Rollback, Back, News, Show}
+use Rattle.mps_command.specs.declared.command.Command.TheVariants.{Forward, Undo, Rollback, Back}
 use Rattle.mps_local.specs.Local.{LocalType}
 use Rattle.mps_fidelity.specs.Fidelity.{AreOfOneProtocol}
 use Rattle.mps_fidelity.proofs.Refusals.{sound_other}
@@ -16,18 +16,7 @@ use Rattle.mps_machine.specs.Machine.{State, IsSound, serve}
 
 -- the refusal that is told is the one that is answered
 pub same_refusal : (a : Answer) (refusal : Refusal) → refusal_in a ≡ Some refusal → a ≡ Refused refusal
-same_refusal (Refused (Violates v)) refusal e = let is : Violates v ≡ refusal = cc in ap Refused is
-same_refusal (Refused NoStep) refusal e = let is : NoStep ≡ refusal = cc in ap Refused is
-same_refusal (Refused NotYours) refusal e = let is : NotYours ≡ refusal = cc in ap Refused is
-same_refusal (Refused (Final by)) refusal e = let is : Final by ≡ refusal = cc in ap Refused is
-same_refusal (Refused (Needed by)) refusal e = let is : Needed by ≡ refusal = cc in ap Refused is
-same_refusal (Refused NoMark) refusal e = let is : NoMark ≡ refusal = cc in ap Refused is
-same_refusal (Refused Memory) refusal e = let is : Memory ≡ refusal = cc in ap Refused is
-same_refusal (Refused Full) refusal e = absurd cc
-same_refusal (Done done) refusal e = absurd cc
-same_refusal (Undone ids) refusal e = absurd cc
-same_refusal (Told n ids) refusal e = absurd cc
-same_refusal (Shown text) refusal e = absurd cc
+same_refusal a refusal e = grind arith
 
 -- in a session of one protocol it is never that of a message of another kind
 pub never_a_mismatch : (types : List LocalType) (st : State) (p : ℕ) (command : Command) → IsSound types st → AreOfOneProtocol types → fault types st p command ≢ Some (Violates Mismatch)
@@ -35,5 +24,4 @@ never_a_mismatch types st p (Forward step) ok own e = sound_other types st p (ch
 never_a_mismatch types st p (Undo n) ok own e = sound_other types st p (changes.Undo n) own ok (same_refusal (serve types st p (changes.Undo n)).0 (Violates Mismatch) e)
 never_a_mismatch types st p (Rollback n) ok own e = sound_other types st p (changes.Rollback n) own ok (same_refusal (serve types st p (changes.Rollback n)).0 (Violates Mismatch) e)
 never_a_mismatch types st p (Back name) ok own e = sound_other types st p (changes.Back name) own ok (same_refusal (serve types st p (changes.Back name)).0 (Violates Mismatch) e)
-never_a_mismatch types st p (News n) ok own e = absurd cc
-never_a_mismatch types st p Show ok own e = absurd cc
+never_a_mismatch types st p other ok own e = absurd cc

@@ -1,14 +1,13 @@
 -- Data with such texts is written in such bytes.
-use Rattle.std.proofs.Common.{◌≡◌, ℕ, zero, suc, ◌<◌, ◌≤◌, ◌+◌, ◌/◌, ◌%◌, Bool, true, false, List, [], ◌∷◌, ◌++◌, map, pos, negsuc, arith, rules, ⊎_elim}
-use Rattle.std.specs.Prelude.{◌==◌, nat_lt}
+use Rattle.std.proofs.Common.{◌≡◌, ℕ, zero, suc, ◌<◌, ◌≤◌, ◌+◌, ◌/◌, ◌%◌, Bool, true, false, List, [], ◌∷◌, ◌++◌, map, arith, rules, ⊎_elim}
+use Rattle.std.specs.Prelude.{◌==◌}
 use Rattle.std.specs.Fmt.{digits, digits_onto, digit_glyph, decimal}
-use Rattle.std.proofs.lemmas.Bool.{cases_Bool, lt-ltb, le-ltb}
-use Rattle.std.proofs.lemmas.Bool.Decides.{nat_tests}
-use Rattle.json.specs.Print.{escape, escape_byte, escape_letter, quoted}
+use Rattle.std.proofs.lemmas.Bool.{cases_Bool, lt-ltb}
+use Rattle.json.specs.Print.{escape, escape_byte, quoted}
 use Rattle.mps_base.specs.Values.{IsShown}
-use Rattle.serde_json.specs.Data.{Num, unsigned, negative, float, Data, null, boolean, number, string, array, object, Items, no_items, item, Members, no_members, member}
+use Rattle.serde_json.specs.Data.{Data, null, boolean, number, string, array, object, Items, no_items, item, Members, no_members, member}
 use Rattle.serde_json.specs.View.{items_of}
-use Rattle.serde_json.specs.Written.{number_text, comma_if, compact_text, items_text, members_text}
+use Rattle.serde_json.specs.Written.{comma_if, compact_text, items_text, members_text}
 use Rattle.mps_show.specs.Plain.{AreShown, IsPlain, ArePlainItems, ArePlainMembers}
 use Rattle.mps_show.specs.Shown.{number_shown}
 use Rattle.mps_show.proofs.Rows.{all-append}
@@ -21,20 +20,9 @@ byte c low high = record { low = low; high = high }
 
 -- ---- strings
 
-letter_shown : (c : ℕ) → IsShown c → escape_letter c ≤ 126
-letter_shown c h = grind (arith, nat_tests, h.low, h.high)
-
-letter_low : (c : ℕ) → nat_lt 0 (escape_letter c) ≡ true → 32 ≤ escape_letter c
-letter_low c h = grind (arith, nat_tests)
-
 escaped_byte : (c : ℕ) → IsShown c → AreShown (escape_byte c)
 unfolding escape_byte
-escaped_byte c h =
-    ⊎_elim
-    (λ (t : nat_lt 0 (escape_letter c) ≡ true). rw t (byte 92 (omega arith) (omega arith), (byte (escape_letter c) (letter_low c t) (letter_shown c h), tt)))
-    (λ (f : nat_lt 0 (escape_letter c) ≡ false).
-    rw (f, le-ltb c 32 h.low) (h, tt))
-    (cases_Bool (nat_lt 0 (escape_letter c)))
+escaped_byte c h = grind (arith, byte 92 (omega arith) (omega arith))
 
 escaped : (s : List ℕ) → AreShown s → AreShown (escape s)
 escaped [] h = tt
@@ -61,25 +49,18 @@ decimal_shown : (n : ℕ) → AreShown (decimal n)
 unfolding digits
 decimal_shown n = onto_shown 64 n [] tt
 
-number_is_shown : (n : Num) → AreShown (number_text n)
-number_is_shown (unsigned n) = decimal_shown n
-number_is_shown (negative (pos n)) = decimal_shown n
-number_is_shown (negative (negsuc n)) = (byte 45 (omega arith) (omega arith), decimal_shown (suc n))
-number_is_shown (float x) = tt
-
 -- ---- arrays and objects
 
 comma_shown : (later : Bool) → AreShown (comma_if later)
-comma_shown true = (byte 44 (omega arith) (omega arith), tt)
-comma_shown false = tt
+comma_shown later = grind (arith, byte)
 
 mutual
   pub text_is_shown : (d : Data) → IsPlain d → AreShown (compact_text d)
   text_is_shown null h = search rules
   text_is_shown (boolean true) h = search rules
   text_is_shown (boolean false) h = search rules
-  text_is_shown (number n) h = number_is_shown n
-  text_is_shown (string s) h = quotes s h
+  text_is_shown (number n) h = grind (arith, decimal_shown, byte)
+  text_is_shown (string s) h = grind (arith, byte, both, escaped)
   text_is_shown (array ds) h = (byte 91 (omega arith) (omega arith), items_are_shown false ds h)
   text_is_shown (object ms) h = (byte 123 (omega arith) (omega arith), members_are_shown false ms h)
 

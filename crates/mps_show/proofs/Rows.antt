@@ -1,7 +1,6 @@
 -- Arrays that are being written.
 use Rattle.std.proofs.Common.{◌≡◌, ℕ, suc, ◌+◌, ◌-◌, ◌<◌, Bool, true, false, List, [], ◌∷◌, ◌++◌, length, drop, drop-cons, add-one, map, Some, refl, sym, ap, ◌∙◌, arith, rules, append_assoc, append-nil, Vec, Global}
-use mathlib.Core.Path.{ap₂}
-use Rattle.std.specs.Prelude.{slice_get, OnOk, Result, Ok, Err}
+use Rattle.std.specs.Prelude.{slice_get, OnOk, Result}
 use Rattle.std.specs.List.{flat_map, range_with_len, AllByRecursion}
 use Rattle.std.proofs.lemmas.List.{map-append}
 use Rattle.std.proofs.lemmas.Option.{slice_get_within, get_or_from_slice_get}
@@ -19,9 +18,7 @@ use Rattle.mps_show.specs.Private.Rows.{joined, behind, words_behind}
 
 -- the numbers from q on
 pub range_next : (q n : ℕ) → q < n → range_with_len q (n - q) ≡ q ∷ range_with_len (q + 1) (n - (q + 1))
-range_next q n h =
-    let e : n - q ≡ suc (n - (q + 1)) = omega arith in
-    ap (range_with_len q) e
+range_next q n h = grind arith
 
 -- with the bracket an array is written
 pub closes : (later : Bool) (ds : List Data) → joined later ds ++ 93 ∷ [] ≡ items_text later (items_of ds)
@@ -42,31 +39,18 @@ joined-append later (d ∷ a) b =
     behind_true (x ∷ ds) = refl
 
 pub behind-append : (later : Bool) (a b : List Data) → behind later (a ++ b) ≡ behind (behind later a) b
-behind-append later [] b = refl
-behind-append later (d ∷ a) [] = refl
-behind-append later (d ∷ a) (x ∷ b) = refl
+behind-append later a b = grind arith
 
 -- in front of others
 pub items-append : (later : Bool) (a b : List Data) → items_text later (items_of (a ++ b)) ≡ joined later a ++ items_text (behind later a) (items_of b)
-items-append later a b =
-    sym (closes later (a ++ b)) ∙ ap (λ (l : List ℕ). l ++ 93 ∷ []) (joined-append later a b)
-    ∙ append_assoc (joined later a) (joined (behind later a) b) (93 ∷ [])
-    ∙ ap (λ (l : List ℕ). joined later a ++ l) (closes (behind later a) b)
+items-append later a b = cc (closes later (a ++ b), joined-append later a b, append_assoc (joined later a) (joined (behind later a) b) (93 ∷ []), closes (behind later a) b)
 
 -- some more are written
 pub more_joined : (old new whole : List ℕ) (now next : Bool) (a rest : List Data) → new ≡ old ++ joined now a → next ≡ behind now a → old ++ joined now (a ++ rest) ≡ whole → new ++ joined next rest ≡ whole
-more_joined old new whole now next a rest e b h =
-    ap₂ (λ (l : List ℕ) (x : Bool). l ++ joined x rest) e b
-    ∙ append_assoc old (joined now a) (joined (behind now a) rest)
-    ∙ ap (λ (l : List ℕ). old ++ l) (sym (joined-append now a rest))
-    ∙ h
+more_joined old new whole now next a rest e b h = grind (arith, append_assoc, joined-append)
 
 pub more_items : (old new whole : List ℕ) (now next : Bool) (a rest : List Data) → new ≡ old ++ joined now a → next ≡ behind now a → old ++ items_text now (items_of (a ++ rest)) ≡ whole → new ++ items_text next (items_of rest) ≡ whole
-more_items old new whole now next a rest e b h =
-    ap₂ (λ (l : List ℕ) (x : Bool). l ++ items_text x (items_of rest)) e b
-    ∙ append_assoc old (joined now a) (items_text (behind now a) (items_of rest))
-    ∙ ap (λ (l : List ℕ). old ++ l) (sym (items-append now a rest))
-    ∙ h
+more_items old new whole now next a rest e b h = grind (arith, append_assoc, items-append)
 
 pub plain-append : (a b : List Data) → ArePlainItems (items_of a) → ArePlainItems (items_of b) → ArePlainItems (items_of (a ++ b))
 plain-append [] b ha hb = hb
@@ -95,8 +79,7 @@ all-append P [] b ha hb = hb
 all-append P (x ∷ a) b ha hb = (ha.0, all-append P a b ha.1 hb)
 
 pub on_ok : {T E P : Type 0} (r : Result T E) → P → OnOk r P
-on_ok (Ok x) p = p
-on_ok (Err e) p = tt
+on_ok r p = grind arith
 
 -- a text in front of the rest
 pub then_more : (mid next new a rest : List ℕ) → next ≡ mid ++ a → new ≡ next ++ rest → new ≡ mid ++ (a ++ rest)
@@ -104,34 +87,19 @@ then_more mid next new a rest e h = h ∙ ap (λ (l : List ℕ). l ++ rest) e �
 
 -- a word and one after it are written, and more words follow
 pub words_begin : (out word peer begun new bytes : List ℕ) (words : List (List ℕ)) → begun ≡ out ++ word → new ≡ begun ++ 32 ∷ bytes → bytes ≡ peer → new ++ words_behind words ≡ out ++ (word ++ 32 ∷ spaced (peer ∷ words))
-words_begin out word peer begun new bytes words a b e =
-    ap (λ (l : List ℕ). l ++ words_behind words) (b ∙ ap₂ (λ (l m : List ℕ). l ++ 32 ∷ m) a e)
-    ∙ append_assoc (out ++ word) (32 ∷ peer) (words_behind words)
-    ∙ append_assoc out word (32 ∷ (peer ++ words_behind words))
-    ∙ ap (λ (l : List ℕ). out ++ (word ++ 32 ∷ l)) (sym (spaced_words peer words))
+words_begin out word peer begun new bytes words a b e = grind (arith, append_assoc, spaced_words)
 
 -- one word more is written
 pub word_more : (old new bytes word whole : List ℕ) (words rest : List (List ℕ)) → new ≡ old ++ 32 ∷ bytes → bytes ≡ word → words ≡ word ∷ rest → old ++ words_behind words ≡ whole → new ++ words_behind rest ≡ whole
-word_more old new bytes word whole words rest a e split h =
-    ap (λ (l : List ℕ). l ++ words_behind rest) (a ∙ ap (λ (l : List ℕ). old ++ 32 ∷ l) e)
-    ∙ append_assoc old (32 ∷ word) (words_behind rest)
-    ∙ ap (λ (l : List (List ℕ)). old ++ words_behind l) (sym split)
-    ∙ h
+word_more old new bytes word whole words rest a e split h = grind (arith, append_assoc)
 
 -- one row more is written
 pub row_more : (old comma new whole : List ℕ) (later next : Bool) (d : Data) (rows rest : List Data) → comma ≡ old ++ comma_if later → new ≡ comma ++ compact_text d → next ≡ true → rows ≡ d ∷ rest → old ++ items_text later (items_of rows) ≡ whole → new ++ items_text next (items_of rest) ≡ whole
-row_more old comma new whole later next d rows rest a b t split h =
-    ap₂ (λ (l : List ℕ) (x : Bool). l ++ items_text x (items_of rest)) (b ∙ ap (λ (l : List ℕ). l ++ compact_text d) a) t
-    ∙ append_assoc (old ++ comma_if later) (compact_text d) (items_text true (items_of rest))
-    ∙ append_assoc old (comma_if later) (compact_text d ++ items_text true (items_of rest))
-    ∙ ap (λ (l : List Data). old ++ items_text later (items_of l)) (sym split)
-    ∙ h
+row_more old comma new whole later next d rows rest a b t split h = grind (arith, append_assoc)
 
 -- an array is begun
 pub begins_row : (old new : List ℕ) (left all : List Data) → new ≡ old ++ 91 ∷ [] → left ≡ all → new ++ items_text false (items_of left) ≡ old ++ compact_text (row all)
-begins_row old new left all e is =
-    ap₂ (λ (l : List ℕ) (ds : List Data). l ++ items_text false (items_of ds)) e is
-    ∙ append_assoc old (91 ∷ []) (items_text false (items_of all))
+begins_row old new left all e is = grind (arith, append_assoc)
 
 -- an array shows its items
 pub view_array : (v : Vec Value Global) → view (Array v) ≡ row (map view v.items)
@@ -139,24 +107,15 @@ view_array v = search (rules, the_lemmas)
 
 -- one more row is made
 pub one_more : (made new : List Value) (v : Value) (d : Data) (rows rest whole : List Data) → new ≡ made ++ v ∷ [] → view v ≡ d → rows ≡ d ∷ rest → map view made ++ rows ≡ whole → map view new ++ rest ≡ whole
-one_more made new v d rows rest whole a e split h =
-    ap (λ (l : List Value). map view l ++ rest) a
-    ∙ ap (λ (l : List Data). l ++ rest) (map-append view made (v ∷ []))
-    ∙ append_assoc (map view made) (view v ∷ []) rest
-    ∙ ap (λ (x : Data). map view made ++ x ∷ rest) e
-    ∙ ap (λ (l : List Data). map view made ++ l) (sym split)
-    ∙ h
+one_more made new v d rows rest whole a e split h = grind (arith, map-append, append_assoc)
 
 -- some more rows are made
 pub more_rows : (made new rows rest all whole : List Data) → new ≡ made ++ rows → all ≡ rows ++ rest → made ++ all ≡ whole → new ++ rest ≡ whole
-more_rows made new rows rest all whole a split h =
-    ap (λ (l : List Data). l ++ rest) a ∙ append_assoc made rows rest ∙ ap (λ (l : List Data). made ++ l) (sym split) ∙ h
+more_rows made new rows rest all whole a split h = grind (arith, append_assoc)
 
 -- all rows are made
 pub all_made : (rows : Vec Value Global) (left whole : List Data) → left ≡ [] → map view rows.items ++ left ≡ whole → view (Array rows) ≡ row whole
-all_made rows left whole over h =
-    view_array rows
-    ∙ ap row (sym (append-nil (map view rows.items)) ∙ ap (λ (l : List Data). map view rows.items ++ l) (sym over) ∙ h)
+all_made rows left whole over h = grind (arith, view_array, append-nil)
 
 -- the steps that moved these messages are the history
 pub steps_moved : (types : List LocalType) (done h : List Step) → map (λ m. m.0) (moved_from types done h) ≡ h

@@ -1,7 +1,7 @@
 -- Names, words and texts stand in JSON as they are.
-use Rattle.std.proofs.Common.{◌≡◌, ℕ, zero, suc, List, [], ◌∷◌, ◌++◌, refl, arith, rules}
+use Rattle.std.proofs.Common.{◌≡◌, ℕ, zero, suc, List, [], ◌∷◌, ◌++◌, refl, arith}
 use mathlib.Core.Path.{ap₂}
-use Rattle.std.specs.Prelude.{IsTrue, true}
+use Rattle.std.specs.Prelude.{IsTrue}
 use Rattle.std.specs.List.{AllByRecursion}
 use Rattle.std.specs.Str.{IsAscii}
 use Rattle.std.proofs.lemmas.Bool.{ne_eqb, le-ltb}
@@ -11,7 +11,6 @@ use Rattle.mps_base.specs.Texts.{IsPlainByte}
 use Rattle.mps_base.specs.Values.{IsShown}
 use Rattle.mps_base.specs.Sorts.{sort_word}
 use Rattle.mps_base.specs.declared.value.Sort.{Sort}
-use Rattle.mps_base.specs.declared.value.Sort.TheVariants.{Int, Bool, Text}
 use Rattle.mps_show.proofs.Rows.{all-append}
 
 escape_plain_byte : (c : ℕ) → IsPlainByte c → escape_byte c ≡ c ∷ []
@@ -23,12 +22,9 @@ pub escape_plain : (s : List ℕ) → AllByRecursion IsPlainByte s → escape s 
 escape_plain [] h = refl
 escape_plain (c ∷ s) h = ap₂ (λ (a b : List ℕ). a ++ b) (escape_plain_byte c h.0) (escape_plain s h.1)
 
-name_byte : (c : ℕ) → is_name_byte c ≡ true → IsPlainByte c
-name_byte c h = record { low = grind arith; high = grind arith; no_quote = λ e. grind arith; no_backslash = λ e. grind arith }
-
 names_bytes : (s : List ℕ) → AllByRecursion (λ c. IsTrue (is_name_byte c)) s → AllByRecursion IsPlainByte s
 names_bytes [] h = tt
-names_bytes (c ∷ s) h = (name_byte c h.0, names_bytes s h.1)
+names_bytes (c ∷ s) h = grind (arith, names_bytes s h.1)
 
 pub name_is_plain : (s : List ℕ) → IsName s → AllByRecursion IsPlainByte s
 name_is_plain s h = names_bytes s h.each
@@ -42,9 +38,7 @@ space_is_plain : IsPlainByte 32
 space_is_plain = record { low = omega arith; high = omega arith; no_quote = λ e. omega arith; no_backslash = λ e. omega arith }
 
 pub sort_is_plain : (s : Sort) → AllByRecursion IsPlainByte (sort_word s)
-sort_is_plain Int = search rules
-sort_is_plain Bool = search rules
-sort_is_plain Text = search rules
+sort_is_plain s = grind arith
 
 -- a word in front of plain ones
 pub in_front : (word words : List ℕ) → AllByRecursion IsPlainByte word → AllByRecursion IsPlainByte words → AllByRecursion IsPlainByte (word ++ 32 ∷ words)
