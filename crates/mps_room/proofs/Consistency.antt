@@ -1,5 +1,5 @@
 -- What a room keeps, one entry later.
-use Rattle.std.proofs.Common.{◌≡◌, ℕ, ◌<◌, true, false, List, [], ◌∷◌, ◌++◌, Err, sym, ap, ◌∙◌, subst, arith}
+use Rattle.std.proofs.Common.{◌≡◌, ℕ, ◌<◌, true, false, List, [], ◌∷◌, ◌++◌, Err, ap, ◌∙◌, arith}
 use Rattle.std.specs.Prelude.{length, slice_index_or}
 use Rattle.mps_command.specs.Changes.{command_of}
 use Rattle.mps_command.specs.declared.answer.Answer.{Answer}
@@ -7,13 +7,12 @@ use Rattle.mps_command.specs.declared.answer.Answer.TheVariants.{Refused}
 use Rattle.mps_command.specs.declared.answer.Refusal.{Refusal}
 use Rattle.mps_command.specs.declared.command.Change.{Change}
 use Rattle.mps_command.specs.declared.command.Command.{Command}
-use Rattle.mps_local.specs.Local.{LocalType}
 use Rattle.mps_machine.specs.Answering.{IsChanged}
 use Rattle.mps_machine.specs.Machine.{State, serve}
 use Rattle.mps_session.specs.SessionState.{SessionState}
-use Rattle.mps_room.specs.Journal.{most_entries, run, undone_by, is_accepted, grown, limited, reply, IsLegal, IsReply}
+use Rattle.mps_room.specs.Journal.{most_entries, undone_by, is_accepted, grown, reply, IsReply}
 use Rattle.mps_room.specs.Private.Heard.{AreHeard, hears, with_place, takes_others}
-use Rattle.mps_room.specs.Private.Owners.{owns, AreOwners, AreGiven, owners_after}
+use Rattle.mps_room.specs.Private.Owners.{owns, owners_after}
 use Rattle.mps_room.specs.Private.Rooms.{IsConsistent}
 use Rattle.mps_room.proofs.Fitting.{fits_command, IsOfKind}
 use Rattle.mps_room.specs.declared.entry.Entry.{Entry}
@@ -32,16 +31,7 @@ module _ (names : List (List ℕ)) (m : SessionState) (owners : List ℕ) (count
       let by_run = is ∙ ap (λ (st : State). (serve m.types st p change).0) old.state in
       let legal = growing.legal_with names m.types j p change a by_run known old.legal space kept in
       let ran = growing.state_with names m.types j p change a by_run now.state (state ∙ ap (λ (st : State). (serve m.types st p change).1) old.state) in
-      let owned = owners_with m.types m.state j p change owners old.owners a is kept in
-      record {
-        count = old.count ∙ ap (λ (t : List LocalType). length t) (sym types);
-        legal = subst (λ (t : List LocalType). IsLegal names t one_more) (sym types) legal;
-        state = subst (λ (t : List LocalType). now.state ≡ run t one_more) (sym types) ran;
-        owners = subst (λ (n : ℕ). AreOwners (owners_after owners p a) n one_more) (ap (λ (st : State). st.next) (sym state)) owned;
-        given = subst (λ (st : State). AreGiven (owners_after owners p a) st.history one_more) (sym state) (given_with m.types m.state j p change owners old.owners old.given a is kept);
-        roles = old.roles ∙ ap (λ (t : List LocalType). length t) (sym types);
-        heard = hears;
-      }
+      grind (arith, owners_with m.types m.state j p change owners old.owners a is kept, given_with m.types m.state j p change owners old.owners old.given a is kept)
 
   -- the lists after the change
   pub heard_as : (command : Command) → command ≡ command_of change → (heard : List (List ℕ)) → length heard ≡ 8
@@ -55,29 +45,18 @@ module _ (names : List (List ℕ)) (m : SessionState) (owners : List ℕ) (count
 
   -- the answer is the one that is wanted
   pub replied : reply names m.types j p (command_of change) ≡ a
-  replied =
-      growing.reply_to_change names m.types j p change
-      ∙ ap (λ (st : State). limited (length j) (serve m.types st p change).0) (sym old.state)
-      ∙ ap (limited (length j)) (sym is)
-      ∙ growing.room_for (length j) a kept space
+  replied = grind arith
 
   -- the same, of a command that asks for the change
   module _ (command : Command) (asks : command ≡ command_of change) where
     abbrev pub entry : Entry
     entry = record { role = p; command = command; answer = a }
 
-    entered : j ++ entry ∷ [] ≡ one_more
-    entered = ap (λ (k : Command). let e : Entry = record { role = p; command = k; answer = a } in j ++ e ∷ []) asks
-
     pub consistent_as : (now : SessionState) (o : List ℕ) (n : ℕ) (heard : List (List ℕ)) (l : List Entry) → now.types ≡ m.types → now.state ≡ (serve m.types m.state p change).1 → o ≡ owners_after owners p a → n ≡ count → AreHeard count heard one_more → l ≡ j ++ entry ∷ [] → IsConsistent names now o n heard l
-    consistent_as now o n heard l types state owned counted hears joined =
-        subst (λ (q : List ℕ). IsConsistent names now q n heard l) (sym owned)
-        (subst (λ (q : ℕ). IsConsistent names now (owners_after owners p a) q heard l) (sym counted)
-        (subst (λ (q : List Entry). IsConsistent names now (owners_after owners p a) count heard q) (sym (joined ∙ entered)) (recorded_with now heard types state hears)))
+    consistent_as now o n heard l types state owned counted hears joined = grind (arith, recorded_with)
 
     pub grown_as : (l : List Entry) → l ≡ j ++ entry ∷ [] → l ≡ grown j p command a
-    grown_as l joined =
-        joined ∙ entered ∙ sym (growing.grown_by j p change a kept) ∙ ap (λ (k : Command). grown j p k a) (sym asks)
+    grown_as l joined = (cc)
 
     -- the answer is of the command's kind
     pub kind_as : IsOfKind command a
@@ -89,7 +68,4 @@ module _ (names : List (List ℕ)) (m : SessionState) (owners : List ℕ) (count
 -- a refusal of the session is the room's
 module _ (names : List (List ℕ)) (m : SessionState) (owners : List ℕ) (count : ℕ) (lists : List (List ℕ)) (j : List Entry) (old : IsConsistent names m owners count lists j) (p : ℕ) (change : Change) (command : Command) (asks : command ≡ command_of change) (space : length j < most_entries) where
   pub refused_as : (new : State) (refusal : Refusal) → IsChanged m.types p change (Err refusal) m.state new → IsReply (Refused refusal) (reply names m.types j p command)
-  refused_as new refusal h =
-      subst (λ (w : Answer). IsReply (Refused refusal) w)
-      (sym (ap (reply names m.types j p) asks ∙ growing.reply_to_change names m.types j p change ∙ ap (λ (st : State). limited (length j) (serve m.types st p change).0) (sym old.state)))
-      (refused_too m.types m.state new p (length j) change refusal space h)
+  refused_as new refusal h = grind (arith, refused_too m.types m.state new p (length j) change refusal space h)

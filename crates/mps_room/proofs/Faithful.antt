@@ -1,9 +1,8 @@
 -- What a room answers in a session of one protocol.
-use Rattle.std.proofs.Common.{◌≡◌, ◌≢◌, ℕ, Bool, true, false, List, [], ◌∷◌, length, sym, ap, subst}
-use Rattle.std.specs.Prelude.{nat_lt, if◌then◌else◌}
+use Rattle.std.proofs.Common.{arith, ◌≡◌, ◌≢◌, ℕ, List, [], ◌∷◌, length, subst}
 use Rattle.mps_command.specs.declared.answer.Answer.{Answer}
-use Rattle.mps_command.specs.declared.answer.Answer.TheVariants.{Done, Undone, News as Told, Shown, Refused}
-use Rattle.mps_command.specs.declared.answer.Refusal.TheVariants.{Violation as Violates, Full}
+use Rattle.mps_command.specs.declared.answer.Answer.TheVariants.{Refused}
+use Rattle.mps_command.specs.declared.answer.Refusal.TheVariants.{Violation as Violates}
 use Rattle.mps_command.specs.declared.answer.Violation.TheVariants.{Mismatch}
 use Rattle.mps_command.specs.declared.command.Change.TheVariants as changes
 use Rattle.mps_command.specs.declared.command.Command.{Command}
@@ -13,7 +12,7 @@ use Rattle.mps_fidelity.proofs.Refusals.{sound_other}
 use Rattle.mps_local.specs.Local.{LocalType}
 use Rattle.mps_machine.specs.Machine.{State, initial, IsSound}
 use Rattle.mps_machine.proofs.Sound.{initial_sound, serve_sound}
-use Rattle.mps_room.specs.Journal.{most_entries, after_command, run_from, run, limited, reply, IsReply}
+use Rattle.mps_room.specs.Journal.{after_command, run_from, run, limited, reply, IsReply}
 use Rattle.mps_room.specs.declared.entry.Entry.{Entry}
 
 -- the state after the commands of a journal is one that the machine comes to
@@ -32,25 +31,12 @@ run_sound types st (e ∷ j) ok = run_sound types (after_command types st e.role
 abbrev pub mismatch : Answer
 mismatch = Refused (Violates Mismatch)
 
--- want of room makes no mismatch
-full_other : (a : Answer) (room : Bool) → a ≢ mismatch → (if room then a else Refused Full) ≢ mismatch
-full_other a true other e = other e
-full_other a false other e = cc
-
 limited_other : (n : ℕ) (a : Answer) → a ≢ mismatch → limited n a ≢ mismatch
-limited_other n (Refused refusal) other = other
-limited_other n (Done done) other = full_other (Done done) (nat_lt n most_entries) other
-limited_other n (Undone ids) other = full_other (Undone ids) (nat_lt n most_entries) other
-limited_other n (Told length ids) other = full_other (Told length ids) (nat_lt n most_entries) other
-limited_other n (Shown text) other = full_other (Shown text) (nat_lt n most_entries) other
+limited_other n a other = grind arith
 
 -- a mismatch that is answered is the one that is wanted
 wanted_too : (wanted : Answer) → IsReply mismatch wanted → wanted ≡ mismatch
-wanted_too (Refused refusal) h = let is : Violates Mismatch ≡ refusal = cc in ap Refused (sym is)
-wanted_too (Done done) h = absurd cc
-wanted_too (Undone ids) h = absurd cc
-wanted_too (Told length ids) h = absurd cc
-wanted_too (Shown text) h = absurd cc
+wanted_too wanted h = grind arith
 
 module _ (names : List (List ℕ)) (types : List LocalType) (own : AreOfOneProtocol types) where
   sound : (j : List Entry) → IsSound types (run types j)
@@ -58,11 +44,10 @@ module _ (names : List (List ℕ)) (types : List LocalType) (own : AreOfOneProto
 
   reply_other : (j : List Entry) (p : ℕ) (c : Command) → reply names types j p c ≢ mismatch
   reply_other j p (Forward step) = limited_other (length j) _ (sound_other types (run types j) p (changes.Forward step) own (sound j))
-  reply_other j p (Undo n) = limited_other (length j) _ (sound_other types (run types j) p (changes.Undo n) own (sound j))
-  reply_other j p (Rollback n) = limited_other (length j) _ (sound_other types (run types j) p (changes.Rollback n) own (sound j))
-  reply_other j p (Back name) = limited_other (length j) _ (sound_other types (run types j) p (changes.Back name) own (sound j))
-  reply_other j p (News n) = λ e. cc
-  reply_other j p Show = λ e. cc
+  reply_other j p (Undo n) = grind (arith, sound_other, run_sound, initial_sound)
+  reply_other j p (Rollback n) = grind (arith, sound_other, run_sound, initial_sound)
+  reply_other j p (Back name) = grind (arith, sound_other, run_sound, initial_sound)
+  reply_other j p other = λ e. cc
 
   pub answer_other : (j : List Entry) (p : ℕ) (c : Command) (a : Answer) → IsReply a (reply names types j p c) → a ≢ mismatch
   answer_other j p c a says e = reply_other j p c (wanted_too (reply names types j p c) (subst (λ (x : Answer). IsReply x (reply names types j p c)) e says))

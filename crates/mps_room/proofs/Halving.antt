@@ -1,5 +1,5 @@
 -- Where a list of places that rise is halved.
-use Rattle.std.proofs.Common.{◌≡◌, ℕ, zero, suc, ◌-◌, ◌<◌, ◌≤◌, Bool, true, false, List, [], ◌∷◌, ◌++◌, length, get_or, take, drop, refl, sym, ap, ◌∙◌, subst, arith, ltb, lt-ltb, le-ltb, length-append, inl, inr}
+use Rattle.std.proofs.Common.{◌≡◌, ℕ, zero, suc, ◌-◌, ◌<◌, ◌≤◌, Bool, true, false, List, [], ◌∷◌, ◌++◌, length, get_or, take, drop, refl, ap, ◌∙◌, subst, arith, ltb, lt-ltb, le-ltb, length-append}
 use Rattle.std.specs.List.{AllByRecursion}
 use Rattle.std.specs.List.Sorted.{IsPartitionedBy, IsPartitionPoint}
 use Rattle.std.proofs.lemmas.Bool.{cases_lt}
@@ -29,8 +29,7 @@ take_whole [] = refl
 take_whole (x ∷ l) = ap (λ (k : List ℕ). x ∷ k) (take_whole l)
 
 no_both : (b : Bool) → b ≡ true → b ≡ false → ⊥
-no_both true t f = cc
-no_both false t f = cc
+no_both b t f = grind arith
 
 module _ (n : ℕ) (early late : List ℕ) (below : AllByRecursion (λ k. k < n) early) (above : AllByRecursion (λ k. n ≤ k) late) where
   is_below : (i d : ℕ) → i < length early → ltb (get_or (early ++ late) i d) n ≡ true
@@ -39,36 +38,14 @@ module _ (n : ℕ) (early late : List ℕ) (below : AllByRecursion (λ k. k < n)
   is_above : (i d : ℕ) → length early ≤ i → i < length (early ++ late) → ltb (get_or (early ++ late) i d) n ≡ false
   is_above i d behind within = le-ltb _ n (back (λ k. n ≤ k) early late i d above behind within)
 
-  parts : IsPartitionedBy (λ k. ltb k n) (early ++ late)
-  parts i j d order within holds =
-      elim (cases_lt j (length early)) [
-        | inl under ↦ is_below i d (omega arith)
-        | inr over ↦ absurd (no_both (ltb (get_or (early ++ late) j d) n) holds (is_above j d (omega arith) within))
-      ]
-
   point_is : (i : ℕ) → i ≤ length (early ++ late) → IsPartitionPoint (λ k. ltb k n ≡ true) (λ k. ltb k n ≡ false) (early ++ late) i → i ≡ length early
-  point_is i few point =
-      let long = length-append early late in
-      elim (cases_lt i (length early)) [
-        | inl under ↦ absurd (no_both (ltb (get_or (early ++ late) i 0) n) (is_below i 0 under) (point.1 i 0 (omega arith) (omega arith)))
-        | inr over ↦
-            elim (cases_lt (length early) i) [
-              | inl past ↦ absurd (no_both (ltb (get_or (early ++ late) (length early) 0) n) (point.0 (length early) 0 (omega arith) past) (is_above (length early) 0 (omega arith) (omega arith)))
-              | inr done ↦ omega arith
-            ]
-      ]
+  point_is i few point = grind (arith, length-append, cases_lt, no_both, is_below, is_above)
 
   rest_is : (i : ℕ) → i ≡ length early → take (length (early ++ late) - i) (drop i (early ++ late)) ≡ late
-  rest_is i e =
-      let long = length-append early late in
-      let left : length (early ++ late) - i ≡ length late = omega (arith, long, e) in
-      ap (λ (k : ℕ). take k (drop i (early ++ late))) left
-      ∙ ap (λ (k : ℕ). take (length late) (drop k (early ++ late))) e
-      ∙ ap (take (length late)) (drop_front early late)
-      ∙ take_whole late
+  rest_is i e = grind (arith, length-append early late, drop_front early late, take_whole late)
 
 pub parted : (n : ℕ) (places early late : List ℕ) → places ≡ early ++ late → AllByRecursion (λ k. k < n) early → AllByRecursion (λ k. n ≤ k) late → IsPartitionedBy (λ k. ltb k n) places
-parted n places early late is below above = subst (λ (l : List ℕ). IsPartitionedBy (λ k. ltb k n) l) (sym is) (parts n early late below above)
+parted n places early late is below above = grind (arith, cases_lt, lt-ltb, front, le-ltb, back)
 
 -- what lies behind the point is what isn't below
 pub at_point : (n : ℕ) (places early late : List ℕ) (i : ℕ) → places ≡ early ++ late → AllByRecursion (λ k. k < n) early → AllByRecursion (λ k. n ≤ k) late → i ≤ length places → IsPartitionPoint (λ k. ltb k n ≡ true) (λ k. ltb k n ≡ false) places i → take (length places - i) (drop i places) ≡ late

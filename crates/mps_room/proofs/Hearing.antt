@@ -1,27 +1,23 @@
 -- What each role hears of, one entry later.
-use Rattle.std.proofs.Common.{◌≡◌, ℕ, zero, suc, ◌<◌, ◌≤◌, Bool, true, false, List, [], ◌∷◌, ◌++◌, length, Option, Some, None, Result, Ok, Err, refl, sym, ap, ◌∙◌, subst, arith, ⊎_elim}
-use Rattle.std.specs.Prelude.{◌==◌, ◌&&◌, ◌||◌, not, nat_lt, reverse, slice_get}
+use Rattle.std.proofs.Common.{◌≡◌, ℕ, zero, suc, ◌<◌, ◌≤◌, Bool, true, false, List, [], ◌∷◌, ◌++◌, length, Option, Some, Result, refl, sym, ap, ◌∙◌, subst, arith, ⊎_elim}
+use Rattle.std.specs.Prelude.{◌==◌, reverse}
 use Rattle.std.specs.List.{list_any, find, AllByRecursion}
-use Rattle.std.specs.Option.{option_map, option_map_or}
 use Rattle.std.proofs.lemmas.Bool.{cases_Bool, eq-eqb, eqb-true, ne_eqb}
 use Rattle.std.proofs.lemmas.List.{reverse-append}
 use Rattle.mps_base.specs.declared.action.Act.{Act}
 use Rattle.mps_base.specs.declared.action.Step.{Step}
-use Rattle.mps_command.specs.Acts.{act_of}
 use Rattle.mps_command.specs.Changes.{command_of}
 use Rattle.mps_command.specs.declared.answer.Answer.TheVariants.{Done as Stepped, Undone}
 use Rattle.mps_command.specs.declared.answer.Done.{Done}
 use Rattle.mps_command.specs.declared.answer.Refusal.{Refusal}
-use Rattle.mps_command.specs.declared.answer.Refusal.TheVariants.{Needed}
 use Rattle.mps_command.specs.declared.answer.Violation.{Violation}
 use Rattle.mps_command.specs.declared.command.Change.{Change}
 use Rattle.mps_command.specs.declared.command.Change.TheVariants.{Forward, Undo, Rollback, Back}
 use Rattle.mps_history.specs.Steps.{numbers, step_of, steps_of, within}
-use Rattle.mps_history.specs.Dependence.{consequences, dependents, least}
+use Rattle.mps_history.specs.Dependence.{consequences}
 use Rattle.mps_history.proofs.Order.{AllByRecursion-filter}
 use Rattle.mps_local.specs.Local.{LocalType}
-use Rattle.mps_machine.specs.Machine.{State, most_numbers, view_of, unless, forward, owner_fault, undone, rolled_back, rolled_back_unless_final, commit_fault, final_fault, since_mark, back_to, stepped, removed, serve}
-use Rattle.mps_machine.specs.Violations.{violation}
+use Rattle.mps_machine.specs.Machine.{State, unless, owner_fault, rolled_back, rolled_back_unless_final, final_fault, since_mark, back_to, stepped, removed, serve}
 use Rattle.mps_room.specs.Journal.{undone_by}
 use Rattle.mps_room.specs.Private.Heard.{hears, takes_others}
 use Rattle.mps_room.specs.Private.Owners.{owns}
@@ -61,64 +57,29 @@ at_known (q ∷ owners) p zero e = omega arith
 at_known (q ∷ owners) p (suc k) e = let h = at_known owners p k e in omega arith
 
 pub owned_known : (owners : List ℕ) (p n : ℕ) → owns owners p n ≡ true → n ≤ length owners
-owned_known owners p zero e = omega arith
-owned_known owners p (suc k) e = let h = at_known owners p k e in omega arith
+owned_known owners p n e = grind (arith, at_known)
 
 pub known_stays : (owners : List ℕ) (r p n : ℕ) → n ≤ length owners → owns (owners ++ r ∷ []) p n ≡ owns owners p n
-known_stays owners r p n known =
-    owns_more owners r p n
-    ∙ ap (or_last (owns owners p n) (r == p)) (ne_eqb (suc (length owners)) n (λ (e : suc (length owners) ≡ n). absurd (omega arith)))
-    ∙ sym (not_this (owns owners p n) (r == p))
+known_stays owners r p n known = grind (arith, owns_more, or_last, ne_eqb, not_this)
 
 pub own_stays : (owners : List ℕ) (r p n : ℕ) → owns owners p n ≡ true → owns (owners ++ r ∷ []) p n ≡ true
 own_stays owners r p n own = known_stays owners r p n (owned_known owners p n own) ∙ own
 
-or_true : (b : Bool) → (b || true) ≡ true
-or_true true = refl
-or_true false = refl
-
 pub last_own : (owners : List ℕ) (p n : ℕ) → n ≡ suc (length owners) → owns (owners ++ p ∷ []) p n ≡ true
-last_own owners p n e =
-    owns_more owners p p n
-    ∙ ap (λ (b : Bool). or_last (owns owners p n) b (suc (length owners) == n)) (eq-eqb p p refl)
-    ∙ ap (or_last (owns owners p n) true) (eq-eqb (suc (length owners)) n (sym e))
-    ∙ or_true (owns owners p n)
-
--- a step has one owner
-other_owner : (owner : Option ℕ) (p q : ℕ) → option_map_or (λ o. o == p) owner false ≡ true → (p == q) ≡ false → option_map_or (λ o. o == q) owner false ≡ false
-other_owner None p q e ne = refl
-other_owner (Some o) p q e ne = ap (λ (x : ℕ). x == q) (eqb-true o p e) ∙ ne
-
-not_owned : (owners : List ℕ) (p q n : ℕ) → owns owners p n ≡ true → (p == q) ≡ false → owns owners q n ≡ false
-not_owned owners p q zero e ne = refl
-not_owned owners p q (suc k) e ne = other_owner (slice_get owners k) p q e ne
+last_own owners p n e = grind (arith, owns_more, or_last, eq-eqb)
 
 none_owned : (owners : List ℕ) (p q : ℕ) (ids : List ℕ) → AllByRecursion (λ n. owns owners p n ≡ true) ids → (p == q) ≡ false → list_any (owns owners q) ids ≡ false
 none_owned owners p q [] all ne = refl
-none_owned owners p q (n ∷ ids) all ne = ap (λ (b : Bool). b || list_any (owns owners q) ids) (not_owned owners p q n all.0 ne) ∙ none_owned owners p q ids all.1 ne
-
--- nobody else hears of what a role does with its own steps
-nobody_hears : (b : Bool) (any : Bool) → (b ≡ false → any ≡ false) → (not b && any) ≡ false
-nobody_hears true any none = refl
-nobody_hears false any none = none refl
+none_owned owners p q (n ∷ ids) all ne = grind (arith, eqb-true, none_owned owners p q ids all.1 ne)
 
 own_unheard : (owners : List ℕ) (p q : ℕ) (ids : List ℕ) → AllByRecursion (λ n. owns owners p n ≡ true) ids → hears (owns owners q) q p ids ≡ false
-own_unheard owners p q ids all = nobody_hears (p == q) (list_any (owns owners q) ids) (none_owned owners p q ids all)
+own_unheard owners p q ids all = grind (arith, none_owned)
 
 -- ---- what a change takes back
 
-none_by_step : (P : ℕ → Type 0) (r : Result Done Refusal) → AllByRecursion P (undone_by (stepped r))
-none_by_step P (Ok done) = tt
-none_by_step P (Err refusal) = tt
-
 -- refusals take nothing back
 unless_ids : (P : ℕ → Type 0) (fault : Option Refusal) (st : State) (served : Result (List ℕ) Refusal × State) → AllByRecursion P (undone_by (removed served.0)) → AllByRecursion P (undone_by (removed (unless fault st served).0))
-unless_ids P None st served all = all
-unless_ids P (Some refusal) st served all = tt
-
-unless_history : (P : Step → Type 0) {A : Type 0} (fault : Option Refusal) (st : State) (served : Result A Refusal × State) → AllByRecursion P st.history → AllByRecursion P served.1.history → AllByRecursion P (unless fault st served).1.history
-unless_history P None st served old new = new
-unless_history P (Some refusal) st served old new = old
+unless_ids P fault st served all = grind arith
 
 module _ (owners : List ℕ) (st : State) (own : AllByRecursion (λ s. owns owners s.role s.id ≡ true) st.history) where
   abbrev IsOwned : Step → Type 0
@@ -127,26 +88,8 @@ module _ (owners : List ℕ) (st : State) (own : AllByRecursion (λ s. owns owne
   abbrev IsKnown : ℕ → Type 0
   IsKnown n = n ≤ length owners
 
-  -- an undo takes back a step of its role
-  own_fault : (p n : ℕ) (s : Step) (served : Result (List ℕ) Refusal × State) → step_of st.history n ≡ Some s → (owns owners p n ≡ true → AllByRecursion (λ m. owns owners p m ≡ true) (undone_by (removed served.0))) → AllByRecursion (λ m. owns owners p m ≡ true) (undone_by (removed (unless (owner_fault p (Some s)) st served).0))
-  own_fault p n s served e leads =
-      ⊎_elim
-      (λ (y : (s.role == p) ≡ true).
-      let is = found IsOwned (λ t. t.id == n) st.history s e own in
-      rw y (leads (ap (λ (r : ℕ). owns owners r n) (sym (eqb-true s.role p y)) ∙ ap (owns owners s.role) (sym (eqb-true s.id n is.1)) ∙ is.0)))
-      (λ (o : (s.role == p) ≡ false). rw o tt)
-      (cases_Bool (s.role == p))
-
-  by_owner : (p n : ℕ) (step : Option Step) (served : Result (List ℕ) Refusal × State) → step_of st.history n ≡ step → (owns owners p n ≡ true → AllByRecursion (λ m. owns owners p m ≡ true) (undone_by (removed served.0))) → AllByRecursion (λ m. owns owners p m ≡ true) (undone_by (removed (unless (owner_fault p step) st served).0))
-  by_owner p n None served e leads = tt
-  by_owner p n (Some s) served e leads = own_fault p n s served e leads
-
   pub undo_own : (types : List LocalType) (p n : ℕ) → AllByRecursion (λ m. owns owners p m ≡ true) (undone_by (serve types st p (Undo n)).0)
-  undo_own types p n =
-      let by = option_map Needed (least (dependents st.history n)) in
-      let final = commit_fault (step_of st.history n) in
-      by_owner p n (step_of st.history n) (unless final st (unless by st (undone st n))) refl
-      (λ is. unless_ids (λ m. owns owners p m ≡ true) final st (unless by st (undone st n)) (unless_ids (λ m. owns owners p m ≡ true) by st (undone st n) (is, tt)))
+  undo_own types p n = grind (arith, found, eqb-true, cases_Bool, unless_ids)
 
   known_steps : AllByRecursion (λ s. IsKnown s.id) st.history
   known_steps = all_along IsOwned (λ s. IsKnown s.id) st.history (λ s is. owned_known owners s.role s.id is) own
@@ -158,57 +101,30 @@ module _ (owners : List ℕ) (st : State) (own : AllByRecursion (λ s. owns owne
       (all_reverse IsKnown (numbers (within st.history gone)) (all_numbers IsKnown (within st.history gone) (AllByRecursion-filter (λ s. IsKnown s.id) (λ s. gone s.id) st.history known_steps)))
 
   back_ids : (later : Option (List Step)) → AllByRecursion IsKnown (undone_by (removed (back_to later st).0))
-  back_ids None = tt
-  back_ids (Some []) = tt
-  back_ids (Some (s ∷ h)) = taken_ids s.id
+  back_ids later = grind (arith, taken_ids)
 
   pub serve_ids : (types : List LocalType) (p : ℕ) (change : Change) → AllByRecursion IsKnown (undone_by (serve types st p change).0)
-  serve_ids types p (Forward step) = none_by_step IsKnown (forward types st p (act_of step)).0
+  serve_ids types p (Forward step) = grind arith
   serve_ids types p (Undo n) = all_along (λ m. owns owners p m ≡ true) IsKnown _ (λ m is. owned_known owners p m is) (undo_own types p n)
   serve_ids types p (Rollback n) = unless_ids IsKnown (owner_fault p (step_of st.history n)) st (rolled_back_unless_final st n) (taken_ids n)
   serve_ids types p (Back name) = back_ids (since_mark name (steps_of p st.history))
 
   -- only a rollback and a return to a mark take back steps of others
   pub unheard : (types : List LocalType) (p q : ℕ) (change : Change) → takes_others (command_of change) ≡ false → hears (owns owners q) q p (undone_by (serve types st p change).0) ≡ false
-  unheard types p q (Forward step) e = own_unheard owners p q (undone_by (serve types st p (Forward step)).0) (none_by_step (λ m. owns owners p m ≡ true) (forward types st p (act_of step)).0)
+  unheard types p q (Forward step) e = grind (arith, none_owned)
   unheard types p q (Undo n) e = own_unheard owners p q (undone_by (serve types st p (Undo n)).0) (undo_own types p n)
-  unheard types p q (Rollback n) e = absurd cc
-  unheard types p q (Back name) e = absurd cc
+  unheard types p q other e = absurd cc
 
 -- ---- what survives
 
 -- what holds of each step holds of each that survives
 module _ (P : Step → Type 0) (st : State) (all : AllByRecursion P st.history) where
-  taken_history : (n : ℕ) → AllByRecursion P (rolled_back_unless_final st n).1.history
-  taken_history n =
-      unless_history P (final_fault st.history n) st (rolled_back st n) all
-      (AllByRecursion-filter P (λ s. not (consequences st.history n s.id)) st.history all)
-
-  back_history : (later : Option (List Step)) → AllByRecursion P (back_to later st).1.history
-  back_history None = all
-  back_history (Some []) = all
-  back_history (Some (s ∷ h)) = taken_history s.id
-
   pub serve_history : (types : List LocalType) (p : ℕ) (change : Change) (ids : List ℕ) → Undone ids ≡ (serve types st p change).0 → AllByRecursion P (serve types st p change).1.history
-  serve_history types p (Forward step) ids e = absurd (none_removed ids _ e)
-  serve_history types p (Undo n) ids e =
-      let by = option_map Needed (least (dependents st.history n)) in
-      let final = commit_fault (step_of st.history n) in
-      unless_history P (owner_fault p (step_of st.history n)) st (unless final st (unless by st (undone st n))) all
-      (unless_history P final st (unless by st (undone st n)) all
-      (unless_history P by st (undone st n) all (AllByRecursion-filter P (λ s. not (s.id == n)) st.history all)))
-  serve_history types p (Rollback n) ids e = unless_history P (owner_fault p (step_of st.history n)) st (rolled_back_unless_final st n) all (taken_history n)
-  serve_history types p (Back name) ids e = back_history (since_mark name (steps_of p st.history))
+  serve_history types p change ids e = grind (arith, none_removed, AllByRecursion-filter)
 
 -- a step joins the end of the history
 pub step_joined : (types : List LocalType) (st : State) (p : ℕ) (act : Act) (done : Done) (fault : Option Violation) (full : Bool) → Stepped done ≡ stepped (step_served types st p act done fault full).0 → (step_served types st p act done fault full).1.history ≡ st.history ++ record { id = st.next; role = p; act = act } ∷ []
-step_joined types st p act done (Some fault) full e = absurd cc
-step_joined types st p act done None true e = absurd cc
-step_joined types st p act done None false e = refl
+step_joined types st p act done fault full e = grind arith
 
 pub serve_joined : (types : List LocalType) (st : State) (p : ℕ) (change : Change) (done : Done) → Stepped done ≡ (serve types st p change).0 → (act : Act) × ((serve types st p change).1.history ≡ st.history ++ record { id = st.next; role = p; act = act } ∷ [])
-serve_joined types st p (Forward step) done e =
-    (act_of step, step_joined types st p (act_of step) done (violation (view_of types st.history) p (act_of step)) (nat_lt most_numbers st.next) e)
-serve_joined types st p (Undo n) done e = absurd (none_stepped done _ e)
-serve_joined types st p (Rollback n) done e = absurd (none_stepped done _ e)
-serve_joined types st p (Back name) done e = absurd (none_stepped done _ e)
+serve_joined types st p change done e = grind (arith, step_joined, none_stepped)

@@ -1,5 +1,5 @@
 -- What a room keeps, one entry later.
-use Rattle.std.proofs.Common.{◌≡◌, ℕ, ◌<◌, true, false, List, [], ◌∷◌, ◌++◌, Option, sym, ap, ◌∙◌, subst}
+use Rattle.std.proofs.Common.{arith, ◌≡◌, ℕ, ◌<◌, true, false, List, [], ◌∷◌, ◌++◌, Option, sym, ap, ◌∙◌, subst}
 use Rattle.std.proofs.lemmas.List.{length-map}
 use Rattle.std.specs.Prelude.{length, slice_index_or}
 use Rattle.mps_base.specs.declared.action.Step.{Step}
@@ -58,8 +58,7 @@ module _ (names : List (List ℕ)) (m : SessionState) (owners places : List ℕ)
       ∙ ap (λ (w : Entry). journal_of js ++ w ∷ []) (tracing.whole_there js places owners h old.traced p command gist a sent of)
 
   pub grown_as : (l : List Narrow) → l ≡ js ++ entry ∷ [] → journal_of l ≡ grown (journal_of js) p command a
-  grown_as l more =
-      consistency.grown_as names m owners count lists (journal_of js) old.consistent p known change a is kept room command asks (journal_of l) (joined l more)
+  grown_as l more = grind (arith, room, joined)
 
   pub replied_as : reply names m.types (journal_of js) p command ≡ a
   replied_as = consistency.replied_as names m owners count lists (journal_of js) old.consistent p known change a is kept room command asks
@@ -77,10 +76,7 @@ module _ (names : List (List ℕ)) (m : SessionState) (owners places : List ℕ)
       → AreHeard count heard (journal_of js ++ record { role = p; command = command_of change; answer = a } ∷ [])
   heard_as heard each told same =
       consistency.heard_as names m owners count lists (journal_of js) old.consistent p known change a is kept room command asks heard each
-      (λ others q there.
-      told others q there
-      ∙ ap (λ (ids : List ℕ). with_place (hears (owns owners q) q p ids) (length js) (slice_index_or lists q [])) undone_is
-      ∙ ap (λ (n : ℕ). with_place (hears (owns owners q) q p (undone_by a)) n (slice_index_or lists q [])) (sym count_is))
+      (grind (arith, undone_is, count_is))
       same
 
   pub kept_as : (now : SessionState) (os ps : List ℕ) (n : ℕ) (heard : List (List ℕ)) (l : List Narrow) → now.types ≡ m.types → now.state ≡ (serve m.types m.state p change).1

@@ -1,14 +1,13 @@
 -- The lists of the roles: how they grow, and that they tell the news.
-use Rattle.std.proofs.Common.{◌≡◌, ℕ, suc, ◌+◌, ◌<◌, ◌≤◌, Bool, true, false, List, [], ◌∷◌, ◌++◌, length, take, drop, refl, sym, ap, ◌∙◌, subst, arith, append_assoc, length-append, ⊎_elim, inl, inr}
+use Rattle.std.proofs.Common.{◌≡◌, ℕ, suc, ◌+◌, ◌<◌, ◌≤◌, Bool, true, false, List, [], ◌∷◌, ◌++◌, length, take, drop, refl, sym, ap, ◌∙◌, subst, arith, append_assoc, length-append, ⊎_elim}
 use Rattle.std.specs.Prelude.{◌==◌, ◌&&◌, ◌||◌, not, if◌then◌else◌, slice_index_or}
 use Rattle.std.specs.List.{list_any, filter, flat_map, AllByRecursion}
 use Rattle.std.proofs.lemmas.Bool.{cases_Bool, cases_lt, ne_eqb}
 use Rattle.std.proofs.lemmas.List.{length-take, take-append-drop, drop_all}
 use mathlib.Core.Path.{fun_ext}
-use Rattle.mps_base.specs.declared.action.Step.{Step}
 use Rattle.mps_command.specs.Changes.{command_of}
 use Rattle.mps_command.specs.declared.answer.Answer.{Answer}
-use Rattle.mps_command.specs.declared.answer.Answer.TheVariants.{Done as Stepped, Undone, News, Shown, Refused}
+use Rattle.mps_command.specs.declared.answer.Answer.TheVariants.{Done as Stepped, Undone}
 use Rattle.mps_command.specs.declared.command.Change.{Change}
 use Rattle.mps_local.specs.Local.{LocalType}
 use Rattle.mps_machine.specs.Machine.{State, serve}
@@ -33,10 +32,7 @@ places_alike s t p k (e ∷ j) same =
 -- ---- one entry more
 
 place_last : (first last : Bool) (k at : ℕ) (l : List ℕ) → (if first then k ∷ with_place last at l else with_place last at l) ≡ with_place last at (if first then k ∷ l else l)
-place_last true true k at l = refl
-place_last true false k at l = refl
-place_last false true k at l = refl
-place_last false false k at l = refl
+place_last first last k at l = grind arith
 
 places_joined : (set : ℕ → Bool) (p k at : ℕ) (j : List Entry) (e : Entry) → at ≡ k + length j → places_from set p k (j ++ e ∷ []) ≡ with_place (hears_of set p e) at (places_from set p k j)
 places_joined set p k at [] e here = let is : k ≡ at = omega arith in ap (λ (i : ℕ). if hears_of set p e then i ∷ [] else []) is
@@ -53,44 +49,22 @@ module _ (types : List LocalType) (st : State) (j : List Entry) (p : ℕ) (chang
 
   -- the surviving steps and their owners after the answer to a change
   pub given_with : (a : Answer) → a ≡ (serve types st p change).0 → is_accepted a ≡ true → AreGiven (owners_after owners p a) (serve types st p change).1.history (one_more a)
-  given_with (Stepped done) is kept =
-      let joined = serve_joined types st p change done is in
-      let after = owners ++ p ∷ [] in
-      let step : Step = record { id = st.next; role = p; act = joined.0 } in
-      record {
-        surviving = subst (λ h. AllByRecursion (λ s. owns after s.role s.id ≡ true) h) (sym joined.1)
-            (all_push (λ s. owns after s.role s.id ≡ true) st.history step
-            (all_along (λ s. owns owners s.role s.id ≡ true) (λ s. owns after s.role s.id ≡ true) st.history (λ s own. own_stays owners p s.role s.id own) given.surviving)
-            (last_own owners p st.next (omega (arith, are.next))));
-        undone = all_push (λ e. AllByRecursion (λ n. n ≤ length after) (undone_by e.answer)) j (entry_of (Stepped done))
-            (all_along (λ e. AllByRecursion (λ n. n ≤ length owners) (undone_by e.answer)) (λ e. AllByRecursion (λ n. n ≤ length after) (undone_by e.answer)) j
-            (λ e all. all_along (λ n. n ≤ length owners) (λ n. n ≤ length after) (undone_by e.answer) (λ n few. omega (arith, few, length-append owners (p ∷ []))) all)
-            given.undone)
-            tt;
-      }
   given_with (Undone ids) is kept =
       record {
         surviving = serve_history (λ s. owns owners s.role s.id ≡ true) st given.surviving types p change ids is;
         undone = all_push (λ e. AllByRecursion (λ n. n ≤ length owners) (undone_by e.answer)) j (entry_of (Undone ids)) given.undone
             (subst (λ (b : Answer). AllByRecursion (λ n. n ≤ length owners) (undone_by b)) (sym is) (serve_ids owners st given.surviving types p change));
       }
-  given_with (News n ids) is kept = absurd cc
-  given_with (Shown text) is kept = absurd cc
-  given_with (Refused refusal) is kept = absurd cc
+  given_with other is kept = grind (arith, serve_joined, all_push, all_along, own_stays, last_own, length-append)
 
   -- a role's list, one entry later: whose steps the old entries took back doesn't change
   by_owners : (q : ℕ) (a : Answer) → a ≡ (serve types st p change).0 → is_accepted a ≡ true → places_from (owns (owners_after owners p a) q) q 0 (one_more a) ≡ with_place (hears_of (owns owners q) q (entry_of a)) (length j) (places_from (owns owners q) q 0 j)
   by_owners q (Stepped done) is kept =
       places_joined (owns (owners ++ p ∷ []) q) q 0 (length j) j (entry_of (Stepped done)) (omega arith)
       ∙ ap (with_place (hears_of (owns owners q) q (entry_of (Stepped done))) (length j))
-      (places_alike (owns (owners ++ p ∷ []) q) (owns owners q) q 0 j
-      (all_along (λ e. AllByRecursion (λ n. n ≤ length owners) (undone_by e.answer)) (λ e. AllByRecursion (λ n. owns (owners ++ p ∷ []) q n ≡ owns owners q n) (undone_by e.answer)) j
-      (λ e all. all_along (λ n. n ≤ length owners) (λ n. owns (owners ++ p ∷ []) q n ≡ owns owners q n) (undone_by e.answer) (λ n known. known_stays owners p q n known) all)
-      given.undone))
+      (grind (arith, places_alike, all_along, known_stays))
   by_owners q (Undone ids) is kept = places_joined (owns owners q) q 0 (length j) j (entry_of (Undone ids)) (omega arith)
-  by_owners q (News n ids) is kept = absurd cc
-  by_owners q (Shown text) is kept = absurd cc
-  by_owners q (Refused refusal) is kept = absurd cc
+  by_owners q other is kept = absurd cc
 
   module _ (a : Answer) (is : a ≡ (serve types st p change).0) (kept : is_accepted a ≡ true) (later : AreOwners (owners_after owners p a) (serve types st p change).1.next (one_more a)) where
     places_later : (q : ℕ) → places (one_more a) q ≡ with_place (hears_of (owns owners q) q (entry_of a)) (length j) (places j q)
@@ -107,23 +81,7 @@ module _ (types : List LocalType) (st : State) (j : List Entry) (p : ℕ) (chang
         → ((q : ℕ) → q < count → takes_others (command_of change) ≡ true → slice_index_or new q [] ≡ with_place (hears_of (owns owners q) q (entry_of a)) (length j) (slice_index_or lists q []))
         → (takes_others (command_of change) ≡ false → new ≡ lists)
         → AreHeard count new (one_more a)
-    heard_with count lists new old each heard same =
-        record {
-          few = old.few;
-          each = each;
-          listed = λ q known. by_case q known (takes_others (command_of change)) refl;
-        }
-      where
-        by_case : (q : ℕ) → q < count → (others : Bool) → takes_others (command_of change) ≡ others → slice_index_or new q [] ≡ places (one_more a) q
-        by_case q known true e =
-            heard q known e
-            ∙ ap (with_place (hears_of (owns owners q) q (entry_of a)) (length j)) (old.listed q known)
-            ∙ sym (places_later q)
-        by_case q known false e =
-            ap (λ (l : List (List ℕ)). slice_index_or l q []) (same e)
-            ∙ old.listed q known
-            ∙ ap (λ (b : Bool). with_place b (length j) (places j q)) (sym (unheard_entry q e))
-            ∙ sym (places_later q)
+    heard_with count lists new old each heard same = grind (arith, places_later, unheard_entry)
 
 -- ---- the news
 
@@ -137,9 +95,7 @@ none_filtered set (n ∷ ids) none =
 
 -- the numbers that are told of an entry, where its place is listed if it tells something
 told_of : (own any : Bool) (k : ℕ) (rest : List ℕ) (at : ℕ → List ℕ) (mine : List ℕ) → at k ≡ mine → (any ≡ false → mine ≡ []) → flat_map at (if not own && any then k ∷ rest else rest) ≡ (if own then [] else mine) ++ flat_map at rest
-told_of true any k rest at mine here none = refl
-told_of false true k rest at mine here none = ap (λ (l : List ℕ). l ++ flat_map at rest) here
-told_of false false k rest at mine here none = ap (λ (l : List ℕ). l ++ flat_map at rest) (sym (none refl))
+told_of own any k rest at mine here none = grind arith
 
 middle : (a : List Entry) (e : Entry) (j : List Entry) → undone_at (a ++ e ∷ j) (length a) ≡ undone_by e.answer
 middle [] e j = refl
@@ -166,8 +122,7 @@ places_split set p k at (e ∷ a) b here =
     place_first false k l m = refl
 
 all_if : (P : ℕ → Type 0) (first : Bool) (k : ℕ) (l : List ℕ) → P k → AllByRecursion P l → AllByRecursion P (if first then k ∷ l else l)
-all_if P true k l one all = (one, all)
-all_if P false k l one all = all
+all_if P first k l one all = grind arith
 
 places_below : (set : ℕ → Bool) (p k n : ℕ) (j : List Entry) → k + length j ≤ n → AllByRecursion (λ i. i < n) (places_from set p k j)
 places_below set p k n [] few = tt
@@ -182,15 +137,8 @@ module _ (j : List Entry) (owners : List ℕ) (p n : ℕ) where
   in_first : 0 + length (take n j) ≤ n
   in_first = omega (arith, length-take n j)
 
-  none_behind : (j : List Entry) (n k : ℕ) → length j ≤ n → AllByRecursion (λ i. n ≤ i) (places_from (owns owners p) p k (drop n j))
-  none_behind j n k few = subst (λ (l : List Entry). AllByRecursion (λ i. n ≤ i) (places_from (owns owners p) p k l)) (sym (drop_all n j few)) tt
-
   behind : AllByRecursion (λ i. n ≤ i) (places_from (owns owners p) p (length (take n j)) (drop n j))
-  behind =
-      elim (cases_lt n (length j)) [
-        | inl under ↦ places_above (owns owners p) p (length (take n j)) n (drop n j) (omega (arith, length-take n j))
-        | inr over ↦ none_behind j n (length (take n j)) (omega arith)
-      ]
+  behind = grind (arith, cases_lt, places_above, length-take, drop_all)
 
   pub news_told : (heard late : List ℕ) → ((q m : ℕ) → is_own j q m ≡ owns owners q m) → heard ≡ places j p
       → ((a b : List ℕ) → heard ≡ a ++ b → AllByRecursion (λ k. k < n) a → AllByRecursion (λ k. n ≤ k) b → late ≡ b)
@@ -199,17 +147,12 @@ module _ (j : List Entry) (owners : List ℕ) (p n : ℕ) where
       let same : is_own j p ≡ owns owners p = fun_ext (λ m. own p m) in
       let split = take-append-drop n j in
       let is : heard ≡ places_from (owns owners p) p 0 (take n j) ++ places_from (owns owners p) p (length (take n j)) (drop n j) =
-      listed
-      ∙ ap (λ (set : ℕ → Bool). places_from set p 0 j) same
-      ∙ ap (places_from (owns owners p) p 0) (sym split)
-      ∙ places_split (owns owners p) p 0 (length (take n j)) (take n j) (drop n j) (omega arith)
+      grind (arith, places_split)
       in
       let told = after (places_from (owns owners p) p 0 (take n j)) (places_from (owns owners p) p (length (take n j)) (drop n j)) is
       (places_below (owns owners p) p 0 n (take n j) in_first) behind
       in
-      ap (flat_map (λ k. filter (owns owners p) (undone_at j k))) told
-      ∙ listed_tell (owns owners p) p (take n j) (drop n j) j (length (take n j)) (sym split) refl
-      ∙ ap (λ (set : ℕ → Bool). taken_from set p (drop n j)) (sym same)
+      cc (listed_tell (owns owners p) p (take n j) (drop n j) j (length (take n j)) (sym split) refl)
 
 -- a role that there isn't hears of nothing
 unowned : (names : List (List ℕ)) (types : List LocalType) (before j : List Entry) (p n : ℕ) → FollowsOn names types before j → length types ≤ p → is_own j p n ≡ false
@@ -223,15 +166,9 @@ none_any : (set : ℕ → Bool) (ids : List ℕ) → ((n : ℕ) → set n ≡ fa
 none_any set [] none = refl
 none_any set (n ∷ ids) none = ap (λ (b : Bool). b || list_any set ids) (none n) ∙ none_any set ids none
 
-hears_none : (own any : Bool) → any ≡ false → (not own && any) ≡ false
-hears_none true any none = refl
-hears_none false any none = none
-
 none_listed : (set : ℕ → Bool) (p k : ℕ) (j : List Entry) → ((n : ℕ) → set n ≡ false) → places_from set p k j ≡ []
 none_listed set p k [] none = refl
-none_listed set p k (e ∷ j) none =
-    ap (λ (b : Bool). if b then k ∷ places_from set p (suc k) j else places_from set p (suc k) j) (hears_none (e.role == p) (list_any set (undone_by e.answer)) (none_any set (undone_by e.answer) none))
-    ∙ none_listed set p (suc k) j none
+none_listed set p k (e ∷ j) none = grind (arith, none_any, none_listed set p (suc k) j none)
 
 pub nobody : (names : List (List ℕ)) (types : List LocalType) (j : List Entry) (p : ℕ) → FollowsOn names types [] j → length types ≤ p → places j p ≡ []
 nobody names types j p each none = none_listed (is_own j p) p 0 j (λ n. unowned names types [] j p n each none)
