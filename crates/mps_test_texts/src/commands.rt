@@ -1,6 +1,6 @@
-use mps_base::{Message, Name, Role, StepId, Value};
+use mps_base::{Name, Role, Roles, StepId};
 use mps_command::*;
-use mps_line::{Reply, read_answer, write_answer};
+use mps_line::{Reply, read_answer, read_command, write_answer};
 use std::alloc::Global;
 use std::test::Fail;
 
@@ -8,68 +8,68 @@ fn name(bytes: &[u8]) -> Result<Name, Fail> {
     Ok(Name::read(bytes).ok_or("a name")?)
 }
 
-// How a command and its copy are shown.
-fn shown(alloc: Global, command: &Command) -> Result<(String, String), Fail> {
+// The roles a and b.
+fn roles(alloc: Global) -> Result<Roles, Fail> {
+    Ok(Roles::of(alloc, &[name(b"a")?, name(b"b")?])?)
+}
+
+// A line for each command.
+const COMMANDS: &[&str] = &[
+    "send b \"good day\"",
+    "send b -7",
+    "send b true",
+    "choose b ok",
+    "recv b x",
+    "pick b",
+    "mark m",
+    "commit",
+    "undo 3",
+    "rollback 4",
+    "back m",
+    "news 9",
+    "show",
+];
+
+// Whether the command and its copy are shown alike.
+fn is_copied_command(alloc: Global, command: &Command) -> Result<bool, Fail> {
     let copied = command.copy(alloc)?;
     let before = format!(in alloc; "{command:?}")?;
     let after = format!(in alloc; "{copied:?}")?;
-    Ok((before, after))
+    Ok(before.as_str() == after.as_str())
+}
+
+// The same of the command of this line.
+fn is_copied_line(alloc: Global, roles: &Roles, line: &str) -> Result<bool, Fail> {
+    is_copied_command(alloc, &read_command(alloc, roles, line.as_bytes())?)
 }
 
 #[test]
 fn copies_commands(rt: HostRuntime) -> Result<(), Fail> {
-    let alloc = rt.alloc();
-    let b = Role::new(1);
-    let text = Value::read(alloc, b"\"good day\"")?;
-    let mut commands = Vec::new(alloc);
-    commands.push(Command::Forward(Forward::Send { to: b, value: text }))?;
-    commands.push(Command::Forward(Forward::Send {
-        to: b,
-        value: Value::Int(-7),
-    }))?;
-    commands.push(Command::Forward(Forward::Send {
-        to: b,
-        value: Value::Bool(true),
-    }))?;
-    commands.push(Command::Forward(Forward::Choose {
-        to: b,
-        label: name(b"ok")?,
-    }))?;
-    commands.push(Command::Forward(Forward::Receive {
-        from: b,
-        slot: name(b"x")?,
-    }))?;
-    commands.push(Command::Forward(Forward::Pick { from: b }))?;
-    commands.push(Command::Forward(Forward::Mark { name: name(b"m")? }))?;
-    commands.push(Command::Forward(Forward::Commit))?;
-    commands.push(Command::Undo(StepId::new(3)))?;
-    commands.push(Command::Rollback(StepId::new(4)))?;
-    commands.push(Command::Back(name(b"m")?))?;
-    commands.push(Command::News(9))?;
-    commands.push(Command::Show)?;
-    for command in &commands {
-        let (before, after) = shown(alloc, command)?;
-        assert_eq!(rt; before.as_str(), after.as_str());
+    let roles = roles(rt.alloc())?;
+    for line in COMMANDS {
+        assert!(rt; is_copied_line(rt.alloc(), &roles, line)?, "{line}");
     }
     Ok(())
+}
+
+// Whether the change and its copy are shown alike.
+fn is_copied_change(alloc: Global, change: Change) -> Result<bool, Fail> {
+    let copied = change.copy(alloc)?;
+    let before = format!(in alloc; "{change:?}")?;
+    let after = format!(in alloc; "{copied:?}")?;
+    Ok(before.as_str() == after.as_str())
 }
 
 #[test]
 fn copies_changes(rt: HostRuntime) -> Result<(), Fail> {
     let alloc = rt.alloc();
-    let b = Role::new(1);
-    let mut changes = Vec::new(alloc);
-    changes.push(Change::Forward(Forward::Pick { from: b }))?;
-    changes.push(Change::Forward(Forward::Commit))?;
-    changes.push(Change::Undo(StepId::new(3)))?;
-    changes.push(Change::Rollback(StepId::new(4)))?;
-    changes.push(Change::Back(name(b"m")?))?;
-    for change in &changes {
-        let copied = change.copy(alloc)?;
-        let before = format!(in alloc; "{change:?}")?;
-        let after = format!(in alloc; "{copied:?}")?;
-        assert_eq!(rt; before.as_str(), after.as_str());
-    }
+    let from = Role::new(1);
+    assert!(rt; is_copied_change(alloc, Change::Forward(Forward::Pick { from }))?);
+    assert!(rt; is_copied_change(alloc, Change::Forward(Forward::Commit))?);
+    assert!(rt; is_copied_change(alloc, Change::Undo(StepId::new(3)))?);
+    assert!(rt; is_copied_change(alloc, Change::Rollback(StepId::new(4)))?);
+    let mark = name(b"m")?;
+    assert!(rt; is_copied_change(alloc, Change::Back(mark))?);
     Ok(())
 }
 
@@ -103,21 +103,26 @@ fn numbers(alloc: Global, ids: &StepIds) -> Result<Vec<u64>, Fail> {
     Ok(numbers)
 }
 
+// Whether a copy of the list has these numbers.
+fn has_numbers(alloc: Global, ids: StepIds, wanted: &[u64]) -> Result<bool, Fail> {
+    let Answer::Undone(undone) = Answer::Undone(ids).copy(alloc)? else {
+        return Err("no list of numbers")?;
+    };
+    Ok(numbers(alloc, &undone)?.as_slice() == wanted)
+}
+
+// The same of the list of these numbers.
+fn is_listed(alloc: Global, wanted: &[u64]) -> Result<bool, Fail> {
+    has_numbers(alloc, listed(alloc, wanted)?, wanted)
+}
+
 #[test]
 fn copies_lists_of_numbers(rt: HostRuntime) -> Result<(), Fail> {
     let alloc = rt.alloc();
-    let lists = [
-        (listed(alloc, &[])?, [].as_slice()),
-        (StepIds::one(StepId::new(7)), [7].as_slice()),
-        (listed(alloc, &[7])?, [7].as_slice()),
-        (listed(alloc, &[5, 3])?, [5, 3].as_slice()),
-    ];
-    for (ids, wanted) in lists {
-        let Answer::Undone(undone) = Answer::Undone(ids).copy(alloc)? else {
-            return Err("no list of numbers")?;
-        };
-        assert_eq!(rt; numbers(alloc, &undone)?.as_slice(), wanted);
-    }
+    assert!(rt; is_listed(alloc, &[])?);
+    assert!(rt; has_numbers(alloc, StepIds::one(StepId::new(7)), &[7])?);
+    assert!(rt; is_listed(alloc, &[7])?);
+    assert!(rt; is_listed(alloc, &[5, 3])?);
     Ok(())
 }
 
@@ -134,38 +139,43 @@ fn gives_lists_of_numbers_up(rt: HostRuntime) -> Result<(), Fail> {
     Ok(())
 }
 
-// How an answer and its copy are shown.
-fn answered(alloc: Global, answer: &Answer) -> Result<(String, String), Fail> {
+// Whether the answer and its copy are shown alike.
+fn is_copied_answer(alloc: Global, answer: &Answer) -> Result<bool, Fail> {
     let copied = answer.copy(alloc)?;
     let before = format!(in alloc; "{answer:?}")?;
     let after = format!(in alloc; "{copied:?}")?;
-    Ok((before, after))
+    Ok(before.as_str() == after.as_str())
 }
+
+// The answer of the line.
+fn answer(alloc: Global, line: &str) -> Result<Answer, Fail> {
+    match read_answer(alloc, line.as_bytes())? {
+        Reply::Answered(answer) => Ok(answer),
+        _ => Err("another reply".into()),
+    }
+}
+
+// Lines of answers.
+const ANSWERS: &[&str] = &[
+    "done 6 ok",
+    "done 6 \"good day\"",
+    "done 6",
+    "undone 5 3",
+    "undone",
+    "news 9 5 3",
+    "refused final 6",
+    "refused needed 6",
+    "refused ended",
+];
 
 #[test]
 fn copies_answers(rt: HostRuntime) -> Result<(), Fail> {
     let alloc = rt.alloc();
-    let id = StepId::new(6);
-    let label = Some(Message::Label(name(b"ok")?));
-    let text = Some(Message::Value(Value::read(alloc, b"\"good day\"")?));
-    let mut answers = Vec::new(alloc);
-    answers.push(Answer::Done(Done { id, got: label }))?;
-    answers.push(Answer::Done(Done { id, got: text }))?;
-    answers.push(Answer::Done(Done { id, got: None }))?;
-    answers.push(Answer::Undone(listed(alloc, &[5, 3])?))?;
-    answers.push(Answer::Undone(listed(alloc, &[])?))?;
-    answers.push(Answer::Undone(StepIds::one(id)))?;
-    answers.push(Answer::News {
-        length: 9,
-        ids: listed(alloc, &[5, 3])?,
-    })?;
-    answers.push(Answer::Refused(Refusal::Final { by: id }))?;
-    answers.push(Answer::Refused(Refusal::Needed { by: id }))?;
-    answers.push(Answer::Refused(Refusal::Violation(Violation::Ended)))?;
-    for answer in &answers {
-        let (before, after) = answered(alloc, answer)?;
-        assert_eq!(rt; before.as_str(), after.as_str());
+    for line in ANSWERS {
+        assert!(rt; is_copied_answer(alloc, &answer(alloc, line)?)?, "{line}");
     }
+    let one = Answer::Undone(StepIds::one(StepId::new(6)));
+    assert!(rt; is_copied_answer(alloc, &one)?);
     Ok(())
 }
 
@@ -173,11 +183,8 @@ const LINES: &[&str] = &["done 2 5", "undone 4 3 2 1", "news 5 3 2"];
 
 // The line of a copy of the answer that has this line.
 fn copied(alloc: Global, line: &str) -> Result<Vec<u8>, Fail> {
-    let Reply::Answered(answer) = read_answer(alloc, line.as_bytes())? else {
-        return Err("another reply".into());
-    };
     let mut copy = Vec::new(alloc);
-    write_answer(&answer.copy(alloc)?, &mut copy)?;
+    write_answer(&answer(alloc, line)?.copy(alloc)?, &mut copy)?;
     Ok(copy)
 }
 
