@@ -349,21 +349,32 @@ pub(super) fn giving(rt: &(impl Abort + AllocGlobal)) -> Vec<Local> {
 
 // The k-th of many slots.
 fn slot(rt: &(impl Abort + AllocGlobal), k: i64) -> Name {
-    name(rt, format!(in rt.alloc(); "s{k}").expect(rt, "memory").as_str())
+    name(
+        rt,
+        format!(in rt.alloc(); "s{k}").expect(rt, "memory").as_str(),
+    )
 }
 
 // Gives b the k-th value.
 fn give(rt: &impl Abort, session: &mut Session, k: i64) {
     let (role, to) = (role_of(rt, session, A), Role::new(B));
     let value = Value::Int(k);
-    assert!(rt; session.forward(role, Forward::Send { to, value }).is_ok(), "{k}");
+    assert!(rt;
+        session.forward(role, Forward::Send { to, value }).is_ok(),
+        "{k}"
+    );
 }
 
 // Keeps the value that came first from a in b's k-th slot.
 fn keep(rt: &(impl Abort + AllocGlobal), session: &mut Session, k: i64) {
     let (role, from) = (role_of(rt, session, B), Role::new(A));
     let slot = slot(rt, k);
-    assert!(rt; session.forward(role, Forward::Receive { from, slot }).is_ok(), "{k}");
+    assert!(rt;
+        session
+            .forward(role, Forward::Receive { from, slot })
+            .is_ok(),
+        "{k}"
+    );
 }
 
 // Whether the value is that number.

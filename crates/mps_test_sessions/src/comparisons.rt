@@ -229,7 +229,10 @@ fn takes_back_at_last(
     let mut session = after(rt, protocol, turns);
     let mut answer = rolled_back(rt, &mut session);
     if is_out_of_memory(&answer) {
-        assert!(rt; is_untried(rt, protocol, &session, turns), "a refusal changed something");
+        assert!(rt;
+            is_untried(rt, protocol, &session, turns),
+            "a refusal changed something"
+        );
         answer = rolled_back(rt, &mut session);
     }
     answer.is_ok_and(|ids| are_three(&ids))
@@ -250,7 +253,10 @@ fn refused(
 ) -> Option<Refusal> {
     let mut session = after(rt, protocol, turns);
     let refusal = rolled_back(rt, &mut session).err();
-    assert!(rt; is_untried(rt, protocol, &session, turns), "a refusal changed something");
+    assert!(rt;
+        is_untried(rt, protocol, &session, turns),
+        "a refusal changed something"
+    );
     refusal
 }
 
@@ -258,5 +264,8 @@ fn refused(
 fn a_refused_rollback_changes_nothing(rt: HostRuntime) {
     let turns = [SEND_5, TAKE, Does(B, COMMIT), SAY_X];
     let by = StepId::new(3);
-    assert_eq!(rt; refused(&rt, &two_pairs(&rt), &turns), Some(Refusal::Final { by }));
+    assert_eq!(rt;
+        refused(&rt, &two_pairs(&rt), &turns),
+        Some(Refusal::Final { by })
+    );
 }

@@ -3,8 +3,7 @@ ghost use Rattle.std.specs.List.{AllByRecursion};
 
 use crate::steps::Line::{Count, Keeps, Moves, Waits};
 use crate::steps::{
-    A, A_TO_B_TO_C, Ask, B, C, Line, command, gone, name, opened, play, role_of, text, told,
-    types,
+    A, A_TO_B_TO_C, Ask, B, C, Line, command, gone, name, opened, play, role_of, text, told, types,
 };
 use mps_base::{Name, Role, StepId};
 use mps_command::{Answer, Change, Forward};
@@ -35,11 +34,7 @@ fn asked(rt: &(impl Abort + AllocGlobal), wish: Wish) -> Change {
 }
 
 // The requests of the rows, in order.
-fn requests(
-    rt: &(impl Abort + AllocGlobal),
-    session: &Session,
-    rows: &[Row],
-) -> Vec<(Role, Change)>
+fn requests(rt: &(impl Abort + AllocGlobal), session: &Session, rows: &[Row]) -> Vec<(Role, Change)>
     ensures { AllByRecursion (λ request. request.0 < length session.now.types) result.items }
 {
     let mut all = Vec::new(rt.alloc());
@@ -139,7 +134,8 @@ fn marks_and_undos(
     let role = role_of(rt, session, A);
     let mark = name(rt, "m");
     for turn in 0..count {
-        all.push(mark_or_undo(role, turn, mark)).expect(rt, "memory");
+        all.push(mark_or_undo(role, turn, mark))
+            .expect(rt, "memory");
     }
     all
 }

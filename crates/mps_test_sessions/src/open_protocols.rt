@@ -76,11 +76,7 @@ pub(super) fn protocol(
 }
 
 // Why the protocol of these roles isn't opened, None where it is.
-fn fault(
-    rt: &(impl Abort + AllocGlobal),
-    letters: &[&str],
-    body: Global,
-) -> Option<ProtocolFault> {
+fn fault(rt: &(impl Abort + AllocGlobal), letters: &[&str], body: Global) -> Option<ProtocolFault> {
     open_protocol(rt.alloc(), &protocol(rt, letters, body)).err()
 }
 

@@ -106,10 +106,7 @@ fn refusal(rt: &(impl Abort + AllocGlobal), refusal: Refusal) -> String {
 }
 
 // What a role is answered: the step's number and what it took, or the refusal.
-pub(super) fn told(
-    rt: &(impl Abort + AllocGlobal),
-    answer: &Result<Done, Refusal>,
-) -> String {
+pub(super) fn told(rt: &(impl Abort + AllocGlobal), answer: &Result<Done, Refusal>) -> String {
     match answer {
         Ok(taken) => done(rt, taken),
         Err(fault) => refusal(rt, *fault),
@@ -266,7 +263,8 @@ fn one_moved(rt: &(impl Abort + AllocGlobal), id: StepId, message: Option<&Messa
 fn moved(rt: &(impl Abort + AllocGlobal), session: &Session) -> String {
     let mut all = String::new(rt.alloc());
     for (step, message) in session.moves() {
-        all.push_str(one_moved(rt, step.id, message).as_str()).expect(rt, "memory");
+        all.push_str(one_moved(rt, step.id, message).as_str())
+            .expect(rt, "memory");
     }
     all
 }

@@ -149,7 +149,10 @@ const NONE_LEFT: &[Line] = &[Undoes(A, 1, "NoStep"), Waits(A, B, 0, "-"), Count(
 
 // a takes its step of that number back.
 fn undoes(rt: &(impl Abort + AllocGlobal), session: &mut Session, number: u64) {
-    assert!(rt; undone(rt, session, A, number).as_str() == "Ok", "step {number} stays");
+    assert!(rt;
+        undone(rt, session, A, number).as_str() == "Ok",
+        "step {number} stays"
+    );
 }
 
 // Takes the steps of a back, from that number on downwards.
