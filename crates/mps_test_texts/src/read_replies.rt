@@ -171,13 +171,16 @@ const BAD_REPLIES: &[&str] = &[
     "join 1 a",
 ];
 
+// Whether the line is read as no reply.
+fn is_bad_reply(alloc: Global, line: &str) -> bool {
+    matches!(read_answer(alloc, line.as_bytes()), Err(LineFault::Bad))
+}
+
 #[test]
-fn bad_replies(rt: HostRuntime) -> Result<(), Fail> {
+fn bad_replies(rt: HostRuntime) {
     for line in BAD_REPLIES {
-        let found = read_answer(rt.alloc(), line.as_bytes());
-        assert!(rt; matches!(found, Err(LineFault::Bad)), "{line}");
+        assert!(rt; is_bad_reply(rt.alloc(), line), "{line}");
     }
-    Ok(())
 }
 
 // The words, and after them the numbers from 1 to this one.
