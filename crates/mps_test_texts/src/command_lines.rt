@@ -7,7 +7,6 @@ use mps_line::laws::{one_command, one_numbered};
 use mps_line::{LineFault, read_command, read_numbered, read_script_line, write_command};
 use std::alloc::{AllocGlobal, Global};
 use std::process::Abort;
-use std::test::Fail;
 
 fn name(rt: &impl Abort, text: &str) -> Name {
     Name::read(text.as_bytes()).expect(rt, "a name")
@@ -198,7 +197,7 @@ fn bad_lines(rt: HostRuntime) {
 // ---- commands alone
 
 // The command as it is written, and what that is read as.
-fn again(alloc: Global, roles: &Roles, command: &Command) -> Result<(Vec<u8>, Command), Fail>
+fn again(alloc: Global, roles: &Roles, command: &Command) -> Result<(Vec<u8>, Command), LineFault>
     requires { NamesRolesOf roles.now command.now }
     ensures { IfOk result (λ r. r.1 ≡ command.now) }
 {
