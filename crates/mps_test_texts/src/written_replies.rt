@@ -115,22 +115,16 @@ fn is_refused(rt: &(impl Abort + AllocGlobal), refusal: Refusal, line: &str) {
     is_answer(rt, Answer::Refused(refusal), line);
 }
 
-const REFUSALS: &[(Refusal, &str)] = &[
-    (Refusal::NoStep, "#refused nostep"),
-    (Refusal::NotYours, "#refused notyours"),
-    (Refusal::NoMark, "#refused nomark"),
-    (Refusal::Full, "#refused full"),
-    (Refusal::Memory, "#refused memory"),
-];
-
 #[test]
 fn refused(rt: HostRuntime) {
     for (violation, line) in VIOLATIONS {
         is_refused(&rt, Refusal::Violation(*violation), line);
     }
-    for (refusal, line) in REFUSALS {
-        is_refused(&rt, *refusal, line);
-    }
+    is_refused(&rt, Refusal::NoStep, "#refused nostep");
+    is_refused(&rt, Refusal::NotYours, "#refused notyours");
+    is_refused(&rt, Refusal::NoMark, "#refused nomark");
+    is_refused(&rt, Refusal::Full, "#refused full");
+    is_refused(&rt, Refusal::Memory, "#refused memory");
     let by = StepId::new(2);
     is_refused(&rt, Refusal::Needed { by }, "#refused needed 2");
     is_refused(&rt, Refusal::Final { by }, "#refused final 2");
