@@ -1,16 +1,16 @@
 use mps_base::{Name, Role, Roles, StepId};
 use mps_command::*;
 use mps_line::{Reply, read_answer, read_command, write_answer};
-use std::alloc::Global;
-use std::test::Fail;
+use std::alloc::AllocGlobal;
+use std::process::Abort;
 
-fn name(bytes: &[u8]) -> Result<Name, Fail> {
-    Ok(Name::read(bytes).ok_or("a name")?)
+fn name(rt: &impl Abort, text: &str) -> Name {
+    Name::read(text.as_bytes()).expect(rt, "a name")
 }
 
 // The roles a and b.
-fn roles(alloc: Global) -> Result<Roles, Fail> {
-    Ok(Roles::of(alloc, &[name(b"a")?, name(b"b")?])?)
+fn roles(rt: &(impl Abort + AllocGlobal)) -> Roles {
+    Roles::of(rt.alloc(), &[name(rt, "a"), name(rt, "b")]).expect(rt, "roles")
 }
 
 // A line for each command.
@@ -30,129 +30,148 @@ const COMMANDS: &[&str] = &[
     "show",
 ];
 
+// How the command is shown.
+fn shown(rt: &(impl Abort + AllocGlobal), command: &Command) -> String {
+    format!(in rt.alloc(); "{command:?}").expect(rt, "memory")
+}
+
 // Whether the command and its copy are shown alike.
-fn is_copied_command(alloc: Global, command: &Command) -> Result<bool, Fail> {
-    let copied = command.copy(alloc)?;
-    let before = format!(in alloc; "{command:?}")?;
-    let after = format!(in alloc; "{copied:?}")?;
-    Ok(before.as_str() == after.as_str())
+fn is_copied(rt: &(impl Abort + AllocGlobal), command: &Command) -> bool {
+    let copied = command.copy(rt.alloc()).expect(rt, "memory");
+    shown(rt, command).as_str() == shown(rt, &copied).as_str()
 }
 
-// The same of the command of this line.
-fn is_copied_line(alloc: Global, roles: &Roles, line: &str) -> Result<bool, Fail> {
-    is_copied_command(alloc, &read_command(alloc, roles, line.as_bytes())?)
+// The command of this line.
+fn read(rt: &(impl Abort + AllocGlobal), roles: &Roles, line: &str) -> Command {
+    read_command(rt.alloc(), roles, line.as_bytes()).expect(rt, "a command")
 }
 
 #[test]
-fn copies_commands(rt: HostRuntime) -> Result<(), Fail> {
-    let roles = roles(rt.alloc())?;
+fn copies_commands(rt: HostRuntime) {
+    let roles = roles(&rt);
     for line in COMMANDS {
-        assert!(rt; is_copied_line(rt.alloc(), &roles, line)?, "{line}");
+        assert!(rt; is_copied(&rt, &read(&rt, &roles, line)), "{line}");
     }
-    Ok(())
 }
 
-// Whether the change and its copy are shown alike.
-fn is_copied_change(alloc: Global, change: Change) -> Result<bool, Fail> {
-    let copied = change.copy(alloc)?;
-    let before = format!(in alloc; "{change:?}")?;
-    let after = format!(in alloc; "{copied:?}")?;
-    Ok(before.as_str() == after.as_str())
+// How the change is shown.
+fn shown_change(rt: &(impl Abort + AllocGlobal), change: &Change) -> String {
+    format!(in rt.alloc(); "{change:?}").expect(rt, "memory")
+}
+
+// The change and its copy are shown alike.
+fn copies(rt: &(impl Abort + AllocGlobal), change: Change) {
+    let copied = change.copy(rt.alloc()).expect(rt, "memory");
+    let shown = shown_change(rt, &change);
+    assert_eq!(rt; shown.as_str(), shown_change(rt, &copied).as_str());
 }
 
 #[test]
-fn copies_changes(rt: HostRuntime) -> Result<(), Fail> {
-    let alloc = rt.alloc();
+fn copies_changes(rt: HostRuntime) {
     let from = Role::new(1);
-    assert!(rt; is_copied_change(alloc, Change::Forward(Forward::Pick { from }))?);
-    assert!(rt; is_copied_change(alloc, Change::Forward(Forward::Commit))?);
-    assert!(rt; is_copied_change(alloc, Change::Undo(StepId::new(3)))?);
-    assert!(rt; is_copied_change(alloc, Change::Rollback(StepId::new(4)))?);
-    let mark = name(b"m")?;
-    assert!(rt; is_copied_change(alloc, Change::Back(mark))?);
-    Ok(())
+    copies(&rt, Change::Forward(Forward::Pick { from }));
+    copies(&rt, Change::Forward(Forward::Commit));
+    copies(&rt, Change::Undo(StepId::new(3)));
+    copies(&rt, Change::Rollback(StepId::new(4)));
+    copies(&rt, Change::Back(name(&rt, "m")));
+}
+
+// The text of a copy of the answer, if it shows a session.
+fn shown_again(rt: &(impl Abort + AllocGlobal), answer: &Answer) -> Option<ShownText> {
+    match answer.copy(rt.alloc()).expect(rt, "memory") {
+        Answer::Shown(text) => Some(text),
+        _ => None,
+    }
 }
 
 #[test]
-fn copies_shown_texts(rt: HostRuntime) -> Result<(), Fail> {
-    let alloc = rt.alloc();
-    let text = ShownText::of(Vec::from_slice(alloc, b"{1 ~}")?);
+fn copies_shown_texts(rt: HostRuntime) {
+    let text = ShownText::of(Vec::from_slice(rt.alloc(), b"{1 ~}").expect(&rt, "memory"));
     assert_eq!(rt; text.as_bytes(), b"{1 ~}".as_slice());
-    let Answer::Shown(again) = Answer::Shown(text).copy(alloc)? else {
-        return Err("no text")?;
-    };
+    let again = shown_again(&rt, &Answer::Shown(text)).expect(&rt, "a text");
     assert_eq!(rt; again.as_bytes(), b"{1 ~}".as_slice());
-    Ok(())
 }
 
 // The list of these numbers.
-fn listed(alloc: Global, numbers: &[u64]) -> Result<StepIds, Fail> {
-    let mut ids = Vec::new(alloc);
+fn listed(rt: &(impl Abort + AllocGlobal), numbers: &[u64]) -> StepIds {
+    let mut ids = Vec::new(rt.alloc());
     for number in numbers {
-        ids.push(StepId::new(*number))?;
+        ids.push(StepId::new(*number)).expect(rt, "memory");
     }
-    Ok(StepIds::of(ids))
+    StepIds::of(ids)
 }
 
-// The numbers of the list.
-fn numbers(alloc: Global, ids: &StepIds) -> Result<Vec<u64>, Fail> {
-    let mut numbers = Vec::new(alloc);
-    for id in ids.as_slice() {
-        numbers.push(id.number())?;
+// A copy of the list.
+fn copy_of(rt: &(impl Abort + AllocGlobal), ids: StepIds) -> StepIds {
+    match Answer::Undone(ids).copy(rt.alloc()).expect(rt, "memory") {
+        Answer::Undone(undone) => undone,
+        _ => StepIds::of(Vec::new(rt.alloc())),
     }
-    Ok(numbers)
 }
 
-// Whether a copy of the list has these numbers.
-fn has_numbers(alloc: Global, ids: StepIds, wanted: &[u64]) -> Result<bool, Fail> {
-    let Answer::Undone(undone) = Answer::Undone(ids).copy(alloc)? else {
-        return Err("no list of numbers")?;
-    };
-    Ok(numbers(alloc, &undone)?.as_slice() == wanted)
+// Whether the list has these numbers.
+fn has_numbers(ids: &StepIds, wanted: &[u64]) -> bool {
+    let mut pairs = ids.as_slice().iter().zip(wanted);
+    ids.as_slice().len() == wanted.len() && pairs.all(|(id, number)| id.number() == *number)
 }
 
-// The same of the list of these numbers.
-fn is_listed(alloc: Global, wanted: &[u64]) -> Result<bool, Fail> {
-    has_numbers(alloc, listed(alloc, wanted)?, wanted)
+// A copy of the list of these numbers has them.
+fn copies_list(rt: &(impl Abort + AllocGlobal), numbers: &[u64]) {
+    let copied = copy_of(rt, listed(rt, numbers));
+    assert!(rt; has_numbers(&copied, numbers));
 }
 
 #[test]
-fn copies_lists_of_numbers(rt: HostRuntime) -> Result<(), Fail> {
-    let alloc = rt.alloc();
-    assert!(rt; is_listed(alloc, &[])?);
-    assert!(rt; has_numbers(alloc, StepIds::one(StepId::new(7)), &[7])?);
-    assert!(rt; is_listed(alloc, &[7])?);
-    assert!(rt; is_listed(alloc, &[5, 3])?);
-    Ok(())
+fn copies_lists_of_numbers(rt: HostRuntime) {
+    copies_list(&rt, &[]);
+    assert!(rt; has_numbers(&copy_of(&rt, StepIds::one(StepId::new(7))), &[7]));
+    copies_list(&rt, &[7]);
+    copies_list(&rt, &[5, 3]);
+}
+
+// Whether the list gives up that number alone.
+fn gives_number(ids: StepIds, number: u64) -> bool {
+    matches!(ids.try_into_vec(), Err(id) if id.is(StepId::new(number)))
+}
+
+// Whether the list gives up a vector of these two numbers.
+fn gives_two(ids: StepIds, first: u64, second: u64) -> bool {
+    match ids.try_into_vec() {
+        Ok(ids) => ids.as_slice() == [StepId::new(first), StepId::new(second)].as_slice(),
+        Err(_) => false,
+    }
 }
 
 // A list of one number that is kept without a vector gives the number, and any other list its vector.
 #[test]
-fn gives_lists_of_numbers_up(rt: HostRuntime) -> Result<(), Fail> {
-    let alone = StepIds::one(StepId::new(7));
-    assert!(rt; matches!(alone.try_into_vec(), Err(id) if id.is(StepId::new(7))));
-    let listed = listed(rt.alloc(), &[5, 3])?;
-    let Ok(ids) = listed.try_into_vec() else {
-        return Err("no vector")?;
-    };
-    assert_eq!(rt; ids.as_slice(), [StepId::new(5), StepId::new(3)].as_slice());
-    Ok(())
+fn gives_lists_of_numbers_up(rt: HostRuntime) {
+    assert!(rt; gives_number(StepIds::one(StepId::new(7)), 7));
+    assert!(rt; gives_two(listed(&rt, &[5, 3]), 5, 3));
+}
+
+// How the answer is shown.
+fn shown_answer(rt: &(impl Abort + AllocGlobal), answer: &Answer) -> String {
+    format!(in rt.alloc(); "{answer:?}").expect(rt, "memory")
 }
 
 // Whether the answer and its copy are shown alike.
-fn is_copied_answer(alloc: Global, answer: &Answer) -> Result<bool, Fail> {
-    let copied = answer.copy(alloc)?;
-    let before = format!(in alloc; "{answer:?}")?;
-    let after = format!(in alloc; "{copied:?}")?;
-    Ok(before.as_str() == after.as_str())
+fn is_copied_answer(rt: &(impl Abort + AllocGlobal), answer: &Answer) -> bool {
+    let copied = answer.copy(rt.alloc()).expect(rt, "memory");
+    shown_answer(rt, answer).as_str() == shown_answer(rt, &copied).as_str()
+}
+
+// The answer of the reply, if it is one.
+fn answered(reply: Reply) -> Option<Answer> {
+    match reply {
+        Reply::Answered(answer) => Some(answer),
+        _ => None,
+    }
 }
 
 // The answer of the line.
-fn answer(alloc: Global, line: &str) -> Result<Answer, Fail> {
-    match read_answer(alloc, line.as_bytes())? {
-        Reply::Answered(answer) => Ok(answer),
-        _ => Err("another reply".into()),
-    }
+fn answer(rt: &(impl Abort + AllocGlobal), line: &str) -> Answer {
+    let reply = read_answer(rt.alloc(), line.as_bytes()).expect(rt, "a reply");
+    answered(reply).expect(rt, "an answer")
 }
 
 // Lines of answers.
@@ -169,40 +188,38 @@ const ANSWERS: &[&str] = &[
 ];
 
 #[test]
-fn copies_answers(rt: HostRuntime) -> Result<(), Fail> {
-    let alloc = rt.alloc();
+fn copies_answers(rt: HostRuntime) {
     for line in ANSWERS {
-        assert!(rt; is_copied_answer(alloc, &answer(alloc, line)?)?, "{line}");
+        assert!(rt; is_copied_answer(&rt, &answer(&rt, line)), "{line}");
     }
     let one = Answer::Undone(StepIds::one(StepId::new(6)));
-    assert!(rt; is_copied_answer(alloc, &one)?);
-    Ok(())
+    assert!(rt; is_copied_answer(&rt, &one));
 }
 
 const LINES: &[&str] = &["done 2 5", "undone 4 3 2 1", "news 5 3 2"];
 
-// The line of a copy of the answer that has this line.
-fn copied(alloc: Global, line: &str) -> Result<Vec<u8>, Fail> {
-    let mut copy = Vec::new(alloc);
-    write_answer(&answer(alloc, line)?.copy(alloc)?, &mut copy)?;
-    Ok(copy)
+// Whether the line is that of a copy of its answer.
+fn is_copied_line(rt: &(impl Abort + AllocGlobal), line: &str) -> bool {
+    let copied = answer(rt, line).copy(rt.alloc()).expect(rt, "memory");
+    let mut text = Vec::new(rt.alloc());
+    write_answer(&copied, &mut text).expect(rt, "memory");
+    text.as_slice() == line.as_bytes()
 }
 
 #[test]
-fn copies_answers_line_by_line(rt: HostRuntime) -> Result<(), Fail> {
+fn copies_answers_line_by_line(rt: HostRuntime) {
     for line in LINES {
-        assert_eq!(rt; copied(rt.alloc(), line)?.as_slice(), line.as_bytes());
+        assert!(rt; is_copied_line(&rt, line), "{line}");
     }
-    Ok(())
 }
 
 // The list of the numbers from 1 to the last.
-fn listed_to(alloc: Global, last: u64) -> Result<StepIds, Fail> {
-    let mut ids = Vec::new(alloc);
+fn listed_to(rt: &(impl Abort + AllocGlobal), last: u64) -> StepIds {
+    let mut ids = Vec::new(rt.alloc());
     for number in 0..last {
-        ids.push(StepId::new(number + 1))?;
+        ids.push(StepId::new(number + 1)).expect(rt, "memory");
     }
-    Ok(StepIds::of(ids))
+    StepIds::of(ids)
 }
 
 // Whether the numbers rise from 1 on.
@@ -218,18 +235,14 @@ fn rise(ids: &StepIds) -> bool {
 }
 
 // Whether a copy of the list of the numbers from 1 to the last has them all.
-fn is_copied(alloc: Global, last: u64) -> Result<bool, Fail> {
-    let ids = listed_to(alloc, last)?;
-    let Answer::Undone(undone) = Answer::Undone(ids).copy(alloc)? else {
-        return Err("no list of numbers")?;
-    };
-    Ok(undone.as_slice().len() as u64 == last && rise(&undone))
+fn is_copied_to(rt: &(impl Abort + AllocGlobal), last: u64) -> bool {
+    let copied = copy_of(rt, listed_to(rt, last));
+    copied.as_slice().len() as u64 == last && rise(&copied)
 }
 
 #[test]
-fn copies_a_thousand_numbers(rt: HostRuntime) -> Result<(), Fail> {
+fn copies_a_thousand_numbers(rt: HostRuntime) {
     for last in [5, 7, 1_000] {
-        assert!(rt; is_copied(rt.alloc(), last)?, "{last}");
+        assert!(rt; is_copied_to(&rt, last), "{last}");
     }
-    Ok(())
 }
