@@ -1,5 +1,6 @@
 use crate::steps::Line::{Asks, Count, Keeps, Moves, Step, Undoes, Waits};
 use crate::steps::{A, Ask, B, C, Line, Opening, answer, name, opened, opens_so, play, role_of};
+use crate::tables::are_labels;
 use mps_base::{Name, Role, Sort, Value, VarName};
 use mps_local::{Branches, Local};
 use mps_session::*;
@@ -90,12 +91,6 @@ pub(super) fn looping(rt: &(impl Abort + AllocGlobal)) -> Vec<Local> {
 
 // What a role is expected to do: the word for it, the peer, the sort and the labels.
 type Shown<'a> = (&'a str, u8, Option<Sort>, &'a [&'a str]);
-
-// Whether these are the labels.
-fn are_labels(labels: &[Name], texts: &[&str]) -> bool {
-    let mut pairs = labels.iter().zip(texts);
-    labels.len() == texts.len() && pairs.all(|(label, text)| label.is_spelled(text.as_bytes()))
-}
 
 // Whether the session shows this for the role at that place.
 fn shows(rt: &impl Abort, session: &Session, place: u8, wanted: &Shown<'_>) -> bool {

@@ -210,8 +210,20 @@ fn rolled_back(rt: &impl Abort, session: &mut Session) -> Result<StepIds, Refusa
 
 // Whether these are the steps 4, 3 and 1.
 fn are_three(ids: &StepIds) -> bool {
-    let mut pairs = ids.as_slice().iter().zip([4, 3, 1]);
-    ids.as_slice().len() == 3 && pairs.all(|(id, number)| id.number() == number)
+    match ids.as_slice() {
+        [first, second, third] => {
+            first.number() == 4 && second.number() == 3 && third.number() == 1
+        }
+        _ => false,
+    }
+}
+
+// Whether these steps were taken back.
+fn are_back(answer: Result<StepIds, Refusal>) -> bool {
+    match answer {
+        Ok(ids) => are_three(&ids),
+        Err(_) => false,
+    }
 }
 
 // Whether the rollback was refused for want of memory.
@@ -235,7 +247,7 @@ fn takes_back_at_last(
         );
         answer = rolled_back(rt, &mut session);
     }
-    answer.is_ok_and(|ids| are_three(&ids))
+    are_back(answer)
 }
 
 // The room for the answer is the last request for memory: the README of mps_session says how a run refuses it.

@@ -142,12 +142,14 @@ const HALF: &[Line] = &[
     Count(500, 1000),
 ];
 
-// Whether the 500 numbers go down from 1000.
+// Whether there are 500 numbers, from 1000 down to 501.
 fn are_upper_half(ids: &StepIds) -> bool {
-    let numbers = ids.as_slice();
-    numbers.len() == 500
-        && numbers.first().is_some_and(|id| id.number() == 1000)
-        && numbers.last().is_some_and(|id| id.number() == 501)
+    match ids.as_slice() {
+        [first, .., last] => {
+            ids.as_slice().len() == 500 && first.number() == 1000 && last.number() == 501
+        }
+        _ => false,
+    }
 }
 
 // Whether a takes the upper half of its thousand steps back.
