@@ -257,6 +257,7 @@ fn many_lines_wait(rt: HostRuntime) {
 fn kept(rt: &(impl Abort + AllocGlobal), front: &[u8], back: &[u8]) -> Vec<u8> {
     let mut line = Vec::new(rt.alloc());
     keep(&mut line, front).expect(rt, "memory");
+    assert!(rt; line.len() <= MOST_KEPT);
     keep(&mut line, back).expect(rt, "memory");
     line
 }
