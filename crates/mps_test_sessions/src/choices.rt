@@ -343,7 +343,7 @@ pub(super) fn giving(rt: &(impl Abort + AllocGlobal)) -> Vec<Local> {
 }
 
 // The k-th of many slots.
-fn slot(rt: &(impl Abort + AllocGlobal), k: i64) -> Name {
+fn slot_name(rt: &(impl Abort + AllocGlobal), k: i64) -> Name {
     name(
         rt,
         format!(in rt.alloc(); "s{k}").expect(rt, "memory").as_str(),
@@ -363,7 +363,7 @@ fn give(rt: &impl Abort, session: &mut Session, k: i64) {
 // Keeps the value that came first from a in b's k-th slot.
 fn keep(rt: &(impl Abort + AllocGlobal), session: &mut Session, k: i64) {
     let (role, from) = (role_of(rt, session, B), Role::new(A));
-    let slot = slot(rt, k);
+    let slot = slot_name(rt, k);
     assert!(rt;
         session
             .forward(role, Forward::Receive { from, slot })
@@ -383,7 +383,7 @@ fn is_int(value: Option<&Value>, wanted: i64) -> bool {
 // Whether b's k-th slot has its value.
 fn is_filled(rt: &(impl Abort + AllocGlobal), session: &Session, k: i64) -> bool {
     let role = role_of(rt, session, B);
-    is_int(session.slot(role, &slot(rt, k)), k)
+    is_int(session.slot(role, &slot_name(rt, k)), k)
 }
 
 #[test]

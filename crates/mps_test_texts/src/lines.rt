@@ -73,7 +73,7 @@ fn take_waiting(rt: &impl Abort, lines: &mut Lines, told: &mut Vec<Line>)
 }
 
 // Feeds the piece.
-fn feed(rt: &impl Abort, lines: &mut Lines, piece: &[u8]) {
+fn feed_piece(rt: &impl Abort, lines: &mut Lines, piece: &[u8]) {
     lines.feed(piece).expect(rt, "memory");
 }
 
@@ -90,7 +90,7 @@ fn lines_of(rt: &(impl Abort + AllocGlobal), pieces: &[&[u8]]) -> Vec<Line> {
     let mut lines = Lines::new(rt.alloc());
     let mut told = Vec::new(rt.alloc());
     for piece in pieces {
-        feed(rt, &mut lines, piece);
+        feed_piece(rt, &mut lines, piece);
         take_waiting(rt, &mut lines, &mut told);
     }
     take_all(rt, &mut lines, &mut told);
@@ -216,11 +216,11 @@ fn is_rest(rt: &impl Abort, lines: &mut Lines, want: Option<Told>) {
 fn finishes_and_begins_again(rt: HostRuntime) {
     let mut lines = Lines::new(rt.alloc());
     is_rest(&rt, &mut lines, None);
-    feed(&rt, &mut lines, b"mark m");
+    feed_piece(&rt, &mut lines, b"mark m");
     is_rest(&rt, &mut lines, Some(Text(b"mark m")));
     is_rest(&rt, &mut lines, None);
-    feed(&rt, &mut lines, b"ba");
-    feed(&rt, &mut lines, b"ck m\nnews");
+    feed_piece(&rt, &mut lines, b"ba");
+    feed_piece(&rt, &mut lines, b"ck m\nnews");
     is_next(&rt, &mut lines, Some(Text(b"back m")));
     is_next(&rt, &mut lines, None);
 }
@@ -228,8 +228,8 @@ fn finishes_and_begins_again(rt: HostRuntime) {
 // So many times two lines, cut within the second.
 fn feed_often(rt: &impl Abort, lines: &mut Lines, times: u32) {
     for _ in 0..times {
-        feed(rt, lines, b"pick a\nsh");
-        feed(rt, lines, b"ow\n");
+        feed_piece(rt, lines, b"pick a\nsh");
+        feed_piece(rt, lines, b"ow\n");
     }
 }
 
