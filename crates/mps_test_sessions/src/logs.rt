@@ -10,21 +10,16 @@ use std::process::Abort;
 mod random;
 
 // A name, or a text.
-type Word = &'static str;
-
-const X: Word = "x";
-
-const Y: Word = "y";
-
-const Z: Word = "z";
-
-const OK: Word = "ok";
-
-const NO: Word = "no";
-
-const SO_BE_IT: Word = "so be it";
-
-const EMPTY: Word = "";
+#[derive(Clone, Copy, PartialEq)]
+enum Word {
+    X,
+    Y,
+    Z,
+    Ok,
+    No,
+    SoBeIt,
+    Empty,
+}
 
 // What a role does: it sends a number, a text or a label, receives into a slot, picks, marks, or commits.
 #[derive(Clone, Copy)]
@@ -40,9 +35,22 @@ enum Deed {
 
 use Deed::{Choose, Commit, Mark, Pick, Receive, Send, Tell};
 
+// The letters of the word.
+fn letters(word: Word) -> &'static [u8] {
+    match word {
+        Word::X => b"x",
+        Word::Y => b"y",
+        Word::Z => b"z",
+        Word::Ok => b"ok",
+        Word::No => b"no",
+        Word::SoBeIt => b"so be it",
+        Word::Empty => b"",
+    }
+}
+
 // The name of these letters.
 fn name(rt: &impl Abort, word: Word) -> Name {
-    Name::read(word.as_bytes()).expect(rt, "a name")
+    Name::read(letters(word)).expect(rt, "a name")
 }
 
 // The role of that place.
@@ -107,7 +115,7 @@ fn give(rt: &impl Abort, log: &mut Log, place: u8, to: u8, message: Message, at:
 
 // The text of these letters.
 fn text(rt: &(impl Abort + AllocGlobal), word: Word) -> Message {
-    let bytes = Vec::from_slice(rt.alloc(), word.as_bytes()).expect(rt, "memory");
+    let bytes = Vec::from_slice(rt.alloc(), letters(word)).expect(rt, "memory");
     Message::Value(Value::Text(Text::new(bytes).expect(rt, "a text")))
 }
 
@@ -148,8 +156,8 @@ fn is_given(message: Option<&Message>, given: Option<Deed>) -> bool {
         (None, None) => true,
         (Some(Message::Value(Value::Int(n))), Some(Send(_, number))) => *n == number,
         (Some(Message::Value(Value::Text(text))), Some(Tell(_, word))) => text.as_bytes()
-            == word.as_bytes(),
-        (Some(Message::Label(label)), Some(Choose(_, word))) => label.is_spelled(word.as_bytes()),
+            == letters(word),
+        (Some(Message::Label(label)), Some(Choose(_, word))) => label.is_spelled(letters(word)),
         _ => false,
     }
 }
@@ -159,7 +167,7 @@ fn is_kept(value: Option<&Value>, given: Option<Deed>) -> bool {
     match (value, given) {
         (None, None | Some(Choose(..))) => true,
         (Some(Value::Int(n)), Some(Send(_, number))) => *n == number,
-        (Some(Value::Text(text)), Some(Tell(_, word))) => text.as_bytes() == word.as_bytes(),
+        (Some(Value::Text(text)), Some(Tell(_, word))) => text.as_bytes() == letters(word),
         _ => false,
     }
 }
@@ -171,11 +179,11 @@ fn is_act(act: &Act, deed: Deed) -> bool {
             to.is(Role::new(peer)) && is_given(Some(message), Some(deed))
         }
         (Act::In { from, slot }, Receive(peer, word)) => match slot {
-            Some(slot) => from.is(Role::new(peer)) && slot.is_spelled(word.as_bytes()),
+            Some(slot) => from.is(Role::new(peer)) && slot.is_spelled(letters(word)),
             None => false,
         },
         (Act::In { from, slot }, Pick(peer)) => from.is(Role::new(peer)) && slot.is_none(),
-        (Act::Mark(name), Mark(word)) => name.is_spelled(word.as_bytes()),
+        (Act::Mark(name), Mark(word)) => name.is_spelled(letters(word)),
         (Act::Commit, Commit) => true,
         _ => false,
     }
@@ -335,10 +343,10 @@ fn none_may_go(rt: &impl Abort, log: &Log, ids: &[u64]) {
 const WORKED: &[Row] = &[
     Row(A, Send(B, 10), 0, 0),
     Row(A, Send(B, 20), 1, 0),
-    Row(B, Receive(A, X), 5, 0),
-    Row(A, Choose(C, OK), 2, 0),
-    Row(C, Mark(Z), 8, 0),
-    Row(B, Receive(A, X), 6, 3),
+    Row(B, Receive(A, Word::X), 5, 0),
+    Row(A, Choose(C, Word::Ok), 2, 0),
+    Row(C, Mark(Word::Z), 8, 0),
+    Row(B, Receive(A, Word::X), 6, 3),
     Row(B, Send(A, 30), 7, 0),
     Row(C, Pick(A), 8, 0),
     Row(A, Send(B, 40), 3, 0),
@@ -370,7 +378,7 @@ const LEFT_LINKS: &[(u64, Option<[u64; 8]>)] = &[
     (9, None),
 ];
 
-const MORE: &[Row] = &[Row(B, Receive(A, Y), 6, 0), Row(A, Send(B, 50), 3, 0)];
+const MORE: &[Row] = &[Row(B, Receive(A, Word::Y), 6, 0), Row(A, Send(B, 50), 3, 0)];
 
 const MORE_LINKS: &[(u64, Option<[u64; 8]>)] = &[
     (1, Some([2, 0, 2, 0, 2, 0, 3, 0])),
@@ -453,8 +461,8 @@ fn a_thousand_messages_in_order(rt: HostRuntime) {
     assert!(rt; log.message(role(A), role(B), 1000).is_none());
     for n in 0..1000i64 {
         assert!(rt; waits_at(&log, A, B, 0, n), "message {n}");
-        play(&rt, &mut log, B, Receive(A, X), 0).expect(&rt, "it joins");
-        assert!(rt; keeps(&rt, &log, B, X, Some(Send(B, n))), "value {n}");
+        play(&rt, &mut log, B, Receive(A, Word::X), 0).expect(&rt, "it joins");
+        assert!(rt; keeps(&rt, &log, B, Word::X, Some(Send(B, n))), "value {n}");
     }
     assert!(rt; log.message(role(A), role(B), 0).is_none());
     assert_eq!(rt; (log.steps().len(), log.steps().issued()), (2000, 2000));
@@ -462,11 +470,11 @@ fn a_thousand_messages_in_order(rt: HostRuntime) {
 
 const THRICE: &[Row] = &[
     Row(A, Send(B, 1), 0, 0),
-    Row(A, Tell(B, NO), 0, 0),
+    Row(A, Tell(B, Word::No), 0, 0),
     Row(A, Send(B, 3), 0, 0),
-    Row(B, Receive(A, X), 0, 0),
-    Row(B, Receive(A, X), 1, 4),
-    Row(B, Receive(A, X), 2, 5),
+    Row(B, Receive(A, Word::X), 0, 0),
+    Row(B, Receive(A, Word::X), 1, 4),
+    Row(B, Receive(A, Word::X), 2, 5),
 ];
 
 // The receipt of that number goes: its message waits again, and the slot has what it had before.
@@ -476,7 +484,7 @@ fn gives_back(rt: &impl Abort, log: &mut Log, id: u64, message: Option<Deed>, ke
         is_given(log.message(role(A), role(B), 0), message),
         "after {id}"
     );
-    assert!(rt; keeps(rt, log, B, X, kept), "after {id}");
+    assert!(rt; keeps(rt, log, B, Word::X, kept), "after {id}");
 }
 
 #[test]
@@ -484,21 +492,21 @@ fn a_slot_bound_thrice(rt: HostRuntime) {
     let mut log = empty(&rt);
     plays(&rt, &mut log, 1, THRICE);
     are_rows(&rt, log.steps(), 1, THRICE);
-    assert!(rt; keeps(&rt, &log, B, X, Some(Send(B, 3))));
-    gives_back(&rt, &mut log, 6, Some(Send(B, 3)), Some(Tell(B, NO)));
-    gives_back(&rt, &mut log, 5, Some(Tell(B, NO)), Some(Send(B, 1)));
+    assert!(rt; keeps(&rt, &log, B, Word::X, Some(Send(B, 3))));
+    gives_back(&rt, &mut log, 6, Some(Send(B, 3)), Some(Tell(B, Word::No)));
+    gives_back(&rt, &mut log, 5, Some(Tell(B, Word::No)), Some(Send(B, 1)));
     gives_back(&rt, &mut log, 4, Some(Send(B, 1)), None);
 }
 
 const SAID: &[Row] = &[
-    Row(A, Tell(B, SO_BE_IT), 0, 0),
-    Row(A, Choose(B, OK), 0, 0),
-    Row(A, Tell(B, EMPTY), 0, 0),
-    Row(A, Choose(B, NO), 0, 0),
-    Row(B, Receive(A, X), 0, 0),
+    Row(A, Tell(B, Word::SoBeIt), 0, 0),
+    Row(A, Choose(B, Word::Ok), 0, 0),
+    Row(A, Tell(B, Word::Empty), 0, 0),
+    Row(A, Choose(B, Word::No), 0, 0),
+    Row(B, Receive(A, Word::X), 0, 0),
     Row(B, Pick(A), 0, 0),
-    Row(B, Receive(A, Y), 0, 0),
-    Row(B, Receive(A, Z), 0, 0),
+    Row(B, Receive(A, Word::Y), 0, 0),
+    Row(B, Receive(A, Word::Z), 0, 0),
 ];
 
 #[test]
@@ -513,9 +521,9 @@ fn texts_and_labels(rt: HostRuntime) {
     }
     plays(&rt, &mut log, 5, &SAID[4..]);
     are_rows(&rt, log.steps(), 1, SAID);
-    assert!(rt; keeps(&rt, &log, B, X, Some(Tell(B, SO_BE_IT))));
-    assert!(rt; keeps(&rt, &log, B, Y, Some(Tell(B, EMPTY))));
-    assert!(rt; keeps(&rt, &log, B, Z, None));
+    assert!(rt; keeps(&rt, &log, B, Word::X, Some(Tell(B, Word::SoBeIt))));
+    assert!(rt; keeps(&rt, &log, B, Word::Y, Some(Tell(B, Word::Empty))));
+    assert!(rt; keeps(&rt, &log, B, Word::Z, None));
 }
 
 // The pair's number.
@@ -527,9 +535,9 @@ fn of_pair(from: u8, to: u8) -> i64 {
 fn crosses(rt: &(impl Abort + AllocGlobal), log: &mut Log, from: u8, to: u8) {
     let n = of_pair(from, to);
     assert!(rt; waits_at(log, from, to, 0, n), "from {from} to {to}");
-    play(rt, log, to, Receive(from, X), 0).expect(rt, "it joins");
+    play(rt, log, to, Receive(from, Word::X), 0).expect(rt, "it joins");
     assert!(rt;
-        keeps(rt, log, to, X, Some(Send(to, n))),
+        keeps(rt, log, to, Word::X, Some(Send(to, n))),
         "from {from} to {to}"
     );
     assert!(rt;
@@ -572,7 +580,7 @@ fn numbers_are_not_used_again(rt: HostRuntime) {
 // A mark of role A, put into the arena under the next number.
 fn noted(rt: &impl Abort, arena: &mut Arena, id: u64) -> Key {
     let key = arena.reserve_one().expect(rt, "memory");
-    let act = Act::Mark(name(rt, X));
+    let act = Act::Mark(name(rt, Word::X));
     let before = Before { at: 0, bound: None };
     let added = arena.add(role(A), act, before, None);
     assert_eq!(rt; added, StepId::new(id));

@@ -260,9 +260,9 @@ fn is_slot(rt: &impl Abort, log: &Log, steps: &[Plain], place: u8, slot: Word) -
 // Whether the role's last step and its slots are right.
 fn is_role(rt: &impl Abort, log: &Log, steps: &[Plain], place: u8) -> bool {
     log.steps().last_of(role(place)) == last(steps, Chain::Of(place))
-        && is_slot(rt, log, steps, place, X)
-        && is_slot(rt, log, steps, place, Y)
-        && is_slot(rt, log, steps, place, Z)
+        && is_slot(rt, log, steps, place, Word::X)
+        && is_slot(rt, log, steps, place, Word::Y)
+        && is_slot(rt, log, steps, place, Word::Z)
 }
 
 // Each look-up of the log gives what a walk over the list does.
@@ -292,9 +292,9 @@ impl Dice {
     // One of three names.
     fn word(&mut self) -> Word {
         match self.roll(3) {
-            0 => X,
-            1 => Y,
-            _ => Z,
+            0 => Word::X,
+            1 => Word::Y,
+            _ => Word::Z,
         }
     }
 
