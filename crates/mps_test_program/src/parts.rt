@@ -4,7 +4,7 @@ ghost use Rattle.mps_machine.specs.Machine.{initial};
 
 use mps_base::{Name, Roles};
 use mps_dev::{Pieces, Short};
-use mps_global::{GlobalFault, Protocol};
+use mps_global::GlobalFault;
 use mps_program::{
     Tallies, Tally, ToolFault, check_file, compare_files, fault_line, lines_of, load_protocol,
     open_file, open_session, read_text, run_file, status, verdict_of, write_types,
@@ -13,27 +13,26 @@ use mps_session::Session;
 use mps_text::TextKind;
 use mps_wire::script::run_script;
 use mps_words::order;
-use std::alloc::{AllocGlobal, Global};
+use std::alloc::{AllocError, Global};
 use std::process::Abort;
+use std::test::Fail;
 
 const RELAY: &str = "roles a b c ; a -> b : int . b -> c : int . end";
 
 const PAIRS: &str = "roles a b c d ; a -> b : int . c -> d : int . end";
 
-// These bytes.
-fn bytes(rt: &(impl Abort + AllocGlobal), bytes: &[u8]) -> Vec<u8> {
-    Vec::from_slice(rt.alloc(), bytes).expect(rt, "memory")
-}
-
 // The text in one piece.
-fn whole(rt: &(impl Abort + AllocGlobal), text: &str) -> Vec<Vec<u8>> {
-    vec![in rt.alloc(); bytes(rt, text.as_bytes())].expect(rt, "memory")
+fn whole(alloc: Global, text: &str) -> Result<Vec<Vec<u8>>, AllocError> {
+    Ok(vec![in alloc; Vec::from_slice(alloc, text.as_bytes())?]?)
 }
 
 // The text in two pieces.
-fn halves(rt: &(impl Abort + AllocGlobal), text: &str) -> Vec<Vec<u8>> {
+fn halves(alloc: Global, text: &str) -> Result<Vec<Vec<u8>>, Fail> {
     let (front, rest) = text.as_bytes().split_at(text.len() / 2);
-    vec![in rt.alloc(); bytes(rt, front), bytes(rt, rest)].expect(rt, "memory")
+    Ok(vec![in alloc;
+        Vec::from_slice(alloc, front)?,
+        Vec::from_slice(alloc, rest)?,
+    ]?)
 }
 
 // The roles of the protocol that comes in these pieces, and a new session of it.
@@ -46,13 +45,16 @@ fn opened(alloc: Global, pieces: Vec<Vec<u8>>) -> Result<(Roles, Session), ToolF
 }
 
 // The answers to the script on a new session of the protocol.
-pub(crate) fn answers(rt: &(impl Abort + AllocGlobal), protocol: &str, script: &str) -> Vec<u8> {
-    let mut reader = Pieces::new(whole(rt, script), None);
-    let mut writer = Short::new(rt.alloc(), 2_000_000).expect(rt, "memory");
-    let (roles, session) = opened(rt.alloc(), whole(rt, protocol)).expect(rt, "a protocol");
-    let run = run_script(rt.alloc(), &mut reader, &mut writer, roles, session);
-    assert!(rt; run.is_ok(), "a script");
-    bytes(rt, writer.bytes())
+pub(crate) fn answers(alloc: Global, protocol: &str, script: &str) -> Result<Vec<u8>, Fail> {
+    let mut reader = Pieces::new(whole(alloc, script)?, None);
+    let mut writer = Short::new(alloc, 2_000_000)?;
+    let Ok((roles, session)) = opened(alloc, whole(alloc, protocol)?) else {
+        return Err("a protocol".into());
+    };
+    if run_script(alloc, &mut reader, &mut writer, roles, session).is_err() {
+        return Err("a script".into());
+    }
+    Ok(Vec::from_slice(alloc, writer.bytes())?)
 }
 
 // A protocol, a script, and the answers.
@@ -78,29 +80,30 @@ const NUMBERS: &[Script] = &[
     Script(RELAY, "", ""),
 ];
 
-fn plays(rt: &(impl Abort + AllocGlobal), scripts: &[Script]) {
+fn plays(rt: &impl Abort, alloc: Global, scripts: &[Script]) -> Result<(), Fail> {
     for Script(protocol, script, want) in scripts {
-        assert_eq!(rt; answers(rt, protocol, script).as_slice(), want.as_bytes());
+        let found = answers(alloc, protocol, script)?;
+        assert_eq!(rt; found.as_slice(), want.as_bytes());
     }
+    Ok(())
 }
 
 #[test]
-fn relays(rt: HostRuntime) {
-    plays(&rt, SCRIPTS);
+fn relays(rt: HostRuntime) -> Result<(), Fail> {
+    plays(&rt, rt.alloc(), SCRIPTS)
 }
 
 #[test]
-fn reads_numbers_to_the_last(rt: HostRuntime) {
-    plays(&rt, NUMBERS);
+fn reads_numbers_to_the_last(rt: HostRuntime) -> Result<(), Fail> {
+    plays(&rt, rt.alloc(), NUMBERS)
 }
 
 // What the words are read as, or the status of the fault.
-fn ordered(rt: &(impl Abort + AllocGlobal), words: &[&str]) -> String {
-    let shown = match order(rt.alloc(), words) {
-        Ok(order) => format!(in rt.alloc(); "{order:?}"),
-        Err(fault) => format!(in rt.alloc(); "{}", status(&ToolFault::from(fault))),
-    };
-    shown.expect(rt, "memory")
+fn ordered(alloc: Global, words: &[&str]) -> Result<String, AllocError> {
+    match order(alloc, words) {
+        Ok(order) => format!(in alloc; "{order:?}"),
+        Err(fault) => format!(in alloc; "{}", status(&ToolFault::from(fault))),
+    }
 }
 
 // Words, and what they are read as begins with.
@@ -170,59 +173,54 @@ const ORDERS: &[Words] = &[
     ),
 ];
 
-// The words are read as what begins so.
-fn is_ordered(rt: &(impl Abort + AllocGlobal), words: &[&str], want: &str) {
-    let found = ordered(rt, words);
-    assert!(rt; found.as_str().starts_with(want), "{found}");
-}
-
 #[test]
-fn takes_its_words(rt: HostRuntime) {
+fn takes_its_words(rt: HostRuntime) -> Result<(), Fail> {
     for Words(words, want) in ORDERS {
-        is_ordered(&rt, words, want);
+        let found = ordered(rt.alloc(), words)?;
+        assert!(rt; found.as_str().starts_with(want), "{found}");
     }
+    Ok(())
 }
 
-// Whether the fault is told by this line.
-fn is_line(rt: &(impl Abort + AllocGlobal), fault: &ToolFault<'_>, line: &str) -> bool {
-    let told = fault_line(rt.alloc(), fault).expect(rt, "memory");
-    told.as_slice() == line.as_bytes()
-}
-
-// Whether it is shown so.
-fn is_shown(rt: &(impl Abort + AllocGlobal), fault: &ToolFault<'_>, line: &str) -> bool {
-    let shown = format!(in rt.alloc(); "{fault}").expect(rt, "memory");
-    shown.as_str() == line
-}
-
-// The fault is told by this line, is shown so too, and has this status.
-fn tells(rt: &(impl Abort + AllocGlobal), fault: ToolFault<'_>, line: &str, code: u8) {
-    assert!(rt;
-        is_line(rt, &fault, line) && is_shown(rt, &fault, line),
-        "{line}"
-    );
-    assert_eq!(rt; status(&fault), code, "{line}");
+// Whether the fault is told by this line, is shown so too, and has this status.
+fn tells(alloc: Global, fault: &ToolFault<'_>, line: &str, code: u8) -> Result<bool, AllocError> {
+    let told = fault_line(alloc, fault)?;
+    let shown = format!(in alloc; "{fault}")?;
+    Ok(told.as_slice() == line.as_bytes() && shown.as_str() == line && status(fault) == code)
 }
 
 #[test]
-fn tells_faults(rt: HostRuntime) {
-    let (name, why) = ("a b", None);
-    tells(&rt, ToolFault::File { name, why }, "refused file a b", 2);
-    tells(&rt, ToolFault::Open, "refused open", 3);
-    tells(&rt, ToolFault::Read, "refused read", 4);
-    tells(&rt, ToolFault::Write, "refused write", 4);
-    tells(&rt, ToolFault::Turns, "refused turns", 4);
-    tells(&rt, ToolFault::Bind { why: None }, "refused bind", 2);
-    tells(&rt, ToolFault::Accept, "refused accept", 4);
-    tells(&rt, ToolFault::Lost { session: 12 }, "refused lost 12", 4);
-    tells(&rt, ToolFault::Memory, "refused memory", 4);
+fn tells_faults(rt: HostRuntime) -> Result<(), Fail> {
+    let faults = [
+        (
+            ToolFault::File {
+                name: "a b",
+                why: None,
+            },
+            "refused file a b",
+            2,
+        ),
+        (ToolFault::Open, "refused open", 3),
+        (ToolFault::Read, "refused read", 4),
+        (ToolFault::Write, "refused write", 4),
+        (ToolFault::Turns, "refused turns", 4),
+        (ToolFault::Bind { why: None }, "refused bind", 2),
+        (ToolFault::Accept, "refused accept", 4),
+        (ToolFault::Lost { session: 12 }, "refused lost 12", 4),
+        (ToolFault::Memory, "refused memory", 4),
+    ];
+    for (fault, line, code) in &faults {
+        assert!(rt; tells(rt.alloc(), fault, line, *code)?, "{line}");
+    }
+    Ok(())
 }
 
 #[test]
-fn tells_projections(rt: HostRuntime) {
-    let role = Name::read(b"c").expect(&rt, "a name");
+fn tells_projections(rt: HostRuntime) -> Result<(), Fail> {
+    let role = Name::read(b"c").ok_or("a name")?;
     let fault = ToolFault::Projection { role, choice: 12 };
-    tells(&rt, fault, "refused projection c 12", 3);
+    assert!(rt; tells(rt.alloc(), &fault, "refused projection c 12", 3)?);
+    Ok(())
 }
 
 const TEXTS: &[(usize, TextKind, &str)] = &[
@@ -236,11 +234,15 @@ const TEXTS: &[(usize, TextKind, &str)] = &[
 ];
 
 #[test]
-fn tells_texts(rt: HostRuntime) {
+fn tells_texts(rt: HostRuntime) -> Result<(), Fail> {
     for (at, kind, line) in TEXTS {
-        let (at, kind) = (*at, *kind);
-        tells(&rt, ToolFault::Text { at, kind }, line, 3);
+        let fault = ToolFault::Text {
+            at: *at,
+            kind: *kind,
+        };
+        assert!(rt; tells(rt.alloc(), &fault, line, 3)?, "{line}");
     }
+    Ok(())
 }
 
 const PROTOCOLS: &[(GlobalFault, &str)] = &[
@@ -262,47 +264,45 @@ const PROTOCOLS: &[(GlobalFault, &str)] = &[
 ];
 
 #[test]
-fn tells_protocols(rt: HostRuntime) {
+fn tells_protocols(rt: HostRuntime) -> Result<(), Fail> {
     for (fault, line) in PROTOCOLS {
         let fault = ToolFault::Protocol { fault: *fault };
-        tells(&rt, fault, line, 3);
+        assert!(rt; tells(rt.alloc(), &fault, line, 3)?, "{line}");
     }
-}
-
-// The line of the fault.
-fn line_of(rt: &(impl Abort + AllocGlobal), fault: ToolFault<'_>) -> Vec<u8> {
-    fault_line(rt.alloc(), &fault).expect(rt, "memory")
+    Ok(())
 }
 
 // How many names there are, and how many roles the session has.
-fn counts(rt: &(impl Abort + AllocGlobal), names: Roles, session: Session) -> Vec<u8> {
-    let (names, roles) = (names.count(), session.roles());
-    format!(in rt.alloc(); "{names} {roles}")
-        .expect(rt, "memory")
-        .into_bytes()
-}
-
-// These numbers of a new session of the protocol in these pieces, or the line of the fault.
-fn counted(rt: &(impl Abort + AllocGlobal), pieces: Vec<Vec<u8>>) -> Vec<u8> {
-    match opened(rt.alloc(), pieces) {
-        Ok((names, session)) => counts(rt, names, session),
-        Err(fault) => line_of(rt, fault),
+fn counts<'a>(
+    had: Result<(Roles, Session), ToolFault<'a>>,
+) -> Result<(usize, usize), ToolFault<'a>> {
+    match had {
+        Ok((roles, session)) => Ok((roles.count(), session.roles())),
+        Err(fault) => Err(fault),
     }
 }
 
-// The lines of the protocol's roles, or the line of the fault.
-fn lines_or_fault(rt: &(impl Abort + AllocGlobal), protocol: &Protocol) -> Vec<u8> {
-    match lines_of(rt.alloc(), protocol) {
-        Ok(lines) => lines,
-        Err(fault) => line_of(rt, fault),
+// These numbers, or the line of the fault.
+fn counted(
+    alloc: Global,
+    had: Result<(usize, usize), ToolFault<'_>>,
+) -> Result<Vec<u8>, AllocError> {
+    match had {
+        Ok((names, roles)) => Ok(format!(in alloc; "{names} {roles}")?.into_bytes()),
+        Err(fault) => fault_line(alloc, &fault),
     }
 }
 
 // The lines of the protocol's roles, or the line of its fault.
-fn shown(rt: &(impl Abort + AllocGlobal), pieces: Vec<Vec<u8>>) -> Vec<u8> {
-    match load_protocol(rt.alloc(), &mut Pieces::new(pieces, None)) {
-        Ok(protocol) => lines_or_fault(rt, &protocol),
-        Err(fault) => line_of(rt, fault),
+fn shown(alloc: Global, pieces: Vec<Vec<u8>>) -> Result<Vec<u8>, AllocError> {
+    let loaded = load_protocol(alloc, &mut Pieces::new(pieces, None));
+    let lines = match &loaded {
+        Ok(protocol) => lines_of(alloc, protocol),
+        Err(fault) => return fault_line(alloc, fault),
+    };
+    match lines {
+        Ok(lines) => Ok(lines),
+        Err(fault) => fault_line(alloc, &fault),
     }
 }
 
@@ -315,18 +315,20 @@ enum Had {
 }
 
 // What is had of the protocol, or the line of its fault.
-fn given(rt: &(impl Abort + AllocGlobal), what: Had, protocol: &str) -> Vec<u8> {
+fn given(alloc: Global, what: Had, protocol: &str) -> Result<Vec<u8>, Fail> {
     match what {
-        Had::Session => counted(rt, whole(rt, protocol)),
-        Had::Loaded => counted(rt, halves(rt, protocol)),
-        Had::Lines => shown(rt, whole(rt, protocol)),
+        Had::Session => Ok(counted(alloc, counts(opened(alloc, whole(alloc, protocol)?)))?),
+        Had::Loaded => Ok(counted(alloc, counts(opened(alloc, halves(alloc, protocol)?)))?),
+        Had::Lines => Ok(shown(alloc, whole(alloc, protocol)?)?),
     }
 }
 
-fn gives(rt: &(impl Abort + AllocGlobal), what: Had, rows: &[(&str, &str)]) {
+fn gives(rt: &impl Abort, alloc: Global, what: Had, rows: &[(&str, &str)]) -> Result<(), Fail> {
     for (protocol, want) in rows {
-        assert_eq!(rt; given(rt, what, protocol).as_slice(), want.as_bytes());
+        let found = given(alloc, what, protocol)?;
+        assert_eq!(rt; found.as_slice(), want.as_bytes());
     }
+    Ok(())
 }
 
 const REFUSED: &[(&str, &str)] = &[
@@ -351,8 +353,8 @@ const REFUSED: &[(&str, &str)] = &[
 ];
 
 #[test]
-fn refuses_protocols(rt: HostRuntime) {
-    gives(&rt, Had::Session, REFUSED);
+fn refuses_protocols(rt: HostRuntime) -> Result<(), Fail> {
+    gives(&rt, rt.alloc(), Had::Session, REFUSED)
 }
 
 const LOADED: &[(&str, &str)] = &[
@@ -370,14 +372,13 @@ const LOADED: &[(&str, &str)] = &[
 ];
 
 #[test]
-fn loads_sessions(rt: HostRuntime) {
-    gives(&rt, Had::Loaded, LOADED);
+fn loads_sessions(rt: HostRuntime) -> Result<(), Fail> {
+    gives(&rt, rt.alloc(), Had::Loaded, LOADED)
 }
 
 // So many blanks in one piece.
-fn blanks(rt: &(impl Abort + AllocGlobal), count: usize) -> Vec<Vec<u8>> {
-    let blanks = vec![in rt.alloc(); b' '; count].expect(rt, "memory");
-    vec![in rt.alloc(); blanks].expect(rt, "memory")
+fn blanks(alloc: Global, count: usize) -> Result<Vec<Vec<u8>>, Fail> {
+    Ok(vec![in alloc; vec![in alloc; b' '; count]?]?)
 }
 
 // 65,536 bytes are a text, and one more is not read to its end.
@@ -387,11 +388,13 @@ const LONG: &[(usize, &str)] = &[
 ];
 
 #[test]
-fn reads_no_more_than_a_text(rt: HostRuntime) {
+fn reads_no_more_than_a_text(rt: HostRuntime) -> Result<(), Fail> {
     for (count, line) in LONG {
-        let found = counted(&rt, blanks(&rt, *count));
+        let pieces = blanks(rt.alloc(), *count)?;
+        let found = counted(rt.alloc(), counts(opened(rt.alloc(), pieces)))?;
         assert_eq!(rt; found.as_slice(), line.as_bytes());
     }
+    Ok(())
 }
 
 const TYPES: &[(&str, &str)] = &[
@@ -420,8 +423,8 @@ const TYPES: &[(&str, &str)] = &[
 ];
 
 #[test]
-fn shows_types(rt: HostRuntime) {
-    gives(&rt, Had::Lines, TYPES);
+fn shows_types(rt: HostRuntime) -> Result<(), Fail> {
+    gives(&rt, rt.alloc(), Had::Lines, TYPES)
 }
 
 // A choice of 17 labels.
@@ -487,21 +490,18 @@ const WITHOUT_TYPES: &[(&str, &str)] = &[
 ];
 
 #[test]
-fn refuses_to_show(rt: HostRuntime) {
-    gives(&rt, Had::Lines, WITHOUT_TYPES);
-}
-
-// Whether the reader of these pieces reads that text.
-fn is_read(rt: &(impl Abort + AllocGlobal), pieces: Vec<Vec<u8>>, want: &str) -> bool {
-    match read_text(rt.alloc(), &mut Pieces::new(pieces, None)) {
-        Ok(text) => text.as_slice() == want.as_bytes(),
-        Err(_) => false,
-    }
+fn refuses_to_show(rt: HostRuntime) -> Result<(), Fail> {
+    gives(&rt, rt.alloc(), Had::Lines, WITHOUT_TYPES)
 }
 
 #[test]
-fn reads_texts(rt: HostRuntime) {
-    assert!(rt; is_read(&rt, halves(&rt, "roles a b ; end"), "roles a b ; end"));
+fn reads_texts(rt: HostRuntime) -> Result<(), Fail> {
+    let mut reader = Pieces::new(halves(rt.alloc(), "roles a b ; end")?, None);
+    match read_text(rt.alloc(), &mut reader) {
+        Ok(text) => assert_eq!(rt; text.as_slice(), b"roles a b ; end".as_slice()),
+        Err(_) => return Err("a text".into()),
+    }
+    Ok(())
 }
 
 // Whether it is told that a read failed.
@@ -510,11 +510,12 @@ fn is_failed_read<T: Drop>(had: Result<T, ToolFault<'_>>) -> bool {
 }
 
 #[test]
-fn tells_reads_that_fail(rt: HostRuntime) {
-    let mut reader = Pieces::new(whole(&rt, "roles a"), Some(2));
+fn tells_reads_that_fail(rt: HostRuntime) -> Result<(), Fail> {
+    let mut reader = Pieces::new(whole(rt.alloc(), "roles a")?, Some(2));
     assert!(rt; is_failed_read(read_text(rt.alloc(), &mut reader)));
-    let mut reader = Pieces::new(whole(&rt, RELAY), Some(2));
+    let mut reader = Pieces::new(whole(rt.alloc(), RELAY)?, Some(2));
     assert!(rt; is_failed_read(load_protocol(rt.alloc(), &mut reader)));
+    Ok(())
 }
 
 // Two scripts for the two pairs; from which call on the reader of the first fails, and that of the
@@ -570,7 +571,6 @@ const COMPARED: &[Scripts] = &[
 fn told(
     alloc: Global,
     scripts: &Scripts,
-    protocol: &Protocol,
     first: Vec<Vec<u8>>,
     second: Vec<Vec<u8>>,
 ) -> Result<(Vec<u8>, u8), ToolFault<'static>> {
@@ -580,8 +580,9 @@ fn told(
         first: Tally::new(),
         second: Tally::new(),
     };
-    let (roles, first) = open_session(alloc, protocol)?;
-    let (_, second) = open_session(alloc, protocol)?;
+    let protocol = load_protocol(alloc, &mut Pieces::new(whole(alloc, PAIRS)?, None))?;
+    let (roles, first) = open_session(alloc, &protocol)?;
+    let (_, second) = open_session(alloc, &protocol)?;
     verdict_of(
         alloc,
         &roles,
@@ -593,57 +594,50 @@ fn told(
     )
 }
 
-// The protocol of the two pairs.
-fn pairs(rt: &(impl Abort + AllocGlobal)) -> Protocol {
-    let mut reader = Pieces::new(whole(rt, PAIRS), None);
-    load_protocol(rt.alloc(), &mut reader).expect(rt, "a protocol")
-}
-
-// The two scripts are told of by this line, which a fault's line is too, with its status.
-fn is_compared(rt: &(impl Abort + AllocGlobal), scripts: &Scripts) {
-    let (first, second) = (whole(rt, scripts.0), whole(rt, scripts.1));
-    let (line, code) = match told(rt.alloc(), scripts, &pairs(rt), first, second) {
-        Ok(told) => told,
-        Err(fault) => (
-            fault_line(rt.alloc(), &fault).expect(rt, "memory"),
-            status(&fault),
-        ),
-    };
-    assert_eq!(rt; line.as_slice(), scripts.4.as_bytes(), "{}", scripts.0);
-    assert_eq!(rt; code, scripts.5, "{}", scripts.0);
-}
-
-#[test]
-fn compares_scripts(rt: HostRuntime) {
-    for scripts in COMPARED {
-        is_compared(&rt, scripts);
+// What is told of the two scripts, and the status; or the line and the status of the fault.
+fn compared(alloc: Global, scripts: &Scripts) -> Result<(Vec<u8>, u8), Fail> {
+    let first = whole(alloc, scripts.0)?;
+    let second = whole(alloc, scripts.1)?;
+    match told(alloc, scripts, first, second) {
+        Ok(told) => Ok(told),
+        Err(fault) => Ok((fault_line(alloc, &fault)?, status(&fault))),
     }
 }
 
-// The fault is that the file isn't there.
-fn names_no_file(rt: &(impl Abort + AllocGlobal), fault: Option<ToolFault<'_>>) {
-    tells(
-        rt,
-        fault.expect(rt, "a fault"),
-        "refused file no such file",
-        2,
-    );
+#[test]
+fn compares_scripts(rt: HostRuntime) -> Result<(), Fail> {
+    for scripts in COMPARED {
+        let (line, code) = compared(rt.alloc(), scripts)?;
+        assert_eq!(rt; line.as_slice(), scripts.4.as_bytes(), "{}", scripts.0);
+        assert_eq!(rt; code, scripts.5, "{}", scripts.0);
+    }
+    Ok(())
+}
+
+// Whether the fault is that the file isn't there.
+fn names_no_file(alloc: Global, fault: Option<ToolFault<'_>>) -> Result<bool, AllocError> {
+    match fault {
+        Some(fault) => tells(alloc, &fault, "refused file no such file", 2),
+        None => Ok(false),
+    }
 }
 
 #[test]
-fn names_files_that_do_not_open(rt: HostRuntime) {
-    names_no_file(&rt, open_file(&rt, "no such file").err());
-    names_no_file(&rt, check_file(&rt, "no such file").err());
+fn names_files_that_do_not_open(rt: HostRuntime) -> Result<(), Fail> {
+    let found = open_file(&rt, "no such file").err();
+    assert!(rt; names_no_file(rt.alloc(), found)?);
+    let found = check_file(&rt, "no such file").err();
+    assert!(rt; names_no_file(rt.alloc(), found)?);
+    Ok(())
 }
 
 #[test]
-fn runs_no_file_that_does_not_open(rt: HostRuntime) {
-    names_no_file(
-        &rt,
-        run_file(&rt, "no such file", "no such script", true).err(),
-    );
-    let found = compare_files(&rt, "no such file", "no such script", "nor this");
-    names_no_file(&rt, found.err());
+fn runs_no_file_that_does_not_open(rt: HostRuntime) -> Result<(), Fail> {
+    let found = run_file(&rt, "no such file", "no such script", true).err();
+    assert!(rt; names_no_file(rt.alloc(), found)?);
+    let found = compare_files(&rt, "no such file", "no such script", "nor this").err();
+    assert!(rt; names_no_file(rt.alloc(), found)?);
+    Ok(())
 }
 
 // A protocol, the room that the writer has, what it is written, and the line of the fault, which is
@@ -669,36 +663,35 @@ const WRITTEN: &[Written] = &[
 // What is written of the types to a writer with so much room, by a reader of these pieces that fails
 // from a call on; and the line of the fault.
 fn write_to(
-    rt: &(impl Abort + AllocGlobal),
+    alloc: Global,
     pieces: Vec<Vec<u8>>,
     fails_from: Option<u64>,
     room: usize,
-) -> (Vec<u8>, Vec<u8>) {
+) -> Result<(Vec<u8>, Vec<u8>), AllocError> {
     let mut reader = Pieces::new(pieces, fails_from);
-    let mut writer = Short::new(rt.alloc(), room).expect(rt, "memory");
-    let line = match write_types(rt.alloc(), &mut reader, &mut writer) {
-        Ok(()) => Vec::new(rt.alloc()),
-        Err(fault) => line_of(rt, fault),
+    let mut writer = Short::new(alloc, room)?;
+    let line = match write_types(alloc, &mut reader, &mut writer) {
+        Ok(()) => Vec::new(alloc),
+        Err(fault) => fault_line(alloc, &fault)?,
     };
-    (bytes(rt, writer.bytes()), line)
-}
-
-// The row's lines are written, and then its fault is told.
-fn is_written(rt: &(impl Abort + AllocGlobal), row: &Written) {
-    let (found, line) = write_to(rt, halves(rt, row.0), None, row.1);
-    assert_eq!(rt; found.as_slice(), row.2.as_bytes());
-    assert_eq!(rt; line.as_slice(), row.3.as_bytes());
+    Ok((Vec::from_slice(alloc, writer.bytes())?, line))
 }
 
 #[test]
-fn writes_types(rt: HostRuntime) {
-    for row in WRITTEN {
-        is_written(&rt, row);
+fn writes_types(rt: HostRuntime) -> Result<(), Fail> {
+    for Written(protocol, room, lines, fault) in WRITTEN {
+        let pieces = halves(rt.alloc(), protocol)?;
+        let (found, line) = write_to(rt.alloc(), pieces, None, *room)?;
+        assert_eq!(rt; found.as_slice(), lines.as_bytes());
+        assert_eq!(rt; line.as_slice(), fault.as_bytes());
     }
+    Ok(())
 }
 
 #[test]
-fn writes_nothing_after_a_failed_read(rt: HostRuntime) {
-    let (found, line) = write_to(&rt, whole(&rt, RELAY), Some(2), 1000);
+fn writes_nothing_after_a_failed_read(rt: HostRuntime) -> Result<(), Fail> {
+    let pieces = whole(rt.alloc(), RELAY)?;
+    let (found, line) = write_to(rt.alloc(), pieces, Some(2), 1000)?;
     assert!(rt; found.is_empty() && line.as_slice() == b"refused read".as_slice());
+    Ok(())
 }

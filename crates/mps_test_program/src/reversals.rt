@@ -1,7 +1,8 @@
 //! Steps that are taken back, and what is told of them.
 use crate::parts::answers;
-use std::alloc::AllocGlobal;
+use std::alloc::{AllocError, Global};
 use std::process::Abort;
+use std::test::Fail;
 
 // A protocol, the lines of a script, and the answer to each.
 struct Row(&'static str, &'static [(&'static str, &'static str)]);
@@ -212,53 +213,42 @@ const QUESTIONS: &[Row] = &[
 ];
 
 // Puts the line after the text.
-pub(crate) fn put_line(rt: &impl Abort, text: &mut String, line: &str) {
-    text.push_str(line).expect(rt, "memory");
-    text.push('\n').expect(rt, "memory");
+pub(crate) fn put_line(text: &mut String, line: &str) -> Result<(), AllocError> {
+    text.push_str(line)?;
+    text.push('\n')
 }
 
-// The lines of the script.
-fn script_of(rt: &(impl Abort + AllocGlobal), lines: &[(&str, &str)]) -> String {
-    let mut script = String::new(rt.alloc());
-    for (line, _) in lines {
-        put_line(rt, &mut script, line);
+// The lines of a script, and those of its answers.
+fn both(alloc: Global, lines: &[(&str, &str)]) -> Result<(String, String), AllocError> {
+    let (mut script, mut want) = (String::new(alloc), String::new(alloc));
+    for (line, answer) in lines {
+        put_line(&mut script, line)?;
+        put_line(&mut want, answer)?;
     }
-    script
-}
-
-// The lines of its answers.
-fn answers_to(rt: &(impl Abort + AllocGlobal), lines: &[(&str, &str)]) -> String {
-    let mut want = String::new(rt.alloc());
-    for (_, answer) in lines {
-        put_line(rt, &mut want, answer);
-    }
-    want
-}
-
-// The row's script is answered so.
-fn run_row(rt: &(impl Abort + AllocGlobal), row: &Row) {
-    let found = answers(rt, row.0, script_of(rt, row.1).as_str());
-    assert_eq!(rt; found.as_slice(), answers_to(rt, row.1).as_bytes());
+    Ok((script, want))
 }
 
 // Each row's script is answered so.
-fn run_rows(rt: &(impl Abort + AllocGlobal), rows: &[Row]) {
-    for row in rows {
-        run_row(rt, row);
+fn run_rows(rt: &impl Abort, alloc: Global, rows: &[Row]) -> Result<(), Fail> {
+    for Row(protocol, lines) in rows {
+        let (script, want) = both(alloc, lines)?;
+        let found = answers(alloc, protocol, script.as_str())?;
+        assert_eq!(rt; found.as_slice(), want.as_bytes());
     }
+    Ok(())
 }
 
 #[test]
-fn takes_single_steps_back(rt: HostRuntime) {
-    run_rows(&rt, UNDOS);
+fn takes_single_steps_back(rt: HostRuntime) -> Result<(), Fail> {
+    run_rows(&rt, rt.alloc(), UNDOS)
 }
 
 #[test]
-fn tells_news_and_shows_sessions(rt: HostRuntime) {
-    run_rows(&rt, QUESTIONS);
+fn tells_news_and_shows_sessions(rt: HostRuntime) -> Result<(), Fail> {
+    run_rows(&rt, rt.alloc(), QUESTIONS)
 }
 
 #[test]
-fn takes_steps_back_with_what_depends_on_them(rt: HostRuntime) {
-    run_rows(&rt, ROLLBACKS);
+fn takes_steps_back_with_what_depends_on_them(rt: HostRuntime) -> Result<(), Fail> {
+    run_rows(&rt, rt.alloc(), ROLLBACKS)
 }

@@ -1,8 +1,9 @@
 //! How the session stands after each line of a script: what `show` answers, written out by hand.
 use crate::parts::answers;
 use crate::reversals::{LOOP, PAIRS, RELAY, put_line};
-use std::alloc::AllocGlobal;
+use std::alloc::{AllocError, Global};
 use std::process::Abort;
+use std::test::Fail;
 
 // A line, its answer, and what is shown after it.
 type Line = (&'static str, &'static str, &'static str);
@@ -506,69 +507,57 @@ const LOOPS: &[Row] = &[
     ),
 ];
 
-// The lines of a script with a line that shows after each.
-fn script_of(rt: &(impl Abort + AllocGlobal), show: &str, lines: &[Line]) -> String {
-    let mut script = String::new(rt.alloc());
-    for (line, _, _) in lines {
-        put_line(rt, &mut script, line);
-        put_line(rt, &mut script, show);
+// The lines of a script with a line that shows after each, and those of the answers.
+fn both(alloc: Global, show: &str, lines: &[Line]) -> Result<(String, String), AllocError> {
+    let (mut script, mut want) = (String::new(alloc), String::new(alloc));
+    for (line, answer, shown) in lines {
+        put_line(&mut script, line)?;
+        put_line(&mut script, show)?;
+        put_line(&mut want, answer)?;
+        put_line(&mut want, shown)?;
     }
-    script
+    Ok((script, want))
 }
 
-// The lines of the answers.
-fn answers_to(rt: &(impl Abort + AllocGlobal), lines: &[Line]) -> String {
-    let mut want = String::new(rt.alloc());
-    for (_, answer, shown) in lines {
-        put_line(rt, &mut want, answer);
-        put_line(rt, &mut want, shown);
-    }
-    want
-}
-
-// The row's lines are answered so, and after each the session is shown so to the role that asks by
+// Each row's lines are answered so, and after each the session is shown so to the role that asks by
 // this line. The last line has no LF.
-fn run_row(rt: &(impl Abort + AllocGlobal), show: &str, row: &Row) {
-    let script = script_of(rt, show, row.1);
-    let found = answers(rt, row.0, script.as_str().trim_end());
-    assert_eq!(rt; found.as_slice(), answers_to(rt, row.1).as_bytes());
-}
-
-// The same of each row.
-fn run_shown(rt: &(impl Abort + AllocGlobal), show: &str, rows: &[Row]) {
-    for row in rows {
-        run_row(rt, show, row);
+fn run_shown(rt: &impl Abort, alloc: Global, show: &str, rows: &[Row]) -> Result<(), Fail> {
+    for Row(protocol, lines) in rows {
+        let (script, want) = both(alloc, show, lines)?;
+        let found = answers(alloc, protocol, script.as_str().trim_end())?;
+        assert_eq!(rt; found.as_slice(), want.as_bytes());
     }
+    Ok(())
 }
 
 #[test]
-fn shows_relays_to_their_first(rt: HostRuntime) {
-    run_shown(&rt, "a show", RELAYS);
+fn shows_relays_to_their_first(rt: HostRuntime) -> Result<(), Fail> {
+    run_shown(&rt, rt.alloc(), "a show", RELAYS)
 }
 
 #[test]
-fn shows_relays_to_their_last(rt: HostRuntime) {
-    run_shown(&rt, "c show", RELAYS);
+fn shows_relays_to_their_last(rt: HostRuntime) -> Result<(), Fail> {
+    run_shown(&rt, rt.alloc(), "c show", RELAYS)
 }
 
 #[test]
-fn shows_what_is_handed_on(rt: HostRuntime) {
-    run_shown(&rt, "b show", HANDINGS);
+fn shows_what_is_handed_on(rt: HostRuntime) -> Result<(), Fail> {
+    run_shown(&rt, rt.alloc(), "b show", HANDINGS)
 }
 
 #[test]
-fn shows_two_pairs(rt: HostRuntime) {
-    run_shown(&rt, "d show", TWO_PAIRS);
+fn shows_two_pairs(rt: HostRuntime) -> Result<(), Fail> {
+    run_shown(&rt, rt.alloc(), "d show", TWO_PAIRS)
 }
 
 #[test]
-fn shows_loops_to_the_sender(rt: HostRuntime) {
-    run_shown(&rt, "a show", LOOPS);
+fn shows_loops_to_the_sender(rt: HostRuntime) -> Result<(), Fail> {
+    run_shown(&rt, rt.alloc(), "a show", LOOPS)
 }
 
 #[test]
-fn shows_loops_to_the_receiver(rt: HostRuntime) {
-    run_shown(&rt, "b show", LOOPS);
+fn shows_loops_to_the_receiver(rt: HostRuntime) -> Result<(), Fail> {
+    run_shown(&rt, rt.alloc(), "b show", LOOPS)
 }
 
 // After 100,000 entries of the journal the session is still shown.
@@ -588,39 +577,25 @@ const AT_THE_LIMIT: &[Line] = &[
     ("a news 0", "news 100000", FULL),
 ];
 
-// Puts this text after the other.
-fn put(rt: &impl Abort, text: &mut String, more: String) {
-    text.push_str(more.as_str()).expect(rt, "memory");
-}
-
-// Marks and their undos, until the journal has room for two entries more, and then two marks.
-fn filling(rt: &(impl Abort + AllocGlobal)) -> String {
-    let mut script = String::new(rt.alloc());
+// Puts a mark and its undo after the script, and their answers after these, until the journal has
+// room for two entries more, and then two marks.
+fn fill(alloc: Global, script: &mut String, want: &mut String) -> Result<(), AllocError> {
     for step in 1..50_000 {
-        let turn = format!(in rt.alloc(); "a mark m\na undo {step}\n");
-        put(rt, &mut script, turn.expect(rt, "memory"));
+        script.push_str(&format!(in alloc; "a mark m\na undo {step}\n")?)?;
+        want.push_str(&format!(in alloc; "done {step}\nundone {step}\n")?)?;
     }
-    script.push_str("a mark m\na mark m\n").expect(rt, "memory");
-    script
-}
-
-// Their answers.
-fn filled(rt: &(impl Abort + AllocGlobal)) -> String {
-    let mut want = String::new(rt.alloc());
-    for step in 1..50_000 {
-        let turn = format!(in rt.alloc(); "done {step}\nundone {step}\n");
-        put(rt, &mut want, turn.expect(rt, "memory"));
-    }
+    script.push_str("a mark m\na mark m\n")?;
     want.push_str("done 50000\ndone 50001\n")
-        .expect(rt, "memory");
-    want
 }
 
 #[test]
-fn shows_a_full_session(rt: HostRuntime) {
-    let mut script = filling(&rt);
-    put(&rt, &mut script, script_of(&rt, "a show", AT_THE_LIMIT));
-    let mut want = filled(&rt);
-    put(&rt, &mut want, answers_to(&rt, AT_THE_LIMIT));
-    assert!(rt; answers(&rt, PAIRS, script.as_str()).as_slice() == want.as_bytes());
+fn shows_a_full_session(rt: HostRuntime) -> Result<(), Fail> {
+    let (mut script, mut want) = (String::new(rt.alloc()), String::new(rt.alloc()));
+    fill(rt.alloc(), &mut script, &mut want)?;
+    let (more, answered) = both(rt.alloc(), "a show", AT_THE_LIMIT)?;
+    script.push_str(more.as_str())?;
+    want.push_str(answered.as_str())?;
+    let found = answers(rt.alloc(), PAIRS, script.as_str())?;
+    assert!(rt; found.as_slice() == want.as_bytes());
+    Ok(())
 }
