@@ -1,71 +1,102 @@
 use crate::steps::Line::{Asks, Count, Keeps, Moves, Step, Undoes, Waits};
-use crate::steps::{A, Ask, B, C, Line, Opening, answer, name, opens_so, play, role_of};
+use crate::steps::{A, Ask, B, C, Line, Opening, answer, name, opened, opens_so, play, role_of};
+use crate::tables::are_labels;
 use mps_base::{Name, Role, Sort, Value, VarName};
 use mps_local::{Branches, Local};
 use mps_session::*;
-use std::alloc::Global;
-use std::test::Fail;
+use std::alloc::AllocGlobal;
+use std::process::Abort;
 
-fn variable(text: &str) -> Result<VarName, Fail> {
-    Ok(VarName::read(text.as_bytes()).ok_or("a variable")?)
+fn variable(rt: &impl Abort, text: &str) -> VarName {
+    VarName::read(text.as_bytes()).expect(rt, "a variable")
 }
 
-// A choice of these labels, each with the type after it, that is made or taken.
-fn choice(
-    alloc: Global,
-    makes: bool,
-    peer: u8,
-    mut arms: Vec<(&str, Local)>,
-) -> Result<Local, Fail> {
+// The branch of the label in front of the others.
+fn more(rt: &(impl Abort + AllocGlobal), label: &str, next: Local, others: Branches) -> Branches {
+    Branches::more(rt.alloc(), name(rt, label), next, others).expect(rt, "memory")
+}
+
+// The branches of two labels, each with the type after it.
+fn either(
+    rt: &(impl Abort + AllocGlobal),
+    labels: [&str; 2],
+    first: Local,
+    second: Local,
+) -> Branches {
+    let others = more(rt, labels[1], second, Branches::NoMore);
+    more(rt, labels[0], first, others)
+}
+
+// The branches of `ok` and `no`, after which the part ends.
+fn ok_or_no(rt: &(impl Abort + AllocGlobal)) -> Branches {
+    either(rt, ["ok", "no"], Local::End, Local::End)
+}
+
+// A choice that is made.
+fn chooses(peer: u8, branches: Branches) -> Local {
     let peer = Role::new(peer);
-    let mut branches = Branches::NoMore;
-    arms.reverse();
-    for (label, next) in arms {
-        branches = Branches::more(alloc, name(label)?, next, branches)?;
-    }
-    if makes {
-        Ok(Local::Select { peer, branches })
-    } else {
-        Ok(Local::Branch { peer, branches })
-    }
+    Local::Select { peer, branches }
 }
 
-// The arms of `ok` and `no`, after which the part ends.
-fn ok_or_no(alloc: Global) -> Result<Vec<(&'static str, Local)>, Fail> {
-    Ok(vec![in alloc; ("ok", Local::End), ("no", Local::End)]?)
+// A choice that is taken.
+fn picks(peer: u8, branches: Branches) -> Local {
+    let peer = Role::new(peer);
+    Local::Branch { peer, branches }
+}
+
+fn send(rt: &(impl Abort + AllocGlobal), to: u8, sort: Sort, next: Local) -> Local {
+    Local::send(rt.alloc(), Role::new(to), sort, next).expect(rt, "memory")
+}
+
+fn recv(rt: &(impl Abort + AllocGlobal), from: u8, sort: Sort, next: Local) -> Local {
+    Local::recv(rt.alloc(), Role::new(from), sort, next).expect(rt, "memory")
+}
+
+// The loop X.
+fn looped(rt: &(impl Abort + AllocGlobal), body: Local) -> Local {
+    Local::rec(rt.alloc(), variable(rt, "X"), body).expect(rt, "memory")
+}
+
+// Where the loop X begins anew.
+fn again(rt: &impl Abort) -> Local {
+    Local::Var(variable(rt, "X"))
+}
+
+// A list of two types.
+fn two(rt: &(impl Abort + AllocGlobal), a: Local, b: Local) -> Vec<Local> {
+    vec![in rt.alloc(); a, b].expect(rt, "memory")
+}
+
+// A list of three types.
+fn three(rt: &(impl Abort + AllocGlobal), a: Local, b: Local, c: Local) -> Vec<Local> {
+    vec![in rt.alloc(); a, b, c].expect(rt, "memory")
 }
 
 // a gives b an int, b gives c an int, and c tells a `ok` or `no`.
-fn verdict(alloc: Global) -> Result<Vec<Local>, Fail> {
-    let waits = choice(alloc, false, C, ok_or_no(alloc)?)?;
-    let tells = choice(alloc, true, A, ok_or_no(alloc)?)?;
-    let a = Local::send(alloc, Role::new(B), Sort::Int, waits)?;
-    let b = Local::send(alloc, Role::new(C), Sort::Int, Local::End)?;
-    let b = Local::recv(alloc, Role::new(A), Sort::Int, b)?;
-    let c = Local::recv(alloc, Role::new(B), Sort::Int, tells)?;
-    Ok(vec![in alloc; a, b, c]?)
+fn verdict(rt: &(impl Abort + AllocGlobal)) -> Vec<Local> {
+    let a = send(rt, B, Sort::Int, picks(C, ok_or_no(rt)));
+    let b = recv(rt, A, Sort::Int, send(rt, C, Sort::Int, Local::End));
+    let c = recv(rt, B, Sort::Int, chooses(A, ok_or_no(rt)));
+    three(rt, a, b, c)
 }
 
 // a tells b to go on, and gets a text from it, or to stop.
-pub(super) fn looping(alloc: Global) -> Result<Vec<Local>, Fail> {
-    let x = variable("X")?;
-    let told = Local::recv(alloc, Role::new(B), Sort::Text, Local::Var(x))?;
-    let tells = Local::send(alloc, Role::new(A), Sort::Text, Local::Var(x))?;
-    let arms = vec![in alloc; ("go", told), ("stop", Local::End)]?;
-    let a = Local::rec(alloc, x, choice(alloc, true, B, arms)?)?;
-    let arms = vec![in alloc; ("go", tells), ("stop", Local::End)]?;
-    let b = Local::rec(alloc, x, choice(alloc, false, A, arms)?)?;
-    Ok(vec![in alloc; a, b]?)
+pub(super) fn looping(rt: &(impl Abort + AllocGlobal)) -> Vec<Local> {
+    let told = recv(rt, B, Sort::Text, again(rt));
+    let tells = send(rt, A, Sort::Text, again(rt));
+    let a = chooses(B, either(rt, ["go", "stop"], told, Local::End));
+    let b = picks(A, either(rt, ["go", "stop"], tells, Local::End));
+    two(rt, looped(rt, a), looped(rt, b))
 }
 
 // What a role is expected to do: the word for it, the peer, the sort and the labels.
 type Shown<'a> = (&'a str, u8, Option<Sort>, &'a [&'a str]);
 
 // Whether the session shows this for the role at that place.
-fn shows(session: &Session, place: u8, wanted: &Shown<'_>) -> Result<bool, Fail> {
+fn shows(rt: &impl Abort, session: &Session, place: u8, wanted: &Shown<'_>) -> bool {
     // what an `Expect` may hold: the prover covers a function with one only where it names these
     let _held: Option<(Role, Sort, Name)> = None;
-    let role = role_of(session, place)?;
+    let role = role_of(rt, session, place);
     let none: &[Name] = &[];
     let (word, peer, sort, labels) = match session.expect(role) {
         Expect::End => ("end", Role::new(A), None, none),
@@ -74,17 +105,10 @@ fn shows(session: &Session, place: u8, wanted: &Shown<'_>) -> Result<bool, Fail>
         Expect::Select(peer, labels) => ("choose", peer, None, labels),
         Expect::Branch(peer, labels) => ("pick", peer, None, labels),
     };
-    let same = labels
-        .iter()
-        .zip(wanted.3)
-        .all(|(label, text)| label.as_bytes() == text.as_bytes());
-    Ok(
-        word == wanted.0
-            && peer.is(Role::new(wanted.1))
-            && sort == wanted.2
-            && same
-            && labels.len() == wanted.3.len(),
-    )
+    word == wanted.0
+        && peer.is(Role::new(wanted.1))
+        && sort == wanted.2
+        && are_labels(labels, wanted.3)
 }
 
 const ROUND: &[Line] = &[
@@ -101,9 +125,9 @@ const ROUND: &[Line] = &[
 ];
 
 #[test]
-fn goes_round_a_loop_to_its_end(rt: HostRuntime) -> Result<(), Fail> {
-    let mut session = Session::open(rt.alloc(), looping(rt.alloc())?)?;
-    play(rt.alloc(), &mut session, ROUND)
+fn goes_round_a_loop_to_its_end(rt: HostRuntime) {
+    let mut session = opened(&rt, looping(&rt));
+    play(&rt, &mut session, ROUND);
 }
 
 const RELAY: &[Line] = &[
@@ -138,9 +162,9 @@ const NAMED: &[Line] = &[
 ];
 
 #[test]
-fn refuses_by_name(rt: HostRuntime) -> Result<(), Fail> {
-    let mut session = Session::open(rt.alloc(), verdict(rt.alloc())?)?;
-    play(rt.alloc(), &mut session, NAMED)
+fn refuses_by_name(rt: HostRuntime) {
+    let mut session = opened(&rt, verdict(&rt));
+    play(&rt, &mut session, NAMED);
 }
 
 const FIRST: &[(u8, Shown<'static>)] = &[
@@ -154,36 +178,31 @@ const LAST: &[(u8, Shown<'static>)] = &[
     (C, ("choose", A, None, &["ok", "no"])),
 ];
 
-// Whether the session shows each of these.
-fn shows_each(session: &Session, wanted: &[(u8, Shown<'_>)]) -> Result<bool, Fail> {
+// The session shows each of these.
+fn shows_each(rt: &impl Abort, session: &Session, wanted: &[(u8, Shown<'_>)]) {
     for (place, shown) in wanted {
-        if !shows(session, *place, shown)? {
-            return Ok(false);
-        }
+        assert!(rt; shows(rt, session, *place, shown), "{place}");
     }
-    Ok(true)
 }
 
 #[test]
-fn shows_what_a_role_may_do(rt: HostRuntime) -> Result<(), Fail> {
-    let mut session = Session::open(rt.alloc(), verdict(rt.alloc())?)?;
-    assert!(rt; shows_each(&session, FIRST)?);
-    play(rt.alloc(), &mut session, RELAY)?;
-    assert!(rt; shows_each(&session, LAST)?);
-    Ok(())
+fn shows_what_a_role_may_do(rt: HostRuntime) {
+    let mut session = opened(&rt, verdict(&rt));
+    shows_each(&rt, &session, FIRST);
+    play(&rt, &mut session, RELAY);
+    shows_each(&rt, &session, LAST);
 }
 
 #[test]
-fn shows_what_the_body_of_a_loop_begins_with(rt: HostRuntime) -> Result<(), Fail> {
-    let session = Session::open(rt.alloc(), looping(rt.alloc())?)?;
-    assert!(rt; shows(&session, A, &("choose", B, None, &["go", "stop"]))?);
-    Ok(())
+fn shows_what_the_body_of_a_loop_begins_with(rt: HostRuntime) {
+    let session = opened(&rt, looping(&rt));
+    shows_each(&rt, &session, &[(A, ("choose", B, None, &["go", "stop"]))]);
 }
 
 // What b is answered for what a gave, where the two have these types.
-fn unfitting(alloc: Global, a: Local, b: Local, lines: &[Line]) -> Result<(), Fail> {
-    let mut session = Session::open(alloc, vec![in alloc; a, b]?)?;
-    play(alloc, &mut session, lines)
+fn unfitting(rt: &(impl Abort + AllocGlobal), a: Local, b: Local, lines: &[Line]) {
+    let mut session = opened(rt, two(rt, a, b));
+    play(rt, &mut session, lines);
 }
 
 const VALUE_FOR_A_LABEL: &[Line] = &[
@@ -205,50 +224,53 @@ const LABEL_FOR_A_VALUE: &[Line] = &[
 ];
 
 #[test]
-fn leaves_a_value_for_a_label(rt: HostRuntime) -> Result<(), Fail> {
-    let alloc = rt.alloc();
-    let a = Local::send(alloc, Role::new(B), Sort::Int, Local::End)?;
-    let b = choice(alloc, false, A, ok_or_no(alloc)?)?;
-    unfitting(alloc, a, b, VALUE_FOR_A_LABEL)
+fn leaves_a_value_for_a_label(rt: HostRuntime) {
+    let a = send(&rt, B, Sort::Int, Local::End);
+    unfitting(&rt, a, picks(A, ok_or_no(&rt)), VALUE_FOR_A_LABEL);
 }
 
 #[test]
-fn leaves_an_unknown_label(rt: HostRuntime) -> Result<(), Fail> {
-    let alloc = rt.alloc();
-    let a = choice(alloc, true, B, vec![in alloc; ("maybe", Local::End)]?)?;
-    let b = choice(alloc, false, A, ok_or_no(alloc)?)?;
-    unfitting(alloc, a, b, UNKNOWN_LABEL)
+fn leaves_an_unknown_label(rt: HostRuntime) {
+    let a = chooses(B, more(&rt, "maybe", Local::End, Branches::NoMore));
+    unfitting(&rt, a, picks(A, ok_or_no(&rt)), UNKNOWN_LABEL);
 }
 
 #[test]
-fn leaves_a_label_for_a_value(rt: HostRuntime) -> Result<(), Fail> {
-    let alloc = rt.alloc();
-    let a = choice(alloc, true, B, ok_or_no(alloc)?)?;
-    let b = Local::recv(alloc, Role::new(A), Sort::Int, Local::End)?;
-    unfitting(alloc, a, b, LABEL_FOR_A_VALUE)
+fn leaves_a_label_for_a_value(rt: HostRuntime) {
+    let b = recv(&rt, A, Sort::Int, Local::End);
+    unfitting(&rt, chooses(B, ok_or_no(&rt)), b, LABEL_FOR_A_VALUE);
 }
 
-const LETTERS: [&str; 16] = [
+const LETTERS: &[&str] = &[
     "a", "b", "c", "d", "e", "f", "g", "h", "i", "j", "k", "l", "m", "n", "o", "p",
 ];
 
-// An arm for each of the letters.
-fn sixteen(alloc: Global) -> Result<Vec<(&'static str, Local)>, Fail> {
-    let mut arms = Vec::new(alloc);
-    for label in LETTERS {
-        arms.push((label, Local::End))?;
+// A branch that ends for each of the letters.
+fn sixteen(rt: &(impl Abort + AllocGlobal)) -> Branches {
+    let mut branches = Branches::NoMore;
+    for label in LETTERS.iter().rev() {
+        branches = more(rt, label, Local::End, branches);
     }
-    Ok(arms)
+    branches
 }
 
-// The last of eight roles makes a choice of sixteen labels, and the first takes it.
-fn wide(alloc: Global) -> Result<Vec<Local>, Fail> {
-    let mut types = vec![in alloc; choice(alloc, false, 7, sixteen(alloc)?)?]?;
-    for _ in 1..7 {
-        types.push(Local::End)?;
+// The type of the role at that place, of eight: the last makes a choice of sixteen labels, and the
+// first takes it.
+fn wide_at(rt: &(impl Abort + AllocGlobal), place: u8) -> Local {
+    match place {
+        0 => picks(7, sixteen(rt)),
+        7 => chooses(A, sixteen(rt)),
+        _ => Local::End,
     }
-    types.push(choice(alloc, true, A, sixteen(alloc)?)?)?;
-    Ok(types)
+}
+
+// The types of the eight.
+fn wide(rt: &(impl Abort + AllocGlobal)) -> Vec<Local> {
+    let mut types = Vec::new(rt.alloc());
+    for place in 0..8u8 {
+        types.push(wide_at(rt, place)).expect(rt, "memory");
+    }
+    types
 }
 
 // What the last of eight roles chooses, and what the first picks.
@@ -267,14 +289,18 @@ const SIXTEEN: &[&[Line]] = &[
     ],
 ];
 
+// The lines come out as they are wanted in a new session of the eight.
+fn plays_among_eight(rt: &(impl Abort + AllocGlobal), lines: &[Line]) {
+    let mut session = opened(rt, wide(rt));
+    assert_eq!(rt; session.roles(), 8);
+    play(rt, &mut session, lines);
+}
+
 #[test]
-fn chooses_among_sixteen_labels(rt: HostRuntime) -> Result<(), Fail> {
+fn chooses_among_sixteen_labels(rt: HostRuntime) {
     for lines in SIXTEEN {
-        let mut session = Session::open(rt.alloc(), wide(rt.alloc())?)?;
-        assert_eq!(rt; session.roles(), 8);
-        play(rt.alloc(), &mut session, lines)?;
+        plays_among_eight(&rt, lines);
     }
-    Ok(())
 }
 
 const FULL: &[Line] = &[
@@ -289,86 +315,111 @@ const FULL: &[Line] = &[
     Count(99_999, 100_000),
 ];
 
-#[test]
-fn gives_out_a_hundred_thousand_numbers(rt: HostRuntime) -> Result<(), Fail> {
-    let mut session = Session::open(rt.alloc(), looping(rt.alloc())?)?;
-    for _ in 0..100_000 {
-        let _ = answer(rt.alloc(), &mut session, A, Ask::Mark("m"))?;
+// The role at this place asks so many times, whatever it is answered.
+pub(super) fn ask_often(
+    rt: &(impl Abort + AllocGlobal),
+    session: &mut Session,
+    place: u8,
+    ask: Ask,
+    times: u32,
+) {
+    for _ in 0..times {
+        let _ = answer(rt, session, place, ask);
     }
-    play(rt.alloc(), &mut session, FULL)
+}
+
+#[test]
+fn gives_out_a_hundred_thousand_numbers(rt: HostRuntime) {
+    let mut session = opened(&rt, looping(&rt));
+    ask_often(&rt, &mut session, A, Ask::Mark("m"), 100_000);
+    play(&rt, &mut session, FULL);
 }
 
 // b keeps what a gives it, in a loop.
-pub(super) fn giving(alloc: Global) -> Result<Vec<Local>, Fail> {
-    let x = variable("X")?;
-    let gives = Local::send(alloc, Role::new(B), Sort::Int, Local::Var(x))?;
-    let takes = Local::recv(alloc, Role::new(A), Sort::Int, Local::Var(x))?;
-    let (gives, takes) = (Local::rec(alloc, x, gives)?, Local::rec(alloc, x, takes)?);
-    Ok(vec![in alloc; gives, takes]?)
+pub(super) fn giving(rt: &(impl Abort + AllocGlobal)) -> Vec<Local> {
+    let gives = looped(rt, send(rt, B, Sort::Int, again(rt)));
+    let takes = looped(rt, recv(rt, A, Sort::Int, again(rt)));
+    two(rt, gives, takes)
 }
 
-// The k-th of many slots, and the value that is given into it.
-fn slot_and_value(alloc: Global, k: usize) -> Result<(Name, Value), Fail> {
-    let slot = name(format!(in alloc; "s{k}")?.as_str())?;
-    Ok((slot, Value::Int(i64::try_from(k)?)))
+// The k-th of many slots.
+fn slot_name(rt: &(impl Abort + AllocGlobal), k: i64) -> Name {
+    name(
+        rt,
+        format!(in rt.alloc(); "s{k}").expect(rt, "memory").as_str(),
+    )
 }
 
-// Gives b the value of that place, and keeps it in its slot.
-fn fill(alloc: Global, session: &mut Session, k: usize) -> Result<(), Fail> {
-    let (slot, value) = slot_and_value(alloc, k)?;
-    let (to, from) = (role_of(session, B)?, role_of(session, A)?);
-    let _ = session.forward(from, Forward::Send { to, value })?;
-    let _ = session.forward(to, Forward::Receive { from, slot })?;
-    Ok(())
+// Gives b the k-th value.
+fn give(rt: &impl Abort, session: &mut Session, k: i64) {
+    let (role, to) = (role_of(rt, session, A), Role::new(B));
+    let value = Value::Int(k);
+    assert!(rt;
+        session.forward(role, Forward::Send { to, value }).is_ok(),
+        "{k}"
+    );
 }
 
-// Whether the slot of that place has its value.
-fn is_filled(alloc: Global, session: &Session, k: usize) -> Result<bool, Fail> {
-    let (slot, value) = slot_and_value(alloc, k)?;
-    let role = role_of(session, B)?;
-    match (session.slot(role, &slot), value) {
-        (Some(Value::Int(kept)), Value::Int(given)) => Ok(*kept == given),
-        _ => Ok(false),
+// Keeps the value that came first from a in b's k-th slot.
+fn keep(rt: &(impl Abort + AllocGlobal), session: &mut Session, k: i64) {
+    let (role, from) = (role_of(rt, session, B), Role::new(A));
+    let slot = slot_name(rt, k);
+    assert!(rt;
+        session
+            .forward(role, Forward::Receive { from, slot })
+            .is_ok(),
+        "{k}"
+    );
+}
+
+// Whether the value is that number.
+fn is_int(value: Option<&Value>, wanted: i64) -> bool {
+    match value {
+        Some(Value::Int(kept)) => *kept == wanted,
+        _ => false,
     }
+}
+
+// Whether b's k-th slot has its value.
+fn is_filled(rt: &(impl Abort + AllocGlobal), session: &Session, k: i64) -> bool {
+    let role = role_of(rt, session, B);
+    is_int(session.slot(role, &slot_name(rt, k)), k)
 }
 
 #[test]
-fn finds_each_of_many_slots(rt: HostRuntime) -> Result<(), Fail> {
-    let mut session = Session::open(rt.alloc(), giving(rt.alloc())?)?;
-    for k in 0..1000usize {
-        fill(rt.alloc(), &mut session, k)?;
+fn finds_each_of_many_slots(rt: HostRuntime) {
+    let mut session = opened(&rt, giving(&rt));
+    for k in 0..1000i64 {
+        give(&rt, &mut session, k);
+        keep(&rt, &mut session, k);
     }
-    for k in 0..1000usize {
-        assert!(rt; is_filled(rt.alloc(), &session, k)?, "{k}");
+    for k in 0..1000i64 {
+        assert!(rt; is_filled(&rt, &session, k), "{k}");
     }
-    assert!(rt; !is_filled(rt.alloc(), &session, 1000)?);
-    Ok(())
+    assert!(rt; !is_filled(&rt, &session, 1000));
 }
 
 // As many inputs from the peer, and then one from that last one.
-fn long(alloc: Global, count: usize, peer: u8, last: u8) -> Result<Local, Fail> {
-    let mut t = Local::recv(alloc, Role::new(last), Sort::Int, Local::End)?;
+fn long(rt: &(impl Abort + AllocGlobal), count: usize, peer: u8, last: u8) -> Local {
+    let mut t = recv(rt, last, Sort::Int, Local::End);
     for _ in 0..count {
-        t = Local::recv(alloc, Role::new(peer), Sort::Int, t)?;
+        t = recv(rt, peer, Sort::Int, t);
     }
-    Ok(t)
+    t
 }
 
 // As many branches that end, and a last one in which something comes from that peer.
-fn broad(alloc: Global, count: usize, last: u8) -> Result<Local, Fail> {
-    let label = name("l")?;
-    let t = long(alloc, 0, B, last)?;
-    let mut branches = Branches::more(alloc, label, t, Branches::NoMore)?;
+fn broad(rt: &(impl Abort + AllocGlobal), count: usize, last: u8) -> Local {
+    let mut branches = more(rt, "l", long(rt, 0, B, last), Branches::NoMore);
     for _ in 0..count {
-        branches = Branches::more(alloc, label, Local::End, branches)?;
+        branches = more(rt, "l", Local::End, branches);
     }
-    let peer = Role::new(B);
-    Ok(Local::Select { peer, branches })
+    chooses(B, branches)
 }
 
-// Whether that comes of opening a session with the type and an end.
-fn opens_with_an_end(alloc: Global, t: Local, wanted: Opening) -> Result<bool, Fail> {
-    opens_so(alloc, vec![in alloc; t, Local::End]?, wanted)
+// That comes of opening a session with the type and an end.
+fn opens_with_an_end(rt: &(impl Abort + AllocGlobal), t: Local, wanted: Opening) {
+    opens_so(rt, two(rt, t, Local::End), wanted);
 }
 
 // At the end stands a peer of the session, the role itself, or no role of the session.
@@ -379,83 +430,67 @@ const PEERS: &[(u8, Opening)] = &[
 ];
 
 #[test]
-fn refuses_types_over_the_limits(rt: HostRuntime) -> Result<(), Fail> {
+fn refuses_types_over_the_limits(rt: HostRuntime) {
     for (last, wanted) in PEERS {
-        let t = long(rt.alloc(), 1_000_000, B, *last)?;
-        assert!(rt; opens_with_an_end(rt.alloc(), t, *wanted)?);
-        let t = broad(rt.alloc(), 100_000, *last)?;
-        assert!(rt; opens_with_an_end(rt.alloc(), t, *wanted)?);
+        opens_with_an_end(&rt, long(&rt, 1_000_000, B, *last), *wanted);
+        opens_with_an_end(&rt, broad(&rt, 100_000, *last), *wanted);
     }
-    Ok(())
+}
+
+// So many inputs and an end, with the end as a node; an end alone for less than two nodes.
+fn of_nodes(rt: &(impl Abort + AllocGlobal), nodes: usize) -> Local {
+    match nodes.checked_sub(2) {
+        Some(inputs) => long(rt, inputs, B, B),
+        None => Local::End,
+    }
 }
 
 // A choice of so many nodes in all, with at most 61 of them in a branch.
-fn with_nodes(alloc: Global, count: usize) -> Result<Local, Fail> {
+fn with_nodes(rt: &(impl Abort + AllocGlobal), count: usize) -> Local {
     let mut branches = Branches::NoMore;
     let mut left = count.saturating_sub(1);
     for label in LETTERS {
         let nodes = left.min(61);
-        let next = if nodes < 2 {
-            Local::End
-        } else {
-            long(alloc, nodes - 2, B, B)?
-        };
         left = left.saturating_sub(nodes.max(1));
-        branches = Branches::more(alloc, name(label)?, next, branches)?;
+        branches = more(rt, label, of_nodes(rt, nodes), branches);
         if left == 0 {
             break;
         }
     }
-    let peer = Role::new(B);
-    Ok(Local::Select { peer, branches })
+    chooses(B, branches)
 }
 
 #[test]
-fn opens_types_of_256_nodes(rt: HostRuntime) -> Result<(), Fail> {
-    let most = with_nodes(rt.alloc(), 256)?;
-    assert!(rt; opens_with_an_end(rt.alloc(), most, Opening::Opened)?);
-    let more = with_nodes(rt.alloc(), 257)?;
+fn opens_types_of_256_nodes(rt: HostRuntime) {
+    opens_with_an_end(&rt, with_nodes(&rt, 256), Opening::Opened);
     let fault = Opening::Fault(A, LocalFault::TooManyNodes);
-    assert!(rt; opens_with_an_end(rt.alloc(), more, fault)?);
-    Ok(())
+    opens_with_an_end(&rt, with_nodes(&rt, 257), fault);
 }
 
-// Whether that comes of opening a session with these two types and an end.
-fn opens_of(alloc: Global, a: Local, b: Local, wanted: Opening) -> Result<bool, Fail> {
-    opens_so(alloc, vec![in alloc; a, b, Local::End]?, wanted)
+// That comes of opening a session with these two types and an end.
+fn opens_of(rt: &(impl Abort + AllocGlobal), a: Local, b: Local, wanted: Opening) {
+    opens_so(rt, three(rt, a, b, Local::End), wanted);
 }
 
 #[test]
-fn refuses_faulty_types(rt: HostRuntime) -> Result<(), Fail> {
-    let x = variable("X")?;
-    let silent = Local::rec(rt.alloc(), x, Local::Var(x))?;
+fn refuses_faulty_types(rt: HostRuntime) {
     let fault = Opening::Fault(B, LocalFault::Unguarded);
-    assert!(rt; opens_of(rt.alloc(), Local::End, silent, fault)?);
-    let branches = Branches::NoMore;
-    let peer = Role::new(A);
-    let empty = Local::Select { peer, branches };
+    opens_of(&rt, Local::End, looped(&rt, again(&rt)), fault);
     let fault = Opening::Fault(B, LocalFault::NoBranches);
-    assert!(rt; opens_of(rt.alloc(), Local::End, empty, fault)?);
-    Ok(())
+    opens_of(&rt, Local::End, chooses(A, Branches::NoMore), fault);
 }
 
 // Of two faults the least role's is told.
 #[test]
-fn names_the_least_role(rt: HostRuntime) -> Result<(), Fail> {
-    let x = variable("X")?;
-    let deep = long(rt.alloc(), 63, B, B)?;
+fn names_the_least_role(rt: HostRuntime) {
     let first = Opening::Fault(A, LocalFault::TooDeep);
-    assert!(rt; opens_of(rt.alloc(), deep, Local::Var(x), first)?);
-    let short = long(rt.alloc(), 62, B, B)?;
+    opens_of(&rt, long(&rt, 63, B, B), again(&rt), first);
     let second = Opening::Fault(B, LocalFault::Unbound);
-    assert!(rt; opens_of(rt.alloc(), short, Local::Var(x), second)?);
-    Ok(())
+    opens_of(&rt, long(&rt, 62, B, B), again(&rt), second);
 }
 
 #[test]
-fn tells_strangers_before_faults(rt: HostRuntime) -> Result<(), Fail> {
-    let faulty = Local::Var(variable("X")?);
-    let stranger = long(rt.alloc(), 0, A, 3)?;
-    assert!(rt; opens_of(rt.alloc(), faulty, stranger, Opening::BadPeer(B))?);
-    Ok(())
+fn tells_strangers_before_faults(rt: HostRuntime) {
+    let stranger = long(&rt, 0, A, 3);
+    opens_of(&rt, again(&rt), stranger, Opening::BadPeer(B));
 }

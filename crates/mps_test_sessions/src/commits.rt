@@ -1,11 +1,12 @@
 use crate::choices::giving;
 use crate::rollbacks::TWO_PAIRS;
 use crate::steps::Line::{Asks, Count, GoesBack, Keeps, Moves, RollsBack, Step, Undoes, Waits};
-use crate::steps::{A, A_TO_B_TO_C, Ask, B, C, Line, play, play_anew, role_of, types};
+use crate::steps::{A, A_TO_B_TO_C, Ask, B, C, Line, opened, play, play_anew, role_of, types};
 use mps_base::StepId;
 use mps_command::Command;
 use mps_session::*;
-use std::test::Fail;
+use std::alloc::AllocGlobal;
+use std::process::Abort;
 
 // Where a gives b ints, b settles what it took, and then a.
 const SETTLED: &[Line] = &[
@@ -63,13 +64,17 @@ const THE_LEAST_IS_NAMED: &[Line] = &[
     Count(7, 7),
 ];
 
+// The lines come out as they are wanted where a gives b ints.
+pub(super) fn play_giving(rt: &(impl Abort + AllocGlobal), lines: &[Line]) {
+    let mut session = opened(rt, giving(rt));
+    play(rt, &mut session, lines);
+}
+
 #[test]
-fn settles_what_was_given(rt: HostRuntime) -> Result<(), Fail> {
-    for lines in [SETTLED, AFTER_A_COMMIT, THE_LEAST_IS_NAMED] {
-        let mut session = Session::open(rt.alloc(), giving(rt.alloc())?)?;
-        play(rt.alloc(), &mut session, lines)?;
-    }
-    Ok(())
+fn settles_what_was_given(rt: HostRuntime) {
+    play_giving(&rt, SETTLED);
+    play_giving(&rt, AFTER_A_COMMIT);
+    play_giving(&rt, THE_LEAST_IS_NAMED);
 }
 
 // A commit of a role that has nothing to do with the step.
@@ -90,9 +95,9 @@ const AT_THE_END: &[Line] = &[
 ];
 
 #[test]
-fn commits_are_the_roles_own(rt: HostRuntime) -> Result<(), Fail> {
-    play_anew(rt.alloc(), TWO_PAIRS, A_STRANGERS)?;
-    play_anew(rt.alloc(), TWO_PAIRS, AT_THE_END)
+fn commits_are_the_roles_own(rt: HostRuntime) {
+    play_anew(&rt, TWO_PAIRS, A_STRANGERS);
+    play_anew(&rt, TWO_PAIRS, AT_THE_END);
 }
 
 const RELAYED: &[Line] = &[
@@ -110,14 +115,18 @@ const STILL_RELAYED: &[Line] = &[
     Count(5, 5),
 ];
 
+// Whether `would` names the fifth step to a, which asks for a rollback of the first.
+fn would_be_final(rt: &impl Abort, session: &mut Session) -> bool {
+    let role = role_of(rt, session, A);
+    let by = StepId::new(5);
+    session.would(role, &Command::Rollback(StepId::new(1))) == Err(Refusal::Final { by })
+}
+
 // `would` names the commit, and marks nothing: the rollback is refused as before.
 #[test]
-fn tells_of_a_commit_beforehand(rt: HostRuntime) -> Result<(), Fail> {
-    let mut session = Session::open(rt.alloc(), types(rt.alloc(), A_TO_B_TO_C)?)?;
-    play(rt.alloc(), &mut session, RELAYED)?;
-    let role = role_of(&session, A)?;
-    let would = session.would(role, &Command::Rollback(StepId::new(1)));
-    let by = StepId::new(5);
-    assert!(rt; would == Err(Refusal::Final { by }));
-    play(rt.alloc(), &mut session, STILL_RELAYED)
+fn tells_of_a_commit_beforehand(rt: HostRuntime) {
+    let mut session = opened(&rt, types(&rt, A_TO_B_TO_C));
+    play(&rt, &mut session, RELAYED);
+    assert!(rt; would_be_final(&rt, &mut session));
+    play(&rt, &mut session, STILL_RELAYED);
 }

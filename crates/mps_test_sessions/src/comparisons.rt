@@ -1,13 +1,15 @@
 ghost use Rattle.std.specs.Prelude.{◌≡◌};
+ghost use Rattle.mps_global.specs.Global.{plain};
+ghost use Rattle.mps_local.specs.Outcome.{AreProjections};
 
-use crate::open_protocols::{choice, int, names};
+use crate::open_protocols::{choice, int, protocol};
 use crate::steps::{A, Ask, B, C, command, name, role_of};
 use mps_base::{Sort, StepId};
 use mps_command::{Answer, Change, Refusal, StepIds};
 use mps_global::{Global, Protocol};
 use mps_session::*;
-use std::alloc;
-use std::test::Fail;
+use std::alloc::AllocGlobal;
+use std::process::Abort;
 
 const D: u8 = 3;
 
@@ -22,60 +24,71 @@ enum Turn {
 use Turn::{Does, Undoes};
 
 // a gives b an int and a text, c gives d an int, and a tells b `ok` or `no`.
-fn two_pairs(alloc: alloc::Global) -> Result<Protocol, Fail> {
-    let told = choice(alloc, "a", "b", &["ok", "no"], Global::End)?;
-    let beside = int(alloc, "c", "d", told)?;
-    let text = Global::message(alloc, name("a")?, name("b")?, Sort::Text, beside)?;
-    let body = int(alloc, "a", "b", text)?;
-    let roles = names(alloc, &["a", "b", "c", "d"])?;
-    Ok(Protocol { roles, body })
+fn two_pairs(rt: &(impl Abort + AllocGlobal)) -> Protocol {
+    let told = choice(rt, "a", "b", &["ok", "no"], Global::End);
+    let beside = int(rt, "c", "d", told);
+    let (from, to) = (name(rt, "a"), name(rt, "b"));
+    let text = Global::message(rt.alloc(), from, to, Sort::Text, beside).expect(rt, "memory");
+    protocol(rt, &["a", "b", "c", "d"], int(rt, "a", "b", text))
 }
 
-// The role that takes the turn, and its command.
-fn asked(alloc: alloc::Global, turn: Turn) -> Result<(u8, Change), Fail> {
-    Ok(match turn {
-        Does(place, ask) => (place, Change::Forward(command(alloc, ask)?)),
-        Undoes(place, number) => (place, Change::Undo(StepId::new(number))),
-    })
+// Whether the turn was taken, and not refused.
+fn is_taken(answer: Answer) -> bool {
+    matches!(answer, Answer::Done(_) | Answer::Undone(_))
+}
+
+// The role that takes the turn.
+fn taker(turn: Turn) -> u8 {
+    match turn {
+        Does(place, _) | Undoes(place, _) => place,
+    }
+}
+
+// What is asked for in the turn.
+fn asked(rt: &(impl Abort + AllocGlobal), turn: Turn) -> Change {
+    match turn {
+        Does(_, ask) => Change::Forward(command(rt, ask)),
+        Undoes(_, number) => Change::Undo(StepId::new(number)),
+    }
 }
 
 // The turn is taken, and isn't refused.
-fn take(alloc: alloc::Global, session: &mut Session, turn: Turn) -> Result<(), Fail>
+fn take(rt: &(impl Abort + AllocGlobal), session: &mut Session, turn: Turn)
     ensures { session.new.types ≡ session.old.types }
 {
-    let asked = asked(alloc, turn)?;
-    let (place, command) = asked;
-    let role = role_of(session, place)?;
-    match session.serve(role, command) {
-        Answer::Done(_) | Answer::Undone(_) => Ok(()),
-        Answer::News { .. } | Answer::Shown(_) | Answer::Refused(_) => {
-            Err("it is refused".into())
-        }
-    }
+    let role = role_of(rt, session, taker(turn));
+    let answer = session.serve(role, asked(rt, turn));
+    assert!(rt; is_taken(answer), "it is refused");
 }
 
 // The turns are taken, one after the other.
-fn take_all(alloc: alloc::Global, session: &mut Session, turns: &[Turn]) -> Result<(), Fail>
+fn take_all(rt: &(impl Abort + AllocGlobal), session: &mut Session, turns: &[Turn])
     ensures { session.new.types ≡ session.old.types }
 {
     for turn in turns {
-        take(alloc, session, *turn)?;
+        take(rt, session, *turn);
     }
-    Ok(())
+}
+
+// A new session of the protocol after these turns.
+fn after(rt: &(impl Abort + AllocGlobal), protocol: &Protocol, turns: &[Turn]) -> Session
+    ensures { AreProjections protocol.now.roles.items (plain protocol.now.body) result.types }
+{
+    let mut session = open_protocol(rt.alloc(), protocol).expect(rt, "a session");
+    take_all(rt, &mut session, turns);
+    session
 }
 
 // Whether two sessions of the protocol are the same after these turns.
 fn are_same(
-    alloc: alloc::Global,
+    rt: &(impl Abort + AllocGlobal),
     protocol: &Protocol,
     first: &[Turn],
     second: &[Turn],
-) -> Result<bool, Fail> {
-    let mut a = open_protocol(alloc, protocol)?;
-    let mut b = open_protocol(alloc, protocol)?;
-    take_all(alloc, &mut a, first)?;
-    take_all(alloc, &mut b, second)?;
-    Ok(same(&a, &b))
+) -> bool {
+    let a = after(rt, protocol, first);
+    let b = after(rt, protocol, second);
+    same(&a, &b)
 }
 
 // The turns of two sessions, and whether these are the same.
@@ -161,79 +174,110 @@ const ROWS: &[Row] = &[
     Row(&[Does(A, MARK_M)], &[Does(B, MARK_M)], false),
 ];
 
+// Whether the sessions of the row are as it says, whichever is compared with the other.
+fn is_compared(rt: &(impl Abort + AllocGlobal), protocol: &Protocol, row: &Row) -> bool {
+    are_same(rt, protocol, row.0, row.1) == row.2 && are_same(rt, protocol, row.1, row.0) == row.2
+}
+
 #[test]
-fn compares_what_each_role_did(rt: HostRuntime) -> Result<(), Fail> {
-    let alloc = rt.alloc();
-    let protocol = two_pairs(alloc)?;
-    for (Row(first, second, wanted), k) in ROWS.iter().zip(0u64..) {
-        let found = are_same(alloc, &protocol, first, second)?;
-        let turned = are_same(alloc, &protocol, second, first)?;
-        if found != *wanted || turned != *wanted {
-            return Err(Fail::from(format!(in alloc; "row {k}")?));
-        }
+fn compares_what_each_role_did(rt: HostRuntime) {
+    let protocol = two_pairs(&rt);
+    for (place, row) in ROWS.iter().enumerate() {
+        assert!(rt; is_compared(&rt, &protocol, row), "row {place}");
     }
-    Ok(())
+}
+
+// Whether the session is the same as one that never tried.
+fn is_untried(
+    rt: &(impl Abort + AllocGlobal),
+    protocol: &Protocol,
+    session: &Session,
+    turns: &[Turn],
+) -> bool
+    requires { AreProjections protocol.now.roles.items (plain protocol.now.body) session.now.types }
+{
+    let untried = after(rt, protocol, turns);
+    same(session, &untried) && session.issued() == untried.issued()
+}
+
+// What a is answered that rolls its first step back.
+fn rolled_back(rt: &impl Abort, session: &mut Session) -> Result<StepIds, Refusal>
+    ensures { session.new.types ≡ session.old.types }
+{
+    let role = role_of(rt, session, A);
+    session.rollback(role, StepId::new(1))
+}
+
+// Whether these are the steps 4, 3 and 1.
+fn are_three(ids: &StepIds) -> bool {
+    match ids.as_slice() {
+        [first, second, third] => {
+            first.number() == 4 && second.number() == 3 && third.number() == 1
+        }
+        _ => false,
+    }
+}
+
+// Whether these steps were taken back.
+fn are_back(answer: Result<StepIds, Refusal>) -> bool {
+    match answer {
+        Ok(ids) => are_three(&ids),
+        Err(_) => false,
+    }
+}
+
+// Whether the rollback was refused for want of memory.
+fn is_out_of_memory(answer: &Result<StepIds, Refusal>) -> bool {
+    matches!(answer, Err(Refusal::Memory))
 }
 
 // What a rolls back that takes its first step back. Where memory runs out for the answer, the session
 // is the same as one that never tried, and a second try takes the steps.
-fn rolled_back(alloc: alloc::Global, protocol: &Protocol, turns: &[Turn]) -> Result<StepIds, Fail> {
-    let mut session = open_protocol(alloc, protocol)?;
-    let mut untried = open_protocol(alloc, protocol)?;
-    take_all(alloc, &mut session, turns)?;
-    take_all(alloc, &mut untried, turns)?;
-    let role = role_of(&session, A)?;
-    match session.rollback(role, StepId::new(1)) {
-        Err(Refusal::Memory) => {}
-        Ok(ids) => return Ok(ids),
-        Err(_) => return Err("it is refused".into()),
+fn takes_back_at_last(
+    rt: &(impl Abort + AllocGlobal),
+    protocol: &Protocol,
+    turns: &[Turn],
+) -> bool {
+    let mut session = after(rt, protocol, turns);
+    let mut answer = rolled_back(rt, &mut session);
+    if is_out_of_memory(&answer) {
+        assert!(rt;
+            is_untried(rt, protocol, &session, turns),
+            "a refusal changed something"
+        );
+        answer = rolled_back(rt, &mut session);
     }
-    if !same(&session, &untried) || session.issued() != untried.issued() {
-        return Err("a refusal changed something".into());
-    }
-    match session.rollback(role, StepId::new(1)) {
-        Ok(ids) => Ok(ids),
-        Err(_) => Err("it is refused again".into()),
-    }
+    are_back(answer)
 }
 
 // The room for the answer is the last request for memory: the README of mps_session says how a run refuses it.
 #[test]
-fn rolls_back_after_a_refusal(rt: HostRuntime) -> Result<(), Fail> {
-    let alloc = rt.alloc();
+fn rolls_back_after_a_refusal(rt: HostRuntime) {
     let turns = [SEND_5, BESIDE, TAKE, SAY_X, TAKE_BESIDE];
-    let ids = rolled_back(alloc, &two_pairs(alloc)?, &turns)?;
-    let numbers: [u64; 3] = [4, 3, 1];
-    assert_eq!(rt; ids.as_slice().len(), 3);
-    for (id, number) in ids.as_slice().iter().zip(numbers) {
-        assert_eq!(rt; id.number(), number);
-    }
-    Ok(())
+    assert!(rt; takes_back_at_last(&rt, &two_pairs(&rt), &turns));
 }
 
 // Why a may not roll its first step back. The session is then the same as one that never tried.
-fn refused(alloc: alloc::Global, protocol: &Protocol, turns: &[Turn]) -> Result<Refusal, Fail> {
-    let mut session = open_protocol(alloc, protocol)?;
-    let mut untried = open_protocol(alloc, protocol)?;
-    take_all(alloc, &mut session, turns)?;
-    take_all(alloc, &mut untried, turns)?;
-    let role = role_of(&session, A)?;
-    let refusal = match session.rollback(role, StepId::new(1)) {
-        Err(refusal) => refusal,
-        Ok(_) => return Err("it is accepted".into()),
-    };
-    if !same(&session, &untried) || session.issued() != untried.issued() {
-        return Err("a refusal changed something".into());
-    }
-    Ok(refusal)
+fn refused(
+    rt: &(impl Abort + AllocGlobal),
+    protocol: &Protocol,
+    turns: &[Turn],
+) -> Option<Refusal> {
+    let mut session = after(rt, protocol, turns);
+    let refusal = rolled_back(rt, &mut session).err();
+    assert!(rt;
+        is_untried(rt, protocol, &session, turns),
+        "a refusal changed something"
+    );
+    refusal
 }
 
 #[test]
-fn a_refused_rollback_changes_nothing(rt: HostRuntime) -> Result<(), Fail> {
-    let alloc = rt.alloc();
+fn a_refused_rollback_changes_nothing(rt: HostRuntime) {
     let turns = [SEND_5, TAKE, Does(B, COMMIT), SAY_X];
-    let refusal = refused(alloc, &two_pairs(alloc)?, &turns)?;
     let by = StepId::new(3);
-    assert!(rt; refusal == Refusal::Final { by });
-    Ok(())
+    assert_eq!(rt;
+        refused(&rt, &two_pairs(&rt), &turns),
+        Some(Refusal::Final { by })
+    );
 }

@@ -156,69 +156,94 @@ const TWO_WAYS: &[Deed] = &[
     Takes(H, C),
 ];
 
+// What was done, a step, and the least step that depends on it; 0 where there is none.
+const LEAST: &[(&[Deed], u64, u64)] = &[
+    (CHAIN, 1, 2),
+    (CHAIN, 2, 3),
+    (CHAIN, 4, 0),
+    (TWO_SENDS, 1, 2),
+    (TWO_SENDS, 2, 0),
+    (SENT_AGAIN, 1, 2),
+    (TWO_PAIRS, 2, 4),
+    (WITH_MARKS, 1, 2),
+    (WITH_MARKS, 2, 4),
+    (WITH_MARKS, 3, 4),
+    (WITH_MARKS, 6, 0),
+    (TWO_WAYS, 2, 4),
+];
+
+// The least step that depends on this one after these deeds; 0 where there is none.
+fn least_after(rt: &(impl Abort + AllocGlobal), deeds: &[Deed], number: u64) -> u64 {
+    let arena = play(rt, deeds);
+    match least_dependent(&arena, present(rt, &arena, number)) {
+        Some(id) => id.number(),
+        None => 0,
+    }
+}
+
 #[test]
 fn finds_the_least_dependent(rt: HostRuntime) {
-    for (deeds, number, want) in [
-        (CHAIN, 1, 2),
-        (CHAIN, 2, 3),
-        (CHAIN, 4, 0),
-        (TWO_SENDS, 1, 2),
-        (TWO_SENDS, 2, 0),
-        (SENT_AGAIN, 1, 2),
-        (TWO_PAIRS, 2, 4),
-        (WITH_MARKS, 1, 2),
-        (WITH_MARKS, 2, 4),
-        (WITH_MARKS, 3, 4),
-        (WITH_MARKS, 6, 0),
-        (TWO_WAYS, 2, 4),
-    ] {
-        let arena = play(&rt, deeds);
-        let found = match least_dependent(&arena, present(&rt, &arena, number)) {
-            Some(id) => id.number(),
-            None => 0,
-        };
-        assert_eq!(&rt; found, want, "of {number}");
+    for (deeds, number, want) in LEAST {
+        assert_eq!(&rt; least_after(&rt, deeds, *number), *want, "of {number}");
     }
+}
+
+// What was done, a step, and the steps that go where it is taken back.
+const REMOVED: &[(&[Deed], u64, &[u64])] = &[
+    (CHAIN, 1, &[4, 3, 2, 1]),
+    (CHAIN, 2, &[4, 3, 2]),
+    (CHAIN, 4, &[4]),
+    (TWO_SENDS, 1, &[3, 2, 1]),
+    (TWO_SENDS, 2, &[2]),
+    (TWO_PAIRS, 1, &[3, 1]),
+    (TWO_PAIRS, 2, &[4, 2]),
+    (WITH_MARKS, 1, &[5, 4, 2, 1]),
+    (WITH_MARKS, 3, &[5, 4, 3]),
+    (TWO_WAYS, 2, &[8, 6, 4, 2]),
+    (TWO_WAYS, 3, &[8, 7, 5, 3]),
+];
+
+// These go after the deeds where the step of that number is taken back, and no others.
+fn removes(rt: &(impl Abort + AllocGlobal), deeds: &[Deed], number: u64, want: &[u64]) {
+    let mut arena = play(rt, deeds);
+    let gone = undo(rt, &mut arena, number);
+    assert_eq!(rt; gone.as_slice(), want, "from {number}");
+    assert_eq!(rt; arena.len(), deeds.len().saturating_sub(gone.len()));
 }
 
 #[test]
 fn removes_what_depends_on_a_step(rt: HostRuntime) {
-    for (deeds, number, want) in [
-        (CHAIN, 1, &[4, 3, 2, 1][..]),
-        (CHAIN, 2, &[4, 3, 2]),
-        (CHAIN, 4, &[4]),
-        (TWO_SENDS, 1, &[3, 2, 1]),
-        (TWO_SENDS, 2, &[2]),
-        (TWO_PAIRS, 1, &[3, 1]),
-        (TWO_PAIRS, 2, &[4, 2]),
-        (WITH_MARKS, 1, &[5, 4, 2, 1]),
-        (WITH_MARKS, 3, &[5, 4, 3]),
-        (TWO_WAYS, 2, &[8, 6, 4, 2]),
-        (TWO_WAYS, 3, &[8, 7, 5, 3]),
-    ] {
-        let mut arena = play(&rt, deeds);
-        let gone = undo(&rt, &mut arena, number);
-        assert_eq!(&rt; gone.as_slice(), want, "from {number}");
-        assert_eq!(&rt; arena.len(), deeds.len().saturating_sub(gone.len()));
+    for (deeds, number, want) in REMOVED {
+        removes(&rt, deeds, *number, want);
     }
+}
+
+// What was done, a step from which marks are set and unset, another step, and what goes where that one is taken back.
+const UNMARKED: &[(&[Deed], u64, u64, &[u64])] = &[
+    (CHAIN, 1, 4, &[4]),
+    (TWO_PAIRS, 1, 2, &[4, 2]),
+    (TWO_WAYS, 3, 2, &[8, 6, 4, 2]),
+];
+
+// What goes after the deeds where the second step is taken back, once marks from the first are unset.
+fn gone_unmarked(
+    rt: &(impl Abort + AllocGlobal),
+    deeds: &[Deed],
+    first: u64,
+    second: u64,
+) -> Vec<u64> {
+    let mut arena = play(rt, deeds);
+    let id = present(rt, &arena, first);
+    mark_from(&mut arena, id);
+    unmark(&mut arena);
+    undo(rt, &mut arena, second)
 }
 
 #[test]
 fn leaves_no_mark(rt: HostRuntime) {
-    for (deeds, first, second, want) in [
-        (CHAIN, 1, 4, &[4][..]),
-        (TWO_PAIRS, 1, 2, &[4, 2]),
-        (TWO_WAYS, 3, 2, &[8, 6, 4, 2]),
-    ] {
-        let mut arena = play(&rt, deeds);
-        let id = present(&rt, &arena, first);
-        mark_from(&mut arena, id);
-        unmark(&mut arena);
-        assert_eq!(&rt;
-            undo(&rt, &mut arena, second).as_slice(),
-            want,
-            "from {second}"
-        );
+    for (deeds, first, second, want) in UNMARKED {
+        let gone = gone_unmarked(&rt, deeds, *first, *second);
+        assert_eq!(&rt; gone.as_slice(), *want, "from {second}");
     }
 }
 
@@ -250,22 +275,30 @@ fn least_from(rt: &(impl Abort + AllocGlobal), arena: &mut Arena, number: u64) -
     }
 }
 
+// What was done, a step, and the least commit among it and what depends on it; 0 where there is none.
+const COMMITS: &[(&[Deed], u64, u64)] = &[
+    (CHAIN, 1, 0),
+    (WITH_MARKS, 1, 0),
+    (SETTLED, 1, 1),
+    (SETTLED, 2, 5),
+    (SETTLED, 3, 5),
+    (SETTLED, 4, 4),
+    (SETTLED, 6, 7),
+    (SETTLED, 8, 9),
+    (SETTLED, 9, 9),
+    (SETTLED, 10, 10),
+];
+
+// The least commit after these deeds.
+fn least_commit(rt: &(impl Abort + AllocGlobal), deeds: &[Deed], number: u64) -> u64 {
+    let mut arena = play(rt, deeds);
+    least_from(rt, &mut arena, number)
+}
+
 #[test]
 fn finds_the_least_commit(rt: HostRuntime) {
-    for (deeds, number, want) in [
-        (CHAIN, 1, 0),
-        (WITH_MARKS, 1, 0),
-        (SETTLED, 1, 1),
-        (SETTLED, 2, 5),
-        (SETTLED, 3, 5),
-        (SETTLED, 4, 4),
-        (SETTLED, 6, 7),
-        (SETTLED, 8, 9),
-        (SETTLED, 9, 9),
-        (SETTLED, 10, 10),
-    ] {
-        let mut arena = play(&rt, deeds);
-        assert_eq!(&rt; least_from(&rt, &mut arena, number), want, "from {number}");
+    for (deeds, number, want) in COMMITS {
+        assert_eq!(&rt; least_commit(&rt, deeds, *number), *want, "from {number}");
     }
 }
 

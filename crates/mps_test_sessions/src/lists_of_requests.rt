@@ -1,15 +1,15 @@
-ghost use Rattle.std.specs.Prelude.{◌≡◌, ◌<◌, length, IfOk};
+ghost use Rattle.std.specs.Prelude.{◌≡◌, ◌<◌, length};
 ghost use Rattle.std.specs.List.{AllByRecursion};
 
 use crate::steps::Line::{Count, Keeps, Moves, Waits};
 use crate::steps::{
-    A, A_TO_B_TO_C, Ask, B, C, Line, command, gone, name, play, role_of, told, types,
+    A, A_TO_B_TO_C, Ask, B, C, Line, command, gone, name, opened, play, role_of, text, told, types,
 };
 use mps_base::{Name, Role, StepId};
 use mps_command::{Answer, Change, Forward};
 use mps_session::*;
-use std::alloc::Global;
-use std::test::Fail;
+use std::alloc::AllocGlobal;
+use std::process::Abort;
 
 // What a role asks for, also of what is to be taken back.
 #[derive(Clone, Copy)]
@@ -24,35 +24,35 @@ enum Wish {
 type Row = (u8, Wish, &'static str);
 
 // The command that is asked for.
-fn asked(alloc: Global, wish: Wish) -> Result<Change, Fail> {
-    Ok(match wish {
-        Wish::Step(ask) => Change::Forward(command(alloc, ask)?),
+fn asked(rt: &(impl Abort + AllocGlobal), wish: Wish) -> Change {
+    match wish {
+        Wish::Step(ask) => Change::Forward(command(rt, ask)),
         Wish::Undo(number) => Change::Undo(StepId::new(number)),
         Wish::Rollback(number) => Change::Rollback(StepId::new(number)),
-        Wish::Back(mark) => Change::Back(name(mark)?),
-    })
+        Wish::Back(mark) => Change::Back(name(rt, mark)),
+    }
 }
 
 // The requests of the rows, in order.
-fn requests(alloc: Global, session: &Session, rows: &[Row]) -> Result<Vec<(Role, Change)>, Fail>
-    ensures { IfOk result (λ all. AllByRecursion (λ request. request.0 < length session.now.types) all.items) }
+fn requests(rt: &(impl Abort + AllocGlobal), session: &Session, rows: &[Row]) -> Vec<(Role, Change)>
+    ensures { AllByRecursion (λ request. request.0 < length session.now.types) result.items }
 {
-    let mut all = Vec::new(alloc);
+    let mut all = Vec::new(rt.alloc());
     for (place, wish, _) in rows {
-        let role = role_of(session, *place)?;
-        let command = asked(alloc, *wish)?;
-        all.push((role, command))?;
+        let role = role_of(rt, session, *place);
+        let command = asked(rt, *wish);
+        all.push((role, command)).expect(rt, "memory");
     }
-    Ok(all)
+    all
 }
 
 // What a role is answered.
-fn shown(alloc: Global, answer: Answer) -> Result<String, Fail> {
+fn shown(rt: &(impl Abort + AllocGlobal), answer: Answer) -> String {
     match answer {
-        Answer::Done(done) => told(alloc, Ok(done)),
-        Answer::Undone(ids) => gone(alloc, Ok(ids)),
-        Answer::Refused(refusal) => gone(alloc, Err(refusal)),
-        Answer::News { .. } | Answer::Shown(_) => Err("no answer of a session".into()),
+        Answer::Done(done) => told(rt, &Ok(done)),
+        Answer::Undone(ids) => gone(rt, &Ok(ids)),
+        Answer::Refused(refusal) => gone(rt, &Err(refusal)),
+        Answer::News { .. } | Answer::Shown(_) => text(rt, b"no answer of a session"),
     }
 }
 
@@ -89,17 +89,26 @@ const LEFT: &[Line] = &[
     Keeps(C, "y", "-"),
 ];
 
-#[test]
-fn serves_a_list(rt: HostRuntime) -> Result<(), Fail> {
-    let alloc = rt.alloc();
-    let mut session = Session::open(alloc, types(alloc, A_TO_B_TO_C)?)?;
-    let requests = requests(alloc, &session, TEN_AND_MORE)?;
-    let answers = session.serve_all(requests)?;
-    assert_eq!(rt; answers.len(), TEN_AND_MORE.len());
-    for (answer, (_, _, wanted)) in answers.into_iter().zip(TEN_AND_MORE) {
-        assert_eq!(rt; shown(alloc, answer)?.as_str(), *wanted);
+// The answer of the row of that place is the one that is wanted.
+fn is_answered(rt: &(impl Abort + AllocGlobal), answer: Answer, row: &Row) {
+    assert_eq!(rt; shown(rt, answer).as_str(), row.2);
+}
+
+// The answers are those that the rows want.
+fn are_answered(rt: &(impl Abort + AllocGlobal), answers: Vec<Answer>, rows: &[Row]) {
+    assert_eq!(rt; answers.len(), rows.len());
+    for (answer, row) in answers.into_iter().zip(rows) {
+        is_answered(rt, answer, row);
     }
-    play(alloc, &mut session, LEFT)
+}
+
+#[test]
+fn serves_a_list(rt: HostRuntime) {
+    let mut session = opened(&rt, types(&rt, A_TO_B_TO_C));
+    let requests = requests(&rt, &session, TEN_AND_MORE);
+    let answers = session.serve_all(requests).expect(&rt, "memory");
+    are_answered(&rt, answers, TEN_AND_MORE);
+    play(&rt, &mut session, LEFT);
 }
 
 // A request of the role: its mark, or the undo of the step of that number.
@@ -115,29 +124,29 @@ fn mark_or_undo(role: Role, turn: u64, mark: Name) -> (Role, Change)
 
 // So many requests of the role, marks and their undos by turns.
 fn marks_and_undos(
-    alloc: Global,
+    rt: &(impl Abort + AllocGlobal),
     session: &Session,
     count: u64,
-) -> Result<Vec<(Role, Change)>, Fail>
-    ensures { IfOk result (λ all. AllByRecursion (λ request. request.0 < length session.now.types) all.items) }
+) -> Vec<(Role, Change)>
+    ensures { AllByRecursion (λ request. request.0 < length session.now.types) result.items }
 {
-    let mut all = Vec::new(alloc);
-    let role = role_of(session, A)?;
-    let mark = name("m")?;
+    let mut all = Vec::new(rt.alloc());
+    let role = role_of(rt, session, A);
+    let mark = name(rt, "m");
     for turn in 0..count {
-        all.push(mark_or_undo(role, turn, mark))?;
+        all.push(mark_or_undo(role, turn, mark))
+            .expect(rt, "memory");
     }
-    Ok(all)
+    all
 }
 
 const MARKED_AND_UNDONE: &[Line] = &[Count(0, 500), Moves("")];
 
 #[test]
-fn serves_a_thousand_requests(rt: HostRuntime) -> Result<(), Fail> {
-    let alloc = rt.alloc();
-    let mut session = Session::open(alloc, types(alloc, A_TO_B_TO_C)?)?;
-    let requests = marks_and_undos(alloc, &session, 1_000)?;
-    let answers = session.serve_all(requests)?;
+fn serves_a_thousand_requests(rt: HostRuntime) {
+    let mut session = opened(&rt, types(&rt, A_TO_B_TO_C));
+    let requests = marks_and_undos(&rt, &session, 1_000);
+    let answers = session.serve_all(requests).expect(&rt, "memory");
     assert_eq!(rt; answers.len(), 1_000);
-    play(alloc, &mut session, MARKED_AND_UNDONE)
+    play(&rt, &mut session, MARKED_AND_UNDONE);
 }

@@ -3,73 +3,95 @@ use crate::steps::{A, Ask, B, C, Line, name, play};
 use mps_base::{Name, Role, Sort, VarName};
 use mps_global::{Branches, Global, GlobalFault, Protocol};
 use mps_session::*;
-use std::alloc;
-use std::test::Fail;
+use std::alloc::AllocGlobal;
+use std::process::Abort;
 
-fn variable(text: &str) -> Result<VarName, Fail> {
-    Ok(VarName::read(text.as_bytes()).ok_or("a variable")?)
+fn variable(rt: &impl Abort, text: &str) -> VarName {
+    VarName::read(text.as_bytes()).expect(rt, "a variable")
 }
 
 // One role gives another an int.
-pub(super) fn int(
-    alloc: alloc::Global,
-    from: &str,
-    to: &str,
-    next: Global,
-) -> Result<Global, Fail> {
-    let (from, to) = (name(from)?, name(to)?);
-    Ok(Global::message(alloc, from, to, Sort::Int, next)?)
+pub(super) fn int(rt: &(impl Abort + AllocGlobal), from: &str, to: &str, next: Global) -> Global {
+    let (from, to) = (name(rt, from), name(rt, to));
+    Global::message(rt.alloc(), from, to, Sort::Int, next).expect(rt, "memory")
 }
 
-fn looped(alloc: alloc::Global, text: &str, body: Global) -> Result<Global, Fail> {
-    Ok(Global::rec(alloc, variable(text)?, body)?)
+fn looped(rt: &(impl Abort + AllocGlobal), text: &str, body: Global) -> Global {
+    Global::rec(rt.alloc(), variable(rt, text), body).expect(rt, "memory")
+}
+
+// Where the loop X begins anew.
+fn again(rt: &impl Abort) -> Global {
+    Global::Var(variable(rt, "X"))
+}
+
+// The branch of the label in front of the others.
+fn more(rt: &(impl Abort + AllocGlobal), label: &str, next: Global, others: Branches) -> Branches {
+    Branches::more(rt.alloc(), name(rt, label), next, others).expect(rt, "memory")
+}
+
+// A role's choice between these branches.
+fn chosen(rt: &impl Abort, from: &str, to: &str, branches: Branches) -> Global {
+    Global::Choice {
+        sender: name(rt, from),
+        receiver: name(rt, to),
+        branches,
+    }
 }
 
 // One role chooses one of the labels. After the last comes `last`, after each other the end.
 pub(super) fn choice(
-    alloc: alloc::Global,
+    rt: &(impl Abort + AllocGlobal),
     from: &str,
     to: &str,
     labels: &[&str],
     last: Global,
-) -> Result<Global, Fail> {
+) -> Global {
     let mut branches = Branches::NoMore;
     let mut next = last;
     for label in labels.iter().rev() {
-        branches = Branches::more(alloc, name(label)?, next, branches)?;
+        branches = more(rt, label, next, branches);
         next = Global::End;
     }
-    let (sender, receiver) = (name(from)?, name(to)?);
-    Ok(Global::Choice {
-        sender,
-        receiver,
-        branches,
-    })
+    chosen(rt, from, to, branches)
 }
 
 // The names of these letters.
-pub(super) fn names(alloc: alloc::Global, letters: &[&str]) -> Result<Vec<Name>, Fail> {
-    let mut names = Vec::new(alloc);
+pub(super) fn names(rt: &(impl Abort + AllocGlobal), letters: &[&str]) -> Vec<Name> {
+    let mut names = Vec::new(rt.alloc());
     for text in letters {
-        names.push(name(text)?)?;
+        names.push(name(rt, text)).expect(rt, "memory");
     }
-    Ok(names)
+    names
+}
+
+// The protocol of these roles.
+pub(super) fn protocol(
+    rt: &(impl Abort + AllocGlobal),
+    letters: &[&str],
+    body: Global,
+) -> Protocol {
+    let roles = names(rt, letters);
+    Protocol { roles, body }
 }
 
 // Why the protocol of these roles isn't opened, None where it is.
-fn fault(
-    alloc: alloc::Global,
-    letters: &[&str],
-    body: Global,
-) -> Result<Option<ProtocolFault>, Fail> {
-    let roles = names(alloc, letters)?;
-    Ok(open_protocol(alloc, &Protocol { roles, body }).err())
+fn fault(rt: &(impl Abort + AllocGlobal), letters: &[&str], body: Global) -> Option<ProtocolFault> {
+    open_protocol(rt.alloc(), &protocol(rt, letters, body)).err()
+}
+
+// The lines come out as they are wanted in a new session of the protocol of so many roles.
+fn plays(rt: &(impl Abort + AllocGlobal), letters: &[&str], body: Global, lines: &[Line]) {
+    let protocol = protocol(rt, letters, body);
+    let mut session = open_protocol(rt.alloc(), &protocol).expect(rt, "a session");
+    assert_eq!(rt; session.roles(), letters.len());
+    play(rt, &mut session, lines);
 }
 
 // a gives b an int, b gives c one, and c tells a `ok` or `no`.
-fn relay(alloc: alloc::Global) -> Result<Global, Fail> {
-    let told = choice(alloc, "c", "a", &["ok", "no"], Global::End)?;
-    int(alloc, "a", "b", int(alloc, "b", "c", told)?)
+fn relay(rt: &(impl Abort + AllocGlobal)) -> Global {
+    let told = choice(rt, "c", "a", &["ok", "no"], Global::End);
+    int(rt, "a", "b", int(rt, "b", "c", told))
 }
 
 const RELAYED: &[Line] = &[
@@ -82,26 +104,15 @@ const RELAYED: &[Line] = &[
 ];
 
 #[test]
-fn opens_a_protocol(rt: HostRuntime) -> Result<(), Fail> {
-    let alloc = rt.alloc();
-    let roles = vec![in alloc; name("a")?, name("b")?, name("c")?]?;
-    let body = relay(alloc)?;
-    let mut session = open_protocol(alloc, &Protocol { roles, body })?;
-    play(alloc, &mut session, RELAYED)
+fn opens_a_protocol(rt: HostRuntime) {
+    plays(&rt, &["a", "b", "c"], relay(&rt), RELAYED);
 }
 
 // In a loop, a goes on or stops; at go, the eighth role gives it an int.
-fn looping(alloc: alloc::Global) -> Result<Global, Fail> {
-    let back = int(alloc, "h", "a", Global::Var(variable("X")?))?;
-    let branches = Branches::more(alloc, name("go")?, back, Branches::NoMore)?;
-    let branches = Branches::more(alloc, name("stop")?, Global::End, branches)?;
-    let (sender, receiver) = (name("a")?, name("h")?);
-    let body = Global::Choice {
-        sender,
-        receiver,
-        branches,
-    };
-    looped(alloc, "X", body)
+fn looping(rt: &(impl Abort + AllocGlobal)) -> Global {
+    let go = more(rt, "go", int(rt, "h", "a", again(rt)), Branches::NoMore);
+    let branches = more(rt, "stop", Global::End, go);
+    looped(rt, "X", chosen(rt, "a", "h", branches))
 }
 
 const EIGHT: &[&str] = &["a", "b", "c", "d", "e", "f", "g", "h"];
@@ -118,52 +129,62 @@ const LOOPED: &[Line] = &[
 ];
 
 #[test]
-fn opens_a_loop_of_eight_roles(rt: HostRuntime) -> Result<(), Fail> {
-    let alloc = rt.alloc();
-    let (roles, body) = (names(alloc, EIGHT)?, looping(alloc)?);
-    let mut session = open_protocol(alloc, &Protocol { roles, body })?;
-    assert_eq!(rt; session.roles(), 8);
-    play(alloc, &mut session, LOOPED)
+fn opens_a_loop_of_eight_roles(rt: HostRuntime) {
+    plays(&rt, EIGHT, looping(&rt), LOOPED);
 }
 
-// Whether the third of three roles has no type in the protocol, for the choice of that number.
-fn is_unmergeable(alloc: alloc::Global, body: Global, choice: usize) -> Result<bool, Fail> {
+// The third of three roles has no type in the protocol, for the choice of that number.
+fn is_unmergeable(rt: &(impl Abort + AllocGlobal), body: Global, choice: usize) {
     let role = Role::new(C);
-    let fault = fault(alloc, &["a", "b", "c"], body)?;
-    Ok(fault == Some(ProtocolFault::Unmergeable { role, choice }))
+    let found = fault(rt, &["a", "b", "c"], body);
+    assert_eq!(rt; found, Some(ProtocolFault::Unmergeable { role, choice }));
+}
+
+// An int from a to c behind the last of two labels, which a tells b.
+fn told_to_one(rt: &(impl Abort + AllocGlobal)) -> Global {
+    let told = int(rt, "a", "c", Global::End);
+    choice(rt, "a", "b", &["r", "l"], told)
+}
+
+// The same behind a choice in that choice, which b tells a.
+fn told_behind_two(rt: &(impl Abort + AllocGlobal)) -> Global {
+    let told = int(rt, "a", "c", Global::End);
+    let inner = choice(rt, "b", "a", &["p", "q"], told);
+    choice(rt, "a", "b", &["r", "l"], inner)
 }
 
 // The branches differ for c, which takes no part in the choice: at one, it gets an int.
 #[test]
-fn names_what_cannot_be_merged(rt: HostRuntime) -> Result<(), Fail> {
-    let told = int(rt.alloc(), "a", "c", Global::End)?;
-    let body = choice(rt.alloc(), "a", "b", &["r", "l"], told)?;
-    assert!(rt; is_unmergeable(rt.alloc(), body, 0)?);
-    let told = int(rt.alloc(), "a", "c", Global::End)?;
-    let inner = choice(rt.alloc(), "b", "a", &["p", "q"], told)?;
-    let outer = choice(rt.alloc(), "a", "b", &["r", "l"], inner)?;
-    assert!(rt; is_unmergeable(rt.alloc(), outer, 1)?);
-    Ok(())
+fn names_what_cannot_be_merged(rt: HostRuntime) {
+    is_unmergeable(&rt, told_to_one(&rt), 0);
+    is_unmergeable(&rt, told_behind_two(&rt), 1);
 }
 
 const SEVENTEEN: &[&str] = &[
     "a", "b", "c", "d", "e", "f", "g", "h", "i", "j", "k", "l", "m", "n", "o", "p", "q",
 ];
 
+// A loop in a loop of the same variable.
+fn shadowed(rt: &(impl Abort + AllocGlobal)) -> Global {
+    let inner = looped(rt, "X", int(rt, "a", "b", again(rt)));
+    looped(rt, "X", int(rt, "a", "b", inner))
+}
+
+// Two loops, one in the other, without an act.
+fn unguarded(rt: &(impl Abort + AllocGlobal)) -> Global {
+    looped(rt, "X", looped(rt, "Y", again(rt)))
+}
+
 // What two roles a and b say in a protocol that has that fault.
-fn faulty(alloc: alloc::Global, fault: GlobalFault) -> Result<Global, Fail> {
+fn faulty(rt: &(impl Abort + AllocGlobal), fault: GlobalFault) -> Global {
     match fault {
-        GlobalFault::UnknownRole => int(alloc, "a", "z", Global::End),
-        GlobalFault::SelfMessage => int(alloc, "a", "a", Global::End),
-        GlobalFault::DoubleLabel => choice(alloc, "a", "b", &["l", "l"], Global::End),
-        GlobalFault::TooManyBranches => choice(alloc, "a", "b", SEVENTEEN, Global::End),
-        GlobalFault::Unbound => int(alloc, "a", "b", Global::Var(variable("X")?)),
-        GlobalFault::Shadowed => {
-            let inner = int(alloc, "a", "b", Global::Var(variable("X")?))?;
-            let inner = looped(alloc, "X", inner)?;
-            looped(alloc, "X", int(alloc, "a", "b", inner)?)
-        }
-        _ => looped(alloc, "X", looped(alloc, "Y", Global::Var(variable("X")?))?),
+        GlobalFault::UnknownRole => int(rt, "a", "z", Global::End),
+        GlobalFault::SelfMessage => int(rt, "a", "a", Global::End),
+        GlobalFault::DoubleLabel => choice(rt, "a", "b", &["l", "l"], Global::End),
+        GlobalFault::TooManyBranches => choice(rt, "a", "b", SEVENTEEN, Global::End),
+        GlobalFault::Unbound => int(rt, "a", "b", again(rt)),
+        GlobalFault::Shadowed => shadowed(rt),
+        _ => unguarded(rt),
     }
 }
 
@@ -178,21 +199,18 @@ const FAULTS: &[GlobalFault] = &[
 ];
 
 #[test]
-fn names_the_fault(rt: HostRuntime) -> Result<(), Fail> {
+fn names_the_fault(rt: HostRuntime) {
     for wanted in FAULTS {
-        let body = faulty(rt.alloc(), *wanted)?;
-        let found = fault(rt.alloc(), &["a", "b"], body)?;
-        assert!(rt; found == Some(ProtocolFault::Global(*wanted)));
+        let found = fault(&rt, &["a", "b"], faulty(&rt, *wanted));
+        assert_eq!(rt; found, Some(ProtocolFault::Global(*wanted)));
     }
-    Ok(())
 }
 
 #[test]
-fn names_the_first_fault(rt: HostRuntime) -> Result<(), Fail> {
-    let body = int(rt.alloc(), "z", "z", Global::Var(variable("X")?))?;
+fn names_the_first_fault(rt: HostRuntime) {
     let unknown = ProtocolFault::Global(GlobalFault::UnknownRole);
-    assert_eq!(rt; fault(rt.alloc(), &["a", "b"], body)?, Some(unknown));
+    let body = int(&rt, "z", "z", again(&rt));
+    assert_eq!(rt; fault(&rt, &["a", "b"], body), Some(unknown));
     let double = ProtocolFault::Global(GlobalFault::DoubleRole);
-    assert_eq!(rt; fault(rt.alloc(), &["a", "a"], Global::End)?, Some(double));
-    Ok(())
+    assert_eq!(rt; fault(&rt, &["a", "a"], Global::End), Some(double));
 }

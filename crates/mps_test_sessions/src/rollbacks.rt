@@ -1,11 +1,12 @@
-use crate::choices::{giving, looping};
+use crate::choices::{ask_often, giving, looping};
+use crate::commits::play_giving;
 use crate::steps::Line::{Asks, Count, GoesBack, Keeps, Moves, RollsBack, Undoes, Waits};
 use crate::steps::{
-    A, A_TO_B_TO_C, Ask, B, C, FROM_A, Line, Row, TO_B, answer, play, play_anew, role_of,
+    A, A_TO_B_TO_C, Ask, B, C, FROM_A, Line, Row, TO_B, opened, play, play_anew, role_of,
 };
 use mps_base::{Sort, StepId};
 use mps_session::*;
-use std::test::Fail;
+use std::process::Abort;
 
 const D: u8 = 3;
 
@@ -49,11 +50,10 @@ const WHOSE: &[Line] = &[
 const RELAYED: &[&[Line]] = &[ALL, ALL_BUT_THE_SEND, WHOSE];
 
 #[test]
-fn rolls_back_in_a_relay(rt: HostRuntime) -> Result<(), Fail> {
+fn rolls_back_in_a_relay(rt: HostRuntime) {
     for lines in RELAYED {
-        play_anew(rt.alloc(), A_TO_B_TO_C, lines)?;
+        play_anew(&rt, A_TO_B_TO_C, lines);
     }
-    Ok(())
 }
 
 pub(super) const TWO_PAIRS: &[&[Row]] = &[
@@ -74,8 +74,8 @@ const STRANGERS_STAY: &[Line] = &[
 ];
 
 #[test]
-fn leaves_strangers(rt: HostRuntime) -> Result<(), Fail> {
-    play_anew(rt.alloc(), TWO_PAIRS, STRANGERS_STAY)
+fn leaves_strangers(rt: HostRuntime) {
+    play_anew(&rt, TWO_PAIRS, STRANGERS_STAY);
 }
 
 const TO_THE_MARK: &[Line] = &[
@@ -111,12 +111,10 @@ const TO_THE_LAST_MARK: &[Line] = &[
 const MARKED: &[&[Line]] = &[TO_THE_MARK, TO_THE_LAST_MARK];
 
 #[test]
-fn goes_back_to_marks(rt: HostRuntime) -> Result<(), Fail> {
+fn goes_back_to_marks(rt: HostRuntime) {
     for lines in MARKED {
-        let mut session = Session::open(rt.alloc(), giving(rt.alloc())?)?;
-        play(rt.alloc(), &mut session, lines)?;
+        play_giving(&rt, lines);
     }
-    Ok(())
 }
 
 const OTHER_BRANCH: &[Line] = &[
@@ -133,9 +131,9 @@ const OTHER_BRANCH: &[Line] = &[
 ];
 
 #[test]
-fn rolls_back_choices(rt: HostRuntime) -> Result<(), Fail> {
-    let mut session = Session::open(rt.alloc(), looping(rt.alloc())?)?;
-    play(rt.alloc(), &mut session, OTHER_BRANCH)
+fn rolls_back_choices(rt: HostRuntime) {
+    let mut session = opened(&rt, looping(&rt));
+    play(&rt, &mut session, OTHER_BRANCH);
 }
 
 const HALF: &[Line] = &[
@@ -144,17 +142,28 @@ const HALF: &[Line] = &[
     Count(500, 1000),
 ];
 
-#[test]
-fn rolls_back_many_steps(rt: HostRuntime) -> Result<(), Fail> {
-    let mut session = Session::open(rt.alloc(), giving(rt.alloc())?)?;
-    for _ in 0..1000 {
-        let _ = answer(rt.alloc(), &mut session, A, Ask::Send(B, "1"))?;
+// Whether there are 500 numbers, from 1000 down to 501.
+fn are_upper_half(ids: &StepIds) -> bool {
+    match ids.as_slice() {
+        [first, .., last] => {
+            ids.as_slice().len() == 500 && first.number() == 1000 && last.number() == 501
+        }
+        _ => false,
     }
-    let role = role_of(&session, A)?;
-    let gone = session.rollback(role, StepId::new(501))?;
-    let numbers = gone.as_slice();
-    assert_eq!(rt; numbers.len(), 500);
-    assert!(rt; numbers.first().is_some_and(|id| id.number() == 1000));
-    assert!(rt; numbers.last().is_some_and(|id| id.number() == 501));
-    play(rt.alloc(), &mut session, HALF)
+}
+
+// Whether a takes the upper half of its thousand steps back.
+fn takes_half_back(rt: &impl Abort, session: &mut Session) -> bool {
+    match session.rollback(role_of(rt, session, A), StepId::new(501)) {
+        Ok(ids) => are_upper_half(&ids),
+        Err(_) => false,
+    }
+}
+
+#[test]
+fn rolls_back_many_steps(rt: HostRuntime) {
+    let mut session = opened(&rt, giving(&rt));
+    ask_often(&rt, &mut session, A, Ask::Send(B, "1"), 1000);
+    assert!(rt; takes_half_back(&rt, &mut session));
+    play(&rt, &mut session, HALF);
 }

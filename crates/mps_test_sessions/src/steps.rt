@@ -1,10 +1,10 @@
-ghost use Rattle.std.specs.Prelude.{◌<◌, length, IfOk};
+ghost use Rattle.std.specs.Prelude.{◌<◌, length};
 
 use mps_base::{Act, Message, Name, Role, Sort, StepId, Value};
 use mps_local::Local;
 use mps_session::*;
-use std::alloc::Global;
-use std::test::Fail;
+use std::alloc::AllocGlobal;
+use std::process::Abort;
 
 // The roles by their places.
 pub(super) const A: u8 = 0;
@@ -13,8 +13,8 @@ pub(super) const B: u8 = 1;
 
 pub(super) const C: u8 = 2;
 
-pub(super) fn name(text: &str) -> Result<Name, Fail> {
-    Ok(Name::read(text.as_bytes()).ok_or("a name")?)
+pub(super) fn name(rt: &impl Abort, text: &str) -> Name {
+    Name::read(text.as_bytes()).expect(rt, "a name")
 }
 
 // What a role asks for, with the peer's place.
@@ -28,181 +28,245 @@ pub(super) enum Ask {
     Commit,
 }
 
+// The value that is spelled so.
+fn value(rt: &(impl Abort + AllocGlobal), text: &str) -> Value {
+    Value::read(rt.alloc(), text.as_bytes()).expect(rt, "a value")
+}
+
 // The command that is asked for.
-pub(super) fn command(alloc: Global, ask: Ask) -> Result<Forward, Fail> {
-    Ok(match ask {
-        Ask::Send(to, value) => Forward::Send {
+pub(super) fn command(rt: &(impl Abort + AllocGlobal), ask: Ask) -> Forward {
+    match ask {
+        Ask::Send(to, text) => Forward::Send {
             to: Role::new(to),
-            value: Value::read(alloc, value.as_bytes())?,
+            value: value(rt, text),
         },
         Ask::Choose(to, label) => Forward::Choose {
             to: Role::new(to),
-            label: name(label)?,
+            label: name(rt, label),
         },
         Ask::Receive(from, slot) => Forward::Receive {
             from: Role::new(from),
-            slot: name(slot)?,
+            slot: name(rt, slot),
         },
         Ask::Pick(from) => Forward::Pick {
             from: Role::new(from),
         },
-        Ask::Mark(mark) => Forward::Mark { name: name(mark)? },
+        Ask::Mark(mark) => Forward::Mark {
+            name: name(rt, mark),
+        },
         Ask::Commit => Forward::Commit,
-    })
+    }
 }
 
 // The role at this place, which the session has.
-pub(super) fn role_of(session: &Session, place: u8) -> Result<Role, Fail>
-    ensures { IfOk result (λ role. role < length session.now.types) }
+pub(super) fn role_of(rt: &impl Abort, session: &Session, place: u8) -> Role
+    ensures { result < length session.now.types }
 {
     let role = Role::new(place);
-    if role.index() < session.roles() {
-        Ok(role)
-    } else {
-        Err("a role".into())
-    }
+    assert!(rt; role.index() < session.roles(), "a role");
+    role
+}
+
+// The text that the value is written as.
+fn spelled(rt: &(impl Abort + AllocGlobal), value: &Value) -> String {
+    let mut bytes = Vec::new(rt.alloc());
+    value.write(&mut bytes).expect(rt, "memory");
+    String::from_utf8(bytes).expect(rt, "a text")
+}
+
+// The text of these bytes.
+pub(super) fn text(rt: &(impl Abort + AllocGlobal), bytes: &[u8]) -> String {
+    let bytes = Vec::from_slice(rt.alloc(), bytes).expect(rt, "memory");
+    String::from_utf8(bytes).expect(rt, "a text")
 }
 
 // What a message says, as it is written, and a dash where there is none.
-fn written(alloc: Global, message: Option<&Message>) -> Result<String, Fail> {
-    let mut bytes = Vec::new(alloc);
+fn written(rt: &(impl Abort + AllocGlobal), message: Option<&Message>) -> String {
     match message {
-        Some(Message::Value(value)) => value.write(&mut bytes)?,
-        Some(Message::Label(label)) => bytes.extend_from_slice(label.as_bytes())?,
-        None => bytes.push(b'-')?,
+        Some(Message::Value(value)) => spelled(rt, value),
+        Some(Message::Label(label)) => text(rt, label.as_bytes()),
+        None => text(rt, b"-"),
     }
-    Ok(String::from_utf8(bytes)?)
+}
+
+// A step that was taken: its number and what it took.
+fn done(rt: &(impl Abort + AllocGlobal), done: &Done) -> String {
+    let number = done.id.number();
+    let got = written(rt, done.got.as_ref());
+    format!(in rt.alloc(); "{number} {got}").expect(rt, "memory")
+}
+
+// The refusal of a step.
+fn refusal(rt: &(impl Abort + AllocGlobal), refusal: Refusal) -> String {
+    let shown = match refusal {
+        Refusal::Violation(fault) => format!(in rt.alloc(); "{fault:?}"),
+        _ => format!(in rt.alloc(); "{refusal:?}"),
+    };
+    shown.expect(rt, "memory")
 }
 
 // What a role is answered: the step's number and what it took, or the refusal.
-pub(super) fn told(alloc: Global, answer: Result<Done, Refusal>) -> Result<String, Fail> {
+pub(super) fn told(rt: &(impl Abort + AllocGlobal), answer: &Result<Done, Refusal>) -> String {
     match answer {
-        Err(Refusal::Violation(fault)) => Ok(format!(in alloc; "{fault:?}")?),
-        Err(refusal) => Ok(format!(in alloc; "{refusal:?}")?),
-        Ok(done) => {
-            let number = done.id.number();
-            let got = written(alloc, done.got.as_ref())?;
-            Ok(format!(in alloc; "{number} {got}")?)
-        }
+        Ok(taken) => done(rt, taken),
+        Err(fault) => refusal(rt, *fault),
     }
 }
 
 // What the role at this place is answered.
 pub(super) fn answer(
-    alloc: Global,
+    rt: &(impl Abort + AllocGlobal),
     session: &mut Session,
     place: u8,
     ask: Ask,
-) -> Result<String, Fail> {
-    let command = command(alloc, ask)?;
-    let role = role_of(session, place)?;
-    told(alloc, session.forward(role, command))
+) -> String {
+    let role = role_of(rt, session, place);
+    told(rt, &session.forward(role, command(rt, ask)))
 }
 
 // The refusal of an undo or a rollback, and the step that is in its way.
-fn refused(alloc: Global, refusal: Refusal) -> Result<String, Fail> {
-    match refusal {
-        Refusal::Final { by } => {
-            let by = by.number();
-            Ok(format!(in alloc; "Final {by}")?)
-        }
-        Refusal::Needed { by } => {
-            let by = by.number();
-            Ok(format!(in alloc; "Needed {by}")?)
-        }
-        _ => Ok(format!(in alloc; "{refusal:?}")?),
-    }
+fn refused(rt: &(impl Abort + AllocGlobal), refusal: Refusal) -> String {
+    let shown = match refusal {
+        Refusal::Final { by } => format!(in rt.alloc(); "Final {}", by.number()),
+        Refusal::Needed { by } => format!(in rt.alloc(); "Needed {}", by.number()),
+        _ => format!(in rt.alloc(); "{refusal:?}"),
+    };
+    shown.expect(rt, "memory")
 }
 
 // What the role at this place is answered where it takes the step of that number back.
 pub(super) fn undone(
-    alloc: Global,
+    rt: &(impl Abort + AllocGlobal),
     session: &mut Session,
     place: u8,
     number: u64,
-) -> Result<String, Fail> {
-    let role = role_of(session, place)?;
+) -> String {
+    let role = role_of(rt, session, place);
     match session.undo(role, StepId::new(number)).err() {
-        Some(refusal) => refused(alloc, refusal),
-        None => Ok(format!(in alloc; "Ok")?),
+        Some(refusal) => refused(rt, refusal),
+        None => text(rt, b"Ok"),
     }
 }
 
+// The numbers of the steps that were taken back.
+fn numbers(rt: &(impl Abort + AllocGlobal), ids: &StepIds) -> String {
+    let mut all = String::new(rt.alloc());
+    for id in ids.as_slice() {
+        let one = format!(in rt.alloc(); "{} ", id.number()).expect(rt, "memory");
+        all.push_str(one.as_str()).expect(rt, "memory");
+    }
+    all
+}
+
 // The numbers of the steps that were taken back, or the refusal.
-pub(super) fn gone(alloc: Global, answer: Result<StepIds, Refusal>) -> Result<String, Fail> {
-    let mut all = format!(in alloc; "")?;
+pub(super) fn gone(rt: &(impl Abort + AllocGlobal), answer: &Result<StepIds, Refusal>) -> String {
     match answer {
-        Ok(ids) => {
-            for id in ids.as_slice() {
-                let number = id.number();
-                all = format!(in alloc; "{all}{number} ")?;
-            }
-            Ok(all)
-        }
-        Err(refusal) => refused(alloc, refusal),
+        Ok(ids) => numbers(rt, ids),
+        Err(refusal) => refused(rt, *refusal),
     }
 }
 
 // What the role at this place is answered where it takes the step of that number back with all that
 // depend on it.
 fn rolled_back(
-    alloc: Global,
+    rt: &(impl Abort + AllocGlobal),
     session: &mut Session,
     place: u8,
     number: u64,
-) -> Result<String, Fail> {
-    let role = role_of(session, place)?;
-    gone(alloc, session.rollback(role, StepId::new(number)))
+) -> String {
+    let role = role_of(rt, session, place);
+    gone(rt, &session.rollback(role, StepId::new(number)))
 }
 
 // What the role at this place is answered where it goes back to the mark.
-fn went_back(alloc: Global, session: &mut Session, place: u8, mark: &str) -> Result<String, Fail> {
-    let role = role_of(session, place)?;
-    gone(alloc, session.back(role, &name(mark)?))
+fn went_back(
+    rt: &(impl Abort + AllocGlobal),
+    session: &mut Session,
+    place: u8,
+    mark: &str,
+) -> String {
+    let role = role_of(rt, session, place);
+    gone(rt, &session.back(role, &name(rt, mark)))
 }
 
 // The value that the role keeps in the slot, and a dash where the slot is empty.
-fn kept(alloc: Global, session: &Session, place: u8, slot: &str) -> Result<String, Fail> {
-    let role = role_of(session, place)?;
-    let mut bytes = Vec::new(alloc);
-    match session.slot(role, &name(slot)?) {
-        Some(value) => value.write(&mut bytes)?,
-        None => bytes.push(b'-')?,
+fn kept(rt: &(impl Abort + AllocGlobal), session: &Session, place: u8, slot: &str) -> String {
+    let role = role_of(rt, session, place);
+    match session.slot(role, &name(rt, slot)) {
+        Some(value) => spelled(rt, value),
+        None => text(rt, b"-"),
     }
-    Ok(String::from_utf8(bytes)?)
 }
 
-// The k-th step that survives: its number, its role, what it did and the peer, and what it gave,
-// the slot, or the mark.
-fn step(alloc: Global, session: &Session, k: usize) -> Result<String, Fail> {
-    let Some((id, role, act)) = session.step(k) else {
-        return Ok(format!(in alloc; "-")?);
-    };
-    let (did, peer, what) = match act {
-        Act::Out { to, message } => ("gave", to.index(), written(alloc, Some(message))?),
-        Act::In { from, slot } => {
-            let slot = slot.map(Message::Label);
-            ("took", from.index(), written(alloc, slot.as_ref())?)
-        }
-        Act::Mark(name) => {
-            let name = Message::Label(*name);
-            ("left", role.index(), written(alloc, Some(&name))?)
-        }
-        Act::Commit => ("settled", role.index(), written(alloc, None)?),
-    };
-    let (id, role) = (id.number(), role.index());
-    Ok(format!(in alloc; "{id} {role} {did} {peer} {what}")?)
+// The message that waits from one role to another at that place, and a dash where none does.
+fn waiting(
+    rt: &(impl Abort + AllocGlobal),
+    session: &Session,
+    from: u8,
+    to: u8,
+    k: usize,
+) -> String {
+    written(rt, session.message(Role::new(from), Role::new(to), k))
+}
+
+// What a name says, and a dash where there is none.
+fn named(rt: &(impl Abort + AllocGlobal), name: Option<&Name>) -> String {
+    match name {
+        Some(name) => text(rt, name.as_bytes()),
+        None => text(rt, b"-"),
+    }
+}
+
+// The word for an act of the role, and the place of the peer.
+fn deed(role: Role, act: &Act) -> (&'static str, usize) {
+    match act {
+        Act::Out { to, .. } => ("gave", to.index()),
+        Act::In { from, .. } => ("took", from.index()),
+        Act::Mark(_) => ("left", role.index()),
+        Act::Commit => ("settled", role.index()),
+    }
+}
+
+// What an act gave, its slot, or its mark.
+fn moved_by(rt: &(impl Abort + AllocGlobal), act: &Act) -> String {
+    match act {
+        Act::Out { message, .. } => written(rt, Some(message)),
+        Act::In { slot, .. } => named(rt, slot.as_ref()),
+        Act::Mark(mark) => named(rt, Some(mark)),
+        Act::Commit => named(rt, None),
+    }
+}
+
+// A step: its number, its role, what it did and the peer, and what it gave, the slot, or the mark.
+fn shown(rt: &(impl Abort + AllocGlobal), id: StepId, role: Role, act: &Act) -> String {
+    let (did, peer) = deed(role, act);
+    let what = moved_by(rt, act);
+    let (number, place) = (id.number(), role.index());
+    format!(in rt.alloc(); "{number} {place} {did} {peer} {what}").expect(rt, "memory")
+}
+
+// The k-th step that survives, and a dash where there is none.
+fn step(rt: &(impl Abort + AllocGlobal), session: &Session, k: usize) -> String {
+    match session.step(k) {
+        Some((id, role, act)) => shown(rt, id, role, act),
+        None => text(rt, b"-"),
+    }
+}
+
+// A number, and the message that its step moved.
+fn one_moved(rt: &(impl Abort + AllocGlobal), id: StepId, message: Option<&Message>) -> String {
+    let (number, message) = (id.number(), written(rt, message));
+    format!(in rt.alloc(); "{number} {message}; ").expect(rt, "memory")
 }
 
 // The number of each step, with the message that it moved.
-fn moved(alloc: Global, session: &Session) -> Result<String, Fail> {
-    let mut all = format!(in alloc; "")?;
+fn moved(rt: &(impl Abort + AllocGlobal), session: &Session) -> String {
+    let mut all = String::new(rt.alloc());
     for (step, message) in session.moves() {
-        let number = step.id.number();
-        let message = written(alloc, message)?;
-        all = format!(in alloc; "{all}{number} {message}; ")?;
+        all.push_str(one_moved(rt, step.id, message).as_str())
+            .expect(rt, "memory");
     }
-    Ok(all)
+    all
 }
 
 // What is done to a session or looked up in it, with what comes of it.
@@ -230,67 +294,76 @@ pub(super) enum Line {
 
 use Line::{Asks, Count, GoesBack, Keeps, Moves, RollsBack, Step, Undoes, Waits};
 
-// What comes of the line, and what is wanted.
-fn outcome(
-    alloc: Global,
-    session: &mut Session,
-    line: Line,
-) -> Result<(String, &'static str), Fail> {
-    Ok(match line {
-        Asks(place, ask, wanted) => (answer(alloc, session, place, ask)?, wanted),
-        Undoes(place, number, wanted) => (undone(alloc, session, place, number)?, wanted),
-        RollsBack(place, number, wanted) => (rolled_back(alloc, session, place, number)?, wanted),
-        GoesBack(place, mark, wanted) => (went_back(alloc, session, place, mark)?, wanted),
-        Waits(from, to, k, wanted) => {
-            let message = session.message(Role::new(from), Role::new(to), k);
-            (written(alloc, message)?, wanted)
-        }
-        Keeps(place, slot, wanted) => (kept(alloc, session, place, slot)?, wanted),
-        Step(k, wanted) => (step(alloc, session, k)?, wanted),
-        Moves(wanted) => (moved(alloc, session)?, wanted),
-        Count(steps, numbers) => {
-            let same = session.len() == steps && session.issued() == numbers;
-            (format!(in alloc; "{same}")?, "true")
-        }
-    })
+// The text is the one that is wanted.
+fn is_told(rt: &impl Abort, found: String, wanted: &str) {
+    assert!(rt; found.as_str() == wanted, "{found} for {wanted}");
 }
 
-// Whether each line comes out as it is wanted.
-pub(super) fn play(alloc: Global, session: &mut Session, lines: &[Line]) -> Result<(), Fail> {
-    for line in lines {
-        let (found, wanted) = outcome(alloc, session, *line)?;
-        if found.as_str() != wanted {
-            return Err(Fail::from(format!(in alloc; "{found} for {wanted}")?));
+// The line comes out as it is wanted.
+fn play_line(rt: &(impl Abort + AllocGlobal), session: &mut Session, line: Line) {
+    match line {
+        Asks(place, ask, wanted) => is_told(rt, answer(rt, session, place, ask), wanted),
+        Undoes(place, id, wanted) => is_told(rt, undone(rt, session, place, id), wanted),
+        RollsBack(place, id, wanted) => is_told(rt, rolled_back(rt, session, place, id), wanted),
+        GoesBack(place, mark, wanted) => is_told(rt, went_back(rt, session, place, mark), wanted),
+        Waits(from, to, k, wanted) => is_told(rt, waiting(rt, session, from, to, k), wanted),
+        Keeps(place, slot, wanted) => is_told(rt, kept(rt, session, place, slot), wanted),
+        Step(k, wanted) => is_told(rt, step(rt, session, k), wanted),
+        Moves(wanted) => is_told(rt, moved(rt, session), wanted),
+        Count(steps, numbers) => {
+            assert_eq!(rt; (session.len(), session.issued()), (steps, numbers));
         }
     }
-    Ok(())
+}
+
+// Each line comes out as it is wanted.
+pub(super) fn play(rt: &(impl Abort + AllocGlobal), session: &mut Session, lines: &[Line]) {
+    for line in lines {
+        play_line(rt, session, *line);
+    }
+}
+
+// A new session of these types.
+pub(super) fn opened(rt: &(impl Abort + AllocGlobal), types: Vec<Local>) -> Session {
+    Session::open(rt.alloc(), types).expect(rt, "a session")
 }
 
 // An output (at true) or an input of a type, with the peer and the sort.
 pub(super) type Row = (bool, u8, Sort);
 
-// The types of these rows, the first role's first.
-pub(super) fn types(alloc: Global, rows: &[&[Row]]) -> Result<Vec<Local>, Fail> {
-    let mut types = Vec::new(alloc);
-    for row in rows {
-        let mut t = Local::End;
-        for (sends, peer, sort) in row.iter().rev() {
-            let peer = Role::new(*peer);
-            t = if *sends {
-                Local::send(alloc, peer, *sort, t)?
-            } else {
-                Local::recv(alloc, peer, *sort, t)?
-            };
-        }
-        types.push(t)?;
+// The act of the row in front of `next`.
+fn in_front(rt: &(impl Abort + AllocGlobal), row: &Row, next: Local) -> Local {
+    let peer = Role::new(row.1);
+    let made = if row.0 {
+        Local::send(rt.alloc(), peer, row.2, next)
+    } else {
+        Local::recv(rt.alloc(), peer, row.2, next)
+    };
+    made.expect(rt, "memory")
+}
+
+// The type of these rows.
+fn type_of(rt: &(impl Abort + AllocGlobal), rows: &[Row]) -> Local {
+    let mut t = Local::End;
+    for row in rows.iter().rev() {
+        t = in_front(rt, row, t);
     }
-    Ok(types)
+    t
+}
+
+// The types of these rows, the first role's first.
+pub(super) fn types(rt: &(impl Abort + AllocGlobal), rows: &[&[Row]]) -> Vec<Local> {
+    let mut types = Vec::new(rt.alloc());
+    for row in rows {
+        types.push(type_of(rt, row)).expect(rt, "memory");
+    }
+    types
 }
 
 // Plays the lines on a new session of the types of these rows.
-pub(super) fn play_anew(alloc: Global, rows: &[&[Row]], lines: &[Line]) -> Result<(), Fail> {
-    let mut session = Session::open(alloc, types(alloc, rows)?)?;
-    play(alloc, &mut session, lines)
+pub(super) fn play_anew(rt: &(impl Abort + AllocGlobal), rows: &[&[Row]], lines: &[Line]) {
+    let mut session = opened(rt, types(rt, rows));
+    play(rt, &mut session, lines);
 }
 
 pub(super) const A_TO_B_TO_C: &[&[Row]] = &[
@@ -331,8 +404,8 @@ const RELAY: &[Line] = &[
 ];
 
 #[test]
-fn relays(rt: HostRuntime) -> Result<(), Fail> {
-    play_anew(rt.alloc(), A_TO_B_TO_C, RELAY)
+fn relays(rt: HostRuntime) {
+    play_anew(&rt, A_TO_B_TO_C, RELAY);
 }
 
 const REFUSALS: &[Line] = &[
@@ -355,8 +428,8 @@ const REFUSALS: &[Line] = &[
 ];
 
 #[test]
-fn refuses(rt: HostRuntime) -> Result<(), Fail> {
-    play_anew(rt.alloc(), A_TO_B_TO_C, REFUSALS)
+fn refuses(rt: HostRuntime) {
+    play_anew(&rt, A_TO_B_TO_C, REFUSALS);
 }
 
 const UNFITTING: &[&[Row]] = &[&[(true, B, Sort::Int)], &[(false, A, Sort::Bool)]];
@@ -370,8 +443,8 @@ const MISMATCH: &[Line] = &[
 ];
 
 #[test]
-fn refuses_a_message_of_another_sort(rt: HostRuntime) -> Result<(), Fail> {
-    play_anew(rt.alloc(), UNFITTING, MISMATCH)
+fn refuses_a_message_of_another_sort(rt: HostRuntime) {
+    play_anew(&rt, UNFITTING, MISMATCH);
 }
 
 const EACH_SORT: &[&[Row]] = &[
@@ -404,8 +477,8 @@ const VALUES: &[Line] = &[
 ];
 
 #[test]
-fn carries_values_of_each_sort(rt: HostRuntime) -> Result<(), Fail> {
-    play_anew(rt.alloc(), EACH_SORT, VALUES)
+fn carries_values_of_each_sort(rt: HostRuntime) {
+    play_anew(&rt, EACH_SORT, VALUES);
 }
 
 pub(super) const TO_B: Row = (true, B, Sort::Int);
@@ -434,8 +507,8 @@ const AGAIN: &[Line] = &[
 ];
 
 #[test]
-fn binds_a_slot_again(rt: HostRuntime) -> Result<(), Fail> {
-    play_anew(rt.alloc(), THREE, AGAIN)
+fn binds_a_slot_again(rt: HostRuntime) {
+    play_anew(&rt, THREE, AGAIN);
 }
 
 const MARKS: &[Line] = &[
@@ -451,16 +524,8 @@ const MARKS: &[Line] = &[
 ];
 
 #[test]
-fn marks(rt: HostRuntime) -> Result<(), Fail> {
-    play_anew(rt.alloc(), A_TO_B_TO_C, MARKS)
-}
-
-// Why no session can be opened with the types.
-fn open_fault(alloc: Global, types: Vec<Local>) -> Result<Option<OpenFault>, Fail> {
-    match Session::open(alloc, types) {
-        Err(OpenFault::Memory) => Err(OpenFault::Memory.into()),
-        opened => Ok(opened.err()),
-    }
+fn marks(rt: HostRuntime) {
+    play_anew(&rt, A_TO_B_TO_C, MARKS);
 }
 
 // What comes of opening a session: a fault names the place of a role.
@@ -472,25 +537,25 @@ pub(super) enum Opening {
     Fault(u8, LocalFault),
 }
 
-// Whether that comes of opening a session with the types.
-pub(super) fn opens_so(alloc: Global, types: Vec<Local>, wanted: Opening) -> Result<bool, Fail> {
-    let fault = open_fault(alloc, types)?;
-    Ok(match wanted {
-        Opening::Opened => fault.is_none(),
-        Opening::RoleCount => fault == Some(OpenFault::RoleCount),
-        Opening::BadPeer(place) => {
-            let role = Role::new(place);
-            fault == Some(OpenFault::BadPeer { role })
-        }
-        Opening::Fault(place, fault_of_type) => {
-            let role = Role::new(place);
-            let fault_of_role = OpenFault::Local {
-                role,
-                fault: fault_of_type,
-            };
-            fault == Some(fault_of_role)
-        }
-    })
+// The fault of the opening, if it has one.
+fn fault_of(opening: Opening) -> Option<OpenFault> {
+    match opening {
+        Opening::Opened => None,
+        Opening::RoleCount => Some(OpenFault::RoleCount),
+        Opening::BadPeer(place) => Some(OpenFault::BadPeer {
+            role: Role::new(place),
+        }),
+        Opening::Fault(place, fault) => Some(OpenFault::Local {
+            role: Role::new(place),
+            fault,
+        }),
+    }
+}
+
+// That comes of opening a session with the types.
+pub(super) fn opens_so(rt: &(impl Abort + AllocGlobal), types: Vec<Local>, wanted: Opening) {
+    let fault = Session::open(rt.alloc(), types).err();
+    assert!(rt; fault == fault_of(wanted));
 }
 
 const END: &[Row] = &[];
@@ -512,10 +577,8 @@ const OPENINGS: &[(&[&[Row]], Opening)] = &[
 ];
 
 #[test]
-fn opens(rt: HostRuntime) -> Result<(), Fail> {
+fn opens(rt: HostRuntime) {
     for (rows, wanted) in OPENINGS {
-        let types = types(rt.alloc(), rows)?;
-        assert!(rt; opens_so(rt.alloc(), types, *wanted)?);
+        opens_so(&rt, types(&rt, rows), *wanted);
     }
-    Ok(())
 }

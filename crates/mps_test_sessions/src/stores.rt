@@ -136,22 +136,43 @@ const LETTERS: &[&str] = &[
     "t", "u", "v",
 ];
 
+// Binds a slot that was not bound.
+fn binds(rt: &impl Abort, stores: &mut Stores, role: Role, letters: &str, key: Key)
+    requires { role < 8 }
+{
+    let was = stores
+        .bind(role, &name(rt, letters), key)
+        .expect(rt, "memory");
+    assert!(rt; was.is_none());
+}
+
+// The slot is bound to the key.
+fn is_bound(rt: &impl Abort, stores: &Stores, role: Role, letters: &str, key: Option<Key>)
+    requires { role < 8 }
+{
+    assert!(rt; stores.get(role, &name(rt, letters)) == key);
+}
+
+// Takes the slot's binding back.
+fn unbinds(rt: &impl Abort, stores: &mut Stores, role: Role, letters: &str)
+    requires { role < 8 }
+{
+    stores.unbind(role, &name(rt, letters), None);
+    is_bound(rt, stores, role, letters, None);
+}
+
 #[test]
 fn has_room_for_many_slots(rt: HostRuntime) {
     let keys = some_keys(&rt, 22);
     let role = Role::new(7);
     let mut stores = Stores::new(rt.alloc()).expect(&rt, "memory");
     for (letters, key) in LETTERS.iter().zip(&keys) {
-        let was = stores
-            .bind(role, &name(&rt, letters), *key)
-            .expect(&rt, "memory");
-        assert!(rt; was.is_none());
+        binds(&rt, &mut stores, role, letters, *key);
     }
-    assert!(rt; stores.get(role, &name(&rt, "a")) == key_at(&rt, &keys, Some(0)));
-    assert!(rt; stores.get(role, &name(&rt, "v")) == key_at(&rt, &keys, Some(21)));
+    is_bound(&rt, &stores, role, "a", key_at(&rt, &keys, Some(0)));
+    is_bound(&rt, &stores, role, "v", key_at(&rt, &keys, Some(21)));
     for letters in LETTERS.iter().rev() {
-        stores.unbind(role, &name(&rt, letters), None);
-        assert!(rt; stores.get(role, &name(&rt, letters)).is_none());
+        unbinds(&rt, &mut stores, role, letters);
     }
     assert_eq!(rt; stores.entries(role).len(), 0);
 }

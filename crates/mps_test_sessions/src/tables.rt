@@ -153,9 +153,13 @@ enum Shown<'a> {
 type Row = (&'static [Option<usize>], Shown<'static>);
 
 // Whether these are the labels.
-fn are_labels(labels: &[Name], texts: &[&str]) -> bool {
-    let mut pairs = labels.iter().zip(texts);
-    labels.len() == texts.len() && pairs.all(|(label, text)| label.is_spelled(text.as_bytes()))
+pub(super) fn are_labels(labels: &[Name], texts: &[&str]) -> bool {
+    for (label, text) in labels.iter().zip(texts) {
+        if !label.is_spelled(text.as_bytes()) {
+            return false;
+        }
+    }
+    labels.len() == texts.len()
 }
 
 // Whether what is expected is shown so.

@@ -1,11 +1,12 @@
-use crate::choices::{giving, looping};
+use crate::choices::{ask_often, giving, looping};
+use crate::commits::play_giving;
 use crate::steps::Line::{Asks, Count, Keeps, Moves, Undoes, Waits};
 use crate::steps::{
-    A, A_TO_B_TO_C, Ask, B, C, FROM_A, Line, Row, TO_B, answer, play, play_anew, undone,
+    A, A_TO_B_TO_C, Ask, B, C, FROM_A, Line, Row, TO_B, answer, opened, play, play_anew, undone,
 };
 use mps_session::*;
-use std::alloc::Global;
-use std::test::Fail;
+use std::alloc::AllocGlobal;
+use std::process::Abort;
 
 const WAITS_FOR_THE_RECEIPT: &[Line] = &[
     Asks(A, Ask::Send(B, "5"), "1 -"),
@@ -42,11 +43,10 @@ const BY_NAME: &[Line] = &[
 const RELAYED: &[&[Line]] = &[WAITS_FOR_THE_RECEIPT, BY_NAME];
 
 #[test]
-fn undoes_in_a_relay(rt: HostRuntime) -> Result<(), Fail> {
+fn undoes_in_a_relay(rt: HostRuntime) {
     for lines in RELAYED {
-        play_anew(rt.alloc(), A_TO_B_TO_C, lines)?;
+        play_anew(&rt, A_TO_B_TO_C, lines);
     }
-    Ok(())
 }
 
 const TWICE: &[&[Row]] = &[&[TO_B, TO_B], &[FROM_A, FROM_A]];
@@ -112,11 +112,10 @@ const GIVEN_TWICE: &[&[Line]] = &[
 ];
 
 #[test]
-fn undoes_of_two_messages(rt: HostRuntime) -> Result<(), Fail> {
+fn undoes_of_two_messages(rt: HostRuntime) {
     for lines in GIVEN_TWICE {
-        play_anew(rt.alloc(), TWICE, lines)?;
+        play_anew(&rt, TWICE, lines);
     }
-    Ok(())
 }
 
 const OTHER_BRANCH: &[Line] = &[
@@ -139,45 +138,45 @@ const OTHER_BRANCH: &[Line] = &[
 ];
 
 #[test]
-fn undoes_choices_and_marks(rt: HostRuntime) -> Result<(), Fail> {
-    let mut session = Session::open(rt.alloc(), looping(rt.alloc())?)?;
-    play(rt.alloc(), &mut session, OTHER_BRANCH)
+fn undoes_choices_and_marks(rt: HostRuntime) {
+    let mut session = opened(&rt, looping(&rt));
+    play(&rt, &mut session, OTHER_BRANCH);
 }
 
 const MANY: &[Line] = &[Undoes(A, 1, "Needed 2"), Count(1000, 1000)];
 
 const NONE_LEFT: &[Line] = &[Undoes(A, 1, "NoStep"), Waits(A, B, 0, "-"), Count(0, 1000)];
 
+// a takes its step of that number back.
+fn undoes(rt: &(impl Abort + AllocGlobal), session: &mut Session, number: u64) {
+    assert!(rt;
+        undone(rt, session, A, number).as_str() == "Ok",
+        "step {number} stays"
+    );
+}
+
 // Takes the steps of a back, from that number on downwards.
-fn undo_all(alloc: Global, session: &mut Session, last: u64) -> Result<(), Fail> {
+fn undo_all(rt: &(impl Abort + AllocGlobal), session: &mut Session, last: u64) {
     for k in 0..last {
-        if undone(alloc, session, A, last - k)?.as_str() != "Ok" {
-            return Err("it stays".into());
-        }
+        undoes(rt, session, last - k);
     }
-    Ok(())
 }
 
 #[test]
-fn undoes_a_thousand_steps(rt: HostRuntime) -> Result<(), Fail> {
-    let mut session = Session::open(rt.alloc(), giving(rt.alloc())?)?;
-    for _ in 0..1000 {
-        let _ = answer(rt.alloc(), &mut session, A, Ask::Send(B, "1"))?;
-    }
-    play(rt.alloc(), &mut session, MANY)?;
-    undo_all(rt.alloc(), &mut session, 1000)?;
-    play(rt.alloc(), &mut session, NONE_LEFT)
+fn undoes_a_thousand_steps(rt: HostRuntime) {
+    let mut session = opened(&rt, giving(&rt));
+    ask_often(&rt, &mut session, A, Ask::Send(B, "1"), 1000);
+    play(&rt, &mut session, MANY);
+    undo_all(&rt, &mut session, 1000);
+    play(&rt, &mut session, NONE_LEFT);
 }
 
 // Sends and takes the send back at once, so many times.
-fn send_and_undo(alloc: Global, session: &mut Session, times: u64) -> Result<(), Fail> {
+fn send_and_undo(rt: &(impl Abort + AllocGlobal), session: &mut Session, times: u64) {
     for k in 0..times {
-        let _ = answer(alloc, session, A, Ask::Send(B, "1"))?;
-        if undone(alloc, session, A, k + 1)?.as_str() != "Ok" {
-            return Err("it stays".into());
-        }
+        let _ = answer(rt, session, A, Ask::Send(B, "1"));
+        undoes(rt, session, k + 1);
     }
-    Ok(())
 }
 
 const AFTER_THEM: &[Line] = &[
@@ -189,10 +188,10 @@ const AFTER_THEM: &[Line] = &[
 ];
 
 #[test]
-fn undoes_a_thousand_sends_at_once(rt: HostRuntime) -> Result<(), Fail> {
-    let mut session = Session::open(rt.alloc(), giving(rt.alloc())?)?;
-    send_and_undo(rt.alloc(), &mut session, 1000)?;
-    play(rt.alloc(), &mut session, AFTER_THEM)
+fn undoes_a_thousand_sends_at_once(rt: HostRuntime) {
+    let mut session = opened(&rt, giving(&rt));
+    send_and_undo(&rt, &mut session, 1000);
+    play(&rt, &mut session, AFTER_THEM);
 }
 
 const BOUND_AGAIN: &[Line] = &[
@@ -217,7 +216,6 @@ const BOUND_AGAIN: &[Line] = &[
 ];
 
 #[test]
-fn unbinds_slots(rt: HostRuntime) -> Result<(), Fail> {
-    let mut session = Session::open(rt.alloc(), giving(rt.alloc())?)?;
-    play(rt.alloc(), &mut session, BOUND_AGAIN)
+fn unbinds_slots(rt: HostRuntime) {
+    play_giving(&rt, BOUND_AGAIN);
 }

@@ -1,65 +1,82 @@
 ghost use Rattle.std.specs.Prelude.{◌≡◌, IfOk};
 ghost use Rattle.mps_line.specs.Commands.{NamesRolesOf};
 
-use mps_base::{Name, Role, Roles, StepId};
+use mps_base::{Name, Role, Roles, Value};
 use mps_command::{Command, Forward};
 use mps_line::laws::{one_command, one_numbered};
 use mps_line::{LineFault, read_command, read_numbered, read_script_line, write_command};
-use std::alloc::Global;
-use std::test::Fail;
+use std::alloc::{AllocGlobal, Global};
+use std::process::Abort;
 
-fn name(text: &str) -> Result<Name, Fail> {
-    Ok(Name::read(text.as_bytes()).ok_or("a name")?)
+fn name(rt: &impl Abort, text: &str) -> Name {
+    Name::read(text.as_bytes()).expect(rt, "a name")
 }
 
 // The roles a, b and c.
-fn roles(alloc: Global) -> Result<Roles, Fail> {
-    Ok(Roles::of(alloc, &[name("a")?, name("b")?, name("c")?])?)
+fn roles(rt: &(impl Abort + AllocGlobal)) -> Roles {
+    let names = [name(rt, "a"), name(rt, "b"), name(rt, "c")];
+    Roles::of(rt.alloc(), &names).expect(rt, "roles")
 }
 
-// The command in words.
-fn shown(alloc: Global, command: &Command) -> Result<String, Fail> {
-    match command {
-        Command::Forward(step) => shown_step(alloc, step),
-        Command::Undo(id) => numbered(alloc, "undoes", *id),
-        Command::Rollback(id) => numbered(alloc, "takes back", *id),
-        Command::Back(name) => worded(alloc, "goes back to", None, name.as_bytes()),
-        Command::News(known) => Ok(format!(in alloc; "asks what came after {known}")?),
-        Command::Show => Ok(format!(in alloc; "asks for the session")?),
-    }
+// A word and bytes.
+fn worded(rt: &(impl Abort + AllocGlobal), word: &str, bytes: &[u8]) -> String {
+    let text = std::str::from_utf8(bytes).expect(rt, "a text");
+    format!(in rt.alloc(); "{word} {text}").expect(rt, "memory")
 }
 
-// A word and the number of a step.
-fn numbered(alloc: Global, word: &str, id: StepId) -> Result<String, Fail> {
-    let number = id.number();
-    Ok(format!(in alloc; "{word} {number}")?)
+// A word, the place of a role, and bytes.
+fn of_role(rt: &(impl Abort + AllocGlobal), word: &str, role: Role, bytes: &[u8]) -> String {
+    let (place, text) = (
+        role.index(),
+        std::str::from_utf8(bytes).expect(rt, "a text"),
+    );
+    format!(in rt.alloc(); "{word} {place} {text}").expect(rt, "memory")
+}
+
+// A word and a number.
+fn numbered(rt: &(impl Abort + AllocGlobal), word: &str, number: u64) -> String {
+    format!(in rt.alloc(); "{word} {number}").expect(rt, "memory")
+}
+
+// A word alone.
+fn alone(rt: &(impl Abort + AllocGlobal), word: &str) -> String {
+    word.to_string(rt.alloc()).expect(rt, "memory")
+}
+
+// What is given to the role, in words.
+fn given(rt: &(impl Abort + AllocGlobal), to: Role, value: &Value) -> String {
+    let mut text = Vec::new(rt.alloc());
+    value.write(&mut text).expect(rt, "memory");
+    of_role(rt, "to", to, &text)
 }
 
 // The step that a role wants to take, in words.
-fn shown_step(alloc: Global, command: &Forward) -> Result<String, Fail> {
-    let mut text = Vec::new(alloc);
+fn shown_step(rt: &(impl Abort + AllocGlobal), command: &Forward) -> String {
     match command {
-        Forward::Send { to, value } => {
-            value.write(&mut text)?;
-            worded(alloc, "to", Some(*to), &text)
-        }
-        Forward::Choose { to, label } => worded(alloc, "chooses", Some(*to), label.as_bytes()),
-        Forward::Receive { from, slot } => worded(alloc, "from", Some(*from), slot.as_bytes()),
-        Forward::Pick { from } => worded(alloc, "picks", Some(*from), b""),
-        Forward::Mark { name } => worded(alloc, "mark", None, name.as_bytes()),
-        Forward::Commit => Ok(format!(in alloc; "commits")?),
+        Forward::Send { to, value } => given(rt, *to, value),
+        Forward::Choose { to, label } => of_role(rt, "chooses", *to, label.as_bytes()),
+        Forward::Receive { from, slot } => of_role(rt, "from", *from, slot.as_bytes()),
+        Forward::Pick { from } => of_role(rt, "picks", *from, b""),
+        Forward::Mark { name } => worded(rt, "mark", name.as_bytes()),
+        Forward::Commit => alone(rt, "commits"),
     }
 }
 
-// A word, the place of a role, if there is one, and bytes.
-fn worded(alloc: Global, word: &str, role: Option<Role>, bytes: &[u8]) -> Result<String, Fail> {
-    let mut text = format!(in alloc; "{word} ")?;
-    if let Some(role) = role {
-        let place = role.index();
-        text.push_str(format!(in alloc; "{place} ")?.as_str())?;
+// The command in words.
+fn shown(rt: &(impl Abort + AllocGlobal), command: &Command) -> String {
+    match command {
+        Command::Forward(step) => shown_step(rt, step),
+        Command::Undo(id) => numbered(rt, "undoes", id.number()),
+        Command::Rollback(id) => numbered(rt, "takes back", id.number()),
+        Command::Back(name) => worded(rt, "goes back to", name.as_bytes()),
+        Command::News(known) => numbered(rt, "asks what came after", *known),
+        Command::Show => alone(rt, "asks for the session"),
     }
-    text.push_str(std::str::from_utf8(bytes).or(Err("a text"))?)?;
-    Ok(text)
+}
+
+// Whether the command is this one in words.
+fn is_shown(rt: &(impl Abort + AllocGlobal), command: &Command, text: &str) -> bool {
+    shown(rt, command).as_str() == text
 }
 
 // ---- lines of a script
@@ -86,18 +103,19 @@ const SCRIPT_LINES: &[(&str, usize, &str)] = &[
     ("b show", 1, "asks for the session"),
 ];
 
-fn is_read(alloc: Global, roles: &Roles, row: &(&str, usize, &str)) -> Result<bool, Fail> {
-    let (role, command) = read_script_line(alloc, roles, row.0.as_bytes())?;
-    Ok(role.index() == row.1 && shown(alloc, &command)?.as_str() == row.2)
+fn is_read(rt: &(impl Abort + AllocGlobal), roles: &Roles, row: &(&str, usize, &str)) -> bool {
+    match read_script_line(rt.alloc(), roles, row.0.as_bytes()) {
+        Ok((role, command)) => role.index() == row.1 && is_shown(rt, &command, row.2),
+        Err(_) => false,
+    }
 }
 
 #[test]
-fn good_lines(rt: HostRuntime) -> Result<(), Fail> {
-    let roles = roles(rt.alloc())?;
+fn good_lines(rt: HostRuntime) {
+    let roles = roles(&rt);
     for row in SCRIPT_LINES {
-        assert!(rt; is_read(rt.alloc(), &roles, row)?, "{}", row.0);
+        assert!(rt; is_read(&rt, &roles, row), "{}", row.0);
     }
-    Ok(())
 }
 
 const BAD_LINES: &[&str] = &[
@@ -160,20 +178,26 @@ const BAD_LINES: &[&str] = &[
     "1 send b 5",
 ];
 
+// Whether the line is read as none of a script.
+fn is_bad_line(alloc: Global, roles: &Roles, line: &str) -> bool {
+    matches!(
+        read_script_line(alloc, roles, line.as_bytes()),
+        Err(LineFault::Bad)
+    )
+}
+
 #[test]
-fn bad_lines(rt: HostRuntime) -> Result<(), Fail> {
-    let roles = roles(rt.alloc())?;
+fn bad_lines(rt: HostRuntime) {
+    let roles = roles(&rt);
     for line in BAD_LINES {
-        let found = read_script_line(rt.alloc(), &roles, line.as_bytes());
-        assert!(rt; matches!(found, Err(LineFault::Bad)), "{line}");
+        assert!(rt; is_bad_line(rt.alloc(), &roles, line), "{line}");
     }
-    Ok(())
 }
 
 // ---- commands alone
 
 // The command as it is written, and what that is read as.
-fn again(alloc: Global, roles: &Roles, command: &Command) -> Result<(Vec<u8>, Command), Fail>
+fn again(alloc: Global, roles: &Roles, command: &Command) -> Result<(Vec<u8>, Command), LineFault>
     requires { NamesRolesOf roles.now command.now }
     ensures { IfOk result (λ r. r.1 ≡ command.now) }
 {
@@ -220,21 +244,21 @@ const COMMANDS: &[(&str, &str)] = &[
 ];
 
 // Whether the line is read as that command, also when it is written again.
-fn is_command(alloc: Global, roles: &Roles, line: &str, text: &str) -> Result<bool, Fail> {
-    let command = read_command(alloc, roles, line.as_bytes())?;
+fn is_command(rt: &(impl Abort + AllocGlobal), roles: &Roles, line: &str, text: &str) -> bool {
+    let command = read_command(rt.alloc(), roles, line.as_bytes()).expect(rt, "a command");
     one_command();
-    let (written, read) = again(alloc, roles, &command)?;
-    let (first, second) = (shown(alloc, &command)?, shown(alloc, &read)?);
-    Ok(first.as_str() == text && second.as_str() == text && written.as_slice() == line.as_bytes())
+    let (written, read) = again(rt.alloc(), roles, &command).expect(rt, "the same");
+    is_shown(rt, &command, text)
+        && is_shown(rt, &read, text)
+        && written.as_slice() == line.as_bytes()
 }
 
 #[test]
-fn commands_alone(rt: HostRuntime) -> Result<(), Fail> {
-    let roles = roles(rt.alloc())?;
+fn commands_alone(rt: HostRuntime) {
+    let roles = roles(&rt);
     for (line, text) in COMMANDS {
-        assert!(rt; is_command(rt.alloc(), &roles, line, text)?, "{line}");
+        assert!(rt; is_command(&rt, &roles, line, text), "{line}");
     }
-    Ok(())
 }
 
 const BAD_COMMANDS: &[&str] = &[
@@ -311,21 +335,27 @@ const BAD_COMMANDS: &[&str] = &[
     "refused line",
 ];
 
+// Whether the line is read as no command.
+fn is_bad_command(alloc: Global, roles: &Roles, line: &str) -> bool {
+    matches!(
+        read_command(alloc, roles, line.as_bytes()),
+        Err(LineFault::Bad)
+    )
+}
+
 #[test]
-fn bad_commands(rt: HostRuntime) -> Result<(), Fail> {
-    let roles = roles(rt.alloc())?;
+fn bad_commands(rt: HostRuntime) {
+    let roles = roles(&rt);
     for line in BAD_COMMANDS {
-        let found = read_command(rt.alloc(), &roles, line.as_bytes());
-        assert!(rt; matches!(found, Err(LineFault::Bad)), "{line}");
+        assert!(rt; is_bad_command(rt.alloc(), &roles, line), "{line}");
     }
-    Ok(())
 }
 
 // ---- lines of a conversation
 
 // The roles a and b.
-fn two_roles(alloc: Global) -> Result<Roles, Fail> {
-    Ok(Roles::of(alloc, &[name("a")?, name("b")?])?)
+fn two_roles(rt: &(impl Abort + AllocGlobal)) -> Roles {
+    Roles::of(rt.alloc(), &[name(rt, "a"), name(rt, "b")]).expect(rt, "roles")
 }
 
 // A line, its number, if it has one, and its command.
@@ -351,26 +381,32 @@ const NUMBERED: &[(&str, Option<u64>, &str)] = &[
     ("show", None, "show"),
 ];
 
+// Whether the command is written so.
+fn is_written(rt: &(impl Abort + AllocGlobal), roles: &Roles, command: &Command, line: &str) -> bool
+    requires { NamesRolesOf roles.now command.now }
+{
+    let mut text = Vec::new(rt.alloc());
+    write_command(roles, command, &mut text).expect(rt, "memory");
+    text.as_slice() == line.as_bytes()
+}
+
 // Whether the line is read as that number and that command, which is written again.
 fn is_numbered(
-    alloc: Global,
+    rt: &(impl Abort + AllocGlobal),
     roles: &Roles,
     row: &(&str, Option<u64>, &str),
-) -> Result<bool, Fail> {
+) -> bool {
     one_numbered();
-    let (number, command) = read_numbered(alloc, roles, row.0.as_bytes())?;
-    let mut text = Vec::new(alloc);
-    write_command(roles, &command, &mut text)?;
-    Ok(number == row.1 && text.as_slice() == row.2.as_bytes())
+    let (number, command) = read_numbered(rt.alloc(), roles, row.0.as_bytes()).expect(rt, "a line");
+    number == row.1 && is_written(rt, roles, &command, row.2)
 }
 
 #[test]
-fn reads_numbered_lines(rt: HostRuntime) -> Result<(), Fail> {
-    let roles = two_roles(rt.alloc())?;
+fn reads_numbered_lines(rt: HostRuntime) {
+    let roles = two_roles(&rt);
     for row in NUMBERED {
-        assert!(rt; is_numbered(rt.alloc(), &roles, row)?, "{}", row.0);
+        assert!(rt; is_numbered(&rt, &roles, row), "{}", row.0);
     }
-    Ok(())
 }
 
 const BAD_NUMBERED: &[&str] = &[
@@ -410,12 +446,18 @@ const BAD_NUMBERED: &[&str] = &[
     "commit 4",
 ];
 
+// Whether the line is read as none of a conversation.
+fn is_bad_numbered(alloc: Global, roles: &Roles, line: &str) -> bool {
+    matches!(
+        read_numbered(alloc, roles, line.as_bytes()),
+        Err(LineFault::Bad)
+    )
+}
+
 #[test]
-fn bad_numbered_lines(rt: HostRuntime) -> Result<(), Fail> {
-    let roles = two_roles(rt.alloc())?;
+fn bad_numbered_lines(rt: HostRuntime) {
+    let roles = two_roles(&rt);
     for line in BAD_NUMBERED {
-        let found = read_numbered(rt.alloc(), &roles, line.as_bytes());
-        assert!(rt; matches!(found, Err(LineFault::Bad)), "{line}");
+        assert!(rt; is_bad_numbered(rt.alloc(), &roles, line), "{line}");
     }
-    Ok(())
 }

@@ -1,201 +1,225 @@
-use mps_base::{Message, Name, Role, StepId, Value};
+use mps_base::{Name, Role, Roles, StepId};
 use mps_command::*;
-use mps_line::{Reply, read_answer, write_answer};
-use std::alloc::Global;
-use std::test::Fail;
+use mps_line::{Reply, read_answer, read_command, write_answer};
+use std::alloc::AllocGlobal;
+use std::process::Abort;
 
-fn name(bytes: &[u8]) -> Result<Name, Fail> {
-    Ok(Name::read(bytes).ok_or("a name")?)
+fn name(rt: &impl Abort, text: &str) -> Name {
+    Name::read(text.as_bytes()).expect(rt, "a name")
 }
 
-// How a command and its copy are shown.
-fn shown(alloc: Global, command: &Command) -> Result<(String, String), Fail> {
-    let copied = command.copy(alloc)?;
-    let before = format!(in alloc; "{command:?}")?;
-    let after = format!(in alloc; "{copied:?}")?;
-    Ok((before, after))
+// The roles a and b.
+fn roles(rt: &(impl Abort + AllocGlobal)) -> Roles {
+    Roles::of(rt.alloc(), &[name(rt, "a"), name(rt, "b")]).expect(rt, "roles")
+}
+
+// A line for each command.
+const COMMANDS: &[&str] = &[
+    "send b \"good day\"",
+    "send b -7",
+    "send b true",
+    "choose b ok",
+    "recv b x",
+    "pick b",
+    "mark m",
+    "commit",
+    "undo 3",
+    "rollback 4",
+    "back m",
+    "news 9",
+    "show",
+];
+
+// How the command is shown.
+fn shown(rt: &(impl Abort + AllocGlobal), command: &Command) -> String {
+    format!(in rt.alloc(); "{command:?}").expect(rt, "memory")
+}
+
+// Whether the command and its copy are shown alike.
+fn is_copied(rt: &(impl Abort + AllocGlobal), command: &Command) -> bool {
+    let copied = command.copy(rt.alloc()).expect(rt, "memory");
+    shown(rt, command).as_str() == shown(rt, &copied).as_str()
+}
+
+// The command of this line.
+fn read(rt: &(impl Abort + AllocGlobal), roles: &Roles, line: &str) -> Command {
+    read_command(rt.alloc(), roles, line.as_bytes()).expect(rt, "a command")
 }
 
 #[test]
-fn copies_commands(rt: HostRuntime) -> Result<(), Fail> {
-    let alloc = rt.alloc();
-    let b = Role::new(1);
-    let text = Value::read(alloc, b"\"good day\"")?;
-    let mut commands = Vec::new(alloc);
-    commands.push(Command::Forward(Forward::Send { to: b, value: text }))?;
-    commands.push(Command::Forward(Forward::Send {
-        to: b,
-        value: Value::Int(-7),
-    }))?;
-    commands.push(Command::Forward(Forward::Send {
-        to: b,
-        value: Value::Bool(true),
-    }))?;
-    commands.push(Command::Forward(Forward::Choose {
-        to: b,
-        label: name(b"ok")?,
-    }))?;
-    commands.push(Command::Forward(Forward::Receive {
-        from: b,
-        slot: name(b"x")?,
-    }))?;
-    commands.push(Command::Forward(Forward::Pick { from: b }))?;
-    commands.push(Command::Forward(Forward::Mark { name: name(b"m")? }))?;
-    commands.push(Command::Forward(Forward::Commit))?;
-    commands.push(Command::Undo(StepId::new(3)))?;
-    commands.push(Command::Rollback(StepId::new(4)))?;
-    commands.push(Command::Back(name(b"m")?))?;
-    commands.push(Command::News(9))?;
-    commands.push(Command::Show)?;
-    for command in &commands {
-        let (before, after) = shown(alloc, command)?;
-        assert_eq!(rt; before.as_str(), after.as_str());
+fn copies_commands(rt: HostRuntime) {
+    let roles = roles(&rt);
+    for line in COMMANDS {
+        assert!(rt; is_copied(&rt, &read(&rt, &roles, line)), "{line}");
     }
-    Ok(())
+}
+
+// How the change is shown.
+fn shown_change(rt: &(impl Abort + AllocGlobal), change: &Change) -> String {
+    format!(in rt.alloc(); "{change:?}").expect(rt, "memory")
+}
+
+// The change and its copy are shown alike.
+fn copies(rt: &(impl Abort + AllocGlobal), change: Change) {
+    let copied = change.copy(rt.alloc()).expect(rt, "memory");
+    let shown = shown_change(rt, &change);
+    assert_eq!(rt; shown.as_str(), shown_change(rt, &copied).as_str());
 }
 
 #[test]
-fn copies_changes(rt: HostRuntime) -> Result<(), Fail> {
-    let alloc = rt.alloc();
-    let b = Role::new(1);
-    let mut changes = Vec::new(alloc);
-    changes.push(Change::Forward(Forward::Pick { from: b }))?;
-    changes.push(Change::Forward(Forward::Commit))?;
-    changes.push(Change::Undo(StepId::new(3)))?;
-    changes.push(Change::Rollback(StepId::new(4)))?;
-    changes.push(Change::Back(name(b"m")?))?;
-    for change in &changes {
-        let copied = change.copy(alloc)?;
-        let before = format!(in alloc; "{change:?}")?;
-        let after = format!(in alloc; "{copied:?}")?;
-        assert_eq!(rt; before.as_str(), after.as_str());
+fn copies_changes(rt: HostRuntime) {
+    let from = Role::new(1);
+    copies(&rt, Change::Forward(Forward::Pick { from }));
+    copies(&rt, Change::Forward(Forward::Commit));
+    copies(&rt, Change::Undo(StepId::new(3)));
+    copies(&rt, Change::Rollback(StepId::new(4)));
+    copies(&rt, Change::Back(name(&rt, "m")));
+}
+
+// The text of a copy of the answer, if it shows a session.
+fn shown_again(rt: &(impl Abort + AllocGlobal), answer: &Answer) -> Option<ShownText> {
+    match answer.copy(rt.alloc()).expect(rt, "memory") {
+        Answer::Shown(text) => Some(text),
+        _ => None,
     }
-    Ok(())
 }
 
 #[test]
-fn copies_shown_texts(rt: HostRuntime) -> Result<(), Fail> {
-    let alloc = rt.alloc();
-    let text = ShownText::of(Vec::from_slice(alloc, b"{1 ~}")?);
+fn copies_shown_texts(rt: HostRuntime) {
+    let text = ShownText::of(Vec::from_slice(rt.alloc(), b"{1 ~}").expect(&rt, "memory"));
     assert_eq!(rt; text.as_bytes(), b"{1 ~}".as_slice());
-    let Answer::Shown(again) = Answer::Shown(text).copy(alloc)? else {
-        return Err("no text")?;
-    };
+    let again = shown_again(&rt, &Answer::Shown(text)).expect(&rt, "a text");
     assert_eq!(rt; again.as_bytes(), b"{1 ~}".as_slice());
-    Ok(())
 }
 
 // The list of these numbers.
-fn listed(alloc: Global, numbers: &[u64]) -> Result<StepIds, Fail> {
-    let mut ids = Vec::new(alloc);
+fn listed(rt: &(impl Abort + AllocGlobal), numbers: &[u64]) -> StepIds {
+    let mut ids = Vec::new(rt.alloc());
     for number in numbers {
-        ids.push(StepId::new(*number))?;
+        ids.push(StepId::new(*number)).expect(rt, "memory");
     }
-    Ok(StepIds::of(ids))
+    StepIds::of(ids)
 }
 
-// The numbers of the list.
-fn numbers(alloc: Global, ids: &StepIds) -> Result<Vec<u64>, Fail> {
-    let mut numbers = Vec::new(alloc);
-    for id in ids.as_slice() {
-        numbers.push(id.number())?;
+// A copy of the list.
+fn copy_of(rt: &(impl Abort + AllocGlobal), ids: StepIds) -> StepIds {
+    match Answer::Undone(ids).copy(rt.alloc()).expect(rt, "memory") {
+        Answer::Undone(undone) => undone,
+        _ => StepIds::of(Vec::new(rt.alloc())),
     }
-    Ok(numbers)
+}
+
+// Whether the list has these numbers.
+fn has_numbers(ids: &StepIds, wanted: &[u64]) -> bool {
+    let mut pairs = ids.as_slice().iter().zip(wanted);
+    ids.as_slice().len() == wanted.len() && pairs.all(|(id, number)| id.number() == *number)
+}
+
+// A copy of the list of these numbers has them.
+fn copies_list(rt: &(impl Abort + AllocGlobal), numbers: &[u64]) {
+    let copied = copy_of(rt, listed(rt, numbers));
+    assert!(rt; has_numbers(&copied, numbers));
 }
 
 #[test]
-fn copies_lists_of_numbers(rt: HostRuntime) -> Result<(), Fail> {
-    let alloc = rt.alloc();
-    let lists = [
-        (listed(alloc, &[])?, [].as_slice()),
-        (StepIds::one(StepId::new(7)), [7].as_slice()),
-        (listed(alloc, &[7])?, [7].as_slice()),
-        (listed(alloc, &[5, 3])?, [5, 3].as_slice()),
-    ];
-    for (ids, wanted) in lists {
-        let Answer::Undone(undone) = Answer::Undone(ids).copy(alloc)? else {
-            return Err("no list of numbers")?;
-        };
-        assert_eq!(rt; numbers(alloc, &undone)?.as_slice(), wanted);
+fn copies_lists_of_numbers(rt: HostRuntime) {
+    copies_list(&rt, &[]);
+    assert!(rt; has_numbers(&copy_of(&rt, StepIds::one(StepId::new(7))), &[7]));
+    copies_list(&rt, &[7]);
+    copies_list(&rt, &[5, 3]);
+}
+
+// Whether the list gives up that number alone.
+fn gives_number(ids: StepIds, number: u64) -> bool {
+    matches!(ids.try_into_vec(), Err(id) if id.is(StepId::new(number)))
+}
+
+// Whether the list gives up a vector of these two numbers.
+fn gives_two(ids: StepIds, first: u64, second: u64) -> bool {
+    match ids.try_into_vec() {
+        Ok(ids) => ids.as_slice() == [StepId::new(first), StepId::new(second)].as_slice(),
+        Err(_) => false,
     }
-    Ok(())
 }
 
 // A list of one number that is kept without a vector gives the number, and any other list its vector.
 #[test]
-fn gives_lists_of_numbers_up(rt: HostRuntime) -> Result<(), Fail> {
-    let alone = StepIds::one(StepId::new(7));
-    assert!(rt; matches!(alone.try_into_vec(), Err(id) if id.is(StepId::new(7))));
-    let listed = listed(rt.alloc(), &[5, 3])?;
-    let Ok(ids) = listed.try_into_vec() else {
-        return Err("no vector")?;
-    };
-    assert_eq!(rt; ids.as_slice(), [StepId::new(5), StepId::new(3)].as_slice());
-    Ok(())
+fn gives_lists_of_numbers_up(rt: HostRuntime) {
+    assert!(rt; gives_number(StepIds::one(StepId::new(7)), 7));
+    assert!(rt; gives_two(listed(&rt, &[5, 3]), 5, 3));
 }
 
-// How an answer and its copy are shown.
-fn answered(alloc: Global, answer: &Answer) -> Result<(String, String), Fail> {
-    let copied = answer.copy(alloc)?;
-    let before = format!(in alloc; "{answer:?}")?;
-    let after = format!(in alloc; "{copied:?}")?;
-    Ok((before, after))
+// How the answer is shown.
+fn shown_answer(rt: &(impl Abort + AllocGlobal), answer: &Answer) -> String {
+    format!(in rt.alloc(); "{answer:?}").expect(rt, "memory")
 }
+
+// Whether the answer and its copy are shown alike.
+fn is_copied_answer(rt: &(impl Abort + AllocGlobal), answer: &Answer) -> bool {
+    let copied = answer.copy(rt.alloc()).expect(rt, "memory");
+    shown_answer(rt, answer).as_str() == shown_answer(rt, &copied).as_str()
+}
+
+// The answer of the reply, if it is one.
+fn answered(reply: Reply) -> Option<Answer> {
+    match reply {
+        Reply::Answered(answer) => Some(answer),
+        _ => None,
+    }
+}
+
+// The answer of the line.
+fn answer(rt: &(impl Abort + AllocGlobal), line: &str) -> Answer {
+    let reply = read_answer(rt.alloc(), line.as_bytes()).expect(rt, "a reply");
+    answered(reply).expect(rt, "an answer")
+}
+
+// Lines of answers.
+const ANSWERS: &[&str] = &[
+    "done 6 ok",
+    "done 6 \"good day\"",
+    "done 6",
+    "undone 5 3",
+    "undone",
+    "news 9 5 3",
+    "refused final 6",
+    "refused needed 6",
+    "refused ended",
+];
 
 #[test]
-fn copies_answers(rt: HostRuntime) -> Result<(), Fail> {
-    let alloc = rt.alloc();
-    let id = StepId::new(6);
-    let label = Some(Message::Label(name(b"ok")?));
-    let text = Some(Message::Value(Value::read(alloc, b"\"good day\"")?));
-    let mut answers = Vec::new(alloc);
-    answers.push(Answer::Done(Done { id, got: label }))?;
-    answers.push(Answer::Done(Done { id, got: text }))?;
-    answers.push(Answer::Done(Done { id, got: None }))?;
-    answers.push(Answer::Undone(listed(alloc, &[5, 3])?))?;
-    answers.push(Answer::Undone(listed(alloc, &[])?))?;
-    answers.push(Answer::Undone(StepIds::one(id)))?;
-    answers.push(Answer::News {
-        length: 9,
-        ids: listed(alloc, &[5, 3])?,
-    })?;
-    answers.push(Answer::Refused(Refusal::Final { by: id }))?;
-    answers.push(Answer::Refused(Refusal::Needed { by: id }))?;
-    answers.push(Answer::Refused(Refusal::Violation(Violation::Ended)))?;
-    for answer in &answers {
-        let (before, after) = answered(alloc, answer)?;
-        assert_eq!(rt; before.as_str(), after.as_str());
+fn copies_answers(rt: HostRuntime) {
+    for line in ANSWERS {
+        assert!(rt; is_copied_answer(&rt, &answer(&rt, line)), "{line}");
     }
-    Ok(())
+    let one = Answer::Undone(StepIds::one(StepId::new(6)));
+    assert!(rt; is_copied_answer(&rt, &one));
 }
 
 const LINES: &[&str] = &["done 2 5", "undone 4 3 2 1", "news 5 3 2"];
 
-// The line of a copy of the answer that has this line.
-fn copied(alloc: Global, line: &str) -> Result<Vec<u8>, Fail> {
-    let Reply::Answered(answer) = read_answer(alloc, line.as_bytes())? else {
-        return Err("another reply".into());
-    };
-    let mut copy = Vec::new(alloc);
-    write_answer(&answer.copy(alloc)?, &mut copy)?;
-    Ok(copy)
+// Whether the line is that of a copy of its answer.
+fn is_copied_line(rt: &(impl Abort + AllocGlobal), line: &str) -> bool {
+    let copied = answer(rt, line).copy(rt.alloc()).expect(rt, "memory");
+    let mut text = Vec::new(rt.alloc());
+    write_answer(&copied, &mut text).expect(rt, "memory");
+    text.as_slice() == line.as_bytes()
 }
 
 #[test]
-fn copies_answers_line_by_line(rt: HostRuntime) -> Result<(), Fail> {
+fn copies_answers_line_by_line(rt: HostRuntime) {
     for line in LINES {
-        assert_eq!(rt; copied(rt.alloc(), line)?.as_slice(), line.as_bytes());
+        assert!(rt; is_copied_line(&rt, line), "{line}");
     }
-    Ok(())
 }
 
 // The list of the numbers from 1 to the last.
-fn listed_to(alloc: Global, last: u64) -> Result<StepIds, Fail> {
-    let mut ids = Vec::new(alloc);
+fn listed_to(rt: &(impl Abort + AllocGlobal), last: u64) -> StepIds {
+    let mut ids = Vec::new(rt.alloc());
     for number in 0..last {
-        ids.push(StepId::new(number + 1))?;
+        ids.push(StepId::new(number + 1)).expect(rt, "memory");
     }
-    Ok(StepIds::of(ids))
+    StepIds::of(ids)
 }
 
 // Whether the numbers rise from 1 on.
@@ -211,18 +235,14 @@ fn rise(ids: &StepIds) -> bool {
 }
 
 // Whether a copy of the list of the numbers from 1 to the last has them all.
-fn is_copied(alloc: Global, last: u64) -> Result<bool, Fail> {
-    let ids = listed_to(alloc, last)?;
-    let Answer::Undone(undone) = Answer::Undone(ids).copy(alloc)? else {
-        return Err("no list of numbers")?;
-    };
-    Ok(undone.as_slice().len() as u64 == last && rise(&undone))
+fn is_copied_to(rt: &(impl Abort + AllocGlobal), last: u64) -> bool {
+    let copied = copy_of(rt, listed_to(rt, last));
+    copied.as_slice().len() as u64 == last && rise(&copied)
 }
 
 #[test]
-fn copies_a_thousand_numbers(rt: HostRuntime) -> Result<(), Fail> {
+fn copies_a_thousand_numbers(rt: HostRuntime) {
     for last in [5, 7, 1_000] {
-        assert!(rt; is_copied(rt.alloc(), last)?, "{last}");
+        assert!(rt; is_copied_to(&rt, last), "{last}");
     }
-    Ok(())
 }

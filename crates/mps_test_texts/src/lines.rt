@@ -1,9 +1,9 @@
-ghost use Rattle.std.specs.Prelude.{◌≡◌, [], OnOk};
+ghost use Rattle.std.specs.Prelude.{◌≡◌, [], drop, slice_get, IsTrue};
 
 use Told::{NotAscii, Text, TooLong};
 use mps_lines::{Line, Lines, MOST_KEPT, keep, line_end};
-use std::alloc::Global;
-use std::test::Fail;
+use std::alloc::AllocGlobal;
+use std::process::Abort;
 
 // Five lines: a command, none, a command, one that is not ASCII, and a rest.
 const TEXT: &[u8] = b"a send b 5\n\nb recv a x\ncaf\xC3\xA9\na undo 1";
@@ -50,73 +50,90 @@ fn all_told(lines: &[Line], want: &[Told]) -> bool {
     true
 }
 
-// Takes each line that waits.
-fn take_waiting(lines: &mut Lines, told: &mut Vec<Line>) -> Result<(), Fail>
-    ensures { OnOk result (lines.new.waiting ≡ []) }
+// Keeps the line.
+fn put(rt: &impl Abort, told: &mut Vec<Line>, line: Line) {
+    told.push(line).expect(rt, "memory");
+}
+
+// The line that waits first, if one does.
+fn next(rt: &impl Abort, lines: &mut Lines) -> Option<Line>
+    ensures first { result ≡ slice_get lines.old.waiting 0 }
+    ensures others { lines.new.waiting ≡ drop 1 lines.old.waiting }
 {
-    while let Some(line) = lines.next_line()? {
-        told.push(line)?;
+    lines.next_line().expect(rt, "memory")
+}
+
+// Takes each line that waits.
+fn take_waiting(rt: &impl Abort, lines: &mut Lines, told: &mut Vec<Line>)
+    ensures { lines.new.waiting ≡ [] }
+{
+    while let Some(line) = next(rt, lines) {
+        put(rt, told, line);
     }
-    Ok(())
+}
+
+// Feeds the piece.
+fn feed_piece(rt: &impl Abort, lines: &mut Lines, piece: &[u8]) {
+    lines.feed(piece).expect(rt, "memory");
+}
+
+// Takes each line that waits, and the rest as the last one.
+fn take_all(rt: &impl Abort, lines: &mut Lines, told: &mut Vec<Line>) {
+    take_waiting(rt, lines, told);
+    if let Some(last) = lines.finish().expect(rt, "memory") {
+        put(rt, told, last);
+    }
 }
 
 // The lines of bytes that come in these pieces, each taken as soon as it waits.
-fn lines_of(alloc: Global, pieces: &[&[u8]]) -> Result<Vec<Line>, Fail> {
-    let mut lines = Lines::new(alloc);
-    let mut told = Vec::new(alloc);
+fn lines_of(rt: &(impl Abort + AllocGlobal), pieces: &[&[u8]]) -> Vec<Line> {
+    let mut lines = Lines::new(rt.alloc());
+    let mut told = Vec::new(rt.alloc());
     for piece in pieces {
-        lines.feed(piece)?;
-        take_waiting(&mut lines, &mut told)?;
+        feed_piece(rt, &mut lines, piece);
+        take_waiting(rt, &mut lines, &mut told);
     }
-    take_waiting(&mut lines, &mut told)?;
-    if let Some(last) = lines.finish()? {
-        told.push(last)?;
-    }
-    Ok(told)
+    take_all(rt, &mut lines, &mut told);
+    told
 }
 
-// Whether these bytes are told so, in pieces of so many.
-fn are_told(alloc: Global, bytes: &[u8], size: usize, want: &[Told]) -> Result<bool, Fail> {
-    let mut pieces = Vec::new(alloc);
+// These pieces are told so.
+fn pieces_are_told(rt: &(impl Abort + AllocGlobal), pieces: &[&[u8]], want: &[Told]) {
+    assert!(rt; all_told(&lines_of(rt, pieces), want));
+}
+
+// These bytes are told so, in pieces of so many.
+fn are_told(rt: &(impl Abort + AllocGlobal), bytes: &[u8], size: usize, want: &[Told]) {
+    let mut pieces = Vec::new(rt.alloc());
     for piece in bytes.chunks(size.max(1)) {
-        pieces.push(piece)?;
+        pieces.push(piece).expect(rt, "memory");
     }
-    Ok(all_told(&lines_of(alloc, &pieces)?, want))
+    pieces_are_told(rt, &pieces, want);
 }
 
-// Whether they are told so, wherever they are cut in two.
-fn are_told_in_two(alloc: Global, bytes: &[u8], want: &[Told]) -> Result<bool, Fail> {
+// They are told so, wherever they are cut in two.
+fn are_told_in_two(rt: &(impl Abort + AllocGlobal), bytes: &[u8], want: &[Told]) {
     for cut in 0..bytes.len() {
         let (front, back) = bytes.split_at(cut);
-        if !all_told(&lines_of(alloc, &[front, back])?, want) {
-            return Ok(false);
-        }
+        pieces_are_told(rt, &[front, back], want);
     }
-    Ok(true)
 }
 
 // So many letters and then these bytes.
-fn letters(alloc: Global, count: usize, end: &[u8]) -> Result<Vec<u8>, Fail> {
-    let mut bytes = vec![in alloc; b'x'; count]?;
-    bytes.extend_from_slice(end)?;
-    Ok(bytes)
-}
-
-// Whether so many letters and then these bytes are told so, wherever they are cut in two.
-fn letters_are_told(alloc: Global, count: usize, end: &[u8], want: &[Told]) -> Result<bool, Fail> {
-    are_told_in_two(alloc, &letters(alloc, count, end)?, want)
+fn letters(rt: &(impl Abort + AllocGlobal), count: usize, end: &[u8]) -> Vec<u8> {
+    let mut bytes = vec![in rt.alloc(); b'x'; count].expect(rt, "memory");
+    bytes.extend_from_slice(end).expect(rt, "memory");
+    bytes
 }
 
 #[test]
-fn pieces_of_one_byte(rt: HostRuntime) -> Result<(), Fail> {
-    assert!(rt; are_told(rt.alloc(), TEXT, 1, LINES_OF_TEXT)?);
-    Ok(())
+fn pieces_of_one_byte(rt: HostRuntime) {
+    are_told(&rt, TEXT, 1, LINES_OF_TEXT);
 }
 
 #[test]
-fn every_two_pieces(rt: HostRuntime) -> Result<(), Fail> {
-    assert!(rt; are_told_in_two(rt.alloc(), TEXT, LINES_OF_TEXT)?);
-    Ok(())
+fn every_two_pieces(rt: HostRuntime) {
+    are_told_in_two(&rt, TEXT, LINES_OF_TEXT);
 }
 
 // How many letters stand in front of which bytes, and what they are told as.
@@ -130,34 +147,38 @@ const LETTERS: &[(usize, &[u8], Told)] = &[
 ];
 
 #[test]
-fn lines_and_rests_of_512_bytes_and_more(rt: HostRuntime) -> Result<(), Fail> {
+fn lines_and_rests_of_512_bytes_and_more(rt: HostRuntime) {
     for (count, end, want) in LETTERS {
-        assert!(rt; letters_are_told(rt.alloc(), *count, end, &[*want])?);
+        are_told_in_two(&rt, &letters(&rt, *count, end), &[*want]);
     }
-    Ok(())
 }
 
+// What a very long line and a short one are told as.
+const LONG_AND_SHORT: &[Told] = &[TooLong, Text(b"pick a")];
+
+const SIZES: &[usize] = &[1, 512, 513, 65_536, 100_000, 200_000];
+
 #[test]
-fn a_line_of_100_000_bytes(rt: HostRuntime) -> Result<(), Fail> {
-    let bytes = letters(rt.alloc(), 100_000, b"\npick a\n")?;
-    for size in [1, 512, 513, 65_536, 100_000, 200_000] {
-        assert!(rt; are_told(rt.alloc(), &bytes, size, &[TooLong, Text(b"pick a")])?);
+fn a_line_of_100_000_bytes(rt: HostRuntime) {
+    let bytes = letters(&rt, 100_000, b"\npick a\n");
+    for size in SIZES {
+        are_told(&rt, &bytes, *size, LONG_AND_SHORT);
     }
-    Ok(())
 }
 
-#[test]
-fn bytes_from_128_on(rt: HostRuntime) -> Result<(), Fail> {
-    let want = [Text(b"\x7F"), NotAscii, NotAscii];
-    assert!(rt; are_told(rt.alloc(), b"\x7F\n\x80\n\xFF", 100, &want)?);
-    Ok(())
-}
+const FROM_128_ON: &[Told] = &[Text(b"\x7F"), NotAscii, NotAscii];
 
 #[test]
-fn empty_lines(rt: HostRuntime) -> Result<(), Fail> {
-    assert!(rt; are_told(rt.alloc(), b"", 1, &[])?);
-    assert!(rt; are_told(rt.alloc(), b"\n\n\n", 2, &[Text(b""); 3])?);
-    Ok(())
+fn bytes_from_128_on(rt: HostRuntime) {
+    are_told(&rt, b"\x7F\n\x80\n\xFF", 100, FROM_128_ON);
+}
+
+const THREE_EMPTY: &[Told] = &[Text(b""); 3];
+
+#[test]
+fn empty_lines(rt: HostRuntime) {
+    are_told(&rt, b"", 1, &[]);
+    are_told(&rt, b"\n\n\n", 2, THREE_EMPTY);
 }
 
 // Whether a line that may be there is reported so.
@@ -169,54 +190,89 @@ fn is_waiting(line: Option<&Line>, want: Option<Told>) -> bool {
     }
 }
 
-#[test]
-fn finishes_and_begins_again(rt: HostRuntime) -> Result<(), Fail> {
-    let mut lines = Lines::new(rt.alloc());
-    assert!(rt; is_waiting(lines.finish()?.as_ref(), None));
-    lines.feed(b"mark m")?;
-    assert!(rt; is_waiting(lines.next_line()?.as_ref(), None));
-    assert!(rt; is_waiting(lines.finish()?.as_ref(), Some(Text(b"mark m"))));
-    assert!(rt; is_waiting(lines.finish()?.as_ref(), None));
-    lines.feed(b"ba")?;
-    lines.feed(b"ck m\nnews")?;
-    assert!(rt; is_waiting(lines.next_line()?.as_ref(), Some(Text(b"back m"))));
-    assert!(rt; is_waiting(lines.next_line()?.as_ref(), None));
-    Ok(())
+// The line that waits first is reported so, or none waits.
+fn is_next(rt: &impl Abort, lines: &mut Lines, want: Option<Told>) {
+    assert!(rt; is_waiting(next(rt, lines).as_ref(), want));
+}
+
+// Whether none waits.
+fn none_waits(rt: &impl Abort, lines: &mut Lines) -> bool
+    ensures { IsTrue result → lines.new.waiting ≡ [] }
+{
+    match next(rt, lines) {
+        Some(_) => false,
+        None => true,
+    }
+}
+
+// None waits, and the rest is reported so, if there is one.
+fn is_rest(rt: &impl Abort, lines: &mut Lines, want: Option<Told>) {
+    assert!(rt; none_waits(rt, lines));
+    let rest = lines.finish().expect(rt, "memory");
+    assert!(rt; is_waiting(rest.as_ref(), want));
 }
 
 #[test]
-fn many_lines_wait(rt: HostRuntime) -> Result<(), Fail> {
+fn finishes_and_begins_again(rt: HostRuntime) {
     let mut lines = Lines::new(rt.alloc());
-    for _ in 0..1_000 {
-        lines.feed(b"pick a\nsh")?;
-        lines.feed(b"ow\n")?;
+    is_rest(&rt, &mut lines, None);
+    feed_piece(&rt, &mut lines, b"mark m");
+    is_rest(&rt, &mut lines, Some(Text(b"mark m")));
+    is_rest(&rt, &mut lines, None);
+    feed_piece(&rt, &mut lines, b"ba");
+    feed_piece(&rt, &mut lines, b"ck m\nnews");
+    is_next(&rt, &mut lines, Some(Text(b"back m")));
+    is_next(&rt, &mut lines, None);
+}
+
+// So many times two lines, cut within the second.
+fn feed_often(rt: &impl Abort, lines: &mut Lines, times: u32) {
+    for _ in 0..times {
+        feed_piece(rt, lines, b"pick a\nsh");
+        feed_piece(rt, lines, b"ow\n");
     }
-    let mut told = Vec::new(rt.alloc());
-    take_waiting(&mut lines, &mut told)?;
-    assert!(rt; told.len() == 2_000);
+}
+
+// The two lines.
+const PAIR: &[Told] = &[Text(b"pick a"), Text(b"show")];
+
+// So many lines are these two by turns.
+fn are_pairs(rt: &impl Abort, told: &[Line], count: usize) {
+    assert_eq!(rt; told.len(), count);
     for pair in told.chunks(2) {
-        assert!(rt; all_told(pair, &[Text(b"pick a"), Text(b"show")]));
+        assert!(rt; all_told(pair, PAIR));
     }
-    Ok(())
 }
 
 #[test]
-fn fronts_of_lines(rt: HostRuntime) -> Result<(), Fail> {
+fn many_lines_wait(rt: HostRuntime) {
+    let mut lines = Lines::new(rt.alloc());
+    feed_often(&rt, &mut lines, 1_000);
+    let mut told = Vec::new(rt.alloc());
+    take_waiting(&rt, &mut lines, &mut told);
+    are_pairs(&rt, &told, 2_000);
+}
+
+// What is kept of a line that comes in these two pieces.
+fn kept(rt: &(impl Abort + AllocGlobal), front: &[u8], back: &[u8]) -> Vec<u8> {
+    let mut line = Vec::new(rt.alloc());
+    keep(&mut line, front).expect(rt, "memory");
+    assert!(rt; line.len() <= MOST_KEPT);
+    keep(&mut line, back).expect(rt, "memory");
+    line
+}
+
+#[test]
+fn fronts_of_lines(rt: HostRuntime) {
     assert!(rt; line_end(b"pick a\nshow\n") == Some(6));
     assert!(rt; line_end(b"pick a").is_none());
-    let mut line = Vec::new(rt.alloc());
-    keep(&mut line, b"pick")?;
-    keep(&mut line, b" a")?;
-    assert!(rt; line.as_slice() == b"pick a".as_slice());
-    line.clear();
-    keep(&mut line, &letters(rt.alloc(), 100_000, b"")?)?;
-    assert!(rt; line.len() == MOST_KEPT);
-    Ok(())
+    assert!(rt; kept(&rt, b"pick", b" a").as_slice() == b"pick a".as_slice());
+    let long = letters(&rt, 100_000, b"");
+    assert!(rt; kept(&rt, b"", &long).len() == MOST_KEPT);
 }
 
 #[test]
-fn a_piece_of_a_megabyte(rt: HostRuntime) -> Result<(), Fail> {
-    let bytes = letters(rt.alloc(), 1_100_000, b"\npick a\n")?;
-    assert!(rt; are_told(rt.alloc(), &bytes, 2_000_000, &[TooLong, Text(b"pick a")])?);
-    Ok(())
+fn a_piece_of_a_megabyte(rt: HostRuntime) {
+    let bytes = letters(&rt, 1_100_000, b"\npick a\n");
+    are_told(&rt, &bytes, 2_000_000, LONG_AND_SHORT);
 }

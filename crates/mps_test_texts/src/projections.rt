@@ -11,7 +11,7 @@ use std::process::Abort;
 
 // A node, with what comes after it left out.
 #[derive(Clone, Copy)]
-enum Part<'a> {
+pub(crate) enum Part<'a> {
     Var(&'a str),
     Rec(&'a str),
     Sent(&'a str, &'a str, Sort),
@@ -30,7 +30,7 @@ pub(crate) fn variable(rt: &impl Abort, letters: &str) -> VarName {
 }
 
 // The branch of these letters, and then the others.
-fn more(
+pub(crate) fn more(
     rt: &(impl Abort + AllocGlobal),
     letters: &str,
     next: Global,
@@ -40,7 +40,7 @@ fn more(
 }
 
 // Branches of these labels, of which the last goes on with `next`.
-fn branches(rt: &(impl Abort + AllocGlobal), labels: &[&str], next: Global) -> Branches {
+pub(crate) fn branches(rt: &(impl Abort + AllocGlobal), labels: &[&str], next: Global) -> Branches {
     let mut branches = Branches::NoMore;
     let mut body = next;
     for k in 0..labels.len() {
@@ -51,7 +51,7 @@ fn branches(rt: &(impl Abort + AllocGlobal), labels: &[&str], next: Global) -> B
 }
 
 // The node in front of `next`.
-fn in_front(rt: &(impl Abort + AllocGlobal), part: &Part<'_>, next: Global) -> Global {
+pub(crate) fn in_front(rt: &(impl Abort + AllocGlobal), part: &Part<'_>, next: Global) -> Global {
     let made = match part {
         Part::Var(letters) => Ok(Global::Var(variable(rt, letters))),
         Part::Rec(letters) => Global::rec(rt.alloc(), variable(rt, letters), next),
@@ -68,7 +68,7 @@ fn in_front(rt: &(impl Abort + AllocGlobal), part: &Part<'_>, next: Global) -> G
 }
 
 // The parts, one after the other, and then the end.
-fn chain(rt: &(impl Abort + AllocGlobal), parts: &[Part<'_>]) -> Global {
+pub(crate) fn chain(rt: &(impl Abort + AllocGlobal), parts: &[Part<'_>]) -> Global {
     let mut body = Global::End;
     for k in 0..parts.len() {
         body = in_front(rt, &parts[parts.len() - 1 - k], body);
@@ -77,7 +77,11 @@ fn chain(rt: &(impl Abort + AllocGlobal), parts: &[Part<'_>]) -> Global {
 }
 
 // The protocol of roles whose names are these letters.
-fn protocol(rt: &(impl Abort + AllocGlobal), letters: &[&str], body: Global) -> Protocol {
+pub(crate) fn protocol(
+    rt: &(impl Abort + AllocGlobal),
+    letters: &[&str],
+    body: Global,
+) -> Protocol {
     let mut roles = Vec::new(rt.alloc());
     for role in letters {
         roles.push(name(rt, role)).expect(rt, "memory");

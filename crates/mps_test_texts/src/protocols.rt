@@ -1,101 +1,26 @@
-use mps_base::{Name, Sort, VarName};
-use mps_global::{Branches, Global, GlobalFault, Protocol, check, protocol_laws, size_laws};
-use std::alloc;
+use crate::projections::{Part, branches, chain, in_front, more, name, protocol};
+use mps_base::Sort::Int;
+use mps_global::{Branches, Global, GlobalFault, check, protocol_laws, size_laws};
+use std::alloc::AllocGlobal;
 use std::process::Abort;
-use std::test::Fail;
 
-// A node, with what comes after it left out.
-#[derive(Clone, Copy)]
-enum Part<'a> {
-    Var(&'a str),
-    Rec(&'a str),
-    Sent(&'a str, &'a str),
-    // the last of the labels goes on, each other one ends
-    Choice(&'a str, &'a str, &'a [&'a str]),
+type Checked = Result<(), GlobalFault>;
+
+// The check of what these roles may say is answered so.
+fn is_checked(rt: &(impl Abort + AllocGlobal), roles: &[&str], body: Global, answer: Checked) {
+    assert_eq!(rt; check(&protocol(rt, roles, body)), answer);
 }
 
-// The name of these letters.
-fn name(rt: &impl Abort, letters: &str) -> Name {
-    Name::read(letters.as_bytes()).expect(rt, "a name")
-}
+// A message from `a` to `b`.
+const SENT: &Part<'static> = &Part::Sent("a", "b", Int);
 
-// The variable of these letters.
-fn variable(rt: &impl Abort, letters: &str) -> VarName {
-    VarName::read(letters.as_bytes()).expect(rt, "a variable")
-}
-
-// Branches of these labels, of which the last goes on with `next`.
-fn branches(
-    rt: &impl Abort,
-    alloc: alloc::Global,
-    labels: &[&str],
-    next: Global,
-) -> Result<Branches, Fail> {
-    let mut branches = Branches::NoMore;
-    let mut body = next;
-    for label in labels.iter().rev() {
-        branches = Branches::more(alloc, name(rt, label), body, branches)?;
-        body = Global::End;
-    }
-    Ok(branches)
-}
-
-// The node in front of `next`.
-fn in_front(
-    rt: &impl Abort,
-    alloc: alloc::Global,
-    part: &Part<'_>,
-    next: Global,
-) -> Result<Global, Fail> {
-    match part {
-        Part::Var(letters) => Ok(Global::Var(variable(rt, letters))),
-        Part::Rec(letters) => Ok(Global::rec(alloc, variable(rt, letters), next)?),
-        Part::Sent(from, to) => {
-            let (sender, receiver) = (name(rt, from), name(rt, to));
-            Ok(Global::message(alloc, sender, receiver, Sort::Int, next)?)
-        }
-        Part::Choice(from, to, labels) => Ok(Global::Choice {
-            sender: name(rt, from),
-            receiver: name(rt, to),
-            branches: branches(rt, alloc, labels, next)?,
-        }),
-    }
-}
-
-// The check of what these roles may say, which ends where no part is left.
-fn checked(
-    rt: &impl Abort,
-    alloc: alloc::Global,
-    roles: &[&str],
-    parts: &[Part<'_>],
-) -> Result<Result<(), GlobalFault>, Fail> {
-    let mut names = Vec::new(alloc);
-    for role in roles {
-        names.push(name(rt, role))?;
-    }
+// So many of the part, one after the other.
+fn many(rt: &(impl Abort + AllocGlobal), count: u32, part: &Part<'_>) -> Global {
     let mut body = Global::End;
-    for part in parts.iter().rev() {
-        body = in_front(rt, alloc, part, body)?;
+    for _ in 0..count {
+        body = in_front(rt, part, body);
     }
-    Ok(check(&Protocol { roles: names, body }))
-}
-
-// So many messages from `a` to `b`, one after the other.
-fn row(
-    rt: &impl Abort,
-    alloc: alloc::Global,
-    roles: &[&str],
-    messages: u32,
-) -> Result<Result<(), GlobalFault>, Fail> {
-    let mut names = Vec::new(alloc);
-    for role in roles {
-        names.push(name(rt, role))?;
-    }
-    let mut body = Global::End;
-    for _ in 0..messages {
-        body = in_front(rt, alloc, &Part::Sent("a", "b"), body)?;
-    }
-    Ok(check(&Protocol { roles: names, body }))
+    body
 }
 
 const TWO: &[&str] = &["a", "b"];
@@ -104,7 +29,7 @@ const EIGHT: &[&str] = &["a", "b", "c", "d", "e", "f", "g", "h"];
 
 const NINE: &[&str] = &["a", "b", "c", "d", "e", "f", "g", "h", "i"];
 
-const LEVELS: &[(&[&str], u32, Result<(), GlobalFault>)] = &[
+const LEVELS: &[(&[&str], u32, Checked)] = &[
     (TWO, 0, Ok(())),
     (EIGHT, 1, Ok(())),
     (TWO, 63, Ok(())),
@@ -118,38 +43,48 @@ const LEVELS: &[(&[&str], u32, Result<(), GlobalFault>)] = &[
 ];
 
 #[test]
-fn counts_roles_nodes_and_levels(rt: HostRuntime) -> Result<(), Fail> {
+fn counts_roles_nodes_and_levels(rt: HostRuntime) {
     for (roles, messages, answer) in LEVELS {
-        assert!(rt; row(&rt, rt.alloc(), roles, *messages)? == *answer);
+        is_checked(&rt, roles, many(&rt, *messages, SENT), *answer);
     }
-    Ok(())
 }
 
-const MESSAGES: &[(&[Part<'static>], Result<(), GlobalFault>)] = &[
-    (&[Part::Sent("a", "b"), Part::Sent("b", "c")], Ok(())),
-    (&[Part::Sent("z", "b")], Err(GlobalFault::UnknownRole)),
-    (&[Part::Sent("a", "z")], Err(GlobalFault::UnknownRole)),
+const MESSAGES: &[(&[Part<'static>], Checked)] = &[
     (
-        &[Part::Sent("a", "b"), Part::Sent("a", "z")],
+        &[Part::Sent("a", "b", Int), Part::Sent("b", "c", Int)],
+        Ok(()),
+    ),
+    (&[Part::Sent("z", "b", Int)], Err(GlobalFault::UnknownRole)),
+    (&[Part::Sent("a", "z", Int)], Err(GlobalFault::UnknownRole)),
+    (
+        &[Part::Sent("a", "b", Int), Part::Sent("a", "z", Int)],
         Err(GlobalFault::UnknownRole),
     ),
-    (&[Part::Sent("z", "z")], Err(GlobalFault::UnknownRole)),
+    (&[Part::Sent("z", "z", Int)], Err(GlobalFault::UnknownRole)),
     (
-        &[Part::Sent("a", "a"), Part::Sent("a", "z")],
+        &[Part::Sent("a", "a", Int), Part::Sent("a", "z", Int)],
         Err(GlobalFault::SelfMessage),
     ),
     (
-        &[Part::Sent("z", "z"), Part::Var("X")],
+        &[Part::Sent("z", "z", Int), Part::Var("X")],
         Err(GlobalFault::UnknownRole),
     ),
 ];
 
-#[test]
-fn checks_messages(rt: HostRuntime) -> Result<(), Fail> {
-    for (parts, answer) in MESSAGES {
-        assert!(rt; checked(&rt, rt.alloc(), &NINE[..3], parts)? == *answer);
+// What these roles may say, which ends where no part is left, is checked so.
+fn are_checked(
+    rt: &(impl Abort + AllocGlobal),
+    roles: &[&str],
+    rows: &[(&[Part<'static>], Checked)],
+) {
+    for (parts, answer) in rows {
+        is_checked(rt, roles, chain(rt, parts), *answer);
     }
-    Ok(())
+}
+
+#[test]
+fn checks_messages(rt: HostRuntime) {
+    are_checked(&rt, &NINE[..3], MESSAGES);
 }
 
 const SIXTEEN: &[&str] = &[
@@ -168,7 +103,7 @@ const FIRST_TWICE: &[&str] = &[
     "l16", "l1",
 ];
 
-const CHOICES: &[(&[Part<'static>], Result<(), GlobalFault>)] = &[
+const CHOICES: &[(&[Part<'static>], Checked)] = &[
     (&[Part::Choice("a", "b", SIXTEEN)], Ok(())),
     (
         &[Part::Choice("a", "b", LABELS)],
@@ -202,36 +137,33 @@ const CHOICES: &[(&[Part<'static>], Result<(), GlobalFault>)] = &[
 ];
 
 #[test]
-fn checks_choices(rt: HostRuntime) -> Result<(), Fail> {
-    for (parts, answer) in CHOICES {
-        assert!(rt; checked(&rt, rt.alloc(), &NINE[..3], parts)? == *answer);
-    }
-    Ok(())
+fn checks_choices(rt: HostRuntime) {
+    are_checked(&rt, &NINE[..3], CHOICES);
 }
 
-const VARIABLES: &[(&[Part<'static>], Result<(), GlobalFault>)] = &[
+const VARIABLES: &[(&[Part<'static>], Checked)] = &[
     (
-        &[Part::Rec("X"), Part::Sent("a", "b"), Part::Var("X")],
+        &[Part::Rec("X"), Part::Sent("a", "b", Int), Part::Var("X")],
         Ok(()),
     ),
     (
-        &[Part::Sent("a", "b"), Part::Var("X")],
+        &[Part::Sent("a", "b", Int), Part::Var("X")],
         Err(GlobalFault::Unbound),
     ),
     (&[Part::Var("X")], Err(GlobalFault::Unbound)),
     (
         &[
             Part::Rec("X"),
-            Part::Sent("a", "b"),
+            Part::Sent("a", "b", Int),
             Part::Rec("X"),
-            Part::Sent("a", "b"),
+            Part::Sent("a", "b", Int),
             Part::Var("X"),
         ],
         Err(GlobalFault::Shadowed),
     ),
     // the message comes before the inner one
     (
-        &[Part::Rec("X"), Part::Sent("a", "z"), Part::Rec("X")],
+        &[Part::Rec("X"), Part::Sent("a", "z", Int), Part::Rec("X")],
         Err(GlobalFault::UnknownRole),
     ),
     (
@@ -245,7 +177,7 @@ const VARIABLES: &[(&[Part<'static>], Result<(), GlobalFault>)] = &[
     (
         &[
             Part::Rec("X"),
-            Part::Sent("a", "b"),
+            Part::Sent("a", "b", Int),
             Part::Rec("Y"),
             Part::Var("Y"),
         ],
@@ -263,108 +195,91 @@ const VARIABLES: &[(&[Part<'static>], Result<(), GlobalFault>)] = &[
 ];
 
 #[test]
-fn checks_variables(rt: HostRuntime) -> Result<(), Fail> {
-    for (parts, answer) in VARIABLES {
-        assert!(rt; checked(&rt, rt.alloc(), &NINE[..2], parts)? == *answer);
-    }
+fn checks_variables(rt: HostRuntime) {
+    are_checked(&rt, &NINE[..2], VARIABLES);
     size_laws();
     protocol_laws();
-    Ok(())
 }
 
-// A choice with one branch that holds a choice with one branch, and so on.
-fn nested(rt: &impl Abort, alloc: alloc::Global, levels: u32) -> Result<Global, Fail> {
-    let mut body = Global::End;
-    for _ in 0..levels {
-        body = in_front(rt, alloc, &Part::Choice("a", "b", &["l"]), body)?;
-    }
-    Ok(body)
-}
-
-// What `a` and `b` may say to each other, once it is checked.
-fn between(
-    rt: &impl Abort,
-    alloc: alloc::Global,
-    body: Global,
-) -> Result<Result<(), GlobalFault>, Fail> {
-    let mut roles = Vec::new(alloc);
-    roles.push(name(rt, "a"))?;
-    roles.push(name(rt, "b"))?;
-    Ok(check(&Protocol { roles, body }))
-}
+// A choice with one branch, which holds one, and so on.
+const NESTED: &Part<'static> = &Part::Choice("a", "b", &["l"]);
 
 #[test]
-fn drops_deep_trees(rt: HostRuntime) -> Result<(), Fail> {
-    let rows = [
-        (63, Ok(())),
-        (64, Err(GlobalFault::TooDeep)),
-        (150_000, Err(GlobalFault::TooManyNodes)),
-    ];
-    for (levels, answer) in rows {
-        let body = nested(&rt, rt.alloc(), levels)?;
-        assert_eq!(rt; between(&rt, rt.alloc(), body)?, answer);
-    }
-    let long = row(&rt, rt.alloc(), NINE, 150_000)?;
-    assert_eq!(rt; long, Err(GlobalFault::RoleCount));
-    Ok(())
+fn drops_deep_trees(rt: HostRuntime) {
+    is_checked(&rt, TWO, many(&rt, 63, NESTED), Ok(()));
+    is_checked(&rt, TWO, many(&rt, 64, NESTED), Err(GlobalFault::TooDeep));
+    is_checked(
+        &rt,
+        TWO,
+        many(&rt, 150_000, NESTED),
+        Err(GlobalFault::TooManyNodes),
+    );
+    is_checked(
+        &rt,
+        NINE,
+        many(&rt, 150_000, SENT),
+        Err(GlobalFault::RoleCount),
+    );
 }
 
-#[test]
-fn drops_wide_trees(rt: HostRuntime) -> Result<(), Fail> {
-    let label = name(&rt, "l");
+// So many branches of one label, of which each has so many choices in one another.
+fn wide(rt: &(impl Abort + AllocGlobal), count: u32, levels: u32) -> Branches {
     let mut branches = Branches::NoMore;
-    for _ in 0..150_000 {
-        branches = Branches::more(rt.alloc(), label, Global::End, branches)?;
+    for _ in 0..count {
+        branches = more(rt, "l", many(rt, levels, NESTED), branches);
     }
-    drop(branches);
-    let mut others = Branches::NoMore;
-    for _ in 0..300 {
-        let next = nested(&rt, rt.alloc(), 300)?;
-        others = Branches::more(rt.alloc(), label, next, others)?;
+    branches
+}
+
+// A role's choice between these branches, with another role or by itself.
+fn choice(rt: &impl Abort, from: &str, to: &str, branches: Branches) -> Global {
+    Global::Choice {
+        sender: name(rt, from),
+        receiver: name(rt, to),
+        branches,
     }
-    let body = Global::Choice {
-        sender: label,
-        receiver: label,
-        branches: others,
-    };
-    let answer = Err(GlobalFault::TooManyNodes);
-    assert_eq!(rt; between(&rt, rt.alloc(), body)?, answer);
-    Ok(())
 }
 
 #[test]
-fn walks_branches(rt: HostRuntime) -> Result<(), Fail> {
-    let branches = branches(&rt, rt.alloc(), &["l", "m", "n"], Global::End)?;
-    let mut found = Vec::new(rt.alloc());
+fn drops_wide_trees(rt: HostRuntime) {
+    drop(wide(&rt, 150_000, 0));
+    let body = choice(&rt, "l", "l", wide(&rt, 300, 300));
+    is_checked(&rt, TWO, body, Err(GlobalFault::TooManyNodes));
+}
+
+// Whether the branches have these labels, and each ends.
+fn are_ends(branches: &Branches, labels: &[&str]) -> bool {
+    let mut rest = labels.iter();
     for (label, next) in branches.iter() {
-        assert!(rt; matches!(next, Global::End));
-        found.push(*label)?;
+        let is_label = rest
+            .next()
+            .is_some_and(|text| label.is_spelled(text.as_bytes()));
+        if !is_label || !matches!(next, Global::End) {
+            return false;
+        }
     }
-    let labels = [name(&rt, "l"), name(&rt, "m"), name(&rt, "n")];
-    assert_eq!(rt; found.as_slice(), labels.as_slice());
-    Ok(())
+    rest.next().is_none()
 }
 
 #[test]
-fn counts_nodes_over_branches(rt: HostRuntime) -> Result<(), Fail> {
-    let rows = [(30, Ok(())), (31, Err(GlobalFault::TooManyNodes))];
-    for (last, answer) in rows {
-        let mut branches = Branches::NoMore;
-        let mut messages = last;
-        for label in LABELS[..8].iter().rev() {
-            let mut next = Global::End;
-            for _ in 0..messages {
-                next = in_front(&rt, rt.alloc(), &Part::Sent("a", "b"), next)?;
-            }
-            branches = Branches::more(rt.alloc(), name(&rt, label), next, branches)?;
-            messages = 31;
-        }
-        let body = Global::Choice {
-            sender: name(&rt, "a"),
-            receiver: name(&rt, "b"),
-            branches,
-        };
-        assert_eq!(rt; between(&rt, rt.alloc(), body)?, answer);
+fn walks_branches(rt: HostRuntime) {
+    let labels = &["l", "m", "n"];
+    assert!(rt; are_ends(&branches(&rt, labels, Global::End), labels));
+}
+
+// A choice of eight labels. After the last of them come so many messages, and after each other 31.
+fn eight(rt: &(impl Abort + AllocGlobal), last: u32) -> Global {
+    let mut branches = Branches::NoMore;
+    let mut messages = last;
+    for label in LABELS[..8].iter().rev() {
+        branches = more(rt, label, many(rt, messages, SENT), branches);
+        messages = 31;
     }
-    Ok(())
+    choice(rt, "a", "b", branches)
+}
+
+#[test]
+fn counts_nodes_over_branches(rt: HostRuntime) {
+    is_checked(&rt, TWO, eight(&rt, 30), Ok(()));
+    is_checked(&rt, TWO, eight(&rt, 31), Err(GlobalFault::TooManyNodes));
 }

@@ -3,11 +3,11 @@ ghost use Rattle.std.specs.Prelude.{◌≡◌, IfOk};
 use mps_base::write_number;
 use mps_line::laws::one_reply_line;
 use mps_line::{LineFault, Reply, read_answer, read_join};
-use std::alloc::Global;
-use std::test::Fail;
+use std::alloc::{AllocGlobal, Global};
+use std::process::Abort;
 
 // The reply as it is written, and what that is read as.
-fn again(alloc: Global, reply: &Reply) -> Result<(Vec<u8>, Reply), Fail>
+fn again(alloc: Global, reply: &Reply) -> Result<(Vec<u8>, Reply), LineFault>
     ensures { IfOk result (λ r. r.1 ≡ reply.now) }
 {
     one_reply_line();
@@ -19,8 +19,19 @@ fn again(alloc: Global, reply: &Reply) -> Result<(Vec<u8>, Reply), Fail>
 }
 
 // What the line is read as, in words.
-fn shown(alloc: Global, reply: &Reply) -> Result<String, Fail> {
-    Ok(format!(in alloc; "{reply:?}")?)
+fn shown(rt: &(impl Abort + AllocGlobal), reply: &Reply) -> String {
+    format!(in rt.alloc(); "{reply:?}").expect(rt, "memory")
+}
+
+// The reply of the line.
+fn reply(rt: &(impl Abort + AllocGlobal), line: &[u8]) -> Reply {
+    read_answer(rt.alloc(), line).expect(rt, "a reply")
+}
+
+// What the reply is written as, and whether that is read as the same.
+fn written(rt: &(impl Abort + AllocGlobal), reply: &Reply) -> (Vec<u8>, bool) {
+    let (line, read) = again(rt.alloc(), reply).expect(rt, "the same");
+    (line, shown(rt, reply).as_str() == shown(rt, &read).as_str())
 }
 
 // A reply's line, and its code.
@@ -68,24 +79,18 @@ const REPLIES: &[(&str, u8)] = &[
     ("refused number", 19),
 ];
 
-// Whether the line is read as a reply with this code, which is written and read again.
-fn is_read(alloc: Global, line: &str, code: u8) -> Result<bool, Fail> {
-    let reply = read_answer(alloc, line.as_bytes())?;
-    let (written, read) = again(alloc, &reply)?;
-    let (first, second) = (shown(alloc, &reply)?, shown(alloc, &read)?);
-    Ok(
-        reply.code() == code
-            && written.as_slice() == line.as_bytes()
-            && first.as_str() == second.as_str(),
-    )
+// Whether the line is read as a reply, which is written and read again.
+fn is_read_again(rt: &(impl Abort + AllocGlobal), line: &[u8]) -> bool {
+    let (written, is_same) = written(rt, &reply(rt, line));
+    is_same && written.as_slice() == line
 }
 
 #[test]
-fn reads_replies(rt: HostRuntime) -> Result<(), Fail> {
+fn reads_replies(rt: HostRuntime) {
     for (line, code) in REPLIES {
-        assert!(rt; is_read(rt.alloc(), line, *code)?, "{line}");
+        assert_eq!(rt; reply(&rt, line.as_bytes()).code(), *code, "{line}");
+        assert!(rt; is_read_again(&rt, line.as_bytes()), "{line}");
     }
-    Ok(())
 }
 
 const BAD_REPLIES: &[&str] = &[
@@ -171,41 +176,36 @@ const BAD_REPLIES: &[&str] = &[
     "join 1 a",
 ];
 
+// Whether the line is read as no reply.
+fn is_bad_reply(alloc: Global, line: &str) -> bool {
+    matches!(read_answer(alloc, line.as_bytes()), Err(LineFault::Bad))
+}
+
 #[test]
-fn bad_replies(rt: HostRuntime) -> Result<(), Fail> {
+fn bad_replies(rt: HostRuntime) {
     for line in BAD_REPLIES {
-        let found = read_answer(rt.alloc(), line.as_bytes());
-        assert!(rt; matches!(found, Err(LineFault::Bad)), "{line}");
+        assert!(rt; is_bad_reply(rt.alloc(), line), "{line}");
     }
-    Ok(())
 }
 
 // The words, and after them the numbers from 1 to this one.
-fn numbered(alloc: Global, words: &[u8], last: u64) -> Result<Vec<u8>, Fail> {
-    let mut line = Vec::from_slice(alloc, words)?;
+fn numbered(rt: &(impl Abort + AllocGlobal), words: &[u8], last: u64) -> Vec<u8> {
+    let mut line = Vec::from_slice(rt.alloc(), words).expect(rt, "memory");
     for number in 1..=last {
-        line.push(b' ')?;
-        write_number(number, &mut line)?;
+        line.push(b' ').expect(rt, "memory");
+        write_number(number, &mut line).expect(rt, "memory");
     }
-    Ok(line)
-}
-
-// Whether the line is read, and written again.
-fn is_read_again(alloc: Global, line: &[u8]) -> Result<bool, Fail> {
-    let reply = read_answer(alloc, line)?;
-    let (written, _read) = again(alloc, &reply)?;
-    Ok(written.as_slice() == line)
+    line
 }
 
 const LONG: &[(&str, u64)] = &[("undone", 1_000), ("news 7", 1_000), ("{", 20_000)];
 
 #[test]
-fn reads_long_replies(rt: HostRuntime) -> Result<(), Fail> {
+fn reads_long_replies(rt: HostRuntime) {
     for (words, last) in LONG {
-        let line = numbered(rt.alloc(), words.as_bytes(), *last)?;
-        assert!(rt; is_read_again(rt.alloc(), &line)?, "{words}");
+        let line = numbered(&rt, words.as_bytes(), *last);
+        assert!(rt; is_read_again(&rt, &line), "{words}");
     }
-    Ok(())
 }
 
 // A first line, the session that it joins, and the role.
@@ -243,14 +243,17 @@ fn is_join(line: &str, session: u64, name: &str) -> bool {
     }
 }
 
+// Whether the line is read as no first one.
+fn is_bad_join(line: &str) -> bool {
+    matches!(read_join(line.as_bytes()), Err(LineFault::Bad))
+}
+
 #[test]
-fn reads_joins(rt: HostRuntime) -> Result<(), Fail> {
+fn reads_joins(rt: HostRuntime) {
     for (line, session, name) in JOINS {
         assert!(rt; is_join(line, *session, name), "{line}");
     }
     for line in BAD_JOINS {
-        let found = read_join(line.as_bytes());
-        assert!(rt; matches!(found, Err(LineFault::Bad)), "{line}");
+        assert!(rt; is_bad_join(line), "{line}");
     }
-    Ok(())
 }

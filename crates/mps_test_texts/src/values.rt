@@ -1,23 +1,22 @@
 use mps_base::*;
-use std::alloc::Global;
-use std::test::Fail;
+use std::alloc::{AllocGlobal, Global};
+use std::process::Abort;
 
 // The value that the bytes spell.
-fn value(alloc: Global, bytes: &[u8]) -> Result<Value, Fail> {
-    Ok(Value::read(alloc, bytes)?)
+fn value(rt: &(impl Abort + AllocGlobal), bytes: &[u8]) -> Value {
+    Value::read(rt.alloc(), bytes).expect(rt, "a value")
 }
 
-fn name(bytes: &[u8]) -> Result<Name, Fail> {
-    Ok(Name::read(bytes).ok_or("a name")?)
+// The name of these letters.
+fn name(rt: &impl Abort, text: &str) -> Name {
+    Name::read(text.as_bytes()).expect(rt, "a name")
 }
 
-// The value's spelling, and its copy's.
-fn spelled(alloc: Global, value: &Value) -> Result<(Vec<u8>, Vec<u8>), Fail> {
-    let mut text = Vec::new(alloc);
-    value.write(&mut text)?;
-    let mut again = Vec::new(alloc);
-    value.copy(alloc)?.write(&mut again)?;
-    Ok((text, again))
+// Whether the value is spelled so.
+fn is_written(rt: &(impl Abort + AllocGlobal), value: &Value, text: &[u8]) -> bool {
+    let mut bytes = Vec::new(rt.alloc());
+    value.write(&mut bytes).expect(rt, "memory");
+    bytes.as_slice() == text
 }
 
 const NAMES: &[&str] = &["a", "a_1", "abcdefghijklmnopqrstuvwxyz_01234", "ends", "x0"];
@@ -41,16 +40,15 @@ const NO_NAMES: &[&str] = &[
 ];
 
 #[test]
-fn names(rt: HostRuntime) -> Result<(), Fail> {
+fn names(rt: HostRuntime) {
     for good in NAMES {
-        let name = name(good.as_bytes())?;
+        let name = name(&rt, good);
         assert_eq!(rt; name.as_bytes(), good.as_bytes());
         assert!(rt; name.is(&name));
     }
     for bad in NO_NAMES {
         assert!(rt; Name::read(bad.as_bytes()).is_none(), "{bad}");
     }
-    Ok(())
 }
 
 const VARIABLES: &[&str] = &["X", "A_1", "ABCDEFGHIJKLMNOPQRSTUVWXYZ_01234", "END"];
@@ -68,16 +66,15 @@ const NO_VARIABLES: &[&str] = &[
 ];
 
 #[test]
-fn variables(rt: HostRuntime) -> Result<(), Fail> {
+fn variables(rt: HostRuntime) {
     for good in VARIABLES {
-        let variable = VarName::read(good.as_bytes()).ok_or("a variable")?;
+        let variable = VarName::read(good.as_bytes()).expect(&rt, "a variable");
         assert_eq!(rt; variable.as_bytes(), good.as_bytes());
         assert!(rt; variable.is(&variable));
     }
     for bad in NO_VARIABLES {
         assert!(rt; VarName::read(bad.as_bytes()).is_none(), "{bad}");
     }
-    Ok(())
 }
 
 const VALUES: &[&str] = &[
@@ -115,58 +112,54 @@ const NO_VALUES: &[&str] = &[
 ];
 
 // Whether the text is that of a value and of its copy.
-fn is_spelled(alloc: Global, text: &[u8]) -> Result<bool, Fail> {
-    let value = value(alloc, text)?;
-    let (spelled, copied) = spelled(alloc, &value)?;
-    Ok(spelled.as_slice() == text && copied.as_slice() == text)
+fn is_spelled(rt: &(impl Abort + AllocGlobal), text: &[u8]) -> bool {
+    let value = value(rt, text);
+    let copied = value.copy(rt.alloc()).expect(rt, "memory");
+    is_written(rt, &value, text) && is_written(rt, &copied, text)
+}
+
+// Whether the text is no value's.
+fn is_no_value(alloc: Global, text: &[u8]) -> bool {
+    matches!(Value::read(alloc, text), Err(ValueFault::Bad))
 }
 
 #[test]
-fn values(rt: HostRuntime) -> Result<(), Fail> {
+fn values(rt: HostRuntime) {
     for text in VALUES {
-        assert!(rt; is_spelled(rt.alloc(), text.as_bytes())?, "{text}");
+        assert!(rt; is_spelled(&rt, text.as_bytes()), "{text}");
     }
     for text in NO_VALUES {
-        let read = Value::read(rt.alloc(), text.as_bytes());
-        assert!(rt; matches!(read, Err(ValueFault::Bad)), "{text}");
+        assert!(rt; is_no_value(rt.alloc(), text.as_bytes()), "{text}");
     }
-    Ok(())
 }
 
 // So many letters between quotes.
-fn quoted(alloc: Global, count: usize) -> Result<Vec<u8>, Fail> {
-    let mut quoted = vec![in alloc; b'x'; count]?;
-    quoted.insert(0, b'"')?;
-    quoted.push(b'"')?;
-    Ok(quoted)
+fn quoted(rt: &(impl Abort + AllocGlobal), count: usize) -> Vec<u8> {
+    let mut quoted = vec![in rt.alloc(); b'x'; count].expect(rt, "memory");
+    quoted.insert(0, b'"').expect(rt, "memory");
+    quoted.push(b'"').expect(rt, "memory");
+    quoted
 }
 
 // The text of so many letters, if they are few enough.
-fn text_of(alloc: Global, count: usize) -> Result<Option<Text>, Fail> {
-    Ok(Text::new(vec![in alloc; b'x'; count]?))
+fn text_of(rt: &(impl Abort + AllocGlobal), count: usize) -> Option<Text> {
+    Text::new(vec![in rt.alloc(); b'x'; count].expect(rt, "memory"))
 }
 
 #[test]
-fn text_lengths(rt: HostRuntime) -> Result<(), Fail> {
-    let read = Value::read(rt.alloc(), &quoted(rt.alloc(), 257)?);
-    assert!(rt; matches!(read, Err(ValueFault::Bad)));
-    let text = text_of(rt.alloc(), 256)?.ok_or("a text")?;
-    assert_eq!(rt; text.copy(rt.alloc())?.as_bytes().len(), 256);
-    assert!(rt; text_of(rt.alloc(), 257)?.is_none());
-    Ok(())
-}
-
-// Whether the text of so many letters is read, spelled and copied.
-fn is_text_of(alloc: Global, count: usize) -> Result<bool, Fail> {
-    is_spelled(alloc, &quoted(alloc, count)?)
+fn text_lengths(rt: HostRuntime) {
+    assert!(rt; is_no_value(rt.alloc(), &quoted(&rt, 257)));
+    let text = text_of(&rt, 256).expect(&rt, "a text");
+    let copied = text.copy(rt.alloc()).expect(&rt, "memory");
+    assert_eq!(rt; copied.as_bytes().len(), 256);
+    assert!(rt; text_of(&rt, 257).is_none());
 }
 
 #[test]
-fn texts_of_each_length(rt: HostRuntime) -> Result<(), Fail> {
+fn texts_of_each_length(rt: HostRuntime) {
     for count in 0..257 {
-        assert!(rt; is_text_of(rt.alloc(), count)?, "{count}");
+        assert!(rt; is_spelled(&rt, &quoted(&rt, count)), "{count}");
     }
-    Ok(())
 }
 
 const SORTS: &[(&str, Sort)] = &[
@@ -175,14 +168,17 @@ const SORTS: &[(&str, Sort)] = &[
     ("\"true\"", Sort::Text),
 ];
 
+// Whether the value is of the sort.
+fn is_of(value: &Value, sort: Sort) -> bool {
+    value.sort() == sort && value.fits(sort)
+}
+
 #[test]
-fn sorts(rt: HostRuntime) -> Result<(), Fail> {
+fn sorts(rt: HostRuntime) {
     for (text, sort) in SORTS {
-        let value = value(rt.alloc(), text.as_bytes())?;
-        assert!(rt; value.sort() == *sort && value.fits(*sort), "{text}");
+        assert!(rt; is_of(&value(&rt, text.as_bytes()), *sort), "{text}");
     }
     assert!(rt; !Value::Int(1).fits(Sort::Bool));
-    Ok(())
 }
 
 const NUMBERS: &[(&str, u64)] = &[("0", 0), ("1", 1), ("18446744073709551615", u64::MAX)];
@@ -190,42 +186,38 @@ const NUMBERS: &[(&str, u64)] = &[("0", 0), ("1", 1), ("18446744073709551615", u
 const NO_NUMBERS: &[&str] = &["", "-1", "+1", "01", "00", "1a", "18446744073709551616"];
 
 // Whether the text is that of the number.
-fn is_number_text(alloc: Global, text: &[u8], number: u64) -> Result<bool, Fail> {
-    let mut out = Vec::from_slice(alloc, b"#")?;
-    write_number(number, &mut out)?;
-    Ok(read_number(text) == Some(number) && out.as_slice().get(1..) == Some(text))
+fn is_number_text(rt: &(impl Abort + AllocGlobal), text: &[u8], number: u64) -> bool {
+    let mut out = Vec::from_slice(rt.alloc(), b"#").expect(rt, "memory");
+    write_number(number, &mut out).expect(rt, "memory");
+    read_number(text) == Some(number) && out.as_slice().get(1..) == Some(text)
 }
 
 #[test]
-fn numbers(rt: HostRuntime) -> Result<(), Fail> {
+fn numbers(rt: HostRuntime) {
     for (text, number) in NUMBERS {
-        assert!(rt;
-            is_number_text(rt.alloc(), text.as_bytes(), *number)?,
-            "{text}"
-        );
+        assert!(rt; is_number_text(&rt, text.as_bytes(), *number), "{text}");
     }
     for bad in NO_NUMBERS {
         assert_eq!(rt; read_number(bad.as_bytes()), None, "{bad}");
     }
-    Ok(())
 }
 
 const LETTERS: &[&str] = &["a", "b", "c", "d", "e", "f", "g", "h", "i"];
 
 // So many names, from a on.
-fn letters(alloc: Global, count: usize) -> Result<Vec<Name>, Fail> {
-    let mut names = Vec::new(alloc);
-    for text in LETTERS.get(..count).ok_or("nine")? {
-        names.push(name(text.as_bytes())?)?;
+fn letters(rt: &(impl Abort + AllocGlobal), count: usize) -> Vec<Name> {
+    let mut names = Vec::new(rt.alloc());
+    for text in LETTERS.iter().take(count) {
+        names.push(name(rt, text)).expect(rt, "memory");
     }
-    Ok(names)
+    names
 }
 
-// Whether so many names are roles, and as many in a copy, or refused for their number.
-fn are_roles(alloc: Global, count: usize, few_or_many: bool) -> Result<bool, Fail> {
-    match Roles::of(alloc, &letters(alloc, count)?) {
-        Ok(roles) => Ok(!few_or_many && roles.copy(alloc)?.count() == count),
-        Err(fault) => Ok(few_or_many && fault == RoleFault::RoleCount),
+// How many roles a copy of the roles of so many names has, or why these are none.
+fn counted(rt: &(impl Abort + AllocGlobal), count: usize) -> Result<usize, RoleFault> {
+    match Roles::of(rt.alloc(), &letters(rt, count)) {
+        Ok(roles) => Ok(roles.copy(rt.alloc()).expect(rt, "memory").count()),
+        Err(fault) => Err(fault),
     }
 }
 
@@ -237,58 +229,77 @@ fn is_found(roles: &Roles, name: &Name, place: usize) -> bool {
     }
 }
 
+const COUNTS: &[(usize, Result<usize, RoleFault>)] = &[
+    (0, Err(RoleFault::RoleCount)),
+    (1, Err(RoleFault::RoleCount)),
+    (2, Ok(2)),
+    (8, Ok(8)),
+    (9, Err(RoleFault::RoleCount)),
+];
+
+// Whether two of three roles with one name are refused.
+fn is_double(rt: &(impl Abort + AllocGlobal)) -> bool {
+    let (a, b) = (name(rt, "a"), name(rt, "b"));
+    matches!(
+        Roles::of(rt.alloc(), &[a, b, a]),
+        Err(RoleFault::DoubleRole)
+    )
+}
+
 #[test]
-fn role_lists(rt: HostRuntime) -> Result<(), Fail> {
-    let alloc = rt.alloc();
-    assert!(rt; are_roles(alloc, 0, true)? && are_roles(alloc, 1, true)?);
-    assert!(rt; are_roles(alloc, 2, false)? && are_roles(alloc, 8, false)?);
-    assert!(rt; are_roles(alloc, 9, true)?);
-    let (a, b) = (name(b"a")?, name(b"b")?);
-    let double = Roles::of(alloc, &[a, b, a]);
-    assert!(rt; matches!(double, Err(RoleFault::DoubleRole)));
-    Ok(())
+fn role_lists(rt: HostRuntime) {
+    for (names, wanted) in COUNTS {
+        assert_eq!(rt; counted(&rt, *names), *wanted);
+    }
+    assert!(rt; is_double(&rt));
+}
+
+// The roles a, b and c.
+fn three(rt: &(impl Abort + AllocGlobal)) -> Roles {
+    Roles::of(rt.alloc(), &letters(rt, 3)).expect(rt, "roles")
 }
 
 const NO_ROLES: &[&[u8]] = &[b"", b"d", b"C", b"cc", b"end"];
 
 #[test]
-fn finds_roles(rt: HostRuntime) -> Result<(), Fail> {
-    let roles = Roles::of(rt.alloc(), &letters(rt.alloc(), 3)?)?;
-    let (c, d) = (name(b"c")?, name(b"d")?);
+fn finds_roles(rt: HostRuntime) {
+    let roles = three(&rt);
+    let (c, d) = (name(&rt, "c"), name(&rt, "d"));
     assert!(rt; is_found(&roles, &c, 2) && roles.find(&d).is_none());
     assert_eq!(rt; roles.find_spelled(b"c"), roles.find(&c));
     for bytes in NO_ROLES {
         assert!(rt; roles.find_spelled(bytes).is_none());
     }
-    Ok(())
 }
 
-// Whether a step of this act and its copy are shown alike.
-fn is_copied(alloc: Global, act: Act) -> Result<bool, Fail> {
-    let step = Step {
-        id: StepId::new(4),
-        role: Role::new(2),
-        act,
-    };
-    let copied = step.copy(alloc)?;
-    let first = format!(in alloc; "{step:?}")?;
-    let second = format!(in alloc; "{copied:?}")?;
-    Ok(first.as_str() == second.as_str())
+// How the step is shown.
+fn shown(rt: &(impl Abort + AllocGlobal), step: &Step) -> String {
+    format!(in rt.alloc(); "{step:?}").expect(rt, "memory")
+}
+
+// Whether the step and its copy are shown alike.
+fn is_copied(rt: &(impl Abort + AllocGlobal), step: &Step) -> bool {
+    let copied = step.copy(rt.alloc()).expect(rt, "memory");
+    shown(rt, step).as_str() == shown(rt, &copied).as_str()
+}
+
+// A step of this act and its copy are shown alike.
+fn copies(rt: &(impl Abort + AllocGlobal), act: Act) {
+    let (id, role) = (StepId::new(4), Role::new(2));
+    assert!(rt; is_copied(rt, &Step { id, role, act }));
 }
 
 #[test]
-fn copied_steps(rt: HostRuntime) -> Result<(), Fail> {
-    let alloc = rt.alloc();
-    let label = name(b"yes")?;
-    let message = Message::Value(value(alloc, b"\"good day\"")?);
+fn copied_steps(rt: HostRuntime) {
+    let label = name(&rt, "yes");
+    let message = Message::Value(value(&rt, b"\"good day\""));
     let to = Role::new(1);
-    assert!(rt; is_copied(alloc, Act::Out { to, message })?);
+    copies(&rt, Act::Out { to, message });
     let from = Role::new(0);
     let slot = Some(label);
-    assert!(rt; is_copied(alloc, Act::In { from, slot })?);
-    assert!(rt; is_copied(alloc, Act::Mark(label))?);
-    assert!(rt; is_copied(alloc, Act::Commit)?);
-    Ok(())
+    copies(&rt, Act::In { from, slot });
+    copies(&rt, Act::Mark(label));
+    copies(&rt, Act::Commit);
 }
 
 // Whether the message is this number.
@@ -307,42 +318,48 @@ fn is_label(message: &Message, label: &Name) -> bool {
     }
 }
 
+// A copy of the message.
+fn copy_of(rt: &(impl Abort + AllocGlobal), message: &Message) -> Message {
+    message.copy(rt.alloc()).expect(rt, "memory")
+}
+
 #[test]
-fn copied_messages(rt: HostRuntime) -> Result<(), Fail> {
-    let alloc = rt.alloc();
+fn copied_messages(rt: HostRuntime) {
     for number in [5, 7] {
-        let copied = Message::Value(Value::Int(number)).copy(alloc)?;
+        let copied = copy_of(&rt, &Message::Value(Value::Int(number)));
         assert!(rt; is_number(&copied, number), "{number}");
     }
-    let label = name(b"yes")?;
-    let copied = Message::Label(label).copy(alloc)?;
-    assert!(rt; is_label(&copied, &label));
-    Ok(())
+    let label = name(&rt, "yes");
+    assert!(rt; is_label(&copy_of(&rt, &Message::Label(label)), &label));
 }
 
 // Whether the name of this letter is a role's at the place.
-fn is_at(roles: &Roles, letter: &str, place: usize) -> Result<bool, Fail> {
-    let name = name(letter.as_bytes())?;
+fn is_at(rt: &impl Abort, roles: &Roles, text: &str, place: usize) -> bool {
+    let name = name(rt, text);
     let again = name;
-    Ok(is_found(roles, &name, place) && again.is(&name) && again.as_bytes() == letter.as_bytes())
+    is_found(roles, &name, place) && again.is(&name) && again.as_bytes() == text.as_bytes()
 }
 
 #[test]
-fn copied_roles(rt: HostRuntime) -> Result<(), Fail> {
-    let roles = Roles::of(rt.alloc(), &letters(rt.alloc(), 3)?)?;
-    let copied = roles.copy(rt.alloc())?;
+fn copied_roles(rt: HostRuntime) {
+    let copied = three(&rt).copy(rt.alloc()).expect(&rt, "memory");
     assert_eq!(rt; copied.count(), 3);
-    assert!(rt; is_at(&copied, "a", 0)? && is_at(&copied, "b", 1)? && is_at(&copied, "c", 2)?);
-    Ok(())
+    for (letter, place) in LETTERS.iter().take(3).zip(0..) {
+        assert!(rt; is_at(&rt, &copied, letter, place), "{letter}");
+    }
+}
+
+// Puts the token after the text.
+fn put(rt: &impl Abort, text: &mut Vec<u8>, token: &[u8]) {
+    push_token(text, token).expect(rt, "memory");
 }
 
 #[test]
-fn spaces_tokens(rt: HostRuntime) -> Result<(), Fail> {
+fn spaces_tokens(rt: HostRuntime) {
     let mut text = Vec::new(rt.alloc());
-    for token in [b"a".as_slice(), b"->", b"b"] {
-        push_token(&mut text, token)?;
-    }
+    put(&rt, &mut text, b"a");
+    put(&rt, &mut text, b"->");
+    put(&rt, &mut text, b"b");
     assert_eq!(rt; text.as_slice(), b"a -> b".as_slice());
     spacing::written_spaced();
-    Ok(())
 }

@@ -1,56 +1,55 @@
 use mps_base::{Message, Name, StepId, Value};
 use mps_command::{Answer, Done, Refusal, ShownText, StepIds, Violation};
 use mps_line::Reply;
-use std::alloc::Global;
-use std::test::Fail;
+use std::alloc::AllocGlobal;
+use std::process::Abort;
 
-// Whether the reply is written as this line, after a `#`.
-fn is_written(alloc: Global, reply: &Reply, line: &str) -> Result<bool, Fail> {
-    let mut out = Vec::from_slice(alloc, b"#")?;
-    reply.write(&mut out)?;
-    Ok(out.as_slice() == line.as_bytes())
+// The reply is written as this line, after a `#`.
+fn is_written(rt: &(impl Abort + AllocGlobal), reply: &Reply, line: &str) {
+    let mut out = Vec::from_slice(rt.alloc(), b"#").expect(rt, "memory");
+    reply.write(&mut out).expect(rt, "memory");
+    assert!(rt; out.as_slice() == line.as_bytes(), "{line}");
 }
 
 // The same of the answer alone.
-fn is_answer(alloc: Global, answer: Answer, line: &str) -> Result<bool, Fail> {
-    is_written(alloc, &Reply::Answered(answer), line)
+fn is_answer(rt: &(impl Abort + AllocGlobal), answer: Answer, line: &str) {
+    is_written(rt, &Reply::Answered(answer), line);
 }
 
-fn is_done(alloc: Global, number: u64, got: Option<Message>, line: &str) -> Result<bool, Fail> {
+fn is_done(rt: &(impl Abort + AllocGlobal), number: u64, got: Option<Message>, line: &str) {
     let id = StepId::new(number);
-    is_answer(alloc, Answer::Done(Done { id, got }), line)
+    is_answer(rt, Answer::Done(Done { id, got }), line);
+}
+
+// The same where this value was taken.
+fn is_taken(rt: &(impl Abort + AllocGlobal), number: u64, value: Value, line: &str) {
+    is_done(rt, number, Some(Message::Value(value)), line);
 }
 
 #[test]
-fn done(rt: HostRuntime) -> Result<(), Fail> {
-    let alloc = rt.alloc();
-    assert!(rt; is_done(alloc, 1, None, "#done 1")?);
-    assert!(rt; is_done(alloc, 0, None, "#done 0")?);
-    let yes = Message::Value(Value::Bool(true));
-    assert!(rt;
-        is_done(
-            alloc,
-            u64::MAX,
-            Some(yes),
-            "#done 18446744073709551615 true"
-        )?
+fn done(rt: HostRuntime) {
+    is_done(&rt, 1, None, "#done 1");
+    is_done(&rt, 0, None, "#done 0");
+    is_taken(
+        &rt,
+        u64::MAX,
+        Value::Bool(true),
+        "#done 18446744073709551615 true",
     );
-    let less = Message::Value(Value::Int(-5));
-    assert!(rt; is_done(alloc, 2, Some(less), "#done 2 -5")?);
-    let ok = Message::Label(Name::read(b"ok").ok_or("a name")?);
-    assert!(rt; is_done(alloc, 6, Some(ok), "#done 6 ok")?);
-    let good_day = Message::Value(Value::read(alloc, b"\"good day\"")?);
-    assert!(rt; is_done(alloc, 4, Some(good_day), "#done 4 \"good day\"")?);
-    Ok(())
+    is_taken(&rt, 2, Value::Int(-5), "#done 2 -5");
+    let ok = Name::read(b"ok").expect(&rt, "a name");
+    is_done(&rt, 6, Some(Message::Label(ok)), "#done 6 ok");
+    let good_day = Value::read(rt.alloc(), b"\"good day\"").expect(&rt, "a value");
+    is_taken(&rt, 4, good_day, "#done 4 \"good day\"");
 }
 
 // The list of these numbers.
-fn listed(alloc: Global, numbers: &[u64]) -> Result<StepIds, Fail> {
-    let mut ids = Vec::new(alloc);
+fn listed(rt: &(impl Abort + AllocGlobal), numbers: &[u64]) -> StepIds {
+    let mut ids = Vec::new(rt.alloc());
     for number in numbers {
-        ids.push(StepId::new(*number))?;
+        ids.push(StepId::new(*number)).expect(rt, "memory");
     }
-    Ok(StepIds::of(ids))
+    StepIds::of(ids)
 }
 
 const UNDONE: &[(&[u64], &str)] = &[
@@ -61,14 +60,15 @@ const UNDONE: &[(&[u64], &str)] = &[
 ];
 
 #[test]
-fn undone(rt: HostRuntime) -> Result<(), Fail> {
+fn undone(rt: HostRuntime) {
     for (numbers, line) in UNDONE {
-        let ids = listed(rt.alloc(), numbers)?;
-        assert!(rt; is_answer(rt.alloc(), Answer::Undone(ids), line)?, "{line}");
+        is_answer(&rt, Answer::Undone(listed(&rt, numbers)), line);
     }
-    let one = Answer::Undone(StepIds::one(StepId::new(7)));
-    assert!(rt; is_answer(rt.alloc(), one, "#undone 7")?);
-    Ok(())
+    is_answer(
+        &rt,
+        Answer::Undone(StepIds::one(StepId::new(7))),
+        "#undone 7",
+    );
 }
 
 const NEWS: &[(u64, &[u64], &str)] = &[
@@ -82,25 +82,23 @@ const NEWS: &[(u64, &[u64], &str)] = &[
     ),
 ];
 
-#[test]
-fn news(rt: HostRuntime) -> Result<(), Fail> {
-    for (length, numbers, line) in NEWS {
-        let ids = listed(rt.alloc(), numbers)?;
-        let length = *length;
-        assert!(rt;
-            is_answer(rt.alloc(), Answer::News { length, ids }, line)?,
-            "{line}"
-        );
-    }
-    Ok(())
+// The answer to a question for news is written so.
+fn is_news(rt: &(impl Abort + AllocGlobal), length: u64, numbers: &[u64], line: &str) {
+    let ids = listed(rt, numbers);
+    is_answer(rt, Answer::News { length, ids }, line);
 }
 
 #[test]
-fn shown_sessions(rt: HostRuntime) -> Result<(), Fail> {
-    let text = Vec::from_slice(rt.alloc(), b"{\"history\":[]}")?;
-    let shown = Answer::Shown(ShownText::of(text));
-    assert!(rt; is_answer(rt.alloc(), shown, "#{\"history\":[]}")?);
-    Ok(())
+fn news(rt: HostRuntime) {
+    for (length, numbers, line) in NEWS {
+        is_news(&rt, *length, numbers, line);
+    }
+}
+
+#[test]
+fn shown_sessions(rt: HostRuntime) {
+    let text = Vec::from_slice(rt.alloc(), b"{\"history\":[]}").expect(&rt, "memory");
+    is_answer(&rt, Answer::Shown(ShownText::of(text)), "#{\"history\":[]}");
 }
 
 const VIOLATIONS: &[(Violation, &str)] = &[
@@ -113,43 +111,36 @@ const VIOLATIONS: &[(Violation, &str)] = &[
     (Violation::Mismatch, "#refused mismatch"),
 ];
 
-fn is_refused(alloc: Global, refusal: Refusal, line: &str) -> Result<bool, Fail> {
-    is_answer(alloc, Answer::Refused(refusal), line)
+fn is_refused(rt: &(impl Abort + AllocGlobal), refusal: Refusal, line: &str) {
+    is_answer(rt, Answer::Refused(refusal), line);
 }
 
 #[test]
-fn refused(rt: HostRuntime) -> Result<(), Fail> {
+fn refused(rt: HostRuntime) {
     for (violation, line) in VIOLATIONS {
-        assert!(rt;
-            is_refused(rt.alloc(), Refusal::Violation(*violation), line)?,
-            "{line}"
-        );
+        is_refused(&rt, Refusal::Violation(*violation), line);
     }
-    assert!(rt; is_refused(rt.alloc(), Refusal::NoStep, "#refused nostep")?);
-    assert!(rt; is_refused(rt.alloc(), Refusal::NotYours, "#refused notyours")?);
-    assert!(rt; is_refused(rt.alloc(), Refusal::NoMark, "#refused nomark")?);
-    assert!(rt; is_refused(rt.alloc(), Refusal::Full, "#refused full")?);
-    assert!(rt; is_refused(rt.alloc(), Refusal::Memory, "#refused memory")?);
+    is_refused(&rt, Refusal::NoStep, "#refused nostep");
+    is_refused(&rt, Refusal::NotYours, "#refused notyours");
+    is_refused(&rt, Refusal::NoMark, "#refused nomark");
+    is_refused(&rt, Refusal::Full, "#refused full");
+    is_refused(&rt, Refusal::Memory, "#refused memory");
     let by = StepId::new(2);
-    assert!(rt; is_refused(rt.alloc(), Refusal::Needed { by }, "#refused needed 2")?);
-    assert!(rt; is_refused(rt.alloc(), Refusal::Final { by }, "#refused final 2")?);
+    is_refused(&rt, Refusal::Needed { by }, "#refused needed 2");
+    is_refused(&rt, Refusal::Final { by }, "#refused final 2");
     let by = StepId::new(u64::MAX);
-    assert!(rt;
-        is_refused(
-            rt.alloc(),
-            Refusal::Final { by },
-            "#refused final 18446744073709551615"
-        )?
+    is_refused(
+        &rt,
+        Refusal::Final { by },
+        "#refused final 18446744073709551615",
     );
-    Ok(())
 }
 
 #[test]
-fn refused_lines(rt: HostRuntime) -> Result<(), Fail> {
-    assert!(rt; is_written(rt.alloc(), &Reply::BadLine, "#refused line")?);
-    assert!(rt; is_written(rt.alloc(), &Reply::NoSession, "#refused nosession")?);
-    assert!(rt; is_written(rt.alloc(), &Reply::NoRole, "#refused norole")?);
-    assert!(rt; is_written(rt.alloc(), &Reply::Taken, "#refused taken")?);
-    assert!(rt; is_written(rt.alloc(), &Reply::Number, "#refused number")?);
-    Ok(())
+fn refused_lines(rt: HostRuntime) {
+    is_written(&rt, &Reply::BadLine, "#refused line");
+    is_written(&rt, &Reply::NoSession, "#refused nosession");
+    is_written(&rt, &Reply::NoRole, "#refused norole");
+    is_written(&rt, &Reply::Taken, "#refused taken");
+    is_written(&rt, &Reply::Number, "#refused number");
 }

@@ -27,37 +27,88 @@ enum Chain {
     Nothing,
 }
 
+// To whom the deed gives something, if it does.
+fn receiver(deed: Deed) -> Option<u8> {
+    match deed {
+        Send(to, _) | Tell(to, _) | Choose(to, _) => Some(to),
+        _ => None,
+    }
+}
+
+// From whom the deed takes something, if it does.
+fn giver(deed: Deed) -> Option<u8> {
+    match deed {
+        Receive(from, _) | Pick(from) => Some(from),
+        _ => None,
+    }
+}
+
+// The slot into which the deed receives something.
+fn slot_of(deed: Deed) -> Option<Word> {
+    match deed {
+        Receive(_, slot) => Some(slot),
+        _ => None,
+    }
+}
+
+// The name that the deed marks.
+fn mark_of(deed: Deed) -> Option<Word> {
+    match deed {
+        Mark(name) => Some(name),
+        _ => None,
+    }
+}
+
 // Whether the step is one of the chain.
 fn is_in(step: &Plain, chain: Chain) -> bool {
-    match (chain, step.deed) {
-        (Chain::All, _) => true,
-        (Chain::Of(role), _) => step.role == role,
-        (Chain::Sends(from, to), Send(peer, _) | Tell(peer, _) | Choose(peer, _)) => {
-            step.role == from && peer == to
-        }
-        (Chain::Receipts(from, to), Receive(peer, _) | Pick(peer)) => {
-            step.role == to && peer == from
-        }
-        (Chain::Into(role, slot), Receive(_, word)) => step.role == role && word == slot,
-        (Chain::Marks(role, name), Mark(word)) => step.role == role && word == name,
-        _ => false,
+    match chain {
+        Chain::All => true,
+        Chain::Of(role) => step.role == role,
+        Chain::Sends(from, to) => step.role == from && receiver(step.deed) == Some(to),
+        Chain::Receipts(from, to) => step.role == to && giver(step.deed) == Some(from),
+        Chain::Into(role, slot) => step.role == role && slot_of(step.deed) == Some(slot),
+        Chain::Marks(role, name) => step.role == role && mark_of(step.deed) == Some(name),
+        Chain::Nothing => false,
     }
 }
 
 // How many steps the chain has.
 fn count(steps: &[Plain], chain: Chain) -> usize {
-    steps.iter().filter(|step| is_in(step, chain)).count()
+    let mut count = 0usize;
+    for step in steps {
+        if is_in(step, chain) {
+            count = count.saturating_add(1);
+        }
+    }
+    count
 }
 
 // The n-th step of the chain, from 0.
 fn nth(steps: &[Plain], chain: Chain, n: usize) -> Option<&Plain> {
-    steps.iter().filter(|step| is_in(step, chain)).nth(n)
+    let mut before = 0usize;
+    for step in steps {
+        if is_in(step, chain) {
+            if before == n {
+                return Some(step);
+            }
+            before = before.saturating_add(1);
+        }
+    }
+    None
 }
 
 // The place of the key in the chain, from 0.
 fn place_in(steps: &[Plain], chain: Chain, key: Key) -> Option<usize> {
-    let mut passing = steps.iter().filter(|step| is_in(step, chain));
-    passing.position(|step| step.key.is(key))
+    let mut place = 0usize;
+    for step in steps {
+        if is_in(step, chain) {
+            if step.key.is(key) {
+                return Some(place);
+            }
+            place = place.saturating_add(1);
+        }
+    }
+    None
 }
 
 // The key of the n-th step of the chain.
@@ -67,8 +118,13 @@ fn nth_key(steps: &[Plain], chain: Chain, n: usize) -> Option<Key> {
 }
 
 // The last step of the chain.
+fn newest(steps: &[Plain], chain: Chain) -> Option<&Plain> {
+    nth(steps, chain, count(steps, chain).checked_sub(1)?)
+}
+
+// Its key.
 fn last(steps: &[Plain], chain: Chain) -> Option<Key> {
-    nth_key(steps, chain, count(steps, chain).checked_sub(1)?)
+    Some(newest(steps, chain)?.key)
 }
 
 // The step of the chain right after that of the key.
@@ -89,25 +145,21 @@ fn across(steps: &[Plain], chain: Chain, key: Key, other: Chain) -> Option<Key> 
 }
 
 // The sends and the receipts of the pair of the step, if it is one of its sends.
-fn as_send(step: &Plain) -> [Chain; 2] {
-    match step.deed {
-        Send(to, _) | Tell(to, _) | Choose(to, _) => {
-            [Chain::Sends(step.role, to), Chain::Receipts(step.role, to)]
-        }
-        _ => [Chain::Nothing, Chain::Nothing],
+fn as_send(step: &Plain) -> (Chain, Chain) {
+    match receiver(step.deed) {
+        Some(to) => (Chain::Sends(step.role, to), Chain::Receipts(step.role, to)),
+        None => (Chain::Nothing, Chain::Nothing),
     }
 }
 
 // The sends and the receipts of the pair of the step, if it is one of its receipts.
-fn as_receipt(step: &Plain) -> [Chain; 2] {
-    match step.deed {
-        Receive(from, _) | Pick(from) => {
-            [
-                Chain::Sends(from, step.role),
-                Chain::Receipts(from, step.role),
-            ]
-        }
-        _ => [Chain::Nothing, Chain::Nothing],
+fn as_receipt(step: &Plain) -> (Chain, Chain) {
+    match giver(step.deed) {
+        Some(from) => (
+            Chain::Sends(from, step.role),
+            Chain::Receipts(from, step.role),
+        ),
+        None => (Chain::Nothing, Chain::Nothing),
     }
 }
 
@@ -115,8 +167,8 @@ fn as_receipt(step: &Plain) -> [Chain; 2] {
 fn walked(steps: &[Plain], step: &Plain) -> [Option<Key>; 8] {
     let key = step.key;
     let of_role = Chain::Of(step.role);
-    let [sends, receipts] = as_send(step);
-    let [sources, own] = as_receipt(step);
+    let (sends, receipts) = as_send(step);
+    let (sources, own) = as_receipt(step);
     [
         after(steps, Chain::All, key),
         before(steps, Chain::All, key),
@@ -172,29 +224,45 @@ fn waiting_count(steps: &[Plain], from: u8, to: u8) -> usize {
     sent.saturating_sub(count(steps, Chain::Receipts(from, to)))
 }
 
+// Whether the pair's queue is right.
+fn are_waiting(log: &Log, steps: &[Plain], from: u8, to: u8) -> bool {
+    for k in 0..=waiting_count(steps, from, to) {
+        if !is_given(
+            log.message(role(from), role(to), k),
+            waiting_deed(steps, from, to, k),
+        ) {
+            return false;
+        }
+    }
+    true
+}
+
 // Whether the pair's last send and its queue are right.
 fn is_queue(log: &Log, steps: &[Plain], from: u8, to: u8) -> bool {
     let (p, q) = (role(from), role(to));
     let is_last = log.steps().last_send(p, q) == last(steps, Chain::Sends(from, to));
-    let mut places = 0..=waiting_count(steps, from, to);
-    is_last && places.all(|k| is_given(log.message(p, q, k), waiting_deed(steps, from, to, k)))
+    is_last && are_waiting(log, steps, from, to)
 }
 
 // What the role keeps in the slot.
 fn kept_deed(steps: &[Plain], place: u8, slot: Word) -> Option<Deed> {
-    let receipt = last(steps, Chain::Into(place, slot))?;
-    let step = steps.iter().find(|step| step.key.is(receipt))?;
-    let [sends, receipts] = as_receipt(step);
-    let send = nth(steps, sends, place_in(steps, receipts, receipt)?)?;
+    let receipt = newest(steps, Chain::Into(place, slot))?;
+    let (sends, receipts) = as_receipt(receipt);
+    let send = nth(steps, sends, place_in(steps, receipts, receipt.key)?)?;
     Some(send.deed)
+}
+
+// Whether what the role keeps in the slot is right.
+fn is_slot(rt: &impl Abort, log: &Log, steps: &[Plain], place: u8, slot: Word) -> bool {
+    keeps(rt, log, place, slot, kept_deed(steps, place, slot))
 }
 
 // Whether the role's last step and its slots are right.
 fn is_role(rt: &impl Abort, log: &Log, steps: &[Plain], place: u8) -> bool {
-    let own = role(place);
-    let mut slots = [Word::X, Word::Y, Word::Z].iter();
-    log.steps().last_of(own) == last(steps, Chain::Of(place))
-        && slots.all(|slot| keeps(rt, log, place, *slot, kept_deed(steps, place, *slot)))
+    log.steps().last_of(role(place)) == last(steps, Chain::Of(place))
+        && is_slot(rt, log, steps, place, Word::X)
+        && is_slot(rt, log, steps, place, Word::Y)
+        && is_slot(rt, log, steps, place, Word::Z)
 }
 
 // Each look-up of the log gives what a walk over the list does.
@@ -246,9 +314,18 @@ impl Dice {
 
 // Whether the deed takes a message where none waits.
 fn is_idle(steps: &[Plain], place: u8, deed: Deed) -> bool {
+    match giver(deed) {
+        Some(from) => waiting_count(steps, from, place) == 0,
+        None => false,
+    }
+}
+
+// Where what the deed was bound to before stands.
+fn chain_of(place: u8, deed: Deed) -> Chain {
     match deed {
-        Receive(from, _) | Pick(from) => waiting_count(steps, from, place) == 0,
-        _ => false,
+        Receive(_, slot) => Chain::Into(place, slot),
+        Mark(name) => Chain::Marks(place, name),
+        _ => Chain::Nothing,
     }
 }
 
@@ -260,11 +337,7 @@ fn join(rt: &(impl Abort + AllocGlobal), log: &mut Log, steps: &mut Vec<Plain>, 
         return;
     };
     assert!(rt; !is_idle(steps, place, deed), "no message waits");
-    let bound = match deed {
-        Receive(_, slot) => last(steps, Chain::Into(place, slot)),
-        Mark(name) => last(steps, Chain::Marks(place, name)),
-        _ => None,
-    };
+    let bound = last(steps, chain_of(place, deed));
     let key = log.steps().by_id(id).expect(rt, "its key");
     let plain = Plain {
         key,
@@ -295,7 +368,12 @@ fn free_from(steps: &[Plain], place: usize) -> usize {
 
 // Whether by the log those may go that may by the list.
 fn are_free_alike(log: &Log, steps: &[Plain]) -> bool {
-    steps.iter().all(|step| may_go(log.steps(), step.key) == is_free(steps, step))
+    for step in steps {
+        if may_go(log.steps(), step.key) != is_free(steps, step) {
+            return false;
+        }
+    }
+    true
 }
 
 // Takes the first step from that place on that may go out of the log and of the list.

@@ -3,4 +3,4 @@ use Rattle.std.specs.List.{AllByRecursion}
 use Rattle.mps_test_sessions.proofs.lists_of_requests.marks_and_undos.Given as goal
 
 abbrev pub invariant-loop-turn : goal.invariant-loop-turn
-invariant-loop-turn l = AllByRecursion (λ request. request.0 < length l.session.types) l.all.items
+invariant-loop-turn g l = AllByRecursion (λ request. request.0 < length l.session.types) l.all.items

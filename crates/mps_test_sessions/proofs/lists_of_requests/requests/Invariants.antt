@@ -3,4 +3,4 @@ use Rattle.std.specs.List.{AllByRecursion}
 use Rattle.mps_test_sessions.proofs.lists_of_requests.requests.Given as goal
 
 abbrev pub invariant-loop-place : goal.invariant-loop-place
-invariant-loop-place l = AllByRecursion (λ request. request.0 < length l.session.types) l.all.items
+invariant-loop-place g l = AllByRecursion (λ request. request.0 < length l.session.types) l.all.items

@@ -1,0 +1,11 @@
+use Rattle.mps_global.specs.Global.{plain}
+use Rattle.mps_session.proofs.SameProjections.{one_projection}
+use Rattle.mps_test_sessions.proofs.comparisons.is_untried.Goals as goal
+
+-- a protocol has one list of projections
+pub same-requires : goal.same-requires
+same-requires g c =
+    let protocol = c.args.protocol.now in
+    record {
+      types = one_projection protocol.roles.items (plain protocol.body) _ _ c.requires c.after-untried.ensures;
+    }
