@@ -99,7 +99,7 @@ pub record KeepsSeen (k k' : Known) : Type 0 where
   pub newest : k'.newest ≡ k.newest
 
 -- the pass was told this length, which is no less than it knew of, and nothing else
-pub record IsTold (k : Known) (n : ℕ) (k' : Known) : Type 0 where
+pub record LearnsLength (k : Known) (n : ℕ) (k' : Known) : Type 0 where
   pub keeps : KeepsSeen k k'
   pub reached : k.reported ≤ n
   pub covers : length k.seen ≤ n

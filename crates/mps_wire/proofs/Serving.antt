@@ -18,7 +18,7 @@ use Rattle.mps_room.specs.declared.entry.Entry.{Entry}
 use Rattle.mps_room.specs.Journal.{grown, reply, is_accepted, IsReply}
 use Rattle.mps_line.specs.declared.write_replies.Reply.TheVariants.{Answered}
 use Rattle.mps_command.specs.declared.answer.Answer.{Answer}
-use Rattle.mps_wire.specs.Script.{IsReadable, RepliesTo, AnswersLine}
+use Rattle.mps_wire.specs.Script.{IsReadable, RepliesInScript, AnswersLine}
 use Rattle.mps_wire.specs.Private.Commands.{IsAnswered}
 
 -- the role of a line is one of the names
@@ -39,7 +39,7 @@ pub spelled_ascii : (names : List (List ℕ)) (line : List ℕ) (role : ℕ) (co
 spelled_ascii names line role command spelled = shown_ascii line (shown_line names line role command spelled)
 
 -- the text of the reply answers the line
-pub answers_line : {T E : Type 0} (names : List (List ℕ)) (types : List LocalType) (line : List ℕ) (journal after : List Entry) (reply : Reply) (written : Result T E) (old new : List ℕ) → RepliesTo names types line journal reply after → OnOk written (Appends (λ text. SpellsReply text reply) old new) → OnOk written (Appends (λ text. AnswersLine names types line journal text after) old new)
+pub answers_line : {T E : Type 0} (names : List (List ℕ)) (types : List LocalType) (line : List ℕ) (journal after : List Entry) (reply : Reply) (written : Result T E) (old new : List ℕ) → RepliesInScript names types line journal reply after → OnOk written (Appends (λ text. SpellsReply text reply) old new) → OnOk written (Appends (λ text. AnswersLine names types line journal text after) old new)
 answers_line names types line journal after reply (Ok x) old new replies a = (a.0, a.1, record { reply = reply; replies = replies; spelled = a.2 })
 answers_line names types line journal after reply (Err e) old new replies a = tt
 
