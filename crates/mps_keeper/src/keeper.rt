@@ -59,7 +59,7 @@ impl Waiting {
 
 // The file, and the space that the lines are handed over in.
 #[derive(Drop)]
-struct Desk<W: Sink> {
+struct Writing<W: Sink> {
     book: Book<W>,
     text: Vec<u8>,
 }
@@ -72,7 +72,7 @@ pub struct Keeper<W: Sink, D> {
     // woken when a line came, or was lost
     came: Condvar,
     // who has it writes
-    desk: Mutex<Desk<W>>,
+    writing: Mutex<Writing<W>>,
     // where lines are recorded only once the disk says so
     disk: Option<D>,
     // how many lines are recorded
@@ -98,7 +98,7 @@ impl<W: Sink + Drop, D: Drop> Keeper<W, D> {
         Ok(Keeper {
             waiting: Mutex::new(waiting),
             came: Condvar::new(),
-            desk: Mutex::new(Desk { book, text }),
+            writing: Mutex::new(Writing { book, text }),
             disk,
             recorded: AtomicU64::new(lines),
             lost: AtomicBool::new(false),
@@ -157,9 +157,9 @@ impl<W: Sink, D> Keeper<W, D> {
 
 impl<W: Sink, D: Disk> Keeper<W, D> {
     // Writes the lines that were handed over, and syncs them. Says whether they are recorded.
-    fn write(&self, desk: &mut Desk<W>, lines: u64) -> bool {
-        let written = desk.book.append(desk.text.as_slice(), lines).is_ok();
-        desk.text.clear();
+    fn write(&self, writing: &mut Writing<W>, lines: u64) -> bool {
+        let written = writing.book.append(writing.text.as_slice(), lines).is_ok();
+        writing.text.clear();
         match &self.disk {
             Some(disk) => written && disk.sync(),
             None => written,
@@ -172,20 +172,20 @@ impl<W: Sink, D: Disk> Keeper<W, D> {
         if self.has_recorded(place) {
             return true;
         }
-        let mut desk = self.desk.lock(rt);
+        let mut writing = self.writing.lock(rt);
         if self.has_recorded(place) {
             return true;
         }
-        let recorded = match self.hand_over(rt, &mut desk.text) {
-            Some(lines) if desk.book.is_whole() && lines >= place => {
-                self.write(&mut desk, lines).then_some(lines)
+        let recorded = match self.hand_over(rt, &mut writing.text) {
+            Some(lines) if writing.book.is_whole() && lines >= place => {
+                self.write(&mut writing, lines).then_some(lines)
             }
             _ => None,
         };
         match recorded {
             Some(lines) => self.recorded.store(lines, Ordering::SeqCst),
             None => {
-                desk.book.lose();
+                writing.book.lose();
                 self.lose(rt);
             }
         }
