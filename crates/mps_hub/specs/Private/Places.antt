@@ -1,6 +1,6 @@
 -- How a desk is laid out.
 use Rattle.std.specs.Prelude.{◌≡◌, ℕ, ◌+◌, ◌<◌, ◌^◌, List, Option, Some, slice_get, length}
-use Rattle.atomic_table.specs.Recordable.{TableId}
+use Rattle.atomic_table.specs.Seated.{TableId}
 use Rattle.mps_cell.specs.Calls.{Known}
 use Rattle.mps_cell.specs.Cells.{Opened}
 use Rattle.mps_hub.specs.Places.{IsOfCell}
