@@ -1,3 +1,3 @@
 pub mod Handle
 pub mod Lending
-pub mod Told
+pub mod Results

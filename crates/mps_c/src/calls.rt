@@ -4,7 +4,7 @@ ghost use Rattle.mps_embed.specs.Embedded.{IsAnswered, IsToNobody};
 ghost use Rattle.mps_line.specs.JournalLines.{SpellsJournalLine, CanBeWritten};
 ghost use Rattle.mps_line.specs.Replies.{SpellsReply};
 ghost use Rattle.mps_room.specs.declared.entry.Entry.{Entry as Kept};
-ghost use Rattle.mps_c.specs.Told.{IsTold, length_of};
+ghost use Rattle.mps_c.specs.Results.{IsFilledOrLeft, length_of};
 
 use mps_embed::Embedded;
 use std::alloc::AllocError;
@@ -27,7 +27,7 @@ pub fn line(room: &mut Embedded, role: &[u8], line: &[u8], out: &mut [u8]) -> us
     ensures known { (place : ℕ) → slice_get room.old.room.names place ≡ Some role.now
         → IsAnswered room.old place line.now room.new }
     ensures unknown { All (λ name. name ≢ role.now) room.old.room.names → IsToNobody room.old room.new }
-    ensures answer { IsTold (λ text. SpellsReply text room.new.reply) out.old out.new result }
+    ensures answer { IsFilledOrLeft (λ text. SpellsReply text room.new.reply) out.old out.new result }
 {
     room.line(role, line);
     length_or_none(room.answer_into(out))
@@ -36,7 +36,7 @@ pub fn line(room: &mut Embedded, role: &[u8], line: &[u8], out: &mut [u8]) -> us
 /// Writes of the newest answer what fits.
 pub fn answer(room: &mut Embedded, out: &mut [u8]) -> usize
     ensures same { room.new ≡ room.old }
-    ensures answer { IsTold (λ text. SpellsReply text room.old.reply) out.old out.new result }
+    ensures answer { IsFilledOrLeft (λ text. SpellsReply text room.old.reply) out.old out.new result }
 {
     length_or_none(room.answer_into(out))
 }
@@ -54,9 +54,9 @@ pub fn entry(room: &mut Embedded, k: u64, out: &mut [u8]) -> usize
     ensures same { room.new ≡ room.old }
     ensures line { (entry : Kept) → slice_get room.old.room.journal k ≡ Some entry
         → CanBeWritten room.old.room.names entry.role entry.command
-        → IsTold (λ text. SpellsJournalLine room.old.room.names text entry.role None entry.command)
+        → IsFilledOrLeft (λ text. SpellsJournalLine room.old.room.names text entry.role None entry.command)
         out.old out.new result }
-    ensures past { length room.old.room.journal ≤ k → IsTold (λ text. text ≡ []) out.old out.new result }
+    ensures past { length room.old.room.journal ≤ k → IsFilledOrLeft (λ text. text ≡ []) out.old out.new result }
 {
     length_or_none(room.entry_into(k, out))
 }

@@ -8,7 +8,7 @@ ghost use Rattle.mps_line.specs.JournalLines.{SpellsJournalLine, CanBeWritten};
 ghost use Rattle.mps_line.specs.Replies.{SpellsReply};
 ghost use Rattle.mps_room.specs.declared.entry.Entry.{Entry as Kept};
 ghost use Rattle.mps_c.specs.Handle.{handle_owns, RoomValue, the_code};
-ghost use Rattle.mps_c.specs.Told.{IsTold, Opens};
+ghost use Rattle.mps_c.specs.Results.{IsFilledOrLeft, Opens};
 
 use mps_embed::Embedded;
 use std::alloc::Global;
@@ -81,7 +81,7 @@ pub extern "C" fn mps_line(handle: &mut Handle, role: &[u8], line: &[u8], out: &
         → IsAnswered handle.old.room place line.now handle.new.room }
     ensures unknown { All (λ name. name ≢ role.now) handle.old.room.room.names
         → IsToNobody handle.old.room handle.new.room }
-    ensures answer { IsTold (λ text. SpellsReply text handle.new.room.reply) out.old out.new result }
+    ensures answer { IsFilledOrLeft (λ text. SpellsReply text handle.new.room.reply) out.old out.new result }
 {
     calls::line(handle.room(), role, line, out)
 }
@@ -90,7 +90,7 @@ pub extern "C" fn mps_line(handle: &mut Handle, role: &[u8], line: &[u8], out: &
 #[unsafe(no_mangle)]
 pub extern "C" fn mps_answer(handle: &mut Handle, out: &mut [u8]) -> usize
     ensures same { handle.new.room ≡ handle.old.room }
-    ensures answer { IsTold (λ text. SpellsReply text handle.old.room.reply) out.old out.new result }
+    ensures answer { IsFilledOrLeft (λ text. SpellsReply text handle.old.room.reply) out.old out.new result }
 {
     calls::answer(handle.room(), out)
 }
@@ -111,9 +111,9 @@ pub extern "C" fn mps_entry(handle: &mut Handle, k: u64, out: &mut [u8]) -> usiz
     ensures same { handle.new.room ≡ handle.old.room }
     ensures line { (entry : Kept) → slice_get handle.old.room.room.journal k ≡ Some entry
         → CanBeWritten handle.old.room.room.names entry.role entry.command
-        → IsTold (λ text. SpellsJournalLine handle.old.room.room.names text entry.role None entry.command)
+        → IsFilledOrLeft (λ text. SpellsJournalLine handle.old.room.room.names text entry.role None entry.command)
         out.old out.new result }
-    ensures past { length handle.old.room.room.journal ≤ k → IsTold (λ text. text ≡ []) out.old out.new result }
+    ensures past { length handle.old.room.room.journal ≤ k → IsFilledOrLeft (λ text. text ≡ []) out.old out.new result }
 {
     calls::entry(handle.room(), k, out)
 }

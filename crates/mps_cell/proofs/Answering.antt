@@ -16,7 +16,7 @@ use Rattle.mps_cell.specs.Openings.{room_of, IsLegalIn, IsReplyIn, reply_in}
 use Rattle.mps_cell.specs.Views.{Part, SeatView, part_of, raised, showing}
 use Rattle.mps_cell.specs.Rule.{Shows, resting, journal_in}
 use Rattle.mps_cell.specs.Private.Rule.{with_room, Took, Gave}
-use Rattle.mps_cell.specs.Calls.{Known, known, carried, IsAccepted, IsAnswered, Calls}
+use Rattle.mps_cell.specs.Calls.{Known, known, carried, IsAccepted, IsNotAccepted, Calls}
 
 abbrev M : Type 0
 M = Me RoomState SeatView
@@ -37,7 +37,7 @@ module _ (id id' : TableId) (p : Part) (was : Bool) (j : List Entry) (c : Comman
   after l = known id' (resting (showing l p) false).0
 
   by_answer : Shows j p → IsReplyIn p.opening j p.role c a → (b : Bool) → is_accepted a ≡ b
-      → MatchBool b (IsAccepted first c a (after (if b then j ++ entry p.role c a ∷ [] else j))) (IsAnswered first c a (after (if b then j ++ entry p.role c a ∷ [] else j)))
+      → MatchBool b (IsAccepted first c a (after (if b then j ++ entry p.role c a ∷ [] else j))) (IsNotAccepted first c a (after (if b then j ++ entry p.role c a ∷ [] else j)))
   by_answer shows says true is = record {
     before = j;
     begins = shows.begins;
@@ -73,7 +73,7 @@ calls id id' m m1 m2 role c a same_cell t is says gave legal =
 pub calls_carried : (k : Known) (c : Command) (a : Answer) (k' : Known) (x y : Option Numbered) → Calls k c a k' → Calls (carried k x) c a (carried k' y)
 calls_carried k c a k' x y h = record { pass = record { cell = h.pass.cell; opening = h.pass.opening; role = h.pass.role }; legal = h.legal; own = h.own; reported = h.reported; answered = by_answer' (is_accepted a) h.answered }
   where
-    by_answer' : (b : Bool) → MatchBool b (IsAccepted k c a k') (IsAnswered k c a k') → MatchBool b (IsAccepted (carried k x) c a (carried k' y)) (IsAnswered (carried k x) c a (carried k' y))
+    by_answer' : (b : Bool) → MatchBool b (IsAccepted k c a k') (IsNotAccepted k c a k') → MatchBool b (IsAccepted (carried k x) c a (carried k' y)) (IsNotAccepted (carried k x) c a (carried k' y))
     by_answer' true h = record { before = h.before; begins = h.begins; reached = h.reached; answer = h.answer; joined = h.joined; made = h.made }
     by_answer' false h = record { begins = h.begins; reached = h.reached; answer = h.answer; made = h.made }
 

@@ -9,11 +9,11 @@ use Rattle.mps_room.specs.RoomState.{RoomState}
 use Rattle.mps_room.specs.declared.entry.Entry.{Entry}
 use Rattle.mps_cell.specs.Openings.{Opening, room_of, IsLegalIn}
 use Rattle.mps_cell.specs.Views.{SeatView, fresh_part, fresh_parts, dealing, part_of, without_first, first_alone}
-use Rattle.mps_cell.specs.Rule.{Kept, word_of, home_of, resting, Shows, AllShow}
+use Rattle.mps_cell.specs.Rule.{IsJournaled, word_of, home_of, resting, Shows, AllShow}
 use Rattle.mps_cell.specs.Private.Rule.{IsResting}
 use Rattle.atomic_table.specs.Seated.{TableId}
 use Rattle.mps_cell.specs.Calls.{Known, known}
-use Rattle.mps_cell.specs.Meetings.{Holds}
+use Rattle.mps_cell.specs.Meetings.{HasAllOf}
 use Rattle.mps_cell.specs.Cells.{Closes, fresh, fresh_below}
 use Rattle.mps_cell.proofs.Keeping.{deals}
 
@@ -26,7 +26,7 @@ one_more i n h = omega arith
 next : (o : Opening) (i n : ℕ) → i < n → fresh_parts o i (n - i) ≡ fresh_part o i ∷ fresh_parts o (i + 1) (n - (i + 1))
 next o i n h = ap (fresh_parts o i) (one_more i n h)
 
-pub deals_next : (k o : Opening) (id i n : ℕ) (m : M) → i < n → m ≡ (dealing o i (n - i), []) → Splits (Kept k) id m.0 (without_first m.0) (first_alone m.0)
+pub deals_next : (k o : Opening) (id i n : ℕ) (m : M) → i < n → m ≡ (dealing o i (n - i), []) → Splits (IsJournaled k) id m.0 (without_first m.0) (first_alone m.0)
 deals_next k o id i n m h is = deals k id m.0 (fresh_part o i) (fresh_parts o (i + 1) (n - (i + 1))) (ap (λ (x : M). x.0.parts) is ∙ next o i n h)
 
 pub dealt_rest : (o : Opening) (i n : ℕ) (m m' : M) → i < n → m ≡ (dealing o i (n - i), []) → m' ≡ (without_first m.0, m.1) → m' ≡ (dealing o (i + 1) (n - (i + 1)), [])
@@ -39,7 +39,7 @@ home_even : (a : Option ℕ) (j : List Entry) → word_of a j % 2 ≡ 0 → a �
 home_even None j e = refl
 home_even (Some t) j e = absurd (omega arith)
 
-module _ (o : Opening) (s : State RoomState SeatView) (r : Kept o s) (ws : List ℕ) (xs : List RoomState) (w : ℕ) (y : RoomState) (same : s.words ≡ ws)
+module _ (o : Opening) (s : State RoomState SeatView) (r : IsJournaled o s) (ws : List ℕ) (xs : List RoomState) (w : ℕ) (y : RoomState) (same : s.words ≡ ws)
     (homes : (k : ℕ) (x : RoomState) → get_elem? s.homes k ≡ maybe.some (maybe.some x) → get_elem? xs k ≡ maybe.some x) (word : get_elem? ws 0 ≡ maybe.some w) (even : w % 2 ≡ 0) (room : get_elem? xs 0 ≡ maybe.some y) where
   at_home : r.away ≡ None
   at_home = let e : word_of r.away r.log ≡ w = maybe.some-injective (word_of r.away r.log) w (sym (ap (λ (l : List ℕ). get_elem? l 0) r.words) ∙ (ap (λ (l : List ℕ). get_elem? l 0) same ∙ word)) in
@@ -52,7 +52,7 @@ module _ (o : Opening) (s : State RoomState SeatView) (r : Kept o s) (ws : List 
   pub closes : Closes o y
   closes = record { names = ap (λ (m : RoomState). m.names) ends_as; types = ap (λ (m : RoomState). m.types) ends_as; legal = subst (λ (m : RoomState). IsLegalIn o m.journal) (sym ends_as) r.legal }
 
-pub closed : (o : Opening) (ws : List ℕ) (xs : List RoomState) (w : ℕ) (y : RoomState) → Final (Kept o) ws xs → get_elem? ws 0 ≡ maybe.some w → w % 2 ≡ 0 → get_elem? xs 0 ≡ maybe.some y → Closes o y
+pub closed : (o : Opening) (ws : List ℕ) (xs : List RoomState) (w : ℕ) (y : RoomState) → Final (IsJournaled o) ws xs → get_elem? ws 0 ≡ maybe.some w → w % 2 ≡ 0 → get_elem? xs 0 ≡ maybe.some y → Closes o y
 closed o ws xs w y f word even room = closes o f.0 f.1 ws xs w y f.2 f.4 word even room
 
 more : (id : TableId) (o : Opening) (n : ℕ) → fresh_below id o (n + 1) ≡ fresh_below id o n ++ fresh id o n ∷ []
@@ -65,11 +65,11 @@ dealt_more id id' o o' i all all' k now was new is is' = let e : k ≡ fresh id 
 shown_in : (j : List Entry) (m : M) → IsResting m → AllShow j m.0.parts → Shows j (part_of m.0.parts)
 shown_in j m free all = (subst (λ (x : M). AllShow j x.0.parts) free all).0
 
-pub closed_with : (o : Opening) (id : ℕ) (m : M) (t : TableId) (ws : List ℕ) (xs : List RoomState) (w : ℕ) (y : RoomState) → IsResting m → Final (Seen (Kept o) id m.0) ws xs → get_elem? ws 0 ≡ maybe.some w → w % 2 ≡ 0 → get_elem? xs 0 ≡ maybe.some y
-    → Closes o y × Holds (known t m.0) y.journal
+pub closed_with : (o : Opening) (id : ℕ) (m : M) (t : TableId) (ws : List ℕ) (xs : List RoomState) (w : ℕ) (y : RoomState) → IsResting m → Final (Seen (IsJournaled o) id m.0) ws xs → get_elem? ws 0 ≡ maybe.some w → w % 2 ≡ 0 → get_elem? xs 0 ≡ maybe.some y
+    → Closes o y × HasAllOf (known t m.0) y.journal
 closed_with o id m t ws xs w y free f word even room = let r = f.1.0 in let e = ends_as o f.0 r ws xs w y f.2 f.4 word even room in
-    let s : Shows r.log (part_of m.0.parts) = shown_in r.log m free (r.seats id m.0 f.1.1).shows in let h : Holds (known t m.0) r.log = record { begins = s.begins; reached = s.reached; own = s.own } in
-    (closes o f.0 r ws xs w y f.2 f.4 word even room, subst (λ (x : RoomState). Holds (known t m.0) x.journal) (sym e) h)
+    let s : Shows r.log (part_of m.0.parts) = shown_in r.log m free (r.seats id m.0 f.1.1).shows in let h : HasAllOf (known t m.0) r.log = record { begins = s.begins; reached = s.reached; own = s.own } in
+    (closes o f.0 r ws xs w y f.2 f.4 word even room, subst (λ (x : RoomState). HasAllOf (known t m.0) x.journal) (sym e) h)
 
 -- the seat of a role that was dealt is a fresh_part's
 pub fresh_seat : (o : Opening) (i role : ℕ) (m : M) → m ≡ resting (fresh_part o i) false → role ≡ i → m ≡ resting (fresh_part (part_of m.0.parts).opening role) false

@@ -10,7 +10,7 @@ use Rattle.mps_room.specs.RoomState.{RoomState}
 use Rattle.mps_room.specs.declared.entry.Entry.{Entry}
 use Rattle.mps_cell.specs.Openings.{Opening, opening_of, room_of, IsLegalIn}
 use Rattle.mps_cell.specs.Views.{Part, SeatView, fresh_parts, first_view, part_of, looked, took, gave, without_first_part, first_part_alone, without_first, first_alone, spent}
-use Rattle.mps_cell.specs.Rule.{Kept, Rests, AllShow, AllHere, AllOther, AllApart, HasRole, RestsOn, noted_by, word_of, home_of, resting, Told, Looks, Tries, Gives}
+use Rattle.mps_cell.specs.Rule.{IsJournaled, Rests, AllShow, AllHere, AllOther, AllApart, HasRole, RestsOn, noted_by, word_of, home_of, resting, ShowsLength, Looks, Tries, Gives}
 use Rattle.mps_cell.specs.Private.Rule.{with_room, Grows}
 use Rattle.mps_cell.proofs.Lists.{inside, at_end, seats_stay, raise_all, raise_here, raise_apart, raise_has, grow_all, elsewhere, moved, moved_here, still_here, still_rests, rests_longer, rests_moved, has_other}
 
@@ -28,17 +28,17 @@ home_at_even : (a : Option ℕ) (j : List Entry) → word_of a j % 2 ≡ 0 → a
 home_at_even None j e = refl
 home_at_even (Some t) j e = absurd (omega arith)
 
-word_is : (o : Opening) (s : St) (r : Kept o s) → get_or s.words 0 0 ≡ word_of r.away r.log
+word_is : (o : Opening) (s : St) (r : IsJournaled o s) → get_or s.words 0 0 ≡ word_of r.away r.log
 word_is o s r = ap (λ ws. get_or ws 0 0) r.words
 
 -- what a seat is told of the journal
-told : (o : Opening) (s : St) (r : Kept o s) (id : ℕ) (v : SeatView) → get_elem? s.views id ≡ maybe.some v → Told v (get_or s.words 0 0) r.log
+told : (o : Opening) (s : St) (r : IsJournaled o s) (id : ℕ) (v : SeatView) → get_elem? s.views id ≡ maybe.some v → ShowsLength v (get_or s.words 0 0) r.log
 told o s r id v at = let n = word_is o s r in let h = word_half r.away r.log in
     (sym h ∙ ap (λ (k : ℕ). k / 2) (sym n), (r.seats id v at).shows, (r.seats id v at).apart)
 
 -- a step that looks, and changes no word
-unmoved : (o : Opening) (s : St) (r : Kept o s) (id : ℕ) (me : M) (b : Bool) → get_elem? s.views id ≡ maybe.some me.0
-    → Kept o (stepped s 0 (get_or s.words 0 0) id me.1 (looked (get_or s.words 0 0) b me.0) keeps)
+unmoved : (o : Opening) (s : St) (r : IsJournaled o s) (id : ℕ) (me : M) (b : Bool) → get_elem? s.views id ≡ maybe.some me.0
+    → IsJournaled o (stepped s 0 (get_or s.words 0 0) id me.1 (looked (get_or s.words 0 0) b me.0) keeps)
 unmoved o s r id me b at = let n : ℕ = get_or s.words 0 0 in let mine = r.seats id me.0 at in let t : n / 2 ≡ length r.log = sym (told o s r id me.0 at).0 in record {
   log = r.log;
   away = r.away;
@@ -56,7 +56,7 @@ unmoved o s r id me b at = let n : ℕ = get_or s.words 0 0 in let mine = r.seat
   rests = λ role some. still_rests s.views id me.0 (looked n b me.0) role (r.owner role) at (raise_has role (n / 2) me.0.parts) (r.rests role some);
 }
 
-pub looks : (o : Opening) (slots id : ℕ) (me : M) → Allows (Kept o) slots id me 0 (λ n. n) (Looks (step slots 0 0 0 maybe.none) me)
+pub looks : (o : Opening) (slots id : ℕ) (me : M) → Allows (IsJournaled o) slots id me 0 (λ n. n) (Looks (step slots 0 0 0 maybe.none) me)
 looks o slots id me s r _ at _ = let n : ℕ = get_or s.words 0 0 in
     (looked n (n % 2 == 1) me.0, keeps, tt, unmoved o s r id me (n % 2 == 1) at, ((r.log, told o s r id me.0 at), refl))
 
@@ -67,9 +67,9 @@ noted_here : (t : ℕ) (j : List Entry) → noted_by (Some t) t j ≡ Some j
 noted_here t j = ap (λ (b : Bool). if b then Some j else None) (eq-eqb t t refl)
 
 pub tries : (o : Opening) (slots id : ℕ) (me : M) (p : Part) (ps : List Part) (old new : ℕ) → me.0.parts ≡ p ∷ ps → old % 2 ≡ 0 → new ≡ old + 1
-    → Allows (Kept o) slots id me 0 (λ n. if n == old then new else n) (Tries (step slots 0 old new maybe.none) me)
+    → Allows (IsJournaled o) slots id me 0 (λ n. if n == old then new else n) (Tries (step slots 0 old new maybe.none) me)
 tries o slots id me p ps old new some_part even next s r _ at _ = let n : ℕ = get_or s.words 0 0 in let late : Bool = old == 2 * (part_of me.0.parts).reported in let mine = r.seats id me.0 at in
-    let F : ℕ → Type 0 = λ k. (w : SeatView) × (a : Act RoomState) × Valid s.homes me.1 a × Kept o (stepped s 0 k id me.1 w a)
+    let F : ℕ → Type 0 = λ k. (w : SeatView) × (a : Act RoomState) × Valid s.homes me.1 a × IsJournaled o (stepped s 0 k id me.1 w a)
     × Tries (step slots 0 old new maybe.none) me n (w, carried_after me.1 a) in
     exchanged n old new F
     (λ hit. let w : SeatView = took r.log me.0 in let y : RoomState = room_of (part_of me.0.parts).opening r.log in
@@ -121,7 +121,7 @@ noted_is None i k j e = absurd cc
 noted_is (Some t) i k j e = noted_is_by t i k j (t == i) refl e
 
 pub gives_back : (o : Opening) (slots id : ℕ) (p : Part) (k j : List Entry) (new : ℕ) → Grows p.role k j → IsLegalIn p.opening j → new ≡ 2 * length j
-    → Allows (Kept o) slots id (with_room p k (room_of p.opening j)) 0 (λ _. new) (λ _. Gives (step slots 0 new 0 maybe.none) (with_room p k (room_of p.opening j)) new)
+    → Allows (IsJournaled o) slots id (with_room p k (room_of p.opening j)) 0 (λ _. new) (λ _. Gives (step slots 0 new 0 maybe.none) (with_room p k (room_of p.opening j)) new)
 gives_back o slots id p k j new grows legal is s r _ at _ =
     let v : SeatView = (with_room p k (room_of p.opening j)).0 in let w : SeatView = gave j v in let mine = r.seats id v at in
     let was = noted_is r.away id k r.log mine.noted in let opening : p.opening ≡ o = mine.here.0.0 in
@@ -169,7 +169,7 @@ others_stay o j away owner role to id is i x differs r = record {
   noted = r.noted;
 }
 
-pub deals : (o : Opening) (id : ℕ) (v : SeatView) (p : Part) (ps : List Part) → v.parts ≡ p ∷ ps → Splits (Kept o) id v (without_first v) (first_alone v)
+pub deals : (o : Opening) (id : ℕ) (v : SeatView) (p : Part) (ps : List Part) → v.parts ≡ p ∷ ps → Splits (IsJournaled o) id v (without_first v) (first_alone v)
 deals o id v p ps is s r at =
     let mine = r.seats id v at in let n : ℕ = length s.views in let left : SeatView = without_first v in let right : SeatView = first_alone v in let vs : List SeatView = set s.views id left in
     let n_is : length vs ≡ n = length-set s.views id left in
@@ -206,7 +206,7 @@ deals o id v p ps is s r at =
     }
 
 -- a seat with two parts keeps the first
-pub divides : (o : Opening) (id : ℕ) (p q : Part) (b : Bool) → Splits (Kept o) id (pair p q b).0 (resting p b).0 (resting q false).0
+pub divides : (o : Opening) (id : ℕ) (p q : Part) (b : Bool) → Splits (IsJournaled o) id (pair p q b).0 (resting p b).0 (resting q false).0
 divides o id p q b s r at =
     let v : SeatView = (pair p q b).0 in let mine = r.seats id v at in let n : ℕ = length s.views in let left : SeatView = (resting p b).0 in let right : SeatView = (resting q false).0 in let vs : List SeatView = set s.views id left in
     let n_is : length vs ≡ n = length-set s.views id left in
@@ -241,7 +241,7 @@ divides o id p q b s r at =
     }
 
 -- a seat with one part takes in another's
-pub gathers : (o : Opening) (id other : ℕ) (p q : Part) (b b' : Bool) → Joins (Kept o) id (resting p b).0 other (resting q b').0 (pair p q b).0 spent
+pub gathers : (o : Opening) (id other : ℕ) (p q : Part) (b b' : Bool) → Joins (IsJournaled o) id (resting p b).0 other (resting q b').0 (pair p q b).0 spent
 gathers o id other p q b b' s r at apart at' =
     let both : SeatView = (pair p q b).0 in let vs : List SeatView = set s.views id both in
     let there : get_elem? s.views other ≡ maybe.some (resting q b').0 = sym (set_else s.views id other both apart) ∙ at' in
@@ -299,7 +299,7 @@ first_rests : (o : Opening) (seat : ℕ) (v : SeatView) → get_elem? (first_vie
 first_rests o zero v e = subst (Rests o [] None (λ _. 0) 0) (maybe.some-injective (first_view o) v e) record { shows = newcomers_show o 0 (length o.types); here = newcomers_here o 0 (length o.types); apart = newcomers_apart o 0 (length o.types); noted = refl }
 first_rests o (suc j) v e = absurd (maybe.some-ne-none v (sym e))
 
-pub opens : (o : Opening) → Kept o (opening (0 ∷ []) (room_of o [] ∷ []) (first_view o))
+pub opens : (o : Opening) → IsJournaled o (opening (0 ∷ []) (room_of o [] ∷ []) (first_view o))
 opens o = record {
   log = [];
   away = None;
@@ -312,9 +312,9 @@ opens o = record {
   rests = λ role some. record { view = first_view o; there = refl; has = newcomers_have o role 0 (length o.types) (omega arith) (omega arith) };
 }
 
-pub opens_with : (m x : RoomState) (n : ℕ) (items rest : List RoomState) → m.journal ≡ [] → x ≡ m → items ≡ rest ++ m ∷ [] → rest ≡ [] → Kept (opening_of x n) (opening (0 ∷ []) items (first_view (opening_of x n)))
+pub opens_with : (m x : RoomState) (n : ℕ) (items rest : List RoomState) → m.journal ≡ [] → x ≡ m → items ≡ rest ++ m ∷ [] → rest ≡ [] → IsJournaled (opening_of x n) (opening (0 ∷ []) items (first_view (opening_of x n)))
 opens_with m x n items rest blank is now none_else =
-    let P : RoomState × List RoomState → Type 0 = λ y. Kept (opening_of y.0 n) (opening (0 ∷ []) y.1 (first_view (opening_of y.0 n))) in
+    let P : RoomState × List RoomState → Type 0 = λ y. IsJournaled (opening_of y.0 n) (opening (0 ∷ []) y.1 (first_view (opening_of y.0 n))) in
     let e : items ≡ m ∷ [] = now ∙ ap (λ l. l ++ m ∷ []) none_else in
     let new : room_of (opening_of m n) [] ≡ m = ap (λ (j : List Entry). room_of (opening_of m n) j) (sym blank) in
     subst P (λ i. (sym is i, sym e i)) (subst (λ (y : RoomState). P (m, y ∷ [])) new (opens (opening_of m n)))

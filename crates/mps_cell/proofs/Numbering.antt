@@ -8,9 +8,9 @@ use Rattle.mps_command.specs.declared.answer.Refusal.{Refusal}
 use Rattle.mps_command.specs.declared.command.Command.{Command}
 use Rattle.mps_room.specs.Journal.{is_accepted}
 use Rattle.mps_room.proofs.Numbering.{accepts_change}
-use Rattle.mps_cell.specs.Calls.{Known, IsAccepted, IsAnswered, Calls}
+use Rattle.mps_cell.specs.Calls.{Known, IsAccepted, IsNotAccepted, Calls}
 
-by_answer : (k : Known) (c : Command) (a : Answer) (k' : Known) (b : Bool) → is_accepted a ≡ b → MatchBool b (IsAccepted k c a k') (IsAnswered k c a k') → IsSome (change_of c)
+by_answer : (k : Known) (c : Command) (a : Answer) (k' : Known) (b : Bool) → is_accepted a ≡ b → MatchBool b (IsAccepted k c a k') (IsNotAccepted k c a k') → IsSome (change_of c)
     → ((refusal : Refusal) → a ≡ Refused refusal → ⊥) → is_accepted a ≡ true
 by_answer k c a k' true is h some none = is
 by_answer k c a k' false is h some none = accepts_change k.opening.names k.opening.types k'.seen k.role c a some h.answer none

@@ -11,7 +11,7 @@ use Rattle.mps_room.specs.declared.entry.Entry.{Entry}
 use Rattle.mps_room.specs.declared.numbers.Numbered.{Numbered}
 use Rattle.mps_cell.specs.Openings.{Opening}
 use Rattle.mps_cell.specs.Views.{Part, SeatView, part_of, raised, without_first, first_alone, both_parts, spent, first_stays, others_go}
-use Rattle.mps_cell.specs.Rule.{Kept, StartsWith, Shows, resting, Looks}
+use Rattle.mps_cell.specs.Rule.{IsJournaled, StartsWith, Shows, resting, Looks}
 use Rattle.mps_cell.specs.Private.Rule.{IsResting, Met}
 use Rattle.mps_cell.specs.Calls.{Known, known, carried, KeepsSeen}
 use Rattle.mps_cell.specs.Meetings.{HasSeen, ReachesBoth}
@@ -23,14 +23,14 @@ M = Me RoomState SeatView
 abbrev part : M → Part
 part m = part_of m.0.parts
 
-pub lends_part : (o : Opening) (id : ℕ) (m : M) → IsResting m → Splits (Kept o) id m.0 (without_first m.0) (first_alone m.0)
+pub lends_part : (o : Opening) (id : ℕ) (m : M) → IsResting m → Splits (IsJournaled o) id m.0 (without_first m.0) (first_alone m.0)
 lends_part o id m free = deals o id m.0 (part m) [] (ap (λ (x : M). x.0.parts) free)
 
 pub lent_part : (m m' : M) → IsResting m → m' ≡ (first_alone m.0, []) → m' ≡ resting (part m) false
 lent_part m m' free is = is ∙ ap (λ (x : M). (first_alone x.0, [])) free
 
-pub gathers_part : (o : Opening) (id other : ℕ) (m m' : M) (q : Part) → IsResting m → m' ≡ resting q false → Joins (Kept o) id m.0 other m'.0 (both_parts m.0 m'.0) spent
-gathers_part o id other m m' q free is = let P : M × M → Type 0 = λ x. Joins (Kept o) id x.0.0 other x.1.0 (both_parts x.0.0 x.1.0) spent in
+pub gathers_part : (o : Opening) (id other : ℕ) (m m' : M) (q : Part) → IsResting m → m' ≡ resting q false → Joins (IsJournaled o) id m.0 other m'.0 (both_parts m.0 m'.0) spent
+gathers_part o id other m m' q free is = let P : M × M → Type 0 = λ x. Joins (IsJournaled o) id x.0.0 other x.1.0 (both_parts x.0.0 x.1.0) spent in
     let same : (m, m') ≡ (resting (part m) m.0.was_out, resting q false) = λ i. (free i, is i) in
     subst P (sym same) (gathers o id other (part m) q m.0.was_out false)
 
@@ -42,8 +42,8 @@ pub looked_pair : (st : Step RoomState) (m m' : M) (p q : Part) (b : Bool) (r : 
 looked_pair st m m' p q b r is l = let k = subst (λ (x : M). Looks st x r m') is l in
     (k.0.0, r % 2 == 1, k.0.1.1.0, k.0.1.1.1.0, k.1 ∙ ap (λ (n : ℕ). pair (raised n p) (raised n q) (r % 2 == 1)) (sym k.0.1.0))
 
-pub divides_pair : (o : Opening) (id : ℕ) (m : M) (p q : Part) (b : Bool) → m ≡ pair p q b → Splits (Kept o) id m.0 (first_stays m.0) (others_go m.0)
-divides_pair o id m p q b is = subst (λ (x : M). Splits (Kept o) id x.0 (first_stays x.0) (others_go x.0)) (sym is) (divides o id p q b)
+pub divides_pair : (o : Opening) (id : ℕ) (m : M) (p q : Part) (b : Bool) → m ≡ pair p q b → Splits (IsJournaled o) id m.0 (first_stays m.0) (others_go m.0)
+divides_pair o id m p q b is = subst (λ (x : M). Splits (IsJournaled o) id x.0 (first_stays x.0) (others_go x.0)) (sym is) (divides o id p q b)
 
 pub met : (st : Step RoomState) (m l other m1 m2 m3 l3 : M) (r : ℕ) → IsResting m → IsResting l → other ≡ (first_alone l.0, []) → m1 ≡ (both_parts m.0 other.0, m.1) → Looks st m1 r m2
     → m3 ≡ (first_stays m2.0, m2.1) → l3 ≡ (others_go m2.0, []) → Met m l m3 l3
@@ -131,7 +131,7 @@ meets t t' u u' m l m' l' x y first second over =
     }
 
 pub divides_after : (o : Opening) (id : ℕ) (m l other m1 m2 : M) (r : ℕ) → IsResting m → IsResting l → other ≡ (first_alone l.0, []) → m1 ≡ (both_parts m.0 other.0, m.1)
-    → Looks (step 0 0 0 0 maybe.none) m1 r m2 → Splits (Kept o) id m2.0 (first_stays m2.0) (others_go m2.0)
+    → Looks (step 0 0 0 0 maybe.none) m1 r m2 → Splits (IsJournaled o) id m2.0 (first_stays m2.0) (others_go m2.0)
 divides_after o id m l other m1 m2 r free free' lent joined looks =
     let k = looked_pair (step 0 0 0 0 maybe.none) m1 m2 (part m) (part l) m.0.was_out r (gathered m other m1 (part l) free (lent_part l other free' lent) joined) looks in
     divides_pair o id m2 (raised (length k.0) (part m)) (raised (length k.0) (part l)) k.1 k.4

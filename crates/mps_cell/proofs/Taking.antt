@@ -11,7 +11,7 @@ use Rattle.mps_room.specs.RoomState.{RoomState}
 use Rattle.mps_room.specs.declared.entry.Entry.{Entry}
 use Rattle.mps_cell.specs.Openings.{Opening, room_of, IsLegalIn}
 use Rattle.mps_cell.specs.Views.{Part, SeatView, part_of, raised}
-use Rattle.mps_cell.specs.Rule.{Kept, Shows, resting, journal_in, Looks, Tries, Gives}
+use Rattle.mps_cell.specs.Rule.{IsJournaled, Shows, resting, journal_in, Looks, Tries, Gives}
 use Rattle.mps_cell.specs.Private.Rule.{with_room, IsResting, Took, Missed, Waited, HasRoom, HasAnswered, Grows, Gave}
 use Rattle.mps_cell.proofs.Keeping.{gives_back}
 
@@ -77,9 +77,9 @@ answered m m1 role c a has is now legal = let k : List Entry = journal_in m.1 in
 
 -- it may be given back
 pub gives_answered : (o : Opening) (slots id : ℕ) (m : M) (new : ℕ) → HasAnswered m → new ≡ 2 * length (journal_in m.1)
-    → Allows (Kept o) slots id m 0 (λ _. new) (λ _. Gives (step slots 0 new 0 maybe.none) m new)
+    → Allows (IsJournaled o) slots id m 0 (λ _. new) (λ _. Gives (step slots 0 new 0 maybe.none) m new)
 gives_answered o slots id m new h is =
-    subst (λ (x : M). Allows (Kept o) slots id x 0 (λ _. new) (λ _. Gives (step slots 0 new 0 maybe.none) x new)) (sym h.room)
+    subst (λ (x : M). Allows (IsJournaled o) slots id x 0 (λ _. new) (λ _. Gives (step slots 0 new 0 maybe.none) x new)) (sym h.room)
     (gives_back o slots id (part_of m.0.parts) h.before (journal_in m.1) new h.grows h.legal is)
 
 pub gave_answered : (st : Step RoomState) (m m' : M) (r : ℕ) → HasAnswered m → Gives st m r m' → Gave m (journal_in m.1) m'

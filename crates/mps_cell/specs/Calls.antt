@@ -63,7 +63,7 @@ pub record IsAccepted (k : Known) (c : Command) (a : Answer) (k' : Known) : Type
 
 -- any other command leaves a journal that begins with all that was seen, and that is no shorter than was told; its
 -- answer is the reply after it, unless memory runs out
-pub record IsAnswered (k : Known) (c : Command) (a : Answer) (k' : Known) : Type 0 where
+pub record IsNotAccepted (k : Known) (c : Command) (a : Answer) (k' : Known) : Type 0 where
   pub begins : StartsWith k'.seen k.seen
   pub reached : k.reported ≤ length k'.seen
   pub answer : IsReplyIn k.opening k'.seen k.role c a
@@ -76,11 +76,11 @@ pub record Calls (k : Known) (c : Command) (a : Answer) (k' : Known) : Type 0 wh
   pub legal : IsLegalIn k'.opening k'.seen
   pub own : entries_of k'.role k'.seen ≡ k'.made
   pub reported : k'.reported ≡ length k'.seen
-  pub answered : MatchBool (is_accepted a) (IsAccepted k c a k') (IsAnswered k c a k')
+  pub answered : MatchBool (is_accepted a) (IsAccepted k c a k') (IsNotAccepted k c a k')
 
 -- a call adds just an accepted command to what the pass made
 made_if : (b : Bool) (k : Known) (c : Command) (a : Answer) (k' : Known)
-    → MatchBool b (IsAccepted k c a k') (IsAnswered k c a k')
+    → MatchBool b (IsAccepted k c a k') (IsNotAccepted k c a k')
     → k'.made ≡ (if b then k.made ++ entry k.role c a ∷ [] else k.made)
 made_if true k c a k' h = h.made
 made_if false k c a k' h = h.made
@@ -99,7 +99,7 @@ pub record KeepsSeen (k k' : Known) : Type 0 where
   pub newest : k'.newest ≡ k.newest
 
 -- the pass was told this length, which is no less than it knew of, and nothing else
-pub record IsTold (k : Known) (n : ℕ) (k' : Known) : Type 0 where
+pub record LearnsLength (k : Known) (n : ℕ) (k' : Known) : Type 0 where
   pub keeps : KeepsSeen k k'
   pub reached : k.reported ≤ n
   pub covers : length k.seen ≤ n

@@ -19,7 +19,7 @@ pub record ReachesBoth (k l : Known) (n : ℕ) : Type 0 where
   pub second_seen : length l.seen ≤ n
 
 -- the journal begins with what the pass saw, is no shorter than it was told, and has of its role just what it made
-pub record Holds (k : Known) (j : List Entry) : Type 0 where
+pub record HasAllOf (k : Known) (j : List Entry) : Type 0 where
   pub begins : StartsWith j k.seen
   pub reached : k.reported ≤ length j
   pub own : entries_of k.role j ≡ k.made

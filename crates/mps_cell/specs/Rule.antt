@@ -80,7 +80,7 @@ home_of o (Some t) j = maybe.none
 -- There is one legal journal. At twice its length the room is at home with it, and no seat notes a journal. At one
 -- more the room is out, and one seat alone notes it. What each seat knows is true of it. Each role rests on one seat,
 -- and on no other
-pub record Kept (o : Opening) (s : State RoomState SeatView) : Type 0 where
+pub record IsJournaled (o : Opening) (s : State RoomState SeatView) : Type 0 where
   pub log : List Entry
   pub away : Option ℕ
   pub owner : ℕ → ℕ
@@ -94,21 +94,22 @@ pub record Kept (o : Opening) (s : State RoomState SeatView) : Type 0 where
 -- ---- steps
 
 -- some legal journal has the length that the word showed, and what the seat knows is true of it
-abbrev pub Told : SeatView → ℕ → List Entry → Type 0
-Told v word j = (length j ≡ word / 2) × AllShow j v.parts × AllApart v.parts
+abbrev pub ShowsLength : SeatView → ℕ → List Entry → Type 0
+ShowsLength v word j = (length j ≡ word / 2) × AllShow j v.parts × AllApart v.parts
 
 -- a look tells the length, and whether the room is out
 abbrev pub Looks : Step RoomState → Me RoomState SeatView → ℕ → Me RoomState SeatView → Type 0
-Looks st m r m' = ((j : List Entry) × Told m.0 r j) × (m' ≡ (looked r (r % 2 == 1) m.0, m.1))
+Looks st m r m' = ((j : List Entry) × ShowsLength m.0 r j) × (m' ≡ (looked r (r % 2 == 1) m.0, m.1))
 
 -- a try that wins takes the room; one that fails tells that the room was out, or that another call came between, only
 -- where it expected twice the reported
 abbrev pub Tries : Step RoomState → Me RoomState SeatView → ℕ → Me RoomState SeatView → Type 0
 Tries st m r m' =
     (r ≡ st.first
-    → (j : List Entry) × Told m.0 r j × (m' ≡ (took j m.0, (0, room_of (part_of m.0.parts).opening j) ∷ m.1)))
+    → (j : List Entry) × ShowsLength m.0 r j × (m' ≡ (took j m.0, (0, room_of (part_of m.0.parts).opening j) ∷ m.1)))
     × (r ≢ st.first
-    → ((j : List Entry) × Told m.0 r j) × (m' ≡ (looked r (st.first == 2 * (part_of m.0.parts).reported) m.0, m.1)))
+    → ((j : List Entry) × ShowsLength m.0 r j)
+    × (m' ≡ (looked r (st.first == 2 * (part_of m.0.parts).reported) m.0, m.1)))
 
 -- the journal of the room that the seat has
 abbrev pub journal_in : List (ℕ × RoomState) → List Entry

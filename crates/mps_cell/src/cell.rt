@@ -6,7 +6,7 @@ ghost use Rattle.mps_cell.specs.Cells.{fresh_below};
 
 use crate::origin::Origin;
 use crate::pass::{Leave, Pass, Table as Shared};
-use crate::rule::{CutFirst, Journaled};
+use crate::rule::{Journaled, SplitFirst};
 use crate::view::SeatView;
 use atomic_table::{Refused, Seat, Table};
 use mps_base::{Role, Roles};
@@ -94,7 +94,7 @@ impl Model for Cell {
 impl Cell {
     ghost use Rattle.std.specs.Prelude.{◌≡◌, true, false, IfOk, IfSome, IsSome, IsErrOf, ◌↔◌, length, All};
     ghost use Rattle.mps_machine.specs.Machine.{initial};
-    ghost use Rattle.mps_cell.specs.Meetings.{Holds};
+    ghost use Rattle.mps_cell.specs.Meetings.{HasAllOf};
     ghost use Rattle.mps_cell.specs.Cells.{fresh_below, Closes, IsDealOf, opened_with};
     ghost use Rattle.mps_cell.specs.declared.cell.PassFault.TheVariants.{Given};
 
@@ -212,7 +212,7 @@ impl Cell {
     pub fn close_with(self, leave: Leave) -> Option<Room>
         requires cell { leave.cell ≡ self.cell }
         ensures room { IfSome result (Closes self.opening) }
-        ensures holds { IfSome result (λ room. Holds leave room.journal) }
+        ensures holds { IfSome result (λ room. HasAllOf leave room.journal) }
     {
         let Cell {
             first: _,
@@ -244,12 +244,12 @@ fn hand_out<'a>(
     requires count { count ≡ length (opening_in shared.now.key).types }
     requires names { names.now ≡ (opening_in shared.now.key).names }
     requires none { all.items ≡ [] }
-    requires room { count ≤ vec_capacity all }
+    requires space { count ≤ vec_capacity all }
     ensures passes { result.items
         ≡ fresh_below shared.now.table_id (opening_in shared.now.key) count }
 {
     for place in 0..count {
-        let seat = shared.split_seat::<CutFirst>(&mut first);
+        let seat = shared.split_seat::<SplitFirst>(&mut first);
         all.push_reserved(Pass::fresh(shared, waiting, names, seat, Role::new(place)));
     }
     all

@@ -3,7 +3,7 @@ ghost use Rattle.std.specs.Prelude.{◌≡◌};
 ghost use Rattle.mps_cell.specs.Private.Rule.{IsResting, Met};
 
 use crate::pass::Table;
-use crate::rule::{CutFirst, Divide, Gather, Look};
+use crate::rule::{Divide, Gather, Look, SplitFirst};
 use crate::view::SeatView;
 use atomic_table::Seat;
 use mps_room::Room;
@@ -23,7 +23,7 @@ pub(crate) fn meet_seats(
     ensures second { second.new.table_id ≡ second.old.table_id }
     ensures met { Met first.old.me second.old.me first.new.me second.new.me }
 {
-    let other = shared.split_seat::<CutFirst>(second);
+    let other = shared.split_seat::<SplitFirst>(second);
     shared.join_seat::<Gather>(first, other);
     shared.load::<Look>(first, 0);
     *second = shared.split_seat::<Divide>(first);

@@ -4,14 +4,14 @@ ghost use Rattle.std.specs.Ordering.{nat_cmp};
 ghost use Rattle.mps_cell.specs.Views.{part_of, fresh_part};
 ghost use Rattle.mps_cell.specs.Rule.{resting};
 ghost use Rattle.mps_cell.specs.Private.Rule.{IsResting};
-ghost use Rattle.mps_cell.specs.Calls.{Calls, KeepsSeen, IsTold, known, carried};
+ghost use Rattle.mps_cell.specs.Calls.{Calls, KeepsSeen, LearnsLength, known, carried};
 ghost use Rattle.mps_cell.specs.Meetings.{HasSeen, ReachesBoth};
 ghost use Rattle.mps_cell.specs.Cells.{fresh};
 
 use crate::meeting::meet_seats;
 use crate::origin::Origin;
 use crate::rule::{Journaled, Look};
-use crate::turns::{attempt, finish, take};
+use crate::turns::{finish, take, try_take};
 use crate::view::SeatView;
 use atomic_table::{Seat, Shared};
 use mps_base::{Role, Roles};
@@ -167,10 +167,10 @@ impl<'a> Pass<'a> {
     pub fn try_call(&mut self, command: Command) -> Result<Answer, Busy>
         ensures call { IfOk result (λ answer. Calls self.old command answer self.new) }
         ensures numbers { OnOk result (self.new.newest ≡ self.old.newest) }
-        ensures busy { IfErr result (λ busy. IsTold self.old busy.found self.new) }
+        ensures busy { IfErr result (λ busy. LearnsLength self.old busy.found self.new) }
         ensures was_out { OnErr result (self.new.was_out ≡ true) }
     {
-        let (found, won) = attempt(self.shared, &mut self.seat);
+        let (found, won) = try_take(self.shared, &mut self.seat);
         if !won {
             return Err(Busy { found });
         }
@@ -186,7 +186,7 @@ impl<'a> Pass<'a> {
 
     /// How many entries the journal has by now. It never waits, and does not allocate.
     pub fn front(&mut self) -> u64
-        ensures told { IsTold self.old result self.new }
+        ensures told { LearnsLength self.old result self.new }
     {
         let word = self.shared.load::<Look>(&mut self.seat, 0);
         word / 2

@@ -10,10 +10,10 @@ pub struct Journaled;
 
 impl TableRule<Room, SeatView, Origin> for Journaled {
     ghost use Rattle.mps_cell.specs.Private.Origins.{opening_in};
-    ghost use Rattle.mps_cell.specs.Rule.{Kept};
+    ghost use Rattle.mps_cell.specs.Rule.{IsJournaled};
     ghost use Rattle.mps_cell.specs.Views.{first_view};
 
-    ghost holds = { λ k. Kept (opening_in k) };
+    ghost holds = { λ k. IsJournaled (opening_in k) };
 
     ghost first = { λ k. first_view (opening_in k) };
 }
@@ -46,9 +46,9 @@ impl Play<Room, SeatView> for Give {
 }
 
 /// The first part of a seat goes to a new seat.
-pub(crate) struct CutFirst;
+pub(crate) struct SplitFirst;
 
-impl Split<SeatView> for CutFirst {
+impl Split<SeatView> for SplitFirst {
     ghost use Rattle.mps_cell.specs.Views.{without_first, first_alone};
 
     ghost left = { without_first };

@@ -21,7 +21,7 @@ use std::thread::yield_now;
 const LOOKS: u32 = 100;
 
 // One look and one try. It tells the journal's length that the word showed, and whether the room was taken.
-pub(crate) fn attempt(shared: &Table, seat: &mut Seat<Room, SeatView>) -> (u64, bool)
+pub(crate) fn try_take(shared: &Table, seat: &mut Seat<Room, SeatView>) -> (u64, bool)
     requires cell { seat.old.table_id ≡ shared.now.table_id }
     requires word { shared.now.table_id.words ≡ 1 }
     requires free { IsResting seat.old.me }
@@ -51,7 +51,7 @@ pub(crate) fn take<R: Wait>(
     ensures cell { seat.new.table_id ≡ seat.old.table_id }
     ensures took { Took seat.old.me seat.new.me }
 {
-    if !attempt(shared, seat).1 {
+    if !try_take(shared, seat).1 {
         take_later(rt, shared, waiting, seat);
     }
 }
@@ -65,18 +65,18 @@ fn take_later<R: Wait>(rt: &R, shared: &Table, waiting: &AtomicU64, seat: &mut S
     ensures cell { seat.new.table_id ≡ seat.old.table_id }
     ensures took { Took seat.old.me seat.new.me }
 {
-    if attempt_soon(shared, seat).1 {
+    if try_take_soon(shared, seat).1 {
         return;
     }
     for _ in rt.forever() {
-        // before the attempt: where that fails, whoever has the room finds the flag raised (tests/wakeups)
+        // before the try: where that fails, whoever has the room finds the flag raised (tests/wakeups)
         waiting.store(1, SeqCst);
-        if attempt(shared, seat).1 {
+        if try_take(shared, seat).1 {
             return;
         }
         // only while the flag is raised: once it is lowered the room may be back
         waiting.park(rt, 1);
-        if attempt_soon(shared, seat).1 {
+        if try_take_soon(shared, seat).1 {
             // others may sleep on, and the flag was lowered to wake this call (tests/wakeups)
             waiting.store(1, SeqCst);
             return;
@@ -85,8 +85,8 @@ fn take_later<R: Wait>(rt: &R, shared: &Table, waiting: &AtomicU64, seat: &mut S
     unreachable!()
 }
 
-// The same as `attempt`, once the room is back or a while has gone by.
-fn attempt_soon(shared: &Table, seat: &mut Seat<Room, SeatView>) -> (u64, bool)
+// The same as `try_take`, once the room is back or a while has gone by.
+fn try_take_soon(shared: &Table, seat: &mut Seat<Room, SeatView>) -> (u64, bool)
     requires cell { seat.old.table_id ≡ shared.now.table_id }
     requires word { shared.now.table_id.words ≡ 1 }
     requires free { IsResting seat.old.me }
@@ -100,7 +100,7 @@ fn attempt_soon(shared: &Table, seat: &mut Seat<Room, SeatView>) -> (u64, bool)
         }
         yield_now();
     }
-    attempt(shared, seat)
+    try_take(shared, seat)
 }
 
 // Answers the role's command in the room that was taken, and gives the room back. `seen` is the journal's length then.

@@ -13,7 +13,7 @@ use Rattle.mps_hub.specs.Private.Connections.{HasJoined, IsAnsweredFirst}
 use Rattle.mps_hub.specs.First.{IsFirstLine, IsJoin}
 use Rattle.mps_hub.specs.Places.{IsOffered, IsPassOf, Offer}
 use Rattle.mps_hub.specs.declared.attending.Attended.{Attended}
-use Rattle.mps_hub.specs.declared.attending.Attended.TheVariants.{NoLine, TurnedAway, Conversed, Memory, Unkept}
+use Rattle.mps_hub.specs.declared.attending.Attended.TheVariants.{NoLine, TurnedAway, Conversed, Memory, Unrecorded}
 use Rattle.mps_hub.proofs.Bytewise.{joins_whole, joins_front}
 
 pub if_some : {A : Type 0} (found : Option A) (x : A) (P : A → Type 0) → found ≡ Some x → IfSome found P → P x
@@ -45,7 +45,7 @@ module _ {C R W : Type 0} (caller : Ghosts C) (pass : C → Known) (source : Sou
   }
   refused writer' reply (Conversed ending) replies h = absurd h
   refused writer' reply Memory replies h = h
-  refused writer' reply Unkept replies h = absurd h
+  refused writer' reply Unrecorded replies h = absurd h
 
   -- a first line that got its pass, and what followed
   pub joined : (session : ℕ) (name : List ℕ) (before after : C) (reader' : R) (writer' : W) (ended : Attended) → HasJoined caller source sink (Joined session name) before mid writer after reader' writer' ended → IsJoin kept session name → IsPassOf offer session name (pass before)
@@ -71,4 +71,4 @@ module _ {C R W : Type 0} (caller : Ghosts C) (pass : C → Known) (source : Sou
     conversed = h;
   }
   joined session name before after reader' writer' Memory h joins taken = h.0
-  joined session name before after reader' writer' Unkept h joins taken = h.0
+  joined session name before after reader' writer' Unrecorded h joins taken = h.0

@@ -5,5 +5,5 @@ pub mod Joining
 pub mod Cells
 pub mod Crossing
 pub mod Telling
-pub mod Seating
+pub mod Placing
 pub mod Serving

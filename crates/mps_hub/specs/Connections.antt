@@ -14,13 +14,13 @@ use Rattle.mps_room.specs.declared.caller.Caller.{Ghosts}
 use Rattle.mps_wire.specs.Endings.{EndedAs}
 use Rattle.mps_wire.specs.Sending.{TookFront}
 use Rattle.mps_wire.specs.Streams.{streams}
-use Rattle.mps_wire.specs.Conversations.{converses, converses_in_part}
+use Rattle.mps_wire.specs.Conversations.{ConversesLine, ConversesBrokenOff}
 use Rattle.mps_wire.specs.declared.conversation.Ending.{Ending}
 use Rattle.mps_wire.specs.declared.conversation.Ending.TheVariants.{Untold}
 use Rattle.mps_hub.specs.First.{HasNoFirstLine, IsFirstLine, IsJoin}
 use Rattle.mps_hub.specs.Places.{IsOffered, IsPassOf, IsSession, Offer}
 use Rattle.mps_hub.specs.declared.attending.Attended.{Attended}
-use Rattle.mps_hub.specs.declared.attending.Attended.TheVariants.{NoLine, TurnedAway, Conversed, Memory, Unkept}
+use Rattle.mps_hub.specs.declared.attending.Attended.TheVariants.{NoLine, TurnedAway, Conversed, Memory, Unrecorded}
 
 -- the reply to a first line: that it is none, why it gets no pass, or that it joined
 abbrev pub RepliesToFirst : Offer → List ℕ → Reply → Type 0
@@ -43,7 +43,7 @@ pub record WasSent {W : Type 0} (sink : SinkGhosts W) (old new : W) (reply : Rep
   pub no_failure : sink.failed_calls new ≡ sink.failed_calls old
 
 -- the front of it was written, and then a write failed
-pub record WasCutShort {W : Type 0} (sink : SinkGhosts W) (old new : W) (reply : Reply) : Type 0 where
+pub record SendingBrokeOff {W : Type 0} (sink : SinkGhosts W) (old new : W) (reply : Reply) : Type 0 where
   pub text : List ℕ
   pub spelled : SpellsReply text reply
   pub front : TookFront (sink.taken old) (sink.taken new) (ended text)
@@ -56,19 +56,19 @@ module _ {C R W : Type 0} (caller : Ghosts C) (source : SourceGhosts R) (sink : 
   pub record WasConversation (ending : Ending) : Type 0 where
     pub told : W
     pub sent : WasSent sink writer told joined
-    pub ended : EndedAs (converses caller) (converses_in_part caller) before
+    pub ended : EndedAs (ConversesLine caller) (ConversesBrokenOff caller) before
         (streams source sink reader told) (streams source sink reader' writer') after ending
 
 -- What one connection comes to: a reader and a writer, as they were before it and as they are after it.
 module _ {C R W : Type 0} (caller : Ghosts C) (pass : C → Known) (source : SourceGhosts R) (sink : SinkGhosts W)
     (offer : Offer) (reader : R) (writer : W) (reader' : R) (writer' : W) where
-  -- its first line was refused, or the first answer could be written in part alone
+  -- its first line was refused, or the first answer broke off
   pub record WasTurnedAway : Type 0 where
     pub kept : List ℕ
     pub first : IsFirstLine source reader reader' kept
     pub reply : Reply
     pub replies : RepliesToFirst offer first.line reply
-    pub written : (WasSent sink writer writer' reply × (code_of reply ≢ 0)) ⊎ WasCutShort sink writer writer' reply
+    pub written : (WasSent sink writer writer' reply × (code_of reply ≢ 0)) ⊎ SendingBrokeOff sink writer writer' reply
 
   -- it joined, and was answered so; and from there on its lines were a conversation of the pass that it asked for
   pub record HasConversed (ending : Ending) : Type 0 where
@@ -90,10 +90,10 @@ module _ {C R W : Type 0} (caller : Ghosts C) (pass : C → Known) (source : Sou
   HasAttended TurnedAway = WasTurnedAway
   HasAttended (Conversed ending) = HasConversed ending
   HasAttended Memory = writer' ≡ writer
-  HasAttended Unkept = writer' ≡ writer
+  HasAttended Unrecorded = writer' ≡ writer
 
--- it did not end for want of lines that are kept
-abbrev pub IsTold : Attended → Type 0
-IsTold Unkept = ⊥
-IsTold (Conversed Untold) = ⊥
-IsTold attended = ⊤
+-- it did not end since lines were lost
+abbrev pub EndsForNoLoss : Attended → Type 0
+EndsForNoLoss Unrecorded = ⊥
+EndsForNoLoss (Conversed Untold) = ⊥
+EndsForNoLoss attended = ⊤

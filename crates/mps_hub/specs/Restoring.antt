@@ -10,8 +10,8 @@ use Rattle.mps_hub.specs.declared.restoring.SessionFault.{SessionFault}
 use Rattle.mps_hub.specs.declared.restoring.SessionFault.TheVariants.{Journal}
 
 -- at each place is the pass of the session and of the role at that place
-abbrev pub AreSeated : {C : Type 0} → Offer → (session : ℕ) → (pass : C → Known) → List C → Type 0
-AreSeated {C} offer session pass callers =
+abbrev pub AreInPlace : {C : Type 0} → Offer → (session : ℕ) → (pass : C → Known) → List C → Type 0
+AreInPlace {C} offer session pass callers =
     (place : ℕ) (c : C) → slice_get callers place ≡ Some c
     → IsOfSession offer session (pass c) × ((pass c).role ≡ place)
 
@@ -25,13 +25,13 @@ module _ {C R : Type 0} (caller : Ghosts C) (pass : C → Known) (source : Sourc
   -- each whole line of all that the source gave was called by its role's pass of the session, and accepted
   pub record HasRestored (count size : ℕ) : Type 0 where
     pub before : List C
-    pub seated : AreSeated offer session pass before
+    pub in_place : AreInPlace offer session pass before
     pub after : List C
-    pub still_seated : AreSeated offer session pass after
+    pub still_in_place : AreInPlace offer session pass after
     pub restored : RestoredFrom caller source offer.names before reader reader' after count size
 
   -- the first line that wasn't
   pub record HasFaulted (line : ℕ) (why : Unaccepted) : Type 0 where
     pub before : List C
-    pub seated : AreSeated offer session pass before
+    pub in_place : AreInPlace offer session pass before
     pub fault : FaultFrom caller source offer.names before reader reader' line why

@@ -5,9 +5,9 @@ ghost use Rattle.mps_line.specs.Replies.{SpellsReply};
 ghost use Rattle.mps_lines.specs.Lines.{ended};
 ghost use Rattle.mps_wire.specs.declared.conversation.Broken.TheVariants.{Memory as NoMemory, Write as NotWritten};
 ghost use Rattle.mps_wire.specs.declared.conversation.Broken.TheVariants.{Untold as NeverSaid};
-ghost use Rattle.mps_hub.specs.Connections.{HasAttended, IsTold, RepliesToFirst, WasCutShort, WasSent};
-ghost use Rattle.mps_keeper.specs.Holds.{keeps_of, whole_of};
-ghost use Rattle.mps_hub.specs.Private.Connections.{HasJoined, HasLeft, IsAnsweredFirst};
+ghost use Rattle.mps_hub.specs.Connections.{HasAttended, EndsForNoLoss, RepliesToFirst, SendingBrokeOff, WasSent};
+ghost use Rattle.mps_keeper.specs.Holds.{records_of, whole_of};
+ghost use Rattle.mps_hub.specs.Private.Connections.{HasJoined, IsAnsweredFirst};
 ghost use Rattle.mps_hub.specs.First.{IsJoin};
 ghost use Rattle.mps_hub.specs.Places.{IsPassOf};
 
@@ -15,7 +15,7 @@ use crate::desk::{Desk, JoinFault};
 use crate::first::{asked_for, first_line};
 use crate::gates::{Gate, Gated};
 use mps_base::Name;
-use mps_cell::{Held, Pass};
+use mps_cell::{Pass, WaitingPass};
 use mps_dev::{Failed, Sink, Source};
 use mps_keeper::{Disk, Hold, Keeper, LONGEST_LINE, Recorded};
 use mps_line::Reply;
@@ -37,8 +37,8 @@ pub enum Attended {
     Conversed(Ending),
     /// Memory ran out before its first line was answered.
     Memory,
-    /// What its role was shown before is not kept, so its first line wasn't answered.
-    Unkept,
+    /// What its role was shown before is not recorded, so its first line wasn't answered.
+    Unrecorded,
 }
 
 // The text of the reply, with its LF.
@@ -55,7 +55,7 @@ fn text_of(alloc: Global, reply: &Reply) -> Result<Vec<u8>, AllocError>
 fn send<W: Sink>(alloc: Global, writer: &mut W, reply: &Reply) -> Result<(), Broken>
     requires { W.failed_calls writer.old < 2 ^ 62 }
     ensures sent { OnOk result (WasSent W.Sink writer.old writer.new reply.now) }
-    ensures cut { result ≡ Err NotWritten → WasCutShort W.Sink writer.old writer.new reply.now }
+    ensures broken_off { result ≡ Err NotWritten → SendingBrokeOff W.Sink writer.old writer.new reply.now }
     ensures memory { result ≡ Err NoMemory → writer.new ≡ writer.old }
     ensures only { result ≢ Err NeverSaid }
 {
@@ -117,8 +117,8 @@ fn keeper_at<S: Sink, D>(keepers: &[Keeper<S, D>], place: u64) -> Option<&Keeper
     keepers.get(place as usize)
 }
 
-// Room for the lines that are kept.
-fn line_room<S: Sink, D>(alloc: Global, keepers: &[Keeper<S, D>]) -> Result<Vec<u8>, AllocError> {
+// Space for the lines that are recorded.
+fn line_space<S: Sink, D>(alloc: Global, keepers: &[Keeper<S, D>]) -> Result<Vec<u8>, AllocError> {
     if keepers.is_empty() {
         Ok(Vec::new(alloc))
     } else {
@@ -126,10 +126,10 @@ fn line_room<S: Sink, D>(alloc: Global, keepers: &[Keeper<S, D>]) -> Result<Vec<
     }
 }
 
-/// A role's pass in a connection: each command that comes passes the gate, and where it is accepted it is kept.
+/// A role's pass in a connection: each command that comes passes the gate, and where it is accepted it is recorded.
 pub type Guest<'k, 'g, 'r, 'a, G, H, S, D> = Recorded<
     Hold<'k, H, S, D>,
-    Gated<'g, G, Held<'r, 'a, H>>,
+    Gated<'g, G, WaitingPass<'r, 'a, H>>,
 >;
 
 // Says that it joined, and converses. The pass stays one of its cell.
@@ -155,12 +155,12 @@ fn converse_joined<
     requires writes { W.failed_calls writer.old < 2 ^ 61 }
     ensures cell { caller.new.inner.inner.pass.cell ≡ caller.old.inner.inner.pass.cell }
     ensures opening { caller.new.inner.inner.pass.opening ≡ caller.old.inner.inner.pass.opening }
-    ensures conversed { HasJoined ⟦<Guest<'static, 'static, 'static, 'static, G, H, S, D> as Caller>⟧ R.Source W.Sink joined.now
-        caller.old reader.old writer.old caller.new reader.new writer.new result }
-    ensures told { keeps_of caller.old.keeper ≡ false → whole_of caller.old.keeper ≡ true → IsTold result }
+    ensures conversed { HasJoined ⟦<Guest<'static, 'static, 'static, 'static, G, H, S, D> as Caller>⟧
+        R.Source W.Sink joined.now caller.old reader.old writer.old caller.new reader.new writer.new result }
+    ensures told { records_of caller.old.keeper ≡ false → whole_of caller.old.keeper ≡ true → EndsForNoLoss result }
 {
     if !caller.may_tell() {
-        return Attended::Unkept;
+        return Attended::Unrecorded;
     }
     match send(alloc, writer, joined) {
         Ok(()) => Attended::Conversed(converse(alloc, caller, reader, writer)),
@@ -170,54 +170,12 @@ fn converse_joined<
     }
 }
 
-// What a conversation leaves: how the connection ended, and the pass.
-struct Returned<'a> {
-    ended: Attended,
-    pass: Pass<'a>,
-}
-
-// Says that it joined, converses, and has the pass back as the conversation left it.
-fn converse_and_return<
-    'k,
-    'g,
-    'r,
-    'a,
-    G: Gate + 'static,
-    H: Wait + 'static,
-    S: Sink + 'static,
-    D: Disk + 'static,
-    R: Source,
-    W: Sink,
->(
-    alloc: Global,
-    caller: Guest<'k, 'g, 'r, 'a, G, H, S, D>,
-    joined: &Reply,
-    reader: &mut R,
-    writer: &mut W,
-) -> Returned<'a>
-    requires reads { R.calls reader.old < 2 ^ 62 }
-    requires writes { W.failed_calls writer.old < 2 ^ 61 }
-    ensures cell { result.pass.cell ≡ caller.entry.inner.inner.pass.cell }
-    ensures opening { result.pass.opening ≡ caller.entry.inner.inner.pass.opening }
-    ensures conversed { HasLeft ⟦<Guest<'static, 'static, 'static, 'static, G, H, S, D> as Caller>⟧
-        (λ c. c.inner.inner.pass) R.Source W.Sink joined.now
-        caller.entry reader.old writer.old reader.new writer.new result.pass result.ended }
-    ensures told { keeps_of caller.entry.keeper ≡ false → whole_of caller.entry.keeper ≡ true → IsTold result.ended }
-{
-    let mut caller = caller;
-    let ended = converse_joined(alloc, &mut caller, joined, reader, writer);
-    Returned {
-        ended,
-        pass: caller.inner.inner.pass,
-    }
-}
-
 /// Attends to one connection: to its first line and, where that joins, to its conversation. The pass goes back to the
 /// desk then, however the conversation ended.
 ///
 /// The first line is `join SESSION ROLE`, of 512 bytes at most. The gate runs before each command; `connection` is the
-/// number that it is told. What the commands of the K-th session change is kept by the K-th of the keepers, where
-/// there is one, and nothing is answered that isn't kept. Where memory runs out over the first line, nothing is
+/// number that it is told. What the commands of the K-th session change is recorded by the K-th of the keepers, where
+/// there is one, and nothing is answered that isn't recorded. Where memory runs out over the first line, nothing is
 /// answered.
 pub fn attend<
     H: Wait + 'static,
@@ -241,9 +199,9 @@ pub fn attend<
     ensures attended { HasAttended ⟦<Guest<'static, 'static, 'static, 'static, G, H, S, D> as Caller>⟧
         (λ c. c.inner.inner.pass)
         R.Source W.Sink desk.now reader.old writer.old reader.new writer.new result }
-    ensures told { length keepers.now ≡ 0 → IsTold result }
+    ensures told { length keepers.now ≡ 0 → EndsForNoLoss result }
 {
-    let Ok(line) = line_room(alloc, keepers) else {
+    let Ok(line) = line_space(alloc, keepers) else {
         return Attended::Memory;
     };
     let first = match first_line(alloc, reader) {
@@ -261,16 +219,14 @@ pub fn attend<
             let gated = Gated {
                 gate,
                 connection,
-                line: 0,
-                inner: Held { rt, pass },
+                commands: 0,
+                inner: WaitingPass { rt, pass },
             };
             let hold = Hold::new(rt, keeper_at(keepers, session - desk.first()));
-            let caller = Recorded::new(hold, gated, line);
+            let mut caller = Recorded::new(hold, gated, line);
             let joined = Reply::Joined { session, name };
-            let Returned { ended, pass } = converse_and_return(
-                alloc, caller, &joined, reader, writer,
-            );
-            desk.give(rt, session, pass);
+            let ended = converse_joined(alloc, &mut caller, &joined, reader, writer);
+            desk.give(rt, session, caller.inner.inner.pass);
             ended
         }
         Err(reply) => refuse(alloc, writer, &reply),

@@ -2,14 +2,14 @@
 ghost use Rattle.std.specs.Prelude.{◌≡◌};
 
 use mps_base::{Role, Roles};
-use mps_keeper::Seated;
-use mps_room::{Answer, Caller, Command, Told};
+use mps_keeper::Recordable;
+use mps_room::{Answer, Caller, Command, Place, Told};
 
 /// Something that runs before each command of a connection is given to its pass. A test can hold a command there.
 pub trait Gate {
     /// Both are counted from 1: connections as they are accepted, and the commands of each that are given to its pass.
     /// A line that can't be read gives none, and neither does one whose number is not the next.
-    fn before(&self, connection: u64, line: u64);
+    fn before(&self, connection: u64, command: u64);
 }
 
 /// No gate.
@@ -17,7 +17,7 @@ pub trait Gate {
 pub struct Unguarded;
 
 impl Gate for Unguarded {
-    fn before(&self, _connection: u64, _line: u64) {}
+    fn before(&self, _connection: u64, _command: u64) {}
 }
 
 /// A caller behind a gate.
@@ -25,7 +25,8 @@ impl Gate for Unguarded {
 pub struct Gated<'g, G, C> {
     pub gate: &'g G,
     pub connection: u64,
-    pub line: u64,
+    /// How many commands were given to the caller.
+    pub commands: u64,
     pub inner: C,
 }
 
@@ -34,12 +35,12 @@ impl<'g, G: Gate, C> Gated<'g, G, C> {
     fn stop(&mut self)
         ensures { self.new.inner ≡ self.old.inner }
     {
-        self.line = self.line.saturating_add(1);
-        self.gate.before(self.connection, self.line);
+        self.commands = self.commands.saturating_add(1);
+        self.gate.before(self.connection, self.commands);
     }
 }
 
-impl<'g, G: Gate, C: Caller> Caller for Gated<'g, G, C> {
+impl<'g, G: Gate, C: Recordable> Caller for Gated<'g, G, C> {
     ghost names = { λ g. C.names g.inner };
 
     ghost role = { λ g. C.role g.inner };
@@ -72,7 +73,7 @@ impl<'g, G: Gate, C: Caller> Caller for Gated<'g, G, C> {
     }
 
     fn call_numbered(&mut self, number: u64, command: Command) -> Told {
-        if number.checked_sub(1) == Some(self.inner.last()) {
+        if self.inner.place(number) == Place::Next {
             self.stop();
         }
         self.inner.call_numbered(number, command)
@@ -89,9 +90,13 @@ impl<'g, G: Gate, C: Caller> Caller for Gated<'g, G, C> {
     ghost grows = { λ g c a h t. C.grows g.inner c a h.inner t };
 }
 
-impl<'g, G: Gate, C: Seated> Seated for Gated<'g, G, C> {
-    fn seat(&self) -> Role {
-        self.inner.seat()
+impl<'g, G: Gate, C: Recordable> Recordable for Gated<'g, G, C> {
+    fn own_role(&self) -> Role {
+        self.inner.own_role()
+    }
+
+    fn place(&self, number: u64) -> Place {
+        self.inner.place(number)
     }
 
     fn seen(&self) -> u64 {

@@ -30,5 +30,5 @@ pub use limits::Limits;
 pub use lobby::MAX_OPEN;
 pub use patience::FIRST_LINE;
 pub use restoring::SessionFault;
-pub use server::{ServeFault, Served, no_keepers, serve, serve_kept, serve_with};
+pub use server::{ServeFault, Served, no_keepers, serve, serve_recorded, serve_with};
 pub use sessions::{Hub, HubDeal};

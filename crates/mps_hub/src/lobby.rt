@@ -76,15 +76,15 @@ impl Lobby {
         }
     }
 
-    // Waits until there is room for one more. Says whether one is let in.
-    pub(crate) fn has_room<R: Wait>(&self, rt: &R) -> bool {
+    // Waits until there is a place for one more. Says whether one is let in.
+    pub(crate) fn lets_in<R: Wait>(&self, rt: &R) -> bool {
         let guests = self.left.wait_while(rt, self.guests.lock(rt), |guests| {
             !guests.closed && guests.free().is_none()
         });
         !guests.closed
     }
 
-    // Lets a connection in, if there is room for it, and gives its place.
+    // Lets a connection in, if there is a place for it, and gives the place.
     pub(crate) fn enter<R: Wait>(&self, rt: &R, alloc: Global, stream: TcpStream) -> Option<usize> {
         let stream = Arc::new(alloc, stream).ok()?;
         let mut guests = self.guests.lock(rt);

@@ -49,7 +49,7 @@ pub enum ServeFault {
     Memory,
     /// So nothing more is answered.
     #[error("lines of session {session} were lost")]
-    Unkept { session: u64 },
+    Unrecorded { session: u64 },
 }
 
 // Reads what the client still sends, for a while. If a connection is closed with bytes unread, the system may take
@@ -193,7 +193,7 @@ fn accept_all<
     let limits = lobby.limits();
     let mut lost = 0;
     for place in 0..limits.connections.unwrap_or(u64::MAX) {
-        if !lobby.has_room(rt) {
+        if !lobby.lets_in(rt) {
             return Ok(lost);
         }
         match accepted(listener.accept()) {
@@ -215,9 +215,9 @@ fn accept_all<
 /// Accepts connections, attends to each in a thread of its own, and returns when all have ended. A connection whose
 /// thread can't be started is closed and counted as lost. After a fault no more are accepted.
 ///
-/// The K-th session is kept by the K-th of the keepers, where there is one. Where a keeper loses lines, nothing more
-/// is answered, and all connections are ended.
-pub fn serve_kept<
+/// The K-th session is recorded by the K-th of the keepers, where there is one. Where a keeper loses lines, nothing
+/// more is answered, and all connections are ended.
+pub fn serve_recorded<
     R: Threads + Wait + Clock + Sync + 'static,
     G: Gate + Sync + 'static,
     S: Sink + Send + 'static,
@@ -233,7 +233,7 @@ pub fn serve_kept<
 ) -> Result<Served, ServeFault>
     requires keepers { length keepers.now ≤ length desk.now.cells }
     ensures served { IfOk result (λ s. IfSome limits.connections (λ n. s.ended + s.lost ≡ n)) }
-    ensures unkept { IfErr result (IsServeFaultOf desk.now.first (length keepers.now)) }
+    ensures unrecorded { IfErr result (IsServeFaultOf desk.now.first (length keepers.now)) }
 {
     let Some(bell) = bell_of(listener) else {
         return Err(ServeFault::Accept);
@@ -241,12 +241,12 @@ pub fn serve_kept<
     let Ok(lobby) = Lobby::new(alloc, bell, limits) else {
         return Err(ServeFault::Memory);
     };
-    let hall = &lobby;
+    let lobby = &lobby;
     let accepted = thread::scope(thread::scope_env(), rt, move |scope| {
-        accept_all(scope, rt, alloc, listener, desk, gate, keepers, hall)
+        accept_all(scope, rt, alloc, listener, desk, gate, keepers, lobby)
     });
     if let Some(place) = broken_of(keepers) {
-        return Err(ServeFault::Unkept {
+        return Err(ServeFault::Unrecorded {
             session: desk.first() + place as u64,
         });
     }
@@ -257,7 +257,7 @@ pub fn serve_kept<
 // borrows has a lifetime: so `min`, and so a fault that tells of lost lines is told as one of accepting.
 fn counted(limits: Limits, accepted: Result<u64, ServeFault>) -> Result<Served, ServeFault>
     ensures served { IfOk result (λ s. IfSome limits.connections (λ n. s.ended + s.lost ≡ n)) }
-    ensures unkept { IfErr result (IsServeFaultOf 0 0) }
+    ensures unrecorded { IfErr result (IsServeFaultOf 0 0) }
 {
     let all = limits.connections.unwrap_or(u64::MAX);
     match accepted {
@@ -270,18 +270,18 @@ fn counted(limits: Limits, accepted: Result<u64, ServeFault>) -> Result<Served, 
         }
         Err(ServeFault::Memory) => Err(ServeFault::Memory),
         Err(ServeFault::Accept) => Err(ServeFault::Accept),
-        Err(ServeFault::Unkept { .. }) => Err(ServeFault::Accept),
+        Err(ServeFault::Unrecorded { .. }) => Err(ServeFault::Accept),
     }
 }
 
-/// No keepers, for sessions that aren't kept.
+/// No keepers, for sessions that aren't recorded.
 pub fn no_keepers() -> &'static [Keeper<Discard, File>]
     ensures { length result.now ≡ 0 }
 {
     &[]
 }
 
-/// Accepts `n` connections to sessions that aren't kept, with a gate that runs before each command.
+/// Accepts `n` connections to sessions that aren't recorded, with a gate that runs before each command.
 pub fn serve_with<R: Threads + Wait + Clock + Sync + 'static, G: Gate + Sync + 'static>(
     rt: &R,
     alloc: Global,
@@ -291,16 +291,16 @@ pub fn serve_with<R: Threads + Wait + Clock + Sync + 'static, G: Gate + Sync + '
     gate: &G,
 ) -> Result<Served, ServeFault>
     ensures served { IfOk result (λ s. s.ended + s.lost ≡ n) }
-    ensures unkept { IfErr result (IsServeFaultOf desk.now.first 0) }
+    ensures unrecorded { IfErr result (IsServeFaultOf desk.now.first 0) }
 {
     let limits = Limits {
         connections: Some(n),
         idle: None,
     };
-    serve_kept(rt, alloc, listener, desk, gate, no_keepers(), limits)
+    serve_recorded(rt, alloc, listener, desk, gate, no_keepers(), limits)
 }
 
-/// Accepts `n` connections to sessions that aren't kept.
+/// Accepts `n` connections to sessions that aren't recorded.
 pub fn serve<R: Threads + Wait + Clock + Sync + 'static>(
     rt: &R,
     alloc: Global,
@@ -309,7 +309,7 @@ pub fn serve<R: Threads + Wait + Clock + Sync + 'static>(
     n: u64,
 ) -> Result<Served, ServeFault>
     ensures served { IfOk result (λ s. s.ended + s.lost ≡ n) }
-    ensures unkept { IfErr result (IsServeFaultOf desk.now.first 0) }
+    ensures unrecorded { IfErr result (IsServeFaultOf desk.now.first 0) }
 {
     serve_with(rt, alloc, listener, desk, n, &Unguarded)
 }

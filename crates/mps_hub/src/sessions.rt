@@ -242,7 +242,7 @@ impl Hub {
 // Closes the cells in order.
 fn close_all(cells: Vec<Cell>, mut rooms: Vec<Option<Room>>) -> Vec<Option<Room>>
     requires none { rooms.items ≡ [] }
-    requires room { length cells.items ≤ vec_capacity rooms }
+    requires space { length cells.items ≤ vec_capacity rooms }
     ensures { AreClosed cells.items result.items }
 {
     for cell in cells {

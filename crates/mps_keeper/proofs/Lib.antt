@@ -1,6 +1,6 @@
 pub mod Taking
 pub mod Counting
-pub mod Keeping
+pub mod Recording
 pub mod Restoring
 pub mod Rerunning
 pub mod Remaking

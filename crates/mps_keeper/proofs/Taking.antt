@@ -7,7 +7,7 @@ use Rattle.std.proofs.lemmas.List.{take-append-drop}
 use Rattle.mps_lines.specs.Lines.{ended}
 use Rattle.mps_wire.specs.Sending.{TookFront}
 use Rattle.mps_wire.proofs.Bytes.{Appends-none, Appends-trans}
-use Rattle.mps_keeper.specs.Books.{Took, TookMore, TookToPart}
+use Rattle.mps_keeper.specs.Books.{Took, TookMore, TookBrokenOff}
 
 -- nothing more
 pub no_more : (a : Option (List ℕ)) → TookMore a a
@@ -17,7 +17,7 @@ no_more a = ([], Appends-none a)
 pub more_trans : (a b c : Option (List ℕ)) → TookMore a b → TookMore b c → TookMore a c
 more_trans a b c h k = (h.0 ++ k.0, Appends-trans a b c h.0 k.0 h.1 k.1)
 
--- what was taken in part is more
+-- what was taken of lines that break off is more
 pub front_more : (a b : Option (List ℕ)) (text : List ℕ) → TookFront a b text → TookMore a b
 front_more a b text front = (take front.count text, front.taken)
 
@@ -34,8 +34,8 @@ pub took_text : (a b c : Option (List ℕ)) (first next : List (List ℕ)) (text
 took_text a b c first next text is h k = took_more a b c first next h (subst (Appends b c) is k)
 
 -- a front of what was to follow
-pub part_more : (start old new : Option (List ℕ)) (lines next : List (List ℕ)) (text : List ℕ) → text ≡ flat_map ended next → Took start lines old → TookFront old new text → TookToPart start lines next new
-part_more start old new lines next text is took front = record {
+pub broken_more : (start old new : Option (List ℕ)) (lines next : List (List ℕ)) (text : List ℕ) → text ≡ flat_map ended next → Took start lines old → TookFront old new text → TookBrokenOff start lines next new
+broken_more start old new lines next text is took front = record {
   part = take front.count text;
   others = drop front.count text;
   front = sym is ∙ sym (take-append-drop front.count text);

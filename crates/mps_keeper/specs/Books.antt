@@ -13,7 +13,7 @@ abbrev pub TookMore : Option (List ℕ) → Option (List ℕ) → Type 0
 TookMore start now = (more : List ℕ) × Appends start now more
 
 -- these lines, and a front of those that were to follow
-pub record TookToPart (start : Option (List ℕ)) (lines next : List (List ℕ)) (now : Option (List ℕ)) : Type 0 where
+pub record TookBrokenOff (start : Option (List ℕ)) (lines next : List (List ℕ)) (now : Option (List ℕ)) : Type 0 where
   pub part : List ℕ
   pub others : List ℕ
   pub front : flat_map ended next ≡ part ++ others

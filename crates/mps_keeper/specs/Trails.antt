@@ -1,8 +1,8 @@
--- What a keeper is known to have kept.
+-- What a keeper is known to have recorded.
 use Rattle.std.specs.Prelude.{◌≡◌, ℕ, true, ⊤, List, [], ◌∷◌, ◌++◌, Option}
 use Rattle.mps_room.specs.declared.caller.Caller.{Ghosts}
-use Rattle.mps_wire.specs.Answers.{AnswersCut}
-use Rattle.mps_wire.specs.Conversations.{converses, converses_in_part}
+use Rattle.mps_wire.specs.Answers.{AnswersBrokenOff}
+use Rattle.mps_wire.specs.Conversations.{ConversesLine, ConversesBrokenOff}
 use Rattle.mps_room.specs.declared.entry.Entry.{Entry}
 use Rattle.mps_line.specs.JournalLines.{SpellsJournalLine}
 use Rattle.mps_keeper.specs.Books.{Took, TookMore}
@@ -17,8 +17,8 @@ SpellEntries names lines numbers entries = ⊥
 
 -- what was taken since are the lines of the entries that were made since, in order, with the numbers that lead to the
 -- last one
-pub record KeptOn (names : List (List ℕ)) (taken taken' : Option (List ℕ)) (last last' : ℕ) (made made' : List Entry)
-    : Type 0 where
+pub record RecordedOn (names : List (List ℕ)) (taken taken' : Option (List ℕ)) (last last' : ℕ)
+    (made made' : List Entry) : Type 0 where
   pub lines : List (List ℕ)
   pub numbers : List (Option ℕ)
   pub entries : List Entry
@@ -27,18 +27,18 @@ pub record KeptOn (names : List (List ℕ)) (taken taken' : Option (List ℕ)) (
   pub spelled : SpellEntries names lines numbers entries
   pub took : Took taken lines taken'
 
--- What was written of a conversation's answers is kept: it is the answers to the first of its lines (of the last of
--- them a part), after which nothing was lost; what the keeper took until then are the lines of the entries that were
+-- What was written of a conversation's answers is recorded: it is the answers to the first of its lines (the last may
+-- break off), after which nothing was lost; what the keeper took until then are the lines of the entries that were
 -- made until then; and it still has them after the conversation.
 module _ {R : Type 0} (caller : Ghosts R) (taken : R → Option (List ℕ)) (lines : List (List ℕ)) (before : R)
     (written : List ℕ) (after : R) where
-  pub record ToldIsKept : Type 0 where
+  pub record WrittenIsRecorded : Type 0 where
     pub asked : List (List ℕ)
     pub others : List (List ℕ)
     pub first : lines ≡ asked ++ others
     pub reached : R
-    pub answered : AnswersCut (converses caller) (converses_in_part caller) asked before written reached
+    pub answered : AnswersBrokenOff (ConversesLine caller) (ConversesBrokenOff caller) asked before written reached
     pub whole : caller.may_tell reached ≡ true
-    pub kept : KeptOn (caller.names before) (taken before) (taken reached) (caller.last before) (caller.last reached)
-        (caller.made before) (caller.made reached)
+    pub recorded : RecordedOn (caller.names before) (taken before) (taken reached) (caller.last before)
+        (caller.last reached) (caller.made before) (caller.made reached)
     pub since : TookMore (taken reached) (taken after)

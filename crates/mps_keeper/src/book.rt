@@ -3,18 +3,18 @@ ghost use Rattle.std.specs.Prelude.{◌≡◌, ◌<◌, ◌^◌, ◌++◌, ℕ, 
 ghost use Rattle.std.specs.Io.KnownBytes.{Appends};
 ghost use Rattle.std.specs.List.{flat_map};
 ghost use Rattle.mps_lines.specs.Lines.{ended};
-ghost use Rattle.mps_keeper.specs.Books.{Took, TookMore, TookToPart};
+ghost use Rattle.mps_keeper.specs.Books.{Took, TookMore, TookBrokenOff};
 ghost use Rattle.mps_wire.specs.Sending.{TookFront};
 
-use crate::keep::Keep;
+use crate::recorder::Recorder;
 use mps_dev::{Failed, Sink};
 use mps_wire::sending::send_all;
 use thiserror::Error;
 
-/// Lines are not kept.
+/// Lines are not recorded.
 #[derive(Clone, Copy, Debug, PartialEq, Eq, Error)]
-#[error("the lines are not kept")]
-pub struct NotKept;
+#[error("the lines are not recorded")]
+pub struct NotRecorded;
 
 /// A sink of lines. Once a write failed it takes no more.
 #[derive(Drop)]
@@ -74,8 +74,8 @@ impl<W: Sink> Book<W> {
 
     /// Adds lines, each with its LF, after which it has so many. After a failure nothing is added any more.
     #[tactic(auto, using(crate::proofs::Taking::no_front))]
-    pub fn append(&mut self, text: &[u8], lines: u64) -> Result<(), NotKept>
-        ensures kept { OnOk result (Appends (W.taken (sink_of self.old)) (W.taken (sink_of self.new)) text.now) }
+    pub fn append(&mut self, text: &[u8], lines: u64) -> Result<(), NotRecorded>
+        ensures taken { OnOk result (Appends (W.taken (sink_of self.old)) (W.taken (sink_of self.new)) text.now) }
         ensures front { OnErr result (TookFront (W.taken (sink_of self.old)) (W.taken (sink_of self.new)) text.now) }
         ensures still { whole_of self.old ≡ false → sink_of self.new ≡ sink_of self.old }
         ensures lines { OnOk result (lines_of self.new ≡ lines) }
@@ -88,13 +88,13 @@ impl<W: Sink> Book<W> {
             → text.now ≡ flat_map ended next
             → Took start lines (W.taken (sink_of self.old))
             → OnOk result (Took start (lines ++ next) (W.taken (sink_of self.new))) }
-        ensures part { (start : Option (List ℕ)) (lines : List (List ℕ)) (next : List (List ℕ))
+        ensures broken_off { (start : Option (List ℕ)) (lines : List (List ℕ)) (next : List (List ℕ))
             → text.now ≡ flat_map ended next
             → Took start lines (W.taken (sink_of self.old))
-            → OnErr result (TookToPart start lines next (W.taken (sink_of self.new))) }
+            → OnErr result (TookBrokenOff start lines next (W.taken (sink_of self.new))) }
     {
         if !self.whole {
-            return Err(NotKept);
+            return Err(NotRecorded);
         }
         match send_all(&mut self.sink, text) {
             Ok(()) => {
@@ -103,23 +103,23 @@ impl<W: Sink> Book<W> {
             }
             Err(Failed) => {
                 self.whole = false;
-                Err(NotKept)
+                Err(NotRecorded)
             }
         }
     }
 }
 
 /// A book that one caller has for itself: it waits for nobody.
-impl<W: Sink> Keep for Book<W> {
+impl<W: Sink> Recorder for Book<W> {
     ghost use Rattle.mps_keeper.specs.BookParts.{sink_of, whole_of};
 
-    ghost keeps = { λ _. true };
+    ghost records = { λ _. true };
 
     ghost taken = { λ b. W.taken (sink_of b) };
 
     ghost whole = { whole_of };
 
-    fn keeps(&self) -> bool {
+    fn records(&self) -> bool {
         true
     }
 
@@ -127,7 +127,7 @@ impl<W: Sink> Keep for Book<W> {
         self.whole
     }
 
-    fn keep(&mut self, place: u64, line: &[u8]) {
+    fn add(&mut self, place: u64, line: &[u8]) {
         if self.lines.checked_add(1) != Some(place) || self.append(line, place).is_err() {
             self.lose();
         }

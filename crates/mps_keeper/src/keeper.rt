@@ -2,7 +2,7 @@
 ghost use Rattle.std.specs.Prelude.{◌≡◌, ◌+◌, ◌++◌, true, false};
 
 use crate::book::Book;
-use crate::keep::Keep;
+use crate::recorder::Recorder;
 use mps_base::MAX_ROLES;
 use mps_dev::Sink;
 use mps_lines::MAX_LINE;
@@ -16,9 +16,9 @@ use std::sync::{Condvar, Mutex, Wait};
 /// below 2^64, a command, and two spaces.
 pub const LONGEST_LINE: usize = 32 + 1 + 20 + 1 + MAX_LINE + 1;
 
-/// A disk that can be told to keep what was written.
+/// A disk that can be told to store what was written.
 pub trait Disk {
-    /// Says whether all that was written is kept.
+    /// Says whether all that was written is stored.
     fn sync(&self) -> bool;
 }
 
@@ -57,9 +57,9 @@ impl Waiting {
     }
 }
 
-// The file, and the room that the lines are handed over in.
+// The file, and the space that the lines are handed over in.
 #[derive(Drop)]
-struct Desk<W: Sink> {
+struct Writing<W: Sink> {
     book: Book<W>,
     text: Vec<u8>,
 }
@@ -72,35 +72,35 @@ pub struct Keeper<W: Sink, D> {
     // woken when a line came, or was lost
     came: Condvar,
     // who has it writes
-    desk: Mutex<Desk<W>>,
-    // where lines are kept only once the disk says so
+    writing: Mutex<Writing<W>>,
+    // where lines are recorded only once the disk says so
     disk: Option<D>,
-    // how many lines are kept
-    kept: AtomicU64,
+    // how many lines are recorded
+    recorded: AtomicU64,
     lost: AtomicBool,
 }
 
-// Room for a line of each connection that a session can have.
-fn lines_room(alloc: Global) -> Result<Vec<u8>, AllocError> {
+// Space for a line of each connection that a session can have.
+fn lines_space(alloc: Global) -> Result<Vec<u8>, AllocError> {
     Vec::with_capacity(alloc, MAX_ROLES * LONGEST_LINE)
 }
 
 impl<W: Sink + Drop, D: Drop> Keeper<W, D> {
-    /// A keeper over this book. Where a disk is given, a line is kept once it says so.
+    /// A keeper over this book. Where a disk is given, a line is recorded once it says so.
     pub fn new(alloc: Global, book: Book<W>, disk: Option<D>) -> Result<Keeper<W, D>, AllocError> {
         let lines = book.lines();
-        let text = lines_room(alloc)?;
+        let text = lines_space(alloc)?;
         let waiting = Waiting {
-            text: lines_room(alloc)?,
+            text: lines_space(alloc)?,
             lines,
             whole: true,
         };
         Ok(Keeper {
             waiting: Mutex::new(waiting),
             came: Condvar::new(),
-            desk: Mutex::new(Desk { book, text }),
+            writing: Mutex::new(Writing { book, text }),
             disk,
-            kept: AtomicU64::new(lines),
+            recorded: AtomicU64::new(lines),
             lost: AtomicBool::new(false),
         })
     }
@@ -112,9 +112,9 @@ impl<W: Sink, D> Keeper<W, D> {
         self.lost.load(Ordering::SeqCst)
     }
 
-    // Whether so many lines are kept, and none is lost.
-    fn has_kept(&self, place: u64) -> bool {
-        !self.is_broken() && self.kept.load(Ordering::SeqCst) >= place
+    // Whether so many lines are recorded, and none is lost.
+    fn has_recorded(&self, place: u64) -> bool {
+        !self.is_broken() && self.recorded.load(Ordering::SeqCst) >= place
     }
 
     // Gives up the line that is next, and so all after it.
@@ -156,40 +156,40 @@ impl<W: Sink, D> Keeper<W, D> {
 }
 
 impl<W: Sink, D: Disk> Keeper<W, D> {
-    // Writes the lines that were handed over, and syncs them. Says whether they are kept.
-    fn write(&self, desk: &mut Desk<W>, lines: u64) -> bool {
-        let written = desk.book.append(desk.text.as_slice(), lines).is_ok();
-        desk.text.clear();
+    // Writes the lines that were handed over, and syncs them. Says whether they are recorded.
+    fn write(&self, writing: &mut Writing<W>, lines: u64) -> bool {
+        let written = writing.book.append(writing.text.as_slice(), lines).is_ok();
+        writing.text.clear();
         match &self.disk {
             Some(disk) => written && disk.sync(),
             None => written,
         }
     }
 
-    // Has the lines kept that wait, unless they are by then. Says whether so many are. Nothing is written after a
+    // Has the lines recorded that wait, unless they are by then. Says whether so many are. Nothing is written after a
     // failure, and nothing synced, since the next sync may succeed although lines were lost.
     fn flush<R: Wait>(&self, rt: &R, place: u64) -> bool {
-        if self.has_kept(place) {
+        if self.has_recorded(place) {
             return true;
         }
-        let mut desk = self.desk.lock(rt);
-        if self.has_kept(place) {
+        let mut writing = self.writing.lock(rt);
+        if self.has_recorded(place) {
             return true;
         }
-        let kept = match self.hand_over(rt, &mut desk.text) {
-            Some(lines) if desk.book.is_whole() && lines >= place => {
-                self.write(&mut desk, lines).then_some(lines)
+        let recorded = match self.hand_over(rt, &mut writing.text) {
+            Some(lines) if writing.book.is_whole() && lines >= place => {
+                self.write(&mut writing, lines).then_some(lines)
             }
             _ => None,
         };
-        match kept {
-            Some(lines) => self.kept.store(lines, Ordering::SeqCst),
+        match recorded {
+            Some(lines) => self.recorded.store(lines, Ordering::SeqCst),
             None => {
-                desk.book.lose();
+                writing.book.lose();
                 self.lose(rt);
             }
         }
-        kept.is_some()
+        recorded.is_some()
     }
 }
 
@@ -202,12 +202,12 @@ pub struct Hold<'k, R, W: Sink, D> {
 }
 
 impl<'k, R, W: Sink, D> Hold<'k, R, W, D> {
-    ghost use Rattle.mps_keeper.specs.Holds.{keeps_of, whole_of};
+    ghost use Rattle.mps_keeper.specs.Holds.{records_of, whole_of};
     ghost use Rattle.std.specs.Option.{is_some};
 
-    /// A hold of the keeper; of none, where nothing is kept.
+    /// A hold of the keeper; of none, where nothing is recorded.
     pub fn new(rt: &'k R, keeper: Option<&'k Keeper<W, D>>) -> Hold<'k, R, W, D>
-        ensures keeps { keeps_of result ≡ is_some keeper.entry }
+        ensures records { records_of result ≡ is_some keeper.entry }
         ensures whole { whole_of result ≡ true }
     {
         Hold {
@@ -218,17 +218,17 @@ impl<'k, R, W: Sink, D> Hold<'k, R, W, D> {
     }
 }
 
-impl<'k, R: Wait, W: Sink, D: Disk> Keep for Hold<'k, R, W, D> {
+impl<'k, R: Wait, W: Sink, D: Disk> Recorder for Hold<'k, R, W, D> {
     ghost use Rattle.std.specs.Prelude.{None};
-    ghost use Rattle.mps_keeper.specs.Holds.{keeps_of, whole_of};
+    ghost use Rattle.mps_keeper.specs.Holds.{records_of, whole_of};
 
-    ghost keeps = { keeps_of };
+    ghost records = { records_of };
 
     ghost taken = { λ _. None };
 
     ghost whole = { whole_of };
 
-    fn keeps(&self) -> bool {
+    fn records(&self) -> bool {
         self.keeper.is_some()
     }
 
@@ -236,7 +236,7 @@ impl<'k, R: Wait, W: Sink, D: Disk> Keep for Hold<'k, R, W, D> {
         self.whole
     }
 
-    fn keep(&mut self, place: u64, line: &[u8]) {
+    fn add(&mut self, place: u64, line: &[u8]) {
         let Some(keeper) = self.keeper else {
             return;
         };
@@ -250,7 +250,7 @@ impl<'k, R: Wait, W: Sink, D: Disk> Keep for Hold<'k, R, W, D> {
         let Some(keeper) = self.keeper else {
             return;
         };
-        if keeper.has_kept(place) {
+        if keeper.has_recorded(place) {
             return;
         }
         keeper.reach(self.rt, place);

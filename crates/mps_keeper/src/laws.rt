@@ -1,4 +1,4 @@
-//! Laws of a kept journal.
+//! Laws of a recorded journal.
 ghost use Rattle.std.specs.Prelude.{◌≡◌, ◌≢◌, ℕ, List, [], ◌∷◌, ◌++◌, ◌⊎◌, Option, None, Some, slice_get, true};
 ghost use Rattle.mps_command.specs.declared.command.Command.{Command};
 ghost use Rattle.mps_command.specs.declared.answer.Answer.{Answer};
@@ -9,13 +9,13 @@ ghost use Rattle.mps_room.specs.Journal.{grown, reply, IsLegal, IsReply};
 ghost use Rattle.mps_room.specs.declared.entry.Entry.{Entry};
 ghost use Rattle.mps_keeper.specs.Remade.{HasRemade};
 ghost use Rattle.mps_keeper.specs.Restored.{LinesRestored};
-ghost use Rattle.mps_keeper.specs.Trails.{KeptOn, ToldIsKept};
+ghost use Rattle.mps_keeper.specs.Trails.{RecordedOn, WrittenIsRecorded};
 ghost use Rattle.mps_keeper.specs.declared.recorded.Recorded.{Recorded as RecordedOf};
-ghost use Rattle.mps_wire.specs.Answers.{AnswersCut, AnswersLines};
-ghost use Rattle.mps_wire.specs.Conversations.{converses, converses_in_part};
+ghost use Rattle.mps_wire.specs.Answers.{AnswersBrokenOff, AnswersLines};
+ghost use Rattle.mps_wire.specs.Conversations.{ConversesLine, ConversesBrokenOff};
 
-use crate::keep::{Keep, Seated};
 use crate::recorded::Recorded;
+use crate::recorder::{Recordable, Recorder};
 use mps_room::Caller;
 
 /// The commands of a legal journal, run again from the opening: after those before it each gets the answer that it
@@ -32,25 +32,25 @@ pub fn a_legal_journal_runs_again()
 {}
 
 /// Where nothing was lost, what the keeper took while a conversation was answered are the lines of the commands that
-/// it made, in order and with their numbers. So it is where the last answer is written in part. And whatever was lost:
+/// it made, in order and with their numbers. So it is where the last answer breaks off. And whatever was lost:
 /// what was written to a conversation are the answers to the first of its lines, up to where nothing was lost.
-pub fn what_is_answered_is_kept<K: Keep, C: Seated>()
+pub fn what_is_answered_is_recorded<K: Recorder, C: Recordable>()
     ensures whole { (asked : List (List ℕ)) (before : RecordedOf K C) (out : List ℕ) (after : RecordedOf K C)
-        → AnswersLines (converses ⟦<Recorded<K, C> as Caller>⟧) asked before out after
-        → K.keeps before.keeper ≡ true → K.whole after.keeper ≡ true
-        → KeptOn (C.names before.inner) (K.taken before.keeper) (K.taken after.keeper)
+        → AnswersLines (ConversesLine ⟦<Recorded<K, C> as Caller>⟧) asked before out after
+        → K.records before.keeper ≡ true → K.whole after.keeper ≡ true
+        → RecordedOn (C.names before.inner) (K.taken before.keeper) (K.taken after.keeper)
         (C.last before.inner) (C.last after.inner) (C.made before.inner) (C.made after.inner) }
-    ensures part { (asked : List (List ℕ)) (before : RecordedOf K C) (out : List ℕ) (after : RecordedOf K C)
-        → AnswersCut (converses ⟦<Recorded<K, C> as Caller>⟧)
-        (converses_in_part ⟦<Recorded<K, C> as Caller>⟧) asked before out after
-        → K.keeps before.keeper ≡ true → K.whole after.keeper ≡ true
-        → KeptOn (C.names before.inner) (K.taken before.keeper) (K.taken after.keeper)
+    ensures broken_off { (asked : List (List ℕ)) (before : RecordedOf K C) (out : List ℕ) (after : RecordedOf K C)
+        → AnswersBrokenOff (ConversesLine ⟦<Recorded<K, C> as Caller>⟧)
+        (ConversesBrokenOff ⟦<Recorded<K, C> as Caller>⟧) asked before out after
+        → K.records before.keeper ≡ true → K.whole after.keeper ≡ true
+        → RecordedOn (C.names before.inner) (K.taken before.keeper) (K.taken after.keeper)
         (C.last before.inner) (C.last after.inner) (C.made before.inner) (C.made after.inner) }
     ensures told { (asked : List (List ℕ)) (before : RecordedOf K C) (written : List ℕ) (after : RecordedOf K C)
-        → AnswersCut (converses ⟦<Recorded<K, C> as Caller>⟧)
-        (converses_in_part ⟦<Recorded<K, C> as Caller>⟧) asked before written after
-        → K.keeps before.keeper ≡ true → K.whole before.keeper ≡ true
-        → ToldIsKept ⟦<Recorded<K, C> as Caller>⟧ (λ r. K.taken r.keeper) asked before written after }
+        → AnswersBrokenOff (ConversesLine ⟦<Recorded<K, C> as Caller>⟧)
+        (ConversesBrokenOff ⟦<Recorded<K, C> as Caller>⟧) asked before written after
+        → K.records before.keeper ≡ true → K.whole before.keeper ≡ true
+        → WrittenIsRecorded ⟦<Recorded<K, C> as Caller>⟧ (λ r. K.taken r.keeper) asked before written after }
 {}
 
 /// After lines were restored, the caller at each place made the entries of its role's lines, in order, and no others,

@@ -1,20 +1,20 @@
 //! Sessions that outlive the process: a file keeps each accepted command, and a later process goes on from it.
 //!
-//! A kept line is a role's name and a line of its conversation that asks for a change (`read_journal_line` of
-//! mps_line). A `Book` is the file while it is written, and a `Recorded` is a caller whose accepted commands a `Keep`
-//! keeps.
+//! A recorded line is a role's name and a line of its conversation that asks for a change (`read_journal_line` of
+//! mps_line). A `Book` is the file while it is written, and a `Recorded` is a caller whose accepted commands a
+//! `Recorder` records.
 #![tactic(auto)]
 
 pub mod book;
-pub mod keep;
 pub mod keeper;
 pub mod laws;
+mod recordable;
 pub mod recorded;
+pub mod recorder;
 pub mod restore;
-mod seated;
 
-pub use book::{Book, NotKept};
-pub use keep::{Keep, Seated};
+pub use book::{Book, NotRecorded};
 pub use keeper::{Disk, Hold, Keeper, LONGEST_LINE};
 pub use recorded::Recorded;
+pub use recorder::{Recordable, Recorder};
 pub use restore::{NotRestored, RestoreFault, Restored, Unaccepted, restore_from, restore_lines};

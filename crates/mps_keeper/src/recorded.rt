@@ -1,4 +1,4 @@
-//! A caller whose accepted commands are kept.
+//! A caller whose accepted commands are recorded.
 ghost use Rattle.std.specs.Prelude.{◌≡◌, ℕ, Bool, true, false, List, [], Option, IsTrue};
 ghost use Rattle.std.specs.Io.KnownBytes.{Appends};
 ghost use Rattle.mps_command.specs.declared.command.Command.{Command as Asked};
@@ -8,13 +8,13 @@ ghost use Rattle.mps_keeper.specs.Books.{TookMore};
 ghost use Rattle.mps_line.specs.JournalLines.{SpellsJournalLine};
 ghost use Rattle.mps_keeper.specs.Recorded.{IsRecorded};
 
-use crate::keep::{Keep, Seated};
+use crate::recorder::{Recordable, Recorder};
 use mps_base::Roles;
 use mps_command::{Answer, Command};
 use mps_line::{has_journal_line, write_journal_line};
-use mps_room::{Caller, Told};
+use mps_room::{Caller, Place, Told};
 
-/// A caller whose accepted commands a keeper keeps. Once a line is lost, what it is answered may not be told on.
+/// A caller whose accepted commands a recorder records. Once a line is lost, what it is answered may not be told on.
 #[derive(Drop)]
 pub struct Recorded<K, C> {
     pub keeper: K,
@@ -22,21 +22,21 @@ pub struct Recorded<K, C> {
     pub line: Vec<u8>,
 }
 
-impl<K: Keep, C: Seated> Recorded<K, C> {
-    /// A caller whose commands the keeper keeps. It waits until what the caller has seen is kept, since a line that
-    /// comes again is answered without a call.
+impl<K: Recorder, C: Recordable> Recorded<K, C> {
+    /// A caller whose commands the keeper records. It waits until what the caller has seen is recorded, since a line
+    /// that comes again is answered without a call.
     ///
-    /// A line is made in `line`. With room for `LONGEST_LINE` bytes none is lost for want of memory.
+    /// A line is made in `line`. With space for `LONGEST_LINE` bytes none is lost for want of memory.
     pub fn new(keeper: K, inner: C, line: Vec<u8>) -> Recorded<K, C>
         ensures inner { result.inner ≡ inner }
-        ensures same { K.keeps result.keeper ≡ K.keeps keeper }
+        ensures same { K.records result.keeper ≡ K.records keeper }
         ensures once { K.whole result.keeper ≡ true → K.whole keeper ≡ true }
         ensures settled { Appends (K.taken keeper) (K.taken result.keeper) [] }
         ensures more { TookMore (K.taken keeper) (K.taken result.keeper) }
-        ensures idle { K.keeps keeper ≡ false → result.keeper ≡ keeper }
+        ensures idle { K.records keeper ≡ false → result.keeper ≡ keeper }
     {
         let mut keeper = keeper;
-        if keeper.keeps() {
+        if keeper.records() {
             keeper.settle(inner.seen());
         }
         Recorded {
@@ -54,7 +54,7 @@ impl<K: Keep, C: Seated> Recorded<K, C> {
             × SpellsJournalLine (C.names self.old.inner) line (C.role self.old.inner) number command.now }
     {
         self.line.clear();
-        let role = self.inner.seat();
+        let role = self.inner.own_role();
         if !has_journal_line(self.inner.roles(), role, command) {
             return false;
         }
@@ -64,12 +64,12 @@ impl<K: Keep, C: Seated> Recorded<K, C> {
         self.line.push(b'\n').is_ok()
     }
 
-    // Keeps the line where the command was accepted, and else waits for what it was shown.
+    // Records the line where the command was accepted, and else waits for what it was shown.
     fn record(&mut self, accepted: bool, put: bool)
         ensures inner { self.new.inner ≡ self.old.inner }
-        ensures same { K.keeps self.new.keeper ≡ K.keeps self.old.keeper }
+        ensures same { K.records self.new.keeper ≡ K.records self.old.keeper }
         ensures once { K.whole self.new.keeper ≡ true → K.whole self.old.keeper ≡ true }
-        ensures kept { K.whole self.new.keeper ≡ true → accepted ≡ true
+        ensures added { K.whole self.new.keeper ≡ true → accepted ≡ true
             → IsTrue put × Appends (K.taken self.old.keeper) (K.taken self.new.keeper) self.old.line.items }
         ensures settled { accepted ≡ false → Appends (K.taken self.old.keeper) (K.taken self.new.keeper) [] }
         ensures over { K.whole self.old.keeper ≡ false
@@ -80,7 +80,7 @@ impl<K: Keep, C: Seated> Recorded<K, C> {
         if !accepted {
             self.keeper.settle(place);
         } else if put {
-            self.keeper.keep(place, self.line.as_slice());
+            self.keeper.add(place, self.line.as_slice());
         } else {
             self.keeper.lose();
         }
@@ -98,14 +98,14 @@ pub(crate) fn is_accepted(answer: &Answer) -> bool
     }
 }
 
-impl<K: Keep, C: Seated> Caller for Recorded<K, C> {
+impl<K: Recorder, C: Recordable> Caller for Recorded<K, C> {
     ghost names = { λ r. C.names r.inner };
 
     ghost role = { λ r. C.role r.inner };
 
     ghost made = { λ r. C.made r.inner };
 
-    ghost calls = { λ r c a s. IsRecorded K.Keep C.Caller r.keeper r.inner c s.keeper s.inner a };
+    ghost calls = { λ r c a s. IsRecorded K.Recorder C.Caller r.keeper r.inner c s.keeper s.inner a };
 
     ghost last = { λ r. C.last r.inner };
 
@@ -118,7 +118,7 @@ impl<K: Keep, C: Seated> Caller for Recorded<K, C> {
     }
 
     fn call(&mut self, command: Command) -> Answer {
-        if !self.keeper.keeps() {
+        if !self.keeper.records() {
             return self.inner.call(command);
         }
         let put = self.put_line(None, &command);
@@ -136,7 +136,7 @@ impl<K: Keep, C: Seated> Caller for Recorded<K, C> {
     }
 
     fn call_numbered(&mut self, number: u64, command: Command) -> Told {
-        if !self.keeper.keeps() || number.checked_sub(1) != Some(self.inner.last()) {
+        if !self.keeper.records() || self.inner.place(number) != Place::Next {
             return self.inner.call_numbered(number, command);
         }
         let put = self.put_line(Some(number), &command);

@@ -1,16 +1,16 @@
-//! How callers are brought to where a kept journal left them.
+//! How callers are brought to where a recorded journal left them.
 ghost use Rattle.std.specs.Prelude.{◌≡◌, ◌≢◌, ◌+◌, length, ℕ, Err, Ok, true, IsSome, IsTrue, false, ◌<◌, ◌^◌, IfOk};
 ghost use Rattle.std.specs.Prelude.{IfErr, OnOk};
 ghost use Rattle.mps_command.specs.Changes.{change_of};
 ghost use Rattle.mps_command.specs.declared.answer.Answer.TheVariants.{Refused as Denied};
-ghost use Rattle.mps_command.specs.declared.answer.Refusal.TheVariants.{Memory as NoRoom};
+ghost use Rattle.mps_command.specs.declared.answer.Refusal.TheVariants.{Memory as NoMemory};
 ghost use Rattle.mps_room.specs.Journal.{is_accepted};
 ghost use Rattle.mps_keeper.specs.Restored.{IsAcceptedOf, IsRefusedOf, LineRestored};
 ghost use Rattle.mps_keeper.specs.RestoredFaults.{of_reading, IsRestoredTo, IsFirstFault, IsFaulty, RestoredFrom};
 ghost use Rattle.mps_keeper.specs.RestoredFaults.{FaultFrom};
 ghost use Rattle.mps_keeper.specs.RestoredFaults.{IsNoLine, ReadsMore};
 ghost use Rattle.mps_keeper.specs.declared.restore.Unaccepted.{Unaccepted as UnacceptedAs};
-ghost use Rattle.mps_keeper.specs.declared.restore.RestoreFault.TheVariants.{Line as AtLine, Memory as NoMemory};
+ghost use Rattle.mps_keeper.specs.declared.restore.RestoreFault.TheVariants.{Line as AtLine, Memory as OutOfMemory};
 ghost use Rattle.std.specs.Io.KnownBytes.{Consumes, IsAtEnd};
 
 use crate::recorded::is_accepted;
@@ -57,7 +57,7 @@ pub enum RestoreFault {
 }
 
 impl From<AllocError> for RestoreFault {
-    ghost from_gives = { λ _ e. e ≡ NoMemory };
+    ghost from_gives = { λ _ e. e ≡ OutOfMemory };
 
     fn from(_e: AllocError) -> RestoreFault {
         RestoreFault::Memory
@@ -93,7 +93,7 @@ enum Called {
 fn comes_to(answer: &Answer) -> Called
     ensures accepted { result ≡ Called.Accepted → is_accepted answer.now ≡ true }
     ensures refused { result ≡ Called.Refused → is_accepted answer.now ≡ false }
-    ensures memory { result ≡ Called.Refused → answer.now ≢ Denied NoRoom }
+    ensures memory { result ≡ Called.Refused → answer.now ≢ Denied NoMemory }
 {
     match answer {
         Answer::Refused(Refusal::Memory) => Called::Starved,
@@ -103,7 +103,7 @@ fn comes_to(answer: &Answer) -> Called
 }
 
 // Gives the command to the caller.
-fn call_kept<C: Caller>(caller: &mut C, number: Option<u64>, command: Command) -> Called
+fn call_recorded<C: Caller>(caller: &mut C, number: Option<u64>, command: Command) -> Called
     requires { IsSome (change_of command) }
     ensures accepted { result ≡ Called.Accepted → IsAcceptedOf C.Caller caller.old number command caller.new }
     ensures refused { result ≡ Called.Refused → IsRefusedOf C.Caller caller.old number command caller.new }
@@ -142,11 +142,15 @@ fn restore_line<C: Caller>(
     ensures ok { OnOk result (LineRestored C.Caller roles.now callers.old.items line.now callers.new.items) }
     ensures faulty { IfErr result (IsFaulty C.Caller roles.now callers.old.items line.now) }
 {
-    let kept = match read_journal_line(alloc, roles, line) {
-        Ok(kept) => kept,
+    let entry = match read_journal_line(alloc, roles, line) {
+        Ok(entry) => entry,
         Err(fault) => return Err(of_reading(fault)),
     };
-    match call_kept(&mut callers[kept.role.index()], kept.number, kept.command) {
+    match call_recorded(
+        &mut callers[entry.role.index()],
+        entry.number,
+        entry.command,
+    ) {
         Called::Accepted => Ok(()),
         Called::Refused => Err(Unaccepted::Refused),
         Called::Starved => Err(Unaccepted::Memory),

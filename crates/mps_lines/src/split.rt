@@ -30,7 +30,7 @@ pub fn keep(line: &mut Vec<u8>, piece: &[u8]) -> Result<(), AllocError>
     ensures ok { OnOk result (line.new.items ≡ front (line.old.items ++ piece.now)) }
     ensures err { OnErr result (line.new.items ≡ line.old.items) }
 {
-    let room = MOST_KEPT - line.len();
-    let count = room.min(piece.len());
+    let space = MOST_KEPT - line.len();
+    let count = space.min(piece.len());
     line.extend_from_slice(&piece[..count])
 }

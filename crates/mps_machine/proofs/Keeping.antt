@@ -71,14 +71,14 @@ module _ (types : List LocalType) (st : State) (ok : IsSound types st) (c : Step
   back_kept : (found : Option (List Step)) → Keeps h (back_to found st).1.history c
   back_kept found = grind (arith, all_kept, rolled_back_kept)
 
-  serve_kept : (p : ℕ) (change : Change) → Keeps h (serve types st p change).1.history c
-  serve_kept p change = grind (arith, forward_kept, undo_kept, rollback_kept, back_kept)
+  serve_recorded : (p : ℕ) (change : Change) → Keeps h (serve types st p change).1.history c
+  serve_recorded p change = grind (arith, forward_kept, undo_kept, rollback_kept, back_kept)
 
 after_kept : (types : List LocalType) (rs : List Request) (st : State) → IsSound types st → (c : Step) → IsIn c st.history → c.act ≡ Commit → Keeps st.history (after types st rs).history c
 after_kept types [] st ok c there commit = all_kept types st ok c there commit
 after_kept types (r ∷ rs) st ok c there commit =
     let next = (serve types st r.0 r.1).1 in
-    let here = serve_kept types st ok c there commit r.0 r.1 in
+    let here = serve_recorded types st ok c there commit r.0 r.1 in
     grind (arith, after_kept types rs next (serve_sound types st r.0 r.1 ok) c here.0 commit)
 
 pub keeps_commits : (types : List LocalType) (st : State) → IsSound types st → KeepsCommits types st

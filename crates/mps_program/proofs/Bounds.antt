@@ -4,8 +4,8 @@ use Rattle.std.specs.Io.KnownBytes.{Consumes}
 use Rattle.mps_wire.proofs.Bytes.{Consumes-trans}
 use Rattle.mps_program.specs.Files.{HasReadAtMost}
 
-pub read_on : (most room : ℕ) (a b c : Option (List ℕ)) (text : List ℕ) → Consumes a b text → HasReadAtMost room b c → length text + room ≤ most → HasReadAtMost most a c
-read_on most room a b c text h more fits =
+pub read_on : (most space : ℕ) (a b c : Option (List ℕ)) (text : List ℕ) → Consumes a b text → HasReadAtMost space b c → length text + space ≤ most → HasReadAtMost most a c
+read_on most space a b c text h more fits =
     let few = more.few in
     record {
       read = text ++ more.read;

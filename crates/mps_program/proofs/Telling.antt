@@ -13,10 +13,10 @@ use Rattle.mps_session.proofs.SameProjections.{one_projection}
 use Rattle.mps_wire.proofs.Bytes.{Appends-none, Appends-trans}
 use Rattle.mps_program.specs.Served.{IsSessionLine, AreSessionLines, AreLinesUpTo, HasOpened, HasServed, HasServedUpTo, IfLost, IsTellFault, IsOutFault}
 use Rattle.mps_program.specs.Private.Served.{TookOne, TellsPort, IsHubFault, IsNewOf, of_serving}
-use Rattle.mps_program.specs.Journals.{IsKeepingFault, kept_of}
+use Rattle.mps_program.specs.Journals.{IsRecordingFault, recorded_of}
 use Rattle.mps_hub.specs.Serving.{IsServeFaultOf}
 use Rattle.mps_hub.specs.declared.server.ServeFault.{ServeFault}
-use Rattle.mps_hub.specs.declared.server.ServeFault.TheVariants.{Accept as NotAccepted, Memory as NoMemory, Unkept}
+use Rattle.mps_hub.specs.declared.server.ServeFault.TheVariants.{Accept as NotAccepted, Memory as NoMemory, Unrecorded}
 use Rattle.mps_program.specs.Faults.{after_writes, failed_writes}
 use Rattle.mps_program.specs.declared.faults.ToolFault.{ToolFault}
 use Rattle.mps_program.specs.declared.faults.ToolFault.TheVariants.{Write, Bind, Accept, Lost, Memory}
@@ -93,7 +93,7 @@ pub none_lost : (P : ℕ → Type 0) (fault : ToolFault) → IsTellFault 1 0 fau
 none_lost P (Lost k) h = absurd (omega (arith, h.0, h.1))
 none_lost P fault h = tt
 
-no_lost : (folder : Option (List ℕ)) (first n k : ℕ) → IsKeepingFault folder first n (Lost k) → ⊥
+no_lost : (folder : Option (List ℕ)) (first n k : ℕ) → IsRecordingFault folder first n (Lost k) → ⊥
 no_lost None first n k h = h
 no_lost (Some f) first n k (inl h) = h
 no_lost (Some f) first n k (inr h) = h
@@ -123,9 +123,9 @@ lost_rest r session next m rooms later took mid taken split at (line, is, sent) 
     ))) rest
 
 -- the port's line, and those of the sessions up to the first that is lost
-pub served_in_part : {A : Type 0} (r : Result A ToolFault) (wanted first number : ℕ) (cells cells' : List Opened) (took mid taken : Option (List ℕ)) (rooms slice : List (Option RoomState)) → number ≡ first → cells' ≡ cells → slice ≡ rooms → TookOne (TellsPort wanted) took mid → AreClosed cells' rooms
+pub served_broken_off : {A : Type 0} (r : Result A ToolFault) (wanted first number : ℕ) (cells cells' : List Opened) (took mid taken : Option (List ℕ)) (rooms slice : List (Option RoomState)) → number ≡ first → cells' ≡ cells → slice ≡ rooms → TookOne (TellsPort wanted) took mid → AreClosed cells' rooms
     → IfErr r (IfLost (λ k. TookOne (AreLinesUpTo number slice k) mid taken)) → IfErr r (IfLost (HasServedUpTo wanted first cells took taken))
-served_in_part r wanted first number cells cells' took mid taken rooms slice at same value (opening, (port, port_is, listening), sent) closed rest =
+served_broken_off r wanted first number cells cells' took mid taken rooms slice at same value (opening, (port, port_is, listening), sent) closed rest =
     on_err r (IfLost (λ k. TookOne (AreLinesUpTo number slice k) mid taken)) (IfLost (HasServedUpTo wanted first cells took taken))
     (if_lost (λ k. TookOne (AreLinesUpTo number slice k) mid taken) (HasServedUpTo wanted first cells took taken) (λ k h. record {
       port = port;
@@ -171,32 +171,32 @@ tell_hub folder first n Memory h = tt
 tell_hub folder first n (Lost k) h = absurd (omega (arith, h.0, h.1))
 tell_hub folder first n fault h = absurd h
 
--- the sessions fail to be kept
-pub keeping_hub : (folder : Option (List ℕ)) (first n : ℕ) (fault : ToolFault) → IsKeepingFault folder first n fault → IsHubFault folder first n fault
-keeping_hub folder first n Write h = tt
-keeping_hub folder first n (Bind why) h = tt
-keeping_hub folder first n Accept h = tt
-keeping_hub folder first n Memory h = tt
-keeping_hub folder first n fault h = h
+-- the sessions fail to be recorded
+pub recording_hub : (folder : Option (List ℕ)) (first n : ℕ) (fault : ToolFault) → IsRecordingFault folder first n fault → IsHubFault folder first n fault
+recording_hub folder first n Write h = tt
+recording_hub folder first n (Bind why) h = tt
+recording_hub folder first n Accept h = tt
+recording_hub folder first n Memory h = tt
+recording_hub folder first n fault h = h
 
 -- the serving ends
-pub serving_hub : (folder : Option (List ℕ)) (first n : ℕ) (fault : ServeFault) → IsServeFaultOf first (kept_of folder n) fault → IsHubFault folder first n (of_serving fault)
+pub serving_hub : (folder : Option (List ℕ)) (first n : ℕ) (fault : ServeFault) → IsServeFaultOf first (recorded_of folder n) fault → IsHubFault folder first n (of_serving fault)
 serving_hub folder first n NotAccepted h = tt
 serving_hub folder first n NoMemory h = tt
-serving_hub None first n (Unkept session) h = absurd (omega (arith, h.0, h.1))
-serving_hub (Some f) first n (Unkept session) h = inr h
+serving_hub None first n (Unrecorded session) h = absurd (omega (arith, h.0, h.1))
+serving_hub (Some f) first n (Unrecorded session) h = inr h
 
 -- no such fault is a failed write
-pub keeping_writes : (folder : Option (List ℕ)) (first n : ℕ) (fault : ToolFault) → IsKeepingFault folder first n fault → failed_writes fault ≡ 0
-keeping_writes None first n fault h = absurd h
-keeping_writes (Some f) first n Write (inl h) = absurd h
-keeping_writes (Some f) first n Write (inr h) = absurd h
-keeping_writes (Some f) first n fault h = refl
+pub recording_writes : (folder : Option (List ℕ)) (first n : ℕ) (fault : ToolFault) → IsRecordingFault folder first n fault → failed_writes fault ≡ 0
+recording_writes None first n fault h = absurd h
+recording_writes (Some f) first n Write (inl h) = absurd h
+recording_writes (Some f) first n Write (inr h) = absurd h
+recording_writes (Some f) first n fault h = refl
 
 pub serving_writes : (fault : ServeFault) → failed_writes (of_serving fault) ≡ 0
 serving_writes NotAccepted = refl
 serving_writes NoMemory = refl
-serving_writes (Unkept session) = refl
+serving_writes (Unrecorded session) = refl
 
 -- a fault that is handed on, and is no failed write
 pub same_writes : {A : Type 0} (r : Result A ToolFault) (e : ToolFault) (before : ℕ) → IsErrAnd r (λ x. x ≡ e) → failed_writes e ≡ 0 → before ≡ after_writes r before

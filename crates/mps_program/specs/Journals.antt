@@ -3,7 +3,7 @@ use Rattle.std.specs.Prelude.{◌≡◌, ◌⊎◌, ⊤, ℕ, List, Option, None
 use Rattle.mps_hub.specs.Places.{IsSession}
 use Rattle.mps_hub.specs.declared.restoring.SessionFault.{SessionFault}
 use Rattle.mps_hub.specs.declared.restoring.SessionFault.TheVariants.{Taken, Journal, Memory as NoMemory}
-use Rattle.mps_keeper.specs.declared.restore.RestoreFault.TheVariants.{Read as NotRead, Memory as NotKept, Line}
+use Rattle.mps_keeper.specs.declared.restore.RestoreFault.TheVariants.{Read as NotRead, Memory as OutOfMemory, Line}
 use Rattle.mps_keeper.specs.declared.restore.Unaccepted.{Unaccepted}
 use Rattle.mps_keeper.specs.declared.restore.Unaccepted.TheVariants.{Memory as Starved}
 use Rattle.mps_program.specs.declared.faults.ToolFault.{ToolFault}
@@ -33,7 +33,7 @@ IsFileFaultOf first n (JournalLost session) = IsSession first n session
 IsFileFaultOf first n Memory = ⊤
 IsFileFaultOf first n fault = ⊥
 
--- how sessions may fail to be kept in a folder
+-- how sessions may fail to be recorded in a folder
 abbrev pub IsJournalFault : List ℕ → (first n : ℕ) → ToolFault → Type 0
 IsJournalFault folder first n fault = IsFolderFault folder fault ⊎ IsFileFaultOf first n fault
 
@@ -46,16 +46,16 @@ IsLineFaultOf session line why fault = fault ≡ JournalLine session line
 abbrev pub IsRestoreFaultOf : ℕ → SessionFault → ToolFault → Type 0
 IsRestoreFaultOf session NoMemory fault = fault ≡ Memory
 IsRestoreFaultOf session Taken fault = fault ≡ JournalLost session
-IsRestoreFaultOf session (Journal NotKept) fault = fault ≡ Memory
+IsRestoreFaultOf session (Journal OutOfMemory) fault = fault ≡ Memory
 IsRestoreFaultOf session (Journal NotRead) fault = fault ≡ JournalLost session
 IsRestoreFaultOf session (Journal (Line at)) fault = IsLineFaultOf session at.line at.fault fault
 
--- how many of so many sessions are kept, by the folder, if there is one
-abbrev pub kept_of : Option (List ℕ) → ℕ → ℕ
-kept_of None n = 0
-kept_of (Some folder) n = n
+-- how many of so many sessions are recorded, by the folder, if there is one
+abbrev pub recorded_of : Option (List ℕ) → ℕ → ℕ
+recorded_of None n = 0
+recorded_of (Some folder) n = n
 
--- how sessions may fail to be kept, if they are
-abbrev pub IsKeepingFault : Option (List ℕ) → (first n : ℕ) → ToolFault → Type 0
-IsKeepingFault None first n fault = ⊥
-IsKeepingFault (Some folder) first n fault = IsJournalFault folder first n fault
+-- how sessions may fail to be recorded, if they are
+abbrev pub IsRecordingFault : Option (List ℕ) → (first n : ℕ) → ToolFault → Type 0
+IsRecordingFault None first n fault = ⊥
+IsRecordingFault (Some folder) first n fault = IsJournalFault folder first n fault

@@ -11,7 +11,7 @@ use Rattle.mps_local.specs.Local.{LocalType}
 use Rattle.mps_local.specs.Outcome.{AreProjections}
 use Rattle.mps_fidelity.specs.Fidelity.{AreOfOneProtocol}
 use Rattle.mps_program.specs.Faults.{IsLoadFault}
-use Rattle.mps_program.specs.Journals.{IsKeepingFault}
+use Rattle.mps_program.specs.Journals.{IsRecordingFault}
 use Rattle.mps_program.specs.declared.faults.ToolFault.{ToolFault}
 use Rattle.mps_program.specs.declared.faults.ToolFault.TheVariants.{Write, Bind, Accept, Lost, Memory}
 
@@ -99,12 +99,12 @@ abbrev pub IsBindFault : ToolFault → Type 0
 IsBindFault (Bind why) = ⊤
 IsBindFault fault = ⊥
 
--- how a server of so many sessions from this one on may fail, which are kept in this folder, if they are: as the
--- telling does, or it has no port, or accepts no more, or the sessions fail to be kept
+-- how a server of so many sessions from this one on may fail, which are recorded in this folder, if they are:
+-- as the telling does, or it has no port, or accepts no more, or the sessions fail to be recorded
 abbrev pub IsOutFault : Option (List ℕ) → (first n : ℕ) → ToolFault → Type 0
 IsOutFault folder first n (Bind why) = ⊤
 IsOutFault folder first n Accept = ⊤
-IsOutFault folder first n fault = IsTellFault first n fault ⊎ IsKeepingFault folder first n fault
+IsOutFault folder first n fault = IsTellFault first n fault ⊎ IsRecordingFault folder first n fault
 
 -- how a server of this file may fail: the file gives no types, or the server fails
 abbrev pub IsServeFault : List ℕ → Option (List ℕ) → (first n : ℕ) → ToolFault → Type 0

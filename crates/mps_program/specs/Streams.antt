@@ -1,7 +1,7 @@
 -- A protocol from a source, and its types to a sink: given is what the source had left at first, took what the sink
 -- had taken.
 use Rattle.std.specs.Prelude.{◌≡◌, ◌≤◌, ◌⊎◌, ℕ, ⊤, List, Option, None, length}
-use Rattle.std.specs.Io.KnownBytes.{Appends, Consumes, IsAtEnd}
+use Rattle.std.specs.Io.KnownBytes.{Consumes, IsAtEnd}
 use Rattle.mps_global.specs.Global.{GlobalType}
 use Rattle.mps_global.specs.Faults.{fault_of}
 use Rattle.mps_open.specs.Texts.{IsProtocolText}
@@ -37,25 +37,16 @@ CantType given left fault =
     CantLoad given left fault
     ⊎ ((roles : List (List ℕ)) × (tree : GlobalType) × HasLoaded given left roles tree × GivesNoTypes roles tree fault)
 
--- the source gave a protocol without faults to its end, and the sink took the lines of its roles
-pub record HasShown (given left took taken : Option (List ℕ)) : Type 0 where
+-- the source gave a protocol without faults to its end, and of the lines of its roles the sink took what `Took` says
+pub record HasShown (given left : Option (List ℕ)) (Took : List ℕ → Type 0) : Type 0 where
   pub roles : List (List ℕ)
   pub tree : GlobalType
   pub lines : List ℕ
   pub loaded : HasLoaded given left roles tree
   pub shown : AreLinesOf roles tree lines
-  pub sent : Appends took taken lines
+  pub took : Took lines
 
--- the source gave a protocol without faults to its end, and the sink took the front of the lines
-pub record HasBrokenOff (given left took taken : Option (List ℕ)) : Type 0 where
-  pub roles : List (List ℕ)
-  pub tree : GlobalType
-  pub lines : List ℕ
-  pub loaded : HasLoaded given left roles tree
-  pub shown : AreLinesOf roles tree lines
-  pub front : TookFront took taken lines
-
--- why not all lines are shown; nothing is written unless a write fails
+-- why not all lines are shown; nothing is written unless a write fails, and then a front of them
 abbrev pub CantShow : (given left took taken : Option (List ℕ)) → ToolFault → Type 0
-CantShow given left took taken Write = HasBrokenOff given left took taken
+CantShow given left took taken Write = HasShown given left (TookFront took taken)
 CantShow given left took taken fault = CantType given left fault × (taken ≡ took)

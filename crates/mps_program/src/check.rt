@@ -1,11 +1,11 @@
 //! From a protocol to the lines that show its roles' types.
 ghost use Rattle.std.specs.Prelude.{◌≡◌, ◌+◌, ◌<◌, ◌≤◌, ◌^◌, ◌++◌, length, map, IfOk, IfErr, OnOk, None};
+ghost use Rattle.std.specs.Io.KnownBytes.{Appends};
 ghost use Rattle.std.specs.List.{AllByRecursion};
 ghost use Rattle.mps_global.specs.Global.{plain as global_type};
 ghost use Rattle.mps_global.specs.Faults.{fault_of};
 ghost use Rattle.mps_local.specs.Local.{plain};
 ghost use Rattle.mps_local.specs.Shape.{AllPeers};
-ghost use Rattle.mps_local.specs.Outcome.{AreProjections};
 ghost use Rattle.mps_program.specs.Check.{role_line, role_lines, AreLinesOf, GivesNoTypes};
 ghost use Rattle.mps_program.specs.Faults.{after_reads, after_writes, IsCheckFault};
 ghost use Rattle.mps_program.specs.Files.{HasReadAtMost, most_read};
@@ -13,31 +13,15 @@ ghost use Rattle.mps_program.specs.Streams.{CantShow, HasShown};
 
 use crate::faults::ToolFault;
 use crate::files::{open_file, tell};
-use crate::load::{load_protocol, unprojected};
+use crate::load::{load_protocol, types_of};
 use mps_base::{Role, Roles};
 use mps_dev::{OverWrite, Sink, Source};
 use mps_global::Protocol;
-use mps_local::{Local, project_all, write_local};
+use mps_local::{Local, write_local};
 use mps_open::roles_of;
 use std::alloc::{AllocError, Global};
 use std::io;
 use std::rt::Files;
-
-// The local type of each role in order.
-fn types_of<'a>(alloc: Global, protocol: &Protocol) -> Result<Vec<Local>, ToolFault<'a>>
-    requires faultless { fault_of protocol.now.roles.items (global_type protocol.now.body) ≡ None }
-    ensures ok { IfOk result (λ types. AreProjections
-        protocol.now.roles.items (global_type protocol.now.body) (map plain types.items)) }
-    ensures peers { IfOk result (λ types. AllByRecursion
-        (AllPeers (λ peer. peer < length protocol.now.roles.items)) (map plain types.items)) }
-    ensures fault { IfErr result
-        (GivesNoTypes protocol.now.roles.items (global_type protocol.now.body)) }
-{
-    match project_all(alloc, protocol) {
-        Ok(types) => Ok(types),
-        Err(fault) => Err(unprojected(protocol, fault)),
-    }
-}
 
 /// A line for each role of a protocol without faults: its name, ` : `, and its local type.
 pub fn lines_of<'a>(alloc: Global, protocol: &Protocol) -> Result<Vec<u8>, ToolFault<'a>>
@@ -111,7 +95,7 @@ pub fn write_types<'a, R: Source, W: Sink>(
     requires reads { R.calls reader.old < 2 ^ 62 }
     requires writes { W.failed_calls writer.old < 2 ^ 63 }
     ensures shown { OnOk result (HasShown (R.remaining reader.old) (R.remaining reader.new)
-        (W.taken writer.old) (W.taken writer.new)) }
+        (Appends (W.taken writer.old) (W.taken writer.new))) }
     ensures fault { IfErr result (CantShow (R.remaining reader.old) (R.remaining reader.new)
         (W.taken writer.old) (W.taken writer.new)) }
     ensures most { HasReadAtMost most_read (R.remaining reader.old) (R.remaining reader.new) }

@@ -83,7 +83,7 @@ pub enum ToolFault<'a> {
         session: u64,
         line: u64,
     },
-    /// The folder keeps sessions of another protocol.
+    /// The folder has sessions of another protocol.
     #[error("refused journal protocol")]
     JournalProtocol,
     /// The journal of a session can't be read, or lines of it were lost.

@@ -1,4 +1,4 @@
-//! The files that keep a server's sessions.
+//! The files that record a server's sessions.
 ghost use Rattle.std.specs.Prelude.{◌≡◌, ◌+◌, ◌<◌, ◌≤◌, ◌^◌, ℕ, IfErr, IfOk, length};
 ghost use Rattle.mps_hub.specs.Places.{IsSession};
 ghost use Rattle.mps_program.specs.Journals.{IsFolderFault, IsFileFaultOf, IsJournalFault, IsOneFault};
@@ -17,12 +17,12 @@ use std::rt::Files;
 use std::sync::Wait;
 use std::{fs, io};
 
-/// What keeps a session in a file.
+/// What records a session in a file.
 pub type FileKeeper = Keeper<OverWrite<File>, File>;
 
-/// What keeps a server's sessions: a folder, and the protocol that it has to be of, as it is written.
+/// What records a server's sessions: a folder, and the protocol that it has to be of, as it is written.
 #[derive(Clone, Copy)]
-pub struct Keeping<'a, 'p> {
+pub struct Recording<'a, 'p> {
     pub journal: Journal<'a>,
     pub protocol: &'p [u8],
 }
@@ -202,7 +202,7 @@ fn keeper<'a>(
 }
 
 // The keeper of each session, of which the first has that number.
-fn keep_all<'a>(
+fn record_all<'a>(
     alloc: Global,
     first: u64,
     read: Vec<Read>,
@@ -225,18 +225,18 @@ fn keep_all<'a>(
 ///
 /// The journals are locked as long as the keepers live. Where the folder is of another protocol, or a line of a
 /// journal isn't accepted, no file is changed; journals that weren't there may have been made, with nothing in them.
-pub fn keep_sessions<'a, R: Files<File = File> + AllocGlobal + Wait + 'static>(
+pub fn record_sessions<'a, R: Files<File = File> + AllocGlobal + Wait + 'static>(
     rt: &R,
     desk: &Desk<'_>,
     sessions: u64,
-    keeping: Keeping<'a, '_>,
+    recording: Recording<'a, '_>,
 ) -> Result<Vec<FileKeeper>, ToolFault<'a>>
     requires { sessions ≡ length desk.now.cells }
     ensures count { IfOk result (λ keepers. length keepers.items ≡ sessions) }
-    ensures fault { IfErr result (IsJournalFault keeping.entry.journal.folder.now desk.now.first sessions) }
+    ensures fault { IfErr result (IsJournalFault recording.entry.journal.folder.now desk.now.first sessions) }
 {
     let alloc = rt.alloc();
-    let Keeping { journal, protocol } = keeping;
+    let Recording { journal, protocol } = recording;
     let folder = journal.folder;
     let first = desk.first();
     let path = format!(in alloc; "{folder}/protocol")?;
@@ -253,7 +253,7 @@ pub fn keep_sessions<'a, R: Files<File = File> + AllocGlobal + Wait + 'static>(
             return Err(unusable(folder, error));
         }
     }
-    let keepers = keep_all(alloc, first, read, journal.sync)?;
+    let keepers = record_all(alloc, first, read, journal.sync)?;
     let parent = format!(in alloc; "{folder}/..")?;
     if journal.sync && !(has_synced(rt, folder) && has_synced(rt, parent.as_str())) {
         return Err(ToolFault::File {
@@ -264,7 +264,7 @@ pub fn keep_sessions<'a, R: Files<File = File> + AllocGlobal + Wait + 'static>(
     Ok(keepers)
 }
 
-// Has the disk keep which files the folder has.
+// Has the disk store which files the folder has.
 fn has_synced<R: Files<File = File>>(rt: &R, folder: &str) -> bool {
     match File::open(rt, folder) {
         Ok(folder) => folder.sync_all().is_ok(),

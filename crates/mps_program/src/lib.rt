@@ -18,7 +18,7 @@ pub use comparison::{Tallies, compare_files, verdict_of};
 pub use entry::{carry_out, end, end_after, end_with, obey, program};
 pub use faults::{ToolFault, fault_line, status};
 pub use files::{open_file, read_text};
-pub use journals::{FileKeeper, Keeping, keep_sessions};
+pub use journals::{FileKeeper, Recording, record_sessions};
 pub use load::{load_protocol, open_session};
 pub use running::run_file;
 pub use serving::{Service, hub_of, serve_file, serve_to};

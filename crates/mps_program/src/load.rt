@@ -1,12 +1,14 @@
 //! From a source to the protocol that it gives, and to sessions of that protocol.
-ghost use Rattle.std.specs.Prelude.{◌≡◌, ◌<◌, ◌^◌, None, IfOk, IfErr};
+ghost use Rattle.std.specs.Prelude.{◌≡◌, ◌<◌, ◌^◌, map, length, None, IfOk, IfErr};
+ghost use Rattle.std.specs.List.{AllByRecursion};
 ghost use Rattle.mps_fidelity.specs.Fidelity.{AreOfOneProtocol};
 ghost use Rattle.mps_global.specs.Global.{plain as global_type};
 ghost use Rattle.mps_global.specs.Faults.{fault_of};
+ghost use Rattle.mps_local.specs.Local.{plain};
+ghost use Rattle.mps_local.specs.Shape.{AllPeers};
 ghost use Rattle.mps_local.specs.Outcome.{AreNotAll, AreProjections};
 ghost use Rattle.mps_machine.specs.Machine.{initial};
 ghost use Rattle.mps_open.specs.Texts.{IsProtocolText};
-ghost use Rattle.mps_session.specs.Protocols.{HasNoSession};
 ghost use Rattle.mps_program.specs.Check.{GivesNoProtocol, GivesNoTypes, HasNoProjection};
 ghost use Rattle.mps_program.specs.Faults.{after_reads};
 ghost use Rattle.mps_program.specs.Files.{HasReadAtMost, most_read};
@@ -17,9 +19,9 @@ use crate::files::read_text;
 use mps_base::Roles;
 use mps_dev::Source;
 use mps_global::{Protocol, check};
-use mps_local::ProjectFault;
+use mps_local::{Local, ProjectFault, project_all};
 use mps_open::roles_of;
-use mps_session::{ProtocolFault, Session, open_protocol};
+use mps_session::{OpenFault, Session};
 use mps_text::read_protocol;
 use std::alloc::Global;
 
@@ -52,8 +54,8 @@ pub fn load_protocol<'a, R: Source>(
     protocol_of(alloc, text.as_slice())
 }
 
-/// Why the protocol gives no types, told by the name of the role.
-pub(crate) fn unprojected<'a>(protocol: &Protocol, fault: ProjectFault) -> ToolFault<'a>
+// Why the protocol gives no types, told by the name of the role.
+fn unprojected<'a>(protocol: &Protocol, fault: ProjectFault) -> ToolFault<'a>
     requires { AreNotAll protocol.now.roles.items (global_type protocol.now.body) fault }
     ensures { GivesNoTypes protocol.now.roles.items (global_type protocol.now.body) result }
 {
@@ -66,18 +68,19 @@ pub(crate) fn unprojected<'a>(protocol: &Protocol, fault: ProjectFault) -> ToolF
     }
 }
 
-// Why a protocol without faults has no session, told by the name of the role.
-fn unopened<'a>(protocol: &Protocol, fault: ProtocolFault) -> ToolFault<'a>
+/// The local type of each role of a protocol without faults, in order.
+pub(crate) fn types_of<'a>(alloc: Global, protocol: &Protocol) -> Result<Vec<Local>, ToolFault<'a>>
     requires faultless { fault_of protocol.now.roles.items (global_type protocol.now.body) ≡ None }
-    requires why { HasNoSession protocol.now.roles.items (global_type protocol.now.body) fault }
-    ensures { GivesNoTypes protocol.now.roles.items (global_type protocol.now.body) result }
+    ensures ok { IfOk result (λ types. AreProjections
+        protocol.now.roles.items (global_type protocol.now.body) (map plain types.items)) }
+    ensures peers { IfOk result (λ types. AllByRecursion
+        (AllPeers (λ peer. peer < length protocol.now.roles.items)) (map plain types.items)) }
+    ensures fault { IfErr result
+        (GivesNoTypes protocol.now.roles.items (global_type protocol.now.body)) }
 {
-    match fault {
-        ProtocolFault::Global(_) => unreachable!(),
-        ProtocolFault::Memory => ToolFault::Memory,
-        ProtocolFault::Unmergeable { role, choice } => {
-            unprojected(protocol, ProjectFault::Unmergeable { role, choice })
-        }
+    match project_all(alloc, protocol) {
+        Ok(types) => Ok(types),
+        Err(fault) => Err(unprojected(protocol, fault)),
     }
 }
 
@@ -96,8 +99,12 @@ pub fn open_session<'a>(
         protocol.now.roles.items (global_type protocol.now.body)) }
 {
     let roles = roles_of(alloc, protocol)?;
-    match open_protocol(alloc, protocol) {
+    let types = types_of(alloc, protocol)?;
+    match Session::open(alloc, types) {
         Ok(session) => Ok((roles, session)),
-        Err(fault) => Err(unopened(protocol, fault)),
+        Err(OpenFault::Memory) => Err(ToolFault::Memory),
+        Err(OpenFault::RoleCount) => unreachable!(),
+        Err(OpenFault::BadPeer { .. }) => unreachable!(),
+        Err(OpenFault::Local { .. }) => unreachable!(),
     }
 }

@@ -5,7 +5,7 @@ ghost use Rattle.mps_global.specs.Global.{plain as global_type};
 ghost use Rattle.mps_global.specs.Faults.{fault_of};
 ghost use Rattle.mps_program.specs.Check.{GivesNoTypes};
 ghost use Rattle.mps_program.specs.Faults.{after_writes};
-ghost use Rattle.mps_program.specs.Journals.{IsKeepingFault, kept_of};
+ghost use Rattle.mps_program.specs.Journals.{IsRecordingFault, recorded_of};
 ghost use Rattle.mps_program.specs.Served.{AreLinesUpTo, AreSessionLines, HasOpened, HasServed, HasServedUpTo, IfLost};
 ghost use Rattle.mps_program.specs.Served.{IsBindFault, IsListeningLine, IsOutFault, IsPortFor, IsServeFault};
 ghost use Rattle.mps_program.specs.Served.{IsSessionLine, IsTellFault};
@@ -13,12 +13,12 @@ ghost use Rattle.mps_program.specs.Private.Served.{IsHubFault, IsNewOf, TellsPor
 
 use crate::faults::ToolFault;
 use crate::files::{open_file, tell};
-use crate::journals::{FileKeeper, Keeping, keep_sessions};
+use crate::journals::{FileKeeper, Recording, record_sessions};
 use crate::load::{load_protocol, open_session};
 use mps_base::write_number;
 use mps_dev::{OverWrite, Sink};
 use mps_global::Protocol;
-use mps_hub::{Desk, Hub, Limits, ServeFault, Unguarded, serve_kept};
+use mps_hub::{Desk, Hub, Limits, ServeFault, Unguarded, serve_recorded};
 use mps_open::roles_of;
 use mps_room::Room;
 use mps_session::Session;
@@ -143,21 +143,22 @@ fn listen<'a, R: Net<Listener = TcpListener, Stream = TcpStream>>(
     }
 }
 
-// The keepers of the desk's sessions, if they are kept.
+// The keepers of the desk's sessions, if they are recorded.
 fn keepers<'a, R: Files<File = File> + AllocGlobal + Wait + 'static>(
     rt: &R,
     desk: &Desk<'_>,
     sessions: u64,
-    keeping: Option<Keeping<'a, '_>>,
+    recording: Option<Recording<'a, '_>>,
 ) -> Result<Vec<FileKeeper>, ToolFault<'a>>
     requires { sessions ≡ length desk.now.cells }
     ensures count { IfOk result
-        (λ keepers. length keepers.items ≡ kept_of (option_map (λ k. k.journal.folder.now) keeping.entry) sessions) }
+        (λ keepers. length keepers.items
+        ≡ recorded_of (option_map (λ k. k.journal.folder.now) recording.entry) sessions) }
     ensures fault { IfErr result
-        (IsKeepingFault (option_map (λ k. k.journal.folder.now) keeping.entry) desk.now.first sessions) }
+        (IsRecordingFault (option_map (λ k. k.journal.folder.now) recording.entry) desk.now.first sessions) }
 {
-    match keeping {
-        Some(keeping) => keep_sessions(rt, desk, sessions, keeping),
+    match recording {
+        Some(recording) => record_sessions(rt, desk, sessions, recording),
         None => Ok(Vec::new(rt.alloc())),
     }
 }
@@ -169,7 +170,7 @@ fn unserved<'a>(fault: ServeFault) -> ToolFault<'a>
     match fault {
         ServeFault::Accept => ToolFault::Accept,
         ServeFault::Memory => ToolFault::Memory,
-        ServeFault::Unkept { session } => ToolFault::JournalLost { session },
+        ServeFault::Unrecorded { session } => ToolFault::JournalLost { session },
     }
 }
 
@@ -180,14 +181,14 @@ fn tell_lost<R: Eprint>(rt: &R, lost: u64) {
     }
 }
 
-// Restores the sessions, where they are kept, tells the port, and serves them to connections.
+// Restores the sessions, where they are recorded, tells the port, and serves them to connections.
 fn serve_hub<'a, R, W: Sink>(
     rt: &R,
     writer: &mut W,
     hub: &mut Hub,
     port: u16,
     limits: Limits,
-    keeping: Option<Keeping<'a, '_>>,
+    recording: Option<Recording<'a, '_>>,
 ) -> Result<(), ToolFault<'a>>
 where
     R: Files<File = File>
@@ -205,7 +206,7 @@ where
     ensures first { hub.new.first ≡ hub.old.first }
     ensures same { hub.new.cells ≡ hub.old.cells }
     ensures told { OnOk result (TookOne (TellsPort port) (W.taken writer.old) (W.taken writer.new)) }
-    ensures fault { IfErr result (IsHubFault (option_map (λ k. k.journal.folder.now) keeping.entry)
+    ensures fault { IfErr result (IsHubFault (option_map (λ k. k.journal.folder.now) recording.entry)
         hub.old.first (length hub.old.cells)) }
     ensures writes { W.failed_calls writer.new ≡ after_writes result (W.failed_calls writer.old) }
 {
@@ -215,10 +216,10 @@ where
         Some(deal) => hub.desk_of(alloc, deal)?,
         None => unreachable!(),
     };
-    let keepers = keepers(rt, &desk, sessions, keeping)?;
+    let keepers = keepers(rt, &desk, sessions, recording)?;
     let (listener, found) = listen(rt, port)?;
     tell_port(alloc, writer, found)?;
-    match serve_kept(rt, alloc, &listener, &desk, &Unguarded, &keepers, limits) {
+    match serve_recorded(rt, alloc, &listener, &desk, &Unguarded, &keepers, limits) {
         Ok(served) => {
             tell_lost(rt, served.lost);
             Ok(())
@@ -227,7 +228,7 @@ where
     }
 }
 
-/// Restores the hub's sessions where they are kept, tells the port, serves them to connections, and then tells how
+/// Restores the hub's sessions where they are recorded, tells the port, serves them to connections, and then tells how
 /// many entries the journal of each session has. On standard error it tells how many connections were lost, if any
 /// were.
 ///
@@ -238,7 +239,7 @@ pub fn serve_to<'a, R, W: Sink>(
     hub: Hub,
     port: u16,
     limits: Limits,
-    keeping: Option<Keeping<'a, '_>>,
+    recording: Option<Recording<'a, '_>>,
 ) -> Result<(), ToolFault<'a>>
 where
     R: Files<File = File>
@@ -256,14 +257,14 @@ where
     requires writes { W.failed_calls writer.old < 2 ^ 62 }
     ensures told { OnOk result (HasServed port hub.first hub.cells (W.taken writer.old) (W.taken writer.new)) }
     ensures fault { IfErr result
-        (IsOutFault (option_map (λ k. k.journal.folder.now) keeping.entry) hub.first (length hub.cells)) }
+        (IsOutFault (option_map (λ k. k.journal.folder.now) recording.entry) hub.first (length hub.cells)) }
     ensures lost { IfErr result
         (IfLost (HasServedUpTo port hub.first hub.cells (W.taken writer.old) (W.taken writer.new))) }
     ensures writes { W.failed_calls writer.new ≡ after_writes result (W.failed_calls writer.old) }
 {
     let first = hub.first();
     let mut hub = hub;
-    serve_hub(rt, writer, &mut hub, port, limits, keeping)?;
+    serve_hub(rt, writer, &mut hub, port, limits, recording)?;
     let rooms = hub.close(rt.alloc())?;
     tell_sessions(rt.alloc(), writer, first, rooms.as_slice())
 }
@@ -310,7 +311,7 @@ pub fn hub_of<'a>(
 }
 
 /// How a server runs: its port, the number of its first session, how many sessions it has, its limits, and where the
-/// sessions are kept, if they are.
+/// sessions are recorded, if they are.
 #[derive(Clone, Copy)]
 pub struct Service<'a> {
     pub port: u16,
@@ -321,18 +322,21 @@ pub struct Service<'a> {
 }
 
 // The journal with the protocol that it has to be of, if there is one.
-fn keeping_of<'a, 'p>(journal: Option<Journal<'a>>, protocol: &'p [u8]) -> Option<Keeping<'a, 'p>>
+fn recording_of<'a, 'p>(
+    journal: Option<Journal<'a>>,
+    protocol: &'p [u8],
+) -> Option<Recording<'a, 'p>>
     ensures { option_map (λ k. k.journal.folder.now) result ≡ option_map (λ j. j.folder.now) journal.entry }
 {
     match journal {
-        Some(journal) => Some(Keeping { journal, protocol }),
+        Some(journal) => Some(Recording { journal, protocol }),
         None => None,
     }
 }
 
 /// Serves sessions of the protocol in the file at a port of 127.0.0.1.
 ///
-/// The protocol is read and checked, the sessions are opened, and where they are kept they are restored, before the
+/// The protocol is read and checked, the sessions are opened, and where they are recorded they are restored, before the
 /// port is bound.
 pub fn serve_file<'a, R>(rt: &R, file: &'a str, service: Service<'a>) -> Result<(), ToolFault<'a>>
 where
@@ -355,7 +359,14 @@ where
     let protocol = load_protocol(alloc, &mut open_file(rt, file)?)?;
     let hub = hub_of(alloc, &protocol, service.first, service.sessions)?;
     let written = write_protocol(alloc, &protocol)?;
-    let keeping = keeping_of(service.journal, written.as_slice());
+    let recording = recording_of(service.journal, written.as_slice());
     let mut writer = OverWrite::new(io::writer(rt));
-    serve_to(rt, &mut writer, hub, service.port, service.limits, keeping)
+    serve_to(
+        rt,
+        &mut writer,
+        hub,
+        service.port,
+        service.limits,
+        recording,
+    )
 }

@@ -5,7 +5,7 @@ use crate::numbers;
 use crate::numbers::are_numbered;
 use crate::texts::{TWO_PAIRS, VERDICT, asked, opened, told};
 use mps_base::{Name, Role, StepId, Value};
-use mps_cell::{Busy, Cell, Deal, Held, Leave, Pass, PassFault, Pause, meet};
+use mps_cell::{Busy, Cell, Deal, Leave, Pass, PassFault, Pause, WaitingPass, meet};
 use mps_command::{Answer, Command, Forward};
 use mps_room::{Caller, Room};
 use std::alloc::Global;
@@ -752,20 +752,23 @@ fn undone_text<C: Caller>(alloc: Global, caller: &mut C) -> Result<String, Fail>
 }
 
 // Whether the rows come to what they say, one after the other, and then an undo with no number.
-fn goes_by_numbers<R: Wait>(alloc: Global, held: &mut Held<'_, '_, R>) -> Result<bool, Fail> {
-    are_numbered(alloc, held, NUMBERED)?;
+fn goes_by_numbers<R: Wait>(
+    alloc: Global,
+    caller: &mut WaitingPass<'_, '_, R>,
+) -> Result<bool, Fail> {
+    are_numbered(alloc, caller, NUMBERED)?;
     Ok(
-        held.pass.seen() == 3
-            && undone_text(alloc, held)?.as_str() == "undone 1"
-            && held.last() == 3,
+        caller.pass.seen() == 3
+            && undone_text(alloc, caller)?.as_str() == "undone 1"
+            && caller.last() == 3,
     )
 }
 
 // The pass of the first role, and what it waits by.
-fn first_held<'r, 'a, R: Wait>(rt: &'r R, cell: &'a mut Cell) -> Option<Held<'r, 'a, R>> {
+fn first_waiting<'r, 'a, R: Wait>(rt: &'r R, cell: &'a mut Cell) -> Option<WaitingPass<'r, 'a, R>> {
     let mut all = cell.passes().ok()?;
     all.truncate(1);
-    Some(Held {
+    Some(WaitingPass {
         rt,
         pass: all.pop()?,
     })
@@ -774,8 +777,8 @@ fn first_held<'r, 'a, R: Wait>(rt: &'r R, cell: &'a mut Cell) -> Option<Held<'r,
 #[test]
 fn keeps_the_answer_to_a_number(rt: HostRuntime) -> Result<(), Fail> {
     let mut cell = cell(rt.alloc(), TWO_PAIRS)?;
-    let mut held = first_held(&rt, &mut cell).ok_or("a pass")?;
-    assert!(rt; is_fresh(&held));
-    assert!(rt; goes_by_numbers(rt.alloc(), &mut held)?);
+    let mut caller = first_waiting(&rt, &mut cell).ok_or("a pass")?;
+    assert!(rt; is_fresh(&caller));
+    assert!(rt; goes_by_numbers(rt.alloc(), &mut caller)?);
     Ok(())
 }

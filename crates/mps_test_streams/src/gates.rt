@@ -75,8 +75,8 @@ impl Meeting {
 }
 
 impl Gate for Meeting {
-    fn before(&self, connection: u64, line: u64) {
-        if line != 1 {
+    fn before(&self, connection: u64, command: u64) {
+        if command != 1 {
             return;
         }
         if connection == 1 {
@@ -220,9 +220,9 @@ struct Order {
 }
 
 impl Gate for Order {
-    fn before(&self, connection: u64, line: u64) {
+    fn before(&self, connection: u64, command: u64) {
         if connection > 2 {
-            if line == 2 {
+            if command == 2 {
                 self.sent.fetch_add(1, SeqCst);
             }
             return;

@@ -6,7 +6,7 @@ use mps_base::{Role, Roles, StepId};
 use mps_command::{Command, Forward};
 use mps_dev::{OverRead, Pieces, Short};
 use mps_hub::{Attended, Desk, Hub, SessionFault, Unguarded, attend, no_keepers};
-use mps_keeper::{Book, Keep, NotRestored, Recorded, RestoreFault, Unaccepted, restore_lines};
+use mps_keeper::{Book, NotRestored, Recorded, Recorder, RestoreFault, Unaccepted, restore_lines};
 use mps_line::{LineFault, read_journal_line, write_journal_line};
 use mps_room::{Caller, Room, Solo};
 use mps_wire::{Ending, converse};

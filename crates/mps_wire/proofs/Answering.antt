@@ -4,9 +4,10 @@ use Rattle.std.proofs.lemmas.Bool.{cases_lt}
 use Rattle.mps_local.specs.Local.{LocalType}
 use Rattle.mps_line.specs.declared.write_replies.Reply.{Reply}
 use Rattle.mps_room.specs.declared.entry.Entry.{Entry}
-use Rattle.mps_wire.specs.Answers.{Answering, AnswersLines, Answered, OfAllLines}
+use Rattle.mps_wire.specs.Answers.{Answering, AnswersLines, AnswersBytes, OfAllLines}
 use Rattle.mps_lines.specs.Lines.{HasNoBreak, ended, with_last, most_kept, front}
-use Rattle.mps_wire.specs.Script.{IsUnread, IsApplied, IsStarved, RepliesTo, AnswersLine}
+use Rattle.mps_wire.specs.Script.{IsReadable, IsApplied, RepliesInScript, AnswersLine}
+use Rattle.mps_wire.specs.Uncalled.{IsUnread, IsStarved}
 use Rattle.mps_lines.proofs.Splitting.{split_nothing, split_more, split_ended, front_front, front_short}
 
 -- what the front of a line does, the line does
@@ -15,28 +16,28 @@ GoesByFront {S} answers = (line : List ℕ) (st : S) (text : List ℕ) (after : 
 
 module _ (names : List (List ℕ)) (types : List LocalType) where
   -- of a line that is too long the front says enough
-  long_line : (line : List ℕ) (st after : List Entry) (reply : Reply) → most_kept < length line → RepliesTo names types (front line) st reply after → RepliesTo names types line st reply after
+  long_line : (line : List ℕ) (st after : List Entry) (reply : Reply) → most_kept < length line → RepliesInScript names types (front line) st reply after → RepliesInScript names types line st reply after
   long_line line st after reply long r =
       let n : length (front line) ≡ most_kept = length-take most_kept line ∙ (let m : min most_kept (length line) ≡ most_kept = omega arith in m) in
       ⊎_elim
-      (λ (u : IsUnread names types (front line) st reply after). inl (record { unreadable = λ role command readable. let s = readable.short in absurd (omega arith); bad = u.bad; unchanged = u.unchanged }))
-      (λ (o : IsApplied names types (front line) st reply after ⊎ IsStarved names types (front line) st reply after).
+      (λ (u : IsUnread (IsReadable names (front line)) st reply after). inl (record { unreadable = λ role command readable. let s = readable.short in absurd (omega arith); bad = u.bad; unchanged = u.unchanged }))
+      (λ (o : IsApplied names types (front line) st reply after ⊎ IsStarved (IsReadable names (front line)) st reply after).
       ⊎_elim
       (λ (s : IsApplied names types (front line) st reply after). let short = s.readable.short in absurd (omega arith))
-      (λ (s : IsStarved names types (front line) st reply after). let short = s.readable.short in absurd (omega arith))
+      (λ (s : IsStarved (IsReadable names (front line)) st reply after). let short = s.readable.short in absurd (omega arith))
       o)
       r
 
   -- a long line's front is not read either
-  long_front : (line : List ℕ) (st after : List Entry) (reply : Reply) → most_kept < length line → RepliesTo names types line st reply after → RepliesTo names types (front line) st reply after
+  long_front : (line : List ℕ) (st after : List Entry) (reply : Reply) → most_kept < length line → RepliesInScript names types line st reply after → RepliesInScript names types (front line) st reply after
   long_front line st after reply long r =
       let n : length (front line) ≡ most_kept = length-take most_kept line ∙ (let m : min most_kept (length line) ≡ most_kept = omega arith in m) in
       ⊎_elim
-      (λ (u : IsUnread names types line st reply after). inl (record { unreadable = λ role command readable. let s = readable.short in absurd (omega arith); bad = u.bad; unchanged = u.unchanged }))
-      (λ (o : IsApplied names types line st reply after ⊎ IsStarved names types line st reply after).
+      (λ (u : IsUnread (IsReadable names line) st reply after). inl (record { unreadable = λ role command readable. let s = readable.short in absurd (omega arith); bad = u.bad; unchanged = u.unchanged }))
+      (λ (o : IsApplied names types line st reply after ⊎ IsStarved (IsReadable names line) st reply after).
       ⊎_elim
       (λ (s : IsApplied names types line st reply after). let short = s.readable.short in absurd (omega arith))
-      (λ (s : IsStarved names types line st reply after). let short = s.readable.short in absurd (omega arith))
+      (λ (s : IsStarved (IsReadable names line) st reply after). let short = s.readable.short in absurd (omega arith))
       o)
       r
 
@@ -64,11 +65,11 @@ module _ {S : Type 0} (answers : Answering S) (start : S) where
   lines_push (l ∷ lines) line st mid after out text a b =
       (a.0, a.1 ++ ended text, a.2, ap (λ (x : List ℕ). x ++ ended text) a.3 ∙ append_assoc (ended a.0) a.1 (ended text), a.4, lines_push lines line a.2 mid after a.1 text a.5 b)
 
-  pub answered_nothing : Answered answers start [] [] [] start
+  pub answered_nothing : AnswersBytes answers start [] [] [] start
   answered_nothing = record { lines = []; rest = []; split = split_nothing; front_kept = refl; answers_lines = (refl, refl) }
 
   -- more of the line that comes
-  pub answered_more : (mid : S) (bytes kept out piece : List ℕ) → Answered answers start bytes kept out mid → HasNoBreak piece → Answered answers start (bytes ++ piece) (front (kept ++ piece)) out mid
+  pub answered_more : (mid : S) (bytes kept out piece : List ℕ) → AnswersBytes answers start bytes kept out mid → HasNoBreak piece → AnswersBytes answers start (bytes ++ piece) (front (kept ++ piece)) out mid
   answered_more mid bytes kept out piece a h = record {
     lines = a.lines;
     rest = a.rest ++ piece;
@@ -83,7 +84,7 @@ module _ {S : Type 0} (answers : Answering S) (start : S) where
     last_line kept rest text mid after e b = by_front rest mid text after (subst (λ (l : List ℕ). answers l mid text after) e b)
 
     -- the line is ended and answered
-    pub answered_line : (mid after : S) (bytes kept out text : List ℕ) → Answered answers start bytes kept out mid → answers kept mid text after → Answered answers start (bytes ++ 10 ∷ []) [] (out ++ ended text) after
+    pub answered_line : (mid after : S) (bytes kept out text : List ℕ) → AnswersBytes answers start bytes kept out mid → answers kept mid text after → AnswersBytes answers start (bytes ++ 10 ∷ []) [] (out ++ ended text) after
     answered_line mid after bytes kept out text a b = record {
       lines = a.lines ++ a.rest ∷ [];
       rest = [];
@@ -93,7 +94,7 @@ module _ {S : Type 0} (answers : Answering S) (start : S) where
     }
 
     -- the end of the bytes, with a rest
-    pub all_with_rest : (bytes kept out text : List ℕ) (mid after : S) → Answered answers start bytes kept out mid → (kept ≡ [] → ⊥) → answers kept mid text after → OfAllLines bytes (λ lines. AnswersLines answers lines start (out ++ ended text) after)
+    pub all_with_rest : (bytes kept out text : List ℕ) (mid after : S) → AnswersBytes answers start bytes kept out mid → (kept ≡ [] → ⊥) → answers kept mid text after → OfAllLines bytes (λ lines. AnswersLines answers lines start (out ++ ended text) after)
     all_with_rest bytes kept out text mid after a ne b = record {
       lines = a.lines;
       rest = a.rest;

@@ -45,5 +45,5 @@ sends_on old mid new bytes rest count s few more =
     subst (Sending old new bytes) (sym is) goal
 
 -- a buffer that was read into is as long as before
-pub same_room : (len n : ℕ) (new items : List ℕ) → len ≡ length items → length items ≡ n → length (take len (new ++ drop (length new) items)) ≡ n
-same_room len n new items e f = omega (arith, e, f, length-take len (new ++ drop (length new) items), length-append new (drop (length new) items), length-drop (length new) items)
+pub same_space : (len n : ℕ) (new items : List ℕ) → len ≡ length items → length items ≡ n → length (take len (new ++ drop (length new) items)) ≡ n
+same_space len n new items e f = omega (arith, e, f, length-take len (new ++ drop (length new) items), length-append new (drop (length new) items), length-drop (length new) items)

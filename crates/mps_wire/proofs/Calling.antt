@@ -13,12 +13,12 @@ use Rattle.mps_lines.specs.Lines.{ended, max_line, most_kept, front}
 use Rattle.mps_lines.proofs.Splitting.{front_short}
 use Rattle.mps_room.specs.declared.caller.Caller.{Ghosts}
 use Rattle.mps_wire.specs.Sending.{TookFront}
-use Rattle.mps_wire.specs.Conversations.{IsRequest, RepliesTo, Unread, Called, Numbered, Starved, RepliesInText, converses, converses_in_part}
-use Rattle.mps_wire.specs.Private.Endings.{IsWholly, IsPartly}
+use Rattle.mps_wire.specs.Conversations.{IsRequest, RepliesTo, Unread, Called, Numbered, Starved, RepliesInText, ConversesLine, ConversesBrokenOff}
+use Rattle.mps_wire.specs.Private.Endings.{IsWholly, IsBrokenOff}
 use Rattle.mps_wire.proofs.Answering.{GoesByFront}
 use Rattle.mps_wire.proofs.Bytes.{Appends-none}
 use Rattle.mps_wire.proofs.Serving.{shown_ascii}
-use Rattle.mps_wire.proofs.Taking.{IsWholePart}
+use Rattle.mps_wire.proofs.Taking.{IsWholeBroken}
 
 -- a line that was read, by the names that are known, is a request
 pub request : (names known : List (List ℕ)) (line : List ℕ) (number given : Option ℕ) (command : Command) → length line ≤ max_line → known ≡ names → given ≡ number → (SpellsNumbered names line number command → AllByRecursion IsShown line) → SpellsNumbered known line given command → IsRequest names line number command
@@ -66,15 +66,15 @@ module _ {C : Type 0} (caller : Ghosts C) where
 
   -- a line that was answered, by its front
   module _ (line kept : List ℕ) (is : front line ≡ kept) (c d : C) (taken taken' : Option (List ℕ)) where
-    pub wholly_front : IsWholly (converses caller) line c d taken taken' → IsWholly (converses caller) kept c d taken taken'
+    pub wholly_front : IsWholly (ConversesLine caller) line c d taken taken' → IsWholly (ConversesLine caller) kept c d taken taken'
     wholly_front w = record {
       text = w.text;
       line_is = record { line_is = subst (λ (l : List ℕ). RepliesInText caller l c w.text d) is (front_line line c w.text d w.line_is.line_is); aloud = w.line_is.aloud };
       sent = w.sent;
     }
 
-    pub partly_front : IsPartly (converses_in_part caller) line c d taken taken' → IsPartly (converses_in_part caller) kept c d taken taken'
-    partly_front w = record {
+    pub broken_front : IsBrokenOff (ConversesBrokenOff caller) line c d taken taken' → IsBrokenOff (ConversesBrokenOff caller) kept c d taken taken'
+    broken_front w = record {
       written = w.written;
       line_is = record {
         reply = w.line_is.reply;
@@ -96,14 +96,14 @@ module _ {C : Type 0} (caller : Ghosts C) where
   whole_line line c text d a = record { reply = a.reply; replies = whole_reply line c d a.reply a.replies; spelled = a.spelled }
 
   -- a caller's lines go by their fronts
-  pub converses_by_front : GoesByFront (converses caller)
+  pub converses_by_front : GoesByFront (ConversesLine caller)
   converses_by_front line c text d a = record { line_is = whole_line line c text d a.line_is; aloud = a.aloud }
 
-  pub part_by_front : GoesByFront (converses_in_part caller)
-  part_by_front line c written d a = record { reply = a.reply; replies = whole_reply line c d a.reply a.replies; begun = a.begun; silent = a.silent }
+  pub broken_by_front : GoesByFront (ConversesBrokenOff caller)
+  broken_by_front line c written d a = record { reply = a.reply; replies = whole_reply line c d a.reply a.replies; begun = a.begun; silent = a.silent }
 
-  pub whole_is_part : IsWholePart (converses caller) (converses_in_part caller)
-  whole_is_part line c text d a = record {
+  pub whole_is_broken : IsWholeBroken (ConversesLine caller) (ConversesBrokenOff caller)
+  whole_is_broken line c text d a = record {
     reply = a.line_is.reply;
     replies = a.line_is.replies;
     begun = inr (text, [], a.line_is.spelled, sym (append-nil (ended text)));
@@ -112,13 +112,13 @@ module _ {C : Type 0} (caller : Ghosts C) where
 
   module _ (line : List ℕ) (c d : C) (reply : Reply) (replies : RepliesTo caller line c reply d) where
     -- there was no memory for the text, or it may not be told
-    pub unwritten_line : (taken : Option (List ℕ)) → IsPartly (converses_in_part caller) line c d taken taken
+    pub unwritten_line : (taken : Option (List ℕ)) → IsBrokenOff (ConversesBrokenOff caller) line c d taken taken
     unwritten_line taken = record { written = []; line_is = record { reply = reply; replies = replies; begun = inl refl; silent = λ off. refl }; sent = Appends-none taken }
 
     module _ (text : List ℕ) (spelled : SpellsReply text reply) (aloud : caller.may_tell d ≡ true) (taken taken' : Option (List ℕ)) (bytes : List ℕ) (is : bytes ≡ ended text) where
       -- the sink failed
-      pub cut_line : TookFront taken taken' bytes → IsPartly (converses_in_part caller) line c d taken taken'
-      cut_line took = record {
+      pub broken_line : TookFront taken taken' bytes → IsBrokenOff (ConversesBrokenOff caller) line c d taken taken'
+      broken_line took = record {
         written = take took.count bytes;
         line_is = record {
           reply = reply;
@@ -130,7 +130,7 @@ module _ {C : Type 0} (caller : Ghosts C) where
       }
 
       -- the sink took it all
-      pub sent_line : Appends taken taken' bytes → IsWholly (converses caller) line c d taken taken'
+      pub sent_line : Appends taken taken' bytes → IsWholly (ConversesLine caller) line c d taken taken'
       sent_line sent = record {
         text = text;
         line_is = record { line_is = record { reply = reply; replies = replies; spelled = spelled }; aloud = aloud };

@@ -4,8 +4,8 @@ use Rattle.std.specs.Prelude.{Result, Ok, Err, OnErr}
 use Rattle.std.specs.Io.KnownBytes.{Appends, Consumes}
 use Rattle.mps_lines.proofs.Splitting.{split_nothing}
 use Rattle.mps_wire.specs.Answers.{Answering}
-use Rattle.mps_wire.specs.Endings.{EndedAs, WasAnswered, WasCut}
-use Rattle.mps_wire.specs.Private.Endings.{TurnedTo, TakesOn, TakesToPart, failed_by}
+use Rattle.mps_wire.specs.Endings.{EndedAs, WasAnswered, WasBrokenOff}
+use Rattle.mps_wire.specs.Private.Endings.{TurnedTo, TakesOn, TakesBrokenOff, failed_by}
 use Rattle.mps_wire.specs.Runs.{Going}
 use Rattle.mps_wire.specs.Streams.{Streams, Counts, all_went_well, one_read_ended, one_read_failed, one_write_failed}
 use Rattle.mps_wire.specs.declared.conversation.Broken.{Broken}
@@ -35,8 +35,8 @@ module _ {S : Type 0} (answers : Answering S) (start : S) (first old new : Strea
       }
 
   -- that broke off
-  pub breaks_off : (part : Answering S) (bytes : List ℕ) (d : S) → Consumes old.left new.left bytes → TakesToPart answers part bytes kept st old.taken d new.taken → WasCut answers part start first new d
-  breaks_off part bytes d more fed =
+  pub breaks_off : (broken : Answering S) (bytes : List ℕ) (d : S) → Consumes old.left new.left bytes → TakesBrokenOff answers broken bytes kept st old.taken d new.taken → WasBrokenOff answers broken start first new d
+  breaks_off broken bytes d more fed =
       let f = fed start going.read going.out going.answered in
       record {
         read = going.read ++ bytes;
@@ -59,9 +59,9 @@ module _ {S : Type 0} (answers : Answering S) (start : S) (first old new : Strea
     };
   }
 
-module _ {S : Type 0} (answers part : Answering S) (start : S) where
+module _ {S : Type 0} (answers broken : Answering S) (start : S) where
   -- nothing was read or written
-  pub none_begun : (s : Streams) → WasCut answers part start s s start
+  pub none_begun : (s : Streams) → WasBrokenOff answers broken start s s start
   none_begun s = record {
     read = [];
     written = [];
@@ -71,7 +71,7 @@ module _ {S : Type 0} (answers part : Answering S) (start : S) where
   }
 
   -- the turn that ended it
-  pub ends_as : (first old now : Streams) (kept : List ℕ) (st : S) (e : Ending) → Counts first old all_went_well → TurnedTo answers part start first old now kept st (Some e) → EndedAs answers part start first now st e
+  pub ends_as : (first old now : Streams) (kept : List ℕ) (st : S) (e : Ending) → Counts first old all_went_well → TurnedTo answers broken start first old now kept st (Some e) → EndedAs answers broken start first now st e
   ends_as first old now kept st Closed counts h = (h.0, counts_more first old now counts one_read_ended h.1, h.2)
   ends_as first old now kept st ReadFault counts h = (h.0, counts_more first old now counts one_read_failed h.1)
   ends_as first old now kept st Turns counts h = absurd h

@@ -19,12 +19,12 @@ use Rattle.mps_room.specs.declared.numbers.Told.{Told}
 use Rattle.mps_room.specs.declared.numbers.Told.TheVariants.{Fresh, Kept, Wrong, Refused as CalledInVain}
 use Rattle.mps_room.proofs.Faithful.{answer_other}
 use Rattle.mps_fidelity.specs.Fidelity.{AreOfOneProtocol}
-use Rattle.mps_wire.specs.Answers.{Answering, AnswersCut, AnswersLines, CutAnywhere}
+use Rattle.mps_wire.specs.Answers.{Answering, AnswersBrokenOff, AnswersLines, BreaksOffAnywhere}
 use Rattle.mps_wire.specs.Fidelity.{mismatch, MeetsNoMismatch, HasNoMismatch}
-use Rattle.mps_wire.specs.Conversations.{converses, converses_in_part}
+use Rattle.mps_wire.specs.Conversations.{ConversesLine, ConversesBrokenOff}
 use Rattle.mps_wire.specs.Conversations as conversations
 use Rattle.mps_lines.specs.Lines.{HasNoBreak, ended, IsSplit}
-use Rattle.mps_wire.specs.Script.{RepliesTo, AnswersLine}
+use Rattle.mps_wire.specs.Script.{RepliesInScript, AnswersLine}
 
 -- a line ends at its first break
 one_line : (x y a b : List ℕ) → HasNoBreak x → HasNoBreak y → x ++ 10 ∷ a ≡ y ++ 10 ∷ b → (x ≡ y) × (a ≡ b)
@@ -93,7 +93,7 @@ module _ (one_reply : (a : List ℕ) (r s : Reply) → SpellsReply a r → Spell
       (no_line_feed text reply says, λ e. other (one_reply (codes "refused mismatch") reply mismatched (subst (λ (b : List ℕ). SpellsReply b reply) e says) spelled))
 
   module _ (names : List (List ℕ)) (types : List LocalType) (own : AreOfOneProtocol types) where
-    reply_fits : (line : List ℕ) (j after : List Entry) (r : Reply) → RepliesTo names types line j r after → r ≢ mismatched
+    reply_fits : (line : List ℕ) (j after : List Entry) (r : Reply) → RepliesInScript names types line j r after → r ≢ mismatched
     reply_fits line j after r (inl u) = λ e. let b = u.bad in cc
     reply_fits line j after r (inr (inl s)) = λ e.
         let same : Answered s.answer ≡ mismatched = sym s.told ∙ e in
@@ -108,8 +108,8 @@ module _ (one_reply : (a : List ℕ) (r s : Reply) → SpellsReply a r → Spell
         written_fits (AnswersLine names types) (λ j. ⊤) script_line asked lines [] after out written unwritten rest tt a e split
 
     -- the same of answers up to some place in them
-    pub part_fits : (asked lines : List (List ℕ)) (written rest : List ℕ) → CutAnywhere (AnswersLine names types) [] asked written → IsSplit written lines rest → AllByRecursion Fits lines
-    part_fits asked lines written rest a split = script_fits a.answered lines a.out written a.unwritten rest a.after a.answers_lines a.part split
+    pub broken_fits : (asked lines : List (List ℕ)) (written rest : List ℕ) → BreaksOffAnywhere (AnswersLine names types) [] asked written → IsSplit written lines rest → AllByRecursion Fits lines
+    broken_fits asked lines written rest a split = script_fits a.answered lines a.out written a.unwritten rest a.after a.answers_lines a.broken split
 
   -- ---- conversations
 
@@ -162,7 +162,7 @@ module _ (one_reply : (a : List ℕ) (r s : Reply) → SpellsReply a r → Spell
     abbrev said : Answering C
     said line c text d = conversations.RepliesInText caller line c text d
 
-    lines_said : (lines : List (List ℕ)) (c : C) (out : List ℕ) (d : C) → AnswersLines (converses caller) lines c out d → AnswersLines said lines c out d
+    lines_said : (lines : List (List ℕ)) (c : C) (out : List ℕ) (d : C) → AnswersLines (ConversesLine caller) lines c out d → AnswersLines said lines c out d
     lines_said [] c out d a = a
     lines_said (l ∷ lines) c out d a = (a.0, a.1, a.2, a.3, a.4.line_is, lines_said lines a.2 a.1 d a.5)
 
@@ -170,11 +170,11 @@ module _ (one_reply : (a : List ℕ) (r s : Reply) → SpellsReply a r → Spell
     said_fits asked lines c d out written unwritten rest free a e split =
         written_fits said (HasNoMismatch caller types) conversed_line asked lines c d out written unwritten rest free a e split
 
-    pub conversation_fits : (asked lines : List (List ℕ)) (c d : C) (out written unwritten rest : List ℕ) → HasNoMismatch caller types c → AnswersLines (converses caller) asked c out d → out ≡ written ++ unwritten → IsSplit written lines rest → AllByRecursion Fits lines
+    pub conversation_fits : (asked lines : List (List ℕ)) (c d : C) (out written unwritten rest : List ℕ) → HasNoMismatch caller types c → AnswersLines (ConversesLine caller) asked c out d → out ≡ written ++ unwritten → IsSplit written lines rest → AllByRecursion Fits lines
     conversation_fits asked lines c d out written unwritten rest free a e split = said_fits asked lines c d out written unwritten rest free (lines_said asked c out d a) e split
 
-    -- of answers of which the last is written in part, those of which something is written, whole
-    completed : (lines : List (List ℕ)) (c : C) (written : List ℕ) (d : C) → AnswersCut (converses caller) (converses_in_part caller) lines c written d
+    -- of answers of which the last breaks off, those of which something is written, whole
+    completed : (lines : List (List ℕ)) (c : C) (written : List ℕ) (d : C) → AnswersBrokenOff (ConversesLine caller) (ConversesBrokenOff caller) lines c written d
         → (told : List (List ℕ)) × (unwritten : List ℕ) × (e : C) × AnswersLines said told c (written ++ unwritten) e
     completed [] c written d a = ([], [], d, (ap (λ (l : List ℕ). l ++ []) a.0, a.1))
     completed (l ∷ []) c written d a =
@@ -187,7 +187,7 @@ module _ (one_reply : (a : List ℕ) (r s : Reply) → SpellsReply a r → Spell
         let more = completed (m ∷ lines) a.2 a.1 d a.5 in
         (l ∷ more.0, more.1, more.2, (a.0, a.1 ++ more.1, a.2, ap (λ (x : List ℕ). x ++ more.1) a.3 ∙ append_assoc (ended a.0) a.1 more.1, a.4.line_is, more.3))
 
-    pub conversation_part_fits : (asked lines : List (List ℕ)) (c d : C) (written rest : List ℕ) → HasNoMismatch caller types c → AnswersCut (converses caller) (converses_in_part caller) asked c written d → IsSplit written lines rest → AllByRecursion Fits lines
-    conversation_part_fits asked lines c d written rest free a split =
+    pub conversation_broken_fits : (asked lines : List (List ℕ)) (c d : C) (written rest : List ℕ) → HasNoMismatch caller types c → AnswersBrokenOff (ConversesLine caller) (ConversesBrokenOff caller) asked c written d → IsSplit written lines rest → AllByRecursion Fits lines
+    conversation_broken_fits asked lines c d written rest free a split =
         let w = completed asked c written d a in
         said_fits w.0 lines c w.2 (written ++ w.1) written w.1 rest free w.3 refl split

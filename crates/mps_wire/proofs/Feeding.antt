@@ -2,7 +2,7 @@
 use Rattle.std.proofs.Common.{◌≡◌, ℕ, ◌+◌, ◌-◌, ◌<◌, ◌≤◌, List, [], ◌∷◌, ◌++◌, length, take, drop, get_or, sym, ap, ◌∙◌, subst, arith, append_assoc, append-nil, length-drop}
 use Rattle.std.proofs.Math.Seq.{take-add}
 use Rattle.std.proofs.lemmas.List.{take_rest, take_more, drop-drop, take-append-drop}
-use Rattle.mps_wire.specs.Answers.{Answering, Answered}
+use Rattle.mps_wire.specs.Answers.{Answering, AnswersBytes}
 use Rattle.mps_wire.specs.Private.Places.{Place, TakesBytes}
 use Rattle.mps_lines.specs.Lines.{HasNoBreak, ended, front}
 use Rattle.mps_wire.proofs.Answering.{GoesByFront, answered_more, answered_line}
@@ -23,8 +23,8 @@ module _ {S : Type 0} (answers : Answering S) (start : S) (old : Place S) (bytes
         taken = λ before out a. (
           [],
           sym (append-nil old.waiting),
-          subst (λ (b : List ℕ). Answered answers start b old.kept (out ++ []) old.state) (sym (append-nil before) ∙ ap (λ (k : ℕ). before ++ take k bytes) (sym none))
-              (subst (λ (o : List ℕ). Answered answers start before old.kept o old.state) (sym (append-nil out)) a),
+          subst (λ (b : List ℕ). AnswersBytes answers start b old.kept (out ++ []) old.state) (sym (append-nil before) ∙ ap (λ (k : ℕ). before ++ take k bytes) (sym none))
+              (subst (λ (o : List ℕ). AnswersBytes answers start before old.kept o old.state) (sym (append-nil out)) a),
         );
       }
 
@@ -46,13 +46,13 @@ module _ {S : Type 0} (answers : Answering S) (start : S) (old : Place S) (bytes
             let whole : (before ++ take n bytes ++ piece) ++ 10 ∷ [] ≡ before ++ take (length bytes - length (drop (k + 1) rest)) bytes =
             append_assoc (before ++ take n bytes) piece (10 ∷ []) ∙ append_assoc before (take n bytes) (piece ++ 10 ∷ []) ∙ ap (λ (l : List ℕ). before ++ l) (sym step ∙ ap (λ (j : ℕ). take j bytes) (sym past)) in
             let more = answered_more answers start now.state (before ++ take n bytes) now.kept (out ++ had.0) piece had.2 none in
-            let more' = subst (λ (x : List ℕ). Answered answers start (before ++ take n bytes ++ piece) x (out ++ had.0) now.state) (sym kept_is) more in
+            let more' = subst (λ (x : List ℕ). AnswersBytes answers start (before ++ take n bytes ++ piece) x (out ++ had.0) now.state) (sym kept_is) more in
             let after = answered_line answers start by_front now.state next.state (before ++ take n bytes ++ piece) kept (out ++ had.0) text more' line in (
               had.0 ++ ended text,
               waiting_is ∙ ap (λ (l : List ℕ). l ++ ended text) had.1 ∙ append_assoc old.waiting had.0 (ended text),
-              subst (λ (x : List ℕ). Answered answers start (before ++ take (length bytes - length (drop (k + 1) rest)) bytes) x (out ++ (had.0 ++ ended text)) next.state) (sym empty)
-                  (subst (λ (o : List ℕ). Answered answers start (before ++ take (length bytes - length (drop (k + 1) rest)) bytes) [] o next.state) (append_assoc out had.0 (ended text))
-                  (subst (λ (b : List ℕ). Answered answers start b [] ((out ++ had.0) ++ ended text) next.state) whole after)),
+              subst (λ (x : List ℕ). AnswersBytes answers start (before ++ take (length bytes - length (drop (k + 1) rest)) bytes) x (out ++ (had.0 ++ ended text)) next.state) (sym empty)
+                  (subst (λ (o : List ℕ). AnswersBytes answers start (before ++ take (length bytes - length (drop (k + 1) rest)) bytes) [] o next.state) (append_assoc out had.0 (ended text))
+                  (subst (λ (b : List ℕ). AnswersBytes answers start b [] ((out ++ had.0) ++ ended text) next.state) whole after)),
             );
       } in
       subst (λ (r : List ℕ). Feeding answers start old bytes r next) (sym tail) goal
@@ -67,7 +67,7 @@ module _ {S : Type 0} (answers : Answering S) (start : S) (old : Place S) (bytes
       append_assoc before (take n bytes) rest ∙ ap (λ (l : List ℕ). before ++ l) (ap (λ (l : List ℕ). take n bytes ++ l) f.left ∙ take-append-drop n bytes) in (
         had.0,
         same_waiting ∙ had.1,
-        subst (λ (s : S). Answered answers start (before ++ bytes) next.kept (out ++ had.0) s) (sym same_state)
-            (subst (λ (b : List ℕ). Answered answers start b next.kept (out ++ had.0) now.state) whole
-            (subst (λ (x : List ℕ). Answered answers start (before ++ take n bytes ++ rest) x (out ++ had.0) now.state) (sym kept_is) more)),
+        subst (λ (s : S). AnswersBytes answers start (before ++ bytes) next.kept (out ++ had.0) s) (sym same_state)
+            (subst (λ (b : List ℕ). AnswersBytes answers start b next.kept (out ++ had.0) now.state) whole
+            (subst (λ (x : List ℕ). AnswersBytes answers start (before ++ take n bytes ++ rest) x (out ++ had.0) now.state) (sym kept_is) more)),
       )

@@ -13,13 +13,13 @@ use Rattle.mps_room.specs.Numbers.{IsNumbered}
 use Rattle.mps_room.specs.declared.entry.Entry.{Entry}
 use Rattle.mps_room.specs.declared.numbers.Told.{Told}
 use Rattle.mps_room.specs.declared.numbers.Told.TheVariants.{Fresh, Kept, Wrong, Refused}
-use Rattle.mps_wire.specs.Answers.{AnswersCut, AnswersLines}
+use Rattle.mps_wire.specs.Answers.{AnswersBrokenOff, AnswersLines}
 use Rattle.mps_wire.specs.Endings.{EndedAs}
-use Rattle.mps_wire.specs.Making.{accepted_of, accepted_anew, accepted_reply, accepted_line, accepted_lines, accepted_in_part}
+use Rattle.mps_wire.specs.Making.{accepted_of, accepted_anew, accepted_reply, accepted_line, accepted_lines, accepted_broken_off}
 use Rattle.mps_wire.specs.Streams.{Streams}
 use Rattle.mps_wire.specs.declared.conversation.Ending.{Ending}
 use Rattle.mps_wire.specs.declared.conversation.Ending.TheVariants.{Closed, ReadFault, WriteFault, Turns, Memory, Untold}
-use Rattle.mps_wire.specs.Conversations.{RepliesTo, Unread, Called, Numbered, Starved, RepliesInText, converses, converses_in_part}
+use Rattle.mps_wire.specs.Conversations.{RepliesTo, Unread, Called, Numbered, Starved, RepliesInText, ConversesLine, ConversesBrokenOff}
 
 grown_if : (b : Bool) (j : List Entry) (e : Entry) → (if b then j ++ e ∷ [] else j) ≡ j ++ (if b then e ∷ [] else [])
 grown_if true j e = refl
@@ -42,22 +42,22 @@ module _ {C F : Type 0} (caller : Ghosts C) (f : C → F) (keeps : (c : C) (x : 
   line_keeps : (line : List ℕ) (c : C) (text : List ℕ) (d : C) → RepliesInText caller line c text d → f d ≡ f c
   line_keeps line c text d a = reply_keeps line c a.reply d a.replies
 
-  pub lines_keep : (lines : List (List ℕ)) (c : C) (out : List ℕ) (d : C) → AnswersLines (converses caller) lines c out d → f d ≡ f c
+  pub lines_keep : (lines : List (List ℕ)) (c : C) (out : List ℕ) (d : C) → AnswersLines (ConversesLine caller) lines c out d → f d ≡ f c
   lines_keep [] c out d a = ap f a.1
   lines_keep (l ∷ lines) c out d a = lines_keep lines a.2 a.1 d a.5 ∙ line_keeps l c a.0 a.2 a.4.line_is
 
-  pub part_keeps : (lines : List (List ℕ)) (c : C) (out : List ℕ) (d : C) → AnswersCut (converses caller) (converses_in_part caller) lines c out d → f d ≡ f c
-  part_keeps [] c out d a = ap f a.1
-  part_keeps (l ∷ []) c out d a = reply_keeps l c a.reply d a.replies
-  part_keeps (l ∷ m ∷ lines) c out d a = part_keeps (m ∷ lines) a.2 a.1 d a.5 ∙ line_keeps l c a.0 a.2 a.4.line_is
+  pub broken_keeps : (lines : List (List ℕ)) (c : C) (out : List ℕ) (d : C) → AnswersBrokenOff (ConversesLine caller) (ConversesBrokenOff caller) lines c out d → f d ≡ f c
+  broken_keeps [] c out d a = ap f a.1
+  broken_keeps (l ∷ []) c out d a = reply_keeps l c a.reply d a.replies
+  broken_keeps (l ∷ m ∷ lines) c out d a = broken_keeps (m ∷ lines) a.2 a.1 d a.5 ∙ line_keeps l c a.0 a.2 a.4.line_is
 
-  pub ended_keeps : (first now : Streams) (c d : C) (e : Ending) → EndedAs (converses caller) (converses_in_part caller) c first now d e → f d ≡ f c
+  pub ended_keeps : (first now : Streams) (c d : C) (e : Ending) → EndedAs (ConversesLine caller) (ConversesBrokenOff caller) c first now d e → f d ≡ f c
   ended_keeps first now c d Closed h = let a = h.0.going.answered in lines_keep a.lines c h.0.going.out d a.answers_lines
   ended_keeps first now c d ReadFault h = let a = h.0.going.answered in lines_keep a.lines c h.0.going.out d a.answers_lines
   ended_keeps first now c d Turns h = let a = h.0.going.answered in lines_keep a.lines c h.0.going.out d a.answers_lines
-  ended_keeps first now c d WriteFault h = let a = h.0.answered.holds in part_keeps a.answered c h.0.written d a.answers_lines
-  ended_keeps first now c d Memory h = let a = h.0.answered.holds in part_keeps a.answered c h.0.written d a.answers_lines
-  ended_keeps first now c d Untold h = let a = h.0.answered.holds in part_keeps a.answered c h.0.written d a.answers_lines
+  ended_keeps first now c d WriteFault h = let a = h.0.answered.holds in broken_keeps a.answered c h.0.written d a.answers_lines
+  ended_keeps first now c d Memory h = let a = h.0.answered.holds in broken_keeps a.answered c h.0.written d a.answers_lines
+  ended_keeps first now c d Untold h = let a = h.0.answered.holds in broken_keeps a.answered c h.0.written d a.answers_lines
 
 -- What was made grows by the accepted commands.
 module _ {C : Type 0} (caller : Ghosts C) (same_role : (c : C) (x : Command) (a : Answer) (d : C) → caller.calls c x a d → caller.role d ≡ caller.role c)
@@ -87,13 +87,13 @@ module _ {C : Type 0} (caller : Ghosts C) (same_role : (c : C) (x : Command) (a 
   more : (first others before mid after : List Entry) → mid ≡ before ++ first → after ≡ mid ++ others → after ≡ before ++ (first ++ others)
   more first others before mid after e f = f ∙ ap (λ (l : List Entry). l ++ others) e ∙ append_assoc before first others
 
-  pub lines_make : (lines : List (List ℕ)) (c : C) (out : List ℕ) (d : C) (a : AnswersLines (converses caller) lines c out d) → caller.made d ≡ caller.made c ++ accepted_lines caller lines c out d a
+  pub lines_make : (lines : List (List ℕ)) (c : C) (out : List ℕ) (d : C) (a : AnswersLines (ConversesLine caller) lines c out d) → caller.made d ≡ caller.made c ++ accepted_lines caller lines c out d a
   lines_make [] c out d a = ap caller.made a.1 ∙ sym (append-nil (caller.made c))
   lines_make (l ∷ lines) c out d a =
       more (accepted_line caller l c a.0 a.2 a.4.line_is) (accepted_lines caller lines a.2 a.1 d a.5) (caller.made c) (caller.made a.2) (caller.made d) (line_makes l c a.0 a.2 a.4.line_is) (lines_make lines a.2 a.1 d a.5)
 
-  pub part_makes : (lines : List (List ℕ)) (c : C) (out : List ℕ) (d : C) (a : AnswersCut (converses caller) (converses_in_part caller) lines c out d) → caller.made d ≡ caller.made c ++ accepted_in_part caller lines c out d a
-  part_makes [] c out d a = ap caller.made a.1 ∙ sym (append-nil (caller.made c))
-  part_makes (l ∷ []) c out d a = one l c d a.reply a.replies
-  part_makes (l ∷ m ∷ lines) c out d a =
-      more (accepted_line caller l c a.0 a.2 a.4.line_is) (accepted_in_part caller (m ∷ lines) a.2 a.1 d a.5) (caller.made c) (caller.made a.2) (caller.made d) (line_makes l c a.0 a.2 a.4.line_is) (part_makes (m ∷ lines) a.2 a.1 d a.5)
+  pub broken_makes : (lines : List (List ℕ)) (c : C) (out : List ℕ) (d : C) (a : AnswersBrokenOff (ConversesLine caller) (ConversesBrokenOff caller) lines c out d) → caller.made d ≡ caller.made c ++ accepted_broken_off caller lines c out d a
+  broken_makes [] c out d a = ap caller.made a.1 ∙ sym (append-nil (caller.made c))
+  broken_makes (l ∷ []) c out d a = one l c d a.reply a.replies
+  broken_makes (l ∷ m ∷ lines) c out d a =
+      more (accepted_line caller l c a.0 a.2 a.4.line_is) (accepted_broken_off caller (m ∷ lines) a.2 a.1 d a.5) (caller.made c) (caller.made a.2) (caller.made d) (line_makes l c a.0 a.2 a.4.line_is) (broken_makes (m ∷ lines) a.2 a.1 d a.5)

@@ -50,8 +50,8 @@ module _ (first old now : Streams) (none : Counts first old all_went_well) where
 
   -- what a turn counts is what the run counts
   breaks_off : {S : Type 0} (answers : Answering S) (start : S) (t : Counted) → BreaksOff answers start first old now t → BreaksOff answers start first first now t
-  breaks_off answers start t (inl (cut, counts)) = inl (cut, counts_more t counts)
-  breaks_off answers start t (inr (cut, counts)) = inr (cut, counts_more (at_the_end t) counts)
+  breaks_off answers start t (inl (broken, counts)) = inl (broken, counts_more t counts)
+  breaks_off answers start t (inr (broken, counts)) = inr (broken, counts_more (at_the_end t) counts)
 
   -- a turn's fault is the run's
   pub breaks : {S : Type 0} (answers : Answering S) (start : S) (kept : List ℕ) (st : S) (fault : ReplayFault) → Turned answers start first old now kept st (Err fault) → Ran answers start first now (Err fault)

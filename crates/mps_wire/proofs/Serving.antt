@@ -18,8 +18,8 @@ use Rattle.mps_room.specs.declared.entry.Entry.{Entry}
 use Rattle.mps_room.specs.Journal.{grown, reply, is_accepted, IsReply}
 use Rattle.mps_line.specs.declared.write_replies.Reply.TheVariants.{Answered}
 use Rattle.mps_command.specs.declared.answer.Answer.{Answer}
-use Rattle.mps_wire.specs.Script.{IsReadable, RepliesTo, AnswersLine}
-use Rattle.mps_wire.specs.Private.Commands.{IsAnswered}
+use Rattle.mps_wire.specs.Script.{IsReadable, RepliesInScript, AnswersLine}
+use Rattle.mps_wire.specs.Private.Commands.{IsReplied}
 
 -- the role of a line is one of the names
 pub role_within : (names : List (List ℕ)) (line : List ℕ) (role : ℕ) (command : Command) → SpellsScriptLine names line role command → role < length names
@@ -39,7 +39,7 @@ pub spelled_ascii : (names : List (List ℕ)) (line : List ℕ) (role : ℕ) (co
 spelled_ascii names line role command spelled = shown_ascii line (shown_line names line role command spelled)
 
 -- the text of the reply answers the line
-pub answers_line : {T E : Type 0} (names : List (List ℕ)) (types : List LocalType) (line : List ℕ) (journal after : List Entry) (reply : Reply) (written : Result T E) (old new : List ℕ) → RepliesTo names types line journal reply after → OnOk written (Appends (λ text. SpellsReply text reply) old new) → OnOk written (Appends (λ text. AnswersLine names types line journal text after) old new)
+pub answers_line : {T E : Type 0} (names : List (List ℕ)) (types : List LocalType) (line : List ℕ) (journal after : List Entry) (reply : Reply) (written : Result T E) (old new : List ℕ) → RepliesInScript names types line journal reply after → OnOk written (Appends (λ text. SpellsReply text reply) old new) → OnOk written (Appends (λ text. AnswersLine names types line journal text after) old new)
 answers_line names types line journal after reply (Ok x) old new replies a = (a.0, a.1, record { reply = reply; replies = replies; spelled = a.2 })
 answers_line names types line journal after reply (Err e) old new replies a = tt
 
@@ -48,7 +48,7 @@ pub answered : {T E : Type 0} (names : List (List ℕ)) (types : List LocalType)
     → IsReply answer (reply names types journal role command)
     → after ≡ grown journal role command answer
     → OnOk written (Appends (λ text. SpellsReply text (Answered answer)) old new)
-    → OnOk written (IsAnswered names types journal role command after old new)
+    → OnOk written (IsReplied names types journal role command after old new)
 answered names types journal role command after answer (Ok x) old new wanted joined written = (answer, wanted, joined, written)
 answered names types journal role command after answer (Err e) old new wanted joined written = tt
 
@@ -59,7 +59,7 @@ unchanged journal role command answer asked = sym (cond-false (is_accepted answe
 -- the text of the room's answer answers the line of its command
 pub answers_command : {T E : Type 0} (names : List (List ℕ)) (types : List LocalType) (line : List ℕ) (journal : List Entry) (role : ℕ) (command : Command) (after : List Entry) (written : Result T E) (old new : List ℕ)
     → IsReadable names line role command
-    → OnOk written (IsAnswered names types journal role command after old new)
+    → OnOk written (IsReplied names types journal role command after old new)
     → OnOk written (Appends (λ text. AnswersLine names types line journal text after) old new)
 answers_command {T} {E} names types line journal role command after (Ok x) old new readable h =
     answers_line {T = T} {E = E} names types line journal after (Answered h.0) (Ok x) old new

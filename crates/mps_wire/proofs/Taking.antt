@@ -1,11 +1,11 @@
--- How lines are answered in part, and how a block of bytes is taken line by line.
+-- How answers break off, and how a block of bytes is taken line by line.
 use Rattle.std.proofs.Common.{◌≡◌, ℕ, ◌+◌, ◌-◌, ◌<◌, ◌≤◌, List, [], ◌∷◌, ◌++◌, Option, length, take, drop, get_or, refl, sym, ap, ◌∙◌, subst, arith, append_assoc, append-nil, length-drop}
 use Rattle.std.proofs.Math.Seq.{take-add}
 use Rattle.std.proofs.lemmas.List.{take_rest, take_more, drop-drop, take-append-drop}
 use Rattle.mps_lines.specs.Lines.{HasNoBreak, ended, front}
 use Rattle.mps_lines.proofs.Splitting.{split_ended}
-use Rattle.mps_wire.specs.Answers.{Answering, Answered, AnswersCut, AnswersLines, CutInLast, OfWholeLines}
-use Rattle.mps_wire.specs.Private.Endings.{IsWholly, IsPartly, TakesOn, TakesToPart, begun_or}
+use Rattle.mps_wire.specs.Answers.{Answering, AnswersBytes, AnswersBrokenOff, AnswersLines, BreaksOffInLast, OfWholeLines}
+use Rattle.mps_wire.specs.Private.Endings.{IsWholly, IsBrokenOff, TakesOn, TakesBrokenOff, begun_or}
 use Rattle.mps_wire.proofs.Answering.{GoesByFront, answered_more, answered_line}
 use Rattle.mps_wire.proofs.Bytes.{Appends-trans, Appends-none}
 use Rattle.mps_wire.proofs.Turning.{split_on}
@@ -20,37 +20,37 @@ pub begun_some : (line piece : List ℕ) → (length line ≡ 0 → ⊥) → beg
 begun_some [] piece some = absurd (some refl)
 begun_some (c ∷ line) piece some = refl
 
--- what is answered whole is answered in part
-abbrev pub IsWholePart : {S : Type 0} → Answering S → Answering S → Type 0
-IsWholePart {S} answers part = (line : List ℕ) (st : S) (text : List ℕ) (after : S) → answers line st text after → part line st (ended text) after
+-- a whole answer is one that breaks off at its end
+abbrev pub IsWholeBroken : {S : Type 0} → Answering S → Answering S → Type 0
+IsWholeBroken {S} answers broken = (line : List ℕ) (st : S) (text : List ℕ) (after : S) → answers line st text after → broken line st (ended text) after
 
-module _ {S : Type 0} (answers part : Answering S) where
-  -- one line more, answered in part
-  pub part_push : (lines : List (List ℕ)) (line : List ℕ) (st mid after : S) (out written : List ℕ) → AnswersLines answers lines st out mid → part line mid written after → AnswersCut answers part (lines ++ line ∷ []) st (out ++ written) after
-  part_push [] line st mid after out written a b =
-      subst (λ (o : List ℕ). part line st (o ++ written) after) (sym a.0) (subst (λ (s : S). part line s written after) a.1 b)
-  part_push (l ∷ []) line st mid after out written a b =
-      (a.0, a.1 ++ written, a.2, ap (λ (x : List ℕ). x ++ written) a.3 ∙ append_assoc (ended a.0) a.1 written, a.4, part_push [] line a.2 mid after a.1 written a.5 b)
-  part_push (l ∷ m ∷ lines) line st mid after out written a b =
-      (a.0, a.1 ++ written, a.2, ap (λ (x : List ℕ). x ++ written) a.3 ∙ append_assoc (ended a.0) a.1 written, a.4, part_push (m ∷ lines) line a.2 mid after a.1 written a.5 b)
+module _ {S : Type 0} (answers broken : Answering S) where
+  -- one line more, whose answer breaks off
+  pub broken_push : (lines : List (List ℕ)) (line : List ℕ) (st mid after : S) (out written : List ℕ) → AnswersLines answers lines st out mid → broken line mid written after → AnswersBrokenOff answers broken (lines ++ line ∷ []) st (out ++ written) after
+  broken_push [] line st mid after out written a b =
+      subst (λ (o : List ℕ). broken line st (o ++ written) after) (sym a.0) (subst (λ (s : S). broken line s written after) a.1 b)
+  broken_push (l ∷ []) line st mid after out written a b =
+      (a.0, a.1 ++ written, a.2, ap (λ (x : List ℕ). x ++ written) a.3 ∙ append_assoc (ended a.0) a.1 written, a.4, broken_push [] line a.2 mid after a.1 written a.5 b)
+  broken_push (l ∷ m ∷ lines) line st mid after out written a b =
+      (a.0, a.1 ++ written, a.2, ap (λ (x : List ℕ). x ++ written) a.3 ∙ append_assoc (ended a.0) a.1 written, a.4, broken_push (m ∷ lines) line a.2 mid after a.1 written a.5 b)
 
-  module _ (whole : IsWholePart answers part) where
+  module _ (whole : IsWholeBroken answers broken) where
     -- whole answers, the last of them too
-    pub whole_part : (lines : List (List ℕ)) (st after : S) (out : List ℕ) → AnswersLines answers lines st out after → AnswersCut answers part lines st out after
-    whole_part [] st after out a = a
-    whole_part (l ∷ []) st after out a =
+    pub whole_broken : (lines : List (List ℕ)) (st after : S) (out : List ℕ) → AnswersLines answers lines st out after → AnswersBrokenOff answers broken lines st out after
+    whole_broken [] st after out a = a
+    whole_broken (l ∷ []) st after out a =
         let same : ended a.0 ≡ out = sym (a.3 ∙ ap (λ (x : List ℕ). ended a.0 ++ x) a.5.0 ∙ append-nil (ended a.0)) in
-        subst (λ (o : List ℕ). part l st o after) same (subst (λ (s : S). part l st (ended a.0) s) (sym a.5.1) (whole l st a.0 a.2 a.4))
-    whole_part (l ∷ m ∷ lines) st after out a = (a.0, a.1, a.2, a.3, a.4, whole_part (m ∷ lines) a.2 after a.1 a.5)
+        subst (λ (o : List ℕ). broken l st o after) same (subst (λ (s : S). broken l st (ended a.0) s) (sym a.5.1) (whole l st a.0 a.2 a.4))
+    whole_broken (l ∷ m ∷ lines) st after out a = (a.0, a.1, a.2, a.3, a.4, whole_broken (m ∷ lines) a.2 after a.1 a.5)
 
     -- no more lines are answered, whatever else was read
-    pub stops : (start st : S) (bytes kept out more : List ℕ) → Answered answers start bytes kept out st → OfWholeLines (bytes ++ more) (λ lines. CutInLast answers start part lines out st)
+    pub stops : (start st : S) (bytes kept out more : List ℕ) → AnswersBytes answers start bytes kept out st → OfWholeLines (bytes ++ more) (λ lines. BreaksOffInLast answers start broken lines out st)
     stops start st bytes kept out more a =
         let s = split_on more bytes a.lines a.rest a.split in
-        record { lines = a.lines ++ s.0; rest = s.1; split = s.2; holds = record { answered = a.lines; others = s.0; first = refl; answers_lines = whole_part a.lines start st out a.answers_lines } }
+        record { lines = a.lines ++ s.0; rest = s.1; split = s.2; holds = record { answered = a.lines; others = s.0; first = refl; answers_lines = whole_broken a.lines start st out a.answers_lines } }
 
-  -- the line is ended, and answered in part; whatever else was read
-  pub breaks : GoesByFront part → (start mid after : S) (bytes kept out written more : List ℕ) → Answered answers start bytes kept out mid → part kept mid written after → OfWholeLines ((bytes ++ 10 ∷ []) ++ more) (λ lines. CutInLast answers start part lines (out ++ written) after)
+  -- the line is ended, and its answer breaks off; whatever else was read
+  pub breaks : GoesByFront broken → (start mid after : S) (bytes kept out written more : List ℕ) → AnswersBytes answers start bytes kept out mid → broken kept mid written after → OfWholeLines ((bytes ++ 10 ∷ []) ++ more) (λ lines. BreaksOffInLast answers start broken lines (out ++ written) after)
   breaks by_front start mid after bytes kept out written more a b =
       let s = split_on more (bytes ++ 10 ∷ []) (a.lines ++ a.rest ∷ []) [] (split_ended bytes a.lines a.rest a.split) in
       record {
@@ -61,7 +61,7 @@ module _ {S : Type 0} (answers part : Answering S) where
           answered = a.lines ++ a.rest ∷ [];
           others = s.0;
           first = refl;
-          answers_lines = part_push a.lines a.rest start mid after out written a.answers_lines (by_front a.rest mid written after (subst (λ (l : List ℕ). part l mid written after) a.front_kept b));
+          answers_lines = broken_push a.lines a.rest start mid after out written a.answers_lines (by_front a.rest mid written after (subst (λ (l : List ℕ). broken l mid written after) a.front_kept b));
         };
       }
 
@@ -71,7 +71,7 @@ pub record Taking {S : Type 0} (answers : Answering S) (kept0 : List ℕ) (c0 : 
   pub left : rest ≡ drop (length bytes - length rest) bytes
   pub on : TakesOn answers (take (length bytes - length rest) bytes) kept0 c0 took kept c taken
 
-module _ {S : Type 0} (answers part : Answering S) (kept0 : List ℕ) (c0 : S) (took : Option (List ℕ)) (bytes : List ℕ) where
+module _ {S : Type 0} (answers broken : Answering S) (kept0 : List ℕ) (c0 : S) (took : Option (List ℕ)) (bytes : List ℕ) where
   pub taking_begins : Taking answers kept0 c0 took bytes bytes kept0 c0 took
   taking_begins =
       let none : length bytes - length bytes ≡ 0 = omega arith in
@@ -81,8 +81,8 @@ module _ {S : Type 0} (answers part : Answering S) (kept0 : List ℕ) (c0 : S) (
         on = λ first before out a. (
           [],
           Appends-none took,
-          subst (λ (b : List ℕ). Answered answers first b kept0 (out ++ []) c0) (sym (append-nil before) ∙ ap (λ (k : ℕ). before ++ take k bytes) (sym none))
-              (subst (λ (o : List ℕ). Answered answers first before kept0 o c0) (sym (append-nil out)) a),
+          subst (λ (b : List ℕ). AnswersBytes answers first b kept0 (out ++ []) c0) (sym (append-nil before) ∙ ap (λ (k : ℕ). before ++ take k bytes) (sym none))
+              (subst (λ (o : List ℕ). AnswersBytes answers first before kept0 o c0) (sym (append-nil out)) a),
         );
       }
 
@@ -98,10 +98,10 @@ module _ {S : Type 0} (answers part : Answering S) (kept0 : List ℕ) (c0 : S) (
     unfolding passed
     up_to = take-add passed (k + 1) bytes ∙ ap (λ (l : List ℕ). take passed bytes ++ take (k + 1) l) (sym f.left) ∙ ap (λ (l : List ℕ). take passed bytes ++ l) (sym one_line)
 
-    line_so_far : (first : S) (before out : List ℕ) → Answered answers first (before ++ take passed bytes) kept out c → Answered answers first (before ++ (take passed bytes ++ take k rest)) kept1 out c
+    line_so_far : (first : S) (before out : List ℕ) → AnswersBytes answers first (before ++ take passed bytes) kept out c → AnswersBytes answers first (before ++ (take passed bytes ++ take k rest)) kept1 out c
     line_so_far first before out a =
-        subst (λ (b : List ℕ). Answered answers first b kept1 out c) (append_assoc before (take passed bytes) (take k rest))
-        (subst (λ (x : List ℕ). Answered answers first ((before ++ take passed bytes) ++ take k rest) x out c) (sym kept_is) (answered_more answers first c (before ++ take passed bytes) kept out (take k rest) a none))
+        subst (λ (b : List ℕ). AnswersBytes answers first b kept1 out c) (append_assoc before (take passed bytes) (take k rest))
+        (subst (λ (x : List ℕ). AnswersBytes answers first ((before ++ take passed bytes) ++ take k rest) x out c) (sym kept_is) (answered_more answers first c (before ++ take passed bytes) kept out (take k rest) a none))
 
     whole_of : (before : List ℕ) → (before ++ (take passed bytes ++ take k rest)) ++ 10 ∷ [] ≡ before ++ take (passed + (k + 1)) bytes
     whole_of before = append_assoc before (take passed bytes ++ take k rest) (10 ∷ []) ∙ ap (λ (l : List ℕ). before ++ l) (append_assoc (take passed bytes) (take k rest) (10 ∷ []) ∙ sym up_to)
@@ -120,15 +120,15 @@ module _ {S : Type 0} (answers part : Answering S) (kept0 : List ℕ) (c0 : S) (
               let next = answered_line answers first by_front c d (before ++ (take passed bytes ++ take k rest)) kept1 (out ++ had.0) line.text (line_so_far first before (out ++ had.0) had.2) line.line_is in (
                 had.0 ++ ended line.text,
                 Appends-trans took taken taken1 had.0 (ended line.text) had.1 line.sent,
-                subst (λ (x : List ℕ). Answered answers first (before ++ take (length bytes - length (drop (k + 1) rest)) bytes) x (out ++ (had.0 ++ ended line.text)) d) (sym empty)
-                    (subst (λ (o : List ℕ). Answered answers first (before ++ take (length bytes - length (drop (k + 1) rest)) bytes) [] o d) (append_assoc out had.0 (ended line.text))
-                    (subst (λ (b : List ℕ). Answered answers first b [] ((out ++ had.0) ++ ended line.text) d) (whole_of before ∙ ap (λ (j : ℕ). before ++ take j bytes) (sym past)) next)),
+                subst (λ (x : List ℕ). AnswersBytes answers first (before ++ take (length bytes - length (drop (k + 1) rest)) bytes) x (out ++ (had.0 ++ ended line.text)) d) (sym empty)
+                    (subst (λ (o : List ℕ). AnswersBytes answers first (before ++ take (length bytes - length (drop (k + 1) rest)) bytes) [] o d) (append_assoc out had.0 (ended line.text))
+                    (subst (λ (b : List ℕ). AnswersBytes answers first b [] ((out ++ had.0) ++ ended line.text) d) (whole_of before ∙ ap (λ (j : ℕ). before ++ take j bytes) (sym past)) next)),
               );
         } in
         subst (λ (r : List ℕ). Taking answers kept0 c0 took bytes r kept2 d taken1) (sym tail) goal
 
-    -- of the answer to this line a part is written
-    pub taking_breaks : GoesByFront part → (d : S) (taken1 : Option (List ℕ)) → IsPartly part kept1 c d taken taken1 → TakesToPart answers part bytes kept0 c0 took d taken1
+    -- the answer to this line breaks off
+    pub taking_breaks : GoesByFront broken → (d : S) (taken1 : Option (List ℕ)) → IsBrokenOff broken kept1 c d taken taken1 → TakesBrokenOff answers broken bytes kept0 c0 took d taken1
     unfolding passed
     taking_breaks by_front d taken1 line first before out a =
         let had = f.on first before out a in
@@ -137,9 +137,9 @@ module _ {S : Type 0} (answers part : Answering S) (kept0 : List ℕ) (c0 : S) (
         ap (λ (l : List ℕ). l ++ drop n bytes) (whole_of before) ∙ append_assoc before (take n bytes) (drop n bytes) ∙ ap (λ (l : List ℕ). before ++ l) (take-append-drop n bytes) in (
           had.0 ++ line.written,
           Appends-trans took taken taken1 had.0 line.written had.1 line.sent,
-          subst (λ (o : List ℕ). OfWholeLines (before ++ bytes) (λ lines. CutInLast answers first part lines o d)) (append_assoc out had.0 line.written)
-              (subst (λ (b : List ℕ). OfWholeLines b (λ lines. CutInLast answers first part lines ((out ++ had.0) ++ line.written) d)) whole
-              (breaks answers part by_front first c d (before ++ (take passed bytes ++ take k rest)) kept1 (out ++ had.0) line.written (drop n bytes) (line_so_far first before (out ++ had.0) had.2) line.line_is)),
+          subst (λ (o : List ℕ). OfWholeLines (before ++ bytes) (λ lines. BreaksOffInLast answers first broken lines o d)) (append_assoc out had.0 line.written)
+              (subst (λ (b : List ℕ). OfWholeLines b (λ lines. BreaksOffInLast answers first broken lines ((out ++ had.0) ++ line.written) d)) whole
+              (breaks answers broken by_front first c d (before ++ (take passed bytes ++ take k rest)) kept1 (out ++ had.0) line.written (drop n bytes) (line_so_far first before (out ++ had.0) had.2) line.line_is)),
         )
 
   module _ (rest kept : List ℕ) (c : S) (taken : Option (List ℕ)) (f : Taking answers kept0 c0 took bytes rest kept c taken) where
@@ -153,15 +153,15 @@ module _ {S : Type 0} (answers part : Answering S) (kept0 : List ℕ) (c0 : S) (
         append_assoc before (take n bytes) rest ∙ ap (λ (l : List ℕ). before ++ l) (ap (λ (l : List ℕ). take n bytes ++ l) f.left ∙ take-append-drop n bytes) in (
           had.0,
           had.1,
-          subst (λ (b : List ℕ). Answered answers first b kept1 (out ++ had.0) c) whole
-              (subst (λ (x : List ℕ). Answered answers first ((before ++ take n bytes) ++ rest) x (out ++ had.0) c) (sym kept_is) more),
+          subst (λ (b : List ℕ). AnswersBytes answers first b kept1 (out ++ had.0) c) whole
+              (subst (λ (x : List ℕ). AnswersBytes answers first ((before ++ take n bytes) ++ rest) x (out ++ had.0) c) (sym kept_is) more),
         )
 
     -- there is no memory for what comes of the line
-    pub taking_stops : IsWholePart answers part → TakesToPart answers part bytes kept0 c0 took c taken
+    pub taking_stops : IsWholeBroken answers broken → TakesBrokenOff answers broken bytes kept0 c0 took c taken
     taking_stops whole first before out a =
         let n = length bytes - length rest in
         let had = f.on first before out a in
         let all : (before ++ take n bytes) ++ drop n bytes ≡ before ++ bytes =
         append_assoc before (take n bytes) (drop n bytes) ∙ ap (λ (l : List ℕ). before ++ l) (take-append-drop n bytes) in
-        (had.0, had.1, subst (λ (b : List ℕ). OfWholeLines b (λ lines. CutInLast answers first part lines (out ++ had.0) c)) all (stops answers part whole first c (before ++ take n bytes) kept (out ++ had.0) (drop n bytes) had.2))
+        (had.0, had.1, subst (λ (b : List ℕ). OfWholeLines b (λ lines. BreaksOffInLast answers first broken lines (out ++ had.0) c)) all (stops answers broken whole first c (before ++ take n bytes) kept (out ++ had.0) (drop n bytes) had.2))

@@ -5,14 +5,14 @@ use Rattle.std.proofs.lemmas.Bool.{cases_eq, ne_eqb}
 use Rattle.std.proofs.lemmas.List.{take-append-drop}
 use Rattle.mps_dev.specs.Calls.{ends_after}
 use Rattle.mps_dev.specs.declared.traits.Failed.{Failed}
-use Rattle.mps_wire.specs.Answers.{Answering, Answered, AnswersLines, CutAnywhere, OfAllLines, OfWholeLines}
+use Rattle.mps_wire.specs.Answers.{Answering, AnswersBytes, AnswersLines, BreaksOffAnywhere, OfAllLines, OfWholeLines}
 use Rattle.mps_wire.specs.Private.Places.{Place, TakesBytes, TakesEnd}
 use Rattle.mps_wire.specs.Sending.{TookFront}
 use Rattle.mps_lines.specs.Lines.{IsSplit, with_last}
 use Rattle.mps_wire.specs.Streams.{Streams, Counts, all_went_well, one_read_ended}
 use Rattle.mps_wire.specs.declared.script.ReplayFault.{ReplayFault}
 use Rattle.mps_wire.specs.declared.script.ReplayFault.TheVariants.{Memory}
-use Rattle.mps_wire.specs.Runs.{Going, Finished, Cut, CutAtEnd, BreaksOff, GaveAtLeast}
+use Rattle.mps_wire.specs.Runs.{Going, Finished, BrokeOffBeforeEnd, BrokeOffAtEnd, BreaksOff, GaveAtLeast}
 use Rattle.mps_wire.specs.Private.Turns.{Turned}
 use Rattle.mps_wire.proofs.Bytes.{Appends-trans, Appends-none, Consumes-trans, Consumes-none}
 use Rattle.mps_lines.proofs.Splitting.{split_more, split_ended}
@@ -80,7 +80,7 @@ none_more old new e = omega arith
 
 module _ {S : Type 0} (answers : Answering S) (start : S) where
   -- answers to lines are answers to the first of these and others
-  first_part : (lines others : List (List ℕ)) (out written unwritten : List ℕ) (st : S) → AnswersLines answers lines start out st → out ≡ written ++ unwritten → CutAnywhere answers start (lines ++ others) written
+  first_part : (lines others : List (List ℕ)) (out written unwritten : List ℕ) (st : S) → AnswersLines answers lines start out st → out ≡ written ++ unwritten → BreaksOffAnywhere answers start (lines ++ others) written
   first_part lines others out written unwritten st a e = record {
     answered = lines;
     others = others;
@@ -89,12 +89,12 @@ module _ {S : Type 0} (answers : Answering S) (start : S) where
     after = st;
     answers_lines = a;
     unwritten = unwritten;
-    part = e;
+    broken = e;
   }
 
   -- the answers so far are answers to the first whole lines of what was read, whatever else was read
-  part_of : (bytes more kept out written unwritten : List ℕ) (st : S) → Answered answers start bytes kept out st → out ≡ written ++ unwritten → OfWholeLines (bytes ++ more) (λ lines. CutAnywhere answers start lines written)
-  part_of bytes more kept out written unwritten st a e =
+  broken_of : (bytes more kept out written unwritten : List ℕ) (st : S) → AnswersBytes answers start bytes kept out st → out ≡ written ++ unwritten → OfWholeLines (bytes ++ more) (λ lines. BreaksOffAnywhere answers start lines written)
+  broken_of bytes more kept out written unwritten st a e =
       let s = split_on more bytes a.lines a.rest a.split in
       record {
         lines = a.lines ++ s.0;
@@ -104,23 +104,23 @@ module _ {S : Type 0} (answers : Answering S) (start : S) where
       }
 
   -- at the end too
-  part_at_end : (bytes kept out written unwritten : List ℕ) (st : S) → Answered answers start bytes kept out st → out ≡ written ++ unwritten → OfAllLines bytes (λ lines. CutAnywhere answers start lines written)
-  part_at_end bytes kept out written unwritten st a e = record {
+  broken_at_end : (bytes kept out written unwritten : List ℕ) (st : S) → AnswersBytes answers start bytes kept out st → out ≡ written ++ unwritten → OfAllLines bytes (λ lines. BreaksOffAnywhere answers start lines written)
+  broken_at_end bytes kept out written unwritten st a e = record {
     lines = a.lines;
     rest = a.rest;
     split = a.split;
     holds =
-        subst (λ (l : List (List ℕ)). CutAnywhere answers start l written) (last_after a.lines a.rest)
+        subst (λ (l : List (List ℕ)). BreaksOffAnywhere answers start l written) (last_after a.lines a.rest)
         (first_part a.lines (with_last [] a.rest) out written unwritten st a.answers_lines e);
   }
 
-  part_of_all : (bytes out written unwritten : List ℕ) (st : S) → OfAllLines bytes (λ lines. AnswersLines answers lines start out st) → out ≡ written ++ unwritten → OfAllLines bytes (λ lines. CutAnywhere answers start lines written)
-  part_of_all bytes out written unwritten st a e = record {
+  broken_of_all : (bytes out written unwritten : List ℕ) (st : S) → OfAllLines bytes (λ lines. AnswersLines answers lines start out st) → out ≡ written ++ unwritten → OfAllLines bytes (λ lines. BreaksOffAnywhere answers start lines written)
+  broken_of_all bytes out written unwritten st a e = record {
     lines = a.lines;
     rest = a.rest;
     split = a.split;
     holds =
-        subst (λ (l : List (List ℕ)). CutAnywhere answers start l written) (append-nil (with_last a.lines a.rest))
+        subst (λ (l : List (List ℕ)). BreaksOffAnywhere answers start l written) (append-nil (with_last a.lines a.rest))
         (first_part (with_last a.lines a.rest) [] out written unwritten st a.holds e);
   }
 
@@ -150,24 +150,24 @@ module _ {S : Type 0} (answers : Answering S) (start : S) where
     waited next more P none is h = subst P (is ∙ ap (λ (l : List ℕ). l ++ more) none) h
 
     -- memory ran out after more was read
-    starved : (bytes : List ℕ) → Consumes old.left new.left bytes → new.taken ≡ old.taken → Cut answers start first new
+    starved : (bytes : List ℕ) → Consumes old.left new.left bytes → new.taken ≡ old.taken → BrokeOffBeforeEnd answers start first new
     starved bytes more same = record {
       read = going.read ++ bytes;
       written = going.out;
       bytes = read_on bytes more;
       sent = subst (λ (t : Option (List ℕ)). Appends first.taken t going.out) (sym same) going.sent;
-      answered = part_of going.read bytes at.kept going.out going.out [] at.state going.answered (sym (append-nil going.out));
+      answered = broken_of going.read bytes at.kept going.out going.out [] at.state going.answered (sym (append-nil going.out));
     }
 
     -- memory ran out at the end
-    starved_at_end : Consumes old.left new.left [] → IsAtEnd new.left → new.taken ≡ old.taken → CutAtEnd answers start first new
+    starved_at_end : Consumes old.left new.left [] → IsAtEnd new.left → new.taken ≡ old.taken → BrokeOffAtEnd answers start first new
     starved_at_end none over same = record {
       read = going.read;
       written = going.out;
       bytes = read_none none;
       over = over;
       sent = subst (λ (t : Option (List ℕ)). Appends first.taken t going.out) (sym same) going.sent;
-      answered = part_at_end going.read at.kept going.out going.out [] at.state going.answered (sym (append-nil going.out));
+      answered = broken_at_end going.read at.kept going.out going.out [] at.state going.answered (sym (append-nil going.out));
     }
 
     starves : (kept : List ℕ) (st : S) (r : Result Bool ReplayFault) → IsErrAnd r (λ e. e ≡ Memory) → BreaksOff answers start first old new all_went_well → Turned answers start first old new kept st r
@@ -192,7 +192,7 @@ module _ {S : Type 0} (answers : Answering S) (start : S) where
             answered = f.2;
           }
 
-      pub breaks_off : TookFront old.taken new.taken next.waiting → Cut answers start first new
+      pub breaks_off : TookFront old.taken new.taken next.waiting → BrokeOffBeforeEnd answers start first new
       breaks_off front =
           let f = fed going.read going.out going.answered in
           let written = take front.count f.0 in
@@ -202,8 +202,8 @@ module _ {S : Type 0} (answers : Answering S) (start : S) where
             bytes = read_on bytes more;
             sent = sent_on written (waited next f.0 (λ (l : List ℕ). Appends old.taken new.taken (take front.count l)) none_waits f.1 front.taken);
             answered =
-                subst (λ (b : List ℕ). OfWholeLines b (λ lines. CutAnywhere answers start lines (going.out ++ written))) (append-nil (going.read ++ bytes))
-                (part_of (going.read ++ bytes) [] next.kept (going.out ++ f.0) (going.out ++ written) (drop front.count f.0) next.state f.2 (parts going.out f.0 front.count));
+                subst (λ (b : List ℕ). OfWholeLines b (λ lines. BreaksOffAnywhere answers start lines (going.out ++ written))) (append-nil (going.read ++ bytes))
+                (broken_of (going.read ++ bytes) [] next.kept (going.out ++ f.0) (going.out ++ written) (drop front.count f.0) next.state f.2 (parts going.out f.0 front.count));
           }
 
     module _ (next : Place S) (none_waits : at.waiting ≡ []) (none : Consumes old.left new.left []) (done : TakesEnd answers start at next) where
@@ -219,7 +219,7 @@ module _ {S : Type 0} (answers : Answering S) (start : S) where
             answered = f.2;
           }
 
-      pub end_breaks_off : IsAtEnd new.left → TookFront old.taken new.taken next.waiting → CutAtEnd answers start first new
+      pub end_breaks_off : IsAtEnd new.left → TookFront old.taken new.taken next.waiting → BrokeOffAtEnd answers start first new
       end_breaks_off over front =
           let f = done going.read going.out going.answered in
           let written = take front.count f.0 in
@@ -229,11 +229,11 @@ module _ {S : Type 0} (answers : Answering S) (start : S) where
             bytes = read_none none;
             over = over;
             sent = sent_on written (waited next f.0 (λ (l : List ℕ). Appends old.taken new.taken (take front.count l)) none_waits f.1 front.taken);
-            answered = part_of_all going.read (going.out ++ f.0) (going.out ++ written) (drop front.count f.0) next.state f.2 (parts going.out f.0 front.count);
+            answered = broken_of_all going.read (going.out ++ f.0) (going.out ++ written) (drop front.count f.0) next.state f.2 (parts going.out f.0 front.count);
           }
 
 -- memory ran out before the first read
-pub starved_first : {S : Type 0} (answers : Answering S) (start : S) (s : Streams) → Cut answers start s s
+pub starved_first : {S : Type 0} (answers : Answering S) (start : S) (s : Streams) → BrokeOffBeforeEnd answers start s s
 starved_first answers start s =
     starved answers start s s s (record { kept = []; state = start; waiting = [] }) (goes_first answers start s) [] (Consumes-none s.left) refl
 

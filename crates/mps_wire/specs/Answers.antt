@@ -13,19 +13,19 @@ AnswersLines {S} answers (line ∷ lines) st out after =
     (text : List ℕ) × (others : List ℕ) × (mid : S) × (out ≡ ended text ++ others)
     × answers line st text mid × AnswersLines answers lines mid others after
 
--- the same, where of the last text a part is written: as `part` says
-abbrev pub AnswersCut : {S : Type 0} → (answers part : Answering S) → List (List ℕ) → S → List ℕ → S → Type 0
-AnswersCut answers part [] st out after = (out ≡ []) × (after ≡ st)
-AnswersCut answers part (line ∷ []) st out after = part line st out after
-AnswersCut {S} answers part (line ∷ other ∷ lines) st out after =
+-- the same, where the last text breaks off: as `broken` says
+abbrev pub AnswersBrokenOff : {S : Type 0} → (answers broken : Answering S) → List (List ℕ) → S → List ℕ → S → Type 0
+AnswersBrokenOff answers broken [] st out after = (out ≡ []) × (after ≡ st)
+AnswersBrokenOff answers broken (line ∷ []) st out after = broken line st out after
+AnswersBrokenOff {S} answers broken (line ∷ other ∷ lines) st out after =
     (text : List ℕ) × (others : List ℕ) × (mid : S) × (out ≡ ended text ++ others)
-    × answers line st text mid × AnswersCut answers part (other ∷ lines) mid others after
+    × answers line st text mid × AnswersBrokenOff answers broken (other ∷ lines) mid others after
 
 -- Two ways in which answers break off.
 module _ {S : Type 0} (answers : Answering S) (start : S) where
   -- anywhere: what is written are answers to the first of the lines, up to some place in them; no more is known of the
   -- state
-  pub record CutAnywhere (lines : List (List ℕ)) (written : List ℕ) : Type 0 where
+  pub record BreaksOffAnywhere (lines : List (List ℕ)) (written : List ℕ) : Type 0 where
     pub answered : List (List ℕ)
     pub others : List (List ℕ)
     pub first : lines ≡ answered ++ others
@@ -33,15 +33,16 @@ module _ {S : Type 0} (answers : Answering S) (start : S) where
     pub after : S
     pub answers_lines : AnswersLines answers answered start out after
     pub unwritten : List ℕ
-    pub part : out ≡ written ++ unwritten
+    pub broken : out ≡ written ++ unwritten
 
-  -- in the last answer: the first of the lines are answered, of the last of these in part, and the state is the one
+  -- in the last answer: the first of the lines are answered, the last of these broken off, and the state is the one
   -- after them
-  pub record CutInLast (part : Answering S) (lines : List (List ℕ)) (written : List ℕ) (after : S) : Type 0 where
+  pub record BreaksOffInLast (broken : Answering S) (lines : List (List ℕ)) (written : List ℕ) (after : S)
+      : Type 0 where
     pub answered : List (List ℕ)
     pub others : List (List ℕ)
     pub first : lines ≡ answered ++ others
-    pub answers_lines : AnswersCut answers part answered start written after
+    pub answers_lines : AnswersBrokenOff answers broken answered start written after
 
 -- Of the lines of bytes this holds.
 module _ (bytes : List ℕ) (Holds : List (List ℕ) → Type 0) where
@@ -60,7 +61,7 @@ module _ (bytes : List ℕ) (Holds : List (List ℕ) → Type 0) where
     pub holds : Holds (with_last lines rest)
 
 -- each whole line of the bytes is answered, and of the rest the front is kept
-pub record Answered {S : Type 0} (answers : Answering S) (start : S) (bytes kept out : List ℕ) (after : S)
+pub record AnswersBytes {S : Type 0} (answers : Answering S) (start : S) (bytes kept out : List ℕ) (after : S)
     : Type 0 where
   pub lines : List (List ℕ)
   pub rest : List ℕ

@@ -1,23 +1,19 @@
 -- What a conversation does to its caller, and what the caller is answered.
 use Rattle.std.specs.Prelude.{◌≡◌, ◌⊎◌, true, false, ℕ, ◌≤◌, List, [], ◌++◌, length, Option, None, Some}
 use Rattle.std.specs.Str.{IsAscii}
-use Rattle.mps_base.specs.declared.value.Value.TheVariants.{Text}
 use Rattle.mps_command.specs.declared.answer.Answer.{Answer}
 use Rattle.mps_command.specs.declared.answer.Answer.TheVariants.{Refused}
-use Rattle.mps_command.specs.declared.answer.Refusal.TheVariants.{Memory}
 use Rattle.mps_command.specs.declared.command.Command.{Command}
-use Rattle.mps_command.specs.declared.command.Command.TheVariants.{Forward}
-use Rattle.mps_command.specs.declared.command.Forward.TheVariants.{Send}
 use Rattle.mps_line.specs.Commands.{SpellsNumbered}
 use Rattle.mps_line.specs.Replies.{SpellsReply}
 use Rattle.mps_line.specs.declared.write_replies.Reply.{Reply}
-use Rattle.mps_line.specs.declared.write_replies.Reply.TheVariants.{Answered, BadLine, Number}
+use Rattle.mps_line.specs.declared.write_replies.Reply.TheVariants.{Answered, Number}
 use Rattle.mps_lines.specs.Lines.{ended, max_line}
 use Rattle.mps_room.specs.Numbers.{IsNumbered}
 use Rattle.mps_room.specs.declared.caller.Caller.{Ghosts}
 use Rattle.mps_room.specs.declared.numbers.Told.{Told}
 use Rattle.mps_room.specs.declared.numbers.Told.TheVariants.{Fresh, Kept, Wrong, Refused as CalledInVain}
-use Rattle.mps_wire.specs.Answers.{Answering}
+use Rattle.mps_wire.specs.Uncalled.{IsUnread, IsStarved}
 use Rattle.mps_wire.specs.declared.reply.Outcome.{Outcome}
 use Rattle.mps_wire.specs.declared.reply.Outcome.TheVariants.{Reply as Said, Kept as AsKept}
 
@@ -49,12 +45,6 @@ BeginsReply reply written =
 
 -- What one line does to a caller.
 module _ {C : Type 0} (caller : Ghosts C) (line : List ℕ) (c : C) where
-  -- no command can be read: the line is called bad, and the caller makes no call
-  pub record IsUnread (reply : Reply) (d : C) : Type 0 where
-    pub unreadable : (number : Option ℕ) (command : Command) → IsRequest (caller.names c) line number command → ⊥
-    pub bad : reply ≡ BadLine
-    pub unchanged : d ≡ c
-
   -- a command without a number: the caller makes one call with it, whose answer is told; the last number and its
   -- answer stay
   pub record IsCalled (reply : Reply) (d : C) : Type 0 where
@@ -75,21 +65,12 @@ module _ {C : Type 0} (caller : Ghosts C) (line : List ℕ) (c : C) where
     pub numbered : IsNumbered caller.calls caller.last caller.kept c number command d came
     pub told : IsToldAs caller d came reply
 
-  -- memory ran out while the line was read, whose value is a text: the caller makes no call
-  pub record IsStarved (reply : Reply) (d : C) : Type 0 where
-    pub number : Option ℕ
-    pub to : ℕ
-    pub value : List ℕ
-    pub readable : IsRequest (caller.names c) line number (Forward (Send to (Text value)))
-    pub told : reply ≡ Answered (Refused Memory)
-    pub unchanged : d ≡ c
-
   -- the reply to the line, and the caller after it
   pub data RepliesTo (reply : Reply) (d : C) : Type 0 where
-    Unread : IsUnread reply d → RepliesTo reply d
+    Unread : IsUnread (IsRequest (caller.names c) line) c reply d → RepliesTo reply d
     Called : IsCalled reply d → RepliesTo reply d
     Numbered : IsNumberedCall reply d → RepliesTo reply d
-    Starved : IsStarved reply d → RepliesTo reply d
+    Starved : IsStarved (IsRequest (caller.names c) line) c reply d → RepliesTo reply d
 
   -- the text that answers the line, and the caller after it
   pub record RepliesInText (text : List ℕ) (d : C) : Type 0 where
@@ -103,15 +84,8 @@ module _ {C : Type 0} (caller : Ghosts C) (line : List ℕ) (c : C) where
     pub aloud : caller.may_tell d ≡ true
 
   -- this front of a text that answers the line is written; nothing, where it may not be told
-  pub record ConversesInPart (written : List ℕ) (d : C) : Type 0 where
+  pub record ConversesBrokenOff (written : List ℕ) (d : C) : Type 0 where
     pub reply : Reply
     pub replies : RepliesTo reply d
     pub begun : BeginsReply reply written
     pub silent : caller.may_tell d ≡ false → written ≡ []
-
--- how a caller's lines are answered, and how they are in part
-abbrev pub converses : {C : Type 0} → Ghosts C → Answering C
-converses caller line c text d = ConversesLine caller line c text d
-
-abbrev pub converses_in_part : {C : Type 0} → Ghosts C → Answering C
-converses_in_part caller line c written d = ConversesInPart caller line c written d

@@ -1,7 +1,7 @@
 -- How a conversation ends.
 use Rattle.std.specs.Prelude.{ℕ, List}
 use Rattle.std.specs.Io.KnownBytes.{Appends, Consumes, IsAtEnd}
-use Rattle.mps_wire.specs.Answers.{Answering, CutInLast, OfWholeLines}
+use Rattle.mps_wire.specs.Answers.{Answering, BreaksOffInLast, OfWholeLines}
 use Rattle.mps_wire.specs.Runs.{Going, ReadMost}
 use Rattle.mps_wire.specs.Streams.{Streams, Counts, all_went_well, one_read_ended, one_read_failed, one_write_failed}
 use Rattle.mps_wire.specs.declared.conversation.Ending.{Ending}
@@ -15,14 +15,14 @@ module _ {S : Type 0} (answers : Answering S) (start : S) (before after : Stream
     pub kept : List ℕ
     pub going : Going answers start before after kept st
 
-module _ {S : Type 0} (answers part : Answering S) (start : S) (before after : Streams) where
-  -- the first of the whole lines of what was read are answered, of the last of these in part
-  pub record WasCut (st : S) : Type 0 where
+module _ {S : Type 0} (answers broken : Answering S) (start : S) (before after : Streams) where
+  -- the first of the whole lines of what was read are answered, and the last of these answers breaks off
+  pub record WasBrokenOff (st : S) : Type 0 where
     pub read : List ℕ
     pub written : List ℕ
     pub bytes : Consumes before.left after.left read
     pub sent : Appends before.taken after.taken written
-    pub answered : OfWholeLines read (λ lines. CutInLast answers start part lines written st)
+    pub answered : OfWholeLines read (λ lines. BreaksOffInLast answers start broken lines written st)
 
   -- what the lines came to, by how it ended
   abbrev pub EndedAs : S → Ending → Type 0
@@ -31,6 +31,6 @@ module _ {S : Type 0} (answers part : Answering S) (start : S) (before after : S
   EndedAs st ReadFault = WasAnswered answers start before after st × Counts before after one_read_failed
   EndedAs st Turns =
       WasAnswered answers start before after st × Counts before after all_went_well × ReadMost before after
-  EndedAs st WriteFault = WasCut st × Counts before after one_write_failed
-  EndedAs st Memory = WasCut st × Counts before after all_went_well
-  EndedAs st Untold = WasCut st × Counts before after all_went_well
+  EndedAs st WriteFault = WasBrokenOff st × Counts before after one_write_failed
+  EndedAs st Memory = WasBrokenOff st × Counts before after all_went_well
+  EndedAs st Untold = WasBrokenOff st × Counts before after all_went_well

@@ -1,6 +1,7 @@
 pub mod Sending
 pub mod Streams
 pub mod Answers
+pub mod Uncalled
 pub mod Script
 pub mod Runs
 pub mod Conversations

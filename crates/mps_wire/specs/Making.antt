@@ -10,9 +10,9 @@ use Rattle.mps_room.specs.declared.caller.Caller.{Ghosts}
 use Rattle.mps_room.specs.declared.entry.Entry.{Entry}
 use Rattle.mps_room.specs.declared.numbers.Told.{Told}
 use Rattle.mps_room.specs.declared.numbers.Told.TheVariants.{Fresh, Kept, Wrong, Refused}
-use Rattle.mps_wire.specs.Answers.{AnswersCut, AnswersLines}
-use Rattle.mps_wire.specs.Conversations.{RepliesTo, Unread, Called, Numbered, Starved, RepliesInText, converses}
-use Rattle.mps_wire.specs.Conversations.{converses_in_part}
+use Rattle.mps_wire.specs.Answers.{AnswersBrokenOff, AnswersLines}
+use Rattle.mps_wire.specs.Conversations.{RepliesTo, Unread, Called, Numbered, Starved, RepliesInText, ConversesLine}
+use Rattle.mps_wire.specs.Conversations.{ConversesBrokenOff}
 
 -- of one command: its entry, where the answer accepts it
 abbrev pub accepted_of : ℕ → Command → Answer → List Entry
@@ -41,14 +41,14 @@ module _ {C : Type 0} (caller : Ghosts C) where
 
   -- of lines that are answered
   abbrev pub accepted_lines : (lines : List (List ℕ)) (c : C) (out : List ℕ) (d : C)
-      → AnswersLines (converses caller) lines c out d → List Entry
+      → AnswersLines (ConversesLine caller) lines c out d → List Entry
   accepted_lines [] c out d a = []
   accepted_lines (l ∷ lines) c out d a = accepted_line l c a.0 a.2 a.4.line_is ++ accepted_lines lines a.2 a.1 d a.5
 
-  -- of lines that are answered, the last of them in part
-  abbrev pub accepted_in_part : (lines : List (List ℕ)) (c : C) (out : List ℕ) (d : C)
-      → AnswersCut (converses caller) (converses_in_part caller) lines c out d → List Entry
-  accepted_in_part [] c out d a = []
-  accepted_in_part (l ∷ []) c out d a = accepted_reply l c a.reply d a.replies
-  accepted_in_part (l ∷ m ∷ lines) c out d a =
-      accepted_line l c a.0 a.2 a.4.line_is ++ accepted_in_part (m ∷ lines) a.2 a.1 d a.5
+  -- of lines that are answered, where the last answer breaks off
+  abbrev pub accepted_broken_off : (lines : List (List ℕ)) (c : C) (out : List ℕ) (d : C)
+      → AnswersBrokenOff (ConversesLine caller) (ConversesBrokenOff caller) lines c out d → List Entry
+  accepted_broken_off [] c out d a = []
+  accepted_broken_off (l ∷ []) c out d a = accepted_reply l c a.reply d a.replies
+  accepted_broken_off (l ∷ m ∷ lines) c out d a =
+      accepted_line l c a.0 a.2 a.4.line_is ++ accepted_broken_off (m ∷ lines) a.2 a.1 d a.5

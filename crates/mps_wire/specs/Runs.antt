@@ -8,7 +8,7 @@ use Rattle.mps_session.specs.declared.open.OpenFault.TheVariants.{RoleCount, Bad
 use Rattle.mps_room.specs.RoomState.{RoomState}
 use Rattle.mps_wire.specs.declared.script.ReplayFault.{ReplayFault}
 use Rattle.mps_wire.specs.declared.script.ReplayFault.TheVariants.{Open, ReadFault, WriteFault, Turns, Memory}
-use Rattle.mps_wire.specs.Answers.{Answering, Answered, AnswersLines, CutAnywhere, OfAllLines, OfWholeLines}
+use Rattle.mps_wire.specs.Answers.{Answering, AnswersBytes, AnswersLines, BreaksOffAnywhere, OfAllLines, OfWholeLines}
 use Rattle.mps_wire.specs.Script.{AnswersLine}
 use Rattle.mps_wire.specs.Streams.{Streams, Counts, Counted, all_went_well, at_the_end, one_read_ended, one_read_failed}
 use Rattle.mps_wire.specs.Streams.{one_write_failed}
@@ -25,7 +25,7 @@ module _ {S : Type 0} (answers : Answering S) (start : S) (before after : Stream
     pub out : List ℕ
     pub bytes : Consumes before.left after.left read
     pub sent : Appends before.taken after.taken out
-    pub answered : Answered answers start read kept out st
+    pub answered : AnswersBytes answers start read kept out st
 
   -- no more is read: each whole line of what was read is answered
   pub record Stopped : Type 0 where
@@ -44,21 +44,21 @@ module _ {S : Type 0} (answers : Answering S) (start : S) (before after : Stream
 
   -- before the end: what was written are answers to the first whole lines of what was read, up to some place in the
   -- answers
-  pub record Cut : Type 0 where
+  pub record BrokeOffBeforeEnd : Type 0 where
     pub read : List ℕ
     pub written : List ℕ
     pub bytes : Consumes before.left after.left read
     pub sent : Appends before.taken after.taken written
-    pub answered : OfWholeLines read (λ lines. CutAnywhere answers start lines written)
+    pub answered : OfWholeLines read (λ lines. BreaksOffAnywhere answers start lines written)
 
   -- at the end: the same, where a rest that no LF ends is a line too
-  pub record CutAtEnd : Type 0 where
+  pub record BrokeOffAtEnd : Type 0 where
     pub read : List ℕ
     pub written : List ℕ
     pub bytes : Consumes before.left after.left read
     pub over : IsAtEnd after.left
     pub sent : Appends before.taken after.taken written
-    pub answered : OfAllLines read (λ lines. CutAnywhere answers start lines written)
+    pub answered : OfAllLines read (λ lines. BreaksOffAnywhere answers start lines written)
 
 -- the source gave so many bytes, or more
 pub record GaveAtLeast (count : ℕ) (before after : Streams) : Type 0 where
@@ -76,8 +76,8 @@ module _ {S : Type 0} (answers : Answering S) (start : S) (first before after : 
   -- the run
   abbrev pub BreaksOff : Counted → Type 0
   BreaksOff t =
-      (Cut answers start first after × Counts before after t)
-      ⊎ (CutAtEnd answers start first after × Counts before after (at_the_end t))
+      (BrokeOffBeforeEnd answers start first after × Counts before after t)
+      ⊎ (BrokeOffAtEnd answers start first after × Counts before after (at_the_end t))
 
 module _ {S : Type 0} (answers : Answering S) (start : S) (before after : Streams) where
   -- what a run comes to that began, by its result: what was answered, and what was counted

@@ -1,22 +1,18 @@
 -- What a script does to a room, and what it is answered.
 use Rattle.std.specs.Prelude.{◌≡◌, ℕ, ◌≤◌, ◌⊎◌, List, length}
 use Rattle.std.specs.Str.{IsAscii}
-use Rattle.mps_base.specs.declared.value.Value.TheVariants.{Text}
 use Rattle.mps_local.specs.Local.{LocalType}
 use Rattle.mps_command.specs.declared.command.Command.{Command}
-use Rattle.mps_command.specs.declared.command.Command.TheVariants.{Forward}
-use Rattle.mps_command.specs.declared.command.Forward.TheVariants.{Send}
 use Rattle.mps_command.specs.declared.answer.Answer.{Answer}
-use Rattle.mps_command.specs.declared.answer.Answer.TheVariants.{Refused}
-use Rattle.mps_command.specs.declared.answer.Refusal.TheVariants.{Memory}
 use Rattle.mps_line.specs.Commands.{SpellsScriptLine}
 use Rattle.mps_line.specs.Replies.{SpellsReply}
 use Rattle.mps_line.specs.declared.write_replies.Reply.{Reply}
-use Rattle.mps_line.specs.declared.write_replies.Reply.TheVariants.{Answered, BadLine}
+use Rattle.mps_line.specs.declared.write_replies.Reply.TheVariants.{Answered}
 use Rattle.mps_room.specs.Journal as journals
 use Rattle.mps_room.specs.Journal.{grown, IsReply}
 use Rattle.mps_room.specs.declared.entry.Entry.{Entry}
 use Rattle.mps_lines.specs.Lines.{max_line}
+use Rattle.mps_wire.specs.Uncalled.{IsUnread, IsStarved}
 
 -- a line that isn't too long, of bytes below 128, that spells a role's command
 pub record IsReadable (names : List (List ℕ)) (line : List ℕ) (role : ℕ) (command : Command) : Type 0 where
@@ -26,12 +22,6 @@ pub record IsReadable (names : List (List ℕ)) (line : List ℕ) (role : ℕ) (
 
 -- What one line does to a room, of which the journal tells how it stands.
 module _ (names : List (List ℕ)) (types : List LocalType) (line : List ℕ) (journal : List Entry) where
-  -- no command can be read: the line is called bad, and nothing changes
-  pub record IsUnread (reply : Reply) (after : List Entry) : Type 0 where
-    pub unreadable : (role : ℕ) (command : Command) → IsReadable names line role command → ⊥
-    pub bad : reply ≡ BadLine
-    pub unchanged : after ≡ journal
-
   -- the role's command is answered as the room answers it, and joins the journal where that accepts it
   pub record IsApplied (reply : Reply) (after : List Entry) : Type 0 where
     pub role : ℕ
@@ -42,21 +32,14 @@ module _ (names : List (List ℕ)) (types : List LocalType) (line : List ℕ) (j
     pub wanted : IsReply answer (journals.reply names types journal role command)
     pub joined : after ≡ grown journal role command answer
 
-  -- memory ran out while the line was read, whose value is a text; nothing changes
-  pub record IsStarved (reply : Reply) (after : List Entry) : Type 0 where
-    pub role : ℕ
-    pub to : ℕ
-    pub value : List ℕ
-    pub readable : IsReadable names line role (Forward (Send to (Text value)))
-    pub told : reply ≡ Answered (Refused Memory)
-    pub unchanged : after ≡ journal
-
   -- the reply to the line, and the journal after it
-  abbrev pub RepliesTo : Reply → List Entry → Type 0
-  RepliesTo reply after = IsUnread reply after ⊎ (IsApplied reply after ⊎ IsStarved reply after)
+  abbrev pub RepliesInScript : Reply → List Entry → Type 0
+  RepliesInScript reply after =
+      IsUnread (IsReadable names line) journal reply after
+      ⊎ (IsApplied reply after ⊎ IsStarved (IsReadable names line) journal reply after)
 
   -- the text that answers the line, and the journal after it
   pub record AnswersLine (text : List ℕ) (after : List Entry) : Type 0 where
     pub reply : Reply
-    pub replies : RepliesTo reply after
+    pub replies : RepliesInScript reply after
     pub spelled : SpellsReply text reply

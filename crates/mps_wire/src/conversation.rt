@@ -5,10 +5,10 @@ ghost use Rattle.mps_command.specs.declared.answer.Answer.{Answer as Response};
 ghost use Rattle.mps_command.specs.declared.command.Command.{Command as Asked};
 ghost use Rattle.mps_line.specs.Replies.{SpellsReply};
 ghost use Rattle.mps_lines.specs.Lines.{ended, front, most_kept};
-ghost use Rattle.mps_wire.specs.Conversations.{RepliesTo, converses, converses_in_part, reply_of};
+ghost use Rattle.mps_wire.specs.Conversations.{RepliesTo, ConversesLine, ConversesBrokenOff, reply_of};
 ghost use Rattle.mps_wire.specs.declared.conversation.Broken.TheVariants.{Memory as NoMemory, Untold as MayNot};
 ghost use Rattle.mps_wire.specs.Endings.{EndedAs};
-ghost use Rattle.mps_wire.specs.Private.Endings.{TurnedTo, IsPartly, IsWholly, TakesOn, TakesToPart, begun_or};
+ghost use Rattle.mps_wire.specs.Private.Endings.{TurnedTo, IsBrokenOff, IsWholly, TakesOn, TakesBrokenOff, begun_or};
 ghost use Rattle.mps_wire.specs.Private.Endings.{failed_by};
 ghost use Rattle.mps_wire.specs.Runs.{Going, max_reads};
 ghost use Rattle.mps_wire.specs.Streams.{streams};
@@ -118,10 +118,10 @@ impl Conversation {
         ensures ok { (line : List ℕ) (start : C)
             → RepliesTo C.Caller line start (reply_of outcome (C.kept caller.now)) caller.now
             → OnOk result
-            (IsWholly (converses C.Caller) line start caller.now (W.taken writer.old) (W.taken writer.new)) }
+            (IsWholly (ConversesLine C.Caller) line start caller.now (W.taken writer.old) (W.taken writer.new)) }
         ensures err { (line : List ℕ) (start : C)
             → RepliesTo C.Caller line start (reply_of outcome (C.kept caller.now)) caller.now
-            → OnErr result (IsPartly (converses_in_part C.Caller) line start caller.now (W.taken writer.old)
+            → OnErr result (IsBrokenOff (ConversesBrokenOff C.Caller) line start caller.now (W.taken writer.old)
             (W.taken writer.new)) }
         ensures untold { result ≡ Err MayNot → C.may_tell caller.now ≡ false }
     {
@@ -147,10 +147,10 @@ impl Conversation {
         ensures writes { W.failed_calls writer.new ≡ W.failed_calls writer.old + failed_by result }
         ensures kept { OnOk result (length self.new.line.items ≤ most_kept) }
         ensures ok { OnOk result
-            (TakesOn (converses C.Caller) bytes.now self.old.line.items caller.old (W.taken writer.old)
+            (TakesOn (ConversesLine C.Caller) bytes.now self.old.line.items caller.old (W.taken writer.old)
             self.new.line.items caller.new (W.taken writer.new)) }
         ensures err { OnErr result
-            (TakesToPart (converses C.Caller) (converses_in_part C.Caller) bytes.now self.old.line.items
+            (TakesBrokenOff (ConversesLine C.Caller) (ConversesBrokenOff C.Caller) bytes.now self.old.line.items
             caller.old (W.taken writer.old) caller.new (W.taken writer.new)) }
         ensures untold { result ≡ Err MayNot → C.may_tell caller.new ≡ false }
     {
@@ -183,9 +183,9 @@ fn turn<C: Caller, R: Source, W: Sink>(
     ensures short { IfNone result (length going.new.line.items ≤ most_kept) }
     ensures reads { R.calls reader.new ≡ R.calls reader.old + 1 }
     ensures step { (start : C) (first : _)
-        → Going (converses C.Caller) start first
+        → Going (ConversesLine C.Caller) start first
         (streams R.Source W.Sink reader.old writer.old) going.old.line.items caller.old
-        → TurnedTo (converses C.Caller) (converses_in_part C.Caller) start first
+        → TurnedTo (ConversesLine C.Caller) (ConversesBrokenOff C.Caller) start first
         (streams R.Source W.Sink reader.old writer.old) (streams R.Source W.Sink reader.new writer.new)
         going.new.line.items caller.new result }
     ensures untold { result ≡ Some Ending.Untold → C.may_tell caller.new ≡ false }
@@ -210,7 +210,7 @@ fn turn<C: Caller, R: Source, W: Sink>(
 /// again: the command isn't run a second time, and its answer is written again. At the end a rest that no LF ends
 /// isn't run. The reader is asked for `PIECE` bytes at a time, `MAX_READS` times at most. After `Closed`, `ReadFault`
 /// or `Turns` each whole line that was read is answered; after `WriteFault` or `Memory` the first of them are, and the
-/// answer of the last of these may be written in part, or not at all. After `Untold` the answer of the last isn't
+/// answer of the last of these may break off, or not be written at all. After `Untold` the answer of the last isn't
 /// written, since the caller says that it may not be told.
 pub fn converse<C: Caller, R: Source, W: Sink>(
     alloc: Global,
@@ -220,7 +220,7 @@ pub fn converse<C: Caller, R: Source, W: Sink>(
 ) -> Ending
     requires reads { R.calls reader.old < 2 ^ 62 }
     requires writes { W.failed_calls writer.old < 2 ^ 62 }
-    ensures ending { EndedAs (converses C.Caller) (converses_in_part C.Caller) caller.old
+    ensures ending { EndedAs (ConversesLine C.Caller) (ConversesBrokenOff C.Caller) caller.old
         (streams R.Source W.Sink reader.old writer.old) (streams R.Source W.Sink reader.new writer.new)
         caller.new result }
     ensures reads { R.calls reader.new ≤ R.calls reader.old + max_reads }

@@ -4,10 +4,11 @@ ghost use Rattle.std.specs.List.{AllByRecursion};
 ghost use Rattle.mps_fidelity.specs.Fidelity.{AreOfOneProtocol};
 ghost use Rattle.mps_local.specs.Local.{LocalType};
 ghost use Rattle.mps_room.specs.declared.entry.Entry.{Entry};
-ghost use Rattle.mps_wire.specs.Answers.{Answered, AnswersCut, AnswersLines, CutAnywhere, OfAllLines, OfWholeLines};
+ghost use Rattle.mps_wire.specs.Answers.{AnswersBytes, AnswersBrokenOff, AnswersLines, BreaksOffAnywhere};
+ghost use Rattle.mps_wire.specs.Answers.{OfAllLines, OfWholeLines};
 ghost use Rattle.mps_wire.specs.Fidelity.{HasNoMismatch, MeetsNoMismatch};
-ghost use Rattle.mps_wire.specs.Making.{accepted_in_part, accepted_lines};
-ghost use Rattle.mps_wire.specs.Conversations.{converses, converses_in_part};
+ghost use Rattle.mps_wire.specs.Making.{accepted_broken_off, accepted_lines};
+ghost use Rattle.mps_wire.specs.Conversations.{ConversesLine, ConversesBrokenOff};
 ghost use Rattle.mps_lines.specs.Lines.{IsSplit};
 ghost use Rattle.mps_wire.specs.Script.{AnswersLine};
 
@@ -26,18 +27,18 @@ pub fn no_script_meets_a_mismatch()
     ensures stopped { (names : List (List ℕ)) (types : List LocalType)
         (bytes kept out rest : List ℕ) (lines : List (List ℕ)) (after : List Entry)
         → AreOfOneProtocol types
-        → Answered (AnswersLine names types) [] bytes kept out after → IsSplit out lines rest
+        → AnswersBytes (AnswersLine names types) [] bytes kept out after → IsSplit out lines rest
         → AllByRecursion (λ line. line ≢ codes "refused mismatch") lines }
-    ensures part { (names : List (List ℕ)) (types : List LocalType)
+    ensures broken_off { (names : List (List ℕ)) (types : List LocalType)
         (bytes written rest : List ℕ) (lines : List (List ℕ))
         → AreOfOneProtocol types
-        → OfWholeLines bytes (λ asked. CutAnywhere (AnswersLine names types) [] asked written)
+        → OfWholeLines bytes (λ asked. BreaksOffAnywhere (AnswersLine names types) [] asked written)
         → IsSplit written lines rest
         → AllByRecursion (λ line. line ≢ codes "refused mismatch") lines }
-    ensures part_at_end { (names : List (List ℕ)) (types : List LocalType)
+    ensures broken_off_at_end { (names : List (List ℕ)) (types : List LocalType)
         (bytes written rest : List ℕ) (lines : List (List ℕ))
         → AreOfOneProtocol types
-        → OfAllLines bytes (λ asked. CutAnywhere (AnswersLine names types) [] asked written)
+        → OfAllLines bytes (λ asked. BreaksOffAnywhere (AnswersLine names types) [] asked written)
         → IsSplit written lines rest
         → AllByRecursion (λ line. line ≢ codes "refused mismatch") lines }
 {
@@ -45,14 +46,14 @@ pub fn no_script_meets_a_mismatch()
 }
 
 /// The accepted commands of a conversation are, in order, the entries that its caller made, where its lines are
-/// answered to their end, and where the last answer is written in part.
+/// answered to their end, and where the last answer breaks off.
 pub fn a_conversation_makes_its_commands<C: Caller>()
     ensures whole { (lines : List (List ℕ)) (before : C) (out : List ℕ) (after : C)
-        (a : AnswersLines (converses C.Caller) lines before out after)
+        (a : AnswersLines (ConversesLine C.Caller) lines before out after)
         → C.made after ≡ C.made before ++ accepted_lines C.Caller lines before out after a }
-    ensures part { (lines : List (List ℕ)) (before : C) (out : List ℕ) (after : C)
-        (a : AnswersCut (converses C.Caller) (converses_in_part C.Caller) lines before out after)
-        → C.made after ≡ C.made before ++ accepted_in_part C.Caller lines before out after a }
+    ensures broken_off { (lines : List (List ℕ)) (before : C) (out : List ℕ) (after : C)
+        (a : AnswersBrokenOff (ConversesLine C.Caller) (ConversesBrokenOff C.Caller) lines before out after)
+        → C.made after ≡ C.made before ++ accepted_broken_off C.Caller lines before out after a }
 {}
 
 /// Where no call of a caller is answered `Mismatch` in sessions of one protocol, no line that answers its conversation
@@ -60,12 +61,12 @@ pub fn a_conversation_makes_its_commands<C: Caller>()
 pub fn no_conversation_meets_a_mismatch<C: Caller>()
     ensures whole { (types : C → List LocalType) → MeetsNoMismatch C.Caller types
         → (asked : List (List ℕ)) (before : C) (out : List ℕ) (after : C) (lines : List (List ℕ)) (rest : List ℕ)
-        → HasNoMismatch C.Caller types before → AnswersLines (converses C.Caller) asked before out after
+        → HasNoMismatch C.Caller types before → AnswersLines (ConversesLine C.Caller) asked before out after
         → IsSplit out lines rest → AllByRecursion (λ line. line ≢ codes "refused mismatch") lines }
-    ensures part { (types : C → List LocalType) → MeetsNoMismatch C.Caller types
+    ensures broken_off { (types : C → List LocalType) → MeetsNoMismatch C.Caller types
         → (asked : List (List ℕ)) (before : C) (out : List ℕ) (after : C) (lines : List (List ℕ)) (rest : List ℕ)
         → HasNoMismatch C.Caller types before
-        → AnswersCut (converses C.Caller) (converses_in_part C.Caller) asked before out after
+        → AnswersBrokenOff (ConversesLine C.Caller) (ConversesBrokenOff C.Caller) asked before out after
         → IsSplit out lines rest → AllByRecursion (λ line. line ≢ codes "refused mismatch") lines }
 {
     one_reply_line();

@@ -11,7 +11,7 @@ ghost use Rattle.mps_lines.specs.Lines.{ended, front, most_kept};
 ghost use Rattle.mps_wire.specs.Runs.{Going, Replayed, ScriptRan, max_reads, of_opening};
 ghost use Rattle.mps_wire.specs.Private.Turns.{Turned};
 ghost use Rattle.mps_wire.specs.Script.{AnswersLine};
-ghost use Rattle.mps_wire.specs.Private.Commands.{IsAnswered};
+ghost use Rattle.mps_wire.specs.Private.Commands.{IsReplied};
 ghost use Rattle.mps_wire.specs.Streams.{streams};
 ghost use Rattle.mps_wire.specs.declared.script.ReplayFault.TheVariants.{Memory as OutOfMemory};
 
@@ -76,7 +76,7 @@ fn reply_with_news(
     known: u64,
     answers: &mut Vec<u8>,
 ) -> Result<(), AllocError>
-    ensures { OnOk result (IsAnswered room.now.names room.now.types room.now.journal role (News known)
+    ensures { OnOk result (IsReplied room.now.names room.now.types room.now.journal role (News known)
         room.now.journal answers.old.items answers.new.items) }
 {
     write_answer(&room.tell_news(role, known), answers)
@@ -85,7 +85,7 @@ fn reply_with_news(
 // Writes, after the other answers, how the session stands.
 #[inline(never)]
 fn reply_with_show(room: &Room, answers: &mut Vec<u8>) -> Result<(), AllocError>
-    ensures { (role : ℕ) → OnOk result (IsAnswered room.now.names room.now.types room.now.journal role Show
+    ensures { (role : ℕ) → OnOk result (IsReplied room.now.names room.now.types room.now.journal role Show
         room.now.journal answers.old.items answers.new.items) }
 {
     write_answer(&room.tell_show(), answers)
@@ -102,7 +102,7 @@ fn reply_to_command(
     requires { role < length room.old.types }
     ensures names { room.new.names ≡ room.old.names }
     ensures types { room.new.types ≡ room.old.types }
-    ensures answer { OnOk result (IsAnswered room.old.names room.old.types room.old.journal role command
+    ensures answer { OnOk result (IsReplied room.old.names room.old.types room.old.journal role command
         room.new.journal answers.old.items answers.new.items) }
 {
     match command {

@@ -1,23 +1,22 @@
 -- What a connection comes to, part by part.
 use Rattle.std.specs.Prelude.{◌≡◌, ◌≢◌, ◌⊎◌}
-use Rattle.mps_cell.specs.Calls.{Known}
 use Rattle.mps_dev.specs.declared.traits.Sink.{Ghosts as SinkGhosts}
 use Rattle.mps_dev.specs.declared.traits.Source.{Ghosts as SourceGhosts}
 use Rattle.mps_line.specs.Codes.{code_of}
 use Rattle.mps_line.specs.declared.write_replies.Reply.{Reply}
 use Rattle.mps_room.specs.declared.caller.Caller.{Ghosts}
-use Rattle.mps_hub.specs.Connections.{WasConversation, WasCutShort, WasSent}
+use Rattle.mps_hub.specs.Connections.{WasConversation, SendingBrokeOff, WasSent}
 use Rattle.mps_hub.specs.declared.attending.Attended.{Attended}
-use Rattle.mps_hub.specs.declared.attending.Attended.TheVariants.{NoLine, TurnedAway, Conversed, Memory, Unkept}
+use Rattle.mps_hub.specs.declared.attending.Attended.TheVariants.{NoLine, TurnedAway, Conversed, Memory, Unrecorded}
 
 -- what the writer was given of the reply to a first line that gets no pass, by how the connection ended
 abbrev pub IsAnsweredFirst : {W : Type 0} → SinkGhosts W → W → W → Reply → Attended → Type 0
 IsAnsweredFirst sink old new reply NoLine = ⊥
 IsAnsweredFirst sink old new reply TurnedAway =
-    (WasSent sink old new reply × (code_of reply ≢ 0)) ⊎ WasCutShort sink old new reply
+    (WasSent sink old new reply × (code_of reply ≢ 0)) ⊎ SendingBrokeOff sink old new reply
 IsAnsweredFirst sink old new reply (Conversed ending) = ⊥
 IsAnsweredFirst sink old new reply Memory = new ≡ old
-IsAnsweredFirst sink old new reply Unkept = ⊥
+IsAnsweredFirst sink old new reply Unrecorded = ⊥
 
 -- what a caller that got its pass came to, once it was told so with this reply
 module _ {C R W : Type 0} (caller : Ghosts C) (source : SourceGhosts R) (sink : SinkGhosts W) (joined : Reply)
@@ -25,16 +24,8 @@ module _ {C R W : Type 0} (caller : Ghosts C) (source : SourceGhosts R) (sink : 
   -- by how the connection ended
   abbrev pub HasJoined : Attended → Type 0
   HasJoined NoLine = ⊥
-  HasJoined TurnedAway = WasCutShort sink writer writer' joined × (reader' ≡ reader)
+  HasJoined TurnedAway = SendingBrokeOff sink writer writer' joined × (reader' ≡ reader)
   HasJoined (Conversed ending) =
       WasConversation caller source sink joined before reader writer after reader' writer' ending
   HasJoined Memory = (writer' ≡ writer) × (reader' ≡ reader)
-  HasJoined Unkept = (writer' ≡ writer) × (reader' ≡ reader)
-
--- what such a caller came to, and the pass that it left
-pub record HasLeft {C R W : Type 0} (caller : Ghosts C) (pass : C → Known) (source : SourceGhosts R)
-    (sink : SinkGhosts W) (joined : Reply)
-    (before : C) (reader : R) (writer : W) (reader' : R) (writer' : W) (left : Known) (ended : Attended) : Type 0 where
-  pub after : C
-  pub joined_as : HasJoined caller source sink joined before reader writer after reader' writer' ended
-  pub pass_is : left ≡ pass after
+  HasJoined Unrecorded = (writer' ≡ writer) × (reader' ≡ reader)

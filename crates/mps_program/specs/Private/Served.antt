@@ -7,8 +7,8 @@ use Rattle.mps_fidelity.specs.Fidelity.{AreOfOneProtocol}
 use Rattle.mps_machine.specs.Machine.{initial}
 use Rattle.mps_session.specs.SessionState.{SessionState}
 use Rattle.mps_hub.specs.declared.server.ServeFault.{ServeFault}
-use Rattle.mps_hub.specs.declared.server.ServeFault.TheVariants.{Accept as NotAccepted, Memory as NoMemory, Unkept}
-use Rattle.mps_program.specs.Journals.{IsKeepingFault}
+use Rattle.mps_hub.specs.declared.server.ServeFault.TheVariants.{Accept as NotAccepted, Memory as NoMemory, Unrecorded}
+use Rattle.mps_program.specs.Journals.{IsRecordingFault}
 use Rattle.mps_program.specs.Served.{IsListeningLine, IsPortFor}
 use Rattle.mps_program.specs.declared.faults.ToolFault.{ToolFault}
 use Rattle.mps_program.specs.declared.faults.ToolFault.TheVariants.{Write, Bind, Accept, JournalLost, Memory}
@@ -28,16 +28,16 @@ abbrev pub TellsPort : (wanted : ℕ) → List ℕ → Type 0
 TellsPort wanted line = (port : ℕ) × IsPortFor wanted port × IsListeningLine port line
 
 -- how the serving itself may fail: it has no port, or can't tell it, it accepts no more, memory ran out, or the
--- sessions fail to be kept
+-- sessions fail to be recorded
 abbrev pub IsHubFault : Option (List ℕ) → (first n : ℕ) → ToolFault → Type 0
 IsHubFault folder first n Write = ⊤
 IsHubFault folder first n (Bind why) = ⊤
 IsHubFault folder first n Accept = ⊤
 IsHubFault folder first n Memory = ⊤
-IsHubFault folder first n fault = IsKeepingFault folder first n fault
+IsHubFault folder first n fault = IsRecordingFault folder first n fault
 
 -- why the serving ended, as the program tells it
 abbrev pub of_serving : ServeFault → ToolFault
 of_serving NotAccepted = Accept
 of_serving NoMemory = Memory
-of_serving (Unkept session) = JournalLost session
+of_serving (Unrecorded session) = JournalLost session

@@ -16,9 +16,9 @@ use Rattle.mps_room.specs.declared.numbers.Told.{Told}
 use Rattle.mps_wire.specs.Conversations.{IsToldAs}
 
 -- the texts of old and a text that answers the role's command, and the journal after it
-abbrev pub IsAnswered : (names : List (List ℕ)) → List LocalType → (journal : List Entry) → ℕ → Command
+abbrev pub IsReplied : (names : List (List ℕ)) → List LocalType → (journal : List Entry) → ℕ → Command
     → (after : List Entry) → (old new : List ℕ) → Type 0
-IsAnswered names types journal role command after old new =
+IsReplied names types journal role command after old new =
     (answer : Answer) × IsReply answer (journals.reply names types journal role command)
     × (after ≡ grown journal role command answer)
     × Appends (λ text. SpellsReply text (Answered answer)) old new

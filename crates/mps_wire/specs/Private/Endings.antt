@@ -2,8 +2,8 @@
 use Rattle.std.specs.Prelude.{ℕ, List, [], ◌∷◌, Option, None, Some, Result, Ok, Err, ◌++◌}
 use Rattle.std.specs.Io.KnownBytes.{Appends, IsAtEnd}
 use Rattle.mps_lines.specs.Lines.{ended}
-use Rattle.mps_wire.specs.Answers.{Answering, Answered, CutInLast, OfWholeLines}
-use Rattle.mps_wire.specs.Endings.{WasAnswered, WasCut}
+use Rattle.mps_wire.specs.Answers.{Answering, AnswersBytes, BreaksOffInLast, OfWholeLines}
+use Rattle.mps_wire.specs.Endings.{WasAnswered, WasBrokenOff}
 use Rattle.mps_wire.specs.Runs.{Going, GaveAtLeast}
 use Rattle.mps_wire.specs.Streams.{Streams, Counts, all_went_well, one_read_ended, one_read_failed, one_write_failed}
 use Rattle.mps_wire.specs.declared.conversation.Broken.{Broken}
@@ -12,7 +12,7 @@ use Rattle.mps_wire.specs.declared.conversation.Ending.{Ending}
 use Rattle.mps_wire.specs.declared.conversation.Ending.TheVariants.{Closed, ReadFault, WriteFault, Turns, Memory}
 use Rattle.mps_wire.specs.declared.conversation.Ending.TheVariants.{Untold}
 
-module _ {S : Type 0} (answers part : Answering S) (start : S) (first before after : Streams) where
+module _ {S : Type 0} (answers broken : Answering S) (start : S) (first before after : Streams) where
   -- what one read and its answers lead to: it goes on, or it ended; first are the streams before the conversation
   abbrev pub TurnedTo : List ℕ → S → Option Ending → Type 0
   TurnedTo kept st None =
@@ -21,9 +21,10 @@ module _ {S : Type 0} (answers part : Answering S) (start : S) (first before aft
       WasAnswered answers start first after st × Counts before after one_read_ended × IsAtEnd after.left
   TurnedTo kept st (Some ReadFault) = WasAnswered answers start first after st × Counts before after one_read_failed
   TurnedTo kept st (Some Turns) = ⊥
-  TurnedTo kept st (Some WriteFault) = WasCut answers part start first after st × Counts before after one_write_failed
-  TurnedTo kept st (Some Memory) = WasCut answers part start first after st × Counts before after all_went_well
-  TurnedTo kept st (Some Untold) = WasCut answers part start first after st × Counts before after all_went_well
+  TurnedTo kept st (Some WriteFault) =
+      WasBrokenOff answers broken start first after st × Counts before after one_write_failed
+  TurnedTo kept st (Some Memory) = WasBrokenOff answers broken start first after st × Counts before after all_went_well
+  TurnedTo kept st (Some Untold) = WasBrokenOff answers broken start first after st × Counts before after all_went_well
 
 -- how many writes failed
 abbrev pub failed_by : Result Unit Broken → ℕ
@@ -39,11 +40,11 @@ pub record IsWholly {S : Type 0} (answers : Answering S) (line : List ℕ) (c d 
   pub line_is : answers line c text d
   pub sent : Appends taken taken' (ended text)
 
--- or a part of it
-pub record IsPartly {S : Type 0} (part : Answering S) (line : List ℕ) (c d : S) (taken taken' : Option (List ℕ))
+-- or it breaks off
+pub record IsBrokenOff {S : Type 0} (broken : Answering S) (line : List ℕ) (c d : S) (taken taken' : Option (List ℕ))
     : Type 0 where
   pub written : List ℕ
-  pub line_is : part line c written d
+  pub line_is : broken line c written d
   pub sent : Appends taken taken' written
 
 -- the line that has begun, or else the piece that came whole
@@ -55,13 +56,13 @@ begun_or (c ∷ line) piece = c ∷ line
 abbrev pub TakesOn : {S : Type 0} → Answering S → (bytes kept : List ℕ) → S → Option (List ℕ) → List ℕ → S
     → Option (List ℕ) → Type 0
 TakesOn {S} answers bytes kept c taken kept' d taken' =
-    (first : S) (before out : List ℕ) → Answered answers first before kept out c
-    → (more : List ℕ) × Appends taken taken' more × Answered answers first (before ++ bytes) kept' (out ++ more) d
+    (first : S) (before out : List ℕ) → AnswersBytes answers first before kept out c
+    → (more : List ℕ) × Appends taken taken' more × AnswersBytes answers first (before ++ bytes) kept' (out ++ more) d
 
 -- the same, where that breaks off
-abbrev pub TakesToPart : {S : Type 0} → Answering S → Answering S → (bytes kept : List ℕ) → S → Option (List ℕ) → S
+abbrev pub TakesBrokenOff : {S : Type 0} → Answering S → Answering S → (bytes kept : List ℕ) → S → Option (List ℕ) → S
     → Option (List ℕ) → Type 0
-TakesToPart {S} answers part bytes kept c taken d taken' =
-    (first : S) (before out : List ℕ) → Answered answers first before kept out c
+TakesBrokenOff {S} answers broken bytes kept c taken d taken' =
+    (first : S) (before out : List ℕ) → AnswersBytes answers first before kept out c
     → (more : List ℕ) × Appends taken taken' more
-    × OfWholeLines (before ++ bytes) (λ lines. CutInLast answers first part lines (out ++ more) d)
+    × OfWholeLines (before ++ bytes) (λ lines. BreaksOffInLast answers first broken lines (out ++ more) d)

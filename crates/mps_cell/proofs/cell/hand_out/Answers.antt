@@ -25,7 +25,7 @@ loop-place-preserved c =
           (c.fresh.ensures.fresh ∙ ap (fresh c.split_seat-seat.result.table_id (part_of c.split_seat-seat.result.me.0.parts).opening) c.new.ensures) (s.3 ∙ v.same)
           (ap (λ (m : Me RoomState SeatView). (part_of m.0.parts).opening) seat);
       counted = let l = c.push_reserved.ensures.len in omega arith;
-      room = let l = c.push_reserved.ensures.capacity in omega arith;
+      space = let l = c.push_reserved.ensures.capacity in omega arith;
     }
 
 pub fresh-requires-clause-seat : goal.fresh-requires-clause-seat

@@ -10,5 +10,5 @@ invariant-loop-place l = record {
   rest : l.first.me ≡ (dealing (opening_in l.shared.key) l.place (l.count - l.place), []);
   dealt : l.all.items ≡ fresh_below l.shared.table_id (opening_in l.shared.key) l.place;
   counted : vec_len l.all ≡ l.place;
-  room : l.count ≤ vec_capacity l.all;
+  space : l.count ≤ vec_capacity l.all;
 }

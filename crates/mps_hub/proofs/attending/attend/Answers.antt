@@ -10,9 +10,8 @@ returns-in-Ok-admit-clause-attended g c =
     let first = subst (λ (kept : List ℕ). IsFirstLine g.R.Source c.args.reader.now c.first_line.new.reader kept) (sym c.as_slice.ensures.value)
     (if_some c.in-Ok-Some.field-0 c.in-Ok-Some.first (λ line. IsFirstLine g.R.Source c.args.reader.now c.first_line.new.reader line.items) c.in-Ok-Some.field-0-is c.in-Ok-Some.ensures.line) in
     let a = c.in-Ok-admit.admitted in
-    let left = c.converse_and_return-ended.ensures.conversed in
     joined _ (λ caller. caller.inner.inner.pass) g.R.Source g.W.Sink c.args.desk.now c.args.reader.now c.first_line.new.reader c.args.writer.now c.as_slice.result.now first
-    a.session a.name _ left.after c.converse_and_return-ended.new.reader c.converse_and_return-ended.new.writer c.converse_and_return-ended.result.ended left.joined_as c.in-Ok-admit.ensures.joins
+    a.session a.name _ c.converse_joined-ended.new.caller c.converse_joined-ended.new.reader c.converse_joined-ended.new.writer c.converse_joined-ended.result c.converse_joined-ended.ensures.conversed c.in-Ok-admit.ensures.joins
     (subst (λ inner. IsPassOf c.args.desk.now a.session a.name inner.inner.pass) (sym c.new-caller.ensures.inner) c.in-Ok-admit.ensures.pass)
 
 pub returns-in-Err-admit-clause-attended : goal.returns-in-Err-admit-clause-attended

@@ -1,7 +1,7 @@
 use Rattle.std.proofs.Common.{sym, ◌∙◌}
 use Rattle.mps_wire.specs.Streams.{streams}
 use Rattle.mps_wire.proofs.Making.{ended_keeps}
-use Rattle.mps_keeper.specs.Holds.{keeps_of, whole_of}
+use Rattle.mps_keeper.specs.Holds.{records_of, whole_of}
 use Rattle.mps_hub.proofs.Telling.{idle_whole, unused, idle_stays, ends_told}
 use Rattle.mps_hub.proofs.attending.converse_joined.Goals as goal
 
@@ -11,13 +11,13 @@ returns-in-Ok-clause-cell g c = ended_keeps _ (λ h. h.inner.inner.pass.cell) (�
 pub returns-in-Ok-clause-opening : goal.returns-in-Ok-clause-opening
 returns-in-Ok-clause-opening g c = ended_keeps _ (λ h. h.inner.inner.pass.opening) (λ h x a k t. t.call.pass.opening) (streams g.R.Source g.W.Sink c.args.reader.now c.send.new.writer) (streams g.R.Source g.W.Sink c.converse.new.reader c.converse.new.writer) _ _ c.converse.result c.converse.ensures.ending
 
--- where nothing is kept nothing is lost
+-- where nothing is recorded nothing is lost
 pub returns-in-Ok-clause-told : goal.returns-in-Ok-clause-told
 returns-in-Ok-clause-told g c = λ idle whole.
     let old = streams g.R.Source g.W.Sink c.args.reader.now c.send.new.writer in
     let new = streams g.R.Source g.W.Sink c.converse.new.reader c.converse.new.writer in
     let before = c.args.caller.now.keeper in
     let after = c.converse.new.caller.keeper in
-    let same = ended_keeps _ (λ h. keeps_of h.keeper) (λ h x a k t. t.same) old new _ _ c.converse.result c.converse.ensures.ending in
-    let fate = ended_keeps _ (λ h. idle_whole keeps_of whole_of h.keeper) (λ h x a k t. idle_stays keeps_of whole_of h.keeper k.keeper t.same t.idle) old new _ _ c.converse.result c.converse.ensures.ending in
-    ends_told (whole_of after) c.converse.result c.converse.ensures.untold (sym (unused keeps_of whole_of after (same ∙ idle)) ∙ fate ∙ unused keeps_of whole_of before idle ∙ whole)
+    let same = ended_keeps _ (λ h. records_of h.keeper) (λ h x a k t. t.same) old new _ _ c.converse.result c.converse.ensures.ending in
+    let fate = ended_keeps _ (λ h. idle_whole records_of whole_of h.keeper) (λ h x a k t. idle_stays records_of whole_of h.keeper k.keeper t.same t.idle) old new _ _ c.converse.result c.converse.ensures.ending in
+    ends_told (whole_of after) c.converse.result c.converse.ensures.untold (sym (unused records_of whole_of after (same ∙ idle)) ∙ fate ∙ unused records_of whole_of before idle ∙ whole)

@@ -5,7 +5,7 @@ use Rattle.mps_hub.proofs.laws.a_pass_meets_no_mismatch.Goals as goal
 
 pub returns : goal.returns
 returns g c = record {
-  held = record {
+  alone = record {
     same_types = λ h command answer t call. ap (λ (o : Opening). o.types) call.pass.opening;
     other = λ h command answer t own call. call_other h.pass command answer t.pass own call;
   };

@@ -18,5 +18,5 @@ loop-cell-preserved c =
     record {
       whole = h.whole ∙ ap (λ (l : List Opened). c.loop-cell.yielded ++ l) left ∙ sym (append_assoc c.loop-cell.yielded (o ∷ []) rest);
       closed = subst (AreClosed (c.loop-cell.yielded ++ o ∷ [])) (sym p.items) (closed_push c.loop-cell.yielded c.loop-cell.rooms.items o r h.closed (closed_where o r c.close.ensures.room));
-      room = omega (arith, ap (λ (l : List (Option RoomState)). length l) p.items, length-append c.loop-cell.rooms.items (r ∷ []), more, h.room, p.capacity);
+      space = omega (arith, ap (λ (l : List (Option RoomState)). length l) p.items, length-append c.loop-cell.rooms.items (r ∷ []), more, h.space, p.capacity);
     }

@@ -13,6 +13,6 @@ loop-preserved c =
     let m : SessionState = record { types = map plain c.args.types.now; state = initial } in
     record {
       count = omega (arith, p.len, h.count);
-      room = omega (arith, p.capacity, h.room);
+      space = omega (arith, p.capacity, h.space);
       all = subst (All (λ (s : SessionState). s ≡ m)) (sym {A = List SessionState} p.items) (All-push (λ (s : SessionState). s ≡ m) c.loop.made.items c.in_ok-session_of.field-0 h.all c.in_ok-session_of.ensures.new);
     }

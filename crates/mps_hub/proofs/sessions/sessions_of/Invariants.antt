@@ -7,6 +7,6 @@ use Rattle.mps_hub.proofs.sessions.sessions_of.Given as goal
 abbrev pub invariant-loop : goal.invariant-loop
 invariant-loop l = record {
   count : vec_len l.made ≡ l.counter;
-  room : l.n ≤ vec_capacity l.made;
+  space : l.n ≤ vec_capacity l.made;
   all : All (λ s. s ≡ record { types = map plain l.types; state = initial }) l.made.items;
 }

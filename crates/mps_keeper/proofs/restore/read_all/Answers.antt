@@ -1,19 +1,19 @@
 use Rattle.std.proofs.Common.{refl, arith, ap, Ok}
-use Rattle.mps_wire.proofs.Bytes.{same_room, Consumes-none}
+use Rattle.mps_wire.proofs.Bytes.{same_space, Consumes-none}
 use Rattle.mps_keeper.specs.declared.restore.TheConstants.{BLOCK}
 use Rattle.mps_keeper.proofs.Restoring.{reads_on}
 use Rattle.mps_keeper.proofs.restore.read_all.Goals as goal
 
 pub loop-init : goal.loop-init
 loop-init g c = record {
-  room = omega (arith, c.in_ok-block.block.ok.0, c.in_ok-block.ensures.len);
+  space = omega (arith, c.in_ok-block.block.ok.0, c.in_ok-block.ensures.len);
   reads = omega arith;
   read = rw c.new-all.ensures.items (Consumes-none (g.R.Source.remaining c.args.reader.now));
 }
 
 pub loop-preserved : goal.loop-preserved
 loop-preserved g c = record {
-  room = same_room c.loop.block.len BLOCK c.read_once.new.block c.loop.block.items c.loop.block.ok.0 c.loop.invariant.room;
+  space = same_space c.loop.block.len BLOCK c.read_once.new.block c.loop.block.items c.loop.block.ok.0 c.loop.invariant.space;
   reads = omega (arith, c.in_ok-read_once.ensures.reads, c.loop.invariant.reads);
   read = reads_on _ _ _ _ _ c.loop.invariant.read c.in_ok-read_once.ensures.more;
 }

@@ -3,12 +3,12 @@ use Rattle.std.specs.Io.KnownBytes.{Consumes}
 use Rattle.mps_program.specs.Faults.{IsReadFault}
 use Rattle.mps_program.proofs.Causes.{told}
 use Rattle.mps_program.proofs.Bounds.{read_on}
-use Rattle.mps_wire.proofs.Bytes.{Consumes-none, Consumes-trans, same_room}
+use Rattle.mps_wire.proofs.Bytes.{Consumes-none, Consumes-trans, same_space}
 use Rattle.mps_program.proofs.files.read_text.Goals as goal
 
 pub loop-block-init : goal.loop-block-init
 loop-block-init g c = record {
-  room = omega (arith, c.in_ok-block.block.ok.0, c.in_ok-block.ensures.len);
+  space = omega (arith, c.in_ok-block.block.ok.0, c.in_ok-block.ensures.len);
   most = omega (arith, ap length c.new-text.ensures.items);
   calls = omega arith;
   none_failed = refl;
@@ -17,18 +17,18 @@ loop-block-init g c = record {
 
 -- the buffer is cut to the bytes that are wanted still
 cut_length : (used len : ℕ) (old new : List ℕ) → len ≡ used → 65537 ≤ length old + used → new ≡ take (65537 - len) old → length new ≡ 65537 - used
-cut_length used len old new e room f = omega (arith, e, room, ap length f, length-take (65537 - len) old)
+cut_length used len old new e space f = omega (arith, e, space, ap length f, length-take (65537 - len) old)
 
--- the room in the buffer and the bytes that were read are at most one byte more than a text may have
+-- the space in the buffer and the bytes that were read are at most one byte more than a text may have
 pub returns-then-branch-eq0-clause-most : goal.returns-then-branch-eq0-clause-most
 returns-then-branch-eq0-clause-most g c =
-    let cut = cut_length (length c.loop-block.text.items) c.len-in-loop-block.result c.loop-block.block.items c.truncate.new.self.items (omega (arith, c.len-in-loop-block.ensures, c.loop-block.text.ok.0)) c.loop-block.invariant.room c.truncate.ensures.items in
+    let cut = cut_length (length c.loop-block.text.items) c.len-in-loop-block.result c.loop-block.block.items c.truncate.new.self.items (omega (arith, c.len-in-loop-block.ensures, c.loop-block.text.ok.0)) c.loop-block.invariant.space c.truncate.ensures.items in
     read_on 65537 _ _ _ _ c.loop-block.text.items c.loop-block.invariant.bytes c.in_ok-read_more.ensures.most
     (omega (arith, cut, c.loop-block-test.true, c.len.ensures, c.loop-block.text.ok.0, c.as_mut_slice.ensures.len, ap length c.as_mut_slice.ensures.value))
 
 pub returns-in_err-read_more-clause-most : goal.returns-in_err-read_more-clause-most
 returns-in_err-read_more-clause-most g c =
-    let cut = cut_length (length c.loop-block.text.items) c.len-in-loop-block.result c.loop-block.block.items c.truncate.new.self.items (omega (arith, c.len-in-loop-block.ensures, c.loop-block.text.ok.0)) c.loop-block.invariant.room c.truncate.ensures.items in
+    let cut = cut_length (length c.loop-block.text.items) c.len-in-loop-block.result c.loop-block.block.items c.truncate.new.self.items (omega (arith, c.len-in-loop-block.ensures, c.loop-block.text.ok.0)) c.loop-block.invariant.space c.truncate.ensures.items in
     read_on 65537 _ _ _ _ c.loop-block.text.items c.loop-block.invariant.bytes c.in_err-read_more.ensures.most
     (omega (arith, cut, c.loop-block-test.true, c.len.ensures, c.loop-block.text.ok.0, c.as_mut_slice.ensures.len, ap length c.as_mut_slice.ensures.value))
 
@@ -40,7 +40,7 @@ returns-then-branch-eq0-clause-bytes g c =
 
 pub returns-then-branch-eq0-clause-whole : goal.returns-then-branch-eq0-clause-whole
 returns-then-branch-eq0-clause-whole g c = λ h.
-    let cut = cut_length (length c.loop-block.text.items) c.len-in-loop-block.result c.loop-block.block.items c.truncate.new.self.items (omega (arith, c.len-in-loop-block.ensures, c.loop-block.text.ok.0)) c.loop-block.invariant.room c.truncate.ensures.items in
+    let cut = cut_length (length c.loop-block.text.items) c.len-in-loop-block.result c.loop-block.block.items c.truncate.new.self.items (omega (arith, c.len-in-loop-block.ensures, c.loop-block.text.ok.0)) c.loop-block.invariant.space c.truncate.ensures.items in
     c.in_ok-read_more.ensures.end c.if-branch-eq0.true (omega (arith, cut, c.loop-block-test.true, c.len.ensures, c.loop-block.text.ok.0, c.as_mut_slice.ensures.len, ap length c.as_mut_slice.ensures.value))
 
 pub returns-then-branch-eq0-clause-reads_well : goal.returns-then-branch-eq0-clause-reads_well
@@ -62,10 +62,10 @@ loop-block-preserved g c =
     let m = c.in_ok-read_more.ensures.more in
     let added : length c.read_more.new.text.items ≡ length c.loop-block.text.items + c.in_ok-read_more.field-0 = ap length m.2 ∙ length-append c.loop-block.text.items m.0 ∙ ap (λ (k : ℕ). length c.loop-block.text.items + k) m.1 in
     let some : 1 ≤ c.in_ok-read_more.field-0 = positive c.in_ok-read_more.field-0 c.if-branch-eq0.false in
-    let cut = cut_length (length c.loop-block.text.items) c.len-in-loop-block.result c.loop-block.block.items c.truncate.new.self.items (omega (arith, c.len-in-loop-block.ensures, c.loop-block.text.ok.0)) c.loop-block.invariant.room c.truncate.ensures.items in
-    let same = same_room c.truncate.new.self.len (length c.truncate.new.self.items) c.read_more.new.block c.truncate.new.self.items c.truncate.new.self.ok.0 refl in
+    let cut = cut_length (length c.loop-block.text.items) c.len-in-loop-block.result c.loop-block.block.items c.truncate.new.self.items (omega (arith, c.len-in-loop-block.ensures, c.loop-block.text.ok.0)) c.loop-block.invariant.space c.truncate.ensures.items in
+    let same = same_space c.truncate.new.self.len (length c.truncate.new.self.items) c.read_more.new.block c.truncate.new.self.items c.truncate.new.self.ok.0 refl in
     record {
-      room = omega (arith, same, cut, added);
+      space = omega (arith, same, cut, added);
       most = omega (arith, added, cut, c.loop-block-test.true, c.len.ensures, c.loop-block.text.ok.0, c.in_ok-read_more.ensures.long, c.as_mut_slice.ensures.len, ap length c.as_mut_slice.ensures.value);
       calls = omega (arith, added, some, c.loop-block.invariant.calls, c.in_ok-read_more.ensures.calls);
       none_failed = c.in_ok-read_more.ensures.reads_well ∙ c.loop-block.invariant.none_failed;

@@ -4,7 +4,7 @@ use Rattle.mps_program.proofs.files.read_text.Given as goal
 
 abbrev pub invariant-loop-block : goal.invariant-loop-block
 invariant-loop-block g l = record {
-  room : 65537 ≤ length l.block.items + length l.text.items;
+  space : 65537 ≤ length l.block.items + length l.text.items;
   most : length l.text.items ≤ 65537;
   calls : g.R.Source.calls l.reader ≤ g.R.Source.calls l.fn.reader + length l.text.items;
   none_failed : g.R.Source.failed_calls l.reader ≡ g.R.Source.failed_calls l.fn.reader;

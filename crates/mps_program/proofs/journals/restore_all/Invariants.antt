@@ -5,5 +5,5 @@ use Rattle.mps_program.proofs.journals.restore_all.Given as goal
 abbrev pub invariant-loop-file : goal.invariant-loop-file
 invariant-loop-file g l = record {
   count : vec_len l.read + length (into_iter_items l.file-iterator) ≡ length l.fn.files.items;
-  room : length l.fn.files.items ≤ vec_capacity l.read;
+  space : length l.fn.files.items ≤ vec_capacity l.read;
 }

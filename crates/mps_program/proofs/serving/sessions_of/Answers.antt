@@ -16,6 +16,6 @@ loop-preserved c =
     let New = IsNewOf q.roles.items (global_type q.body) in
     record {
       count = omega (arith, p.len, h.count);
-      room = omega (arith, p.capacity, h.room);
+      space = omega (arith, p.capacity, h.space);
       new = subst (All New) (sym {A = List SessionState} p.items) (All-push New c.loop.sessions.items s h.new (record { projected = is.types; one = is.of_one_protocol; new = is.new }));
     }

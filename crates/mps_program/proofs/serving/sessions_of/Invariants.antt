@@ -7,6 +7,6 @@ use Rattle.mps_program.proofs.serving.sessions_of.Given as goal
 abbrev pub invariant-loop : goal.invariant-loop
 invariant-loop l = record {
   count : vec_len l.sessions ≡ l.counter;
-  room : l.n ≤ vec_capacity l.sessions;
+  space : l.n ≤ vec_capacity l.sessions;
   new : All (IsNewOf l.fn.protocol.roles.items (global_type l.fn.protocol.body)) l.sessions.items;
 }

@@ -2,7 +2,7 @@ use Rattle.std.proofs.Common.{◌≡◌, ◌+◌, ◌≤◌, length}
 use Rattle.mps_lines.specs.Lines.{most_kept}
 use Rattle.mps_wire.specs.Runs.{Going, GaveAtLeast}
 use Rattle.mps_wire.specs.Streams.{Counts, all_went_well, streams}
-use Rattle.mps_wire.specs.Conversations.{converses}
+use Rattle.mps_wire.specs.Conversations.{ConversesLine}
 use Rattle.mps_wire.specs.declared.conversation.TheConstants.{PIECE}
 use Rattle.mps_wire.proofs.conversation.converse.Given as goal
 
@@ -12,9 +12,9 @@ invariant-loop g l =
     let now = streams g.R.Source g.W.Sink l.reader l.writer in
     record {
       short : length l.going.line.items ≤ most_kept;
-      room : length l.block.items ≡ PIECE;
+      space : length l.block.items ≡ PIECE;
       reads : now.reads ≡ first.reads + l.counter;
       counts : Counts first now all_went_well;
       gave : GaveAtLeast l.counter first now;
-      going : Going (converses g.C.Caller) l.fn.caller first now l.going.line.items l.caller;
+      going : Going (ConversesLine g.C.Caller) l.fn.caller first now l.going.line.items l.caller;
     }

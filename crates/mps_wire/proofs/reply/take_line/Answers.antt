@@ -50,7 +50,7 @@ returns-in-Err-Memory g c =
     let m = c.in-Err-Memory.ensures.memory (cc) in
     let sends = Forward (Send m.1 (Text m.2)) in
     Starved (record {
-      number = m.0;
+      lead = m.0;
       to = m.1;
       value = m.2;
       readable = request _ c.roles.result.now c.args.line.now m.0 m.0 sends c.if-line-gt-MAX_LINE.false c.roles.ensures refl (c.one_numbered.ensures.shown _ _ m.0 sends) m.3;

@@ -53,7 +53,7 @@ returns-in-Err-Memory-clause-reply c =
     let spelled : SpellsScriptLine m.names line text.0 sends = subst (λ (n : List (List ℕ)). SpellsScriptLine n line text.0 sends) c.names.ensures.names text.3 in
     answers_line m.names m.types c.args.line.now m.journal m.journal (Answered (Refused Memory)) c.write_refused.result c.args.answers.now.items c.write_refused.new.out.items
     (inr (inr (record {
-      role = text.0;
+      lead = text.0;
       to = text.1;
       value = text.2;
       readable = record { short = c.if-line-gt-MAX_LINE.false; ascii = spelled_ascii m.names line text.0 sends spelled; spelled = spelled };

@@ -4,7 +4,7 @@ use Rattle.mps_wire.specs.Runs.{ScriptRan, max_reads}
 use Rattle.mps_wire.specs.Script.{AnswersLine}
 use Rattle.mps_wire.specs.Streams.{all_went_well, one_read_ended, streams}
 use Rattle.mps_wire.specs.declared.script.TheConstants.{BLOCK}
-use Rattle.mps_wire.proofs.Bytes.{same_room}
+use Rattle.mps_wire.proofs.Bytes.{same_space}
 use Rattle.mps_wire.proofs.Carrying.{turned}
 use Rattle.mps_session.proofs.PassedOn.{passed_on}
 use Rattle.mps_wire.proofs.Outcomes.{same_counts, counts_more, breaks, at_end, before_end, starts_starved}
@@ -28,7 +28,7 @@ loop-init g c =
       types = ap (λ (r : RoomState). r.types) room;
       short = omega (arith, ap length c.new.ensures.items);
       none_waits = c.new-2.ensures.items;
-      room = omega (arith, c.in_ok-block.block.ok.0, c.in_ok-block.ensures.len);
+      space = omega (arith, c.in_ok-block.block.ok.0, c.in_ok-block.ensures.len);
       reads = omega arith;
       counts = same_counts first;
       gave = gave_none first;
@@ -73,7 +73,7 @@ loop-preserved g c =
       types = c.in_ok-turn.ensures.types ∙ i.types;
       short = c.in_ok-turn.ensures.short;
       none_waits = c.in_ok-turn.ensures.none_wait;
-      room = same_room c.loop.block.len BLOCK c.turn.new.block c.loop.block.items c.loop.block.ok.0 i.room;
+      space = same_space c.loop.block.len BLOCK c.turn.new.block c.loop.block.items c.loop.block.ok.0 i.space;
       reads = omega (arith, c.in_ok-turn.ensures.reads, i.reads);
       counts = counts_more first old now i.counts all_went_well on.1;
       gave = gave_more first old now _ i.gave on.2;

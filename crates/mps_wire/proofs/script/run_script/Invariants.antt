@@ -15,7 +15,7 @@ invariant-loop g l =
       types : l.run.room.types ≡ l.fn.session.types;
       short : length l.run.line.items ≤ most_kept;
       none_waits : l.run.answers.items ≡ [];
-      room : length l.block.items ≡ BLOCK;
+      space : length l.block.items ≡ BLOCK;
       reads : now.reads ≡ first.reads + l.counter;
       counts : Counts first now all_went_well;
       gave : GaveAtLeast l.counter first now;

@@ -1,9 +1,9 @@
 use Rattle.std.proofs.Common.{length}
-use Rattle.mps_hub.specs.Restoring.{AreSeated}
+use Rattle.mps_hub.specs.Restoring.{AreInPlace}
 use Rattle.mps_hub.proofs.desk.Desk.give_all.Given as goal
 
 abbrev pub invariant-loop-one : goal.invariant-loop-one
-invariant-loop-one g l = AreSeated l.self l.session (λ h. h.pass) l.held.items
+invariant-loop-one g l = AreInPlace l.self l.session (λ h. h.pass) l.passes.items
 
 abbrev pub decreases-loop-one : goal.decreases-loop-one
-decreases-loop-one g l = length l.held.items
+decreases-loop-one g l = length l.passes.items

@@ -5,5 +5,5 @@ use Rattle.mps_hub.proofs.lobby.Lobby.new.Given as goal
 abbrev pub invariant-loop : goal.invariant-loop
 invariant-loop l = record {
   count : vec_len l.streams ≡ l.counter;
-  room : MAX_OPEN ≤ vec_capacity l.streams;
+  space : MAX_OPEN ≤ vec_capacity l.streams;
 }

@@ -1,8 +1,8 @@
-use Rattle.mps_keeper.proofs.Taking.{took_text, part_more, no_front}
+use Rattle.mps_keeper.proofs.Taking.{took_text, broken_more, no_front}
 use Rattle.mps_keeper.proofs.book.Book.append.Goals as goal
 
 pub returns-in-Ok-clause-added : goal.returns-in-Ok-clause-added
 returns-in-Ok-clause-added g c = λ start lines next is took. took_text start _ _ lines next _ is took c.in-Ok.ensures.sent
 
-pub returns-in-Err-clause-part : goal.returns-in-Err-clause-part
-returns-in-Err-clause-part g c = λ start lines next is took. part_more start _ _ lines next _ is took c.in-Err.ensures.front
+pub returns-in-Err-clause-broken_off : goal.returns-in-Err-clause-broken_off
+returns-in-Err-clause-broken_off g c = λ start lines next is took. broken_more start _ _ lines next _ is took c.in-Err.ensures.front

@@ -1,6 +1,6 @@
 use Rattle.std.proofs.Common.{◌≡◌, ◌≤◌, length}
 use Rattle.mps_lines.specs.Lines.{most_kept}
-use Rattle.mps_wire.specs.Conversations.{converses}
+use Rattle.mps_wire.specs.Conversations.{ConversesLine}
 use Rattle.mps_wire.proofs.Taking.{Taking}
 use Rattle.mps_wire.proofs.conversation.Conversation.feed.Given as goal
 
@@ -8,7 +8,7 @@ abbrev pub invariant-loop-k : goal.invariant-loop-k
 invariant-loop-k g l = record {
   writes : g.W.Sink.failed_calls l.writer ≡ g.W.Sink.failed_calls l.fn.writer;
   short : length l.self.line.items ≤ most_kept;
-  taking : Taking (converses g.C.Caller) l.fn.self.line.items l.fn.caller (g.W.Sink.taken l.fn.writer) l.bytes l.rest l.self.line.items l.caller (g.W.Sink.taken l.writer);
+  taking : Taking (ConversesLine g.C.Caller) l.fn.self.line.items l.fn.caller (g.W.Sink.taken l.fn.writer) l.bytes l.rest l.self.line.items l.caller (g.W.Sink.taken l.writer);
 }
 
 abbrev pub decreases-loop-k : goal.decreases-loop-k

@@ -1,5 +1,5 @@
 use Rattle.std.proofs.Common.{◌∙◌, sym}
-use Rattle.mps_wire.proofs.Calling.{unwritten_line, cut_line, sent_line}
+use Rattle.mps_wire.proofs.Calling.{unwritten_line, broken_line, sent_line}
 use Rattle.mps_wire.proofs.Conversing.{on_err_of}
 use Rattle.mps_wire.proofs.conversation.Conversation.tell.Goals as goal
 
@@ -17,4 +17,4 @@ returns-in-Ok-clause-ok g c = λ line start r.
 pub returns-in-Err-clause-err : goal.returns-in-Err-clause-err
 returns-in-Err-clause-err g c = λ line start r.
     let t = c.in_ok-put_reply.ensures.text in
-    cut_line g.C.Caller line start _ _ r t.0 t.1 (sym c.may_tell.ensures ∙ c.if-not-may_tell.false) _ _ _ (c.as_slice.ensures.value ∙ t.2) c.in-Err.ensures.front
+    broken_line g.C.Caller line start _ _ r t.0 t.1 (sym c.may_tell.ensures ∙ c.if-not-may_tell.false) _ _ _ (c.as_slice.ensures.value ∙ t.2) c.in-Err.ensures.front

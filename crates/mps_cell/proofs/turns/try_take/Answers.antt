@@ -1,7 +1,7 @@
 use Rattle.std.proofs.Common.{rules, arith, refl}
 use Rattle.mps_cell.proofs.Keeping.{looks, tries}
 use Rattle.mps_cell.proofs.Taking.{looked_part}
-use Rattle.mps_cell.proofs.turns.attempt.Goals as goal
+use Rattle.mps_cell.proofs.turns.try_take.Goals as goal
 
 pub load-found-requires : goal.load-found-requires
 load-found-requires c = (c.requires.cell, omega arith, looks _ _ _ _)

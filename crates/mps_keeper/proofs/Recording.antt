@@ -1,4 +1,4 @@
--- What a conversation was answered is kept.
+-- What a conversation was answered is recorded.
 use Rattle.std.proofs.Common.{◌≡◌, ℕ, Bool, true, false, List, [], ◌∷◌, ◌++◌, refl, sym, ap, subst, ◌∙◌, append_assoc, append-nil}
 use Rattle.std.specs.Prelude.{Option, if◌then◌else◌}
 use Rattle.mps_command.specs.declared.answer.Answer.{Answer}
@@ -13,18 +13,18 @@ use Rattle.mps_room.specs.declared.entry.Entry.{Entry}
 use Rattle.mps_room.specs.Numbers.{IsNumbered}
 use Rattle.mps_room.specs.declared.numbers.Told.{Told}
 use Rattle.mps_room.specs.declared.numbers.Told.TheVariants.{Fresh, Kept, Wrong, Refused}
-use Rattle.mps_wire.specs.Answers.{AnswersCut, AnswersLines}
-use Rattle.mps_wire.specs.Conversations.{RepliesTo, Unread, Called, Numbered, Starved, RepliesInText, ConversesLine, ConversesInPart, converses, converses_in_part}
-use Rattle.mps_wire.proofs.Calling.{whole_is_part}
+use Rattle.mps_wire.specs.Answers.{AnswersBrokenOff, AnswersLines}
+use Rattle.mps_wire.specs.Conversations.{RepliesTo, Unread, Called, Numbered, Starved, RepliesInText, ConversesLine, ConversesBrokenOff}
+use Rattle.mps_wire.proofs.Calling.{whole_is_broken}
 use Rattle.mps_keeper.specs.Books.{TookMore}
 use Rattle.mps_line.specs.JournalLines.{SpellsJournalLine}
-use Rattle.mps_keeper.specs.Recorded.{IsRecorded, IsKept, IsSettled}
-use Rattle.mps_keeper.specs.Trails.{SpellEntries, KeptOn, ToldIsKept}
+use Rattle.mps_keeper.specs.Recorded.{IsRecorded, HasAdded, IsSettled}
+use Rattle.mps_keeper.specs.Trails.{SpellEntries, RecordedOn, WrittenIsRecorded}
 use Rattle.std.specs.Io.KnownBytes.{Appends}
 use Rattle.mps_wire.proofs.Bytes.{Appends-none}
 use Rattle.mps_keeper.proofs.Counting.{counts_on}
 use Rattle.mps_keeper.proofs.Taking.{more_trans, no_more, took_more}
-use Rattle.mps_keeper.specs.declared.keep.Keep.{Ghosts as KeepGhosts}
+use Rattle.mps_keeper.specs.declared.recorder.Recorder.{Ghosts as RecorderGhosts}
 
 spell_all : (names : List (List ℕ)) (a : List (List ℕ)) (m : List (Option ℕ)) (d : List Entry) (b : List (List ℕ)) (n : List (Option ℕ)) (e : List Entry) → SpellEntries names a m d → SpellEntries names b n e → SpellEntries names (a ++ b) (m ++ n) (d ++ e)
 spell_all names [] [] [] b n e h k = k
@@ -34,17 +34,17 @@ spell_all names [] (i ∷ m) d b n e h k = absurd h
 spell_all names (l ∷ a) [] d b n e h k = absurd h
 spell_all names (l ∷ a) (i ∷ m) [] b n e h k = absurd h
 
--- Callers of whose calls it is known what they keep.
-module _ {R : Type 0} (caller : Ghosts R) (keeps whole : R → Bool) (taken : R → Option (List ℕ)) where
-  -- where c keeps lines so does d; what was made from c to d is kept then, where d is whole
+-- Callers of whose calls it is known what they record.
+module _ {R : Type 0} (caller : Ghosts R) (records whole : R → Bool) (taken : R → Option (List ℕ)) where
+  -- where c records lines so does d; what was made from c to d is recorded then, where d is whole
   pub record Leads (c d : R) : Type 0 where
     pub names : caller.names d ≡ caller.names c
-    pub same : keeps d ≡ keeps c
+    pub same : records d ≡ records c
     pub before : whole d ≡ true → whole c ≡ true
-    pub goes : keeps c ≡ true → whole d ≡ true → KeptOn (caller.names c) (taken c) (taken d) (caller.last c) (caller.last d) (caller.made c) (caller.made d)
+    pub goes : records c ≡ true → whole d ≡ true → RecordedOn (caller.names c) (taken c) (taken d) (caller.last c) (caller.last d) (caller.made c) (caller.made d)
     pub more : TookMore (taken c) (taken d)
 
-  nothing : (c : R) → KeptOn (caller.names c) (taken c) (taken c) (caller.last c) (caller.last c) (caller.made c) (caller.made c)
+  nothing : (c : R) → RecordedOn (caller.names c) (taken c) (taken c) (caller.last c) (caller.last c) (caller.made c) (caller.made c)
   nothing c = record { lines = []; numbers = []; entries = []; grown = sym (append-nil (caller.made c)); counted = refl; spelled = tt; took = Appends-none (taken c) }
 
   nowhere : (c : R) → Leads c c
@@ -53,8 +53,8 @@ module _ {R : Type 0} (caller : Ghosts R) (keeps whole : R → Bool) (taken : R 
   stays : (c d : R) → d ≡ c → Leads c d
   stays c d same = subst (Leads c) (sym same) (nowhere c)
 
-  joined : (c m d : R) → caller.names m ≡ caller.names c → KeptOn (caller.names c) (taken c) (taken m) (caller.last c) (caller.last m) (caller.made c) (caller.made m) → KeptOn (caller.names m) (taken m) (taken d) (caller.last m) (caller.last d) (caller.made m) (caller.made d)
-      → KeptOn (caller.names c) (taken c) (taken d) (caller.last c) (caller.last d) (caller.made c) (caller.made d)
+  joined : (c m d : R) → caller.names m ≡ caller.names c → RecordedOn (caller.names c) (taken c) (taken m) (caller.last c) (caller.last m) (caller.made c) (caller.made m) → RecordedOn (caller.names m) (taken m) (taken d) (caller.last m) (caller.last d) (caller.made m) (caller.made d)
+      → RecordedOn (caller.names c) (taken c) (taken d) (caller.last c) (caller.last d) (caller.made c) (caller.made d)
   joined c m d names first next = record {
     lines = first.lines ++ next.lines;
     numbers = first.numbers ++ next.numbers;
@@ -87,33 +87,33 @@ module _ {R : Type 0} (caller : Ghosts R) (keeps whole : R → Bool) (taken : R 
     replied line c reply d (Numbered s) = came c s.number s.command d s.came s.numbered
     replied line c reply d (Starved s) = stays c d s.unchanged
 
-    pub lines_lead : (lines : List (List ℕ)) (c : R) (out : List ℕ) (d : R) → AnswersLines (converses caller) lines c out d → Leads c d
+    pub lines_lead : (lines : List (List ℕ)) (c : R) (out : List ℕ) (d : R) → AnswersLines (ConversesLine caller) lines c out d → Leads c d
     lines_lead [] c out d a = stays c d a.1
     lines_lead (l ∷ lines) c out d a = further c a.2 d (replied l c a.4.line_is.reply a.2 a.4.line_is.replies) (lines_lead lines a.2 a.1 d a.5)
 
-    pub part_leads : (lines : List (List ℕ)) (c : R) (out : List ℕ) (d : R) → AnswersCut (converses caller) (converses_in_part caller) lines c out d → Leads c d
-    part_leads [] c out d a = stays c d a.1
-    part_leads (l ∷ []) c out d a = replied l c a.reply d a.replies
-    part_leads (l ∷ m ∷ lines) c out d a = further c a.2 d (replied l c a.4.line_is.reply a.2 a.4.line_is.replies) (part_leads (m ∷ lines) a.2 a.1 d a.5)
+    pub broken_leads : (lines : List (List ℕ)) (c : R) (out : List ℕ) (d : R) → AnswersBrokenOff (ConversesLine caller) (ConversesBrokenOff caller) lines c out d → Leads c d
+    broken_leads [] c out d a = stays c d a.1
+    broken_leads (l ∷ []) c out d a = replied l c a.reply d a.replies
+    broken_leads (l ∷ m ∷ lines) c out d a = further c a.2 d (replied l c a.4.line_is.reply a.2 a.4.line_is.replies) (broken_leads (m ∷ lines) a.2 a.1 d a.5)
 
-    -- one line more in front of answers, of the last of which a part is written
-    longer : (l : List ℕ) (done : List (List ℕ)) (c m e : R) (out others : List ℕ) (text : List ℕ) → out ≡ ended text ++ others → ConversesLine caller l c text m → AnswersCut (converses caller) (converses_in_part caller) done m others e → AnswersCut (converses caller) (converses_in_part caller) (l ∷ done) c out e
+    -- one line more in front of answers, the last of which breaks off
+    longer : (l : List ℕ) (done : List (List ℕ)) (c m e : R) (out others : List ℕ) (text : List ℕ) → out ≡ ended text ++ others → ConversesLine caller l c text m → AnswersBrokenOff (ConversesLine caller) (ConversesBrokenOff caller) done m others e → AnswersBrokenOff (ConversesLine caller) (ConversesBrokenOff caller) (l ∷ done) c out e
     longer l [] c m e out others text is line a =
         let same : ended text ≡ out = sym (is ∙ ap (λ (x : List ℕ). ended text ++ x) a.0 ∙ append-nil (ended text)) in
-        subst (λ (o : List ℕ). ConversesInPart caller l c o e) same (subst (λ (s : R). ConversesInPart caller l c (ended text) s) (sym a.1) (whole_is_part caller l c text m line))
+        subst (λ (o : List ℕ). ConversesBrokenOff caller l c o e) same (subst (λ (s : R). ConversesBrokenOff caller l c (ended text) s) (sym a.1) (whole_is_broken caller l c text m line))
     longer l (n ∷ done) c m e out others text is line a = (text, others, m, is, line, a)
 
-    at_last : (l : List ℕ) (c : R) (written : List ℕ) (d : R) → keeps c ≡ true → whole c ≡ true → ((r : R) → caller.may_tell r ≡ whole r) → (b : Bool) → whole d ≡ b → ConversesInPart caller l c written d → ToldIsKept caller taken (l ∷ []) c written d
-    at_last l c written d s w tells true on a = record { asked = l ∷ []; others = []; first = refl; reached = d; answered = a; whole = tells d ∙ on; kept = (replied l c a.reply d a.replies).goes s on; since = no_more (taken d) }
-    at_last l c written d s w tells false off a = record { asked = []; others = l ∷ []; first = refl; reached = c; answered = (a.silent (tells d ∙ off), refl); whole = tells c ∙ w; kept = nothing c; since = (replied l c a.reply d a.replies).more }
+    at_last : (l : List ℕ) (c : R) (written : List ℕ) (d : R) → records c ≡ true → whole c ≡ true → ((r : R) → caller.may_tell r ≡ whole r) → (b : Bool) → whole d ≡ b → ConversesBrokenOff caller l c written d → WrittenIsRecorded caller taken (l ∷ []) c written d
+    at_last l c written d s w tells true on a = record { asked = l ∷ []; others = []; first = refl; reached = d; answered = a; whole = tells d ∙ on; recorded = (replied l c a.reply d a.replies).goes s on; since = no_more (taken d) }
+    at_last l c written d s w tells false off a = record { asked = []; others = l ∷ []; first = refl; reached = c; answered = (a.silent (tells d ∙ off), refl); whole = tells c ∙ w; recorded = nothing c; since = (replied l c a.reply d a.replies).more }
 
-    pub told_is_kept : ((r : R) → caller.may_tell r ≡ whole r) → (lines : List (List ℕ)) (c : R) (written : List ℕ) (d : R) → keeps c ≡ true → whole c ≡ true → AnswersCut (converses caller) (converses_in_part caller) lines c written d → ToldIsKept caller taken lines c written d
-    told_is_kept tells [] c written d s w a = record { asked = []; others = []; first = refl; reached = c; answered = (a.0, refl); whole = tells c ∙ w; kept = nothing c; since = (stays c d a.1).more }
-    told_is_kept tells (l ∷ []) c written d s w a = at_last l c written d s w tells (whole d) refl a
-    told_is_kept tells (l ∷ m ∷ lines) c written d s w a =
+    pub written_is_recorded : ((r : R) → caller.may_tell r ≡ whole r) → (lines : List (List ℕ)) (c : R) (written : List ℕ) (d : R) → records c ≡ true → whole c ≡ true → AnswersBrokenOff (ConversesLine caller) (ConversesBrokenOff caller) lines c written d → WrittenIsRecorded caller taken lines c written d
+    written_is_recorded tells [] c written d s w a = record { asked = []; others = []; first = refl; reached = c; answered = (a.0, refl); whole = tells c ∙ w; recorded = nothing c; since = (stays c d a.1).more }
+    written_is_recorded tells (l ∷ []) c written d s w a = at_last l c written d s w tells (whole d) refl a
+    written_is_recorded tells (l ∷ m ∷ lines) c written d s w a =
         let mid : whole a.2 ≡ true = sym (tells a.2) ∙ a.4.aloud in
         let first = replied l c a.4.line_is.reply a.2 a.4.line_is.replies in
-        let more = told_is_kept tells (m ∷ lines) a.2 a.1 d (first.same ∙ s) mid a.5 in
+        let more = written_is_recorded tells (m ∷ lines) a.2 a.1 d (first.same ∙ s) mid a.5 in
         record {
           asked = l ∷ more.asked;
           others = more.others;
@@ -121,13 +121,13 @@ module _ {R : Type 0} (caller : Ghosts R) (keeps whole : R → Bool) (taken : R 
           reached = more.reached;
           answered = longer l more.asked c a.2 more.reached written a.1 a.0 a.3 a.4 more.answered;
           whole = more.whole;
-          kept = joined c a.2 more.reached first.names (first.goes s mid) more.kept;
+          recorded = joined c a.2 more.reached first.names (first.goes s mid) more.recorded;
           since = more.since;
         }
 
 -- One call that is recorded.
-module _ {K C : Type 0} (keep : KeepGhosts K) (caller : Ghosts C) where
-  settled : (k : K) (c : C) (command : Command) (k' : K) (d : C) (a : Answer) (b : Bool) → IsSettled keep caller k c command k' d b → caller.made d ≡ (if b then caller.made c ++ entry (caller.role c) command a ∷ [] else caller.made c) → KeptOn (caller.names c) (keep.taken k) (keep.taken k') (caller.last c) (caller.last d) (caller.made c) (caller.made d)
+module _ {K C : Type 0} (recorder : RecorderGhosts K) (caller : Ghosts C) where
+  settled : (k : K) (c : C) (command : Command) (k' : K) (d : C) (a : Answer) (b : Bool) → IsSettled recorder caller k c command k' d b → caller.made d ≡ (if b then caller.made c ++ entry (caller.role c) command a ∷ [] else caller.made c) → RecordedOn (caller.names c) (recorder.taken k) (recorder.taken k') (caller.last c) (caller.last d) (caller.made c) (caller.made d)
   settled k c command k' d a true h grows = record {
     lines = h.line ∷ [];
     numbers = h.number ∷ [];
@@ -135,7 +135,7 @@ module _ {K C : Type 0} (keep : KeepGhosts K) (caller : Ghosts C) where
     grown = grows;
     counted = h.numbered;
     spelled = (h.spelled, tt);
-    took = subst (Appends (keep.taken k) (keep.taken k')) (sym (append-nil (ended h.line))) h.kept;
+    took = subst (Appends (recorder.taken k) (recorder.taken k')) (sym (append-nil (ended h.line))) h.added;
   }
   settled k c command k' d a false h grows = record {
     lines = [];
@@ -144,8 +144,8 @@ module _ {K C : Type 0} (keep : KeepGhosts K) (caller : Ghosts C) where
     grown = grows ∙ sym (append-nil (caller.made c));
     counted = h.last_stays;
     spelled = tt;
-    took = h.kept;
+    took = h.nothing;
   }
 
-  pub recorded : (k : K) (c : C) (command : Command) (k' : K) (d : C) (a : Answer) → IsRecorded keep caller k c command k' d a → caller.made d ≡ grown (caller.made c) (caller.role c) command a → keep.keeps k ≡ true → keep.whole k' ≡ true → KeptOn (caller.names c) (keep.taken k) (keep.taken k') (caller.last c) (caller.last d) (caller.made c) (caller.made d)
-  recorded k c command k' d a h grows s w = settled k c command k' d a (is_accepted a) (h.kept s w) grows
+  pub recorded : (k : K) (c : C) (command : Command) (k' : K) (d : C) (a : Answer) → IsRecorded recorder caller k c command k' d a → caller.made d ≡ grown (caller.made c) (caller.role c) command a → recorder.records k ≡ true → recorder.whole k' ≡ true → RecordedOn (caller.names c) (recorder.taken k) (recorder.taken k') (caller.last c) (caller.last d) (caller.made c) (caller.made d)
+  recorded k c command k' d a h grows s w = settled k c command k' d a (is_accepted a) (h.settled s w) grows

@@ -14,7 +14,7 @@ use Rattle.mps_room.specs.declared.caller.Caller.{Ghosts}
 use Rattle.mps_keeper.specs.Restored.{LinesRestored}
 use Rattle.mps_keeper.specs.RestoredFaults.{RestoredFrom}
 use Rattle.mps_keeper.proofs.Staying.{lines_stay}
-use Rattle.mps_hub.specs.Restoring.{AreSeated, HasRestored}
+use Rattle.mps_hub.specs.Restoring.{AreInPlace, HasRestored}
 
 -- what stands in the front of a list
 front_get : {C : Type 0} (xs ys : List C) (i : ℕ) (x : C) → slice_get xs i ≡ Some x → slice_get (xs ++ ys) i ≡ Some x
@@ -37,13 +37,13 @@ last_or xs y i x h =
     (cases_lt i (length xs))
 
 module _ {C : Type 0} (offer : Offer) (session : ℕ) (pass : C → Known) where
-  pub front_seated : (all xs ys : List C) → all ≡ xs ++ ys → AreSeated offer session pass all → AreSeated offer session pass xs
-  front_seated all xs ys is seated place c at = seated place c (subst (λ (l : List C). slice_get l place ≡ Some c) (sym is) (front_get xs ys place c at))
+  pub front_in_place : (all xs ys : List C) → all ≡ xs ++ ys → AreInPlace offer session pass all → AreInPlace offer session pass xs
+  front_in_place all xs ys is in_place place c at = in_place place c (subst (λ (l : List C). slice_get l place ≡ Some c) (sym is) (front_get xs ys place c at))
 
-  pub more_seated : (all xs : List C) (y : C) (n : ℕ) → all ≡ xs ++ y ∷ [] → length xs ≡ n → AreSeated offer session pass xs → IsOfSession offer session (pass y) → (pass y).role ≡ n → AreSeated offer session pass all
-  more_seated all xs y n is long seated of_session role place c at =
+  pub more_in_place : (all xs : List C) (y : C) (n : ℕ) → all ≡ xs ++ y ∷ [] → length xs ≡ n → AreInPlace offer session pass xs → IsOfSession offer session (pass y) → (pass y).role ≡ n → AreInPlace offer session pass all
+  more_in_place all xs y n is long in_place of_session role place c at =
       ⊎_elim
-      (λ (before : slice_get xs place ≡ Some c). seated place c before)
+      (λ (before : slice_get xs place ≡ Some c). in_place place c before)
       (λ (last : (place ≡ length xs) × (y ≡ c)). (
         subst (λ (x : C). IsOfSession offer session (pass x)) last.1 of_session,
         sym (ap (λ (x : C). (pass x).role) last.1) ∙ role ∙ sym long ∙ sym last.0,
@@ -63,15 +63,15 @@ call_seated offer session place k x a d call (of_session, role) = (
 
 module _ {C : Type 0} (caller : Ghosts C) (pass : C → Known) (offer : Offer) (session : ℕ) where
   -- lines that are restored leave each pass at its place
-  pub still_seated : ((c : C) (x : Command) (a : Answer) (d : C) → caller.calls c x a d → Calls (pass c) x a (pass d)) → (names : List (List ℕ)) (callers callers' : List C) (lines : List (List ℕ)) → LinesRestored caller names callers lines callers' → AreSeated offer session pass callers → AreSeated offer session pass callers'
-  still_seated moves = lines_stay caller (λ place c. IsOfSession offer session (pass c) × ((pass c).role ≡ place)) (λ place c x a d t. call_seated offer session place (pass c) x a (pass d) (moves c x a d t))
+  pub still_in_place : ((c : C) (x : Command) (a : Answer) (d : C) → caller.calls c x a d → Calls (pass c) x a (pass d)) → (names : List (List ℕ)) (callers callers' : List C) (lines : List (List ℕ)) → LinesRestored caller names callers lines callers' → AreInPlace offer session pass callers → AreInPlace offer session pass callers'
+  still_in_place moves = lines_stay caller (λ place c. IsOfSession offer session (pass c) × ((pass c).role ≡ place)) (λ place c x a d t. call_seated offer session place (pass c) x a (pass d) (moves c x a d t))
 
   -- what a session is restored to, by the names that the desk has
-  pub has_restored : {R : Type 0} (source : SourceGhosts R) (names : List (List ℕ)) (before after : List C) (reader reader' : R) (count size : ℕ) → names ≡ offer.names → AreSeated offer session pass before → AreSeated offer session pass after → RestoredFrom caller source names before reader reader' after count size → HasRestored caller pass source offer session reader reader' count size
-  has_restored source names before after reader reader' count size same seated still restored = record {
+  pub has_restored : {R : Type 0} (source : SourceGhosts R) (names : List (List ℕ)) (before after : List C) (reader reader' : R) (count size : ℕ) → names ≡ offer.names → AreInPlace offer session pass before → AreInPlace offer session pass after → RestoredFrom caller source names before reader reader' after count size → HasRestored caller pass source offer session reader reader' count size
+  has_restored source names before after reader reader' count size same in_place still restored = record {
     before = before;
-    seated = seated;
+    in_place = in_place;
     after = after;
-    still_seated = still;
+    still_in_place = still;
     restored = subst (λ (n : List (List ℕ)). RestoredFrom caller source n before reader reader' after count size) same restored;
   }

@@ -15,8 +15,8 @@ length_of (Err why) = no_length
 
 -- a text of that kind was written over the front of the bytes, as much of it as fits, and this is its whole length; or
 -- there was no memory for it, and nothing was written
-abbrev pub IsTold : (IsText : List ℕ → Type 0) → (old new : List ℕ) → (count : ℕ) → Type 0
-IsTold IsText old new count = IsFilled IsText old new count ⊎ ((count ≡ no_length) × (new ≡ old))
+abbrev pub IsFilledOrLeft : (IsText : List ℕ → Type 0) → (old new : List ℕ) → (count : ℕ) → Type 0
+IsFilledOrLeft IsText old new count = IsFilled IsText old new count ⊎ ((count ≡ no_length) × (new ≡ old))
 
 -- there is a new room of the protocol that the text spells; or there is none, and the number and the place are those
 -- of the text's fault
