@@ -10,6 +10,6 @@ one_of first n Memory h = tt
 one_of first n (Unrecorded session) h = absurd (omega (arith, h.0, h.1))
 
 -- what stops a server of which nothing is recorded may stop any
-pub more_kept : {A : Type 0} (first n : ℕ) (r : Result A ServeFault) → IfErr r (IsServeFaultOf 0 0) → IfErr r (IsServeFaultOf first n)
-more_kept first n (Ok x) h = tt
-more_kept first n (Err fault) h = one_of first n fault h
+pub more_recorded : {A : Type 0} (first n : ℕ) (r : Result A ServeFault) → IfErr r (IsServeFaultOf 0 0) → IfErr r (IsServeFaultOf first n)
+more_recorded first n (Ok x) h = tt
+more_recorded first n (Err fault) h = one_of first n fault h
