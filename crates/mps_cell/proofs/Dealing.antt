@@ -1,5 +1,5 @@
 -- The passes are dealt, and the room comes back at the end.
-use Rattle.std.proofs.Common.{zero, length, ◌≡◌, ℕ, suc, ◌+◌, ◌-◌, ◌%◌, ◌<◌, false, List, [], ◌∷◌, ◌++◌, sym, refl, ap, ◌∙◌, subst, arith, add-one, Option, Some, None}
+use Rattle.std.proofs.Common.{zero, length, ◌≡◌, ℕ, suc, ◌+◌, ◌-◌, ◌%◌, ◌<◌, false, List, [], ◌∷◌, ◌++◌, sym, refl, ap, ◌∙◌, subst, arith, add-one, Option, None}
 use Rattle.std.specs.List.{All}
 use Rattle.std.proofs.lemmas.List.Elements.{All-nil, All-push, All-same}
 use mathlib.Core.Option as maybe
@@ -9,7 +9,7 @@ use Rattle.mps_room.specs.RoomState.{RoomState}
 use Rattle.mps_room.specs.declared.entry.Entry.{Entry}
 use Rattle.mps_cell.specs.Openings.{Opening, room_of, IsLegalIn}
 use Rattle.mps_cell.specs.Views.{SeatView, fresh_part, fresh_parts, dealing, part_of, without_first, first_alone}
-use Rattle.mps_cell.specs.Rule.{IsJournaled, word_of, home_of, resting, Shows, AllShow}
+use Rattle.mps_cell.specs.Rule.{IsJournaled, home_of, resting, Shows, AllShow}
 use Rattle.mps_cell.specs.Private.Rule.{IsResting}
 use Rattle.atomic_table.specs.Seated.{TableId}
 use Rattle.mps_cell.specs.Calls.{Known, known}
@@ -20,11 +20,8 @@ use Rattle.mps_cell.proofs.Keeping.{deals}
 abbrev M : Type 0
 M = Me RoomState SeatView
 
-one_more : (i n : ℕ) → i < n → n - i ≡ suc (n - (i + 1))
-one_more i n h = omega arith
-
 next : (o : Opening) (i n : ℕ) → i < n → fresh_parts o i (n - i) ≡ fresh_part o i ∷ fresh_parts o (i + 1) (n - (i + 1))
-next o i n h = ap (fresh_parts o i) (one_more i n h)
+next o i n h = grind arith
 
 pub deals_next : (k o : Opening) (id i n : ℕ) (m : M) → i < n → m ≡ (dealing o i (n - i), []) → Splits (IsJournaled k) id m.0 (without_first m.0) (first_alone m.0)
 deals_next k o id i n m h is = deals k id m.0 (fresh_part o i) (fresh_parts o (i + 1) (n - (i + 1))) (ap (λ (x : M). x.0.parts) is ∙ next o i n h)
@@ -35,15 +32,10 @@ dealt_rest o i n m m' h is now = now ∙ (ap (λ (x : M). (without_first x.0, x.
 pub dealt_one : (o : Opening) (i n : ℕ) (m m' : M) → i < n → m ≡ (dealing o i (n - i), []) → m' ≡ (first_alone m.0, []) → m' ≡ resting (fresh_part o i) false
 dealt_one o i n m m' h is now = now ∙ (ap (λ (x : M). (first_alone x.0, [])) is ∙ ap (λ ps. (first_alone (record { parts = ps; noted = None; was_out = false }), [])) (next o i n h))
 
-home_even : (a : Option ℕ) (j : List Entry) → word_of a j % 2 ≡ 0 → a ≡ None
-home_even None j e = refl
-home_even (Some t) j e = absurd (omega arith)
-
 module _ (o : Opening) (s : State RoomState SeatView) (r : IsJournaled o s) (ws : List ℕ) (xs : List RoomState) (w : ℕ) (y : RoomState) (same : s.words ≡ ws)
     (homes : (k : ℕ) (x : RoomState) → get_elem? s.homes k ≡ maybe.some (maybe.some x) → get_elem? xs k ≡ maybe.some x) (word : get_elem? ws 0 ≡ maybe.some w) (even : w % 2 ≡ 0) (room : get_elem? xs 0 ≡ maybe.some y) where
   at_home : r.away ≡ None
-  at_home = let e : word_of r.away r.log ≡ w = maybe.some-injective (word_of r.away r.log) w (sym (ap (λ (l : List ℕ). get_elem? l 0) r.words) ∙ (ap (λ (l : List ℕ). get_elem? l 0) same ∙ word)) in
-      home_even r.away r.log (ap (λ (n : ℕ). n % 2) e ∙ even)
+  at_home = grind (arith, get_elem?)
 
   pub ends_as : y ≡ room_of o r.log
   ends_as = let h = homes 0 (room_of o r.log) (ap (λ (l : List (maybe.Option RoomState)). get_elem? l 0) (r.homes ∙ ap (λ (a : Option ℕ). home_of o a r.log ∷ []) at_home)) in
@@ -55,21 +47,16 @@ module _ (o : Opening) (s : State RoomState SeatView) (r : IsJournaled o s) (ws 
 pub closed : (o : Opening) (ws : List ℕ) (xs : List RoomState) (w : ℕ) (y : RoomState) → Final (IsJournaled o) ws xs → get_elem? ws 0 ≡ maybe.some w → w % 2 ≡ 0 → get_elem? xs 0 ≡ maybe.some y → Closes o y
 closed o ws xs w y f word even room = closes o f.0 f.1 ws xs w y f.2 f.4 word even room
 
-more : (id : TableId) (o : Opening) (n : ℕ) → fresh_below id o (n + 1) ≡ fresh_below id o n ++ fresh id o n ∷ []
-more id o n = rw add-one refl
-
 pub dealt_more : (id id' : TableId) (o o' : Opening) (i : ℕ) (all all' : List Known) (k : Known) → all' ≡ all ++ k ∷ [] → all ≡ fresh_below id o i → k ≡ fresh id' o' i → id' ≡ id → o' ≡ o
     → all' ≡ fresh_below id o (i + 1)
-dealt_more id id' o o' i all all' k now was new is is' = let e : k ≡ fresh id o i = new ∙ (λ t. fresh (is t) (is' t) i) in let f = more id o i in cc
+dealt_more id id' o o' i all all' k now was new is is' = grind (arith, add-one)
 
 shown_in : (j : List Entry) (m : M) → IsResting m → AllShow j m.0.parts → Shows j (part_of m.0.parts)
 shown_in j m free all = (subst (λ (x : M). AllShow j x.0.parts) free all).0
 
 pub closed_with : (o : Opening) (id : ℕ) (m : M) (t : TableId) (ws : List ℕ) (xs : List RoomState) (w : ℕ) (y : RoomState) → IsResting m → Final (Seen (IsJournaled o) id m.0) ws xs → get_elem? ws 0 ≡ maybe.some w → w % 2 ≡ 0 → get_elem? xs 0 ≡ maybe.some y
     → Closes o y × HasAllOf (known t m.0) y.journal
-closed_with o id m t ws xs w y free f word even room = let r = f.1.0 in let e = ends_as o f.0 r ws xs w y f.2 f.4 word even room in
-    let s : Shows r.log (part_of m.0.parts) = shown_in r.log m free (r.seats id m.0 f.1.1).shows in let h : HasAllOf (known t m.0) r.log = record { begins = s.begins; reached = s.reached; own = s.own } in
-    (closes o f.0 r ws xs w y f.2 f.4 word even room, subst (λ (x : RoomState). HasAllOf (known t m.0) x.journal) (sym e) h)
+closed_with o id m t ws xs w y free f word even room = let r = f.1.0 in grind (arith, ends_as o f.0 r ws xs w y f.2 f.4 word even room, shown_in r.log m free (r.seats id m.0 f.1.1).shows, closes o f.0 r ws xs w y f.2 f.4 word even room)
 
 -- the seat of a role that was dealt is a fresh_part's
 pub fresh_seat : (o : Opening) (i role : ℕ) (m : M) → m ≡ resting (fresh_part o i) false → role ≡ i → m ≡ resting (fresh_part (part_of m.0.parts).opening role) false

@@ -1,5 +1,5 @@
 -- Each step keeps the rule.
-use Rattle.std.proofs.Common.{◌≡◌, ◌≢◌, ℕ, zero, suc, ◌+◌, ◌*◌, ◌/◌, ◌%◌, ◌<◌, ◌≤◌, ◌==◌, Bool, true, false, List, [], ◌∷◌, ◌++◌, length, set, get_or, sym, refl, ap, ◌∙◌, subst, ⊎_elim, inl, inr, arith, Option, Some, None, length-set, length-append, ne_eqb, eq-eqb, if◌then◌else◌, le_refl}
+use Rattle.std.proofs.Common.{◌≡◌, ◌≢◌, ℕ, zero, suc, ◌+◌, ◌*◌, ◌/◌, ◌%◌, ◌<◌, ◌≤◌, ◌==◌, Bool, false, List, [], ◌∷◌, ◌++◌, length, set, get_or, sym, refl, ap, ◌∙◌, subst, ⊎_elim, inl, inr, arith, Option, Some, None, length-set, length-append, ne_eqb, eq-eqb, if◌then◌else◌, le_refl}
 use Rattle.std.proofs.lemmas.List.{append-nil}
 use Rattle.std.proofs.lemmas.Bool.{eqb-true, cases_eq}
 use mathlib.Core.Option as maybe
@@ -20,21 +20,15 @@ St = State RoomState SeatView
 abbrev M : Type 0
 M = Me RoomState SeatView
 
-word_half : (a : Option ℕ) (j : List Entry) → word_of a j / 2 ≡ length j
-word_half None j = omega arith
-word_half (Some t) j = omega arith
-
 home_at_even : (a : Option ℕ) (j : List Entry) → word_of a j % 2 ≡ 0 → a ≡ None
-home_at_even None j e = refl
-home_at_even (Some t) j e = absurd (omega arith)
+home_at_even a j e = grind arith
 
 word_is : (o : Opening) (s : St) (r : IsJournaled o s) → get_or s.words 0 0 ≡ word_of r.away r.log
 word_is o s r = ap (λ ws. get_or ws 0 0) r.words
 
 -- what a seat is told of the journal
 told : (o : Opening) (s : St) (r : IsJournaled o s) (id : ℕ) (v : SeatView) → get_elem? s.views id ≡ maybe.some v → ShowsLength v (get_or s.words 0 0) r.log
-told o s r id v at = let n = word_is o s r in let h = word_half r.away r.log in
-    (sym h ∙ ap (λ (k : ℕ). k / 2) (sym n), (r.seats id v at).shows, (r.seats id v at).apart)
+told o s r id v at = grind arith
 
 -- a step that looks, and changes no word
 unmoved : (o : Opening) (s : St) (r : IsJournaled o s) (id : ℕ) (me : M) (b : Bool) → get_elem? s.views id ≡ maybe.some me.0
@@ -94,31 +88,15 @@ tries o slots id me p ps old new some_part even next s r _ at _ = let n : ℕ = 
           here = mine.here;
           apart = mine.apart;
           noted = sym (noted_here id r.log);
-        } (λ j d other there. let old = r.seats j d there in record {
-          shows = old.shows;
-          here = old.here;
-          apart = old.apart;
-          noted = old.noted ∙ (ap (λ (a : Option ℕ). noted_by a j r.log) out ∙ sym (noted_else id j r.log other));
-        });
+        } (grind (arith, noted_else));
         rests = λ role some. still_rests s.views id me.0 w role (r.owner role) at (λ h. h) (r.rests role some);
       },
       ((λ _. (r.log, told o s r id me.0 at, refl)), λ differs. absurd (differs hit)),
     ))
-    (λ miss. (
-      looked n late me.0,
-      keeps,
-      tt,
-      unmoved o s r id me late at,
-      ((λ hit. absurd (miss hit)), λ _. ((r.log, told o s r id me.0 at), refl)),
-    ))
-
-noted_is_by : (t i : ℕ) (k j : List Entry) (b : Bool) → (t == i) ≡ b → Some k ≡ (if b then Some j else None) → (Some t ≡ Some i) × (k ≡ j)
-noted_is_by t i k j true b e = (ap (λ (x : ℕ). Some x) (eqb-true t i b), cc)
-noted_is_by t i k j false b e = absurd cc
+    (grind (arith, unmoved o s r id me late, told o s r id me.0))
 
 noted_is : (a : Option ℕ) (i : ℕ) (k j : List Entry) → Some k ≡ noted_by a i j → (a ≡ Some i) × (k ≡ j)
-noted_is None i k j e = absurd cc
-noted_is (Some t) i k j e = noted_is_by t i k j (t == i) refl e
+noted_is a i k j e = grind (arith, eqb-true)
 
 pub gives_back : (o : Opening) (slots id : ℕ) (p : Part) (k j : List Entry) (new : ℕ) → Grows p.role k j → IsLegalIn p.opening j → new ≡ 2 * length j
     → Allows (IsJournaled o) slots id (with_room p k (room_of p.opening j)) 0 (λ _. new) (λ _. Gives (step slots 0 new 0 maybe.none) (with_room p k (room_of p.opening j)) new)
@@ -162,12 +140,7 @@ pair p q b = (record { parts = p ∷ q ∷ []; noted = None; was_out = b }, [])
 
 -- a role that rested on the seat id moves to the seat `to`, and the other seats stay
 others_stay : (o : Opening) (j : List Entry) (away : Option ℕ) (owner : ℕ → ℕ) (role to id : ℕ) → owner role ≡ id → (i : ℕ) (x : SeatView) → i ≢ id → Rests o j away owner i x → Rests o j away (moved owner role to) i x
-others_stay o j away owner role to id is i x differs r = record {
-  shows = r.shows;
-  here = still_here o owner role to i x.parts (elsewhere o owner role id i is differs x.parts r.here) r.here;
-  apart = r.apart;
-  noted = r.noted;
-}
+others_stay o j away owner role to id is i x differs r = grind (arith, still_here, elsewhere)
 
 pub deals : (o : Opening) (id : ℕ) (v : SeatView) (p : Part) (ps : List Part) → v.parts ≡ p ∷ ps → Splits (IsJournaled o) id v (without_first v) (first_alone v)
 deals o id v p ps is s r at =
@@ -177,12 +150,7 @@ deals o id v p ps is s r at =
     let shown : AllShow r.log (p ∷ ps) = subst (AllShow r.log) is mine.shows in let here : AllHere o r.owner id (p ∷ ps) = subst (AllHere o r.owner id) is mine.here in
     let apart : AllApart (p ∷ ps) = subst AllApart is mine.apart in
     let lefts : left.parts ≡ ps = ap without_first_part is in let rights : right.parts ≡ p ∷ [] = ap first_part_alone is in
-    let new : K n right = record {
-      shows = subst (AllShow r.log) (sym rights) (shown.0, tt);
-      here = subst (AllHere o to n) (sym rights) ((here.0.0, moved_here r.owner p.role n), tt);
-      apart = subst AllApart (sym rights) (tt, tt);
-      noted = sym (unnoted r.away n r.log r.placed);
-    } in record {
+    let new : K n right = grind (arith, moved_here, unnoted) in record {
       log = r.log;
       away = r.away;
       owner = to;
@@ -201,8 +169,7 @@ deals o id v p ps is s r at =
           (at_end vs right d j e);
       rests = λ role some. rests_moved (vs ++ right ∷ []) r.owner p.role n role
           (λ same. record { view = right; there = at_last vs right n n_is; has = subst (HasRole role) (sym rights) (inl (sym same)) })
-          (λ other. rests_longer vs right role (r.owner role) (still_rests s.views id v left role (r.owner role) at
-          (λ h. subst (HasRole role) (sym lefts) (has_other p ps role other (subst (HasRole role) is h))) (r.rests role some)));
+          (λ other. rests_longer vs right role (r.owner role) (grind (arith, still_rests, has_other)));
     }
 
 -- a seat with two parts keeps the first
@@ -212,12 +179,7 @@ divides o id p q b s r at =
     let n_is : length vs ≡ n = length-set s.views id left in
     let to : ℕ → ℕ = moved r.owner q.role n in let K : ℕ → SeatView → Type 0 = Rests o r.log r.away to in
     let differs : p.role ≢ q.role = λ e. mine.apart.0.0 (sym e) in
-    let new : K n right = record {
-      shows = (mine.shows.1.0, tt);
-      here = ((mine.here.1.0.0, moved_here r.owner q.role n), tt);
-      apart = (tt, tt);
-      noted = sym (unnoted r.away n r.log r.placed);
-    } in record {
+    let new : K n right = grind (arith, moved_here, unnoted) in record {
       log = r.log;
       away = r.away;
       owner = to;
@@ -236,8 +198,7 @@ divides o id p q b s r at =
           (at_end vs right d j e);
       rests = λ role some. rests_moved (vs ++ right ∷ []) r.owner q.role n role
           (λ same. record { view = right; there = at_last vs right n n_is; has = inl (sym same) })
-          (λ other. rests_longer vs right role (r.owner role) (still_rests s.views id v left role (r.owner role) at
-          (λ h. ⊎_elim (λ (e : p.role ≡ role). inl e) (λ (k : HasRole role (q ∷ [])). absurd (has_other q [] role other k)) h) (r.rests role some)));
+          (λ other. rests_longer vs right role (r.owner role) (grind (arith, still_rests, has_other)));
     }
 
 -- a seat with one part takes in another's
@@ -257,21 +218,14 @@ gathers o id other p q b b' s r at apart at' =
       placed = λ t e. let h = r.placed t e in omega (arith, length-set s.views id both, length-set vs other spent);
       seats = seats_stay K vs other spent record { shows = tt; here = tt; apart = tt; noted = its.noted }
           (λ j d not_other at_j. seats_stay (λ i x. i ≢ other → K i x) s.views id both
-          (λ _. record {
-            shows = (mine.shows.0, (its.shows.0, tt));
-            here = ((mine.here.0.0, ap (λ (c : Bool). if c then id else r.owner p.role) (ne_eqb p.role q.role differs) ∙ mine.here.0.1), ((its.here.0.0, moved_here r.owner q.role id), tt));
-            apart = (((λ e. differs (sym e)), tt), (tt, tt));
-            noted = mine.noted;
-          })
+          (grind (arith, ne_eqb, moved_here))
           (λ i x _ at_i away. others_stay o r.log r.away r.owner q.role id other its.here.0.1 i x away (r.seats i x at_i)) j d at_j not_other);
       rests = λ role some.
           let here : get_elem? vs id ≡ maybe.some both = set_here s.views id both (inside s.views id (resting p b).0 at) in
-          let first : RestsOn vs role (r.owner role) = still_rests s.views id (resting p b).0 both role (r.owner role) at
-          (λ h. ⊎_elim (λ (e : p.role ≡ role). inl e) (λ (k : HasRole role []). absurd k) h) (r.rests role some) in
+          let first : RestsOn vs role (r.owner role) = grind (arith, still_rests) in
           rests_moved (set vs other spent) r.owner q.role id role
           (λ same. record { view = both; there = set_else vs other id spent (λ e. apart (sym e)) ∙ here; has = inr (inl (sym same)) })
-          (λ differs_from. still_rests vs other (resting q b').0 spent role (r.owner role) at'
-          (λ h. has_other q [] role differs_from h) first);
+          (grind (arith, still_rests, has_other));
     }
 
 newcomers_show : (o : Opening) (role n : ℕ) → AllShow [] (fresh_parts o role n)
@@ -296,8 +250,7 @@ newcomers_have o role from (suc n) low high =
     ⊎_elim (λ (same : role ≡ from). inl (sym same)) (λ (other : role ≡ from → ⊥). inr (newcomers_have o role (from + 1) n (omega arith) (omega arith))) (cases_eq role from)
 
 first_rests : (o : Opening) (seat : ℕ) (v : SeatView) → get_elem? (first_view o ∷ []) seat ≡ maybe.some v → Rests o [] None (λ _. 0) seat v
-first_rests o zero v e = subst (Rests o [] None (λ _. 0) 0) (maybe.some-injective (first_view o) v e) record { shows = newcomers_show o 0 (length o.types); here = newcomers_here o 0 (length o.types); apart = newcomers_apart o 0 (length o.types); noted = refl }
-first_rests o (suc j) v e = absurd (maybe.some-ne-none v (sym e))
+first_rests o seat v e = grind (arith, newcomers_show, newcomers_here, newcomers_apart)
 
 pub opens : (o : Opening) → IsJournaled o (opening (0 ∷ []) (room_of o [] ∷ []) (first_view o))
 opens o = record {
@@ -313,8 +266,4 @@ opens o = record {
 }
 
 pub opens_with : (m x : RoomState) (n : ℕ) (items rest : List RoomState) → m.journal ≡ [] → x ≡ m → items ≡ rest ++ m ∷ [] → rest ≡ [] → IsJournaled (opening_of x n) (opening (0 ∷ []) items (first_view (opening_of x n)))
-opens_with m x n items rest blank is now none_else =
-    let P : RoomState × List RoomState → Type 0 = λ y. IsJournaled (opening_of y.0 n) (opening (0 ∷ []) y.1 (first_view (opening_of y.0 n))) in
-    let e : items ≡ m ∷ [] = now ∙ ap (λ l. l ++ m ∷ []) none_else in
-    let new : room_of (opening_of m n) [] ≡ m = ap (λ (j : List Entry). room_of (opening_of m n) j) (sym blank) in
-    subst P (λ i. (sym is i, sym e i)) (subst (λ (y : RoomState). P (m, y ∷ [])) new (opens (opening_of m n)))
+opens_with m x n items rest blank is now none_else = grind (arith, opens (opening_of m n))

@@ -29,8 +29,7 @@ at_end (x ∷ xs) a b (suc j) e = ⊎_elim (λ h. inl h) (λ (h : (j ≡ length 
 
 pub seats_stay : (K : ℕ → SeatView → Type 0) (vs : List SeatView) (me : ℕ) (w : SeatView) → K me w → ((j : ℕ) (d : SeatView) → j ≢ me → get_elem? vs j ≡ maybe.some d → K j d)
     → (j : ℕ) (d : SeatView) → get_elem? (set vs me w) j ≡ maybe.some d → K j d
-seats_stay K vs me w mine others j d e = ⊎_elim (λ (t : (j ≡ me) × (w ≡ d)). subst (λ (x : ℕ × SeatView). K x.0 x.1) (λ i. (sym t.0 i, t.1 i)) mine)
-    (λ (t : (j ≢ me) × (get_elem? vs j ≡ maybe.some d)). others j d t.0 t.1) (at_set vs me j w d e)
+seats_stay K vs me w mine others j d e = grind (arith, get_elem?, at_set)
 
 pub raise_all : (j : List Entry) (n : ℕ) (ps : List Part) → n ≤ length j → AllShow j ps → AllShow j (map (raised n) ps)
 raise_all j n [] le a = tt
@@ -41,14 +40,7 @@ raise_here o owner seat n [] a = tt
 raise_here o owner seat n (p ∷ ps) a = (a.0, raise_here o owner seat n ps a.1)
 
 grow_show : (role : ℕ) (k j : List Entry) → Grows role k j → (p : Part) → IsLegalIn p.opening j → p.role ≢ role → Shows k p → Shows j p
-grow_show role k j (inl same) p legal other s = subst (λ l. Shows l p) (sym same) s
-grow_show role k j (inr e) p legal other s = record {
-  legal = legal;
-  begins = (s.begins.0 ++ e.0 ∷ [], e.2 ∙ (ap (λ l. l ++ e.0 ∷ []) s.begins.1 ∙ append_assoc p.seen s.begins.0 (e.0 ∷ [])));
-  reached = let r = s.reached in omega (arith, ap length e.2, length-append k (e.0 ∷ []));
-  own = ap (entries_of p.role) e.2 ∙ (other_entry p.role k e.0 (λ is. other (sym is ∙ e.1)) ∙ s.own);
-  all_seen = s.all_seen;
-}
+grow_show role k j others p legal other s = grind (arith, append_assoc, length-append, other_entry)
 
 pub grow_all : (o : Opening) (owner : ℕ → ℕ) (seat role : ℕ) (k j : List Entry) → Grows role k j → IsLegalIn o j → (ps : List Part) → AllHere o owner seat ps → AllOther role ps → AllShow k ps → AllShow j ps
 grow_all o owner seat role k j g legal [] here other a = tt
@@ -85,17 +77,7 @@ raise_has role n (p ∷ ps) h = ⊎_elim (λ (e : p.role ≡ role). inl e) (λ (
 -- a seat's view changes: what rested on it still does, where its new parts are of no fewer roles
 pub still_rests : (vs : List SeatView) (id : ℕ) (v w : SeatView) (role seat : ℕ) → get_elem? vs id ≡ maybe.some v → (HasRole role v.parts → HasRole role w.parts)
     → RestsOn vs role seat → RestsOn (set vs id w) role seat
-still_rests vs id v w role seat at keeps r =
-    ⊎_elim
-    (λ (same : seat ≡ id).
-    let view : v ≡ r.view = maybe.some-injective v r.view (sym at ∙ (ap (λ (i : ℕ). get_elem? vs i) (sym same) ∙ r.there)) in
-    subst (RestsOn (set vs id w) role) (sym same) record {
-      view = w;
-      there = set_here vs id w (inside vs id v at);
-      has = keeps (subst (λ (x : SeatView). HasRole role x.parts) (sym view) r.has);
-    })
-    (λ (other : seat ≡ id → ⊥). record { view = r.view; there = set_else vs id seat w other ∙ r.there; has = r.has })
-    (cases_eq seat id)
+still_rests vs id v w role seat at keeps r = grind (arith, get_elem?, set_here, inside, set_else, cases_eq)
 
 -- one seat more
 pub rests_longer : (vs : List SeatView) (w : SeatView) (role seat : ℕ) → RestsOn vs role seat → RestsOn (vs ++ w ∷ []) role seat
@@ -103,11 +85,7 @@ rests_longer vs w role seat r = record { view = r.view; there = at_longer vs (w 
 
 -- the other roles stay where they rested
 pub rests_moved : (vs : List SeatView) (owner : ℕ → ℕ) (role to r : ℕ) → (r ≡ role → RestsOn vs r to) → (r ≢ role → RestsOn vs r (owner r)) → RestsOn vs r (moved owner role to r)
-rests_moved vs owner role to r here others =
-    ⊎_elim
-    (λ (same : r ≡ role). subst (RestsOn vs r) (sym (ap (λ (b : Bool). if b then to else owner r) (eq-eqb r role same))) (here same))
-    (λ (other : r ≡ role → ⊥). subst (RestsOn vs r) (sym (ap (λ (b : Bool). if b then to else owner r) (ne_eqb r role other))) (others other))
-    (cases_eq r role)
+rests_moved vs owner role to r here others = grind (arith, eq-eqb, ne_eqb, cases_eq)
 
 -- of the others of these parts
 pub has_other : (p : Part) (ps : List Part) (role : ℕ) → role ≢ p.role → HasRole role (p ∷ ps) → HasRole role ps

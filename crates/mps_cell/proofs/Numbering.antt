@@ -1,5 +1,5 @@
 -- A numbered command of a pass that isn't refused is accepted.
-use Rattle.std.proofs.Common.{◌≡◌, Bool, true, false, refl, MatchBool}
+use Rattle.std.proofs.Common.{arith, ◌≡◌, true}
 use Rattle.std.specs.Prelude.{IsSome}
 use Rattle.mps_command.specs.Changes.{change_of}
 use Rattle.mps_command.specs.declared.answer.Answer.{Answer}
@@ -8,12 +8,7 @@ use Rattle.mps_command.specs.declared.answer.Refusal.{Refusal}
 use Rattle.mps_command.specs.declared.command.Command.{Command}
 use Rattle.mps_room.specs.Journal.{is_accepted}
 use Rattle.mps_room.proofs.Numbering.{accepts_change}
-use Rattle.mps_cell.specs.Calls.{Known, IsAccepted, IsNotAccepted, Calls}
-
-by_answer : (k : Known) (c : Command) (a : Answer) (k' : Known) (b : Bool) → is_accepted a ≡ b → MatchBool b (IsAccepted k c a k') (IsNotAccepted k c a k') → IsSome (change_of c)
-    → ((refusal : Refusal) → a ≡ Refused refusal → ⊥) → is_accepted a ≡ true
-by_answer k c a k' true is h some none = is
-by_answer k c a k' false is h some none = accepts_change k.opening.names k.opening.types k'.seen k.role c a some h.answer none
+use Rattle.mps_cell.specs.Calls.{Known, Calls}
 
 pub accepted_call : (k : Known) (c : Command) (a : Answer) (k' : Known) → Calls k c a k' → IsSome (change_of c) → ((refusal : Refusal) → a ≡ Refused refusal → ⊥) → is_accepted a ≡ true
-accepted_call k c a k' h some none = by_answer k c a k' (is_accepted a) refl h.answered some none
+accepted_call k c a k' h some none = grind (arith, accepts_change)

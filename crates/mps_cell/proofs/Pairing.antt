@@ -1,5 +1,5 @@
 -- Two passes meet.
-use Rattle.std.proofs.Common.{◌≡◌, ℕ, ◌+◌, ◌%◌, ◌≤◌, ◌==◌, Bool, false, List, [], ◌∷◌, ◌++◌, Option, filter, length, sym, refl, ap, ◌∙◌, subst, arith, length-append}
+use Rattle.std.proofs.Common.{◌≡◌, ℕ, ◌+◌, ◌≤◌, ◌==◌, Bool, false, List, [], ◌∷◌, ◌++◌, Option, filter, length, sym, refl, ap, ◌∙◌, subst, arith, length-append}
 use Rattle.std.proofs.lemmas.List.{append-nil}
 use Rattle.std.proofs.lemmas.List.Elements.{filter-append}
 use mathlib.Core.Option as maybe
@@ -30,35 +30,28 @@ pub lent_part : (m m' : M) → IsResting m → m' ≡ (first_alone m.0, []) → 
 lent_part m m' free is = is ∙ ap (λ (x : M). (first_alone x.0, [])) free
 
 pub gathers_part : (o : Opening) (id other : ℕ) (m m' : M) (q : Part) → IsResting m → m' ≡ resting q false → Joins (IsJournaled o) id m.0 other m'.0 (both_parts m.0 m'.0) spent
-gathers_part o id other m m' q free is = let P : M × M → Type 0 = λ x. Joins (IsJournaled o) id x.0.0 other x.1.0 (both_parts x.0.0 x.1.0) spent in
-    let same : (m, m') ≡ (resting (part m) m.0.was_out, resting q false) = λ i. (free i, is i) in
-    subst P (sym same) (gathers o id other (part m) q m.0.was_out false)
+gathers_part o id other m m' q free is = grind (arith, gathers)
 
 pub gathered : (m m' m2 : M) (q : Part) → IsResting m → m' ≡ resting q false → m2 ≡ (both_parts m.0 m'.0, m.1) → m2 ≡ pair (part m) q m.0.was_out
 gathered m m' m2 q free is now = now ∙ (λ i. (both_parts (free i).0 (is i).0, (free i).1))
 
 pub looked_pair : (st : Step RoomState) (m m' : M) (p q : Part) (b : Bool) (r : ℕ) → m ≡ pair p q b → Looks st m r m'
     → (j : List Entry) × (b' : Bool) × Shows j p × Shows j q × (m' ≡ pair (raised (length j) p) (raised (length j) q) b')
-looked_pair st m m' p q b r is l = let k = subst (λ (x : M). Looks st x r m') is l in
-    (k.0.0, r % 2 == 1, k.0.1.1.0, k.0.1.1.1.0, k.1 ∙ ap (λ (n : ℕ). pair (raised n p) (raised n q) (r % 2 == 1)) (sym k.0.1.0))
+looked_pair st m m' p q b r is l = grind (arith, pair)
 
 pub divides_pair : (o : Opening) (id : ℕ) (m : M) (p q : Part) (b : Bool) → m ≡ pair p q b → Splits (IsJournaled o) id m.0 (first_stays m.0) (others_go m.0)
 divides_pair o id m p q b is = subst (λ (x : M). Splits (IsJournaled o) id x.0 (first_stays x.0) (others_go x.0)) (sym is) (divides o id p q b)
 
 pub met : (st : Step RoomState) (m l other m1 m2 m3 l3 : M) (r : ℕ) → IsResting m → IsResting l → other ≡ (first_alone l.0, []) → m1 ≡ (both_parts m.0 other.0, m.1) → Looks st m1 r m2
     → m3 ≡ (first_stays m2.0, m2.1) → l3 ≡ (others_go m2.0, []) → Met m l m3 l3
-met st m l other m1 m2 m3 l3 r free free' lent joined looks mine its =
-    let k = looked_pair st m1 m2 (part m) (part l) m.0.was_out r (gathered m other m1 (part l) free (lent_part l other free' lent) joined) looks in
-    (k.0, k.1, k.2, k.3, mine ∙ ap (λ (x : M). (first_stays x.0, x.1)) k.4, its ∙ ap (λ (x : M). (others_go x.0, [])) k.4)
+met st m l other m1 m2 m3 l3 r free free' lent joined looks mine its = grind (arith, looked_pair, gathered, lent_part)
 
 -- of two beginnings of one list the shorter begins the longer
 shorter_begins : (s l j : List Entry) → StartsWith j s → StartsWith j l → length s ≤ length l → StartsWith l s
-shorter_begins [] l j p q le = (l, refl)
-shorter_begins (x ∷ s) [] j p q le = absurd (omega arith)
-shorter_begins (x ∷ s) (y ∷ l) [] p q le = absurd (cc (p.1))
 shorter_begins (x ∷ s) (y ∷ l) (z ∷ j) p q le =
     let heads : x ≡ y = cc (p.1, q.1) in let rest = shorter_begins s l j (p.0, cc (p.1)) (q.0, cc (q.1)) (omega arith) in
     (rest.0, cc (heads, rest.1))
+shorter_begins other others further p q le = grind arith
 
 no_items : (l : List Entry) → length l ≡ 0 → l ≡ []
 no_items [] e = refl
@@ -71,8 +64,7 @@ same_entries role s l j made whole begins few all =
     let l_is : entries_of role l ≡ made ++ a = ap (entries_of role) begins.1 ∙ (filter-append f s begins.0 ∙ ap (λ (x : List Entry). x ++ a) few) in
     let j_is : entries_of role j ≡ entries_of role l ++ b = ap (entries_of role) whole.1 ∙ filter-append f l whole.0 in
     let count : length made ≡ (length made + length a) + length b = ap length (sym all ∙ j_is) ∙ (length-append (entries_of role l) b ∙ ap (λ (n : ℕ). n + length b) (ap length l_is ∙ length-append made a)) in
-    let none_more : a ≡ [] = no_items a (omega arith) in
-    l_is ∙ (ap (λ (x : List Entry). made ++ x) none_more ∙ append-nil made)
+    grind (arith, no_items, append-nil)
 
 has_seen : (t u : TableId) (p q : Part) (b b' : Bool) (j : List Entry) → Shows j p → Shows j q → length p.seen ≤ length q.seen → HasSeen (known t (resting p b).0) (known u (resting q b').0)
 has_seen t u p q b b' j a c le =
@@ -109,26 +101,9 @@ meets_as t t' u u' m l m' l' first second over =
       same_reported = refl;
     }
 
-keeps_carried : (k k' : Known) (x : Option Numbered) → KeepsSeen k k' → KeepsSeen (carried k x) (carried k' x)
-keeps_carried k k' x h = record { pass = record { cell = h.pass.cell; opening = h.pass.opening; role = h.pass.role }; seen = h.seen; made = h.made; newest = refl }
-
-seen_carried : (k l : Known) (x y : Option Numbered) → HasSeen k l → HasSeen (carried k x) (carried l y)
-seen_carried k l x y h = record { begins = h.begins; first_made = h.first_made; second_made = h.second_made }
-
 -- what passes tell each other, they tell whatever numbered commands are kept beside
 pub meets : (t t' u u' : TableId) (m l m' l' : M) (x y : Option Numbered) → t' ≡ t → u' ≡ u → Met m l m' l' → Meets (carried (known t m.0) x) (carried (known u l.0) y) (carried (known t' m'.0) x) (carried (known u' l'.0) y)
-meets t t' u u' m l m' l' x y first second over =
-    let k : Known = known t m.0 in
-    let h : Known = known u l.0 in
-    let all : Meets k h (known t' m'.0) (known u' l'.0) = meets_as t t' u u' m l m' l' first second over in
-    record {
-      first = keeps_carried k (known t' m'.0) x all.first;
-      second = keeps_carried h (known u' l'.0) y all.second;
-      shorter = λ le. seen_carried k h x y (all.shorter le);
-      longer = λ le. seen_carried h k y x (all.longer le);
-      reported = record { first_reported = all.reported.first_reported; first_seen = all.reported.first_seen; second_reported = all.reported.second_reported; second_seen = all.reported.second_seen };
-      same_reported = all.same_reported;
-    }
+meets t t' u u' m l m' l' x y first second over = grind (arith, meets_as t t' u u' m l m' l' first second over)
 
 pub divides_after : (o : Opening) (id : ℕ) (m l other m1 m2 : M) (r : ℕ) → IsResting m → IsResting l → other ≡ (first_alone l.0, []) → m1 ≡ (both_parts m.0 other.0, m.1)
     → Looks (step 0 0 0 0 maybe.none) m1 r m2 → Splits (IsJournaled o) id m2.0 (first_stays m2.0) (others_go m2.0)

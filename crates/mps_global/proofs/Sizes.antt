@@ -1,7 +1,7 @@
 -- The size of a tree, and the list of its nodes.
 use Rattle.std.proofs.Common.{◌≡◌, ℕ, ◌+◌, ◌<◌, max, List, [], ◌∷◌, ◌++◌, length, map, length-append, refl, arith}
 use Rattle.mps_global.specs.Global.{GlobalType, Branches, End, Var, Rec, Message, Choice, NoMore, More}
-use Rattle.mps_global.specs.Path.{Step, Loop, Act, level}
+use Rattle.mps_global.specs.Path.{Edge, Loop, Act, level}
 use Rattle.mps_global.specs.Faults.{node_count, branch_nodes, depth, branch_depth, places, branch_places, greatest}
 
 -- a tree has a node
@@ -16,7 +16,7 @@ some_depth other = omega arith
 
 mutual
   -- the list is as long as the tree has nodes
-  pub as_many : (above : List Step) (tree : GlobalType) → length (places above tree) ≡ node_count tree
+  pub as_many : (above : List Edge) (tree : GlobalType) → length (places above tree) ≡ node_count tree
   as_many above End = omega arith
   as_many above (Var name) = omega arith
   as_many above (Rec name body) = omega (arith, as_many (Loop name ∷ above) body)
@@ -24,7 +24,7 @@ mutual
   as_many above (Choice sender receiver branches) =
       omega (arith, branches_as_many (Act ∷ above) branches)
 
-  branches_as_many : (above : List Step) (branches : Branches) → length (branch_places above branches) ≡ branch_nodes branches
+  branches_as_many : (above : List Edge) (branches : Branches) → length (branch_places above branches) ≡ branch_nodes branches
   branches_as_many above NoMore = refl
   branches_as_many above (More label next others) =
       omega (arith, as_many above next, branches_as_many above others, length-append (places above next) (branch_places above others))
@@ -36,7 +36,7 @@ greatest_of_both f (p ∷ ps) qs = omega (arith, greatest_of_both f ps qs)
 
 mutual
   -- below so many nodes, the deepest node stands so much deeper
-  pub as_deep : (above : List Step) (tree : GlobalType) → greatest (map level (places above tree)) ≡ length above + depth tree
+  pub as_deep : (above : List Edge) (tree : GlobalType) → greatest (map level (places above tree)) ≡ length above + depth tree
   as_deep above End = omega arith
   as_deep above (Var name) = omega arith
   as_deep above (Rec name body) = omega (arith, as_deep (Loop name ∷ above) body, some_depth body)
@@ -45,7 +45,7 @@ mutual
   as_deep above (Choice sender receiver branches) =
       omega (arith, branches_as_deep (Act ∷ above) branches)
 
-  branches_as_deep : (above : List Step) (branches : Branches) → max (length above) (greatest (map level (branch_places above branches))) ≡ length above + branch_depth branches
+  branches_as_deep : (above : List Edge) (branches : Branches) → max (length above) (greatest (map level (branch_places above branches))) ≡ length above + branch_depth branches
   branches_as_deep above NoMore = omega arith
   branches_as_deep above (More label next others) =
       omega (arith, as_deep above next, branches_as_deep above others, greatest_of_both level (places above next) (branch_places above others))

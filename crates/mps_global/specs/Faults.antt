@@ -5,7 +5,7 @@ use Rattle.std.specs.Prelude.{Option, None, Some, flat_map, if◌then◌else◌}
 use Rattle.std.specs.List.{list_any}
 use Rattle.std.specs.Str.{bytes_eq}
 use Rattle.mps_global.specs.Global.{GlobalType, Branches, End, Var, Rec, Message, Choice, NoMore, More}
-use Rattle.mps_global.specs.Path.{Step, Loop, Act, Place, place, is_bound, is_unguarded}
+use Rattle.mps_global.specs.Path.{Edge, Loop, Act, Place, place, is_bound, is_unguarded}
 use Rattle.mps_global.specs.declared.faults.GlobalFault.{GlobalFault}
 use Rattle.mps_global.specs.declared.faults.GlobalFault.TheVariants as faults
 
@@ -53,7 +53,7 @@ abbrev mutual
 
 abbrev mutual
   -- the nodes of a tree in preorder, where that is the path to its root
-  pub places : List Step → GlobalType → List (Place GlobalType)
+  pub places : List Edge → GlobalType → List (Place GlobalType)
   places above End = place End above ∷ []
   places above (Var name) = place (Var name) above ∷ []
   places above (Rec name body) = place (Rec name body) above ∷ places (Loop name ∷ above) body
@@ -63,7 +63,7 @@ abbrev mutual
       place (Choice sender receiver branches) above ∷ branch_places (Act ∷ above) branches
 
   -- the nodes of the branches
-  pub branch_places : List Step → Branches → List (Place GlobalType)
+  pub branch_places : List Edge → Branches → List (Place GlobalType)
   branch_places above NoMore = []
   branch_places above (More label next others) = places above next ++ branch_places above others
 
@@ -99,16 +99,16 @@ label_tests names =
     ∷ (length names == 0, faults.NoBranches) ∷ []
 
 -- what may be wrong with a variable that has that path
-abbrev pub variable_tests : List ℕ → List Step → List (Bool × GlobalFault)
+abbrev pub variable_tests : List ℕ → List Edge → List (Bool × GlobalFault)
 variable_tests name above =
     (not (is_bound name above), faults.Unbound) ∷ (is_unguarded name above, faults.Unguarded) ∷ []
 
 -- what may be wrong with a `rec` of that variable
-abbrev pub rec_tests : List ℕ → List Step → List (Bool × GlobalFault)
+abbrev pub rec_tests : List ℕ → List Edge → List (Bool × GlobalFault)
 rec_tests name above = (is_bound name above, faults.Shadowed) ∷ []
 
 -- what may be wrong at a node with that path
-abbrev pub node_tests : List (List ℕ) → List Step → GlobalType → List (Bool × GlobalFault)
+abbrev pub node_tests : List (List ℕ) → List Edge → GlobalType → List (Bool × GlobalFault)
 node_tests roles above End = []
 node_tests roles above (Var name) = variable_tests name above
 node_tests roles above (Rec name body) = rec_tests name above

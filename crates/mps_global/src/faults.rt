@@ -4,7 +4,7 @@ ghost use Rattle.std.specs.Prelude.{length, map, nat_lt};
 ghost use Rattle.mps_base.specs.RoleLists.{AreRoles};
 ghost use Rattle.mps_global.specs.Global.{GlobalType, plain, plain_branches};
 ghost use Rattle.mps_global.specs.Faults.{is_among, has_double, labels, node_count, branch_nodes, depth, branch_depth};
-ghost use Rattle.mps_global.specs.Path.{steps, level};
+ghost use Rattle.mps_global.specs.Path.{edges, level};
 ghost use Rattle.mps_global.specs.Faults.{places, branch_places, greatest};
 ghost use Rattle.mps_global.specs.Faults.{first_true, pair_tests, label_tests, variable_tests, rec_tests, node_tests};
 ghost use Rattle.mps_global.specs.Faults.{first_fault, fault_of};
@@ -177,7 +177,7 @@ fn are_within(branches: &Branches, limit: usize) -> bool
 #[cycle(walk)]
 fn first_fault(roles: &[Name], tree: &Global, above: &Above<'_>) -> Option<GlobalFault>
     ensures { result
-        ≡ first_fault roles.now (places (steps above.now) (plain tree.now)) }
+        ≡ first_fault roles.now (places (edges above.now) (plain tree.now)) }
 {
     if let Some(fault) = node_fault(&*roles, &*tree, &*above) {
         return Some(fault);
@@ -197,7 +197,7 @@ fn first_fault(roles: &[Name], tree: &Global, above: &Above<'_>) -> Option<Globa
 #[tactic(auto, using(crate::proofs::Walks::first_of_both))]
 fn first_branch_fault(roles: &[Name], branches: &Branches, above: &Above<'_>) -> Option<GlobalFault>
     ensures { result ≡ first_fault roles.now
-        (branch_places (steps above.now) (plain_branches branches.now)) }
+        (branch_places (edges above.now) (plain_branches branches.now)) }
 {
     match branches {
         Branches::NoMore => None,
@@ -211,7 +211,7 @@ fn first_branch_fault(roles: &[Name], branches: &Branches, above: &Above<'_>) ->
 // What is wrong at the node with that path.
 fn node_fault(roles: &[Name], node: &Global, above: &Above<'_>) -> Option<GlobalFault>
     ensures { result
-        ≡ first_true (node_tests roles.now (steps above.now) (plain node.now)) }
+        ≡ first_true (node_tests roles.now (edges above.now) (plain node.now)) }
 {
     match node {
         Global::End => None,
@@ -235,7 +235,7 @@ fn node_fault(roles: &[Name], node: &Global, above: &Above<'_>) -> Option<Global
 
 // What is wrong with a variable that has that path.
 fn variable_fault(name: &VarName, above: &Above<'_>) -> Option<GlobalFault>
-    ensures { result ≡ first_true (variable_tests name.now (steps above.now)) }
+    ensures { result ≡ first_true (variable_tests name.now (edges above.now)) }
 {
     if !is_bound(name, above) {
         return Some(GlobalFault::Unbound);
@@ -248,7 +248,7 @@ fn variable_fault(name: &VarName, above: &Above<'_>) -> Option<GlobalFault>
 
 // What is wrong with a `rec` of that variable, which has that path.
 fn rec_fault(name: &VarName, above: &Above<'_>) -> Option<GlobalFault>
-    ensures { result ≡ first_true (rec_tests name.now (steps above.now)) }
+    ensures { result ≡ first_true (rec_tests name.now (edges above.now)) }
 {
     if is_bound(name, above) {
         return Some(GlobalFault::Shadowed);

@@ -1,6 +1,6 @@
 //! What stands on the path to a node, for the variables below it.
 ghost use Rattle.std.specs.Prelude.{◌≡◌};
-ghost use Rattle.mps_global.specs.Path.{steps, is_bound, is_unguarded};
+ghost use Rattle.mps_global.specs.Path.{edges, is_bound, is_unguarded};
 
 use mps_base::VarName;
 
@@ -15,7 +15,7 @@ pub enum Above<'a> {
 
 /// Whether a `rec` of the variable stands on the path.
 pub fn is_bound(name: &VarName, above: &Above<'_>) -> bool
-    ensures { result ≡ is_bound name.now (steps above.now) }
+    ensures { result ≡ is_bound name.now (edges above.now) }
 {
     match above {
         Above::Root => false,
@@ -26,7 +26,7 @@ pub fn is_bound(name: &VarName, above: &Above<'_>) -> bool
 
 /// Whether a `rec` of the variable stands on the path below the nearest act.
 pub fn is_unguarded(name: &VarName, above: &Above<'_>) -> bool
-    ensures { result ≡ is_unguarded name.now (steps above.now) }
+    ensures { result ≡ is_unguarded name.now (edges above.now) }
 {
     match above {
         Above::Root | Above::Act(_) => false,

@@ -4,7 +4,7 @@ use Rattle.std.specs.Prelude.{⊤, ◌++◌}
 use Rattle.std.specs.Option.{option_or}
 use Rattle.mps_global.specs.Global as global
 use Rattle.mps_global.specs.Global.{GlobalType}
-use Rattle.mps_global.specs.Path.{Step, Loop, Act}
+use Rattle.mps_global.specs.Path.{Edge, Loop, Act}
 use Rattle.mps_global.specs.Faults.{labels, places, branch_places, first_true, pair_tests, label_tests, rec_tests, tests_at, first_fault}
 use Rattle.mps_global.specs.declared.faults.GlobalFault.{GlobalFault}
 use Rattle.mps_global.specs.declared.faults.GlobalFault.TheVariants as faults
@@ -44,7 +44,7 @@ both_pass a b h = let split = first_of_tests a b in both_none (first_true a) (fi
 
 mutual
   -- where no node has a fault
-  pub all_apart : (roles : List (List ℕ)) (above : List Step) (tree : GlobalType) → first_fault roles (places above tree) ≡ None → AllApart roles tree
+  pub all_apart : (roles : List (List ℕ)) (above : List Edge) (tree : GlobalType) → first_fault roles (places above tree) ≡ None → AllApart roles tree
   all_apart roles above global.End h = tt
   all_apart roles above (global.Var name) h = tt
   all_apart roles above (global.Rec name body) h =
@@ -60,7 +60,7 @@ mutual
       let a = apart roles sender receiver (label_tests (labels branches) ++ later) h in
       (a.0, all_branches_apart roles below branches (both_pass (label_tests (labels branches)) later a.1).1)
 
-  all_branches_apart : (roles : List (List ℕ)) (above : List Step) (branches : global.Branches) → first_fault roles (branch_places above branches) ≡ None → AllBranchesApart roles branches
+  all_branches_apart : (roles : List (List ℕ)) (above : List Edge) (branches : global.Branches) → first_fault roles (branch_places above branches) ≡ None → AllBranchesApart roles branches
   all_branches_apart roles above global.NoMore h = tt
   all_branches_apart roles above (global.More label next others) h =
       let split = first_of_both roles (places above next) (branch_places above others) in

@@ -8,7 +8,7 @@ use Rattle.std.proofs.lemmas.Bool.{cases_Bool, and_parts, and_from}
 use Rattle.std.proofs.lemmas.Bool.Decides.{nat_tests}
 use Rattle.std.proofs.lemmas.List.Sums.{take_while-cons}
 use Rattle.mps_global.specs.Global.{GlobalType}
-use Rattle.mps_global.specs.Path.{Step, Loop, Act, binds, is_act, is_bound, is_unguarded}
+use Rattle.mps_global.specs.Path.{Edge, Loop, Act, binds, is_act, is_bound, is_unguarded}
 use Rattle.mps_global.specs.Faults.{has_double, first_true, fault_of}
 use Rattle.mps_global.proofs.Sound.{sound_protocol}
 use Rattle.mps_global.proofs.Walks.{first_of_tests}
@@ -42,7 +42,7 @@ labels_fine : {F : Type 0} (double many none : F) (a b c : Bool) → (not a && n
 labels_fine double many none a b c e = grind arith
 
 -- below a `rec` its own variable is unguarded, and those that were
-under_rec : (z name : List ℕ) (above : List Step) → is_unguarded z (Loop name ∷ above) ≡ (bytes_eq z name || is_unguarded z above)
+under_rec : (z name : List ℕ) (above : List Edge) → is_unguarded z (Loop name ∷ above) ≡ (bytes_eq z name || is_unguarded z above)
 under_rec z name above = ap (list_any (binds z)) (take_while-cons (λ step. not (is_act step)) (Loop name) above)
 
 or_first : (a b : Bool) → a ≡ true → (a || b) ≡ true
@@ -58,7 +58,7 @@ not_true : (a : Bool) → not a ≡ true → a ≡ false
 not_true a e = grind arith
 
 mutual
-  no_fault : (above : List Step) (bound : List (List ℕ)) (t : LocalType) → ((z : List ℕ) → list_any (bytes_eq z) bound ≡ list_any (binds z) above) → ((z : List ℕ) → is_unguarded z above ≡ true → ends_in z t ≡ false) → is_closed bound t ≡ true → is_guarded t ≡ true → is_unshadowed bound t ≡ true → is_labelled t ≡ true → fault_at (places above t) ≡ None
+  no_fault : (above : List Edge) (bound : List (List ℕ)) (t : LocalType) → ((z : List ℕ) → list_any (bytes_eq z) bound ≡ list_any (binds z) above) → ((z : List ℕ) → is_unguarded z above ≡ true → ends_in z t ≡ false) → is_closed bound t ≡ true → is_guarded t ≡ true → is_unshadowed bound t ≡ true → is_labelled t ≡ true → fault_at (places above t) ≡ None
   no_fault above bound End f g c d u l = refl
   no_fault above bound (Var name) f g c d u l =
       (variable_fine faults.Unbound faults.Unguarded (is_bound name above) (is_unguarded name above) (sym (f name) ∙ c)
@@ -85,7 +85,7 @@ mutual
       (labels_fine faults.DoubleLabel faults.TooManyBranches faults.NoBranches (has_double (labels branches)) (nat_lt 16 (length (labels branches))) (length (labels branches) == 0) ls.0)
       (no_faults (Act ∷ above) bound branches f (λ z h. absurd cc) c d u ls.1)
 
-  no_faults : (above : List Step) (bound : List (List ℕ)) (ts : Branches) → ((z : List ℕ) → list_any (bytes_eq z) bound ≡ list_any (binds z) above) → ((z : List ℕ) → is_unguarded z above ≡ true → ⊥) → are_closed bound ts ≡ true → are_guarded ts ≡ true → are_unshadowed bound ts ≡ true → are_labelled ts ≡ true → fault_at (branch_places above ts) ≡ None
+  no_faults : (above : List Edge) (bound : List (List ℕ)) (ts : Branches) → ((z : List ℕ) → list_any (bytes_eq z) bound ≡ list_any (binds z) above) → ((z : List ℕ) → is_unguarded z above ≡ true → ⊥) → are_closed bound ts ≡ true → are_guarded ts ≡ true → are_unshadowed bound ts ≡ true → are_labelled ts ≡ true → fault_at (branch_places above ts) ≡ None
   no_faults above bound NoMore f g c d u l = refl
   no_faults above bound (More label t others) f g c d u l =
       let cs = and_parts (is_closed bound t) (are_closed bound others) c in
@@ -115,7 +115,7 @@ faultless roles role tree t h e =
     (omega arith) (omega arith)
 
 -- where a type's nodes have no fault, it does not come to an unguarded variable before an act
-unended : (z : List ℕ) (above : List Step) (t : LocalType) → is_unguarded z above ≡ true → fault_at (places above t) ≡ None → ends_in z t ≡ false
+unended : (z : List ℕ) (above : List Edge) (t : LocalType) → is_unguarded z above ≡ true → fault_at (places above t) ≡ None → ends_in z t ≡ false
 unended z above (Var name) u h = by_test (bytes_eq name z) refl
   where
     by_test : (b : Bool) → bytes_eq name z ≡ b → b ≡ false
@@ -146,7 +146,7 @@ choice_labels : (names : List (List ℕ)) → first_true (label_tests names) ≡
 choice_labels names h = labels_so faults.DoubleLabel faults.TooManyBranches faults.NoBranches (has_double names) (nat_lt 16 (length names)) (length names == 0) h
 
 mutual
-  fine : (above : List Step) (bound : List (List ℕ)) (t : LocalType) → ((z : List ℕ) → list_any (bytes_eq z) bound ≡ list_any (binds z) above) → fault_at (places above t) ≡ None → IsFine bound t
+  fine : (above : List Edge) (bound : List (List ℕ)) (t : LocalType) → ((z : List ℕ) → list_any (bytes_eq z) bound ≡ list_any (binds z) above) → fault_at (places above t) ≡ None → IsFine bound t
   fine above bound End f h = record { closed = refl; guarded = refl; unshadowed = refl; labelled = refl }
   fine above bound (Var name) f h = grind (arith, both_pass, true_unless)
   fine above bound (Rec name body) f h =
@@ -172,7 +172,7 @@ mutual
       let k = all_fine below bound branches f b.1 in
       record { closed = k.closed; guarded = k.guarded; unshadowed = k.unshadowed; labelled = and_from (are_labels (labels branches)) (are_labelled branches) (choice_labels (labels branches) b.0) k.labelled }
 
-  all_fine : (above : List Step) (bound : List (List ℕ)) (ts : Branches) → ((z : List ℕ) → list_any (bytes_eq z) bound ≡ list_any (binds z) above) → fault_at (branch_places above ts) ≡ None → AreFine bound ts
+  all_fine : (above : List Edge) (bound : List (List ℕ)) (ts : Branches) → ((z : List ℕ) → list_any (bytes_eq z) bound ≡ list_any (binds z) above) → fault_at (branch_places above ts) ≡ None → AreFine bound ts
   all_fine above bound NoMore f h = record { closed = refl; guarded = refl; unshadowed = refl; labelled = refl }
   all_fine above bound (More label t others) f h =
       let split = first_of_both (places above t) (branch_places above others) in

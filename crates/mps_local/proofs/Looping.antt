@@ -7,7 +7,7 @@ use Rattle.std.proofs.lemmas.Bool.{and_parts, and_from}
 use Rattle.mps_base.specs.declared.value.Sort.{Sort}
 use Rattle.mps_global.specs.Global as global
 use Rattle.mps_global.specs.Global.{GlobalType}
-use Rattle.mps_global.specs.Path.{Step, Loop, Act, binds, is_bound}
+use Rattle.mps_global.specs.Path.{Edge, Loop, Act, binds, is_bound}
 use Rattle.mps_global.specs.Faults.{labels as tree_labels, has_double, places, branch_places, first_true, pair_tests, label_tests, rec_tests, tests_at, first_fault}
 use Rattle.mps_global.specs.declared.faults.GlobalFault.TheVariants as faults
 use Rattle.mps_global.proofs.Walks.{first_of_both}
@@ -32,7 +32,7 @@ labels_so double many none a b c h = grind arith
 
 mutual
   -- a tree without faults is closed in the variables of the `rec`s around it
-  pub sound_closed : (roles : List (List ℕ)) (above : List Step) (bound : List (List ℕ)) → ((z : List ℕ) → list_any (binds z) above ≡ true → list_any (bytes_eq z) bound ≡ true) → (tree : GlobalType) → first_fault roles (places above tree) ≡ None → tree_closed bound tree ≡ true
+  pub sound_closed : (roles : List (List ℕ)) (above : List Edge) (bound : List (List ℕ)) → ((z : List ℕ) → list_any (binds z) above ≡ true → list_any (bytes_eq z) bound ≡ true) → (tree : GlobalType) → first_fault roles (places above tree) ≡ None → tree_closed bound tree ≡ true
   sound_closed roles above bound f global.End h = refl
   sound_closed roles above bound f (global.Var name) h = grind (arith, true_unless, both_pass)
   sound_closed roles above bound f (global.Rec name body) h =
@@ -45,7 +45,7 @@ mutual
       let b = both_pass (pair_tests roles sender receiver ++ label_tests (tree_labels branches)) (tests_at roles (branch_places (Act ∷ above) branches)) h in
       sound_all_closed roles (Act ∷ above) bound f branches b.1
 
-  sound_all_closed : (roles : List (List ℕ)) (above : List Step) (bound : List (List ℕ)) → ((z : List ℕ) → list_any (binds z) above ≡ true → list_any (bytes_eq z) bound ≡ true) → (branches : global.Branches) → first_fault roles (branch_places above branches) ≡ None → trees_closed bound branches ≡ true
+  sound_all_closed : (roles : List (List ℕ)) (above : List Edge) (bound : List (List ℕ)) → ((z : List ℕ) → list_any (binds z) above ≡ true → list_any (bytes_eq z) bound ≡ true) → (branches : global.Branches) → first_fault roles (branch_places above branches) ≡ None → trees_closed bound branches ≡ true
   sound_all_closed roles above bound f global.NoMore h = refl
   sound_all_closed roles above bound f (global.More label next others) h =
       let split = first_of_both roles (places above next) (branch_places above others) in
@@ -121,7 +121,7 @@ not_among a b f e = grind arith
 
 mutual
   -- where no `rec` of the tree has the variable of one around it, none of the projection has
-  pub projection_unshadowed : (roles : List (List ℕ)) (role : ℕ) (above : List Step) (bound : List (List ℕ)) → ((z : List ℕ) → list_any (bytes_eq z) bound ≡ true → list_any (binds z) above ≡ true) → (tree : GlobalType) (t : LocalType) → first_fault roles (places above tree) ≡ None → projection roles role tree ≡ Some t → is_unshadowed bound t ≡ true
+  pub projection_unshadowed : (roles : List (List ℕ)) (role : ℕ) (above : List Edge) (bound : List (List ℕ)) → ((z : List ℕ) → list_any (bytes_eq z) bound ≡ true → list_any (binds z) above ≡ true) → (tree : GlobalType) (t : LocalType) → first_fault roles (places above tree) ≡ None → projection roles role tree ≡ Some t → is_unshadowed bound t ≡ true
   projection_unshadowed roles role above bound f global.End t h e = let k : End ≡ t = cc in subst (λ (z : LocalType). is_unshadowed bound z ≡ true) k refl
   projection_unshadowed roles role above bound f (global.Var name) t h e = let k : Var name ≡ t = cc in subst (λ (z : LocalType). is_unshadowed bound z ≡ true) k refl
   projection_unshadowed roles role above bound f (global.Rec name body) t h e =
@@ -146,7 +146,7 @@ mutual
       choice_keeps (is_unshadowed bound) (are_unshadowed bound) (role == from) (role == to) from to k.0 t refl refl (λ l u us m. (and_parts (is_unshadowed bound u) (are_unshadowed bound us) m).0)
       (projections_unshadowed roles role (Act ∷ above) bound f branches k.0 b.1 k.1) k.2
 
-  projections_unshadowed : (roles : List (List ℕ)) (role : ℕ) (above : List Step) (bound : List (List ℕ)) → ((z : List ℕ) → list_any (bytes_eq z) bound ≡ true → list_any (binds z) above ≡ true) → (branches : global.Branches) (ts : Branches) → first_fault roles (branch_places above branches) ≡ None → projections roles role branches ≡ Some ts → are_unshadowed bound ts ≡ true
+  projections_unshadowed : (roles : List (List ℕ)) (role : ℕ) (above : List Edge) (bound : List (List ℕ)) → ((z : List ℕ) → list_any (bytes_eq z) bound ≡ true → list_any (binds z) above ≡ true) → (branches : global.Branches) (ts : Branches) → first_fault roles (branch_places above branches) ≡ None → projections roles role branches ≡ Some ts → are_unshadowed bound ts ≡ true
   projections_unshadowed roles role above bound f global.NoMore ts h e = let k : NoMore ≡ ts = cc in subst (λ (z : Branches). are_unshadowed bound z ≡ true) k refl
   projections_unshadowed roles role above bound f (global.More label next others) ts h e =
       let split = first_of_both roles (places above next) (branch_places above others) in
@@ -162,7 +162,7 @@ same_labels roles role (global.More label next others) ts e =
 
 mutual
   -- a projection's choices have the labels of the tree's
-  pub projection_labelled : (roles : List (List ℕ)) (role : ℕ) (above : List Step) (tree : GlobalType) (t : LocalType) → first_fault roles (places above tree) ≡ None → projection roles role tree ≡ Some t → is_labelled t ≡ true
+  pub projection_labelled : (roles : List (List ℕ)) (role : ℕ) (above : List Edge) (tree : GlobalType) (t : LocalType) → first_fault roles (places above tree) ≡ None → projection roles role tree ≡ Some t → is_labelled t ≡ true
   projection_labelled roles role above global.End t h e = let k : End ≡ t = cc in subst (λ (z : LocalType). is_labelled z ≡ true) k refl
   projection_labelled roles role above (global.Var name) t h e = let k : Var name ≡ t = cc in subst (λ (z : LocalType). is_labelled z ≡ true) k refl
   projection_labelled roles role above (global.Rec name body) t h e =
@@ -188,7 +188,7 @@ mutual
       choice_keeps is_labelled (λ ts. are_labels (labels ts) && are_labelled ts) (role == from) (role == to) from to k.0 t refl refl (λ l u us m. (and_parts (is_labelled u) (are_labelled us) (and_parts (are_labels (labels (More l u us))) (are_labelled (More l u us)) m).1).0)
       (and_from (are_labels (labels k.0)) (are_labelled k.0) here (projections_labelled roles role (Act ∷ above) branches k.0 b.1 k.1)) k.2
 
-  projections_labelled : (roles : List (List ℕ)) (role : ℕ) (above : List Step) (branches : global.Branches) (ts : Branches) → first_fault roles (branch_places above branches) ≡ None → projections roles role branches ≡ Some ts → are_labelled ts ≡ true
+  projections_labelled : (roles : List (List ℕ)) (role : ℕ) (above : List Edge) (branches : global.Branches) (ts : Branches) → first_fault roles (branch_places above branches) ≡ None → projections roles role branches ≡ Some ts → are_labelled ts ≡ true
   projections_labelled roles role above global.NoMore ts h e = let k : NoMore ≡ ts = cc in subst (λ (z : Branches). are_labelled z ≡ true) k refl
   projections_labelled roles role above (global.More label next others) ts h e =
       let split = first_of_both roles (places above next) (branch_places above others) in

@@ -2,7 +2,7 @@
 use Rattle.std.proofs.Common.{arith, ◌≢◌, Bool, cond, List, [], ◌∷◌, ◌++◌, Option, Some}
 use Rattle.std.specs.List.{AllByRecursion}
 use Rattle.mps_global.specs.Faults.{first_true}
-use Rattle.mps_global.specs.Path.{Step, Place}
+use Rattle.mps_global.specs.Path.{Edge, Place}
 use Rattle.mps_local.specs.Local.{LocalType}
 use Rattle.mps_local.specs.LocalFaults.{places, size_tests, node_tests, tests_at, local_fault_of}
 use Rattle.mps_local.specs.declared.faults.LocalFault.TheVariants as faults
@@ -21,7 +21,7 @@ all_of_both P [] b p q = q
 all_of_both P (t ∷ ts) b p q = (p.0, all_of_both P ts b p.1 q)
 
 -- no test of a node tells out of memory
-at_node : (above : List Step) (t : LocalType) → AllByRecursion (λ test. test.1 ≢ faults.Memory) (node_tests above t)
+at_node : (above : List Edge) (t : LocalType) → AllByRecursion (λ test. test.1 ≢ faults.Memory) (node_tests above t)
 at_node above t = grind arith
 
 at_nodes : (ps : List (Place LocalType)) → AllByRecursion (λ test. test.1 ≢ faults.Memory) (tests_at ps)

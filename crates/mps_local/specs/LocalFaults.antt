@@ -1,6 +1,6 @@
 -- What is wrong with a local type. The limits and the order of faults are this project's.
 use Rattle.std.specs.Prelude.{ℕ, Bool, ◌==◌, not, List, [], ◌∷◌, ◌++◌, length, nat_lt, Option, flat_map}
-use Rattle.mps_global.specs.Path.{Step, Loop, Act, Place, place, is_bound, is_unguarded}
+use Rattle.mps_global.specs.Path.{Edge, Loop, Act, Place, place, is_bound, is_unguarded}
 use Rattle.mps_global.specs.Faults.{has_double, first_true}
 use Rattle.mps_local.specs.Local.{LocalType, Branches, End, Var, Rec, Send, Recv, Select, Branch, NoMore, More}
 use Rattle.mps_local.specs.Actions.{labels}
@@ -10,7 +10,7 @@ use Rattle.mps_local.specs.declared.faults.LocalFault.TheVariants as faults
 
 abbrev mutual
   -- the nodes of a type in preorder, where that is the path to its root
-  pub places : List Step → LocalType → List (Place LocalType)
+  pub places : List Edge → LocalType → List (Place LocalType)
   places above End = place End above ∷ []
   places above (Var name) = place (Var name) above ∷ []
   places above (Rec name body) = place (Rec name body) above ∷ places (Loop name ∷ above) body
@@ -20,7 +20,7 @@ abbrev mutual
   places above (Branch peer branches) = place (Branch peer branches) above ∷ branch_places (Act ∷ above) branches
 
   -- the nodes of the branches
-  pub branch_places : List Step → Branches → List (Place LocalType)
+  pub branch_places : List Edge → Branches → List (Place LocalType)
   branch_places above NoMore = []
   branch_places above (More label next others) = places above next ++ branch_places above others
 
@@ -35,16 +35,16 @@ label_tests names =
     ∷ (length names == 0, faults.NoBranches) ∷ []
 
 -- what may be wrong with a variable that has that path
-abbrev pub variable_tests : List ℕ → List Step → List (Bool × LocalFault)
+abbrev pub variable_tests : List ℕ → List Edge → List (Bool × LocalFault)
 variable_tests name above =
     (not (is_bound name above), faults.Unbound) ∷ (is_unguarded name above, faults.Unguarded) ∷ []
 
 -- what may be wrong with a `rec` of that variable
-abbrev pub rec_tests : List ℕ → List Step → List (Bool × LocalFault)
+abbrev pub rec_tests : List ℕ → List Edge → List (Bool × LocalFault)
 rec_tests name above = (is_bound name above, faults.Shadowed) ∷ []
 
 -- what may be wrong at a node with that path
-abbrev pub node_tests : List Step → LocalType → List (Bool × LocalFault)
+abbrev pub node_tests : List Edge → LocalType → List (Bool × LocalFault)
 node_tests above (Var name) = variable_tests name above
 node_tests above (Rec name body) = rec_tests name above
 node_tests above (Select peer branches) = label_tests (labels branches)

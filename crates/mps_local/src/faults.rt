@@ -3,7 +3,7 @@ ghost use Rattle.std.specs.Prelude.{◌≡◌, ◌≢◌, ◌+◌, ◌<◌, ◌�
 ghost use Rattle.std.specs.Prelude.{length, map, nat_lt};
 ghost use Rattle.mps_global.specs.Faults.{is_among, has_double, greatest, first_true, fault_of};
 ghost use Rattle.mps_global.specs.Global.{GlobalType};
-ghost use Rattle.mps_global.specs.Path.{steps, level};
+ghost use Rattle.mps_global.specs.Path.{edges, level};
 ghost use Rattle.mps_local.specs.Local.{LocalType, plain, plain_branches};
 ghost use Rattle.mps_local.specs.Actions.{labels};
 ghost use Rattle.mps_local.specs.Loops.{is_closed, is_guarded, is_unshadowed, is_labelled};
@@ -173,7 +173,7 @@ fn are_within(branches: &Branches, limit: usize) -> bool
 // What is wrong with the first faulty node in preorder.
 #[cycle(walk)]
 fn fault_in(t: &Local, above: &Above<'_>) -> Option<LocalFault>
-    ensures { result ≡ fault_at (places (steps above.now) (plain t.now)) }
+    ensures { result ≡ fault_at (places (edges above.now) (plain t.now)) }
 {
     if let Some(fault) = node_fault(&*t, &*above) {
         return Some(fault);
@@ -195,7 +195,7 @@ fn fault_in(t: &Local, above: &Above<'_>) -> Option<LocalFault>
 #[tactic(auto, using(crate::proofs::Faulty::first_of_both))]
 fn fault_in_branches(branches: &Branches, above: &Above<'_>) -> Option<LocalFault>
     ensures { result
-        ≡ fault_at (branch_places (steps above.now) (plain_branches branches.now)) }
+        ≡ fault_at (branch_places (edges above.now) (plain_branches branches.now)) }
 {
     match branches {
         Branches::NoMore => None,
@@ -208,7 +208,7 @@ fn fault_in_branches(branches: &Branches, above: &Above<'_>) -> Option<LocalFaul
 
 // What is wrong at the node with that path.
 fn node_fault(node: &Local, above: &Above<'_>) -> Option<LocalFault>
-    ensures { result ≡ first_true (node_tests (steps above.now) (plain node.now)) }
+    ensures { result ≡ first_true (node_tests (edges above.now) (plain node.now)) }
 {
     match node {
         Local::End | Local::Send { .. } | Local::Recv { .. } => None,
@@ -220,7 +220,7 @@ fn node_fault(node: &Local, above: &Above<'_>) -> Option<LocalFault>
 
 // What is wrong with a variable that has that path.
 fn variable_fault(name: &VarName, above: &Above<'_>) -> Option<LocalFault>
-    ensures { result ≡ first_true (variable_tests name.now (steps above.now)) }
+    ensures { result ≡ first_true (variable_tests name.now (edges above.now)) }
 {
     if !is_bound(name, above) {
         return Some(LocalFault::Unbound);
@@ -233,7 +233,7 @@ fn variable_fault(name: &VarName, above: &Above<'_>) -> Option<LocalFault>
 
 // What is wrong with a `rec` of that variable, which has that path.
 fn rec_fault(name: &VarName, above: &Above<'_>) -> Option<LocalFault>
-    ensures { result ≡ first_true (rec_tests name.now (steps above.now)) }
+    ensures { result ≡ first_true (rec_tests name.now (edges above.now)) }
 {
     if is_bound(name, above) {
         return Some(LocalFault::Shadowed);

@@ -3,7 +3,7 @@ use Rattle.std.proofs.Common.{◌≡◌, ℕ, List, [], ◌∷◌, ◌++◌, len
 use Rattle.std.specs.Prelude.{filter, flat_map}
 use Rattle.std.proofs.lemmas.Grind.{flat_map-append}
 use Rattle.std.proofs.lemmas.List.Elements.{filter-append}
-use Rattle.mps_global.specs.Path.{Step, Loop, Act, Place}
+use Rattle.mps_global.specs.Path.{Edge, Loop, Act, Place}
 use Rattle.mps_local.specs.Local.{LocalType, Branches, End, Var, Rec, Send, Recv, Select, Branch, NoMore, More}
 use Rattle.mps_local.specs.Actions.{labels}
 use Rattle.mps_local.specs.LocalFaults.{places, branch_places}
@@ -18,7 +18,7 @@ acts ps = filter (λ p. has_row p.node) ps
 
 mutual
   -- a type has as many actions and ends as it has rows
-  as_many : (above : List Step) (t : LocalType) → length (acts (places above t)) ≡ size t
+  as_many : (above : List Edge) (t : LocalType) → length (acts (places above t)) ≡ size t
   as_many above End = refl
   as_many above (Var x) = refl
   as_many above (Rec x u) = as_many (Loop x ∷ above) u
@@ -27,7 +27,7 @@ mutual
   as_many above (Select peer branches) = omega (arith, branches_as_many (Act ∷ above) branches)
   as_many above (Branch peer branches) = omega (arith, branches_as_many (Act ∷ above) branches)
 
-  branches_as_many : (above : List Step) (branches : Branches) → length (acts (branch_places above branches)) ≡ branch_size branches
+  branches_as_many : (above : List Edge) (branches : Branches) → length (acts (branch_places above branches)) ≡ branch_size branches
   branches_as_many above NoMore = refl
   branches_as_many above (More label u others) =
       omega (
@@ -43,7 +43,7 @@ labels_at ps = flat_map (λ p. node_labels p.node) ps
 
 mutual
   -- the labels that are laid out are those of its choices
-  same_labels : (above : List Step) (t : LocalType) → labels_at (places above t) ≡ all_labels t
+  same_labels : (above : List Edge) (t : LocalType) → labels_at (places above t) ≡ all_labels t
   same_labels above End = refl
   same_labels above (Var x) = refl
   same_labels above (Rec x u) = same_labels (Loop x ∷ above) u
@@ -52,7 +52,7 @@ mutual
   same_labels above (Select peer branches) = ap (λ ls. labels branches ++ ls) (same_branch_labels (Act ∷ above) branches)
   same_labels above (Branch peer branches) = ap (λ ls. labels branches ++ ls) (same_branch_labels (Act ∷ above) branches)
 
-  same_branch_labels : (above : List Step) (branches : Branches) → labels_at (branch_places above branches) ≡ branch_labels branches
+  same_branch_labels : (above : List Edge) (branches : Branches) → labels_at (branch_places above branches) ≡ branch_labels branches
   same_branch_labels above NoMore = refl
   same_branch_labels above (More label u others) =
       let both = flat_map-append (λ (p : Place LocalType). node_labels p.node) (places above u) (branch_places above others) in

@@ -4,7 +4,7 @@ use Rattle.std.specs.Prelude.{codes, filter_map}
 use Rattle.std.proofs.lemmas.List.{append-nil, map-append}
 use Rattle.std.proofs.lemmas.List.Elements.{filter_map-append}
 use Rattle.mps_global.specs.Global.{GlobalType, Branches, End, Var, Rec, Message, Choice, NoMore, More}
-use Rattle.mps_global.specs.Path.{Step, Loop, Act, Place, level}
+use Rattle.mps_global.specs.Path.{Edge, Loop, Act, Place, level}
 use Rattle.mps_global.specs.Faults.{places, branch_places}
 use Rattle.mps_text.specs.Grammar.{inside, node_parts, branch_parts, protocol_parts, begun_by, first_token_of}
 
@@ -20,7 +20,7 @@ node_first : (token : List ℕ) (a b : ℕ) (xs ys : List (List ℕ × ℕ)) →
 node_first token a b xs ys e f = rw (e, f) refl
 
 mutual
-  begun_nodes : (above : List Step) (tree : GlobalType) (depth : ℕ) → depth ≡ length above + 1 → filter_map begun_by (node_parts depth tree) ≡ map begun_at (places above tree)
+  begun_nodes : (above : List Edge) (tree : GlobalType) (depth : ℕ) → depth ≡ length above + 1 → filter_map begun_by (node_parts depth tree) ≡ map begun_at (places above tree)
   begun_nodes above End depth e = grind arith
   begun_nodes above (Var name) depth e = grind arith
   begun_nodes above (Rec name body) depth e =
@@ -34,7 +34,7 @@ mutual
       let parts = branch_parts (depth + 1) branches in
       cc (node_first sender depth (length above + 1) (filter_map begun_by (parts ++ inside (codes "}" ∷ []))) (map begun_at (branch_places below branches)) e (filter_map-append begun_by parts (inside (codes "}" ∷ [])) ∙ append-nil (filter_map begun_by parts) ∙ begun_branches below branches (depth + 1) (omega (arith, e))))
 
-  begun_branches : (above : List Step) (branches : Branches) (depth : ℕ) → depth ≡ length above + 1 → filter_map begun_by (branch_parts depth branches) ≡ map begun_at (branch_places above branches)
+  begun_branches : (above : List Edge) (branches : Branches) (depth : ℕ) → depth ≡ length above + 1 → filter_map begun_by (branch_parts depth branches) ≡ map begun_at (branch_places above branches)
   begun_branches above NoMore depth e = refl
   begun_branches above (More label next NoMore) depth e = cc (begun_nodes above next depth e, append-nil (places above next))
   begun_branches above (More label next (More second then others)) depth e =

@@ -1,13 +1,12 @@
 -- How the answers go on with more bytes.
-use Rattle.std.proofs.Common.{◌≡◌, ℕ, ◌⊎◌, ◌<◌, ◌≤◌, List, [], ◌∷◌, ◌++◌, length, min, refl, sym, ap, ◌∙◌, subst, arith, ⊎_elim, inl, append_assoc, append-nil, length-take}
+use Rattle.std.proofs.Common.{◌≡◌, ℕ, ◌<◌, ◌≤◌, List, [], ◌∷◌, ◌++◌, length, refl, sym, ap, ◌∙◌, subst, arith, ⊎_elim, append_assoc, append-nil, length-take}
 use Rattle.std.proofs.lemmas.Bool.{cases_lt}
 use Rattle.mps_local.specs.Local.{LocalType}
 use Rattle.mps_line.specs.declared.write_replies.Reply.{Reply}
 use Rattle.mps_room.specs.declared.entry.Entry.{Entry}
 use Rattle.mps_wire.specs.Answers.{Answering, AnswersLines, AnswersBytes, OfAllLines}
-use Rattle.mps_lines.specs.Lines.{HasNoBreak, ended, with_last, most_kept, front}
-use Rattle.mps_wire.specs.Script.{IsReadable, IsApplied, RepliesInScript, AnswersLine}
-use Rattle.mps_wire.specs.Uncalled.{IsUnread, IsStarved}
+use Rattle.mps_lines.specs.Lines.{HasNoBreak, ended, most_kept, front}
+use Rattle.mps_wire.specs.Script.{RepliesInScript, AnswersLine}
 use Rattle.mps_lines.proofs.Splitting.{split_nothing, split_more, split_ended, front_front, front_short}
 
 -- what the front of a line does, the line does
@@ -17,29 +16,11 @@ GoesByFront {S} answers = (line : List ℕ) (st : S) (text : List ℕ) (after : 
 module _ (names : List (List ℕ)) (types : List LocalType) where
   -- of a line that is too long the front says enough
   long_line : (line : List ℕ) (st after : List Entry) (reply : Reply) → most_kept < length line → RepliesInScript names types (front line) st reply after → RepliesInScript names types line st reply after
-  long_line line st after reply long r =
-      let n : length (front line) ≡ most_kept = length-take most_kept line ∙ (let m : min most_kept (length line) ≡ most_kept = omega arith in m) in
-      ⊎_elim
-      (λ (u : IsUnread (IsReadable names (front line)) st reply after). inl (record { unreadable = λ role command readable. let s = readable.short in absurd (omega arith); bad = u.bad; unchanged = u.unchanged }))
-      (λ (o : IsApplied names types (front line) st reply after ⊎ IsStarved (IsReadable names (front line)) st reply after).
-      ⊎_elim
-      (λ (s : IsApplied names types (front line) st reply after). let short = s.readable.short in absurd (omega arith))
-      (λ (s : IsStarved (IsReadable names (front line)) st reply after). let short = s.readable.short in absurd (omega arith))
-      o)
-      r
+  long_line line st after reply long r = grind (arith, length-take most_kept line)
 
   -- a long line's front is not read either
   long_front : (line : List ℕ) (st after : List Entry) (reply : Reply) → most_kept < length line → RepliesInScript names types line st reply after → RepliesInScript names types (front line) st reply after
-  long_front line st after reply long r =
-      let n : length (front line) ≡ most_kept = length-take most_kept line ∙ (let m : min most_kept (length line) ≡ most_kept = omega arith in m) in
-      ⊎_elim
-      (λ (u : IsUnread (IsReadable names line) st reply after). inl (record { unreadable = λ role command readable. let s = readable.short in absurd (omega arith); bad = u.bad; unchanged = u.unchanged }))
-      (λ (o : IsApplied names types line st reply after ⊎ IsStarved (IsReadable names line) st reply after).
-      ⊎_elim
-      (λ (s : IsApplied names types line st reply after). let short = s.readable.short in absurd (omega arith))
-      (λ (s : IsStarved (IsReadable names line) st reply after). let short = s.readable.short in absurd (omega arith))
-      o)
-      r
+  long_front line st after reply long r = grind (arith, length-take most_kept line)
 
   -- a script's lines go by their fronts
   pub by_front : GoesByFront (AnswersLine names types)
@@ -60,8 +41,7 @@ module _ (names : List (List ℕ)) (types : List LocalType) where
 -- Lines answered by a relation, from a state on.
 module _ {S : Type 0} (answers : Answering S) (start : S) where
   pub lines_push : (lines : List (List ℕ)) (line : List ℕ) (st mid after : S) (out text : List ℕ) → AnswersLines answers lines st out mid → answers line mid text after → AnswersLines answers (lines ++ line ∷ []) st (out ++ ended text) after
-  lines_push [] line st mid after out text a b =
-      (text, [], after, ap (λ (l : List ℕ). l ++ ended text) a.0 ∙ sym (append-nil (ended text)), subst (λ (s : S). answers line s text after) a.1 b, (refl, refl))
+  lines_push [] line st mid after out text a b = grind (arith, append-nil)
   lines_push (l ∷ lines) line st mid after out text a b =
       (a.0, a.1 ++ ended text, a.2, ap (λ (x : List ℕ). x ++ ended text) a.3 ∙ append_assoc (ended a.0) a.1 (ended text), a.4, lines_push lines line a.2 mid after a.1 text a.5 b)
 
@@ -70,13 +50,7 @@ module _ {S : Type 0} (answers : Answering S) (start : S) where
 
   -- more of the line that comes
   pub answered_more : (mid : S) (bytes kept out piece : List ℕ) → AnswersBytes answers start bytes kept out mid → HasNoBreak piece → AnswersBytes answers start (bytes ++ piece) (front (kept ++ piece)) out mid
-  answered_more mid bytes kept out piece a h = record {
-    lines = a.lines;
-    rest = a.rest ++ piece;
-    split = split_more bytes a.lines a.rest piece a.split h;
-    front_kept = ap (λ (l : List ℕ). front (l ++ piece)) a.front_kept ∙ front_front a.rest piece;
-    answers_lines = a.answers_lines;
-  }
+  answered_more mid bytes kept out piece a h = grind (arith, split_more bytes a.lines a.rest piece a.split h, front_front a.rest piece)
 
   module _ (by_front : GoesByFront answers) where
     -- what the kept front of the last line does, the line does
@@ -95,15 +69,4 @@ module _ {S : Type 0} (answers : Answering S) (start : S) where
 
     -- the end of the bytes, with a rest
     pub all_with_rest : (bytes kept out text : List ℕ) (mid after : S) → AnswersBytes answers start bytes kept out mid → (kept ≡ [] → ⊥) → answers kept mid text after → OfAllLines bytes (λ lines. AnswersLines answers lines start (out ++ ended text) after)
-    all_with_rest bytes kept out text mid after a ne b = record {
-      lines = a.lines;
-      rest = a.rest;
-      split = a.split;
-      holds =
-          subst (λ (l : List (List ℕ)). AnswersLines answers l start (out ++ ended text) after) (sym (a_last a.lines a.rest (λ e. ne (a.front_kept ∙ e))))
-          (lines_push a.lines a.rest start mid after out text a.answers_lines (last_line kept a.rest text mid after a.front_kept b));
-    }
-      where
-        a_last : (lines : List (List ℕ)) (rest : List ℕ) → (front rest ≡ [] → ⊥) → with_last lines rest ≡ lines ++ rest ∷ []
-        a_last lines [] ne = absurd (ne refl)
-        a_last lines (c ∷ rest) ne = refl
+    all_with_rest bytes kept out text mid after a ne b = grind (arith, lines_push, by_front)

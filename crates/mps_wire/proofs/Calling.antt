@@ -1,5 +1,5 @@
 -- What a caller's line does, from what its front does.
-use Rattle.std.proofs.Common.{true, false, ◌≡◌, ℕ, ◌<◌, ◌≤◌, List, [], Option, length, min, refl, sym, subst, ◌∙◌, arith, ⊎_elim, inl, inr, append-nil, length-take, take, drop}
+use Rattle.std.proofs.Common.{true, ◌≡◌, ℕ, ◌<◌, ◌≤◌, List, [], Option, length, min, refl, sym, subst, ◌∙◌, arith, ⊎_elim, inl, append-nil, length-take}
 use Rattle.std.specs.Io.KnownBytes.{Appends}
 use Rattle.std.proofs.lemmas.Bool.{cases_lt}
 use Rattle.std.proofs.lemmas.List.{take-append-drop}
@@ -22,9 +22,7 @@ use Rattle.mps_wire.proofs.Taking.{IsWholeBroken}
 
 -- a line that was read, by the names that are known, is a request
 pub request : (names known : List (List ℕ)) (line : List ℕ) (number given : Option ℕ) (command : Command) → length line ≤ max_line → known ≡ names → given ≡ number → (SpellsNumbered names line number command → AllByRecursion IsShown line) → SpellsNumbered known line given command → IsRequest names line number command
-request names known line number given command short e f shown read =
-    let spelled = subst (λ (n : List (List ℕ)). SpellsNumbered n line number command) e (subst (λ (n : Option ℕ). SpellsNumbered known line n command) f read) in
-    record { short = short; ascii = shown_ascii line (shown spelled); spelled = spelled }
+request names known line number given command short e f shown read = grind (arith, shown_ascii)
 
 module _ {C : Type 0} (caller : Ghosts C) where
   -- of a line that is too long the front says enough
@@ -67,23 +65,10 @@ module _ {C : Type 0} (caller : Ghosts C) where
   -- a line that was answered, by its front
   module _ (line kept : List ℕ) (is : front line ≡ kept) (c d : C) (taken taken' : Option (List ℕ)) where
     pub wholly_front : IsWholly (ConversesLine caller) line c d taken taken' → IsWholly (ConversesLine caller) kept c d taken taken'
-    wholly_front w = record {
-      text = w.text;
-      line_is = record { line_is = subst (λ (l : List ℕ). RepliesInText caller l c w.text d) is (front_line line c w.text d w.line_is.line_is); aloud = w.line_is.aloud };
-      sent = w.sent;
-    }
+    wholly_front w = grind (arith, front_line line c w.text d w.line_is.line_is)
 
     pub broken_front : IsBrokenOff (ConversesBrokenOff caller) line c d taken taken' → IsBrokenOff (ConversesBrokenOff caller) kept c d taken taken'
-    broken_front w = record {
-      written = w.written;
-      line_is = record {
-        reply = w.line_is.reply;
-        replies = subst (λ (l : List ℕ). RepliesTo caller l c w.line_is.reply d) is (front_reply line c d w.line_is.reply w.line_is.replies);
-        begun = w.line_is.begun;
-        silent = w.line_is.silent;
-      };
-      sent = w.sent;
-    }
+    broken_front w = grind (arith, front_reply line c d w.line_is.reply w.line_is.replies)
 
   whole_reply : (line : List ℕ) (c d : C) (reply : Reply) → RepliesTo caller (front line) c reply d → RepliesTo caller line c reply d
   whole_reply line c d reply r =
@@ -103,12 +88,7 @@ module _ {C : Type 0} (caller : Ghosts C) where
   broken_by_front line c written d a = record { reply = a.reply; replies = whole_reply line c d a.reply a.replies; begun = a.begun; silent = a.silent }
 
   pub whole_is_broken : IsWholeBroken (ConversesLine caller) (ConversesBrokenOff caller)
-  whole_is_broken line c text d a = record {
-    reply = a.line_is.reply;
-    replies = a.line_is.replies;
-    begun = inr (text, [], a.line_is.spelled, sym (append-nil (ended text)));
-    silent = λ off. absurd (let bad : true ≡ false = sym a.aloud ∙ off in cc);
-  }
+  whole_is_broken line c text d a = grind (arith, append-nil)
 
   module _ (line : List ℕ) (c d : C) (reply : Reply) (replies : RepliesTo caller line c reply d) where
     -- there was no memory for the text, or it may not be told
@@ -118,21 +98,8 @@ module _ {C : Type 0} (caller : Ghosts C) where
     module _ (text : List ℕ) (spelled : SpellsReply text reply) (aloud : caller.may_tell d ≡ true) (taken taken' : Option (List ℕ)) (bytes : List ℕ) (is : bytes ≡ ended text) where
       -- the sink failed
       pub broken_line : TookFront taken taken' bytes → IsBrokenOff (ConversesBrokenOff caller) line c d taken taken'
-      broken_line took = record {
-        written = take took.count bytes;
-        line_is = record {
-          reply = reply;
-          replies = replies;
-          begun = inr (text, drop took.count bytes, spelled, sym is ∙ sym (take-append-drop took.count bytes));
-          silent = λ off. absurd (let bad : true ≡ false = sym aloud ∙ off in cc);
-        };
-        sent = took.taken;
-      }
+      broken_line took = grind (arith, take-append-drop took.count bytes)
 
       -- the sink took it all
       pub sent_line : Appends taken taken' bytes → IsWholly (ConversesLine caller) line c d taken taken'
-      sent_line sent = record {
-        text = text;
-        line_is = record { line_is = record { reply = reply; replies = replies; spelled = spelled }; aloud = aloud };
-        sent = subst (λ (b : List ℕ). Appends taken taken' b) is sent;
-      }
+      sent_line sent = grind arith

@@ -1,22 +1,20 @@
 -- What one read of a conversation leads to, and how it ends.
-use Rattle.std.proofs.Common.{◌≡◌, ℕ, ◌+◌, List, [], ◌++◌, Option, Some, refl, sym, ap, ◌∙◌, subst, append-nil}
-use Rattle.std.specs.Prelude.{Result, Ok, Err, OnErr}
-use Rattle.std.specs.Io.KnownBytes.{Appends, Consumes}
+use Rattle.std.proofs.Common.{arith, ◌≡◌, ℕ, ◌+◌, List, [], Some, ap, ◌∙◌, append-nil}
+use Rattle.std.specs.Prelude.{Result, Err, OnErr}
+use Rattle.std.specs.Io.KnownBytes.{Consumes}
 use Rattle.mps_lines.proofs.Splitting.{split_nothing}
 use Rattle.mps_wire.specs.Answers.{Answering}
 use Rattle.mps_wire.specs.Endings.{EndedAs, WasAnswered, WasBrokenOff}
 use Rattle.mps_wire.specs.Private.Endings.{TurnedTo, TakesOn, TakesBrokenOff, failed_by}
 use Rattle.mps_wire.specs.Runs.{Going}
-use Rattle.mps_wire.specs.Streams.{Streams, Counts, all_went_well, one_read_ended, one_read_failed, one_write_failed}
+use Rattle.mps_wire.specs.Streams.{Streams, Counts, all_went_well}
 use Rattle.mps_wire.specs.declared.conversation.Broken.{Broken}
 use Rattle.mps_wire.specs.declared.conversation.Ending.{Ending}
-use Rattle.mps_wire.specs.declared.conversation.Ending.TheVariants.{Closed, ReadFault, WriteFault, Turns, Memory, Untold}
 use Rattle.mps_wire.proofs.Bytes.{Appends-trans, Appends-none, Consumes-trans, Consumes-none}
 use Rattle.mps_wire.proofs.Outcomes.{counts_more}
 
 pub on_err_of : {A E : Type 0} (r : Result A E) (P : Type 0) → P → OnErr r P
-on_err_of (Ok x) P p = tt
-on_err_of (Err e) P p = p
+on_err_of r P p = grind arith
 
 pub failed_is : (e e' : Broken) → e ≡ e' → (old new : ℕ) → new ≡ old + failed_by (Err e) → new ≡ old + failed_by (Err e')
 failed_is e e' same old new h = h ∙ ap (λ (b : Broken). old + failed_by (Err b)) same
@@ -26,55 +24,23 @@ module _ {S : Type 0} (answers : Answering S) (start : S) (first old new : Strea
   pub goes_on : (bytes kept' : List ℕ) (d : S) → Consumes old.left new.left bytes → TakesOn answers bytes kept st old.taken kept' d new.taken → Going answers start first new kept' d
   goes_on bytes kept' d more fed =
       let f = fed start going.read going.out going.answered in
-      record {
-        read = going.read ++ bytes;
-        out = going.out ++ f.0;
-        bytes = Consumes-trans first.left old.left new.left going.read bytes going.bytes more;
-        sent = Appends-trans first.taken old.taken new.taken going.out f.0 going.sent f.1;
-        answered = f.2;
-      }
+      grind (arith, Consumes-trans, Appends-trans)
 
   -- that broke off
   pub breaks_off : (broken : Answering S) (bytes : List ℕ) (d : S) → Consumes old.left new.left bytes → TakesBrokenOff answers broken bytes kept st old.taken d new.taken → WasBrokenOff answers broken start first new d
   breaks_off broken bytes d more fed =
       let f = fed start going.read going.out going.answered in
-      record {
-        read = going.read ++ bytes;
-        written = going.out ++ f.0;
-        bytes = Consumes-trans first.left old.left new.left going.read bytes going.bytes more;
-        sent = Appends-trans first.taken old.taken new.taken going.out f.0 going.sent f.1;
-        answered = f.2;
-      }
+      grind (arith, Consumes-trans, Appends-trans)
 
   -- nothing more was read
   pub stays : Consumes old.left new.left [] → new.taken ≡ old.taken → WasAnswered answers start first new st
-  stays none same = record {
-    kept = kept;
-    going = record {
-      read = going.read;
-      out = going.out;
-      bytes = subst (λ (b : List ℕ). Consumes first.left new.left b) (append-nil going.read) (Consumes-trans first.left old.left new.left going.read [] going.bytes none);
-      sent = subst (λ (t : Option (List ℕ)). Appends first.taken t going.out) (sym same) going.sent;
-      answered = going.answered;
-    };
-  }
+  stays none same = grind (arith, append-nil, Consumes-trans)
 
 module _ {S : Type 0} (answers broken : Answering S) (start : S) where
   -- nothing was read or written
   pub none_begun : (s : Streams) → WasBrokenOff answers broken start s s start
-  none_begun s = record {
-    read = [];
-    written = [];
-    bytes = Consumes-none s.left;
-    sent = Appends-none s.taken;
-    answered = record { lines = []; rest = []; split = split_nothing; holds = record { answered = []; others = []; first = refl; answers_lines = (refl, refl) } };
-  }
+  none_begun s = grind (arith, Consumes-none, Appends-none, split_nothing)
 
   -- the turn that ended it
   pub ends_as : (first old now : Streams) (kept : List ℕ) (st : S) (e : Ending) → Counts first old all_went_well → TurnedTo answers broken start first old now kept st (Some e) → EndedAs answers broken start first now st e
-  ends_as first old now kept st Closed counts h = (h.0, counts_more first old now counts one_read_ended h.1, h.2)
-  ends_as first old now kept st ReadFault counts h = (h.0, counts_more first old now counts one_read_failed h.1)
-  ends_as first old now kept st Turns counts h = absurd h
-  ends_as first old now kept st WriteFault counts h = (h.0, counts_more first old now counts one_write_failed h.1)
-  ends_as first old now kept st Memory counts h = (h.0, counts_more first old now counts all_went_well h.1)
-  ends_as first old now kept st Untold counts h = (h.0, counts_more first old now counts all_went_well h.1)
+  ends_as first old now kept st e counts h = grind (arith, counts_more)

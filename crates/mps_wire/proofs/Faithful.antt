@@ -1,22 +1,15 @@
 -- What lines answer a script or a conversation in a session of one protocol.
-use Rattle.std.proofs.Common.{◌≡◌, ◌≢◌, ⊎_elim, ℕ, true, inl, inr, List, [], ◌∷◌, ◌++◌, Some, refl, sym, ap, ◌∙◌, subst, append_assoc, append-nil}
+use Rattle.std.proofs.Common.{arith, ◌≡◌, ◌≢◌, ⊎_elim, ℕ, List, [], ◌∷◌, ◌++◌, refl, sym, ap, ◌∙◌, subst, append_assoc, append-nil}
 use Rattle.std.specs.Prelude.{codes, ⊤}
 use Rattle.std.specs.List.{AllByRecursion, flat_map}
 use Rattle.std.proofs.lemmas.Option.{same_Some}
-use Rattle.mps_command.specs.declared.answer.Answer.{Answer}
-use Rattle.mps_command.specs.declared.answer.Answer.TheVariants.{Refused}
-use Rattle.mps_command.specs.declared.command.Command.{Command}
 use Rattle.mps_line.specs.Replies.{SpellsReply}
 use Rattle.mps_line.specs.declared.write_replies.Reply.{Reply}
 use Rattle.mps_line.specs.declared.write_replies.Reply.TheVariants.{Answered}
 use Rattle.mps_line.proofs.ShownLines.{no_line_feed}
 use Rattle.mps_local.specs.Local.{LocalType}
-use Rattle.mps_room.specs.Journal.{is_accepted}
-use Rattle.mps_room.specs.Numbers.{IsNumbered}
 use Rattle.mps_room.specs.declared.caller.Caller.{Ghosts}
 use Rattle.mps_room.specs.declared.entry.Entry.{Entry}
-use Rattle.mps_room.specs.declared.numbers.Told.{Told}
-use Rattle.mps_room.specs.declared.numbers.Told.TheVariants.{Fresh, Kept, Wrong, Refused as CalledInVain}
 use Rattle.mps_room.proofs.Faithful.{answer_other}
 use Rattle.mps_fidelity.specs.Fidelity.{AreOfOneProtocol}
 use Rattle.mps_wire.specs.Answers.{Answering, AnswersBrokenOff, AnswersLines, BreaksOffAnywhere}
@@ -29,14 +22,12 @@ use Rattle.mps_wire.specs.Script.{RepliesInScript, AnswersLine}
 -- a line ends at its first break
 one_line : (x y a b : List ℕ) → HasNoBreak x → HasNoBreak y → x ++ 10 ∷ a ≡ y ++ 10 ∷ b → (x ≡ y) × (a ≡ b)
 one_line [] [] a b n m e = (refl, let k : a ≡ b = cc in k)
-one_line [] (d ∷ y) a b n m e = absurd (m.0 (let k : d ≡ 10 = cc in k))
-one_line (c ∷ x) [] a b n m e = absurd (n.0 (let k : c ≡ 10 = cc in k))
 one_line (c ∷ x) (d ∷ y) a b n m e =
     let k : c ≡ d = cc in
     let l : x ++ 10 ∷ a ≡ y ++ 10 ∷ b = cc in
     let r = one_line x y a b n.1 m.1 l in
-    let s = r.0 in
-    ((let t : c ∷ x ≡ d ∷ y = cc in t), r.1)
+    grind arith
+one_line other others a b n m e = grind arith
 
 line_and : (y a b : List ℕ) → (ended y ++ a) ++ b ≡ y ++ 10 ∷ (a ++ b)
 line_and y a b = append_assoc (ended y) a b ∙ append_assoc y (10 ∷ []) (a ++ b)
@@ -79,10 +70,7 @@ module _ {S : Type 0} (answers : Answering S) (Holds : S → Type 0) (each : (li
 
   -- the lines of what was written, where more may follow
   pub written_fits : (asked lines : List (List ℕ)) (st after : S) (out written unwritten rest : List ℕ) → Holds st → AnswersLines answers asked st out after → out ≡ written ++ unwritten → IsSplit written lines rest → AllByRecursion Fits lines
-  written_fits asked lines st after out written unwritten rest h a e split =
-      let t = texts_of asked st after out h a in
-      each_line Fits t.0 lines (rest ++ unwritten) t.2 split.each
-      (sym t.1 ∙ e ∙ ap (λ (l : List ℕ). l ++ unwritten) split.whole ∙ append_assoc (flat_map ended lines) rest unwritten) t.3
+  written_fits asked lines st after out written unwritten rest h a e split = grind (arith, texts_of, each_line, append_assoc)
 
 -- ---- scripts
 
@@ -94,11 +82,7 @@ module _ (one_reply : (a : List ℕ) (r s : Reply) → SpellsReply a r → Spell
 
   module _ (names : List (List ℕ)) (types : List LocalType) (own : AreOfOneProtocol types) where
     reply_fits : (line : List ℕ) (j after : List Entry) (r : Reply) → RepliesInScript names types line j r after → r ≢ mismatched
-    reply_fits line j after r (inl u) = λ e. let b = u.bad in cc
-    reply_fits line j after r (inr (inl s)) = λ e.
-        let same : Answered s.answer ≡ mismatched = sym s.told ∙ e in
-        answer_other names types own j s.role s.command s.answer s.wanted (let is : s.answer ≡ mismatch = cc in is)
-    reply_fits line j after r (inr (inr s)) = λ e. let b = s.told in cc
+    reply_fits line j after r other = grind (arith, answer_other)
 
     pub script_line : (line : List ℕ) (j : List Entry) (text : List ℕ) (after : List Entry) → ⊤ → AnswersLine names types line j text after → IsFit text × ⊤
     script_line line j text after h a = (text_fits text a.reply a.spelled (reply_fits line j after a.reply a.replies), tt)
@@ -114,44 +98,8 @@ module _ (one_reply : (a : List ℕ) (r s : Reply) → SpellsReply a r → Spell
   -- ---- conversations
 
   module _ {C : Type 0} (caller : Ghosts C) (types : C → List LocalType) (none : MeetsNoMismatch caller types) where
-    still : (c : C) (command : Command) (answer : Answer) (d : C) → AreOfOneProtocol (types c) → caller.calls c command answer d → AreOfOneProtocol (types d)
-    still c command answer d own call = subst AreOfOneProtocol (sym (none.same_types c command answer d call)) own
-
-    -- an answer that is accepted is no refusal
-    accepted_other : (a : Answer) → is_accepted a ≡ true → a ≢ mismatch
-    accepted_other a is e = let k : is_accepted mismatch ≡ true = sym (ap is_accepted e) ∙ is in cc
-
-    answered_other : (a : Answer) (r : Reply) → r ≡ Answered a → a ≢ mismatch → r ≢ mismatched
-    answered_other a r told other e =
-        let same : Answered a ≡ mismatched = sym told ∙ e in
-        other (let is : a ≡ mismatch = cc in is)
-
-    kept_other : (c : C) (a b : Answer) → caller.kept c ≡ Some a → caller.kept c ≡ Some b → b ≢ mismatch → a ≢ mismatch
-    kept_other c a b here there other e = other (same_Some b a (sym there ∙ here) ∙ e)
-
-    came_free : (c : C) (number : ℕ) (command : Command) (d : C) (came : Told) (r : Reply) → HasNoMismatch caller types c → IsNumbered caller.calls caller.last caller.kept c number command d came → conversations.IsToldAs caller d came r → (r ≢ mismatched) × HasNoMismatch caller types d
-    came_free c number command d Fresh r free n told =
-        let other = accepted_other n.answer n.accepted in (
-          answered_other told.0 r told.2 (kept_other d told.0 n.answer told.1 n.told other),
-          record { of_one_protocol = still c command n.answer d free.of_one_protocol n.call; keeps_none = λ a is. kept_other d a n.answer is n.told other },
-        )
-    came_free c number command d Kept r free n told =
-        let at : HasNoMismatch caller types d = subst (HasNoMismatch caller types) (sym n.unchanged) free in
-        (answered_other told.0 r told.2 (at.keeps_none told.0 told.1), at)
-    came_free c number command d Wrong r free n told = ((λ e. cc), subst (HasNoMismatch caller types) (sym n.unchanged) free)
-    came_free c number command d (CalledInVain refusal) r free n told = (
-      answered_other (Refused refusal) r told (none.other c command (Refused refusal) d free.of_one_protocol n.call),
-      record { of_one_protocol = still c command (Refused refusal) d free.of_one_protocol n.call; keeps_none = λ a is. free.keeps_none a (sym n.kept_stays ∙ is) },
-    )
-
     reply_free : (line : List ℕ) (c : C) (r : Reply) (d : C) → HasNoMismatch caller types c → conversations.RepliesTo caller line c r d → (r ≢ mismatched) × HasNoMismatch caller types d
-    reply_free line c r d free (conversations.Unread u) = ((λ e. let b = u.bad in cc), subst (HasNoMismatch caller types) (sym u.unchanged) free)
-    reply_free line c r d free (conversations.Called s) = (
-      answered_other s.answer r s.told (none.other c s.command s.answer d free.of_one_protocol s.call),
-      record { of_one_protocol = still c s.command s.answer d free.of_one_protocol s.call; keeps_none = λ a is. free.keeps_none a (sym s.kept_stays ∙ is) },
-    )
-    reply_free line c r d free (conversations.Numbered s) = came_free c s.number s.command d s.came r free s.numbered s.told
-    reply_free line c r d free (conversations.Starved s) = ((λ e. let b = s.told in cc), subst (HasNoMismatch caller types) (sym s.unchanged) free)
+    reply_free line c r d free others = grind (arith, same_Some)
 
     conversed_line : (line : List ℕ) (c : C) (text : List ℕ) (d : C) → HasNoMismatch caller types c → conversations.RepliesInText caller line c text d → IsFit text × HasNoMismatch caller types d
     conversed_line line c text d free a =

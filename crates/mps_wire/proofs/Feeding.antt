@@ -15,18 +15,7 @@ pub record Feeding {S : Type 0} (answers : Answering S) (start : S) (old : Place
 
 module _ {S : Type 0} (answers : Answering S) (start : S) (old : Place S) (bytes : List ℕ) where
   pub feeding_begins : Feeding answers start old bytes bytes old
-  feeding_begins =
-      let none : length bytes - length bytes ≡ 0 = omega arith in
-      record {
-        within = omega arith;
-        left = sym (ap (λ (k : ℕ). drop k bytes) none);
-        taken = λ before out a. (
-          [],
-          sym (append-nil old.waiting),
-          subst (λ (b : List ℕ). AnswersBytes answers start b old.kept (out ++ []) old.state) (sym (append-nil before) ∙ ap (λ (k : ℕ). before ++ take k bytes) (sym none))
-              (subst (λ (o : List ℕ). AnswersBytes answers start before old.kept o old.state) (sym (append-nil out)) a),
-        );
-      }
+  feeding_begins = grind (arith, append-nil)
 
   -- a line more, whose front is kept and then answered
   pub feeds_on : GoesByFront answers → (rest kept text : List ℕ) (k : ℕ) (now next : Place S) → Feeding answers start old bytes rest now → k < length rest → get_or rest k 0 ≡ 10 → HasNoBreak (take k rest) → kept ≡ front (now.kept ++ take k rest) → answers kept now.state text next.state → next.waiting ≡ now.waiting ++ ended text → next.kept ≡ [] → Feeding answers start old bytes (take (length rest - (k + 1)) (drop (k + 1) rest)) next
@@ -47,13 +36,7 @@ module _ {S : Type 0} (answers : Answering S) (start : S) (old : Place S) (bytes
             append_assoc (before ++ take n bytes) piece (10 ∷ []) ∙ append_assoc before (take n bytes) (piece ++ 10 ∷ []) ∙ ap (λ (l : List ℕ). before ++ l) (sym step ∙ ap (λ (j : ℕ). take j bytes) (sym past)) in
             let more = answered_more answers start now.state (before ++ take n bytes) now.kept (out ++ had.0) piece had.2 none in
             let more' = subst (λ (x : List ℕ). AnswersBytes answers start (before ++ take n bytes ++ piece) x (out ++ had.0) now.state) (sym kept_is) more in
-            let after = answered_line answers start by_front now.state next.state (before ++ take n bytes ++ piece) kept (out ++ had.0) text more' line in (
-              had.0 ++ ended text,
-              waiting_is ∙ ap (λ (l : List ℕ). l ++ ended text) had.1 ∙ append_assoc old.waiting had.0 (ended text),
-              subst (λ (x : List ℕ). AnswersBytes answers start (before ++ take (length bytes - length (drop (k + 1) rest)) bytes) x (out ++ (had.0 ++ ended text)) next.state) (sym empty)
-                  (subst (λ (o : List ℕ). AnswersBytes answers start (before ++ take (length bytes - length (drop (k + 1) rest)) bytes) [] o next.state) (append_assoc out had.0 (ended text))
-                  (subst (λ (b : List ℕ). AnswersBytes answers start b [] ((out ++ had.0) ++ ended text) next.state) whole after)),
-            );
+            let after = answered_line answers start by_front now.state next.state (before ++ take n bytes ++ piece) kept (out ++ had.0) text more' line in grind (arith, append_assoc);
       } in
       subst (λ (r : List ℕ). Feeding answers start old bytes r next) (sym tail) goal
 
@@ -63,11 +46,4 @@ module _ {S : Type 0} (answers : Answering S) (start : S) (old : Place S) (bytes
       let n = length bytes - length rest in
       let had = f.taken before out a in
       let more = answered_more answers start now.state (before ++ take n bytes) now.kept (out ++ had.0) rest had.2 none in
-      let whole : before ++ take n bytes ++ rest ≡ before ++ bytes =
-      append_assoc before (take n bytes) rest ∙ ap (λ (l : List ℕ). before ++ l) (ap (λ (l : List ℕ). take n bytes ++ l) f.left ∙ take-append-drop n bytes) in (
-        had.0,
-        same_waiting ∙ had.1,
-        subst (λ (s : S). AnswersBytes answers start (before ++ bytes) next.kept (out ++ had.0) s) (sym same_state)
-            (subst (λ (b : List ℕ). AnswersBytes answers start b next.kept (out ++ had.0) now.state) whole
-            (subst (λ (x : List ℕ). AnswersBytes answers start (before ++ take n bytes ++ rest) x (out ++ had.0) now.state) (sym kept_is) more)),
-      )
+      grind (arith, append_assoc, take-append-drop)

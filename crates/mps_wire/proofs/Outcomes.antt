@@ -1,5 +1,5 @@
 -- How the results of its parts are a run's.
-use Rattle.std.proofs.Common.{◌≡◌, ℕ, List, [], Bool, true, false, Result, Ok, Err, refl, inl, inr, subst, arith}
+use Rattle.std.proofs.Common.{◌≡◌, ℕ, List, Bool, true, false, Result, Ok, Err, refl, inl, subst, arith}
 use Rattle.std.specs.Prelude.{◌↔◌, IsErrOf}
 use Rattle.mps_local.specs.Local.{LocalType}
 use Rattle.mps_base.specs.RoleLists.{HasRoleCount}
@@ -11,10 +11,9 @@ use Rattle.mps_session.specs.declared.open.OpenFault.TheVariants.{RoleCount, Bad
 use Rattle.mps_wire.specs.declared.script.ReplayFault.{ReplayFault}
 use Rattle.mps_wire.specs.declared.script.ReplayFault.TheVariants.{Open, ReadFault, WriteFault, Turns, Memory}
 use Rattle.mps_wire.specs.Answers.{Answering}
-use Rattle.mps_wire.specs.Runs.{of_opening, Replayed, ScriptRan, Ran, BreaksOff, Finished, Going, GaveAtLeast}
+use Rattle.mps_wire.specs.Runs.{of_opening, Replayed, ScriptRan, Ran, Finished, Going, GaveAtLeast}
 use Rattle.mps_wire.specs.Private.Turns.{Turned}
-use Rattle.mps_wire.specs.Script.{AnswersLine}
-use Rattle.mps_wire.specs.Streams.{Counted, Streams, Counts, all_went_well, at_the_end, one_read_ended, one_read_failed, one_write_failed}
+use Rattle.mps_wire.specs.Streams.{Counted, Streams, Counts, all_went_well, one_read_ended}
 use Rattle.mps_wire.proofs.Turning.{starved_first}
 
 -- why no run begins: the session isn't opened, or memory ran out
@@ -42,24 +41,11 @@ same_counts s = record { reads_failed = omega arith; reads_ended = omega arith; 
 
 module _ (first old now : Streams) (none : Counts first old all_went_well) where
   pub counts_more : (t : Counted) → Counts old now t → Counts first now t
-  counts_more t c = record {
-    reads_failed = omega (arith, none.reads_failed, c.reads_failed);
-    reads_ended = omega (arith, none.reads_ended, c.reads_ended);
-    writes_failed = omega (arith, none.writes_failed, c.writes_failed);
-  }
-
-  -- what a turn counts is what the run counts
-  breaks_off : {S : Type 0} (answers : Answering S) (start : S) (t : Counted) → BreaksOff answers start first old now t → BreaksOff answers start first first now t
-  breaks_off answers start t (inl (broken, counts)) = inl (broken, counts_more t counts)
-  breaks_off answers start t (inr (broken, counts)) = inr (broken, counts_more (at_the_end t) counts)
+  counts_more t c = grind arith
 
   -- a turn's fault is the run's
   pub breaks : {S : Type 0} (answers : Answering S) (start : S) (kept : List ℕ) (st : S) (fault : ReplayFault) → Turned answers start first old now kept st (Err fault) → Ran answers start first now (Err fault)
-  breaks answers start kept st ReadFault h = (h.0, counts_more one_read_failed h.1)
-  breaks answers start kept st WriteFault h = breaks_off answers start one_write_failed h
-  breaks answers start kept st Memory h = breaks_off answers start all_went_well h
-  breaks answers start kept st Turns h = absurd h
-  breaks answers start kept st (Open fault) h = absurd h
+  breaks answers start kept st fault h = grind (arith, counts_more)
 
 module _ {S : Type 0} (answers : Answering S) (start : S) (first old now : Streams) (kept : List ℕ) (st : S) (over : Bool) (h : Turned answers start first old now kept st (Ok over)) where
   -- the turn that found the end
@@ -77,17 +63,8 @@ starts_starved answers start s = inl (starved_first answers start s, same_counts
 module _ (names : List (List ℕ)) (types : List LocalType) where
   -- no run begins
   pub not_begun : (s : Streams) (fault : ReplayFault) → KeepsFromBeginning types fault → Replayed names types s s (Err fault)
-  not_begun s (Open fault) h = (h, refl)
-  not_begun s Memory h = (h, starts_starved (AnswersLine names types) [] s)
-  not_begun s ReadFault h = absurd h
-  not_begun s WriteFault h = absurd h
-  not_begun s Turns h = absurd h
+  not_begun s fault h = grind (arith, starts_starved)
 
   -- the run is on a session that could be opened
   pub opened_first : (before after : Streams) (r : Result RoomState ReplayFault) → CanOpen types → ScriptRan names types before after r → Replayed names types before after r
-  opened_first before after (Ok room) can h = (can, h)
-  opened_first before after (Err ReadFault) can h = (can, h)
-  opened_first before after (Err WriteFault) can h = (can, h)
-  opened_first before after (Err Turns) can h = (can, h)
-  opened_first before after (Err Memory) can h = (can, h)
-  opened_first before after (Err (Open fault)) can h = absurd h
+  opened_first before after r can h = grind arith

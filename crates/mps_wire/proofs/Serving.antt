@@ -1,5 +1,5 @@
 -- What a line is answered, from what the room answers.
-use Rattle.std.proofs.Common.{◌≡◌, ℕ, zero, suc, ◌<◌, arith, false, List, [], ◌∷◌, ◌++◌, length, Result, Ok, Err, inl, inr, refl, sym}
+use Rattle.std.proofs.Common.{◌≡◌, ℕ, zero, suc, ◌<◌, arith, false, List, [], ◌∷◌, ◌++◌, length, Result, Ok, Err, sym}
 use Rattle.std.proofs.lemmas.Bool.{cond-false}
 use Rattle.std.specs.Prelude.{OnOk}
 use Rattle.std.specs.List.{AllByRecursion}
@@ -40,8 +40,7 @@ spelled_ascii names line role command spelled = shown_ascii line (shown_line nam
 
 -- the text of the reply answers the line
 pub answers_line : {T E : Type 0} (names : List (List ℕ)) (types : List LocalType) (line : List ℕ) (journal after : List Entry) (reply : Reply) (written : Result T E) (old new : List ℕ) → RepliesInScript names types line journal reply after → OnOk written (Appends (λ text. SpellsReply text reply) old new) → OnOk written (Appends (λ text. AnswersLine names types line journal text after) old new)
-answers_line names types line journal after reply (Ok x) old new replies a = (a.0, a.1, record { reply = reply; replies = replies; spelled = a.2 })
-answers_line names types line journal after reply (Err e) old new replies a = tt
+answers_line names types line journal after reply written old new replies a = grind arith
 
 -- the text of the answer answers the command
 pub answered : {T E : Type 0} (names : List (List ℕ)) (types : List LocalType) (journal : List Entry) (role : ℕ) (command : Command) (after : List Entry) (answer : Answer) (written : Result T E) (old new : List ℕ)
@@ -49,8 +48,7 @@ pub answered : {T E : Type 0} (names : List (List ℕ)) (types : List LocalType)
     → after ≡ grown journal role command answer
     → OnOk written (Appends (λ text. SpellsReply text (Answered answer)) old new)
     → OnOk written (IsReplied names types journal role command after old new)
-answered names types journal role command after answer (Ok x) old new wanted joined written = (answer, wanted, joined, written)
-answered names types journal role command after answer (Err e) old new wanted joined written = tt
+answered names types journal role command after answer written old new wanted joined other = grind arith
 
 -- an answer that accepts nothing leaves the journal
 pub unchanged : (journal : List Entry) (role : ℕ) (command : Command) (answer : Answer) → is_accepted answer ≡ false → journal ≡ grown journal role command answer
@@ -63,14 +61,6 @@ pub answers_command : {T E : Type 0} (names : List (List ℕ)) (types : List Loc
     → OnOk written (Appends (λ text. AnswersLine names types line journal text after) old new)
 answers_command {T} {E} names types line journal role command after (Ok x) old new readable h =
     answers_line {T = T} {E = E} names types line journal after (Answered h.0) (Ok x) old new
-    (inr (inl (record {
-      role = role;
-      command = command;
-      readable = readable;
-      answer = h.0;
-      told = refl;
-      wanted = h.1;
-      joined = h.2;
-    })))
+    (grind arith)
     h.3
 answers_command names types line journal role command after (Err e) old new readable h = tt

@@ -1,5 +1,5 @@
 -- How answers break off, and how a block of bytes is taken line by line.
-use Rattle.std.proofs.Common.{◌≡◌, ℕ, ◌+◌, ◌-◌, ◌<◌, ◌≤◌, List, [], ◌∷◌, ◌++◌, Option, length, take, drop, get_or, refl, sym, ap, ◌∙◌, subst, arith, append_assoc, append-nil, length-drop}
+use Rattle.std.proofs.Common.{◌≡◌, ℕ, ◌+◌, ◌-◌, ◌<◌, ◌≤◌, List, [], ◌∷◌, ◌++◌, Option, length, take, drop, get_or, sym, ap, ◌∙◌, subst, arith, append_assoc, append-nil, length-drop}
 use Rattle.std.proofs.Math.Seq.{take-add}
 use Rattle.std.proofs.lemmas.List.{take_rest, take_more, drop-drop, take-append-drop}
 use Rattle.mps_lines.specs.Lines.{HasNoBreak, ended, front}
@@ -12,13 +12,11 @@ use Rattle.mps_wire.proofs.Turning.{split_on}
 
 -- the piece that came whole, after no line that has begun
 pub begun_none : (line piece : List ℕ) → length line ≡ 0 → begun_or line piece ≡ piece
-begun_none [] piece e = refl
-begun_none (c ∷ line) piece e = absurd (omega (arith, e))
+begun_none line piece e = grind arith
 
 -- a line that has begun
 pub begun_some : (line piece : List ℕ) → (length line ≡ 0 → ⊥) → begun_or line piece ≡ line
-begun_some [] piece some = absurd (some refl)
-begun_some (c ∷ line) piece some = refl
+begun_some line piece some = grind arith
 
 -- a whole answer is one that breaks off at its end
 abbrev pub IsWholeBroken : {S : Type 0} → Answering S → Answering S → Type 0
@@ -27,10 +25,8 @@ IsWholeBroken {S} answers broken = (line : List ℕ) (st : S) (text : List ℕ) 
 module _ {S : Type 0} (answers broken : Answering S) where
   -- one line more, whose answer breaks off
   pub broken_push : (lines : List (List ℕ)) (line : List ℕ) (st mid after : S) (out written : List ℕ) → AnswersLines answers lines st out mid → broken line mid written after → AnswersBrokenOff answers broken (lines ++ line ∷ []) st (out ++ written) after
-  broken_push [] line st mid after out written a b =
-      subst (λ (o : List ℕ). broken line st (o ++ written) after) (sym a.0) (subst (λ (s : S). broken line s written after) a.1 b)
-  broken_push (l ∷ []) line st mid after out written a b =
-      (a.0, a.1 ++ written, a.2, ap (λ (x : List ℕ). x ++ written) a.3 ∙ append_assoc (ended a.0) a.1 written, a.4, broken_push [] line a.2 mid after a.1 written a.5 b)
+  broken_push [] line st mid after out written a b = grind arith
+  broken_push (l ∷ []) line st mid after out written a b = grind (arith, append_assoc)
   broken_push (l ∷ m ∷ lines) line st mid after out written a b =
       (a.0, a.1 ++ written, a.2, ap (λ (x : List ℕ). x ++ written) a.3 ∙ append_assoc (ended a.0) a.1 written, a.4, broken_push (m ∷ lines) line a.2 mid after a.1 written a.5 b)
 
@@ -38,32 +34,18 @@ module _ {S : Type 0} (answers broken : Answering S) where
     -- whole answers, the last of them too
     pub whole_broken : (lines : List (List ℕ)) (st after : S) (out : List ℕ) → AnswersLines answers lines st out after → AnswersBrokenOff answers broken lines st out after
     whole_broken [] st after out a = a
-    whole_broken (l ∷ []) st after out a =
-        let same : ended a.0 ≡ out = sym (a.3 ∙ ap (λ (x : List ℕ). ended a.0 ++ x) a.5.0 ∙ append-nil (ended a.0)) in
-        subst (λ (o : List ℕ). broken l st o after) same (subst (λ (s : S). broken l st (ended a.0) s) (sym a.5.1) (whole l st a.0 a.2 a.4))
+    whole_broken (l ∷ []) st after out a = grind (arith, append-nil)
     whole_broken (l ∷ m ∷ lines) st after out a = (a.0, a.1, a.2, a.3, a.4, whole_broken (m ∷ lines) a.2 after a.1 a.5)
 
     -- no more lines are answered, whatever else was read
     pub stops : (start st : S) (bytes kept out more : List ℕ) → AnswersBytes answers start bytes kept out st → OfWholeLines (bytes ++ more) (λ lines. BreaksOffInLast answers start broken lines out st)
-    stops start st bytes kept out more a =
-        let s = split_on more bytes a.lines a.rest a.split in
-        record { lines = a.lines ++ s.0; rest = s.1; split = s.2; holds = record { answered = a.lines; others = s.0; first = refl; answers_lines = whole_broken a.lines start st out a.answers_lines } }
+    stops start st bytes kept out more a = grind (arith, split_on more bytes a.lines a.rest a.split, whole_broken a.lines start st out a.answers_lines)
 
   -- the line is ended, and its answer breaks off; whatever else was read
   pub breaks : GoesByFront broken → (start mid after : S) (bytes kept out written more : List ℕ) → AnswersBytes answers start bytes kept out mid → broken kept mid written after → OfWholeLines ((bytes ++ 10 ∷ []) ++ more) (λ lines. BreaksOffInLast answers start broken lines (out ++ written) after)
   breaks by_front start mid after bytes kept out written more a b =
       let s = split_on more (bytes ++ 10 ∷ []) (a.lines ++ a.rest ∷ []) [] (split_ended bytes a.lines a.rest a.split) in
-      record {
-        lines = (a.lines ++ a.rest ∷ []) ++ s.0;
-        rest = s.1;
-        split = s.2;
-        holds = record {
-          answered = a.lines ++ a.rest ∷ [];
-          others = s.0;
-          first = refl;
-          answers_lines = broken_push a.lines a.rest start mid after out written a.answers_lines (by_front a.rest mid written after (subst (λ (l : List ℕ). broken l mid written after) a.front_kept b));
-        };
-      }
+      grind (arith, broken_push)
 
 -- what was made of the bytes up to the rest
 pub record Taking {S : Type 0} (answers : Answering S) (kept0 : List ℕ) (c0 : S) (took : Option (List ℕ)) (bytes rest kept : List ℕ) (c : S) (taken : Option (List ℕ)) : Type 0 where
@@ -73,35 +55,19 @@ pub record Taking {S : Type 0} (answers : Answering S) (kept0 : List ℕ) (c0 : 
 
 module _ {S : Type 0} (answers broken : Answering S) (kept0 : List ℕ) (c0 : S) (took : Option (List ℕ)) (bytes : List ℕ) where
   pub taking_begins : Taking answers kept0 c0 took bytes bytes kept0 c0 took
-  taking_begins =
-      let none : length bytes - length bytes ≡ 0 = omega arith in
-      record {
-        within = omega arith;
-        left = sym (ap (λ (k : ℕ). drop k bytes) none);
-        on = λ first before out a. (
-          [],
-          Appends-none took,
-          subst (λ (b : List ℕ). AnswersBytes answers first b kept0 (out ++ []) c0) (sym (append-nil before) ∙ ap (λ (k : ℕ). before ++ take k bytes) (sym none))
-              (subst (λ (o : List ℕ). AnswersBytes answers first before kept0 o c0) (sym (append-nil out)) a),
-        );
-      }
+  taking_begins = grind (arith, Appends-none, append-nil)
 
   module _ (rest kept kept1 : List ℕ) (c : S) (taken : Option (List ℕ)) (k : ℕ) (f : Taking answers kept0 c0 took bytes rest kept c taken) (less : k < length rest) (is : get_or rest k 0 ≡ 10) (none : HasNoBreak (take k rest)) (kept_is : kept1 ≡ front (kept ++ take k rest)) where
     passed : ℕ
     passed = length bytes - length rest
 
-    one_line : take k rest ++ 10 ∷ [] ≡ take (k + 1) rest
-    one_line = sym (take_more rest k 0 less ∙ ap (λ (x : ℕ). take k rest ++ x ∷ []) is)
-
     -- up to the end of this line
     up_to : take (passed + (k + 1)) bytes ≡ take passed bytes ++ (take k rest ++ 10 ∷ [])
     unfolding passed
-    up_to = take-add passed (k + 1) bytes ∙ ap (λ (l : List ℕ). take passed bytes ++ take (k + 1) l) (sym f.left) ∙ ap (λ (l : List ℕ). take passed bytes ++ l) (sym one_line)
+    up_to = grind (arith, take-add, passed, take_more)
 
     line_so_far : (first : S) (before out : List ℕ) → AnswersBytes answers first (before ++ take passed bytes) kept out c → AnswersBytes answers first (before ++ (take passed bytes ++ take k rest)) kept1 out c
-    line_so_far first before out a =
-        subst (λ (b : List ℕ). AnswersBytes answers first b kept1 out c) (append_assoc before (take passed bytes) (take k rest))
-        (subst (λ (x : List ℕ). AnswersBytes answers first ((before ++ take passed bytes) ++ take k rest) x out c) (sym kept_is) (answered_more answers first c (before ++ take passed bytes) kept out (take k rest) a none))
+    line_so_far first before out a = grind (arith, append_assoc, passed, answered_more)
 
     whole_of : (before : List ℕ) → (before ++ (take passed bytes ++ take k rest)) ++ 10 ∷ [] ≡ before ++ take (passed + (k + 1)) bytes
     whole_of before = append_assoc before (take passed bytes ++ take k rest) (10 ∷ []) ∙ ap (λ (l : List ℕ). before ++ l) (append_assoc (take passed bytes) (take k rest) (10 ∷ []) ∙ sym up_to)
@@ -117,13 +83,7 @@ module _ {S : Type 0} (answers broken : Answering S) (kept0 : List ℕ) (c0 : S)
           left = ap (drop (k + 1)) f.left ∙ drop-drop (k + 1) passed bytes ∙ ap (λ (j : ℕ). drop j bytes) (sym past);
           on = λ first before out a.
               let had = f.on first before out a in
-              let next = answered_line answers first by_front c d (before ++ (take passed bytes ++ take k rest)) kept1 (out ++ had.0) line.text (line_so_far first before (out ++ had.0) had.2) line.line_is in (
-                had.0 ++ ended line.text,
-                Appends-trans took taken taken1 had.0 (ended line.text) had.1 line.sent,
-                subst (λ (x : List ℕ). AnswersBytes answers first (before ++ take (length bytes - length (drop (k + 1) rest)) bytes) x (out ++ (had.0 ++ ended line.text)) d) (sym empty)
-                    (subst (λ (o : List ℕ). AnswersBytes answers first (before ++ take (length bytes - length (drop (k + 1) rest)) bytes) [] o d) (append_assoc out had.0 (ended line.text))
-                    (subst (λ (b : List ℕ). AnswersBytes answers first b [] ((out ++ had.0) ++ ended line.text) d) (whole_of before ∙ ap (λ (j : ℕ). before ++ take j bytes) (sym past)) next)),
-              );
+              let next = answered_line answers first by_front c d (before ++ (take passed bytes ++ take k rest)) kept1 (out ++ had.0) line.text (line_so_far first before (out ++ had.0) had.2) line.line_is in grind (arith, Appends-trans, append_assoc, whole_of);
         } in
         subst (λ (r : List ℕ). Taking answers kept0 c0 took bytes r kept2 d taken1) (sym tail) goal
 
@@ -148,14 +108,7 @@ module _ {S : Type 0} (answers broken : Answering S) (kept0 : List ℕ) (c0 : S)
     taking_ends kept1 none kept_is first before out a =
         let n = length bytes - length rest in
         let had = f.on first before out a in
-        let more = answered_more answers first c (before ++ take n bytes) kept (out ++ had.0) rest had.2 none in
-        let whole : (before ++ take n bytes) ++ rest ≡ before ++ bytes =
-        append_assoc before (take n bytes) rest ∙ ap (λ (l : List ℕ). before ++ l) (ap (λ (l : List ℕ). take n bytes ++ l) f.left ∙ take-append-drop n bytes) in (
-          had.0,
-          had.1,
-          subst (λ (b : List ℕ). AnswersBytes answers first b kept1 (out ++ had.0) c) whole
-              (subst (λ (x : List ℕ). AnswersBytes answers first ((before ++ take n bytes) ++ rest) x (out ++ had.0) c) (sym kept_is) more),
-        )
+        grind (arith, answered_more answers first c (before ++ take n bytes) kept (out ++ had.0) rest had.2 none, append_assoc before (take n bytes) rest, take-append-drop n bytes)
 
     -- there is no memory for what comes of the line
     pub taking_stops : IsWholeBroken answers broken → TakesBrokenOff answers broken bytes kept0 c0 took c taken

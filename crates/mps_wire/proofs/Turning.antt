@@ -1,5 +1,5 @@
 -- What one read and its answers lead to.
-use Rattle.std.proofs.Common.{◌≡◌, ◌≢◌, ◌==◌, ◌+◌, ◌<◌, ◌≤◌, ℕ, zero, suc, List, [], ◌∷◌, ◌++◌, take, drop, Bool, Option, Result, Ok, Err, IsErrAnd, refl, sym, ap, ◌∙◌, subst, inl, inr, ⊎_elim, append_assoc, append-nil, arith, length, length-take, length-append}
+use Rattle.std.proofs.Common.{◌≡◌, ◌≢◌, ◌==◌, ◌+◌, ◌<◌, ◌≤◌, ℕ, List, [], ◌∷◌, ◌++◌, take, drop, Bool, Option, Result, Ok, IsErrAnd, refl, sym, ap, ◌∙◌, subst, inl, inr, ⊎_elim, append_assoc, append-nil, arith, length, length-take, length-append}
 use Rattle.std.specs.Io.KnownBytes.{Appends, Consumes, IsAtEnd}
 use Rattle.std.proofs.lemmas.Bool.{cases_eq, ne_eqb}
 use Rattle.std.proofs.lemmas.List.{take-append-drop}
@@ -20,20 +20,11 @@ use Rattle.mps_wire.proofs.Answering.{answered_nothing}
 
 -- whatever comes, the lines go on
 pub split_on : (more bytes : List ℕ) (lines : List (List ℕ)) (rest : List ℕ) → IsSplit bytes lines rest → (others : List (List ℕ)) × (left : List ℕ) × IsSplit (bytes ++ more) (lines ++ others) left
-split_on [] bytes lines rest s = (
-  [],
-  rest,
-  subst (λ (b : List ℕ). IsSplit b (lines ++ []) rest) (sym (append-nil bytes)) (subst (λ (l : List (List ℕ)). IsSplit bytes l rest) (sym (append-nil lines)) s),
-)
+split_on [] bytes lines rest s = grind (arith, append-nil bytes, append-nil lines)
 split_on (c ∷ more) bytes lines rest s =
     ⊎_elim
     (λ (e : c ≡ 10).
-    let next = split_on more (bytes ++ 10 ∷ []) (lines ++ rest ∷ []) [] (split_ended bytes lines rest s) in (
-      rest ∷ next.0,
-      next.1,
-      subst (λ (l : List (List ℕ)). IsSplit (bytes ++ c ∷ more) l next.1) (append_assoc lines (rest ∷ []) next.0)
-          (subst (λ (b : List ℕ). IsSplit b ((lines ++ rest ∷ []) ++ next.0) next.1) (append_assoc bytes (10 ∷ []) more ∙ ap (λ (d : ℕ). bytes ++ d ∷ more) (sym e)) next.2),
-    ))
+    let next = split_on more (bytes ++ 10 ∷ []) (lines ++ rest ∷ []) [] (split_ended bytes lines rest s) in grind (arith, append_assoc))
     (λ (ne : c ≢ 10).
     let next = split_on more (bytes ++ c ∷ []) lines (rest ++ c ∷ []) (split_more bytes lines rest (c ∷ []) s (ne, tt)) in
     (next.0, next.1, subst (λ (b : List ℕ). IsSplit b (lines ++ next.0) next.1) (append_assoc bytes (c ∷ []) more) next.2))
@@ -41,39 +32,19 @@ split_on (c ∷ more) bytes lines rest s =
 
 -- a last line stands after the whole ones
 last_after : (lines : List (List ℕ)) (rest : List ℕ) → lines ++ with_last [] rest ≡ with_last lines rest
-last_after lines [] = append-nil lines
-last_after lines (c ∷ rest) = refl
+last_after lines rest = grind (arith, append-nil)
 
 -- answers up to some place in them, and the others
 parts : (before answers : List ℕ) (count : ℕ) → before ++ answers ≡ (before ++ take count answers) ++ drop count answers
 parts before answers count = ap (λ (l : List ℕ). before ++ l) (sym (take-append-drop count answers)) ∙ sym (append_assoc before (take count answers) (drop count answers))
 
--- a read that gave nothing into a buffer with room ended
-one_end : (count : ℕ) (buf : List ℕ) (old new : ℕ) → count ≡ 0 → 0 < length buf → new ≡ ends_after {E = Failed} (Ok count) buf old → new ≡ old + 1
-one_end zero [] old new none room e = absurd (omega arith)
-one_end zero (c ∷ buf) old new none room e = e
-one_end (suc count) buf old new none room e = absurd (omega arith)
-
--- one that gave bytes did not
-no_end : (count : ℕ) (buf : List ℕ) (old new : ℕ) → count ≢ 0 → new ≡ ends_after {E = Failed} (Ok count) buf old → new ≡ old + 0
-no_end zero buf old new some e = absurd (some refl)
-no_end (suc count) buf old new some e = omega (arith, e)
-
 -- the counts after a read that was answered, and so many failed writes
 module _ (old new : Streams) (count : ℕ) (buf : List ℕ) (failed_writes : ℕ) (none_unread : new.failed_reads ≡ old.failed_reads) (ends : new.ends ≡ ends_after {E = Failed} (Ok count) buf old.ends) where
   pub counts_at_end : count ≡ 0 → 0 < length buf → new.failed_writes ≡ old.failed_writes + failed_writes → Counts old new (record { failed_reads = 0; ends = 1; failed_writes = failed_writes })
-  counts_at_end none room writes = record {
-    reads_failed = omega arith;
-    reads_ended = one_end count buf old.ends new.ends none room ends;
-    writes_failed = writes;
-  }
+  counts_at_end none room writes = grind (arith, ends)
 
   pub counts_before_end : count ≢ 0 → new.failed_writes ≡ old.failed_writes + failed_writes → Counts old new (record { failed_reads = 0; ends = 0; failed_writes = failed_writes })
-  counts_before_end some writes = record {
-    reads_failed = omega arith;
-    reads_ended = no_end count buf old.ends new.ends some ends;
-    writes_failed = writes;
-  }
+  counts_before_end some writes = grind (arith, ends)
 
 pub none_more : (old new : ℕ) → new ≡ old → new ≡ old + 0
 none_more old new e = omega arith
@@ -81,57 +52,25 @@ none_more old new e = omega arith
 module _ {S : Type 0} (answers : Answering S) (start : S) where
   -- answers to lines are answers to the first of these and others
   first_part : (lines others : List (List ℕ)) (out written unwritten : List ℕ) (st : S) → AnswersLines answers lines start out st → out ≡ written ++ unwritten → BreaksOffAnywhere answers start (lines ++ others) written
-  first_part lines others out written unwritten st a e = record {
-    answered = lines;
-    others = others;
-    first = refl;
-    out = out;
-    after = st;
-    answers_lines = a;
-    unwritten = unwritten;
-    broken = e;
-  }
+  first_part lines others out written unwritten st a e = grind arith
 
   -- the answers so far are answers to the first whole lines of what was read, whatever else was read
   broken_of : (bytes more kept out written unwritten : List ℕ) (st : S) → AnswersBytes answers start bytes kept out st → out ≡ written ++ unwritten → OfWholeLines (bytes ++ more) (λ lines. BreaksOffAnywhere answers start lines written)
-  broken_of bytes more kept out written unwritten st a e =
-      let s = split_on more bytes a.lines a.rest a.split in
-      record {
-        lines = a.lines ++ s.0;
-        rest = s.1;
-        split = s.2;
-        holds = first_part a.lines s.0 out written unwritten st a.answers_lines e;
-      }
+  broken_of bytes more kept out written unwritten st a e = grind (arith, split_on more bytes a.lines a.rest a.split)
 
   -- at the end too
   broken_at_end : (bytes kept out written unwritten : List ℕ) (st : S) → AnswersBytes answers start bytes kept out st → out ≡ written ++ unwritten → OfAllLines bytes (λ lines. BreaksOffAnywhere answers start lines written)
-  broken_at_end bytes kept out written unwritten st a e = record {
-    lines = a.lines;
-    rest = a.rest;
-    split = a.split;
-    holds =
-        subst (λ (l : List (List ℕ)). BreaksOffAnywhere answers start l written) (last_after a.lines a.rest)
-        (first_part a.lines (with_last [] a.rest) out written unwritten st a.answers_lines e);
-  }
+  broken_at_end bytes kept out written unwritten st a e = grind (arith, last_after a.lines a.rest, first_part a.lines (with_last [] a.rest) out written unwritten st a.answers_lines e)
 
   broken_of_all : (bytes out written unwritten : List ℕ) (st : S) → OfAllLines bytes (λ lines. AnswersLines answers lines start out st) → out ≡ written ++ unwritten → OfAllLines bytes (λ lines. BreaksOffAnywhere answers start lines written)
-  broken_of_all bytes out written unwritten st a e = record {
-    lines = a.lines;
-    rest = a.rest;
-    split = a.split;
-    holds =
-        subst (λ (l : List (List ℕ)). BreaksOffAnywhere answers start l written) (append-nil (with_last a.lines a.rest))
-        (first_part (with_last a.lines a.rest) [] out written unwritten st a.holds e);
-  }
+  broken_of_all bytes out written unwritten st a e = grind (arith, append-nil (with_last a.lines a.rest), first_part (with_last a.lines a.rest) [] out written unwritten st a.holds e)
 
   -- nothing was read or written yet
   pub goes_first : (s : Streams) → Going answers start s s [] start
   goes_first s = record { read = []; out = []; bytes = Consumes-none s.left; sent = Appends-none s.taken; answered = answered_nothing answers start }
 
   pub begun : (s : Streams) (kept : List ℕ) (st : S) → kept ≡ [] → st ≡ start → Going answers start s s kept st
-  begun s kept st e f =
-      subst (λ (k : List ℕ). Going answers start s s k st) (sym e)
-      (subst (λ (x : S). Going answers start s s [] x) (sym f) (goes_first s))
+  begun s kept st e f = grind (arith, goes_first)
 
   module _ (first old new : Streams) (at : Place S) (going : Going answers start first old at.kept at.state) where
     -- the bytes of a read, after those before
@@ -171,8 +110,7 @@ module _ {S : Type 0} (answers : Answering S) (start : S) where
     }
 
     starves : (kept : List ℕ) (st : S) (r : Result Bool ReplayFault) → IsErrAnd r (λ e. e ≡ Memory) → BreaksOff answers start first old new all_went_well → Turned answers start first old new kept st r
-    starves kept st (Ok x) h b = absurd h
-    starves kept st (Err e) h b = subst (λ (fault : ReplayFault). Turned answers start first old new kept st (Err fault)) (sym h) b
+    starves kept st r h b = grind arith
 
     pub runs_out : (kept : List ℕ) (st : S) (r : Result Bool ReplayFault) → IsErrAnd r (λ e. e ≡ Memory) → (bytes : List ℕ) → Consumes old.left new.left bytes → new.taken ≡ old.taken → Counts old new all_went_well → Turned answers start first old new kept st r
     runs_out kept st r h bytes more same counts = starves kept st r h (inl (starved bytes more same, counts))
@@ -184,13 +122,7 @@ module _ {S : Type 0} (answers : Answering S) (start : S) where
       pub goes_on : Appends old.taken new.taken next.waiting → Going answers start first new next.kept next.state
       goes_on sent =
           let f = fed going.read going.out going.answered in
-          record {
-            read = going.read ++ bytes;
-            out = going.out ++ f.0;
-            bytes = read_on bytes more;
-            sent = sent_on f.0 (waited next f.0 (Appends old.taken new.taken) none_waits f.1 sent);
-            answered = f.2;
-          }
+          grind (arith, read_on, sent_on, waited)
 
       pub breaks_off : TookFront old.taken new.taken next.waiting → BrokeOffBeforeEnd answers start first new
       breaks_off front =
@@ -210,14 +142,7 @@ module _ {S : Type 0} (answers : Answering S) (start : S) where
       pub ends : IsAtEnd new.left → Appends old.taken new.taken next.waiting → Finished answers start first new next.state
       ends over sent =
           let f = done going.read going.out going.answered in
-          record {
-            read = going.read;
-            out = going.out ++ f.0;
-            bytes = read_none none;
-            over = over;
-            sent = sent_on f.0 (waited next f.0 (Appends old.taken new.taken) none_waits f.1 sent);
-            answered = f.2;
-          }
+          grind (arith, read_none, sent_on, waited)
 
       pub end_breaks_off : IsAtEnd new.left → TookFront old.taken new.taken next.waiting → BrokeOffAtEnd answers start first new
       end_breaks_off over front =
@@ -252,11 +177,7 @@ pub gave_some : (old new : Streams) (count : ℕ) (buf : List ℕ) → count ≢
 gave_some old new count buf some within h = record { read = take count buf; bytes = h; many = omega (arith, length-take count buf) }
 
 pub gave_more : (first old new : Streams) (count : ℕ) → GaveAtLeast count first old → GaveAtLeast 1 old new → GaveAtLeast (count + 1) first new
-gave_more first old new count a b = record {
-  read = a.read ++ b.read;
-  bytes = Consumes-trans first.left old.left new.left a.read b.read a.bytes b.bytes;
-  many = omega (arith, a.many, b.many, length-append a.read b.read);
-}
+gave_more first old new count a b = grind (arith, Consumes-trans, length-append)
 
 pub gave_fewer : (first now : Streams) (count fewer : ℕ) → fewer ≤ count → GaveAtLeast count first now → GaveAtLeast fewer first now
 gave_fewer first now count fewer few g = record { read = g.read; bytes = g.bytes; many = omega (arith, g.many) }
