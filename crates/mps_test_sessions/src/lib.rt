@@ -10,6 +10,8 @@ mod comparisons;
 #[cfg(test)]
 mod dependents;
 #[cfg(test)]
+mod gists;
+#[cfg(test)]
 mod lists_of_requests;
 #[cfg(test)]
 mod logs;
