@@ -1,5 +1,5 @@
 -- What a conversation was answered is recorded.
-use Rattle.std.proofs.Common.{◌≡◌, ℕ, Bool, true, false, List, [], ◌∷◌, ◌++◌, refl, sym, ap, subst, ◌∙◌, append_assoc, append-nil}
+use Rattle.std.proofs.Common.{arith, ◌≡◌, ℕ, Bool, true, false, List, [], ◌∷◌, ◌++◌, refl, sym, ap, subst, ◌∙◌, append_assoc, append-nil}
 use Rattle.std.specs.Prelude.{Option, if◌then◌else◌}
 use Rattle.mps_command.specs.declared.answer.Answer.{Answer}
 use Rattle.mps_command.specs.declared.answer.Answer.TheVariants as answers
@@ -12,13 +12,12 @@ use Rattle.mps_room.specs.declared.caller.Caller.{Ghosts}
 use Rattle.mps_room.specs.declared.entry.Entry.{Entry}
 use Rattle.mps_room.specs.Numbers.{IsNumbered}
 use Rattle.mps_room.specs.declared.numbers.Told.{Told}
-use Rattle.mps_room.specs.declared.numbers.Told.TheVariants.{Fresh, Kept, Wrong, Refused}
+use Rattle.mps_room.specs.declared.numbers.Told.TheVariants.{Fresh, Refused}
 use Rattle.mps_wire.specs.Answers.{AnswersBrokenOff, AnswersLines}
-use Rattle.mps_wire.specs.Conversations.{RepliesTo, Unread, Called, Numbered, Starved, RepliesInText, ConversesLine, ConversesBrokenOff}
+use Rattle.mps_wire.specs.Conversations.{RepliesTo, Unread, Called, Numbered, Starved, ConversesLine, ConversesBrokenOff}
 use Rattle.mps_wire.proofs.Calling.{whole_is_broken}
 use Rattle.mps_keeper.specs.Books.{TookMore}
-use Rattle.mps_line.specs.JournalLines.{SpellsJournalLine}
-use Rattle.mps_keeper.specs.Recorded.{IsRecorded, HasAdded, IsSettled}
+use Rattle.mps_keeper.specs.Recorded.{IsRecorded, IsSettled}
 use Rattle.mps_keeper.specs.Trails.{SpellEntries, RecordedOn, WrittenIsRecorded}
 use Rattle.std.specs.Io.KnownBytes.{Appends}
 use Rattle.mps_wire.proofs.Bytes.{Appends-none}
@@ -29,10 +28,7 @@ use Rattle.mps_keeper.specs.declared.recorder.Recorder.{Ghosts as RecorderGhosts
 spell_all : (names : List (List ℕ)) (a : List (List ℕ)) (m : List (Option ℕ)) (d : List Entry) (b : List (List ℕ)) (n : List (Option ℕ)) (e : List Entry) → SpellEntries names a m d → SpellEntries names b n e → SpellEntries names (a ++ b) (m ++ n) (d ++ e)
 spell_all names [] [] [] b n e h k = k
 spell_all names (l ∷ a) (i ∷ m) (x ∷ d) b n e h k = (h.0, spell_all names a m d b n e h.1 k)
-spell_all names [] [] (x ∷ d) b n e h k = absurd h
-spell_all names [] (i ∷ m) d b n e h k = absurd h
-spell_all names (l ∷ a) [] d b n e h k = absurd h
-spell_all names (l ∷ a) (i ∷ m) [] b n e h k = absurd h
+spell_all names other others further b n e h k = absurd h
 
 -- Callers of whose calls it is known what they record.
 module _ {R : Type 0} (caller : Ghosts R) (records whole : R → Bool) (taken : R → Option (List ℕ)) where
@@ -77,9 +73,8 @@ module _ {R : Type 0} (caller : Ghosts R) (records whole : R → Bool) (taken : 
   module _ (leads : (c : R) (x : Command) (a : Answer) (d : R) → caller.calls c x a d → Leads c d) where
     came : (c : R) (number : ℕ) (command : Command) (d : R) (t : Told) → IsNumbered caller.calls caller.last caller.kept c number command d t → Leads c d
     came c number command d Fresh n = leads c command n.answer d n.call
-    came c number command d Kept n = stays c d n.unchanged
-    came c number command d Wrong n = stays c d n.unchanged
     came c number command d (Refused refusal) n = leads c command (answers.Refused refusal) d n.call
+    came c number command d other n = stays c d n.unchanged
 
     replied : (line : List ℕ) (c : R) (reply : Reply) (d : R) → RepliesTo caller line c reply d → Leads c d
     replied line c reply d (Unread u) = stays c d u.unchanged
@@ -98,10 +93,7 @@ module _ {R : Type 0} (caller : Ghosts R) (records whole : R → Bool) (taken : 
 
     -- one line more in front of answers, the last of which breaks off
     longer : (l : List ℕ) (done : List (List ℕ)) (c m e : R) (out others : List ℕ) (text : List ℕ) → out ≡ ended text ++ others → ConversesLine caller l c text m → AnswersBrokenOff (ConversesLine caller) (ConversesBrokenOff caller) done m others e → AnswersBrokenOff (ConversesLine caller) (ConversesBrokenOff caller) (l ∷ done) c out e
-    longer l [] c m e out others text is line a =
-        let same : ended text ≡ out = sym (is ∙ ap (λ (x : List ℕ). ended text ++ x) a.0 ∙ append-nil (ended text)) in
-        subst (λ (o : List ℕ). ConversesBrokenOff caller l c o e) same (subst (λ (s : R). ConversesBrokenOff caller l c (ended text) s) (sym a.1) (whole_is_broken caller l c text m line))
-    longer l (n ∷ done) c m e out others text is line a = (text, others, m, is, line, a)
+    longer l done c m e out others text is line a = grind (arith, append-nil, whole_is_broken)
 
     at_last : (l : List ℕ) (c : R) (written : List ℕ) (d : R) → records c ≡ true → whole c ≡ true → ((r : R) → caller.may_tell r ≡ whole r) → (b : Bool) → whole d ≡ b → ConversesBrokenOff caller l c written d → WrittenIsRecorded caller taken (l ∷ []) c written d
     at_last l c written d s w tells true on a = record { asked = l ∷ []; others = []; first = refl; reached = d; answered = a; whole = tells d ∙ on; recorded = (replied l c a.reply d a.replies).goes s on; since = no_more (taken d) }

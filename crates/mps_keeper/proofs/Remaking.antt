@@ -1,13 +1,13 @@
 -- What callers make while they are restored.
-use Rattle.std.proofs.Common.{◌≡◌, ◌≢◌, ℕ, ◌<◌, ◌≤◌, Bool, true, false, List, [], ◌∷◌, ◌++◌, length, refl, sym, ap, subst, ◌∙◌, append_assoc, append-nil, arith, ◌⊎◌, inl, inr, ⊎_elim}
-use Rattle.std.specs.Prelude.{Option, Some, None, slice_get, slice_set, if◌then◌else◌}
+use Rattle.std.proofs.Common.{◌≡◌, ◌≢◌, ℕ, ◌<◌, List, [], ◌∷◌, ◌++◌, length, refl, sym, ap, subst, ◌∙◌, append_assoc, append-nil, arith, ◌⊎◌, inl, ⊎_elim}
+use Rattle.std.specs.Prelude.{Option, Some, slice_get, slice_set}
 use Rattle.std.proofs.lemmas.Bool.{cases_lt}
 use Rattle.std.proofs.lemmas.List.{length-set, get_or-set_same, get_or-set_other}
 use Rattle.std.proofs.lemmas.Option.{slice_get_within, slice_get-get_or, get_or_from_slice_get}
 use Rattle.mps_command.specs.declared.answer.Answer.{Answer}
 use Rattle.mps_command.specs.declared.command.Command.{Command}
 use Rattle.mps_room.specs.Callers.{entry}
-use Rattle.mps_room.specs.Journal.{is_accepted, grown}
+use Rattle.mps_room.specs.Journal.{grown}
 use Rattle.mps_room.specs.declared.caller.Caller.{Ghosts}
 use Rattle.mps_room.specs.declared.entry.Entry.{Entry}
 use Rattle.mps_keeper.specs.Restored.{IsAcceptedOf, LineRestored, LinesRestored}
@@ -16,11 +16,7 @@ use Rattle.mps_keeper.specs.Remade.{AreOwn, HasRemade}
 use Rattle.mps_keeper.proofs.Counting.{counts_on}
 
 pub cases_eq : (a b : ℕ) → (a ≡ b) ⊎ (a ≢ b)
-cases_eq a b =
-    ⊎_elim
-    (λ (less : a < b). inr (λ e. absurd (omega (arith, less, e))))
-    (λ (more : b ≤ a). ⊎_elim (λ (less : b < a). inr (λ e. absurd (omega (arith, less, e)))) (λ (fewer : a ≤ b). inl (let same : a ≡ b = omega (arith, more, fewer) in same)) (cases_lt b a))
-    (cases_lt a b)
+cases_eq a b = grind (arith, cases_lt)
 
 pub set_there : {X : Type 0} (xs : List X) (i : ℕ) (x y : X) → slice_get xs i ≡ Some x → slice_get (slice_set xs i y) i ≡ Some y
 set_there xs i x y h =
@@ -44,21 +40,12 @@ module _ {C : Type 0} (caller : Ghosts C) (same_role : (c : C) (x : Command) (a 
     made : caller.made d ≡ caller.made c ++ entry (caller.role c) command answer ∷ []
     role : caller.role d ≡ caller.role c
 
-  one_more : (c : C) (command : Command) (a : Answer) (d : C) → caller.calls c command a d → is_accepted a ≡ true → OneMore c command d
-  one_more c command a d call holds = record {
-    answer = a;
-    made = grows c command a d call ∙ ap (λ (b : Bool). if b then caller.made c ++ entry (caller.role c) command a ∷ [] else caller.made c) holds;
-    role = same_role c command a d call;
-  }
-
   accepted_more : (c : C) (number : Option ℕ) (command : Command) (d : C) → IsAcceptedOf caller c number command d → OneMore c command d
-  accepted_more c None command d h = one_more c command h.answer d h.call h.accepted
-  accepted_more c (Some n) command d h = one_more c command h.answer d h.call h.accepted
+  accepted_more c number command d h = grind arith
 
   -- and its number is the next one
   accepted_counts : (c : C) (number : Option ℕ) (command : Command) (d : C) → IsAcceptedOf caller c number command d → CountsUp (caller.last c) (number ∷ []) (caller.last d)
-  accepted_counts c None command d h = h.last_stays
-  accepted_counts c (Some n) command d h = (h.next, h.numbered)
+  accepted_counts c number command d h = grind arith
 
   -- the caller at a place, after lines were restored
   pub record Remade (names : List (List ℕ)) (place : ℕ) (lines : List (List ℕ)) (c : C) (callers' : List C) : Type 0 where
@@ -96,22 +83,11 @@ module _ {C : Type 0} (caller : Ghosts C) (same_role : (c : C) (x : Command) (a 
         after = next.after;
         there = next.there;
         role = next.role;
-        made = record {
-          entries = next.made.entries;
-          grown = next.made.grown;
-          numbers = next.made.numbers;
-          counted = next.made.counted;
-          own = inr (record { role = h.role; number = h.number; command = h.command; spelled = h.spelled; other = λ e. other (sym e) }, next.made.own);
-        };
+        made = grind arith;
       }
 
   pub remade : (names : List (List ℕ)) (place : ℕ) (lines : List (List ℕ)) (callers callers' : List C) (c : C) → LinesRestored caller names callers lines callers' → slice_get callers place ≡ Some c → Remade names place lines c callers'
-  remade names place [] callers callers' c h at = record {
-    after = c;
-    there = ap (λ (l : List C). slice_get l place) h ∙ at;
-    role = refl;
-    made = record { entries = []; grown = sym (append-nil (caller.made c)); numbers = []; counted = refl; own = (refl, refl) };
-  }
+  remade names place [] callers callers' c h at = grind (arith, append-nil (caller.made c))
   remade names place (line ∷ lines) callers callers' c h at =
       let rest : (e : C) → slice_get h.0 place ≡ Some e → Remade names place lines e callers' = λ e there. remade names place lines h.0 callers' e h.2 there in
       ⊎_elim

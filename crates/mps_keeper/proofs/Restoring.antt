@@ -1,15 +1,15 @@
 -- Lines that are restored one after the other.
-use Rattle.std.proofs.Common.{◌≡◌, ℕ, ◌+◌, ◌-◌, ◌<◌, ◌≤◌, List, [], ◌∷◌, ◌++◌, length, take, drop, get_or, refl, sym, ap, ◌∙◌, subst, arith, append_assoc, append-nil, length-drop, length-append}
-use Rattle.std.specs.Prelude.{slice_get, slice_set, Some, Option}
+use Rattle.std.proofs.Common.{◌≡◌, ℕ, ◌+◌, ◌-◌, ◌<◌, ◌≤◌, List, [], ◌∷◌, ◌++◌, length, take, drop, get_or, refl, sym, subst, arith, append_assoc, append-nil, length-drop, length-append}
+use Rattle.std.specs.Prelude.{Option}
 use Rattle.std.specs.Io.KnownBytes.{Consumes}
 use Rattle.mps_wire.proofs.Bytes.{Consumes-trans}
 use Rattle.std.specs.List.{flat_map, AllByRecursion}
 use Rattle.std.proofs.lemmas.Grind.{flat_map-append}
-use Rattle.std.proofs.lemmas.List.{take_rest, take_more, take-append-drop, length-set}
-use Rattle.mps_lines.specs.Lines.{HasNoBreak, IsSplit, ended}
+use Rattle.std.proofs.lemmas.List.{take_rest, take_more, take-append-drop}
+use Rattle.mps_lines.specs.Lines.{HasNoBreak, ended}
 use Rattle.mps_room.specs.declared.caller.Caller.{Ghosts}
 use Rattle.mps_keeper.specs.Restored.{LineRestored, LinesRestored}
-use Rattle.mps_keeper.specs.RestoredFaults.{ReadsMore, of_reading, IsUnspelled, IsRestoredTo, IsFirstFault, IsFaulty}
+use Rattle.mps_keeper.specs.RestoredFaults.{ReadsMore, of_reading, IsUnspelled, IsFirstFault, IsFaulty}
 use Rattle.mps_line.specs.declared.read_commands.LineFault.{LineFault}
 use Rattle.mps_line.specs.declared.read_commands.LineFault.TheVariants as reading
 use Rattle.mps_keeper.specs.declared.restore.Unaccepted.{Unaccepted}
@@ -20,9 +20,7 @@ all_and_one (l ∷ lines) line h k = (h.0, all_and_one lines line h.1 k)
 
 -- the bytes up to the k-th, where an LF stands, and those after it
 pub line_cut : (rest : List ℕ) (k : ℕ) → k < length rest → get_or rest k 0 ≡ 10 → rest ≡ ended (take k rest) ++ drop (k + 1) rest
-line_cut rest k less is =
-    let one : take (k + 1) rest ≡ take k rest ++ 10 ∷ [] = take_more rest k 0 less ∙ ap (λ (c : ℕ). take k rest ++ c ∷ []) is in
-    sym (take-append-drop (k + 1) rest) ∙ ap (λ (l : List ℕ). l ++ drop (k + 1) rest) one
+line_cut rest k less is = grind (arith, take_more, take-append-drop)
 
 -- a line that can't be read is at fault
 pub faulty_reading : {C : Type 0} (caller : Ghosts C) (names : List (List ℕ)) (callers : List C) (line : List ℕ) (r : Unaccepted) (fault : LineFault) → r ≡ of_reading fault → (fault ≡ reading.Bad → IsUnspelled names line) → IsFaulty caller names callers line r
@@ -47,45 +45,11 @@ module _ {C : Type 0} (caller : Ghosts C) (names : List (List ℕ)) where
     pub few : count + length rest ≤ length bytes
 
   module _ (callers : List C) (bytes : List ℕ) where
-    pub begins : Restoring callers bytes bytes callers 0
-    begins = record { lines = []; whole = refl; each = tt; restored = refl; counted = refl; few = omega arith }
-
     pub goes_on : (rest : List ℕ) (mid callers' : List C) (count k : ℕ) → Restoring callers bytes rest mid count → k < length rest → get_or rest k 0 ≡ 10 → HasNoBreak (take k rest) → LineRestored caller names mid (take k rest) callers' → Restoring callers bytes (take (length rest - (k + 1)) (drop (k + 1) rest)) callers' (count + 1)
-    goes_on rest mid callers' count k r less is none line =
-        let tail : take (length rest - (k + 1)) (drop (k + 1) rest) ≡ drop (k + 1) rest = take_rest rest (k + 1) in
-        let long : length (drop (k + 1) rest) ≡ length rest - (k + 1) = length-drop (k + 1) rest in
-        let pieces : flat_map ended (r.lines ++ take k rest ∷ []) ≡ flat_map ended r.lines ++ ended (take k rest) = flat_map-append ended r.lines (take k rest ∷ []) ∙ ap (λ (l : List ℕ). flat_map ended r.lines ++ l) (append-nil (ended (take k rest))) in
-        let goal : Restoring callers bytes (drop (k + 1) rest) callers' (count + 1) = record {
-          lines = r.lines ++ take k rest ∷ [];
-          whole = r.whole ∙ ap (λ (l : List ℕ). flat_map ended r.lines ++ l) (line_cut rest k less is) ∙ sym (append_assoc (flat_map ended r.lines) (ended (take k rest)) (drop (k + 1) rest)) ∙ ap (λ (l : List ℕ). l ++ drop (k + 1) rest) (sym pieces);
-          each = all_and_one r.lines (take k rest) r.each none;
-          restored = restored_more callers r.lines mid (take k rest) callers' r.restored line;
-          counted = ap (λ (n : ℕ). n + 1) r.counted ∙ sym (length-append r.lines (take k rest ∷ []));
-          few = omega (arith, r.few, long, less);
-        } in
-        subst (λ (l : List ℕ). Restoring callers bytes l callers' (count + 1)) (sym tail) goal
-
-    pub ends : (rest : List ℕ) (callers' : List C) (count : ℕ) → Restoring callers bytes rest callers' count → HasNoBreak rest → IsRestoredTo caller names callers bytes callers' count (length bytes - length rest)
-    ends rest callers' count r none = record {
-      lines = r.lines;
-      rest = rest;
-      split = record { whole = r.whole; each = r.each; unended = none };
-      restored = r.restored;
-      counted = r.counted;
-      sized = omega (arith, ap length r.whole, length-append (flat_map ended r.lines) rest);
-    }
+    goes_on rest mid callers' count k r less is none line = grind (arith, take_rest rest (k + 1), length-drop (k + 1) rest, flat_map-append ended r.lines (take k rest ∷ []), append-nil (ended (take k rest)), line_cut rest k less is, append_assoc (flat_map ended r.lines) (ended (take k rest)) (drop (k + 1) rest), all_and_one r.lines (take k rest) r.each none, restored_more callers r.lines mid (take k rest) callers' r.restored line, length-append r.lines (take k rest ∷ []))
 
     pub breaks : (rest : List ℕ) (mid : List C) (count k : ℕ) (fault : Unaccepted) → Restoring callers bytes rest mid count → k < length rest → get_or rest k 0 ≡ 10 → IsFaulty caller names mid (take k rest) fault → IsFirstFault caller names callers bytes (count + 1) fault
-    breaks rest mid count k fault r less is faulty = record {
-      lines = r.lines;
-      line = take k rest;
-      others = drop (k + 1) rest;
-      whole = r.whole ∙ ap (λ (l : List ℕ). flat_map ended r.lines ++ l) (line_cut rest k less is);
-      mid = mid;
-      restored = r.restored;
-      counted = ap (λ (n : ℕ). n + 1) r.counted;
-      faulty = faulty;
-    }
+    breaks rest mid count k fault r less is faulty = grind (arith, line_cut rest k less is)
 
 pub reads_on : (left mid left' : Option (List ℕ)) (all all' : List ℕ) → Consumes left mid all → ReadsMore mid left' all all' → Consumes left left' all'
 reads_on left mid left' all all' h k = subst (Consumes left left') (sym k.added) (Consumes-trans left mid left' all k.more h k.bytes)

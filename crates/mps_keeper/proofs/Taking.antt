@@ -1,5 +1,5 @@
 -- What a sink took of lines.
-use Rattle.std.proofs.Common.{◌≡◌, ℕ, List, [], ◌∷◌, ◌++◌, take, drop, Option, refl, sym, ap, subst, ◌∙◌}
+use Rattle.std.proofs.Common.{◌≡◌, ℕ, List, [], ◌++◌, take, drop, Option, sym, subst, ◌∙◌}
 use Rattle.std.specs.Io.KnownBytes.{Appends}
 use Rattle.std.specs.List.{flat_map}
 use Rattle.std.proofs.lemmas.Grind.{flat_map-append}
@@ -16,10 +16,6 @@ no_more a = ([], Appends-none a)
 -- more after more
 pub more_trans : (a b c : Option (List ℕ)) → TookMore a b → TookMore b c → TookMore a c
 more_trans a b c h k = (h.0 ++ k.0, Appends-trans a b c h.0 k.0 h.1 k.1)
-
--- what was taken of lines that break off is more
-pub front_more : (a b : Option (List ℕ)) (text : List ℕ) → TookFront a b text → TookMore a b
-front_more a b text front = (take front.count text, front.taken)
 
 -- nothing is a front of any text
 pub no_front : (a : Option (List ℕ)) (text : List ℕ) → TookFront a a text

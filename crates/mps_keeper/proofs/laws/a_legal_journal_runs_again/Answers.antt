@@ -1,5 +1,4 @@
-use Rattle.std.proofs.Common.{◌++◌, ◌∷◌, [], List, Bool, if◌then◌else◌, ap}
-use Rattle.mps_room.specs.declared.entry.Entry.{Entry}
+use Rattle.std.proofs.Common.{◌++◌, ◌∷◌, [], Bool, if◌then◌else◌, ap}
 use Rattle.mps_keeper.proofs.Rerunning.{again, entry_at}
 use Rattle.mps_keeper.proofs.laws.a_legal_journal_runs_again.Goals as goal
 

@@ -1,5 +1,5 @@
 use Rattle.std.proofs.Common.{refl}
-use Rattle.mps_keeper.proofs.Recording.{Leads, lines_lead, broken_leads, written_is_recorded, recorded}
+use Rattle.mps_keeper.proofs.Recording.{lines_lead, broken_leads, written_is_recorded, recorded}
 use Rattle.mps_keeper.proofs.laws.what_is_answered_is_recorded.Goals as goal
 
 pub returns-clause-whole : goal.returns-clause-whole

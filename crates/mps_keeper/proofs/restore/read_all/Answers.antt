@@ -1,4 +1,4 @@
-use Rattle.std.proofs.Common.{refl, arith, ap, Ok}
+use Rattle.std.proofs.Common.{arith, ap, Ok}
 use Rattle.mps_wire.proofs.Bytes.{same_space, Consumes-none}
 use Rattle.mps_keeper.specs.declared.restore.TheConstants.{BLOCK}
 use Rattle.mps_keeper.proofs.Restoring.{reads_on}

@@ -1,6 +1,4 @@
-use Rattle.std.proofs.Common.{◌≡◌, ◌<◌, ℕ, List, length, arith, Err, refl, sym, ap, ◌∙◌}
-use Rattle.std.proofs.lemmas.Option.{slice_get_within, slice_get-get_or}
-use Rattle.std.specs.Prelude.{slice_get, slice_set, Some}
+use Rattle.std.proofs.Common.{Err, ap}
 use Rattle.mps_keeper.proofs.Restoring.{faulty_reading}
 use Rattle.mps_keeper.proofs.restore.restore_line.Goals as goal
 

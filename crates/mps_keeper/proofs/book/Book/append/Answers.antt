@@ -1,4 +1,4 @@
-use Rattle.mps_keeper.proofs.Taking.{took_text, broken_more, no_front}
+use Rattle.mps_keeper.proofs.Taking.{took_text, broken_more}
 use Rattle.mps_keeper.proofs.book.Book.append.Goals as goal
 
 pub returns-in-Ok-clause-added : goal.returns-in-Ok-clause-added
