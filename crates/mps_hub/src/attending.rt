@@ -157,7 +157,7 @@ fn converse_joined<
     ensures opening { caller.new.inner.inner.pass.opening ≡ caller.old.inner.inner.pass.opening }
     ensures conversed { HasJoined ⟦<Guest<'static, 'static, 'static, 'static, G, H, S, D> as Caller>⟧
         R.Source W.Sink joined.now caller.old reader.old writer.old caller.new reader.new writer.new result }
-    ensures told { records_of caller.old.keeper ≡ false → whole_of caller.old.keeper ≡ true → EndsForNoLoss result }
+    ensures told { records_of caller.old.recorder ≡ false → whole_of caller.old.recorder ≡ true → EndsForNoLoss result }
 {
     if !caller.may_tell() {
         return Attended::Unrecorded;

@@ -11,12 +11,12 @@ pub const MAX_OPEN: usize = 1_024;
 
 // The streams of the connections that are open, each at its place.
 #[derive(Drop)]
-struct Guests {
+struct OpenStreams {
     streams: Vec<Option<Arc<TcpStream, Global>>>,
     closed: bool,
 }
 
-impl Guests {
+impl OpenStreams {
     // A place that is free.
     fn free(&self) -> Option<usize> {
         self.streams.iter().position(|stream| stream.is_none())
@@ -38,7 +38,7 @@ pub(crate) struct Lobby {
     limits: Limits,
     // by which whoever waits for the next connection is woken
     bell: TcpStream,
-    guests: Mutex<Guests>,
+    guests: Mutex<OpenStreams>,
     // woken when a connection left, or the lobby was closed
     left: Condvar,
 }
@@ -50,7 +50,7 @@ impl Lobby {
         for _ in 0..MAX_OPEN {
             streams.push_reserved(None);
         }
-        let guests = Guests {
+        let guests = OpenStreams {
             streams,
             closed: false,
         };

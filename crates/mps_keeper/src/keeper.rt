@@ -38,19 +38,19 @@ struct Waiting {
 }
 
 impl Waiting {
-    // Adds the line of that place, which has to be the next one.
-    fn add(&mut self, place: u64, line: &[u8])
+    // Adds the line of that number, which has to be the next one.
+    fn add(&mut self, number: u64, line: &[u8])
         ensures once { self.new.whole ≡ true → self.old.whole ≡ true }
-        ensures place { self.new.whole ≡ true → place ≡ self.old.lines + 1 }
-        ensures lines { self.new.whole ≡ true → self.new.lines ≡ place }
+        ensures number { self.new.whole ≡ true → number ≡ self.old.lines + 1 }
+        ensures lines { self.new.whole ≡ true → self.new.lines ≡ number }
         ensures text { self.new.whole ≡ true → self.new.text.items ≡ self.old.text.items ++ line.now }
         ensures lost { self.new.whole ≡ false → self.new.text.items ≡ self.old.text.items }
     {
         if self.whole
-            && self.lines.checked_add(1) == Some(place)
+            && self.lines.checked_add(1) == Some(number)
             && self.text.extend_from_slice(line).is_ok()
         {
-            self.lines = place;
+            self.lines = number;
         } else {
             self.whole = false;
         }
@@ -64,7 +64,7 @@ struct Writing<W: Sink> {
     text: Vec<u8>,
 }
 
-/// The file of a session's journal, one for all of its connections. Lines gather in the order of their places, and one
+/// The file of a session's journal, one for all of its connections. Lines gather in the order of their numbers, and one
 /// connection writes all that gathered, and syncs them where that is asked for, for all that wait.
 #[derive(Drop)]
 pub struct Keeper<W: Sink, D> {
@@ -113,8 +113,8 @@ impl<W: Sink, D> Keeper<W, D> {
     }
 
     // Whether so many lines are recorded, and none is lost.
-    fn has_recorded(&self, place: u64) -> bool {
-        !self.is_broken() && self.recorded.load(Ordering::SeqCst) >= place
+    fn has_recorded(&self, number: u64) -> bool {
+        !self.is_broken() && self.recorded.load(Ordering::SeqCst) >= number
     }
 
     // Gives up the line that is next, and so all after it.
@@ -126,21 +126,21 @@ impl<W: Sink, D> Keeper<W, D> {
         self.came.notify_all();
     }
 
-    // Adds the line of that place to those that wait, once those before it came.
-    fn gather<R: Wait>(&self, rt: &R, place: u64, line: &[u8]) {
+    // Adds the line of that number to those that wait, once those before it came.
+    fn gather<R: Wait>(&self, rt: &R, number: u64, line: &[u8]) {
         let mut waiting = self.came.wait_while(rt, self.waiting.lock(rt), |w| {
-            w.whole && w.lines.saturating_add(1) < place
+            w.whole && w.lines.saturating_add(1) < number
         });
-        waiting.add(place, line);
+        waiting.add(number, line);
         drop(waiting);
         self.came.notify_all();
     }
 
     // Waits until so many lines came.
-    fn reach<R: Wait>(&self, rt: &R, place: u64) {
+    fn reach<R: Wait>(&self, rt: &R, number: u64) {
         let waiting = self
             .came
-            .wait_while(rt, self.waiting.lock(rt), |w| w.whole && w.lines < place);
+            .wait_while(rt, self.waiting.lock(rt), |w| w.whole && w.lines < number);
         drop(waiting);
     }
 
@@ -168,16 +168,16 @@ impl<W: Sink, D: Disk> Keeper<W, D> {
 
     // Has the lines recorded that wait, unless they are by then. Says whether so many are. Nothing is written after a
     // failure, and nothing synced, since the next sync may succeed although lines were lost.
-    fn flush<R: Wait>(&self, rt: &R, place: u64) -> bool {
-        if self.has_recorded(place) {
+    fn flush<R: Wait>(&self, rt: &R, number: u64) -> bool {
+        if self.has_recorded(number) {
             return true;
         }
         let mut writing = self.writing.lock(rt);
-        if self.has_recorded(place) {
+        if self.has_recorded(number) {
             return true;
         }
         let recorded = match self.hand_over(rt, &mut writing.text) {
-            Some(lines) if writing.book.is_whole() && lines >= place => {
+            Some(lines) if writing.book.is_whole() && lines >= number => {
                 self.write(&mut writing, lines).then_some(lines)
             }
             _ => None,
@@ -236,25 +236,25 @@ impl<'k, R: Wait, W: Sink, D: Disk> Recorder for Hold<'k, R, W, D> {
         self.whole
     }
 
-    fn add(&mut self, place: u64, line: &[u8]) {
+    fn add(&mut self, number: u64, line: &[u8]) {
         let Some(keeper) = self.keeper else {
             return;
         };
-        keeper.gather(self.rt, place, line);
-        if !keeper.flush(self.rt, place) {
+        keeper.gather(self.rt, number, line);
+        if !keeper.flush(self.rt, number) {
             self.whole = false;
         }
     }
 
-    fn settle(&mut self, place: u64) {
+    fn settle(&mut self, number: u64) {
         let Some(keeper) = self.keeper else {
             return;
         };
-        if keeper.has_recorded(place) {
+        if keeper.has_recorded(number) {
             return;
         }
-        keeper.reach(self.rt, place);
-        if !keeper.flush(self.rt, place) {
+        keeper.reach(self.rt, number);
+        if !keeper.flush(self.rt, number) {
             self.whole = false;
         }
     }

@@ -37,20 +37,20 @@ pub fn a_legal_journal_runs_again()
 pub fn what_is_answered_is_recorded<K: Recorder, C: Recordable>()
     ensures whole { (asked : List (List ℕ)) (before : RecordedOf K C) (out : List ℕ) (after : RecordedOf K C)
         → AnswersLines (ConversesLine ⟦<Recorded<K, C> as Caller>⟧) asked before out after
-        → K.records before.keeper ≡ true → K.whole after.keeper ≡ true
-        → RecordedOn (C.names before.inner) (K.taken before.keeper) (K.taken after.keeper)
+        → K.records before.recorder ≡ true → K.whole after.recorder ≡ true
+        → RecordedOn (C.names before.inner) (K.taken before.recorder) (K.taken after.recorder)
         (C.last before.inner) (C.last after.inner) (C.made before.inner) (C.made after.inner) }
     ensures broken_off { (asked : List (List ℕ)) (before : RecordedOf K C) (out : List ℕ) (after : RecordedOf K C)
         → AnswersBrokenOff (ConversesLine ⟦<Recorded<K, C> as Caller>⟧)
         (ConversesBrokenOff ⟦<Recorded<K, C> as Caller>⟧) asked before out after
-        → K.records before.keeper ≡ true → K.whole after.keeper ≡ true
-        → RecordedOn (C.names before.inner) (K.taken before.keeper) (K.taken after.keeper)
+        → K.records before.recorder ≡ true → K.whole after.recorder ≡ true
+        → RecordedOn (C.names before.inner) (K.taken before.recorder) (K.taken after.recorder)
         (C.last before.inner) (C.last after.inner) (C.made before.inner) (C.made after.inner) }
     ensures told { (asked : List (List ℕ)) (before : RecordedOf K C) (written : List ℕ) (after : RecordedOf K C)
         → AnswersBrokenOff (ConversesLine ⟦<Recorded<K, C> as Caller>⟧)
         (ConversesBrokenOff ⟦<Recorded<K, C> as Caller>⟧) asked before written after
-        → K.records before.keeper ≡ true → K.whole before.keeper ≡ true
-        → WrittenIsRecorded ⟦<Recorded<K, C> as Caller>⟧ (λ r. K.taken r.keeper) asked before written after }
+        → K.records before.recorder ≡ true → K.whole before.recorder ≡ true
+        → WrittenIsRecorded ⟦<Recorded<K, C> as Caller>⟧ (λ r. K.taken r.recorder) asked before written after }
 {}
 
 /// After lines were restored, the caller at each place made the entries of its role's lines, in order, and no others,

@@ -17,30 +17,30 @@ use mps_room::{Caller, Place, Told};
 /// A caller whose accepted commands a recorder records. Once a line is lost, what it is answered may not be told on.
 #[derive(Drop)]
 pub struct Recorded<K, C> {
-    pub keeper: K,
+    pub recorder: K,
     pub inner: C,
     pub line: Vec<u8>,
 }
 
 impl<K: Recorder, C: Recordable> Recorded<K, C> {
-    /// A caller whose commands the keeper records. It waits until what the caller has seen is recorded, since a line
+    /// A caller whose commands the recorder records. It waits until what the caller has seen is recorded, since a line
     /// that comes again is answered without a call.
     ///
     /// A line is made in `line`. With space for `LONGEST_LINE` bytes none is lost for want of memory.
-    pub fn new(keeper: K, inner: C, line: Vec<u8>) -> Recorded<K, C>
+    pub fn new(recorder: K, inner: C, line: Vec<u8>) -> Recorded<K, C>
         ensures inner { result.inner ≡ inner }
-        ensures same { K.records result.keeper ≡ K.records keeper }
-        ensures once { K.whole result.keeper ≡ true → K.whole keeper ≡ true }
-        ensures settled { Appends (K.taken keeper) (K.taken result.keeper) [] }
-        ensures more { TookMore (K.taken keeper) (K.taken result.keeper) }
-        ensures idle { K.records keeper ≡ false → result.keeper ≡ keeper }
+        ensures same { K.records result.recorder ≡ K.records recorder }
+        ensures once { K.whole result.recorder ≡ true → K.whole recorder ≡ true }
+        ensures settled { Appends (K.taken recorder) (K.taken result.recorder) [] }
+        ensures more { TookMore (K.taken recorder) (K.taken result.recorder) }
+        ensures idle { K.records recorder ≡ false → result.recorder ≡ recorder }
     {
-        let mut keeper = keeper;
-        if keeper.records() {
-            keeper.settle(inner.seen());
+        let mut recorder = recorder;
+        if recorder.records() {
+            recorder.settle(inner.seen());
         }
         Recorded {
-            keeper,
+            recorder,
             inner,
             line,
         }
@@ -48,7 +48,7 @@ impl<K: Recorder, C: Recordable> Recorded<K, C> {
 
     // Puts the line of the command into the buffer. Says whether it is there.
     fn put_line(&mut self, number: Option<u64>, command: &Command) -> bool
-        ensures keeper { self.new.keeper ≡ self.old.keeper }
+        ensures recorder { self.new.recorder ≡ self.old.recorder }
         ensures inner { self.new.inner ≡ self.old.inner }
         ensures put { IsTrue result → (line : List ℕ) × (self.new.line.items ≡ ended line)
             × SpellsJournalLine (C.names self.old.inner) line (C.role self.old.inner) number command.now }
@@ -67,22 +67,22 @@ impl<K: Recorder, C: Recordable> Recorded<K, C> {
     // Records the line where the command was accepted, and else waits for what it was shown.
     fn record(&mut self, accepted: bool, put: bool)
         ensures inner { self.new.inner ≡ self.old.inner }
-        ensures same { K.records self.new.keeper ≡ K.records self.old.keeper }
-        ensures once { K.whole self.new.keeper ≡ true → K.whole self.old.keeper ≡ true }
-        ensures added { K.whole self.new.keeper ≡ true → accepted ≡ true
-            → IsTrue put × Appends (K.taken self.old.keeper) (K.taken self.new.keeper) self.old.line.items }
-        ensures settled { accepted ≡ false → Appends (K.taken self.old.keeper) (K.taken self.new.keeper) [] }
-        ensures over { K.whole self.old.keeper ≡ false
-            → Appends (K.taken self.old.keeper) (K.taken self.new.keeper) [] }
-        ensures more { TookMore (K.taken self.old.keeper) (K.taken self.new.keeper) }
+        ensures same { K.records self.new.recorder ≡ K.records self.old.recorder }
+        ensures once { K.whole self.new.recorder ≡ true → K.whole self.old.recorder ≡ true }
+        ensures added { K.whole self.new.recorder ≡ true → accepted ≡ true
+            → IsTrue put × Appends (K.taken self.old.recorder) (K.taken self.new.recorder) self.old.line.items }
+        ensures settled { accepted ≡ false → Appends (K.taken self.old.recorder) (K.taken self.new.recorder) [] }
+        ensures over { K.whole self.old.recorder ≡ false
+            → Appends (K.taken self.old.recorder) (K.taken self.new.recorder) [] }
+        ensures more { TookMore (K.taken self.old.recorder) (K.taken self.new.recorder) }
     {
-        let place = self.inner.seen();
+        let number = self.inner.seen();
         if !accepted {
-            self.keeper.settle(place);
+            self.recorder.settle(number);
         } else if put {
-            self.keeper.add(place, self.line.as_slice());
+            self.recorder.add(number, self.line.as_slice());
         } else {
-            self.keeper.lose();
+            self.recorder.lose();
         }
     }
 }
@@ -105,20 +105,20 @@ impl<K: Recorder, C: Recordable> Caller for Recorded<K, C> {
 
     ghost made = { λ r. C.made r.inner };
 
-    ghost calls = { λ r c a s. IsRecorded K.Recorder C.Caller r.keeper r.inner c s.keeper s.inner a };
+    ghost calls = { λ r c a s. IsRecorded K.Recorder C.Caller r.recorder r.inner c s.recorder s.inner a };
 
     ghost last = { λ r. C.last r.inner };
 
     ghost kept = { λ r. C.kept r.inner };
 
-    ghost may_tell = { λ r. K.whole r.keeper };
+    ghost may_tell = { λ r. K.whole r.recorder };
 
     fn roles(&self) -> &Roles {
         self.inner.roles()
     }
 
     fn call(&mut self, command: Command) -> Answer {
-        if !self.keeper.records() {
+        if !self.recorder.records() {
             return self.inner.call(command);
         }
         let put = self.put_line(None, &command);
@@ -136,7 +136,9 @@ impl<K: Recorder, C: Recordable> Caller for Recorded<K, C> {
     }
 
     fn call_numbered(&mut self, number: u64, command: Command) -> Told {
-        if !self.keeper.records() || self.inner.place(number) != Place::Next {
+        // where a number has no place nothing is called, so no line is made; the caller inside asks again, as it does
+        // where nothing is recorded
+        if !self.recorder.records() || self.inner.place(number) != Place::Next {
             return self.inner.call_numbered(number, command);
         }
         let put = self.put_line(Some(number), &command);
@@ -151,7 +153,7 @@ impl<K: Recorder, C: Recordable> Caller for Recorded<K, C> {
     }
 
     fn may_tell(&self) -> bool {
-        self.keeper.is_whole()
+        self.recorder.is_whole()
     }
 
     ghost same_names = { λ r c a s t. C.same_names r.inner c a s.inner t.call };

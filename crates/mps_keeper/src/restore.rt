@@ -17,7 +17,7 @@ use crate::recorded::is_accepted;
 use mps_base::Roles;
 use mps_command::{Answer, Command, Refusal};
 use mps_dev::Source;
-use mps_line::{LineFault, asks_for_change, read_journal_line};
+use mps_line::{LineFault, read_journal_line};
 use mps_lines::line_end;
 use mps_room::{Caller, Told};
 use std::alloc::{AllocError, Global};

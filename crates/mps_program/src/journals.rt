@@ -246,6 +246,7 @@ pub fn record_sessions<'a, R: Files<File = File> + AllocGlobal + Wait + 'static>
     }
     let known = has_protocol(rt, folder, path.as_str(), protocol)?;
     let files = open_journals(rt, folder, first, sessions)?;
+    // before the journals were locked another server may have written it
     let known = known || has_protocol(rt, folder, path.as_str(), protocol)?;
     let read = restore_all(rt, desk, files)?;
     if !known {

@@ -290,7 +290,8 @@ fn sessions_of<'a>(
     Ok(sessions)
 }
 
-/// Opens so many sessions of a protocol without faults, of which the first has that number.
+/// Opens so many sessions of a protocol without faults, of which the first has that number. Each session owns its types,
+/// so each is projected by itself: at most 16, when the server starts.
 pub fn hub_of<'a>(
     alloc: Global,
     protocol: &Protocol,

@@ -130,8 +130,8 @@ fn kept_by(alloc: Global, lines: u64, space: usize) -> Result<Kept, Fail> {
     let (ending, told) = talked(alloc, &mut caller)?;
     Ok(Kept {
         ending,
-        lines: Vec::from_slice(alloc, caller.keeper.sink().bytes())?,
-        is_whole: caller.keeper.is_whole(),
+        lines: Vec::from_slice(alloc, caller.recorder.sink().bytes())?,
+        is_whole: caller.recorder.is_whole(),
         told,
     })
 }

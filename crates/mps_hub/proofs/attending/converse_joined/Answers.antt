@@ -16,8 +16,8 @@ pub returns-in-Ok-clause-told : goal.returns-in-Ok-clause-told
 returns-in-Ok-clause-told g c = λ idle whole.
     let old = streams g.R.Source g.W.Sink c.args.reader.now c.send.new.writer in
     let new = streams g.R.Source g.W.Sink c.converse.new.reader c.converse.new.writer in
-    let before = c.args.caller.now.keeper in
-    let after = c.converse.new.caller.keeper in
-    let same = ended_keeps _ (λ h. records_of h.keeper) (λ h x a k t. t.same) old new _ _ c.converse.result c.converse.ensures.ending in
-    let fate = ended_keeps _ (λ h. idle_whole records_of whole_of h.keeper) (λ h x a k t. idle_stays records_of whole_of h.keeper k.keeper t.same t.idle) old new _ _ c.converse.result c.converse.ensures.ending in
+    let before = c.args.caller.now.recorder in
+    let after = c.converse.new.caller.recorder in
+    let same = ended_keeps _ (λ h. records_of h.recorder) (λ h x a k t. t.same) old new _ _ c.converse.result c.converse.ensures.ending in
+    let fate = ended_keeps _ (λ h. idle_whole records_of whole_of h.recorder) (λ h x a k t. idle_stays records_of whole_of h.recorder k.recorder t.same t.idle) old new _ _ c.converse.result c.converse.ensures.ending in
     ends_told (whole_of after) c.converse.result c.converse.ensures.untold (sym (unused records_of whole_of after (same ∙ idle)) ∙ fate ∙ unused records_of whole_of before idle ∙ whole)
