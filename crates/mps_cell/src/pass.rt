@@ -53,7 +53,7 @@ impl<'a> Model for Pass<'a> {
     ghost invariant = { λ p. IsSeated p.seat.table_id p.seat.me p.shared.now.table_id p.role p.seen p.names.now };
 }
 
-/// Something that runs while the room is out.
+/// Something that runs while the room is out: tests give one, to hold a call up.
 pub trait Pause {
     fn pause(&mut self);
 }

@@ -22,7 +22,7 @@ pub enum Forward {
 }
 
 impl Forward {
-    /// The same command once more.
+    /// The same step once more.
     pub fn copy(&self, alloc: Global) -> Result<Forward, AllocError>
         ensures { IfOk result (λ command. command ≡ self.now) }
     {

@@ -131,6 +131,7 @@ pub fn read_journal_line(
         return Err(LineFault::Bad);
     };
     let (number, command) = read_numbered(alloc, roles, rest)?;
+    // a question has no line; where there is a number, it was looked at already
     if !asks_for_change(&command) {
         return Err(LineFault::Bad);
     }

@@ -14,7 +14,7 @@ use mps_base::StepId;
 use mps_links::{least_final, mark_from, newest_marked, unmark};
 
 impl Log {
-    /// Marks the step of that number and all that depend on it, and tells how many they are.
+    /// Chooses the step of that number and all that depend on it, and tells how many they are.
     pub fn choose_from(&mut self, id: StepId) -> usize
         requires present { IsSome (step_of (steps self.old.entries) id) }
         requires unmarked { marked_keys self.old.entries ≡ [] }

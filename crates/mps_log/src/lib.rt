@@ -1,8 +1,8 @@
-//! The surviving steps of a session with all that leads from one to another: the links of steps, the queues and the
-//! slots.
+//! The surviving steps of a session with all that leads from one to another: the links of steps, the queues, the
+//! slots and the marks.
 //!
-//! The main type is `Log`. A step joins with its message, and a step on which no other depends is removed; queues
-//! and slots follow.
+//! The main type is `Log`. A step joins with its message, and a step on which no other depends is removed; queues,
+//! slots and marks follow.
 //!
 //! ```
 //! let id = log.send(a, b, Message::Value(value), 0)?;

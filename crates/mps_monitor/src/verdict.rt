@@ -29,8 +29,8 @@ pub enum Advance {
     Into(usize),
 }
 
-/// How a role goes on that expects this, or the first reason why the command is not allowed. The
-/// message is the first that waits from the peer whom the command names, if one does. Nothing is
+/// How a role goes on that expects this, or the first reason why the step is not allowed. The
+/// message is the first that waits from the peer whom the step names, if one does. Nothing is
 /// allocated.
 #[inline(always)]
 pub fn judge(

@@ -48,7 +48,7 @@ pub trait Caller {
         ensures last { last self.new ≡ last self.old }
         ensures kept { kept self.new ≡ kept self.old };
 
-    /// The number of the newest numbered command that was accepted, 0 at first.
+    /// The number of the newest numbered command that was accepted, 0 at first: for tests, and whoever looks on.
     fn last(&self) -> u64
         ensures { result ≡ last self.now };
 

@@ -120,8 +120,8 @@ fn keep(
     ensures lists { length heard.new.lists ≡ 8 }
     ensures heard { takes_others command ≡ true → (p : ℕ) (d : _) → p < heard.old.count
         → (slice_index_or heard.new.lists p d).items
-        ≡ with_place (hears (owns steps.old.owners.items p) p role (undone_by (narrow_answer gist))) (length journal.old.items)
-        (slice_index_or heard.old.lists p d).items }
+        ≡ with_place (hears (owns steps.old.owners.items p) p role (undone_by (narrow_answer gist)))
+        (length journal.old.items) (slice_index_or heard.old.lists p d).items }
     ensures unheard { takes_others command ≡ false → heard.new.lists ≡ heard.old.lists }
 {
     let place = journal.len() as u32;

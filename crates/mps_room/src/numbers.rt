@@ -60,7 +60,7 @@ impl Numbers {
         }
     }
 
-    /// The answer to the command of that number.
+    /// The answer to the newest numbered command that was accepted.
     pub fn kept(&self) -> Option<&Answer>
         ensures { option_map (λ a. a.now) result ≡ kept_of self.now.newest }
     {

@@ -27,7 +27,7 @@ impl Steps {
         }
     }
 
-    /// Reserves memory for one step more. It asks whether there is any, since most often there is, and `reserve` is a call.
+    /// Reserves memory for one step more. It asks whether there is any, since most often there is: `reserve` is a call.
     #[inline(always)]
     pub(crate) fn reserve_one(&mut self) -> Result<(), AllocError>
         ensures owners { self.new.owners.items ≡ self.old.owners.items }

@@ -19,7 +19,7 @@ use mps_monitor::next_node;
 use mps_table::Node;
 use std::alloc::{AllocError, Global};
 
-/// Where each role stands, and the steps that survive, with the queues and the slots that they lead to.
+/// Where each role stands, and the steps that survive, with the queues, slots and marks that they lead to.
 #[derive(Drop)]
 pub(crate) struct Configuration {
     pub(crate) cursors: Vec<Cursor>,
@@ -48,7 +48,7 @@ impl Configuration {
         }
     }
 
-    /// The node at which the role goes on after the command, or why its type doesn't allow it. The message is the
+    /// The node at which the role goes on after the step, or why its type doesn't allow it. The message is the
     /// first that waits for it, if it would take one.
     #[inline(always)]
     pub(crate) fn verdict(
@@ -74,7 +74,7 @@ impl Configuration {
         next_node(&cursor.table, cursor.node, step, first)
     }
 
-    /// The node at which the role goes on after the command, or why it is refused, unless memory runs out. The message
+    /// The node at which the role goes on after the step, or why it is refused, unless memory runs out. The message
     /// is the first that waits for the role, if it would take one.
     #[inline(always)]
     pub(crate) fn allowed(
@@ -105,7 +105,7 @@ impl Configuration {
         Ok(node)
     }
 
-    /// Does the step that the command asks for, after which the role stands at the node. Nothing is changed where
+    /// Does the step, after which the role stands at the node. Nothing is changed where
     /// memory runs out.
     #[inline(always)]
     pub(crate) fn act(

@@ -69,8 +69,9 @@ impl Session {
         }
     }
 
-    // Does the step of a receipt or a pick. The message that waits is looked up once, for the verdict, the answer and the
-    // gist. No other step looks for one, so it has a way of its own.
+    // Does the step of a receipt or a pick. The message that waits serves the verdict and the answer, the number of its
+    // step the gist: both are at the front of one queue, which takes a load to find. No other step looks for a message,
+    // so these two have a way of their own.
     #[inline(always)]
     fn attempt_receipt(
         &mut self,

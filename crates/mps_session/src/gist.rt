@@ -2,7 +2,7 @@
 use mps_base::StepId;
 
 /// What a session answered to a change, in short: where a step took a message, it names a step that gave the same
-/// message, which is the one that sent it. Whoever has the steps from before can tell the answer from it.
+/// message. Unproved: that is the one that sent it. Whoever has the steps from before can tell the answer from it.
 #[derive(Debug, Drop)]
 pub enum Gist {
     /// The number of a new step, and, where it took a message, that of the step that sent it.

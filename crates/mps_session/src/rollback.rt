@@ -85,9 +85,9 @@ impl Configuration {
         Ok(space_for(self.alloc, count)?)
     }
 
-    /// Removes the step of that number and all that depend on it, the newest first, and tells their numbers, with a
-    /// copy for who keeps what was answered. Where a commit is among them, the least is named. Nothing is changed
-    /// then, nor where memory runs out.
+    /// Removes the step of that number, as definitions name it, and all that depend on it, the newest first, and tells
+    /// their numbers, with a copy for who keeps what was answered. Where a commit is among them, the least is named.
+    /// Nothing is changed then, nor where memory runs out.
     #[inline(never)]
     pub(crate) fn take_back(&mut self, id: StepId) -> Result<(StepIds, Vec<StepId>), Refusal>
         requires present { IsSome (step_of (steps (lists_of self.old).entries) id) }

@@ -57,7 +57,8 @@ impl Configuration {
         }
     }
 
-    /// The key of the role's own step of that number, where it may be undone by itself, or why not.
+    /// The key of the role's own step of that number, where it may be undone by itself, or why not. What depends on the
+    /// step is asked by its number, as definitions are: to find its key once more takes a few loads.
     pub(crate) fn free_step(&self, role: Role, id: StepId) -> Result<Key, Refusal>
         ensures own { OnOk result (owner_fault role
             (step_of (steps (lists_of self.now).entries) id) ≡ None) }

@@ -58,7 +58,8 @@ fn asked<R: AllocGlobal + Wait + 'static>(rt: &R, words: &[String]) -> u8 {
     }
 }
 
-// Makes each call of the group, and prints its name after the group's word. Gives the status of the first that isn't answered.
+// Makes each call of the group, and prints its name after the group's word. Gives the status of the first that isn't
+// answered.
 fn all_of<R: AllocGlobal + Print + Wait + 'static>(rt: &R, word: &str, group: Group) -> u8 {
     for k in 0..MANY {
         let Some(name) = name(group, k) else {

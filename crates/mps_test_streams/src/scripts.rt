@@ -369,8 +369,8 @@ fn fault_of(device: Device) -> ReplayFault {
     }
 }
 
-// The pieces of a relay's script, from which read on reads fail, how many bytes of answers are taken, what these are, and
-// the device at which it stops.
+// The pieces of a relay's script, from which read on reads fail, how many bytes of answers are taken, what these are,
+// and the device at which it stops.
 type Stop = (
     &'static [&'static str],
     Option<u64>,
@@ -536,8 +536,8 @@ fn left_of(
     }
 }
 
-// A relay's script, from which read on reads fail, how many bytes of answers are taken, what these are, and what is left
-// of a session that was opened before.
+// A relay's script, from which read on reads fail, how many bytes of answers are taken, what these are, and what is
+// left of a session that was opened before.
 type OnASession = (&'static str, Option<u64>, usize, &'static str, Left<Device>);
 
 const ON_A_SESSION: &[OnASession] = &[

@@ -1,4 +1,5 @@
-//! The program, which checks protocols, runs and compares scripts of commands on multiparty sessions, and serves such sessions.
+//! The program, which checks protocols, runs and compares scripts of commands on multiparty sessions, and serves such
+//! sessions.
 #![tactic(auto)]
 
 use mps_program::program;

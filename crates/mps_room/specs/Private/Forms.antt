@@ -92,8 +92,8 @@ TakesSuch (steps.Receive from slot) place = IsSome place
 TakesSuch (steps.Pick from) place = IsSome place
 TakesSuch step place = place ≡ None
 
--- what `IsGistFor` says of a command and its gist, in which the number of a new step is small; a place is named just where
--- a message is taken
+-- what `IsGistFor` says of a command and its gist, in which the number of a new step is small; a place is named just
+-- where a message is taken
 abbrev pub Fits : Command → Gist → Option ℕ → Type 0
 Fits (commands.Forward step) (Stepped id source) place = TakesSuch step place × (id < 2 ^ 32)
 Fits (commands.Undo n) (Undid m) place = (m ≡ n) × (place ≡ None)
