@@ -6,10 +6,12 @@ use Rattle.mps_command.specs.declared.command.Command.{Command}
 use Rattle.mps_room.specs.Numbers.{IsNumbered}
 use Rattle.mps_room.specs.Outcomes.{HasOneAnswer, IsSameOutcome}
 use Rattle.mps_room.specs.declared.numbers.Told.{Told}
+use Rattle.mps_room.specs.declared.numbers.Told.TheVariants.{Wrong, Refused}
 
 -- what is told of a refused call
 told_of : Answer → Told
-told_of answer = grind arith
+told_of (answers.Refused refusal) = Refused refusal
+told_of answer = Wrong
 
 pub one_outcome : {C : Type 0} (calls : C → Command → Answer → C → Type 0) (last : C → ℕ) (kept : C → Option Answer) (c : C) (n : ℕ) (command : Command) (d e : C) (told other : Told) → HasOneAnswer calls c command → IsNumbered calls last kept c n command d told → IsNumbered calls last kept c n command e other → IsSameOutcome last kept d told e other
 unfolding told_of

@@ -8,9 +8,4 @@ abbrev pub walk : (ℕ → Option Node) → ℕ → Option ℕ → List KeyedSte
 walk look zero at = []
 walk look (suc n) None = []
 walk look (suc n) (Some k) =
-    unwrap_or (option_map (λ node. record {
-      key = k;
-      step = node.step;
-      before = record { at = node.at; bound = node.bound };
-      marked = node.marked;
-    } ∷ walk look n node.next) (look k)) []
+    unwrap_or (option_map (λ node. record { key = k; step = node.step; before = record { at = node.at; bound = node.bound }; marked = node.marked } ∷ walk look n node.next) (look k)) []
