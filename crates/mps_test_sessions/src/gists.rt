@@ -1,3 +1,6 @@
+ghost use Rattle.std.specs.Prelude.{IsSome};
+ghost use Rattle.mps_command.specs.Changes.{change_of};
+
 use crate::steps::{A, A_TO_B_TO_C, Ask, B, C, command, name, opened, types};
 use mps_base::{Role, StepId};
 use mps_command::{Command, Refusal};
@@ -32,7 +35,9 @@ fn in_numbers(gist: Gist) -> Numbers {
 }
 
 // What the role's command comes to.
-fn attempt(session: &mut Session, place: u8, command: Command) -> Result<Numbers, Refusal> {
+fn attempt(session: &mut Session, place: u8, command: Command) -> Result<Numbers, Refusal>
+    requires { IsSome (change_of command) }
+{
     let role = Role::new(place);
     if role.index() >= session.roles() {
         return Err(Refusal::NoStep);
