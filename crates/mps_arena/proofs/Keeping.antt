@@ -1,4 +1,4 @@
--- The invariant, as entries come and go.
+-- The invariant, as keyed steps come and go.
 use Rattle.std.proofs.Common.{◌≡◌, ◌≢◌, not, ℕ, zero, suc, ◌+◌, ◌*◌, ◌≤◌, ◌<◌, Bool, true, false, List, [], ◌∷◌, ◌++◌, length, cond, Option, Some, None, refl, sym, ap, ◌∙◌, subst, ⊎_elim, eq-eqb, arith, length-append}
 use Rattle.std.proofs.lemmas.List.{length-set, get_or-set_same, get_or-set_other}
 use mathlib.Core.Path.{ap₂}
@@ -13,23 +13,23 @@ use Rattle.mps_history.specs.Steps.{gives_to, takes_from, sends, receives}
 use Rattle.mps_arena.specs.declared.node.Before.{Before}
 use Rattle.mps_arena.specs.declared.node.Node.{Node}
 use Rattle.mps_arena.specs.Keys.{has, AreDistinct, first_key, last_key, key_after, key_before}
-use Rattle.mps_arena.specs.Entries.{KeyedStep, keys_of, any_step, of_role, like, unlike, entry_at, IsSmall, AreSound}
+use Rattle.mps_arena.specs.KeyedSteps.{KeyedStep, keys_of, any_step, of_role, like, unlike, keyed_at, IsSmall, AreSound}
 use Rattle.mps_arena.specs.Private.Ends.{receiver, end_at, with_end}
 use Rattle.mps_arena.specs.Private.Links.{node_of, AreNodes, joined, parted}
 use Rattle.mps_arena.specs.Neighbours.{matched_with, IsLastAndUnreceived, IsSource, IsUnreceived, CanGo}
 use Rattle.mps_arena.specs.Private.Kept.{IsIndexed, IsKept}
 use Rattle.mps_arena.specs.Private.Walks.{walk}
 use Rattle.mps_arena.proofs.KeyLists.{has-append_right, last-append, first_without, last_without}
-use Rattle.mps_arena.proofs.Chains.{keys-append, keys_push, keys_kept, keys_around, keys_beside, distinct, entry_key, entry_push, entry_without, entry_gone}
+use Rattle.mps_arena.proofs.Chains.{keys-append, keys_push, keys_kept, keys_around, keys_beside, distinct, keyed_key, keyed_push, keyed_without, keyed_gone}
 use Rattle.mps_arena.proofs.Matched.{new_match, sends_like, sends_chain, matched_of}
 use Rattle.mps_arena.proofs.Rising.{rising_push, rising_without}
-use Rattle.mps_arena.proofs.Nodes.{same_node, sends_ends, cases_entry, walk_is, newcomer, nodes_push, nodes_without}
+use Rattle.mps_arena.proofs.Nodes.{same_node, sends_ends, cases_keyed, walk_is, newcomer, nodes_push, nodes_without}
 
--- the walk over the nodes gives the entries
+-- the walk over the nodes gives the keyed steps
 pub kept_view : (look : ℕ → Option Node) (size : ℕ) (f l : Option ℕ) (r p : List (Option ℕ)) (index : List ℕ) (es : List KeyedStep) → IsKept look size f l r p index es → walk look size f ≡ es
 kept_view look size f l r p index es k = ap₂ (λ (n : ℕ) (o : Option ℕ). walk look n o) k.count k.first ∙ walk_is look es k.linked
 
--- what callers may know of the entries
+-- what callers may know of the keyed steps
 pub kept_sound : (look : ℕ → Option Node) (size : ℕ) (f l : Option ℕ) (r p : List (Option ℕ)) (index : List ℕ) (es : List KeyedStep) → IsKept look size f l r p index es → AreSound es
 kept_sound look size f l r p index es k = record { distinct = k.linked.distinct; fed = k.linked.fed; rising = k.rising; small = k.small }
 
@@ -75,7 +75,7 @@ length_with_end : (ends : List (Option ℕ)) (p : ℕ) (q key : Option ℕ) → 
 length_with_end ends p q key = grind (arith, length-set)
 
 module _ (look after : ℕ → Option Node) (size : ℕ) (f l : Option ℕ) (r p : List (Option ℕ)) (index : List ℕ) (es : List KeyedStep) (k : IsKept look size f l r p index es) where
-  pub kept_push : (e : KeyedStep) → IsSmall e.step → e.step.id ≡ length index + 1 → entry_at e.key es ≡ None
+  pub kept_push : (e : KeyedStep) → IsSmall e.step → e.step.id ≡ length index + 1 → keyed_at e.key es ≡ None
       → ((k : ℕ) → after k ≡ option_map (joined (newcomer es e) e.key k) (cond (e.key == k) (Some (newcomer es e)) (look k)))
       → ((p q : ℕ) → receives p q e.step ≡ true → (k : ℕ) × (new_match es e.step ≡ Some k))
       → IsKept after (size + 1) (option_or f (Some e.key)) (Some e.key) (slice_set r e.step.role (Some e.key)) (with_end p e.step.role (receiver (effect e.step.act)) (Some e.key)) (index ++ e.key ∷ []) (es ++ e ∷ [])
@@ -96,18 +96,18 @@ module _ (look after : ℕ → Option Node) (size : ℕ) (f l : Option ℕ) (r p
         indexed = indexed;
       }
     where
-      indexed : (j : ℕ) (y : KeyedStep) → entry_at j (es ++ e ∷ []) ≡ Some y → IsIndexed (index ++ e.key ∷ []) j y
+      indexed : (j : ℕ) (y : KeyedStep) → keyed_at j (es ++ e ∷ []) ≡ Some y → IsIndexed (index ++ e.key ∷ []) j y
       indexed j y found =
           ⊎_elim
-          (grind (arith, entry_push j es e, get_end index e.key, cases_Bool (e.key == j)))
-          (λ (w : (z : KeyedStep) × (entry_at j es ≡ Some z)).
-          let one : Some w.0 ≡ Some y = sym (rw w.1 at (entry_push j es e)) ∙ found in
+          (grind (arith, keyed_push j es e, get_end index e.key, cases_Bool (e.key == j)))
+          (λ (w : (z : KeyedStep) × (keyed_at j es ≡ Some z)).
+          let one : Some w.0 ≡ Some y = sym (rw w.1 at (keyed_push j es e)) ∙ found in
           let same : w.0 ≡ y = cc in
           let i = k.indexed j w.0 w.1 in
           record { place = i.place; number = ap (λ (z : KeyedStep). z.step.id) (sym same) ∙ i.number; key = get_front index (e.key ∷ []) i.place j i.key })
-          (cases_entry (entry_at j es))
+          (cases_keyed (keyed_at j es))
 
--- the last of a chain whose last entry goes
+-- the last of a chain whose last keyed step goes
 last_goes : (q : Step → Bool) (a b : List KeyedStep) (x : KeyedStep) → AreDistinct (keys_of any_step (a ++ x ∷ b)) → q x.step ≡ true → key_after x.key (keys_of q (a ++ x ∷ b)) ≡ None → last_key None (keys_of q (a ++ b)) ≡ key_before None x.key (keys_of q (a ++ x ∷ b))
 last_goes q a b x d t at_end =
     let is = keys_around q a b x t in
@@ -147,19 +147,19 @@ module _ (look after : ℕ → Option Node) (size : ℕ) (f l : Option ℕ) (r p
         indexed = indexed;
       }
     where
-      indexed : (j : ℕ) (y : KeyedStep) → entry_at j (a ++ b) ≡ Some y → IsIndexed index j y
-      indexed j y found = grind (arith, entry_gone, entry_without, cases_Bool)
+      indexed : (j : ℕ) (y : KeyedStep) → keyed_at j (a ++ b) ≡ Some y → IsIndexed index j y
+      indexed j y found = grind (arith, keyed_gone, keyed_without, cases_Bool)
 
--- an entry found stands somewhere
-pub entry_split : (j : ℕ) (es : List KeyedStep) (y : KeyedStep) → entry_at j es ≡ Some y → (a : List KeyedStep) × (b : List KeyedStep) × (es ≡ a ++ y ∷ b)
-entry_split j [] y found = absurd cc
-entry_split j (x ∷ es) y found =
+-- a keyed step found stands somewhere
+pub keyed_split : (j : ℕ) (es : List KeyedStep) (y : KeyedStep) → keyed_at j es ≡ Some y → (a : List KeyedStep) × (b : List KeyedStep) × (es ≡ a ++ y ∷ b)
+keyed_split j [] y found = absurd cc
+keyed_split j (x ∷ es) y found =
     ⊎_elim
     (λ (t : (x.key == j) ≡ true).
     let same : x ≡ y = cc in
     ([], es, ap (λ (z : KeyedStep). z ∷ es) same))
     (λ (n : (x.key == j) ≡ false).
-    let w = entry_split j es y (sym (cond-false (x.key == j) (Some x) (entry_at j es) n) ∙ found) in
+    let w = keyed_split j es y (sym (cond-false (x.key == j) (Some x) (keyed_at j es) n) ∙ found) in
     (x ∷ w.0, w.1, ap (λ l. x ∷ l) w.2))
     (cases_Bool (x.key == j))
 
@@ -167,7 +167,7 @@ pub all_at : (P : KeyedStep → Type 0) (a b : List KeyedStep) (x : KeyedStep) �
 all_at P [] b x h = h.0
 all_at P (y ∷ a) b x h = all_at P a b x h.1
 
--- the entries but the one of a key
+-- the keyed steps but the one of a key
 pub others_are : (j : ℕ) (a b : List KeyedStep) (x : KeyedStep) → AreDistinct (keys_of any_step (a ++ x ∷ b)) → x.key ≡ j → filter (λ e. not (e.key == j)) (a ++ x ∷ b) ≡ a ++ b
 others_are j [] b x d e =
     rw (eq-eqb x.key j e) (all_others j b (subst (λ (i : ℕ). has i (keys_of any_step b) ≡ false) e d.0))
@@ -196,8 +196,8 @@ module _ (es : List KeyedStep) (m : (p q : ℕ) → length (keys_of (receives p 
   match_at p a source h from e = grind (arith, false≢true)
 
 module _ (look after : ℕ → Option Node) (size : ℕ) (f l : Option ℕ) (r p : List (Option ℕ)) (index : List ℕ) (es : List KeyedStep) (k : IsKept look size f l r p index es) (s : Step) (before : Before) (source : Option ℕ) (key : ℕ) where
-  abbrev pub entry : KeyedStep
-  entry = record { key = key; step = s; before = before; marked = false }
+  abbrev pub keyed : KeyedStep
+  keyed = record { key = key; step = s; before = before; marked = false }
 
   abbrev pub behind : Node
   behind = record {
@@ -214,38 +214,38 @@ module _ (look after : ℕ → Option Node) (size : ℕ) (f l : Option ℕ) (r p
     marked = false;
   }
 
-  behind_is : IsSmall s → IsSource es s.role (effect s.act) source → behind ≡ newcomer es entry
+  behind_is : IsSmall s → IsSource es s.role (effect s.act) source → behind ≡ newcomer es keyed
   behind_is small h = grind (arith, same_node, newcomer, no_keys, slice_get_past, matched_of)
 
   pub kept_add : IsSmall s → s.id ≡ length index + 1 → IsSource es s.role (effect s.act) source → look key ≡ None
       → ((i : ℕ) → after i ≡ option_map (joined behind key i) (cond (key == i) (Some behind) (look i)))
-      → IsKept after (size + 1) (option_or f (Some key)) (Some key) (slice_set r s.role (Some key)) (with_end p s.role (receiver (effect s.act)) (Some key)) (index ++ key ∷ []) (es ++ entry ∷ [])
+      → IsKept after (size + 1) (option_or f (Some key)) (Some key) (slice_set r s.role (Some key)) (with_end p s.role (receiver (effect s.act)) (Some key)) (index ++ key ∷ []) (es ++ keyed ∷ [])
   kept_add small number h vacant is =
       let same = behind_is small h in
-      let fresh : entry_at key es ≡ None = none_at (node_of es) (entry_at key es) (sym (k.linked.nodes key) ∙ vacant) in
-      kept_push look after size f l r p index es k entry small number fresh
+      let fresh : keyed_at key es ≡ None = none_at (node_of es) (keyed_at key es) (sym (k.linked.nodes key) ∙ vacant) in
+      kept_push look after size f l r p index es k keyed small number fresh
       (subst (λ (n : Node). (i : ℕ) → after i ≡ option_map (joined n key i) (cond (key == i) (Some n) (look i))) same is)
       (grind (arith, match_at, matched_of, and_parts, source_at))
 
 unreceived_at : (es : List KeyedStep) (x : KeyedStep) (a : Effect) → IsUnreceived es x a → (q : ℕ) → gives_to q a ≡ true → matched_with es x ≡ None
 unreceived_at es x a h q e = grind (arith, false≢true)
 
--- the entry of a node
+-- the keyed step of a node
 pub record Stands (es : List KeyedStep) (j : ℕ) (node : Node) : Type 0 where
-  pub entry : KeyedStep
-  pub found : entry_at j es ≡ Some entry
-  pub node_is : node ≡ node_of es entry
+  pub keyed : KeyedStep
+  pub found : keyed_at j es ≡ Some keyed
+  pub node_is : node ≡ node_of es keyed
   pub before : List KeyedStep
   pub behind : List KeyedStep
-  pub parts : es ≡ before ++ entry ∷ behind
+  pub parts : es ≡ before ++ keyed ∷ behind
 
 pub stands : (look : ℕ → Option Node) (es : List KeyedStep) (j : ℕ) (node : Node) → AreNodes look es → look j ≡ Some node → Stands es j node
-stands look es j node n e = grind (arith, entry_split, cases_entry)
+stands look es j node n e = grind (arith, keyed_split, cases_keyed)
 
 pub small_of : (look : ℕ → Option Node) (size : ℕ) (f l : Option ℕ) (r p : List (Option ℕ)) (index : List ℕ) (es : List KeyedStep) → IsKept look size f l r p index es → (j : ℕ) (node : Node) → look j ≡ Some node → IsSmall node.step
 small_of look size f l r p index es k j node e =
     let s = stands look es j node k.linked e in
-    subst (λ (n : Node). IsSmall n.step) (sym s.node_is) (all_at (λ x. IsSmall x.step) s.before s.behind s.entry (subst (λ (l : List KeyedStep). AllByRecursion (λ x. IsSmall x.step) l) s.parts k.small))
+    subst (λ (n : Node). IsSmall n.step) (sym s.node_is) (all_at (λ x. IsSmall x.step) s.before s.behind s.keyed (subst (λ (l : List KeyedStep). AllByRecursion (λ x. IsSmall x.step) l) s.parts k.small))
 
 -- what is left where a node goes
 abbrev pub Left : (ℕ → Option Node) → ℕ → Option ℕ → Option ℕ → List (Option ℕ) → List (Option ℕ) → List ℕ → Node → List KeyedStep → Type 0
@@ -257,8 +257,8 @@ pub kept_remove : (look after : ℕ → Option Node) (size : ℕ) (f l : Option 
     → Left after left f l r p index node (filter (λ e. not (e.key == j)) es)
 kept_remove look after size f l r p index es k left fewer j node e can is =
     let s = stands look es j node k.linked e in
-    let x = s.entry in
-    let key = entry_key j es x s.found in
+    let x = s.keyed in
+    let key = keyed_key j es x s.found in
     let free : IsLastAndUnreceived es x = subst (λ (o : Option KeyedStep). IsSomeAnd o (IsLastAndUnreceived es)) s.found can in
     let whole = s.before ++ x ∷ s.behind in
     let kw : IsKept look size f l r p index whole = subst (λ (l' : List KeyedStep). IsKept look size f l r p index l') s.parts k in

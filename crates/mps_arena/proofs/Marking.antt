@@ -9,11 +9,11 @@ use Rattle.std.proofs.lemmas.List.{length-map}
 use Rattle.mps_base.specs.declared.action.Step.{Step}
 use Rattle.mps_history.specs.Steps.{sends, receives, IsRising}
 use Rattle.mps_arena.specs.declared.node.Node.{Node}
-use Rattle.mps_arena.specs.Entries.{KeyedStep, steps, keys_of, any_step, of_role, entry_at, with_mark, IsSmall}
+use Rattle.mps_arena.specs.KeyedSteps.{KeyedStep, steps, keys_of, any_step, of_role, keyed_at, with_mark, IsSmall}
 use Rattle.mps_arena.specs.Private.Links.{node_of, node_at}
 use Rattle.mps_arena.specs.Private.Kept.{IsIndexed, IsKept}
-use Rattle.mps_arena.proofs.Chains.{entry_key}
-use Rattle.mps_arena.proofs.Nodes.{same_node, cases_entry}
+use Rattle.mps_arena.proofs.Chains.{keyed_key}
+use Rattle.mps_arena.proofs.Nodes.{same_node, cases_keyed}
 
 module _ (j : ℕ) (m : Bool) where
   abbrev marks : List KeyedStep → List KeyedStep
@@ -27,9 +27,9 @@ module _ (j : ℕ) (m : Bool) where
   steps_marked [] = refl
   steps_marked (x ∷ es) = ap (λ l. x.step ∷ l) (steps_marked es)
 
-  entry_marked : (k : ℕ) (es : List KeyedStep) → entry_at k (marks es) ≡ option_map (with_mark j m) (entry_at k es)
-  entry_marked k [] = refl
-  entry_marked k (x ∷ es) = grind (arith, entry_marked k es, cases_Bool (x.key == k))
+  keyed_marked : (k : ℕ) (es : List KeyedStep) → keyed_at k (marks es) ≡ option_map (with_mark j m) (keyed_at k es)
+  keyed_marked k [] = refl
+  keyed_marked k (x ∷ es) = grind (arith, keyed_marked k es, cases_Bool (x.key == k))
 
   all_marked : (es : List KeyedStep) → AllByRecursion (λ e. IsSmall e.step) es → AllByRecursion (λ e. IsSmall e.step) (marks es)
   all_marked [] a = tt
@@ -72,15 +72,15 @@ module _ (j : ℕ) (m : Bool) where
         }
       where
         at : (i : ℕ) → after i ≡ node_at (marks es) i
-        at i = grind (arith, entry_marked, entry_key, node_marked, cases_entry)
+        at i = grind (arith, keyed_marked, keyed_key, node_marked, cases_keyed)
 
-        indexed : (i : ℕ) (y : KeyedStep) → entry_at i (marks es) ≡ Some y → IsIndexed index i y
+        indexed : (i : ℕ) (y : KeyedStep) → keyed_at i (marks es) ≡ Some y → IsIndexed index i y
         indexed i y found =
             ⊎_elim
-            (λ (z : entry_at i es ≡ None). let no : None ≡ Some y = sym (rw z at (entry_marked i es)) ∙ found in absurd cc)
-            (λ (w : (x : KeyedStep) × (entry_at i es ≡ Some x)).
-            let one : Some (with_mark j m w.0) ≡ Some y = sym (rw w.1 at (entry_marked i es)) ∙ found in
+            (λ (z : keyed_at i es ≡ None). let no : None ≡ Some y = sym (rw z at (keyed_marked i es)) ∙ found in absurd cc)
+            (λ (w : (x : KeyedStep) × (keyed_at i es ≡ Some x)).
+            let one : Some (with_mark j m w.0) ≡ Some y = sym (rw w.1 at (keyed_marked i es)) ∙ found in
             let same : with_mark j m w.0 ≡ y = cc in
             let g = k.indexed i w.0 w.1 in
             record { place = g.place; number = ap (λ (x : KeyedStep). x.step.id) (sym same) ∙ g.number; key = g.key })
-            (cases_entry (entry_at i es))
+            (cases_keyed (keyed_at i es))

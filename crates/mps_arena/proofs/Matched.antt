@@ -9,7 +9,7 @@ use Rattle.mps_base.specs.declared.action.Message.{Message}
 use Rattle.mps_base.specs.declared.action.Step.{Step}
 use Rattle.mps_history.specs.Steps.{gives_to, takes_from, sends, receives, IsRising}
 use Rattle.mps_arena.specs.Keys.{is_at, has, AreDistinct, matched_key}
-use Rattle.mps_arena.specs.Entries.{KeyedStep, keys_of, any_step, of_role, like_sends, like, unlike, entry_at, steps, IsFed, IsSmall, AreSound}
+use Rattle.mps_arena.specs.KeyedSteps.{KeyedStep, keys_of, any_step, of_role, like_sends, like, unlike, keyed_at, steps, IsFed, IsSmall, AreSound}
 use Rattle.mps_arena.proofs.KeyLists.{AreDistinct-left, not_at, matched_key_present, matched_key_more, matched_key_waits, matched_key_last, matched_key_in, get_in, get_none, get_some, has-append_cases, once}
 use Rattle.mps_arena.proofs.Chains.{keys-append, keys_without, keys_push, keys_kept, keys_around, keys_beside, absent, present, distinct, passes}
 
@@ -81,8 +81,8 @@ none_own s (x ∷ es) n = keys_without (own s) x es (false_from_ne_true (own s x
 abbrev pub new_match : List KeyedStep → Step → Option ℕ
 new_match es s = slice_get (keys_of (other s) es) (length (keys_of (own s) es))
 
-module _ (es : List KeyedStep) (e : KeyedStep) (d : AreDistinct (keys_of any_step es)) (fresh : entry_at e.key es ≡ None) where
-  pub matched_with_push : (j : ℕ) (y : KeyedStep) → entry_at j es ≡ Some y → matched_key j (keys_of (own y.step) (es ++ e ∷ [])) (keys_of (other y.step) (es ++ e ∷ [])) ≡ cond (is_at (new_match es e.step) j) (Some e.key) (matched_key j (keys_of (own y.step) es) (keys_of (other y.step) es))
+module _ (es : List KeyedStep) (e : KeyedStep) (d : AreDistinct (keys_of any_step es)) (fresh : keyed_at e.key es ≡ None) where
+  pub matched_with_push : (j : ℕ) (y : KeyedStep) → keyed_at j es ≡ Some y → matched_key j (keys_of (own y.step) (es ++ e ∷ [])) (keys_of (other y.step) (es ++ e ∷ [])) ≡ cond (is_at (new_match es e.step) j) (Some e.key) (matched_key j (keys_of (own y.step) es) (keys_of (other y.step) es))
   matched_with_push j y found =
       -- the match is of the other chain of e
       let sought : (is_at (new_match es e.step) j ≡ true) → other e.step y.step ≡ true = λ t. passes (other e.step) j es y d found (get_in (keys_of (other e.step) es) (length (keys_of (own e.step) es)) j t) in
@@ -127,7 +127,7 @@ module _ (a b : List KeyedStep) (x : KeyedStep) (d : AreDistinct (keys_of any_st
   pub matched_with_was : own x.step x.step ≡ true → matched ≡ slice_get (keys_of (other x.step) old) (length (keys_of (own x.step) a))
   matched_with_was t = grind (arith, own_old, matched_key_last, once, distinct)
 
-  pub matched_with_removal : (j : ℕ) (y : KeyedStep) → entry_at j old ≡ Some y → (x.key == j) ≡ false → matched_key j (keys_of (own y.step) (a ++ b)) (keys_of (other y.step) (a ++ b)) ≡ cond (is_at matched j) None (matched_key j (keys_of (own y.step) old) (keys_of (other y.step) old))
+  pub matched_with_removal : (j : ℕ) (y : KeyedStep) → keyed_at j old ≡ Some y → (x.key == j) ≡ false → matched_key j (keys_of (own y.step) (a ++ b)) (keys_of (other y.step) (a ++ b)) ≡ cond (is_at matched j) None (matched_key j (keys_of (own y.step) old) (keys_of (other y.step) old))
   matched_with_removal j y found apart =
       let sought : (is_at matched j ≡ true) → other x.step y.step ≡ true = λ t. passes (other x.step) j old y d found (matched_key_in x.key j (keys_of (own x.step) old) (keys_of (other x.step) old) t) in
       ⊎_elim
@@ -208,7 +208,7 @@ pub fed_nil : IsFed []
 fed_nil [] d s p q = omega arith
 fed_nil (y ∷ c) d s p q = absurd cc
 
--- without entries all holds
+-- without keyed steps all holds
 pub sound_nil : AreSound []
 sound_nil = record { distinct = tt; fed = fed_nil; rising = tt; small = tt }
 
@@ -233,12 +233,12 @@ sound_left a b s = record {
     small_left [] b h = tt
     small_left (x ∷ a) b h = (h.0, small_left a b h.1)
 
--- no earlier entry has the key of a later one
-pub last_fresh : (a b : List KeyedStep) (e : KeyedStep) → AreSound (a ++ e ∷ b) → entry_at e.key a ≡ None
+-- no earlier keyed step has the key of a later one
+pub last_fresh : (a b : List KeyedStep) (e : KeyedStep) → AreSound (a ++ e ∷ b) → keyed_at e.key a ≡ None
 last_fresh a b e s = nowhere a (once e.key (keys_of any_step a) (keys_of any_step b) (subst AreDistinct (keys_around any_step a b e refl) s.distinct)).0
   where
-    nowhere : (c : List KeyedStep) → has e.key (keys_of any_step c) ≡ false → entry_at e.key c ≡ None
+    nowhere : (c : List KeyedStep) → has e.key (keys_of any_step c) ≡ false → keyed_at e.key c ≡ None
     nowhere [] h = refl
     nowhere (y ∷ c) h =
         let p = or_parts (y.key == e.key) (has e.key (keys_of any_step c)) h in
-        cond-false (y.key == e.key) (Some y) (entry_at e.key c) p.0 ∙ nowhere c p.1
+        cond-false (y.key == e.key) (Some y) (keyed_at e.key c) p.0 ∙ nowhere c p.1

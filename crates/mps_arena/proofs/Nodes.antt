@@ -1,4 +1,4 @@
--- The nodes, as entries come and go.
+-- The nodes, as keyed steps come and go.
 use Rattle.std.proofs.Common.{arith, ◌≡◌, ℕ, Bool, true, false, List, [], ◌∷◌, ◌++◌, length, cond, Option, Some, None, refl, sym, ap, ◌∙◌, subst, ⊎_elim, eq-eqb, append_assoc, ◌⊎◌, inl, inr}
 use Rattle.std.specs.Prelude.{◌==◌}
 use Rattle.std.specs.Option.{option_map}
@@ -8,20 +8,20 @@ use Rattle.mps_base.specs.declared.action.Step.{Step}
 use Rattle.mps_history.specs.Steps.{sends, receives}
 use Rattle.mps_arena.specs.declared.node.Node.{Node}
 use Rattle.mps_arena.specs.Keys.{is_at, has, AreDistinct, first_key, last_key, key_after}
-use Rattle.mps_arena.specs.Entries.{KeyedStep, keys_of, any_step, of_role, entry_at}
+use Rattle.mps_arena.specs.KeyedSteps.{KeyedStep, keys_of, any_step, of_role, keyed_at}
 use Rattle.mps_arena.specs.Private.Links.{node_of, node_at, AreNodes, joined, parted}
 use Rattle.mps_arena.specs.Neighbours.{matched_with}
 use Rattle.mps_arena.specs.Private.Walks.{walk}
 use Rattle.mps_arena.proofs.KeyLists.{not_at, last_in, last-append, get_in, once, after_absent, AreDistinct-push, AreDistinct-without}
-use Rattle.mps_arena.proofs.Chains.{keys-append, keys_without, distinct, chain_empty, keys_push, keys_around, absent, after_push, before_push, after_new, before_new, after_removal, before_removal, entry_key, entry_push, entry_middle, entry_without, entry_gone}
+use Rattle.mps_arena.proofs.Chains.{keys-append, keys_without, distinct, chain_empty, keys_push, keys_around, absent, after_push, before_push, after_new, before_new, after_removal, before_removal, keyed_key, keyed_push, keyed_middle, keyed_without, keyed_gone}
 use Rattle.mps_arena.proofs.Matched.{sends_like, own_role, sends_role, own, other, new_match, matched_with_push, matched_with_new, matched_with_removal, fed_push, fed_removal, role_alike, role_back, sends_alike, sends_back}
 
--- a walk from the first key gives the entries
+-- a walk from the first key gives the keyed steps
 walk_from : (look : ℕ → Option Node) (a b : List KeyedStep) → AreNodes look (a ++ b) → walk look (length b) (first_key (keys_of any_step b)) ≡ b
 walk_from look a [] n = refl
 walk_from look a (x ∷ b) n =
     let es = a ++ x ∷ b in
-    let here : look x.key ≡ Some (node_of es x) = n.nodes x.key ∙ ap (option_map (node_of es)) (entry_middle a b x n.distinct) in
+    let here : look x.key ≡ Some (node_of es x) = n.nodes x.key ∙ ap (option_map (node_of es)) (keyed_middle a b x n.distinct) in
     let whole = keys_around any_step a b x refl in
     let o = once x.key (keys_of any_step a) (keys_of any_step b) (subst AreDistinct whole n.distinct) in
     grind (arith, after_absent x.key (keys_of any_step a) (x.key ∷ keys_of any_step b) o.0, eq-eqb x.key x.key refl, walk_from look (a ++ x ∷ []) b (subst (AreNodes look) (sym (append_assoc a (x ∷ []) b)) n))
@@ -32,11 +32,11 @@ walk_is look es n = walk_from look [] es n
 pub same_node : (n m : Node) → n.step ≡ m.step → n.at ≡ m.at → n.bound ≡ m.bound → n.next ≡ m.next → n.prev ≡ m.prev → n.next_of_role ≡ m.next_of_role → n.prev_of_role ≡ m.prev_of_role → n.next_send ≡ m.next_send → n.prev_send ≡ m.prev_send → n.matched ≡ m.matched → n.marked ≡ m.marked → n ≡ m
 same_node n m a j k b c d e f g h i = grind arith
 
-pub cases_entry : (o : Option KeyedStep) → (o ≡ None) ⊎ ((y : KeyedStep) × (o ≡ Some y))
-cases_entry None = inl refl
-cases_entry (Some y) = inr (y, refl)
+pub cases_keyed : (o : Option KeyedStep) → (o ≡ None) ⊎ ((y : KeyedStep) × (o ≡ Some y))
+cases_keyed None = inl refl
+cases_keyed (Some y) = inr (y, refl)
 
--- the node of a new last entry
+-- the node of a new last keyed step
 abbrev pub newcomer : List KeyedStep → KeyedStep → Node
 newcomer es e = record {
   step = e.step;
@@ -52,7 +52,7 @@ newcomer es e = record {
   marked = e.marked;
 }
 
-module _ (look after : ℕ → Option Node) (es : List KeyedStep) (e : KeyedStep) (n : AreNodes look es) (fresh : entry_at e.key es ≡ None) where
+module _ (look after : ℕ → Option Node) (es : List KeyedStep) (e : KeyedStep) (n : AreNodes look es) (fresh : keyed_at e.key es ≡ None) where
   not_last : (p : Step → Bool) → is_at (last_key None (keys_of p es)) e.key ≡ false
   not_last p = not_at (last_key None (keys_of p es)) e.key (λ t. both_ways (has e.key (keys_of p es)) (absent p e.key es fresh) (last_in (keys_of p es) e.key t))
 
@@ -72,7 +72,7 @@ module _ (look after : ℕ → Option Node) (es : List KeyedStep) (e : KeyedStep
       (rw away (sym (matched_with_new es e n.distinct fresh)))
       refl
 
-  old_node : (y : KeyedStep) → entry_at y.key es ≡ Some y → joined (newcomer es e) e.key y.key (node_of es y) ≡ node_of (es ++ e ∷ []) y
+  old_node : (y : KeyedStep) → keyed_at y.key es ≡ Some y → joined (newcomer es e) e.key y.key (node_of es y) ≡ node_of (es ++ e ∷ []) y
   old_node y found =
       same_node (joined (newcomer es e) e.key y.key (node_of es y)) (node_of (es ++ e ∷ []) y)
       refl
@@ -98,8 +98,8 @@ module _ (look after : ℕ → Option Node) (es : List KeyedStep) (e : KeyedStep
       at : (k : ℕ) → after k ≡ node_at (es ++ e ∷ []) k
       at k =
           ⊎_elim
-          (grind (arith, eqb-true, eq-eqb, entry_push, new_node))
-          (grind (arith, entry_push, entry_key, old_node, cases_entry))
+          (grind (arith, eqb-true, eq-eqb, keyed_push, new_node))
+          (grind (arith, keyed_push, keyed_key, old_node, cases_keyed))
           (cases_Bool (e.key == k))
 
 -- where no later step of a chain comes, none of a part of the chain does
@@ -141,7 +141,7 @@ module _ (look after : ℕ → Option Node) (a b : List KeyedStep) (x : KeyedSte
       (λ (f : p x.step ≡ false). ap (key_after x.key) (chain_empty sends_like sends_alike sends_back x.step whole f))
       (cases_Bool (p x.step))
 
-  kept_node : (y : KeyedStep) → entry_at y.key whole ≡ Some y → (x.key == y.key) ≡ false → parted (node_of whole x) y.key (node_of whole y) ≡ node_of (a ++ b) y
+  kept_node : (y : KeyedStep) → keyed_at y.key whole ≡ Some y → (x.key == y.key) ≡ false → parted (node_of whole x) y.key (node_of whole y) ≡ node_of (a ++ b) y
   kept_node y found apart =
       same_node (parted (node_of whole x) y.key (node_of whole y)) (node_of (a ++ b) y)
       refl
@@ -165,4 +165,4 @@ module _ (look after : ℕ → Option Node) (a b : List KeyedStep) (x : KeyedSte
       }
     where
       at : (k : ℕ) → after k ≡ node_at (a ++ b) k
-      at k = grind (arith, entry_gone, entry_without, entry_key, kept_node, cases_entry, cases_Bool)
+      at k = grind (arith, keyed_gone, keyed_without, keyed_key, kept_node, cases_keyed, cases_Bool)

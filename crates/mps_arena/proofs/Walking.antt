@@ -1,14 +1,14 @@
--- The k-th entry, by a walk from the first.
+-- The k-th keyed step, by a walk from the first.
 use Rattle.std.proofs.Common.{◌≡◌, ℕ, suc, ◌≤◌, List, [], ◌∷◌, length, Option, Some, None, refl, ap, ◌∙◌, arith, ⊎_elim, eq-eqb}
 use Rattle.std.specs.Prelude.{slice_get}
 use Rattle.std.proofs.lemmas.Option.{slice_get_past}
 use Rattle.std.proofs.lemmas.Bool.{both_ways}
 use Rattle.mps_arena.specs.Keys.{is_at, has, first_key, AreDistinct}
-use Rattle.mps_arena.specs.Entries.{KeyedStep, keys_of, any_step, entry_at}
+use Rattle.mps_arena.specs.KeyedSteps.{KeyedStep, keys_of, any_step, keyed_at}
 use Rattle.mps_arena.specs.Neighbours.{next_in}
 use Rattle.mps_arena.proofs.KeyLists.{get_in, get_none, get_after}
-use Rattle.mps_arena.proofs.Chains.{absent, entry_key}
-use Rattle.mps_arena.proofs.Nodes.{cases_entry}
+use Rattle.mps_arena.proofs.Chains.{absent, keyed_key}
+use Rattle.mps_arena.proofs.Nodes.{cases_keyed}
 
 pub all_keys : (es : List KeyedStep) → length (keys_of any_step es) ≡ length es
 all_keys [] = refl
@@ -21,9 +21,9 @@ pub next_place : (es : List KeyedStep) → AreDistinct (keys_of any_step es) →
 next_place es d n k e =
     let c = keys_of any_step es in
     ⊎_elim
-    (λ (z : entry_at k es ≡ None). absurd (both_ways (has k c) (absent any_step k es z) (get_in c n k (ap (λ (o : Option ℕ). is_at o k) e ∙ eq-eqb k k refl))))
-    (grind (arith, entry_key, get_after))
-    (cases_entry (entry_at k es))
+    (λ (z : keyed_at k es ≡ None). absurd (both_ways (has k c) (absent any_step k es z) (get_in c n k (ap (λ (o : Option ℕ). is_at o k) e ∙ eq-eqb k k refl))))
+    (grind (arith, keyed_key, get_after))
+    (cases_keyed (keyed_at k es))
 
 pub none_after : (es : List KeyedStep) (n m : ℕ) → n ≤ m → slice_get (keys_of any_step es) n ≡ None → slice_get (keys_of any_step es) m ≡ None
 none_after es n m h e = grind (arith, get_none, slice_get_past)

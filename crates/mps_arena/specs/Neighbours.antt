@@ -5,16 +5,16 @@ use Rattle.mps_base.specs.Effects.{Effect, Gives, Takes, effect}
 use Rattle.mps_history.specs.Steps.{sends, receives}
 use Rattle.mps_arena.specs.Keys.{key_after, key_before, matched_key}
 use Rattle.mps_arena.specs.Matched.{matched_receipt, matched_source}
-use Rattle.mps_arena.specs.Entries.{KeyedStep, keys_of, any_step, of_role, like_sends, like, unlike, entry_at}
+use Rattle.mps_arena.specs.KeyedSteps.{KeyedStep, keys_of, any_step, of_role, like_sends, like, unlike, keyed_at}
 
 -- of the sends of a pair the first that isn't received
-abbrev pub waiting : List KeyedStep → ℕ → ℕ → Option ℕ
-waiting es p q = slice_get (keys_of (sends p q) es) (length (keys_of (receives p q) es))
+abbrev pub first_waiting : List KeyedStep → ℕ → ℕ → Option ℕ
+first_waiting es p q = slice_get (keys_of (sends p q) es) (length (keys_of (receives p q) es))
 
 -- a receipt that joins is matched with the first send of its pair that isn't received, and there is one; other acts are
 -- matched with nothing
 abbrev pub IsSource : List KeyedStep → ℕ → Effect → Option ℕ → Type 0
-IsSource es p (Takes from slot) source = (source ≡ waiting es from p) × IsSome source
+IsSource es p (Takes from slot) source = (source ≡ first_waiting es from p) × IsSome source
 IsSource es p effect source = source ≡ None
 
 -- what a send or a receipt is matched with
@@ -34,11 +34,11 @@ pub record IsLastAndUnreceived (es : List KeyedStep) (e : KeyedStep) : Type 0 wh
   pub unreceived : IsUnreceived es e (effect e.step.act)
 
 abbrev pub CanGo : List KeyedStep → ℕ → Type 0
-CanGo es k = IsSomeAnd (entry_at k es) (IsLastAndUnreceived es)
+CanGo es k = IsSomeAnd (keyed_at k es) (IsLastAndUnreceived es)
 
--- what is linked to the entry of a key
+-- what is linked to the keyed step of a key
 abbrev pub linked : (KeyedStep → Option ℕ) → List KeyedStep → ℕ → Option ℕ
-linked link es k = option_and_then link (entry_at k es)
+linked link es k = option_and_then link (keyed_at k es)
 
 abbrev pub next_in : List KeyedStep → ℕ → Option ℕ
 next_in es = linked (λ e. key_after e.key (keys_of any_step es)) es
@@ -65,4 +65,4 @@ abbrev pub source_in : List KeyedStep → ℕ → Option ℕ
 source_in es = linked (λ e. matched_source (effect e.step.act) (matched_with es e)) es
 
 abbrev pub id_in : List KeyedStep → ℕ → Option ℕ
-id_in es k = option_map (λ e. e.step.id) (entry_at k es)
+id_in es k = option_map (λ e. e.step.id) (keyed_at k es)

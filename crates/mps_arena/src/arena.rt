@@ -6,8 +6,8 @@ ghost use Rattle.std.specs.List.{filter, find};
 ghost use Rattle.mps_base.specs.Effects.{effect};
 ghost use Rattle.mps_history.specs.Steps.{sends, without};
 ghost use Rattle.mps_arena.specs.Keys.{first_key, last_key};
-ghost use Rattle.mps_arena.specs.Entries.{steps, any_step, of_role, keys_of, entry_at, with_mark, HasSmallPeer};
-ghost use Rattle.mps_arena.specs.Entries.{AreSound};
+ghost use Rattle.mps_arena.specs.KeyedSteps.{steps, any_step, of_role, keys_of, keyed_at, with_mark, HasSmallPeer};
+ghost use Rattle.mps_arena.specs.KeyedSteps.{AreSound};
 ghost use Rattle.mps_arena.specs.Neighbours.{IsSource, CanGo, next_in, prev_in, next_of_role_in, prev_of_role_in};
 ghost use Rattle.mps_arena.specs.Neighbours.{next_send_in, prev_send_in, receipt_in, source_in, id_in};
 
@@ -29,9 +29,9 @@ pub struct Arena {
 }
 
 impl Model for Arena {
-    ghost use Rattle.mps_arena.specs.Entries.{Entries};
+    ghost use Rattle.mps_arena.specs.KeyedSteps.{ArenaState};
 
-    ghost Value = { Entries };
+    ghost Value = { ArenaState };
 
     ghost use Rattle.mps_arena.specs.Private.Views.{arena_value, IsArena};
 
@@ -43,7 +43,7 @@ impl Model for Arena {
 impl Arena {
     /// An arena with no steps. The allocator is kept for later growth.
     pub fn new(alloc: Global) -> Arena
-        ensures entries { result.entries ≡ [] }
+        ensures keyed_steps { result.keyed_steps ≡ [] }
         ensures issued { result.issued ≡ 0 }
     {
         Arena {
@@ -59,7 +59,7 @@ impl Arena {
     pub fn reserve_one(&mut self) -> Result<Key, AllocError>
         ensures ready { OnOk result (IsTrue self.new.is_ready) }
         ensures key { IfOk result (λ key. key ≡ self.new.next_key) }
-        ensures entries { self.new.entries ≡ self.old.entries }
+        ensures keyed_steps { self.new.keyed_steps ≡ self.old.keyed_steps }
         ensures issued { self.new.issued ≡ self.old.issued }
         ensures next { self.new.next_key ≡ self.old.next_key }
         ensures succeeds { IsTrue self.old.is_ready → IsOk result }
@@ -76,18 +76,19 @@ impl Arena {
         requires ready { IsTrue self.old.is_ready }
         requires role { role < 8 }
         requires peer { HasSmallPeer (effect act) }
-        requires source { IsSource self.old.entries role (effect act) source }
+        requires source { IsSource self.old.keyed_steps role (effect act) source }
         ensures number { result ≡ self.old.issued + 1 }
-        ensures fresh { entry_at self.old.next_key self.old.entries ≡ None }
-        ensures entries { self.new.entries ≡ self.old.entries ++ record {
+        ensures fresh { keyed_at self.old.next_key self.old.keyed_steps ≡ None }
+        ensures keyed_steps { self.new.keyed_steps ≡ self.old.keyed_steps ++ record {
           key = self.old.next_key;
           step = record { id = result; role = role; act = act };
           before = before;
           marked = false;
         } ∷ [] }
         ensures issued { self.new.issued ≡ self.old.issued + 1 }
-        ensures sound { AreSound self.new.entries }
+        ensures sound { AreSound self.new.keyed_steps }
     {
+        // found again, so that no caller can give another
         let key = Key::small(self.nodes.vacant_key());
         let id = StepId::new(self.index.len() as u64 + 1);
         let node = self.ends.node_after(Step { id, role, act }, before, source);
@@ -99,13 +100,13 @@ impl Arena {
 
     /// Removes a step that is the last of its role and, if it is a send or a choice, isn't received.
     pub fn remove(&mut self, key: Key) -> Step
-        requires { CanGo self.old.entries key }
-        ensures step { option_map (λ e. e.step) (entry_at key self.old.entries) ≡ Some result }
-        ensures entries { self.new.entries ≡ filter (λ e. not (e.key == key)) self.old.entries }
-        ensures history { steps self.new.entries
-            ≡ without (steps self.old.entries) (λ m. m == result.id) }
+        requires { CanGo self.old.keyed_steps key }
+        ensures step { option_map (λ e. e.step) (keyed_at key self.old.keyed_steps) ≡ Some result }
+        ensures keyed_steps { self.new.keyed_steps ≡ filter (λ e. not (e.key == key)) self.old.keyed_steps }
+        ensures history { steps self.new.keyed_steps
+            ≡ without (steps self.old.keyed_steps) (λ m. m == result.id) }
         ensures issued { self.new.issued ≡ self.old.issued }
-        ensures sound { AreSound self.new.entries }
+        ensures sound { AreSound self.new.keyed_steps }
         // the place is the next to be used again, and what was reserved stays so
         ensures key { self.new.next_key ≡ key }
         ensures ready { IsTrue self.old.is_ready → IsTrue self.new.is_ready }
@@ -117,16 +118,16 @@ impl Arena {
 
     /// How many steps there are.
     pub fn len(&self) -> usize
-        ensures count { result ≡ length self.now.entries }
+        ensures count { result ≡ length self.now.keyed_steps }
         // numbers rise, no key stands twice, and no receipt comes before its send
-        ensures sound { AreSound self.now.entries }
+        ensures sound { AreSound self.now.keyed_steps }
     {
         self.nodes.len()
     }
 
     /// The key of the k-th step, from 0. It takes O(k) time.
     pub fn nth(&self, k: usize) -> Option<Key>
-        ensures { result ≡ slice_get (keys_of any_step self.now.entries) k }
+        ensures { result ≡ slice_get (keys_of any_step self.now.keyed_steps) k }
     {
         if k >= self.len() {
             return None;
@@ -147,49 +148,49 @@ impl Arena {
 
     /// The step right after this one; none where no step has the key.
     pub fn next(&self, key: Key) -> Option<Key>
-        ensures { result ≡ next_in self.now.entries key }
+        ensures { result ≡ next_in self.now.keyed_steps key }
     {
         self.nodes.get(key.place())?.next.key()
     }
 
     /// The step right before this one; none where no step has the key.
     pub fn prev(&self, key: Key) -> Option<Key>
-        ensures { result ≡ prev_in self.now.entries key }
+        ensures { result ≡ prev_in self.now.keyed_steps key }
     {
         self.nodes.get(key.place())?.prev.key()
     }
 
     /// The role's next step; none where no step has the key.
     pub fn next_of_role(&self, key: Key) -> Option<Key>
-        ensures { result ≡ next_of_role_in self.now.entries key }
+        ensures { result ≡ next_of_role_in self.now.keyed_steps key }
     {
         self.nodes.get(key.place())?.next_of_role.key()
     }
 
     /// The role's step before; none where no step has the key.
     pub fn prev_of_role(&self, key: Key) -> Option<Key>
-        ensures { result ≡ prev_of_role_in self.now.entries key }
+        ensures { result ≡ prev_of_role_in self.now.keyed_steps key }
     {
         self.nodes.get(key.place())?.prev_of_role.key()
     }
 
     /// The pair's next send; none where the key is no send's.
     pub fn next_send(&self, key: Key) -> Option<Key>
-        ensures { result ≡ next_send_in self.now.entries key }
+        ensures { result ≡ next_send_in self.now.keyed_steps key }
     {
         self.nodes.get(key.place())?.next_send.key()
     }
 
     /// The pair's send before; none where the key is no send's.
     pub fn prev_send(&self, key: Key) -> Option<Key>
-        ensures { result ≡ prev_send_in self.now.entries key }
+        ensures { result ≡ prev_send_in self.now.keyed_steps key }
     {
         self.nodes.get(key.place())?.prev_send.key()
     }
 
     /// The receipt of a send, if it was received; none where the key is no send's.
     pub fn receipt(&self, key: Key) -> Option<Key>
-        ensures { result ≡ receipt_in self.now.entries key }
+        ensures { result ≡ receipt_in self.now.keyed_steps key }
     {
         let node = self.nodes.get(key.place())?;
         receipt_at(&node.step.act, node.matched)
@@ -197,7 +198,7 @@ impl Arena {
 
     /// The send of a receipt; none where the key is no receipt's.
     pub fn source(&self, key: Key) -> Option<Key>
-        ensures { result ≡ source_in self.now.entries key }
+        ensures { result ≡ source_in self.now.keyed_steps key }
     {
         let node = self.nodes.get(key.place())?;
         source_at(&node.step.act, node.matched)
@@ -206,23 +207,23 @@ impl Arena {
     /// The step's number; none where no step has the key. So it tells whether `get`, `before` and `marked` may be
     /// called.
     pub fn id(&self, key: Key) -> Option<StepId>
-        ensures { result ≡ id_in self.now.entries key }
+        ensures { result ≡ id_in self.now.keyed_steps key }
     {
         Some(self.nodes.get(key.place())?.step.id)
     }
 
     /// The step of the key.
     pub fn get(&self, key: Key) -> &Step
-        requires { IsSome (entry_at key self.now.entries) }
-        ensures { option_map (λ e. e.step) (entry_at key self.now.entries) ≡ Some result.now }
+        requires { IsSome (keyed_at key self.now.keyed_steps) }
+        ensures { option_map (λ e. e.step) (keyed_at key self.now.keyed_steps) ≡ Some result.now }
     {
         &self.nodes[key.place()].step
     }
 
     /// What was there before the step of the key.
     pub fn before(&self, key: Key) -> Before
-        requires { IsSome (entry_at key self.now.entries) }
-        ensures { option_map (λ e. e.before) (entry_at key self.now.entries) ≡ Some result }
+        requires { IsSome (keyed_at key self.now.keyed_steps) }
+        ensures { option_map (λ e. e.before) (keyed_at key self.now.keyed_steps) ≡ Some result }
     {
         let node = &self.nodes[key.place()];
         Before {
@@ -233,15 +234,15 @@ impl Arena {
 
     /// Whether the step of the key is marked.
     pub fn marked(&self, key: Key) -> bool
-        requires { IsSome (entry_at key self.now.entries) }
-        ensures { option_map (λ e. e.marked) (entry_at key self.now.entries) ≡ Some result }
+        requires { IsSome (keyed_at key self.now.keyed_steps) }
+        ensures { option_map (λ e. e.marked) (keyed_at key self.now.keyed_steps) ≡ Some result }
     {
         self.nodes[key.place()].marked
     }
 
     /// Marks the step of the key, or removes its mark. Where no step has the key, nothing changes.
     pub fn set_mark(&mut self, key: Key, marked: bool)
-        ensures entries { self.new.entries ≡ map (with_mark key marked) self.old.entries }
+        ensures keyed_steps { self.new.keyed_steps ≡ map (with_mark key marked) self.old.keyed_steps }
         ensures issued { self.new.issued ≡ self.old.issued }
         ensures ready { self.new.is_ready ≡ self.old.is_ready }
         ensures key { self.new.next_key ≡ self.old.next_key }
@@ -252,21 +253,21 @@ impl Arena {
     /// The key of the step that has the number.
     pub fn by_id(&self, id: StepId) -> Option<Key>
         ensures { result
-            ≡ option_map (λ e. e.key) (find (λ e. e.step.id == id) self.now.entries) }
+            ≡ option_map (λ e. e.key) (find (λ e. e.step.id == id) self.now.keyed_steps) }
     {
         key_of(&self.nodes, self.index.as_slice(), id)
     }
 
     /// The oldest step.
     pub fn first(&self) -> Option<Key>
-        ensures { result ≡ first_key (keys_of any_step self.now.entries) }
+        ensures { result ≡ first_key (keys_of any_step self.now.keyed_steps) }
     {
         self.ends.first.key()
     }
 
     /// The newest step.
     pub fn last(&self) -> Option<Key>
-        ensures { result ≡ last_key None (keys_of any_step self.now.entries) }
+        ensures { result ≡ last_key None (keys_of any_step self.now.keyed_steps) }
     {
         self.ends.last.key()
     }
@@ -274,7 +275,7 @@ impl Arena {
     /// The newest step of the role.
     pub fn last_of(&self, role: Role) -> Option<Key>
         requires { role < 8 }
-        ensures { result ≡ last_key None (keys_of (of_role role) self.now.entries) }
+        ensures { result ≡ last_key None (keys_of (of_role role) self.now.keyed_steps) }
     {
         self.ends.last_of[role.index()].key()
     }
@@ -283,7 +284,7 @@ impl Arena {
     pub fn last_send(&self, from: Role, to: Role) -> Option<Key>
         requires from { from < 8 }
         requires to { to < 8 }
-        ensures { result ≡ last_key None (keys_of (sends from to) self.now.entries) }
+        ensures { result ≡ last_key None (keys_of (sends from to) self.now.keyed_steps) }
     {
         self.ends.last_send[from.index() * 8 + to.index()].key()
     }

@@ -4,7 +4,7 @@ ghost use Rattle.std.specs.Prelude.{is_none, if◌then◌else◌};
 ghost use Rattle.std.specs.Option.{option_or};
 ghost use Rattle.mps_base.specs.Effects.{effect};
 ghost use Rattle.mps_arena.specs.Private.Ends.{receiver, end_at, with_end};
-ghost use Rattle.mps_arena.specs.Entries.{IsSmall};
+ghost use Rattle.mps_arena.specs.KeyedSteps.{IsSmall};
 
 use crate::node::{Before, Key, Link, Node};
 use mps_base::{Act, Step};

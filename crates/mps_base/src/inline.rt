@@ -1,5 +1,5 @@
 //! Short words, kept inline.
-ghost use Rattle.std.specs.Prelude.{◌≡◌, ◌↔◌, ◌<◌, ◌≤◌, [], ◌∷◌, ◌++◌, length, IsTrue};
+ghost use Rattle.std.specs.Prelude.{◌≡◌, ◌↔◌, ◌<◌, ◌≤◌, [], ◌∷◌, ◌++◌, length, take, IsTrue};
 
 use std::marker::Model;
 
@@ -75,6 +75,14 @@ impl Inline {
                 .iter()
                 .zip(bytes)
                 .all(|pair| pair.0 == pair.1)
+    }
+
+    /// Them, and bytes after them of which nothing is promised: all 32 are copied at once.
+    #[inline(always)]
+    pub(crate) fn padded(&self) -> [u8; MAX_WORD]
+        ensures { take (length self.now) result ≡ self.now }
+    {
+        self.bytes
     }
 
     /// Them, from the first to the last.

@@ -1,5 +1,5 @@
 //! Names, kept inline.
-ghost use Rattle.std.specs.Prelude.{◌≡◌, ◌↔◌, ◌<◌, ◌≤◌, length, slice_index, IsTrue, IsSome, IfSome};
+ghost use Rattle.std.specs.Prelude.{◌≡◌, ◌↔◌, ◌<◌, ◌≤◌, length, take, slice_index, IsTrue, IsSome, IfSome};
 ghost use Rattle.std.specs.List.{AllByRecursion};
 ghost use Rattle.std.specs.Str.{bytes_eq};
 ghost use Rattle.std.specs.Cmp.{partial_equiv_from_equiv};
@@ -79,6 +79,16 @@ impl Name {
         ensures name { IsName self.now }
     {
         self.0.as_bytes()
+    }
+
+    /// Its bytes, and bytes after them of which nothing is promised. All 32 are copied at once, which takes less than to
+    /// copy as many as it has.
+    #[inline(always)]
+    pub fn padded(&self) -> [u8; MAX_NAME]
+        ensures bytes { take (length self.now) result ≡ self.now }
+        ensures name { IsName self.now }
+    {
+        self.0.padded()
     }
 
     /// Whether it is spelled like that name.

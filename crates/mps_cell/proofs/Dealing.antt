@@ -37,9 +37,9 @@ module _ (o : Opening) (s : State RoomState SeatView) (r : IsJournaled o s) (ws 
   at_home : r.away ≡ None
   at_home = grind (arith, get_elem?)
 
-  pub ends_as : y ≡ room_of o r.log
-  ends_as = let h = homes 0 (room_of o r.log) (ap (λ (l : List (maybe.Option RoomState)). get_elem? l 0) (r.homes ∙ ap (λ (a : Option ℕ). home_of o a r.log ∷ []) at_home)) in
-      maybe.some-injective y (room_of o r.log) (sym room ∙ h)
+  pub ends_as : y ≡ room_of o r.journal
+  ends_as = let h = homes 0 (room_of o r.journal) (ap (λ (l : List (maybe.Option RoomState)). get_elem? l 0) (r.homes ∙ ap (λ (a : Option ℕ). home_of o a r.journal ∷ []) at_home)) in
+      maybe.some-injective y (room_of o r.journal) (sym room ∙ h)
 
   pub closes : Closes o y
   closes = record { names = ap (λ (m : RoomState). m.names) ends_as; types = ap (λ (m : RoomState). m.types) ends_as; legal = subst (λ (m : RoomState). IsLegalIn o m.journal) (sym ends_as) r.legal }
@@ -56,7 +56,7 @@ shown_in j m free all = (subst (λ (x : M). AllShow j x.0.parts) free all).0
 
 pub closed_with : (o : Opening) (id : ℕ) (m : M) (t : TableId) (ws : List ℕ) (xs : List RoomState) (w : ℕ) (y : RoomState) → IsResting m → Final (Seen (IsJournaled o) id m.0) ws xs → get_elem? ws 0 ≡ maybe.some w → w % 2 ≡ 0 → get_elem? xs 0 ≡ maybe.some y
     → Closes o y × HasAllOf (known t m.0) y.journal
-closed_with o id m t ws xs w y free f word even room = let r = f.1.0 in grind (arith, ends_as o f.0 r ws xs w y f.2 f.4 word even room, shown_in r.log m free (r.seats id m.0 f.1.1).shows, closes o f.0 r ws xs w y f.2 f.4 word even room)
+closed_with o id m t ws xs w y free f word even room = let r = f.1.0 in grind (arith, ends_as o f.0 r ws xs w y f.2 f.4 word even room, shown_in r.journal m free (r.seats id m.0 f.1.1).shows, closes o f.0 r ws xs w y f.2 f.4 word even room)
 
 -- the seat of a role that was dealt is a fresh_part's
 pub fresh_seat : (o : Opening) (i role : ℕ) (m : M) → m ≡ resting (fresh_part o i) false → role ≡ i → m ≡ resting (fresh_part (part_of m.0.parts).opening role) false

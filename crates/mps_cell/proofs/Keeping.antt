@@ -23,26 +23,26 @@ M = Me RoomState SeatView
 home_at_even : (a : Option ℕ) (j : List Entry) → word_of a j % 2 ≡ 0 → a ≡ None
 home_at_even a j e = grind arith
 
-word_is : (o : Opening) (s : St) (r : IsJournaled o s) → get_or s.words 0 0 ≡ word_of r.away r.log
+word_is : (o : Opening) (s : St) (r : IsJournaled o s) → get_or s.words 0 0 ≡ word_of r.away r.journal
 word_is o s r = ap (λ ws. get_or ws 0 0) r.words
 
 -- what a seat is told of the journal
-told : (o : Opening) (s : St) (r : IsJournaled o s) (id : ℕ) (v : SeatView) → get_elem? s.views id ≡ maybe.some v → ShowsLength v (get_or s.words 0 0) r.log
+told : (o : Opening) (s : St) (r : IsJournaled o s) (id : ℕ) (v : SeatView) → get_elem? s.views id ≡ maybe.some v → ShowsLength v (get_or s.words 0 0) r.journal
 told o s r id v at = grind arith
 
 -- a step that looks, and changes no word
 unmoved : (o : Opening) (s : St) (r : IsJournaled o s) (id : ℕ) (me : M) (b : Bool) → get_elem? s.views id ≡ maybe.some me.0
     → IsJournaled o (stepped s 0 (get_or s.words 0 0) id me.1 (looked (get_or s.words 0 0) b me.0) keeps)
-unmoved o s r id me b at = let n : ℕ = get_or s.words 0 0 in let mine = r.seats id me.0 at in let t : n / 2 ≡ length r.log = sym (told o s r id me.0 at).0 in record {
-  log = r.log;
+unmoved o s r id me b at = let n : ℕ = get_or s.words 0 0 in let mine = r.seats id me.0 at in let t : n / 2 ≡ length r.journal = sym (told o s r id me.0 at).0 in record {
+  journal = r.journal;
   away = r.away;
   owner = r.owner;
   legal = r.legal;
   words = ap (λ ws. set ws 0 (get_or ws 0 0)) r.words;
   homes = r.homes;
   placed = λ t e. let p = r.placed t e in omega (arith, length-set s.views id (looked n b me.0));
-  seats = seats_stay (Rests o r.log r.away r.owner) s.views id (looked n b me.0) record {
-    shows = raise_all r.log (n / 2) me.0.parts (omega arith) mine.shows;
+  seats = seats_stay (Rests o r.journal r.away r.owner) s.views id (looked n b me.0) record {
+    shows = raise_all r.journal (n / 2) me.0.parts (omega arith) mine.shows;
     here = raise_here o r.owner id (n / 2) me.0.parts mine.here;
     apart = raise_apart (n / 2) me.0.parts mine.apart;
     noted = mine.noted;
@@ -52,7 +52,7 @@ unmoved o s r id me b at = let n : ℕ = get_or s.words 0 0 in let mine = r.seat
 
 pub looks : (o : Opening) (slots id : ℕ) (me : M) → Allows (IsJournaled o) slots id me 0 (λ n. n) (Looks (step slots 0 0 0 maybe.none) me)
 looks o slots id me s r _ at _ = let n : ℕ = get_or s.words 0 0 in
-    (looked n (n % 2 == 1) me.0, keeps, tt, unmoved o s r id me (n % 2 == 1) at, ((r.log, told o s r id me.0 at), refl))
+    (looked n (n % 2 == 1) me.0, keeps, tt, unmoved o s r id me (n % 2 == 1) at, ((r.journal, told o s r id me.0 at), refl))
 
 noted_else : (t i : ℕ) (j : List Entry) → i ≢ t → noted_by (Some t) i j ≡ None
 noted_else t i j apart = ap (λ (b : Bool). if b then Some j else None) (ne_eqb t i (λ e. apart (sym e)))
@@ -66,32 +66,32 @@ tries o slots id me p ps old new some_part even next s r _ at _ = let n : ℕ = 
     let F : ℕ → Type 0 = λ k. (w : SeatView) × (a : Act RoomState) × Valid s.homes me.1 a × IsJournaled o (stepped s 0 k id me.1 w a)
     × Tries (step slots 0 old new maybe.none) me n (w, carried_after me.1 a) in
     exchanged n old new F
-    (λ hit. let w : SeatView = took r.log me.0 in let y : RoomState = room_of (part_of me.0.parts).opening r.log in
+    (λ hit. let w : SeatView = took r.journal me.0 in let y : RoomState = room_of (part_of me.0.parts).opening r.journal in
     let here : AllHere o r.owner id (p ∷ ps) = subst (AllHere o r.owner id) some_part mine.here in
     let opening : (part_of me.0.parts).opening ≡ o = ap (λ l. (part_of l).opening) some_part ∙ here.0.0 in
-    let out : r.away ≡ None = home_at_even r.away r.log (ap (λ (k : ℕ). k % 2) (sym (word_is o s r) ∙ hit) ∙ even) in
-    let homes : s.homes ≡ maybe.some (room_of o r.log) ∷ [] = r.homes ∙ ap (λ (a : Option ℕ). home_of o a r.log ∷ []) out in
-    let word : n ≡ 2 * length r.log = word_is o s r ∙ ap (λ (a : Option ℕ). word_of a r.log) out in (
+    let out : r.away ≡ None = home_at_even r.away r.journal (ap (λ (k : ℕ). k % 2) (sym (word_is o s r) ∙ hit) ∙ even) in
+    let homes : s.homes ≡ maybe.some (room_of o r.journal) ∷ [] = r.homes ∙ ap (λ (a : Option ℕ). home_of o a r.journal ∷ []) out in
+    let word : n ≡ 2 * length r.journal = word_is o s r ∙ ap (λ (a : Option ℕ). word_of a r.journal) out in (
       w,
       takes 0 y,
-      ap (λ (hs : List (maybe.Option RoomState)). get_elem? hs 0) homes ∙ ap (λ (m : Opening). maybe.some (maybe.some (room_of m r.log))) (sym opening),
+      ap (λ (hs : List (maybe.Option RoomState)). get_elem? hs 0) homes ∙ ap (λ (m : Opening). maybe.some (maybe.some (room_of m r.journal))) (sym opening),
       record {
-        log = r.log;
+        journal = r.journal;
         away = Some id;
         owner = r.owner;
         legal = r.legal;
-        words = ap (λ (ws : List ℕ). set ws 0 new) r.words ∙ ap (λ (k : ℕ). k ∷ []) (let z : new ≡ 2 * length r.log + 1 = omega arith in z);
+        words = ap (λ (ws : List ℕ). set ws 0 new) r.words ∙ ap (λ (k : ℕ). k ∷ []) (let z : new ≡ 2 * length r.journal + 1 = omega arith in z);
         homes = ap (λ (hs : List (maybe.Option RoomState)). set hs 0 maybe.none) homes;
         placed = λ t e. let i = inside s.views id me.0 at in let same : id ≡ t = cc in omega (arith, length-set s.views id w);
-        seats = seats_stay (Rests o r.log (Some id) r.owner) s.views id w record {
+        seats = seats_stay (Rests o r.journal (Some id) r.owner) s.views id w record {
           shows = mine.shows;
           here = mine.here;
           apart = mine.apart;
-          noted = sym (noted_here id r.log);
+          noted = sym (noted_here id r.journal);
         } (grind (arith, noted_else));
         rests = λ role some. still_rests s.views id me.0 w role (r.owner role) at (λ h. h) (r.rests role some);
       },
-      ((λ _. (r.log, told o s r id me.0 at, refl)), λ differs. absurd (differs hit)),
+      ((λ _. (r.journal, told o s r id me.0 at, refl)), λ differs. absurd (differs hit)),
     ))
     (grind (arith, unmoved o s r id me late, told o s r id me.0))
 
@@ -102,13 +102,13 @@ pub gives_back : (o : Opening) (slots id : ℕ) (p : Part) (k j : List Entry) (n
     → Allows (IsJournaled o) slots id (with_room p k (room_of p.opening j)) 0 (λ _. new) (λ _. Gives (step slots 0 new 0 maybe.none) (with_room p k (room_of p.opening j)) new)
 gives_back o slots id p k j new grows legal is s r _ at _ =
     let v : SeatView = (with_room p k (room_of p.opening j)).0 in let w : SeatView = gave j v in let mine = r.seats id v at in
-    let was = noted_is r.away id k r.log mine.noted in let opening : p.opening ≡ o = mine.here.0.0 in
+    let was = noted_is r.away id k r.journal mine.noted in let opening : p.opening ≡ o = mine.here.0.0 in
     let now : IsLegalIn o j = subst (λ (m : Opening). IsLegalIn m j) opening legal in (
       w,
       gives,
       tt,
       record {
-        log = j;
+        journal = j;
         away = None;
         owner = r.owner;
         legal = now;
@@ -124,7 +124,7 @@ gives_back o slots id p k j new grows legal is s r _ at _ =
           shows = grow_all o r.owner i p.role k j grows now d.parts old.here (elsewhere o r.owner p.role id i mine.here.0.1 other d.parts old.here) (subst (λ (l : List Entry). AllShow l d.parts) (sym was.1) old.shows);
           here = old.here;
           apart = old.apart;
-          noted = old.noted ∙ (ap (λ (a : Option ℕ). noted_by a i r.log) was.0 ∙ noted_else id i r.log other);
+          noted = old.noted ∙ (ap (λ (a : Option ℕ). noted_by a i r.journal) was.0 ∙ noted_else id i r.journal other);
         });
         rests = λ role some. still_rests s.views id v w role (r.owner role) at (λ h. h) (r.rests role some);
       },
@@ -146,12 +146,12 @@ pub deals : (o : Opening) (id : ℕ) (v : SeatView) (p : Part) (ps : List Part) 
 deals o id v p ps is s r at =
     let mine = r.seats id v at in let n : ℕ = length s.views in let left : SeatView = without_first v in let right : SeatView = first_alone v in let vs : List SeatView = set s.views id left in
     let n_is : length vs ≡ n = length-set s.views id left in
-    let to : ℕ → ℕ = moved r.owner p.role n in let K : ℕ → SeatView → Type 0 = Rests o r.log r.away to in
-    let shown : AllShow r.log (p ∷ ps) = subst (AllShow r.log) is mine.shows in let here : AllHere o r.owner id (p ∷ ps) = subst (AllHere o r.owner id) is mine.here in
+    let to : ℕ → ℕ = moved r.owner p.role n in let K : ℕ → SeatView → Type 0 = Rests o r.journal r.away to in
+    let shown : AllShow r.journal (p ∷ ps) = subst (AllShow r.journal) is mine.shows in let here : AllHere o r.owner id (p ∷ ps) = subst (AllHere o r.owner id) is mine.here in
     let apart : AllApart (p ∷ ps) = subst AllApart is mine.apart in
     let lefts : left.parts ≡ ps = ap without_first_part is in let rights : right.parts ≡ p ∷ [] = ap first_part_alone is in
     let new : K n right = grind (arith, moved_here, unnoted) in record {
-      log = r.log;
+      journal = r.journal;
       away = r.away;
       owner = to;
       legal = r.legal;
@@ -160,11 +160,11 @@ deals o id v p ps is s r at =
       placed = λ t e. let h = r.placed t e in omega (arith, n_is, length-append vs (right ∷ []));
       seats = λ j d e. ⊎_elim
           (λ there. seats_stay K s.views id left record {
-            shows = subst (AllShow r.log) (sym lefts) shown.1;
+            shows = subst (AllShow r.journal) (sym lefts) shown.1;
             here = subst (AllHere o to id) (sym lefts) (still_here o r.owner p.role n id ps apart.0 here.1);
             apart = subst AllApart (sym lefts) apart.1;
             noted = mine.noted;
-          } (λ i x differs at_i. others_stay o r.log r.away r.owner p.role n id here.0.1 i x differs (r.seats i x at_i)) j d there)
+          } (λ i x differs at_i. others_stay o r.journal r.away r.owner p.role n id here.0.1 i x differs (r.seats i x at_i)) j d there)
           (λ (last : (j ≡ length vs) × (right ≡ d)). subst (λ (x : ℕ × SeatView). K x.0 x.1) (λ i. (sym (last.0 ∙ n_is) i, last.1 i)) new)
           (at_end vs right d j e);
       rests = λ role some. rests_moved (vs ++ right ∷ []) r.owner p.role n role
@@ -177,10 +177,10 @@ pub divides : (o : Opening) (id : ℕ) (p q : Part) (b : Bool) → Splits (IsJou
 divides o id p q b s r at =
     let v : SeatView = (pair p q b).0 in let mine = r.seats id v at in let n : ℕ = length s.views in let left : SeatView = (resting p b).0 in let right : SeatView = (resting q false).0 in let vs : List SeatView = set s.views id left in
     let n_is : length vs ≡ n = length-set s.views id left in
-    let to : ℕ → ℕ = moved r.owner q.role n in let K : ℕ → SeatView → Type 0 = Rests o r.log r.away to in
+    let to : ℕ → ℕ = moved r.owner q.role n in let K : ℕ → SeatView → Type 0 = Rests o r.journal r.away to in
     let differs : p.role ≢ q.role = λ e. mine.apart.0.0 (sym e) in
     let new : K n right = grind (arith, moved_here, unnoted) in record {
-      log = r.log;
+      journal = r.journal;
       away = r.away;
       owner = to;
       legal = r.legal;
@@ -193,7 +193,7 @@ divides o id p q b s r at =
             here = still_here o r.owner q.role n id (p ∷ []) (differs, tt) (mine.here.0, tt);
             apart = (tt, tt);
             noted = mine.noted;
-          } (λ i x other at_i. others_stay o r.log r.away r.owner q.role n id mine.here.1.0.1 i x other (r.seats i x at_i)) j d there)
+          } (λ i x other at_i. others_stay o r.journal r.away r.owner q.role n id mine.here.1.0.1 i x other (r.seats i x at_i)) j d there)
           (λ (last : (j ≡ length vs) × (right ≡ d)). subst (λ (x : ℕ × SeatView). K x.0 x.1) (λ i. (sym (last.0 ∙ n_is) i, last.1 i)) new)
           (at_end vs right d j e);
       rests = λ role some. rests_moved (vs ++ right ∷ []) r.owner q.role n role
@@ -207,9 +207,9 @@ gathers o id other p q b b' s r at apart at' =
     let both : SeatView = (pair p q b).0 in let vs : List SeatView = set s.views id both in
     let there : get_elem? s.views other ≡ maybe.some (resting q b').0 = sym (set_else s.views id other both apart) ∙ at' in
     let mine = r.seats id (resting p b).0 at in let its = r.seats other (resting q b').0 there in
-    let to : ℕ → ℕ = moved r.owner q.role id in let K : ℕ → SeatView → Type 0 = Rests o r.log r.away to in
+    let to : ℕ → ℕ = moved r.owner q.role id in let K : ℕ → SeatView → Type 0 = Rests o r.journal r.away to in
     let differs : p.role ≢ q.role = λ e. apart (sym its.here.0.1 ∙ (sym (ap r.owner e) ∙ mine.here.0.1)) in record {
-      log = r.log;
+      journal = r.journal;
       away = r.away;
       owner = to;
       legal = r.legal;
@@ -219,7 +219,7 @@ gathers o id other p q b b' s r at apart at' =
       seats = seats_stay K vs other spent record { shows = tt; here = tt; apart = tt; noted = its.noted }
           (λ j d not_other at_j. seats_stay (λ i x. i ≢ other → K i x) s.views id both
           (grind (arith, ne_eqb, moved_here))
-          (λ i x _ at_i away. others_stay o r.log r.away r.owner q.role id other its.here.0.1 i x away (r.seats i x at_i)) j d at_j not_other);
+          (λ i x _ at_i away. others_stay o r.journal r.away r.owner q.role id other its.here.0.1 i x away (r.seats i x at_i)) j d at_j not_other);
       rests = λ role some.
           let here : get_elem? vs id ≡ maybe.some both = set_here s.views id both (inside s.views id (resting p b).0 at) in
           let first : RestsOn vs role (r.owner role) = grind (arith, still_rests) in
@@ -254,7 +254,7 @@ first_rests o seat v e = grind (arith, newcomers_show, newcomers_here, newcomers
 
 pub opens : (o : Opening) → IsJournaled o (opening (0 ∷ []) (room_of o [] ∷ []) (first_view o))
 opens o = record {
-  log = [];
+  journal = [];
   away = None;
   owner = λ _. 0;
   legal = record { few = omega arith; each = tt };

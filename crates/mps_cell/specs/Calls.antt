@@ -8,7 +8,7 @@ use Rattle.mps_room.specs.Callers.{entry, entries_of}
 use Rattle.mps_room.specs.Journal.{is_accepted, grown}
 use Rattle.mps_room.specs.declared.entry.Entry.{Entry}
 use Rattle.mps_room.specs.declared.numbers.Numbered.{Numbered}
-use Rattle.mps_cell.specs.Openings.{Opening, IsLegalIn, IsReplyIn, reply_in}
+use Rattle.mps_cell.specs.Openings.{Opening, IsLegalIn, MayAnswerIn, answer_after}
 use Rattle.mps_cell.specs.Views.{Part, SeatView, part_of}
 use Rattle.mps_cell.specs.Rule.{StartsWith}
 
@@ -52,21 +52,21 @@ pub record IsSamePass (k k' : Known) : Type 0 where
   pub role : k'.role ≡ k.role
 
 -- an accepted command stands after a journal that begins with all that was seen, and that is no shorter than was told;
--- its answer is the reply after that journal
+-- its answer is the one that is due after that journal
 pub record IsAccepted (k : Known) (c : Command) (a : Answer) (k' : Known) : Type 0 where
   pub before : List Entry
   pub begins : StartsWith before k.seen
   pub reached : k.reported ≤ length before
-  pub answer : a ≡ reply_in k.opening before k.role c
+  pub answer : a ≡ answer_after k.opening before k.role c
   pub joined : k'.seen ≡ before ++ entry k.role c a ∷ []
   pub made : k'.made ≡ k.made ++ entry k.role c a ∷ []
 
 -- any other command leaves a journal that begins with all that was seen, and that is no shorter than was told; its
--- answer is the reply after it, unless memory runs out
+-- answer is the one that is due after it, unless memory runs out
 pub record IsNotAccepted (k : Known) (c : Command) (a : Answer) (k' : Known) : Type 0 where
   pub begins : StartsWith k'.seen k.seen
   pub reached : k.reported ≤ length k'.seen
-  pub answer : IsReplyIn k.opening k'.seen k.role c a
+  pub answer : MayAnswerIn k.opening k'.seen k.role c a
   pub made : k'.made ≡ k.made
 
 -- what one call tells: the journal that it shows is legal, has of the role just what the pass made, and is all that

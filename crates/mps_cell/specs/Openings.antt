@@ -3,7 +3,7 @@ use Rattle.std.specs.Prelude.{ℕ, List, []}
 use Rattle.mps_command.specs.declared.answer.Answer.{Answer}
 use Rattle.mps_command.specs.declared.command.Command.{Command}
 use Rattle.mps_local.specs.Local.{LocalType}
-use Rattle.mps_room.specs.Journal.{reply, IsReply, IsLegal}
+use Rattle.mps_room.specs.Journal.{answer_to, MayAnswer, IsLegal}
 use Rattle.mps_room.specs.RoomState.{RoomState}
 use Rattle.mps_room.specs.declared.entry.Entry.{Entry}
 
@@ -26,12 +26,12 @@ abbrev pub IsLegalIn : Opening → List Entry → Type 0
 IsLegalIn o j = IsLegal o.names o.types j
 
 -- the answer to the role's command after the journal
-abbrev pub reply_in : Opening → List Entry → ℕ → Command → Answer
-reply_in o j role c = reply o.names o.types j role c
+abbrev pub answer_after : Opening → List Entry → ℕ → Command → Answer
+answer_after o j role c = answer_to o.names o.types j role c
 
 -- the answer is that one, but memory may run out where it refuses nothing
-abbrev pub IsReplyIn : Opening → List Entry → ℕ → Command → Answer → Type 0
-IsReplyIn o j role c a = IsReply a (reply_in o j role c)
+abbrev pub MayAnswerIn : Opening → List Entry → ℕ → Command → Answer → Type 0
+MayAnswerIn o j role c a = MayAnswer a (answer_after o j role c)
 
 -- an opening without roles
 abbrev pub no_opening : Opening

@@ -81,14 +81,14 @@ home_of o (Some t) j = maybe.none
 -- more the room is out, and one seat alone notes it. What each seat knows is true of it. Each role rests on one seat,
 -- and on no other
 pub record IsJournaled (o : Opening) (s : State RoomState SeatView) : Type 0 where
-  pub log : List Entry
+  pub journal : List Entry
   pub away : Option ℕ
   pub owner : ℕ → ℕ
-  pub legal : IsLegalIn o log
-  pub words : s.words ≡ word_of away log ∷ []
-  pub homes : s.homes ≡ home_of o away log ∷ []
+  pub legal : IsLegalIn o journal
+  pub words : s.words ≡ word_of away journal ∷ []
+  pub homes : s.homes ≡ home_of o away journal ∷ []
   pub placed : (t : ℕ) → away ≡ Some t → t < length s.views
-  pub seats : (seat : ℕ) (v : SeatView) → get_elem? s.views seat ≡ maybe.some v → Rests o log away owner seat v
+  pub seats : (seat : ℕ) (v : SeatView) → get_elem? s.views seat ≡ maybe.some v → Rests o journal away owner seat v
   pub rests : (role : ℕ) → role < length o.types → RestsOn s.views role (owner role)
 
 -- ---- steps

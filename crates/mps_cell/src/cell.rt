@@ -5,10 +5,10 @@ ghost use Rattle.mps_cell.specs.Views.{first_view};
 ghost use Rattle.mps_cell.specs.Cells.{fresh_below};
 
 use crate::origin::Origin;
-use crate::pass::{Leave, Pass, Table as Shared};
+use crate::pass::{Leave, Pass, SharedTable};
 use crate::rule::{Journaled, SplitFirst};
 use crate::view::SeatView;
-use atomic_table::{Refused, Seat, Table};
+use atomic_table::{Refused as NotMade, Seat, Table};
 use mps_base::{Role, Roles};
 use mps_room::Room;
 use mps_session::Session;
@@ -136,7 +136,7 @@ impl Cell {
                 waiting: AtomicU64::new(0),
                 alloc,
             }),
-            Err(Refused { slots: _ }) => Err(AllocError),
+            Err(NotMade { slots: _ }) => Err(AllocError),
         }
     }
 
@@ -231,7 +231,7 @@ impl Cell {
 
 // A pass for each of so many roles. Each takes the part of its role from the first seat.
 fn hand_out<'a>(
-    shared: &'a Shared,
+    shared: &'a SharedTable,
     waiting: &'a AtomicU64,
     names: &'a Roles,
     mut first: Seat<Room, SeatView>,

@@ -2,7 +2,7 @@
 ghost use Rattle.std.specs.Prelude.{◌≡◌};
 ghost use Rattle.mps_cell.specs.Private.Rule.{IsResting, Met};
 
-use crate::pass::Table;
+use crate::pass::SharedTable;
 use crate::rule::{Divide, Gather, Look, SplitFirst};
 use crate::view::SeatView;
 use atomic_table::Seat;
@@ -10,7 +10,7 @@ use mps_room::Room;
 
 // The first seat has both parts for one look, and then the second has its own back.
 pub(crate) fn meet_seats(
-    shared: &Table,
+    shared: &SharedTable,
     first: &mut Seat<Room, SeatView>,
     second: &mut Seat<Room, SeatView>,
 )

@@ -23,12 +23,12 @@ use std::sync::atomic::AtomicU64;
 use thiserror::Error;
 
 /// The table of a cell, as its passes share it.
-pub type Table = Shared<Room, SeatView, Origin, Journaled>;
+pub type SharedTable = Shared<Room, SeatView, Origin, Journaled>;
 
 /// The one pass of a role, with which it calls its cell. It may go to any thread.
 #[derive(Drop)]
 pub struct Pass<'a> {
-    shared: &'a Table,
+    shared: &'a SharedTable,
     // 1 where a call may sleep until the room is back
     waiting: &'a AtomicU64,
     names: &'a Roles,
@@ -109,7 +109,7 @@ impl Leave {
 impl<'a> Pass<'a> {
     // The pass of a role that rests on this seat, as it is dealt.
     pub(crate) fn fresh(
-        shared: &'a Table,
+        shared: &'a SharedTable,
         waiting: &'a AtomicU64,
         names: &'a Roles,
         seat: Seat<Room, SeatView>,
@@ -185,7 +185,7 @@ impl<'a> Pass<'a> {
     }
 
     /// How many entries the journal has by now. It never waits, and does not allocate.
-    pub fn front(&mut self) -> u64
+    pub fn length(&mut self) -> u64
         ensures told { LearnsLength self.old result self.new }
     {
         let word = self.shared.load::<Look>(&mut self.seat, 0);

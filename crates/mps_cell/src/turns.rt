@@ -1,12 +1,12 @@
 //! A seat takes the room, answers a command in it, and gives it back.
 ghost use Rattle.std.specs.Prelude.{◌≡◌, ◌<◌, ◌∷◌, [], length, MatchBool};
 ghost use Rattle.mps_room.specs.Journal.{grown};
-ghost use Rattle.mps_cell.specs.Openings.{IsLegalIn, IsReplyIn, room_of};
+ghost use Rattle.mps_cell.specs.Openings.{IsLegalIn, MayAnswerIn, room_of};
 ghost use Rattle.mps_cell.specs.Views.{part_of};
 ghost use Rattle.mps_cell.specs.Rule.{journal_in};
 ghost use Rattle.mps_cell.specs.Private.Rule.{IsResting, Took, Missed, HasRoom, HasAnswered, Gave};
 
-use crate::pass::Table;
+use crate::pass::SharedTable;
 use crate::rule::{Give, Look, Take};
 use crate::view::SeatView;
 use atomic_table::Seat;
@@ -21,7 +21,7 @@ use std::thread::yield_now;
 const LOOKS: u32 = 100;
 
 // One look and one try. It tells the journal's length that the word showed, and whether the room was taken.
-pub(crate) fn try_take(shared: &Table, seat: &mut Seat<Room, SeatView>) -> (u64, bool)
+pub(crate) fn try_take(shared: &SharedTable, seat: &mut Seat<Room, SeatView>) -> (u64, bool)
     requires cell { seat.old.table_id ≡ shared.now.table_id }
     requires word { shared.now.table_id.words ≡ 1 }
     requires free { IsResting seat.old.me }
@@ -41,7 +41,7 @@ pub(crate) fn try_take(shared: &Table, seat: &mut Seat<Room, SeatView>) -> (u64,
 #[inline(never)]
 pub(crate) fn take<R: Wait>(
     rt: &R,
-    shared: &Table,
+    shared: &SharedTable,
     waiting: &AtomicU64,
     seat: &mut Seat<Room, SeatView>,
 )
@@ -58,7 +58,12 @@ pub(crate) fn take<R: Wait>(
 
 // The same, where the room was out: it looks again for a while, and then sleeps.
 #[inline(never)]
-fn take_later<R: Wait>(rt: &R, shared: &Table, waiting: &AtomicU64, seat: &mut Seat<Room, SeatView>)
+fn take_later<R: Wait>(
+    rt: &R,
+    shared: &SharedTable,
+    waiting: &AtomicU64,
+    seat: &mut Seat<Room, SeatView>,
+)
     requires cell { seat.old.table_id ≡ shared.now.table_id }
     requires word { shared.now.table_id.words ≡ 1 }
     requires free { IsResting seat.old.me }
@@ -86,7 +91,7 @@ fn take_later<R: Wait>(rt: &R, shared: &Table, waiting: &AtomicU64, seat: &mut S
 }
 
 // The same as `try_take`, once the room is back or a while has gone by.
-fn try_take_soon(shared: &Table, seat: &mut Seat<Room, SeatView>) -> (u64, bool)
+fn try_take_soon(shared: &SharedTable, seat: &mut Seat<Room, SeatView>) -> (u64, bool)
     requires cell { seat.old.table_id ≡ shared.now.table_id }
     requires word { shared.now.table_id.words ≡ 1 }
     requires free { IsResting seat.old.me }
@@ -105,7 +110,7 @@ fn try_take_soon(shared: &Table, seat: &mut Seat<Room, SeatView>) -> (u64, bool)
 
 // Answers the role's command in the room that was taken, and gives the room back. `seen` is the journal's length then.
 pub(crate) fn finish(
-    shared: &Table,
+    shared: &SharedTable,
     waiting: &AtomicU64,
     seat: &mut Seat<Room, SeatView>,
     seen: &mut u64,
@@ -118,7 +123,7 @@ pub(crate) fn finish(
     requires role { role ≡ (part_of seat.old.me.0.parts).role }
     requires some { role < length (part_of seat.old.me.0.parts).opening.types }
     ensures cell { seat.new.table_id ≡ seat.old.table_id }
-    ensures answer { IsReplyIn (part_of seat.old.me.0.parts).opening
+    ensures answer { MayAnswerIn (part_of seat.old.me.0.parts).opening
         (journal_in seat.old.me.1) role command result }
     ensures gave { Gave seat.old.me
         (grown (journal_in seat.old.me.1) role command result) seat.new.me }
@@ -133,7 +138,12 @@ pub(crate) fn finish(
 
 // Gives the room back with a journal of so many entries, and wakes a pass that may sleep.
 #[inline(never)]
-fn give_back(shared: &Table, waiting: &AtomicU64, seat: &mut Seat<Room, SeatView>, entries: u64)
+fn give_back(
+    shared: &SharedTable,
+    waiting: &AtomicU64,
+    seat: &mut Seat<Room, SeatView>,
+    entries: u64,
+)
     requires cell { seat.old.table_id ≡ shared.now.table_id }
     requires word { shared.now.table_id.words ≡ 1 }
     requires room { HasAnswered seat.old.me }
@@ -153,7 +163,7 @@ fn give_back(shared: &Table, waiting: &AtomicU64, seat: &mut Seat<Room, SeatView
 
 // Answers the command. `seen` is the journal's length then, and the room is still the seat's.
 fn answer_in(
-    shared: &Table,
+    shared: &SharedTable,
     seat: &mut Seat<Room, SeatView>,
     seen: &mut u64,
     role: Role,
@@ -164,7 +174,7 @@ fn answer_in(
     requires room { HasRoom seat.old.me }
     requires some { role < length (part_of seat.old.me.0.parts).opening.types }
     ensures cell { seat.new.table_id ≡ seat.old.table_id }
-    ensures answer { IsReplyIn (part_of seat.old.me.0.parts).opening
+    ensures answer { MayAnswerIn (part_of seat.old.me.0.parts).opening
         (journal_in seat.old.me.1) role command result }
     ensures room { seat.new.me ≡ (
       seat.old.me.0,

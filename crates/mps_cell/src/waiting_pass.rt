@@ -2,7 +2,7 @@
 
 use crate::pass::Pass;
 use mps_base::Roles;
-use mps_room::{Answer, Caller, Command, Place, Told};
+use mps_room::{Answer, Caller, Command, Position, Told};
 use std::sync::Wait;
 
 /// A pass, with what it waits by.
@@ -49,10 +49,10 @@ impl<'r, 'a, R: Wait> Caller for WaitingPass<'r, 'a, R> {
     }
 
     fn call_numbered(&mut self, number: u64, command: Command) -> Told {
-        match self.pass.numbers().place(number) {
-            Place::Last => return Told::Kept,
-            Place::Elsewhere => return Told::Wrong,
-            Place::Next => {}
+        match self.pass.numbers().position(number) {
+            Position::Last => return Told::Kept,
+            Position::Elsewhere => return Told::Wrong,
+            Position::Next => {}
         }
         match self.pass.call(self.rt, command) {
             Answer::Refused(refusal) => Told::Refused(refusal),

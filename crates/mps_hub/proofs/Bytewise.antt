@@ -6,7 +6,7 @@ use Rattle.std.proofs.lemmas.List.{length-take}
 use Rattle.mps_dev.specs.declared.traits.Source.{Ghosts}
 use Rattle.mps_lines.specs.Lines.{front, max_line, most_kept}
 use Rattle.mps_lines.proofs.Splitting.{AllByRecursion-append, front_front, front_short}
-use Rattle.mps_hub.specs.First.{Gave, HasStopped, HasGoneOn, HasNoFirstLine, IsFirstLine, IsJoin, max_reads}
+use Rattle.mps_hub.specs.First.{GaveBytes, HasStopped, HasGoneOn, HasNoFirstLine, IsFirstLine, IsJoin, max_reads}
 use Rattle.mps_hub.specs.Private.First.{IsBegun}
 
 -- what is kept is short
@@ -21,11 +21,11 @@ none_read source old = record { read = []; gave = Consumes-nil (source.remaining
 
 -- From a reader as it was at first, by what it was then, to what it is.
 module _ {R : Type 0} (source : Ghosts R) (old mid new : R) (kept : List ℕ) (begun : IsBegun source old mid kept) where
-  more_read : (bytes : List ℕ) → Gave source mid new bytes → Gave source old new (begun.read ++ bytes)
+  more_read : (bytes : List ℕ) → GaveBytes source mid new bytes → GaveBytes source old new (begun.read ++ bytes)
   more_read bytes gave = Consumes-trans (source.remaining old) (source.remaining mid) (source.remaining new) begun.read bytes begun.gave gave
 
   -- one byte more, which ends no line
-  pub one_more : (byte : ℕ) (kept' : List ℕ) → Gave source mid new (byte ∷ []) → byte ≢ 10 → kept' ≡ front (kept ++ byte ∷ []) → IsBegun source old new kept'
+  pub one_more : (byte : ℕ) (kept' : List ℕ) → GaveBytes source mid new (byte ∷ []) → byte ≢ 10 → kept' ≡ front (kept ++ byte ∷ []) → IsBegun source old new kept'
   one_more byte kept' gave other is = record {
     read = begun.read ++ byte ∷ [];
     gave = more_read (byte ∷ []) gave;
@@ -34,17 +34,17 @@ module _ {R : Type 0} (source : Ghosts R) (old mid new : R) (kept : List ℕ) (b
   }
 
   -- the byte that ends it
-  pub last_one : (byte : ℕ) → Gave source mid new (byte ∷ []) → byte ≡ 10 → HasGoneOn source old new → IsFirstLine source old new kept
+  pub last_one : (byte : ℕ) → GaveBytes source mid new (byte ∷ []) → byte ≡ 10 → HasGoneOn source old new → IsFirstLine source old new kept
   last_one byte gave is gone_on = record {
     line = begun.read;
-    gave = subst (λ (b : ℕ). Gave source old new (begun.read ++ b ∷ [])) is (more_read (byte ∷ []) gave);
+    gave = subst (λ (b : ℕ). GaveBytes source old new (begun.read ++ b ∷ [])) is (more_read (byte ∷ []) gave);
     unbroken = begun.unbroken;
     front_kept = begun.front_kept;
     gone_on = gone_on;
   }
 
   -- no byte more, since a read failed or found the end
-  pub none_more : Gave source mid new [] → HasStopped source mid new → source.failed_calls mid ≡ source.failed_calls old → source.ends mid ≡ source.ends old → HasNoFirstLine source old new
+  pub none_more : GaveBytes source mid new [] → HasStopped source mid new → source.failed_calls mid ≡ source.failed_calls old → source.ends mid ≡ source.ends old → HasNoFirstLine source old new
   none_more gave stopped failed ends = record {
     read = begun.read ++ [];
     gave = more_read [] gave;

@@ -5,13 +5,13 @@ use Rattle.mps_cell.specs.Calls.{Known}
 use Rattle.mps_dev.specs.declared.traits.Sink.{Ghosts as SinkGhosts}
 use Rattle.mps_dev.specs.declared.traits.Source.{Ghosts as SourceGhosts}
 use Rattle.mps_line.specs.declared.write_replies.Reply.{Reply}
-use Rattle.mps_line.specs.declared.write_replies.Reply.TheVariants.{Answered, BadLine, Joined, NoSession, NoRole, Taken, Number}
+use Rattle.mps_line.specs.declared.write_replies.Reply.TheVariants.{Answered, BadLine, Joined, NoSession, NoRole, Taken, WrongNumber}
 use Rattle.mps_lines.specs.Lines.{front}
 use Rattle.mps_room.specs.declared.caller.Caller.{Ghosts}
 use Rattle.mps_hub.specs.Connections.{HasAttended, RepliesToFirst}
-use Rattle.mps_hub.specs.Private.Connections.{HasJoined, IsAnsweredFirst}
+use Rattle.mps_hub.specs.Private.Connections.{CameOfJoining, IsAnsweredFirst}
 use Rattle.mps_hub.specs.First.{IsFirstLine, IsJoin}
-use Rattle.mps_hub.specs.Places.{IsOffered, IsPassOf, Offer}
+use Rattle.mps_hub.specs.Places.{HasSuchRole, IsPassOf, Offer}
 use Rattle.mps_hub.specs.declared.attending.Attended.{Attended}
 use Rattle.mps_hub.specs.declared.attending.Attended.TheVariants.{NoLine, TurnedAway, Conversed, Memory, Unrecorded}
 use Rattle.mps_hub.proofs.Bytewise.{joins_whole, joins_front}
@@ -26,10 +26,10 @@ replies_whole offer line kept NoSession is h = (h.0, h.1, joins_whole line kept 
 replies_whole offer line kept NoRole is h = (h.0, h.1, joins_whole line kept h.0 h.1 is h.2, h.3, h.4)
 replies_whole offer line kept Taken is h = (h.0, h.1, joins_whole line kept h.0 h.1 is h.2, h.3)
 replies_whole offer line kept (Joined session name) is h = (joins_whole line kept session name is h.0, h.1)
-replies_whole offer line kept Number is h = absurd h
+replies_whole offer line kept WrongNumber is h = absurd h
 replies_whole offer line kept (Answered answer) is h = absurd h
 
-offered : (offer : Offer) (session : ℕ) (name : List ℕ) (pass : Known) → IsPassOf offer session name pass → IsOffered offer session name
+offered : (offer : Offer) (session : ℕ) (name : List ℕ) (pass : Known) → IsPassOf offer session name pass → HasSuchRole offer session name
 offered offer session name pass h = record { is_session = h.is_session; role = pass.role; named = h.of_role }
 
 module _ {C R W : Type 0} (caller : Ghosts C) (pass : C → Known) (source : SourceGhosts R) (sink : SinkGhosts W) (offer : Offer) (reader mid : R) (writer : W) (kept : List ℕ) (first : IsFirstLine source reader mid kept) where
@@ -48,7 +48,7 @@ module _ {C R W : Type 0} (caller : Ghosts C) (pass : C → Known) (source : Sou
   refused writer' reply Unrecorded replies h = absurd h
 
   -- a first line that got its pass, and what followed
-  pub joined : (session : ℕ) (name : List ℕ) (before after : C) (reader' : R) (writer' : W) (ended : Attended) → HasJoined caller source sink (Joined session name) before mid writer after reader' writer' ended → IsJoin kept session name → IsPassOf offer session name (pass before)
+  pub joined : (session : ℕ) (name : List ℕ) (before after : C) (reader' : R) (writer' : W) (ended : Attended) → CameOfJoining caller source sink (Joined session name) before mid writer after reader' writer' ended → IsJoin kept session name → IsPassOf offer session name (pass before)
       → HasAttended caller pass source sink offer reader writer reader' writer' ended
   joined session name before after reader' writer' NoLine h joins taken = absurd h
   joined session name before after reader' writer' TurnedAway h joins taken = let moved = subst (λ (r : R). IsFirstLine source reader r kept) (sym h.1) first in record {

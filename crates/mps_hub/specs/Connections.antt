@@ -8,7 +8,7 @@ use Rattle.mps_line.specs.Codes.{code_of}
 use Rattle.mps_line.specs.Replies.{SpellsReply}
 use Rattle.mps_line.specs.declared.write_replies.Reply.{Reply}
 use Rattle.mps_line.specs.declared.write_replies.Reply.TheVariants.{Answered, BadLine, Joined, NoSession, NoRole, Taken}
-use Rattle.mps_line.specs.declared.write_replies.Reply.TheVariants.{Number}
+use Rattle.mps_line.specs.declared.write_replies.Reply.TheVariants.{WrongNumber}
 use Rattle.mps_lines.specs.Lines.{ended}
 use Rattle.mps_room.specs.declared.caller.Caller.{Ghosts}
 use Rattle.mps_wire.specs.Endings.{EndedAs}
@@ -18,7 +18,7 @@ use Rattle.mps_wire.specs.Conversations.{ConversesLine, ConversesBrokenOff}
 use Rattle.mps_wire.specs.declared.conversation.Ending.{Ending}
 use Rattle.mps_wire.specs.declared.conversation.Ending.TheVariants.{Untold}
 use Rattle.mps_hub.specs.First.{HasNoFirstLine, IsFirstLine, IsJoin}
-use Rattle.mps_hub.specs.Places.{IsOffered, IsPassOf, IsSession, Offer}
+use Rattle.mps_hub.specs.Places.{HasSuchRole, IsPassOf, IsSession, Offer}
 use Rattle.mps_hub.specs.declared.attending.Attended.{Attended}
 use Rattle.mps_hub.specs.declared.attending.Attended.TheVariants.{NoLine, TurnedAway, Conversed, Memory, Unrecorded}
 
@@ -30,9 +30,9 @@ RepliesToFirst offer line NoSession =
 RepliesToFirst offer line NoRole = (session : ℕ) × (name : List ℕ) × IsJoin line session name
     × IsSession offer.first (length offer.cells) session × All (λ other. other ≢ name) offer.names
 RepliesToFirst offer line Taken =
-    (session : ℕ) × (name : List ℕ) × IsJoin line session name × IsOffered offer session name
-RepliesToFirst offer line (Joined session name) = IsJoin line session name × IsOffered offer session name
-RepliesToFirst offer line Number = ⊥
+    (session : ℕ) × (name : List ℕ) × IsJoin line session name × HasSuchRole offer session name
+RepliesToFirst offer line (Joined session name) = IsJoin line session name × HasSuchRole offer session name
+RepliesToFirst offer line WrongNumber = ⊥
 RepliesToFirst offer line (Answered answer) = ⊥
 
 -- the reply was written with its LF, and nothing else

@@ -12,8 +12,8 @@ max_reads = 1000000
 -- What a reader gave, from the one state of it to the other.
 module _ {R : Type 0} (source : Ghosts R) (old new : R) where
   -- the bytes were given one after the other
-  abbrev pub Gave : List ℕ → Type 0
-  Gave bytes = Consumes (source.remaining old) (source.remaining new) bytes
+  abbrev pub GaveBytes : List ℕ → Type 0
+  GaveBytes bytes = Consumes (source.remaining old) (source.remaining new) bytes
 
   -- one more read failed, or one more found the end
   abbrev pub HasStopped : Type 0
@@ -28,7 +28,7 @@ module _ {R : Type 0} (source : Ghosts R) (old new : R) where
   -- a line and its LF were given, and no byte more, and no read failed or found the end; of the line the front is kept
   pub record IsFirstLine (kept : List ℕ) : Type 0 where
     pub line : List ℕ
-    pub gave : Gave (ended line)
+    pub gave : GaveBytes (ended line)
     pub unbroken : HasNoBreak line
     pub front_kept : kept ≡ front line
     pub gone_on : HasGoneOn
@@ -36,7 +36,7 @@ module _ {R : Type 0} (source : Ghosts R) (old new : R) where
   -- no LF was given before a read failed, the end came, or there were as many reads as there may be
   pub record HasNoFirstLine : Type 0 where
     pub read : List ℕ
-    pub gave : Gave read
+    pub gave : GaveBytes read
     pub unbroken : HasNoBreak read
     pub stopped : HasStopped ⊎ (HasGoneOn × (source.calls new ≡ source.calls old + max_reads))
 

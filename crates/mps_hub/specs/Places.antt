@@ -30,7 +30,7 @@ abbrev pub IsOfSession : Offer → ℕ → Known → Type 0
 IsOfSession offer session pass = IsAtPlace offer.cells (session - offer.first) pass
 
 -- there is such a session, with a role of that name
-pub record IsOffered (offer : Offer) (session : ℕ) (name : List ℕ) : Type 0 where
+pub record HasSuchRole (offer : Offer) (session : ℕ) (name : List ℕ) : Type 0 where
   pub is_session : IsSession offer.first (length offer.cells) session
   pub role : ℕ
   pub named : slice_get offer.names role ≡ Some name

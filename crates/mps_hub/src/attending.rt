@@ -7,7 +7,7 @@ ghost use Rattle.mps_wire.specs.declared.conversation.Broken.TheVariants.{Memory
 ghost use Rattle.mps_wire.specs.declared.conversation.Broken.TheVariants.{Untold as NeverSaid};
 ghost use Rattle.mps_hub.specs.Connections.{HasAttended, EndsForNoLoss, RepliesToFirst, SendingBrokeOff, WasSent};
 ghost use Rattle.mps_keeper.specs.Holds.{records_of, whole_of};
-ghost use Rattle.mps_hub.specs.Private.Connections.{HasJoined, IsAnsweredFirst};
+ghost use Rattle.mps_hub.specs.Private.Connections.{CameOfJoining, IsAnsweredFirst};
 ghost use Rattle.mps_hub.specs.First.{IsJoin};
 ghost use Rattle.mps_hub.specs.Places.{IsPassOf};
 
@@ -155,7 +155,7 @@ fn converse_joined<
     requires writes { W.failed_calls writer.old < 2 ^ 61 }
     ensures cell { caller.new.inner.inner.pass.cell ≡ caller.old.inner.inner.pass.cell }
     ensures opening { caller.new.inner.inner.pass.opening ≡ caller.old.inner.inner.pass.opening }
-    ensures conversed { HasJoined ⟦<Guest<'static, 'static, 'static, 'static, G, H, S, D> as Caller>⟧
+    ensures conversed { CameOfJoining ⟦<Guest<'static, 'static, 'static, 'static, G, H, S, D> as Caller>⟧
         R.Source W.Sink joined.now caller.old reader.old writer.old caller.new reader.new writer.new result }
     ensures told { records_of caller.old.recorder ≡ false → whole_of caller.old.recorder ≡ true → EndsForNoLoss result }
 {

@@ -1,11 +1,11 @@
 //! The passes that are not in use, which one thread at a time has.
 ghost use Rattle.std.specs.Prelude.{◌≡◌, ◌≢◌, ◌+◌, ◌<◌, ◌≤◌, ◌^◌, ◌↔◌, Some, None, IfOk, IfSome, IsErrOf, All, length};
 ghost use Rattle.std.specs.Prelude.{slice_set};
-ghost use Rattle.mps_hub.specs.Places.{IsAtPlace, IsOfCell, IsOfSession, IsOffered, IsPassOf, IsSession, Offer};
+ghost use Rattle.mps_hub.specs.Places.{IsAtPlace, IsOfCell, IsOfSession, HasSuchRole, IsPassOf, IsSession, Offer};
 ghost use Rattle.mps_hub.specs.Private.Places.{AreNumbered, AtHome};
 
 use crate::lock::{Steady, put_back, take_out};
-use atomic_table::{Refused, Table};
+use atomic_table::{Refused as NotMade, Table};
 use mps_base::{Name, Roles};
 use mps_cell::{Cell, Pass};
 use std::alloc::{AllocError, Global};
@@ -181,7 +181,7 @@ impl<'a> Desk<'a> {
                 sessions,
                 table,
             }),
-            Err(Refused { slots: _ }) => Err(AllocError),
+            Err(NotMade { slots: _ }) => Err(AllocError),
         }
     }
 
@@ -222,7 +222,7 @@ impl<'a> Desk<'a> {
         ensures no_role { IsErrOf result JoinFault.NoRole
             ↔ (IsSession self.now.first (length self.now.cells) session
             × All (λ other. other ≢ name.now) self.now.names) }
-        ensures taken { IsErrOf result JoinFault.Taken → IsOffered self.now session name.now }
+        ensures taken { IsErrOf result JoinFault.Taken → HasSuchRole self.now session name.now }
     {
         if session < self.first || session - self.first >= self.sessions {
             return Err(JoinFault::NoSession);

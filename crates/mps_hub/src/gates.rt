@@ -3,7 +3,7 @@ ghost use Rattle.std.specs.Prelude.{◌≡◌};
 
 use mps_base::{Role, Roles};
 use mps_keeper::Recordable;
-use mps_room::{Answer, Caller, Command, Place, Told};
+use mps_room::{Answer, Caller, Command, Position, Told};
 
 /// Something that runs before each command of a connection is given to its pass. A test can hold a command there.
 pub trait Gate {
@@ -73,7 +73,8 @@ impl<'g, G: Gate, C: Recordable> Caller for Gated<'g, G, C> {
     }
 
     fn call_numbered(&mut self, number: u64, command: Command) -> Told {
-        if self.inner.place(number) == Place::Next {
+        // only a command that is called stops here
+        if self.inner.position(number) == Position::Next {
             self.stop();
         }
         self.inner.call_numbered(number, command)
@@ -95,8 +96,8 @@ impl<'g, G: Gate, C: Recordable> Recordable for Gated<'g, G, C> {
         self.inner.own_role()
     }
 
-    fn place(&self, number: u64) -> Place {
-        self.inner.place(number)
+    fn position(&self, number: u64) -> Position {
+        self.inner.position(number)
     }
 
     fn seen(&self) -> u64 {

@@ -1,7 +1,7 @@
 //! A server's sessions, which connections share: each connection has the one pass that it joined with.
 //!
-//! `Hub` has a cell for each session, `Desk` the passes that are not in use, and `serve` accepts connections and
-//! attends to each in a thread of its own.
+//! `Hub` has a cell for each session, `Desk` the passes that are not in use, and `serve_recorded` accepts connections
+//! and attends to each in a thread of its own; `serve` does so without journals.
 //!
 //! ```
 //! let mut hub = Hub::open(alloc, &roles, &types, sessions)?;

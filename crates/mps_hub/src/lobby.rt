@@ -32,13 +32,13 @@ pub(crate) fn bell_of(listener: &TcpListener) -> Option<TcpStream> {
     }
 }
 
-/// The connections that are open. Once it is closed no more are let in.
+/// The connections that are let in. Once the lobby is closed no more are.
 #[derive(Drop)]
 pub(crate) struct Lobby {
     limits: Limits,
     // by which whoever waits for the next connection is woken
     bell: TcpStream,
-    guests: Mutex<OpenStreams>,
+    inside: Mutex<OpenStreams>,
     // woken when a connection left, or the lobby was closed
     left: Condvar,
 }
@@ -50,14 +50,14 @@ impl Lobby {
         for _ in 0..MAX_OPEN {
             streams.push_reserved(None);
         }
-        let guests = OpenStreams {
+        let inside = OpenStreams {
             streams,
             closed: false,
         };
         Ok(Lobby {
             limits,
             bell,
-            guests: Mutex::new(guests),
+            inside: Mutex::new(inside),
             left: Condvar::new(),
         })
     }
@@ -67,60 +67,57 @@ impl Lobby {
         self.limits
     }
 
-    // The stream of the connection at that place.
-    pub(crate) fn stream<R: Wait>(&self, rt: &R, place: usize) -> Option<Arc<TcpStream, Global>> {
-        let guests = self.guests.lock(rt);
-        match guests.streams.get(place) {
-            Some(Some(stream)) => Arc::try_clone(stream).ok(),
-            _ => None,
-        }
-    }
-
     // Waits until there is a place for one more. Says whether one is let in.
     pub(crate) fn lets_in<R: Wait>(&self, rt: &R) -> bool {
-        let guests = self.left.wait_while(rt, self.guests.lock(rt), |guests| {
-            !guests.closed && guests.free().is_none()
+        let inside = self.left.wait_while(rt, self.inside.lock(rt), |inside| {
+            !inside.closed && inside.free().is_none()
         });
-        !guests.closed
+        !inside.closed
     }
 
-    // Lets a connection in, if there is a place for it, and gives the place.
-    pub(crate) fn enter<R: Wait>(&self, rt: &R, alloc: Global, stream: TcpStream) -> Option<usize> {
+    // Lets a connection in, if there is a place for it, and gives the place and the stream.
+    pub(crate) fn enter<R: Wait>(
+        &self,
+        rt: &R,
+        alloc: Global,
+        stream: TcpStream,
+    ) -> Option<(usize, Arc<TcpStream, Global>)> {
         let stream = Arc::new(alloc, stream).ok()?;
-        let mut guests = self.guests.lock(rt);
-        if guests.closed {
+        let shared = Arc::try_clone(&stream).ok()?;
+        let mut inside = self.inside.lock(rt);
+        if inside.closed {
             return None;
         }
-        let place = guests.free()?;
-        if place < guests.streams.len() {
-            guests.streams[place] = Some(stream);
+        let place = inside.free()?;
+        if place < inside.streams.len() {
+            inside.streams[place] = Some(shared);
         }
-        Some(place)
+        Some((place, stream))
     }
 
     // The connection at that place has ended.
     pub(crate) fn leave<R: Wait>(&self, rt: &R, place: usize) {
-        let mut guests = self.guests.lock(rt);
-        if place < guests.streams.len() {
-            guests.streams[place] = None;
+        let mut inside = self.inside.lock(rt);
+        if place < inside.streams.len() {
+            inside.streams[place] = None;
         }
-        drop(guests);
+        drop(inside);
         self.left.notify_all();
     }
 
     // Ends all connections, and lets no more in.
     pub(crate) fn close<R: Wait>(&self, rt: &R) {
-        let mut guests = self.guests.lock(rt);
-        if guests.closed {
+        let mut inside = self.inside.lock(rt);
+        if inside.closed {
             return;
         }
-        guests.closed = true;
-        for stream in &guests.streams {
+        inside.closed = true;
+        for stream in &inside.streams {
             if let Some(stream) = stream {
                 let _ended = stream.shutdown(Shutdown::Both);
             }
         }
-        drop(guests);
+        drop(inside);
         self.left.notify_all();
         let _rung = self.bell.shutdown(Shutdown::Both);
     }

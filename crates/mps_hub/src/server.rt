@@ -15,7 +15,7 @@ use std::alloc::Global;
 use std::fs::File;
 use std::io::ErrorKind;
 use std::net::{Shutdown, SocketAddr, TcpListener, TcpStream};
-use std::sync::Wait;
+use std::sync::{Arc, Wait};
 use std::thread::{Scope, Threads};
 use std::time::{Clock, Duration};
 use std::{io, thread};
@@ -75,8 +75,8 @@ fn broken_of<S: Sink, D>(keepers: &[Keeper<S, D>]) -> Option<usize>
     keepers.iter().position(|keeper| keeper.is_broken())
 }
 
-// Attends to the connection at that place, and closes it. Answers are sent at once (`TCP_NODELAY`), where the system
-// can. Where lines were lost no connection goes on.
+// Attends to the connection at that place of the lobby, and closes it. Answers are sent at once (`TCP_NODELAY`), where
+// the system can. Where lines were lost no connection goes on.
 fn connection<R: Wait + Clock + 'static, G: Gate + 'static, S: Sink + 'static, D: Disk + 'static>(
     rt: &R,
     alloc: Global,
@@ -86,29 +86,30 @@ fn connection<R: Wait + Clock + 'static, G: Gate + 'static, S: Sink + 'static, D
     lobby: &Lobby,
     number: u64,
     place: usize,
+    stream: Arc<TcpStream, Global>,
 ) {
-    if let Some(stream) = lobby.stream(rt, place) {
-        let limits = lobby.limits();
-        if let Some(patient) = Patient::new(rt, &stream, limits.first_line(), limits.idle) {
-            let _set = stream.set_nodelay(true);
-            let mut reader = OverRead::new(patient);
-            let mut writer = OverWrite::new(&*stream);
-            let _ended = attend(
-                rt,
-                alloc,
-                desk,
-                gate,
-                keepers,
-                number,
-                &mut reader,
-                &mut writer,
-            );
-        }
-        if broken_of(keepers).is_some() {
-            lobby.close(rt);
-        }
-        linger(rt, &stream);
+    let limits = lobby.limits();
+    if let Some(patient) = Patient::new(rt, &stream, limits.first_line(), limits.idle) {
+        let _set = stream.set_nodelay(true);
+        let mut reader = OverRead::new(patient);
+        let mut writer = OverWrite::new(&*stream);
+        let _ended = attend(
+            rt,
+            alloc,
+            desk,
+            gate,
+            keepers,
+            number,
+            &mut reader,
+            &mut writer,
+        );
     }
+    if broken_of(keepers).is_some() {
+        lobby.close(rt);
+    }
+    linger(rt, &stream);
+    // the lobby has the other handle, and closes the socket before it lets the next connection in
+    drop(stream);
     lobby.leave(rt, place);
 }
 
@@ -158,13 +159,14 @@ fn let_in<
     number: u64,
     stream: TcpStream,
 ) -> Result<(), NotStarted> {
-    let Some(place) = lobby.enter(rt, alloc, stream) else {
+    let Some((place, stream)) = lobby.enter(rt, alloc, stream) else {
         return Err(NotStarted);
     };
     let started = scope.spawn(move || connection(
-        rt, alloc, desk, gate, keepers, lobby, number, place,
+        rt, alloc, desk, gate, keepers, lobby, number, place, stream,
     ));
     if started.is_err() {
+        drop(started);
         lobby.leave(rt, place);
         return Err(NotStarted);
     }
@@ -192,13 +194,13 @@ fn accept_all<
 ) -> Result<u64, ServeFault> {
     let limits = lobby.limits();
     let mut lost = 0;
-    for place in 0..limits.connections.unwrap_or(u64::MAX) {
+    for earlier in 0..limits.connections.unwrap_or(u64::MAX) {
         if !lobby.lets_in(rt) {
             return Ok(lost);
         }
         match accepted(listener.accept()) {
             Ok(stream) => {
-                let number = place + 1;
+                let number = earlier + 1;
                 let started = let_in(scope, rt, alloc, desk, gate, keepers, lobby, number, stream);
                 lost = count_lost(lost, &started);
             }

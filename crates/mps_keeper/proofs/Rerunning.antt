@@ -4,7 +4,7 @@ use Rattle.mps_local.specs.Local.{LocalType}
 use Rattle.mps_command.specs.declared.answer.Answer.{Answer}
 use Rattle.mps_command.specs.declared.answer.Answer.TheVariants.{Refused}
 use Rattle.mps_command.specs.declared.answer.Refusal.TheVariants.{Memory}
-use Rattle.mps_room.specs.Journal.{IsLegal, FollowsOn, IsEntryAfter, IsReply, reply}
+use Rattle.mps_room.specs.Journal.{IsLegal, FollowsOn, IsEntryAfter, MayAnswer, answer_to}
 use Rattle.mps_room.specs.declared.entry.Entry.{Entry}
 
 -- each entry of a legal journal is one after those before it
@@ -15,5 +15,5 @@ follows_at names types start (x ∷ before) e after f = subst (λ (b : List Entr
 pub entry_at : (names : List (List ℕ)) (types : List LocalType) (before : List Entry) (e : Entry) (after : List Entry) → IsLegal names types (before ++ e ∷ after) → IsEntryAfter names types before e
 entry_at names types before e after legal = follows_at names types [] before e after legal.each
 
-pub again : (names : List (List ℕ)) (types : List LocalType) (before : List Entry) (e : Entry) (after : List Entry) → IsLegal names types (before ++ e ∷ after) → (a : Answer) → IsReply a (reply names types before e.role e.command) → (a ≡ e.answer) ⊎ (a ≡ Refused Memory)
+pub again : (names : List (List ℕ)) (types : List LocalType) (before : List Entry) (e : Entry) (after : List Entry) → IsLegal names types (before ++ e ∷ after) → (a : Answer) → MayAnswer a (answer_to names types before e.role e.command) → (a ≡ e.answer) ⊎ (a ≡ Refused Memory)
 again names types before e after legal a h = grind (arith, entry_at)

@@ -5,8 +5,8 @@ use Rattle.std.specs.List.{flat_map}
 use Rattle.mps_lines.specs.Lines.{ended}
 
 -- these lines, each with its LF
-abbrev pub Took : Option (List ℕ) → List (List ℕ) → Option (List ℕ) → Type 0
-Took start lines now = Appends start now (flat_map ended lines)
+abbrev pub TookLines : Option (List ℕ) → List (List ℕ) → Option (List ℕ) → Type 0
+TookLines start lines now = Appends start now (flat_map ended lines)
 
 -- it took more, or nothing
 abbrev pub TookMore : Option (List ℕ) → Option (List ℕ) → Type 0

@@ -32,7 +32,7 @@ module _ {C : Type 0} (caller : Ghosts C) where
     pub denied : is_accepted answer ≡ false
     pub not_memory : answer ≢ answers.Refused Memory
 
-  -- a command with a number that was refused, and not for want of memory, or had no place in order
+  -- a command with a number that was refused, and not for want of memory, or wasn't the next
   pub record IsUnplaced (c : C) (n : ℕ) (command : Command) (d : C) : Type 0 where
     pub told : Told
     pub came : IsNumbered caller.calls caller.last caller.kept c n command d told

@@ -5,7 +5,7 @@ use Rattle.mps_wire.specs.Answers.{AnswersBrokenOff}
 use Rattle.mps_wire.specs.Conversations.{ConversesLine, ConversesBrokenOff}
 use Rattle.mps_room.specs.declared.entry.Entry.{Entry}
 use Rattle.mps_line.specs.JournalLines.{SpellsJournalLine}
-use Rattle.mps_keeper.specs.Books.{Took, TookMore}
+use Rattle.mps_keeper.specs.Books.{TookLines, TookMore}
 use Rattle.mps_keeper.specs.Numbering.{CountsUp}
 
 -- each is the line of the number and the entry in its place
@@ -25,7 +25,7 @@ pub record RecordedOn (names : List (List ℕ)) (taken taken' : Option (List ℕ
   pub grown : made' ≡ made ++ entries
   pub counted : CountsUp last numbers last'
   pub spelled : SpellEntries names lines numbers entries
-  pub took : Took taken lines taken'
+  pub took : TookLines taken lines taken'
 
 -- What was written of a conversation's answers is recorded: it is the answers to the first of its lines (the last may
 -- break off), after which nothing was lost; what the keeper took until then are the lines of the entries that were

@@ -3,7 +3,7 @@ ghost use Rattle.std.specs.Prelude.{◌≡◌, ◌<◌, ◌^◌, ◌++◌, ℕ, 
 ghost use Rattle.std.specs.Io.KnownBytes.{Appends};
 ghost use Rattle.std.specs.List.{flat_map};
 ghost use Rattle.mps_lines.specs.Lines.{ended};
-ghost use Rattle.mps_keeper.specs.Books.{Took, TookMore, TookBrokenOff};
+ghost use Rattle.mps_keeper.specs.Books.{TookLines, TookMore, TookBrokenOff};
 ghost use Rattle.mps_wire.specs.Sending.{TookFront};
 
 use crate::recorder::Recorder;
@@ -86,11 +86,11 @@ impl<W: Sink> Book<W> {
         ensures count { OnErr result (lines_of self.new ≡ lines_of self.old) }
         ensures added { (start : Option (List ℕ)) (lines : List (List ℕ)) (next : List (List ℕ))
             → text.now ≡ flat_map ended next
-            → Took start lines (W.taken (sink_of self.old))
-            → OnOk result (Took start (lines ++ next) (W.taken (sink_of self.new))) }
+            → TookLines start lines (W.taken (sink_of self.old))
+            → OnOk result (TookLines start (lines ++ next) (W.taken (sink_of self.new))) }
         ensures broken_off { (start : Option (List ℕ)) (lines : List (List ℕ)) (next : List (List ℕ))
             → text.now ≡ flat_map ended next
-            → Took start lines (W.taken (sink_of self.old))
+            → TookLines start lines (W.taken (sink_of self.old))
             → OnErr result (TookBrokenOff start lines next (W.taken (sink_of self.new))) }
     {
         if !self.whole {

@@ -5,7 +5,7 @@ ghost use Rattle.mps_command.specs.declared.answer.Answer.{Answer};
 ghost use Rattle.mps_command.specs.declared.answer.Answer.TheVariants.{Refused};
 ghost use Rattle.mps_command.specs.declared.answer.Refusal.TheVariants.{Memory};
 ghost use Rattle.mps_local.specs.Local.{LocalType};
-ghost use Rattle.mps_room.specs.Journal.{grown, reply, IsLegal, IsReply};
+ghost use Rattle.mps_room.specs.Journal.{grown, answer_to, IsLegal, MayAnswer};
 ghost use Rattle.mps_room.specs.declared.entry.Entry.{Entry};
 ghost use Rattle.mps_keeper.specs.Remade.{HasRemade};
 ghost use Rattle.mps_keeper.specs.Restored.{LinesRestored};
@@ -24,7 +24,7 @@ pub fn a_legal_journal_runs_again()
     ensures answer { (names : List (List ℕ)) (types : List LocalType) (before : List Entry) (e : Entry)
         (after : List Entry)
         → IsLegal names types (before ++ e ∷ after) → (answer : Answer)
-        → IsReply answer (reply names types before e.role e.command)
+        → MayAnswer answer (answer_to names types before e.role e.command)
         → (answer ≡ e.answer) ⊎ (answer ≡ Refused Memory) }
     ensures journal { (names : List (List ℕ)) (types : List LocalType) (before : List Entry) (e : Entry)
         (after : List Entry)

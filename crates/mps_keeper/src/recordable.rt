@@ -3,7 +3,7 @@
 use crate::recorder::Recordable;
 use mps_base::Role;
 use mps_cell::WaitingPass;
-use mps_room::{Place, Solo};
+use mps_room::{Position, Solo};
 use std::sync::Wait;
 
 impl Recordable for Solo {
@@ -11,8 +11,8 @@ impl Recordable for Solo {
         self.role
     }
 
-    fn place(&self, number: u64) -> Place {
-        self.numbers.place(number)
+    fn position(&self, number: u64) -> Position {
+        self.numbers.position(number)
     }
 
     fn seen(&self) -> u64 {
@@ -25,8 +25,8 @@ impl<'r, 'a, R: Wait> Recordable for WaitingPass<'r, 'a, R> {
         self.pass.role()
     }
 
-    fn place(&self, number: u64) -> Place {
-        self.pass.numbers().place(number)
+    fn position(&self, number: u64) -> Position {
+        self.pass.numbers().position(number)
     }
 
     fn seen(&self) -> u64 {

@@ -12,7 +12,7 @@ use crate::recorder::{Recordable, Recorder};
 use mps_base::Roles;
 use mps_command::{Answer, Command};
 use mps_line::{has_journal_line, write_journal_line};
-use mps_room::{Caller, Place, Told};
+use mps_room::{Caller, Position, Told};
 
 /// A caller whose accepted commands a recorder records. Once a line is lost, what it is answered may not be told on.
 #[derive(Drop)]
@@ -136,9 +136,9 @@ impl<K: Recorder, C: Recordable> Caller for Recorded<K, C> {
     }
 
     fn call_numbered(&mut self, number: u64, command: Command) -> Told {
-        // where a number has no place nothing is called, so no line is made; the caller inside asks again, as it does
+        // where a number isn't the next nothing is called, so no line is made; the caller inside asks again, as it does
         // where nothing is recorded
-        if !self.recorder.records() || self.inner.place(number) != Place::Next {
+        if !self.recorder.records() || self.inner.position(number) != Position::Next {
             return self.inner.call_numbered(number, command);
         }
         let put = self.put_line(Some(number), &command);

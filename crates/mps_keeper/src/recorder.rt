@@ -2,10 +2,10 @@
 ghost use Rattle.std.specs.Prelude.{◌≡◌, ℕ, Bool, true, false, List, [], Option};
 ghost use Rattle.std.specs.Io.KnownBytes.{Appends};
 ghost use Rattle.mps_keeper.specs.Books.{TookMore};
-ghost use Rattle.mps_room.specs.Numbers.{IsPlaced};
+ghost use Rattle.mps_room.specs.Numbers.{IsPosition};
 
 use mps_base::Role;
-use mps_room::{Caller, Place};
+use mps_room::{Caller, Position};
 
 /// What records lines, in a file.
 pub trait Recorder {
@@ -57,10 +57,10 @@ pub trait Recordable: Caller {
         ensures { result ≡ Self.role self.now };
 
     /// Where a number stands that a command of it has.
-    fn place(&self, number: u64) -> Place
-        ensures { IsPlaced (Self.last self.now) number result };
+    fn position(&self, number: u64) -> Position
+        ensures { IsPosition (Self.last self.now) number result };
 
-    /// How many entries its last call showed. Of an accepted command it is the entry's number, counted from 1. Unproved:
-    /// no clause says so.
+    /// How many entries its last call showed. Of an accepted command it is the entry's number, counted from 1.
+    /// Unproved: no clause says so.
     fn seen(&self) -> u64;
 }

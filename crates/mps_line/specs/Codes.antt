@@ -8,7 +8,7 @@ use Rattle.mps_command.specs.declared.answer.Refusal.TheVariants.{Violation as V
 use Rattle.mps_command.specs.declared.answer.Refusal.TheVariants.{Needed, NoMark, Full, Memory}
 use Rattle.mps_command.specs.declared.answer.Answer.TheVariants.{Refused}
 use Rattle.mps_line.specs.declared.write_replies.Reply.{Reply}
-use Rattle.mps_line.specs.declared.write_replies.Reply.TheVariants.{Answered, BadLine, NoSession, NoRole, Taken, Number}
+use Rattle.mps_line.specs.declared.write_replies.Reply.TheVariants.{Answered, BadLine, NoSession, NoRole, Taken, WrongNumber}
 
 -- what a role's type doesn't allow: 1 to 7
 abbrev pub violation_code : Violation → ℕ
@@ -38,5 +38,5 @@ code_of BadLine = 14
 code_of NoSession = 15
 code_of NoRole = 16
 code_of Taken = 17
-code_of Number = 19
+code_of WrongNumber = 19
 code_of reply = 0

@@ -114,7 +114,8 @@ fn lone_command(verb: &[u8]) -> Option<Command>
     }
 }
 
-// The verb, and what stands after it and a space. A verb that takes no arguments is found too.
+// The verb, and what stands after it and a space. A verb that takes no arguments is found too, so that no verb is
+// missed; `read_argument` refuses it.
 fn split_verb(bytes: &[u8]) -> Option<(Verb, &[u8])>
     ensures read { IfSome result (λ r. bytes.now ≡ spaced (verb_word r.0 ∷ r.1.now ∷ [])) }
     ensures none { IfNone result ((verb : Verb) (rest : List ℕ)

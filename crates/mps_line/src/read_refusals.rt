@@ -9,7 +9,7 @@ ghost use Rattle.mps_line.specs.Replies.{SpellsReply, refusal_tokens, word_of};
 ghost use Rattle.mps_line.specs.Private.Replies.{lone_words, own_word, own_words};
 ghost use Rattle.mps_line.specs.Tokens.{Word, SpellsLine};
 ghost use Rattle.mps_line.specs.declared.write_replies.Reply.TheVariants.{Answered, BadLine, NoSession, NoRole, Taken};
-ghost use Rattle.mps_line.specs.declared.write_replies.Reply.TheVariants.{Number};
+ghost use Rattle.mps_line.specs.declared.write_replies.Reply.TheVariants.{WrongNumber};
 
 use crate::line_parts::{after_word, read_step};
 use crate::read_commands::LineFault;
@@ -26,7 +26,7 @@ pub(crate) fn refused_reply(bytes: &[u8]) -> Result<Reply, LineFault>
     ensures session { IsErrOf result LineFault.Bad → SpellsReply bytes.now NoSession → ⊥ }
     ensures role { IsErrOf result LineFault.Bad → SpellsReply bytes.now NoRole → ⊥ }
     ensures pass { IsErrOf result LineFault.Bad → SpellsReply bytes.now Taken → ⊥ }
-    ensures number { IsErrOf result LineFault.Bad → SpellsReply bytes.now Number → ⊥ }
+    ensures number { IsErrOf result LineFault.Bad → SpellsReply bytes.now WrongNumber → ⊥ }
     ensures memory { IsErrOf result LineFault.Memory → ⊥ }
 {
     let Some(rest) = after_word(bytes, b"refused") else {
@@ -52,7 +52,7 @@ fn own_reply(word: &[u8]) -> Option<Reply>
         b"nosession" => Some(Reply::NoSession),
         b"norole" => Some(Reply::NoRole),
         b"taken" => Some(Reply::Taken),
-        b"number" => Some(Reply::Number),
+        b"number" => Some(Reply::WrongNumber),
         _ => None,
     }
 }

@@ -30,7 +30,7 @@ pub enum Reply {
     /// Another connection acts for the role.
     Taken,
     /// The number of the line is neither that of the last accepted one nor the one after it.
-    Number,
+    WrongNumber,
 }
 
 impl Reply {
@@ -44,7 +44,7 @@ impl Reply {
             Reply::NoSession => 15,
             Reply::NoRole => 16,
             Reply::Taken => 17,
-            Reply::Number => 19,
+            Reply::WrongNumber => 19,
             Reply::Answered(_) | Reply::Joined { .. } => 0,
         }
     }
@@ -76,7 +76,7 @@ impl Reply {
             Reply::NoSession => out.extend_from_slice(b"refused nosession"),
             Reply::NoRole => out.extend_from_slice(b"refused norole"),
             Reply::Taken => out.extend_from_slice(b"refused taken"),
-            Reply::Number => out.extend_from_slice(b"refused number"),
+            Reply::WrongNumber => out.extend_from_slice(b"refused number"),
         }
     }
 }

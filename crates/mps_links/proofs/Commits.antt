@@ -10,16 +10,16 @@ use Rattle.mps_history.specs.Dependence.{least}
 use Rattle.mps_history.specs.Commits.{is_commit}
 use Rattle.mps_history.proofs.Order.{IsRising-filter}
 use Rattle.mps_arena.specs.Keys.{first_key, last_key}
-use Rattle.mps_arena.specs.Entries.{KeyedStep, steps, keys_of, of_role, entry_at, AreSound}
+use Rattle.mps_arena.specs.KeyedSteps.{KeyedStep, steps, keys_of, of_role, keyed_at, AreSound}
 use Rattle.mps_arena.specs.Neighbours.{id_in, prev_of_role_in}
 use Rattle.mps_arena.proofs.Chains.{keys-append, keys_with, keys_without}
-use Rattle.mps_links.specs.declared.order.Numbered.{Numbered}
+use Rattle.mps_links.specs.declared.order.NumberedKey.{NumberedKey}
 use Rattle.mps_links.specs.Private.Numbered.{key_of, HasNumber}
 use Rattle.mps_links.specs.Private.Order.{earlier}
 use Rattle.mps_links.specs.Marks.{is_marked, AreMarksClosed, marked_commits}
 use Rattle.mps_links.proofs.StepKeys.{keys_agree, keys_none, none_passes}
 use Rattle.mps_links.proofs.Present.{if_some}
-use Rattle.mps_links.proofs.Firsts.{first_is, first_or, entry_in, id_first}
+use Rattle.mps_links.proofs.Firsts.{first_is, first_or, keyed_in, id_first}
 use Rattle.mps_links.proofs.Lasts.{IsLast, last_is, nothing_last}
 use Rattle.mps_links.proofs.Least.{id_of, least_first, first_filter, find_filter}
 use Rattle.mps_links.proofs.Links.{prev_is}
@@ -58,13 +58,13 @@ module _ (es : List KeyedStep) (p : ℕ) where
       last = last_is (of_role p) w.front k (sym w.key ∙ is)
 
       abbrev x : KeyedStep
-      x = last.entry
+      x = last.keyed
 
       parts : es ≡ last.before ++ x ∷ (last.behind ++ w.rest)
       parts = w.parts ∙ ap (λ l. l ++ w.rest) last.parts ∙ append_assoc last.before (x ∷ last.behind) w.rest
 
-      pub search_at : entry_at k es ≡ Some x
-      search_at = ap (λ j. entry_at j es) (sym last.key) ∙ entry_in es sound.distinct sound.rising last.before (last.behind ++ w.rest) x parts
+      pub search_at : keyed_at k es ≡ Some x
+      search_at = ap (λ j. keyed_at j es) (sym last.key) ∙ keyed_in es sound.distinct sound.rising last.before (last.behind ++ w.rest) x parts
 
       here : is_marked es x.step.id ≡ x.marked
       here = marked_here es last.before (last.behind ++ w.rest) x sound.rising parts
@@ -95,12 +95,12 @@ module _ (es : List KeyedStep) (p : ℕ) where
 
 module _ (es : List KeyedStep) (sound : AreSound es) where
   -- what is found is there
-  pub first_there : (f : Step → Bool) (o : Option ℕ) → o ≡ first_key (keys_of f es) → IfSome o (λ key. IsSome (entry_at key es))
+  pub first_there : (f : Step → Bool) (o : Option ℕ) → o ≡ first_key (keys_of f es) → IfSome o (λ key. IsSome (keyed_at key es))
   first_there f o e =
-      if_some (λ key. IsSome (entry_at key es)) o
+      if_some (λ key. IsSome (keyed_at key es)) o
       (λ k is.
       let w = first_is f es k (sym e ∙ is) in
-      subst (λ (j : ℕ). IsSome (entry_at j es)) w.key (subst (λ (q : Option KeyedStep). IsSome q) (sym (entry_in es sound.distinct sound.rising w.before w.behind w.entry w.parts)) cc))
+      subst (λ (j : ℕ). IsSome (keyed_at j es)) w.key (subst (λ (q : Option KeyedStep). IsSome q) (sym (keyed_in es sound.distinct sound.rising w.before w.behind w.keyed w.parts)) cc))
 
   pub next_role : (first : Option ℕ) (r : ℕ) → first ≡ first_key (keys_of (λ s. nat_lt s.role r && is_final es s) es) → earlier es first (first_key (keys_of (λ s. s.role == r && is_final es s) es)) ≡ first_key (keys_of (λ s. nat_lt s.role (r + 1) && is_final es s) es)
   next_role first r e =
@@ -124,11 +124,11 @@ module _ (es : List KeyedStep) (sound : AreSound es) where
       ∙ ap id_of (first_filter p (filter q (steps es)) ∙ find_filter p q (steps es))
       ∙ sym (id_first es sound.distinct sound.rising (is_final es) [] es refl)
 
-  ids : (o : Option Numbered) → HasNumber es o → option_map (λ n. n.id) o ≡ option_and_then (id_in es) (key_of o)
+  ids : (o : Option NumberedKey) → HasNumber es o → option_map (λ n. n.id) o ≡ option_and_then (id_in es) (key_of o)
   ids o h = grind arith
 
   -- the first of the roles' first ones, with its number
-  pub least_number : (first : Option Numbered) (r : ℕ) → r ≡ 8 → key_of first ≡ first_key (keys_of (λ s. nat_lt s.role r && is_final es s) es) → HasNumber es first → option_map (λ n. n.id) first ≡ least (marked_commits es)
+  pub least_number : (first : Option NumberedKey) (r : ℕ) → r ≡ 8 → key_of first ≡ first_key (keys_of (λ s. nat_lt s.role r && is_final es s) es) → HasNumber es first → option_map (λ n. n.id) first ≡ least (marked_commits es)
   least_number first r end e h =
       ids first h
       ∙ ap (option_and_then (id_in es)) (e ∙ ap (λ (n : ℕ). first_key (keys_of (λ s. nat_lt s.role n && is_final es s) es)) end ∙ all_roles)

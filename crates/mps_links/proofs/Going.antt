@@ -11,11 +11,11 @@ use Rattle.mps_history.specs.Dependence.{depends_on, is_matched, consequences}
 use Rattle.mps_history.specs.Commits.{is_commit, commits_from}
 use Rattle.mps_history.proofs.Order.{rising_apart, IsIn-append, IsIn-append_left, IsIn-append_right}
 use Rattle.mps_arena.specs.Keys.{AreDistinct, last_key}
-use Rattle.mps_arena.specs.Entries.{KeyedStep, steps, keys_of, any_step, entry_at, AreSound}
+use Rattle.mps_arena.specs.KeyedSteps.{KeyedStep, steps, keys_of, any_step, keyed_at, AreSound}
 use Rattle.mps_arena.proofs.Keeping.{others_are}
 use Rattle.mps_links.specs.Marks.{marked_keys, marked_steps, is_marked, AreMarksClosed, marked_by, unmarked, unmarked_steps, marked_commits}
 use Rattle.mps_links.proofs.StepKeys.{steps_around, in_middle, none_passes}
-use Rattle.mps_links.proofs.Firsts.{entry_in, rising_behind}
+use Rattle.mps_links.proofs.Firsts.{keyed_in, rising_behind}
 use Rattle.mps_links.proofs.Lasts.{IsLast, last_is}
 use Rattle.mps_links.proofs.Marked.{marked_here, marked_with, marked_without, keys_marked, keys_from}
 
@@ -37,7 +37,7 @@ module _ (es : List KeyedStep) (k : ℕ) (sound : AreSound es) (newest : last_ke
   b = last.behind
 
   abbrev x : KeyedStep
-  x = last.entry
+  x = last.keyed
 
   left : filter (λ e. not (e.key == k)) es ≡ a ++ b
   left = ap (filter (λ e. not (e.key == k))) last.parts ∙ others_are k a b x (subst (λ (l : List KeyedStep). AreDistinct (keys_of any_step l)) last.parts sound.distinct) last.key
@@ -55,10 +55,10 @@ module _ (es : List KeyedStep) (k : ℕ) (sound : AreSound es) (newest : last_ke
   one_fewer = grind (arith, marked_with, x_marked, left, length-append, filter-append, map-append)
 
   -- the step of that key is the last of the marked ones
-  pub last_marked : (y : KeyedStep) → entry_at k es ≡ Some y → marked_steps es ≡ marked_steps (filter (λ e. not (e.key == k)) es) ++ y.step ∷ []
+  pub last_marked : (y : KeyedStep) → keyed_at k es ≡ Some y → marked_steps es ≡ marked_steps (filter (λ e. not (e.key == k)) es) ++ y.step ∷ []
   last_marked y found =
       let p = λ (e : KeyedStep). e.marked in
-      let here : entry_at x.key es ≡ Some x = entry_in es sound.distinct sound.rising a b x last.parts in
+      let here : keyed_at x.key es ≡ Some x = keyed_in es sound.distinct sound.rising a b x last.parts in
       let around : es ≡ (a ++ x ∷ []) ++ b = last.parts ∙ sym (append_assoc a (x ∷ []) b) in
       let none : filter p b ≡ [] = none_in (filter p b) (sym (keys_from es sound.rising (a ++ x ∷ []) b around) ∙ last.none) in
       grind (arith, filter-append, append-nil, cond-true, x_marked, map-append, left)

@@ -5,19 +5,19 @@ use Rattle.std.specs.Option.{option_map, unwrap_or}
 use Rattle.std.proofs.lemmas.Bool.{cases_Bool}
 use Rattle.std.proofs.lemmas.List.{map_more}
 use Rattle.std.proofs.lemmas.List.Sums.{fold-append}
-use Rattle.mps_arena.specs.Entries.{KeyedStep, with_mark}
+use Rattle.mps_arena.specs.KeyedSteps.{KeyedStep, with_mark}
 use Rattle.mps_arena.specs.Neighbours.{id_in}
 use Rattle.mps_links.specs.Private.Numbered.{key_of, keys_alone, HasNumber, HaveNumbers}
 use Rattle.mps_links.specs.Private.Order.{earlier}
 use Rattle.mps_links.specs.Private.Pending.{earliest}
-use Rattle.mps_links.specs.declared.order.Numbered.{Numbered}
+use Rattle.mps_links.specs.declared.order.NumberedKey.{NumberedKey}
 
-pub number_at : (es : List KeyedStep) (l : List (Option Numbered)) (i : ℕ) (d : Option Numbered) → i < length l → HaveNumbers es l → HasNumber es (slice_index_or l i d)
+pub number_at : (es : List KeyedStep) (l : List (Option NumberedKey)) (i : ℕ) (d : Option NumberedKey) → i < length l → HaveNumbers es l → HasNumber es (slice_index_or l i d)
 number_at es [] i d small h = absurd (omega arith)
 number_at es (x ∷ l) zero d small h = h.0
 number_at es (x ∷ l) (suc i) d small h = number_at es l i d (omega arith) h.1
 
-pub numbers_set : (es : List KeyedStep) (l : List (Option Numbered)) (i : ℕ) (n : Option Numbered) → HaveNumbers es l → HasNumber es n → HaveNumbers es (slice_set l i n)
+pub numbers_set : (es : List KeyedStep) (l : List (Option NumberedKey)) (i : ℕ) (n : Option NumberedKey) → HaveNumbers es l → HasNumber es n → HaveNumbers es (slice_set l i n)
 numbers_set es [] i n h own = tt
 numbers_set es (x ∷ l) zero n h own = (own, h.1)
 numbers_set es (x ∷ l) (suc i) n h own = (h.0, numbers_set es l i n h.1 own)
@@ -27,7 +27,7 @@ pub id_marked : (k : ℕ) (m : Bool) (j : ℕ) (es : List KeyedStep) → id_in (
 id_marked k m j [] = refl
 id_marked k m j (e ∷ es) = grind (arith, id_marked k m j es, cases_Bool (e.key == j))
 
-pub numbers_marked : (k : ℕ) (m : Bool) (es : List KeyedStep) (l : List (Option Numbered)) → HaveNumbers es l → HaveNumbers (map (with_mark k m) es) l
+pub numbers_marked : (k : ℕ) (m : Bool) (es : List KeyedStep) (l : List (Option NumberedKey)) → HaveNumbers es l → HaveNumbers (map (with_mark k m) es) l
 numbers_marked k m es [] h = tt
 numbers_marked k m es (x ∷ l) h = grind (arith, id_marked, numbers_marked k m es l h.1)
 
@@ -37,6 +37,6 @@ pub role_is : (o : Option KeyedStep) (r : ℕ) (l : List (Option ℕ)) (f : Opti
 role_is o r l f is = grind arith
 
 -- one more is looked at
-pub one_more : (es : List KeyedStep) (l : List (Option Numbered)) (i : ℕ) (d : Option Numbered) → i < length l
+pub one_more : (es : List KeyedStep) (l : List (Option NumberedKey)) (i : ℕ) (d : Option NumberedKey) → i < length l
     → earliest es (keys_alone (take (i + 1) l)) ≡ earlier es (earliest es (keys_alone (take i l))) (key_of (slice_index_or l i d))
 one_more es l i d small = cc (map_more key_of l i d small, fold-append (earlier es) None (keys_alone (take i l)) (key_of (slice_index_or l i d) ∷ []))

@@ -1,4 +1,4 @@
--- The last entry that passes a test.
+-- The last keyed step that passes a test.
 use Rattle.std.proofs.Common.{◌≡◌, ℕ, Bool, true, false, List, [], ◌∷◌, ◌++◌, Option, Some, None, refl, sym, ap, ◌∙◌, arith, ⊎_elim, append_assoc}
 use mathlib.Core.Path.{ap₂}
 use Rattle.std.specs.Prelude.{◌||◌}
@@ -7,7 +7,7 @@ use Rattle.std.proofs.lemmas.Bool.{cases_Bool, lt-ltb, le-ltb, or_left}
 use Rattle.mps_base.specs.declared.action.Step.{Step}
 use Rattle.mps_history.specs.Steps.{IsRising}
 use Rattle.mps_arena.specs.Keys.{AreDistinct, last_key}
-use Rattle.mps_arena.specs.Entries.{KeyedStep, steps, keys_of, any_step}
+use Rattle.mps_arena.specs.KeyedSteps.{KeyedStep, steps, keys_of, any_step}
 use Rattle.mps_arena.specs.Neighbours.{id_in}
 use Rattle.mps_arena.proofs.Chains.{keys_with, keys_without}
 use Rattle.mps_links.specs.Private.Order.{is_before, later}
@@ -30,14 +30,14 @@ last_from before (j ∷ c) = last_from (Some j) c ∙ kept (last_key None c) ∙
     kept None = refl
     kept (Some i) = refl
 
--- the last entry of the list that passes, where it stands
+-- the last keyed step of the list that passes, where it stands
 pub record IsLast (p : Step → Bool) (b : List KeyedStep) (k : ℕ) : Type 0 where
   pub before : List KeyedStep
-  pub entry : KeyedStep
+  pub keyed : KeyedStep
   pub behind : List KeyedStep
-  pub parts : b ≡ before ++ entry ∷ behind
-  pub key : entry.key ≡ k
-  pub passes : p entry.step ≡ true
+  pub parts : b ≡ before ++ keyed ∷ behind
+  pub key : keyed.key ≡ k
+  pub passes : p keyed.step ≡ true
   pub none : keys_of p behind ≡ []
 
 -- the last key, where one more stands before
@@ -56,15 +56,15 @@ last_is p (y ∷ b) k e =
     (λ (z : last_key None (keys_of p b) ≡ None).
     let one : Some y.key ≡ Some k = sym (last_with p y b t ∙ ap (λ o. option_or o (Some y.key)) z) ∙ e in
     let same : y.key ≡ k = cc in
-    record { before = []; entry = y; behind = b; parts = refl; key = same; passes = t; none = nothing_last (keys_of p b) z })
+    record { before = []; keyed = y; behind = b; parts = refl; key = same; passes = t; none = nothing_last (keys_of p b) z })
     (λ (w : (j : ℕ) × (last_key None (keys_of p b) ≡ Some j)).
     let one : Some w.0 ≡ Some k = sym (last_with p y b t ∙ ap (λ o. option_or o (Some y.key)) w.1) ∙ e in
     let r = last_is p b k (w.1 ∙ one) in
-    record { before = y ∷ r.before; entry = r.entry; behind = r.behind; parts = ap (λ l. y ∷ l) r.parts; key = r.key; passes = r.passes; none = r.none })
+    record { before = y ∷ r.before; keyed = r.keyed; behind = r.behind; parts = ap (λ l. y ∷ l) r.parts; key = r.key; passes = r.passes; none = r.none })
     (cases_key (last_key None (keys_of p b))))
     (λ (f : p y.step ≡ false).
     let r = last_is p b k (sym (last_without p y b f) ∙ e) in
-    record { before = y ∷ r.before; entry = r.entry; behind = r.behind; parts = ap (λ l. y ∷ l) r.parts; key = r.key; passes = r.passes; none = r.none })
+    record { before = y ∷ r.before; keyed = r.keyed; behind = r.behind; parts = ap (λ l. y ∷ l) r.parts; key = r.key; passes = r.passes; none = r.none })
     (cases_Bool (p y.step))
 
 module _ (es : List KeyedStep) (d : AreDistinct (keys_of any_step es)) (rising : IsRising (steps es)) where
@@ -75,11 +75,11 @@ module _ (es : List KeyedStep) (d : AreDistinct (keys_of any_step es)) (rising :
   last_later : (p : Step → Bool) (a b : List KeyedStep) (y : KeyedStep) → es ≡ a ++ y ∷ b → IsLater y.key (last_key None (keys_of p b))
   last_later p a b y e k last =
       let w = last_is p b k last in
-      let whole : es ≡ (a ++ y ∷ w.before) ++ w.entry ∷ w.behind = e ∙ ap (λ l. a ++ y ∷ l) w.parts ∙ sym (append_assoc a (y ∷ w.before) (w.entry ∷ w.behind)) in
+      let whole : es ≡ (a ++ y ∷ w.before) ++ w.keyed ∷ w.behind = e ∙ ap (λ l. a ++ y ∷ l) w.parts ∙ sym (append_assoc a (y ∷ w.before) (w.keyed ∷ w.behind)) in
       let first = id_middle es d rising a b y e in
-      let second : id_in es k ≡ Some w.entry.step.id = ap (id_in es) (sym w.key) ∙ id_middle es d rising (a ++ y ∷ w.before) w.behind w.entry whole in
-      let less = rising_behind es d rising a b y w.entry.step e (in_middle b w.before w.behind w.entry w.parts) in
-      (ap₂ is_before first second ∙ lt-ltb y.step.id w.entry.step.id less, ap₂ is_before second first ∙ le-ltb w.entry.step.id y.step.id (omega arith))
+      let second : id_in es k ≡ Some w.keyed.step.id = ap (id_in es) (sym w.key) ∙ id_middle es d rising (a ++ y ∷ w.before) w.behind w.keyed whole in
+      let less = rising_behind es d rising a b y w.keyed.step e (in_middle b w.before w.behind w.keyed w.parts) in
+      (ap₂ is_before first second ∙ lt-ltb y.step.id w.keyed.step.id less, ap₂ is_before second first ∙ le-ltb w.keyed.step.id y.step.id (omega arith))
 
   some_kept : (j k y : ℕ) → option_or (later es (Some j) (Some k)) (Some y) ≡ later es (Some j) (Some k)
   some_kept j k y = grind (arith, cases_Bool)
@@ -93,7 +93,7 @@ module _ (es : List KeyedStep) (d : AreDistinct (keys_of any_step es)) (rising :
   later_right : (y : ℕ) (o l : Option ℕ) → IsLater y o → option_or (later es o l) (Some y) ≡ later es o (option_or l (Some y))
   later_right y o l f = grind (arith, some_kept)
 
-  -- the last entry that passes one of two tests is the later of the last that pass each
+  -- the last keyed step that passes one of two tests is the later of the last that pass each
   pub last_or : (f g : Step → Bool) (a b : List KeyedStep) → es ≡ a ++ b → last_key None (keys_of (λ t. f t || g t) b) ≡ later es (last_key None (keys_of f b)) (last_key None (keys_of g b))
   last_or f g a [] e = refl
   last_or f g a (y ∷ b) e =

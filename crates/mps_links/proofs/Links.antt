@@ -10,14 +10,14 @@ use Rattle.mps_history.specs.Steps.{IsIn, IsRising}
 use Rattle.mps_history.specs.Dependence.{is_matched, depends_on, least, dependents}
 use Rattle.mps_history.proofs.Order.{rising_apart}
 use Rattle.mps_arena.specs.Keys.{first_key, last_key, key_after}
-use Rattle.mps_arena.specs.Entries.{KeyedStep, steps, keys_of, of_role, entry_at, AreSound}
+use Rattle.mps_arena.specs.KeyedSteps.{KeyedStep, steps, keys_of, of_role, keyed_at, AreSound}
 use Rattle.mps_arena.specs.Matched.{matched_receipt}
 use Rattle.mps_arena.specs.Neighbours.{id_in, next_of_role_in, prev_of_role_in, receipt_in, matched_with, CanGo, IsUnreceived}
 use Rattle.mps_arena.proofs.KeyLists.{once, after_absent, before_absent}
 use Rattle.mps_arena.proofs.Chains.{keys-append, keys_without, keys_around, distinct}
 use Rattle.mps_links.specs.Private.Order.{earlier}
 use Rattle.mps_links.proofs.StepKeys.{eqb_turned, steps_around, in_middle, keys_agree, keys_none, none_passes, nothing_first}
-use Rattle.mps_links.proofs.Firsts.{entry_in, rising_behind, id_first, first_or}
+use Rattle.mps_links.proofs.Firsts.{keyed_in, rising_behind, id_first, first_or}
 use Rattle.mps_links.proofs.Least.{least_is}
 use Rattle.mps_links.proofs.Receipts.{receipt_is}
 
@@ -28,8 +28,8 @@ module _ (es : List KeyedStep) (sound : AreSound es) (a b : List KeyedStep) (x :
   abbrev on_s : Step → Bool
   on_s t = depends_on (steps es) t s
 
-  found : entry_at x.key es ≡ Some x
-  found = entry_in es sound.distinct sound.rising a b x parts
+  found : keyed_at x.key es ≡ Some x
+  found = keyed_in es sound.distinct sound.rising a b x parts
 
   next_after : key_after x.key (keys_of (of_role s.role) es) ≡ first_key (keys_of (of_role s.role) b)
   next_after = grind (arith, keys_around, eq-eqb, once, distinct, after_absent)

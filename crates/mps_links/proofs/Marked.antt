@@ -1,4 +1,4 @@
--- The marked steps, by their numbers and by their entries.
+-- The marked steps, by their numbers and by their keyed steps.
 use Rattle.std.proofs.Common.{◌≡◌, ◌<◌, ℕ, true, false, List, [], ◌∷◌, ◌++◌, map, refl, sym, ap, ◌∙◌, subst, arith, inl, inr, eq-eqb, append_assoc}
 use Rattle.std.specs.Prelude.{◌==◌, ◌&&◌}
 use Rattle.std.specs.List.{filter}
@@ -6,7 +6,7 @@ use Rattle.std.proofs.lemmas.Bool.{cases_Bool, cond-true, cond-false, ne_eqb, an
 use Rattle.mps_base.specs.declared.action.Step.{Step}
 use Rattle.mps_history.specs.Steps.{IsIn, IsRising}
 use Rattle.mps_history.proofs.Order.{at_member}
-use Rattle.mps_arena.specs.Entries.{KeyedStep, steps, keys_of}
+use Rattle.mps_arena.specs.KeyedSteps.{KeyedStep, steps, keys_of}
 use Rattle.mps_links.specs.Marks.{marked_keys, is_marked, marked_steps}
 use Rattle.mps_links.proofs.StepKeys.{in_middle}
 
@@ -20,7 +20,7 @@ marked_in (y ∷ a) b x r =
     let less = at_member (λ u. y.step.id < u.id) (steps (a ++ x ∷ b)) x.step r.0 (in_middle (a ++ x ∷ b) a b x refl) in
     rw (and_right y.marked (y.step.id == x.step.id) (ne_eqb y.step.id x.step.id (λ e. omega arith))) (marked_in a b x r.1)
 
--- a step of an entry is marked where the entry is
+-- a step of a keyed step is marked where the keyed step is
 pub marked_here : (es a b : List KeyedStep) (x : KeyedStep) → IsRising (steps es) → es ≡ a ++ x ∷ b → is_marked es x.step.id ≡ x.marked
 marked_here es a b x r e = ap (λ (l : List KeyedStep). is_marked l x.step.id) e ∙ marked_in a b x (subst (λ (l : List KeyedStep). IsRising (steps l)) e r)
 
@@ -30,7 +30,7 @@ marked_with y b t = ap (map (λ e. e.key)) (cond-true y.marked (y ∷ filter (λ
 pub marked_without : (y : KeyedStep) (b : List KeyedStep) → y.marked ≡ false → marked_keys (y ∷ b) ≡ marked_keys b
 marked_without y b f = ap (map (λ e. e.key)) (cond-false y.marked (y ∷ filter (λ e. e.marked) b) (filter (λ e. e.marked) b) f)
 
--- the keys of the marked entries are those of the marked steps
+-- the keys of the marked keyed steps are those of the marked steps
 pub keys_from : (es : List KeyedStep) → IsRising (steps es) → (a b : List KeyedStep) → es ≡ a ++ b → keys_of (λ s. is_marked es s.id) b ≡ marked_keys b
 keys_from es r a [] e = refl
 keys_from es r a (y ∷ b) e = grind (arith, marked_here es a b y r e, keys_from es r (a ++ y ∷ []) b (e ∙ sym (append_assoc a (y ∷ []) b)), cases_Bool y.marked)

@@ -8,7 +8,7 @@ use Rattle.mps_history.specs.Steps.{IsIn, IsRising}
 use Rattle.mps_history.specs.Dependence.{depends_on}
 use Rattle.mps_history.proofs.Order.{rising_apart, IsIn-append, IsIn-append_left, IsIn-append_right}
 use Rattle.mps_arena.specs.Keys.{first_key, last_key}
-use Rattle.mps_arena.specs.Entries.{KeyedStep, steps, keys_of, of_role, AreSound, IsSmall}
+use Rattle.mps_arena.specs.KeyedSteps.{KeyedStep, steps, keys_of, of_role, AreSound, IsSmall}
 use Rattle.mps_arena.specs.Neighbours.{CanGo}
 use Rattle.mps_arena.proofs.KeyLists.{last-append}
 use Rattle.mps_arena.proofs.Chains.{keys_around}
@@ -92,9 +92,9 @@ module _ (es : List KeyedStep) (sound : AreSound es) (closed : AreMarksClosed es
   newest_can_go k e =
       let p = λ (s : Step). mark s.id in
       let w = last_is p es k (ap (last_key None) (keys_marked es sound.rising) ∙ e) in
-      let on = λ (t : Step). depends_on (steps es) t w.entry.step in
+      let on = λ (t : Step). depends_on (steps es) t w.keyed.step in
       let alone : keys_of on w.behind ≡ [] =
       keys_none on w.behind
       (λ t i.
-      grind (arith, steps_around w.before w.behind w.entry, IsIn-append_right t (steps w.before) (w.entry.step ∷ steps w.behind) (inr i), none_passes p w.behind t w.none i, in_middle es w.before w.behind w.entry w.parts)) in
-      subst (CanGo es) w.key (alone_can_go es sound w.before w.behind w.entry w.parts (ap first_key alone))
+      grind (arith, steps_around w.before w.behind w.keyed, IsIn-append_right t (steps w.before) (w.keyed.step ∷ steps w.behind) (inr i), none_passes p w.behind t w.none i, in_middle es w.before w.behind w.keyed w.parts)) in
+      subst (CanGo es) w.key (alone_can_go es sound w.before w.behind w.keyed w.parts (ap first_key alone))

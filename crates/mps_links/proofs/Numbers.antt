@@ -1,4 +1,4 @@
--- The entry of a number.
+-- The keyed step of a number.
 use Rattle.std.proofs.Common.{arith, ◌≡◌, ℕ, true, false, List, [], ◌∷◌, ◌++◌, Option, Some, sym, ap, ◌∙◌, subst, ⊎_elim}
 use Rattle.std.specs.Prelude.{◌==◌, IsSome}
 use Rattle.std.specs.List.{find}
@@ -6,7 +6,7 @@ use Rattle.std.specs.Option.{option_map}
 use Rattle.std.proofs.lemmas.Bool.{cases_Bool, cond-true, cond-false, eqb-true, false≢true}
 use Rattle.mps_base.specs.declared.action.Step.{Step}
 use Rattle.mps_history.specs.Steps.{step_of}
-use Rattle.mps_arena.specs.Entries.{KeyedStep, steps}
+use Rattle.mps_arena.specs.KeyedSteps.{KeyedStep, steps}
 use Rattle.mps_arena.proofs.Numbers.{find_split}
 
 found_by_number : (es : List KeyedStep) (n : ℕ) → IsSome (step_of (steps es) n) → (y : KeyedStep) × (find (λ e. e.step.id == n) es ≡ Some y)
@@ -19,14 +19,14 @@ found_by_number (x ∷ es) n h =
     (w.0, cond-false (x.step.id == n) (Some x) (find (λ e. e.step.id == n) es) f ∙ w.1))
     (cases_Bool (x.step.id == n))
 
--- where the entry of a number stands
+-- where the keyed step of a number stands
 pub record IsNumbered (es : List KeyedStep) (n : ℕ) : Type 0 where
   pub before : List KeyedStep
-  pub entry : KeyedStep
+  pub keyed : KeyedStep
   pub behind : List KeyedStep
-  pub parts : es ≡ before ++ entry ∷ behind
-  pub number : entry.step.id ≡ n
-  pub key : option_map (λ e. e.key) (find (λ e. e.step.id == n) es) ≡ Some entry.key
+  pub parts : es ≡ before ++ keyed ∷ behind
+  pub number : keyed.step.id ≡ n
+  pub key : option_map (λ e. e.key) (find (λ e. e.step.id == n) es) ≡ Some keyed.key
 
 pub numbered : (es : List KeyedStep) (n : ℕ) → IsSome (step_of (steps es) n) → IsNumbered es n
 numbered es n h = grind (arith, found_by_number, find_split, eqb-true)

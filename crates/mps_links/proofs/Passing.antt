@@ -12,14 +12,14 @@ use Rattle.mps_history.specs.Dependence.{depends_on, is_matched, with, joined}
 use Rattle.mps_history.proofs.Order.{same_step}
 use Rattle.mps_history.proofs.Reaching.{joins, any_member, member_any}
 use Rattle.mps_arena.specs.Keys.{first_key}
-use Rattle.mps_arena.specs.Entries.{KeyedStep, steps, keys_of, AreSound}
+use Rattle.mps_arena.specs.KeyedSteps.{KeyedStep, steps, keys_of, AreSound}
 use Rattle.mps_arena.specs.Neighbours.{next_of_role_in, receipt_in}
 use Rattle.mps_arena.proofs.Chains.{keys_without}
 use Rattle.mps_links.specs.Private.Order.{earlier}
 use Rattle.mps_links.specs.Marks.{unmarked}
 use Rattle.mps_links.specs.Private.Pending.{at_role, followed}
 use Rattle.mps_links.proofs.StepKeys.{cases_key, keys_agree, keys_none, none_passes, nothing_first, in_middle}
-use Rattle.mps_links.proofs.Firsts.{IsFirst, first_is, first_or, entry_in, rising_behind}
+use Rattle.mps_links.proofs.Firsts.{IsFirst, first_is, first_or, keyed_in, rising_behind}
 use Rattle.mps_links.proofs.Links.{next_is, on_later}
 use Rattle.mps_links.proofs.Receipts.{receipt_is}
 
@@ -32,7 +32,7 @@ pub record ArePending (h : List Step) (set : ℕ → Bool) (rest : List KeyedSte
   pub size : length firsts ≡ 8
   pub each : (r : ℕ) → r < 8 → slice_index_or firsts r None ≡ first_key (keys_of (joins_of h set r) rest)
 
--- which entries are marked, which are to be looked at, and what is pending of them
+-- which keyed steps are marked, which are to be looked at, and what is pending of them
 pub record IsMarking (es now : List KeyedStep) (whole : ℕ → Bool) (firsts : List (Option ℕ)) (count : ℕ) : Type 0 where
   pub set : ℕ → Bool
   pub past : List KeyedStep
@@ -90,13 +90,13 @@ module _ (now : List KeyedStep) (sound : AreSound now) (set more : ℕ → Bool)
 
   module _ (firsts : List (Option ℕ)) (pending : ArePending h set (y ∷ d) firsts) where
     at_y : (f : Option ℕ → Option ℕ) (l : List (Option ℕ)) → at_role now y.key f l ≡ slice_set l y.step.role (f (slice_index_or l y.step.role None))
-    at_y f l = ap (λ (o : Option KeyedStep). unwrap_or (option_map (λ e. slice_set l e.step.role (f (slice_index_or l e.step.role None))) o) l) (entry_in now sound.distinct sound.rising a d y parts)
+    at_y f l = ap (λ (o : Option KeyedStep). unwrap_or (option_map (λ e. slice_set l e.step.role (f (slice_index_or l e.step.role None))) o) l) (keyed_in now sound.distinct sound.rising a d y parts)
 
     abbrev next : List (Option ℕ)
     next = at_role now y.key (λ o. next_of_role_in now y.key) firsts
 
     next_size : length next ≡ 8
-    next_size = grind (arith, entry_in, length-set)
+    next_size = grind (arith, keyed_in, length-set)
 
     next_each : (r : ℕ) → r < 8 → slice_index_or next r None ≡ first_key (keys_of (chained r) d)
     next_each r small =
@@ -125,7 +125,7 @@ module _ (now : List KeyedStep) (sound : AreSound now) (set more : ℕ → Bool)
       first = first_is (is_matched h y.step) d k (sym (receipt_is now sound a d y parts) ∙ is)
 
       abbrev z : KeyedStep
-      z = first.entry
+      z = first.keyed
 
       z_parts : now ≡ (a ++ y ∷ first.before) ++ z ∷ first.behind
       z_parts = parts ∙ ap (λ l. a ++ y ∷ l) first.parts ∙ sym (append_assoc a (y ∷ first.before) (z ∷ first.behind))
@@ -143,7 +143,7 @@ module _ (now : List KeyedStep) (sound : AreSound now) (set more : ℕ → Bool)
           receiver Idle e g = absurd (false≢true e)
 
       at_z : (f : Option ℕ → Option ℕ) (l : List (Option ℕ)) → at_role now k f l ≡ slice_set l z.step.role (f (slice_index_or l z.step.role None))
-      at_z f l = grind (arith, entry_in, z_parts)
+      at_z f l = grind (arith, keyed_in, z_parts)
 
       abbrev last : List (Option ℕ)
       last = at_role now k (λ o. earlier now o (Some k)) next

@@ -10,7 +10,7 @@ use Rattle.mps_base.specs.declared.action.Step.{Step}
 use Rattle.mps_history.specs.Steps.{IsRising, sends, receives, gives_to, takes_from}
 use Rattle.mps_history.specs.Dependence.{is_matched, sent_before, received_before}
 use Rattle.mps_arena.specs.Keys.{AreDistinct, first_key, matched_key}
-use Rattle.mps_arena.specs.Entries.{KeyedStep, steps, keys_of, like, unlike, AreSound}
+use Rattle.mps_arena.specs.KeyedSteps.{KeyedStep, steps, keys_of, like, unlike, AreSound}
 use Rattle.mps_arena.specs.Matched.{matched_receipt}
 use Rattle.mps_arena.specs.Neighbours.{receipt_in, matched_with}
 use Rattle.mps_arena.proofs.KeyLists.{once, matched_key_middle}
@@ -18,9 +18,9 @@ use Rattle.mps_arena.proofs.Chains.{keys-append, keys_with, keys_without, keys_p
 use Rattle.mps_history.proofs.MatchingByPlace.{before_place}
 use Rattle.mps_arena.proofs.Histories.{count_steps}
 use Rattle.mps_links.proofs.StepKeys.{eqb_turned, steps_around, keys_agree, keys_none}
-use Rattle.mps_links.proofs.Firsts.{entry_in}
+use Rattle.mps_links.proofs.Firsts.{keyed_in}
 
--- how many steps that pass stand before an entry
+-- how many steps that pass stand before a keyed step
 count_before : (p : Step → Bool) (es a b : List KeyedStep) (x : KeyedStep) → IsRising (steps es) → es ≡ a ++ x ∷ b → length (filter (λ y. nat_lt y.id x.step.id && p y) (steps es)) ≡ length (keys_of p a)
 count_before p es a b x r parts =
     let e = ap steps parts ∙ steps_around a b x in
@@ -87,7 +87,7 @@ module _ (es : List KeyedStep) (sound : AreSound es) (a b : List KeyedStep) (x :
           let at : length (keys_of got a) + j ≡ length (keys_of p a) = omega arith in
           let receipts : keys_of got es ≡ keys_of got a ++ keys_of got b = ap (keys_of got) parts ∙ keys_beside got a b x quiet ∙ keys-append got a b in
           let kept : keys_of got (a ++ x ∷ []) ≡ keys_of got a = keys_kept got a x quiet in
-          ap (option_and_then (λ (y : KeyedStep). matched_receipt (effect y.step.act) (matched_with es y))) (entry_in es sound.distinct sound.rising a b x parts)
+          ap (option_and_then (λ (y : KeyedStep). matched_receipt (effect y.step.act) (matched_with es y))) (keyed_in es sound.distinct sound.rising a b x parts)
           ∙ ap (λ (c : Effect). matched_receipt c (matched_with es x)) act
           ∙ ap (λ (c : Effect). matched_key x.key (keys_of (like s.role c) es) (keys_of (unlike s.role c) es)) act
           ∙ ap (λ c. matched_key x.key c (keys_of got es)) whole
@@ -98,4 +98,4 @@ module _ (es : List KeyedStep) (sound : AreSound es) (a b : List KeyedStep) (x :
           ∙ ap first_key (keys_agree fits (is_matched (steps es) s) b (λ t i. sym (match t)))
 
   pub receipt_is : receipt_in es x.key ≡ first_key (keys_of (is_matched (steps es) s) b)
-  receipt_is = grind (arith, receipt_of_send, entry_in, keys_none, and_left, and_right)
+  receipt_is = grind (arith, receipt_of_send, keyed_in, keys_none, and_left, and_right)

@@ -7,7 +7,7 @@ use Rattle.mps_base.specs.declared.action.Step.{Step}
 use Rattle.mps_history.specs.Steps.{IsIn}
 use Rattle.mps_history.proofs.Order.{IsIn-append_right}
 use Rattle.mps_arena.specs.Keys.{first_key}
-use Rattle.mps_arena.specs.Entries.{KeyedStep, steps, keys_of}
+use Rattle.mps_arena.specs.KeyedSteps.{KeyedStep, steps, keys_of}
 use Rattle.mps_arena.proofs.Chains.{keys_without}
 
 pub cases_key : (o : Option ℕ) → (o ≡ None) ⊎ ((k : ℕ) × (o ≡ Some k))

@@ -13,7 +13,7 @@ use Rattle.mps_history.proofs.Order.{at_member, from_members, rising_apart, IsRi
 use Rattle.mps_history.proofs.Reaching.{joins, any_member, earlier as earlier_step, consequences_closed}
 use Rattle.mps_history.proofs.Removal.{filter-same}
 use Rattle.mps_arena.specs.Keys.{AreDistinct, first_key}
-use Rattle.mps_arena.specs.Entries.{KeyedStep, steps, keys_of, any_step, with_mark, AreSound}
+use Rattle.mps_arena.specs.KeyedSteps.{KeyedStep, steps, keys_of, any_step, with_mark, AreSound}
 use Rattle.mps_arena.proofs.Chains.{keys-append}
 use Rattle.mps_links.specs.Private.Order.{earlier}
 use Rattle.mps_links.specs.Marks.{marked_keys, is_marked, AreMarksClosed, unmarked, marked_by}
@@ -62,7 +62,7 @@ plain_steps : (l : List KeyedStep) → steps (map unmarked l) ≡ steps l
 plain_steps [] = refl
 plain_steps (e ∷ l) = ap (λ m. e.step ∷ m) (plain_steps l)
 
--- entries that differ in their marks alone have the same steps
+-- keyed steps that differ in their marks alone have the same steps
 pub same_steps : (l m : List KeyedStep) → map unmarked l ≡ map unmarked m → steps l ≡ steps m
 same_steps l m e = sym (plain_steps l) ∙ ap steps e ∙ plain_steps m
 
@@ -74,7 +74,7 @@ marked_same : (set : ℕ → Bool) (l : List KeyedStep) → AllByRecursion (λ e
 marked_same set [] h = refl
 marked_same set (e ∷ l) h = ap₂ (λ (z : KeyedStep) (m : List KeyedStep). z ∷ m) (ap (λ v. marked_as v e) h.0) (marked_same set l h.1)
 
--- entries marked by a set are those of the other list, marked by the set
+-- keyed steps marked by a set are those of the other list, marked by the set
 pub marked_from : (set : ℕ → Bool) (l m : List KeyedStep) → map unmarked l ≡ map unmarked m → AllByRecursion (λ e. e.marked ≡ set e.step.id) l → l ≡ map (marked_by set) m
 marked_from set l m e h = marked_same set l h ∙ sym (marked_plain set l) ∙ ap (map (marked_by set)) e ∙ marked_plain set m
 
@@ -213,7 +213,7 @@ module _ (es now : List KeyedStep) (whole : ℕ → Bool) (firsts : List (Option
     first = first_is (joins h w.set) w.rest k (sym first_pending ∙ is)
 
     abbrev y : KeyedStep
-    y = first.entry
+    y = first.keyed
 
     abbrev more : ℕ → Bool
     more = with w.set y.step.id
@@ -298,19 +298,19 @@ ends_by_count es now whole firsts count w long =
         subst (λ (l : List Step). IsIn t l) (sym (ap steps w.parts ∙ map-append (λ (e : KeyedStep). e.step) w.past w.rest) ∙ same_steps now es w.alike)
         (IsIn-append_right t (steps w.past) (steps w.rest) i)
 
--- the entry of a step
-entry_of : (l : List KeyedStep) (t : Step) → IsIn t (steps l) → (a : List KeyedStep) × (x : KeyedStep) × (b : List KeyedStep) × ((l ≡ a ++ x ∷ b) × (t ≡ x.step))
-entry_of [] t i = absurd i
-entry_of (e ∷ l) t (inl q) = ([], e, l, (refl, q))
-entry_of (e ∷ l) t (inr i) = let w = entry_of l t i in (e ∷ w.0, w.1, w.2, (ap (λ m. e ∷ m) w.3.0, w.3.1))
+-- the keyed step of a step
+keyed_of : (l : List KeyedStep) (t : Step) → IsIn t (steps l) → (a : List KeyedStep) × (x : KeyedStep) × (b : List KeyedStep) × ((l ≡ a ++ x ∷ b) × (t ≡ x.step))
+keyed_of [] t i = absurd i
+keyed_of (e ∷ l) t (inl q) = ([], e, l, (refl, q))
+keyed_of (e ∷ l) t (inr i) = let w = keyed_of l t i in (e ∷ w.0, w.1, w.2, (ap (λ m. e ∷ m) w.3.0, w.3.1))
 
--- entries marked by the consequences of a step are closed
+-- keyed steps marked by the consequences of a step are closed
 pub marks_closed : (es now : List KeyedStep) (n : ℕ) (set : ℕ → Bool) → IsRising (steps es) → map unmarked now ≡ map unmarked es → AllByRecursion (λ e. e.marked ≡ set e.step.id) now → set ≡ consequences (steps es) n → AreMarksClosed now
 marks_closed es now n set rising alike marks whole t s it is m d =
     let same = same_steps now es alike in
     let r : IsRising (steps now) = subst IsRising (sym same) rising in
     let mark_is = λ (u : Step) (i : IsIn u (steps now)).
-    let w = entry_of now u i in
+    let w = keyed_of now u i in
     let here : is_marked now u.id ≡ set u.id =
     grind (arith, marked_here, at_middle) in
     here in

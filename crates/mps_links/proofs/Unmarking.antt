@@ -7,7 +7,7 @@ use Rattle.std.proofs.lemmas.Bool.{cases_Bool, cond-true, cond-false, eqb-true, 
 use Rattle.std.proofs.lemmas.List.{map-append}
 use Rattle.mps_history.specs.Dependence.{is_matched}
 use Rattle.mps_arena.specs.Keys.{has, AreDistinct, last_key}
-use Rattle.mps_arena.specs.Entries.{KeyedStep, steps, keys_of, any_step, of_role, entry_at, with_mark, AreSound, IsSmall}
+use Rattle.mps_arena.specs.KeyedSteps.{KeyedStep, steps, keys_of, any_step, of_role, keyed_at, with_mark, AreSound, IsSmall}
 use Rattle.mps_arena.specs.Neighbours.{prev_of_role_in}
 use Rattle.mps_arena.proofs.KeyLists.{has-append_right}
 use Rattle.mps_arena.proofs.Chains.{keys_without, keys_around}
@@ -15,13 +15,13 @@ use Rattle.mps_links.specs.Marks.{AreMarksClosed, unmarked}
 use Rattle.mps_links.specs.Private.RoleMarks.{unmarked_of, AreLastMarked}
 use Rattle.mps_links.proofs.StepKeys.{in_middle, none_passes}
 use Rattle.mps_links.proofs.Present.{at_middle}
-use Rattle.mps_links.proofs.Firsts.{entry_in, rising_behind}
+use Rattle.mps_links.proofs.Firsts.{keyed_in, rising_behind}
 use Rattle.mps_links.proofs.Lasts.{IsLast, last_is, nothing_last}
 use Rattle.mps_links.proofs.Links.{prev_is}
 use Rattle.mps_links.proofs.Marked.{marked_here}
 use Rattle.mps_links.proofs.Newest.{below_next}
 
--- the entry with that mark
+-- the keyed step with that mark
 abbrev pub marked_as : Bool → KeyedStep → KeyedStep
 marked_as m e = record e { marked = m }
 
@@ -96,7 +96,7 @@ module _ (p : ℕ) where
       last = last_is (of_role p) w.front k (sym w.key ∙ is)
 
       abbrev x : KeyedStep
-      x = last.entry
+      x = last.keyed
 
       now_is : now ≡ last.before ++ x ∷ (last.behind ++ off w.rest)
       now_is = w.left ∙ ap (λ l. l ++ off w.rest) last.parts ∙ append_assoc last.before (x ∷ last.behind) (off w.rest)
@@ -107,8 +107,8 @@ module _ (p : ℕ) where
       own : x.step.role ≡ p
       own = eqb-true x.step.role p last.passes
 
-      pub walk_at : AreSound now → entry_at k now ≡ Some x
-      walk_at sound = grind (arith, entry_in, append_assoc)
+      pub walk_at : AreSound now → keyed_at k now ≡ Some x
+      walk_at sound = grind (arith, keyed_in, append_assoc)
 
       pub ends_unmarked : AreLastMarked p es → x.marked ≡ false → now ≡ off es
       ends_unmarked h m = grind (arith, none_before, append_assoc, own, ended, map-append, own_role, none_of_role)

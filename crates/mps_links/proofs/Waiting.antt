@@ -5,10 +5,10 @@ use Rattle.std.proofs.lemmas.Bool.{cases_Bool}
 use Rattle.mps_base.specs.declared.action.Step.{Step}
 use Rattle.mps_history.specs.Steps.{sends, receives}
 use Rattle.mps_arena.specs.Keys.{AreDistinct, is_at, has, first_key, last_key}
-use Rattle.mps_arena.specs.Entries.{KeyedStep, keys_of, entry_at, AreSound}
-use Rattle.mps_arena.specs.Neighbours.{waiting, receipt_in, prev_send_in}
+use Rattle.mps_arena.specs.KeyedSteps.{KeyedStep, keys_of, keyed_at, AreSound}
+use Rattle.mps_arena.specs.Neighbours.{first_waiting, receipt_in, prev_send_in}
 use Rattle.mps_arena.proofs.KeyLists.{once, before_absent, matched_key_middle, get_none, get_some, last_in, has-append_left}
-use Rattle.mps_arena.proofs.Chains.{distinct, passes, entry_key}
+use Rattle.mps_arena.proofs.Chains.{distinct, passes, keyed_key}
 use Rattle.mps_arena.proofs.Matched.{matched_of, sends_pair, sends_chain}
 use Rattle.mps_links.proofs.Lasts.{nothing_last}
 use Rattle.mps_links.proofs.Present.{there, chained_there}
@@ -48,15 +48,15 @@ module _ (es : List KeyedStep) (sound : AreSound es) (p q : ℕ) where
   first_get l = grind arith
 
   module _ (at first : Option ℕ) (turns : ℕ) (w : IsSought at first turns) where
-    found : length got ≡ length w.front → first ≡ waiting es p q
+    found : length got ≡ length w.front → first ≡ first_waiting es p q
     found e =
         let whole : length w.front + 0 ≡ length got = omega (arith, e) in
         w.waits ∙ sym (ap (λ l. slice_get l (length got)) w.parts ∙ get_behind w.front w.back 0 (length got) whole ∙ first_get w.back)
 
-    pub found_first : at ≡ None → first ≡ waiting es p q
+    pub found_first : at ≡ None → first ≡ first_waiting es p q
     found_first e = grind (arith, nothing_last, found)
 
-    pub found_last : length es ≤ turns → first ≡ waiting es p q
+    pub found_last : length es ≤ turns → first ≡ first_waiting es p q
     found_last long = found (omega (arith, long, w.count, w.enough, few (sends p q) es, ap length w.parts, length-append w.front w.back))
 
     module _ (k : ℕ) (is : at ≡ Some k) where
@@ -78,19 +78,19 @@ module _ (es : List KeyedStep) (sound : AreSound es) (p q : ℕ) where
       chained : has k sent ≡ true
       chained = ap (has k) w.parts ∙ has-append_left k w.front w.back (last_in w.front k (ap (λ o. is_at o k) (sym w.key ∙ is) ∙ eq-eqb k k refl))
 
-      entry : (e : KeyedStep) × (entry_at k es ≡ Some e)
-      entry = there k es (chained_there (sends p q) k es chained)
+      keyed : (e : KeyedStep) × (keyed_at k es ≡ Some e)
+      keyed = there k es (chained_there (sends p q) k es chained)
 
-      sending : sends p q entry.0.step ≡ true
-      sending = passes (sends p q) k es entry.0 sound.distinct entry.1 chained
+      sending : sends p q keyed.0.step ≡ true
+      sending = passes (sends p q) k es keyed.0 sound.distinct keyed.1 chained
 
       receipt_is : receipt_in es k ≡ slice_get got (length before)
       receipt_is =
-          let e = entry.0 in
-          grind (arith, sends_pair p q e.step sending, entry_key k es e entry.1, whole, matched_key_middle k before w.back got apart.0)
+          let e = keyed.0 in
+          grind (arith, sends_pair p q e.step sending, keyed_key k es e keyed.1, whole, matched_key_middle k before w.back got apart.0)
 
-      pub found_received : (r : ℕ) → receipt_in es k ≡ Some r → first ≡ waiting es p q
+      pub found_received : (r : ℕ) → receipt_in es k ≡ Some r → first ≡ first_waiting es p q
       found_received r e = let less = get_some got (length before) r (sym receipt_is ∙ e) in found (omega (arith, less, size, w.enough))
 
       pub seeks : receipt_in es k ≡ None → IsSought (prev_send_in es k) at (turns + 1)
-      seeks e = grind (arith, get_none got (length before) (sym receipt_is ∙ e), whole, entry_key k es entry.0 entry.1, sends_chain p q entry.0.step sending, before_absent None k before (k ∷ w.back) apart.0, eq-eqb k k refl)
+      seeks e = grind (arith, get_none got (length before) (sym receipt_is ∙ e), whole, keyed_key k es keyed.0 keyed.1, sends_chain p q keyed.0.step sending, before_absent None k before (k ∷ w.back) apart.0, eq-eqb k k refl)

@@ -1,11 +1,11 @@
--- Entries by their marks.
+-- Keyed steps by their mark, the flag that chooses them. The marks that roles leave are acts.
 use Rattle.std.specs.Prelude.{◌==◌, ◌&&◌, ℕ, Bool, false, List, map, not}
 use Rattle.std.specs.List.{filter, list_any}
 use Rattle.mps_base.specs.declared.action.Step.{Step}
 use Rattle.mps_history.specs.Steps.{numbers}
 use Rattle.mps_history.specs.Dependence.{IsClosed}
 use Rattle.mps_history.specs.Commits.{is_commit}
-use Rattle.mps_arena.specs.Entries.{KeyedStep, steps}
+use Rattle.mps_arena.specs.KeyedSteps.{KeyedStep, steps}
 
 -- the keys of the marked steps, in order
 abbrev pub marked_keys : List KeyedStep → List ℕ
@@ -19,11 +19,11 @@ is_marked es n = list_any (λ e. e.marked && e.step.id == n) es
 abbrev pub AreMarksClosed : List KeyedStep → Type 0
 AreMarksClosed es = IsClosed (steps es) (is_marked es)
 
--- the entry, marked exactly where its number is in the set
+-- the keyed step, marked exactly where its number is in the set
 abbrev pub marked_by : (ℕ → Bool) → KeyedStep → KeyedStep
 marked_by set e = record e { marked = set e.step.id }
 
--- the entry without a mark
+-- the keyed step without a mark
 abbrev pub unmarked : KeyedStep → KeyedStep
 unmarked e = record e { marked = false }
 

@@ -4,7 +4,7 @@ ghost use Rattle.std.specs.List.{find};
 ghost use Rattle.std.specs.Option.{option_map};
 ghost use Rattle.mps_history.specs.Steps.{step_of};
 ghost use Rattle.mps_history.specs.Dependence.{least, dependents};
-ghost use Rattle.mps_arena.specs.Entries.{steps};
+ghost use Rattle.mps_arena.specs.KeyedSteps.{steps};
 ghost use Rattle.mps_arena.specs.Neighbours.{CanGo};
 
 use crate::order::{earlier, with_number};
@@ -14,12 +14,12 @@ use mps_base::StepId;
 /// The least number of another step that depends on this one. It is the number of its role's next
 /// step or of its receipt. Unproved: it looks at no other step.
 pub fn least_dependent(arena: &Arena, id: StepId) -> Option<StepId>
-    requires present { IsSome (step_of (steps arena.now.entries) id) }
-    ensures least { result ≡ least (dependents (steps arena.now.entries) id) }
+    requires present { IsSome (step_of (steps arena.now.keyed_steps) id) }
+    ensures least { result ≡ least (dependents (steps arena.now.keyed_steps) id) }
     // a step on which nothing depends may be removed
     ensures free { result ≡ None → (k : ℕ)
-        → option_map (λ e. e.key) (find (λ e. e.step.id == id) arena.now.entries) ≡ Some k
-        → CanGo arena.now.entries k }
+        → option_map (λ e. e.key) (find (λ e. e.step.id == id) arena.now.keyed_steps) ≡ Some k
+        → CanGo arena.now.keyed_steps k }
 {
     steps_are_sound(arena);
     let key = arena.by_id(id)?;

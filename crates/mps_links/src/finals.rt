@@ -3,7 +3,7 @@ ghost use Rattle.std.specs.Prelude.{◌≡◌, ◌<◌, ◌==◌, ◌&&◌, IsSo
 ghost use Rattle.mps_history.specs.Commits.{is_commit};
 ghost use Rattle.mps_history.specs.Dependence.{least};
 ghost use Rattle.mps_arena.specs.Keys.{first_key};
-ghost use Rattle.mps_arena.specs.Entries.{KeyedStep, keys_of, entry_at};
+ghost use Rattle.mps_arena.specs.KeyedSteps.{KeyedStep, keys_of, keyed_at};
 ghost use Rattle.mps_links.specs.Marks.{is_marked, AreMarksClosed, marked_commits};
 
 use crate::order::{earlier, with_number};
@@ -12,8 +12,8 @@ use mps_base::{Act, Role, StepId};
 
 // The key itself where its step is a commit, else the other one.
 fn commit_or(arena: &Arena, key: Key, other: Option<Key>) -> Option<Key>
-    requires { IsSome (entry_at key arena.now.entries) }
-    ensures { (e : KeyedStep) → entry_at key arena.now.entries ≡ Some e
+    requires { IsSome (keyed_at key arena.now.keyed_steps) }
+    ensures { (e : KeyedStep) → keyed_at key arena.now.keyed_steps ≡ Some e
         → result ≡ (if is_commit e.step.act then Some key else other) }
 {
     match &arena.get(key).act {
@@ -25,9 +25,9 @@ fn commit_or(arena: &Arena, key: Key, other: Option<Key>) -> Option<Key>
 // The role's first marked commit, by a walk from its last step back.
 fn first_final_of(arena: &Arena, role: Role) -> Option<Key>
     requires small { role < 8 }
-    requires closed { AreMarksClosed arena.now.entries }
+    requires closed { AreMarksClosed arena.now.keyed_steps }
     ensures { result ≡ first_key (keys_of
-        (λ s. s.role == role && (is_marked arena.now.entries s.id && is_commit s.act)) arena.now.entries) }
+        (λ s. s.role == role && (is_marked arena.now.keyed_steps s.id && is_commit s.act)) arena.now.keyed_steps) }
 {
     let mut first = None;
     let mut at = arena.last_of(role);
@@ -48,8 +48,8 @@ fn first_final_of(arena: &Arena, role: Role) -> Option<Key>
 /// The least number of a marked commit, if one is marked, where each step that depends on a marked one is marked. It
 /// does not allocate. Unproved: it looks at no unmarked step but at one of each role.
 pub fn least_final(arena: &Arena) -> Option<StepId>
-    requires closed { AreMarksClosed arena.now.entries }
-    ensures least { result ≡ least (marked_commits arena.now.entries) }
+    requires closed { AreMarksClosed arena.now.keyed_steps }
+    ensures least { result ≡ least (marked_commits arena.now.keyed_steps) }
 {
     steps_are_sound(arena);
     let mut first = None;

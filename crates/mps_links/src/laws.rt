@@ -5,7 +5,7 @@ ghost use Rattle.mps_history.specs.Steps.{within, without};
 ghost use Rattle.mps_history.specs.Dependence.{consequences};
 ghost use Rattle.mps_history.specs.Commits.{commits_from};
 ghost use Rattle.mps_arena.specs.Keys.{last_key};
-ghost use Rattle.mps_arena.specs.Entries.{KeyedStep, steps, entry_at, AreSound};
+ghost use Rattle.mps_arena.specs.KeyedSteps.{KeyedStep, steps, keyed_at, AreSound};
 ghost use Rattle.mps_links.specs.Marks.{marked_keys, marked_steps, AreMarksClosed, marked_by, unmarked_steps};
 ghost use Rattle.mps_links.specs.Marks.{marked_commits};
 
@@ -26,7 +26,7 @@ pub fn marked_steps_go()
         → last_key None (marked_keys es) ≡ Some k
         → length (marked_keys (filter (λ e. not (e.key == k)) es)) + 1 ≡ length (marked_keys es) }
     ensures last { (es : List KeyedStep) (k : ℕ) (e : KeyedStep) → AreSound es
-        → last_key None (marked_keys es) ≡ Some k → entry_at k es ≡ Some e
+        → last_key None (marked_keys es) ≡ Some k → keyed_at k es ≡ Some e
         → marked_steps es ≡ marked_steps (filter (λ e. not (e.key == k)) es) ++ e.step ∷ [] }
     ensures left { (es : List KeyedStep) → last_key None (marked_keys es) ≡ None
         → unmarked_steps es ≡ steps es }

@@ -3,13 +3,13 @@ ghost use Rattle.std.specs.Prelude.{◌≡◌, ◌<◌, ◌==◌, ◌&&◌, map,
 ghost use Rattle.mps_history.specs.Steps.{step_of, within};
 ghost use Rattle.mps_history.specs.Dependence.{consequences};
 ghost use Rattle.mps_arena.specs.Keys.{last_key};
-ghost use Rattle.mps_arena.specs.Entries.{steps, keys_of};
+ghost use Rattle.mps_arena.specs.KeyedSteps.{steps, keys_of};
 ghost use Rattle.mps_arena.specs.Neighbours.{CanGo};
 ghost use Rattle.mps_links.specs.Marks.{marked_keys, is_marked, AreMarksClosed, marked_by, unmarked};
 ghost use Rattle.mps_links.specs.Private.Numbered.{key_of, HasNumber};
 ghost use Rattle.mps_links.specs.Private.RoleMarks.{unmarked_of, AreLastMarked};
 
-use crate::order::{Numbered, key_of, later, with_number};
+use crate::order::{NumberedKey, key_of, later, with_number};
 use crate::pending::Pending;
 use mps_arena::{Arena, Key, steps_are_sound};
 use mps_base::{Role, StepId};
@@ -18,13 +18,13 @@ use mps_base::{Role, StepId};
 /// from link to link, the oldest first. Unproved: it looks at no step that it doesn't mark, but at
 /// the next of each role.
 pub fn mark_from(arena: &mut Arena, id: StepId) -> usize
-    requires present { IsSome (step_of (steps arena.old.entries) id) }
-    requires unmarked { marked_keys arena.old.entries ≡ [] }
-    ensures marks { arena.new.entries
-        ≡ map (marked_by (consequences (steps arena.old.entries) id)) arena.old.entries }
-    ensures count { result ≡ length (within (steps arena.old.entries)
-        (consequences (steps arena.old.entries) id)) }
-    ensures closed { AreMarksClosed arena.new.entries }
+    requires present { IsSome (step_of (steps arena.old.keyed_steps) id) }
+    requires unmarked { marked_keys arena.old.keyed_steps ≡ [] }
+    ensures marks { arena.new.keyed_steps
+        ≡ map (marked_by (consequences (steps arena.old.keyed_steps) id)) arena.old.keyed_steps }
+    ensures count { result ≡ length (within (steps arena.old.keyed_steps)
+        (consequences (steps arena.old.keyed_steps) id)) }
+    ensures closed { AreMarksClosed arena.new.keyed_steps }
     ensures issued { arena.new.issued ≡ arena.old.issued }
     ensures ready { arena.new.is_ready ≡ arena.old.is_ready }
     ensures key { arena.new.next_key ≡ arena.old.next_key }
@@ -46,12 +46,12 @@ pub fn mark_from(arena: &mut Arena, id: StepId) -> usize
 }
 
 // The role's newest marked step: its last, or none.
-fn newest_marked_of(arena: &Arena, role: Role) -> Option<Numbered>
+fn newest_marked_of(arena: &Arena, role: Role) -> Option<NumberedKey>
     requires small { role < 8 }
-    requires closed { AreMarksClosed arena.now.entries }
+    requires closed { AreMarksClosed arena.now.keyed_steps }
     ensures newest { key_of result ≡ last_key None (keys_of
-        (λ s. s.role == role && is_marked arena.now.entries s.id) arena.now.entries) }
-    ensures number { HasNumber arena.now.entries result }
+        (λ s. s.role == role && is_marked arena.now.keyed_steps s.id) arena.now.keyed_steps) }
+    ensures number { HasNumber arena.now.keyed_steps result }
 {
     let key = arena.last_of(role)?;
     steps_are_sound(arena);
@@ -64,10 +64,10 @@ fn newest_marked_of(arena: &Arena, role: Role) -> Option<Numbered>
 /// The newest marked step, where each step that depends on a marked one is marked. So nothing
 /// depends on it, and it may be removed.
 pub fn newest_marked(arena: &Arena) -> Option<Key>
-    requires closed { AreMarksClosed arena.now.entries }
-    ensures newest { result ≡ last_key None (marked_keys arena.now.entries) }
-    ensures none { result ≡ None → marked_keys arena.now.entries ≡ [] }
-    ensures free { IfSome result (λ key. CanGo arena.now.entries key) }
+    requires closed { AreMarksClosed arena.now.keyed_steps }
+    ensures newest { result ≡ last_key None (marked_keys arena.now.keyed_steps) }
+    ensures none { result ≡ None → marked_keys arena.now.keyed_steps ≡ [] }
+    ensures free { IfSome result (λ key. CanGo arena.now.keyed_steps key) }
 {
     steps_are_sound(arena);
     let mut newest = None;
@@ -80,8 +80,8 @@ pub fn newest_marked(arena: &Arena) -> Option<Key>
 // Takes the marks of a role off, from its last step back.
 fn unmark_role(arena: &mut Arena, role: Role)
     requires small { role < 8 }
-    requires last { AreLastMarked role arena.old.entries }
-    ensures entries { arena.new.entries ≡ map (unmarked_of role) arena.old.entries }
+    requires last { AreLastMarked role arena.old.keyed_steps }
+    ensures keyed_steps { arena.new.keyed_steps ≡ map (unmarked_of role) arena.old.keyed_steps }
     ensures issued { arena.new.issued ≡ arena.old.issued }
     ensures ready { arena.new.is_ready ≡ arena.old.is_ready }
     ensures key { arena.new.next_key ≡ arena.old.next_key }
@@ -103,9 +103,9 @@ fn unmark_role(arena: &mut Arena, role: Role)
 /// Takes all marks off, where each step that depends on a marked one is marked. Unproved: no
 /// unmarked step is looked at but one of each role.
 pub fn unmark(arena: &mut Arena)
-    requires closed { AreMarksClosed arena.old.entries }
-    ensures entries { arena.new.entries ≡ map unmarked arena.old.entries }
-    ensures none { marked_keys arena.new.entries ≡ [] }
+    requires closed { AreMarksClosed arena.old.keyed_steps }
+    ensures keyed_steps { arena.new.keyed_steps ≡ map unmarked arena.old.keyed_steps }
+    ensures none { marked_keys arena.new.keyed_steps ≡ [] }
     ensures issued { arena.new.issued ≡ arena.old.issued }
     ensures ready { arena.new.is_ready ≡ arena.old.is_ready }
     ensures key { arena.new.next_key ≡ arena.old.next_key }

@@ -1,6 +1,6 @@
 //! Of two steps the one that comes earlier, and the one that comes later.
 ghost use Rattle.std.specs.Prelude.{◌≡◌, List, IfSome, IsSome};
-ghost use Rattle.mps_arena.specs.Entries.{KeyedStep, entry_at};
+ghost use Rattle.mps_arena.specs.KeyedSteps.{KeyedStep, keyed_at};
 ghost use Rattle.mps_links.specs.Private.Numbered.{key_of, HasNumber};
 ghost use Rattle.mps_links.specs.Private.Order.{earlier, later};
 
@@ -9,32 +9,32 @@ use mps_base::StepId;
 
 /// A step's key, with its number.
 #[derive(Clone, Copy, Debug, PartialEq, Eq)]
-pub(crate) struct Numbered {
+pub(crate) struct NumberedKey {
     pub(crate) key: Key,
     pub(crate) id: StepId,
 }
 
 /// The step of the key with its number.
-pub(crate) fn with_number(arena: &Arena, key: Option<Key>) -> Option<Numbered>
-    requires { IfSome key (λ key. IsSome (entry_at key arena.now.entries)) }
+pub(crate) fn with_number(arena: &Arena, key: Option<Key>) -> Option<NumberedKey>
+    requires { IfSome key (λ key. IsSome (keyed_at key arena.now.keyed_steps)) }
     ensures key { key_of result ≡ key }
-    ensures number { HasNumber arena.now.entries result }
+    ensures number { HasNumber arena.now.keyed_steps result }
 {
     let key = key?;
     steps_are_sound(arena);
     let id = arena.get(key).id;
-    Some(Numbered { key, id })
+    Some(NumberedKey { key, id })
 }
 
 /// The key alone.
-pub(crate) fn key_of(newest: Option<Numbered>) -> Option<Key>
+pub(crate) fn key_of(newest: Option<NumberedKey>) -> Option<Key>
     ensures { result ≡ key_of newest }
 {
     Some(newest?.key)
 }
 
 /// Of two steps the one with the smaller number.
-pub(crate) fn earlier(a: Option<Numbered>, b: Option<Numbered>) -> Option<Numbered>
+pub(crate) fn earlier(a: Option<NumberedKey>, b: Option<NumberedKey>) -> Option<NumberedKey>
     ensures { (es : List KeyedStep) → HasNumber es a → HasNumber es b
         → (key_of result ≡ earlier es (key_of a) (key_of b)) × HasNumber es result }
 {
@@ -46,7 +46,7 @@ pub(crate) fn earlier(a: Option<Numbered>, b: Option<Numbered>) -> Option<Number
 }
 
 /// Of two steps the one with the larger number.
-pub(crate) fn later(a: Option<Numbered>, b: Option<Numbered>) -> Option<Numbered>
+pub(crate) fn later(a: Option<NumberedKey>, b: Option<NumberedKey>) -> Option<NumberedKey>
     ensures { (es : List KeyedStep) → HasNumber es a → HasNumber es b
         → (key_of result ≡ later es (key_of a) (key_of b)) × HasNumber es result }
 {

@@ -1,17 +1,17 @@
 //! What is still to be marked.
 ghost use Rattle.std.specs.Prelude.{◌≡◌, ◌<◌, List, IsSome, Some, None, length, replicate};
 ghost use Rattle.std.specs.Option.{option_map};
-ghost use Rattle.mps_arena.specs.Entries.{KeyedStep, entry_at};
+ghost use Rattle.mps_arena.specs.KeyedSteps.{KeyedStep, keyed_at};
 ghost use Rattle.mps_links.specs.Private.Numbered.{keys_alone, HaveNumbers};
 ghost use Rattle.mps_links.specs.Private.Pending.{followed, earliest};
 
-use crate::order::{Numbered, earlier, key_of, with_number};
+use crate::order::{NumberedKey, earlier, key_of, with_number};
 use mps_arena::{Arena, Key, steps_are_sound};
 
 // The place of the step's role.
 fn role_at(arena: &Arena, key: Key) -> usize
-    requires { IsSome (entry_at key arena.now.entries) }
-    ensures role { option_map (λ e. e.step.role) (entry_at key arena.now.entries) ≡ Some result }
+    requires { IsSome (keyed_at key arena.now.keyed_steps) }
+    ensures role { option_map (λ e. e.step.role) (keyed_at key arena.now.keyed_steps) ≡ Some result }
     ensures small { result < 8 }
 {
     steps_are_sound(arena);
@@ -21,7 +21,7 @@ fn role_at(arena: &Arena, key: Key) -> usize
 /// For each role its first step that isn't marked and depends directly on a marked one.
 #[derive(Drop)]
 pub(crate) struct Pending {
-    firsts: [Option<Numbered>; 8],
+    firsts: [Option<NumberedKey>; 8],
 }
 
 impl Pending {
@@ -51,12 +51,12 @@ impl Pending {
     #[inline(always)]
     pub(crate) fn follow(&mut self, arena: &Arena, key: Key)
         requires size { length self.old.firsts ≡ 8 }
-        requires present { IsSome (entry_at key arena.now.entries) }
-        requires numbers { HaveNumbers arena.now.entries self.old.firsts }
+        requires present { IsSome (keyed_at key arena.now.keyed_steps) }
+        requires numbers { HaveNumbers arena.now.keyed_steps self.old.firsts }
         ensures size { length self.new.firsts ≡ 8 }
         ensures keys { keys_alone self.new.firsts
-            ≡ followed arena.now.entries key (keys_alone self.old.firsts) }
-        ensures numbers { HaveNumbers arena.now.entries self.new.firsts }
+            ≡ followed arena.now.keyed_steps key (keys_alone self.old.firsts) }
+        ensures numbers { HaveNumbers arena.now.keyed_steps self.new.firsts }
     {
         let role = role_at(arena, key);
         self.firsts[role] = with_number(arena, arena.next_of_role(key));

@@ -9,46 +9,46 @@ use Rattle.mps_base.specs.declared.action.Message.{Message}
 use Rattle.mps_base.specs.declared.action.Step.{Step}
 use Rattle.mps_base.specs.Effects.{Idle, effect}
 use Rattle.mps_arena.specs.Keys.{last_key}
-use Rattle.mps_arena.specs.Entries.{KeyedStep, keys_of, of_role, entry_at, IsSmall, AreSound}
+use Rattle.mps_arena.specs.KeyedSteps.{KeyedStep, keys_of, of_role, keyed_at, IsSmall, AreSound}
 use Rattle.mps_arena.specs.Neighbours.{CanGo}
-use Rattle.mps_arena.proofs.Chains.{entry_key}
-use Rattle.mps_arena.proofs.Keeping.{entry_split, all_at}
-use Rattle.mps_arena.proofs.Nodes.{cases_entry, last_of_chain}
+use Rattle.mps_arena.proofs.Chains.{keyed_key}
+use Rattle.mps_arena.proofs.Keeping.{keyed_split, all_at}
+use Rattle.mps_arena.proofs.Nodes.{cases_keyed, last_of_chain}
 use Rattle.mps_queues.specs.Fronts.{AreFronts}
 use Rattle.mps_queues.proofs.Moves.{idle_goes}
 use Rattle.mps_stores.specs.Stores.{Keys, Naming, AreStores}
 use Rattle.mps_stores.proofs.Bindings.{stores_idle_without}
 
 pub record Leaves (es : List KeyedStep) (k : ℕ) (s : Step) : Type 0 where
-  pub entry : KeyedStep
-  pub found : entry_at k es ≡ Some entry
-  pub key : entry.key ≡ k
-  pub step : entry.step ≡ s
+  pub keyed : KeyedStep
+  pub found : keyed_at k es ≡ Some keyed
+  pub key : keyed.key ≡ k
+  pub step : keyed.step ≡ s
   pub small : IsSmall s
   -- it is the last of each chain of its role that it stands in
   pub last : (f : Step → Bool) → ((t : Step) → f t ≡ true → of_role s.role t ≡ true) → f s ≡ true → last_key None (keys_of f es) ≡ Some k
 
-pub leaves : (es : List KeyedStep) (k : ℕ) (s : Step) → AreSound es → CanGo es k → option_map (λ e. e.step) (entry_at k es) ≡ Some s → Leaves es k s
-leaves es k s sound can is = grind (arith, entry_split, entry_key, all_at, last_of_chain, cases_entry)
+pub leaves : (es : List KeyedStep) (k : ℕ) (s : Step) → AreSound es → CanGo es k → option_map (λ e. e.step) (keyed_at k es) ≡ Some s → Leaves es k s
+leaves es k s sound can is = grind (arith, keyed_split, keyed_key, all_at, last_of_chain, cases_keyed)
 
 module _ (es : List KeyedStep) (k : ℕ) (s : Step) (l : Leaves es k s) (sound : AreSound es) where
-  here : entry_at l.entry.key es ≡ Some l.entry
-  here = subst (λ (j : ℕ). entry_at j es ≡ Some l.entry) (sym l.key) l.found
+  here : keyed_at l.keyed.key es ≡ Some l.keyed
+  here = subst (λ (j : ℕ). keyed_at j es ≡ Some l.keyed) (sym l.key) l.found
 
   -- where the step moves no message, the queues stay
   pub idle_queues : (queues : List (Option ℕ)) → effect s.act ≡ Idle → AreFronts es queues → AreFronts (filter (λ (e : KeyedStep). not (e.key == k)) es) queues
   idle_queues queues idle fronts =
       subst (λ (j : ℕ). AreFronts (filter (λ (e : KeyedStep). not (e.key == j)) es) queues) l.key
-      (idle_goes l.entry (ap (λ (t : Step). effect t.act) l.step ∙ idle) es queues sound here fronts)
+      (idle_goes l.keyed (ap (λ (t : Step). effect t.act) l.step ∙ idle) es queues sound here fronts)
 
   -- where the step binds no name, the stores stay
   pub idle_stores : (naming : Naming) (stores : List Keys) → naming s.act ≡ None → AreStores naming es stores → AreStores naming (filter (λ (e : KeyedStep). not (e.key == k)) es) stores
   idle_stores naming stores none bound =
       subst (λ (j : ℕ). AreStores naming (filter (λ (e : KeyedStep). not (e.key == j)) es) stores) l.key
-      (stores_idle_without naming es l.entry stores bound sound here (ap (λ (t : Step). naming t.act) l.step ∙ none))
+      (stores_idle_without naming es l.keyed stores bound sound here (ap (λ (t : Step). naming t.act) l.step ∙ none))
 
   -- what the step binds
-  pub bound : (naming : Naming) (name : Option (List ℕ)) → name ≡ naming s.act → option_map (λ (e : KeyedStep). naming e.step.act) (entry_at k es) ≡ Some name
+  pub bound : (naming : Naming) (name : Option (List ℕ)) → name ≡ naming s.act → option_map (λ (e : KeyedStep). naming e.step.act) (keyed_at k es) ≡ Some name
   bound naming name named = ap (option_map (λ (e : KeyedStep). naming e.step.act)) l.found ∙ ap Some (ap (λ (t : Step). naming t.act) l.step ∙ sym named)
 
 -- an act that is no send and no receipt

@@ -8,18 +8,18 @@ use Rattle.std.proofs.lemmas.Option.{slice_get_cases, slice_get_past, slice_get_
 use Rattle.mps_base.specs.declared.action.Message.{Message}
 use Rattle.mps_history.specs.Steps.{sends, receives, unreceived}
 use Rattle.mps_arena.specs.Keys.{is_at, has, AreDistinct}
-use Rattle.mps_arena.specs.Entries.{KeyedStep, steps, keys_of, entry_at, AreSound}
+use Rattle.mps_arena.specs.KeyedSteps.{KeyedStep, steps, keys_of, keyed_at, AreSound}
 use Rattle.mps_arena.specs.Neighbours.{next_send_in}
 use Rattle.mps_arena.proofs.KeyLists.{get_in, AreDistinct-right}
 use Rattle.mps_arena.proofs.Chains.{absent, passes, distinct}
 use Rattle.mps_arena.proofs.Matched.{sends_pair}
-use Rattle.mps_arena.proofs.Nodes.{cases_entry}
+use Rattle.mps_arena.proofs.Nodes.{cases_keyed}
 use Rattle.mps_queues.specs.Fronts.{waiting_keys}
 use Rattle.mps_queues.proofs.Moves.{get_drop_front, next_waiting}
 use Rattle.mps_log.specs.Private.Queued.{place_of_key, left_of, IsQueue}
 use Rattle.mps_log.specs.Values.{message_of}
 use Rattle.mps_log.specs.declared.queue.Queue.TheInside.{Inside}
-use Rattle.mps_log.proofs.Waiting.{message_waits, waiting_entry}
+use Rattle.mps_log.proofs.Waiting.{message_waits, waiting_keyed}
 
 -- where nothing stands, the list is over
 pub over : {A : Type 0} (xs : List A) (n : ℕ) → slice_get xs n ≡ None → length xs ≤ n
@@ -67,11 +67,11 @@ module _ (es : List KeyedStep) (sound : AreSound es) (p q : ℕ) where
       let got = length (keys_of (receives p q) es) in
       let place : slice_get sent (got + n) ≡ Some k = sym (get_drop_front sent got n (got + n) refl) ∙ e in
       let in_chain = get_in sent (got + n) k (ap (λ (o : Option ℕ). is_at o k) place ∙ eq-eqb k k refl) in
-      grind (arith, both_ways, absent, sends_pair, passes, cases_entry)
+      grind (arith, both_ways, absent, sends_pair, passes, cases_keyed)
 
 module _ (w : Inside) (walk : IsQueue w) where
   abbrev pub es_of : List KeyedStep
-  es_of = w.arena.now.entries
+  es_of = w.arena.now.keyed_steps
 
   abbrev pub left : List Message
   left = drop walk.passed (unreceived w.from w.to (steps es_of))
@@ -87,8 +87,8 @@ module _ (w : Inside) (walk : IsQueue w) where
     at_key : slice_get (waiting_keys es_of w.from w.to) walk.passed ≡ Some k
     at_key = sym walk.at ∙ here
 
-    pub there : IsSome (entry_at k es_of)
-    there = waiting_entry es_of walk.sound w.from w.to walk.passed k at_key
+    pub there : IsSome (keyed_at k es_of)
+    there = waiting_keyed es_of walk.sound w.from w.to walk.passed k at_key
 
     -- the message of the send
     pub message : (m : Message) × (message_of es_of k ≡ Some m)

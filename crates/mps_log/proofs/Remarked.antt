@@ -6,7 +6,7 @@ use Rattle.std.proofs.lemmas.Bool.{cases_Bool}
 use Rattle.mps_base.specs.declared.action.Step.{Step}
 use Rattle.mps_history.specs.Steps.{IsRising, sends, receives}
 use Rattle.mps_arena.specs.Keys.{AreDistinct}
-use Rattle.mps_arena.specs.Entries.{KeyedStep, steps, keys_of, any_step, IsSmall, AreSound}
+use Rattle.mps_arena.specs.KeyedSteps.{KeyedStep, steps, keys_of, any_step, IsSmall, AreSound}
 use Rattle.mps_arena.proofs.Chains.{keys_with, keys_without}
 use Rattle.mps_queues.specs.Fronts.{AreFronts}
 use Rattle.mps_stores.specs.Stores.{Keys, Naming, rebound, store_after, AreStores}
@@ -58,28 +58,28 @@ module _ (m : KeyedStep → Bool) where
   rebound_again naming p store [] = refl
   rebound_again naming p store (x ∷ es) = rebound_again naming p (store_after naming p store x) es
 
-  -- where an entry of the list stands in the one before
+  -- where a keyed step of the list stands in the one before
   pub record IsPlace (es c : List KeyedStep) (y : KeyedStep) : Type 0 where
     pub before : List KeyedStep
-    pub entry : KeyedStep
+    pub keyed : KeyedStep
     pub behind : List KeyedStep
-    pub parts : es ≡ before ++ entry ∷ behind
+    pub parts : es ≡ before ++ keyed ∷ behind
     pub front : c ≡ again before
-    pub same : y ≡ remarked entry
+    pub same : y ≡ remarked keyed
 
   pub place_again : (es c d : List KeyedStep) (y : KeyedStep) → again es ≡ c ++ y ∷ d → IsPlace es c y
   place_again [] [] d y e = absurd cc
   place_again [] (z ∷ c) d y e = absurd cc
   place_again (x ∷ es) [] d y e =
       let head : y ≡ remarked x = cc in
-      record { before = []; entry = x; behind = es; parts = refl; front = refl; same = head }
+      record { before = []; keyed = x; behind = es; parts = refl; front = refl; same = head }
   place_again (x ∷ es) (z ∷ c) d y e =
       let head : z ≡ remarked x = cc in
       let tail : again es ≡ c ++ y ∷ d = cc in
       let w = place_again es c d y tail in
       record {
         before = x ∷ w.before;
-        entry = w.entry;
+        keyed = w.keyed;
         behind = w.behind;
         parts = ap (λ l. x ∷ l) w.parts;
         front = ap₂ (λ (v : KeyedStep) (l : List KeyedStep). v ∷ l) head w.front;

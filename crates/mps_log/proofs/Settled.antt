@@ -4,7 +4,7 @@ use Rattle.std.specs.List.{filter}
 use Rattle.std.proofs.lemmas.Bool.{cases_Bool, cond-false}
 use Rattle.mps_history.specs.Commits.{is_commit}
 use Rattle.mps_history.specs.Steps.{numbers}
-use Rattle.mps_arena.specs.Entries.{KeyedStep}
+use Rattle.mps_arena.specs.KeyedSteps.{KeyedStep}
 use Rattle.mps_links.specs.Marks.{marked_steps, marked_commits}
 use Rattle.mps_log.specs.Private.Logged.{HasNoCommit}
 

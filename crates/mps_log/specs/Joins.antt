@@ -3,7 +3,7 @@ use Rattle.std.specs.Prelude.{◌≡◌, ◌+◌, ◌++◌, ◌∷◌, [], ℕ, 
 use Rattle.std.specs.Option.{option_and_then, option_or}
 use Rattle.mps_base.specs.declared.action.Act.{Act}
 use Rattle.mps_history.specs.Slots.{value_in}
-use Rattle.mps_arena.specs.Entries.{KeyedStep, entry_at, AreSound}
+use Rattle.mps_arena.specs.KeyedSteps.{KeyedStep, keyed_at, AreSound}
 use Rattle.mps_stores.specs.Stores.{Naming, bindings, slot_of, mark_of}
 use Rattle.mps_log.specs.Logged.{Logged}
 
@@ -15,19 +15,19 @@ bound_before naming es p act = option_and_then (λ name. value_in name (bindings
 abbrev pub replaced : List KeyedStep → ℕ → Act → Option ℕ
 replaced es p act = option_or (bound_before slot_of es p act) (bound_before mark_of es p act)
 
--- the entry of an act of role p, which stood at that node
+-- the keyed step of an act of role p, which stood at that node
 abbrev pub joining : Logged → ℕ → Act → ℕ → ℕ → KeyedStep
 joining l p act at key = record {
   key = key;
   step = record { id = l.issued + 1; role = p; act = act };
-  before = record { at = at; bound = replaced l.entries p act };
+  before = record { at = at; bound = replaced l.keyed_steps p act };
   marked = false;
 }
 
 -- the act of role p is the newest step, with the next number and under a key that was free
 pub record HasJoined (old new : Logged) (p : ℕ) (act : Act) (at : ℕ) : Type 0 where
   pub key : ℕ
-  pub fresh : entry_at key old.entries ≡ None
-  pub entries : new.entries ≡ old.entries ++ joining old p act at key ∷ []
+  pub fresh : keyed_at key old.keyed_steps ≡ None
+  pub keyed_steps : new.keyed_steps ≡ old.keyed_steps ++ joining old p act at key ∷ []
   pub issued : new.issued ≡ old.issued + 1
-  pub sound : AreSound new.entries
+  pub sound : AreSound new.keyed_steps

@@ -9,7 +9,7 @@ use Rattle.mps_base.specs.declared.action.Step.{Step}
 use Rattle.mps_base.specs.declared.value.Value.{Value}
 use Rattle.mps_history.specs.Slots.{value_in}
 use Rattle.mps_history.specs.Steps.{step_of}
-use Rattle.mps_arena.specs.Entries.{KeyedStep, entry_at}
+use Rattle.mps_arena.specs.KeyedSteps.{KeyedStep, keyed_at}
 use Rattle.mps_arena.specs.Neighbours.{source_in}
 use Rattle.mps_stores.specs.Stores.{bindings, slot_of, mark_of}
 
@@ -29,7 +29,7 @@ value_of (Label label) = None
 
 -- the message that the step of the key gave
 abbrev pub message_of : List KeyedStep → ℕ → Option Message
-message_of es k = option_and_then (λ e. given_by e.step.act) (entry_at k es)
+message_of es k = option_and_then (λ e. given_by e.step.act) (keyed_at k es)
 
 -- the message that the step of that number gave
 abbrev pub message_sent : List Step → ℕ → Option Message

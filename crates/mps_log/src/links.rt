@@ -5,7 +5,7 @@ ghost use Rattle.std.specs.Option.{option_copied, option_map};
 ghost use Rattle.mps_history.specs.Steps.{step_of};
 ghost use Rattle.mps_history.specs.Dependence.{least, dependents};
 ghost use Rattle.mps_arena.specs.Keys.{last_key};
-ghost use Rattle.mps_arena.specs.Entries.{steps, keys_of, of_role, entry_at, AreSound};
+ghost use Rattle.mps_arena.specs.KeyedSteps.{steps, keys_of, of_role, keyed_at, AreSound};
 ghost use Rattle.mps_arena.specs.Neighbours.{next_of_role_in, prev_of_role_in, CanGo};
 ghost use Rattle.mps_log.specs.Values.{message_taken};
 
@@ -19,8 +19,8 @@ impl Log {
     #[inline(always)]
     pub fn by_id(&self, id: StepId) -> Option<Key>
         ensures key { result
-            ≡ option_map (λ e. e.key) (find (λ e. e.step.id == id) self.now.entries) }
-        ensures sound { AreSound self.now.entries }
+            ≡ option_map (λ e. e.key) (find (λ e. e.step.id == id) self.now.keyed_steps) }
+        ensures sound { AreSound self.now.keyed_steps }
     {
         self.arena.by_id(id)
     }
@@ -28,8 +28,8 @@ impl Log {
     /// The step of the key.
     #[inline(always)]
     pub fn get(&self, key: Key) -> &Step
-        requires { IsSome (entry_at key self.now.entries) }
-        ensures { option_map (λ e. e.step) (entry_at key self.now.entries) ≡ Some result.now }
+        requires { IsSome (keyed_at key self.now.keyed_steps) }
+        ensures { option_map (λ e. e.step) (keyed_at key self.now.keyed_steps) ≡ Some result.now }
     {
         self.arena.get(key)
     }
@@ -37,8 +37,8 @@ impl Log {
     /// What was there before the step of the key.
     #[inline(always)]
     pub fn before(&self, key: Key) -> Before
-        requires { IsSome (entry_at key self.now.entries) }
-        ensures { option_map (λ e. e.before) (entry_at key self.now.entries) ≡ Some result }
+        requires { IsSome (keyed_at key self.now.keyed_steps) }
+        ensures { option_map (λ e. e.before) (keyed_at key self.now.keyed_steps) ≡ Some result }
     {
         self.arena.before(key)
     }
@@ -47,7 +47,7 @@ impl Log {
     #[inline(always)]
     pub fn last_of(&self, role: Role) -> Option<Key>
         requires { role < 8 }
-        ensures { result ≡ last_key None (keys_of (of_role role) self.now.entries) }
+        ensures { result ≡ last_key None (keys_of (of_role role) self.now.keyed_steps) }
     {
         self.arena.last_of(role)
     }
@@ -55,8 +55,8 @@ impl Log {
     /// The role's next step; none where no step has the key.
     #[inline(always)]
     pub fn next_of_role(&self, key: Key) -> Option<Key>
-        ensures next { result ≡ next_of_role_in self.now.entries key }
-        ensures sound { AreSound self.now.entries }
+        ensures next { result ≡ next_of_role_in self.now.keyed_steps key }
+        ensures sound { AreSound self.now.keyed_steps }
     {
         self.arena.next_of_role(key)
     }
@@ -64,7 +64,7 @@ impl Log {
     /// The role's step before; none where no step has the key.
     #[inline(always)]
     pub fn prev_of_role(&self, key: Key) -> Option<Key>
-        ensures { result ≡ prev_of_role_in self.now.entries key }
+        ensures { result ≡ prev_of_role_in self.now.keyed_steps key }
     {
         self.arena.prev_of_role(key)
     }
@@ -73,7 +73,7 @@ impl Log {
     /// receipt's.
     #[inline(always)]
     pub fn taken(&self, key: Key) -> Option<&Message>
-        ensures { option_copied result ≡ message_taken self.now.entries key }
+        ensures { option_copied result ≡ message_taken self.now.keyed_steps key }
     {
         taken_at(&self.arena, key)
     }
@@ -81,12 +81,12 @@ impl Log {
     /// The least number of another step that depends on this one.
     #[inline(always)]
     pub fn least_dependent(&self, id: StepId) -> Option<StepId>
-        requires present { IsSome (step_of (steps self.now.entries) id) }
-        ensures least { result ≡ least (dependents (steps self.now.entries) id) }
+        requires present { IsSome (step_of (steps self.now.keyed_steps) id) }
+        ensures least { result ≡ least (dependents (steps self.now.keyed_steps) id) }
         // a step on which nothing depends may be removed
         ensures free { result ≡ None → (k : ℕ)
-            → option_map (λ e. e.key) (find (λ e. e.step.id == id) self.now.entries) ≡ Some k
-            → CanGo self.now.entries k }
+            → option_map (λ e. e.key) (find (λ e. e.step.id == id) self.now.keyed_steps) ≡ Some k
+            → CanGo self.now.keyed_steps k }
     {
         least_dependent(&self.arena, id)
     }

@@ -5,8 +5,8 @@ ghost use Rattle.std.specs.List.{filter};
 ghost use Rattle.std.specs.Option.{option_copied, option_map, option_and_then};
 ghost use Rattle.mps_base.specs.declared.action.Act.TheVariants.{Out, In, Mark, Commit};
 ghost use Rattle.mps_history.specs.Steps.{without, unreceived};
-ghost use Rattle.mps_arena.specs.Entries.{steps, entry_at, AreSound};
-ghost use Rattle.mps_arena.specs.Neighbours.{id_in, waiting, CanGo};
+ghost use Rattle.mps_arena.specs.KeyedSteps.{steps, keyed_at, AreSound};
+ghost use Rattle.mps_arena.specs.Neighbours.{id_in, first_waiting, CanGo};
 ghost use Rattle.mps_queues.specs.Fronts.{AreFronts};
 ghost use Rattle.std.specs.Map.Iter.{deref_pair};
 ghost use Rattle.mps_base.specs.declared.value.Value.{Value};
@@ -50,11 +50,11 @@ impl Model for Log {
 
 // The stores without the step of the key, which binds that name, or none: the name gets back what it was bound to.
 fn unbind(stores: &mut Stores, arena: &Arena, key: Key, name: Option<&Name>)
-    requires can { CanGo arena.now.entries key }
-    requires sound { AreSound arena.now.entries }
-    ensures { (naming : Naming) → AreStores naming arena.now.entries stores.old
-        → option_map (λ e. naming e.step.act) (entry_at key arena.now.entries) ≡ Some (option_copied name.entry)
-        → AreStores naming (filter (λ e. not (e.key == key)) arena.now.entries) stores.new }
+    requires can { CanGo arena.now.keyed_steps key }
+    requires sound { AreSound arena.now.keyed_steps }
+    ensures { (naming : Naming) → AreStores naming arena.now.keyed_steps stores.old
+        → option_map (λ e. naming e.step.act) (keyed_at key arena.now.keyed_steps) ≡ Some (option_copied name.entry)
+        → AreStores naming (filter (λ e. not (e.key == key)) arena.now.keyed_steps) stores.new }
 {
     if let Some(name) = name {
         stores.unbind(arena.get(key).role, name, arena.before(key).bound);
@@ -64,14 +64,14 @@ fn unbind(stores: &mut Stores, arena: &Arena, key: Key, name: Option<&Name>)
 // The queues and the stores without the step of the key: a send's message leaves its queue, a receipt's comes back to
 // the front, and the slot or the name that the step binds gets back what it was bound to.
 fn give_back(queues: &mut Queues, slots: &mut Stores, marks: &mut Stores, arena: &Arena, key: Key)
-    requires can { CanGo arena.now.entries key }
-    requires sound { AreSound arena.now.entries }
-    requires fronts { AreFronts arena.now.entries queues.old }
-    requires slots { AreStores slot_of arena.now.entries slots.old }
-    requires marks { AreStores mark_of arena.now.entries marks.old }
-    ensures fronts { AreFronts (filter (λ e. not (e.key == key)) arena.now.entries) queues.new }
-    ensures slots { AreStores slot_of (filter (λ e. not (e.key == key)) arena.now.entries) slots.new }
-    ensures marks { AreStores mark_of (filter (λ e. not (e.key == key)) arena.now.entries) marks.new }
+    requires can { CanGo arena.now.keyed_steps key }
+    requires sound { AreSound arena.now.keyed_steps }
+    requires fronts { AreFronts arena.now.keyed_steps queues.old }
+    requires slots { AreStores slot_of arena.now.keyed_steps slots.old }
+    requires marks { AreStores mark_of arena.now.keyed_steps marks.old }
+    ensures fronts { AreFronts (filter (λ e. not (e.key == key)) arena.now.keyed_steps) queues.new }
+    ensures slots { AreStores slot_of (filter (λ e. not (e.key == key)) arena.now.keyed_steps) slots.new }
+    ensures marks { AreStores mark_of (filter (λ e. not (e.key == key)) arena.now.keyed_steps) marks.new }
 {
     let step = arena.get(key);
     match &step.act {
@@ -87,8 +87,8 @@ fn give_back(queues: &mut Queues, slots: &mut Stores, marks: &mut Stores, arena:
 
 // The message that the step of the key gave, if it gave one.
 pub(crate) fn message_at(arena: &Arena, key: Key) -> Option<&Message>
-    requires { IsSome (entry_at key arena.now.entries) }
-    ensures { option_copied result ≡ message_of arena.now.entries key }
+    requires { IsSome (keyed_at key arena.now.keyed_steps) }
+    ensures { option_copied result ≡ message_of arena.now.keyed_steps key }
 {
     match &arena.get(key).act {
         Act::Out { message, .. } => Some(message),
@@ -99,7 +99,7 @@ pub(crate) fn message_at(arena: &Arena, key: Key) -> Option<&Message>
 // The message that the receipt of the key took: that of the send that it is matched with; none where the key is no
 // receipt's.
 pub(crate) fn taken_at(arena: &Arena, key: Key) -> Option<&Message>
-    ensures { option_copied result ≡ message_taken arena.now.entries key }
+    ensures { option_copied result ≡ message_taken arena.now.keyed_steps key }
 {
     let source = arena.source(key)?;
     message_at(arena, source)
@@ -107,7 +107,7 @@ pub(crate) fn taken_at(arena: &Arena, key: Key) -> Option<&Message>
 
 // The value that the receipt of the key took; none where it took a label, or the key is no receipt's.
 fn value_at(arena: &Arena, receipt: Key) -> Option<&Value>
-    ensures { option_copied result ≡ value_taken arena.now.entries receipt }
+    ensures { option_copied result ≡ value_taken arena.now.keyed_steps receipt }
 {
     match taken_at(arena, receipt) {
         Some(Message::Value(value)) => Some(value),
@@ -118,7 +118,7 @@ fn value_at(arena: &Arena, receipt: Key) -> Option<&Value>
 impl Log {
     /// A log without steps. The allocator is kept for later growth.
     pub fn new(alloc: Global) -> Result<Log, AllocError>
-        ensures entries { IfOk result (λ log. log.entries ≡ []) }
+        ensures keyed_steps { IfOk result (λ log. log.keyed_steps ≡ []) }
         ensures issued { IfOk result (λ log. log.issued ≡ 0) }
     {
         Ok(Log {
@@ -141,15 +141,15 @@ impl Log {
     /// How many steps there are.
     #[inline(always)]
     pub fn len(&self) -> usize
-        ensures count { result ≡ length self.now.entries }
-        ensures sound { AreSound self.now.entries }
+        ensures count { result ≡ length self.now.keyed_steps }
+        ensures sound { AreSound self.now.keyed_steps }
     {
         self.arena.len()
     }
 
     /// The k-th step, from 0. It takes O(k) time.
     pub fn step(&self, k: usize) -> Option<&Step>
-        ensures { option_copied result ≡ slice_get (steps self.now.entries) k }
+        ensures { option_copied result ≡ slice_get (steps self.now.keyed_steps) k }
     {
         let key = self.arena.nth(k)?;
         Some(self.arena.get(key))
@@ -157,16 +157,16 @@ impl Log {
 
     /// The steps in order, each with the message that it gave or took.
     pub fn moves(&self) -> Moves<'_>
-        ensures { result ≡ shown self.now.entries self.now.entries }
+        ensures { result ≡ shown self.now.keyed_steps self.now.keyed_steps }
     {
         Moves::of(&self.arena)
     }
 
     /// The steps with their links.
     pub fn steps(&self) -> &Arena
-        ensures entries { result.now.entries ≡ self.now.entries }
+        ensures keyed_steps { result.now.keyed_steps ≡ self.now.keyed_steps }
         ensures issued { result.now.issued ≡ self.now.issued }
-        ensures sound { AreSound self.now.entries }
+        ensures sound { AreSound self.now.keyed_steps }
     {
         &self.arena
     }
@@ -175,7 +175,7 @@ impl Log {
     /// be named.
     pub fn message(&self, from: Role, to: Role, k: usize) -> Option<&Message>
         ensures { option_copied result
-            ≡ slice_get (unreceived from to (steps self.now.entries)) k }
+            ≡ slice_get (unreceived from to (steps self.now.keyed_steps)) k }
     {
         let arena = &self.arena;
         if from.index() >= 8 || to.index() >= 8 {
@@ -189,11 +189,11 @@ impl Log {
     /// may be named.
     pub fn first_sent(&self, from: Role, to: Role) -> Option<StepId>
         ensures step { result
-            ≡ option_and_then (id_in self.now.entries) (waiting self.now.entries from to) }
+            ≡ option_and_then (id_in self.now.keyed_steps) (first_waiting self.now.keyed_steps from to) }
         // by its number the message is found again
-        ensures message { option_and_then (message_sent (steps self.now.entries)) result
-            ≡ slice_get (unreceived from to (steps self.now.entries)) 0 }
-        ensures gives { IfSome result (λ id. IsSome (message_sent (steps self.now.entries) id)) }
+        ensures message { option_and_then (message_sent (steps self.now.keyed_steps)) result
+            ≡ slice_get (unreceived from to (steps self.now.keyed_steps)) 0 }
+        ensures gives { IfSome result (λ id. IsSome (message_sent (steps self.now.keyed_steps) id)) }
     {
         let arena = &self.arena;
         if from.index() >= 8 || to.index() >= 8 {
@@ -206,7 +206,7 @@ impl Log {
     /// What the role keeps in the slot: the value that the newest receipt into it took.
     pub fn value(&self, role: Role, slot: &Name) -> Option<&Value>
         requires { role < 8 }
-        ensures { option_copied result ≡ kept_in self.now.entries role slot.now }
+        ensures { option_copied result ≡ kept_in self.now.keyed_steps role slot.now }
     {
         let receipt = self.slots.get(role, slot)?;
         value_at(&self.arena, receipt)
@@ -215,7 +215,7 @@ impl Log {
     /// The key of the role's last mark of the name.
     pub fn last_mark(&self, role: Role, name: &Name) -> Option<Key>
         requires { role < 8 }
-        ensures { result ≡ last_mark self.now.entries role name.now }
+        ensures { result ≡ last_mark self.now.keyed_steps role name.now }
     {
         self.marks.get(role, name)
     }
@@ -223,7 +223,7 @@ impl Log {
     /// How many slots of the role are bound.
     pub fn slots(&self, role: Role) -> usize
         requires { role < 8 }
-        ensures { result ≡ length (bindings slot_of role self.now.entries) }
+        ensures { result ≡ length (bindings slot_of role self.now.keyed_steps) }
     {
         self.slots.count(role)
     }
@@ -232,7 +232,8 @@ impl Log {
     pub fn binding(&self, role: Role, k: usize) -> Option<(&Name, &Value)>
         requires { role < 8 }
         ensures { option_map (deref_pair {K = List ℕ} {X = Value}) result
-            ≡ option_and_then (kept_by self.now.entries) (slice_get (bindings slot_of role self.now.entries) k) }
+            ≡ option_and_then (kept_by self.now.keyed_steps)
+            (slice_get (bindings slot_of role self.now.keyed_steps) k) }
     {
         let bound = self.slots.nth(role, k)?;
         let value = value_at(&self.arena, *bound.1)?;
@@ -241,7 +242,7 @@ impl Log {
 
     /// The messages that wait, in order, of those that one role sent to another. Any roles may be named.
     pub fn waiting(&self, from: Role, to: Role) -> Queue<'_>
-        ensures { result ≡ unreceived from to (steps self.now.entries) }
+        ensures { result ≡ unreceived from to (steps self.now.keyed_steps) }
     {
         let arena = &self.arena;
         if from.index() >= 8 || to.index() >= 8 {
@@ -284,7 +285,7 @@ impl Log {
     ) -> Result<StepId, AllocError>
         requires role { role < 8 }
         requires from { from < 8 }
-        requires waits { IsSome (waiting self.old.entries from role) }
+        requires waits { IsSome (first_waiting self.old.keyed_steps from role) }
         ensures id { IfOk result (λ id. id ≡ self.old.issued + 1) }
         ensures joined { OnOk result (HasJoined self.old self.new role (In from (option_copied slot.entry)) at) }
         ensures err { OnErr result (self.new ≡ self.old) }
@@ -330,13 +331,13 @@ impl Log {
     /// leaves the queue, or comes back to its front; its slot, or the name that it marks, gets back what it was bound
     /// to.
     pub fn remove(&mut self, key: Key) -> Step
-        requires { CanGo self.old.entries key }
-        ensures step { option_map (λ e. e.step) (entry_at key self.old.entries) ≡ Some result }
-        ensures entries { self.new.entries ≡ filter (λ e. not (e.key == key)) self.old.entries }
-        ensures history { steps self.new.entries
-            ≡ without (steps self.old.entries) (λ m. m == result.id) }
+        requires { CanGo self.old.keyed_steps key }
+        ensures step { option_map (λ e. e.step) (keyed_at key self.old.keyed_steps) ≡ Some result }
+        ensures keyed_steps { self.new.keyed_steps ≡ filter (λ e. not (e.key == key)) self.old.keyed_steps }
+        ensures history { steps self.new.keyed_steps
+            ≡ without (steps self.old.keyed_steps) (λ m. m == result.id) }
         ensures issued { self.new.issued ≡ self.old.issued }
-        ensures sound { AreSound self.new.entries }
+        ensures sound { AreSound self.new.keyed_steps }
     {
         give_back(
             &mut self.queues,

@@ -2,7 +2,7 @@
 ghost use Rattle.std.specs.Prelude.{◌≡◌, IsSome, Some, List};
 ghost use Rattle.std.specs.Iterator.{YieldsFirstBy, item_count};
 ghost use Rattle.std.specs.Option.{option_copied, option_and_then};
-ghost use Rattle.mps_arena.specs.Entries.{entry_at, AreSound};
+ghost use Rattle.mps_arena.specs.KeyedSteps.{keyed_at, AreSound};
 ghost use Rattle.mps_log.specs.Shown.{moved_of, shown};
 
 use crate::log::taken_at;
@@ -34,8 +34,8 @@ impl<'a> Model for Moves<'a> {
 impl<'a> Moves<'a> {
     /// All steps of the arena of a log.
     pub(crate) fn of(arena: &'a Arena) -> Moves<'a>
-        requires { AreSound arena.now.entries }
-        ensures { result ≡ shown arena.now.entries arena.now.entries }
+        requires { AreSound arena.now.keyed_steps }
+        ensures { result ≡ shown arena.now.keyed_steps arena.now.keyed_steps }
     {
         Moves {
             arena,
@@ -61,9 +61,9 @@ impl<'a> Iterator for Moves<'a> {
 
 // The message that the step of the key gave or took, if there is one.
 fn moved_at(arena: &Arena, key: Key) -> Option<&Message>
-    requires { IsSome (entry_at key arena.now.entries) }
+    requires { IsSome (keyed_at key arena.now.keyed_steps) }
     ensures { option_copied result
-        ≡ option_and_then (moved_of arena.now.entries) (entry_at key arena.now.entries) }
+        ≡ option_and_then (moved_of arena.now.keyed_steps) (keyed_at key arena.now.keyed_steps) }
 {
     match &arena.get(key).act {
         Act::Out { message, .. } => Some(message),

@@ -2,8 +2,8 @@
 ghost use Rattle.std.specs.Prelude.{◌≡◌};
 ghost use Rattle.std.specs.Iterator.{YieldsFirstRef, item_count};
 ghost use Rattle.mps_history.specs.Steps.{unreceived};
-ghost use Rattle.mps_arena.specs.Entries.{steps, AreSound};
-ghost use Rattle.mps_arena.specs.Neighbours.{waiting};
+ghost use Rattle.mps_arena.specs.KeyedSteps.{steps, AreSound};
+ghost use Rattle.mps_arena.specs.Neighbours.{first_waiting};
 
 use crate::log::message_at;
 use mps_arena::{Arena, Key};
@@ -36,9 +36,9 @@ impl<'a> Model for Queue<'a> {
 impl<'a> Queue<'a> {
     /// All messages that wait from one role to another, where this is the first send that isn't received.
     pub(crate) fn of(arena: &'a Arena, from: Role, to: Role, first: Option<Key>) -> Queue<'a>
-        requires sound { AreSound arena.now.entries }
-        requires first { first ≡ waiting arena.now.entries from to }
-        ensures { result ≡ unreceived from to (steps arena.now.entries) }
+        requires sound { AreSound arena.now.keyed_steps }
+        requires first { first ≡ first_waiting arena.now.keyed_steps from to }
+        ensures { result ≡ unreceived from to (steps arena.now.keyed_steps) }
     {
         Queue {
             arena,

@@ -34,10 +34,10 @@ result_of (Refused refusal) = Err refusal
 result_of answer = Ok answer
 
 -- what comes of role p's change, as a result
-abbrev pub outcome : List LocalType → State → ℕ → Change → Result Answer Refusal × State
-outcome types st p change = let served = serve types st p change in (result_of served.0, served.1)
+abbrev pub served_result : List LocalType → State → ℕ → Change → Result Answer Refusal × State
+served_result types st p change = let served = serve types st p change in (result_of served.0, served.1)
 
 -- the result is the machine's answer to role p's change, unless memory runs out, and the state after it is the
 -- machine's
 abbrev pub IsChanged : List LocalType → ℕ → Change → Result Answer Refusal → (old new : State) → Type 0
-IsChanged types p change result old new = IsServed (MayStarve change) result old new (outcome types old p change)
+IsChanged types p change result old new = IsServed (MayStarve change) result old new (served_result types old p change)

@@ -4,7 +4,7 @@ ghost use Rattle.std.specs.Option.{option_copied};
 ghost use Rattle.mps_base.specs.declared.action.Act.TheVariants as acts;
 ghost use Rattle.mps_base.specs.declared.action.Message.TheVariants as messages;
 ghost use Rattle.mps_command.specs.Acts.{act_of};
-ghost use Rattle.mps_command.specs.declared.command.Forward.{Forward as Asked};
+ghost use Rattle.mps_command.specs.declared.command.Forward.{Forward as Forwarded};
 ghost use Rattle.mps_local.specs.Actions.{Begins, Sends, Receives, Chooses, Picks};
 ghost use Rattle.mps_local.specs.Local.{LocalType};
 ghost use Rattle.mps_machine.specs.Rule.{moved};
@@ -18,7 +18,7 @@ use mps_base::{Message, Name, Role, Sort, Value};
 use mps_command::{Forward, Violation};
 use mps_table::Expect;
 
-/// How a role goes on in its part after an allowed command.
+/// How a role goes on in its local type after an allowed command.
 #[derive(Clone, Copy, Debug, PartialEq, Eq)]
 pub enum Advance {
     /// Not at all: a mark and a commit are no acts of the type.
@@ -80,7 +80,7 @@ pub fn judge(
 /// The message that a command moves is the machine's, where the first that waits from its peer is
 /// looked at.
 pub fn the_machine_moves_the_same()
-    ensures { (v : View) (p : ℕ) (step : Asked)
+    ensures { (v : View) (p : ℕ) (step : Forwarded)
         → moved v p (act_of step) ≡ moved_by step (waiting_from v p (peer_of step)) }
 {}
 

@@ -1,5 +1,5 @@
 //! Running a script from files.
-ghost use Rattle.std.specs.Prelude.{◌≡◌, ◌<◌, ◌≤◌, ◌^◌, Err, IfErr, IfOk, length};
+ghost use Rattle.std.specs.Prelude.{◌≡◌, ◌<◌, ◌≤◌, ◌^◌, Err, IfErr, IfOk, false, length};
 ghost use Rattle.mps_machine.specs.Machine.{initial};
 ghost use Rattle.mps_program.specs.Faults.{IsScriptFault, IsRunFault};
 
@@ -67,6 +67,7 @@ pub fn run_file<'a, R: Files + AllocGlobal + Print + Eprint>(
     strict: bool,
 ) -> Result<u8, ToolFault<'a>>
     ensures status { IfOk result (λ status. status ≤ 1) }
+    ensures not_strict { IfOk result (λ status. strict ≡ false → status ≡ 0) }
     ensures fault { IfErr result (IsRunFault file.now script.now) }
 {
     let protocol = load_protocol(rt.alloc(), &mut open_file(rt, file)?)?;

@@ -290,8 +290,8 @@ fn sessions_of<'a>(
     Ok(sessions)
 }
 
-/// Opens so many sessions of a protocol without faults, of which the first has that number. Each session owns its types,
-/// so each is projected by itself: at most 16, when the server starts.
+/// Opens so many sessions of a protocol without faults, of which the first has that number. Each session owns its
+/// types, so each is projected by itself, and has its own roles then: at most 16 times, when the server starts.
 pub fn hub_of<'a>(
     alloc: Global,
     protocol: &Protocol,
@@ -359,6 +359,7 @@ where
     let alloc = rt.alloc();
     let protocol = load_protocol(alloc, &mut open_file(rt, file)?)?;
     let hub = hub_of(alloc, &protocol, service.first, service.sessions)?;
+    // once, also where nothing is recorded
     let written = write_protocol(alloc, &protocol)?;
     let recording = recording_of(service.journal, written.as_slice());
     let mut writer = OverWrite::new(io::writer(rt));

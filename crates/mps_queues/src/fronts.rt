@@ -4,8 +4,8 @@ ghost use Rattle.std.specs.Prelude.{slice_get};
 ghost use Rattle.std.specs.List.{filter};
 ghost use Rattle.mps_history.specs.Steps.{sends, receives};
 ghost use Rattle.mps_arena.specs.Keys.{last_key};
-ghost use Rattle.mps_arena.specs.Entries.{KeyedStep, keys_of, AreSound};
-ghost use Rattle.mps_arena.specs.Neighbours.{waiting};
+ghost use Rattle.mps_arena.specs.KeyedSteps.{KeyedStep, keys_of, AreSound};
+ghost use Rattle.mps_arena.specs.Neighbours.{first_waiting};
 ghost use Rattle.mps_queues.specs.Fronts.{front_at, waiting_keys, AreFronts};
 ghost use Rattle.mps_queues.specs.Private.Fronts.{pushed, taken, returned, dropped};
 
@@ -44,7 +44,7 @@ fn pushed_front(key: Key, front: Link) -> Link
 
 // The front, where the first send is received.
 fn taken_front(arena: &Arena, front: Link) -> Link
-    ensures { result ≡ taken arena.now.entries front }
+    ensures { result ≡ taken arena.now.keyed_steps front }
 {
     match front.key() {
         Some(front) => Link::of(arena.next_send(front)),
@@ -54,7 +54,7 @@ fn taken_front(arena: &Arena, front: Link) -> Link
 
 // The front, where a receipt goes.
 fn returned_front(arena: &Arena, last: Option<Key>, front: Link) -> Link
-    ensures { result ≡ returned arena.now.entries last front }
+    ensures { result ≡ returned arena.now.keyed_steps last front }
 {
     match front.key() {
         Some(front) => Link::of(arena.prev_send(front)),
@@ -86,7 +86,7 @@ impl Queues {
     pub fn front(&self, from: Role, to: Role) -> Option<Key>
         requires from { from < 8 }
         requires to { to < 8 }
-        ensures { (es : List KeyedStep) → AreFronts es self.now → result ≡ waiting es from to }
+        ensures { (es : List KeyedStep) → AreFronts es self.now → result ≡ first_waiting es from to }
     {
         self.fronts[from.index() * 8 + to.index()].key()
     }
@@ -95,8 +95,8 @@ impl Queues {
     pub fn nth(&self, arena: &Arena, from: Role, to: Role, k: usize) -> Option<Key>
         requires from { from < 8 }
         requires to { to < 8 }
-        requires fronts { AreFronts arena.now.entries self.now }
-        ensures { result ≡ slice_get (waiting_keys arena.now.entries from to) k }
+        requires fronts { AreFronts arena.now.keyed_steps self.now }
+        ensures { result ≡ slice_get (waiting_keys arena.now.keyed_steps from to) k }
     {
         steps_are_sound(arena);
         let mut at = self.front(from, to)?;
@@ -122,10 +122,10 @@ impl Queues {
     pub fn take(&mut self, arena: &Arena, from: Role, to: Role) -> Option<Key>
         requires from { from < 8 }
         requires to { to < 8 }
-        requires fronts { AreFronts arena.now.entries self.old }
-        ensures first { result ≡ waiting arena.now.entries from to }
+        requires fronts { AreFronts arena.now.keyed_steps self.old }
+        ensures first { result ≡ first_waiting arena.now.keyed_steps from to }
         ensures fronts { (e : KeyedStep) → IsTrue (receives from to e.step)
-            → AreFronts (arena.now.entries ++ e ∷ []) self.new }
+            → AreFronts (arena.now.keyed_steps ++ e ∷ []) self.new }
     {
         steps_are_sound(arena);
         let at = from.index() * 8 + to.index();
@@ -138,10 +138,10 @@ impl Queues {
     pub fn put_back(&mut self, arena: &Arena, from: Role, to: Role)
         requires from { from < 8 }
         requires to { to < 8 }
-        requires fronts { AreFronts arena.now.entries self.old }
-        requires some { IsSome (last_key None (keys_of (receives from to) arena.now.entries)) }
-        ensures { (k : ℕ) → last_key None (keys_of (receives from to) arena.now.entries) ≡ Some k
-            → AreFronts (filter (λ e. not (e.key == k)) arena.now.entries) self.new }
+        requires fronts { AreFronts arena.now.keyed_steps self.old }
+        requires some { IsSome (last_key None (keys_of (receives from to) arena.now.keyed_steps)) }
+        ensures { (k : ℕ) → last_key None (keys_of (receives from to) arena.now.keyed_steps) ≡ Some k
+            → AreFronts (filter (λ e. not (e.key == k)) arena.now.keyed_steps) self.new }
     {
         steps_are_sound(arena);
         let at = from.index() * 8 + to.index();
@@ -154,10 +154,10 @@ impl Queues {
     pub fn drop_last(&mut self, arena: &Arena, from: Role, to: Role)
         requires from { from < 8 }
         requires to { to < 8 }
-        requires fronts { AreFronts arena.now.entries self.old }
-        requires some { IsSome (last_key None (keys_of (sends from to) arena.now.entries)) }
-        ensures { (k : ℕ) → last_key None (keys_of (sends from to) arena.now.entries) ≡ Some k
-            → AreFronts (filter (λ e. not (e.key == k)) arena.now.entries) self.new }
+        requires fronts { AreFronts arena.now.keyed_steps self.old }
+        requires some { IsSome (last_key None (keys_of (sends from to) arena.now.keyed_steps)) }
+        ensures { (k : ℕ) → last_key None (keys_of (sends from to) arena.now.keyed_steps) ≡ Some k
+            → AreFronts (filter (λ e. not (e.key == k)) arena.now.keyed_steps) self.new }
     {
         steps_are_sound(arena);
         let at = from.index() * 8 + to.index();

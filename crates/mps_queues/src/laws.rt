@@ -2,7 +2,7 @@
 ghost use Rattle.std.specs.Prelude.{◌≡◌, ℕ, ◌==◌, not, List, [], ◌∷◌, ◌++◌, Option, Some};
 ghost use Rattle.std.specs.List.{filter};
 ghost use Rattle.mps_base.specs.Effects.{Idle, effect};
-ghost use Rattle.mps_arena.specs.Entries.{KeyedStep, entry_at, AreSound};
+ghost use Rattle.mps_arena.specs.KeyedSteps.{KeyedStep, keyed_at, AreSound};
 ghost use Rattle.mps_queues.specs.Fronts.{AreFronts};
 
 /// A step that gives no message and takes none may join: the queues stay.
@@ -14,6 +14,6 @@ pub fn idle_steps_may_join()
 /// A step that gives no message and takes none may go, wherever it stands: the queues stay.
 pub fn idle_steps_may_go()
     ensures { (es : List KeyedStep) (e : KeyedStep) (fronts : List (Option ℕ))
-        → effect e.step.act ≡ Idle → AreSound es → entry_at e.key es ≡ Some e → AreFronts es fronts
+        → effect e.step.act ≡ Idle → AreSound es → keyed_at e.key es ≡ Some e → AreFronts es fronts
         → AreFronts (filter (λ other. not (other.key == e.key)) es) fronts }
 {}

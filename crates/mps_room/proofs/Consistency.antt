@@ -10,7 +10,7 @@ use Rattle.mps_command.specs.declared.command.Command.{Command}
 use Rattle.mps_machine.specs.Answering.{IsChanged}
 use Rattle.mps_machine.specs.Machine.{State, serve}
 use Rattle.mps_session.specs.SessionState.{SessionState}
-use Rattle.mps_room.specs.Journal.{most_entries, undone_by, is_accepted, grown, reply, IsReply}
+use Rattle.mps_room.specs.Journal.{most_entries, undone_by, is_accepted, grown, answer_to, MayAnswer}
 use Rattle.mps_room.specs.Private.Heard.{AreHeard, hears, with_place, takes_others}
 use Rattle.mps_room.specs.Private.Owners.{owns, owners_after}
 use Rattle.mps_room.specs.Private.Rooms.{IsConsistent}
@@ -44,8 +44,8 @@ module _ (names : List (List ℕ)) (m : SessionState) (owners : List ℕ) (count
       (λ own. same (ap takes_others asks ∙ own))
 
   -- the answer is the one that is wanted
-  pub replied : reply names m.types j p (command_of change) ≡ a
-  replied = grind arith
+  pub answered : answer_to names m.types j p (command_of change) ≡ a
+  answered = grind arith
 
   -- the same, of a command that asks for the change
   module _ (command : Command) (asks : command ≡ command_of change) where
@@ -62,10 +62,10 @@ module _ (names : List (List ℕ)) (m : SessionState) (owners : List ℕ) (count
     pub kind_as : IsOfKind command a
     kind_as = fits_command m.types m.state p change command asks a is kept (omega (arith, old.owners.next, old.owners.few, space))
 
-    pub replied_as : reply names m.types j p command ≡ a
-    replied_as = ap (reply names m.types j p) asks ∙ replied
+    pub answered_as : answer_to names m.types j p command ≡ a
+    answered_as = ap (answer_to names m.types j p) asks ∙ answered
 
 -- a refusal of the session is the room's
 module _ (names : List (List ℕ)) (m : SessionState) (owners : List ℕ) (count : ℕ) (lists : List (List ℕ)) (j : List Entry) (old : IsConsistent names m owners count lists j) (p : ℕ) (change : Change) (command : Command) (asks : command ≡ command_of change) (space : length j < most_entries) where
-  pub refused_as : (new : State) (refusal : Refusal) → IsChanged m.types p change (Err refusal) m.state new → IsReply (Refused refusal) (reply names m.types j p command)
+  pub refused_as : (new : State) (refusal : Refusal) → IsChanged m.types p change (Err refusal) m.state new → MayAnswer (Refused refusal) (answer_to names m.types j p command)
   refused_as new refusal h = grind (arith, refused_too m.types m.state new p (length j) change refusal space h)

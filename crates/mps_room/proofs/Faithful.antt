@@ -12,7 +12,7 @@ use Rattle.mps_fidelity.proofs.Refusals.{sound_other}
 use Rattle.mps_local.specs.Local.{LocalType}
 use Rattle.mps_machine.specs.Machine.{State, initial, IsSound}
 use Rattle.mps_machine.proofs.Sound.{initial_sound, serve_sound}
-use Rattle.mps_room.specs.Journal.{after_command, run_from, run, limited, reply, IsReply}
+use Rattle.mps_room.specs.Journal.{after_command, run_from, run, limited, answer_to, MayAnswer}
 use Rattle.mps_room.specs.declared.entry.Entry.{Entry}
 
 -- the state after the commands of a journal is one that the machine comes to
@@ -35,19 +35,19 @@ limited_other : (n : ℕ) (a : Answer) → a ≢ mismatch → limited n a ≢ mi
 limited_other n a other = grind arith
 
 -- a mismatch that is answered is the one that is wanted
-wanted_too : (wanted : Answer) → IsReply mismatch wanted → wanted ≡ mismatch
+wanted_too : (wanted : Answer) → MayAnswer mismatch wanted → wanted ≡ mismatch
 wanted_too wanted h = grind arith
 
 module _ (names : List (List ℕ)) (types : List LocalType) (own : AreOfOneProtocol types) where
   sound : (j : List Entry) → IsSound types (run types j)
   sound j = run_sound types initial j (initial_sound types)
 
-  reply_other : (j : List Entry) (p : ℕ) (c : Command) → reply names types j p c ≢ mismatch
-  reply_other j p (Forward step) = limited_other (length j) _ (sound_other types (run types j) p (changes.Forward step) own (sound j))
-  reply_other j p (Undo n) = grind (arith, sound_other, run_sound, initial_sound)
-  reply_other j p (Rollback n) = grind (arith, sound_other, run_sound, initial_sound)
-  reply_other j p (Back name) = grind (arith, sound_other, run_sound, initial_sound)
-  reply_other j p other = λ e. cc
+  answer_to_other : (j : List Entry) (p : ℕ) (c : Command) → answer_to names types j p c ≢ mismatch
+  answer_to_other j p (Forward step) = limited_other (length j) _ (sound_other types (run types j) p (changes.Forward step) own (sound j))
+  answer_to_other j p (Undo n) = grind (arith, sound_other, run_sound, initial_sound)
+  answer_to_other j p (Rollback n) = grind (arith, sound_other, run_sound, initial_sound)
+  answer_to_other j p (Back name) = grind (arith, sound_other, run_sound, initial_sound)
+  answer_to_other j p other = λ e. cc
 
-  pub answer_other : (j : List Entry) (p : ℕ) (c : Command) (a : Answer) → IsReply a (reply names types j p c) → a ≢ mismatch
-  answer_other j p c a says e = reply_other j p c (wanted_too (reply names types j p c) (subst (λ (x : Answer). IsReply x (reply names types j p c)) e says))
+  pub answer_other : (j : List Entry) (p : ℕ) (c : Command) (a : Answer) → MayAnswer a (answer_to names types j p c) → a ≢ mismatch
+  answer_other j p c a says e = answer_to_other j p c (wanted_too (answer_to names types j p c) (subst (λ (x : Answer). MayAnswer x (answer_to names types j p c)) e says))

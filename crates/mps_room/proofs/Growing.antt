@@ -10,7 +10,7 @@ use Rattle.mps_command.specs.declared.command.Change.{Change}
 use Rattle.mps_command.specs.declared.command.Change.TheVariants as changes
 use Rattle.mps_local.specs.Local.{LocalType}
 use Rattle.mps_machine.specs.Machine.{State, serve}
-use Rattle.mps_room.specs.Journal.{most_entries, after_command, run_from, run, limited, reply, is_accepted, IsEntryAfter, FollowsOn, IsLegal}
+use Rattle.mps_room.specs.Journal.{most_entries, after_command, run_from, run, limited, answer_to, is_accepted, IsEntryAfter, FollowsOn, IsLegal}
 use Rattle.mps_room.specs.declared.entry.Entry.{Entry}
 
 -- the state after one more entry
@@ -28,8 +28,8 @@ follows-joined names types before (f ∷ j) e all one =
 pub room_for : (n : ℕ) (a : Answer) → is_accepted a ≡ true → n < most_entries → limited n a ≡ a
 room_for n a kept room = grind (arith, cond-true, lt-ltb)
 
-pub reply_to_change : (names : List (List ℕ)) (types : List LocalType) (j : List Entry) (p : ℕ) (change : Change) → reply names types j p (command_of change) ≡ limited (length j) (serve types (run types j) p change).0
-reply_to_change names types j p change = grind arith
+pub answer_to_change : (names : List (List ℕ)) (types : List LocalType) (j : List Entry) (p : ℕ) (change : Change) → answer_to names types j p (command_of change) ≡ limited (length j) (serve types (run types j) p change).0
+answer_to_change names types j p change = grind arith
 
 -- a command that asks for a change is told by it
 pub asked : (command : Command) → IsSome (change_of command) → (change : Change) × (change_of command ≡ Some change) × (command ≡ command_of change)
@@ -40,7 +40,7 @@ module _ (names : List (List ℕ)) (types : List LocalType) (j : List Entry) (p 
   entry = record { role = p; command = command_of change; answer = a }
 
   pub legal_with : p < length types → IsLegal names types j → length j < most_entries → is_accepted a ≡ true → IsLegal names types (j ++ entry ∷ [])
-  legal_with known legal room kept = grind (arith, room_for, reply_to_change, length-append, follows-joined)
+  legal_with known legal room kept = grind (arith, room_for, answer_to_change, length-append, follows-joined)
 
   pub state_with : (st : State) → st ≡ (serve types (run types j) p change).1 → st ≡ run types (j ++ entry ∷ [])
   state_with st e = grind (arith, run-joined)

@@ -11,7 +11,7 @@ use Rattle.mps_machine.specs.Machine.{serve}
 use Rattle.mps_session.specs.Answers.{answer_of, source_of, IsGistFor, IsSent}
 use Rattle.mps_session.specs.SessionState.{SessionState}
 use Rattle.mps_session.specs.declared.gist.Gist.{Gist}
-use Rattle.mps_room.specs.Journal.{most_entries, undone_by, is_accepted, grown, reply}
+use Rattle.mps_room.specs.Journal.{most_entries, undone_by, is_accepted, grown, answer_to}
 use Rattle.mps_room.specs.Private.Forms.{narrow_answer, narrow, source_place, Fits}
 use Rattle.mps_room.specs.Private.Heard.{hears, with_place, takes_others, AreHeard}
 use Rattle.mps_room.specs.Private.Owners.{owns, owners_after}
@@ -42,26 +42,26 @@ module _ (names : List (List ℕ)) (m : SessionState) (owners places : List ℕ)
   room = subst (λ (n : ℕ). n < most_entries) (sym count_is) space
 
   given : IsGiven js place
-  given = tracing.given_there js places owners h old.traced gist sent
+  given = tracing.given_there js places owners h old.sent gist sent
 
   -- the answer is of the command's kind, and so is its gist
   pub fits : (ps : List ℕ) → ps ≡ places → Fits command gist (source_place ps gist)
   fits ps same =
       let of_kind = consistency.kind_as names m owners count lists (journal_of js) old.consistent p known change a is kept room command asks in
       subst (λ (q : List ℕ). Fits command gist (source_place q gist)) (sym same)
-      (fits_gist js h places command gist kind (subst (IsOfKind command) of of_kind) given (tracing.taken_there js places owners h old.traced gist sent))
+      (fits_gist js h places command gist kind (subst (IsOfKind command) of of_kind) given (tracing.taken_there js places owners h old.sent gist sent))
 
   joined : (l : List Narrow) → l ≡ js ++ entry ∷ [] → journal_of l ≡ journal_of js ++ answered ∷ []
   joined l more =
       ap journal_of more
-      ∙ tracing.journal_with js entry old.traced.sources given
-      ∙ ap (λ (w : Entry). journal_of js ++ w ∷ []) (tracing.whole_there js places owners h old.traced p command gist a sent of)
+      ∙ tracing.journal_with js entry old.sent.sources given
+      ∙ ap (λ (w : Entry). journal_of js ++ w ∷ []) (tracing.whole_there js places owners h old.sent p command gist a sent of)
 
   pub grown_as : (l : List Narrow) → l ≡ js ++ entry ∷ [] → journal_of l ≡ grown (journal_of js) p command a
   grown_as l more = grind (arith, room, joined)
 
-  pub replied_as : reply names m.types (journal_of js) p command ≡ a
-  replied_as = consistency.replied_as names m owners count lists (journal_of js) old.consistent p known change a is kept room command asks
+  pub answered_as : answer_to names m.types (journal_of js) p command ≡ a
+  answered_as = consistency.answered_as names m owners count lists (journal_of js) old.consistent p known change a is kept room command asks
 
   owned_is : (os : List ℕ) (k : ℕ) → owners_after os k (narrow_answer gist) ≡ owners_after os k a
   owned_is os k = tracing.narrow_owners h gist os k ∙ ap (owners_after os k) (sym of)
@@ -88,6 +88,6 @@ module _ (names : List (List ℕ)) (m : SessionState) (owners places : List ℕ)
       record {
         consistent = consistency.consistent_as names m owners count lists (journal_of js) old.consistent p known change a is kept room command asks
             now os n heard (journal_of l) types state (owned ∙ owned_is owners p) counted (heard_as heard each told same) (joined l more);
-        traced = tracing.traced_as m.types m.state p change js places owners old.consistent.owners.next old.traced entry asks given a is kept
+        sent = tracing.traced_as m.types m.state p change js places owners old.consistent.owners.next old.sent entry asks given a is kept
             ps os now.state.history l (placed ∙ owned_is places (length js)) (owned ∙ owned_is owners p) (ap (λ st. st.history) state) more;
       }

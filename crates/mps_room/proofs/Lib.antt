@@ -13,5 +13,5 @@ pub mod Consistency
 pub mod Keeping
 pub mod Faithful
 pub mod Numbering
-pub mod Outcomes
+pub mod OneAnswer
 pub mod Working

@@ -10,7 +10,7 @@ use Rattle.mps_command.specs.declared.command.Command.{Command}
 use Rattle.mps_local.specs.Local.{LocalType}
 use Rattle.mps_machine.specs.Machine.{State, serve}
 use Rattle.mps_machine.proofs.Answering.{from_ok}
-use Rattle.mps_room.specs.Journal.{reply, is_accepted, IsReply}
+use Rattle.mps_room.specs.Journal.{answer_to, is_accepted, MayAnswer}
 use Rattle.mps_room.specs.declared.entry.Entry.{Entry}
 use Rattle.mps_room.specs.Numbers.{last_of, kept_of}
 use Rattle.mps_room.specs.declared.numbers.Numbered.{Numbered}
@@ -26,7 +26,7 @@ is_told answer = false
 pub told_change : (types : List LocalType) (st : State) (p : ℕ) (change : Change) → is_told (serve types st p change).0 ≡ true
 told_change types st p change = grind arith
 
-pub accepts_change : (names : List (List ℕ)) (types : List LocalType) (j : List Entry) (p : ℕ) (c : Command) (a : Answer) → IsSome (change_of c) → IsReply a (reply names types j p c) → ((refusal : Refusal) → a ≡ Refused refusal → ⊥) → is_accepted a ≡ true
+pub accepts_change : (names : List (List ℕ)) (types : List LocalType) (j : List Entry) (p : ℕ) (c : Command) (a : Answer) → IsSome (change_of c) → MayAnswer a (answer_to names types j p c) → ((refusal : Refusal) → a ≡ Refused refusal → ⊥) → is_accepted a ≡ true
 accepts_change names types j p c a some says none = grind (arith, from_ok, asked)
 
 -- where the last number isn't 0, an answer is kept

@@ -11,7 +11,7 @@ use Rattle.mps_command.specs.declared.answer.Answer.TheVariants.{Done as Stepped
 use Rattle.mps_command.specs.declared.command.Change.{Change}
 use Rattle.mps_local.specs.Local.{LocalType}
 use Rattle.mps_machine.specs.Machine.{State, serve}
-use Rattle.mps_room.specs.Journal.{undone_by, gives, is_own, is_accepted, taken_from, news, FollowsOn}
+use Rattle.mps_room.specs.Journal.{undone_by, gives, is_own, is_accepted, taken_back, news, FollowsOn}
 use Rattle.mps_room.specs.Private.Heard.{hears_of, places_from, places, with_place, undone_at, takes_others, AreHeard}
 use Rattle.mps_room.specs.Private.Owners.{owns, owners_after, AreOwners, AreGiven}
 use Rattle.mps_room.specs.declared.entry.Entry.{Entry}
@@ -102,7 +102,7 @@ middle [] e j = refl
 middle (f ∷ a) e j = middle a e j
 
 -- the listed entries behind a journal's first ones tell what all entries behind these tell
-listed_tell : (set : ℕ → Bool) (p : ℕ) (a j whole : List Entry) (k : ℕ) → whole ≡ a ++ j → k ≡ length a → flat_map (λ i. filter set (undone_at whole i)) (places_from set p k j) ≡ taken_from set p j
+listed_tell : (set : ℕ → Bool) (p : ℕ) (a j whole : List Entry) (k : ℕ) → whole ≡ a ++ j → k ≡ length a → flat_map (λ i. filter set (undone_at whole i)) (places_from set p k j) ≡ taken_back set p j
 listed_tell set p a [] whole k is at = refl
 listed_tell set p a (e ∷ j) whole k is at =
     told_of (e.role == p) (list_any set (undone_by e.answer)) k (places_from set p (suc k) j) (λ i. filter set (undone_at whole i)) (filter set (undone_by e.answer))

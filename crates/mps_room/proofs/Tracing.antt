@@ -23,7 +23,7 @@ use Rattle.mps_session.specs.declared.gist.Gist.TheVariants as gists
 use Rattle.mps_room.specs.Journal.{undone_by, is_accepted}
 use Rattle.mps_room.specs.Private.Forms.{narrow_answer, narrow, source_place}
 use Rattle.mps_room.specs.Private.Owners.{owners_after}
-use Rattle.mps_room.specs.Private.Narrow.{Narrow, given_in, message_at, whole, journal_of, place_of, given_at, IsFound, IsGiven, AreTraced}
+use Rattle.mps_room.specs.Private.Narrow.{Narrow, given_in, message_at, whole, journal_of, place_of, given_at, IsFound, IsGiven, AreFound}
 use Rattle.mps_room.specs.declared.entry.Entry.{Entry}
 use Rattle.mps_room.proofs.Hearing.{all_along, all_push, found, serve_history, step_joined}
 use Rattle.mps_room.proofs.Owning.{none_stepped}
@@ -64,7 +64,7 @@ at_place js (x ∷ places) p (suc n) m is = at_place js places p n m is
 place_more : (js : List Narrow) (places : List ℕ) (p n : ℕ) (m : Message) → given_at places js n ≡ Some m → given_at (places ++ p ∷ []) js n ≡ Some m
 place_more js places p n m is = grind (arith, at_place)
 
-module _ (js : List Narrow) (places owners : List ℕ) (h : List Step) (traced : AreTraced places owners h js) where
+module _ (js : List Narrow) (places owners : List ℕ) (h : List Step) (traced : AreFound places owners h js) where
   taken_found : (source : Option ℕ) → IsSent h source → option_and_then (message_at js) (option_and_then (place_of places) source) ≡ taken_of h source
   taken_found source sent = grind (arith, found, eqb-true)
 
@@ -86,7 +86,7 @@ narrow_owners h gist owners p = grind arith
 
 -- ---- the steps after a change
 
-module _ (types : List LocalType) (st : State) (p : ℕ) (change : Change) (js : List Narrow) (places owners : List ℕ) (next : st.next ≡ length owners + 1) (old : AreTraced places owners st.history js) (e : Narrow) (asks : e.entry.command ≡ command_of change) (given : IsGiven js e.source) where
+module _ (types : List LocalType) (st : State) (p : ℕ) (change : Change) (js : List Narrow) (places owners : List ℕ) (next : st.next ≡ length owners + 1) (old : AreFound places owners st.history js) (e : Narrow) (asks : e.entry.command ≡ command_of change) (given : IsGiven js e.source) where
   abbrev one_more : List Narrow
   one_more = js ++ e ∷ []
 
@@ -108,7 +108,7 @@ module _ (types : List LocalType) (st : State) (p : ℕ) (change : Change) (js :
       (new_found step same))
   found_with done is other same served = grind (arith, none_stepped)
 
-  traced_with : (a : Answer) → a ≡ (serve types st p change).0 → is_accepted a ≡ true → AreTraced (owners_after places (length js) a) (owners_after owners p a) (serve types st p change).1.history one_more
+  traced_with : (a : Answer) → a ≡ (serve types st p change).0 → is_accepted a ≡ true → AreFound (owners_after places (length js) a) (owners_after owners p a) (serve types st p change).1.history one_more
   traced_with (Stepped done) is kept =
       record {
         count = omega (arith, old.count, length-append places (length js ∷ []), length-append owners (p ∷ []));
@@ -125,5 +125,5 @@ module _ (types : List LocalType) (st : State) (p : ℕ) (change : Change) (js :
       }
   traced_with other is kept = absurd cc
 
-  pub traced_as : (a : Answer) → a ≡ (serve types st p change).0 → is_accepted a ≡ true → (ps os : List ℕ) (h : List Step) (l : List Narrow) → ps ≡ owners_after places (length js) a → os ≡ owners_after owners p a → h ≡ (serve types st p change).1.history → l ≡ one_more → AreTraced ps os h l
+  pub traced_as : (a : Answer) → a ≡ (serve types st p change).0 → is_accepted a ≡ true → (ps os : List ℕ) (h : List Step) (l : List Narrow) → ps ≡ owners_after places (length js) a → os ≡ owners_after owners p a → h ≡ (serve types st p change).1.history → l ≡ one_more → AreFound ps os h l
   traced_as a is kept ps os h l placed owned after more = grind (arith, traced_with a is kept)

@@ -5,17 +5,17 @@ use Rattle.mps_command.specs.declared.answer.Answer.TheVariants as answers
 use Rattle.mps_command.specs.declared.command.Command.{Command}
 use Rattle.mps_machine.specs.Examples.{a, verdict}
 use Rattle.mps_room.specs.Examples.{names, PlainCaller, plain_caller, Tells}
-use Rattle.mps_room.specs.Journal.{reply, grown}
+use Rattle.mps_room.specs.Journal.{answer_to, grown}
 use Rattle.mps_room.specs.Numbers.{last_of, kept_of}
 use Rattle.mps_room.specs.declared.entry.Entry.{Entry}
 use Rattle.mps_room.specs.declared.numbers.Numbered.{Numbered}
 use Rattle.mps_room.specs.declared.numbers.Told.{Told}
 use Rattle.mps_room.specs.declared.numbers.Told.TheVariants.{Fresh, Kept, Wrong, Refused}
-use Rattle.mps_room.proofs.Outcomes.{one_outcome}
+use Rattle.mps_room.proofs.OneAnswer.{one_outcome}
 
 -- the journal, by what came of a command
 journal_after : PlainCaller → Command → Told → List Entry
-journal_after x command Fresh = grown x.journal a command (reply names verdict x.journal a command)
+journal_after x command Fresh = grown x.journal a command (answer_to names verdict x.journal a command)
 journal_after x command (Refused refusal) = grown x.journal a command (answers.Refused refusal)
 journal_after x command came = x.journal
 

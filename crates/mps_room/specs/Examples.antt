@@ -13,7 +13,7 @@ use Rattle.mps_command.specs.declared.answer.Refusal.TheVariants.{NoStep, Full}
 use Rattle.mps_machine.specs.Machine.{Request}
 use Rattle.mps_machine.specs.Examples.{a, b, c, sends_int, receives_into, undoes, rolls_back, relayed_then, done}
 use Rattle.mps_machine.specs.Examples.{done_with, relay_done_then, verdict}
-use Rattle.mps_room.specs.Journal.{reply, grown, limited}
+use Rattle.mps_room.specs.Journal.{answer_to, grown, limited}
 use Rattle.mps_room.specs.Callers.{entry, entries_of}
 use Rattle.mps_room.specs.Numbers.{IsNumbered, last_of, kept_of}
 use Rattle.mps_room.specs.declared.caller.Caller.{Ghosts}
@@ -27,26 +27,26 @@ abbrev pub names : List (List ℕ)
 names = codes "a" ∷ codes "b" ∷ codes "c" ∷ []
 
 -- a role and its command
-abbrev pub Asked : Type 0
-Asked = ℕ × Command
+abbrev pub RoleCommand : Type 0
+RoleCommand = ℕ × Command
 
-abbrev pub asks : Request → Asked
+abbrev pub asks : Request → RoleCommand
 asks request = (request.0, command_of request.1)
 
-abbrev pub asks_news : ℕ → ℕ → Asked
+abbrev pub asks_news : ℕ → ℕ → RoleCommand
 asks_news p n = (p, commands.News n)
 
--- the replies to commands after a journal, in order
-abbrev pub replies : List LocalType → List Entry → List Asked → List Answer
-replies types j [] = []
-replies types j (r ∷ rs) =
-    let answer = reply names types j r.0 r.1 in
-    answer ∷ replies types (grown j r.0 r.1 answer) rs
+-- the answers to commands after a journal, in order
+abbrev pub answers_after : List LocalType → List Entry → List RoleCommand → List Answer
+answers_after types j [] = []
+answers_after types j (r ∷ rs) =
+    let answer = answer_to names types j r.0 r.1 in
+    answer ∷ answers_after types (grown j r.0 r.1 answer) rs
 
 -- the news is what others took back of a role's steps, and there is none after the last entry, or past it
 abbrev pub TheNewsIsWhatOthersTookBack : Type 0
 TheNewsIsWhatOthersTookBack =
-    replies verdict [] (map asks (relayed_then (rolls_back a 1 ∷ []))
+    answers_after verdict [] (map asks (relayed_then (rolls_back a 1 ∷ []))
     ++ asks_news b 0 ∷ asks_news a 0 ∷ asks_news c 0 ∷ asks_news b 4 ∷ asks_news b 5 ∷ asks_news c 9 ∷ [])
     ≡ relay_done_then (Undone (4 ∷ 3 ∷ 2 ∷ 1 ∷ []) ∷ News 5 (3 ∷ 2 ∷ []) ∷ News 5 [] ∷ News 5 (4 ∷ [])
     ∷ News 5 (3 ∷ 2 ∷ []) ∷ News 5 [] ∷ News 5 [] ∷ [])
@@ -54,7 +54,7 @@ TheNewsIsWhatOthersTookBack =
 -- what a role undid itself is no news to it
 abbrev pub AnOwnUndoIsNoNews : Type 0
 AnOwnUndoIsNoNews =
-    replies verdict [] (map asks (sends_int a b 5 ∷ receives_into b a (codes "x") ∷ undoes b 2
+    answers_after verdict [] (map asks (sends_int a b 5 ∷ receives_into b a (codes "x") ∷ undoes b 2
     ∷ receives_into b a (codes "x") ∷ rolls_back a 1 ∷ []) ++ asks_news b 0 ∷ asks_news a 0 ∷ asks_news c 0 ∷ [])
     ≡ done 1 ∷ done_with 2 5 ∷ Undone (2 ∷ []) ∷ done_with 3 5 ∷ Undone (3 ∷ 1 ∷ []) ∷ News 5 (3 ∷ []) ∷ News 5 []
     ∷ News 5 [] ∷ []
@@ -73,10 +73,10 @@ pub record PlainCaller : Type 0 where
   pub journal : List Entry
   pub newest : Option Numbered
 
--- one call: it gets the reply, and the journal grows
+-- one call: it gets the answer, and the journal grows
 abbrev pub IsPlainCall : PlainCaller → Command → Answer → PlainCaller → Type 0
 IsPlainCall x command answer y =
-    (answer ≡ reply names verdict x.journal a command) × (y.journal ≡ grown x.journal a command answer)
+    (answer ≡ answer_to names verdict x.journal a command) × (y.journal ≡ grown x.journal a command answer)
 
 abbrev pub plain_caller : Ghosts PlainCaller
 plain_caller = record {

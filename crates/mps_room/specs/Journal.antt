@@ -48,27 +48,28 @@ abbrev pub is_own : List Entry → ℕ → ℕ → Bool
 is_own j p n = list_any (λ e. e.role == p && gives n e.answer) j
 
 -- of the steps in a set, those that entries of other roles than p took back, in order
-abbrev pub taken_from : (ℕ → Bool) → ℕ → List Entry → List ℕ
-taken_from set p j = flat_map (λ e. if e.role == p then [] else filter set (undone_by e.answer)) j
+abbrev pub taken_back : (ℕ → Bool) → ℕ → List Entry → List ℕ
+taken_back set p j = flat_map (λ e. if e.role == p then [] else filter set (undone_by e.answer)) j
 
 -- the numbers of p's steps that other roles' entries after the first n took back, in order
 abbrev pub news : List Entry → ℕ → ℕ → List ℕ
-news j p n = taken_from (is_own j p) p (drop n j)
+news j p n = taken_back (is_own j p) p (drop n j)
 
--- the answer after n entries: a refusal stays one, and else the journal has to have a place for one entry more
+-- the answer after n entries: a refusal stays one, and else the journal has to have space for one entry more
 abbrev pub limited : ℕ → Answer → Answer
 limited n (Refused refusal) = Refused refusal
 limited n answer = if nat_lt n most_entries then answer else Refused Full
 
 -- the answer to role p's command after a journal, where the roles have these names and opening types
-abbrev pub reply : (names : List (List ℕ)) → List LocalType → List Entry → ℕ → Command → Answer
-reply names types j p (commands.Forward step) =
+abbrev pub answer_to : (names : List (List ℕ)) → List LocalType → List Entry → ℕ → Command → Answer
+answer_to names types j p (commands.Forward step) =
     limited (length j) (serve types (run types j) p (changes.Forward step)).0
-reply names types j p (commands.Undo n) = limited (length j) (serve types (run types j) p (changes.Undo n)).0
-reply names types j p (commands.Rollback n) = limited (length j) (serve types (run types j) p (changes.Rollback n)).0
-reply names types j p (commands.Back name) = limited (length j) (serve types (run types j) p (changes.Back name)).0
-reply names types j p (commands.News n) = News (length j) (news j p n)
-reply names types j p commands.Show = Shown (show_text names types (run types j).history)
+answer_to names types j p (commands.Undo n) = limited (length j) (serve types (run types j) p (changes.Undo n)).0
+answer_to names types j p (commands.Rollback n) =
+    limited (length j) (serve types (run types j) p (changes.Rollback n)).0
+answer_to names types j p (commands.Back name) = limited (length j) (serve types (run types j) p (changes.Back name)).0
+answer_to names types j p (commands.News n) = News (length j) (news j p n)
+answer_to names types j p commands.Show = Shown (show_text names types (run types j).history)
 
 -- whether the answer accepts a change, which the journal then keeps
 abbrev pub is_accepted : Answer → Bool
@@ -85,7 +86,7 @@ pub record IsEntryAfter (names : List (List ℕ)) (types : List LocalType) (befo
     : Type 0 where
   pub known : e.role < length types
   pub accepted : is_accepted e.answer ≡ true
-  pub answer : e.answer ≡ reply names types before e.role e.command
+  pub answer : e.answer ≡ answer_to names types before e.role e.command
 
 -- each entry is, after those before it
 abbrev pub FollowsOn : (names : List (List ℕ)) → List LocalType → (before j : List Entry) → Type 0
@@ -98,5 +99,5 @@ pub record IsLegal (names : List (List ℕ)) (types : List LocalType) (j : List 
   pub each : FollowsOn names types [] j
 
 -- the answer is the one that is wanted, but memory may run out where that refuses nothing
-abbrev pub IsReply : Answer → Answer → Type 0
-IsReply answer wanted = IsAnswer (result_of answer) (result_of wanted)
+abbrev pub MayAnswer : Answer → Answer → Type 0
+MayAnswer answer wanted = IsAnswer (result_of answer) (result_of wanted)

@@ -4,5 +4,5 @@ pub mod Callers
 pub mod Numbers
 pub mod Solos
 pub mod Private
-pub mod Outcomes
+pub mod OneAnswer
 pub mod Examples

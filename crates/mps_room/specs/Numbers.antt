@@ -6,8 +6,8 @@ use Rattle.mps_command.specs.declared.answer.Refusal.{Refusal}
 use Rattle.mps_command.specs.declared.command.Command.{Command}
 use Rattle.mps_room.specs.Journal.{is_accepted}
 use Rattle.mps_room.specs.declared.numbers.Numbered.{Numbered}
-use Rattle.mps_room.specs.declared.numbers.Place.{Place}
-use Rattle.mps_room.specs.declared.numbers.Place.TheVariants.{Last, Next, Elsewhere}
+use Rattle.mps_room.specs.declared.numbers.Position.{Position}
+use Rattle.mps_room.specs.declared.numbers.Position.TheVariants.{Last, Next, Elsewhere}
 use Rattle.mps_room.specs.declared.numbers.Told.{Told}
 use Rattle.mps_room.specs.declared.numbers.Told.TheVariants.{Fresh, Kept, Wrong, Refused}
 
@@ -22,10 +22,10 @@ kept_of None = None
 kept_of (Some newest) = Some newest.answer
 
 -- where a number stands: it is the last one, which 0 never is, the next, or neither
-abbrev pub IsPlaced : (last n : ℕ) → Place → Type 0
-IsPlaced last n Last = (n ≡ last) × (n ≢ 0)
-IsPlaced last n Next = n ≡ last + 1
-IsPlaced last n Elsewhere = (n ≢ last + 1) × (n ≡ last → n ≡ 0)
+abbrev pub IsPosition : (last n : ℕ) → Position → Type 0
+IsPosition last n Last = (n ≡ last) × (n ≢ 0)
+IsPosition last n Next = n ≡ last + 1
+IsPosition last n Elsewhere = (n ≢ last + 1) × (n ≡ last → n ≡ 0)
 
 -- What a command with a number comes to, by what a call tells, the last number and the answer that is kept.
 module _ {C : Type 0} (calls : C → Command → Answer → C → Type 0) (last : C → ℕ) (kept : C → Option Answer) (c : C)

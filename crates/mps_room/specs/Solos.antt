@@ -4,7 +4,7 @@ use Rattle.std.specs.List.{filter}
 use Rattle.std.proofs.Common.{refl, ap, ◌∙◌, eq-eqb}
 use Rattle.mps_command.specs.declared.answer.Answer.{Answer}
 use Rattle.mps_command.specs.declared.command.Command.{Command}
-use Rattle.mps_room.specs.Journal.{grown, reply, is_accepted, IsReply}
+use Rattle.mps_room.specs.Journal.{grown, answer_to, is_accepted, MayAnswer}
 use Rattle.mps_room.specs.Callers.{entry, entries_of}
 use Rattle.mps_room.specs.declared.entry.Entry.{Entry}
 use Rattle.mps_room.specs.declared.solo.Solo.{Solo}
@@ -20,7 +20,7 @@ made_of s = entries_of s.role s.room.journal
 
 -- the room answers the role's command, and keeps it where it is accepted
 pub record IsSoloCall (s : Solo) (c : Command) (a : Answer) (t : Solo) : Type 0 where
-  pub answer : IsReply a (reply s.room.names s.room.types s.room.journal s.role c)
+  pub answer : MayAnswer a (answer_to s.room.names s.room.types s.room.journal s.role c)
   pub journal : t.room.journal ≡ grown s.room.journal s.role c a
   pub names : t.room.names ≡ s.room.names
   pub types : t.room.types ≡ s.room.types

@@ -2,7 +2,7 @@
 ghost use Rattle.std.specs.Prelude.{◌≡◌, ℕ, Bool, List, Option, IsSome};
 ghost use Rattle.std.specs.Option.{option_map};
 ghost use Rattle.mps_command.specs.Changes.{change_of};
-ghost use Rattle.mps_command.specs.declared.answer.Answer.{Answer as Answered};
+ghost use Rattle.mps_command.specs.declared.answer.Answer.{Answer as Response};
 ghost use Rattle.mps_command.specs.declared.command.Command.{Command as Asked};
 ghost use Rattle.mps_room.specs.Journal.{grown};
 ghost use Rattle.mps_room.specs.Numbers.{IsNumbered};
@@ -27,13 +27,13 @@ pub trait Caller {
     ghost made: { Self → List Entry };
 
     // What one call tells, of the caller before, the command, the answer and the caller after.
-    ghost calls: { Self → Asked → Answered → Self → Type 0 };
+    ghost calls: { Self → Asked → Response → Self → Type 0 };
 
     // The number of the newest numbered command that was accepted, 0 at first.
     ghost last: { Self → ℕ };
 
     // Its answer.
-    ghost kept: { Self → Option Answered };
+    ghost kept: { Self → Option Response };
 
     // Whether what it was answered may be told on.
     ghost may_tell: { Self → Bool };
@@ -66,12 +66,12 @@ pub trait Caller {
         ensures { result ≡ may_tell self.now };
 
     // No call changes the names.
-    ghost same_names: { (c : Self) (x : Asked) (a : Answered) (d : Self) → calls c x a d → names d ≡ names c };
+    ghost same_names: { (c : Self) (x : Asked) (a : Response) (d : Self) → calls c x a d → names d ≡ names c };
 
     // No call changes the role.
-    ghost same_role: { (c : Self) (x : Asked) (a : Answered) (d : Self) → calls c x a d → role d ≡ role c };
+    ghost same_role: { (c : Self) (x : Asked) (a : Response) (d : Self) → calls c x a d → role d ≡ role c };
 
     // A call adds just an accepted command, with its answer.
-    ghost grows: { (c : Self) (x : Asked) (a : Answered) (d : Self) → calls c x a d
+    ghost grows: { (c : Self) (x : Asked) (a : Response) (d : Self) → calls c x a d
         → made d ≡ grown (made c) (role c) x a };
 }

@@ -3,7 +3,7 @@ ghost use Rattle.std.specs.Prelude.{◌≡◌, ◌≢◌, ℕ, ◌+◌, true, fa
 ghost use Rattle.std.specs.Prelude.{vec_len, vec_capacity, slice_index_or, IsSome, IfErr, IfOk, OnOk, OnErr};
 ghost use Rattle.mps_command.specs.Changes.{change_of};
 ghost use Rattle.mps_command.specs.declared.answer.Answer.TheVariants.{Refused};
-ghost use Rattle.mps_room.specs.Journal.{grown, most_entries, reply, undone_by, IsReply};
+ghost use Rattle.mps_room.specs.Journal.{grown, most_entries, answer_to, undone_by, MayAnswer};
 ghost use Rattle.mps_room.specs.Private.Heard.{hears, with_place, takes_others};
 ghost use Rattle.mps_room.specs.Private.Forms.{narrow_answer, narrow, source_place, Fits};
 ghost use Rattle.mps_room.specs.Private.Owners.{owns, owners_after, is_step, HasSpace};
@@ -38,9 +38,9 @@ fn reserve_entry(
     ensures lists { length heard.new.lists ≡ 8 }
     ensures heard { map (λ l. l.items) heard.new.lists ≡ map (λ l. l.items) heard.old.lists }
     ensures few { OnOk result (length journal.old.items < most_entries) }
-    ensures place { OnOk result (vec_len journal.new + 1 ≤ vec_capacity journal.new) }
-    ensures step_place { OnOk result (is_step command.now ≡ true → HasSpace steps.new) }
-    ensures heard_place { OnOk result
+    ensures space { OnOk result (vec_len journal.new + 1 ≤ vec_capacity journal.new) }
+    ensures step_space { OnOk result (is_step command.now ≡ true → HasSpace steps.new) }
+    ensures heard_space { OnOk result
         (takes_others command.now ≡ true → (k : ℕ) (d : _) → k < heard.new.count → k ≢ role
         → vec_len (slice_index_or heard.new.lists k d) < vec_capacity (slice_index_or heard.new.lists k d)) }
     ensures lack { IfErr result (IsLack (length journal.old.items)) }
@@ -69,10 +69,10 @@ fn note(
     place: u32,
 )
     requires fits { (source : Option ℕ) × Fits command.now gist.now source }
-    requires step_place { is_step command.now ≡ true → HasSpace steps.old }
+    requires step_space { is_step command.now ≡ true → HasSpace steps.old }
     requires hearers { heard.old.count ≤ 8 }
     requires lists { length heard.old.lists ≡ 8 }
-    requires heard_place { takes_others command.now ≡ true → (k : ℕ) (d : _) → k < heard.old.count → k ≢ role
+    requires heard_space { takes_others command.now ≡ true → (k : ℕ) (d : _) → k < heard.old.count → k ≢ role
         → vec_len (slice_index_or heard.old.lists k d) < vec_capacity (slice_index_or heard.old.lists k d) }
     ensures owners { steps.new.owners.items ≡ owners_after steps.old.owners.items role (narrow_answer gist.now) }
     ensures places { steps.new.places.items ≡ owners_after steps.old.places.items place (narrow_answer gist.now) }
@@ -105,11 +105,11 @@ fn keep(
 )
     requires fits { Fits command gist (source_place steps.old.places.items gist) }
     requires few { length journal.old.items < most_entries }
-    requires place { vec_len journal.old + 1 ≤ vec_capacity journal.old }
-    requires step_place { is_step command ≡ true → HasSpace steps.old }
+    requires space { vec_len journal.old + 1 ≤ vec_capacity journal.old }
+    requires step_space { is_step command ≡ true → HasSpace steps.old }
     requires hearers { heard.old.count ≤ 8 }
     requires lists { length heard.old.lists ≡ 8 }
-    requires heard_place { takes_others command ≡ true → (k : ℕ) (d : _) → k < heard.old.count → k ≢ role
+    requires heard_space { takes_others command ≡ true → (k : ℕ) (d : _) → k < heard.old.count → k ≢ role
         → vec_len (slice_index_or heard.old.lists k d) < vec_capacity (slice_index_or heard.old.lists k d) }
     ensures journal { journal.new.items ≡ journal.old.items
         ++ narrow role command gist (source_place steps.old.places.items gist) ∷ [] }
@@ -125,9 +125,9 @@ fn keep(
     ensures unheard { takes_others command ≡ false → heard.new.lists ≡ heard.old.lists }
 {
     let place = journal.len() as u32;
-    let source = steps.place_of(source_of(&gist));
+    let sent_at = steps.place_of(source_of(&gist));
     note(steps, heard, role, &command, &gist, place);
-    NarrowEntry::push(journal, role, command, gist, source);
+    NarrowEntry::push(journal, role, command, gist, sent_at);
 }
 
 // The number of the step that sent what was taken, if anything was.
@@ -157,8 +157,8 @@ impl Room {
     pub(crate) fn change(&mut self, role: Role, command: Command) -> Answer
         requires role { role < length self.old.types }
         requires change { IsSome (change_of command) }
-        ensures answer { IsReply result
-            (reply self.old.names self.old.types self.old.journal role command) }
+        ensures answer { MayAnswer result
+            (answer_to self.old.names self.old.types self.old.journal role command) }
         ensures journal { self.new.journal ≡ grown self.old.journal role command result }
         ensures names { self.new.names ≡ self.old.names }
         ensures types { self.new.types ≡ self.old.types }
@@ -188,14 +188,14 @@ impl Room {
         }
     }
 
-    // The refusal of a change for which there is no place in the journal or no memory: the machine's, if it refuses,
+    // The refusal of a change for which there is no space in the journal or no memory: the machine's, if it refuses,
     // else this one.
     fn refused(&mut self, role: Role, command: &Command, lack: Refusal) -> Refusal
         requires role { role < length self.old.types }
         requires change { IsSome (change_of command.now) }
         requires lack { IsLack (length self.old.journal) lack }
-        ensures refused { IsReply (Refused result)
-            (reply self.old.names self.old.types self.old.journal role command.now) }
+        ensures refused { MayAnswer (Refused result)
+            (answer_to self.old.names self.old.types self.old.journal role command.now) }
         ensures kept { self.new ≡ self.old }
     {
         if let Err(refusal) = self.session.would(role, command) {

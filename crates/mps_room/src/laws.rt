@@ -7,9 +7,9 @@ ghost use Rattle.mps_command.specs.declared.answer.Violation.TheVariants.{Mismat
 ghost use Rattle.mps_command.specs.declared.command.Command.{Command};
 ghost use Rattle.mps_fidelity.specs.Fidelity.{AreOfOneProtocol};
 ghost use Rattle.mps_local.specs.Local.{LocalType};
-ghost use Rattle.mps_room.specs.Journal.{reply, IsReply};
+ghost use Rattle.mps_room.specs.Journal.{answer_to, MayAnswer};
 ghost use Rattle.mps_room.specs.Numbers.{IsNumbered};
-ghost use Rattle.mps_room.specs.Outcomes.{HasOneAnswer, IsSameOutcome};
+ghost use Rattle.mps_room.specs.OneAnswer.{HasOneAnswer, ComesToTheSame};
 ghost use Rattle.mps_room.specs.declared.entry.Entry.{Entry};
 ghost use Rattle.mps_room.specs.declared.numbers.Told.{Told};
 
@@ -20,7 +20,7 @@ use crate::caller::Caller;
 pub fn no_answer_is_a_mismatch()
     ensures { (names : List (List ℕ)) (types : List LocalType) (j : List Entry) (role : ℕ)
         (command : Command) (answer : Answer) → AreOfOneProtocol types
-        → IsReply answer (reply names types j role command) → answer ≢ Refused (Violates Mismatch) }
+        → MayAnswer answer (answer_to names types j role command) → answer ≢ Refused (Violates Mismatch) }
 {}
 
 /// Where a call of the command has one answer, the command comes to one thing under a number: the same is told, and the
@@ -30,5 +30,5 @@ pub fn a_numbered_command_has_one_outcome<C: Caller>()
         → HasOneAnswer C.calls c command
         → IsNumbered C.calls C.last C.kept c n command d told
         → IsNumbered C.calls C.last C.kept c n command e other
-        → IsSameOutcome C.last C.kept d told e other }
+        → ComesToTheSame C.last C.kept d told e other }
 {}

@@ -29,6 +29,6 @@ mod steps;
 pub use caller::Caller;
 pub use entry::Entry;
 pub use mps_command::{Answer, Command, ShownText};
-pub use numbers::{Numbered, Numbers, Place, Told};
+pub use numbers::{Numbered, Numbers, Position, Told};
 pub use room::{MAX_ENTRIES, Room};
 pub use solo::Solo;

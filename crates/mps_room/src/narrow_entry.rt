@@ -100,16 +100,16 @@ impl NarrowEntry {
         role: Role,
         command: Command,
         gist: Gist,
-        place: Option<u32>,
+        sent_at: Option<u32>,
     )
-        requires fits { Fits command gist place }
-        requires place { vec_len journal.old + 1 ≤ vec_capacity journal.old }
-        ensures { journal.new.items ≡ journal.old.items ++ narrow role command gist place ∷ [] }
+        requires fits { Fits command gist sent_at }
+        requires space { vec_len journal.old + 1 ≤ vec_capacity journal.old }
+        ensures { journal.new.items ≡ journal.old.items ++ narrow role command gist sent_at ∷ [] }
     {
         let by = role.index() as u8;
         match command {
             Command::Forward(step) => match gist {
-                Gist::Stepped { id, .. } => push_step(journal, role, step, id, place),
+                Gist::Stepped { id, .. } => push_step(journal, role, step, id, sent_at),
                 _ => unreachable!(),
             },
             Command::Undo(id) => put(journal, Form::Undone { role: by, id }),
@@ -194,13 +194,13 @@ fn push_step(
     role: Role,
     step: Forward,
     id: StepId,
-    place: Option<u32>,
+    sent_at: Option<u32>,
 )
-    requires such { TakesSuch step place }
+    requires such { TakesSuch step sent_at }
     requires small { id < 2 ^ 32 }
-    requires place { vec_len journal.old + 1 ≤ vec_capacity journal.old }
+    requires space { vec_len journal.old + 1 ≤ vec_capacity journal.old }
     ensures { journal.new.items ≡ journal.old.items
-        ++ narrow role (commands.Forward step) (gists.Stepped id None) place ∷ [] }
+        ++ narrow role (commands.Forward step) (gists.Stepped id None) sent_at ∷ [] }
 {
     let by = role.index() as u8;
     let id = id.number() as u32;
@@ -217,7 +217,7 @@ fn push_step(
         Forward::Receive { from, slot } => {
             let pair = Pair::of(role, from);
             let slot = NarrowName::of(&slot);
-            let place = place.unwrap();
+            let place = sent_at.unwrap();
             let form = Form::Received {
                 pair,
                 slot,
@@ -228,7 +228,7 @@ fn push_step(
         }
         Forward::Pick { from } => {
             let pair = Pair::of(role, from);
-            let place = place.unwrap();
+            let place = sent_at.unwrap();
             put(journal, Form::Picked { pair, id, place });
         }
         Forward::Mark { name } => {

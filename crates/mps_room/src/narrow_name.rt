@@ -2,7 +2,6 @@
 ghost use Rattle.std.specs.Prelude.{◌≡◌};
 
 use mps_base::Name;
-use mps_base::name::MAX_NAME;
 use std::marker::Model;
 
 /// A name in 33 bytes, which stands beside other bytes without a gap. A `Name` takes 40, and begins at a multiple of 8.
@@ -30,12 +29,9 @@ impl NarrowName {
     pub(crate) fn of(name: &Name) -> NarrowName
         ensures { result ≡ name.now }
     {
-        let word = name.as_bytes();
-        let mut bytes = [0; MAX_NAME];
-        bytes[..word.len()].copy_from_slice(word);
         NarrowName {
-            len: word.len() as u8,
-            bytes,
+            len: name.as_bytes().len() as u8,
+            bytes: name.padded(),
         }
     }
 

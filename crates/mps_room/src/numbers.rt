@@ -1,7 +1,7 @@
 //! Numbers of commands, by which a caller that lost an answer asks again.
 ghost use Rattle.std.specs.Prelude.{◌≡◌, Some};
 ghost use Rattle.std.specs.Option.{option_map};
-ghost use Rattle.mps_room.specs.Numbers.{last_of, kept_of, IsPlaced};
+ghost use Rattle.mps_room.specs.Numbers.{last_of, kept_of, IsPosition};
 
 use mps_command::{Answer, Refusal};
 
@@ -20,7 +20,7 @@ pub enum Told {
 
 /// Where a number stands.
 #[derive(Clone, Copy, Debug, PartialEq, Eq)]
-pub enum Place {
+pub enum Position {
     /// It is that of the newest command.
     Last,
     /// It is the one after that.
@@ -71,17 +71,17 @@ impl Numbers {
     }
 
     /// Where a number stands.
-    pub fn place(&self, number: u64) -> Place
-        ensures { IsPlaced (last_of self.now.newest) number result }
+    pub fn position(&self, number: u64) -> Position
+        ensures { IsPosition (last_of self.now.newest) number result }
     {
         let last = self.last();
         if number == last && number != 0 {
-            return Place::Last;
+            return Position::Last;
         }
         if number.checked_sub(1) == Some(last) {
-            return Place::Next;
+            return Position::Next;
         }
-        Place::Elsewhere
+        Position::Elsewhere
     }
 
     /// Keeps the answer under its number, in place of the one before it.

@@ -2,7 +2,7 @@
 ghost use Rattle.std.specs.Prelude.{◌≡◌, ◌<◌, ◌≤◌, ℕ, false, [], length, slice_get, Ok, None, IfOk};
 ghost use Rattle.mps_command.specs.declared.command.Command.TheVariants as commands;
 ghost use Rattle.mps_machine.specs.Machine.{initial};
-ghost use Rattle.mps_room.specs.Journal.{grown, is_accepted, news, reply, run, IsLegal, IsReply};
+ghost use Rattle.mps_room.specs.Journal.{grown, is_accepted, news, answer_to, run, IsLegal, MayAnswer};
 ghost use Rattle.mps_show.specs.Shown.{show_text, shown};
 ghost use Rattle.serde_json.specs.View.{view};
 ghost use Rattle.serde_json.specs.Written.{compact_text};
@@ -144,24 +144,24 @@ impl Room {
     #[inline(always)]
     pub fn apply(&mut self, role: Role, command: Command) -> Answer
         requires { role < length self.old.types }
-        ensures answer { IsReply result
-            (reply self.old.names self.old.types self.old.journal role command) }
+        ensures answer { MayAnswer result
+            (answer_to self.old.names self.old.types self.old.journal role command) }
         ensures journal { self.new.journal ≡ grown self.old.journal role command result }
         ensures names { self.new.names ≡ self.old.names }
         ensures types { self.new.types ≡ self.old.types }
     {
         match command {
-            Command::News(known) => self.tell_news(role, known),
-            Command::Show => self.tell_show(),
+            Command::News(known) => self.answer_news(role, known),
+            Command::Show => self.answer_show(),
             _ => self.change(role, command),
         }
     }
 
     /// Answers what others took back, as `apply` does.
     #[inline(never)]
-    pub fn tell_news(&self, role: Role, known: u64) -> Answer
-        ensures answer { IsReply result
-            (reply self.now.names self.now.types self.now.journal role (commands.News known)) }
+    pub fn answer_news(&self, role: Role, known: u64) -> Answer
+        ensures answer { MayAnswer result
+            (answer_to self.now.names self.now.types self.now.journal role (commands.News known)) }
         ensures asked { is_accepted result ≡ false }
     {
         match self.news(role, known) {
@@ -172,9 +172,9 @@ impl Room {
 
     /// Answers how the session stands, as `apply` does.
     #[inline(never)]
-    pub fn tell_show(&self) -> Answer
-        ensures answer { (role : ℕ) → IsReply result
-            (reply self.now.names self.now.types self.now.journal role commands.Show) }
+    pub fn answer_show(&self) -> Answer
+        ensures answer { (role : ℕ) → MayAnswer result
+            (answer_to self.now.names self.now.types self.now.journal role commands.Show) }
         ensures asked { is_accepted result ≡ false }
     {
         match shown_text(self.alloc, &self.names, &self.session) {

@@ -2,7 +2,7 @@
 ghost use Rattle.std.specs.Prelude.{◌≡◌, ◌<◌, length};
 
 use crate::caller::Caller;
-use crate::numbers::{Numbers, Place, Told};
+use crate::numbers::{Numbers, Position, Told};
 use crate::room::Room;
 use mps_base::{Role, Roles};
 use mps_command::{Answer, Command};
@@ -68,10 +68,10 @@ impl Caller for Solo {
     }
 
     fn call_numbered(&mut self, number: u64, command: Command) -> Told {
-        match self.numbers.place(number) {
-            Place::Last => return Told::Kept,
-            Place::Elsewhere => return Told::Wrong,
-            Place::Next => {}
+        match self.numbers.position(number) {
+            Position::Last => return Told::Kept,
+            Position::Elsewhere => return Told::Wrong,
+            Position::Next => {}
         }
         match self.room.apply(self.role, command) {
             Answer::Refused(refusal) => Told::Refused(refusal),

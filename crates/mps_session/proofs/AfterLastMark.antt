@@ -12,7 +12,7 @@ use Rattle.mps_history.proofs.Slots.{value_in-bound}
 use Rattle.mps_machine.specs.Machine.{is_mark, since_mark}
 use Rattle.mps_machine.proofs.Marks.{since_at, since_append}
 use Rattle.mps_arena.specs.Keys.{first_key}
-use Rattle.mps_arena.specs.Entries.{KeyedStep, steps, keys_of, of_role, AreSound}
+use Rattle.mps_arena.specs.KeyedSteps.{KeyedStep, steps, keys_of, of_role, AreSound}
 use Rattle.mps_arena.specs.Neighbours.{next_of_role_in, id_in}
 use Rattle.mps_links.proofs.Firsts.{id_first}
 use Rattle.mps_links.proofs.Links.{next_is}
@@ -52,13 +52,13 @@ module _ (name : List ℕ) (p : ℕ) where
   record IsMarkAt (es : List KeyedStep) (k : ℕ) : Type 0 where
     before : List KeyedStep
     behind : List KeyedStep
-    entry : KeyedStep
-    parts : es ≡ before ++ entry ∷ behind
-    key : entry.key ≡ k
-    role : entry.step.role ≡ p
+    keyed : KeyedStep
+    parts : es ≡ before ++ keyed ∷ behind
+    key : keyed.key ≡ k
+    role : keyed.step.role ≡ p
     since : since_mark name (own es) ≡ Some (own behind)
 
-  -- an entry of the role binds the name where it marks it, and else leaves it
+  -- a keyed step of the role binds the name where it marks it, and else leaves it
   abbrev Binds : Keys → KeyedStep → Type 0
   Binds store x =
       ((is_mark name x.step.act ≡ true) × (value_in name (store_after mark_of p store x) ≡ Some x.key))
@@ -67,7 +67,7 @@ module _ (name : List ℕ) (p : ℕ) where
   binds : (store : Keys) (x : KeyedStep) → (x.step.role == p) ≡ true → Binds store x
   binds store x mine = grind (arith, after_idle, after_binding, eqb-true, value_in-bound, cond-true, cond-false, cases_Bool)
 
-  -- what the name is bound to after the entries: their last mark of it, or what it was bound to
+  -- what the name is bound to after the keyed steps: their last mark of it, or what it was bound to
   abbrev Bound : Keys → List KeyedStep → Type 0
   Bound store es =
       ((since_mark name (own es) ≡ None) × (value_in name (rebound mark_of p store es) ≡ value_in name store))
@@ -79,12 +79,12 @@ module _ (name : List ℕ) (p : ℕ) where
   own_mine : (x : KeyedStep) (es : List KeyedStep) → (x.step.role == p) ≡ true → own (x ∷ es) ≡ x.step ∷ own es
   own_mine x es t = cond-true (x.step.role == p) (x.step ∷ own es) (own es) t
 
-  -- a mark among the later entries stays the last
+  -- a mark among the later keyed steps stays the last
   later : (x : KeyedStep) (es : List KeyedStep) (k : ℕ) → IsMarkAt es k → IsMarkAt (x ∷ es) k
   later x es k w = record {
     before = x ∷ w.before;
     behind = w.behind;
-    entry = w.entry;
+    keyed = w.keyed;
     parts = ap (λ (l : List KeyedStep). x ∷ l) w.parts;
     key = w.key;
     role = w.role;
@@ -106,7 +106,7 @@ module _ (name : List ℕ) (p : ℕ) where
       let at : IsMarkAt (x ∷ es) x.key = record {
         before = [];
         behind = es;
-        entry = x;
+        keyed = x;
         parts = refl;
         key = refl;
         role = eqb-true x.step.role p t;
@@ -135,8 +135,8 @@ module _ (name : List ℕ) (p : ℕ) where
   marked_first : (es : List KeyedStep) (k : ℕ) → AreSound es → IsMarkAt es k → option_map first_number (since_mark name (own es)) ≡ Some (option_and_then (id_in es) (next_of_role_in es k))
   marked_first es k sound w =
       let next : next_of_role_in es k ≡ first_key (keys_of (of_role p) w.behind) =
-      ap (next_of_role_in es) (sym w.key) ∙ next_is es sound w.before w.behind w.entry w.parts ∙ ap (λ (r : ℕ). first_key (keys_of (of_role r) w.behind)) w.role in
-      let whole : es ≡ (w.before ++ w.entry ∷ []) ++ w.behind = w.parts ∙ sym (append_assoc w.before (w.entry ∷ []) w.behind) in
+      ap (next_of_role_in es) (sym w.key) ∙ next_is es sound w.before w.behind w.keyed w.parts ∙ ap (λ (r : ℕ). first_key (keys_of (of_role r) w.behind)) w.role in
+      let whole : es ≡ (w.before ++ w.keyed ∷ []) ++ w.behind = w.parts ∙ sym (append_assoc w.before (w.keyed ∷ []) w.behind) in
       grind (arith, id_first, first_of_role)
 
   -- the role's next step after the one of that key comes first after its last mark of the name

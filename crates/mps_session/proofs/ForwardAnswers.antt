@@ -1,6 +1,6 @@
 -- What the machine answers, from what a session keeps.
 use Rattle.std.proofs.lemmas.List.{map-append}
-use Rattle.mps_arena.specs.Entries.{steps}
+use Rattle.mps_arena.specs.KeyedSteps.{steps}
 use Rattle.std.proofs.Common.{◌≡◌, ◌+◌, ℕ, ◌<◌, ◌≤◌, List, length, Option, Some, None, Result, Ok, Err, sym, ap, ◌∙◌, arith}
 use Rattle.std.specs.Option.{option_map}
 use Rattle.std.proofs.lemmas.Bool.{cond-true, cond-false, lt-ltb, le-ltb}
@@ -49,7 +49,7 @@ module _ (types : List LocalType) (c : Lists) (holds : Holds types c) (now : Ses
   in_cursors = omega (arith, in_types, holds.cursors.long)
 
   abbrev v : View
-  v = view_of types (steps c.entries)
+  v = view_of types (steps c.keyed_steps)
 
   pub stands : StandsAt c p (v.participant p).to_come
   stands = holds.cursors.each p in_types

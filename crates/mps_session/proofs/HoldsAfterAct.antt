@@ -21,7 +21,7 @@ use Rattle.mps_machine.proofs.Stepping.{rule_parts, rule_from, replay-append, re
 use Rattle.mps_machine.proofs.Unreceived.{queue_is}
 use Rattle.mps_machine.proofs.Peers.{Speaks, after_peers, fact_by_role}
 use Rattle.mps_machine.proofs.Sound.{view_is, initial_sound, accepted_sound}
-use Rattle.mps_arena.specs.Entries.{KeyedStep, steps, AreSound}
+use Rattle.mps_arena.specs.KeyedSteps.{KeyedStep, steps, AreSound}
 use Rattle.mps_arena.proofs.Matched.{sound_nil}
 use Rattle.mps_log.specs.Joins.{joining}
 use Rattle.mps_log.proofs.Waiting.{first_waits}
@@ -60,7 +60,7 @@ module _ (types : List LocalType) (c : Lists) (holds : Holds types c) where
   n = length types
 
   abbrev pub h : List Step
-  h = steps c.entries
+  h = steps c.keyed_steps
 
   abbrev pub v : View
   v = view_of types h
@@ -119,8 +119,8 @@ module _ (types : List LocalType) (c : Lists) (holds : Holds types c) where
       abbrev last : KeyedStep
       last = joining (logged c) p act (cursor_of c p).node acted.joined.key
 
-      steps_then : steps next.entries ≡ h ++ then ∷ []
-      steps_then = ap steps acted.joined.entries ∙ map-append (λ (e : KeyedStep). e.step) c.entries (last ∷ [])
+      steps_then : steps next.keyed_steps ≡ h ++ then ∷ []
+      steps_then = ap steps acted.joined.keyed_steps ∙ map-append (λ (e : KeyedStep). e.step) c.keyed_steps (last ∷ [])
 
       state_then : state_of next ≡ accepted (state_of c) p act
       state_then = ap₂ (λ (l : List Step) (k : ℕ). let st : State = record { history = l; next = k + 1 } in st) steps_then acted.joined.issued
@@ -145,7 +145,7 @@ module _ (types : List LocalType) (c : Lists) (holds : Holds types c) where
         sound = subst (IsSound types) (sym state_then) (accepted_sound types (state_of c) p act holds.sound fine);
         roles = holds.roles;
         peers = holds.peers;
-        members = subst (AllByRecursion (λ (y : KeyedStep). y.step.role < n)) (sym acted.joined.entries) (all_push (λ y. y.step.role < n) c.entries last holds.members less);
+        members = subst (AllByRecursion (λ (y : KeyedStep). y.step.role < n)) (sym acted.joined.keyed_steps) (all_push (λ y. y.step.role < n) c.keyed_steps last holds.members less);
         kept = acted.joined.sound;
         cursors = rw (acted.cursors, steps_then, new_view) cursors_then;
         placed = placed_then;
@@ -169,16 +169,16 @@ opened_holds types c count peers o = record {
   sound = subst (IsSound types) (sym state) (initial_sound types);
   roles = count;
   peers = peers;
-  members = subst (AllByRecursion (λ (y : KeyedStep). y.step.role < length types)) (sym o.entries) tt;
-  kept = subst AreSound (sym o.entries) sound_nil;
-  cursors = subst (λ (l : List KeyedStep). AreCursors (length types) c.cursors (view_of types (steps l))) (sym o.entries)
+  members = subst (AllByRecursion (λ (y : KeyedStep). y.step.role < length types)) (sym o.keyed_steps) tt;
+  kept = subst AreSound (sym o.keyed_steps) sound_nil;
+  cursors = subst (λ (l : List KeyedStep). AreCursors (length types) c.cursors (view_of types (steps l))) (sym o.keyed_steps)
       (grind (arith, starts_long, start_at));
-  placed = λ a b e h. absurd (nowhere_in a b e (sym o.entries ∙ h));
+  placed = λ a b e h. absurd (nowhere_in a b e (sym o.keyed_steps ∙ h));
   few = omega (arith, o.issued);
 }
   where
     state : state_of c ≡ initial
-    state = ap₂ (λ (l : List KeyedStep) (k : ℕ). let st : State = record { history = steps l; next = k + 1 } in st) o.entries o.issued
+    state = ap₂ (λ (l : List KeyedStep) (k : ℕ). let st : State = record { history = steps l; next = k + 1 } in st) o.keyed_steps o.issued
 
     nowhere_in : (a b : List KeyedStep) (e : KeyedStep) → [] ≡ a ++ e ∷ b → ⊥
     nowhere_in [] b e h = cc

@@ -15,12 +15,12 @@ use Rattle.mps_machine.specs.Rule.{moved, rule, replay}
 use Rattle.mps_machine.specs.Machine.{view_of, IsSound}
 use Rattle.mps_machine.proofs.Peers.{after_peers, fact_by_role}
 use Rattle.mps_machine.proofs.Stepping.{rule_parts, replay_parts}
-use Rattle.mps_arena.specs.Entries.{KeyedStep, steps, entry_at, AreSound}
+use Rattle.mps_arena.specs.KeyedSteps.{KeyedStep, steps, keyed_at, AreSound}
 use Rattle.mps_arena.specs.Neighbours.{IsLastAndUnreceived, CanGo}
 use Rattle.mps_arena.specs.declared.node.Before.{Before}
-use Rattle.mps_arena.proofs.Chains.{entry_key, entry_middle}
+use Rattle.mps_arena.proofs.Chains.{keyed_key, keyed_middle}
 use Rattle.mps_arena.proofs.Histories.{steps_without}
-use Rattle.mps_arena.proofs.Keeping.{all_at, entry_split, others_are}
+use Rattle.mps_arena.proofs.Keeping.{all_at, keyed_split, others_are}
 use Rattle.mps_links.proofs.StepKeys.{in_middle}
 use Rattle.mps_session.specs.Private.Configurations.{Lists, cursor_of, state_of}
 use Rattle.mps_session.specs.Private.Cursors.{IsFor, nowhere, went}
@@ -46,7 +46,7 @@ all_without : (P : KeyedStep → Type 0) (a b : List KeyedStep) (x : KeyedStep) 
 all_without P [] b x h = h.1
 all_without P (y ∷ a) b x h = (h.0, all_without P a b x h.1)
 
--- an entry that is left stood before the one that is gone, or after it
+-- a keyed step that is left stood before the one that is gone, or after it
 left_cases : (a b c d : List KeyedStep) (y : KeyedStep) → a ++ b ≡ c ++ y ∷ d → ((m : List KeyedStep) × (a ≡ c ++ y ∷ m)) ⊎ ((m : List KeyedStep) × ((c ≡ a ++ m) × (b ≡ m ++ y ∷ d)))
 left_cases [] b c d y e = inr (c, (refl, e))
 left_cases (z ∷ a) b [] d y e = let same : z ≡ y = cc in inl (a, ap (λ (w : KeyedStep). w ∷ a) same)
@@ -59,9 +59,9 @@ left_cases (z ∷ a) b (w ∷ c) d y e =
     (left_cases a b c d y tail)
 
 module _ (types : List LocalType) (cursors : List Cursor) (issued : ℕ) (a b : List KeyedStep) (x : KeyedStep) where
-  -- with the entry, and without it
+  -- with the keyed step, and without it
   abbrev old : Lists
-  old = record { cursors = cursors; entries = a ++ x ∷ b; issued = issued }
+  old = record { cursors = cursors; keyed_steps = a ++ x ∷ b; issued = issued }
 
   abbrev p : ℕ
   p = x.step.role
@@ -73,7 +73,7 @@ module _ (types : List LocalType) (cursors : List Cursor) (issued : ℕ) (a b : 
   again = went x.before.at (cursor_of old p)
 
   abbrev new : Lists
-  new = record { cursors = set cursors p again; entries = a ++ b; issued = issued }
+  new = record { cursors = set cursors p again; keyed_steps = a ++ b; issued = issued }
 
   module _ (holds : Holds types old) (free : IsLastAndUnreceived (a ++ x ∷ b) x) (sound : AreSound (a ++ b)) where
     abbrev v : View
@@ -82,7 +82,7 @@ module _ (types : List LocalType) (cursors : List Cursor) (issued : ℕ) (a b : 
     inside : p < length cursors
     inside = grind (arith, all_at)
 
-    -- where the entries after it are d and m
+    -- where the keyed steps after it are d and m
     from : (d m : List KeyedStep) → b ≡ d ++ m → IsAside types a d x
     from d m e =
         let same : a ++ x ∷ b ≡ a ++ x ∷ (d ++ m) = ap (λ (l : List KeyedStep). a ++ x ∷ l) e in
@@ -122,7 +122,7 @@ module _ (types : List LocalType) (cursors : List Cursor) (issued : ℕ) (a b : 
     steps_left : steps (a ++ b) ≡ without (steps (a ++ x ∷ b)) (λ i. i == x.step.id)
     steps_left =
         ap steps (sym (others_are x.key a b x holds.kept.distinct refl))
-        ∙ steps_without (a ++ x ∷ b) x.key x.step holds.kept.distinct holds.kept.rising (ap (option_map (λ (e : KeyedStep). e.step)) (entry_middle a b x holds.kept.distinct))
+        ∙ steps_without (a ++ x ∷ b) x.key x.step holds.kept.distinct holds.kept.rising (ap (option_map (λ (e : KeyedStep). e.step)) (keyed_middle a b x holds.kept.distinct))
 
     sound_then : IsSound types (state_of new)
     sound_then = record {
@@ -136,9 +136,9 @@ module _ (types : List LocalType) (cursors : List Cursor) (issued : ℕ) (a b : 
     holds_then = grind (arith, sound, sound_then, all_without, all, cursors_then, placed_then)
 
 -- what is kept after a step was removed is the view of the others
-module _ (types : List LocalType) (c next : Lists) (k : ℕ) (x : KeyedStep) (holds : Holds types c) (found : entry_at k c.entries ≡ Some x) (can : CanGo c.entries k) (left : HasLeft x c next) where
-  abbrev at : (a : List KeyedStep) × (b : List KeyedStep) × (c.entries ≡ a ++ x ∷ b)
-  at = entry_split k c.entries x found
+module _ (types : List LocalType) (c next : Lists) (k : ℕ) (x : KeyedStep) (holds : Holds types c) (found : keyed_at k c.keyed_steps ≡ Some x) (can : CanGo c.keyed_steps k) (left : HasLeft x c next) where
+  abbrev at : (a : List KeyedStep) × (b : List KeyedStep) × (c.keyed_steps ≡ a ++ x ∷ b)
+  at = keyed_split k c.keyed_steps x found
 
   abbrev a : List KeyedStep
   a = at.0
@@ -147,40 +147,40 @@ module _ (types : List LocalType) (c next : Lists) (k : ℕ) (x : KeyedStep) (ho
   b = at.1
 
   free : IsLastAndUnreceived (a ++ x ∷ b) x
-  free = subst (λ (l : List KeyedStep). IsLastAndUnreceived l x) at.2 (subst (λ (o : Option KeyedStep). IsSomeAnd o (IsLastAndUnreceived c.entries)) found can)
+  free = subst (λ (l : List KeyedStep). IsLastAndUnreceived l x) at.2 (subst (λ (o : Option KeyedStep). IsSomeAnd o (IsLastAndUnreceived c.keyed_steps)) found can)
 
-  was : Holds types (record c { entries = a ++ x ∷ b })
-  was = subst (λ (l : List KeyedStep). Holds types (record c { entries = l })) at.2 holds
+  was : Holds types (record c { keyed_steps = a ++ x ∷ b })
+  was = subst (λ (l : List KeyedStep). Holds types (record c { keyed_steps = l })) at.2 holds
 
-  entries_then : next.entries ≡ a ++ b
-  entries_then = grind (arith, others_are x.key a b x (was.kept.distinct) refl)
+  keyed_then : next.keyed_steps ≡ a ++ b
+  keyed_then = grind (arith, others_are x.key a b x (was.kept.distinct) refl)
 
   sound : AreSound (a ++ b)
-  sound = subst AreSound entries_then left.sound
+  sound = subst AreSound keyed_then left.sound
 
   is_then : next ≡ new types c.cursors c.issued a b x
-  is_then = grind (arith, entries_then)
+  is_then = grind (arith, keyed_then)
 
   pub returned_holds : Holds types next
   returned_holds = subst (Holds types) (sym is_then) (holds_then types c.cursors c.issued a b x was free sound)
 
   -- the step is allowed in the view that is left, and leads back to the view from before
-  pub rule_back : rule (view_of types (steps next.entries)) x.step ≡ Some (view_of types (steps c.entries))
+  pub rule_back : rule (view_of types (steps next.keyed_steps)) x.step ≡ Some (view_of types (steps c.keyed_steps))
   rule_back =
       let w = all types c.cursors c.issued a b x was free sound in
-      grind (arith, entries_then)
+      grind (arith, keyed_then)
 
-  pub history_then : steps next.entries ≡ without (steps c.entries) (λ i. i == x.step.id)
+  pub history_then : steps next.keyed_steps ≡ without (steps c.keyed_steps) (λ i. i == x.step.id)
   history_then =
-      ap steps entries_then ∙ steps_left types c.cursors c.issued a b x was free sound
+      ap steps keyed_then ∙ steps_left types c.cursors c.issued a b x was free sound
       ∙ ap (λ (l : List KeyedStep). without (steps l) (λ i. i == x.step.id)) (sym at.2)
 
--- what was written and removed is what the entry says
-pub has_left : (k : ℕ) (old next : Lists) (s : Step) (before : Before) → option_map (λ e. e.step) (entry_at k old.entries) ≡ Some s → option_map (λ e. e.before) (entry_at k old.entries) ≡ Some before
-    → next.cursors ≡ set old.cursors s.role (went before.at (cursor_of old s.role)) → next.entries ≡ filter (λ e. not (e.key == k)) old.entries → next.issued ≡ old.issued → AreSound next.entries
-    → IfSome (entry_at k old.entries) (λ e. HasLeft e old next)
-has_left k old next s before is stood moved gone same sound = by_cases (entry_at k old.entries) refl
+-- what was written and removed is what the keyed step says
+pub has_left : (k : ℕ) (old next : Lists) (s : Step) (before : Before) → option_map (λ e. e.step) (keyed_at k old.keyed_steps) ≡ Some s → option_map (λ e. e.before) (keyed_at k old.keyed_steps) ≡ Some before
+    → next.cursors ≡ set old.cursors s.role (went before.at (cursor_of old s.role)) → next.keyed_steps ≡ filter (λ e. not (e.key == k)) old.keyed_steps → next.issued ≡ old.issued → AreSound next.keyed_steps
+    → IfSome (keyed_at k old.keyed_steps) (λ e. HasLeft e old next)
+has_left k old next s before is stood moved gone same sound = by_cases (keyed_at k old.keyed_steps) refl
   where
-    by_cases : (o : Option KeyedStep) → entry_at k old.entries ≡ o → IfSome o (λ e. HasLeft e old next)
+    by_cases : (o : Option KeyedStep) → keyed_at k old.keyed_steps ≡ o → IfSome o (λ e. HasLeft e old next)
     by_cases None e = tt
-    by_cases (Some x) e = grind (arith, entry_key k old.entries x e)
+    by_cases (Some x) e = grind (arith, keyed_key k old.keyed_steps x e)

@@ -1,4 +1,4 @@
--- The message that each step moved, by the entries and by the replay.
+-- The message that each step moved, by the keyed steps and by the replay.
 use Rattle.std.proofs.Common.{◌≡◌, ℕ, ◌<◌, List, [], ◌∷◌, ◌++◌, length, Option, Some, refl, sym, ap, ◌∙◌, arith, append_assoc}
 use mathlib.Core.Path.{ap₂}
 use Rattle.std.specs.Prelude.{slice_get, unwrap_or}
@@ -15,9 +15,9 @@ use Rattle.mps_machine.specs.Rule.{first_of, moved, participant_after, replay}
 use Rattle.mps_machine.specs.Machine.{view_of}
 use Rattle.mps_machine.proofs.Stepping.{rule_parts, replay_parts, replay-append, a_receipt_finds}
 use Rattle.mps_machine.proofs.Unreceived.{queue_is}
-use Rattle.mps_arena.specs.Entries.{KeyedStep, steps, AreSound}
-use Rattle.mps_arena.specs.Neighbours.{waiting}
-use Rattle.mps_arena.proofs.Chains.{entry_middle}
+use Rattle.mps_arena.specs.KeyedSteps.{KeyedStep, steps, AreSound}
+use Rattle.mps_arena.specs.Neighbours.{first_waiting}
+use Rattle.mps_arena.proofs.Chains.{keyed_middle}
 use Rattle.mps_arena.proofs.Matched.{sound_left, last_fresh}
 use Rattle.mps_log.specs.Shown.{Moved, moved_of, shown}
 use Rattle.mps_log.specs.Values.{given_by, message_of, message_taken}
@@ -56,12 +56,12 @@ module _ (types : List LocalType) where
     same_message : (act : Act) → e.step.act ≡ act → participant_after (v.participant r) act (moved v r act) ≡ Some c → option_or (given_by act) (message_taken es e.key) ≡ moved v r act
     same_message (In from slot) is h =
         let first = first_is (v.queue from r) (a_receipt_finds (v.participant r) c (v.queue from r) from slot h) in
-        let waits : option_and_then (message_of a) (waiting a from r) ≡ Some first.0 =
+        let waits : option_and_then (message_of a) (first_waiting a from r) ≡ Some first.0 =
         first_message a (sound_left a (e ∷ b) sound) from r ∙ get_first (unreceived from r (steps a)) ∙ ap first_of (sym (queue_is (opening types) v (steps a) from r before)) ∙ first.1 in
         let now = taken_new a e (sound_left a (e ∷ b) sound) (last_fresh a b e sound) from slot first.0 is waits in
         let whole = append_assoc a (e ∷ []) b in
         grind (arith, taken_stays_all)
-    same_message other is h = grind (arith, idle_has_none, entry_middle)
+    same_message other is h = grind (arith, idle_has_none, keyed_middle)
 
   moved_part : (es a b : List KeyedStep) (v w : View) → es ≡ a ++ b → AreSound es → replay (opening types) (steps a) ≡ Some v → replay v (steps b) ≡ Some w → shown es b ≡ moved_from types (steps a) (steps b)
   moved_part es a [] v w is sound before rest = refl

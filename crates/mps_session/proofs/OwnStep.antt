@@ -1,4 +1,4 @@
--- The entry of a number, and whose step it is.
+-- The keyed step of a number, and whose step it is.
 use Rattle.std.proofs.Common.{arith, ◌≡◌, ℕ, true, false, List, [], ◌∷◌, Option, Some, None, refl, sym, ap, ◌∙◌, subst, ⊎_elim}
 use Rattle.std.specs.Prelude.{◌==◌}
 use Rattle.std.specs.List.{find}
@@ -8,8 +8,8 @@ use Rattle.mps_command.specs.declared.answer.Refusal.TheVariants.{NotYours}
 use Rattle.mps_history.specs.Steps.{step_of}
 use Rattle.mps_history.proofs.Order.{step_of_member}
 use Rattle.mps_machine.specs.Machine.{owner_fault}
-use Rattle.mps_arena.specs.Entries.{KeyedStep, steps, entry_at, AreSound}
-use Rattle.mps_links.proofs.Firsts.{entry_in}
+use Rattle.mps_arena.specs.KeyedSteps.{KeyedStep, steps, keyed_at, AreSound}
+use Rattle.mps_links.proofs.Firsts.{keyed_in}
 use Rattle.mps_links.proofs.Numbers.{IsNumbered, numbered, step_there}
 use Rattle.mps_links.proofs.StepKeys.{in_middle}
 
@@ -31,28 +31,28 @@ module _ (es : List KeyedStep) (sound : AreSound es) (n k : ℕ) (at : key_of es
   abbrev it : IsNumbered es n
   it = numbered es n (step_there es n k at)
 
-  -- the entry of the number has this key
-  abbrev pub entry : KeyedStep
-  entry = it.entry
+  -- the keyed step of the number has this key
+  abbrev pub keyed : KeyedStep
+  keyed = it.keyed
 
-  pub number : entry.step.id ≡ n
+  pub number : keyed.step.id ≡ n
   number = it.number
 
-  pub found : entry_at k es ≡ Some entry
-  found = grind (arith, entry_in)
+  pub found : keyed_at k es ≡ Some keyed
+  found = grind (arith, keyed_in)
 
-  pub step_found : step_of (steps es) n ≡ Some entry.step
-  step_found = subst (λ (m : ℕ). step_of (steps es) m ≡ Some entry.step) number (step_of_member (steps es) entry.step sound.rising (in_middle es it.before it.behind entry it.parts))
+  pub step_found : step_of (steps es) n ≡ Some keyed.step
+  step_found = subst (λ (m : ℕ). step_of (steps es) m ≡ Some keyed.step) number (step_of_member (steps es) keyed.step sound.rising (in_middle es it.before it.behind keyed it.parts))
 
   module _ (p : ℕ) where
-    owner_is : owner_fault p (step_of (steps es) n) ≡ owner_fault p (Some entry.step)
+    owner_is : owner_fault p (step_of (steps es) n) ≡ owner_fault p (Some keyed.step)
     owner_is = ap (owner_fault p) step_found
 
-    pub owned : (entry.step.role == p) ≡ true → owner_fault p (step_of (steps es) n) ≡ None
-    owned t = owner_is ∙ cond-true (entry.step.role == p) None (Some NotYours) t
+    pub owned : (keyed.step.role == p) ≡ true → owner_fault p (step_of (steps es) n) ≡ None
+    owned t = owner_is ∙ cond-true (keyed.step.role == p) None (Some NotYours) t
 
-    pub not_owned : (entry.step.role == p) ≡ false → owner_fault p (step_of (steps es) n) ≡ Some NotYours
-    not_owned f = owner_is ∙ cond-false (entry.step.role == p) None (Some NotYours) f
+    pub not_owned : (keyed.step.role == p) ≡ false → owner_fault p (step_of (steps es) n) ≡ Some NotYours
+    not_owned f = owner_is ∙ cond-false (keyed.step.role == p) None (Some NotYours) f
 
-    pub owner : owner_fault p (step_of (steps es) n) ≡ None → entry.step.role ≡ p
+    pub owner : owner_fault p (step_of (steps es) n) ≡ None → keyed.step.role ≡ p
     owner e = grind (arith, eqb-true, not_owned, cases_Bool)

@@ -1,4 +1,4 @@
--- What each role did, by the entries and by the replay.
+-- What each role did, by the keyed steps and by the replay.
 use Rattle.std.proofs.Common.{◌≡◌, ℕ, ◌<◌, ◌≤◌, true, false, List, [], ◌∷◌, ◌++◌, Some, refl, sym, ap, ◌∙◌, arith, inl, append_assoc, append-nil}
 use Rattle.std.specs.Prelude.{◌==◌, map}
 use Rattle.std.specs.List.{filter, AllByRecursion}
@@ -12,7 +12,7 @@ use Rattle.mps_machine.specs.View.{Deed, View, opening}
 use Rattle.mps_machine.specs.Rule.{replay}
 use Rattle.mps_machine.proofs.Stepping.{replay_parts, replay_from, replay-append}
 use Rattle.mps_machine.proofs.Swapping.{past_of, past_step, past_stays, one_past_is_one_view, one_view_by_swaps, swaps_lead_to_one_view}
-use Rattle.mps_arena.specs.Entries.{KeyedStep, steps, keys_of, of_role, IsSmall, AreSound}
+use Rattle.mps_arena.specs.KeyedSteps.{KeyedStep, steps, keys_of, of_role, IsSmall, AreSound}
 use Rattle.mps_arena.proofs.Chains.{keys_without}
 use Rattle.mps_links.proofs.StepKeys.{none_passes}
 use Rattle.mps_log.specs.Shown.{Moved, moved_of, shown}
@@ -30,7 +30,7 @@ module _ (p : ℕ) where
   deeds_without : (m : Moved) (moves : List Moved) → (m.0.role == p) ≡ false → deeds_of p (m ∷ moves) ≡ deeds_of p moves
   deeds_without m moves f = ap (λ (l : List Moved). map deed_of l) (cond-false (m.0.role == p) (m ∷ filter (λ k. k.0.role == p) moves) (filter (λ k. k.0.role == p) moves) f)
 
-  -- what role p did in a part of the entries
+  -- what role p did in a part of the keyed steps
   abbrev pub did : List KeyedStep → List KeyedStep → List Deed
   did es part = deeds_of p (shown es part)
 
@@ -64,7 +64,7 @@ module _ (p : ℕ) where
       let rest = past_from types (a ++ s ∷ []) b u w there parts.2 in
       grind (arith, v, past_of, eqb-true, past_step, append_assoc, deeds_with, ne_eqb, eqb-false, past_stays, deeds_without, cases_Bool)
 
-  -- what the entries say that a role did is its past
+  -- what the keyed steps say that a role did is its past
   past_is : (types : List LocalType) (es : List KeyedStep) (v : View) → AreSound es → replay (opening types) (steps es) ≡ Some v → past_in p es ≡ past_of v p
   past_is types es v sound e = ap (deeds_of p) (moved_is types es v sound e) ∙ sym (past_from types [] (steps es) (opening types) v refl e)
 
@@ -86,8 +86,8 @@ pub record AreTold (a b : List KeyedStep) (m n : SessionState) : Type 0 where
   pub swaps : session_view m ≡ session_view n → Swaps m.state.history n.state.history
   pub swapped : Swaps m.state.history n.state.history → session_view m ≡ session_view n
 
-told_of : (types : List LocalType) (c d : Lists) → Holds types c → Holds types d → AreTold c.entries d.entries (record { types = types; state = state_of c }) (record { types = types; state = state_of d })
+told_of : (types : List LocalType) (c d : Lists) → Holds types c → Holds types d → AreTold c.keyed_steps d.keyed_steps (record { types = types; state = state_of c }) (record { types = types; state = state_of d })
 told_of types c d hc hd = grind (arith, replayed, one_view, v, one_past, one_view_by_swaps, swaps_lead_to_one_view)
 
-pub told : (types others : List LocalType) (c d : Lists) (m n : SessionState) → Holds types c → Holds others d → record { types = types; state = state_of c } ≡ m → record { types = others; state = state_of d } ≡ n → m.types ≡ n.types → AreTold c.entries d.entries m n
+pub told : (types others : List LocalType) (c d : Lists) (m n : SessionState) → Holds types c → Holds others d → record { types = types; state = state_of c } ≡ m → record { types = others; state = state_of d } ≡ n → m.types ≡ n.types → AreTold c.keyed_steps d.keyed_steps m n
 told types others c d m n hc hd is js same = grind (arith, told_of)

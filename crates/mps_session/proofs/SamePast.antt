@@ -7,10 +7,10 @@ use Rattle.std.proofs.lemmas.List.{append_cancel_right}
 use Rattle.mps_base.specs.declared.action.Step.{Step}
 use Rattle.mps_machine.specs.View.{Deed}
 use Rattle.mps_arena.specs.Keys.{last_key}
-use Rattle.mps_arena.specs.Entries.{KeyedStep, keys_of, of_role, entry_at, AreSound}
+use Rattle.mps_arena.specs.KeyedSteps.{KeyedStep, keys_of, of_role, keyed_at, AreSound}
 use Rattle.mps_arena.specs.Neighbours.{prev_of_role_in}
-use Rattle.mps_arena.proofs.Chains.{entry_key}
-use Rattle.mps_links.proofs.Firsts.{entry_in}
+use Rattle.mps_arena.proofs.Chains.{keyed_key}
+use Rattle.mps_links.proofs.Firsts.{keyed_in}
 use Rattle.mps_links.proofs.Lasts.{IsLast, last_is, nothing_last}
 use Rattle.mps_links.proofs.Links.{prev_is}
 use Rattle.mps_links.proofs.StepKeys.{cases_key}
@@ -20,19 +20,19 @@ use Rattle.mps_session.specs.Private.Pasts.{deed_of, deed_in, past_in}
 use Rattle.mps_session.proofs.Pasts.{did, did-append, did_own, did_nothing}
 
 -- what the step of a key did, by its act and by what it took
-module _ (es : List KeyedStep) (k : ℕ) (s : Step) (there : option_map (λ (e : KeyedStep). e.step) (entry_at k es) ≡ Some s) where
+module _ (es : List KeyedStep) (k : ℕ) (s : Step) (there : option_map (λ (e : KeyedStep). e.step) (keyed_at k es) ≡ Some s) where
   abbrev deed_at : Deed
   deed_at = record { act = s.act; moved = option_or (given_by s.act) (message_taken es k) }
 
   deed_at_is : deed_in es k ≡ Some deed_at
-  deed_at_is = grind (arith, entry_key)
+  deed_at_is = grind (arith, keyed_key)
 
-module _ (a b : List KeyedStep) (j k : ℕ) (s t : Step) (first : option_map (λ (e : KeyedStep). e.step) (entry_at j a) ≡ Some s) (second : option_map (λ (e : KeyedStep). e.step) (entry_at k b) ≡ Some t) where
+module _ (a b : List KeyedStep) (j k : ℕ) (s t : Step) (first : option_map (λ (e : KeyedStep). e.step) (keyed_at j a) ≡ Some s) (second : option_map (λ (e : KeyedStep). e.step) (keyed_at k b) ≡ Some t) where
   pub deeds_from : s.act ≡ t.act → message_taken a j ≡ message_taken b k → deed_in a j ≡ deed_in b k
   deeds_from act took = cc (deed_at_is a j s first, deed_at_is b k t second)
 
   pub same_taken : deed_in a j ≡ deed_in b k → message_taken a j ≡ message_taken b k
-  same_taken e = grind (arith, entry_key)
+  same_taken e = grind (arith, keyed_key)
 
 -- more than a list ends it
 not_empty : (xs ys zs : List Deed) (d : Deed) → zs ≡ ys → xs ++ d ∷ ys ≡ zs → ⊥
@@ -73,7 +73,7 @@ module _ (p : ℕ) where
       last = last_is (of_role p) w.front k (sym w.key ∙ is)
 
       abbrev pub x : KeyedStep
-      x = last.entry
+      x = last.keyed
 
       es_is : es ≡ last.before ++ x ∷ (last.behind ++ w.rest)
       es_is = w.parts ∙ ap (λ l. l ++ w.rest) last.parts ∙ append_assoc last.before (x ∷ last.behind) w.rest
@@ -88,8 +88,8 @@ module _ (p : ℕ) where
       past_now = grind (arith, did, es_is, did-append, did_now)
 
       module _ (sound : AreSound es) where
-        pub here : entry_at k es ≡ Some x
-        here = subst (λ (j : ℕ). entry_at j es ≡ Some x) last.key (entry_in es sound.distinct sound.rising last.before (last.behind ++ w.rest) x es_is)
+        pub here : keyed_at k es ≡ Some x
+        here = subst (λ (j : ℕ). keyed_at j es ≡ Some x) last.key (keyed_in es sound.distinct sound.rising last.before (last.behind ++ w.rest) x es_is)
 
         deed_is : deed_in es k ≡ Some deed
         deed_is = ap (option_map (λ (e : KeyedStep). deed_of (e.step, moved_of es e))) here
@@ -155,10 +155,10 @@ module _ (p : ℕ) where
           (sym (past_now a at w.first j at_is) ∙ s ∙ ended b by w.second (nothing_left b by w.second none))
 
       module _ (k : ℕ) (by_is : by ≡ Some k) (sa : AreSound a) (sb : AreSound b) where
-        pub first_here : entry_at j a ≡ Some (x a at w.first j at_is)
+        pub first_here : keyed_at j a ≡ Some (x a at w.first j at_is)
         first_here = here a at w.first j at_is sa
 
-        pub second_here : entry_at k b ≡ Some (x b by w.second k by_is)
+        pub second_here : keyed_at k b ≡ Some (x b by w.second k by_is)
         second_here = here b by w.second k by_is sb
 
         pub must_be_same : past_in p a ≡ past_in p b → deed_in a j ≡ deed_in b k

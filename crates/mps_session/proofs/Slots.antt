@@ -19,8 +19,8 @@ use Rattle.mps_machine.specs.Rule.{first_of, moved, to_come_after, advanced, par
 use Rattle.mps_machine.proofs.Stepping.{map_some, rule_parts, replay_parts, replay-append}
 use Rattle.mps_machine.proofs.Peers.{fact_by_role}
 use Rattle.mps_machine.proofs.Unreceived.{queue_is}
-use Rattle.mps_arena.specs.Entries.{KeyedStep, steps, entry_at, AreSound}
-use Rattle.mps_arena.specs.Neighbours.{waiting}
+use Rattle.mps_arena.specs.KeyedSteps.{KeyedStep, steps, keyed_at, AreSound}
+use Rattle.mps_arena.specs.Neighbours.{first_waiting}
 use Rattle.mps_arena.proofs.Matched.{sound_left, last_fresh}
 use Rattle.mps_stores.specs.Stores.{Keys, slot_of, bindings}
 use Rattle.mps_stores.proofs.Bindings.{bindings_push, after_binding, after_other, after_idle}
@@ -74,11 +74,11 @@ took_value : (before after : Participant) (from : ℕ) (slot : List ℕ) (m : Op
 took_value before after from slot m e = grind arith
 
 module _ (types : List LocalType) where
-  -- the stores of the view are those of the entries
+  -- the stores of the view are those of the keyed steps
   abbrev Bind : List KeyedStep → View → Type 0
   Bind es v = (p : ℕ) → AreBound (value_taken es) (v.participant p).store (bindings slot_of p es)
 
-  module _ (es : List KeyedStep) (e : KeyedStep) (v w : View) (sound : AreSound es) (fresh : entry_at e.key es ≡ None) (before : replay (opening types) (steps es) ≡ Some v) (next : rule v e.step ≡ Some w) (was : Bind es v) where
+  module _ (es : List KeyedStep) (e : KeyedStep) (v w : View) (sound : AreSound es) (fresh : keyed_at e.key es ≡ None) (before : replay (opening types) (steps es) ≡ Some v) (next : rule v e.step ≡ Some w) (was : Bind es v) where
     abbrev now : List KeyedStep
     now = es ++ e ∷ []
 
@@ -99,7 +99,7 @@ module _ (types : List LocalType) where
         let r = e.step.role in
         let m = moved v r (In from (Some slot)) in
         let took = took_value (v.participant r) after from slot m h in
-        let first : option_and_then (message_of es) (waiting es from r) ≡ Some (Plain took.0) =
+        let first : option_and_then (message_of es) (first_waiting es from r) ≡ Some (Plain took.0) =
         first_message es sound from r ∙ get_first (unreceived from r (steps es)) ∙ ap first_of (sym (queue_is (opening types) v (steps es) from r before)) ∙ took.1 in
         let taken : value_taken now e.key ≡ Some took.0 = ap (option_and_then value_of) (taken_new es e sound fresh from (Some slot) (Plain took.0) is first) in
         rw (bindings_push slot_of r es e, after_binding slot_of r slot (bindings slot_of r es) e (refl, ap slot_of is), took.1)
@@ -123,7 +123,7 @@ module _ (types : List LocalType) where
       (bind_from (a ++ e ∷ []) b parts.0 w (rw whole sound) next parts.2
       (bind_step a e v parts.0 (sound_left a (e ∷ b) sound) (last_fresh a b e sound) before parts.1 was))
 
-  -- what a role keeps in a slot is what the entries say
+  -- what a role keeps in a slot is what the keyed steps say
   pub slot_is : (es : List KeyedStep) (v : View) (p : ℕ) (slot : List ℕ) → AreSound es → replay (opening types) (steps es) ≡ Some v → value_in slot (v.participant p).store ≡ kept_in es p slot
   slot_is es v p slot sound h =
       value_both (value_taken es) (v.participant p).store (bindings slot_of p es) slot (bind_from [] es (opening types) v sound refl h (λ q. tt) p)

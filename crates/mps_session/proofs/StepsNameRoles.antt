@@ -6,7 +6,7 @@ use Rattle.mps_base.specs.declared.action.Step.{Step}
 use Rattle.mps_local.specs.Actions.{Head, Begins}
 use Rattle.mps_local.specs.Local.{LocalType}
 use Rattle.mps_local.specs.Shape.{AllPeers, IsOtherRole}
-use Rattle.mps_arena.specs.Entries.{KeyedStep, steps}
+use Rattle.mps_arena.specs.KeyedSteps.{KeyedStep, steps}
 use Rattle.mps_machine.specs.View.{View, opening}
 use Rattle.mps_machine.specs.Rule.{moved, replay}
 use Rattle.mps_machine.proofs.Stepping.{rule_parts, replay_parts}

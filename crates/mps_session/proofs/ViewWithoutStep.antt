@@ -16,10 +16,10 @@ use Rattle.mps_machine.specs.Rule.{rule, replay}
 use Rattle.mps_machine.specs.Machine.{view_of}
 use Rattle.mps_machine.proofs.Stepping.{rule_parts, replay_parts, replay_front}
 use Rattle.mps_machine.proofs.Lawful.{step_removed}
-use Rattle.mps_arena.specs.Entries.{KeyedStep, steps, keys_of, of_role, entry_at, AreSound}
+use Rattle.mps_arena.specs.KeyedSteps.{KeyedStep, steps, keys_of, of_role, keyed_at, AreSound}
 use Rattle.mps_arena.specs.Matched.{matched_receipt}
 use Rattle.mps_arena.specs.Neighbours.{next_of_role_in, receipt_in, matched_with, IsLastAndUnreceived, IsUnreceived}
-use Rattle.mps_arena.proofs.Chains.{entry_middle}
+use Rattle.mps_arena.proofs.Chains.{keyed_middle}
 use Rattle.mps_arena.proofs.Histories.{steps_without}
 use Rattle.mps_arena.proofs.Keeping.{others_are}
 use Rattle.mps_arena.proofs.Matched.{sound_left}
@@ -46,8 +46,8 @@ module _ (a b : List KeyedStep) (x : KeyedStep) (sound : AreSound (a ++ x ∷ b)
   abbrev s : Step
   s = x.step
 
-  found : entry_at x.key es ≡ Some x
-  found = entry_middle a b x sound.distinct
+  found : keyed_at x.key es ≡ Some x
+  found = keyed_middle a b x sound.distinct
 
   -- no later step is of its role
   pub others_follow : (t : Step) → IsIn t (steps b) → (t.role == s.role) ≡ false
@@ -76,7 +76,7 @@ module _ (a b : List KeyedStep) (x : KeyedStep) (sound : AreSound (a ++ x ∷ b)
       j)
       (IsIn-append t (steps a) (s ∷ steps b) (subst (λ (l : List Step). IsIn t l) whole i))
 
--- the views with the entry's step and without it
+-- the views with the keyed step's step and without it
 pub record IsAside (types : List LocalType) (a d : List KeyedStep) (x : KeyedStep) : Type 0 where
   pub full : View
   pub left : View
@@ -109,10 +109,10 @@ module _ (types : List LocalType) (a d m : List KeyedStep) (x : KeyedStep) (v : 
 
   left_steps : without (steps front) (λ n. n == x.step.id) ≡ steps (a ++ d)
   left_steps =
-      sym (steps_without front x.key x.step front_sound.distinct front_sound.rising (ap (option_map (λ (e : KeyedStep). e.step)) (entry_middle a d x front_sound.distinct)))
+      sym (steps_without front x.key x.step front_sound.distinct front_sound.rising (ap (option_map (λ (e : KeyedStep). e.step)) (keyed_middle a d x front_sound.distinct)))
       ∙ ap steps (others_are x.key a d x front_sound.distinct refl)
 
-  -- the steps up to there, and without the entry's
+  -- the steps up to there, and without the keyed step's
   pub aside : IsAside types a d x
   aside =
       let whole = replay_front (opening types) v (steps front) (steps m) (subst (λ (h : List Step). replay (opening types) h ≡ Some v) parted is) in

@@ -2,7 +2,7 @@
 ghost use Rattle.std.specs.Prelude.{◌≡◌, ◌<◌, ◌↔◌, IsTrue, IsSome};
 ghost use Rattle.std.specs.Option.{option_copied};
 ghost use Rattle.mps_history.specs.Swaps.{Swaps};
-ghost use Rattle.mps_arena.specs.Entries.{entry_at, AreSound};
+ghost use Rattle.mps_arena.specs.KeyedSteps.{keyed_at, AreSound};
 ghost use Rattle.mps_session.specs.Private.Pasts.{deed_in, past_in};
 ghost use Rattle.mps_session.specs.SessionState.{session_view};
 
@@ -82,9 +82,9 @@ fn same_taken(a: Option<&Message>, b: Option<&Message>) -> bool
 
 // Whether the steps of the keys did the same.
 fn same_deed(a: &Log, x: Key, b: &Log, y: Key) -> bool
-    requires first { IsSome (entry_at x a.now.entries) }
-    requires second { IsSome (entry_at y b.now.entries) }
-    ensures { IsTrue result ↔ (deed_in a.now.entries x ≡ deed_in b.now.entries y) }
+    requires first { IsSome (keyed_at x a.now.keyed_steps) }
+    requires second { IsSome (keyed_at y b.now.keyed_steps) }
+    ensures { IsTrue result ↔ (deed_in a.now.keyed_steps x ≡ deed_in b.now.keyed_steps y) }
 {
     same_act(&a.get(x).act, &b.get(y).act) && same_taken(a.taken(x), b.taken(y))
 }
@@ -92,9 +92,9 @@ fn same_deed(a: &Log, x: Key, b: &Log, y: Key) -> bool
 // Whether the role did the same in both, looked at from its last step back.
 fn same_past(a: &Log, b: &Log, role: Role) -> bool
     requires role { role < 8 }
-    requires first { AreSound a.now.entries }
-    requires second { AreSound b.now.entries }
-    ensures { IsTrue result ↔ (past_in role a.now.entries ≡ past_in role b.now.entries) }
+    requires first { AreSound a.now.keyed_steps }
+    requires second { AreSound b.now.keyed_steps }
+    ensures { IsTrue result ↔ (past_in role a.now.keyed_steps ≡ past_in role b.now.keyed_steps) }
 {
     let mut last = a.last_of(role);
     let mut other = b.last_of(role);

@@ -1,4 +1,4 @@
-//! Where a role stands in its part.
+//! Where a role stands in its local type.
 
 use mps_table::{Node, Table};
 

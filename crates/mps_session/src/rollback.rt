@@ -12,7 +12,7 @@ ghost use Rattle.mps_machine.specs.Machine as machine;
 ghost use Rattle.mps_machine.specs.Machine.{since_mark, final_fault};
 ghost use Rattle.mps_machine.specs.Answering.{IsAnswer, IsServed};
 ghost use Rattle.mps_machine.specs.Rule.{replay};
-ghost use Rattle.mps_arena.specs.Entries.{steps};
+ghost use Rattle.mps_arena.specs.KeyedSteps.{steps};
 ghost use Rattle.mps_links.specs.Marks.{marked_keys, marked_commits, marked_steps, unmarked_steps, AreMarksClosed};
 ghost use Rattle.mps_session.specs.Answers.{once};
 ghost use Rattle.mps_session.specs.Private.FirstNumber.{first_number};
@@ -67,16 +67,16 @@ impl Configuration {
     // Memory for the numbers of the chosen steps, so many, and for a copy of them; or why the steps stay: the least
     // commit among them, or else out of memory.
     fn space_for_chosen(&self, count: usize) -> Result<(Vec<StepId>, Vec<StepId>), Refusal>
-        requires { AreMarksClosed (lists_of self.now).entries }
+        requires { AreMarksClosed (lists_of self.now).keyed_steps }
         ensures none { IfOk result (λ space. vec_len space.0 ≡ 0) }
         ensures first { IfOk result (λ space. space.0.items ≡ []) }
         ensures first_space { IfOk result (λ space. count ≤ vec_capacity space.0) }
         ensures copy { IfOk result (λ space. space.1.items ≡ []) }
         ensures copy_space { IfOk result (λ space. count ≤ vec_capacity space.1) }
         ensures free { OnOk result
-            (least (marked_commits (lists_of self.now).entries) ≡ None) }
+            (least (marked_commits (lists_of self.now).keyed_steps) ≡ None) }
         ensures fault { IfErr result (λ refusal. unwrap_or
-            (option_map Final (least (marked_commits (lists_of self.now).entries))) Memory
+            (option_map Final (least (marked_commits (lists_of self.now).keyed_steps))) Memory
             ≡ refusal) }
     {
         if let Some(by) = self.log.least_final() {
@@ -90,25 +90,25 @@ impl Configuration {
     /// Nothing is changed then, nor where memory runs out.
     #[inline(never)]
     pub(crate) fn take_back(&mut self, id: StepId) -> Result<(StepIds, Vec<StepId>), Refusal>
-        requires present { IsSome (step_of (steps (lists_of self.old).entries) id) }
-        requires unmarked { marked_keys (lists_of self.old).entries ≡ [] }
+        requires present { IsSome (step_of (steps (lists_of self.old).keyed_steps) id) }
+        requires unmarked { marked_keys (lists_of self.old).keyed_steps ≡ [] }
         requires members { AllByRecursion
-            (λ e. e.step.role < length (lists_of self.old).cursors) (lists_of self.old).entries }
+            (λ e. e.step.role < length (lists_of self.old).cursors) (lists_of self.old).keyed_steps }
         ensures numbers { IfOk result (λ ids. ids.0 ≡ reverse (numbers
-            (within (steps (lists_of self.old).entries)
-            (consequences (steps (lists_of self.old).entries) id)))) }
+            (within (steps (lists_of self.old).keyed_steps)
+            (consequences (steps (lists_of self.old).keyed_steps) id)))) }
         ensures copy { IfOk result (λ ids. ids.1.items ≡ ids.0) }
-        ensures history { OnOk result (steps (lists_of self.new).entries
-            ≡ without (steps (lists_of self.old).entries)
-            (consequences (steps (lists_of self.old).entries) id)) }
+        ensures history { OnOk result (steps (lists_of self.new).keyed_steps
+            ≡ without (steps (lists_of self.old).keyed_steps)
+            (consequences (steps (lists_of self.old).keyed_steps) id)) }
         ensures issued { (lists_of self.new).issued ≡ (lists_of self.old).issued }
-        ensures unmarked { marked_keys (lists_of self.new).entries ≡ [] }
+        ensures unmarked { marked_keys (lists_of self.new).keyed_steps ≡ [] }
         ensures holds { (types : List LocalType) → Holds types (lists_of self.old)
             → Holds types (lists_of self.new) }
         ensures free { OnOk result
-            (final_fault (steps (lists_of self.old).entries) id ≡ None) }
+            (final_fault (steps (lists_of self.old).keyed_steps) id ≡ None) }
         ensures fault { IfErr result (λ refusal. unwrap_or
-            (final_fault (steps (lists_of self.old).entries) id) Memory ≡ refusal) }
+            (final_fault (steps (lists_of self.old).keyed_steps) id) Memory ≡ refusal) }
         ensures err { OnErr result (lists_of self.new ≡ lists_of self.old) }
     {
         let count = self.log.choose_from(id);
@@ -125,11 +125,11 @@ impl Configuration {
     }
 
     /// Whether no commit is among the step of that number and all that depend on it; else the least is named. It does
-    /// not allocate, and leaves no mark.
+    /// not allocate, and no step is chosen when it returns.
     pub(crate) fn unless_final(&mut self, id: StepId) -> Result<(), Refusal>
-        requires present { IsSome (step_of (steps (lists_of self.old).entries) id) }
-        requires unmarked { marked_keys (lists_of self.old).entries ≡ [] }
-        ensures fault { result_err result ≡ final_fault (steps (lists_of self.old).entries) id }
+        requires present { IsSome (step_of (steps (lists_of self.old).keyed_steps) id) }
+        requires unmarked { marked_keys (lists_of self.old).keyed_steps ≡ [] }
+        ensures fault { result_err result ≡ final_fault (steps (lists_of self.old).keyed_steps) id }
         ensures kept { lists_of self.new ≡ lists_of self.old }
     {
         self.log.choose_from(id);
@@ -143,17 +143,17 @@ impl Configuration {
 
     /// Removes the chosen steps, the newest first, and adds their numbers to the others.
     pub(crate) fn remove_chosen(&mut self, ids: &mut Vec<StepId>)
-        requires closed { AreMarksClosed (lists_of self.old).entries }
+        requires closed { AreMarksClosed (lists_of self.old).keyed_steps }
         requires members { AllByRecursion
-            (λ e. e.step.role < length (lists_of self.old).cursors) (lists_of self.old).entries }
-        requires space { vec_len ids.old + length (marked_keys (lists_of self.old).entries)
+            (λ e. e.step.role < length (lists_of self.old).cursors) (lists_of self.old).keyed_steps }
+        requires space { vec_len ids.old + length (marked_keys (lists_of self.old).keyed_steps)
             ≤ vec_capacity ids.old }
         ensures numbers { ids.new.items ≡ ids.old.items
-            ++ reverse (numbers (marked_steps (lists_of self.old).entries)) }
-        ensures history { steps (lists_of self.new).entries
-            ≡ unmarked_steps (lists_of self.old).entries }
+            ++ reverse (numbers (marked_steps (lists_of self.old).keyed_steps)) }
+        ensures history { steps (lists_of self.new).keyed_steps
+            ≡ unmarked_steps (lists_of self.old).keyed_steps }
         ensures issued { (lists_of self.new).issued ≡ (lists_of self.old).issued }
-        ensures unmarked { marked_keys (lists_of self.new).entries ≡ [] }
+        ensures unmarked { marked_keys (lists_of self.new).keyed_steps ≡ [] }
         ensures holds { (types : List LocalType) → Holds types (lists_of self.old)
             → Holds types (lists_of self.new) }
     {
@@ -168,7 +168,7 @@ impl Configuration {
     pub(crate) fn first_after(&self, role: Role, name: &Name) -> Option<Option<StepId>>
         requires { role < 8 }
         ensures { result ≡ option_map first_number
-            (since_mark name.now (steps_of role (steps (lists_of self.now).entries))) }
+            (since_mark name.now (steps_of role (steps (lists_of self.now).keyed_steps))) }
     {
         let mark = self.log.last_mark(role, name)?;
         let Some(next) = self.log.next_of_role(mark) else {

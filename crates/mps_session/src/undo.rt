@@ -10,7 +10,7 @@ ghost use Rattle.mps_machine.specs.Machine as machine;
 ghost use Rattle.mps_machine.specs.Machine.{owner_fault};
 ghost use Rattle.mps_machine.specs.Answering.{IsServed};
 ghost use Rattle.mps_machine.specs.Rule.{rule};
-ghost use Rattle.mps_arena.specs.Entries.{steps, entry_at, AreSound};
+ghost use Rattle.mps_arena.specs.KeyedSteps.{steps, keyed_at, AreSound};
 ghost use Rattle.mps_arena.specs.Neighbours.{CanGo};
 ghost use Rattle.mps_session.specs.Answers.{undo_answer};
 ghost use Rattle.mps_session.specs.Private.Configurations.{lists_of, state_of};
@@ -39,13 +39,13 @@ impl Configuration {
     /// The key of the role's own step of that number, or why the role may not undo it.
     pub(crate) fn own_step(&self, role: Role, id: StepId) -> Result<Key, Refusal>
         ensures own { OnOk result (owner_fault role
-            (step_of (steps (lists_of self.now).entries) id) ≡ None) }
+            (step_of (steps (lists_of self.now).keyed_steps) id) ≡ None) }
         ensures key { IfOk result (λ key.
-            option_map (λ e. e.key) (find (λ e. e.step.id == id) (lists_of self.now).entries)
+            option_map (λ e. e.key) (find (λ e. e.step.id == id) (lists_of self.now).keyed_steps)
             ≡ Some key) }
-        ensures sound { OnOk result (AreSound (lists_of self.now).entries) }
+        ensures sound { OnOk result (AreSound (lists_of self.now).keyed_steps) }
         ensures fault { IfErr result (λ refusal. owner_fault role
-            (step_of (steps (lists_of self.now).entries) id) ≡ Some refusal) }
+            (step_of (steps (lists_of self.now).keyed_steps) id) ≡ Some refusal) }
     {
         let Some(key) = self.log.by_id(id) else {
             return Err(Refusal::NoStep);
@@ -61,11 +61,11 @@ impl Configuration {
     /// step is asked by its number, as definitions are: to find its key once more takes a few loads.
     pub(crate) fn free_step(&self, role: Role, id: StepId) -> Result<Key, Refusal>
         ensures own { OnOk result (owner_fault role
-            (step_of (steps (lists_of self.now).entries) id) ≡ None) }
+            (step_of (steps (lists_of self.now).keyed_steps) id) ≡ None) }
         ensures key { IfOk result (λ key.
-            option_map (λ e. e.key) (find (λ e. e.step.id == id) (lists_of self.now).entries)
+            option_map (λ e. e.key) (find (λ e. e.step.id == id) (lists_of self.now).keyed_steps)
             ≡ Some key) }
-        ensures can { IfOk result (λ key. CanGo (lists_of self.now).entries key) }
+        ensures can { IfOk result (λ key. CanGo (lists_of self.now).keyed_steps key) }
         ensures free { OnOk result (machine.undo (state_of (lists_of self.now)) role id
             ≡ machine.undone (state_of (lists_of self.now)) id) }
         ensures fault { IfErr result (λ refusal. machine.undo (state_of (lists_of self.now)) role id
@@ -84,12 +84,12 @@ impl Configuration {
     /// Removes a step that is the last of its role and, if it is a send or a choice, isn't received. Its role stands
     /// again where it stood before the step. Tells the step's number.
     pub(crate) fn remove(&mut self, key: Key) -> StepId
-        requires can { CanGo (lists_of self.old).entries key }
-        requires role { IfSome (entry_at key (lists_of self.old).entries)
+        requires can { CanGo (lists_of self.old).keyed_steps key }
+        requires role { IfSome (keyed_at key (lists_of self.old).keyed_steps)
             (λ e. e.step.role < vec_len self.old.cursors) }
-        ensures id { IfSome (entry_at key (lists_of self.old).entries)
+        ensures id { IfSome (keyed_at key (lists_of self.old).keyed_steps)
             (λ e. result ≡ e.step.id) }
-        ensures left { IfSome (entry_at key (lists_of self.old).entries)
+        ensures left { IfSome (keyed_at key (lists_of self.old).keyed_steps)
             (λ e. HasLeft e (lists_of self.old) (lists_of self.new)) }
     {
         let role = self.log.get(key).role;

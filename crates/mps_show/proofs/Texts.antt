@@ -1,5 +1,5 @@
 -- Names, words and texts stand in JSON as they are.
-use Rattle.std.proofs.Common.{◌≡◌, ℕ, zero, suc, List, [], ◌∷◌, ◌++◌, refl, arith}
+use Rattle.std.proofs.Common.{◌≡◌, ℕ, zero, suc, List, [], ◌∷◌, ◌++◌, codes, refl, arith}
 use mathlib.Core.Path.{ap₂}
 use Rattle.std.specs.Prelude.{IsTrue}
 use Rattle.std.specs.List.{AllByRecursion}
@@ -53,3 +53,8 @@ pub plain_is_ascii : (s : List ℕ) → AllByRecursion IsPlainByte s → IsAscii
 plain_is_ascii [] h i = omega arith
 plain_is_ascii (c ∷ s) h zero = omega (arith, h.0.high)
 plain_is_ascii (c ∷ s) h (suc i) = plain_is_ascii s h.1 i
+
+-- the words of a step stand as they are
+pub words_stand : (escape (codes "send") ≡ codes "send") × (escape (codes "choose") ≡ codes "choose") × (escape (codes "recv") ≡ codes "recv") × (escape (codes "pick") ≡ codes "pick") × (escape (codes "mark") ≡ codes "mark") × (escape (codes "commit") ≡ codes "commit")
+unfolding escape_byte
+words_stand = (refl, refl, refl, refl, refl, refl)

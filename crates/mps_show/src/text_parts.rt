@@ -18,15 +18,17 @@ use mps_base::{Act, Message, Name, Role, Roles, Step, StepId, Value};
 use std::alloc::AllocError;
 
 // Writes plain bytes between quotes.
+#[inline(always)]
 fn put_string(out: &mut Vec<u8>, bytes: &[u8]) -> Result<(), AllocError>
     requires { AllByRecursion IsPlainByte bytes.now }
     ensures text { OnOk result (out.new.items ≡ out.old.items ++ compact_text (string bytes.now)) }
     ensures plain { OnOk result (IsPlain (string bytes.now)) }
 {
     out.reserve(bytes.len() + 2)?;
-    out.push(b'"')?;
+    out.push_reserved(b'"');
     out.extend_from_slice(bytes)?;
-    Ok(out.push(b'"')?)
+    out.push_reserved(b'"');
+    Ok(())
 }
 
 /// Writes a comma, where something stands before.
@@ -40,6 +42,7 @@ pub(crate) fn put_comma(out: &mut Vec<u8>, later: bool) -> Result<(), AllocError
 }
 
 // Writes a name.
+#[inline(always)]
 fn put_name(out: &mut Vec<u8>, name: &Name) -> Result<(), AllocError>
     ensures text { OnOk result (out.new.items ≡ out.old.items ++ compact_text (string name.now)) }
     ensures plain { OnOk result (IsPlain (string name.now)) }
@@ -48,6 +51,7 @@ fn put_name(out: &mut Vec<u8>, name: &Name) -> Result<(), AllocError>
 }
 
 /// Writes the name of a role.
+#[inline(always)]
 pub(crate) fn put_role(out: &mut Vec<u8>, names: &Roles, role: Role) -> Result<(), AllocError>
     requires { role < length names.now }
     ensures text { OnOk result (out.new.items ≡ out.old.items ++ compact_text (role_name names.now role)) }
@@ -57,6 +61,7 @@ pub(crate) fn put_role(out: &mut Vec<u8>, names: &Roles, role: Role) -> Result<(
 }
 
 /// Writes the number of a step.
+#[inline(always)]
 pub(crate) fn put_number(out: &mut Vec<u8>, id: StepId) -> Result<(), AllocError>
     ensures { OnOk result (out.new.items ≡ out.old.items ++ compact_text (number_shown id)) }
 {
@@ -73,6 +78,7 @@ fn put_int(out: &mut Vec<u8>, n: i64) -> Result<(), AllocError>
 }
 
 // Writes a value.
+#[inline(always)]
 fn put_value(out: &mut Vec<u8>, value: &Value) -> Result<(), AllocError>
     ensures text { OnOk result (out.new.items ≡ out.old.items ++ compact_text (value_shown value.now)) }
     ensures plain { OnOk result (IsPlain (value_shown value.now)) }
@@ -164,8 +170,8 @@ fn put_out(out: &mut Vec<u8>, names: &Roles, to: Role, message: &Message) -> Res
     ensures plain { OnOk result (ArePlainItems (items_of (out_shown names.now to message.now))) }
 {
     match message {
-        Message::Value(_) => put_word(out, b"send")?,
-        Message::Label(_) => put_word(out, b"choose")?,
+        Message::Value(_) => out.extend_from_slice(b",\"send\",")?,
+        Message::Label(_) => out.extend_from_slice(b",\"choose\",")?,
     }
     put_role(out, names, to)?;
     out.push(b',')?;
@@ -189,13 +195,13 @@ fn put_in(
 {
     match slot {
         Some(slot) => {
-            put_word(out, b"recv")?;
+            out.extend_from_slice(b",\"recv\",")?;
             put_role(out, names, from)?;
             out.push(b',')?;
             put_name(out, slot)?;
         }
         None => {
-            put_word(out, b"pick")?;
+            out.extend_from_slice(b",\"pick\",")?;
             put_role(out, names, from)?;
         }
     }
@@ -221,32 +227,19 @@ fn put_mark(out: &mut Vec<u8>, mark: &Name) -> Result<(), AllocError>
         ≡ out.old.items ++ items_text true (items_of (string (codes "mark") ∷ string mark.now ∷ []))) }
     ensures plain { OnOk result (ArePlainItems (items_of (string (codes "mark") ∷ string mark.now ∷ []))) }
 {
-    put_word(out, b"mark")?;
+    out.extend_from_slice(b",\"mark\",")?;
     put_name(out, mark)?;
     Ok(out.push(b']')?)
 }
 
 // Writes a commit, after its role, and the end of the step.
+#[tactic(auto, using(crate::proofs::Texts::words_stand))]
 fn put_commit(out: &mut Vec<u8>) -> Result<(), AllocError>
     ensures text { OnOk result (out.new.items
         ≡ out.old.items ++ items_text true (items_of (string (codes "commit") ∷ []))) }
     ensures plain { OnOk result (ArePlainItems (items_of (string (codes "commit") ∷ []))) }
 {
-    out.push(b',')?;
-    put_string(out, b"commit")?;
-    Ok(out.push(b']')?)
-}
-
-// Writes a word between commas.
-fn put_word(out: &mut Vec<u8>, word: &[u8]) -> Result<(), AllocError>
-    requires { AllByRecursion IsPlainByte word.now }
-    ensures text { OnOk result (out.new.items
-        ≡ out.old.items ++ 44 ∷ (compact_text (string word.now) ++ 44 ∷ [])) }
-    ensures plain { OnOk result (IsPlain (string word.now)) }
-{
-    out.push(b',')?;
-    put_string(out, word)?;
-    Ok(out.push(b',')?)
+    out.extend_from_slice(b",\"commit\"]")
 }
 
 /// Writes a slot with its value.

@@ -1,4 +1,4 @@
--- Bindings, as entries come and go.
+-- Bindings, as keyed steps come and go.
 use Rattle.std.proofs.Common.{◌≡◌, ℕ, ◌<◌, ◌⊎◌, Bool, true, false, List, [], ◌∷◌, ◌++◌, length, not, map, Option, Some, None, refl, sym, ap, ◌∙◌, subst, arith, ⊎_elim, inl, inr, eq-eqb, append-nil, append_assoc, get_or}
 use mathlib.Core.Path.{ap₂}
 use Rattle.std.specs.Prelude.{◌==◌, if◌then◌else◌, slice_set}
@@ -10,10 +10,10 @@ use Rattle.std.proofs.lemmas.List.{get_or-set_same, get_or-set_other, get_or_def
 use Rattle.mps_history.specs.Slots.{bound, unbound, value_in}
 use Rattle.mps_history.proofs.Slots.{same_slot, value_in-bound, unbound-bound}
 use Rattle.mps_arena.specs.Keys.{is_at, has, AreDistinct, last_key}
-use Rattle.mps_arena.specs.Entries.{KeyedStep, keys_of, any_step, of_role, entry_at, with_mark, AreSound}
+use Rattle.mps_arena.specs.KeyedSteps.{KeyedStep, keys_of, any_step, of_role, keyed_at, with_mark, AreSound}
 use Rattle.mps_arena.proofs.KeyLists.{last-append, last_in, once}
-use Rattle.mps_arena.proofs.Chains.{keys_without, keys_around, distinct, entry_middle}
-use Rattle.mps_arena.proofs.Keeping.{entry_split, others_are}
+use Rattle.mps_arena.proofs.Chains.{keys_without, keys_around, distinct, keyed_middle}
+use Rattle.mps_arena.proofs.Keeping.{keyed_split, others_are}
 use Rattle.mps_stores.specs.Stores.{Keys, Naming, store_at, IsBinding, store_after, rebound, bindings, AreTraced, AreStores}
 
 -- the store that is written
@@ -22,7 +22,7 @@ store_is stores p i store same long small is = is ∙ ap (λ (k : ℕ). get_or s
 
 -- of each kind of names
 module _ (naming : Naming) where
-  -- one entry
+  -- one keyed step
   pub after_binding : (p : ℕ) (slot : List ℕ) (store : Keys) (e : KeyedStep) → IsBinding naming p slot e → store_after naming p store e ≡ bound slot e.key store
   after_binding p slot store e is = rw (eq-eqb e.step.role p is.0, is.1) refl
 
@@ -32,7 +32,7 @@ module _ (naming : Naming) where
   pub after_idle : (p : ℕ) (store : Keys) (e : KeyedStep) → naming e.step.act ≡ None → store_after naming p store e ≡ store
   after_idle p store e n = grind (arith, after_other, cases_Bool)
 
-  -- many entries
+  -- many keyed steps
   pub rebound-append : (p : ℕ) (store : Keys) (a b : List KeyedStep) → rebound naming p store (a ++ b) ≡ rebound naming p (rebound naming p store a) b
   rebound-append p store [] b = refl
   rebound-append p store (x ∷ a) b = rebound-append p (store_after naming p store x) a b
@@ -49,11 +49,11 @@ module _ (naming : Naming) where
   pub bindings_push : (p : ℕ) (es : List KeyedStep) (e : KeyedStep) → bindings naming p (es ++ e ∷ []) ≡ store_after naming p (bindings naming p es) e
   bindings_push p es e = rebound-append p [] es (e ∷ [])
 
-  -- an entry in the middle that leaves the store
+  -- a keyed step in the middle that leaves the store
   pub bindings_beside : (p : ℕ) (a b : List KeyedStep) (x : KeyedStep) → ((store : Keys) → store_after naming p store x ≡ store) → bindings naming p (a ++ x ∷ b) ≡ bindings naming p (a ++ b)
   bindings_beside p a b x same = rebound-append p [] a (x ∷ b) ∙ ap (λ (s : Keys). rebound naming p s b) (same (bindings naming p a)) ∙ sym (rebound-append p [] a b)
 
-  -- where an entry of one part stands in the whole
+  -- where a keyed step of one part stands in the whole
   place_cases : (a b c d : List KeyedStep) (y : KeyedStep) → a ++ b ≡ c ++ y ∷ d → ((m : List KeyedStep) × (a ≡ c ++ y ∷ m)) ⊎ ((m : List KeyedStep) × ((c ≡ a ++ m) × (b ≡ m ++ y ∷ d)))
   place_cases [] b c d y e = inr (c, (refl, e))
   place_cases (x ∷ a) b [] d y e = let head : x ≡ y = cc in inl (a, ap (λ (z : KeyedStep). z ∷ a) head)
@@ -73,7 +73,7 @@ module _ (naming : Naming) where
       (grind (arith, only, append-nil))
       (place_cases es (e ∷ []) a b y whole)
 
-  -- an entry goes that no later entry's store shows
+  -- a keyed step goes that no later keyed step's store shows
   pub traced_without : (a b : List KeyedStep) (x : KeyedStep) → AreTraced naming (a ++ x ∷ b) → ((c d : List KeyedStep) (y : KeyedStep) → b ≡ c ++ y ∷ d → (store : Keys) → store_after naming y.step.role store x ≡ store) → AreTraced naming (a ++ b)
   traced_without a b x was unseen p slot c d y whole is =
       ⊎_elim
@@ -82,13 +82,13 @@ module _ (naming : Naming) where
       grind (arith, append_assoc a (x ∷ w.0) (y ∷ d), bindings_beside))
       (place_cases a b c d y whole)
 
-  -- an idle entry
+  -- an idle keyed step
   pub stores_idle_push : (es : List KeyedStep) (e : KeyedStep) (stores : List Keys) → AreStores naming es stores → naming e.step.act ≡ None → AreStores naming (es ++ e ∷ []) stores
   stores_idle_push es e stores s idle = grind (arith, bindings_push, after_idle, traced_push)
 
-  pub stores_idle_without : (es : List KeyedStep) (e : KeyedStep) (stores : List Keys) → AreStores naming es stores → AreSound es → entry_at e.key es ≡ Some e → naming e.step.act ≡ None → AreStores naming (filter (λ other. not (other.key == e.key)) es) stores
+  pub stores_idle_without : (es : List KeyedStep) (e : KeyedStep) (stores : List Keys) → AreStores naming es stores → AreSound es → keyed_at e.key es ≡ Some e → naming e.step.act ≡ None → AreStores naming (filter (λ other. not (other.key == e.key)) es) stores
   stores_idle_without es e stores s sound found idle =
-      let w = entry_split e.key es e found in
+      let w = keyed_split e.key es e found in
       let a = w.0 in
       let b = w.1 in
       let d : AreDistinct (keys_of any_step (a ++ e ∷ b)) = subst (λ (l : List KeyedStep). AreDistinct (keys_of any_step l)) w.2 sound.distinct in
@@ -110,14 +110,14 @@ module _ (naming : Naming) where
       each : (q : ℕ) → q < 8 → store_at (slice_set stores p (bound slot e.key (store_at stores p))) q ≡ bindings naming q (es ++ e ∷ [])
       each q low = grind (arith, eqb-true, get_or-set_same, bindings_push, after_binding, both_ways, eq-eqb, get_or-set_other, after_other, cases_Bool)
 
-  -- nothing of its role stands after the last entry of the role
+  -- nothing of its role stands after the last keyed step of the role
   none_behind : (c d : List ℕ) (k : ℕ) → AreDistinct (c ++ k ∷ d) → last_key None (c ++ k ∷ d) ≡ Some k → d ≡ []
   none_behind c [] k apart last = refl
   none_behind c (j ∷ d) k apart last =
       let is : last_key None (j ∷ d) ≡ Some k = sym (last-append None c (k ∷ j ∷ d)) ∙ last in
       absurd (both_ways (has k (j ∷ d)) (once k c (j ∷ d) apart).1 (last_in (j ∷ d) k (ap (λ (o : Option ℕ). is_at o k) is ∙ eq-eqb k k refl)))
 
-  -- no entry of the role stands there
+  -- no keyed step of the role stands there
   not_of : (p : ℕ) (c d : List KeyedStep) (y : KeyedStep) → keys_of (of_role p) (c ++ y ∷ d) ≡ [] → (y.step.role == p) ≡ false
   not_of p c d y none =
       false_from_ne_true (y.step.role == p) (λ t.
@@ -128,11 +128,11 @@ module _ (naming : Naming) where
       not_nil [] d k e = absurd cc
       not_nil (j ∷ c) d k e = absurd cc
 
-  -- the last entry of its role goes, which is a receipt
-  pub stores_unbind : (es : List KeyedStep) (e : KeyedStep) (p : ℕ) (slot : List ℕ) (older : Option ℕ) (stores : List Keys) → length stores ≡ 8 → p < 8 → AreStores naming es stores → AreSound es → entry_at e.key es ≡ Some e → last_key None (keys_of (of_role p) es) ≡ Some e.key → IsBinding naming p slot e → e.before.bound ≡ older
+  -- the last keyed step of its role goes, which is a receipt
+  pub stores_unbind : (es : List KeyedStep) (e : KeyedStep) (p : ℕ) (slot : List ℕ) (older : Option ℕ) (stores : List Keys) → length stores ≡ 8 → p < 8 → AreStores naming es stores → AreSound es → keyed_at e.key es ≡ Some e → last_key None (keys_of (of_role p) es) ≡ Some e.key → IsBinding naming p slot e → e.before.bound ≡ older
       → AreStores naming (filter (λ other. not (other.key == e.key)) es) (slice_set stores p (unbound slot older (store_at stores p)))
   stores_unbind es e p slot older stores long small s sound found last is kept =
-      let w = entry_split e.key es e found in
+      let w = keyed_split e.key es e found in
       let a = w.0 in
       let b = w.1 in
       let d : AreDistinct (keys_of any_step (a ++ e ∷ b)) = subst (λ (l : List KeyedStep). AreDistinct (keys_of any_step l)) w.2 sound.distinct in
@@ -155,7 +155,7 @@ module _ (naming : Naming) where
     rebound_marked p store [] = refl
     rebound_marked p store (x ∷ es) = rebound_marked p (store_after naming p store x) es
 
-    -- where an entry of the marked list stands in the other
+    -- where a keyed step of the marked list stands in the other
     abbrev Place : List KeyedStep → List KeyedStep → KeyedStep → Type 0
     Place es c y = (a : List KeyedStep) × (b : List KeyedStep) × (x : KeyedStep) × ((es ≡ a ++ x ∷ b) × (c ≡ marks a) × (y ≡ with_mark k m x))
 
@@ -179,16 +179,16 @@ module _ (naming : Naming) where
   pub record Bound (p : ℕ) (slot : List ℕ) (k : ℕ) (es : List KeyedStep) : Type 0 where
     pub before : List KeyedStep
     pub behind : List KeyedStep
-    pub entry : KeyedStep
-    pub parts : es ≡ before ++ entry ∷ behind
-    pub key : entry.key ≡ k
-    pub receipt : IsBinding naming p slot entry
+    pub keyed : KeyedStep
+    pub parts : es ≡ before ++ keyed ∷ behind
+    pub key : keyed.key ≡ k
+    pub receipt : IsBinding naming p slot keyed
 
   cases_slot : (o : Option (List ℕ)) → (o ≡ None) ⊎ ((x : List ℕ) × (o ≡ Some x))
   cases_slot None = inl refl
   cases_slot (Some x) = inr (x, refl)
 
-  -- by an entry, or before it
+  -- by a keyed step, or before it
   bound_here : (p : ℕ) (slot : List ℕ) (k : ℕ) (store : Keys) (e : KeyedStep) → value_in slot (store_after naming p store e) ≡ Some k → ((e.key ≡ k) × IsBinding naming p slot e) ⊎ (value_in slot store ≡ Some k)
   bound_here p slot k store e h =
       ⊎_elim
@@ -213,20 +213,20 @@ module _ (naming : Naming) where
   bound_in p slot k store (x ∷ es) h =
       ⊎_elim
       (λ (w : Bound p slot k es).
-      let r : Bound p slot k (x ∷ es) = record { before = x ∷ w.before; behind = w.behind; entry = w.entry; parts = ap (λ (l : List KeyedStep). x ∷ l) w.parts; key = w.key; receipt = w.receipt } in
+      let r : Bound p slot k (x ∷ es) = record { before = x ∷ w.before; behind = w.behind; keyed = w.keyed; parts = ap (λ (l : List KeyedStep). x ∷ l) w.parts; key = w.key; receipt = w.receipt } in
       inl r)
       (λ (g : value_in slot (store_after naming p store x) ≡ Some k).
       ⊎_elim
       (λ (v : (x.key ≡ k) × IsBinding naming p slot x).
-      let r : Bound p slot k (x ∷ es) = record { before = []; behind = es; entry = x; parts = refl; key = v.0; receipt = v.1 } in
+      let r : Bound p slot k (x ∷ es) = record { before = []; behind = es; keyed = x; parts = refl; key = v.0; receipt = v.1 } in
       inl r)
       (λ (v : value_in slot store ≡ Some k). inr v)
       (bound_here p slot k store x g))
       (bound_in p slot k (store_after naming p store x) es h)
 
-  pub binding_is_step : (es : List KeyedStep) (p k : ℕ) (slot : List ℕ) → AreSound es → value_in slot (bindings naming p es) ≡ Some k → (e : KeyedStep) × (entry_at k es ≡ Some e) × IsBinding naming p slot e
+  pub binding_is_step : (es : List KeyedStep) (p k : ℕ) (slot : List ℕ) → AreSound es → value_in slot (bindings naming p es) ≡ Some k → (e : KeyedStep) × (keyed_at k es ≡ Some e) × IsBinding naming p slot e
   binding_is_step es p k slot sound h =
       ⊎_elim
-      (grind (arith, entry_middle))
+      (grind (arith, keyed_middle))
       (λ (z : value_in slot [] ≡ Some k). absurd cc)
       (bound_in p slot k [] es h)

@@ -18,37 +18,37 @@ turned a b = grind (arith, bytes_eq-Decides, same_slot, cases_Bool)
 module _ (slot : List ℕ) where
   pub lookup_is_value : (store : Keys) → lookup (bytes_eq slot) store ≡ value_in slot store
   lookup_is_value [] = refl
-  lookup_is_value (entry ∷ store) = cc (turned slot entry.0, lookup_is_value store)
+  lookup_is_value (pair ∷ store) = cc (turned slot pair.0, lookup_is_value store)
 
   module _ (v : ℕ) where
     pub insert_is_bound : (store : Keys) → insert_entry bytes_eq store slot v ≡ bound slot v store
     insert_is_bound [] = refl
-    insert_is_bound (entry ∷ store) =
+    insert_is_bound (pair ∷ store) =
         ⊎_elim
-        (λ (yes : bytes_eq entry.0 slot ≡ true). rw (turned slot entry.0, yes) (ap (λ (name : List ℕ). (name, v) ∷ store) (same_slot entry.0 slot yes)))
-        (λ (no : bytes_eq entry.0 slot ≡ false). rw (turned slot entry.0, no) (ap (λ (l : Keys). entry ∷ l) (insert_is_bound store)))
-        (cases_Bool (bytes_eq entry.0 slot))
+        (λ (yes : bytes_eq pair.0 slot ≡ true). rw (turned slot pair.0, yes) (ap (λ (name : List ℕ). (name, v) ∷ store) (same_slot pair.0 slot yes)))
+        (λ (no : bytes_eq pair.0 slot ≡ false). rw (turned slot pair.0, no) (ap (λ (l : Keys). pair ∷ l) (insert_is_bound store)))
+        (cases_Bool (bytes_eq pair.0 slot))
 
     pub set_is_unbound : (store : Keys) → set_value (bytes_eq slot) store v ≡ unbound slot (Some v) store
     set_is_unbound [] = refl
-    set_is_unbound (entry ∷ store) =
+    set_is_unbound (pair ∷ store) =
         ⊎_elim
-        (λ (yes : bytes_eq entry.0 slot ≡ true). rw (turned slot entry.0, yes) (ap (λ (name : List ℕ). (name, v) ∷ store) (same_slot entry.0 slot yes)))
-        (λ (no : bytes_eq entry.0 slot ≡ false). rw (turned slot entry.0, no) (ap (λ (l : Keys). entry ∷ l) (set_is_unbound store)))
-        (cases_Bool (bytes_eq entry.0 slot))
+        (λ (yes : bytes_eq pair.0 slot ≡ true). rw (turned slot pair.0, yes) (ap (λ (name : List ℕ). (name, v) ∷ store) (same_slot pair.0 slot yes)))
+        (λ (no : bytes_eq pair.0 slot ≡ false). rw (turned slot pair.0, no) (ap (λ (l : Keys). pair ∷ l) (set_is_unbound store)))
+        (cases_Bool (bytes_eq pair.0 slot))
 
   pub remove_is_unbound : (store : Keys) → remove_entry (bytes_eq slot) store ≡ unbound slot None store
   remove_is_unbound [] = refl
-  remove_is_unbound (entry ∷ store) = grind (arith, turned slot entry.0, remove_is_unbound store, cases_Bool (bytes_eq entry.0 slot))
+  remove_is_unbound (pair ∷ store) = grind (arith, turned slot pair.0, remove_is_unbound store, cases_Bool (bytes_eq pair.0 slot))
 
   -- where the slot isn't bound, there is nothing to undo
   pub unbound_stays : (older : Option ℕ) (store : Keys) → value_in slot store ≡ None → unbound slot older store ≡ store
   unbound_stays older [] none = refl
-  unbound_stays older (entry ∷ store) none =
+  unbound_stays older (pair ∷ store) none =
       ⊎_elim
-      (λ (yes : bytes_eq entry.0 slot ≡ true). absurd cc)
-      (λ (no : bytes_eq entry.0 slot ≡ false). let rest : value_in slot store ≡ None = rw no at none in rw no (ap (λ (l : Keys). entry ∷ l) (unbound_stays older store rest)))
-      (cases_Bool (bytes_eq entry.0 slot))
+      (λ (yes : bytes_eq pair.0 slot ≡ true). absurd cc)
+      (λ (no : bytes_eq pair.0 slot ≡ false). let rest : value_in slot store ≡ None = rw no at none in rw no (ap (λ (l : Keys). pair ∷ l) (unbound_stays older store rest)))
+      (cases_Bool (bytes_eq pair.0 slot))
 
   -- what stands at the slot's place is what it is bound to, and a write there binds it
   module _ (store : Keys) (place : ℕ) (at : position (bytes_eq slot) (keys_of store) ≡ Some place) where
@@ -64,5 +64,5 @@ module _ (slot : List ℕ) where
 -- a write after the last slot changes nothing
 pub nothing_behind : (v : ℕ) (store : Keys) (place : ℕ) → ¬ (place < length store) → store ≡ set_value_at store place v
 nothing_behind v [] place h = refl
-nothing_behind v (entry ∷ store) zero h = absurd (h (omega arith))
-nothing_behind v (entry ∷ store) (suc place) h = ap (λ (l : Keys). entry ∷ l) (nothing_behind v store place (λ less. h (omega (arith, less))))
+nothing_behind v (pair ∷ store) zero h = absurd (h (omega arith))
+nothing_behind v (pair ∷ store) (suc place) h = ap (λ (l : Keys). pair ∷ l) (nothing_behind v store place (λ less. h (omega (arith, less))))

@@ -5,7 +5,7 @@ use Rattle.std.specs.Option.{option_map_or}
 use Rattle.mps_base.specs.declared.action.Act.{Act}
 use Rattle.mps_base.specs.declared.action.Act.TheVariants.{In, Mark}
 use Rattle.mps_history.specs.Slots.{bound, value_in}
-use Rattle.mps_arena.specs.Entries.{KeyedStep}
+use Rattle.mps_arena.specs.KeyedSteps.{KeyedStep}
 
 abbrev pub Keys : Type 0
 Keys = List (List ℕ × ℕ)
@@ -32,12 +32,12 @@ mark_of act = None
 abbrev pub IsBinding : Naming → ℕ → List ℕ → KeyedStep → Type 0
 IsBinding naming p name e = (e.step.role ≡ p) × (naming e.step.act ≡ Some name)
 
--- the store of role p after the entry: a step of p that binds a name binds it to the entry's key
+-- the store of role p after the keyed step: a step of p that binds a name binds it to its key
 abbrev pub store_after : Naming → ℕ → Keys → KeyedStep → Keys
 store_after naming p store e =
     if e.step.role == p then option_map_or (λ name. bound name e.key store) (naming e.step.act) store else store
 
--- the store of role p after the entries, the oldest first
+-- the store of role p after the keyed steps, the oldest first
 abbrev pub rebound : Naming → ℕ → Keys → List KeyedStep → Keys
 rebound naming p store [] = store
 rebound naming p store (e ∷ es) = rebound naming p (store_after naming p store e) es
@@ -52,7 +52,7 @@ AreTraced naming es =
     (p : ℕ) (name : List ℕ) (a b : List KeyedStep) (e : KeyedStep) → es ≡ a ++ e ∷ b → IsBinding naming p name e
     → e.before.bound ≡ value_in name (bindings naming p a)
 
--- the stores are those of these entries, and each binding can be undone
+-- the stores are those of these keyed steps, and each binding can be undone
 pub record AreStores (naming : Naming) (es : List KeyedStep) (stores : List Keys) : Type 0 where
   pub each : (p : ℕ) → p < 8 → store_at stores p ≡ bindings naming p es
   pub traced : AreTraced naming es

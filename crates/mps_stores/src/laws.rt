@@ -2,7 +2,7 @@
 ghost use Rattle.std.specs.Prelude.{◌≡◌, ℕ, Bool, ◌==◌, not, List, [], ◌∷◌, ◌++◌, map, Some, None};
 ghost use Rattle.std.specs.List.{filter};
 ghost use Rattle.mps_history.specs.Slots.{bound, unbound, value_in};
-ghost use Rattle.mps_arena.specs.Entries.{KeyedStep, entry_at, with_mark, AreSound};
+ghost use Rattle.mps_arena.specs.KeyedSteps.{KeyedStep, keyed_at, with_mark, AreSound};
 ghost use Rattle.mps_stores.specs.Stores.{Keys, Naming, bindings, IsBinding, AreStores};
 
 /// A binding that is undone leaves the store as it was, in the same order.
@@ -20,11 +20,11 @@ pub fn idle_steps_may_join()
 /// A step that binds no name of the kind may go, wherever it stands: the stores stay.
 pub fn idle_steps_may_go()
     ensures { (naming : Naming) (es : List KeyedStep) (e : KeyedStep) (stores : List Keys) →
-        AreStores naming es stores → AreSound es → entry_at e.key es ≡ Some e → naming e.step.act ≡ None →
+        AreStores naming es stores → AreSound es → keyed_at e.key es ≡ Some e → naming e.step.act ≡ None →
         AreStores naming (filter (λ other. not (other.key == e.key)) es) stores }
 {}
 
-/// An entry may be marked, or its mark taken off: the stores stay.
+/// A keyed step may be flagged as chosen, or not any more: the stores stay.
 pub fn marks_leave_stores()
     ensures { (naming : Naming) (es : List KeyedStep) (key : ℕ) (marked : Bool) (stores : List Keys) →
         AreStores naming es stores → AreStores naming (map (with_mark key marked) es) stores }
@@ -34,5 +34,5 @@ pub fn marks_leave_stores()
 pub fn bindings_are_steps()
     ensures { (naming : Naming) (es : List KeyedStep) (p key : ℕ) (name : List ℕ) →
         AreSound es → value_in name (bindings naming p es) ≡ Some key →
-        (e : KeyedStep) × (entry_at key es ≡ Some e) × IsBinding naming p name e }
+        (e : KeyedStep) × (keyed_at key es ≡ Some e) × IsBinding naming p name e }
 {}

@@ -6,7 +6,7 @@ ghost use Rattle.std.specs.Option.{option_map};
 ghost use Rattle.std.specs.Map.Iter.{ShowsInOrder, deref_pair};
 ghost use Rattle.mps_history.specs.Slots.{bound, unbound, value_in};
 ghost use Rattle.mps_arena.specs.Keys.{last_key};
-ghost use Rattle.mps_arena.specs.Entries.{KeyedStep, keys_of, of_role, entry_at, AreSound};
+ghost use Rattle.mps_arena.specs.KeyedSteps.{KeyedStep, keys_of, of_role, keyed_at, AreSound};
 ghost use Rattle.mps_stores.specs.Stores.{Naming, store_at, IsBinding, AreStores};
 
 use crate::store::Store;
@@ -81,7 +81,7 @@ impl Stores {
         self.stores[role.index()].nth(k)
     }
 
-    /// Binds the role's name to a step, and tells to which one it was bound: what the step's entry keeps as
+    /// Binds the role's name to a step, and tells to which one it was bound: what its keyed step keeps as
     /// `before.bound`. A known name keeps its place, and does not allocate.
     #[inline(always)]
     pub fn bind(&mut self, role: Role, name: &Name, key: Key) -> Result<Option<Key>, AllocError>
@@ -106,7 +106,7 @@ impl Stores {
         ensures unbound { self.new
             ≡ slice_set self.old role (unbound name.now older (store_at self.old role)) }
         ensures returns { (naming : Naming) (es : List KeyedStep) (e : KeyedStep) →
-            AreStores naming es self.old → AreSound es → entry_at e.key es ≡ Some e →
+            AreStores naming es self.old → AreSound es → keyed_at e.key es ≡ Some e →
             last_key None (keys_of (of_role role) es) ≡ Some e.key →
             IsBinding naming role name.now e → e.before.bound ≡ older →
             AreStores naming (filter (λ other. not (other.key == e.key)) es) self.new }

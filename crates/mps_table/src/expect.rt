@@ -4,7 +4,7 @@ ghost use Rattle.std.specs.Prelude.{◌≡◌, ◌<◌, ◌^◌};
 use mps_base::{Name, Role, Sort};
 use std::marker::Model;
 
-/// A node of the table that gave it: a place in the part of a role.
+/// A node of the table that gave it: a place in the local type of a role.
 #[derive(Clone, Copy, Debug, PartialEq, Eq)]
 pub struct Node(u16);
 
@@ -45,7 +45,7 @@ impl Node {
 /// What a role may do first at a node; labels in the order of the branches.
 #[derive(Clone, Copy, Debug)]
 pub enum Expect<'a> {
-    /// Its part has ended.
+    /// Its local type has ended.
     End,
     /// It gives the peer a value of the sort.
     Send(Role, Sort),

@@ -1,6 +1,6 @@
 //! Calls that make something, or look at it.
 ghost use Rattle.std.specs.Prelude.{◌≡◌, ◌<◌, ◌∷◌, [], None, IfOk, IfSome, length, IsSome};
-ghost use Rattle.mps_arena.specs.Entries.{steps};
+ghost use Rattle.mps_arena.specs.KeyedSteps.{steps};
 ghost use Rattle.mps_global.specs.Global.{plain as global_type};
 ghost use Rattle.mps_global.specs.Faults.{fault_of};
 ghost use Rattle.mps_history.specs.Steps.{step_of};
@@ -400,8 +400,8 @@ pub fn rolls_back_beside(alloc: Global, until: Until) -> Option<Outcome> {
 
 // Puts a mark of the first role after all other steps.
 fn add_a_mark(arena: &mut Arena) -> Option<()>
-    requires none { marked_keys arena.old.entries ≡ [] }
-    ensures none { marked_keys arena.new.entries ≡ [] }
+    requires none { marked_keys arena.old.keyed_steps ≡ [] }
+    ensures none { marked_keys arena.new.keyed_steps ≡ [] }
 {
     arena.reserve_one().ok()?;
     let before = Before { at: 0, bound: None };
@@ -412,8 +412,8 @@ fn add_a_mark(arena: &mut Arena) -> Option<()>
 
 // Puts three of them there.
 fn add_three_marks(arena: &mut Arena) -> Option<()>
-    requires none { marked_keys arena.old.entries ≡ [] }
-    ensures none { marked_keys arena.new.entries ≡ [] }
+    requires none { marked_keys arena.old.keyed_steps ≡ [] }
+    ensures none { marked_keys arena.new.keyed_steps ≡ [] }
 {
     add_a_mark(arena)?;
     add_a_mark(arena)?;
@@ -422,7 +422,7 @@ fn add_three_marks(arena: &mut Arena) -> Option<()>
 
 // An arena with three marks of the first role.
 fn three_marks(alloc: Global) -> Option<Arena>
-    ensures none { IfSome result (λ arena. marked_keys arena.entries ≡ []) }
+    ensures none { IfSome result (λ arena. marked_keys arena.keyed_steps ≡ []) }
 {
     let mut arena = Arena::new(alloc);
     match add_three_marks(&mut arena) {
@@ -433,7 +433,7 @@ fn three_marks(alloc: Global) -> Option<Arena>
 
 // The number of a step that is there.
 fn present(arena: &Arena, number: u64) -> Option<StepId>
-    ensures { IfSome result (λ id. IsSome (step_of (steps arena.now.entries) id)) }
+    ensures { IfSome result (λ id. IsSome (step_of (steps arena.now.keyed_steps) id)) }
 {
     let id = StepId::new(number);
     match arena.by_id(id) {
@@ -463,8 +463,8 @@ pub fn finds_a_dependent(alloc: Global, until: Until) -> Option<Outcome> {
 
 // Puts a commit of the first role after all other steps.
 fn add_a_commit(arena: &mut Arena) -> Option<()>
-    requires none { marked_keys arena.old.entries ≡ [] }
-    ensures none { marked_keys arena.new.entries ≡ [] }
+    requires none { marked_keys arena.old.keyed_steps ≡ [] }
+    ensures none { marked_keys arena.new.keyed_steps ≡ [] }
 {
     arena.reserve_one().ok()?;
     let before = Before { at: 0, bound: None };
@@ -474,7 +474,7 @@ fn add_a_commit(arena: &mut Arena) -> Option<()>
 
 // Looks for the least commit among the second step and all that depend on it.
 fn finds_a_commit_in(arena: &mut Arena, until: Until) -> Option<Outcome>
-    requires none { marked_keys arena.old.entries ≡ [] }
+    requires none { marked_keys arena.old.keyed_steps ≡ [] }
 {
     let id = present(arena, 2)?;
     mark_from(arena, id);
@@ -497,7 +497,7 @@ pub fn finds_a_commit(alloc: Global, until: Until) -> Option<Outcome> {
 
 // Marks the second step and all that depend on it.
 fn marks_in(arena: &mut Arena, until: Until) -> Option<Outcome>
-    requires none { marked_keys arena.old.entries ≡ [] }
+    requires none { marked_keys arena.old.keyed_steps ≡ [] }
 {
     let id = present(arena, 2)?;
     if until == Until::Before {

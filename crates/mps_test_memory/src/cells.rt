@@ -98,22 +98,22 @@ pub fn hands_out_passes(alloc: Global, until: Until) -> Option<Outcome> {
 }
 
 // Has the pass ask for the length of the journal.
-fn front_asked(pass: &mut Pass<'_>, until: Until) -> Option<Outcome> {
+fn length_asked(pass: &mut Pass<'_>, until: Until) -> Option<Outcome> {
     if until == Until::Before {
         return Some(Outcome::Reached);
     }
-    let front = pass.front();
+    let length = pass.length();
     if until == Until::After {
         return Some(Outcome::Reached);
     }
-    answered(front == 0)
+    answered(length == 0)
 }
 
 /// Has a pass ask for the length of the journal.
-pub fn asks_for_the_front(alloc: Global, until: Until) -> Option<Outcome> {
+pub fn asks_for_the_length(alloc: Global, until: Until) -> Option<Outcome> {
     let mut cell = cell(alloc)?;
     let mut all = cell.passes().ok()?;
-    front_asked(all.get_mut(0)?, until)
+    length_asked(all.get_mut(0)?, until)
 }
 
 // The last of these passes of the cell.

@@ -1,7 +1,7 @@
 //! The calls that are made, by groups.
 
 use crate::calls::*;
-use crate::cells::{asks_for_the_front, hands_out_passes, has_two_meet, opens_a_cell, pass_asked};
+use crate::cells::{asks_for_the_length, hands_out_passes, has_two_meet, opens_a_cell, pass_asked};
 use crate::lines::{
     TOLD, attends, converses, reads_a_command, reads_an_answer, writes_a_show, writes_an_answer,
 };
@@ -57,7 +57,7 @@ enum Call {
     Would,
     Same,
     Untried,
-    Front,
+    Length,
     Meet,
     LeastDependent,
     MarkFrom,
@@ -87,7 +87,7 @@ const CALLS: &[(&str, Call)] = &[
     ("Session::would", Call::Would),
     ("same", Call::Same),
     ("Session::rollback-same", Call::Untried),
-    ("Pass::front", Call::Front),
+    ("Pass::length", Call::Length),
     ("meet", Call::Meet),
     ("least_dependent", Call::LeastDependent),
     ("mark_from", Call::MarkFrom),
@@ -150,7 +150,7 @@ fn call_made<R: Wait + 'static>(
         Call::Would => asks_whether(alloc, until),
         Call::Same => compares(alloc, until),
         Call::Untried => rolls_back_beside(alloc, until),
-        Call::Front => asks_for_the_front(alloc, until),
+        Call::Length => asks_for_the_length(alloc, until),
         Call::Meet => has_two_meet(alloc, until),
         Call::LeastDependent => finds_a_dependent(alloc, until),
         Call::MarkFrom => marks_from(alloc, until),

@@ -191,7 +191,7 @@ impl<'r, 'c, R: Wait> Party for Passes<'r, 'c, R> {
         let pass = self.all.get_mut(0)?;
         let mut text = Vec::new(self.alloc);
         write_answer(&pass.call(self.rt, Command::Show), &mut text).ok()?;
-        text.extend_from_slice(&pass.front().to_le_bytes()).ok()?;
+        text.extend_from_slice(&pass.length().to_le_bytes()).ok()?;
         Some(text)
     }
 }

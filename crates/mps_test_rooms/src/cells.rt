@@ -338,17 +338,17 @@ struct Probe<'a, 'b> {
     other: &'b mut Pass<'a>,
     // how often the pause ran
     pauses: u64,
-    front: u64,
-    // how many of a thousand further fronts told the same
+    length: u64,
+    // how many of a thousand further lengths were the same
     same: u64,
     busy: Option<u64>,
 }
 
-// How many of so many fronts are this number.
-fn same_fronts(pass: &mut Pass<'_>, front: u64, times: u64) -> u64 {
+// How many of so many lengths are this number.
+fn same_lengths(pass: &mut Pass<'_>, length: u64, times: u64) -> u64 {
     let mut same = 0;
     for _ in 0..times {
-        if pass.front() == front {
+        if pass.length() == length {
             same = u64::wrapping_add(same, 1);
         }
     }
@@ -366,8 +366,8 @@ fn found_busy(pass: &mut Pass<'_>) -> Option<u64> {
 impl Pause for Probe<'_, '_> {
     fn pause(&mut self) {
         self.pauses = u64::wrapping_add(self.pauses, 1);
-        self.front = self.other.front();
-        self.same = same_fronts(self.other, self.front, 1000);
+        self.length = self.other.length();
+        self.same = same_lengths(self.other, self.length, 1000);
         self.busy = found_busy(self.other);
     }
 }
@@ -377,7 +377,7 @@ fn probed<R: Wait>(rt: &R, a: &mut Pass<'_>, c: &mut Pass<'_>) -> Option<bool> {
     let mut probe = Probe {
         other: c,
         pauses: 0,
-        front: 9,
+        length: 9,
         same: 0,
         busy: None,
     };
@@ -385,10 +385,10 @@ fn probed<R: Wait>(rt: &R, a: &mut Pass<'_>, c: &mut Pass<'_>) -> Option<bool> {
     Some(
         is_first(&answer)
             && probe.pauses == 1
-            && probe.front == 0
+            && probe.length == 0
             && probe.same == 1000
             && probe.busy == Some(0)
-            && probe.other.front() == 1,
+            && probe.other.length() == 1,
     )
 }
 

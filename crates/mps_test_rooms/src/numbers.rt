@@ -2,32 +2,32 @@ use crate::texts::{VERDICT, room, told};
 use mps_base::{Role, StepId};
 use mps_command::{Answer, Command, StepIds};
 use mps_line::read_numbered;
-use mps_room::{Caller, Numbers, Place, Solo, Told};
+use mps_room::{Caller, Numbers, Position, Solo, Told};
 use std::alloc::Global;
 use std::test::Fail;
 
 // Whether each of the numbers stands where its row says.
-fn stand(numbers: &Numbers, rows: &[(u64, Place)]) -> bool {
+fn stand(numbers: &Numbers, rows: &[(u64, Position)]) -> bool {
     for row in rows {
-        if numbers.place(row.0) != row.1 {
+        if numbers.position(row.0) != row.1 {
             return false;
         }
     }
     true
 }
 
-const AT_FIRST: &[(u64, Place)] = &[
-    (0, Place::Elsewhere),
-    (1, Place::Next),
-    (2, Place::Elsewhere),
-    (u64::MAX, Place::Elsewhere),
+const AT_FIRST: &[(u64, Position)] = &[
+    (0, Position::Elsewhere),
+    (1, Position::Next),
+    (2, Position::Elsewhere),
+    (u64::MAX, Position::Elsewhere),
 ];
 
-const AFTER_ONE: &[(u64, Place)] = &[
-    (0, Place::Elsewhere),
-    (1, Place::Last),
-    (2, Place::Next),
-    (3, Place::Elsewhere),
+const AFTER_ONE: &[(u64, Position)] = &[
+    (0, Position::Elsewhere),
+    (1, Position::Last),
+    (2, Position::Next),
+    (3, Position::Elsewhere),
 ];
 
 // The answer that step 7 was taken back.

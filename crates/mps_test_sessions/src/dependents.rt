@@ -1,7 +1,7 @@
 ghost use Rattle.std.specs.Prelude.{◌≡◌, ◌<◌, [], IsTrue, IsSome};
 ghost use Rattle.mps_history.specs.Steps.{step_of};
-ghost use Rattle.mps_arena.specs.Entries.{steps};
-ghost use Rattle.mps_arena.specs.Neighbours.{waiting};
+ghost use Rattle.mps_arena.specs.KeyedSteps.{steps};
+ghost use Rattle.mps_arena.specs.Neighbours.{first_waiting};
 ghost use Rattle.mps_links.specs.Marks.{marked_keys, AreMarksClosed};
 
 use mps_arena::{Arena, Before, Key};
@@ -34,7 +34,7 @@ use Deed::{Commits, Gives, Marks, Takes};
 fn first_waiting(arena: &Arena, from: Role, to: Role) -> Option<Key>
     requires from { from < 8 }
     requires to { to < 8 }
-    ensures { result ≡ waiting arena.now.entries from to }
+    ensures { result ≡ first_waiting arena.now.keyed_steps from to }
 {
     let mut first = None;
     let mut at = arena.last_send(from, to);
@@ -53,8 +53,8 @@ fn first_waiting(arena: &Arena, from: Role, to: Role) -> Option<Key>
 
 // Puts the step of the deed after all others.
 fn add(rt: &(impl Abort + AllocGlobal), arena: &mut Arena, deed: Deed)
-    requires none { marked_keys arena.old.entries ≡ [] }
-    ensures none { marked_keys arena.new.entries ≡ [] }
+    requires none { marked_keys arena.old.keyed_steps ≡ [] }
+    ensures none { marked_keys arena.new.keyed_steps ≡ [] }
 {
     arena.reserve_one().expect(rt, "memory");
     let before = Before { at: 0, bound: None };
@@ -91,7 +91,7 @@ fn add(rt: &(impl Abort + AllocGlobal), arena: &mut Arena, deed: Deed)
 
 // The arena of these deeds.
 fn play(rt: &(impl Abort + AllocGlobal), deeds: &[Deed]) -> Arena
-    ensures none { marked_keys result.entries ≡ [] }
+    ensures none { marked_keys result.keyed_steps ≡ [] }
 {
     let mut arena = Arena::new(rt.alloc());
     for deed in deeds {
@@ -102,7 +102,7 @@ fn play(rt: &(impl Abort + AllocGlobal), deeds: &[Deed]) -> Arena
 
 // The number of a step that is there.
 fn present(rt: &impl Abort, arena: &Arena, number: u64) -> StepId
-    ensures { IsSome (step_of (steps arena.now.entries) result) }
+    ensures { IsSome (step_of (steps arena.now.keyed_steps) result) }
 {
     let id = StepId::new(number);
     arena.by_id(id).expect(rt, "a step");
@@ -111,7 +111,7 @@ fn present(rt: &impl Abort, arena: &Arena, number: u64) -> StepId
 
 // Marks what depends on the step, and takes the marked steps out: their numbers, the newest first.
 fn undo(rt: &(impl Abort + AllocGlobal), arena: &mut Arena, number: u64) -> Vec<u64>
-    requires none { marked_keys arena.old.entries ≡ [] }
+    requires none { marked_keys arena.old.keyed_steps ≡ [] }
 {
     let id = present(rt, arena, number);
     let count = mark_from(arena, id);
@@ -262,8 +262,8 @@ const SETTLED: &[Deed] = &[
 
 // The least commit among the step and all that depend on it, and whether no mark is left; 0 where there is none.
 fn least_from(rt: &(impl Abort + AllocGlobal), arena: &mut Arena, number: u64) -> u64
-    requires none { marked_keys arena.old.entries ≡ [] }
-    ensures none { marked_keys arena.new.entries ≡ [] }
+    requires none { marked_keys arena.old.keyed_steps ≡ [] }
+    ensures none { marked_keys arena.new.keyed_steps ≡ [] }
 {
     let id = present(rt, arena, number);
     mark_from(arena, id);

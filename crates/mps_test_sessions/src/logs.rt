@@ -1,5 +1,5 @@
 ghost use Rattle.std.specs.Prelude.{◌<◌, IsTrue, IsSome};
-ghost use Rattle.mps_arena.specs.Neighbours.{waiting, CanGo};
+ghost use Rattle.mps_arena.specs.Neighbours.{first_waiting, CanGo};
 
 use mps_arena::{Arena, Before, Key};
 use mps_base::{Act, Message, Name, Role, Step, StepId, Text, Value};
@@ -64,7 +64,7 @@ fn role(place: u8) -> Role
 fn waits(log: &Log, from: Role, to: Role) -> bool
     requires from { from < 8 }
     requires to { to < 8 }
-    ensures { IsTrue result → IsSome (waiting log.now.entries from to) }
+    ensures { IsTrue result → IsSome (first_waiting log.now.keyed_steps from to) }
 {
     let _steps = log.steps();
     log.message(from, to, 0).is_some()
@@ -72,7 +72,7 @@ fn waits(log: &Log, from: Role, to: Role) -> bool
 
 // Whether the step of the key may go.
 fn may_go(arena: &Arena, key: Key) -> bool
-    ensures { IsTrue result → CanGo arena.now.entries key }
+    ensures { IsTrue result → CanGo arena.now.keyed_steps key }
 {
     let is_there = arena.id(key).is_some();
     let is_last = arena.next_of_role(key).is_none();

@@ -142,5 +142,5 @@ fn refused_lines(rt: HostRuntime) {
     is_written(&rt, &Reply::NoSession, "#refused nosession");
     is_written(&rt, &Reply::NoRole, "#refused norole");
     is_written(&rt, &Reply::Taken, "#refused taken");
-    is_written(&rt, &Reply::Number, "#refused number");
+    is_written(&rt, &Reply::WrongNumber, "#refused number");
 }

@@ -12,7 +12,7 @@ use Rattle.mps_wire.specs.declared.script.ReplayFault.{ReplayFault}
 pub carried : (names names' : List (List ℕ)) (types types' : List LocalType) → names' ≡ names → types' ≡ types → (P : Answering (List Entry) → Type 0) → P (AnswersLine names' types') → P (AnswersLine names types)
 carried names names' types types' same_names same P h = grind arith
 
--- what a turn leads to, from what the run went on from
+-- what a read leads to, from what the run went on from
 pub turned : (names names' : List (List ℕ)) (types types' : List LocalType) → names' ≡ names → types' ≡ types → (old now : Streams) (kept kept' : List ℕ) (st st' : List Entry) (r : Result Bool ReplayFault)
     → ((first : Streams) → Going (AnswersLine names' types') [] first old kept st → Turned (AnswersLine names' types') [] first old now kept' st' r)
     → (first : Streams) → Going (AnswersLine names types) [] first old kept st → Turned (AnswersLine names types) [] first old now kept' st' r

@@ -41,6 +41,6 @@ module _ {S : Type 0} (answers broken : Answering S) (start : S) where
   pub none_begun : (s : Streams) → WasBrokenOff answers broken start s s start
   none_begun s = grind (arith, Consumes-none, Appends-none, split_nothing)
 
-  -- the turn that ended it
+  -- the read that ended it
   pub ends_as : (first old now : Streams) (kept : List ℕ) (st : S) (e : Ending) → Counts first old all_went_well → TurnedTo answers broken start first old now kept st (Some e) → EndedAs answers broken start first now st e
   ends_as first old now kept st e counts h = grind (arith, counts_more)

@@ -43,12 +43,12 @@ module _ (first old now : Streams) (none : Counts first old all_went_well) where
   pub counts_more : (t : Counted) → Counts old now t → Counts first now t
   counts_more t c = grind arith
 
-  -- a turn's fault is the run's
+  -- a read's fault is the run's
   pub breaks : {S : Type 0} (answers : Answering S) (start : S) (kept : List ℕ) (st : S) (fault : ReplayFault) → Turned answers start first old now kept st (Err fault) → Ran answers start first now (Err fault)
   breaks answers start kept st fault h = grind (arith, counts_more)
 
 module _ {S : Type 0} (answers : Answering S) (start : S) (first old now : Streams) (kept : List ℕ) (st : S) (over : Bool) (h : Turned answers start first old now kept st (Ok over)) where
-  -- the turn that found the end
+  -- the read that found the end
   pub at_end : over ≡ true → Finished answers start first now st × Counts old now one_read_ended
   at_end e = subst (λ (b : Bool). Turned answers start first old now kept st (Ok b)) e h
 

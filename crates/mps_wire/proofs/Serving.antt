@@ -15,7 +15,7 @@ use Rattle.mps_line.specs.Commands.{SpellsScriptLine, command_tokens}
 use Rattle.mps_line.specs.Tokens.{RoleAt, SpellEach}
 use Rattle.mps_line.proofs.ShownLines.{shown_line}
 use Rattle.mps_room.specs.declared.entry.Entry.{Entry}
-use Rattle.mps_room.specs.Journal.{grown, reply, is_accepted, IsReply}
+use Rattle.mps_room.specs.Journal.{grown, answer_to, is_accepted, MayAnswer}
 use Rattle.mps_line.specs.declared.write_replies.Reply.TheVariants.{Answered}
 use Rattle.mps_command.specs.declared.answer.Answer.{Answer}
 use Rattle.mps_wire.specs.Script.{IsReadable, RepliesInScript, AnswersLine}
@@ -44,7 +44,7 @@ answers_line names types line journal after reply written old new replies a = gr
 
 -- the text of the answer answers the command
 pub answered : {T E : Type 0} (names : List (List ℕ)) (types : List LocalType) (journal : List Entry) (role : ℕ) (command : Command) (after : List Entry) (answer : Answer) (written : Result T E) (old new : List ℕ)
-    → IsReply answer (reply names types journal role command)
+    → MayAnswer answer (answer_to names types journal role command)
     → after ≡ grown journal role command answer
     → OnOk written (Appends (λ text. SpellsReply text (Answered answer)) old new)
     → OnOk written (IsReplied names types journal role command after old new)

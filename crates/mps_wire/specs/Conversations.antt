@@ -7,7 +7,7 @@ use Rattle.mps_command.specs.declared.command.Command.{Command}
 use Rattle.mps_line.specs.Commands.{SpellsNumbered}
 use Rattle.mps_line.specs.Replies.{SpellsReply}
 use Rattle.mps_line.specs.declared.write_replies.Reply.{Reply}
-use Rattle.mps_line.specs.declared.write_replies.Reply.TheVariants.{Answered, Number}
+use Rattle.mps_line.specs.declared.write_replies.Reply.TheVariants.{Answered, WrongNumber}
 use Rattle.mps_lines.specs.Lines.{ended, max_line}
 use Rattle.mps_room.specs.Numbers.{IsNumbered}
 use Rattle.mps_room.specs.declared.caller.Caller.{Ghosts}
@@ -28,14 +28,14 @@ pub record IsRequest (names : List (List ℕ)) (line : List ℕ) (number : Optio
 abbrev pub IsToldAs : {C : Type 0} → Ghosts C → (d : C) → Told → Reply → Type 0
 IsToldAs caller d Fresh reply = (answer : Answer) × (caller.kept d ≡ Some answer) × (reply ≡ Answered answer)
 IsToldAs caller d Kept reply = (answer : Answer) × (caller.kept d ≡ Some answer) × (reply ≡ Answered answer)
-IsToldAs caller d Wrong reply = reply ≡ Number
+IsToldAs caller d Wrong reply = reply ≡ WrongNumber
 IsToldAs caller d (CalledInVain refusal) reply = reply ≡ Answered (Refused refusal)
 
 -- the reply that an outcome stands for, to a caller that keeps this answer; one that keeps none had no right number
 abbrev pub reply_of : Outcome → Option Answer → Reply
 reply_of (Said reply) kept = reply
 reply_of AsKept (Some answer) = Answered answer
-reply_of AsKept None = Number
+reply_of AsKept None = WrongNumber
 
 -- nothing, or the front of a text that spells the reply, with its LF
 abbrev pub BeginsReply : Reply → List ℕ → Type 0

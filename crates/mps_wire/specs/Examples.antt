@@ -6,7 +6,7 @@ use Rattle.mps_command.specs.declared.answer.Answer.TheVariants.{Undone, Refused
 use Rattle.mps_command.specs.declared.answer.Refusal.TheVariants.{NoStep}
 use Rattle.mps_command.specs.declared.command.Command.{Command}
 use Rattle.mps_line.specs.declared.write_replies.Reply.{Reply}
-use Rattle.mps_line.specs.declared.write_replies.Reply.TheVariants.{Answered, Number}
+use Rattle.mps_line.specs.declared.write_replies.Reply.TheVariants.{Answered, WrongNumber}
 use Rattle.mps_machine.specs.Examples.{done}
 use Rattle.mps_room.specs.Examples.{PlainCaller, plain_caller, Tells, send_five, mark_m, mark_k, undo_nine, undo_three}
 use Rattle.mps_room.specs.Examples.{at_first, after_one, after_two, after_a_call, after_three}
@@ -28,13 +28,13 @@ GetsAnswer x command y reply =
 -- whatever comes with it; and one whose command is refused may come again
 abbrev pub ANumberIsAnsweredOnce : Type 0
 ANumberIsAnsweredOnce =
-    GetsReply at_first 0 mark_m at_first Number
+    GetsReply at_first 0 mark_m at_first WrongNumber
     × GetsReply at_first 1 send_five after_one (Answered (done 1))
     × GetsReply after_one 1 send_five after_one (Answered (done 1))
-    × GetsReply after_one 3 mark_m after_one Number
+    × GetsReply after_one 3 mark_m after_one WrongNumber
     × GetsReply after_one 2 mark_m after_two (Answered (done 2))
-    × GetsReply after_two 1 mark_m after_two Number
-    × GetsReply after_two 0 mark_m after_two Number
+    × GetsReply after_two 1 mark_m after_two WrongNumber
+    × GetsReply after_two 0 mark_m after_two WrongNumber
     × GetsReply after_two 2 undo_nine after_two (Answered (done 2))
     × GetsAnswer after_two mark_k after_a_call (Answered (done 3))
     × GetsReply after_a_call 3 undo_nine after_a_call (Answered (Refused NoStep))

@@ -9,7 +9,7 @@ use Rattle.mps_line.specs.Replies.{SpellsReply}
 use Rattle.mps_line.specs.declared.write_replies.Reply.{Reply}
 use Rattle.mps_line.specs.declared.write_replies.Reply.TheVariants.{Answered}
 use Rattle.mps_room.specs.Journal as journals
-use Rattle.mps_room.specs.Journal.{grown, IsReply}
+use Rattle.mps_room.specs.Journal.{grown, MayAnswer}
 use Rattle.mps_room.specs.declared.entry.Entry.{Entry}
 use Rattle.mps_lines.specs.Lines.{max_line}
 use Rattle.mps_wire.specs.Uncalled.{IsUnread, IsStarved}
@@ -29,7 +29,7 @@ module _ (names : List (List ℕ)) (types : List LocalType) (line : List ℕ) (j
     pub readable : IsReadable names line role command
     pub answer : Answer
     pub told : reply ≡ Answered answer
-    pub wanted : IsReply answer (journals.reply names types journal role command)
+    pub wanted : MayAnswer answer (journals.answer_to names types journal role command)
     pub joined : after ≡ grown journal role command answer
 
   -- the reply to the line, and the journal after it

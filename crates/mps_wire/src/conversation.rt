@@ -23,7 +23,7 @@ use std::alloc::{AllocError, Global};
 use thiserror::Error;
 
 /// How many bytes a conversation asks for at a time.
-pub const PIECE: usize = 4_096;
+pub const BLOCK: usize = 4_096;
 
 /// How a conversation ended.
 #[derive(Clone, Copy, Debug, PartialEq, Eq)]
@@ -142,10 +142,10 @@ impl Conversation {
         writer: &mut W,
         bytes: &[u8],
     ) -> Result<(), Broken>
-        requires kept { length self.old.line.items ≤ most_kept }
+        requires short { length self.old.line.items ≤ most_kept }
         requires writes { W.failed_calls writer.old < 2 ^ 63 }
         ensures writes { W.failed_calls writer.new ≡ W.failed_calls writer.old + failed_by result }
-        ensures kept { OnOk result (length self.new.line.items ≤ most_kept) }
+        ensures short { OnOk result (length self.new.line.items ≤ most_kept) }
         ensures ok { OnOk result
             (TakesOn (ConversesLine C.Caller) bytes.now self.old.line.items caller.old (W.taken writer.old)
             self.new.line.items caller.new (W.taken writer.new)) }
@@ -169,7 +169,7 @@ impl Conversation {
 }
 
 // Reads once, and answers the lines that are whole then. Says how the conversation ended, if it did.
-fn turn<C: Caller, R: Source, W: Sink>(
+fn read_and_answer<C: Caller, R: Source, W: Sink>(
     caller: &mut C,
     reader: &mut R,
     writer: &mut W,
@@ -208,7 +208,7 @@ fn turn<C: Caller, R: Source, W: Sink>(
 ///
 /// A line may begin with a number and a space (`read_numbered`). A client that lost an answer sends the same line
 /// again: the command isn't run a second time, and its answer is written again. At the end a rest that no LF ends
-/// isn't run. The reader is asked for `PIECE` bytes at a time, `MAX_READS` times at most. After `Closed`, `ReadFault`
+/// isn't run. The reader is asked for `BLOCK` bytes at a time, `MAX_READS` times at most. After `Closed`, `ReadFault`
 /// or `Turns` each whole line that was read is answered; after `WriteFault` or `Memory` the first of them are, and the
 /// answer of the last of these may break off, or not be written at all. After `Untold` the answer of the last isn't
 /// written, since the caller says that it may not be told.
@@ -235,11 +235,11 @@ pub fn converse<C: Caller, R: Source, W: Sink>(
         text: Vec::new(alloc),
         alloc,
     };
-    let Ok(mut block) = vec![in alloc; 0u8; PIECE] else {
+    let Ok(mut block) = vec![in alloc; 0u8; BLOCK] else {
         return Ending::Memory;
     };
     for _ in 0..MAX_READS {
-        match turn(caller, reader, writer, &mut going, block.as_mut_slice()) {
+        match read_and_answer(caller, reader, writer, &mut going, block.as_mut_slice()) {
             Some(ending) => return ending,
             None => {}
         }

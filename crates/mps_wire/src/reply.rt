@@ -33,7 +33,7 @@ fn take_numbered<C: Caller>(caller: &mut C, number: u64, command: Command) -> Ou
     match caller.call_numbered(number, command) {
         Told::Fresh => Outcome::Kept,
         Told::Kept => Outcome::Kept,
-        Told::Wrong => Outcome::Reply(Reply::Number),
+        Told::Wrong => Outcome::Reply(Reply::WrongNumber),
         Told::Refused(refusal) => Outcome::Reply(Reply::Answered(Answer::Refused(refusal))),
     }
 }
@@ -68,7 +68,8 @@ pub fn write_outcome<C: Caller>(
         Outcome::Reply(reply) => reply.write(out),
         Outcome::Kept => match caller.kept() {
             Some(answer) => write_answer(answer, out),
-            None => Reply::Number.write(out),
+            // no outcome of `take_line` leads here: `Kept` is told only where an answer is kept
+            None => Reply::WrongNumber.write(out),
         },
     }
 }

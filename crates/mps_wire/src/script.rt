@@ -5,7 +5,7 @@ ghost use Rattle.mps_base.specs.Appends.{Appends};
 ghost use Rattle.mps_command.specs.declared.command.Command.TheVariants.{News, Show};
 ghost use Rattle.mps_local.specs.Local.{plain};
 ghost use Rattle.mps_machine.specs.Machine.{initial};
-ghost use Rattle.mps_wire.specs.Private.Places.{TakesBytes, TakesEnd, lines_of, place_of_run};
+ghost use Rattle.mps_wire.specs.Private.Places.{TakesBytes, TakesEnd, answering_of, place_of_run};
 ghost use Rattle.mps_wire.specs.Sending.{TookFront};
 ghost use Rattle.mps_lines.specs.Lines.{ended, front, most_kept};
 ghost use Rattle.mps_wire.specs.Runs.{Going, Replayed, ScriptRan, max_reads, of_opening};
@@ -79,7 +79,7 @@ fn reply_with_news(
     ensures { OnOk result (IsReplied room.now.names room.now.types room.now.journal role (News known)
         room.now.journal answers.old.items answers.new.items) }
 {
-    write_answer(&room.tell_news(role, known), answers)
+    write_answer(&room.answer_news(role, known), answers)
 }
 
 // Writes, after the other answers, how the session stands.
@@ -88,11 +88,11 @@ fn reply_with_show(room: &Room, answers: &mut Vec<u8>) -> Result<(), AllocError>
     ensures { (role : ℕ) → OnOk result (IsReplied room.now.names room.now.types room.now.journal role Show
         room.now.journal answers.old.items answers.new.items) }
 {
-    write_answer(&room.tell_show(), answers)
+    write_answer(&room.answer_show(), answers)
 }
 
 // Gives the role's command to the room, and writes the answer after the others. Questions are answered apart, so that
-// no other line makes place for their answers.
+// no other line makes space for their answers.
 fn reply_to_command(
     room: &mut Room,
     role: Role,
@@ -178,7 +178,7 @@ impl ScriptRun {
         ensures next { OnOk result (self.new.line.items ≡ []) }
         ensures answer { OnOk result ((text : List ℕ)
             × (self.new.answers.items ≡ self.old.answers.items ++ ended text)
-            × lines_of self.old self.old.line.items self.old.room.journal
+            × answering_of self.old self.old.line.items self.old.room.journal
             text self.new.room.journal) }
     {
         let line = self.line.as_slice();
@@ -195,7 +195,7 @@ impl ScriptRun {
         ensures next { OnOk result (self.new.line.items ≡ []) }
         ensures answer { OnOk result ((text : List ℕ)
             × (self.new.answers.items ≡ self.old.answers.items ++ ended text)
-            × lines_of self.old (front (self.old.line.items ++ bytes.now)) self.old.room.journal
+            × answering_of self.old (front (self.old.line.items ++ bytes.now)) self.old.room.journal
             text self.new.room.journal) }
     {
         if !self.line.is_empty() {
@@ -211,8 +211,8 @@ impl ScriptRun {
         requires { length self.old.line.items ≤ most_kept }
         ensures names { self.new.room.names ≡ self.old.room.names }
         ensures types { self.new.room.types ≡ self.old.room.types }
-        ensures kept { OnOk result (length self.new.line.items ≤ most_kept) }
-        ensures answered { OnOk result (TakesBytes (lines_of self.old) [] bytes.now
+        ensures short { OnOk result (length self.new.line.items ≤ most_kept) }
+        ensures answered { OnOk result (TakesBytes (answering_of self.old) [] bytes.now
             (place_of_run self.old) (place_of_run self.new)) }
     {
         let mut rest = bytes;
@@ -227,9 +227,9 @@ impl ScriptRun {
     fn finish(&mut self) -> Result<(), AllocError>
         ensures names { self.new.room.names ≡ self.old.room.names }
         ensures types { self.new.room.types ≡ self.old.room.types }
-        ensures answered { OnOk result (TakesEnd (lines_of self.old) []
+        ensures answered { OnOk result (TakesEnd (answering_of self.old) []
             (place_of_run self.old) (place_of_run self.new)) }
-        ensures kept { OnOk result (self.new.line.items ≡ []) }
+        ensures empty { OnOk result (self.new.line.items ≡ []) }
     {
         if self.line.is_empty() {
             return Ok(());
@@ -255,7 +255,7 @@ fn send_answers<W: Sink>(writer: &mut W, answers: &mut Vec<u8>) -> Result<(), Fa
 }
 
 // Reads once and answers the lines that are whole then. Says whether that was the end.
-fn turn<R: Source, W: Sink>(
+fn read_and_answer<R: Source, W: Sink>(
     reader: &mut R,
     writer: &mut W,
     run: &mut ScriptRun,
@@ -272,9 +272,9 @@ fn turn<R: Source, W: Sink>(
     ensures none_wait { OnOk result (run.new.answers.items ≡ []) }
     ensures reads { R.calls reader.new ≡ R.calls reader.old + 1 }
     ensures step { (first : _)
-        → Going (lines_of run.old) [] first (streams R.Source W.Sink reader.old writer.old)
+        → Going (answering_of run.old) [] first (streams R.Source W.Sink reader.old writer.old)
         run.old.line.items run.old.room.journal
-        → Turned (lines_of run.old) [] first (streams R.Source W.Sink reader.old writer.old)
+        → Turned (answering_of run.old) [] first (streams R.Source W.Sink reader.old writer.old)
         (streams R.Source W.Sink reader.new writer.new)
         run.new.line.items run.new.room.journal result }
 {
@@ -321,7 +321,7 @@ pub fn run_script<R: Source, W: Sink>(
     };
     let mut block = vec![in alloc; 0u8; BLOCK]?;
     for _ in 0..MAX_READS {
-        if turn(reader, writer, &mut run, block.as_mut_slice())? {
+        if read_and_answer(reader, writer, &mut run, block.as_mut_slice())? {
             return Ok(run.room);
         }
     }

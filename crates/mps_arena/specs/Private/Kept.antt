@@ -4,10 +4,10 @@ use Rattle.std.specs.List.{AllByRecursion}
 use Rattle.mps_history.specs.Steps.{sends, IsRising}
 use Rattle.mps_arena.specs.declared.node.Node.{Node}
 use Rattle.mps_arena.specs.Keys.{first_key, last_key}
-use Rattle.mps_arena.specs.Entries.{KeyedStep, steps, keys_of, any_step, of_role, entry_at, IsSmall}
+use Rattle.mps_arena.specs.KeyedSteps.{KeyedStep, steps, keys_of, any_step, of_role, keyed_at, IsSmall}
 use Rattle.mps_arena.specs.Private.Links.{AreNodes}
 
--- the number n + 1 of an entry leads to its key
+-- the number n + 1 of a keyed step leads to its key
 pub record IsIndexed (index : List ℕ) (k : ℕ) (e : KeyedStep) : Type 0 where
   pub place : ℕ
   pub number : e.step.id ≡ place + 1
@@ -26,4 +26,4 @@ pub record IsKept (look : ℕ → Option Node) (size : ℕ) (oldest newest : Opt
       → slice_index_or by_pair (p * 8 + q) None ≡ last_key None (keys_of (sends p q) es)
   pub rising : IsRising (steps es)
   pub small : AllByRecursion (λ e. IsSmall e.step) es
-  pub indexed : (k : ℕ) (e : KeyedStep) → entry_at k es ≡ Some e → IsIndexed index k e
+  pub indexed : (k : ℕ) (e : KeyedStep) → keyed_at k es ≡ Some e → IsIndexed index k e

@@ -1,10 +1,10 @@
--- The node of an entry: each link is a function of the entries.
+-- The node of a keyed step: each link is a function of the keyed steps.
 use Rattle.std.specs.Prelude.{◌≡◌, ◌==◌, ℕ, zero, suc, slice_get, List, Option, Some, None, if◌then◌else◌}
 use Rattle.std.specs.Option.{option_map, option_and_then}
 use Rattle.mps_base.specs.Effects.{effect}
 use Rattle.mps_arena.specs.declared.node.Node.{Node}
 use Rattle.mps_arena.specs.Keys.{is_at, key_after, key_before, matched_key, AreDistinct}
-use Rattle.mps_arena.specs.Entries.{KeyedStep, keys_of, any_step, of_role, like_sends, like, unlike, entry_at, IsFed}
+use Rattle.mps_arena.specs.KeyedSteps.{KeyedStep, keys_of, any_step, of_role, like_sends, like, unlike, keyed_at, IsFed}
 
 abbrev pub node_of : List KeyedStep → KeyedStep → Node
 node_of es e = record {
@@ -24,9 +24,9 @@ node_of es e = record {
 }
 
 abbrev pub node_at : List KeyedStep → ℕ → Option Node
-node_at es k = option_map (node_of es) (entry_at k es)
+node_at es k = option_map (node_of es) (keyed_at k es)
 
--- the nodes are those of the entries
+-- the nodes are those of the keyed steps
 pub record AreNodes (look : ℕ → Option Node) (es : List KeyedStep) : Type 0 where
   pub nodes : (k : ℕ) → look k ≡ node_at es k
   pub distinct : AreDistinct (keys_of any_step es)

@@ -2,17 +2,17 @@
 use Rattle.std.specs.Prelude.{nat_lt, ◌+◌, ◌&&◌, ◌^◌, length, vec_len, vec_capacity, List}
 use Rattle.slab.specs.Slab.{get, slab_len}
 use Rattle.mps_arena.specs.declared.arena.Arena.TheInside.{Inside}
-use Rattle.mps_arena.specs.Entries.{KeyedStep, Entries}
+use Rattle.mps_arena.specs.KeyedSteps.{KeyedStep, ArenaState}
 use Rattle.mps_arena.specs.Private.Walks.{walk}
 use Rattle.mps_arena.specs.Private.Kept.{IsKept}
 
-abbrev pub entries_of : Inside → List KeyedStep
-entries_of a = walk (get a.nodes) (slab_len a.nodes) a.ends.first
+abbrev pub keyed_steps_of : Inside → List KeyedStep
+keyed_steps_of a = walk (get a.nodes) (slab_len a.nodes) a.ends.first
 
 -- an arena, as contracts see it
-abbrev pub arena_value : Inside → Entries
+abbrev pub arena_value : Inside → ArenaState
 arena_value a = record {
-  entries = entries_of a;
+  keyed_steps = keyed_steps_of a;
   issued = length a.index.items;
   next_key = a.nodes.vacant_key;
   is_ready =
@@ -23,4 +23,4 @@ arena_value a = record {
 abbrev pub IsArena : Inside → Type 0
 IsArena a =
     IsKept (get a.nodes) (slab_len a.nodes) a.ends.first a.ends.last a.ends.last_of a.ends.last_send a.index.items
-    (entries_of a)
+    (keyed_steps_of a)

@@ -22,10 +22,10 @@ IsAnsweredFirst sink old new reply Unrecorded = ⊥
 module _ {C R W : Type 0} (caller : Ghosts C) (source : SourceGhosts R) (sink : SinkGhosts W) (joined : Reply)
     (before : C) (reader : R) (writer : W) (after : C) (reader' : R) (writer' : W) where
   -- by how the connection ended
-  abbrev pub HasJoined : Attended → Type 0
-  HasJoined NoLine = ⊥
-  HasJoined TurnedAway = SendingBrokeOff sink writer writer' joined × (reader' ≡ reader)
-  HasJoined (Conversed ending) =
+  abbrev pub CameOfJoining : Attended → Type 0
+  CameOfJoining NoLine = ⊥
+  CameOfJoining TurnedAway = SendingBrokeOff sink writer writer' joined × (reader' ≡ reader)
+  CameOfJoining (Conversed ending) =
       WasConversation caller source sink joined before reader writer after reader' writer' ending
-  HasJoined Memory = (writer' ≡ writer) × (reader' ≡ reader)
-  HasJoined Unrecorded = (writer' ≡ writer) × (reader' ≡ reader)
+  CameOfJoining Memory = (writer' ≡ writer) × (reader' ≡ reader)
+  CameOfJoining Unrecorded = (writer' ≡ writer) × (reader' ≡ reader)

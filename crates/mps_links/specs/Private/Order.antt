@@ -1,6 +1,6 @@
 -- Of two steps the one that comes earlier, and the one that comes later.
 use Rattle.std.specs.Prelude.{ℕ, Bool, false, nat_lt, if◌then◌else◌, List, Option, Some, None}
-use Rattle.mps_arena.specs.Entries.{KeyedStep}
+use Rattle.mps_arena.specs.KeyedSteps.{KeyedStep}
 use Rattle.mps_arena.specs.Neighbours.{id_in}
 
 -- both numbers are there, and the first is the smaller one

@@ -2,7 +2,7 @@
 use Rattle.std.specs.Prelude.{ℕ, List, Option, Some, None, slice_index_or, slice_set}
 use Rattle.std.specs.List.{fold}
 use Rattle.std.specs.Option.{option_map, unwrap_or}
-use Rattle.mps_arena.specs.Entries.{KeyedStep, entry_at}
+use Rattle.mps_arena.specs.KeyedSteps.{KeyedStep, keyed_at}
 use Rattle.mps_arena.specs.Neighbours.{next_of_role_in, receipt_in}
 use Rattle.mps_links.specs.Private.Order.{earlier}
 
@@ -10,7 +10,7 @@ use Rattle.mps_links.specs.Private.Order.{earlier}
 abbrev pub at_role : List KeyedStep → ℕ → (Option ℕ → Option ℕ) → List (Option ℕ) → List (Option ℕ)
 at_role es k f firsts =
     unwrap_or (option_map (λ e. slice_set firsts e.step.role (f (slice_index_or firsts e.step.role None)))
-    (entry_at k es)) firsts
+    (keyed_at k es)) firsts
 
 -- the roles' keys, where the step is pending too, if it is there
 abbrev pub with_pending : List KeyedStep → Option ℕ → List (Option ℕ) → List (Option ℕ)

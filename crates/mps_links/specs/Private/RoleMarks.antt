@@ -1,9 +1,9 @@
 -- The marks of one role: a closed set has of each role the last steps.
 use Rattle.std.specs.Prelude.{◌≡◌, ◌==◌, ℕ, true, false, List, [], ◌∷◌, if◌then◌else◌, ⊤}
 use Rattle.std.specs.List.{AllByRecursion}
-use Rattle.mps_arena.specs.Entries.{KeyedStep}
+use Rattle.mps_arena.specs.KeyedSteps.{KeyedStep}
 
--- the entry, without a mark where it is of that role
+-- the keyed step, without a mark where it is of that role
 abbrev pub unmarked_of : ℕ → KeyedStep → KeyedStep
 unmarked_of p e = record e { marked = if e.step.role == p then false else e.marked }
 

@@ -2,7 +2,7 @@
 use Rattle.std.specs.Prelude.{ℕ, if◌then◌else◌, List, Option, Some, None, is_none}
 use Rattle.std.specs.Option.{option_and_then}
 use Rattle.mps_arena.specs.Keys.{is_at}
-use Rattle.mps_arena.specs.Entries.{KeyedStep}
+use Rattle.mps_arena.specs.KeyedSteps.{KeyedStep}
 use Rattle.mps_arena.specs.Neighbours.{next_send_in, prev_send_in}
 
 -- the front, where a send joins

@@ -66,7 +66,7 @@ IsGiven js source = IfSome source (λ k. IsSome (message_at js k))
 
 -- each step has a place, what each surviving step gave is found there, and each receipt names an entry that gave a
 -- message
-pub record AreTraced (places owners : List ℕ) (h : List Step) (js : List Narrow) : Type 0 where
+pub record AreFound (places owners : List ℕ) (h : List Step) (js : List Narrow) : Type 0 where
   pub count : length places ≡ length owners
   pub found : AllByRecursion (λ s. IsFound places js s) h
   pub sources : AllByRecursion (λ s. IsGiven js s.source) js

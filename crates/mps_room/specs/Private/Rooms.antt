@@ -7,7 +7,7 @@ use Rattle.mps_room.specs.Journal.{most_entries, run, IsLegal}
 use Rattle.mps_room.specs.declared.entry.Entry.{Entry}
 use Rattle.mps_room.specs.Private.Heard.{AreHeard}
 use Rattle.mps_room.specs.Private.Owners.{AreOwners, AreGiven}
-use Rattle.mps_room.specs.Private.Narrow.{Narrow, journal_of, AreTraced}
+use Rattle.mps_room.specs.Private.Narrow.{Narrow, journal_of, AreFound}
 
 -- what is missing for one entry more after n: there are as many as there may be, or there are fewer and memory ran out
 abbrev pub IsLack : ℕ → Refusal → Type 0
@@ -26,8 +26,8 @@ pub record IsConsistent (names : List (List ℕ)) (session : SessionState) (owne
   pub roles : hearers ≡ length session.types
   pub heard : AreHeard hearers lists j
 
--- the same of a journal of narrow entries, which can be traced: what holds of a room
+-- the same of a journal of narrow entries, in which the entries that receipts name are found: what holds of a room
 pub record IsRoom (names : List (List ℕ)) (session : SessionState) (owned places : List ℕ) (hearers : ℕ)
     (lists : List (List ℕ)) (js : List Narrow) : Type 0 where
   pub consistent : IsConsistent names session owned hearers lists (journal_of js)
-  pub traced : AreTraced places owned session.state.history js
+  pub sent : AreFound places owned session.state.history js

@@ -16,8 +16,8 @@ use Rattle.mps_machine.specs.View.{Participant}
 use Rattle.mps_machine.specs.Rule.{participant_after}
 use Rattle.mps_machine.specs.Violations.{act_fault}
 use Rattle.mps_machine.specs.Machine.{State, most_numbers}
-use Rattle.mps_arena.specs.Entries.{KeyedStep, steps}
-use Rattle.mps_arena.specs.Neighbours.{waiting}
+use Rattle.mps_arena.specs.KeyedSteps.{KeyedStep, steps}
+use Rattle.mps_arena.specs.Neighbours.{first_waiting}
 use Rattle.mps_log.specs.Joins.{HasJoined}
 use Rattle.mps_log.specs.Logged.{Logged}
 use Rattle.mps_table.specs.Standing.{StandsFor}
@@ -28,16 +28,16 @@ use Rattle.mps_session.specs.declared.configuration.Configuration.{Configuration
 -- for each role where it stands; the steps that survive, with what each keeps, and how many numbers were given out
 pub record Lists : Type 0 where
   pub cursors : List Cursor
-  pub entries : List KeyedStep
+  pub keyed_steps : List KeyedStep
   pub issued : ℕ
 
 -- the lists that are kept
 abbrev pub lists_of : Configuration → Lists
-lists_of k = record { cursors = k.cursors.items; entries = k.log.entries; issued = k.log.issued }
+lists_of k = record { cursors = k.cursors.items; keyed_steps = k.log.keyed_steps; issued = k.log.issued }
 
 -- the steps, as a log has them
 abbrev pub logged : Lists → Logged
-logged c = record { entries = c.entries; issued = c.issued }
+logged c = record { keyed_steps = c.keyed_steps; issued = c.issued }
 
 -- where role p stands
 abbrev pub cursor_of : Lists → ℕ → Cursor
@@ -45,12 +45,12 @@ cursor_of c p = slice_index_or c.cursors p nowhere
 
 -- the history and the next number
 abbrev pub state_of : Lists → State
-state_of c = record { history = steps c.entries; next = c.issued + 1 }
+state_of c = record { history = steps c.keyed_steps; next = c.issued + 1 }
 
 -- the message that goes with an effect of role p: the one that it gives, or the first that waits where it takes one
 abbrev pub moved_for : Lists → ℕ → Effect → Option Message
 moved_for c p (Gives to m) = Some m
-moved_for c p (Takes from slot) = slice_get (unreceived from p (steps c.entries)) 0
+moved_for c p (Takes from slot) = slice_get (unreceived from p (steps c.keyed_steps)) 0
 moved_for c p Idle = None
 
 -- the message that an act of role p gives, or the one that it takes, if there is one
@@ -75,7 +75,7 @@ LeadsTo c p act node =
 -- the peer is below 8, and there is a message where one is taken
 abbrev pub IsReadyEffect : Lists → ℕ → Effect → Type 0
 IsReadyEffect c p (Gives to m) = to < 8
-IsReadyEffect c p (Takes from slot) = (from < 8) × IsSome (waiting c.entries from p)
+IsReadyEffect c p (Takes from slot) = (from < 8) × IsSome (first_waiting c.keyed_steps from p)
 IsReadyEffect c p Idle = ⊤
 
 -- role and peer are below 8, and there is a message where the act takes one

@@ -14,5 +14,5 @@ AreStarts types cursors = ⊥
 -- each role stands where its type begins, and nothing was done
 pub record IsOpening (types : List LocalType) (c : Lists) : Type 0 where
   pub cursors : AreStarts types c.cursors
-  pub entries : c.entries ≡ []
+  pub keyed_steps : c.keyed_steps ≡ []
   pub issued : c.issued ≡ 0

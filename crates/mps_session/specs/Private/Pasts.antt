@@ -1,9 +1,9 @@
--- What each role did, by the entries of a session.
+-- What each role did, by the keyed steps of a session.
 use Rattle.std.specs.Prelude.{ℕ, ◌==◌, List, map, Option}
 use Rattle.std.specs.List.{filter}
 use Rattle.std.specs.Option.{option_map}
 use Rattle.mps_machine.specs.View.{Deed}
-use Rattle.mps_arena.specs.Entries.{KeyedStep, entry_at}
+use Rattle.mps_arena.specs.KeyedSteps.{KeyedStep, keyed_at}
 use Rattle.mps_log.specs.Shown.{Moved, moved_of, shown}
 
 -- what was done by a step that moved this message
@@ -20,4 +20,4 @@ past_in p es = deeds_of p (shown es es)
 
 -- what the step of the key did
 abbrev pub deed_in : List KeyedStep → ℕ → Option Deed
-deed_in es k = option_map (λ e. deed_of (e.step, moved_of es e)) (entry_at k es)
+deed_in es k = option_map (λ e. deed_of (e.step, moved_of es e)) (keyed_at k es)

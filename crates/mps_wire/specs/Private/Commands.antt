@@ -8,7 +8,7 @@ use Rattle.mps_line.specs.Replies.{SpellsReply}
 use Rattle.mps_line.specs.declared.write_replies.Reply.{Reply}
 use Rattle.mps_line.specs.declared.write_replies.Reply.TheVariants.{Answered}
 use Rattle.mps_room.specs.Journal as journals
-use Rattle.mps_room.specs.Journal.{grown, IsReply}
+use Rattle.mps_room.specs.Journal.{grown, MayAnswer}
 use Rattle.mps_room.specs.Numbers.{IsNumbered}
 use Rattle.mps_room.specs.declared.caller.Caller.{Ghosts}
 use Rattle.mps_room.specs.declared.entry.Entry.{Entry}
@@ -19,7 +19,7 @@ use Rattle.mps_wire.specs.Conversations.{IsToldAs}
 abbrev pub IsReplied : (names : List (List ℕ)) → List LocalType → (journal : List Entry) → ℕ → Command
     → (after : List Entry) → (old new : List ℕ) → Type 0
 IsReplied names types journal role command after old new =
-    (answer : Answer) × IsReply answer (journals.reply names types journal role command)
+    (answer : Answer) × MayAnswer answer (journals.answer_to names types journal role command)
     × (after ≡ grown journal role command answer)
     × Appends (λ text. SpellsReply text (Answered answer)) old new
 

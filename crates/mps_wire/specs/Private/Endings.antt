@@ -1,4 +1,4 @@
--- What each turn of a conversation leads to.
+-- What each read of a conversation, with the answers to its lines, leads to.
 use Rattle.std.specs.Prelude.{ℕ, List, [], ◌∷◌, Option, None, Some, Result, Ok, Err, ◌++◌}
 use Rattle.std.specs.Io.KnownBytes.{Appends, IsAtEnd}
 use Rattle.mps_lines.specs.Lines.{ended}

@@ -25,8 +25,8 @@ module _ {S : Type 0} (answers : Answering S) (start : S) where
       × OfAllLines before (λ lines. AnswersLines answers lines start (out ++ more) new.state)
 
 -- how a line of a run is answered
-abbrev pub lines_of : ScriptRun → Answering (List Entry)
-lines_of run = AnswersLine run.room.names run.room.types
+abbrev pub answering_of : ScriptRun → Answering (List Entry)
+answering_of run = AnswersLine run.room.names run.room.types
 
 -- where a run is among its lines
 abbrev pub place_of_run : ScriptRun → Place (List Entry)

@@ -14,4 +14,4 @@ spawn-started-requires-send-F g c κs within =
     let q = c.type_bounds.sync-G in
     let s = c.type_bounds.send-S in
     let d = c.type_bounds.sync-D in
-    search (sendable, crosses, desk_sync, keeper.the_sync, lobby.the_sync, heap.send, stream.the_send) depth 20
+    search (sendable, crosses, desk_sync, keeper.the_sync, lobby.the_sync, heap.send, heap.sync, stream.the_send, stream.the_sync) depth 20

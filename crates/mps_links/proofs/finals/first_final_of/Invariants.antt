@@ -4,6 +4,6 @@ use Rattle.mps_links.proofs.finals.first_final_of.Given as goal
 
 abbrev pub invariant-loop : goal.invariant-loop
 invariant-loop l = record {
-  search : IsSearch l.arena.entries l.fn.role l.at l.first l.counter;
-  end : l.end ≡ length l.arena.entries;
+  search : IsSearch l.arena.keyed_steps l.fn.role l.at l.first l.counter;
+  end : l.end ≡ length l.arena.keyed_steps;
 }

@@ -1,7 +1,7 @@
 use Rattle.std.proofs.Common.{◌≡◌, ℕ, ◌==◌, ◌&&◌, nat_lt, None, sym, ap, ◌∙◌, subst, arith}
 use Rattle.std.proofs.lemmas.Bool.{and_left, le-ltb}
 use Rattle.mps_arena.specs.Keys.{last_key}
-use Rattle.mps_arena.specs.Entries.{keys_of}
+use Rattle.mps_arena.specs.KeyedSteps.{keys_of}
 use Rattle.mps_arena.specs.Neighbours.{CanGo}
 use Rattle.mps_links.specs.Private.Numbered.{key_of}
 use Rattle.mps_links.specs.Private.Order.{later}
@@ -14,12 +14,12 @@ use Rattle.mps_links.proofs.marking.newest_marked.Goals as goal
 
 pub loop-role-init : goal.loop-role-init
 loop-role-init c =
-    let es = c.args.arena.now.entries in
+    let es = c.args.arena.now.keyed_steps in
     (sym (ap (last_key None) (keys_none (λ s. nat_lt s.role 0 && is_marked es s.id) es (λ t i. and_left (nat_lt t.role 0) (is_marked es t.id) (le-ltb t.role 0 (omega arith))))), tt)
 
 pub loop-role-preserved : goal.loop-role-preserved
 loop-role-preserved c =
-    let es = c.args.arena.now.entries in
+    let es = c.args.arena.now.keyed_steps in
     let own : key_of c.newest_marked_of.result ≡ last_key None (keys_of (λ s. s.role == c.loop-role.role && is_marked es s.id) es) =
     subst (λ (r : ℕ). key_of c.newest_marked_of.result ≡ last_key None (keys_of (λ s. s.role == r && is_marked es s.id) es)) c.new.ensures c.newest_marked_of.ensures.newest in
     let both = c.later-newest.ensures es c.loop-role.invariant.1 c.newest_marked_of.ensures.number in (
@@ -31,7 +31,7 @@ loop-role-preserved c =
 
 pub returns-clause-newest : goal.returns-clause-newest
 returns-clause-newest c =
-    let es = c.args.arena.now.entries in
+    let es = c.args.arena.now.keyed_steps in
     let end : c.loop-role.role ≡ 8 = omega arith in
     c.key_of.ensures
     ∙ c.loop-role.invariant.0
@@ -40,9 +40,9 @@ returns-clause-newest c =
 
 pub returns-clause-free : goal.returns-clause-free
 returns-clause-free c =
-    let es = c.args.arena.now.entries in
+    let es = c.args.arena.now.keyed_steps in
     if_some (CanGo es) c.key_of.result
     (λ k e. newest_can_go es c.steps_are_sound.ensures c.requires.closed k (sym (returns-clause-newest c) ∙ e))
 
 pub returns-clause-none : goal.returns-clause-none
-returns-clause-none c none = nothing_last (marked_keys c.args.arena.now.entries) (sym (returns-clause-newest c) ∙ none)
+returns-clause-none c none = nothing_last (marked_keys c.args.arena.now.keyed_steps) (sym (returns-clause-newest c) ∙ none)

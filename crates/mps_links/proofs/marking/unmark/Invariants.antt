@@ -4,7 +4,7 @@ use Rattle.mps_links.proofs.marking.unmark.Given as goal
 
 abbrev pub invariant-loop-role : goal.invariant-loop-role
 invariant-loop-role l = record {
-  entries : l.arena.entries ≡ map (unmarked_below l.role) l.fn.arena.entries;
+  keyed_steps : l.arena.keyed_steps ≡ map (unmarked_below l.role) l.fn.arena.keyed_steps;
   issued : l.arena.issued ≡ l.fn.arena.issued;
   ready : l.arena.is_ready ≡ l.fn.arena.is_ready;
   key : l.arena.next_key ≡ l.fn.arena.next_key;

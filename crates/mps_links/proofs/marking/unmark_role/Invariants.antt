@@ -4,8 +4,8 @@ use Rattle.mps_links.proofs.marking.unmark_role.Given as goal
 
 abbrev pub invariant-loop : goal.invariant-loop
 invariant-loop l = record {
-  walk : IsWalk l.fn.role l.fn.arena.entries l.arena.entries l.at l.counter;
-  end : l.end ≡ length l.fn.arena.entries;
+  walk : IsWalk l.fn.role l.fn.arena.keyed_steps l.arena.keyed_steps l.at l.counter;
+  end : l.end ≡ length l.fn.arena.keyed_steps;
   issued : l.arena.issued ≡ l.fn.arena.issued;
   ready : l.arena.is_ready ≡ l.fn.arena.is_ready;
   key : l.arena.next_key ≡ l.fn.arena.next_key;

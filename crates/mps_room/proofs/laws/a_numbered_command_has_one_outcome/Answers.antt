@@ -1,4 +1,4 @@
-use Rattle.mps_room.proofs.Outcomes.{one_outcome}
+use Rattle.mps_room.proofs.OneAnswer.{one_outcome}
 use Rattle.mps_room.proofs.laws.a_numbered_command_has_one_outcome.Goals as goal
 
 pub returns : goal.returns

@@ -8,7 +8,7 @@ use Rattle.mps_session.proofs.alike.same.Goals as goal
 use Rattle.mps_session.proofs.alike.same.Goals.{After-loop-role}
 
 -- what the pasts of both tell
-both : (c : After-loop-role) → AreTold c.a.inside.configuration.log.entries c.b.inside.configuration.log.entries c.args.a.now c.args.b.now
+both : (c : After-loop-role) → AreTold c.a.inside.configuration.log.keyed_steps c.b.inside.configuration.log.keyed_steps c.args.a.now c.args.b.now
 both c =
     let a = c.a.inside in
     let b = c.b.inside in
@@ -17,7 +17,7 @@ both c =
 pub loop-role-preserved : goal.loop-role-preserved
 loop-role-preserved c =
     let here = c.same_past.ensures.0 c.if-not-same_past.false in
-    below_more _ _ c.loop-role.invariant (subst (λ (p : ℕ). past_in p c.a.inside.configuration.log.entries ≡ past_in p c.b.inside.configuration.log.entries) c.new.ensures here)
+    below_more _ _ c.loop-role.invariant (subst (λ (p : ℕ). past_in p c.a.inside.configuration.log.keyed_steps ≡ past_in p c.b.inside.configuration.log.keyed_steps) c.new.ensures here)
 
 pub returns-then-not-same_past-clause-views : goal.returns-then-not-same_past-clause-views
 returns-then-not-same_past-clause-views c =

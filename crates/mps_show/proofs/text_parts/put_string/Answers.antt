@@ -6,7 +6,7 @@ pub returns-clause-text : goal.returns-clause-text
 returns-clause-text c =
     let old = c.args.out.now.items in
     let bytes = c.args.bytes.now in
-    let written : c.push-2.new.self.items ≡ old ++ 34 ∷ (bytes ++ 34 ∷ []) = search (rules, append_assoc) in
+    let written : c.push_reserved-2.new.self.items ≡ old ++ 34 ∷ (bytes ++ 34 ∷ []) = search (rules, append_assoc) in
     written ∙ ap (λ (l : List ℕ). old ++ 34 ∷ (l ++ 34 ∷ [])) (sym (escape_plain bytes c.requires))
 
 pub returns-clause-plain : goal.returns-clause-plain

@@ -17,20 +17,20 @@ loop-init c =
     let sound = c.len-end.ensures.sound in
     record {
       sound = sound;
-      sought = rw c.last_send-at.ensures (sought c.args.arena.now.entries sound c.args.from c.args.to);
+      sought = rw c.last_send-at.ensures (sought c.args.arena.now.keyed_steps sound c.args.from c.args.to);
       end = c.len-end.ensures.count;
     }
 
 pub returns-in_default : goal.returns-in_default
 returns-in_default c =
     let i = c.loop.invariant in
-    found_first c.args.arena.now.entries i.sound c.args.from c.args.to _ _ _ i.sought c.in_default.is
+    found_first c.args.arena.now.keyed_steps i.sound c.args.from c.args.to _ _ _ i.sought c.in_default.is
 
 pub returns-then-is_some : goal.returns-then-is_some
 returns-then-is_some c =
     let i = c.loop.invariant in
     let some = some_of c.receipt.result (sym c.is_some.ensures ∙ c.if-is_some.true) in
-    found_received c.args.arena.now.entries i.sound c.args.from c.args.to _ _ _ i.sought c.in-Some.key c.in-Some.is some.0 (sym c.receipt.ensures ∙ some.1)
+    found_received c.args.arena.now.keyed_steps i.sound c.args.from c.args.to _ _ _ i.sought c.in-Some.key c.in-Some.is some.0 (sym c.receipt.ensures ∙ some.1)
 
 pub loop-preserved : goal.loop-preserved
 loop-preserved c =
@@ -38,11 +38,11 @@ loop-preserved c =
     let none = none_of c.receipt.result (sym c.is_some.ensures ∙ c.if-is_some.false) in
     record {
       sound = i.sound;
-      sought = rw (c.prev_send-at.ensures, ← c.in-Some.is) (seeks c.args.arena.now.entries i.sound c.args.from c.args.to _ _ _ i.sought c.in-Some.key c.in-Some.is (sym c.receipt.ensures ∙ none));
+      sought = rw (c.prev_send-at.ensures, ← c.in-Some.is) (seeks c.args.arena.now.keyed_steps i.sound c.args.from c.args.to _ _ _ i.sought c.in-Some.key c.in-Some.is (sym c.receipt.ensures ∙ none));
       end = i.end;
     }
 
 pub returns : goal.returns
 returns c =
     let i = c.loop.invariant in
-    found_last c.args.arena.now.entries i.sound c.args.from c.args.to _ _ _ i.sought (omega arith)
+    found_last c.args.arena.now.keyed_steps i.sound c.args.from c.args.to _ _ _ i.sought (omega arith)

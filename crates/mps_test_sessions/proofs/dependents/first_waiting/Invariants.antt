@@ -1,11 +1,11 @@
 use Rattle.std.proofs.Common.{◌≡◌, length}
-use Rattle.mps_arena.specs.Entries.{AreSound}
+use Rattle.mps_arena.specs.KeyedSteps.{AreSound}
 use Rattle.mps_links.proofs.Waiting.{IsSought}
 use Rattle.mps_test_sessions.proofs.dependents.first_waiting.Given as goal
 
 abbrev pub invariant-loop : goal.invariant-loop
 invariant-loop l = record {
-  sound : AreSound l.arena.entries;
-  sought : IsSought l.arena.entries sound l.fn.from l.fn.to l.at l.first l.counter;
-  end : l.end ≡ length l.arena.entries;
+  sound : AreSound l.arena.keyed_steps;
+  sought : IsSought l.arena.keyed_steps sound l.fn.from l.fn.to l.at l.first l.counter;
+  end : l.end ≡ length l.arena.keyed_steps;
 }

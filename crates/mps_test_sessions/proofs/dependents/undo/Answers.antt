@@ -4,6 +4,6 @@ use Rattle.mps_test_sessions.proofs.dependents.undo.Goals as goal
 
 pub loop-preserved : goal.loop-preserved
 loop-preserved g c =
-    let es = c.loop.arena.entries in
+    let es = c.loop.arena.keyed_steps in
     let newest = sym c.newest_marked.ensures.newest ∙ c.expect-key.ensures in
-    subst AreMarksClosed (sym c.remove.ensures.entries) (c.marks_stay_closed.ensures es c.expect-key.result c.len.ensures.sound c.loop.invariant newest)
+    subst AreMarksClosed (sym c.remove.ensures.keyed_steps) (c.marks_stay_closed.ensures es c.expect-key.result c.len.ensures.sound c.loop.invariant newest)

@@ -2,4 +2,4 @@ use Rattle.mps_links.specs.Marks.{AreMarksClosed}
 use Rattle.mps_test_sessions.proofs.dependents.undo.Given as goal
 
 abbrev pub invariant-loop : goal.invariant-loop
-invariant-loop g l = AreMarksClosed l.arena.entries
+invariant-loop g l = AreMarksClosed l.arena.keyed_steps

@@ -3,7 +3,7 @@ use Rattle.std.specs.Prelude.{IsSome}
 use Rattle.std.specs.Option.{option_and_then, option_copied, is_some}
 use Rattle.mps_base.specs.declared.action.Message.{Message}
 use Rattle.mps_history.specs.Steps.{sends, receives}
-use Rattle.mps_arena.specs.Entries.{keys_of}
+use Rattle.mps_arena.specs.KeyedSteps.{keys_of}
 use Rattle.mps_queues.proofs.Moves.{get_drop_front}
 use Rattle.mps_log.specs.Values.{message_of}
 use Rattle.mps_log.proofs.Waiting.{message_waits}
@@ -19,7 +19,7 @@ copied None t = absurd cc
 
 pub returns : goal.returns
 returns c t =
-    let es = c.args.log.now.entries in
+    let es = c.args.log.now.keyed_steps in
     let p = c.args.from in
     let q = c.args.to in
     let count = length (keys_of (receives p q) es) in

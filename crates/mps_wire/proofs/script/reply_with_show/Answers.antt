@@ -5,6 +5,6 @@ use Rattle.mps_wire.proofs.script.reply_with_show.Goals as goal
 pub returns : goal.returns
 returns c role =
     let m = c.args.room.now in
-    let a = c.tell_show.result in
+    let a = c.answer_show.result in
     answered m.names m.types m.journal role Show m.journal a c.write_answer.result c.args.answers.now.items c.write_answer.new.out.items
-    (c.tell_show.ensures.answer role) (unchanged m.journal role Show a c.tell_show.ensures.asked) c.write_answer.ensures.ok
+    (c.answer_show.ensures.answer role) (unchanged m.journal role Show a c.answer_show.ensures.asked) c.write_answer.ensures.ok

@@ -35,46 +35,46 @@ loop-init g c =
       going = begun (AnswersLine c.args.roles types) [] first _ _ c.new.ensures.items (ap (λ (r : RoomState). r.journal) room);
     }
 
-pub returns-in_err-turn-clause-outcome : goal.returns-in_err-turn-clause-outcome
-returns-in_err-turn-clause-outcome g c =
+pub returns-in_err-read_and_answer-clause-outcome : goal.returns-in_err-read_and_answer-clause-outcome
+returns-in_err-read_and_answer-clause-outcome g c =
     let types = c.args.session.types in
     let first = streams g.R.Source g.W.Sink c.args.reader.now c.args.writer.now in
     let old = streams g.R.Source g.W.Sink c.loop.reader c.loop.writer in
-    let now = streams g.R.Source g.W.Sink c.turn.new.reader c.turn.new.writer in
+    let now = streams g.R.Source g.W.Sink c.read_and_answer.new.reader c.read_and_answer.new.writer in
     let i = c.loop.invariant in
-    passed_on _ _ (ScriptRan c.args.roles types first now) c.from_residual-in_err-turn.ensures.1
-    (breaks first old now i.counts (AnswersLine c.args.roles types) [] c.turn.new.run.line.items c.turn.new.run.room.journal c.in_err-turn.field-0.0
-    (turned c.args.roles c.loop.run.room.names types c.loop.run.room.types i.names i.types old now c.loop.run.line.items c.turn.new.run.line.items c.loop.run.room.journal c.turn.new.run.room.journal (Err c.in_err-turn.field-0.0) c.in_err-turn.ensures.step first i.going))
+    passed_on _ _ (ScriptRan c.args.roles types first now) c.from_residual-in_err-read_and_answer.ensures.1
+    (breaks first old now i.counts (AnswersLine c.args.roles types) [] c.read_and_answer.new.run.line.items c.read_and_answer.new.run.room.journal c.in_err-read_and_answer.field-0.0
+    (turned c.args.roles c.loop.run.room.names types c.loop.run.room.types i.names i.types old now c.loop.run.line.items c.read_and_answer.new.run.line.items c.loop.run.room.journal c.read_and_answer.new.run.room.journal (Err c.in_err-read_and_answer.field-0.0) c.in_err-read_and_answer.ensures.step first i.going))
 
 pub returns-then-branch-clause-outcome : goal.returns-then-branch-clause-outcome
 returns-then-branch-clause-outcome g c =
     let types = c.args.session.types in
     let first = streams g.R.Source g.W.Sink c.args.reader.now c.args.writer.now in
     let old = streams g.R.Source g.W.Sink c.loop.reader c.loop.writer in
-    let now = streams g.R.Source g.W.Sink c.turn.new.reader c.turn.new.writer in
+    let now = streams g.R.Source g.W.Sink c.read_and_answer.new.reader c.read_and_answer.new.writer in
     let i = c.loop.invariant in
     let done =
-    at_end (AnswersLine c.args.roles types) [] first old now c.turn.new.run.line.items c.turn.new.run.room.journal c.in_ok-turn.field-0
-    (turned c.args.roles c.loop.run.room.names types c.loop.run.room.types i.names i.types old now c.loop.run.line.items c.turn.new.run.line.items c.loop.run.room.journal c.turn.new.run.room.journal (Ok c.in_ok-turn.field-0) c.in_ok-turn.ensures.step first i.going) c.if-branch.true in
-    ((done.0, counts_more first old now i.counts one_read_ended done.1), c.in_ok-turn.ensures.names ∙ i.names, c.in_ok-turn.ensures.types ∙ i.types)
+    at_end (AnswersLine c.args.roles types) [] first old now c.read_and_answer.new.run.line.items c.read_and_answer.new.run.room.journal c.in_ok-read_and_answer.field-0
+    (turned c.args.roles c.loop.run.room.names types c.loop.run.room.types i.names i.types old now c.loop.run.line.items c.read_and_answer.new.run.line.items c.loop.run.room.journal c.read_and_answer.new.run.room.journal (Ok c.in_ok-read_and_answer.field-0) c.in_ok-read_and_answer.ensures.step first i.going) c.if-branch.true in
+    ((done.0, counts_more first old now i.counts one_read_ended done.1), c.in_ok-read_and_answer.ensures.names ∙ i.names, c.in_ok-read_and_answer.ensures.types ∙ i.types)
 
 pub loop-preserved : goal.loop-preserved
 loop-preserved g c =
     let types = c.args.session.types in
     let first = streams g.R.Source g.W.Sink c.args.reader.now c.args.writer.now in
     let old = streams g.R.Source g.W.Sink c.loop.reader c.loop.writer in
-    let now = streams g.R.Source g.W.Sink c.turn.new.reader c.turn.new.writer in
+    let now = streams g.R.Source g.W.Sink c.read_and_answer.new.reader c.read_and_answer.new.writer in
     let i = c.loop.invariant in
     let on =
-    before_end (AnswersLine c.args.roles types) [] first old now c.turn.new.run.line.items c.turn.new.run.room.journal c.in_ok-turn.field-0
-    (turned c.args.roles c.loop.run.room.names types c.loop.run.room.types i.names i.types old now c.loop.run.line.items c.turn.new.run.line.items c.loop.run.room.journal c.turn.new.run.room.journal (Ok c.in_ok-turn.field-0) c.in_ok-turn.ensures.step first i.going) c.if-branch.false in
+    before_end (AnswersLine c.args.roles types) [] first old now c.read_and_answer.new.run.line.items c.read_and_answer.new.run.room.journal c.in_ok-read_and_answer.field-0
+    (turned c.args.roles c.loop.run.room.names types c.loop.run.room.types i.names i.types old now c.loop.run.line.items c.read_and_answer.new.run.line.items c.loop.run.room.journal c.read_and_answer.new.run.room.journal (Ok c.in_ok-read_and_answer.field-0) c.in_ok-read_and_answer.ensures.step first i.going) c.if-branch.false in
     record {
-      names = c.in_ok-turn.ensures.names ∙ i.names;
-      types = c.in_ok-turn.ensures.types ∙ i.types;
-      short = c.in_ok-turn.ensures.short;
-      none_waits = c.in_ok-turn.ensures.none_wait;
-      space = same_space c.loop.block.len BLOCK c.turn.new.block c.loop.block.items c.loop.block.ok.0 i.space;
-      reads = omega (arith, c.in_ok-turn.ensures.reads, i.reads);
+      names = c.in_ok-read_and_answer.ensures.names ∙ i.names;
+      types = c.in_ok-read_and_answer.ensures.types ∙ i.types;
+      short = c.in_ok-read_and_answer.ensures.short;
+      none_waits = c.in_ok-read_and_answer.ensures.none_wait;
+      space = same_space c.loop.block.len BLOCK c.read_and_answer.new.block c.loop.block.items c.loop.block.ok.0 i.space;
+      reads = omega (arith, c.in_ok-read_and_answer.ensures.reads, i.reads);
       counts = counts_more first old now i.counts all_went_well on.1;
       gave = gave_more first old now _ i.gave on.2;
       going = on.0;

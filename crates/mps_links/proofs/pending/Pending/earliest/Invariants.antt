@@ -1,5 +1,5 @@
 use Rattle.std.proofs.Common.{◌≡◌, List, take}
-use Rattle.mps_arena.specs.Entries.{KeyedStep}
+use Rattle.mps_arena.specs.KeyedSteps.{KeyedStep}
 use Rattle.mps_links.specs.Private.Numbered.{key_of, keys_alone, HasNumber, HaveNumbers}
 use Rattle.mps_links.specs.Private.Pending.{earliest}
 use Rattle.mps_links.proofs.pending.Pending.earliest.Given as goal

@@ -1,7 +1,7 @@
 use Rattle.std.proofs.Common.{◌≡◌, List, Bool, false, sym, ap, ◌∙◌, subst}
 use Rattle.mps_history.specs.Dependence.{consequences}
 use Rattle.mps_history.specs.Commits.{is_commit, commits_from}
-use Rattle.mps_arena.specs.Entries.{KeyedStep, steps, AreSound}
+use Rattle.mps_arena.specs.KeyedSteps.{KeyedStep, steps, AreSound}
 use Rattle.mps_queues.specs.Fronts.{AreFronts}
 use Rattle.mps_stores.specs.Stores.{AreStores, slot_of, mark_of}
 use Rattle.mps_links.specs.Marks.{marked_commits}
@@ -12,12 +12,12 @@ use Rattle.mps_log.proofs.Remarked.{all_again, sound_again, fronts_again, stores
 use Rattle.mps_log.proofs.log.Log.choose_from.Goals as goal
 use Rattle.mps_log.proofs.log.Log.choose_from.Goals.{After-mark_from}
 
--- which entries are marked
+-- which keyed steps are marked
 abbrev marks : After-mark_from → KeyedStep → Bool
-marks c e = consequences (steps c.self.inside.arena.entries) c.args.id e.step.id
+marks c e = consequences (steps c.self.inside.arena.keyed_steps) c.args.id e.step.id
 
-sound : (c : After-mark_from) → AreSound c.mark_from.new.arena.entries
-sound c = subst AreSound (sym c.mark_from.ensures.marks) (sound_again (marks c) c.self.inside.arena.entries c.self.invariant.sound)
+sound : (c : After-mark_from) → AreSound c.mark_from.new.arena.keyed_steps
+sound c = subst AreSound (sym c.mark_from.ensures.marks) (sound_again (marks c) c.self.inside.arena.keyed_steps c.self.invariant.sound)
 
 pub invariant_of-self : goal.invariant_of-self
 invariant_of-self c =
@@ -25,10 +25,10 @@ invariant_of-self c =
     let l = c.self.inside in
     record {
       sound = sound k;
-      fronts = subst (λ (es : List KeyedStep). AreFronts es l.queues) (sym c.mark_from.ensures.marks) (fronts_again (marks k) l.arena.entries l.queues c.self.invariant.fronts);
-      slots = subst (λ (es : List KeyedStep). AreStores slot_of es l.slots) (sym c.mark_from.ensures.marks) (stores_again (marks k) slot_of l.arena.entries l.slots c.self.invariant.slots);
-      marks = subst (λ (es : List KeyedStep). AreStores mark_of es l.marks) (sym c.mark_from.ensures.marks) (stores_again (marks k) mark_of l.arena.entries l.marks c.self.invariant.marks);
-      settled = λ none. subst HasNoCommit (sym c.mark_from.ensures.marks) (all_again (marks k) (λ s. is_commit s.act ≡ false) l.arena.entries (c.self.invariant.settled none));
+      fronts = subst (λ (es : List KeyedStep). AreFronts es l.queues) (sym c.mark_from.ensures.marks) (fronts_again (marks k) l.arena.keyed_steps l.queues c.self.invariant.fronts);
+      slots = subst (λ (es : List KeyedStep). AreStores slot_of es l.slots) (sym c.mark_from.ensures.marks) (stores_again (marks k) slot_of l.arena.keyed_steps l.slots c.self.invariant.slots);
+      marks = subst (λ (es : List KeyedStep). AreStores mark_of es l.marks) (sym c.mark_from.ensures.marks) (stores_again (marks k) mark_of l.arena.keyed_steps l.marks c.self.invariant.marks);
+      settled = λ none. subst HasNoCommit (sym c.mark_from.ensures.marks) (all_again (marks k) (λ s. is_commit s.act ≡ false) l.arena.keyed_steps (c.self.invariant.settled none));
     }
 
 pub returns-clause-sound : goal.returns-clause-sound
@@ -36,7 +36,7 @@ returns-clause-sound c = sound ((goal.at.returns-clause-sound c).After-mark_from
 
 pub returns-clause-commits : goal.returns-clause-commits
 returns-clause-commits c =
-    let es = c.self.inside.arena.entries in
+    let es = c.self.inside.arena.keyed_steps in
     ap marked_commits c.mark_from.ensures.marks
     ∙ marked_commits_are es c.args.id
-    ∙ ap (λ (l : Logged). commits_from (steps l.entries) c.args.id) c.self.view_is
+    ∙ ap (λ (l : Logged). commits_from (steps l.keyed_steps) c.args.id) c.self.view_is

@@ -8,4 +8,4 @@ use Rattle.mps_log.proofs.log.Log.least_dependent.Goals as goal
 
 pub returns-clause-free : goal.returns-clause-free
 returns-clause-free c =
-    subst (λ (l : Logged). c.least_dependent.result ≡ None → (k : ℕ) → option_map (λ e. e.key) (find (λ e. e.step.id == c.args.id) l.entries) ≡ Some k → CanGo l.entries k) c.self.view_is c.least_dependent.ensures.free
+    subst (λ (l : Logged). c.least_dependent.result ≡ None → (k : ℕ) → option_map (λ e. e.key) (find (λ e. e.step.id == c.args.id) l.keyed_steps) ≡ Some k → CanGo l.keyed_steps k) c.self.view_is c.least_dependent.ensures.free

@@ -8,6 +8,6 @@ use Rattle.mps_log.proofs.log.Log.least_final.Goals as goal
 pub returns-then-not-self : goal.returns-then-not-self
 returns-then-not-self c = record {
   least =
-      ap least (sym (none_marked c.self.inside.arena.entries (c.self.invariant.settled c.if-not-self.true)))
-      ∙ ap (λ (l : Logged). least (marked_commits l.entries)) c.self.view_is;
+      ap least (sym (none_marked c.self.inside.arena.keyed_steps (c.self.invariant.settled c.if-not-self.true)))
+      ∙ ap (λ (l : Logged). least (marked_commits l.keyed_steps)) c.self.view_is;
 }

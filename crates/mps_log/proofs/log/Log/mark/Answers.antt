@@ -1,6 +1,6 @@
 use Rattle.std.proofs.Common.{◌≡◌, [], ◌∷◌, ◌++◌, List, false, refl, sym, ap, ◌∙◌, subst}
 use Rattle.mps_base.specs.declared.action.Act.TheVariants.{Mark}
-use Rattle.mps_arena.specs.Entries.{KeyedStep}
+use Rattle.mps_arena.specs.KeyedSteps.{KeyedStep}
 use Rattle.mps_queues.specs.Fronts.{AreFronts}
 use Rattle.mps_queues.proofs.Moves.{idle_joins}
 use Rattle.mps_stores.specs.Stores.{AreStores, slot_of, mark_of}
@@ -13,9 +13,9 @@ pub invariant_of-self-2 : goal.invariant_of-self-2
 invariant_of-self-2 c =
     let l = c.self.inside in
     let k = c.self.invariant in
-    let es = l.arena.entries in
+    let es = l.arena.keyed_steps in
     let e : KeyedStep = record { key = c.reserve_one.new.self.next_key; step = record { id = c.add.result; role = c.args.role; act = Mark c.args.name }; before = record { at = c.args.at; bound = c.in_ok-bound.bound }; marked = false } in
-    let whole : c.add.new.self.entries ≡ es ++ e ∷ [] = c.add.ensures.entries ∙ ap (λ (o : List KeyedStep). o ++ e ∷ []) c.reserve_one.ensures.entries in
+    let whole : c.add.new.self.keyed_steps ≡ es ++ e ∷ [] = c.add.ensures.keyed_steps ∙ ap (λ (o : List KeyedStep). o ++ e ∷ []) c.reserve_one.ensures.keyed_steps in
     record {
       sound = c.add.ensures.sound;
       fronts = subst (λ (o : List KeyedStep). AreFronts o l.queues) (sym whole) (idle_joins e refl es l.queues k.fronts);

@@ -2,7 +2,7 @@ use Rattle.std.proofs.Common.{◌≡◌, [], ◌∷◌, ◌++◌, List, None, fa
 use Rattle.std.specs.Prelude.{◌==◌}
 use Rattle.std.proofs.lemmas.Bool.{and_from}
 use Rattle.mps_base.specs.declared.action.Act.TheVariants.{Out}
-use Rattle.mps_arena.specs.Entries.{KeyedStep}
+use Rattle.mps_arena.specs.KeyedSteps.{KeyedStep}
 use Rattle.mps_queues.specs.Fronts.{AreFronts}
 use Rattle.mps_stores.specs.Stores.{AreStores, slot_of, mark_of}
 use Rattle.mps_stores.proofs.Bindings.{stores_idle_push}
@@ -14,11 +14,11 @@ pub invariant_of-self-2 : goal.invariant_of-self-2
 invariant_of-self-2 c =
     let l = c.self.inside in
     let k = c.self.invariant in
-    let es = l.arena.entries in
+    let es = l.arena.keyed_steps in
     let p = c.args.role in
     let q = c.args.to in
     let e : KeyedStep = record { key = c.reserve_one.new.self.next_key; step = record { id = c.add.result; role = p; act = Out q c.args.message }; before = record { at = c.args.at; bound = None }; marked = false } in
-    let whole : c.add.new.self.entries ≡ es ++ e ∷ [] = c.add.ensures.entries ∙ ap (λ (o : List KeyedStep). o ++ e ∷ []) c.reserve_one.ensures.entries in
+    let whole : c.add.new.self.keyed_steps ≡ es ++ e ∷ [] = c.add.ensures.keyed_steps ∙ ap (λ (o : List KeyedStep). o ++ e ∷ []) c.reserve_one.ensures.keyed_steps in
     let sent = and_from (p == p) (q == q) (eq-eqb p p refl) (eq-eqb q q refl) in
     record {
       sound = c.add.ensures.sound;

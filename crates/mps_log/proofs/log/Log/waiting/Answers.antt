@@ -1,14 +1,14 @@
 use Rattle.std.proofs.Common.{◌<◌, ℕ, List, arith, sym, ap, length}
 use Rattle.std.specs.Prelude.{slice_get}
 use Rattle.mps_history.specs.Steps.{receives}
-use Rattle.mps_arena.specs.Entries.{keys_of}
+use Rattle.mps_arena.specs.KeyedSteps.{keys_of}
 use Rattle.mps_log.proofs.Waiting.{no_stranger}
 use Rattle.mps_log.proofs.log.Log.waiting.Goals as goal
 use Rattle.mps_log.proofs.log.Log.waiting.Goals.{then-index-ge8-via-then-index-ge8, then-index-ge8-via-else-index-ge8+then-index-ge8-2}
 
 pub of-requires-clause-first : goal.of-requires-clause-first
 of-requires-clause-first c =
-    let es = c.self.inside.arena.entries in
+    let es = c.self.inside.arena.keyed_steps in
     let far : c.args.from < 8 → c.args.to < 8 → ⊥ =
     elim c.then-index-ge8.branch [
       | then-index-ge8-via-then-index-ge8 w ↦ λ p q. omega (arith, c.index.ensures.place, w.if-index-ge8.true)

@@ -6,5 +6,5 @@ use Rattle.mps_log.proofs.moves.Moves.of.Goals as goal
 
 pub returns : goal.returns
 returns c =
-    let es = c.args.arena.now.entries in
+    let es = c.args.arena.now.keyed_steps in
     ap (λ k. shown es (from_key k es)) c.first.ensures ∙ ap (shown es) (from_part [] es c.requires.distinct)

@@ -3,7 +3,7 @@ use mathlib.Core.Path.{ap₂}
 use Rattle.std.specs.Option.{option_map, option_and_then}
 use Rattle.mps_base.specs.declared.action.Message.{Message}
 use Rattle.mps_base.specs.declared.action.Step.{Step}
-use Rattle.mps_arena.specs.Entries.{KeyedStep}
+use Rattle.mps_arena.specs.KeyedSteps.{KeyedStep}
 use Rattle.mps_log.specs.Shown.{Moved, moved_of}
 use Rattle.mps_log.proofs.Walks.{y, there, goes_on, shows, shows_then, found}
 use Rattle.mps_log.proofs.moves.MovesIterator.next.Goals as goal
@@ -17,7 +17,7 @@ invariant_of-self c = goes_on c.self.inside c.self.invariant c.in_ok-key.key c.i
 pub returns-clause-steps : goal.returns-clause-steps
 returns-clause-steps c =
     let m = c.self.inside in
-    let es = m.arena.now.entries in
+    let es = m.arena.now.keyed_steps in
     let at = found m c.self.invariant c.in_ok-key.key c.in_ok-key.was in
     let head = y m c.self.invariant c.in_ok-key.key c.in_ok-key.was in
     let one : Some head.step ≡ Some c.get.result.now = sym (ap (option_map (λ (e : KeyedStep). e.step)) at) ∙ c.get.ensures in

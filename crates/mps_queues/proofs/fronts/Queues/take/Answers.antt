@@ -6,6 +6,6 @@ pub returns-clause-fronts : goal.returns-clause-fronts
 returns-clause-fronts c e t =
     let p = c.args.from in
     let q = c.args.to in
-    let es = c.args.arena.now.entries in
+    let es = c.args.arena.now.keyed_steps in
     let fronts = c.self.inside.fronts in
     grind (arith, front_read fronts es p q, waiting_take es c.steps_are_sound.ensures p q e t, front_set fronts es (es ++ e ∷ []) p q, others_take es c.steps_are_sound.ensures p q e t)

@@ -8,7 +8,7 @@ use Rattle.mps_command.specs.declared.command.Change.{Change}
 use Rattle.mps_machine.specs.Machine.{serve}
 use Rattle.mps_machine.specs.Answering.{IsChanged}
 use Rattle.mps_machine.proofs.Answering.{from_ok}
-use Rattle.mps_room.specs.Journal.{most_entries, undone_by, is_accepted, grown, reply, IsReply}
+use Rattle.mps_room.specs.Journal.{most_entries, undone_by, is_accepted, grown, answer_to, MayAnswer}
 use Rattle.mps_room.specs.Private.Forms.{narrow_answer, narrow, source_place}
 use Rattle.mps_room.specs.Private.Heard.{hears, with_place}
 use Rattle.mps_room.specs.Private.Owners.{owns, owners_after}
@@ -19,7 +19,7 @@ use Rattle.mps_room.proofs.Growing.{asked}
 use Rattle.mps_room.proofs.Keeping as keeping
 use Rattle.mps_room.proofs.Lists.{map_each}
 use Rattle.mps_room.proofs.Consistency as consistency
-use Rattle.mps_room.proofs.Refusing.{accepted_reply}
+use Rattle.mps_room.proofs.Refusing.{accepted_answer}
 use Rattle.mps_room.proofs.room.Room.change.Goals as goal
 use Rattle.mps_room.proofs.room.Room.change.Goals.{After-keep}
 
@@ -98,11 +98,11 @@ returns-in-Ok-clause-answer c =
     let r = c.self.inside in
     let told = c.in-Ok in
     let is =
-    keeping.replied_as r.names r.session r.steps.owners.items r.steps.places.items r.heard.count (map (λ v. v.items) r.heard.lists) r.journal.items c.self.invariant c.args.role (known l) (change_in l) told.answer (answered l) (kept l) c.in_default.ensures.few c.args.command (is_asked l)
+    keeping.answered_as r.names r.session r.steps.owners.items r.steps.places.items r.heard.count (map (λ v. v.items) r.heard.lists) r.journal.items c.self.invariant c.args.role (known l) (change_in l) told.answer (answered l) (kept l) c.in_default.ensures.few c.args.command (is_asked l)
     told.gist told.ensures.kind told.ensures.sent told.ensures.gist
     in
-    subst (λ (m : RoomState). IsReply told.answer (reply m.names m.types m.journal c.args.role c.args.command)) c.self.view_is
-    (subst (λ (w : Answer). IsReply told.answer w) (sym is) (accepted_reply told.answer (kept l)))
+    subst (λ (m : RoomState). MayAnswer told.answer (answer_to m.names m.types m.journal c.args.role c.args.command)) c.self.view_is
+    (subst (λ (w : Answer). MayAnswer told.answer w) (sym is) (accepted_answer told.answer (kept l)))
 
 pub returns-in-Ok-clause-journal : goal.returns-in-Ok-clause-journal
 returns-in-Ok-clause-journal c =
@@ -118,6 +118,6 @@ returns-in-Err-attempt-clause-answer c =
     let r = c.self.inside in
     let found = asked c.args.command c.requires.change in
     let refusal = c.in-Err-attempt.refusal in
-    subst (λ (m : RoomState). IsReply (Refused refusal) (reply m.names m.types m.journal c.args.role c.args.command)) c.self.view_is
+    subst (λ (m : RoomState). MayAnswer (Refused refusal) (answer_to m.names m.types m.journal c.args.role c.args.command)) c.self.view_is
     (consistency.refused_as r.names r.session r.steps.owners.items r.heard.count (map (λ v. v.items) r.heard.lists) (journal_of r.journal.items) c.self.invariant.consistent c.args.role found.0 c.args.command found.2
     (subst (λ (n : ℕ). n < most_entries) (sym (length-map r.journal.items (whole r.journal.items))) c.in_default.ensures.few) c.attempt.new.self.state refusal (c.in-Err-attempt.ensures.accepted found.0 found.1))

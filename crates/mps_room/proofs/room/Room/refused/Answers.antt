@@ -4,7 +4,7 @@ use Rattle.mps_machine.specs.Faults.{fault}
 use Rattle.mps_machine.specs.Machine.{State}
 use Rattle.mps_room.specs.Journal.{run}
 use Rattle.mps_room.specs.RoomState.{RoomState}
-use Rattle.mps_room.proofs.Refusing.{refused, lack_reply}
+use Rattle.mps_room.proofs.Refusing.{refused, lack_answer}
 use Rattle.mps_room.proofs.room.Room.refused.Goals as goal
 
 pub returns-in-Err-clause-refused : goal.returns-in-Err-clause-refused
@@ -24,7 +24,7 @@ returns-clause-refused c =
     let m = c.args.self.now in
     let command = c.args.command.now in
     let told : fault r.session.types r.session.state c.args.role command ≡ None = sym c.in_default.ensures.fault in
-    lack_reply m.names m.types m.journal c.args.role command c.args.lack c.requires.change c.requires.lack
+    lack_answer m.names m.types m.journal c.args.role command c.args.lack c.requires.change c.requires.lack
     (λ room. omega (arith, room, ap (λ (k : RoomState). length k.journal) c.self.view_is, c.self.invariant.consistent.owners.few, c.self.invariant.consistent.owners.next, ap (λ (k : RoomState). (run k.types k.journal).next) c.self.view_is, ap (λ (st : State). st.next) c.self.invariant.consistent.state))
     (ap (λ (k : RoomState). fault k.types (run k.types k.journal) c.args.role command) (sym c.self.view_is)
     ∙ ap (λ (st : State). fault r.session.types st c.args.role command) (sym c.self.invariant.consistent.state)

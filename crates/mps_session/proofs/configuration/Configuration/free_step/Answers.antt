@@ -2,7 +2,7 @@ use Rattle.std.proofs.Common.{◌≡◌, Some, refl, sym, ap, ◌∙◌}
 use Rattle.std.specs.Option.{option_map}
 use Rattle.mps_base.specs.declared.action.Step.{Step}
 use Rattle.mps_history.specs.Commits.{is_commit}
-use Rattle.mps_arena.specs.Entries.{KeyedStep}
+use Rattle.mps_arena.specs.KeyedSteps.{KeyedStep}
 use Rattle.mps_session.specs.Private.Configurations.{lists_of}
 use Rattle.mps_session.proofs.FreeStep as free
 use Rattle.mps_session.proofs.OwnStep as numbered
@@ -11,14 +11,14 @@ use Rattle.mps_session.proofs.configuration.Configuration.free_step.Goals.{After
 
 pub get-requires : goal.get-requires
 get-requires c =
-    let found = numbered.found c.args.self.now.log.entries c.in_ok-key.ensures.sound c.args.id c.in_ok-key.key c.in_ok-key.ensures.key in
+    let found = numbered.found c.args.self.now.log.keyed_steps c.in_ok-key.ensures.sound c.args.id c.in_ok-key.key c.in_ok-key.ensures.key in
     rw found refl
 
 -- the step that is looked at is that of the number
 same : (c : After-is_commit) → is_commit (free.x (lists_of c.args.self.now) c.in_ok-key.ensures.sound c.args.role c.args.id c.in_ok-key.key c.in_ok-key.ensures.key c.in_ok-key.ensures.own).step.act ≡ c.is_commit.result
 same c =
-    let es = c.args.self.now.log.entries in
-    let x = numbered.entry es c.in_ok-key.ensures.sound c.args.id c.in_ok-key.key c.in_ok-key.ensures.key in
+    let es = c.args.self.now.log.keyed_steps in
+    let x = numbered.keyed es c.in_ok-key.ensures.sound c.args.id c.in_ok-key.key c.in_ok-key.ensures.key in
     let found = numbered.found es c.in_ok-key.ensures.sound c.args.id c.in_ok-key.key c.in_ok-key.ensures.key in
     let one : Some x.step ≡ Some c.get.result.now = sym (ap (option_map (λ (e : KeyedStep). e.step)) found) ∙ c.get.ensures in
     let step : x.step ≡ c.get.result.now = cc in

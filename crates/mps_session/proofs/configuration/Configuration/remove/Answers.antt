@@ -11,6 +11,6 @@ returns-clause-left c =
     has_left c.args.key (lists_of c.args.self.now) _ c.get.result.now c.before-2.result
     c.get.ensures c.before-2.ensures
     (rw (← c.new-node.ensures) c.stand_at.ensures.cursors)
-    (c.remove.ensures.entries ∙ ap (λ (l : Logged). filter (λ e. not (e.key == c.args.key)) l.entries) c.stand_at.ensures.log)
+    (c.remove.ensures.keyed_steps ∙ ap (λ (l : Logged). filter (λ e. not (e.key == c.args.key)) l.keyed_steps) c.stand_at.ensures.log)
     (c.remove.ensures.issued ∙ ap (λ (l : Logged). l.issued) c.stand_at.ensures.log)
     c.remove.ensures.sound

@@ -8,20 +8,20 @@ use Rattle.mps_session.proofs.RemoveMarked.{AreGoing}
 use Rattle.mps_session.proofs.configuration.Configuration.remove_chosen.Goals as goal
 use Rattle.mps_session.proofs.configuration.Configuration.remove_chosen.Goals.{After-push_reserved}
 
-newest : (c : After-push_reserved) → last_key None (marked_keys c.loop-key.self.log.entries) ≡ Some c.in-Some.key
+newest : (c : After-push_reserved) → last_key None (marked_keys c.loop-key.self.log.keyed_steps) ≡ Some c.in-Some.key
 newest c = sym c.in-Some.ensures.newest
 
-can : (c : After-push_reserved) → CanGo c.loop-key.self.log.entries c.in-Some.key
+can : (c : After-push_reserved) → CanGo c.loop-key.self.log.keyed_steps c.in-Some.key
 can c = c.in-Some.ensures.free
 
-fewer : (c : After-push_reserved) → length (marked_keys c.remove-id.new.self.log.entries) + 1 ≡ length (marked_keys c.loop-key.self.log.entries)
+fewer : (c : After-push_reserved) → length (marked_keys c.remove-id.new.self.log.keyed_steps) + 1 ≡ length (marked_keys c.loop-key.self.log.keyed_steps)
 fewer c =
     rolling.fewer_left (lists_of c.args.self.now) (lists_of c.loop-key.self) (lists_of c.remove-id.new.self) c.args.ids.now.items c.loop-key.ids.items c.in-Some.key c.remove-id.result
     c.loop-key.invariant.going c.newest_chosen.ensures.sound (newest c) (can c) c.remove-id.ensures.id c.remove-id.ensures.left
 
 pub remove-id-requires-clause-role : goal.remove-id-requires-clause-role
 remove-id-requires-clause-role c =
-    rolling.role_there c.loop-key.self.log.entries c.in-Some.key _ _ c.loop-key.self.cursors.ok.0 c.loop-key.invariant.going.members
+    rolling.role_there c.loop-key.self.log.keyed_steps c.in-Some.key _ _ c.loop-key.self.cursors.ok.0 c.loop-key.invariant.going.members
 
 pub loop-key-smaller : goal.loop-key-smaller
 loop-key-smaller c = omega (arith, fewer ((goal.at.loop-key-smaller c).After-push_reserved))

@@ -8,8 +8,8 @@ use Rattle.mps_session.proofs.configuration.Configuration.remove_chosen.Given as
 abbrev pub invariant-loop-key : goal.invariant-loop-key
 invariant-loop-key l = record {
   going : AreGoing (lists_of l.initial.self) (lists_of l.self) l.initial.ids.items l.ids.items;
-  space : vec_len l.ids + length (marked_keys l.self.log.entries) ≤ vec_capacity l.ids;
+  space : vec_len l.ids + length (marked_keys l.self.log.keyed_steps) ≤ vec_capacity l.ids;
 }
 
 abbrev pub decreases-loop-key : goal.decreases-loop-key
-decreases-loop-key l = length (marked_keys l.self.log.entries)
+decreases-loop-key l = length (marked_keys l.self.log.keyed_steps)

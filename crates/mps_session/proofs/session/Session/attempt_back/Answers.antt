@@ -6,7 +6,7 @@ use Rattle.mps_history.specs.Dependence.{consequences}
 use Rattle.mps_local.specs.Local.{plain}
 use Rattle.mps_machine.specs.Machine as machine
 use Rattle.mps_machine.specs.Rule.{replay}
-use Rattle.mps_arena.specs.Entries.{steps}
+use Rattle.mps_arena.specs.KeyedSteps.{steps}
 use Rattle.mps_session.specs.Private.Configurations.{lists_of, state_of}
 use Rattle.mps_session.specs.SessionState.{SessionState, session_view}
 use Rattle.mps_session.specs.NumberSets.{is_among}
@@ -22,7 +22,7 @@ both (Err e) P R Q f p q = tt
 
 pub take_back-requires-clause-present : goal.take_back-requires-clause-present
 take_back-requires-clause-present c =
-    first_there c.args.name.now c.args.role (steps c.self.inside.configuration.log.entries) c.in-Some-Some.id c.self.invariant.holds.sound.rising
+    first_there c.args.name.now c.args.role (steps c.self.inside.configuration.log.keyed_steps) c.in-Some-Some.id c.self.invariant.holds.sound.rising
     (ap Some (sym c.in-Some-Some.field-0-is) ∙ sym c.in-Some-Some.is ∙ c.first_after.ensures)
 
 pub take_back-requires-clause-members : goal.take_back-requires-clause-members
@@ -39,8 +39,8 @@ pub returns-in-Some-Some-clause-back : goal.returns-in-Some-Some-clause-back
 returns-in-Some-Some-clause-back c =
     let s = c.self.inside in
     let types = map plain s.types.items in
-    let h = steps s.configuration.log.entries in
-    let left = steps c.take_back.new.self.log.entries in
+    let h = steps s.configuration.log.keyed_steps in
+    let left = steps c.take_back.new.self.log.keyed_steps in
     let id = c.in-Some-Some.id in
     both c.take_back.result (λ ids. ids.0 ≡ reverse (numbers (within h (consequences h id)))) (λ ids. replay (machine.view_of types left) (within c.args.self.now.state.history (is_among ids.0)) ≡ Some (session_view c.args.self.now)) (left ≡ without h (consequences h id))
     (λ ids went stay. subst (λ (m : SessionState). replay (machine.view_of types left) (within m.state.history (is_among ids.0)) ≡ Some (session_view m)) c.self.view_is

@@ -50,7 +50,7 @@ invariant_of-self-2 c =
     record {
       holds = forwarding.holds_then (map plain s.types.items) (lists_of s.configuration) c.self.invariant.holds c.args.self.now c.self.view_is c.args.role c.requires.role c.args.step.now c.in_ok-node.ensures.allowed c.in_ok-node.ensures.numbers
           c.in_ok-node.node c.in_ok-node.ensures.follows (lists_of c.act.new.self) acted;
-      unmarked = ap marked_keys acted.joined.entries ∙ push_unmarked s.configuration.log.entries _ refl c.self.invariant.unmarked;
+      unmarked = ap marked_keys acted.joined.keyed_steps ∙ push_unmarked s.configuration.log.keyed_steps _ refl c.self.invariant.unmarked;
     }
 
 pub returns-clause-served : goal.returns-clause-served

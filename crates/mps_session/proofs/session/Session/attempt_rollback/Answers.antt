@@ -5,7 +5,7 @@ use Rattle.mps_history.specs.Dependence.{consequences}
 use Rattle.mps_local.specs.Local.{plain}
 use Rattle.mps_machine.specs.Machine as machine
 use Rattle.mps_machine.specs.Rule.{replay}
-use Rattle.mps_arena.specs.Entries.{steps}
+use Rattle.mps_arena.specs.KeyedSteps.{steps}
 use Rattle.mps_session.specs.Private.Configurations.{lists_of, state_of}
 use Rattle.mps_session.specs.SessionState.{SessionState, session_view}
 use Rattle.mps_session.proofs.RemoveMarked.{leads_back}
@@ -15,6 +15,6 @@ pub returns-clause-back : goal.returns-clause-back
 returns-clause-back c =
     let s = c.self.inside in
     let types = map plain s.types.items in
-    let left = steps c.take_back.new.self.log.entries in
+    let left = steps c.take_back.new.self.log.keyed_steps in
     on_ok_weaker c.take_back.result (λ history. subst (λ (m : SessionState). replay (machine.view_of types left) (within m.state.history (consequences m.state.history c.args.id)) ≡ Some (session_view m)) c.self.view_is
     (leads_back types (state_of (lists_of s.configuration)) left c.args.id c.self.invariant.holds.sound history)) c.take_back.ensures.history

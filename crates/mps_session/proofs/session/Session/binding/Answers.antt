@@ -13,5 +13,5 @@ returns c =
     let types = map plain s.types.items in
     let kept = lists_of s.configuration in
     c.binding.ensures
-    ∙ sym (binding_is types kept.entries (v types kept c.self.invariant.holds) c.args.role c.args.k c.self.invariant.holds.kept (replayed types kept c.self.invariant.holds))
+    ∙ sym (binding_is types kept.keyed_steps (v types kept c.self.invariant.holds) c.args.role c.args.k c.self.invariant.holds.kept (replayed types kept c.self.invariant.holds))
     ∙ ap (λ (m : SessionState). slice_get ((session_view m).participant c.args.role).store c.args.k) c.self.view_is

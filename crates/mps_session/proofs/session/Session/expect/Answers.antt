@@ -5,7 +5,7 @@ use Rattle.mps_local.specs.Shape.{IsOtherRole}
 use Rattle.mps_machine.proofs.Peers.{unfolded_peers}
 use Rattle.mps_table.specs.Graph.{IsNode}
 use Rattle.mps_table.specs.Expects.{head_of}
-use Rattle.mps_arena.specs.Entries.{steps}
+use Rattle.mps_arena.specs.KeyedSteps.{steps}
 use Rattle.mps_machine.specs.Machine.{view_of}
 use Rattle.mps_session.specs.Private.Configurations.{lists_of}
 use Rattle.mps_session.specs.Private.Cursors.{IsFor}
@@ -45,7 +45,7 @@ returns-clause-head c =
     let cursor = c.index-cursor.result.now in
     let at = c.index-cursor.ensures ∙ ap (λ (i : ℕ). get_or all i cursor) c.index.ensures.place in
     let here = cursor_at all c.args.role cursor (in_cursors types k c.self.invariant.holds c.args.self.now c.self.view_is c.args.role c.requires) at in
-    let begins = c.expect.ensures.begins _ (subst (λ (x : Cursor). IsFor x ((view_of types (steps k.entries)).participant c.args.role).to_come) here (stands types k c.self.invariant.holds c.args.self.now c.self.view_is c.args.role c.requires)) in
+    let begins = c.expect.ensures.begins _ (subst (λ (x : Cursor). IsFor x ((view_of types (steps k.keyed_steps)).participant c.args.role).to_come) here (stands types k c.self.invariant.holds c.args.self.now c.self.view_is c.args.role c.requires)) in
     begins_first (head_of c.expect.result) _ begins ∙ ap (λ (m : SessionState). head ((session_view m).participant c.args.role).to_come) c.self.view_is
 
 pub returns-clause-known : goal.returns-clause-known
@@ -57,7 +57,7 @@ returns-clause-known c =
     let cursor = c.index-cursor.result.now in
     let at = c.index-cursor.ensures ∙ ap (λ (i : ℕ). get_or all i cursor) c.index.ensures.place in
     let here = cursor_at all c.args.role cursor (in_cursors types k c.self.invariant.holds c.args.self.now c.self.view_is c.args.role c.requires) at in
-    let begins = c.expect.ensures.begins _ (subst (λ (x : Cursor). IsFor x ((view_of types (steps k.entries)).participant c.args.role).to_come) here (stands types k c.self.invariant.holds c.args.self.now c.self.view_is c.args.role c.requires)) in
+    let begins = c.expect.ensures.begins _ (subst (λ (x : Cursor). IsFor x ((view_of types (steps k.keyed_steps)).participant c.args.role).to_come) here (stands types k c.self.invariant.holds c.args.self.now c.self.view_is c.args.role c.requires)) in
     let holds = c.self.invariant.holds in
     let less : c.args.role < length types = omega (arith, holds.cursors.long, in_cursors types k holds c.args.self.now c.self.view_is c.args.role c.requires) in
     let peers = unfolded_peers (IsOtherRole (length types) c.args.role) _ (holds.cursors.peers c.args.role less) in

@@ -16,7 +16,7 @@ returns-clause-moves c =
     let types = map plain s.types.items in
     let kept = lists_of s.configuration in
     c.moves.ensures
-    ∙ moved_is types kept.entries (v types kept c.self.invariant.holds) c.self.invariant.holds.kept (replayed types kept c.self.invariant.holds)
+    ∙ moved_is types kept.keyed_steps (v types kept c.self.invariant.holds) c.self.invariant.holds.kept (replayed types kept c.self.invariant.holds)
     ∙ ap moves_of c.self.view_is
 
 pub returns-clause-known : goal.returns-clause-known
@@ -25,7 +25,7 @@ returns-clause-known c =
     let types = map plain s.types.items in
     let kept = lists_of s.configuration in
     let holds = c.self.invariant.holds in
-    let is = c.moves.ensures ∙ moved_is types kept.entries (v types kept holds) holds.kept (replayed types kept holds) in
-    let known = all_known types kept.entries (v types kept holds) holds.peers holds.members (replayed types kept holds) in
+    let is = c.moves.ensures ∙ moved_is types kept.keyed_steps (v types kept holds) holds.kept (replayed types kept holds) in
+    let known = all_known types kept.keyed_steps (v types kept holds) holds.peers holds.members (replayed types kept holds) in
     subst (λ (m : SessionState). AllByRecursion (λ x. IsKnown (length m.types) x.0) c.moves.result) c.self.view_is
     (subst (λ (l : List Moved). AllByRecursion (λ x. IsKnown (length types) x.0) l) (sym is) known)

@@ -19,7 +19,7 @@ invariant_of-result c =
     let count : HasRoleCount types = record { some = omega (arith, n, c.if-n-lt-MIN_ROLES.false); few = omega (arith, n, c.if-n-gt-MAX_ROLES.false) } in
     let peers = subst (λ (l : List Local). HavePeers (map plain l)) c.as_slice-2.ensures.value c.in_default-first_bad_peer.ensures.none in
     let opened = subst (λ (l : List Local). IsOpening (map plain l) kept) c.as_slice-3.ensures.value c.in_ok-configuration.ensures in
-    record { holds = opened_holds types kept count peers opened; unmarked = ap marked_keys opened.entries }
+    record { holds = opened_holds types kept count peers opened; unmarked = ap marked_keys opened.keyed_steps }
 
 pub returns-clause-can : goal.returns-clause-can
 returns-clause-can c =

@@ -12,5 +12,5 @@ returns c =
     let types = map plain s.types.items in
     let kept = lists_of s.configuration in
     c.slots.ensures
-    ∙ sym (slots_are types kept.entries (v types kept c.self.invariant.holds) c.args.role c.self.invariant.holds.kept (replayed types kept c.self.invariant.holds))
+    ∙ sym (slots_are types kept.keyed_steps (v types kept c.self.invariant.holds) c.args.role c.self.invariant.holds.kept (replayed types kept c.self.invariant.holds))
     ∙ ap (λ (m : SessionState). length ((session_view m).participant c.args.role).store) c.self.view_is

@@ -1,7 +1,7 @@
 use Rattle.std.proofs.Common.{arith, ◌≡◌, ℕ, ◌<◌, List, [], ◌∷◌, ◌++◌, length, Option, ◌∙◌, subst}
 use Rattle.std.specs.Prelude.{Result, Ok, Err, IfOk, OnOk, slice_set}
 use Rattle.mps_history.specs.Slots.{bound, value_in}
-use Rattle.mps_arena.specs.Entries.{KeyedStep}
+use Rattle.mps_arena.specs.KeyedSteps.{KeyedStep}
 use Rattle.mps_stores.specs.Stores.{Keys, Naming, store_at, IsBinding, AreStores}
 use Rattle.mps_stores.proofs.Bindings.{stores_bind, store_is}
 use Rattle.mps_stores.proofs.stores.Stores.bind.Goals as goal

@@ -1,5 +1,5 @@
 use Rattle.std.proofs.Common.{◌≡◌, ℕ, suc, [], ◌∷◌, ◌++◌, List, replicate, refl, ap, ◌∙◌}
-use Rattle.mps_arena.specs.Entries.{KeyedStep}
+use Rattle.mps_arena.specs.KeyedSteps.{KeyedStep}
 use Rattle.mps_stores.specs.Stores.{store_at}
 use Rattle.mps_stores.proofs.stores.Stores.new.Goals as goal
 

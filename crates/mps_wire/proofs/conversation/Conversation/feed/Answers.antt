@@ -11,7 +11,7 @@ front_short_enough : (line new : List ℕ) → new ≡ front line → length new
 front_short_enough line new e = omega (arith, ap length e, length-take most_kept line)
 
 pub loop-k-init : goal.loop-k-init
-loop-k-init g c = record { writes = refl; short = c.requires.kept; taking = taking_begins (ConversesLine g.C.Caller) (ConversesBrokenOff g.C.Caller) _ _ _ _ }
+loop-k-init g c = record { writes = refl; short = c.requires.short; taking = taking_begins (ConversesLine g.C.Caller) (ConversesBrokenOff g.C.Caller) _ _ _ _ }
 
 pub returns-in_err-keep_begun-clause-err : goal.returns-in_err-keep_begun-clause-err
 returns-in_err-keep_begun-clause-err g c =
@@ -41,8 +41,8 @@ pub returns-in_err-keep-clause-err : goal.returns-in_err-keep-clause-err
 returns-in_err-keep-clause-err g c =
     on_err_of _ _ (taking_stops (ConversesLine g.C.Caller) (ConversesBrokenOff g.C.Caller) _ _ _ _ c.loop-k.rest.now c.loop-k.self.line.items _ _ c.loop-k.invariant.taking (whole_is_broken g.C.Caller))
 
-pub returns-clause-kept : goal.returns-clause-kept
-returns-clause-kept g c = front_short_enough _ _ c.in_ok-keep.ensures.ok
+pub returns-clause-short : goal.returns-clause-short
+returns-clause-short g c = front_short_enough _ _ c.in_ok-keep.ensures.ok
 
 pub returns-clause-ok : goal.returns-clause-ok
 returns-clause-ok g c =

@@ -2,7 +2,7 @@ use Rattle.std.proofs.Common.{◌≡◌, ℕ, Bool, true, ◌==◌, List, [], �
 use Rattle.std.proofs.lemmas.Bool.Decides.{Decides-eqb}
 use Rattle.std.proofs.lemmas.Result.{on_ok_weaker}
 use Rattle.mps_lines.specs.Lines.{front}
-use Rattle.mps_wire.specs.Private.Places.{lines_of}
+use Rattle.mps_wire.specs.Private.Places.{answering_of}
 use Rattle.mps_wire.proofs.Answering.{to_front}
 use Rattle.mps_wire.proofs.script.ScriptRun.end_line.Goals as goal
 
@@ -18,7 +18,7 @@ returns-clause-answer c =
     (λ a. (
       a.0,
       a.1,
-      subst (λ (l : List ℕ). lines_of self (front (l ++ c.args.bytes.now)) self.room.journal a.0 c.answer_line.new.room.journal) (sym none)
+      subst (λ (l : List ℕ). answering_of self (front (l ++ c.args.bytes.now)) self.room.journal a.0 c.answer_line.new.room.journal) (sym none)
           (to_front self.room.names self.room.types c.args.bytes.now self.room.journal a.0 c.answer_line.new.room.journal a.2),
     ))
     c.answer_line.ensures.answer

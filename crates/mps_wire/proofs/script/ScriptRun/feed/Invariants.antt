@@ -1,6 +1,6 @@
 use Rattle.std.proofs.Common.{◌≡◌, ◌≤◌, [], length}
 use Rattle.mps_lines.specs.Lines.{most_kept}
-use Rattle.mps_wire.specs.Private.Places.{lines_of, place_of_run}
+use Rattle.mps_wire.specs.Private.Places.{answering_of, place_of_run}
 use Rattle.mps_wire.proofs.Feeding.{Feeding}
 use Rattle.mps_wire.proofs.script.ScriptRun.feed.Given as goal
 
@@ -9,7 +9,7 @@ invariant-loop-k l = record {
   names : l.self.room.names ≡ l.fn.self.room.names;
   types : l.self.room.types ≡ l.fn.self.room.types;
   short : length l.self.line.items ≤ most_kept;
-  feeding : Feeding (lines_of l.fn.self) [] (place_of_run l.fn.self) l.bytes l.rest (place_of_run l.self);
+  feeding : Feeding (answering_of l.fn.self) [] (place_of_run l.fn.self) l.bytes l.rest (place_of_run l.self);
 }
 
 abbrev pub decreases-loop-k : goal.decreases-loop-k

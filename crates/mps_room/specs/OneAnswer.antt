@@ -9,7 +9,7 @@ abbrev pub HasOneAnswer : {C : Type 0} → (calls : C → Command → Answer →
 HasOneAnswer {C} calls c command = (x y : Answer) (d e : C) → calls c command x d → calls c command y e → x ≡ y
 
 -- the same is told, and the same last number is left, with the same answer
-pub record IsSameOutcome {C : Type 0} (last : C → ℕ) (kept : C → Option Answer) (d : C) (told : Told) (e : C)
+pub record ComesToTheSame {C : Type 0} (last : C → ℕ) (kept : C → Option Answer) (d : C) (told : Told) (e : C)
     (other : Told) : Type 0 where
   pub same_told : told ≡ other
   pub same_last : last d ≡ last e

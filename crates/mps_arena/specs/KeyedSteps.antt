@@ -14,10 +14,10 @@ pub record KeyedStep : Type 0 where
   pub before : Before
   pub marked : Bool
 
--- the entries, the oldest first; how many numbers were given out; the key of the next entry; whether that needs no
+-- the keyed steps, the oldest first; how many numbers were given out; the key of the next one; whether that needs no
 -- allocation
-pub record Entries : Type 0 where
-  pub entries : List KeyedStep
+pub record ArenaState : Type 0 where
+  pub keyed_steps : List KeyedStep
   pub issued : ℕ
   pub next_key : ℕ
   pub is_ready : Bool
@@ -52,8 +52,8 @@ unlike p (Gives to message) = receives p to
 unlike p (Takes from slot) = sends from p
 unlike p Idle = λ s. false
 
-abbrev pub entry_at : ℕ → List KeyedStep → Option KeyedStep
-entry_at k es = find (λ e. e.key == k) es
+abbrev pub keyed_at : ℕ → List KeyedStep → Option KeyedStep
+keyed_at k es = find (λ e. e.key == k) es
 
 -- peers and roles are below 8
 abbrev pub HasSmallPeer : Effect → Type 0
@@ -64,7 +64,7 @@ HasSmallPeer Idle = ⊤
 abbrev pub IsSmall : Step → Type 0
 IsSmall s = (s.role < 8) × HasSmallPeer (effect s.act)
 
--- the entry, marked or not where it has that key
+-- the keyed step, marked or not where it has that key
 abbrev pub with_mark : ℕ → Bool → KeyedStep → KeyedStep
 with_mark k m e = record e { marked = if e.key == k then m else e.marked }
 
@@ -74,7 +74,7 @@ IsFed es =
     (c d : List KeyedStep) → es ≡ c ++ d → (p q : ℕ)
     → length (keys_of (receives p q) c) ≤ length (keys_of (sends p q) c)
 
--- what holds of the entries of each arena: no key stands twice, no pair ever had more receipts than sends, numbers
+-- what holds of the keyed steps of each arena: no key stands twice, no pair ever had more receipts than sends, numbers
 -- rise, roles and peers are below 8
 pub record AreSound (es : List KeyedStep) : Type 0 where
   pub distinct : AreDistinct (keys_of any_step es)

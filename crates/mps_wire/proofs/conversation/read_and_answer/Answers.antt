@@ -4,7 +4,7 @@ use Rattle.mps_wire.specs.Conversations.{ConversesLine, ConversesBrokenOff}
 use Rattle.mps_wire.specs.declared.conversation.Broken.TheVariants.{Write, Memory, Untold}
 use Rattle.mps_wire.proofs.Conversing.{failed_is, goes_on, breaks_off, stays}
 use Rattle.mps_wire.proofs.Turning.{counts_at_end, counts_before_end, none_more, gave_some, none_taken}
-use Rattle.mps_wire.proofs.conversation.turn.Goals as goal
+use Rattle.mps_wire.proofs.conversation.read_and_answer.Goals as goal
 
 pub returns-then-count-eq0-clause-step : goal.returns-then-count-eq0-clause-step
 returns-then-count-eq0-clause-step g c = λ start first h.
